@@ -1,0 +1,5 @@
+pub mod Paths
+pub mod Names
+pub mod Tree
+pub mod Refusals
+pub mod Children
