@@ -3,3 +3,5 @@ pub mod Names
 pub mod Tree
 pub mod Refusals
 pub mod Children
+pub mod Orders
+pub mod Iterators

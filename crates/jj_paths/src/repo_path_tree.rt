@@ -386,6 +386,6 @@ fn place<V>(
     entries.binary_search_by(
         move |entry| -> Ordering
             ensures { result ≡ name_cmp entry.now.0 (name_of name.entry) }
-        { entry.0.as_component().cmp(name) },
+        { entry.0.as_component().cmp(&name) },
     )
 }
