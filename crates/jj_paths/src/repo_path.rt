@@ -4,6 +4,7 @@ ghost use Rattle.jj_paths.specs.Paths.{Name, Path, is_name, is_path_text, compon
 
 mod iter;
 mod orders;
+mod shown;
 
 pub use iter::{RepoPathAncestors, RepoPathComponentsIter};
 use std::alloc::{AllocError, Global};
