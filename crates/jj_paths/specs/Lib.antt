@@ -6,3 +6,4 @@ pub mod Children
 pub mod Orders
 pub mod Iterators
 pub mod Texts
+pub mod Laws

@@ -10,7 +10,10 @@ use std::alloc::AllocError;
 
 impl RepoPathBuf {
     /// Adds names at the end. Refused for want of memory, the path is as it was.
-    pub fn extend<'n, I: IntoIterator<Item = RepoPathComponent<'n>>>(&mut self, names: I) -> Result<(), AllocError>
+    pub fn extend<'n, I: IntoIterator<Item = RepoPathComponent<'n>>>(
+        &mut self,
+        names: I,
+    ) -> Result<(), AllocError>
         requires { (it : I.IntoIter) → I.into_iter_gives names it → I.IntoIter.can_next it × IsFinite (I.IntoIter.remaining it) }
         ensures extended { IfOk result (λ done. (it : I.IntoIter) × (added : List RepoPathComponent) × I.into_iter_gives names it × Drains I.IntoIter.next_gives it added × (self.new ≡ self.old ++ map name_of added)) }
         ensures refused { IfErr result (λ e. self.new ≡ self.old) }
@@ -27,7 +30,10 @@ impl RepoPathBuf {
 }
 
 // adds names to a path's text; refused, it may have added some of them, and a slash
-fn push_names<'n, I: IntoIterator<Item = RepoPathComponent<'n>>>(text: &mut String, names: I) -> Result<(), AllocError>
+fn push_names<'n, I: IntoIterator<Item = RepoPathComponent<'n>>>(
+    text: &mut String,
+    names: I,
+) -> Result<(), AllocError>
     requires { (it : I.IntoIter) → I.into_iter_gives names it → I.IntoIter.can_next it × IsFinite (I.IntoIter.remaining it) }
     ensures pushed { IfOk result (λ done. (it : I.IntoIter) × (added : List RepoPathComponent) × I.into_iter_gives names it × Drains I.IntoIter.next_gives it added × (string_bytes text.new ≡ with_names (string_bytes text.old) (map name_of added))) }
     ensures refused { IfErr result (λ e. IsLonger (string_bytes text.old) (string_bytes text.new)) }
