@@ -5,3 +5,5 @@ pub mod Refusals
 pub mod Children
 pub mod Orders
 pub mod Iterators
+pub mod Texts
+pub mod Laws

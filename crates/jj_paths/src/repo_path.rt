@@ -2,10 +2,14 @@
 ghost use Rattle.std.specs.Prelude.{◌≡◌, ◌≢◌, ◌↔◌, ℕ, Bool, false, List, [], ◌∷◌, ◌++◌, IsTrue, IfOk, IfErr, IsOk, OnOk, OnErr, MatchResult, MatchOption, string_bytes};
 ghost use Rattle.jj_paths.specs.Paths.{Name, Path, is_name, is_path_text, components, path_text, rest_of};
 
+mod extend;
 mod iter;
 mod orders;
 mod shown;
 
+pub use crate::repo_path_tree::{
+    RepoPathNode, RepoPathTree, RepoPathTreeChildren, RepoPathTreeWalk,
+};
 pub use iter::{RepoPathAncestors, RepoPathComponentsIter};
 use std::alloc::{AllocError, Global};
 use std::marker::Model;
