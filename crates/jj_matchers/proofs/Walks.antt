@@ -1,5 +1,5 @@
 -- The nodes below a directory, branch by branch.
-use Rattle.std.proofs.Common.{◌≡◌, Bool, true, false, List, [], ◌∷◌, ◌++◌, refl, ap, sym, subst, ◌∙◌, append_assoc, append-nil}
+use Rattle.std.proofs.Common.{ℕ, ◌+◌, ◌<◌, drop-cons, suc, add-one, drop, length, get_or, ◌≡◌, Bool, true, false, List, [], ◌∷◌, ◌++◌, refl, ap, sym, subst, ◌∙◌, append_assoc, append-nil}
 use Rattle.std.specs.declared.cmp.Ordering.TheVariants.{Less}
 use Rattle.std.specs.List.{AllByRecursion}
 use Rattle.std.specs.List.Sorted.{IsStrictlySortedBy}
@@ -192,3 +192,7 @@ module _ {V : Type 0} where
   pub all_end : (P : Path → Type 0) (test : Path × Tree V → Bool) (dir : Path) (left : List (Name × Tree V)) (all : List Path) → left ≡ [] →
       (AllByRecursion P (paths_where test (nodes_below dir (branches_of left))) → AllByRecursion P all) → AllByRecursion P all
   all_end P test dir left all e whole = whole (subst (λ l. AllByRecursion P (paths_where test (nodes_below dir (branches_of l)))) (sym e) tt)
+
+  -- what is left of a list begins with the element at hand
+  pub first_left : (nodes : List (Name × Tree V)) (i : ℕ) (node : Name × Tree V) → i < length nodes → node ≡ get_or nodes i node → drop i nodes ≡ node ∷ drop (i + 1) nodes
+  first_left nodes i node lt is = rw add-one (drop-cons nodes i node lt ∙ ap (λ x. x ∷ drop (suc i) nodes) (sym is))

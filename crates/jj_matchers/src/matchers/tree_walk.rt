@@ -63,13 +63,12 @@ fn walk_directory<M: Matcher>(
         Visit::AllRecursively => take_all(alloc, tree, dir, walk),
         Visit::Specific { dirs, files } => {
             walk.entered.push(dir.as_path().to_owned(alloc)?)?;
-            for (name, sub) in tree.children() {
-                let path = dir.as_path().join(alloc, name)?;
-                let name = name.to_owned(alloc)?;
-                if *sub.value() && files.contains(&name) && matcher.matches(path.as_path()) {
+            for (name, sub) in tree.entries() {
+                let path = dir.as_path().join(alloc, name.as_component())?;
+                if *sub.value() && files.contains(name) && matcher.matches(path.as_path()) {
                     walk.files.push(path.as_path().to_owned(alloc)?)?;
                 }
-                if dirs.contains(&name) {
+                if dirs.contains(name) {
                     walk_directory(alloc, sub, &path, matcher, walk)?;
                 }
             }

@@ -1,4 +1,5 @@
 use Rattle.std.proofs.Common.{◌≡◌, ◌<◌, ◌∷◌, ◌++◌, ◌&&◌, [], true, false, sym, ap, ◌∙◌, subst, append-nil, arith, Result, Ok, Err, OnOk}
+use Rattle.std.proofs.lemmas.List.{drop_all}
 use Rattle.std.specs.FinMap.{is_sorted}
 use Rattle.std.specs.List.{AllByRecursion}
 use Rattle.std.specs.List.Sorted.{IsStrictlySortedBy}
@@ -11,7 +12,7 @@ use Rattle.jj_matchers.specs.Answers.{all_recursively, specific, nothing, IsSoun
 use Rattle.jj_matchers.specs.Visits.{answer_of, dir_names, file_names}
 use Rattle.jj_matchers.specs.Walk.{nodes_below, paths_where, is_file, is_entered_directory}
 use Rattle.jj_matchers.specs.WalkParts.{paths_below, paths_from, ComesTo}
-use Rattle.jj_matchers.proofs.Walks.{path_if, path_if_true, path_if_false, branches_of-children, from_start, from_split, found_step, ordered_step, sorted_nothing, sorted_end, all_step, all_end}
+use Rattle.jj_matchers.proofs.Walks.{path_if, path_if_true, path_if_false, branches_of-children, from_start, from_split, found_step, ordered_step, sorted_nothing, sorted_end, all_step, all_end, first_left}
 use Rattle.jj_matchers.proofs.Answered
 use Rattle.jj_matchers.proofs.Answered.{FindsChild}
 use Rattle.jj_matchers.proofs.matchers.tree_walk.+walk_directory.Goals as goal
@@ -92,19 +93,17 @@ loop-name-init g t c =
     let m = c.args.matcher.now in
     let is : g.M.Matcher.answers m c.args.dir.now ≡ specific (dir_names c.in-Specific.dirs) (file_names c.in-Specific.files) = Answered.told (g.M.Matcher.answers m) _ _ _ (specific (dir_names c.in-Specific.dirs) (file_names c.in-Specific.files)) c.in_ok-visit.ensures.answer c.as_path.ensures (ap answer_of c.in-Specific.is) in
     let names : NamesAll (g.M.Matcher.accepts m) (g.M.Matcher.opens m) c.args.dir.now (dir_names c.in-Specific.dirs) (file_names c.in-Specific.files) = Answered.told_sound (g.M.Matcher.accepts m) (g.M.Matcher.opens m) _ _ _ (specific (dir_names c.in-Specific.dirs) (file_names c.in-Specific.files)) c.in_ok-visit.ensures.sound c.as_path.ensures (ap answer_of c.in-Specific.is) in
-    let left : children_left c.into_iter-name-iterator.result ≡ children c.args.tree.now.1 =
-    ap (λ i. children_left i) c.into_iter-name-iterator.ensures.into_iter_gives ∙ c.children-name-items.ensures.listed in
-    let e : branches_of (children_left c.into_iter-name-iterator.result) ≡ c.args.tree.now.1 = ap branches_of left ∙ branches_of-children c.args.tree.now.1 in
+    let items : c.entries-name-items.result.now ≡ children c.args.tree.now.1 = c.entries-name-items.ensures.listed in
+    let e : branches_of c.entries-name-items.result.now ≡ c.args.tree.now.1 = ap branches_of items ∙ branches_of-children c.args.tree.now.1 in
     let file = is_file (g.M.Matcher.accepts m) in
     let directory = is_entered_directory (g.M.Matcher.answers m) in
     let itself = Answered.entered_itself (g.M.Matcher.accepts m) (g.M.Matcher.opens m) (g.M.Matcher.answers m) c.args.dir.now _ _ names c.requires is c.args.tree.now (sym c.if-not-has_children.ensures) in
     record {
-      can = tt;
-      finite = tt;
+      items = items;
       smaller = omega (arith, ap branch_count e);
       answer = is;
       named = names;
-      names = ap (is_sorted name_cmp) left ∙ c.children-name-items.ensures.by_name;
+      names = ap (is_sorted name_cmp) items ∙ c.entries-name-items.ensures.by_name;
       files = ap (λ b. c.args.walk.now.files.items ++ paths_where file (nodes_below c.args.dir.now b)) e;
       entered = from_start directory c.args.dir.now _ c.args.tree.now _ _ _ itself c.in_ok-push-in-Specific.ensures.items (c.in_ok-to_owned-in-Specific.ensures ∙ c.as_path-in-Specific.ensures) e;
       files_ordered = subst (λ b. IsStrictlySortedBy path_cmp (paths_where file (nodes_below c.args.dir.now b))) e;
@@ -113,21 +112,21 @@ loop-name-init g t c =
     }
 
 -- the path of the child
-path_is : (g : _) (t : _) (c : goal.After-drop-path-inside-in-loop-name g t) → c.in_ok-path-in-Specific.path ≡ c.args.dir.now ++ name_of c.in-Some.name ∷ []
-path_is g t c = c.in_ok-path-in-Specific.ensures ∙ ap (λ d. d ++ name_of c.in-Some.name ∷ []) c.as_path-in-loop-name.ensures
+path_is : (g : _) (t : _) (c : goal.After-drop-path-inside-in-loop-name g t) → c.in_ok-path-in-Specific.path ≡ c.args.dir.now ++ c.loop-name-item.result.0 ∷ []
+path_is g t c = c.in_ok-path-in-Specific.ensures ∙ ap (λ d. d ++ name_of c.as_component.result ∷ []) c.as_path-in-loop-name.ensures ∙ ap (λ n. c.args.dir.now ++ n ∷ []) c.as_component.ensures
 
 -- the files after the test of the child's mark
 files_after_mark : (g : _) (t : _) (c : goal.After-drop-path-inside-in-loop-name g t) →
-    let dir = c.args.dir.now ++ name_of c.in-Some.name ∷ [] in
-    c.if-value.walk.files.items ≡ c.loop-name.walk.files.items ++ path_if (is_file (g.M.Matcher.accepts c.args.matcher.now) (dir, c.in-Some.sub.now)) dir
+    let dir = c.args.dir.now ++ c.loop-name-item.result.0 ∷ [] in
+    c.if-value.walk.files.items ≡ c.loop-name.walk.files.items ++ path_if (is_file (g.M.Matcher.accepts c.args.matcher.now) (dir, c.loop-name-item.result.1)) dir
 files_after_mark g t c =
     let m = c.args.matcher.now in
     let is = c.loop-name.invariant.answer in
     let names = c.loop-name.invariant.named in
     let p = path_is g t c in
-    let name = name_of c.in-Some.name in
-    let dir = c.args.dir.now ++ name_of c.in-Some.name ∷ [] in
-    let sub = c.in-Some.sub.now in
+    let name = c.loop-name-item.result.0 in
+    let dir = c.args.dir.now ++ c.loop-name-item.result.0 ∷ [] in
+    let sub = c.loop-name-item.result.1 in
     let fs = c.loop-name.walk.files.items in
     elim c.if-value.branch [
       | then-value+then-contains+then-matches+in_ok-to_owned-in-Specific-2+in_ok-push-in-Specific-2 w ↦
@@ -142,7 +141,7 @@ files_after_mark g t c =
                 let refused : g.M.Matcher.accepts m dir ≡ false = ap (g.M.Matcher.accepts m) (sym (u.as_path-then-contains.ensures ∙ p)) ∙ sym u.matches.ensures ∙ u.if-matches.false in
                 Answered.false_and sub.0 _ refused
             | else-value-via-then-value+else-contains u ↦
-                let unnamed = ap (file_names _) (sym c.in_ok-name-in-Specific.ensures) ∙ sym u.contains.ensures ∙ u.if-contains.false in
+                let unnamed = sym u.contains.ensures ∙ u.if-contains.false in
                 sym (Answered.named_file (g.M.Matcher.accepts m) (g.M.Matcher.opens m) (g.M.Matcher.answers m) c.args.dir.now _ _ names c.requires is name sub.0) ∙ Answered.false_and sub.0 _ (ap (λ b. b && g.M.Matcher.accepts m dir) unnamed)
             | else-value-via-else-value u ↦ ap (λ b. b && g.M.Matcher.accepts m dir) (sym c.value.ensures ∙ u.if-value.false)
           ])
@@ -158,20 +157,20 @@ entered_after_mark g t c = elim c.if-value.branch [
 -- what the walk finds at the child and below it
 child_found : (g : _) (t : _) (c : goal.After-drop-path-inside-in-loop-name g t) →
     let m = c.args.matcher.now in
-    let dir = c.args.dir.now ++ name_of c.in-Some.name ∷ [] in
-    let sub = c.in-Some.sub.now in
+    let dir = c.args.dir.now ++ c.loop-name-item.result.0 ∷ [] in
+    let sub = c.loop-name-item.result.1 in
     FindsChild (g.M.Matcher.accepts m) (g.M.Matcher.opens m) (g.M.Matcher.answers m) dir sub (c.loop-name.walk.files.items ++ path_if (is_file (g.M.Matcher.accepts m) (dir, sub)) dir) c.loop-name.walk.entered.items c.if-contains-2.walk.files.items c.if-contains-2.walk.entered.items
 child_found g t c =
     let m = c.args.matcher.now in
     let is = c.loop-name.invariant.answer in
     let names = c.loop-name.invariant.named in
     let p = path_is g t c in
-    let name = name_of c.in-Some.name in
-    let dir = c.args.dir.now ++ name_of c.in-Some.name ∷ [] in
-    let sub = c.in-Some.sub.now in
+    let name = c.loop-name-item.result.0 in
+    let dir = c.args.dir.now ++ c.loop-name-item.result.0 ∷ [] in
+    let sub = c.loop-name-item.result.1 in
     let file = is_file (g.M.Matcher.accepts m) in
     let directory = is_entered_directory (g.M.Matcher.answers m) in
-    let asked = ap (dir_names _) (sym c.in_ok-name-in-Specific.ensures) ∙ sym c.contains-in-loop-name.ensures in
+    let asked = sym c.contains-in-loop-name.ensures in
     elim c.if-contains-2.branch [
       | then-contains-2+in_ok-walk_directory-in-Specific w ↦
           let e = w.in_ok-walk_directory-in-Specific.ensures in
@@ -197,11 +196,11 @@ walk_directory-requires g t c κs within =
     let m = c.args.matcher.now in
     let is = c.loop-name.invariant.answer in
     let names = c.loop-name.invariant.named in
-    let sub = c.in-Some.sub.now in
-    let name = name_of c.in-Some.name in
-    let asked = ap (dir_names _) (sym c.in_ok-name-in-Specific.ensures) ∙ sym c.contains-in-loop-name.ensures in
-    let path : c.in_ok-path-in-Specific.path ≡ c.args.dir.now ++ name ∷ [] = c.in_ok-path-in-Specific.ensures ∙ ap (λ d. d ++ name ∷ []) c.as_path-in-loop-name.ensures in
-    let smaller : branch_count sub.1 < branch_count c.args.tree.now.1 = omega (arith, ap (λ l. branch_count (branches_of l)) c.in-Some.ensures.steps, c.loop-name.invariant.smaller) in
+    let sub = c.loop-name-item.result.1 in
+    let name = c.loop-name-item.result.0 in
+    let asked = sym c.contains-in-loop-name.ensures in
+    let path : c.in_ok-path-in-Specific.path ≡ c.args.dir.now ++ name ∷ [] = c.in_ok-path-in-Specific.ensures ∙ ap (λ d. d ++ name_of c.as_component.result ∷ []) c.as_path-in-loop-name.ensures ∙ ap (λ n. c.args.dir.now ++ n ∷ []) c.as_component.ensures in
+    let smaller : branch_count sub.1 < branch_count c.args.tree.now.1 = omega (arith, ap (λ l. branch_count (branches_of l)) (first_left c.entries-name-items.result.now c.loop-name.name-index c.loop-name-item.result c.loop-name-test.true c.loop-name-item.is), c.loop-name.invariant.smaller) in
     let comes : ComesTo (g.M.Matcher.answers m) c.in_ok-path-in-Specific.path = subst (ComesTo (g.M.Matcher.answers m)) (sym path) (Answered.comes_to_child (g.M.Matcher.accepts m) (g.M.Matcher.opens m) (g.M.Matcher.answers m) c.args.dir.now _ _ names c.requires is name (asked ∙ c.if-contains-2.true)) in
     (subst (λ n. branch_count sub.1 < n) c.decreases smaller, (within, comes))
 
@@ -210,18 +209,17 @@ loop-name-preserved g t c =
     let m = c.args.matcher.now in
     let is = c.loop-name.invariant.answer in
     let names = c.loop-name.invariant.named in
-    let n = c.in-Some.ensures.steps in
+    let n = first_left c.entries-name-items.result.now c.loop-name.name-index c.loop-name-item.result c.loop-name-test.true c.loop-name-item.is in
     let i = c.loop-name.invariant in
     let p = path_is g t c in
-    let name = name_of c.in-Some.name in
-    let sub = c.in-Some.sub.now in
-    let dir = c.args.dir.now ++ name_of c.in-Some.name ∷ [] in
+    let name = c.loop-name-item.result.0 in
+    let sub = c.loop-name-item.result.1 in
+    let dir = c.args.dir.now ++ c.loop-name-item.result.0 ∷ [] in
     let file = is_file (g.M.Matcher.accepts m) in
     let directory = is_entered_directory (g.M.Matcher.answers m) in
     let found = child_found g t c in
     record {
-      can = tt;
-      finite = tt;
+      items = i.items;
       smaller = omega (arith, ap (λ l. branch_count (branches_of l)) n, i.smaller);
       answer = is;
       named = names;
@@ -233,11 +231,11 @@ loop-name-preserved g t c =
       only_open = all_step (λ d. g.M.Matcher.opens m d ≡ true) directory c.args.dir.now name sub _ _ _ n i.only_open (Answered.entered_open (g.M.Matcher.accepts m) (g.M.Matcher.opens m) (g.M.Matcher.answers m) c.args.dir.now _ _ names c.requires is name sub) found.only_open;
     }
 
-pub returns-in-None-clause-files_ordered : goal.returns-in-None-clause-files_ordered
-returns-in-None-clause-files_ordered g t c = sorted_end _ c.args.dir.now _ _ c.in-None.ensures.steps.0 c.loop-name.invariant.files_ordered
+pub returns-after-loop-name-clause-files_ordered : goal.returns-after-loop-name-clause-files_ordered
+returns-after-loop-name-clause-files_ordered g t c = sorted_end _ c.args.dir.now _ _ (drop_all c.loop-name.name-index c.entries-name-items.result.now c.loop-name-test.false) c.loop-name.invariant.files_ordered
 
-pub returns-in-None-clause-entered_ordered : goal.returns-in-None-clause-entered_ordered
-returns-in-None-clause-entered_ordered g t c = sorted_end _ c.args.dir.now _ _ c.in-None.ensures.steps.0 c.loop-name.invariant.entered_ordered
+pub returns-after-loop-name-clause-entered_ordered : goal.returns-after-loop-name-clause-entered_ordered
+returns-after-loop-name-clause-entered_ordered g t c = sorted_end _ c.args.dir.now _ _ (drop_all c.loop-name.name-index c.entries-name-items.result.now c.loop-name-test.false) c.loop-name.invariant.entered_ordered
 
-pub returns-in-None-clause-only_open : goal.returns-in-None-clause-only_open
-returns-in-None-clause-only_open g t c = all_end _ _ c.args.dir.now _ _ c.in-None.ensures.steps.0 c.loop-name.invariant.only_open
+pub returns-after-loop-name-clause-only_open : goal.returns-after-loop-name-clause-only_open
+returns-after-loop-name-clause-only_open g t c = all_end _ _ c.args.dir.now _ _ (drop_all c.loop-name.name-index c.entries-name-items.result.now c.loop-name-test.false) c.loop-name.invariant.only_open

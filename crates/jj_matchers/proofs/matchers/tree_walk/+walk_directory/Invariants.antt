@@ -1,10 +1,9 @@
-use Rattle.std.proofs.Common.{◌≡◌, ◌≤◌, ◌++◌, true}
+use Rattle.std.proofs.Common.{drop, ◌≡◌, ◌≤◌, ◌++◌, true}
 use Rattle.std.specs.FinMap.{is_sorted}
 use Rattle.std.specs.List.{AllByRecursion}
 use Rattle.std.specs.List.Sorted.{IsStrictlySortedBy}
 use Rattle.jj_paths.specs.Paths.{name_cmp, path_cmp}
-use Rattle.jj_paths.specs.Children.{children_left}
-use Rattle.jj_paths.specs.Tree.{branches_of, branch_count}
+use Rattle.jj_paths.specs.Tree.{branches_of, branch_count, children}
 use Rattle.jj_matchers.specs.Answers.{specific, NamesAll}
 use Rattle.jj_matchers.specs.Visits.{dir_names, file_names}
 use Rattle.jj_matchers.specs.Walk.{nodes_below, paths_where, is_file, is_entered_directory}
@@ -19,14 +18,13 @@ abbrev pub invariant-loop-name : goal.invariant-loop-name
 invariant-loop-name g l =
     let file = is_file (g.M.Matcher.accepts l.matcher) in
     let directory = is_entered_directory (g.M.Matcher.answers l.matcher) in
-    let left = branches_of (children_left l.name-iterator) in
+    let left = branches_of (drop l.name-index l.name-items) in
     record {
-      can : (goal.iterator-loop-name g).can_next l.name-iterator;
-      finite : (goal.iterator-loop-name g).is_finite l.name-iterator;
+      items : l.name-items ≡ children l.tree.1;
       smaller : branch_count left ≤ branch_count l.tree.1;
       answer : g.M.Matcher.answers l.matcher l.dir ≡ specific (dir_names l.dirs) (file_names l.files);
       named : NamesAll (g.M.Matcher.accepts l.matcher) (g.M.Matcher.opens l.matcher) l.dir (dir_names l.dirs) (file_names l.files);
-      names : is_sorted name_cmp (children_left l.name-iterator) ≡ true;
+      names : is_sorted name_cmp (drop l.name-index l.name-items) ≡ true;
       files : l.walk.files.items ++ paths_where file (nodes_below l.dir left) ≡ l.fn.walk.files.items ++ paths_below file l.dir l.tree;
       entered : l.walk.entered.items ++ paths_where directory (nodes_below l.dir left) ≡ l.fn.walk.entered.items ++ paths_from directory l.dir l.tree;
       files_ordered : IsStrictlySortedBy path_cmp (paths_where file (nodes_below l.dir left)) → IsStrictlySortedBy path_cmp (paths_below file l.dir l.tree);
