@@ -6,7 +6,6 @@ use Rattle.std.specs.List.Sorted.{IsStrictlySortedBy}
 use Rattle.std.proofs.lemmas.Bool.{and_parts}
 use Rattle.jj_paths.specs.Paths.{name_cmp, path_cmp}
 use Rattle.jj_paths.specs.Names.{name_of}
-use Rattle.jj_paths.specs.Children.{children_left}
 use Rattle.jj_paths.specs.Tree.{branches_of, branch_count, children}
 use Rattle.jj_matchers.specs.Answers.{all_recursively, specific, nothing, IsSound, NamesAll}
 use Rattle.jj_matchers.specs.Visits.{answer_of, dir_names, file_names}
