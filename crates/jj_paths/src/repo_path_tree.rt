@@ -1,6 +1,5 @@
 //! A tree of values at paths: a finite map from paths that holds the root and every front of each key.
-ghost use Rattle.std.specs.Prelude.{◌≡◌, ◌↔◌, IsSome, ◌≢◌, ℕ, List, [], ◌∷◌, ◌++◌, IsTrue, IfOk, IfErr, OnOk, OnErr, MatchResult, MatchOption};
-ghost use Rattle.std.specs.Prelude.{Some, length, ◌<◌};
+ghost use Rattle.std.specs.Prelude.{◌≡◌, ◌≢◌, Some, IsSome, [], ◌∷◌, IsTrue, IfOk, IfErr, MatchResult};
 ghost use Rattle.std.specs.Borrow.{sem, Lends};
 ghost use denote.Struct.Tuple.{Tuple};
 ghost use Rattle.std.specs.Option.{option_copied, option_map};
