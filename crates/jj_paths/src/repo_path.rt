@@ -1,5 +1,5 @@
 //! Paths in a repository: components, and paths of components joined by slashes.
-ghost use Rattle.std.specs.Prelude.{◌≡◌, ◌≢◌, ◌↔◌, ℕ, Bool, false, List, [], ◌∷◌, ◌++◌, IsTrue, IfOk, IfErr, IsOk, OnOk, OnErr, MatchResult, MatchOption, string_bytes};
+ghost use Rattle.std.specs.Prelude.{◌≡◌, ◌≢◌, ◌↔◌, false, [], ◌∷◌, ◌++◌, IsTrue, IsOk, IfOk, IfErr, MatchOption, string_bytes};
 ghost use Rattle.jj_paths.specs.Paths.{Name, Path, is_name, is_path_text, components, path_text, rest_of};
 
 mod extend;

@@ -1,15 +1,14 @@
 //! A tree of values at paths: a finite map from paths that holds the root and every front of each key.
-ghost use Rattle.std.specs.Prelude.{◌≡◌, ◌↔◌, IsSome, ◌≢◌, ℕ, List, [], ◌∷◌, ◌++◌, IsTrue, IfOk, IfErr, OnOk, OnErr, MatchResult, MatchOption};
-ghost use Rattle.std.specs.Prelude.{Some, length, ◌<◌};
+ghost use Rattle.std.specs.Prelude.{◌≡◌, ◌≢◌, Some, IsSome, [], ◌∷◌, IsTrue, IfOk, IfErr, MatchResult};
 ghost use Rattle.std.specs.Borrow.{sem, Lends};
 ghost use denote.Struct.Tuple.{Tuple};
 ghost use Rattle.std.specs.Option.{option_copied, option_map};
 ghost use Rattle.std.specs.List.{All};
-ghost use Rattle.jj_paths.specs.Paths.{Name, Path, name_cmp, rest_of};
+ghost use Rattle.jj_paths.specs.Paths.{Name, Path, name_cmp, first_of, rest_of};
 ghost use Rattle.jj_paths.specs.Names.{name_of, path_of};
 ghost use Rattle.std.specs.FinMap.{is_sorted};
 ghost use Rattle.std.specs.Iterator.{YieldsFirstBy, item_count};
-ghost use Rattle.jj_paths.specs.Tree.{Tree, none, children, child, get, has_branches, put, put_value, update_child, put_below, nodes_on, nodes_below, nodes_from, IsPartOf, IsExtended, IsEdited, IsSet, IsGrown, IsAt, IsGapFor};
+ghost use Rattle.jj_paths.specs.Tree.{Tree, branches_of, none, children, child, get, has_branches, put, put_value, update_child, put_below, nodes_on, nodes_below, nodes_from, IsPartOf, IsExtended, IsEdited, IsSet, IsGrown, IsAt, IsGapFor};
 
 use crate::repo_path::{RepoPath, RepoPathComponent, RepoPathComponentBuf};
 use std::alloc::{AllocError, Global};
@@ -26,7 +25,6 @@ pub struct RepoPathTree<V> {
 
 /// A node of a tree, with what is below it.
 #[cycle(tree)]
-#[derive(Drop)]
 pub struct RepoPathNode<V> {
     value: V,
     entries: Vec<(RepoPathComponentBuf, RepoPathTree<V>)>,
@@ -65,6 +63,89 @@ impl<V> Model for RepoPathNode<V> {
     ghost size = { λ t. 2 * branch_count t.1 };
 
     ghost size_decreases = { λ t h. most_le-branch_count _ weight_le-pair t.entries.items };
+}
+
+/// Goes down and up again without a recursion, so that a deep tree takes no more stack than a flat one. On the way down
+/// the place that a child leaves in its parent's list keeps the way back up: it holds the list above the parent.
+impl<V: Drop> Drop for RepoPathNode<V> {
+    fn drop(self) {
+        let mut current = self.into_entries();
+        let mut above = Vec::new(*current.allocator());
+        loop {
+            match current.pop() {
+                Some((name, tree)) => {
+                    let (value, below) = tree.into_parts();
+                    let way_up = RepoPathTree::from_parts(value, above);
+                    if let Err(_) = current.push((name, way_up)) {
+                        unreachable!();
+                    }
+                    above = current;
+                    current = below;
+                }
+                None => match above.pop() {
+                    Some((_name, way_up)) => {
+                        let (_value, further_up) = way_up.into_parts();
+                        current.destroy_empty();
+                        current = above;
+                        above = further_up;
+                    }
+                    None => {
+                        current.destroy_empty();
+                        above.destroy_empty();
+                        return;
+                    }
+                },
+            }
+        }
+    }
+}
+
+impl<V> RepoPathNode<V> {
+    // the children alone
+    fn into_entries(self) -> Vec<(RepoPathComponentBuf, RepoPathTree<V>)>
+    where
+        V: Drop,
+        ensures by_name { IsTrue (is_sorted name_cmp result.items) }
+    {
+        let RepoPathNode {
+            value: _value,
+            entries,
+        } = self;
+        entries
+    }
+
+    // the value and the children
+    fn into_parts(self) -> (V, Vec<(RepoPathComponentBuf, RepoPathTree<V>)>)
+        ensures parts { self ≡ (result.0, branches_of result.1.items) }
+        ensures by_name { IsTrue (is_sorted name_cmp result.1.items) }
+    {
+        let RepoPathNode { value, entries } = self;
+        (value, entries)
+    }
+}
+
+impl<V> RepoPathTree<V> {
+    // the value and the children of the root
+    fn into_parts(self) -> (V, Vec<(RepoPathComponentBuf, RepoPathTree<V>)>)
+        ensures parts { self ≡ (result.0, branches_of result.1.items) }
+        ensures by_name { IsTrue (is_sorted name_cmp result.1.items) }
+    {
+        let RepoPathTree { node } = self;
+        node.into_parts()
+    }
+
+    // a tree of a value and children
+    fn from_parts(
+        value: V,
+        entries: Vec<(RepoPathComponentBuf, RepoPathTree<V>)>,
+    ) -> RepoPathTree<V>
+        requires { IsTrue (is_sorted name_cmp entries.items) }
+        ensures { result ≡ (value, branches_of entries.items) }
+    {
+        RepoPathTree {
+            node: RepoPathNode { value, entries },
+        }
+    }
 }
 
 impl<V> RepoPathNode<V> {
@@ -148,7 +229,21 @@ impl<V> RepoPathNode<V> {
         Ok(())
     }
 
-    // the tree below, at the name that a path begins with
+    // makes the child of the name that a path begins with, where the node lacks it
+    #[inline(never)]
+    fn make_first(&mut self, alloc: Global, path: RepoPath<'_>) -> Result<(), AllocError>
+    where
+        V: Default + Drop,
+        ensures made { IfOk result (λ done. path_of path.entry ≢ [] → IsGrown V.is_default self.old (first_of (path_of path.entry)) self.new) }
+        ensures refused { IfErr result (λ e. self.new ≡ self.old) }
+    {
+        match path.split_first() {
+            None => Ok(()),
+            Some((name, _rest)) => self.make_child(alloc, name),
+        }
+    }
+
+    // the tree below, at a name
     fn child_mut(&mut self, name: RepoPathComponent<'_>) -> &mut RepoPathTree<V>
         requires { IsSome (child self.old.1 (name_of name)) }
         ensures* writes_back { sem 𝓛 (Lends (the_row V.row) (tree.the_row V.row) self.entry result (λ w. (self.old.0, update_child self.old.1 (name_of name.entry) (λ sub. w)))) }
@@ -167,7 +262,20 @@ impl<V> RepoPathNode<V> {
     ghost use Rattle.jj_paths.specs.contracts.repo_path_tree.RepoPathTree as tree;
     ghost use Rattle.jj_paths.specs.Names.{name_of, path_of};
 
-    // the tree below, at the name that the path begins with
+    // the tree below, at the name that a path begins with
+    #[inline(never)]
+    fn first_mut(&mut self, path: RepoPath<'_>) -> &mut RepoPathTree<V>
+        requires { (path_of path ≢ []) × IsSome (child self.old.1 (first_of (path_of path))) }
+        ensures* writes_back { sem 𝓛 (Lends (the_row V.row) (tree.the_row V.row) self.entry result (λ w. (self.old.0, update_child self.old.1 (first_of (path_of path.entry)) (λ sub. w)))) }
+        ensures value { child self.old.1 (first_of (path_of path.entry)) ≡ Some result.now }
+    {
+        match path.split_first() {
+            None => unreachable!(),
+            Some((name, _rest)) => self.child_mut(name),
+        }
+    }
+
+    // the same, seen from a path that the node has
     fn step_mut(&mut self, path: RepoPath<'_>) -> &mut RepoPathTree<V>
         requires { IsSome (get self.old (path_of path)) × (path_of path ≢ []) }
         ensures* writes_back { sem 𝓛 (Lends (the_row V.row) (tree.the_row V.row) self.entry result (put_below self.old (path_of path.entry))) }
@@ -329,13 +437,11 @@ impl<V> RepoPathTree<V> {
         ensures there { IfOk result (λ done. IsSome (get self.new (path_of path.entry))) }
         ensures extended { IsExtended V.is_default self.old (path_of path.entry) self.new }
     {
-        match path.split_first() {
-            None => Ok(()),
-            Some((name, rest)) => {
-                self.node.make_child(alloc, name)?;
-                self.node.child_mut(name).extend(alloc, rest)
-            }
+        if path.is_root() {
+            return Ok(());
         }
+        self.node.make_first(alloc, path)?;
+        self.node.first_mut(path).extend(alloc, path.rest())
     }
 
     /// The node at a path. Where the tree lacks it, it is made with a default value, and so are the nodes on the way.
