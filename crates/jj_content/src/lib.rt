@@ -1,0 +1,4 @@
+//! Texts of bytes and symbols, content bytes and digests.
+#![tactic(auto)]
+
+pub mod hex_util;
