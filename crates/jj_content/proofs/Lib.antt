@@ -1,2 +1,3 @@
 pub mod HexTexts
 pub mod HexSteps
+pub mod SymbolTexts

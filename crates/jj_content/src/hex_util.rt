@@ -1,6 +1,6 @@
 //! Hex text of bytes, and bytes of hex text: forward hex with the digits `0` to `f`, and reversed
 //! hex, which writes `z` for 0 down to `k` for 15.
-ghost use Rattle.std.specs.Prelude.{◌≡◌, ◌==◌, ℕ, ◌+◌, ◌*◌, ◌/◌, ◌%◌, ◌<◌, ◌≤◌, List, length, All, IfOk, IsAscii, IfSome, MatchOption, Option, Some, None};
+ghost use Rattle.std.specs.Prelude.{◌≡◌, ◌==◌, ℕ, ◌+◌, ◌*◌, ◌/◌, ◌%◌, ◌<◌, ◌≤◌, List, length, slice_index, All, IfOk, IsAscii, IfSome, MatchOption, Option, Some, None};
 ghost use Rattle.std.specs.String.{string_bytes};
 ghost use Rattle.std.specs.Str.{str_to_ascii_lowercase};
 ghost use Rattle.jj_content.specs.Hex.{hex, reverse_hex, text_with, hex_digits, reverse_hex_digits, ReadsAs, ReadsAsNothing, evened, digit_value, common_length};
@@ -188,6 +188,15 @@ pub fn encode_reverse_hex(alloc: Global, data: &[u8]) -> Result<String, AllocErr
     ensures { IfOk result (λ text. string_bytes text ≡ reverse_hex «data».now) }
 {
     encode_hex_inner(alloc, data, REVERSE_HEX_CHARS)
+}
+
+// The character of a hex digit.
+pub(crate) fn hex_digit_char(value: u8) -> char
+    requires { value < 16 }
+    ensures digit { result ≡ slice_index hex_digits value }
+    ensures ascii { result < 128 }
+{
+    char::from(FORWARD_HEX_CHARS[value as usize])
 }
 
 /// The number of leading hex digits that two byte strings have in common.

@@ -2,3 +2,4 @@
 #![tactic(auto)]
 
 pub mod hex_util;
+pub mod symbol_util;
