@@ -1,0 +1,4 @@
+pub mod Content
+pub mod Lawful
+pub mod Blake2b
+pub mod Blake2bState

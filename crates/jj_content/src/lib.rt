@@ -1,0 +1,5 @@
+//! Content bytes and digests.
+#![tactic(auto)]
+
+pub mod blake2b;
+pub mod content_hash;
