@@ -66,4 +66,7 @@ module _ {D : Type 0} (sf : D → List ℕ → Type 0) where
   pub front_left_2 : (s0 s1 s2 new : D) (a b c : List ℕ) → Takes sf s0 s1 a → Takes sf s1 s2 b → TakesFront sf s2 new c → TakesFront sf s0 new (a ++ b ++ c)
   front_left_2 s0 s1 s2 new a b c t u f = front_next sf s0 s2 new (a ++ b) c (takes_next sf s0 s1 s2 a b t u) f
 
+  pub front_left_3 : (s0 s1 s2 s3 new : D) (a b c d : List ℕ) → Takes sf s0 s1 a → Takes sf s1 s2 b → Takes sf s2 s3 c → TakesFront sf s3 new d → TakesFront sf s0 new (a ++ b ++ c ++ d)
+  front_left_3 s0 s1 s2 s3 new a b c d t u v f = front_next sf s0 s3 new (a ++ b ++ c) d (takes_next sf s0 s2 s3 (a ++ b) c (takes_next sf s0 s1 s2 a b t u) v) f
+
 pub ruleset fronts = (front_first, front_next, front_1, front_2, front_2_rest)

@@ -272,6 +272,23 @@ impl<A: ContentHash, B: ContentHash, C: ContentHash> ContentHash for (A, B, C) {
     }
 }
 
+impl<A: ContentHash, B: ContentHash, C: ContentHash, D: ContentHash> ContentHash for (A, B, C, D) {
+    ghost is_value = { λ p. ((A.is_value p.0 × B.is_value p.1) × C.is_value p.2) × D.is_value p.3 };
+
+    ghost content = { λ p. A.content p.0 ++ B.content p.1 ++ C.content p.2 ++ D.content p.3 };
+
+    ghost lawful = { both_lawful (both_lawful (both_lawful (on_lawful (λ p. p.0) A.lawful) (on_lawful (λ p. p.1) B.lawful)) (on_lawful (λ p. p.2) C.lawful)) (on_lawful (λ p. p.3) D.lawful) };
+
+    #[tactic(auto, using(crate::proofs::Fronts::fronts))]
+    fn hash<S: DigestUpdate>(&self, alloc: Global, state: &mut S) -> Result<(), AllocError> {
+        self.0.hash(alloc, state)?;
+        self.1.hash(alloc, state)?;
+        self.2.hash(alloc, state)?;
+        self.3.hash(alloc, state)?;
+        Ok(())
+    }
+}
+
 impl DigestUpdate for Blake2b512 {
     ghost stands_for = { Holds };
 
