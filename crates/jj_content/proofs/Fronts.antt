@@ -51,6 +51,26 @@ module _ {D : Type 0} (stands_for : D → List ℕ → Type 0) where
       ∙ ap (λ (z : List X). head ++ flat_map content z) (take-append-drop (i + 1) xs) in
       subst (TakesFront stands_for old new) whole (front_first old new (before ++ content x) after (front_next old mid new before (content x) taken front))
 
+  -- one item more
+  pub takes_more : {X : Type 0} (content : X → List ℕ) (old mid new : D) (head : List ℕ) (done : List X) (x : X)
+      → Takes stands_for old mid (head ++ flat_map content done) → Takes stands_for mid new (content x) → Takes stands_for old new (head ++ flat_map content (done ++ x ∷ []))
+  takes_more content old mid new head done x t u =
+      let more : (head ++ flat_map content done) ++ content x ≡ head ++ flat_map content (done ++ x ∷ []) =
+      append_assoc head (flat_map content done) (content x)
+      ∙ ap (λ (z : List ℕ). head ++ z) (ap (λ (z : List ℕ). flat_map content done ++ z) (sym (append-nil (content x))) ∙ sym (flat_map-append content done (x ∷ []))) in
+      subst (Takes stands_for old new) more (takes_next old mid new (head ++ flat_map content done) (content x) t u)
+
+  -- the items done, and then a beginning of the next one's content
+  pub front_more : {X : Type 0} (content : X → List ℕ) (old mid new : D) (head : List ℕ) (done : List X) (x : X) (left all : List X) → done ++ (x ∷ left) ≡ all
+      → Takes stands_for old mid (head ++ flat_map content done) → TakesFront stands_for mid new (content x) → TakesFront stands_for old new (head ++ flat_map content all)
+  front_more {X = X} content old mid new head done x left all e t f =
+      let whole : ((head ++ flat_map content done) ++ content x) ++ flat_map content left ≡ head ++ flat_map content all =
+      append_assoc (head ++ flat_map content done) (content x) (flat_map content left)
+      ∙ append_assoc head (flat_map content done) (flat_map content (x ∷ left))
+      ∙ ap (λ (z : List ℕ). head ++ z) (sym (flat_map-append content done (x ∷ left)) ∙ ap (flat_map content) e) in
+      subst (TakesFront stands_for old new) whole
+      (front_first old new ((head ++ flat_map content done) ++ content x) (flat_map content left) (front_next old mid new (head ++ flat_map content done) (content x) t f))
+
 -- the same where other parts follow, by how many parts are whole
 module _ {D : Type 0} (sf : D → List ℕ → Type 0) where
   pub front_1 : (s0 s1 new : D) (a b rest : List ℕ) → Takes sf s0 s1 a → TakesFront sf s1 new b → TakesFront sf s0 new (a ++ (b ++ rest))

@@ -4,11 +4,12 @@ ghost use Rattle.jj_content.specs.Blake2b.{blake2b};
 ghost use Rattle.jj_content.specs.Blake2bState.{Holds};
 ghost use Rattle.std.specs.Int.{w32, w64};
 ghost use Rattle.std.specs.String.{string_bytes};
-ghost use Rattle.jj_content.specs.Content.{Takes, TakesFront, IsLawful, AreValues, IsOptionOf, bool_content, u32_content, u64_content, i32_content, i64_content, list_content, text_content, option_content};
+ghost use Rattle.jj_content.specs.Content.{Takes, TakesFront, IsLawful, AreValues, IsOptionOf, bool_content, u32_content, u64_content, i32_content, i64_content, list_content, text_content, option_content, entry_content};
 ghost use Rattle.jj_content.specs.Lawful.{unit_lawful, bool_lawful, u8_lawful, u32_lawful, u64_lawful, i32_lawful, i64_lawful, text_lawful, list_lawful, option_lawful, on_lawful, both_lawful};
 
 use crate::blake2b::Blake2b512;
 use std::alloc::{AllocError, Global};
+use std::collections::BTreeMap;
 
 /// A state that takes in bytes, as a digest does.
 pub trait DigestUpdate {
@@ -227,6 +228,39 @@ impl<T: ContentHash> ContentHash for Option<T> {
                 x.hash(alloc, state)
             }
         }
+    }
+}
+
+// An entry of a map: the key, and then the value.
+#[tactic(auto, using(crate::proofs::Fronts::fronts))]
+fn hash_entry<K: ContentHash, V: ContentHash, D: DigestUpdate>(
+    alloc: Global,
+    key: &K,
+    value: &V,
+    state: &mut D,
+) -> Result<(), AllocError>
+    ensures ok { OnOk result (Takes D.stands_for state.old state.new (entry_content K.content V.content (key.now, value.now))) }
+    ensures value { OnOk result (K.is_value key.now × V.is_value value.now) }
+    ensures err { OnErr result (TakesFront D.stands_for state.old state.new (entry_content K.content V.content (key.now, value.now))) }
+{
+    key.hash(alloc, state)?;
+    value.hash(alloc, state)
+}
+
+impl<K: ContentHash + Ord, V: ContentHash> ContentHash for BTreeMap<K, V> {
+    ghost is_value = { λ m. AreValues (λ e. K.is_value e.0 × V.is_value e.1) m.entries };
+
+    ghost content = { λ m. list_content (entry_content K.content V.content) m.entries };
+
+    ghost lawful = { on_lawful (λ m. m.entries) (list_lawful (both_lawful (on_lawful (λ e. e.0) K.lawful) (on_lawful (λ e. e.1) V.lawful))) };
+
+    #[tactic(auto, unfolding(crate::specs::Content::list_content, crate::specs::Content::u64_content))]
+    fn hash<D: DigestUpdate>(&self, alloc: Global, state: &mut D) -> Result<(), AllocError> {
+        state.update(&(self.len() as u64).to_le_bytes());
+        for (key, value) in self.iter() {
+            hash_entry(alloc, key, value, state)?;
+        }
+        Ok(())
     }
 }
 
