@@ -1,4 +1,5 @@
 pub mod Content
 pub mod Lawful
+pub mod Json
 pub mod Blake2b
 pub mod Blake2bState

@@ -8,6 +8,7 @@ ghost use Rattle.jj_content.specs.Content.{Takes, TakesFront, IsLawful, AreValue
 ghost use Rattle.jj_content.specs.Lawful.{unit_lawful, bool_lawful, u8_lawful, u32_lawful, u64_lawful, i32_lawful, i64_lawful, text_lawful, list_lawful, option_lawful, on_lawful, both_lawful};
 
 use crate::blake2b::Blake2b512;
+pub use crate::to_json::{ToJson, ToJsonError};
 use std::alloc::{AllocError, Global};
 use std::collections::BTreeMap;
 

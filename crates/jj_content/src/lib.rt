@@ -3,3 +3,4 @@
 
 pub mod blake2b;
 pub mod content_hash;
+mod to_json;
