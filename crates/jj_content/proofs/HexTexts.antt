@@ -3,15 +3,16 @@ use Rattle.std.proofs.Common.{◌≡◌, ℕ, ◌+◌, ◌*◌, ◌/◌, ◌%◌
 use Rattle.std.specs.Prelude.{position, codes, slice_index}
 use Rattle.std.specs.Str.{str_to_ascii_lowercase}
 use Rattle.std.specs.Char.{to_ascii_lowercase}
-use Rattle.std.specs.List.{flat_map}
+use Rattle.std.specs.List.{flat_map, list_all}
+use Rattle.std.specs.Option.{is_some}
 use Rattle.std.proofs.lemmas.Grind.{common_steps}
 use Rattle.std.proofs.lemmas.List.{map-append, length-map, drop_more, drop_all}
 use Rattle.std.proofs.lemmas.List.Concat.{flat_map-append}
-use Rattle.std.proofs.lemmas.List.Elements.{All-nil, All-push, All-head, All-tail}
-use Rattle.std.proofs.lemmas.Bool.{eqb-true, eq-eqb, cases_lt}
+use Rattle.std.proofs.lemmas.List.Elements.{All-nil, All-push, All-head, All-tail, All-append}
+use Rattle.std.proofs.lemmas.Bool.{eqb-true, eq-eqb, cases_lt, and_parts}
 use Rattle.std.proofs.lemmas.Bool.Decides.{eqb_tells}
 use Rattle.std.proofs.lemmas.List.Quantifiers.{position-Some}
-use Rattle.jj_content.specs.Hex.{hex_digits, reverse_hex_digits, digit_pair, text_with, ReadsAs, ReadsAsNothing, evened, digit_value, common_length}
+use Rattle.jj_content.specs.Hex.{hex_digits, reverse_hex_digits, digit_pair, text_with, ReadsAs, ReadsAsNothing, evened, digit_value, common_length, is_text_of}
 
 -- a number that is a byte
 abbrev pub IsByte : ℕ → Type 0
@@ -237,3 +238,36 @@ common_length-all digits xs ys n is same =
           let rest : common_length (text_with digits (drop n xs)) (text_with digits (drop n ys)) ≡ 0 = rw (drop_all n ys (omega arith), text_with-nil digits) (common_length-nil (text_with digits (drop n xs))) in
           omega arith
     ]
+
+-- a digit with a value is the first of a pair, or the second
+ReadsAs-cons : (digits text bytes : List ℕ) (a b high low : ℕ) → AreDigits digits → ReadsAs digits text bytes → digit_value digits a ≡ Some high → digit_value digits b ≡ Some low
+    → ReadsAs digits (a ∷ b ∷ text) ((high * 16 + low) ∷ bytes)
+ReadsAs-cons digits text bytes a b high low are reads is_high is_low =
+  let pair = ReadsAs-push digits [] [] a b high low are (ReadsAs-nil digits) is_high is_low in
+  record {
+    bytes_fit = All-append IsByte ((high * 16 + low) ∷ []) bytes pair.bytes_fit reads.bytes_fit;
+    same = rw (text_with-append digits ((high * 16 + low) ∷ []) bytes, ← pair.same, ← reads.same) refl }
+
+some_value : (o : Option ℕ) → is_some o ≡ true → (v : ℕ) × (o ≡ Some v)
+some_value (Some v) is = (v, refl)
+some_value None is = cc
+
+-- a text of whole bytes reads as some bytes
+pub bytes_of_text : (digits text : List ℕ) → AreDigits digits → length text % 2 ≡ 0 → list_all (λ c. is_some (digit_value digits c)) text ≡ true → (bytes : List ℕ) × ReadsAs digits text bytes
+bytes_of_text digits [] are even all = ([], ReadsAs-nil digits)
+bytes_of_text digits (a ∷ []) are even all = absurd (omega arith)
+bytes_of_text digits (a ∷ b ∷ text) are even all =
+  let first = and_parts (is_some (digit_value digits a)) _ all in
+  let second = and_parts (is_some (digit_value digits b)) _ first.1 in
+  let high = some_value (digit_value digits a) first.0 in
+  let low = some_value (digit_value digits b) second.0 in
+  let rest = bytes_of_text digits text are (omega arith) second.1 in
+  ((high.0 * 16 + low.0) ∷ rest.0, ReadsAs-cons digits text rest.0 a b high.0 low.0 are rest.1 high.1 low.1)
+
+-- so it does not read as nothing
+pub text_of_reads : (digits text : List ℕ) → AreDigits digits → is_text_of digits text ≡ true → ReadsAsNothing digits text → ⊥
+text_of_reads digits text are is none =
+  let parts = and_parts (eqb (length text % 2) 0) _ is in
+  let even = eqb-true (length text % 2) 0 parts.0 in
+  let found = bytes_of_text digits text are even parts.1 in
+  none found.0 found.1

@@ -1,8 +1,8 @@
 -- Hex text: each byte as two digits, the high one first.
-use Rattle.std.specs.Prelude.{◌≡◌, ℕ, ◌/◌, ◌%◌, ◌+◌, ◌<◌, List, [], ◌∷◌, ◌++◌, ◌==◌, length, slice_index, replicate, codes, if◌then◌else◌, All, Option, position}
+use Rattle.std.specs.Prelude.{◌≡◌, ℕ, ◌/◌, ◌%◌, ◌+◌, ◌<◌, List, [], ◌∷◌, ◌++◌, ◌==◌, length, slice_index, replicate, codes, if◌then◌else◌, All, Option, position, Bool, ◌&&◌, is_some}
 use Rattle.std.specs.Str.{str_to_ascii_lowercase}
 use Rattle.std.specs.Char.{to_ascii_lowercase}
-use Rattle.std.specs.List.{flat_map}
+use Rattle.std.specs.List.{flat_map, list_all}
 
 -- the sixteen digits of hex
 abbrev pub hex_digits : List ℕ
@@ -50,3 +50,7 @@ abbrev pub common_length : List ℕ → List ℕ → ℕ
 common_length [] ys = 0
 common_length (x ∷ xs) [] = 0
 common_length (x ∷ xs) (y ∷ ys) = if x == y then 1 + common_length xs ys else 0
+
+-- a text of whole bytes: digits in either case, even in number
+abbrev pub is_text_of : List ℕ → List ℕ → Bool
+is_text_of digits text = (length text % 2 == 0) && list_all (λ c. is_some (digit_value digits c)) text

@@ -1,0 +1,4 @@
+//! Ids of objects and names of refs.
+#![tactic(auto)]
+
+pub mod object_id;
