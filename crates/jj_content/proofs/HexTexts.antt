@@ -1,7 +1,8 @@
 -- Each digit stands at one place, so a text that reads as bytes has a digit at each place and reads as no others.
-use Rattle.std.proofs.Common.{◌≡◌, ℕ, ◌+◌, ◌*◌, ◌/◌, ◌%◌, ◌<◌, ◌≤◌, List, [], ◌∷◌, ◌++◌, length, get_or, take, drop, replicate, All, Option, Some, None, true, false, cond, eqb, refl, sym, ap, ◌∙◌, subst, arith, rules, suc, zero, map, min, inl, inr, ◌≢◌}
+use Rattle.std.proofs.Common.{◌≡◌, ℕ, ◌+◌, ◌*◌, ◌/◌, ◌%◌, ◌<◌, ◌≤◌, List, [], ◌∷◌, ◌++◌, length, get_or, take, drop, replicate, All, Option, Some, None, true, false, cond, eqb, refl, sym, ap, ◌∙◌, subst, arith, rules, lit<, lit≤, suc, zero, map, min, inl, inr, ◌≢◌}
 use Rattle.std.specs.Prelude.{position, codes, slice_index}
-use Rattle.std.specs.Str.{str_to_ascii_lowercase}
+use Rattle.std.specs.Str.{str_to_ascii_lowercase, IsAscii}
+use Rattle.std.proofs.lemmas.Str.Ascii.{IsAscii-nil, IsAscii-cons, IsAscii-from_reads}
 use Rattle.std.specs.Char.{to_ascii_lowercase}
 use Rattle.std.specs.List.{flat_map, list_all}
 use Rattle.std.specs.Option.{is_some}
@@ -132,7 +133,7 @@ pub ReadsAs-length : (digits text bytes : List ℕ) → ReadsAs digits text byte
 ReadsAs-length digits text bytes reads =
     sym (length-map text to_ascii_lowercase) ∙ ap length reads.same ∙ length-text_with digits bytes
 
-text_with-injective : (digits xs ys : List ℕ) → AreDigits digits → All IsByte xs → All IsByte ys → text_with digits xs ≡ text_with digits ys → xs ≡ ys
+pub text_with-injective : (digits xs ys : List ℕ) → AreDigits digits → All IsByte xs → All IsByte ys → text_with digits xs ≡ text_with digits ys → xs ≡ ys
 text_with-injective digits [] [] are x y e = refl
 text_with-injective digits [] (b ∷ ys) are x y e = let l = text_with-nil digits in let r = text_with-cons digits b ys in cc
 text_with-injective digits (a ∷ xs) [] are x y e = let l = text_with-nil digits in let r = text_with-cons digits a xs in cc
@@ -191,7 +192,7 @@ common_length-front digits (a ∷ xs) (b ∷ ys) (suc i) x y same =
 eqb_differ : (a b : ℕ) → a ≢ b → eqb a b ≡ false
 eqb_differ a b differ = elim (eqb_tells a b) [ inl same ↦ absurd (differ same.1) | inr other ↦ other.0 ]
 
-digits-injective : (digits : List ℕ) (m n : ℕ) → AreDigits digits → m < 16 → n < 16 → get_or digits m 0 ≡ get_or digits n 0 → m ≡ n
+pub digits-injective : (digits : List ℕ) (m n : ℕ) → AreDigits digits → m < 16 → n < 16 → get_or digits m 0 ≡ get_or digits n 0 → m ≡ n
 digits-injective digits m n are small_m small_n e =
     let back_m = are.back m small_m in
     let back_n = are.back n small_n in
@@ -271,3 +272,33 @@ text_of_reads digits text are is none =
   let even = eqb-true (length text % 2) 0 parts.0 in
   let found = bytes_of_text digits text are even parts.1 in
   none found.0 found.1
+
+-- the front of a text of bytes: whole bytes, or half a byte more
+pub take-text_with : (digits xs : List ℕ) (n : ℕ) → take (2 * n) (text_with digits xs) ≡ text_with digits (take n xs)
+take-text_with digits xs zero = sym (text_with-nil digits)
+take-text_with digits [] (suc n) =
+  let e : 2 * suc n ≡ suc (suc (2 * n)) = omega arith in
+  rw (text_with-nil digits, e) refl
+take-text_with digits (x ∷ xs) (suc n) =
+  let e : 2 * suc n ≡ suc (suc (2 * n)) = omega arith in
+  rw (text_with-cons digits x xs, text_with-cons digits x (take n xs), e, take-text_with digits xs n) refl
+
+pub take-text_with-half : (digits xs : List ℕ) (n : ℕ) → n < length xs → take (2 * n + 1) (text_with digits xs) ≡ text_with digits (take n xs) ++ get_or digits (get_or xs n 0 / 16) 0 ∷ []
+take-text_with-half digits [] n within = absurd (omega arith)
+take-text_with-half digits (x ∷ xs) zero within = rw (text_with-cons digits x xs, text_with-nil digits) refl
+take-text_with-half digits (x ∷ xs) (suc n) within =
+  let e : 2 * suc n + 1 ≡ suc (suc (2 * n + 1)) = omega arith in
+  rw (text_with-cons digits x xs, text_with-cons digits x (take n xs), e, take-text_with-half digits xs n (omega arith)) refl
+
+-- a text of ASCII digits is ASCII
+pub text_with-IsAscii : (digits bytes : List ℕ) → IsAscii digits → IsAscii (text_with digits bytes)
+text_with-IsAscii digits [] ascii = rw (text_with-nil digits) IsAscii-nil
+text_with-IsAscii digits (b ∷ bs) ascii =
+  rw (text_with-cons digits b bs) (IsAscii-cons (get_or digits (b / 16) 0) (get_or digits (b % 16) 0 ∷ text_with digits bs) (ascii (b / 16))
+    (IsAscii-cons (get_or digits (b % 16) 0) (text_with digits bs) (ascii (b % 16)) (text_with-IsAscii digits bs ascii)))
+
+pub hex_digits-IsAscii : IsAscii hex_digits
+hex_digits-IsAscii = IsAscii-from_reads hex_digits 16 (lit≤ tt) (below_sixteen (λ k. get_or hex_digits k 0 < 128) (lit< tt) (lit< tt) (lit< tt) (lit< tt) (lit< tt) (lit< tt) (lit< tt) (lit< tt) (lit< tt) (lit< tt) (lit< tt) (lit< tt) (lit< tt) (lit< tt) (lit< tt) (lit< tt))
+
+pub reverse_hex_digits-IsAscii : IsAscii reverse_hex_digits
+reverse_hex_digits-IsAscii = IsAscii-from_reads reverse_hex_digits 16 (lit≤ tt) (below_sixteen (λ k. get_or reverse_hex_digits k 0 < 128) (lit< tt) (lit< tt) (lit< tt) (lit< tt) (lit< tt) (lit< tt) (lit< tt) (lit< tt) (lit< tt) (lit< tt) (lit< tt) (lit< tt) (lit< tt) (lit< tt) (lit< tt) (lit< tt))

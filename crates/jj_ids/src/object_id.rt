@@ -8,9 +8,11 @@ ghost use Rattle.jj_content.specs.Json.{IsAnswer};
 
 mod change_id;
 mod commit_id;
+mod hex_prefix;
 
 pub use change_id::ChangeId;
 pub use commit_id::CommitId;
+pub use hex_prefix::HexPrefix;
 use jj_content::content_hash::ToJsonError;
 use jj_content::hex_util::{decode_hex, encode_hex, encode_reverse_hex};
 use serde_json::Value;
