@@ -9,10 +9,12 @@ ghost use Rattle.jj_content.specs.Json.{IsAnswer};
 mod change_id;
 mod commit_id;
 mod hex_prefix;
+mod prefix_resolution;
 
 pub use change_id::ChangeId;
 pub use commit_id::CommitId;
 pub use hex_prefix::HexPrefix;
+pub use prefix_resolution::PrefixResolution;
 use jj_content::content_hash::ToJsonError;
 use jj_content::hex_util::{decode_hex, encode_hex, encode_reverse_hex};
 use serde_json::Value;
