@@ -1,2 +1,3 @@
 pub mod Prefix
 pub mod Resolution
+pub mod Names

@@ -1,0 +1,10 @@
+//! Names of refs, remotes and workspaces, and symbols of them for display.
+mod git_ref_names;
+mod ref_names;
+mod remote_names;
+mod workspace_names;
+
+pub use git_ref_names::{GitRefName, GitRefNameBuf};
+pub use ref_names::{RefName, RefNameBuf};
+pub use remote_names::{RemoteName, RemoteNameBuf};
+pub use workspace_names::{WorkspaceName, WorkspaceNameBuf};
