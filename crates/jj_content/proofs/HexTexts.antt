@@ -244,10 +244,11 @@ common_length-all digits xs ys n is same =
 ReadsAs-cons : (digits text bytes : List ℕ) (a b high low : ℕ) → AreDigits digits → ReadsAs digits text bytes → digit_value digits a ≡ Some high → digit_value digits b ≡ Some low
     → ReadsAs digits (a ∷ b ∷ text) ((high * 16 + low) ∷ bytes)
 ReadsAs-cons digits text bytes a b high low are reads is_high is_low =
-  let pair = ReadsAs-push digits [] [] a b high low are (ReadsAs-nil digits) is_high is_low in
-  record {
-    bytes_fit = All-append IsByte ((high * 16 + low) ∷ []) bytes pair.bytes_fit reads.bytes_fit;
-    same = rw (text_with-append digits ((high * 16 + low) ∷ []) bytes, ← pair.same, ← reads.same) refl }
+    let pair = ReadsAs-push digits [] [] a b high low are (ReadsAs-nil digits) is_high is_low in
+    record {
+      bytes_fit = All-append IsByte ((high * 16 + low) ∷ []) bytes pair.bytes_fit reads.bytes_fit;
+      same = rw (text_with-append digits ((high * 16 + low) ∷ []) bytes, ← pair.same, ← reads.same) refl;
+    }
 
 some_value : (o : Option ℕ) → is_some o ≡ true → (v : ℕ) × (o ≡ Some v)
 some_value (Some v) is = (v, refl)
@@ -258,43 +259,43 @@ pub bytes_of_text : (digits text : List ℕ) → AreDigits digits → length tex
 bytes_of_text digits [] are even all = ([], ReadsAs-nil digits)
 bytes_of_text digits (a ∷ []) are even all = absurd (omega arith)
 bytes_of_text digits (a ∷ b ∷ text) are even all =
-  let first = and_parts (is_some (digit_value digits a)) _ all in
-  let second = and_parts (is_some (digit_value digits b)) _ first.1 in
-  let high = some_value (digit_value digits a) first.0 in
-  let low = some_value (digit_value digits b) second.0 in
-  let rest = bytes_of_text digits text are (omega arith) second.1 in
-  ((high.0 * 16 + low.0) ∷ rest.0, ReadsAs-cons digits text rest.0 a b high.0 low.0 are rest.1 high.1 low.1)
+    let first = and_parts (is_some (digit_value digits a)) _ all in
+    let second = and_parts (is_some (digit_value digits b)) _ first.1 in
+    let high = some_value (digit_value digits a) first.0 in
+    let low = some_value (digit_value digits b) second.0 in
+    let rest = bytes_of_text digits text are (omega arith) second.1 in
+    ((high.0 * 16 + low.0) ∷ rest.0, ReadsAs-cons digits text rest.0 a b high.0 low.0 are rest.1 high.1 low.1)
 
 -- so it does not read as nothing
 pub text_of_reads : (digits text : List ℕ) → AreDigits digits → is_text_of digits text ≡ true → ReadsAsNothing digits text → ⊥
 text_of_reads digits text are is none =
-  let parts = and_parts (eqb (length text % 2) 0) _ is in
-  let even = eqb-true (length text % 2) 0 parts.0 in
-  let found = bytes_of_text digits text are even parts.1 in
-  none found.0 found.1
+    let parts = and_parts (eqb (length text % 2) 0) _ is in
+    let even = eqb-true (length text % 2) 0 parts.0 in
+    let found = bytes_of_text digits text are even parts.1 in
+    none found.0 found.1
 
 -- the front of a text of bytes: whole bytes, or half a byte more
 pub take-text_with : (digits xs : List ℕ) (n : ℕ) → take (2 * n) (text_with digits xs) ≡ text_with digits (take n xs)
 take-text_with digits xs zero = sym (text_with-nil digits)
 take-text_with digits [] (suc n) =
-  let e : 2 * suc n ≡ suc (suc (2 * n)) = omega arith in
-  rw (text_with-nil digits, e) refl
+    let e : 2 * suc n ≡ suc (suc (2 * n)) = omega arith in
+    rw (text_with-nil digits, e) refl
 take-text_with digits (x ∷ xs) (suc n) =
-  let e : 2 * suc n ≡ suc (suc (2 * n)) = omega arith in
-  rw (text_with-cons digits x xs, text_with-cons digits x (take n xs), e, take-text_with digits xs n) refl
+    let e : 2 * suc n ≡ suc (suc (2 * n)) = omega arith in
+    rw (text_with-cons digits x xs, text_with-cons digits x (take n xs), e, take-text_with digits xs n) refl
 
 pub take-text_with-half : (digits xs : List ℕ) (n : ℕ) → n < length xs → take (2 * n + 1) (text_with digits xs) ≡ text_with digits (take n xs) ++ get_or digits (get_or xs n 0 / 16) 0 ∷ []
 take-text_with-half digits [] n within = absurd (omega arith)
 take-text_with-half digits (x ∷ xs) zero within = rw (text_with-cons digits x xs, text_with-nil digits) refl
 take-text_with-half digits (x ∷ xs) (suc n) within =
-  let e : 2 * suc n + 1 ≡ suc (suc (2 * n + 1)) = omega arith in
-  rw (text_with-cons digits x xs, text_with-cons digits x (take n xs), e, take-text_with-half digits xs n (omega arith)) refl
+    let e : 2 * suc n + 1 ≡ suc (suc (2 * n + 1)) = omega arith in
+    rw (text_with-cons digits x xs, text_with-cons digits x (take n xs), e, take-text_with-half digits xs n (omega arith)) refl
 
 -- a text of ASCII digits is ASCII
 pub text_with-IsAscii : (digits bytes : List ℕ) → IsAscii digits → IsAscii (text_with digits bytes)
 text_with-IsAscii digits [] ascii = rw (text_with-nil digits) IsAscii-nil
 text_with-IsAscii digits (b ∷ bs) ascii =
-  rw (text_with-cons digits b bs) (IsAscii-cons (get_or digits (b / 16) 0) (get_or digits (b % 16) 0 ∷ text_with digits bs) (ascii (b / 16))
+    rw (text_with-cons digits b bs) (IsAscii-cons (get_or digits (b / 16) 0) (get_or digits (b % 16) 0 ∷ text_with digits bs) (ascii (b / 16))
     (IsAscii-cons (get_or digits (b % 16) 0) (text_with digits bs) (ascii (b % 16)) (text_with-IsAscii digits bs ascii)))
 
 pub hex_digits-IsAscii : IsAscii hex_digits

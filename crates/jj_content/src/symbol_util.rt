@@ -1,11 +1,13 @@
 //! Texts between double quotes, with escapes for what can't stand there.
 ghost use Rattle.std.specs.Prelude.{◌≡◌, ℕ, ◌<◌, ◌++◌, IfOk, OnOk, MatchOption, is_ok, encode_utf8};
+ghost use Rattle.std.specs.Fmt.{WritesInCalls};
 ghost use Rattle.std.specs.List.{flat_map};
 ghost use Rattle.std.specs.String.{string_bytes};
 ghost use Rattle.jj_content.specs.Symbols.{escaped_byte, escaped_text, quoted_text, letter_char, IsEscapeOf};
 
 use crate::hex_util::hex_digit_char;
 use std::alloc::{AllocError, Global};
+use std::fmt;
 
 // Writes the character as it prints between quotes.
 fn push_escaped(escaped: &mut String, c: char) -> Result<(), AllocError>
@@ -56,6 +58,40 @@ pub fn format_string(alloc: Global, unescaped: &str) -> Result<String, AllocErro
     escape_string_to_buf(&mut escaped, unescaped)?;
     escaped.push('"')?;
     Ok(escaped)
+}
+
+// Writes the character as it prints between quotes.
+fn write_escaped<W: fmt::Write>(writer: &mut W, c: char) -> fmt::Result
+    ensures { OnOk result (WritesInCalls W.write_str_gives writer.old (flat_map escaped_byte (encode_utf8 c)) writer.new) }
+{
+    match c {
+        '"' => writer.write_str("\\\"")?,
+        '\\' => writer.write_str("\\\\")?,
+        '\t' => writer.write_str("\\t")?,
+        '\r' => writer.write_str("\\r")?,
+        '\n' => writer.write_str("\\n")?,
+        '\0' => writer.write_str("\\0")?,
+        c if c.is_ascii_control() => {
+            let byte = c as u8;
+            writer.write_str("\\x")?;
+            writer.write_char(hex_digit_char(byte >> 4))?;
+            writer.write_char(hex_digit_char(byte & 0xf))?;
+        }
+        c => writer.write_char(c)?,
+    }
+    Ok(())
+}
+
+/// Writes a text in double quotes, as `format_string` gives it, piece by piece.
+pub fn write_quoted<W: fmt::Write>(writer: &mut W, text: &str) -> fmt::Result
+    ensures { OnOk result (WritesInCalls W.write_str_gives writer.old (quoted_text text.now) writer.new) }
+{
+    writer.write_char('"')?;
+    for c in text.chars() {
+        write_escaped(writer, c)?;
+    }
+    writer.write_char('"')?;
+    Ok(())
 }
 
 // The character of a letter behind a backslash.
