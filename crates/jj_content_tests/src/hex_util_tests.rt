@@ -20,7 +20,8 @@ fn is_read(answer: &Option<Vec<u8>>, expected: Option<&[u8]>) -> bool {
 // Whether the answer is these bytes with this mark of half a byte.
 fn is_prefix(answer: &Option<(Vec<u8>, bool)>, expected: Option<(&[u8], bool)>) -> bool {
     match (answer, expected) {
-        (Some((bytes, odd)), Some((expected, half))) => bytes.as_slice() == expected && *odd == half,
+        (Some((bytes, odd)), Some((expected, half))) => bytes.as_slice() == expected
+            && *odd == half,
         (None, None) => true,
         _ => false,
     }
@@ -70,12 +71,22 @@ fn prefixes_are_read(rt: HostRuntime) -> Result<(), Fail> {
     let alloc = rt.alloc();
     assert!(rt; is_prefix(&forward_prefix(alloc, "")?, Some((&[], false))));
     assert!(rt; is_prefix(&forward_prefix(alloc, "f")?, Some((&[0xf0], true))));
-    assert!(rt; is_prefix(&forward_prefix(alloc, "0123456789ABCdef")?, Some((&DIGITS, false))));
+    assert!(rt;
+        is_prefix(
+            &forward_prefix(alloc, "0123456789ABCdef")?,
+            Some((&DIGITS, false))
+        )
+    );
     assert!(rt; is_prefix(&forward_prefix(alloc, "gg")?, None));
     assert!(rt; is_prefix(&forward_prefix(alloc, "00g")?, None));
     assert!(rt; is_prefix(&reverse_prefix(alloc, "")?, Some((&[], false))));
     assert!(rt; is_prefix(&reverse_prefix(alloc, "k")?, Some((&[0xf0], true))));
-    assert!(rt; is_prefix(&reverse_prefix(alloc, "ZYXWVUTSrqponmlk")?, Some((&DIGITS, false))));
+    assert!(rt;
+        is_prefix(
+            &reverse_prefix(alloc, "ZYXWVUTSrqponmlk")?,
+            Some((&DIGITS, false))
+        )
+    );
     assert!(rt; is_prefix(&reverse_prefix(alloc, "jj")?, None));
     Ok(())
 }

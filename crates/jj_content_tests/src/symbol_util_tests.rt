@@ -17,7 +17,9 @@ fn texts_are_escaped(rt: HostRuntime) -> Result<(), Fail> {
         assert_eq!(rt; shown.as_str(), escaped);
         let shown = format_string(alloc, text).or_else(|_| format_string(alloc, text))?;
         assert_eq!(rt; shown.as_str(), quoted);
-        let mut written = String::with_capacity(alloc, 64).or_else(|_| String::with_capacity(alloc, 64))?;
+        let mut written = String::with_capacity(alloc, 64).or_else(|_| String::with_capacity(
+            alloc, 64,
+        ))?;
         assert!(rt; write_quoted(&mut written, text).is_ok());
         assert_eq!(rt; written.as_str(), quoted);
     }

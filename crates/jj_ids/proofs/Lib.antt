@@ -1,1 +1,3 @@
 pub mod Prefixes
+pub mod SafeSymbols
+pub mod Displays

@@ -2,6 +2,7 @@
 use Rattle.std.specs.Prelude.{ℕ, List}
 use Rattle.jj_ids.specs.declared.ref_name.git_ref_names.GitRefName.{GitRefName}
 use Rattle.jj_ids.specs.declared.ref_name.ref_names.RefName.{RefName}
+use Rattle.jj_ids.specs.declared.ref_name.symbols.RefSymbol.{RefSymbol}
 use Rattle.jj_ids.specs.declared.ref_name.remote_names.RemoteName.{RemoteName}
 use Rattle.jj_ids.specs.declared.ref_name.workspace_names.WorkspaceName.{WorkspaceName}
 
@@ -20,3 +21,7 @@ remote_name_of name = name.text.now
 -- the text of a borrowed name of a workspace
 abbrev pub workspace_name_of : WorkspaceName → List ℕ
 workspace_name_of name = name.text.now
+
+-- the text of a symbol
+abbrev pub ref_symbol_of : RefSymbol → List ℕ
+ref_symbol_of symbol = symbol.text.now

@@ -2,9 +2,11 @@
 mod git_ref_names;
 mod ref_names;
 mod remote_names;
+mod symbols;
 mod workspace_names;
 
 pub use git_ref_names::{GitRefName, GitRefNameBuf};
 pub use ref_names::{RefName, RefNameBuf};
 pub use remote_names::{RemoteName, RemoteNameBuf};
+pub use symbols::{RefSymbol, RemoteRefSymbol, RemoteRefSymbolBuf};
 pub use workspace_names::{WorkspaceName, WorkspaceNameBuf};

@@ -12,8 +12,9 @@ ghost use Rattle.std.proofs.Common.{rules};
 ghost use Rattle.serde_json.specs.Data.{string};
 ghost use Rattle.jj_content.specs.Content.{Takes, TakesFront, text_content};
 ghost use Rattle.jj_content.specs.Lawful.{on_lawful, text_lawful};
-ghost use Rattle.jj_ids.specs.Names.{ref_name_of};
+ghost use Rattle.jj_ids.specs.Names.{ref_name_of, ref_symbol_of, remote_name_of};
 
+use super::{RefSymbol, RemoteName, RemoteRefSymbol};
 use jj_content::content_hash::{ContentHash, DigestUpdate, ToJson, ToJsonError};
 use serde_json::Value;
 use std::alloc::{AllocError, Global};
@@ -58,6 +59,13 @@ impl<'a> RefName<'a> {
         self.text
     }
 
+    /// The name as a symbol, for display.
+    pub fn as_symbol(self) -> RefSymbol<'a>
+        ensures { ref_symbol_of result ≡ ref_name_of self.entry }
+    {
+        RefSymbol::new(self.text)
+    }
+
     /// A copy of the name.
     pub fn to_owned(self, alloc: Global) -> Result<RefNameBuf, AllocError>
         ensures { IfOk result (λ name. name ≡ ref_name_of self.entry) }
@@ -70,6 +78,14 @@ impl<'a> RefName<'a> {
         ensures { IsTrue result ↔ (ref_name_of self.entry ≡ text.now) }
     {
         self.text == text
+    }
+
+    /// The symbol of this name at a remote.
+    pub fn to_remote_symbol(self, remote: RemoteName<'a>) -> RemoteRefSymbol<'a>
+        ensures name { ref_name_of result.name ≡ ref_name_of self.entry }
+        ensures remote { remote_name_of result.remote ≡ remote_name_of remote.entry }
+    {
+        RemoteRefSymbol { name: self, remote }
     }
 }
 

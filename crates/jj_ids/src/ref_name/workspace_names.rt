@@ -12,8 +12,9 @@ ghost use Rattle.std.proofs.Common.{rules};
 ghost use Rattle.serde_json.specs.Data.{string};
 ghost use Rattle.jj_content.specs.Content.{Takes, TakesFront, text_content};
 ghost use Rattle.jj_content.specs.Lawful.{on_lawful, text_lawful};
-ghost use Rattle.jj_ids.specs.Names.{workspace_name_of};
+ghost use Rattle.jj_ids.specs.Names.{workspace_name_of, ref_symbol_of};
 
+use super::RefSymbol;
 use jj_content::content_hash::{ContentHash, DigestUpdate, ToJson, ToJsonError};
 use serde_json::Value;
 use std::alloc::{AllocError, Global};
@@ -56,6 +57,13 @@ impl<'a> WorkspaceName<'a> {
         ensures { result.now ≡ workspace_name_of self.entry }
     {
         self.text
+    }
+
+    /// The name as a symbol, for display.
+    pub fn as_symbol(self) -> RefSymbol<'a>
+        ensures { ref_symbol_of result ≡ workspace_name_of self.entry }
+    {
+        RefSymbol::new(self.text)
     }
 
     /// A copy of the name.
