@@ -8,5 +8,5 @@ mod workspace_names;
 pub use git_ref_names::{GitRefName, GitRefNameBuf};
 pub use ref_names::{RefName, RefNameBuf};
 pub use remote_names::{RemoteName, RemoteNameBuf};
-pub use symbols::{RefSymbol, RemoteRefSymbol, RemoteRefSymbolBuf};
+pub use symbols::{RefSymbol, RemoteRefSymbol, RemoteRefSymbolBuf, remote_symbols_print_apart};
 pub use workspace_names::{WorkspaceName, WorkspaceNameBuf};

@@ -236,3 +236,9 @@ impl fmt::Display for RemoteRefSymbolBuf {
         display_printed(f, symbol.name.as_str(), Some(symbol.remote.as_str()))
     }
 }
+
+/// Names at remotes print equal exactly where they are equal.
+pub fn remote_symbols_print_apart()
+    ensures apart { (name remote other other_remote : List ℕ) → remote_symbol_text name remote ≡ remote_symbol_text other other_remote → (name ≡ other) × (remote ≡ other_remote) }
+    ensures same { (name remote other other_remote : List ℕ) → name ≡ other → remote ≡ other_remote → remote_symbol_text name remote ≡ remote_symbol_text other other_remote }
+{}
