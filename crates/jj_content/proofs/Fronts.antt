@@ -1,0 +1,92 @@
+-- What a state took in, over calls one after another.
+use Rattle.std.proofs.Common.{◌≡◌, ℕ, List, [], ◌∷◌, ◌++◌, ◌+◌, ◌<◌, length, take, drop, get_or, sym, ap, ◌∙◌, subst, Result, Ok, Err, OnErr}
+use Rattle.std.proofs.lemmas.List.{append_assoc, append-nil, take_more, take-append-drop}
+use Rattle.std.proofs.lemmas.Grind.{flat_map-append}
+use Rattle.std.specs.List.{flat_map}
+use Rattle.jj_content.specs.Content.{Takes, TakesFront}
+
+-- at the exit of a `?`, what the callee left
+pub on_err_from : {T E P : Type 0} (r : Result T E) → P → OnErr r P
+on_err_from (Ok x) p = tt
+on_err_from (Err e) p = p
+
+module _ {D : Type 0} (stands_for : D → List ℕ → Type 0) where
+  -- a beginning of the first part is one of the whole
+  pub front_first : (old new : D) (a b : List ℕ) → TakesFront stands_for old new a → TakesFront stands_for old new (a ++ b)
+  front_first old new a b f = record {
+    front = f.front;
+    rest = f.rest ++ b;
+    whole = ap (λ (z : List ℕ). z ++ b) f.whole ∙ append_assoc f.front f.rest b;
+    takes = f.takes;
+  }
+
+  -- the first part whole, and then a beginning of the second
+  pub front_next : (old mid new : D) (a b : List ℕ) → Takes stands_for old mid a → TakesFront stands_for mid new b → TakesFront stands_for old new (a ++ b)
+  front_next old mid new a b t f = record {
+    front = a ++ f.front;
+    rest = f.rest;
+    whole = ap (λ (z : List ℕ). a ++ z) f.whole ∙ sym (append_assoc a f.front f.rest);
+    takes = λ s h. subst (stands_for new) (append_assoc s a f.front) (f.takes (s ++ a) (t s h));
+  }
+
+  -- one part whole, and then another
+  pub takes_next : (old mid new : D) (a b : List ℕ) → Takes stands_for old mid a → Takes stands_for mid new b → Takes stands_for old new (a ++ b)
+  takes_next old mid new a b t u = λ s h. subst (stands_for new) (append_assoc s a b) (u (s ++ a) (t s h))
+
+  -- the items before the one at i, and then a beginning of that one's content
+  pub front_items : {X : Type 0} (content : X → List ℕ) (old mid new : D) (head : List ℕ) (xs : List X) (i : ℕ) (x : X) → i < length xs
+      → x ≡ get_or xs i x → Takes stands_for old mid (head ++ flat_map content (take i xs)) → TakesFront stands_for mid new (content x)
+      → TakesFront stands_for old new (head ++ flat_map content xs)
+  front_items {X = X} content old mid new head xs i x lt at taken front =
+      let before : List ℕ = head ++ flat_map content (take i xs) in
+      let after : List ℕ = flat_map content (drop (i + 1) xs) in
+      let item : flat_map content (take (i + 1) xs) ≡ flat_map content (take i xs) ++ content x =
+      ap (flat_map content) (take_more xs i x lt) ∙ flat_map-append content (take i xs) (get_or xs i x ∷ [])
+      ∙ ap (λ (z : List ℕ). flat_map content (take i xs) ++ z) (append-nil _ ∙ ap content (sym at)) in
+      let whole : (before ++ content x) ++ after ≡ head ++ flat_map content xs =
+      ap (λ (z : List ℕ). z ++ after) (append_assoc head (flat_map content (take i xs)) (content x))
+      ∙ append_assoc head (flat_map content (take i xs) ++ content x) after
+      ∙ ap (λ (z : List ℕ). head ++ (z ++ after)) (sym item)
+      ∙ ap (λ (z : List ℕ). head ++ z) (sym (flat_map-append content (take (i + 1) xs) (drop (i + 1) xs)))
+      ∙ ap (λ (z : List X). head ++ flat_map content z) (take-append-drop (i + 1) xs) in
+      subst (TakesFront stands_for old new) whole (front_first old new (before ++ content x) after (front_next old mid new before (content x) taken front))
+
+  -- one item more
+  pub takes_more : {X : Type 0} (content : X → List ℕ) (old mid new : D) (head : List ℕ) (done : List X) (x : X)
+      → Takes stands_for old mid (head ++ flat_map content done) → Takes stands_for mid new (content x) → Takes stands_for old new (head ++ flat_map content (done ++ x ∷ []))
+  takes_more content old mid new head done x t u =
+      let more : (head ++ flat_map content done) ++ content x ≡ head ++ flat_map content (done ++ x ∷ []) =
+      append_assoc head (flat_map content done) (content x)
+      ∙ ap (λ (z : List ℕ). head ++ z) (ap (λ (z : List ℕ). flat_map content done ++ z) (sym (append-nil (content x))) ∙ sym (flat_map-append content done (x ∷ []))) in
+      subst (Takes stands_for old new) more (takes_next old mid new (head ++ flat_map content done) (content x) t u)
+
+  -- the items done, and then a beginning of the next one's content
+  pub front_more : {X : Type 0} (content : X → List ℕ) (old mid new : D) (head : List ℕ) (done : List X) (x : X) (left all : List X) → done ++ (x ∷ left) ≡ all
+      → Takes stands_for old mid (head ++ flat_map content done) → TakesFront stands_for mid new (content x) → TakesFront stands_for old new (head ++ flat_map content all)
+  front_more {X = X} content old mid new head done x left all e t f =
+      let whole : ((head ++ flat_map content done) ++ content x) ++ flat_map content left ≡ head ++ flat_map content all =
+      append_assoc (head ++ flat_map content done) (content x) (flat_map content left)
+      ∙ append_assoc head (flat_map content done) (flat_map content (x ∷ left))
+      ∙ ap (λ (z : List ℕ). head ++ z) (sym (flat_map-append content done (x ∷ left)) ∙ ap (flat_map content) e) in
+      subst (TakesFront stands_for old new) whole
+      (front_first old new ((head ++ flat_map content done) ++ content x) (flat_map content left) (front_next old mid new (head ++ flat_map content done) (content x) t f))
+
+-- the same where other parts follow, by how many parts are whole
+module _ {D : Type 0} (sf : D → List ℕ → Type 0) where
+  pub front_1 : (s0 s1 new : D) (a b rest : List ℕ) → Takes sf s0 s1 a → TakesFront sf s1 new b → TakesFront sf s0 new (a ++ (b ++ rest))
+  front_1 s0 s1 new a b rest t f = front_next sf s0 s1 new a (b ++ rest) t (front_first sf s1 new b rest f)
+
+  pub front_2 : (s0 s1 s2 new : D) (a b c : List ℕ) → Takes sf s0 s1 a → Takes sf s1 s2 b → TakesFront sf s2 new c → TakesFront sf s0 new (a ++ (b ++ c))
+  front_2 s0 s1 s2 new a b c t u f = front_next sf s0 s1 new a (b ++ c) t (front_next sf s1 s2 new b c u f)
+
+  pub front_2_rest : (s0 s1 s2 new : D) (a b c rest : List ℕ) → Takes sf s0 s1 a → Takes sf s1 s2 b → TakesFront sf s2 new c → TakesFront sf s0 new (a ++ (b ++ (c ++ rest)))
+  front_2_rest s0 s1 s2 new a b c rest t u f = front_2 s0 s1 s2 new a b (c ++ rest) t u (front_first sf s2 new c rest f)
+
+  -- the same for parts that are joined from the left, as a tuple's
+  pub front_left_2 : (s0 s1 s2 new : D) (a b c : List ℕ) → Takes sf s0 s1 a → Takes sf s1 s2 b → TakesFront sf s2 new c → TakesFront sf s0 new (a ++ b ++ c)
+  front_left_2 s0 s1 s2 new a b c t u f = front_next sf s0 s2 new (a ++ b) c (takes_next sf s0 s1 s2 a b t u) f
+
+  pub front_left_3 : (s0 s1 s2 s3 new : D) (a b c d : List ℕ) → Takes sf s0 s1 a → Takes sf s1 s2 b → Takes sf s2 s3 c → TakesFront sf s3 new d → TakesFront sf s0 new (a ++ b ++ c ++ d)
+  front_left_3 s0 s1 s2 s3 new a b c d t u v f = front_next sf s0 s3 new (a ++ b ++ c) d (takes_next sf s0 s2 s3 (a ++ b) c (takes_next sf s0 s1 s2 a b t u) v) f
+
+pub ruleset fronts = (front_first, front_next, front_1, front_2, front_2_rest)

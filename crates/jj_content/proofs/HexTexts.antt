@@ -1,0 +1,305 @@
+-- Each digit stands at one place, so a text that reads as bytes has a digit at each place and reads as no others.
+use Rattle.std.proofs.Common.{◌≡◌, ℕ, ◌+◌, ◌*◌, ◌/◌, ◌%◌, ◌<◌, ◌≤◌, List, [], ◌∷◌, ◌++◌, length, get_or, take, drop, replicate, All, Option, Some, None, true, false, cond, eqb, refl, sym, ap, ◌∙◌, subst, arith, rules, lit<, lit≤, suc, zero, map, min, inl, inr, ◌≢◌}
+use Rattle.std.specs.Prelude.{position, codes, slice_index}
+use Rattle.std.specs.Str.{str_to_ascii_lowercase, IsAscii}
+use Rattle.std.proofs.lemmas.Str.Ascii.{IsAscii-nil, IsAscii-cons, IsAscii-from_reads}
+use Rattle.std.specs.Char.{to_ascii_lowercase}
+use Rattle.std.specs.List.{flat_map, list_all}
+use Rattle.std.specs.Option.{is_some}
+use Rattle.std.proofs.lemmas.Grind.{common_steps}
+use Rattle.std.proofs.lemmas.List.{map-append, length-map, drop_more, drop_all}
+use Rattle.std.proofs.lemmas.List.Concat.{flat_map-append}
+use Rattle.std.proofs.lemmas.List.Elements.{All-nil, All-push, All-head, All-tail, All-append}
+use Rattle.std.proofs.lemmas.Bool.{eqb-true, eq-eqb, cases_lt, and_parts}
+use Rattle.std.proofs.lemmas.Bool.Decides.{eqb_tells}
+use Rattle.std.proofs.lemmas.List.Quantifiers.{position-Some}
+use Rattle.jj_content.specs.Hex.{hex_digits, reverse_hex_digits, digit_pair, text_with, ReadsAs, ReadsAsNothing, evened, digit_value, common_length, is_text_of}
+
+-- a number that is a byte
+abbrev pub IsByte : ℕ → Type 0
+IsByte byte = byte < 256
+
+-- sixteen lower-case digits, each at one place
+pub record AreDigits (digits : List ℕ) : Type 0 where
+  pub count : length digits ≡ 16
+  pub back : (m : ℕ) → m < 16 → digit_value digits (get_or digits m 0) ≡ Some m
+  pub lower : (m : ℕ) → m < 16 → to_ascii_lowercase (get_or digits m 0) ≡ get_or digits m 0
+
+-- what holds of the numbers below sixteen, one by one
+below_sixteen : (P : ℕ → Type 0) → P 0 → P 1 → P 2 → P 3 → P 4 → P 5 → P 6 → P 7 → P 8 → P 9 → P 10 → P 11 → P 12 → P 13 → P 14 → P 15 → (m : ℕ) → m < 16 → P m
+below_sixteen P a b c d e f g h i j k l n o p q zero _ = a
+below_sixteen P a b c d e f g h i j k l n o p q (suc zero) _ = b
+below_sixteen P a b c d e f g h i j k l n o p q (suc (suc zero)) _ = c
+below_sixteen P a b c d e f g h i j k l n o p q (suc (suc (suc zero))) _ = d
+below_sixteen P a b c d e f g h i j k l n o p q (suc (suc (suc (suc zero)))) _ = e
+below_sixteen P a b c d e f g h i j k l n o p q (suc (suc (suc (suc (suc zero))))) _ = f
+below_sixteen P a b c d e f g h i j k l n o p q (suc (suc (suc (suc (suc (suc zero)))))) _ = g
+below_sixteen P a b c d e f g h i j k l n o p q (suc (suc (suc (suc (suc (suc (suc zero))))))) _ = h
+below_sixteen P a b c d e f g h i j k l n o p q (suc (suc (suc (suc (suc (suc (suc (suc zero)))))))) _ = i
+below_sixteen P a b c d e f g h i j k l n o p q (suc (suc (suc (suc (suc (suc (suc (suc (suc zero))))))))) _ = j
+below_sixteen P a b c d e f g h i j k l n o p q (suc (suc (suc (suc (suc (suc (suc (suc (suc (suc zero)))))))))) _ = k
+below_sixteen P a b c d e f g h i j k l n o p q (suc (suc (suc (suc (suc (suc (suc (suc (suc (suc (suc zero))))))))))) _ = l
+below_sixteen P a b c d e f g h i j k l n o p q (suc (suc (suc (suc (suc (suc (suc (suc (suc (suc (suc (suc zero)))))))))))) _ = n
+below_sixteen P a b c d e f g h i j k l n o p q (suc (suc (suc (suc (suc (suc (suc (suc (suc (suc (suc (suc (suc zero))))))))))))) _ = o
+below_sixteen P a b c d e f g h i j k l n o p q (suc (suc (suc (suc (suc (suc (suc (suc (suc (suc (suc (suc (suc (suc zero)))))))))))))) _ = p
+below_sixteen P a b c d e f g h i j k l n o p q (suc (suc (suc (suc (suc (suc (suc (suc (suc (suc (suc (suc (suc (suc (suc zero))))))))))))))) _ = q
+below_sixteen P a b c d e f g h i j k l n o p q (suc (suc (suc (suc (suc (suc (suc (suc (suc (suc (suc (suc (suc (suc (suc (suc m)))))))))))))))) small = absurd (omega arith)
+
+pub are_hex_digits : AreDigits hex_digits
+are_hex_digits = record {
+  count = refl;
+  back = below_sixteen (λ m. digit_value hex_digits (get_or hex_digits m 0) ≡ Some m) refl refl refl refl refl refl refl refl refl refl refl refl refl refl refl refl;
+  lower = below_sixteen (λ m. to_ascii_lowercase (get_or hex_digits m 0) ≡ get_or hex_digits m 0) refl refl refl refl refl refl refl refl refl refl refl refl refl refl refl refl;
+}
+
+pub are_reverse_hex_digits : AreDigits reverse_hex_digits
+are_reverse_hex_digits = record {
+  count = refl;
+  back = below_sixteen (λ m. digit_value reverse_hex_digits (get_or reverse_hex_digits m 0) ≡ Some m) refl refl refl refl refl refl refl refl refl refl refl refl refl refl refl refl;
+  lower = below_sixteen (λ m. to_ascii_lowercase (get_or reverse_hex_digits m 0) ≡ get_or reverse_hex_digits m 0) refl refl refl refl refl refl refl refl refl refl refl refl refl refl refl refl;
+}
+
+pub text_with-append : (digits xs ys : List ℕ) → text_with digits (xs ++ ys) ≡ text_with digits xs ++ text_with digits ys
+unfolding text_with
+text_with-append digits xs ys = flat_map-append (digit_pair digits) xs ys
+
+pub text_with-nil : (digits : List ℕ) → text_with digits [] ≡ []
+unfolding text_with
+text_with-nil digits = refl
+
+pub text_with-cons : (digits : List ℕ) (x : ℕ) (xs : List ℕ) → text_with digits (x ∷ xs) ≡ get_or digits (x / 16) 0 ∷ get_or digits (x % 16) 0 ∷ text_with digits xs
+unfolding text_with
+text_with-cons digits x xs = refl
+
+pub length-text_with : (digits xs : List ℕ) → length (text_with digits xs) ≡ 2 * length xs
+length-text_with digits [] = ap length (text_with-nil digits)
+length-text_with digits (x ∷ xs) = let h : length (text_with digits xs) ≡ 2 * length xs = length-text_with digits xs in rw text_with-cons (omega arith)
+
+-- what a digit's value says of its character
+pub digit_value-Some : (digits : List ℕ) (c v : ℕ) → AreDigits digits → digit_value digits c ≡ Some v → (v < 16) × (get_or digits v 0 ≡ to_ascii_lowercase c)
+digit_value-Some digits c v are is =
+    let found = position-Some (λ digit. eqb digit (to_ascii_lowercase c)) digits v 0 is in
+    (omega (arith, found.0, are.count), eqb-true (get_or digits v 0) (to_ascii_lowercase c) found.1)
+
+digit_value-same : (digits : List ℕ) (a b : ℕ) → to_ascii_lowercase a ≡ to_ascii_lowercase b → digit_value digits a ≡ digit_value digits b
+digit_value-same digits a b e = ap (λ (c : ℕ). position (λ digit. eqb digit c) digits) e
+
+pub ReadsAs-nil : (digits : List ℕ) → ReadsAs digits [] []
+ReadsAs-nil digits = record { bytes_fit = All-nil IsByte; same = sym (text_with-nil digits) }
+
+-- two more digits are one more byte
+pub ReadsAs-push : (digits text bytes : List ℕ) (a b high low : ℕ) → AreDigits digits → ReadsAs digits text bytes → digit_value digits a ≡ Some high → digit_value digits b ≡ Some low
+    → ReadsAs digits (text ++ a ∷ b ∷ []) (bytes ++ (high * 16 + low) ∷ [])
+ReadsAs-push digits text bytes a b high low are reads is_high is_low =
+    let h = digit_value-Some digits a high are is_high in
+    let l = digit_value-Some digits b low are is_low in
+    let quotient : (high * 16 + low) / 16 ≡ high = omega (arith, l.0) in
+    let remainder : (high * 16 + low) % 16 ≡ low = omega (arith, l.0) in
+    let fits : high * 16 + low < 256 = omega (arith, h.0, l.0) in
+    record {
+      bytes_fit = All-push IsByte bytes (high * 16 + low) reads.bytes_fit fits;
+      same = rw (map-append to_ascii_lowercase text (a ∷ b ∷ []), text_with-append digits bytes ((high * 16 + low) ∷ []), text_with-cons digits (high * 16 + low) [], text_with-nil digits, quotient, remainder, reads.same, h.1, l.1) refl;
+    }
+
+-- a text that reads as bytes has a digit at each place
+digit_at : (digits text bytes : List ℕ) (k : ℕ) → AreDigits digits → All IsByte bytes → str_to_ascii_lowercase text ≡ text_with digits bytes → k < length text → digit_value digits (get_or text k 0) ≡ None → ⊥
+digit_at digits [] bytes k are fit same within none = absurd (omega arith)
+digit_at digits (t ∷ ts) [] k are fit same within none = let e = text_with-nil digits in cc
+digit_at digits (t ∷ []) (b ∷ bs) k are fit same within none = let e = text_with-cons digits b bs in cc
+digit_at digits (t ∷ u ∷ ts) (b ∷ bs) zero are fit same within none =
+    let small : b < 256 = All-head IsByte b bs fit in
+    let e = text_with-cons digits b bs in
+    let first : to_ascii_lowercase t ≡ get_or digits (b / 16) 0 = cc in
+    let low = are.lower (b / 16) (omega arith) in
+    let found = are.back (b / 16) (omega arith) in
+    let same_value = digit_value-same digits t (get_or digits (b / 16) 0) (first ∙ sym low) in
+    cc
+digit_at digits (t ∷ u ∷ ts) (b ∷ bs) (suc zero) are fit same within none =
+    let e = text_with-cons digits b bs in
+    let second : to_ascii_lowercase u ≡ get_or digits (b % 16) 0 = cc in
+    let low = are.lower (b % 16) (omega arith) in
+    let found = are.back (b % 16) (omega arith) in
+    let same_value = digit_value-same digits u (get_or digits (b % 16) 0) (second ∙ sym low) in
+    cc
+digit_at digits (t ∷ u ∷ ts) (b ∷ bs) (suc (suc k)) are fit same within none =
+    let e = text_with-cons digits b bs in
+    let rest : str_to_ascii_lowercase ts ≡ text_with digits bs = cc in
+    digit_at digits ts bs k are (All-tail IsByte b bs fit) rest (omega arith) none
+
+pub ReadsAs-digit : (digits text bytes : List ℕ) (k : ℕ) → AreDigits digits → ReadsAs digits text bytes → k < length text → digit_value digits (get_or text k 0) ≡ None → ⊥
+ReadsAs-digit digits text bytes k are reads within none = digit_at digits text bytes k are reads.bytes_fit reads.same within none
+
+pub ReadsAs-length : (digits text bytes : List ℕ) → ReadsAs digits text bytes → length text ≡ 2 * length bytes
+ReadsAs-length digits text bytes reads =
+    sym (length-map text to_ascii_lowercase) ∙ ap length reads.same ∙ length-text_with digits bytes
+
+pub text_with-injective : (digits xs ys : List ℕ) → AreDigits digits → All IsByte xs → All IsByte ys → text_with digits xs ≡ text_with digits ys → xs ≡ ys
+text_with-injective digits [] [] are x y e = refl
+text_with-injective digits [] (b ∷ ys) are x y e = let l = text_with-nil digits in let r = text_with-cons digits b ys in cc
+text_with-injective digits (a ∷ xs) [] are x y e = let l = text_with-nil digits in let r = text_with-cons digits a xs in cc
+text_with-injective digits (a ∷ xs) (b ∷ ys) are x y e =
+    let l = text_with-cons digits a xs in
+    let r = text_with-cons digits b ys in
+    let small_a : a < 256 = All-head IsByte a xs x in
+    let small_b : b < 256 = All-head IsByte b ys y in
+    let high_a = are.back (a / 16) (omega arith) in
+    let high_b = are.back (b / 16) (omega arith) in
+    let low_a = are.back (a % 16) (omega arith) in
+    let low_b = are.back (b % 16) (omega arith) in
+    let high_text : get_or digits (a / 16) 0 ≡ get_or digits (b / 16) 0 = cc in
+    let low_text : get_or digits (a % 16) 0 ≡ get_or digits (b % 16) 0 = cc in
+    let high_same = ap (digit_value digits) high_text in
+    let low_same = ap (digit_value digits) low_text in
+    let high : a / 16 ≡ b / 16 = cc in
+    let low : a % 16 ≡ b % 16 = cc in
+    let heads : a ≡ b = omega arith in
+    let rest : text_with digits xs ≡ text_with digits ys = cc in
+    let tails = text_with-injective digits xs ys are (All-tail IsByte a xs x) (All-tail IsByte b ys y) rest in
+    cc
+
+-- a text reads as one list of bytes at most
+pub ReadsAs-unique : (digits text xs ys : List ℕ) → AreDigits digits → ReadsAs digits text xs → ReadsAs digits text ys → xs ≡ ys
+ReadsAs-unique digits text xs ys are x y = text_with-injective digits xs ys are x.bytes_fit y.bytes_fit (sym x.same ∙ y.same)
+
+-- what bytes are written as reads as them
+pub ReadsAs-text_with : (digits bytes : List ℕ) → AreDigits digits → All IsByte bytes → ReadsAs digits (text_with digits bytes) bytes
+ReadsAs-text_with digits bytes are fit = record { bytes_fit = fit; same = lower_text digits bytes are fit }
+  where
+    lower_text : (digits bytes : List ℕ) → AreDigits digits → All IsByte bytes → map to_ascii_lowercase (text_with digits bytes) ≡ text_with digits bytes
+    lower_text digits [] are fit = rw text_with-nil refl
+    lower_text digits (b ∷ bs) are fit =
+        let small : b < 256 = All-head IsByte b bs fit in
+        let h = are.lower (b / 16) (omega arith) in
+        let l = are.lower (b % 16) (omega arith) in
+        let rest = lower_text digits bs are (All-tail IsByte b bs fit) in
+        rw text_with-cons (cc)
+
+-- the digits of equal bytes are common to both texts
+common_pair : (h l : ℕ) (xs ys : List ℕ) → common_length (h ∷ l ∷ xs) (h ∷ l ∷ ys) ≡ 2 + common_length xs ys
+common_pair h l xs ys = let e = eq-eqb h h refl in let f = eq-eqb l l refl in rw (e, f) (omega arith)
+
+pub common_length-front : (digits xs ys : List ℕ) (i : ℕ) → i ≤ length xs → i ≤ length ys → ((k : ℕ) → k < i → get_or xs k 0 ≡ get_or ys k 0)
+    → common_length (text_with digits xs) (text_with digits ys) ≡ 2 * i + common_length (text_with digits (drop i xs)) (text_with digits (drop i ys))
+common_length-front digits xs ys zero x y same = omega arith
+common_length-front digits [] ys (suc i) x y same = absurd (omega arith)
+common_length-front digits (a ∷ xs) [] (suc i) x y same = absurd (omega arith)
+common_length-front digits (a ∷ xs) (b ∷ ys) (suc i) x y same =
+    let heads : a ≡ b = same 0 (omega arith) in
+    let rest = common_length-front digits xs ys i (omega arith) (omega arith) (λ k h. same (suc k) (omega arith)) in
+    let pair = common_pair (get_or digits (b / 16) 0) (get_or digits (b % 16) 0) (text_with digits xs) (text_with digits ys) in
+    rw (heads, text_with-cons digits b xs, text_with-cons digits b ys) (pair ∙ omega arith)
+
+eqb_differ : (a b : ℕ) → a ≢ b → eqb a b ≡ false
+eqb_differ a b differ = elim (eqb_tells a b) [ inl same ↦ absurd (differ same.1) | inr other ↦ other.0 ]
+
+pub digits-injective : (digits : List ℕ) (m n : ℕ) → AreDigits digits → m < 16 → n < 16 → get_or digits m 0 ≡ get_or digits n 0 → m ≡ n
+digits-injective digits m n are small_m small_n e =
+    let back_m = are.back m small_m in
+    let back_n = are.back n small_n in
+    let same = ap (digit_value digits) e in
+    cc
+
+-- where two bytes differ in the low digit alone, and where they differ in the high one
+pub common_length-low : (digits xs ys : List ℕ) (i : ℕ) → AreDigits digits → i < length xs → i < length ys → get_or xs i 0 < 256 → get_or ys i 0 < 256 → ((k : ℕ) → k < i → get_or xs k 0 ≡ get_or ys k 0)
+    → get_or xs i 0 ≢ get_or ys i 0 → get_or xs i 0 / 16 ≡ get_or ys i 0 / 16 → common_length (text_with digits xs) (text_with digits ys) ≡ i * 2 + 1
+common_length-low digits xs ys i are x y fit_x fit_y same differ high =
+    let a = get_or xs i 0 in
+    let b = get_or ys i 0 in
+    let front = common_length-front digits xs ys i (omega arith) (omega arith) same in
+    let e = eq-eqb (get_or digits (a / 16) 0) (get_or digits (b / 16) 0) (ap (λ d. get_or digits d 0) high) in
+    let f = eqb_differ (get_or digits (a % 16) 0) (get_or digits (b % 16) 0) (λ l. differ (let low = digits-injective digits (a % 16) (b % 16) are (omega arith) (omega arith) l in omega arith)) in
+    let rest : common_length (text_with digits (drop i xs)) (text_with digits (drop i ys)) ≡ 1
+    = rw (drop_more xs i 0 x, drop_more ys i 0 y, text_with-cons digits a (drop (i + 1) xs), text_with-cons digits b (drop (i + 1) ys), e, f) refl in
+    omega arith
+
+pub common_length-high : (digits xs ys : List ℕ) (i : ℕ) → AreDigits digits → i < length xs → i < length ys → get_or xs i 0 < 256 → get_or ys i 0 < 256 → ((k : ℕ) → k < i → get_or xs k 0 ≡ get_or ys k 0)
+    → get_or xs i 0 / 16 ≢ get_or ys i 0 / 16 → common_length (text_with digits xs) (text_with digits ys) ≡ i * 2
+common_length-high digits xs ys i are x y fit_x fit_y same differ =
+    let a = get_or xs i 0 in
+    let b = get_or ys i 0 in
+    let front = common_length-front digits xs ys i (omega arith) (omega arith) same in
+    let f = eqb_differ (get_or digits (a / 16) 0) (get_or digits (b / 16) 0) (λ h. differ (digits-injective digits (a / 16) (b / 16) are (omega arith) (omega arith) h)) in
+    let rest : common_length (text_with digits (drop i xs)) (text_with digits (drop i ys)) ≡ 0
+    = rw (drop_more xs i 0 x, drop_more ys i 0 y, text_with-cons digits a (drop (i + 1) xs), text_with-cons digits b (drop (i + 1) ys), f) refl in
+    omega arith
+
+common_length-nil : (xs : List ℕ) → common_length xs [] ≡ 0
+common_length-nil [] = refl
+common_length-nil (x ∷ xs) = refl
+
+-- where the bytes of the shorter list are those of the longer one
+pub common_length-all : (digits xs ys : List ℕ) (n : ℕ) → n ≡ min (length xs) (length ys) → ((k : ℕ) → k < n → get_or xs k 0 ≡ get_or ys k 0) → common_length (text_with digits xs) (text_with digits ys) ≡ n * 2
+common_length-all digits xs ys n is same =
+    let front = common_length-front digits xs ys n (omega arith) (omega arith) same in
+    elim (cases_lt (length xs) (length ys)) [
+      | inl shorter ↦
+          let rest : common_length (text_with digits (drop n xs)) (text_with digits (drop n ys)) ≡ 0 = rw (drop_all n xs (omega arith), text_with-nil digits) refl in
+          omega arith
+      | inr longer ↦
+          let rest : common_length (text_with digits (drop n xs)) (text_with digits (drop n ys)) ≡ 0 = rw (drop_all n ys (omega arith), text_with-nil digits) (common_length-nil (text_with digits (drop n xs))) in
+          omega arith
+    ]
+
+-- a digit with a value is the first of a pair, or the second
+ReadsAs-cons : (digits text bytes : List ℕ) (a b high low : ℕ) → AreDigits digits → ReadsAs digits text bytes → digit_value digits a ≡ Some high → digit_value digits b ≡ Some low
+    → ReadsAs digits (a ∷ b ∷ text) ((high * 16 + low) ∷ bytes)
+ReadsAs-cons digits text bytes a b high low are reads is_high is_low =
+    let pair = ReadsAs-push digits [] [] a b high low are (ReadsAs-nil digits) is_high is_low in
+    record {
+      bytes_fit = All-append IsByte ((high * 16 + low) ∷ []) bytes pair.bytes_fit reads.bytes_fit;
+      same = rw (text_with-append digits ((high * 16 + low) ∷ []) bytes, ← pair.same, ← reads.same) refl;
+    }
+
+some_value : (o : Option ℕ) → is_some o ≡ true → (v : ℕ) × (o ≡ Some v)
+some_value (Some v) is = (v, refl)
+some_value None is = cc
+
+-- a text of whole bytes reads as some bytes
+pub bytes_of_text : (digits text : List ℕ) → AreDigits digits → length text % 2 ≡ 0 → list_all (λ c. is_some (digit_value digits c)) text ≡ true → (bytes : List ℕ) × ReadsAs digits text bytes
+bytes_of_text digits [] are even all = ([], ReadsAs-nil digits)
+bytes_of_text digits (a ∷ []) are even all = absurd (omega arith)
+bytes_of_text digits (a ∷ b ∷ text) are even all =
+    let first = and_parts (is_some (digit_value digits a)) _ all in
+    let second = and_parts (is_some (digit_value digits b)) _ first.1 in
+    let high = some_value (digit_value digits a) first.0 in
+    let low = some_value (digit_value digits b) second.0 in
+    let rest = bytes_of_text digits text are (omega arith) second.1 in
+    ((high.0 * 16 + low.0) ∷ rest.0, ReadsAs-cons digits text rest.0 a b high.0 low.0 are rest.1 high.1 low.1)
+
+-- so it does not read as nothing
+pub text_of_reads : (digits text : List ℕ) → AreDigits digits → is_text_of digits text ≡ true → ReadsAsNothing digits text → ⊥
+text_of_reads digits text are is none =
+    let parts = and_parts (eqb (length text % 2) 0) _ is in
+    let even = eqb-true (length text % 2) 0 parts.0 in
+    let found = bytes_of_text digits text are even parts.1 in
+    none found.0 found.1
+
+-- the front of a text of bytes: whole bytes, or half a byte more
+pub take-text_with : (digits xs : List ℕ) (n : ℕ) → take (2 * n) (text_with digits xs) ≡ text_with digits (take n xs)
+take-text_with digits xs zero = sym (text_with-nil digits)
+take-text_with digits [] (suc n) =
+    let e : 2 * suc n ≡ suc (suc (2 * n)) = omega arith in
+    rw (text_with-nil digits, e) refl
+take-text_with digits (x ∷ xs) (suc n) =
+    let e : 2 * suc n ≡ suc (suc (2 * n)) = omega arith in
+    rw (text_with-cons digits x xs, text_with-cons digits x (take n xs), e, take-text_with digits xs n) refl
+
+pub take-text_with-half : (digits xs : List ℕ) (n : ℕ) → n < length xs → take (2 * n + 1) (text_with digits xs) ≡ text_with digits (take n xs) ++ get_or digits (get_or xs n 0 / 16) 0 ∷ []
+take-text_with-half digits [] n within = absurd (omega arith)
+take-text_with-half digits (x ∷ xs) zero within = rw (text_with-cons digits x xs, text_with-nil digits) refl
+take-text_with-half digits (x ∷ xs) (suc n) within =
+    let e : 2 * suc n + 1 ≡ suc (suc (2 * n + 1)) = omega arith in
+    rw (text_with-cons digits x xs, text_with-cons digits x (take n xs), e, take-text_with-half digits xs n (omega arith)) refl
+
+-- a text of ASCII digits is ASCII
+pub text_with-IsAscii : (digits bytes : List ℕ) → IsAscii digits → IsAscii (text_with digits bytes)
+text_with-IsAscii digits [] ascii = rw (text_with-nil digits) IsAscii-nil
+text_with-IsAscii digits (b ∷ bs) ascii =
+    rw (text_with-cons digits b bs) (IsAscii-cons (get_or digits (b / 16) 0) (get_or digits (b % 16) 0 ∷ text_with digits bs) (ascii (b / 16))
+    (IsAscii-cons (get_or digits (b % 16) 0) (text_with digits bs) (ascii (b % 16)) (text_with-IsAscii digits bs ascii)))
+
+pub hex_digits-IsAscii : IsAscii hex_digits
+hex_digits-IsAscii = IsAscii-from_reads hex_digits 16 (lit≤ tt) (below_sixteen (λ k. get_or hex_digits k 0 < 128) (lit< tt) (lit< tt) (lit< tt) (lit< tt) (lit< tt) (lit< tt) (lit< tt) (lit< tt) (lit< tt) (lit< tt) (lit< tt) (lit< tt) (lit< tt) (lit< tt) (lit< tt) (lit< tt))
+
+pub reverse_hex_digits-IsAscii : IsAscii reverse_hex_digits
+reverse_hex_digits-IsAscii = IsAscii-from_reads reverse_hex_digits 16 (lit≤ tt) (below_sixteen (λ k. get_or reverse_hex_digits k 0 < 128) (lit< tt) (lit< tt) (lit< tt) (lit< tt) (lit< tt) (lit< tt) (lit< tt) (lit< tt) (lit< tt) (lit< tt) (lit< tt) (lit< tt) (lit< tt) (lit< tt) (lit< tt) (lit< tt))

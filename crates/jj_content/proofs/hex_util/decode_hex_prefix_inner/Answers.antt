@@ -1,0 +1,29 @@
+use Rattle.std.proofs.Common.{ℕ, sym, arith}
+use Rattle.std.proofs.lemmas.Bool.{eq-eqb}
+use Rattle.jj_content.proofs.HexTexts.{ReadsAs-nil}
+use Rattle.jj_content.proofs.HexSteps.{are_digits, bad_chunk, bad_last, next_pair, last_digit}
+use Rattle.jj_content.proofs.hex_util.decode_hex_prefix_inner.Goals as goal
+
+pub loop-pair-init : goal.loop-pair-init
+loop-pair-init c = rw c.in_ok-decoded.ensures.items (ReadsAs-nil _)
+
+pub returns-in_default : goal.returns-in_default
+returns-in_default c = bad_chunk _ _ _ c.loop-pair.pair-index _ 0 (are_digits c.args.digits) c.as_chunks.ensures.front (omega arith) (omega arith) c.in_default.ensures.value
+
+pub returns-in_default-hex_value : goal.returns-in_default-hex_value
+returns-in_default-hex_value c = bad_chunk _ _ _ c.loop-pair.pair-index _ 1 (are_digits c.args.digits) c.as_chunks.ensures.front (omega arith) (omega arith) c.in_default-hex_value.ensures.value
+
+pub loop-pair-preserved : goal.loop-pair-preserved
+loop-pair-preserved c =
+    next_pair _ _ _ _ _ c.loop-pair.pair-index _ _ c.in-Some.high c.in-Some-hex_value.low c.byte_of_digits.result (are_digits c.args.digits) c.as_chunks.ensures.front (omega arith)
+    c.loop-pair.invariant c.in-Some.ensures.value c.in-Some-hex_value.ensures.value c.byte_of_digits.ensures c.in_ok-push.ensures.items
+
+pub returns-in_default-hex_value-2 : goal.returns-in_default-hex_value-2
+returns-in_default-hex_value-2 c = bad_last _ _ _ (are_digits c.args.digits) c.as_chunks.ensures.back c.as_chunks.ensures.back_len (omega arith) c.in_default-hex_value-2.ensures.value
+
+pub returns : goal.returns
+returns c = (
+  last_digit _ _ _ _ _ c.loop-pair.pair-index c.in-Some-hex_value-2.high c.byte_of_digits-2.result (are_digits c.args.digits) c.as_chunks.ensures.back c.as_chunks.ensures.back_len (omega arith) (omega arith)
+      c.loop-pair.invariant c.in-Some-hex_value-2.ensures.value c.byte_of_digits-2.ensures c.in_ok-push-2.ensures.items,
+  sym (eq-eqb _ _ (omega arith)),
+)

@@ -1,0 +1,56 @@
+-- Hex text: each byte as two digits, the high one first.
+use Rattle.std.specs.Prelude.{◌≡◌, ℕ, ◌/◌, ◌%◌, ◌+◌, ◌<◌, List, [], ◌∷◌, ◌++◌, ◌==◌, length, slice_index, replicate, codes, if◌then◌else◌, All, Option, position, Bool, ◌&&◌, is_some}
+use Rattle.std.specs.Str.{str_to_ascii_lowercase}
+use Rattle.std.specs.Char.{to_ascii_lowercase}
+use Rattle.std.specs.List.{flat_map, list_all}
+
+-- the sixteen digits of hex
+abbrev pub hex_digits : List ℕ
+hex_digits = codes "0123456789abcdef"
+
+-- the digits of reversed hex: z for 0, down to k for 15
+abbrev pub reverse_hex_digits : List ℕ
+reverse_hex_digits = codes "zyxwvutsrqponmlk"
+
+-- a byte as two of the digits, the high one first
+abbrev pub digit_pair : List ℕ → ℕ → List ℕ
+digit_pair digits byte = slice_index digits (byte / 16) ∷ slice_index digits (byte % 16) ∷ []
+
+-- bytes as text of these digits
+unfoldable pub text_with : List ℕ → List ℕ → List ℕ
+text_with digits bytes = flat_map (digit_pair digits) bytes
+
+-- the hex text of some bytes
+abbrev pub hex : List ℕ → List ℕ
+hex bytes = text_with hex_digits bytes
+
+-- the reversed hex text of some bytes
+abbrev pub reverse_hex : List ℕ → List ℕ
+reverse_hex bytes = text_with reverse_hex_digits bytes
+
+-- the text reads as these bytes: its lower-case form is their text
+pub record ReadsAs (digits text bytes : List ℕ) : Type 0 where
+  pub bytes_fit : All (λ byte. byte < 256) bytes
+  pub same : str_to_ascii_lowercase text ≡ text_with digits bytes
+
+-- the text reads as no bytes
+abbrev pub ReadsAsNothing : List ℕ → List ℕ → Type 0
+ReadsAsNothing digits text = (bytes : List ℕ) → ¬ (ReadsAs digits text bytes)
+
+-- a text that may end in half a byte, with the digit zero after it
+abbrev pub evened : List ℕ → List ℕ → List ℕ
+evened digits text = text ++ replicate (length text % 2) (slice_index digits 0)
+
+-- the value of a digit, in either case
+abbrev pub digit_value : List ℕ → ℕ → Option ℕ
+digit_value digits c = position (λ digit. digit == to_ascii_lowercase c) digits
+
+-- how many leading elements of two lists agree
+abbrev pub common_length : List ℕ → List ℕ → ℕ
+common_length [] ys = 0
+common_length (x ∷ xs) [] = 0
+common_length (x ∷ xs) (y ∷ ys) = if x == y then 1 + common_length xs ys else 0
+
+-- a text of whole bytes: digits in either case, even in number
+abbrev pub is_text_of : List ℕ → List ℕ → Bool
+is_text_of digits text = (length text % 2 == 0) && list_all (λ c. is_some (digit_value digits c)) text

@@ -1,0 +1,347 @@
+//! Content bytes of values, fed to a digest.
+ghost use Rattle.std.specs.Prelude.{◌≡◌, ℕ, ◌<◌, ◌^◌, ◌++◌, List, [], ◌∷◌, length, OnOk, OnErr, IfOk, ⊤, FitsSigned, IsPermutation, IsSortedByKey, map, ◌↔◌, true};
+ghost use Rattle.jj_content.specs.Blake2b.{blake2b};
+ghost use Rattle.jj_content.specs.Blake2bState.{Holds};
+ghost use Rattle.std.specs.Int.{w32, w64};
+ghost use Rattle.std.specs.String.{string_bytes};
+ghost use Rattle.jj_content.specs.Content.{Takes, TakesFront, IsLawful, AreValues, IsOptionOf, bool_content, u32_content, u64_content, i32_content, i64_content, list_content, text_content, option_content, entry_content};
+ghost use Rattle.jj_content.specs.Lawful.{unit_lawful, bool_lawful, u8_lawful, u32_lawful, u64_lawful, i32_lawful, i64_lawful, text_lawful, list_lawful, option_lawful, on_lawful, both_lawful};
+
+use crate::blake2b::Blake2b512;
+pub use crate::to_json::{ToJson, ToJsonError};
+use std::alloc::{AllocError, Global};
+use std::collections::BTreeMap;
+
+/// A state that takes in bytes, as a digest does.
+pub trait DigestUpdate {
+    /// The state stands for these bytes.
+    ghost stands_for: { Self → List ℕ → Type 0 };
+
+    /// Takes in a piece: a state that stood for a list of bytes then stands for that list followed by the piece.
+    fn update(&mut self, bytes: &[u8])
+        ensures { Takes stands_for self.old self.new bytes.now };
+}
+
+/// A value whose content is a list of bytes that decides it.
+pub trait ContentHash: Eq {
+    /// Holds of the values of the type.
+    ghost is_value: { Self → Type 0 };
+
+    /// The content bytes of a value.
+    ghost content: { Self → List ℕ };
+
+    /// Appends the content bytes to what the state stands for.
+    fn hash<D: DigestUpdate>(&self, alloc: Global, state: &mut D) -> Result<(), AllocError>
+        ensures ok { OnOk result (Takes D.stands_for state.old state.new (content self.now)) }
+        ensures value { OnOk result (is_value self.now) }
+        ensures err { OnErr result (TakesFront D.stands_for state.old state.new (content self.now)) };
+
+    /// Equal values have the same content, and no value's content is a beginning of an unequal one's.
+    ghost lawful: { IsLawful is_value Self.eq content };
+}
+
+impl ContentHash for () {
+    ghost is_value = { λ _. ⊤ };
+
+    ghost content = { λ _. [] };
+
+    ghost lawful = { unit_lawful };
+
+    fn hash<D: DigestUpdate>(&self, _alloc: Global, _state: &mut D) -> Result<(), AllocError> {
+        Ok(())
+    }
+}
+
+impl ContentHash for bool {
+    ghost is_value = { λ _. ⊤ };
+
+    ghost content = { bool_content };
+
+    ghost lawful = { bool_lawful };
+
+    #[tactic(auto, unfolding(crate::specs::Content::bool_content))]
+    fn hash<D: DigestUpdate>(&self, _alloc: Global, state: &mut D) -> Result<(), AllocError> {
+        state.update(&[u8::from(*self)]);
+        Ok(())
+    }
+}
+
+impl ContentHash for u8 {
+    ghost is_value = { λ n. n < 2 ^ 8 };
+
+    ghost content = { λ n. n ∷ [] };
+
+    ghost lawful = { u8_lawful };
+
+    fn hash<D: DigestUpdate>(&self, _alloc: Global, state: &mut D) -> Result<(), AllocError> {
+        state.update(&[*self]);
+        Ok(())
+    }
+}
+
+impl ContentHash for u32 {
+    ghost is_value = { λ n. n < 2 ^ 32 };
+
+    ghost content = { u32_content };
+
+    ghost lawful = { u32_lawful };
+
+    #[tactic(auto, unfolding(crate::specs::Content::u32_content))]
+    fn hash<D: DigestUpdate>(&self, _alloc: Global, state: &mut D) -> Result<(), AllocError> {
+        state.update(&self.to_le_bytes());
+        Ok(())
+    }
+}
+
+impl ContentHash for u64 {
+    ghost is_value = { λ n. n < 2 ^ 64 };
+
+    ghost content = { u64_content };
+
+    ghost lawful = { u64_lawful };
+
+    #[tactic(auto, unfolding(crate::specs::Content::u64_content))]
+    fn hash<D: DigestUpdate>(&self, _alloc: Global, state: &mut D) -> Result<(), AllocError> {
+        state.update(&self.to_le_bytes());
+        Ok(())
+    }
+}
+
+impl ContentHash for i32 {
+    ghost is_value = { FitsSigned w32 };
+
+    ghost content = { i32_content };
+
+    ghost lawful = { i32_lawful };
+
+    #[tactic(auto, unfolding(crate::specs::Content::i32_content, crate::specs::Content::u32_content))]
+    fn hash<D: DigestUpdate>(&self, _alloc: Global, state: &mut D) -> Result<(), AllocError> {
+        state.update(&self.to_le_bytes());
+        Ok(())
+    }
+}
+
+impl ContentHash for i64 {
+    ghost is_value = { FitsSigned w64 };
+
+    ghost content = { i64_content };
+
+    ghost lawful = { i64_lawful };
+
+    #[tactic(auto, unfolding(crate::specs::Content::i64_content, crate::specs::Content::u64_content))]
+    fn hash<D: DigestUpdate>(&self, _alloc: Global, state: &mut D) -> Result<(), AllocError> {
+        state.update(&self.to_le_bytes());
+        Ok(())
+    }
+}
+
+#[tactic(auto, unfolding(crate::specs::Content::text_content, crate::specs::Content::u64_content))]
+fn hash_text<D: DigestUpdate>(text: &str, state: &mut D)
+    ensures { Takes D.stands_for state.old state.new (text_content text.now) }
+{
+    state.update(&(text.len() as u64).to_le_bytes());
+    state.update(text.as_bytes());
+}
+
+#[tactic(auto, unfolding(crate::specs::Content::list_content, crate::specs::Content::u64_content))]
+fn hash_items<T: ContentHash, D: DigestUpdate>(
+    alloc: Global,
+    items: &[T],
+    state: &mut D,
+) -> Result<(), AllocError>
+    ensures ok { OnOk result (Takes D.stands_for state.old state.new (list_content T.content items.now)) }
+    ensures value { OnOk result (AreValues T.is_value items.now) }
+    ensures err { OnErr result (TakesFront D.stands_for state.old state.new (list_content T.content items.now)) }
+{
+    state.update(&(items.len() as u64).to_le_bytes());
+    for item in items {
+        item.hash(alloc, state)?;
+    }
+    Ok(())
+}
+
+impl ContentHash for &str {
+    ghost is_value = { λ s. length s.now < 2 ^ 64 };
+
+    ghost content = { λ s. text_content s.now };
+
+    ghost lawful = { on_lawful (λ s. s.now) text_lawful };
+
+    fn hash<D: DigestUpdate>(&self, _alloc: Global, state: &mut D) -> Result<(), AllocError> {
+        hash_text(*self, state);
+        Ok(())
+    }
+}
+
+impl ContentHash for String {
+    ghost is_value = { λ s. length (string_bytes s) < 2 ^ 64 };
+
+    ghost content = { λ s. text_content (string_bytes s) };
+
+    ghost lawful = { on_lawful (λ s. string_bytes s) text_lawful };
+
+    fn hash<D: DigestUpdate>(&self, _alloc: Global, state: &mut D) -> Result<(), AllocError> {
+        hash_text(self.as_str(), state);
+        Ok(())
+    }
+}
+
+impl<T: ContentHash> ContentHash for &[T] {
+    ghost is_value = { λ s. AreValues T.is_value s.now };
+
+    ghost content = { λ s. list_content T.content s.now };
+
+    ghost lawful = { on_lawful (λ s. s.now) (list_lawful T.lawful) };
+
+    fn hash<D: DigestUpdate>(&self, alloc: Global, state: &mut D) -> Result<(), AllocError> {
+        hash_items(alloc, *self, state)
+    }
+}
+
+impl<T: ContentHash> ContentHash for Vec<T> {
+    ghost is_value = { λ v. AreValues T.is_value v.items };
+
+    ghost content = { λ v. list_content T.content v.items };
+
+    ghost lawful = { on_lawful (λ v. v.items) (list_lawful T.lawful) };
+
+    fn hash<D: DigestUpdate>(&self, alloc: Global, state: &mut D) -> Result<(), AllocError> {
+        hash_items(alloc, self.as_slice(), state)
+    }
+}
+
+impl<T: ContentHash> ContentHash for Option<T> {
+    ghost is_value = { IsOptionOf T.is_value };
+
+    ghost content = { option_content T.content };
+
+    ghost lawful = { option_lawful T.lawful };
+
+    #[tactic(auto, unfolding(crate::specs::Content::option_content, crate::specs::Content::u32_content))]
+    fn hash<D: DigestUpdate>(&self, alloc: Global, state: &mut D) -> Result<(), AllocError> {
+        match self {
+            None => {
+                state.update(&0u32.to_le_bytes());
+                Ok(())
+            }
+            Some(x) => {
+                state.update(&1u32.to_le_bytes());
+                x.hash(alloc, state)
+            }
+        }
+    }
+}
+
+// An entry of a map: the key, and then the value.
+#[tactic(auto, using(crate::proofs::Fronts::fronts))]
+fn hash_entry<K: ContentHash, V: ContentHash, D: DigestUpdate>(
+    alloc: Global,
+    key: &K,
+    value: &V,
+    state: &mut D,
+) -> Result<(), AllocError>
+    ensures ok { OnOk result (Takes D.stands_for state.old state.new (entry_content K.content V.content (key.now, value.now))) }
+    ensures value { OnOk result (K.is_value key.now × V.is_value value.now) }
+    ensures err { OnErr result (TakesFront D.stands_for state.old state.new (entry_content K.content V.content (key.now, value.now))) }
+{
+    key.hash(alloc, state)?;
+    value.hash(alloc, state)
+}
+
+impl<K: ContentHash + Ord, V: ContentHash> ContentHash for BTreeMap<K, V> {
+    ghost is_value = { λ m. AreValues (λ e. K.is_value e.0 × V.is_value e.1) m.entries };
+
+    ghost content = { λ m. list_content (entry_content K.content V.content) m.entries };
+
+    ghost lawful = { on_lawful (λ m. m.entries) (list_lawful (both_lawful (on_lawful (λ e. e.0) K.lawful) (on_lawful (λ e. e.1) V.lawful))) };
+
+    #[tactic(auto, unfolding(crate::specs::Content::list_content, crate::specs::Content::u64_content))]
+    fn hash<D: DigestUpdate>(&self, alloc: Global, state: &mut D) -> Result<(), AllocError> {
+        state.update(&(self.len() as u64).to_le_bytes());
+        for (key, value) in self.iter() {
+            hash_entry(alloc, key, value, state)?;
+        }
+        Ok(())
+    }
+}
+
+impl<T: ContentHash> ContentHash for (T,) {
+    ghost is_value = { λ p. T.is_value p.0 };
+
+    ghost content = { λ p. T.content p.0 };
+
+    ghost lawful = { on_lawful (λ p. p.0) T.lawful };
+
+    fn hash<D: DigestUpdate>(&self, alloc: Global, state: &mut D) -> Result<(), AllocError> {
+        self.0.hash(alloc, state)
+    }
+}
+
+impl<T: ContentHash, U: ContentHash> ContentHash for (T, U) {
+    ghost is_value = { λ p. T.is_value p.0 × U.is_value p.1 };
+
+    ghost content = { λ p. T.content p.0 ++ U.content p.1 };
+
+    ghost lawful = { both_lawful (on_lawful (λ p. p.0) T.lawful) (on_lawful (λ p. p.1) U.lawful) };
+
+    #[tactic(auto, using(crate::proofs::Fronts::fronts))]
+    fn hash<D: DigestUpdate>(&self, alloc: Global, state: &mut D) -> Result<(), AllocError> {
+        self.0.hash(alloc, state)?;
+        self.1.hash(alloc, state)
+    }
+}
+
+impl<A: ContentHash, B: ContentHash, C: ContentHash> ContentHash for (A, B, C) {
+    ghost is_value = { λ p. (A.is_value p.0 × B.is_value p.1) × C.is_value p.2 };
+
+    ghost content = { λ p. A.content p.0 ++ B.content p.1 ++ C.content p.2 };
+
+    ghost lawful = { both_lawful (both_lawful (on_lawful (λ p. p.0) A.lawful) (on_lawful (λ p. p.1) B.lawful)) (on_lawful (λ p. p.2) C.lawful) };
+
+    #[tactic(auto, using(crate::proofs::Fronts::fronts))]
+    fn hash<D: DigestUpdate>(&self, alloc: Global, state: &mut D) -> Result<(), AllocError> {
+        self.0.hash(alloc, state)?;
+        self.1.hash(alloc, state)?;
+        self.2.hash(alloc, state)?;
+        Ok(())
+    }
+}
+
+impl<A: ContentHash, B: ContentHash, C: ContentHash, D: ContentHash> ContentHash for (A, B, C, D) {
+    ghost is_value = { λ p. ((A.is_value p.0 × B.is_value p.1) × C.is_value p.2) × D.is_value p.3 };
+
+    ghost content = { λ p. A.content p.0 ++ B.content p.1 ++ C.content p.2 ++ D.content p.3 };
+
+    ghost lawful = { both_lawful (both_lawful (both_lawful (on_lawful (λ p. p.0) A.lawful) (on_lawful (λ p. p.1) B.lawful)) (on_lawful (λ p. p.2) C.lawful)) (on_lawful (λ p. p.3) D.lawful) };
+
+    #[tactic(auto, using(crate::proofs::Fronts::fronts))]
+    fn hash<S: DigestUpdate>(&self, alloc: Global, state: &mut S) -> Result<(), AllocError> {
+        self.0.hash(alloc, state)?;
+        self.1.hash(alloc, state)?;
+        self.2.hash(alloc, state)?;
+        self.3.hash(alloc, state)?;
+        Ok(())
+    }
+}
+
+impl DigestUpdate for Blake2b512 {
+    ghost stands_for = { Holds };
+
+    fn update(&mut self, bytes: &[u8]) {
+        Blake2b512::update(self, bytes);
+    }
+}
+
+/// The BLAKE2b-512 digest of a value's content.
+pub fn blake2b_hash<T: ContentHash>(alloc: Global, x: &T) -> Result<[u8; 64], AllocError>
+    ensures { IfOk result (λ digest. digest ≡ blake2b (T.content x.now)) }
+{
+    let mut hasher = Blake2b512::new();
+    x.hash(alloc, &mut hasher)?;
+    Ok(hasher.finalize())
+}
+
+/// Two values of one type have the same content exactly where they are equal.
+pub fn content_decides<T: ContentHash>()
+    ensures { (x y : T) → T.is_value x → T.is_value y → (T.content x ≡ T.content y) ↔ (T.eq x y ≡ true) }
+{}

@@ -1,0 +1,232 @@
+//! Hex text of bytes, and bytes of hex text: forward hex with the digits `0` to `f`, and reversed
+//! hex, which writes `z` for 0 down to `k` for 15.
+ghost use Rattle.std.specs.Prelude.{◌≡◌, ◌==◌, ℕ, ◌+◌, ◌*◌, ◌/◌, ◌%◌, ◌<◌, ◌≤◌, List, length, slice_index, All, IfOk, IsAscii, IfSome, MatchOption, Option, Some, None};
+ghost use Rattle.std.specs.String.{string_bytes};
+ghost use Rattle.std.specs.Str.{str_to_ascii_lowercase};
+ghost use Rattle.jj_content.specs.Hex.{hex, reverse_hex, text_with, hex_digits, reverse_hex_digits, ReadsAs, ReadsAsNothing, evened, digit_value, common_length};
+ghost use Rattle.jj_content.specs.HexKinds.{digits_of};
+
+use std::alloc::{AllocError, Global};
+use std::convert::AsSlice;
+
+const FORWARD_HEX_CHARS: &[u8; 16] = b"0123456789abcdef";
+
+const REVERSE_HEX_CHARS: &[u8; 16] = b"zyxwvutsrqponmlk";
+
+/// Which sixteen characters are the digits.
+#[derive(Clone, Copy)]
+enum Digits {
+    Forward,
+    Reverse,
+}
+
+fn forward_hex_value(b: u8) -> Option<u8>
+    ensures { result ≡ digit_value hex_digits b }
+{
+    match b {
+        b'0'..=b'9' => Some(b - b'0'),
+        b'a'..=b'f' => Some(b - b'a' + 10),
+        b'A'..=b'F' => Some(b - b'A' + 10),
+        _ => None,
+    }
+}
+
+fn reverse_hex_value(b: u8) -> Option<u8>
+    ensures { result ≡ digit_value reverse_hex_digits b }
+{
+    match b {
+        b'k'..=b'z' => Some(b'z' - b),
+        b'K'..=b'Z' => Some(b'Z' - b),
+        _ => None,
+    }
+}
+
+fn hex_value(digits: Digits, b: u8) -> Option<u8>
+    ensures value { result ≡ digit_value (digits_of digits) b }
+    ensures small { IfSome result (λ v. v < 16) }
+{
+    match digits {
+        Digits::Forward => forward_hex_value(b),
+        Digits::Reverse => reverse_hex_value(b),
+    }
+}
+
+// The byte of two digits' values.
+fn byte_of_digits(high: u8, low: u8) -> u8
+    requires high_fits { high < 16 }
+    requires low_fits { low < 16 }
+    ensures { result ≡ high * 16 + low }
+{
+    high << 4 | low
+}
+
+// The bytes that the text stands for, where half a byte at its end has the low digit zero, and
+// whether there is such a half; `None` for a bad digit.
+fn decode_hex_prefix_inner(
+    alloc: Global,
+    hex: &[u8],
+    digits: Digits,
+) -> Result<Option<(Vec<u8>, bool)>, AllocError>
+    ensures { IfOk result (λ answer. MatchOption answer
+        (ReadsAsNothing (digits_of digits) (evened (digits_of digits) hex.now))
+        (λ prefix. ReadsAs (digits_of digits) (evened (digits_of digits) hex.now) prefix.0.items
+        × (prefix.1 ≡ (length hex.now % 2 == 1)))) }
+{
+    let mut decoded = Vec::with_capacity(alloc, hex.len().div_ceil(2))?;
+    let (pairs, rest) = hex.as_chunks::<2>();
+    for pair in pairs {
+        let Some(high) = hex_value(digits, pair[0]) else {
+            return Ok(None);
+        };
+        let Some(low) = hex_value(digits, pair[1]) else {
+            return Ok(None);
+        };
+        decoded.push(byte_of_digits(high, low))?;
+    }
+    let [last] = rest else {
+        return Ok(Some((decoded, false)));
+    };
+    let Some(high) = hex_value(digits, *last) else {
+        return Ok(None);
+    };
+    decoded.push(byte_of_digits(high, 0))?;
+    Ok(Some((decoded, true)))
+}
+
+fn decode_hex_inner(
+    alloc: Global,
+    hex: &[u8],
+    digits: Digits,
+) -> Result<Option<Vec<u8>>, AllocError>
+    ensures { IfOk result (λ answer. MatchOption answer
+        (ReadsAsNothing (digits_of digits) hex.now)
+        (λ bytes. ReadsAs (digits_of digits) hex.now bytes.items)) }
+{
+    if hex.len() % 2 != 0 {
+        return Ok(None);
+    }
+    match decode_hex_prefix_inner(alloc, hex, digits)? {
+        Some((decoded, _)) => Ok(Some(decoded)),
+        None => Ok(None),
+    }
+}
+
+/// The bytes that a hex text stands for, in either case; `None` for an odd length or a bad digit.
+pub fn decode_hex<H: AsSlice<u8> + Drop>(
+    alloc: Global,
+    hex: H,
+) -> Result<Option<Vec<u8>>, AllocError>
+    ensures { IfOk result (λ answer. MatchOption answer
+        (ReadsAsNothing hex_digits (H.items hex))
+        (λ bytes. ReadsAs hex_digits (H.items hex) bytes.items)) }
+{
+    decode_hex_inner(alloc, hex.as_slice(), Digits::Forward)
+}
+
+/// The bytes that a reversed hex text stands for, in either case; `None` for an odd length or a
+/// bad digit.
+pub fn decode_reverse_hex<H: AsSlice<u8> + Drop>(
+    alloc: Global,
+    reverse_hex: H,
+) -> Result<Option<Vec<u8>>, AllocError>
+    ensures { IfOk result (λ answer. MatchOption answer
+        (ReadsAsNothing reverse_hex_digits (H.items reverse_hex))
+        (λ bytes. ReadsAs reverse_hex_digits (H.items reverse_hex) bytes.items)) }
+{
+    decode_hex_inner(alloc, reverse_hex.as_slice(), Digits::Reverse)
+}
+
+/// The bytes that a hex text of any length stands for, and whether its length is odd: then its
+/// last digit is the high one of the last byte, whose low digit is zero. `None` for a bad digit.
+pub fn decode_hex_prefix<H: AsSlice<u8> + Drop>(
+    alloc: Global,
+    hex: H,
+) -> Result<Option<(Vec<u8>, bool)>, AllocError>
+    ensures { IfOk result (λ answer. MatchOption answer
+        (ReadsAsNothing hex_digits (evened hex_digits (H.items hex)))
+        (λ prefix. ReadsAs hex_digits (evened hex_digits (H.items hex)) prefix.0.items
+        × (prefix.1 ≡ (length (H.items hex) % 2 == 1)))) }
+{
+    decode_hex_prefix_inner(alloc, hex.as_slice(), Digits::Forward)
+}
+
+/// The same of a reversed hex text.
+pub fn decode_reverse_hex_prefix<H: AsSlice<u8> + Drop>(
+    alloc: Global,
+    reverse_hex: H,
+) -> Result<Option<(Vec<u8>, bool)>, AllocError>
+    ensures { IfOk result (λ answer. MatchOption answer
+        (ReadsAsNothing reverse_hex_digits (evened reverse_hex_digits (H.items reverse_hex)))
+        (λ prefix. ReadsAs reverse_hex_digits (evened reverse_hex_digits (H.items reverse_hex)) prefix.0.items
+        × (prefix.1 ≡ (length (H.items reverse_hex) % 2 == 1)))) }
+{
+    decode_hex_prefix_inner(alloc, reverse_hex.as_slice(), Digits::Reverse)
+}
+
+#[tactic(auto, unfolding(crate::specs::Hex::text_with))]
+fn encode_hex_inner(alloc: Global, data: &[u8], chars: &[u8; 16]) -> Result<String, AllocError>
+    requires { IsAscii chars.now }
+    ensures { IfOk result (λ text. string_bytes text ≡ text_with chars.now «data».now) }
+{
+    let mut encoded = String::with_capacity(alloc, data.len() * 2)?;
+    for byte in data {
+        encoded.push(char::from(chars[(byte >> 4) as usize]))?;
+        encoded.push(char::from(chars[(byte & 0xf) as usize]))?;
+    }
+    Ok(encoded)
+}
+
+/// The hex text of bytes.
+pub fn encode_hex(alloc: Global, data: &[u8]) -> Result<String, AllocError>
+    ensures { IfOk result (λ text. string_bytes text ≡ hex «data».now) }
+{
+    encode_hex_inner(alloc, data, FORWARD_HEX_CHARS)
+}
+
+/// The reversed hex text of bytes.
+pub fn encode_reverse_hex(alloc: Global, data: &[u8]) -> Result<String, AllocError>
+    ensures { IfOk result (λ text. string_bytes text ≡ reverse_hex «data».now) }
+{
+    encode_hex_inner(alloc, data, REVERSE_HEX_CHARS)
+}
+
+// The character of a hex digit.
+pub(crate) fn hex_digit_char(value: u8) -> char
+    requires { value < 16 }
+    ensures digit { result ≡ slice_index hex_digits value }
+    ensures ascii { result < 128 }
+{
+    char::from(FORWARD_HEX_CHARS[value as usize])
+}
+
+/// The number of leading hex digits that two byte strings have in common.
+pub fn common_hex_len(bytes_a: &[u8], bytes_b: &[u8]) -> usize
+    ensures { result ≡ common_length (hex bytes_a.now) (hex bytes_b.now) }
+{
+    let shared = bytes_a.len().min(bytes_b.len());
+    for i in 0..shared {
+        let (a, b) = (bytes_a[i], bytes_b[i]);
+        if a != b {
+            return if a >> 4 == b >> 4 { i * 2 + 1 } else { i * 2 };
+        }
+    }
+    shared * 2
+}
+
+/// Decoding undoes encoding: the text of some bytes reads as them, in both kinds of hex.
+pub fn decoding_undoes_encoding()
+    ensures forward { (bytes : List ℕ) → All (λ byte. byte < 256) bytes → ReadsAs hex_digits (hex bytes) bytes }
+    ensures reverse { (bytes : List ℕ) → All (λ byte. byte < 256) bytes → ReadsAs reverse_hex_digits (reverse_hex bytes) bytes }
+{}
+
+/// A text reads as one list of bytes at most, in both kinds of hex.
+pub fn reading_is_unique()
+    ensures forward { (text xs ys : List ℕ) → ReadsAs hex_digits text xs → ReadsAs hex_digits text ys → xs ≡ ys }
+    ensures reverse { (text xs ys : List ℕ) → ReadsAs reverse_hex_digits text xs → ReadsAs reverse_hex_digits text ys → xs ≡ ys }
+{}
+
+/// Encoding what was decoded gives the text in lower case, in both kinds of hex.
+pub fn encoding_gives_lower_case()
+    ensures forward { (text bytes : List ℕ) → ReadsAs hex_digits text bytes → hex bytes ≡ str_to_ascii_lowercase text }
+    ensures reverse { (text bytes : List ℕ) → ReadsAs reverse_hex_digits text bytes → reverse_hex bytes ≡ str_to_ascii_lowercase text }
+{}

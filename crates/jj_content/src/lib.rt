@@ -1,0 +1,8 @@
+//! Texts of bytes and symbols, content bytes and digests.
+#![tactic(auto)]
+
+pub mod blake2b;
+pub mod content_hash;
+pub mod hex_util;
+pub mod symbol_util;
+mod to_json;

@@ -1,0 +1,126 @@
+//! Texts between double quotes, with escapes for what can't stand there.
+ghost use Rattle.std.specs.Prelude.{◌≡◌, ℕ, ◌<◌, ◌++◌, IfOk, OnOk, MatchOption, is_ok, encode_utf8};
+ghost use Rattle.std.specs.Fmt.{WritesInCalls};
+ghost use Rattle.std.specs.List.{flat_map};
+ghost use Rattle.std.specs.String.{string_bytes};
+ghost use Rattle.jj_content.specs.Symbols.{escaped_byte, escaped_text, quoted_text, letter_char, IsEscapeOf};
+
+use crate::hex_util::hex_digit_char;
+use std::alloc::{AllocError, Global};
+use std::fmt;
+
+// Writes the character as it prints between quotes.
+fn push_escaped(escaped: &mut String, c: char) -> Result<(), AllocError>
+    ensures { OnOk result (string_bytes escaped.new ≡ string_bytes escaped.old ++ flat_map escaped_byte (encode_utf8 c)) }
+{
+    match c {
+        '"' => escaped.push_str("\\\""),
+        '\\' => escaped.push_str("\\\\"),
+        '\t' => escaped.push_str("\\t"),
+        '\r' => escaped.push_str("\\r"),
+        '\n' => escaped.push_str("\\n"),
+        '\0' => escaped.push_str("\\0"),
+        c if c.is_ascii_control() => {
+            let byte = c as u8;
+            escaped.push_str("\\x")?;
+            escaped.push(hex_digit_char(byte >> 4))?;
+            escaped.push(hex_digit_char(byte & 0xf))
+        }
+        c => escaped.push(c),
+    }
+}
+
+fn escape_string_to_buf(escaped: &mut String, unescaped: &str) -> Result<(), AllocError>
+    ensures { OnOk result (string_bytes escaped.new ≡ string_bytes escaped.old ++ escaped_text unescaped.now) }
+{
+    for c in unescaped.chars() {
+        push_escaped(escaped, c)?;
+    }
+    Ok(())
+}
+
+/// A text as it prints between double quotes: `\"`, `\\`, `\t`, `\r`, `\n` and `\0`, any other
+/// ASCII control as `\x` and two hex digits, all else unchanged.
+pub fn escape_string(alloc: Global, unescaped: &str) -> Result<String, AllocError>
+    ensures { IfOk result (λ text. string_bytes text ≡ escaped_text unescaped.now) }
+{
+    let mut escaped = String::with_capacity(alloc, unescaped.len())?;
+    escape_string_to_buf(&mut escaped, unescaped)?;
+    Ok(escaped)
+}
+
+/// A text in double quotes, escaped as `escape_string` does.
+pub fn format_string(alloc: Global, unescaped: &str) -> Result<String, AllocError>
+    ensures { IfOk result (λ text. string_bytes text ≡ quoted_text unescaped.now) }
+{
+    let mut escaped = String::with_capacity(alloc, unescaped.len() + 2)?;
+    escaped.push('"')?;
+    escape_string_to_buf(&mut escaped, unescaped)?;
+    escaped.push('"')?;
+    Ok(escaped)
+}
+
+// Writes the character as it prints between quotes.
+fn write_escaped<W: fmt::Write>(writer: &mut W, c: char) -> fmt::Result
+    ensures { OnOk result (WritesInCalls W.write_str_gives writer.old (flat_map escaped_byte (encode_utf8 c)) writer.new) }
+{
+    match c {
+        '"' => writer.write_str("\\\"")?,
+        '\\' => writer.write_str("\\\\")?,
+        '\t' => writer.write_str("\\t")?,
+        '\r' => writer.write_str("\\r")?,
+        '\n' => writer.write_str("\\n")?,
+        '\0' => writer.write_str("\\0")?,
+        c if c.is_ascii_control() => {
+            let byte = c as u8;
+            writer.write_str("\\x")?;
+            writer.write_char(hex_digit_char(byte >> 4))?;
+            writer.write_char(hex_digit_char(byte & 0xf))?;
+        }
+        c => writer.write_char(c)?,
+    }
+    Ok(())
+}
+
+/// Writes a text in double quotes, as `format_string` gives it, piece by piece.
+pub fn write_quoted<W: fmt::Write>(writer: &mut W, text: &str) -> fmt::Result
+    ensures { OnOk result (WritesInCalls W.write_str_gives writer.old (quoted_text text.now) writer.new) }
+{
+    writer.write_char('"')?;
+    for c in text.chars() {
+        write_escaped(writer, c)?;
+    }
+    writer.write_char('"')?;
+    Ok(())
+}
+
+// The character of a letter behind a backslash.
+fn char_of_letter(letter: u8) -> Option<char>
+    ensures { result ≡ letter_char letter }
+{
+    match letter {
+        b'"' => Some('"'),
+        b'\\' => Some('\\'),
+        b't' => Some('\t'),
+        b'r' => Some('\r'),
+        b'n' => Some('\n'),
+        b'0' => Some('\0'),
+        b'e' => Some('\x1b'),
+        _ => None,
+    }
+}
+
+/// The character that an escape stands for: one of those that `escape_string` writes, `\e`, or `\x`
+/// with one or more hex digits of value at most 255 and perhaps a `+` before them.
+pub fn unescape_char(escaped: &str) -> Option<char>
+    ensures { MatchOption result ((c : ℕ) → ¬ (IsEscapeOf escaped.now c)) (λ c. IsEscapeOf escaped.now c) }
+{
+    match escaped.as_bytes() {
+        [b'\\', letter] => char_of_letter(*letter),
+        [b'\\', b'x', ..] => match u8::from_str_radix(&escaped[2..], 16) {
+            Ok(code) => Some(char::from(code)),
+            Err(_) => None,
+        },
+        _ => None,
+    }
+}

@@ -1,0 +1,4 @@
+pub mod Prefix
+pub mod Resolution
+pub mod Names
+pub mod SymbolTexts

@@ -1,0 +1,244 @@
+//! Symbols of names, alone and at a remote, for display.
+ghost use Rattle.std.specs.Prelude.{◌≡◌, ◌++◌, ◌∷◌, ℕ, List, OnOk, IfOk, Some};
+ghost use Rattle.std.specs.Fmt.{WritesInCalls, WritesOnOk};
+ghost use Rattle.std.specs.Option.{option_copied};
+ghost use Rattle.jj_ids.specs.Names.{ref_name_of, remote_name_of, ref_symbol_of};
+ghost use Rattle.jj_ids.specs.SymbolTexts.{is_separator, is_safe_byte, is_safe_symbol, symbol_text, remote_symbol_text, printed_text};
+
+use super::{RefName, RefNameBuf, RemoteName, RemoteNameBuf};
+use jj_content::symbol_util::write_quoted;
+use std::alloc::{AllocError, Global};
+use std::fmt;
+use std::fmt::{Alignment, Write};
+
+/// A name for display, in quotes where it would not be read back as a symbol without them.
+#[derive(Clone, Copy)]
+pub struct RefSymbol<'a> {
+    text: &'a str,
+}
+
+/// The name of a ref at a remote, borrowed.
+#[derive(Clone, Copy, Debug, PartialEq, Eq, PartialOrd, Ord, Hash)]
+pub struct RemoteRefSymbol<'a> {
+    pub name: RefName<'a>,
+    pub remote: RemoteName<'a>,
+}
+
+/// The name of a ref at a remote.
+#[derive(Clone, Debug, PartialEq, Eq, PartialOrd, Ord, Hash, Drop)]
+pub struct RemoteRefSymbolBuf {
+    pub name: RefNameBuf,
+    pub remote: RemoteNameBuf,
+}
+
+impl<'a> RefSymbol<'a> {
+    pub(super) fn new(text: &'a str) -> Self
+        ensures { ref_symbol_of result ≡ text.now }
+    {
+        RefSymbol { text }
+    }
+}
+
+impl<'a> RemoteRefSymbol<'a> {
+    /// A copy of the symbol.
+    pub fn to_owned(self, alloc: Global) -> Result<RemoteRefSymbolBuf, AllocError>
+        ensures name { IfOk result (λ owned. owned.name ≡ ref_name_of self.entry.name) }
+        ensures remote { IfOk result (λ owned. owned.remote ≡ remote_name_of self.entry.remote) }
+    {
+        Ok(RemoteRefSymbolBuf {
+            name: self.name.to_owned(alloc)?,
+            remote: self.remote.to_owned(alloc)?,
+        })
+    }
+}
+
+impl RemoteRefSymbolBuf {
+    /// The symbol, borrowed.
+    pub fn as_ref(&self) -> RemoteRefSymbol<'_>
+        ensures name { ref_name_of result.name ≡ self.now.name }
+        ensures remote { remote_name_of result.remote ≡ self.now.remote }
+    {
+        RemoteRefSymbol {
+            name: self.name.as_name(),
+            remote: self.remote.as_name(),
+        }
+    }
+}
+
+fn is_separator_byte(byte: u8) -> bool
+    ensures { result ≡ is_separator byte }
+{
+    matches!(byte, b'.' | b'-' | b'+')
+}
+
+fn is_plain_byte(byte: u8) -> bool
+    ensures { result ≡ is_safe_byte byte }
+{
+    byte.is_ascii_alphanumeric() || matches!(byte, b'_' | b'/')
+}
+
+// Whether a text needs no quotes as a symbol.
+fn is_safe_identifier(symbol: &str) -> bool
+    ensures { result ≡ is_safe_symbol symbol.now }
+{
+    let mut part_is_empty = true;
+    for byte in symbol.as_bytes() {
+        if is_plain_byte(*byte) {
+            part_is_empty = false;
+        } else if part_is_empty || !is_separator_byte(*byte) {
+            return false;
+        } else {
+            part_is_empty = true;
+        }
+    }
+    !part_is_empty
+}
+
+// Writes a text as a symbol.
+fn write_symbol<W: Write>(writer: &mut W, text: &str) -> fmt::Result
+    ensures { OnOk result (WritesInCalls W.write_str_gives writer.old (symbol_text text.now) writer.new) }
+{
+    if is_safe_identifier(text) {
+        writer.write_str(text)?;
+        return Ok(());
+    }
+    write_quoted(writer, text)?;
+    Ok(())
+}
+
+// Writes a name as a symbol, at the remote if there is one.
+fn write_printed<W: Write>(writer: &mut W, name: &str, remote: Option<&str>) -> fmt::Result
+    ensures { OnOk result (WritesInCalls W.write_str_gives writer.old (printed_text name.now (option_copied remote.entry)) writer.new) }
+{
+    write_symbol(writer, name)?;
+    let Some(remote) = remote else {
+        return Ok(());
+    };
+    writer.write_char('@')?;
+    write_symbol(writer, remote)?;
+    Ok(())
+}
+
+// Counts the characters that are written to it.
+#[derive(Drop)]
+struct CharCount {
+    count: usize,
+}
+
+impl Write for CharCount {
+    fn write_str(&mut self, s: &str) -> fmt::Result {
+        for _ in s.chars() {
+            self.count = self.count.saturating_add(1);
+        }
+        Ok(())
+    }
+}
+
+// Passes on the first characters that are written to it.
+#[derive(Drop)]
+struct FirstChars<W> {
+    writer: W,
+    left: usize,
+}
+
+impl<W: Write> Write for FirstChars<W> {
+    fn write_str(&mut self, s: &str) -> fmt::Result {
+        for c in s.chars() {
+            if self.left > 0 {
+                self.left -= 1;
+                self.writer.write_char(c)?;
+            }
+        }
+        Ok(())
+    }
+}
+
+// How many fill characters stand before what is shown, of so many in all.
+fn fill_before(alignment: Option<Alignment>, padding: usize) -> usize {
+    match alignment {
+        None | Some(Alignment::Left) => 0,
+        Some(Alignment::Center) => padding / 2,
+        Some(Alignment::Right) => padding,
+    }
+}
+
+fn write_fill<W: Write>(f: &mut fmt::Formatter<W>, count: usize) -> fmt::Result {
+    let fill = f.fill();
+    for _ in 0..count {
+        f.write_char(fill)?;
+    }
+    Ok(())
+}
+
+// Displays what `write_printed` writes, cut to the formatter's precision and filled up to its width.
+fn pad_printed<W: Write>(
+    f: &mut fmt::Formatter<W>,
+    name: &str,
+    remote: Option<&str>,
+) -> fmt::Result {
+    let mut whole = CharCount { count: 0 };
+    write_printed(&mut whole, name, remote)?;
+    let shown = whole.count.min(f.precision().unwrap_or(usize::MAX));
+    let padding = f.width().unwrap_or(0).saturating_sub(shown);
+    let before = fill_before(f.align(), padding);
+    write_fill(f, before)?;
+    let mut first = FirstChars {
+        writer: &mut *f,
+        left: shown,
+    };
+    write_printed(&mut first, name, remote)?;
+    write_fill(f, padding.saturating_sub(before))
+}
+
+fn display_printed<W: Write>(
+    f: &mut fmt::Formatter<W>,
+    name: &str,
+    remote: Option<&str>,
+) -> fmt::Result
+    ensures { WritesOnOk W.write_str_gives f.old result (printed_text name.now (option_copied remote.entry)) f.new }
+{
+    if f.width().is_some() {
+        return pad_printed(f, name, remote);
+    }
+    if f.precision().is_some() {
+        return pad_printed(f, name, remote);
+    }
+    write_printed(f, name, remote)
+}
+
+impl<'a> fmt::Display for RefSymbol<'a> {
+    ghost output = { λ symbol. Some (symbol_text (ref_symbol_of symbol)) };
+
+    fn fmt<W: Write>(&self, f: &mut fmt::Formatter<W>) -> fmt::Result {
+        display_printed(f, self.text, None)
+    }
+}
+
+impl<'a> fmt::Debug for RefSymbol<'a> {
+    fn fmt<W: Write>(&self, f: &mut fmt::Formatter<W>) -> fmt::Result {
+        f.debug_tuple("RefSymbol").field(&self.text).finish()
+    }
+}
+
+impl<'a> fmt::Display for RemoteRefSymbol<'a> {
+    ghost output = { λ symbol. Some (remote_symbol_text (ref_name_of symbol.name) (remote_name_of symbol.remote)) };
+
+    fn fmt<W: Write>(&self, f: &mut fmt::Formatter<W>) -> fmt::Result {
+        display_printed(f, self.name.as_str(), Some(self.remote.as_str()))
+    }
+}
+
+impl fmt::Display for RemoteRefSymbolBuf {
+    ghost output = { λ symbol. Some (remote_symbol_text symbol.name symbol.remote) };
+
+    fn fmt<W: Write>(&self, f: &mut fmt::Formatter<W>) -> fmt::Result {
+        let symbol = self.as_ref();
+        display_printed(f, symbol.name.as_str(), Some(symbol.remote.as_str()))
+    }
+}
+
+/// Names at remotes print equal exactly where they are equal.
+pub fn remote_symbols_print_apart()
+    ensures apart { (name remote other other_remote : List ℕ) → remote_symbol_text name remote ≡ remote_symbol_text other other_remote → (name ≡ other) × (remote ≡ other_remote) }
+    ensures same { (name remote other other_remote : List ℕ) → name ≡ other → remote ≡ other_remote → remote_symbol_text name remote ≡ remote_symbol_text other other_remote }
+{}

@@ -1,0 +1,226 @@
+//! Ids, prefixes of them, and resolutions. A refused call is made once more, when there is memory.
+use jj_content::content_hash::{ToJson, ToJsonError};
+use jj_ids::object_id::{ChangeId, CommitId, HexPrefix, ObjectId, PrefixResolution};
+use std::alloc::{AllocError, Global};
+use std::test::Fail;
+
+const BYTES: [u8; 6] = [0xde, 0xad, 0xbe, 0xef, 0x01, 0x23];
+
+fn commit(alloc: Global, bytes: &[u8]) -> Result<CommitId, AllocError> {
+    CommitId::from_bytes(alloc, bytes).or_else(|_| CommitId::from_bytes(alloc, bytes))
+}
+
+fn change(alloc: Global, bytes: &[u8]) -> Result<ChangeId, AllocError> {
+    ChangeId::from_bytes(alloc, bytes).or_else(|_| ChangeId::from_bytes(alloc, bytes))
+}
+
+fn prefix(alloc: Global, text: &str) -> Result<Option<HexPrefix>, AllocError> {
+    HexPrefix::try_from_hex(alloc, text).or_else(|_| HexPrefix::try_from_hex(alloc, text))
+}
+
+fn reversed(alloc: Global, text: &str) -> Result<Option<HexPrefix>, AllocError> {
+    HexPrefix::try_from_reverse_hex(alloc, text).or_else(|_| HexPrefix::try_from_reverse_hex(
+        alloc, text,
+    ))
+}
+
+// Whether the prefix was read and matches the id.
+fn is_match(prefix: &Option<HexPrefix>, id: &CommitId) -> Option<bool> {
+    prefix.as_ref().map(|prefix| prefix.matches(id))
+}
+
+#[test]
+fn ids_print(rt: HostRuntime) -> Result<(), Fail> {
+    let alloc = rt.alloc();
+    let id = commit(alloc, &BYTES)?;
+    let text = format!(in alloc; "{id}").or_else(|_| format!(in alloc; "{id}"))?;
+    assert_eq!(rt; text.as_str(), "deadbeef0123");
+    let text = format!(in alloc; "{id:.6}").or_else(|_| format!(in alloc; "{id:.6}"))?;
+    assert_eq!(rt; text.as_str(), "deadbe");
+    let text = format!(in alloc; "{id:>8.6}").or_else(|_| format!(in alloc; "{id:>8.6}"))?;
+    assert_eq!(rt; text.as_str(), "  deadbe");
+    let text = format!(in alloc; "{id:?}").or_else(|_| format!(in alloc; "{id:?}"))?;
+    assert_eq!(rt; text.as_str(), "CommitId(\"deadbeef0123\")");
+    Ok(())
+}
+
+#[test]
+fn change_ids_print_reversed(rt: HostRuntime) -> Result<(), Fail> {
+    let alloc = rt.alloc();
+    let id = change(alloc, &BYTES)?;
+    let text = format!(in alloc; "{id}").or_else(|_| format!(in alloc; "{id}"))?;
+    assert_eq!(rt; text.as_str(), "mlpmollkzyxw");
+    let text = format!(in alloc; "{id:.6}").or_else(|_| format!(in alloc; "{id:.6}"))?;
+    assert_eq!(rt; text.as_str(), "mlpmol");
+    let text = format!(in alloc; "{id:?}").or_else(|_| format!(in alloc; "{id:?}"))?;
+    assert_eq!(rt; text.as_str(), "ChangeId(\"deadbeef0123\")");
+    let text = id.reverse_hex().or_else(|_| id.reverse_hex())?;
+    assert_eq!(rt; text.as_str(), "mlpmollkzyxw");
+    let text = id.hex(alloc).or_else(|_| id.hex(alloc))?;
+    assert_eq!(rt; text.as_str(), "deadbeef0123");
+    let read = ChangeId::try_from_reverse_hex(alloc, "MLPMollkzyxw").or_else(
+        |_| ChangeId::try_from_reverse_hex(alloc, "MLPMollkzyxw"),
+    )?;
+    assert!(rt; read == Some(id));
+    Ok(())
+}
+
+#[test]
+fn ids_are_their_bytes(rt: HostRuntime) -> Result<(), Fail> {
+    let alloc = rt.alloc();
+    let id = commit(alloc, &BYTES)?;
+    assert_eq!(rt; id.as_bytes(), BYTES.as_slice());
+    let bytes = id.to_bytes(alloc).or_else(|_| id.to_bytes(alloc))?;
+    assert_eq!(rt; bytes.as_slice(), BYTES.as_slice());
+    let name = id.object_type(alloc).or_else(|_| id.object_type(alloc))?;
+    assert_eq!(rt; name.as_str(), "commit");
+    let read = CommitId::from_hex(alloc, "DEADbeef0123").or_else(|_| CommitId::from_hex(
+        alloc,
+        "DEADbeef0123",
+    ))?;
+    assert!(rt; read == id);
+    let empty = CommitId::from_hex(alloc, "").or_else(|_| CommitId::from_hex(alloc, ""))?;
+    assert!(rt; empty < id);
+    let odd = CommitId::try_from_hex(alloc, "dea").or_else(|_| CommitId::try_from_hex(
+        alloc, "dea",
+    ))?;
+    assert!(rt; odd.is_none());
+    let copy = id.clone().or_else(|_| id.clone())?;
+    assert!(rt; copy == id);
+    let made = CommitId::new(bytes);
+    assert!(rt; made == id);
+    Ok(())
+}
+
+// The compact text of a value's JSON.
+fn json_text<T: ToJson>(alloc: Global, value: &T) -> Result<String, ToJsonError> {
+    let json = value.to_json(alloc).or_else(|_| value.to_json(alloc))?;
+    let text = json.to_string(alloc).or_else(|_| json.to_string(alloc))?;
+    Ok(text)
+}
+
+#[test]
+fn ids_in_json_are_their_texts(rt: HostRuntime) -> Result<(), Fail> {
+    let alloc = rt.alloc();
+    assert_eq!(rt;
+        json_text(alloc, &commit(alloc, &BYTES)?)?.as_str(),
+        "\"deadbeef0123\""
+    );
+    assert_eq!(rt;
+        json_text(alloc, &change(alloc, &BYTES)?)?.as_str(),
+        "\"mlpmollkzyxw\""
+    );
+    Ok(())
+}
+
+#[test]
+fn prefixes_are_read(rt: HostRuntime) -> Result<(), Fail> {
+    let alloc = rt.alloc();
+    for (text, bytes, full) in [
+        ("", [].as_slice(), true),
+        ("1", [0x10].as_slice(), false),
+        ("12", [0x12].as_slice(), true),
+        ("123", [0x12, 0x30].as_slice(), false),
+        ("AbC", [0xab, 0xc0].as_slice(), false),
+    ] {
+        let Some(read) = prefix(alloc, text)? else {
+            return Err(Fail::new("not read"));
+        };
+        assert_eq!(rt; read.min_prefix_bytes(), bytes);
+        assert_eq!(rt; read.as_full_bytes().is_some(), full);
+        let copy = read.clone().or_else(|_| read.clone())?;
+        assert!(rt; copy == read);
+    }
+    assert!(rt; prefix(alloc, "0x123")?.is_none());
+    assert!(rt; prefix(alloc, "foobar")?.is_none());
+    Ok(())
+}
+
+#[test]
+fn prefixes_show_their_texts(rt: HostRuntime) -> Result<(), Fail> {
+    let alloc = rt.alloc();
+    let Some(read) = reversed(alloc, "mlp")? else {
+        return Err(Fail::new("not read"));
+    };
+    let text = read.hex().or_else(|_| read.hex())?;
+    assert_eq!(rt; text.as_str(), "dea");
+    let text = read.reverse_hex().or_else(|_| read.reverse_hex())?;
+    assert_eq!(rt; text.as_str(), "mlp");
+    let text = format!(in alloc; "{read:?}").or_else(|_| format!(in alloc; "{read:?}"))?;
+    assert_eq!(rt; text.as_str(), "HexPrefix(\"dea\")");
+    let whole = HexPrefix::from_bytes(alloc, &[0xde, 0xa0]).or_else(|_| HexPrefix::from_bytes(
+        alloc,
+        &[0xde, 0xa0],
+    ))?;
+    assert!(rt; whole != read);
+    let id = commit(alloc, &[0xde, 0xa0])?;
+    let same = HexPrefix::from_id(alloc, &id).or_else(|_| HexPrefix::from_id(alloc, &id))?;
+    assert!(rt; same == whole);
+    assert!(rt; reversed(alloc, "jj")?.is_none());
+    Ok(())
+}
+
+#[test]
+fn prefixes_match(rt: HostRuntime) -> Result<(), Fail> {
+    let alloc = rt.alloc();
+    let id = commit(alloc, &[0x12, 0x34])?;
+    for (text, expected) in [
+        ("", true),
+        ("1", true),
+        ("12", true),
+        ("123", true),
+        ("1234", true),
+        ("12345", false),
+        ("a", false),
+        ("1a", false),
+        ("12a", false),
+        ("123a", false),
+    ] {
+        assert!(rt;
+            is_match(&prefix(alloc, text)?, &id) == Some(expected),
+            "at {text}"
+        );
+    }
+    Ok(())
+}
+
+fn plus(
+    a: &PrefixResolution<u8>,
+    b: &PrefixResolution<u8>,
+) -> Result<PrefixResolution<u8>, AllocError> {
+    a.plus(b).or_else(|_| a.plus(b))
+}
+
+#[test]
+fn resolutions_add_up(rt: HostRuntime) -> Result<(), Fail> {
+    let none = PrefixResolution::NoMatch;
+    let one = PrefixResolution::SingleMatch(1u8);
+    let many = PrefixResolution::AmbiguousMatch;
+    assert!(rt; plus(&one, &one)? == PrefixResolution::AmbiguousMatch);
+    assert!(rt; plus(&none, &one)? == PrefixResolution::SingleMatch(1));
+    assert!(rt; plus(&one, &none)? == PrefixResolution::SingleMatch(1));
+    assert!(rt; plus(&none, &none)? == PrefixResolution::NoMatch);
+    assert!(rt; plus(&none, &many)? == PrefixResolution::AmbiguousMatch);
+    assert!(rt; plus(&many, &one)? == PrefixResolution::AmbiguousMatch);
+    Ok(())
+}
+
+#[test]
+fn resolutions_map(rt: HostRuntime) {
+    assert!(rt;
+        PrefixResolution::SingleMatch(1u8).map(|x| x / 1) == PrefixResolution::SingleMatch(1)
+    );
+    assert!(rt;
+        PrefixResolution::SingleMatch(1u8).filter_map(|_| None::<u8>) == PrefixResolution::NoMatch
+    );
+    assert!(rt;
+        PrefixResolution::SingleMatch(1u8).filter_map(|x| Some(x))
+            == PrefixResolution::SingleMatch(1)
+    );
+    assert!(rt;
+        PrefixResolution::<u8>::AmbiguousMatch.map(|x| x) == PrefixResolution::AmbiguousMatch
+    );
+    assert!(rt;
+        PrefixResolution::<u8>::NoMatch.filter_map(|x| Some(x)) == PrefixResolution::NoMatch
+    );
+}
