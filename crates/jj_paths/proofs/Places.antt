@@ -1,0 +1,65 @@
+-- What a binary search finds among named nodes whose names rise.
+use Rattle.std.proofs.Common.{◌≡◌, ℕ, zero, suc, ◌<◌, ◌≤◌, true, List, [], ◌∷◌, length, get_or, Result, Ok, Err, IfOk, IfErr, refl, sym, ap, ◌∙◌, arith}
+use mathlib.Core.Bool.{false≢true}
+use Rattle.std.specs.declared.cmp.Ordering.{Ordering}
+use Rattle.std.specs.declared.cmp.Ordering.TheVariants.{Less, Equal, Greater}
+use Rattle.std.specs.Ordering.{is_lt, ordering_index, ordering_reverse}
+use Rattle.std.specs.Cmp.Lexicographic.{nat_list_cmp_total}
+use Rattle.std.specs.FinMap.{is_sorted, slice_cmp-IsAntisymmetric, nat_cmp-IsAntisymmetric}
+use Rattle.std.specs.FinMap.Entries.{below_all}
+use Rattle.std.specs.List.Sorted.{IsBinarySearchResult, IsSearchInRange, IsNonDecreasingBy}
+use Rattle.std.proofs.lemmas.Bool.{and_parts}
+use Rattle.jj_paths.specs.Paths.{Name, name_cmp}
+use Rattle.jj_paths.specs.Tree.{Tree, IsAt, IsGapFor}
+
+pub name_cmp-same : (x y : Name) → name_cmp x y ≡ Equal → x ≡ y
+name_cmp-same = slice_cmp-IsAntisymmetric nat_cmp-IsAntisymmetric
+
+less_from_is_lt : (r : Ordering) → is_lt r ≡ true → r ≡ Less
+less_from_is_lt Less e = refl
+less_from_is_lt Equal e = absurd (false≢true e)
+less_from_is_lt Greater e = absurd (false≢true e)
+
+-- a smaller name compares no higher with any name
+rises : (x y q : Name) (r : Ordering) → name_cmp y q ≡ r → name_cmp x y ≡ Less → ordering_index (name_cmp x q) ≤ ordering_index r
+rises x y q Less e less = rw (nat_list_cmp_total.trans x y q less e) (omega arith)
+rises x y q Equal e less =
+    let t = nat_list_cmp_total in
+    let same : name_cmp y x ≡ name_cmp q x = t.congr y q x e in
+    let back : name_cmp y x ≡ Greater = t.antisymm y x ∙ ap ordering_reverse less in
+    let is : name_cmp x q ≡ Less = t.antisymm x q ∙ ap ordering_reverse (sym same ∙ back) in
+    rw is (omega arith)
+rises x y q Greater e less = at_most_two (name_cmp x q)
+  where
+    at_most_two : (r : Ordering) → ordering_index r ≤ 2
+    at_most_two Less = omega arith
+    at_most_two Equal = omega arith
+    at_most_two Greater = omega arith
+
+module _ {V : Type 0} where
+  pub below_all-at : (x : Name) (es : List (Name × Tree V)) (j : ℕ) (d : Name × Tree V) → below_all name_cmp x es ≡ true → j < length es → name_cmp x (get_or es j d).0 ≡ Less
+  below_all-at x [] j d all lt = absurd (omega arith)
+  below_all-at x (e ∷ es) zero d all lt = less_from_is_lt _ (and_parts _ _ all).0
+  below_all-at x (e ∷ es) (suc j) d all lt = below_all-at x es j d (and_parts _ _ all).1 (omega arith)
+
+  pub comparisons_rise : (q : Name) (es : List (Name × Tree V)) → is_sorted name_cmp es ≡ true → IsNonDecreasingBy (λ e. ordering_index (name_cmp e.0 q)) es
+  comparisons_rise q [] sorted i j d le lt = absurd (omega arith)
+  comparisons_rise q (e ∷ es) sorted zero zero d le lt = omega arith
+  comparisons_rise q (e ∷ es) sorted zero (suc j) d le lt = rises e.0 (get_or es j d).0 q _ refl (below_all-at e.0 es j d (and_parts _ _ sorted).0 (omega arith))
+  comparisons_rise q (e ∷ es) sorted (suc i) zero d le lt = absurd (omega arith)
+  comparisons_rise q (e ∷ es) sorted (suc i) (suc j) d le lt = comparisons_rise q es (and_parts _ _ sorted).1 i j d (omega arith) (omega arith)
+
+  pub record IsPlace (es : List (Name × Tree V)) (q : Name) (r : Result ℕ ℕ) : Type 0 where
+    pub found : IfOk r (IsAt es q)
+    pub absent : IfErr r (IsGapFor es q)
+
+  pub placed : (es : List (Name × Tree V)) (q : Name) (r : Result ℕ ℕ) → is_sorted name_cmp es ≡ true → IsSearchInRange r (length es) → IsBinarySearchResult (λ e. name_cmp e.0 q) es r → IsPlace es q r
+  placed es q (Ok at) sorted range equal = record { found = record { in_range = range; has_name = λ d. name_cmp-same _ _ (equal d) }; absent = tt }
+  placed es q (Err at) sorted range parted = record {
+    found = tt;
+    absent = record {
+      in_range = range;
+      smaller_before = λ j d lt. (parted (comparisons_rise q es sorted)).0 j d (omega arith) lt;
+      greater_after = λ j d le lt. (parted (comparisons_rise q es sorted)).1 j d le lt;
+    };
+  }

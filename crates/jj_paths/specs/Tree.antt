@@ -1,0 +1,149 @@
+-- A tree of values at paths: each node has a value, and branches with names to further nodes.
+use Rattle.std.specs.Prelude.{◌≡◌, ◌≢◌, IsSome, Bool, true, false, ℕ, zero, suc, ◌+◌, ◌*◌, ◌≤◌, ◌<◌, length, slice_index_or, if◌then◌else◌, List, [], ◌∷◌, ◌++◌, Option, None, Some, refl, max}
+use Rattle.std.specs.declared.cmp.Ordering.TheVariants.{Less, Greater}
+use Rattle.std.specs.Str.{bytes_eq}
+use Rattle.std.specs.Option.{option_and_then, option_map}
+use Rattle.std.specs.Coded.{Coded, code_by, coded×, coded_ℕ, coded_list, coded_option}
+use Rattle.std.proofs.Common.{ap, ◌∙◌, append_assoc, append-nil, sym, arith}
+use denote.Param.Weighed.{most}
+use Rattle.jj_paths.specs.Paths.{Name, Path, name_cmp}
+
+-- the branches of a node, one after another: a name, the value and the branches of its node, and
+-- the branches after it
+pub data Branches (V : Type 0) : Type 0 where
+  none : Branches V
+  branch : Name → V → Branches V → Branches V → Branches V
+
+-- a node: its value and its branches
+abbrev pub Tree : Type 0 → Type 0
+Tree V = V × Branches V
+
+-- the size of a tree is above that of its node
+pub below_wrapper : (n : ℕ) → max (2 * n + 1) 0 ≤ 2 * n + 1
+below_wrapper n = omega arith
+
+module _ {V : Type 0} where
+  -- branches as a list of names and nodes, and back
+  abbrev pub children : Branches V → List (Name × Tree V)
+  children none = []
+  children (branch name value below after) = (name, (value, below)) ∷ children after
+
+  abbrev pub branches_of : List (Name × Tree V) → Branches V
+  branches_of [] = none
+  branches_of (x ∷ xs) = branch x.0 x.1.0 x.1.1 (branches_of xs)
+
+  abbrev pub has_branches : Branches V → Bool
+  has_branches none = false
+  has_branches (branch name value below after) = true
+
+  -- the node of the first branch with that name
+  abbrev pub child : Branches V → Name → Option (Tree V)
+  child none name = None
+  child (branch n value below after) name = if bytes_eq n name then Some (value, below) else child after name
+
+  -- the node at a path below a node
+  abbrev pub get : Tree V → Path → Option (Tree V)
+  get tree [] = Some tree
+  get tree (name ∷ rest) = option_and_then (λ sub. get sub rest) (child tree.1 name)
+
+  -- the branches with the first node of that name changed
+  abbrev pub update_child : Branches V → Name → (Tree V → Tree V) → Branches V
+  update_child none name f = none
+  update_child (branch n value below after) name f =
+      if bytes_eq n name then branch n (f (value, below)).0 (f (value, below)).1 after else branch n value below (update_child after name f)
+
+  -- the tree with another node at a path
+  abbrev pub put : Tree V → Path → Tree V → Tree V
+  put tree [] node = node
+  put tree (name ∷ rest) node = (tree.0, update_child tree.1 name (λ sub. put sub rest node))
+
+  -- the tree with another one at the first name of a path
+  abbrev pub put_below : Tree V → Path → Tree V → Tree V
+  put_below tree [] sub = sub
+  put_below tree (name ∷ rest) sub = (tree.0, update_child tree.1 name (λ _. sub))
+
+  -- the tree with another value at a path
+  abbrev pub put_value : Tree V → Path → V → Tree V
+  put_value tree [] value = (value, tree.1)
+  put_value tree (name ∷ rest) value = (tree.0, update_child tree.1 name (λ sub. put_value sub rest value))
+
+  -- a node has the child of that name, which is a new one where it had none, and its other children are as they were
+  pub record IsGrown (is_new : V → Type 0) (old : Tree V) (name : Name) (node : Tree V) : Type 0 where
+    pub value : node.0 ≡ old.0
+    pub there : IsSome (child node.1 name)
+    pub others : (n : Name) → n ≢ name → child node.1 n ≡ child old.1 n
+    pub keeps : (sub : Tree V) → child old.1 name ≡ Some sub → child node.1 name ≡ Some sub
+    pub makes : (sub : Tree V) → child old.1 name ≡ None → child node.1 name ≡ Some sub → is_new sub.0 × (sub.1 ≡ none)
+
+  -- the value at a path
+  abbrev pub value_at : Tree V → Path → Option V
+  value_at tree path = option_map (λ node. node.0) (get tree path)
+
+  -- a tree keeps the values of another, and has at most new ones on the fronts of a path, which the test passes
+  pub record IsExtended (is_new : V → Type 0) (old : Tree V) (path : Path) (tree : Tree V) : Type 0 where
+    pub keeps : (q : Path) (value : V) → value_at old q ≡ Some value → value_at tree q ≡ Some value
+    pub makes : (q : Path) (value : V) → value_at old q ≡ None → value_at tree q ≡ Some value → is_new value × ((rest : Path) × (path ≡ q ++ rest))
+
+  -- the node at the path of a tree that was extended becomes another, and so the old tree becomes the new one
+  pub record IsEdited (is_new : V → Type 0) (old : Tree V) (path : Path) (node changed new : Tree V) : Type 0 where
+    pub tree : Tree V
+    pub extended : IsExtended is_new old path tree
+    pub at_path : get tree path ≡ Some node
+    pub is_put : new ≡ put tree path changed
+
+  -- the branch at place i has the name
+  pub record IsAt (entries : List (Name × Tree V)) (name : Name) (i : ℕ) : Type 0 where
+    pub in_range : i < length entries
+    pub has_name : (d : Name × Tree V) → (slice_index_or entries i d).0 ≡ name
+
+  -- the name would go at place i: smaller names before it, and greater ones from it on
+  pub record IsGapFor (entries : List (Name × Tree V)) (name : Name) (i : ℕ) : Type 0 where
+    pub in_range : i ≤ length entries
+    pub smaller_before : (j : ℕ) (d : Name × Tree V) → j < i → name_cmp (slice_index_or entries j d).0 name ≡ Less
+    pub greater_after : (j : ℕ) (d : Name × Tree V) → i ≤ j → j < length entries → name_cmp (slice_index_or entries j d).0 name ≡ Greater
+
+  -- how many nodes the branches lead to
+  abbrev pub branch_count : Branches V → ℕ
+  branch_count none = 0
+  branch_count (branch name value below after) = 1 + branch_count below + branch_count after
+
+  -- the size falls from a node to its children, as Rattle counts it
+  pub most_le-branch_count : (μ : Name × Tree V → ℕ) → ((x : Name × Tree V) → μ x ≤ 2 * branch_count x.1.1 + 2) → (items : List (Name × Tree V)) → max (most μ items) 0 ≤ 2 * branch_count (branches_of items)
+  most_le-branch_count μ h [] = omega arith
+  most_le-branch_count μ h (x ∷ xs) = omega (arith, h x, most_le-branch_count μ h xs)
+
+  -- what a pair adds to the size of the branches that it stands in, as the size of a node is counted
+  pub weight_le-pair : (x : Name × Tree V) → max 0 (max (2 * branch_count x.1.1 + 1 + 1) 0) ≤ 2 * branch_count x.1.1 + 2
+  weight_le-pair x = omega arith
+
+  -- a code: the branches in postorder
+  abbrev pub tokens : Branches V → List (Option (Name × V))
+  tokens none = None ∷ []
+  tokens (branch name value below after) = tokens below ++ (tokens after ++ Some (name, value) ∷ [])
+
+  abbrev pub read_tokens : List (Option (Name × V)) → List (Branches V) → Branches V
+  read_tokens [] [] = none
+  read_tokens [] (b ∷ bs) = b
+  read_tokens (None ∷ ts) bs = read_tokens ts (none ∷ bs)
+  read_tokens (Some x ∷ ts) [] = none
+  read_tokens (Some x ∷ ts) (after ∷ []) = none
+  read_tokens (Some x ∷ ts) (after ∷ below ∷ bs) = read_tokens ts (branch x.0 x.1 below after ∷ bs)
+
+  pub read_tokens-tokens : (b : Branches V) (ts : List (Option (Name × V))) (bs : List (Branches V)) → read_tokens (tokens b ++ ts) bs ≡ read_tokens ts (b ∷ bs)
+  read_tokens-tokens none ts bs = refl
+  read_tokens-tokens (branch name value below after) ts bs =
+      ap (λ l. read_tokens l bs) (append_assoc (tokens below) (tokens after ++ Some (name, value) ∷ []) ts ∙ ap (λ l. tokens below ++ l) (append_assoc (tokens after) (Some (name, value) ∷ []) ts))
+      ∙ read_tokens-tokens below (tokens after ++ (Some (name, value) ∷ ts)) bs
+      ∙ read_tokens-tokens after (Some (name, value) ∷ ts) (below ∷ bs)
+
+  abbrev pub from_tokens : List (Option (Name × V)) → Branches V
+  from_tokens ts = read_tokens ts []
+
+  pub from_tokens-tokens : (b : Branches V) → from_tokens (tokens b) ≡ b
+  from_tokens-tokens b = ap (λ l. read_tokens l []) (sym (append-nil (tokens b))) ∙ read_tokens-tokens b [] []
+
+  abbrev pub branches_code : Coded V → Coded (Branches V)
+  branches_code v = code_by (List (Option (Name × V))) (coded_list (coded_option (coded× (coded_list coded_ℕ) v))) tokens from_tokens from_tokens-tokens
+
+  abbrev pub tree_code : Coded V → Coded (Tree V)
+  tree_code v = coded× v (branches_code v)

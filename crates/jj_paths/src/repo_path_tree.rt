@@ -1,0 +1,390 @@
+//! A tree of values at paths: a finite map from paths that holds the root and every front of each key.
+ghost use Rattle.std.specs.Prelude.{◌≡◌, ◌↔◌, IsSome, ◌≢◌, ℕ, List, [], ◌∷◌, ◌++◌, IsTrue, IfOk, IfErr, OnOk, OnErr, MatchResult, MatchOption};
+ghost use Rattle.std.specs.Prelude.{Some, length, ◌<◌};
+ghost use Rattle.std.specs.Borrow.{sem, Lends};
+ghost use denote.Struct.Tuple.{Tuple};
+ghost use Rattle.std.specs.Option.{option_copied};
+ghost use Rattle.jj_paths.specs.Paths.{Name, Path, name_cmp, rest_of};
+ghost use Rattle.jj_paths.specs.Names.{name_of, path_of};
+ghost use Rattle.std.specs.FinMap.{is_sorted};
+ghost use Rattle.std.specs.Iterator.{YieldsFirstBy, item_count};
+ghost use Rattle.jj_paths.specs.Tree.{Tree, none, children, child, get, has_branches, put, put_value, update_child, put_below, IsExtended, IsEdited, IsGrown, IsAt, IsGapFor};
+
+use crate::repo_path::{RepoPath, RepoPathComponent, RepoPathComponentBuf};
+use std::alloc::{AllocError, Global};
+use std::cmp::Ordering;
+use std::marker::Model;
+
+/// Values at paths: a value at the root, and at each front of a path that has one.
+#[cycle(tree)]
+#[derive(Drop)]
+pub struct RepoPathTree<V> {
+    node: RepoPathNode<V>,
+}
+
+/// A node of a tree, with what is below it.
+#[cycle(tree)]
+#[derive(Drop)]
+pub struct RepoPathNode<V> {
+    value: V,
+    entries: Vec<(RepoPathComponentBuf, RepoPathTree<V>)>,
+}
+
+impl<V> Model for RepoPathTree<V> {
+    ghost use Rattle.jj_paths.specs.Tree.{Tree, tree_code, branch_count};
+    ghost use Rattle.std.specs.Prelude.{◌+◌, ◌*◌};
+    ghost use Rattle.jj_paths.specs.Tree.{below_wrapper};
+
+    ghost Value = { Tree V };
+
+    ghost coded = { tree_code V.code };
+
+    ghost view = { λ t. t.node };
+
+    ghost size = { λ t. 2 * branch_count t.1 + 1 };
+
+    ghost size_decreases = { λ t h. below_wrapper (branch_count t.node.1) };
+}
+
+impl<V> Model for RepoPathNode<V> {
+    ghost use Rattle.std.specs.Prelude.{IsTrue, ◌*◌};
+    ghost use Rattle.std.specs.FinMap.{is_sorted};
+    ghost use Rattle.jj_paths.specs.Paths.{name_cmp};
+    ghost use Rattle.jj_paths.specs.Tree.{Tree, tree_code, branches_of, branch_count, most_le-branch_count, weight_le-pair};
+
+    ghost Value = { Tree V };
+
+    ghost coded = { tree_code V.code };
+
+    ghost view = { λ t. (t.value, branches_of t.entries.items) };
+
+    ghost invariant = { λ t. IsTrue (is_sorted name_cmp t.entries.items) };
+
+    ghost size = { λ t. 2 * branch_count t.1 };
+
+    ghost size_decreases = { λ t h. most_le-branch_count _ weight_le-pair t.entries.items };
+}
+
+impl<V> RepoPathNode<V> {
+    ghost use Rattle.std.specs.Borrow.{sem, Lends};
+    ghost use Rattle.jj_paths.specs.contracts.repo_path_tree.RepoPathNode.{the_row};
+    ghost use Rattle.jj_paths.specs.contracts.repo_path_tree.RepoPathTree as tree;
+    ghost use Rattle.jj_paths.specs.Names.{name_of, path_of};
+    ghost use Rattle.jj_paths.specs.Children.{children_left};
+
+    /// The value at the node.
+    pub fn value(&self) -> &V
+        ensures { result.now ≡ self.now.0 }
+    {
+        &self.value
+    }
+
+    /// Sets the value at the node.
+    pub fn set_value(&mut self, value: V)
+    where
+        V: Drop,
+        ensures { self.new ≡ (value, self.old.1) }
+    {
+        self.value = value;
+    }
+
+    /// Whether the node has children.
+    pub fn has_children(&self) -> bool
+        ensures { result ≡ has_branches self.now.1 }
+    {
+        !self.entries.is_empty()
+    }
+
+    /// The children, by name.
+    pub fn children(&self) -> RepoPathTreeChildren<'_, V>
+        ensures listed { children_left result ≡ children self.now.1 }
+        ensures by_name { IsTrue (is_sorted name_cmp (children self.now.1)) }
+    {
+        RepoPathTreeChildren {
+            entries: self.entries.as_slice(),
+        }
+    }
+
+    /// The children, by name, each with its name as the tree owns it.
+    pub fn entries(&self) -> &[(RepoPathComponentBuf, RepoPathTree<V>)]
+        ensures listed { result.now ≡ children self.now.1 }
+        ensures by_name { IsTrue (is_sorted name_cmp (children self.now.1)) }
+    {
+        self.entries.as_slice()
+    }
+
+    /// The tree below, at a name.
+    pub fn child(&self, name: RepoPathComponent<'_>) -> Option<&RepoPathTree<V>>
+        ensures { option_copied result ≡ child self.now.1 (name_of name.entry) }
+    {
+        match place(&self.entries, name) {
+            Ok(at) => Some(&self.entries[at].1),
+            Err(_) => None,
+        }
+    }
+
+    /// The value at the node, to write to.
+    pub fn value_mut(&mut self) -> &mut V
+        ensures* writes_back { sem 𝓛 (Lends (the_row V.row) V.row self.entry result (λ w. (w, self.old.1))) }
+        ensures value { result.now ≡ self.old.0 }
+    {
+        &mut self.value
+    }
+
+    // makes the child of that name, with a default value, where the node lacks it
+    fn make_child(&mut self, alloc: Global, name: RepoPathComponent<'_>) -> Result<(), AllocError>
+    where
+        V: Default + Drop,
+        ensures made { IfOk result (λ done. IsGrown V.is_default self.old (name_of name.entry) self.new) }
+        ensures refused { IfErr result (λ e. self.new ≡ self.old) }
+    {
+        if let Err(at) = place(&self.entries, name) {
+            let tree = RepoPathTree::new(alloc, V::default());
+            let owned = name.to_owned(alloc)?;
+            self.entries.insert(at, (owned, tree))?;
+        }
+        Ok(())
+    }
+
+    // the tree below, at the name that a path begins with
+    fn child_mut(&mut self, name: RepoPathComponent<'_>) -> &mut RepoPathTree<V>
+        requires { IsSome (child self.old.1 (name_of name)) }
+        ensures* writes_back { sem 𝓛 (Lends (the_row V.row) (tree.the_row V.row) self.entry result (λ w. (self.old.0, update_child self.old.1 (name_of name.entry) (λ sub. w)))) }
+        ensures value { child self.old.1 (name_of name.entry) ≡ Some result.now }
+    {
+        match place(&self.entries, name) {
+            Ok(at) => second(&mut self.entries[at]),
+            Err(_) => unreachable!(),
+        }
+    }
+}
+
+impl<V> RepoPathNode<V> {
+    ghost use Rattle.std.specs.Borrow.{sem, Lends};
+    ghost use Rattle.jj_paths.specs.contracts.repo_path_tree.RepoPathNode.{the_row};
+    ghost use Rattle.jj_paths.specs.contracts.repo_path_tree.RepoPathTree as tree;
+    ghost use Rattle.jj_paths.specs.Names.{name_of, path_of};
+
+    // the tree below, at the name that the path begins with
+    fn step_mut(&mut self, path: RepoPath<'_>) -> &mut RepoPathTree<V>
+        requires { IsSome (get self.old (path_of path)) × (path_of path ≢ []) }
+        ensures* writes_back { sem 𝓛 (Lends (the_row V.row) (tree.the_row V.row) self.entry result (put_below self.old (path_of path.entry))) }
+        ensures value { (get self.old (path_of path.entry) ≡ get result.now (rest_of (path_of path.entry))) × ((w : Tree V) → put_below self.old (path_of path.entry) (put result.now (rest_of (path_of path.entry)) w) ≡ put self.old (path_of path.entry) w) }
+    {
+        match path.split_first() {
+            None => unreachable!(),
+            Some((name, _rest)) => self.child_mut(name),
+        }
+    }
+}
+
+impl<V> RepoPathTree<V> {
+    ghost use Rattle.std.specs.Borrow.{sem, Lends, LendsSoOk};
+    ghost use Rattle.jj_paths.specs.contracts.repo_path_tree.RepoPathTree.{the_row};
+    ghost use Rattle.jj_paths.specs.contracts.repo_path_tree.RepoPathNode as node;
+    ghost use Rattle.jj_paths.specs.Names.{name_of, path_of};
+    ghost use Rattle.jj_paths.specs.Children.{children_left};
+
+    /// A tree that holds the root alone, with a default value.
+    pub fn default(alloc: Global) -> RepoPathTree<V>
+    where
+        V: Default,
+        ensures value { V.is_default result.0 }
+        ensures alone { result.1 ≡ none }
+    {
+        RepoPathTree::new(alloc, V::default())
+    }
+
+    // a tree that holds the root alone
+    fn new(alloc: Global, value: V) -> RepoPathTree<V>
+        ensures { result ≡ (value, none) }
+    {
+        RepoPathTree {
+            node: RepoPathNode {
+                value,
+                entries: Vec::new(alloc),
+            },
+        }
+    }
+
+    /// The root's node.
+    pub fn node(&self) -> &RepoPathNode<V>
+        ensures { result.now ≡ self.now }
+    {
+        &self.node
+    }
+
+    /// The value at the root.
+    pub fn value(&self) -> &V
+        ensures { result.now ≡ self.now.0 }
+    {
+        self.node.value()
+    }
+
+    /// The value at the root, to write to.
+    pub fn value_mut(&mut self) -> &mut V
+        ensures* writes_back { sem 𝓛 (Lends (the_row V.row) V.row self.entry result (λ w. (w, self.old.1))) }
+        ensures value { result.now ≡ self.old.0 }
+    {
+        self.own_node().value_mut()
+    }
+
+    /// Sets the value at the root.
+    pub fn set_value(&mut self, value: V)
+    where
+        V: Drop,
+        ensures { self.new ≡ (value, self.old.1) }
+    {
+        self.node.set_value(value);
+    }
+
+    /// Whether the root has children.
+    pub fn has_children(&self) -> bool
+        ensures { result ≡ has_branches self.now.1 }
+    {
+        self.node.has_children()
+    }
+
+    /// The children of the root, by name.
+    pub fn children(&self) -> RepoPathTreeChildren<'_, V>
+        ensures listed { children_left result ≡ children self.now.1 }
+        ensures by_name { IsTrue (is_sorted name_cmp (children self.now.1)) }
+    {
+        self.node.children()
+    }
+
+    /// The children of the root, by name, each with its name as the tree owns it.
+    pub fn entries(&self) -> &[(RepoPathComponentBuf, RepoPathTree<V>)]
+        ensures listed { result.now ≡ children self.now.1 }
+        ensures by_name { IsTrue (is_sorted name_cmp (children self.now.1)) }
+    {
+        self.node.entries()
+    }
+
+    /// The tree below the root, at a name.
+    pub fn child(&self, name: RepoPathComponent<'_>) -> Option<&RepoPathTree<V>>
+        ensures { option_copied result ≡ child self.now.1 (name_of name.entry) }
+    {
+        self.node.child(name)
+    }
+
+    /// The tree at a path.
+    pub fn get(&self, path: RepoPath<'_>) -> Option<&RepoPathTree<V>>
+        ensures { option_copied result ≡ get self.now (path_of path.entry) }
+    {
+        let mut tree = self;
+        let mut rest = path;
+        while let Some((name, below)) = rest.split_first() {
+            tree = tree.child(name)?;
+            rest = below;
+        }
+        Some(tree)
+    }
+
+    // the root's node, to write to
+    fn own_node(&mut self) -> &mut RepoPathNode<V>
+        ensures* writes_back { sem 𝓛 (Lends (the_row V.row) (node.the_row V.row) self.entry result (λ w. w)) }
+        ensures value { result.now ≡ self.old }
+    {
+        &mut self.node
+    }
+
+    // the node at a path that the tree has
+    fn node_mut(&mut self, path: RepoPath<'_>) -> &mut RepoPathNode<V>
+        requires { IsSome (get self.old (path_of path)) }
+        ensures* writes_back { sem 𝓛 (Lends (the_row V.row) (node.the_row V.row) self.entry result (put self.old (path_of path.entry))) }
+        ensures value { get self.old (path_of path.entry) ≡ Some result.now }
+    {
+        let node = self.own_node();
+        if path.is_root() {
+            return node;
+        }
+        node.step_mut(path).node_mut(path.rest())
+    }
+
+    // makes the nodes that a path lacks, with default values
+    fn extend(&mut self, alloc: Global, path: RepoPath<'_>) -> Result<(), AllocError>
+    where
+        V: Default + Drop,
+        ensures there { IfOk result (λ done. IsSome (get self.new (path_of path.entry))) }
+        ensures extended { IsExtended V.is_default self.old (path_of path.entry) self.new }
+    {
+        match path.split_first() {
+            None => Ok(()),
+            Some((name, rest)) => {
+                self.node.make_child(alloc, name)?;
+                self.node.child_mut(name).extend(alloc, rest)
+            }
+        }
+    }
+
+    /// The node at a path. Where the tree lacks it, it is made with a default value, and so are the nodes on the way.
+    /// Refused for want of memory, every value is kept, and new nodes may stand on the way.
+    pub fn add(
+        &mut self,
+        alloc: Global,
+        path: RepoPath<'_>,
+    ) -> Result<&mut RepoPathNode<V>, AllocError>
+    where
+        V: Default + Drop,
+        ensures* writes_back { sem 𝓛 (LendsSoOk (the_row V.row) (node.the_row V.row) self.entry result (λ new changed. IfOk result (λ node. IsEdited V.is_default self.old (path_of path.entry) node.now changed new)) (λ new. IsExtended V.is_default self.old (path_of path.entry) new)) }
+        ensures value { IfOk result (λ node. (t : Tree V) × IsExtended V.is_default self.old (path_of path.entry) t × (get t (path_of path.entry) ≡ Some node.now)) }
+    {
+        self.extend(alloc, path)?;
+        Ok(self.node_mut(path))
+    }
+
+    /// Sets the value at a path, with the nodes that `add` makes. Refused, it leaves what `add` leaves.
+    pub fn set(&mut self, alloc: Global, path: RepoPath<'_>, value: V) -> Result<(), AllocError>
+    where
+        V: Default + Drop,
+        ensures { MatchResult result (λ done. (t : Tree V) × IsExtended V.is_default self.old (path_of path.entry) t × (self.new ≡ put_value t (path_of path.entry) value)) (λ e. IsExtended V.is_default self.old (path_of path.entry) self.new) }
+    {
+        *self.add(alloc, path)?.value_mut() = value;
+        Ok(())
+    }
+}
+
+/// The children of a node that have not been given yet, by name.
+#[derive(Drop)]
+pub struct RepoPathTreeChildren<'a, V> {
+    entries: &'a [(RepoPathComponentBuf, RepoPathTree<V>)],
+}
+
+impl<'a, V> Iterator for RepoPathTreeChildren<'a, V> {
+    type Item = (RepoPathComponent<'a>, &'a RepoPathTree<V>);
+
+    ghost next_gives = { YieldsFirstBy (λ child. (name_of child.0, child.1.now)) (λ left. left.entries.now) };
+
+    ghost remaining = { item_count (λ left. left.entries.now) };
+
+    fn next(&mut self) -> Option<(RepoPathComponent<'a>, &'a RepoPathTree<V>)> {
+        let (first, others) = self.entries.split_first()?;
+        self.entries = others;
+        Some((first.0.as_component(), &first.1))
+    }
+}
+
+// the second part of a pair, to write to
+fn second<A, B>(pair: &mut (A, B)) -> &mut B
+    ensures* writes_back { sem 𝓛 (Lends (Tuple (A.row ∷ B.row ∷ [])) B.row pair.entry result (λ w. (pair.old.0, w))) }
+    ensures value { result.now ≡ pair.old.1 }
+{
+    &mut pair.1
+}
+
+// where the branch with that name is, or would go
+fn place<V>(
+    entries: &[(RepoPathComponentBuf, RepoPathTree<V>)],
+    name: RepoPathComponent<'_>,
+) -> Result<usize, usize>
+    requires { IsTrue (is_sorted name_cmp entries.now) }
+    ensures found { IfOk result (λ at. IsAt entries.now (name_of name.entry) at) }
+    ensures absent { IfErr result (λ at. IsGapFor entries.now (name_of name.entry) at) }
+{
+    entries.binary_search_by(
+        move |entry| -> Ordering
+            ensures { result ≡ name_cmp entry.now.0 (name_of name.entry) }
+        { entry.0.as_component().cmp(name) },
+    )
+}
