@@ -1,8 +1,9 @@
 -- A tree of values at paths: each node has a value, and branches with names to further nodes.
-use Rattle.std.specs.Prelude.{◌≡◌, ◌≢◌, IsSome, Bool, true, false, ℕ, zero, suc, ◌+◌, ◌*◌, ◌≤◌, ◌<◌, length, slice_index_or, if◌then◌else◌, List, [], ◌∷◌, ◌++◌, Option, None, Some, refl, max}
+use Rattle.std.specs.Prelude.{◌≡◌, ◌≢◌, IsSome, Bool, true, false, ◌&&◌, ℕ, zero, suc, ◌+◌, ◌*◌, ◌≤◌, ◌<◌, length, slice_index_or, if◌then◌else◌, List, [], ◌∷◌, ◌++◌, Option, None, Some, refl, max}
 use Rattle.std.specs.declared.cmp.Ordering.TheVariants.{Less, Greater}
 use Rattle.std.specs.Str.{bytes_eq}
 use Rattle.std.specs.Option.{option_and_then, option_map}
+use Rattle.std.specs.FinMap.Entries.{below_all}
 use Rattle.std.specs.Coded.{Coded, code_by, coded×, coded_ℕ, coded_list, coded_option}
 use Rattle.std.proofs.Common.{ap, ◌∙◌, append_assoc, append-nil, sym, arith}
 use denote.Param.Weighed.{most}
@@ -35,6 +36,11 @@ module _ {V : Type 0} where
   abbrev pub has_branches : Branches V → Bool
   has_branches none = false
   has_branches (branch name value below after) = true
+
+  -- the names ascend at every node
+  abbrev pub is_ordered : Branches V → Bool
+  is_ordered none = true
+  is_ordered (branch name value below after) = below_all name_cmp name (children after) && (is_ordered below && is_ordered after)
 
   -- the node of the first branch with that name
   abbrev pub child : Branches V → Name → Option (Tree V)
@@ -74,15 +80,18 @@ module _ {V : Type 0} where
     pub others : (n : Name) → n ≢ name → child node.1 n ≡ child old.1 n
     pub keeps : (sub : Tree V) → child old.1 name ≡ Some sub → child node.1 name ≡ Some sub
     pub makes : (sub : Tree V) → child old.1 name ≡ None → child node.1 name ≡ Some sub → is_new sub.0 × (sub.1 ≡ none)
+    pub ordered : is_ordered old.1 ≡ true → is_ordered node.1 ≡ true
 
   -- the value at a path
   abbrev pub value_at : Tree V → Path → Option V
   value_at tree path = option_map (λ node. node.0) (get tree path)
 
-  -- a tree keeps the values of another, and has at most new ones on the fronts of a path, which the test passes
+  -- a tree keeps the values of another, and has at most new ones on the fronts of a path, which the test passes; names
+  -- that ascended at every node still do
   pub record IsExtended (is_new : V → Type 0) (old : Tree V) (path : Path) (tree : Tree V) : Type 0 where
     pub keeps : (q : Path) (value : V) → value_at old q ≡ Some value → value_at tree q ≡ Some value
     pub makes : (q : Path) (value : V) → value_at old q ≡ None → value_at tree q ≡ Some value → is_new value × ((rest : Path) × (path ≡ q ++ rest))
+    pub ordered : is_ordered old.1 ≡ true → is_ordered tree.1 ≡ true
 
   -- the node at the path of a tree that was extended becomes another, and so the old tree becomes the new one
   pub record IsEdited (is_new : V → Type 0) (old : Tree V) (path : Path) (node changed new : Tree V) : Type 0 where
