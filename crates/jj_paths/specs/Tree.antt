@@ -100,6 +100,13 @@ module _ {V : Type 0} where
     pub at_path : get tree path ≡ Some node
     pub is_put : new ≡ put tree path changed
 
+  -- the value at the path of a tree that was extended becomes another, and so the old tree becomes the new one
+  pub record IsSet (is_new : V → Type 0) (old : Tree V) (path : Path) (value : V) (new : Tree V) : Type 0 where
+    pub tree : Tree V
+    pub extended : IsExtended is_new old path tree
+    pub at_path : IsSome (get tree path)
+    pub is_put : new ≡ put_value tree path value
+
   -- the branch at place i has the name
   pub record IsAt (entries : List (Name × Tree V)) (name : Name) (i : ℕ) : Type 0 where
     pub in_range : i < length entries

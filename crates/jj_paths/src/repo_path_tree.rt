@@ -8,7 +8,7 @@ ghost use Rattle.jj_paths.specs.Paths.{Name, Path, name_cmp, rest_of};
 ghost use Rattle.jj_paths.specs.Names.{name_of, path_of};
 ghost use Rattle.std.specs.FinMap.{is_sorted};
 ghost use Rattle.std.specs.Iterator.{YieldsFirstBy, item_count};
-ghost use Rattle.jj_paths.specs.Tree.{Tree, none, children, child, get, has_branches, put, put_value, update_child, put_below, IsExtended, IsEdited, IsGrown, IsAt, IsGapFor};
+ghost use Rattle.jj_paths.specs.Tree.{Tree, none, children, child, get, has_branches, put, put_value, update_child, put_below, IsExtended, IsEdited, IsSet, IsGrown, IsAt, IsGapFor};
 
 use crate::repo_path::{RepoPath, RepoPathComponent, RepoPathComponentBuf};
 use std::alloc::{AllocError, Global};
@@ -338,7 +338,7 @@ impl<V> RepoPathTree<V> {
     pub fn set(&mut self, alloc: Global, path: RepoPath<'_>, value: V) -> Result<(), AllocError>
     where
         V: Default + Drop,
-        ensures { MatchResult result (λ done. (t : Tree V) × IsExtended V.is_default self.old (path_of path.entry) t × (self.new ≡ put_value t (path_of path.entry) value)) (λ e. IsExtended V.is_default self.old (path_of path.entry) self.new) }
+        ensures { MatchResult result (λ done. IsSet V.is_default self.old (path_of path.entry) value self.new) (λ e. IsExtended V.is_default self.old (path_of path.entry) self.new) }
     {
         *self.add(alloc, path)?.value_mut() = value;
         Ok(())
