@@ -8,8 +8,8 @@ use Rattle.std.specs.Str.{bytes_eq}
 use Rattle.std.specs.FinMap.Entries.{below_all}
 use Rattle.std.specs.Cmp.Lexicographic.{nat_list_cmp_total}
 use Rattle.std.proofs.lemmas.Bool.{and_parts}
-use Rattle.jj_paths.specs.Paths.{Name, name_cmp}
-use Rattle.jj_paths.specs.Tree.{Tree, Branches, none, branch, branches_of, children, child, update_child, is_ordered, IsGapFor}
+use Rattle.jj_paths.specs.Paths.{Name, Path, name_cmp}
+use Rattle.jj_paths.specs.Tree.{Tree, Branches, none, branch, branches_of, children, child, update_child, put_value, is_ordered, IsGapFor}
 use Rattle.jj_paths.proofs.Trees.{children-branches_of}
 
 pub both_true : (a b : Bool) → a ≡ true → b ≡ true → a && b ≡ true
@@ -88,3 +88,9 @@ module _ {V : Type 0} where
           let parts = and_parts (below_all name_cmp n (children after)) _ up in
           let rest = and_parts (is_ordered below) _ parts.1 in
           rw is (both_true _ _ (below_all-update_child n after name f ∙ parts.0) (both_true _ _ rest.0 (later rest.1 (λ sub e. h sub (rw is e)))))
+
+  -- another value at a path keeps every name
+  pub is_ordered-put_value : (t : Tree V) (path : Path) (v : V) → is_ordered t.1 ≡ true → is_ordered (put_value t path v).1 ≡ true
+  is_ordered-put_value t [] v up = up
+  is_ordered-put_value t (name ∷ rest) v up =
+      is_ordered-update_child t.1 name (λ sub. put_value sub rest v) up (λ sub e. is_ordered-put_value sub rest v (is_ordered-child t.1 name sub up e))

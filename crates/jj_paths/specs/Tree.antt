@@ -93,19 +93,23 @@ module _ {V : Type 0} where
     pub makes : (q : Path) (value : V) → value_at old q ≡ None → value_at tree q ≡ Some value → is_new value × ((rest : Path) × (path ≡ q ++ rest))
     pub ordered : is_ordered old.1 ≡ true → is_ordered tree.1 ≡ true
 
-  -- the node at the path of a tree that was extended becomes another, and so the old tree becomes the new one
+  -- the node at the path of a tree that was extended becomes another, and so the old tree becomes the new one:
+  -- what is at or below the path is the other node's, and every other value is as it was
   pub record IsEdited (is_new : V → Type 0) (old : Tree V) (path : Path) (node changed new : Tree V) : Type 0 where
     pub tree : Tree V
     pub extended : IsExtended is_new old path tree
     pub at_path : get tree path ≡ Some node
     pub is_put : new ≡ put tree path changed
+    pub within : (rest : Path) → get new (path ++ rest) ≡ get changed rest
+    pub others : (q : Path) → ((rest : Path) → q ≢ path ++ rest) → value_at new q ≡ value_at tree q
 
-  -- the value at the path of a tree that was extended becomes another, and so the old tree becomes the new one
+  -- the value at the path is the given one, every other value is kept, and further values are at most new ones on the
+  -- fronts of the path, which the test passes; names that ascended at every node still do
   pub record IsSet (is_new : V → Type 0) (old : Tree V) (path : Path) (value : V) (new : Tree V) : Type 0 where
-    pub tree : Tree V
-    pub extended : IsExtended is_new old path tree
-    pub at_path : IsSome (get tree path)
-    pub is_put : new ≡ put_value tree path value
+    pub here : value_at new path ≡ Some value
+    pub keeps : (q : Path) (v : V) → q ≢ path → value_at old q ≡ Some v → value_at new q ≡ Some v
+    pub makes : (q : Path) (v : V) → q ≢ path → value_at old q ≡ None → value_at new q ≡ Some v → is_new v × ((rest : Path) × (path ≡ q ++ rest))
+    pub ordered : is_ordered old.1 ≡ true → is_ordered new.1 ≡ true
 
   -- the branch at place i has the name
   pub record IsAt (entries : List (Name × Tree V)) (name : Name) (i : ℕ) : Type 0 where

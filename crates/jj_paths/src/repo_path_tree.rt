@@ -338,7 +338,8 @@ impl<V> RepoPathTree<V> {
     pub fn set(&mut self, alloc: Global, path: RepoPath<'_>, value: V) -> Result<(), AllocError>
     where
         V: Default + Drop,
-        ensures { MatchResult result (λ done. IsSet V.is_default self.old (path_of path.entry) value self.new) (λ e. IsExtended V.is_default self.old (path_of path.entry) self.new) }
+        ensures as_map { IfOk result (λ done. IsSet V.is_default self.old (path_of path.entry) value self.new) }
+        ensures edited { MatchResult result (λ done. (t : Tree V) × IsExtended V.is_default self.old (path_of path.entry) t × (self.new ≡ put_value t (path_of path.entry) value)) (λ e. IsExtended V.is_default self.old (path_of path.entry) self.new) }
     {
         *self.add(alloc, path)?.value_mut() = value;
         Ok(())

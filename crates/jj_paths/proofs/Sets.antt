@@ -1,0 +1,100 @@
+-- What a tree holds once the node, or the value, at a path is another.
+use Rattle.std.proofs.Common.{◌≡◌, ◌≢◌, Option, Some, None, ◌∙◌, Bool, true, false, List, [], ◌∷◌, ◌++◌, refl, ap, sym, subst}
+use mathlib.Core.Bool.{false≢true}
+use Rattle.std.specs.Str.{bytes_eq}
+use Rattle.std.specs.Option.{option_and_then, option_map}
+use Rattle.std.proofs.lemmas.Slice.Eq.{bytes_eq-Decides}
+use Rattle.jj_paths.specs.Paths.{Name, Path}
+use Rattle.jj_paths.specs.Tree.{Tree, update_child, put, put_value, get, value_at, child, IsExtended, IsEdited, IsSet, is_ordered}
+use Rattle.jj_paths.proofs.Grown.{differs, some_none, some_same, child-update_same, child-update_other}
+use Rattle.jj_paths.proofs.Ordered.{is_ordered-put_value}
+
+module _ {V : Type 0} where
+  abbrev below : Option (Tree V) → Path → Option (Tree V)
+  below o r = option_and_then (λ s. get s r) o
+
+  abbrev value_below : Option (Tree V) → Path → Option V
+  value_below o r = option_map (λ node. node.0) (below o r)
+
+  -- the child that a path with a node leads through
+  record Through (t : Tree V) (name : Name) (rest : Path) (n : Tree V) : Type 0 where
+    sub : Tree V
+    is_child : child t.1 name ≡ Some sub
+    is_below : get sub rest ≡ Some n
+
+  through : (t : Tree V) (name : Name) (rest : Path) (n : Tree V) → get t (name ∷ rest) ≡ Some n → Through t name rest n
+  through t name rest n e = known (child t.1 name) refl e
+    where
+      known : (o : Option (Tree V)) → child t.1 name ≡ o → below o rest ≡ Some n → Through t name rest n
+      known None is f = absurd (some_none f)
+      known (Some s) is f = record { sub = s; is_child = is; is_below = f }
+
+  -- at or below the path the tree is what was put there
+  pub get-put-within : (t : Tree V) (path rest : Path) (n w : Tree V) → get t path ≡ Some n → get (put t path w) (path ++ rest) ≡ get w rest
+  get-put-within t [] rest n w e = refl
+  get-put-within t (name ∷ p) rest n w e =
+      let way = through t name p n e in
+      ap (λ o. below o (p ++ rest)) (child-update_same t.1 name (λ s. put s p w) way.sub way.is_child) ∙ get-put-within way.sub p rest n w way.is_below
+
+  -- and elsewhere its values are as they were
+  pub value_at-put-others : (t : Tree V) (path q : Path) (n w : Tree V) → get t path ≡ Some n → ((rest : Path) → q ≢ path ++ rest) → value_at (put t path w) q ≡ value_at t q
+  value_at-put-others t [] q n w e off = absurd (off q refl)
+  value_at-put-others t (name ∷ p) [] n w e off = refl
+  value_at-put-others t (name ∷ p) (m ∷ r) n w e off = by_name (λ s h o. value_at-put-others s p r n w h o) (bytes_eq m name) refl
+    where
+      by_name : ((s : Tree V) → get s p ≡ Some n → ((rest : Path) → r ≢ p ++ rest) → value_at (put s p w) r ≡ value_at s r) → (b : Bool) → bytes_eq m name ≡ b → value_below (child (update_child t.1 name (λ s. put s p w)) m) r ≡ value_below (child t.1 m) r
+      by_name later true same =
+          let way = through t name p n e in
+          let eq : m ≡ name = (bytes_eq-Decides m name).0 same in
+          ap (λ k. value_below (child (update_child t.1 name (λ s. put s p w)) k) r) eq
+          ∙ ap (λ o. value_below o r) (child-update_same t.1 name (λ s. put s p w) way.sub way.is_child)
+          ∙ later way.sub way.is_below (λ rest is. off rest (ap (λ k. k ∷ r) eq ∙ ap (λ l. name ∷ l) is))
+          ∙ ap (λ o. value_below o r) (sym way.is_child)
+          ∙ ap (λ k. value_below (child t.1 k) r) (sym eq)
+      by_name later false other =
+          ap (λ o. value_below o r) (child-update_other t.1 name m (λ s. put s p w) (λ eq. false≢true (sym other ∙ (bytes_eq-Decides m name).1 eq)))
+
+  -- another value at a path changes that value alone
+  pub value_at-put_value : (t : Tree V) (path : Path) (n : Tree V) (v : V) → get t path ≡ Some n → value_at (put_value t path v) path ≡ Some v
+  value_at-put_value t [] n v e = refl
+  value_at-put_value t (name ∷ p) n v e =
+      let way = through t name p n e in
+      ap (λ o. value_below o p) (child-update_same t.1 name (λ s. put_value s p v) way.sub way.is_child) ∙ value_at-put_value way.sub p n v way.is_below
+
+  pub value_at-put_value-others : (t : Tree V) (path q : Path) (n : Tree V) (v : V) → get t path ≡ Some n → q ≢ path → value_at (put_value t path v) q ≡ value_at t q
+  value_at-put_value-others t [] [] n v e off = absurd (off refl)
+  value_at-put_value-others t [] (m ∷ r) n v e off = refl
+  value_at-put_value-others t (name ∷ p) [] n v e off = refl
+  value_at-put_value-others t (name ∷ p) (m ∷ r) n v e off = by_name (λ s h o. value_at-put_value-others s p r n v h o) (bytes_eq m name) refl
+    where
+      by_name : ((s : Tree V) → get s p ≡ Some n → r ≢ p → value_at (put_value s p v) r ≡ value_at s r) → (b : Bool) → bytes_eq m name ≡ b → value_below (child (update_child t.1 name (λ s. put_value s p v)) m) r ≡ value_below (child t.1 m) r
+      by_name later true same =
+          let way = through t name p n e in
+          let eq : m ≡ name = (bytes_eq-Decides m name).0 same in
+          ap (λ k. value_below (child (update_child t.1 name (λ s. put_value s p v)) k) r) eq
+          ∙ ap (λ o. value_below o r) (child-update_same t.1 name (λ s. put_value s p v) way.sub way.is_child)
+          ∙ later way.sub way.is_below (λ is. off (ap (λ k. k ∷ r) eq ∙ ap (λ l. name ∷ l) is))
+          ∙ ap (λ o. value_below o r) (sym way.is_child)
+          ∙ ap (λ k. value_below (child t.1 k) r) (sym eq)
+      by_name later false other =
+          ap (λ o. value_below o r) (child-update_other t.1 name m (λ s. put_value s p v) (λ eq. false≢true (sym other ∙ (bytes_eq-Decides m name).1 eq)))
+
+  -- a node is put into a tree that was extended
+  pub edited : (is_new : V → Type 0) (old tree : Tree V) (path : Path) (node changed : Tree V) → IsExtended is_new old path tree → get tree path ≡ Some node → IsEdited is_new old path node changed (put tree path changed)
+  edited is_new old tree path node changed extended at = record {
+      tree = tree;
+      extended = extended;
+      at_path = at;
+      is_put = refl;
+      within = λ rest. get-put-within tree path rest node changed at;
+      others = λ q off. value_at-put-others tree path q node changed at off;
+    }
+
+  -- a value is set in a tree that was extended
+  pub set-as_map : (is_new : V → Type 0) (old tree : Tree V) (path : Path) (node new : Tree V) (v : V) → IsExtended is_new old path tree → get tree path ≡ Some node → new ≡ put_value tree path v → IsSet is_new old path v new
+  set-as_map is_new old tree path node new v extended at is = record {
+      here = ap (λ t. value_at t path) is ∙ value_at-put_value tree path node v at;
+      keeps = λ q w off e. ap (λ t. value_at t q) is ∙ value_at-put_value-others tree path q node v at off ∙ extended.keeps q w e;
+      makes = λ q w off e f. extended.makes q w e (sym (ap (λ t. value_at t q) is ∙ value_at-put_value-others tree path q node v at off) ∙ f);
+      ordered = λ up. ap (λ t. is_ordered t.1) is ∙ is_ordered-put_value tree path v (extended.ordered up);
+    }
