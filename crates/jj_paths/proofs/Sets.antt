@@ -1,12 +1,12 @@
 -- What a tree holds once the node, or the value, at a path is another.
-use Rattle.std.proofs.Common.{◌≡◌, ◌≢◌, Option, Some, None, ◌∙◌, Bool, true, false, List, [], ◌∷◌, ◌++◌, refl, ap, sym, subst}
+use Rattle.std.proofs.Common.{◌≡◌, ◌≢◌, Option, Some, None, ◌∙◌, Bool, true, false, [], ◌∷◌, ◌++◌, refl, ap, sym}
 use mathlib.Core.Bool.{false≢true}
 use Rattle.std.specs.Str.{bytes_eq}
 use Rattle.std.specs.Option.{option_and_then, option_map}
 use Rattle.std.proofs.lemmas.Slice.Eq.{bytes_eq-Decides}
 use Rattle.jj_paths.specs.Paths.{Name, Path}
 use Rattle.jj_paths.specs.Tree.{Tree, update_child, put, put_value, get, value_at, child, IsExtended, IsEdited, IsSet, is_ordered}
-use Rattle.jj_paths.proofs.Grown.{differs, some_none, some_same, child-update_same, child-update_other}
+use Rattle.jj_paths.proofs.Grown.{some_none, child-update_same, child-update_other}
 use Rattle.jj_paths.proofs.Ordered.{is_ordered-put_value}
 
 module _ {V : Type 0} where
@@ -82,19 +82,19 @@ module _ {V : Type 0} where
   -- a node is put into a tree that was extended
   pub edited : (is_new : V → Type 0) (old tree : Tree V) (path : Path) (node changed : Tree V) → IsExtended is_new old path tree → get tree path ≡ Some node → IsEdited is_new old path node changed (put tree path changed)
   edited is_new old tree path node changed extended at = record {
-      tree = tree;
-      extended = extended;
-      at_path = at;
-      is_put = refl;
-      within = λ rest. get-put-within tree path rest node changed at;
-      others = λ q off. value_at-put-others tree path q node changed at off;
-    }
+    tree = tree;
+    extended = extended;
+    at_path = at;
+    is_put = refl;
+    within = λ rest. get-put-within tree path rest node changed at;
+    others = λ q off. value_at-put-others tree path q node changed at off;
+  }
 
   -- a value is set in a tree that was extended
   pub set-as_map : (is_new : V → Type 0) (old tree : Tree V) (path : Path) (node new : Tree V) (v : V) → IsExtended is_new old path tree → get tree path ≡ Some node → new ≡ put_value tree path v → IsSet is_new old path v new
   set-as_map is_new old tree path node new v extended at is = record {
-      here = ap (λ t. value_at t path) is ∙ value_at-put_value tree path node v at;
-      keeps = λ q w off e. ap (λ t. value_at t q) is ∙ value_at-put_value-others tree path q node v at off ∙ extended.keeps q w e;
-      makes = λ q w off e f. extended.makes q w e (sym (ap (λ t. value_at t q) is ∙ value_at-put_value-others tree path q node v at off) ∙ f);
-      ordered = λ up. ap (λ t. is_ordered t.1) is ∙ is_ordered-put_value tree path v (extended.ordered up);
-    }
+    here = ap (λ t. value_at t path) is ∙ value_at-put_value tree path node v at;
+    keeps = λ q w off e. ap (λ t. value_at t q) is ∙ value_at-put_value-others tree path q node v at off ∙ extended.keeps q w e;
+    makes = λ q w off e f. extended.makes q w e (sym (ap (λ t. value_at t q) is ∙ value_at-put_value-others tree path q node v at off) ∙ f);
+    ordered = λ up. ap (λ t. is_ordered t.1) is ∙ is_ordered-put_value tree path v (extended.ordered up);
+  }

@@ -1,5 +1,5 @@
 -- A tree of values at paths: each node has a value, and branches with names to further nodes.
-use Rattle.std.specs.Prelude.{◌≡◌, ◌≢◌, IsSome, Bool, true, false, ◌&&◌, ℕ, zero, suc, ◌+◌, ◌*◌, ◌≤◌, ◌<◌, length, slice_index_or, if◌then◌else◌, List, [], ◌∷◌, ◌++◌, Option, None, Some, refl, max}
+use Rattle.std.specs.Prelude.{◌≡◌, ◌≢◌, IsSome, Bool, true, false, ◌&&◌, ℕ, ◌+◌, ◌*◌, ◌≤◌, ◌<◌, length, slice_index_or, if◌then◌else◌, List, [], ◌∷◌, ◌++◌, Option, None, Some, refl, max}
 use Rattle.std.specs.declared.cmp.Ordering.TheVariants.{Less, Greater}
 use Rattle.std.specs.Str.{bytes_eq}
 use Rattle.std.specs.Option.{option_and_then, option_map}
@@ -51,6 +51,23 @@ module _ {V : Type 0} where
   abbrev pub get : Tree V → Path → Option (Tree V)
   get tree [] = Some tree
   get tree (name ∷ rest) = option_and_then (λ sub. get sub rest) (child tree.1 name)
+
+  -- the nodes on the way to a path, as far as they go, each with what of the path is below it: all, and those below a node
+  abbrev pub nodes_on : Tree V → Path → List (Tree V × Path)
+  nodes_on tree [] = (tree, []) ∷ []
+  nodes_on tree (name ∷ rest) = (tree, name ∷ rest) ∷ elim (child tree.1 name) [ None ↦ [] | Some sub ↦ nodes_on sub rest ]
+
+  abbrev pub nodes_from : Option (Tree V × Path) → List (Tree V × Path)
+  nodes_from None = []
+  nodes_from (Some step) = nodes_on step.0 step.1
+
+  abbrev pub nodes_below : Tree V → Path → List (Tree V × Path)
+  nodes_below tree [] = []
+  nodes_below tree (name ∷ rest) = nodes_from (option_map (λ sub. (sub, rest)) (child tree.1 name))
+
+  -- a node with what of the path is below it: the path leads to the node by what is above it
+  abbrev pub IsPartOf : Tree V → Path → Tree V × Path → Type 0
+  IsPartOf tree path step = (front : Path) × (path ≡ front ++ step.1) × (get tree front ≡ Some step.0)
 
   -- the branches with the first node of that name changed
   abbrev pub update_child : Branches V → Name → (Tree V → Tree V) → Branches V

@@ -1,19 +1,15 @@
 //! Paths in a repository: components, and paths of components joined by slashes.
-ghost use Rattle.jj_paths.specs.Paths.{rest_of};
-ghost use Rattle.std.specs.Prelude.{◌≡◌, ◌↔◌, ℕ, List, [], ◌∷◌, ◌++◌, IsTrue, IfOk, IfErr, IsOk, OnOk, OnErr, MatchResult, MatchOption, string_bytes};
-ghost use Rattle.jj_paths.specs.Paths.{Name, Path, is_name, is_path_text, components, path_text, name_cmp};
-ghost use Rattle.std.specs.Str.{bytes_eq};
-ghost use Rattle.std.specs.Cmp;
-ghost use Rattle.std.specs.Cmp.Lexicographic.{nat_list_eq_equiv, nat_list_cmp_total, texts_po, texts_ties};
-ghost use Rattle.std.specs.Prelude.{Some, refl};
-ghost use Rattle.std.specs.Cmp.Rules.{hashing};
-ghost use Rattle.std.specs.Hash as fed;
-ghost use Rattle.std.proofs.Common.{rules};
+ghost use Rattle.std.specs.Prelude.{◌≡◌, ◌≢◌, ◌↔◌, ℕ, Bool, false, List, [], ◌∷◌, ◌++◌, IsTrue, IfOk, IfErr, IsOk, OnOk, OnErr, MatchResult, MatchOption, string_bytes};
+ghost use Rattle.jj_paths.specs.Paths.{Name, Path, is_name, is_path_text, components, path_text, rest_of};
 
+mod iter;
+mod orders;
+mod shown;
+
+pub use iter::{RepoPathAncestors, RepoPathComponentsIter};
 use std::alloc::{AllocError, Global};
-use std::cmp::Ordering;
-use std::hash::{Hash, Hasher};
 use std::marker::Model;
+use thiserror::Error;
 
 /// One name of a path, borrowed: a text that is not empty and has no slash.
 #[derive(Clone, Copy)]
@@ -59,7 +55,29 @@ impl Model for RepoPathBuf {
 
 impl RepoPathComponentBuf {
     ghost use Rattle.jj_paths.specs.Names.{name_of};
+    ghost use Rattle.jj_paths.specs.Refusals.{IsRefusal};
 
+    /// A name of this text. A text that is empty or has a slash is `Invalid`, and is handed back.
+    pub fn new(value: String) -> Result<RepoPathComponentBuf, InvalidNewRepoPathError>
+        ensures ok { IfOk result (λ name. name ≡ string_bytes value) }
+        ensures valid { IsTrue (is_name (string_bytes value)) → IsOk result }
+        ensures refused { IfErr result (IsRefusal (is_name (string_bytes value)) (string_bytes value)) }
+    {
+        if is_valid_repo_path_component_str(value.as_str()) {
+            Ok(RepoPathComponentBuf { value })
+        } else {
+            Err(InvalidNewRepoPathError::Invalid { value })
+        }
+    }
+
+    /// The name's text.
+    pub fn as_internal_str(&self) -> &str
+        ensures { result.now ≡ self.now }
+    {
+        self.value.as_str()
+    }
+
+    /// The name, borrowed.
     pub fn as_component(&self) -> RepoPathComponent<'_>
         ensures { name_of result ≡ self.now }
     {
@@ -71,20 +89,32 @@ impl RepoPathComponentBuf {
 
 impl<'a> RepoPathComponent<'a> {
     ghost use Rattle.jj_paths.specs.Names.{name_of};
+    ghost use Rattle.jj_paths.specs.Refusals.{IsCopiedRefusal};
 
-    /// Names are ordered by their bytes.
-    pub fn cmp(self, other: RepoPathComponent<'_>) -> Ordering
-        ensures { result ≡ name_cmp (name_of self.entry) (name_of other.entry) }
+    /// A name of this text. A text that is empty or has a slash is `Invalid`.
+    pub fn new(
+        alloc: Global,
+        value: &'a str,
+    ) -> Result<RepoPathComponent<'a>, InvalidNewRepoPathError>
+        ensures ok { IfOk result (λ name. name_of name ≡ value.now) }
+        ensures valid { IsTrue (is_name value.now) → IsOk result }
+        ensures refused { IfErr result (IsCopiedRefusal (is_name value.now) value.now) }
     {
-        self.value.cmp(other.value)
+        if is_valid_repo_path_component_str(value) {
+            Ok(RepoPathComponent { value })
+        } else {
+            Err(InvalidNewRepoPathError::of_text(alloc, value))
+        }
     }
 
+    /// The name's text.
     pub fn as_internal_str(self) -> &'a str
         ensures { result.now ≡ name_of self.entry }
     {
         self.value
     }
 
+    /// A copy of the name.
     pub fn to_owned(self, alloc: Global) -> Result<RepoPathComponentBuf, AllocError>
         ensures { IfOk result (λ owned. owned ≡ name_of self.entry) }
     {
@@ -96,19 +126,53 @@ impl<'a> RepoPathComponent<'a> {
 
 impl<'a> RepoPath<'a> {
     ghost use Rattle.jj_paths.specs.Names.{name_of, path_of};
+    ghost use Rattle.jj_paths.specs.Iterators.{components_left, ancestors_left};
+    ghost use Rattle.jj_paths.specs.Paths.{fronts, IsBelow, dir_text, after_common};
+    ghost use Rattle.jj_paths.specs.Refusals.{IsCopiedRefusal};
 
+    /// The path of no names.
     pub fn root() -> RepoPath<'static>
         ensures { path_of result ≡ [] }
     {
         RepoPath { value: "" }
     }
 
+    /// A path of this text: the empty text, or names joined by slashes. Any other text is `Invalid`.
+    pub fn from_internal_string(
+        alloc: Global,
+        value: &'a str,
+    ) -> Result<RepoPath<'a>, InvalidNewRepoPathError>
+        ensures ok { IfOk result (λ path. path_of path ≡ components value.now) }
+        ensures valid { IsTrue (is_path_text value.now) → IsOk result }
+        ensures refused { IfErr result (IsCopiedRefusal (is_path_text value.now) value.now) }
+    {
+        if is_valid_repo_path_str(value) {
+            Ok(RepoPath { value })
+        } else {
+            Err(InvalidNewRepoPathError::of_text(alloc, value))
+        }
+    }
+
+    /// The text of the path as a directory's: with a slash at its end, except at the root.
+    pub fn to_internal_dir_string(self, alloc: Global) -> Result<String, AllocError>
+        ensures { IfOk result (λ text. string_bytes text ≡ dir_text (path_of self.entry)) }
+    {
+        if self.value.is_empty() {
+            return Ok(String::new(alloc));
+        }
+        let mut text = copy_with_room(alloc, self.value, 1)?;
+        text.push('/')?;
+        Ok(text)
+    }
+
+    /// The path's text: its names joined by slashes.
     pub fn as_internal_file_string(self) -> &'a str
         ensures { result.now ≡ path_text (path_of self.entry) }
     {
         self.value
     }
 
+    /// Whether the path has no names.
     pub fn is_root(self) -> bool
         ensures { IsTrue result ↔ (path_of self.entry ≡ []) }
     {
@@ -119,7 +183,7 @@ impl<'a> RepoPath<'a> {
     pub fn join(self, alloc: Global, name: RepoPathComponent<'_>) -> Result<RepoPathBuf, AllocError>
         ensures { IfOk result (λ joined. joined ≡ path_of self.entry ++ name_of name.entry ∷ []) }
     {
-        let mut value = String::from_str(alloc, self.value)?;
+        let mut value = copy_with_room(alloc, self.value, name.value.len().saturating_add(1))?;
         if !self.value.is_empty() {
             value.push('/')?;
         }
@@ -146,6 +210,118 @@ impl<'a> RepoPath<'a> {
         }
     }
 
+    /// Whether the path is the base, or stands below it.
+    pub fn starts_with(self, base: RepoPath<'_>) -> bool
+        ensures { IsTrue result ↔ IsBelow (path_of self.entry) (path_of base.entry) }
+    {
+        self.strip_prefix(base).is_some()
+    }
+
+    /// The path from a base on, where it is the base or stands below it.
+    pub fn strip_prefix(self, base: RepoPath<'_>) -> Option<RepoPath<'a>>
+        ensures { MatchOption result ((rest : Path) → path_of self.entry ≢ path_of base.entry ++ rest) (λ rest. path_of self.entry ≡ path_of base.entry ++ path_of rest) }
+    {
+        if base.value.is_empty() {
+            return Some(self);
+        }
+        let tail = self.value.strip_prefix(base.value)?;
+        if tail.is_empty() {
+            return Some(RepoPath { value: tail });
+        }
+        match tail.strip_prefix('/') {
+            None => None,
+            Some(value) => Some(RepoPath { value }),
+        }
+    }
+
+    /// The path above the last name, and that name.
+    pub fn split(self) -> Option<(RepoPath<'a>, RepoPathComponent<'a>)>
+        ensures { MatchOption result (path_of self.entry ≡ []) (λ pair. path_of self.entry ≡ path_of pair.0 ++ name_of pair.1 ∷ []) }
+    {
+        if self.value.is_empty() {
+            return None;
+        }
+        match self.value.rsplit_once('/') {
+            None => Some((
+                RepoPath { value: "" },
+                RepoPathComponent { value: self.value },
+            )),
+            Some((above, name)) => Some((
+                RepoPath { value: above },
+                RepoPathComponent { value: name },
+            )),
+        }
+    }
+
+    /// The path above the last name.
+    pub fn parent(self) -> Option<RepoPath<'a>>
+        ensures { MatchOption result (path_of self.entry ≡ []) (λ above. (name : Name) × (path_of self.entry ≡ path_of above ++ name ∷ [])) }
+    {
+        match self.split() {
+            None => None,
+            Some((above, _name)) => Some(above),
+        }
+    }
+
+    /// The longest path that this one and the other begin with, and what comes after it in this one.
+    pub fn split_common_prefix(self, other: RepoPath<'_>) -> (RepoPath<'a>, RepoPath<'a>)
+        ensures whole { path_of self.entry ≡ path_of result.0 ++ path_of result.1 }
+        ensures common { IsBelow (path_of other.entry) (path_of result.0) }
+        ensures longest { (front : Path) → IsBelow (path_of self.entry) front → IsBelow (path_of other.entry) front → IsBelow (path_of result.0) front }
+    {
+        let rest = self.after_common(other);
+        (self.before(rest), rest)
+    }
+
+    // what comes after the longest path that both begin with
+    fn after_common(self, other: RepoPath<'_>) -> RepoPath<'a>
+        ensures { path_of result ≡ after_common (path_of self.entry) (path_of other.entry) }
+    {
+        let mut rest = self;
+        let mut theirs = other;
+        while let Some((name, below)) = rest.split_first() {
+            match theirs.split_first() {
+                Some((their_name, their_below)) if name == their_name => {
+                    rest = below;
+                    theirs = their_below;
+                }
+                _ => return rest,
+            }
+        }
+        rest
+    }
+
+    // the path that comes before its own last part
+    fn before(self, rest: RepoPath<'_>) -> RepoPath<'a>
+        requires { (front : Path) × (path_of self ≡ front ++ path_of rest) }
+        ensures { path_of self.entry ≡ path_of result ++ path_of rest.entry }
+    {
+        if rest.value.is_empty() {
+            return self;
+        }
+        let Some(text) = self.value.strip_suffix(rest.value) else {
+            unreachable!();
+        };
+        if let Some(value) = text.strip_suffix('/') {
+            return RepoPath { value };
+        }
+        RepoPath { value: "" }
+    }
+
+    /// The names, from both ends.
+    pub fn components(self) -> RepoPathComponentsIter<'a>
+        ensures { components_left result ≡ path_of self.entry }
+    {
+        RepoPathComponentsIter::new(self)
+    }
+
+    /// The path itself, then the path above it, and so on up to the root.
+    pub fn ancestors(self) -> RepoPathAncestors<'a>
+        ensures { ancestors_left result ≡ fronts (path_of self.entry) }
+    {
+        RepoPathAncestors::new(self)
+    }
+
     // the path below the first name
     pub(crate) fn rest(self) -> RepoPath<'a>
         ensures { path_of result ≡ rest_of (path_of self.entry) }
@@ -156,6 +332,7 @@ impl<'a> RepoPath<'a> {
         }
     }
 
+    /// A copy of the path.
     pub fn to_owned(self, alloc: Global) -> Result<RepoPathBuf, AllocError>
         ensures { IfOk result (λ owned. owned ≡ path_of self.entry) }
     {
@@ -167,15 +344,9 @@ impl<'a> RepoPath<'a> {
 
 impl RepoPathBuf {
     ghost use Rattle.jj_paths.specs.Names.{path_of};
+    ghost use Rattle.jj_paths.specs.Refusals.{IsRefusal};
 
-    pub fn as_path(&self) -> RepoPath<'_>
-        ensures { path_of result ≡ self.now }
-    {
-        RepoPath {
-            value: self.value.as_str(),
-        }
-    }
-
+    /// The path of no names. It takes no memory.
     pub fn root(alloc: Global) -> RepoPathBuf
         ensures { result ≡ [] }
     {
@@ -184,51 +355,11 @@ impl RepoPathBuf {
         }
     }
 
-    pub fn into_internal_string(self) -> String
-        ensures { string_bytes result ≡ path_text self }
-    {
-        self.value
-    }
-}
-
-impl PartialEq for RepoPathComponentBuf {
-    ghost eq = { bytes_eq };
-
-    ghost laws = { Cmp.partial_equiv_from_equiv nat_list_eq_equiv };
-
-    fn eq(&self, other: &RepoPathComponentBuf) -> bool {
-        self.value == other.value
-    }
-}
-
-impl Eq for RepoPathComponentBuf {
-    ghost laws = { nat_list_eq_equiv };
-}
-
-impl Hash for RepoPathComponentBuf {
-    ghost hash_input = { λ name. fed.str name };
-
-    ghost respects_eq = { Prim.search (hashing, rules) };
-
-    fn hash<H: Hasher>(&self, state: &mut H) {
-        self.value.hash(state);
-    }
-}
-
-/// A text that is no path.
-#[derive(Drop)]
-pub enum InvalidNewRepoPathError {
-    Invalid { value: String },
-    Memory,
-}
-
-impl RepoPathBuf {
-    ghost use Rattle.jj_paths.specs.Refusals.{IsRefusal};
-
+    /// A path of this text: the empty text, or names joined by slashes. Any other text is `Invalid`, and is handed back.
     pub fn from_internal_string(value: String) -> Result<RepoPathBuf, InvalidNewRepoPathError>
         ensures ok { IfOk result (λ path. path ≡ components (string_bytes value)) }
         ensures valid { IsTrue (is_path_text (string_bytes value)) → IsOk result }
-        ensures refused { IfErr result (IsRefusal (string_bytes value)) }
+        ensures refused { IfErr result (IsRefusal (is_path_text (string_bytes value)) (string_bytes value)) }
     {
         if is_valid_repo_path_str(value.as_str()) {
             Ok(RepoPathBuf { value })
@@ -236,54 +367,64 @@ impl RepoPathBuf {
             Err(InvalidNewRepoPathError::Invalid { value })
         }
     }
+
+    /// The path, borrowed.
+    pub fn as_path(&self) -> RepoPath<'_>
+        ensures { path_of result ≡ self.now }
+    {
+        RepoPath {
+            value: self.value.as_str(),
+        }
+    }
+
+    /// The path's text: its names joined by slashes.
+    pub fn into_internal_string(self) -> String
+        ensures { string_bytes result ≡ path_text self }
+    {
+        self.value
+    }
+}
+
+/// A text that is no path, or no name of one.
+#[derive(Debug, PartialEq, Eq, Drop, Error)]
+pub enum InvalidNewRepoPathError {
+    #[error(r#"Invalid repo path input "{value}""#)]
+    Invalid { value: String },
+    #[error("out of memory")]
+    Memory,
+}
+
+impl InvalidNewRepoPathError {
+    ghost use Rattle.jj_paths.specs.Refusals.{IsCopiedRefusal};
+
+    // the error for a borrowed text, which is copied
+    fn of_text(alloc: Global, value: &str) -> InvalidNewRepoPathError
+        ensures { IsCopiedRefusal false value.now result }
+    {
+        match String::from_str(alloc, value) {
+            Ok(value) => InvalidNewRepoPathError::Invalid { value },
+            Err(_) => InvalidNewRepoPathError::Memory,
+        }
+    }
+}
+
+// a copy of a text, with room for more bytes
+fn copy_with_room(alloc: Global, text: &str, more: usize) -> Result<String, AllocError>
+    ensures { IfOk result (λ copy. string_bytes copy ≡ text.now) }
+{
+    let mut copy = String::with_capacity(alloc, text.len().saturating_add(more))?;
+    copy.push_str(text)?;
+    Ok(copy)
+}
+
+fn is_valid_repo_path_component_str(value: &str) -> bool
+    ensures { result ≡ is_name value.now }
+{
+    !value.is_empty() && !value.contains('/')
 }
 
 fn is_valid_repo_path_str(value: &str) -> bool
     ensures { result ≡ is_path_text value.now }
 {
     value.is_empty() || value.split('/').all(|part| !part.is_empty())
-}
-
-impl Clone for RepoPathComponentBuf {
-    ghost is_clone = { λ n c. c ≡ n };
-
-    fn clone(&self) -> Result<Self, AllocError> {
-        Ok(RepoPathComponentBuf {
-            value: self.value.clone()?,
-        })
-    }
-}
-
-impl Clone for RepoPathBuf {
-    ghost is_clone = { λ p c. c ≡ p };
-
-    fn clone(&self) -> Result<Self, AllocError> {
-        Ok(RepoPathBuf {
-            value: self.value.clone()?,
-        })
-    }
-}
-
-impl PartialOrd for RepoPathComponentBuf {
-    ghost partial_cmp = { λ a b. Some (name_cmp a b) };
-
-    ghost laws = { texts_po };
-
-    fn partial_cmp(&self, other: &RepoPathComponentBuf) -> Option<Ordering> {
-        Some(self.cmp(other))
-    }
-}
-
-impl Ord for RepoPathComponentBuf {
-    ghost cmp = { name_cmp };
-
-    ghost total = { nat_list_cmp_total };
-
-    ghost matches_partial_cmp = { λ x y. refl };
-
-    ghost matches_eq = { texts_ties };
-
-    fn cmp(&self, other: &RepoPathComponentBuf) -> Ordering {
-        self.value.cmp(&other.value)
-    }
 }

@@ -3,16 +3,18 @@ ghost use Rattle.std.specs.Prelude.{◌≡◌, ◌↔◌, IsSome, ◌≢◌, ℕ
 ghost use Rattle.std.specs.Prelude.{Some, length, ◌<◌};
 ghost use Rattle.std.specs.Borrow.{sem, Lends};
 ghost use denote.Struct.Tuple.{Tuple};
-ghost use Rattle.std.specs.Option.{option_copied};
+ghost use Rattle.std.specs.Option.{option_copied, option_map};
+ghost use Rattle.std.specs.List.{All};
 ghost use Rattle.jj_paths.specs.Paths.{Name, Path, name_cmp, rest_of};
 ghost use Rattle.jj_paths.specs.Names.{name_of, path_of};
 ghost use Rattle.std.specs.FinMap.{is_sorted};
 ghost use Rattle.std.specs.Iterator.{YieldsFirstBy, item_count};
-ghost use Rattle.jj_paths.specs.Tree.{Tree, none, children, child, get, has_branches, put, put_value, update_child, put_below, IsExtended, IsEdited, IsSet, IsGrown, IsAt, IsGapFor};
+ghost use Rattle.jj_paths.specs.Tree.{Tree, none, children, child, get, has_branches, put, put_value, update_child, put_below, nodes_on, nodes_below, nodes_from, IsPartOf, IsExtended, IsEdited, IsSet, IsGrown, IsAt, IsGapFor};
 
 use crate::repo_path::{RepoPath, RepoPathComponent, RepoPathComponentBuf};
 use std::alloc::{AllocError, Global};
 use std::cmp::Ordering;
+use std::fmt;
 use std::marker::Model;
 
 /// Values at paths: a value at the root, and at each front of a path that has one.
@@ -183,7 +185,7 @@ impl<V> RepoPathTree<V> {
     ghost use Rattle.jj_paths.specs.contracts.repo_path_tree.RepoPathTree.{the_row};
     ghost use Rattle.jj_paths.specs.contracts.repo_path_tree.RepoPathNode as node;
     ghost use Rattle.jj_paths.specs.Names.{name_of, path_of};
-    ghost use Rattle.jj_paths.specs.Children.{children_left};
+    ghost use Rattle.jj_paths.specs.Children.{children_left, walk_left};
 
     /// A tree that holds the root alone, with a default value.
     pub fn default(alloc: Global) -> RepoPathTree<V>
@@ -281,6 +283,24 @@ impl<V> RepoPathTree<V> {
         Some(tree)
     }
 
+    // the child that a path leads through, with what of the path is below it
+    fn step<'b>(&self, path: RepoPath<'b>) -> Option<(&RepoPathTree<V>, RepoPath<'b>)>
+        ensures { nodes_from (option_map (λ step. (step.0.now, path_of step.1)) result) ≡ nodes_below self.now (path_of path.entry) }
+    {
+        let (name, rest) = path.split_first()?;
+        Some((self.child(name)?, rest))
+    }
+
+    /// The trees on the way to a path, as far as they go, from this one on: each with what of the path is below it.
+    pub fn walk_to<'a, 'b>(&'a self, path: RepoPath<'b>) -> RepoPathTreeWalk<'a, 'b, V>
+        ensures on_the_way { walk_left result ≡ nodes_on self.now (path_of path.entry) }
+        ensures parts { All (IsPartOf self.now (path_of path.entry)) (walk_left result) }
+    {
+        RepoPathTreeWalk {
+            next: Some((self, path)),
+        }
+    }
+
     // the root's node, to write to
     fn own_node(&mut self) -> &mut RepoPathNode<V>
         ensures* writes_back { sem 𝓛 (Lends (the_row V.row) (node.the_row V.row) self.entry result (λ w. w)) }
@@ -346,6 +366,26 @@ impl<V> RepoPathTree<V> {
     }
 }
 
+/// The value, then the children as a map from their names.
+impl<V: fmt::Debug> fmt::Debug for RepoPathTree<V> {
+    #[cycle(shown)]
+    fn fmt<W: fmt::Write>(&self, f: &mut fmt::Formatter<W>) -> fmt::Result {
+        write!(f, "{:?}", self.node)
+    }
+}
+
+impl<V: fmt::Debug> fmt::Debug for RepoPathNode<V> {
+    #[cycle(shown)]
+    fn fmt<W: fmt::Write>(&self, f: &mut fmt::Formatter<W>) -> fmt::Result {
+        write!(f, "{:?} ", self.value)?;
+        let mut children = f.debug_map();
+        for (name, tree) in &self.entries {
+            children.entry(name, tree);
+        }
+        children.finish()
+    }
+}
+
 /// The children of a node that have not been given yet, by name.
 #[derive(Drop)]
 pub struct RepoPathTreeChildren<'a, V> {
@@ -363,6 +403,28 @@ impl<'a, V> Iterator for RepoPathTreeChildren<'a, V> {
         let (first, others) = self.entries.split_first()?;
         self.entries = others;
         Some((first.0.as_component(), &first.1))
+    }
+}
+
+/// The trees on the way to a path that have not been given yet, each with what of the path is below it.
+#[derive(Drop)]
+pub struct RepoPathTreeWalk<'a, 'b, V> {
+    next: Option<(&'a RepoPathTree<V>, RepoPath<'b>)>,
+}
+
+impl<'a, 'b, V> Iterator for RepoPathTreeWalk<'a, 'b, V> {
+    ghost use Rattle.jj_paths.specs.Children.{walk_left};
+
+    type Item = (&'a RepoPathTree<V>, RepoPath<'b>);
+
+    ghost next_gives = { YieldsFirstBy (λ step. (step.0.now, path_of step.1)) walk_left };
+
+    ghost remaining = { item_count walk_left };
+
+    fn next(&mut self) -> Option<(&'a RepoPathTree<V>, RepoPath<'b>)> {
+        let (tree, path) = self.next?;
+        self.next = tree.step(path);
+        Some((tree, path))
     }
 }
 
@@ -386,6 +448,6 @@ fn place<V>(
     entries.binary_search_by(
         move |entry| -> Ordering
             ensures { result ≡ name_cmp entry.now.0 (name_of name.entry) }
-        { entry.0.as_component().cmp(name) },
+        { entry.0.as_component().cmp(&name) },
     )
 }

@@ -6,8 +6,8 @@ use Rattle.jj_paths.proofs.repo_path.RepoPath.join.Goals.{then-not-is_empty+in_o
 
 joined : (c : goal.In_ok-push_str) → IsJoined c.args.self.value.now c.args.name.value.now (string_bytes c.push_str.new.self)
 joined c = elim c.if-not-is_empty.branch [
-  | then-not-is_empty+in_ok-push w ↦ joined_after_slash _ _ (string_bytes c.in_ok-value.value) (string_bytes w.push.new.self) (string_bytes c.if-not-is_empty.value) _ c.in_ok-value.ensures.ok (w.in_ok-push.ensures.bytes ∙ ap (λ l. string_bytes c.in_ok-value.value ++ l) (encode_ascii 47 (lit< tt))) (ap string_bytes w.value-is) c.in_ok-push_str.ensures.bytes (not_empty _ w.if-not-is_empty.ensures) c.args.self.valid c.args.name.valid
-  | else-not-is_empty w ↦ joined_at_root _ _ (string_bytes c.in_ok-value.value) (string_bytes c.if-not-is_empty.value) _ c.in_ok-value.ensures.ok (ap string_bytes w.value-is) c.in_ok-push_str.ensures.bytes w.if-not-is_empty.ensures c.args.self.valid c.args.name.valid
+  | then-not-is_empty+in_ok-push w ↦ joined_after_slash _ _ (string_bytes c.in_ok-value.value) (string_bytes w.push.new.self) (string_bytes c.if-not-is_empty.value) _ c.in_ok-value.ensures (w.in_ok-push.ensures.bytes ∙ ap (λ l. string_bytes c.in_ok-value.value ++ l) (encode_ascii 47 (lit< tt))) (ap string_bytes w.value-is) c.in_ok-push_str.ensures.bytes (not_empty _ w.if-not-is_empty.ensures) c.args.self.valid c.args.name.valid
+  | else-not-is_empty w ↦ joined_at_root _ _ (string_bytes c.in_ok-value.value) (string_bytes c.if-not-is_empty.value) _ c.in_ok-value.ensures (ap string_bytes w.value-is) c.in_ok-push_str.ensures.bytes w.if-not-is_empty.ensures c.args.self.valid c.args.name.valid
 ]
 
 pub invariant_of-result : goal.invariant_of-result

@@ -1,0 +1,19 @@
+-- What contracts see of the iterators over the names of a path and over the paths above it.
+use Rattle.std.specs.Prelude.{List, [], Option, Some, None}
+use Rattle.jj_paths.specs.Paths.{Path, fronts}
+use Rattle.jj_paths.specs.Names.{path_of}
+use Rattle.jj_paths.specs.declared.repo_path.RepoPath.{RepoPath}
+use Rattle.jj_paths.specs.declared.repo_path.iter.RepoPathComponentsIter.{RepoPathComponentsIter}
+use Rattle.jj_paths.specs.declared.repo_path.iter.RepoPathAncestors.{RepoPathAncestors}
+
+-- the names that have not been given yet
+abbrev pub components_left : RepoPathComponentsIter → Path
+components_left left = path_of left.path
+
+abbrev pub fronts_from : Option RepoPath → List Path
+fronts_from None = []
+fronts_from (Some path) = fronts (path_of path)
+
+-- the paths that have not been given yet
+abbrev pub ancestors_left : RepoPathAncestors → List Path
+ancestors_left left = fronts_from left.next

@@ -1,0 +1,37 @@
+-- The equality and the order of paths, name by name, with their laws, and what a path gives to a hash.
+use Rattle.std.specs.Prelude.{◌≡◌, Bool, true, Some}
+use Rattle.std.proofs.Common.{ap}
+use Rattle.std.specs.Str.{bytes_eq}
+use Rattle.std.specs.Bool.{Decides}
+use Rattle.std.specs.Cmp.{IsEquivalence, IsTotalOrder, IsPartialOrder, po}
+use Rattle.std.specs.Cmp.Lexicographic.{pointwise, pointwise_decides, bytes_decides, lists_equiv, lists_total, lists_ties, nat_list_eq_equiv, nat_list_cmp_total, texts_ties}
+use Rattle.std.specs.Ordering.{eq_by_cmp}
+use Rattle.std.specs.Hash as fed
+use Rattle.std.specs.Hash.{HashWrites}
+use Rattle.jj_paths.specs.Paths.{Path, name_cmp, path_cmp, path_text}
+
+-- the same names, in turn
+abbrev pub path_eq : Path → Path → Bool
+path_eq = pointwise bytes_eq
+
+pub path_eq-Decides : (a b : Path) → Decides (path_eq a b) (a ≡ b)
+path_eq-Decides = pointwise_decides bytes_decides
+
+pub path_eq_equiv : IsEquivalence path_eq
+path_eq_equiv = lists_equiv nat_list_eq_equiv
+
+pub path_cmp_total : IsTotalOrder path_cmp
+path_cmp_total = lists_total nat_list_cmp_total
+
+pub path_ties : (a b : Path) → path_eq a b ≡ eq_by_cmp path_cmp a b
+path_ties = lists_ties name_cmp texts_ties
+
+pub path_po : IsPartialOrder path_eq (λ a b. Some (path_cmp a b))
+path_po = po path_cmp_total path_ties
+
+-- a path is hashed as its text
+abbrev pub path_hash : Path → HashWrites
+path_hash path = fed.str (path_text path)
+
+pub path_hash-respects_eq : (a b : Path) → path_eq a b ≡ true → path_hash a ≡ path_hash b
+path_hash-respects_eq a b same = ap path_hash ((path_eq-Decides a b).0 same)

@@ -1,0 +1,90 @@
+//! Iterators over the names of a path, from both ends, and over the paths above it.
+ghost use Rattle.std.specs.Prelude.{◌≡◌};
+ghost use Rattle.std.specs.Iterator.{YieldsFirstBy, YieldsLastBy, item_count};
+ghost use Rattle.jj_paths.specs.Paths.{fronts};
+ghost use Rattle.jj_paths.specs.Names.{name_of, path_of};
+
+use super::{RepoPath, RepoPathComponent};
+
+/// The names of a path that have not been given yet. Once it has answered `None`, it goes on so.
+#[derive(Clone, Copy)]
+pub struct RepoPathComponentsIter<'a> {
+    path: RepoPath<'a>,
+}
+
+impl<'a> RepoPathComponentsIter<'a> {
+    ghost use Rattle.jj_paths.specs.Iterators.{components_left};
+
+    pub(super) fn new(path: RepoPath<'a>) -> RepoPathComponentsIter<'a>
+        ensures { components_left result ≡ path_of path.entry }
+    {
+        RepoPathComponentsIter { path }
+    }
+
+    /// The path of the names that have not been given yet.
+    pub fn as_path(&self) -> RepoPath<'a>
+        ensures { path_of result ≡ components_left self.now }
+    {
+        self.path
+    }
+}
+
+impl<'a> Iterator for RepoPathComponentsIter<'a> {
+    ghost use Rattle.jj_paths.specs.Iterators.{components_left};
+
+    type Item = RepoPathComponent<'a>;
+
+    ghost next_gives = { YieldsFirstBy name_of components_left };
+
+    ghost remaining = { item_count components_left };
+
+    fn next(&mut self) -> Option<RepoPathComponent<'a>> {
+        let (name, rest) = self.path.split_first()?;
+        self.path = rest;
+        Some(name)
+    }
+}
+
+impl<'a> DoubleEndedIterator for RepoPathComponentsIter<'a> {
+    ghost use Rattle.jj_paths.specs.Iterators.{components_left};
+
+    ghost next_back_gives = { YieldsLastBy name_of components_left };
+
+    fn next_back(&mut self) -> Option<RepoPathComponent<'a>> {
+        let (rest, name) = self.path.split()?;
+        self.path = rest;
+        Some(name)
+    }
+}
+
+/// A path and the paths above it that have not been given yet, up to the root.
+#[derive(Clone, Copy)]
+pub struct RepoPathAncestors<'a> {
+    next: Option<RepoPath<'a>>,
+}
+
+impl<'a> RepoPathAncestors<'a> {
+    ghost use Rattle.jj_paths.specs.Iterators.{ancestors_left};
+
+    pub(super) fn new(path: RepoPath<'a>) -> RepoPathAncestors<'a>
+        ensures { ancestors_left result ≡ fronts (path_of path.entry) }
+    {
+        RepoPathAncestors { next: Some(path) }
+    }
+}
+
+impl<'a> Iterator for RepoPathAncestors<'a> {
+    ghost use Rattle.jj_paths.specs.Iterators.{ancestors_left};
+
+    type Item = RepoPath<'a>;
+
+    ghost next_gives = { YieldsFirstBy path_of ancestors_left };
+
+    ghost remaining = { item_count ancestors_left };
+
+    fn next(&mut self) -> Option<RepoPath<'a>> {
+        let path = self.next?;
+        self.next = path.parent();
+        Some(path)
+    }
+}
