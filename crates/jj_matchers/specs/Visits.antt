@@ -1,0 +1,35 @@
+-- What contracts see of a `Visit`.
+use Rattle.std.specs.Prelude.{Bool, true, false, List, [], ◌∷◌}
+use Rattle.std.specs.Str.{bytes_eq}
+use Rattle.std.specs.List.{list_any}
+use Rattle.jj_paths.specs.Paths.{Name, Path}
+use Rattle.jj_matchers.specs.Answers.{Answer, all_recursively, specific, nothing}
+use Rattle.jj_matchers.specs.declared.matchers.visits.Visit.{Visit}
+use Rattle.jj_matchers.specs.declared.matchers.visits.Visit.TheVariants.{AllRecursively, Specific, Nothing}
+use Rattle.jj_matchers.specs.declared.matchers.visits.VisitDirs.{VisitDirs}
+use Rattle.jj_matchers.specs.declared.matchers.visits.VisitDirs.TheVariants as dirs
+use Rattle.jj_matchers.specs.declared.matchers.visits.VisitFiles.{VisitFiles}
+use Rattle.jj_matchers.specs.declared.matchers.visits.VisitFiles.TheVariants as files
+
+-- whether a name is among the keys
+abbrev pub is_among : List Name → Name → Bool
+is_among keys name = list_any (bytes_eq name) keys
+
+abbrev pub dir_names : VisitDirs → Name → Bool
+dir_names dirs.All name = true
+dir_names (dirs.Set names) name = is_among names.keys name
+
+abbrev pub file_names : VisitFiles → Name → Bool
+file_names files.All name = true
+file_names (files.Set names) name = is_among names.keys name
+
+abbrev pub answer_of : Visit → Answer
+answer_of AllRecursively = all_recursively
+answer_of (Specific dirs files) = specific (dir_names dirs) (file_names files)
+answer_of Nothing = nothing
+
+-- the answer that names two lists of children
+abbrev pub sets_answer : List Name → List Name → Answer
+sets_answer [] [] = nothing
+sets_answer [] (name ∷ names) = specific (is_among []) (is_among (name ∷ names))
+sets_answer (name ∷ names) files = specific (is_among (name ∷ names)) (is_among files)

@@ -1,0 +1,48 @@
+-- What a pruned walk of a tree of marks finds.
+use Rattle.std.specs.Prelude.{Bool, true, false, ◌&&◌, List, [], ◌∷◌, ◌++◌, map}
+use Rattle.std.specs.List.{filter}
+use Rattle.jj_paths.specs.Paths.{Name, Path}
+use Rattle.jj_paths.specs.Tree.{Tree, Branches, none, branch, has_branches}
+use Rattle.jj_matchers.specs.Answers.{Answer, all_recursively, specific, nothing}
+
+-- the nodes below a directory with their paths, each before those below it
+abbrev pub nodes_below : {V : Type 0} → Path → Branches V → List (Path × Tree V)
+nodes_below dir none = []
+nodes_below dir (branch name value below after) = (dir ++ name ∷ [], (value, below)) ∷ (nodes_below (dir ++ name ∷ []) below ++ nodes_below dir after)
+
+-- the paths of the nodes that pass a test
+abbrev pub paths_where : {V : Type 0} → (Path × Tree V → Bool) → List (Path × Tree V) → List Path
+paths_where test nodes = map (λ node. node.0) (filter test nodes)
+
+-- a marked node whose path is accepted
+abbrev pub is_file : (Path → Bool) → Path × Tree Bool → Bool
+is_file accepts node = node.1.0 && accepts node.0
+
+-- the marked paths below the root that are accepted
+abbrev pub files_of : (Path → Bool) → Tree Bool → List Path
+files_of accepts tree = paths_where (is_file accepts) (nodes_below [] tree.1)
+
+-- a directory is entered unless its answer is `nothing`
+abbrev pub is_entered : Answer → Bool
+is_entered all_recursively = true
+is_entered (specific dirs files) = true
+is_entered nothing = false
+
+-- whether a walk goes on below a directory to the child of a name, where it may go on from that child
+abbrev pub leads_to : Answer → Name → Bool → Bool
+leads_to all_recursively name on = true
+leads_to (specific dirs files) name on = dirs name && on
+leads_to nothing name on = false
+
+-- whether a walk that has come to a directory, and asks for its answer, enters the one at the rest of a path
+abbrev pub enters : (Path → Answer) → Path → Path → Bool
+enters answer dir [] = is_entered (answer dir)
+enters answer dir (name ∷ rest) = leads_to (answer dir) name (enters answer (dir ++ name ∷ []) rest)
+
+-- a node with children that a walk from the root enters
+abbrev pub is_entered_directory : (Path → Answer) → Path × Tree Bool → Bool
+is_entered_directory answer node = has_branches node.1.1 && enters answer [] node.0
+
+-- the directories that a walk enters, from the root on
+abbrev pub entered_by : (Path → Answer) → Tree Bool → List Path
+entered_by answer tree = paths_where (is_entered_directory answer) (([], tree) ∷ nodes_below [] tree.1)
