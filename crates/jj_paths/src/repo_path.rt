@@ -2,6 +2,7 @@
 ghost use Rattle.std.specs.Prelude.{◌≡◌, ◌≢◌, ◌↔◌, ℕ, Bool, false, List, [], ◌∷◌, ◌++◌, IsTrue, IfOk, IfErr, IsOk, OnOk, OnErr, MatchResult, MatchOption, string_bytes};
 ghost use Rattle.jj_paths.specs.Paths.{Name, Path, is_name, is_path_text, components, path_text, rest_of};
 
+mod extend;
 mod iter;
 mod orders;
 mod shown;

@@ -366,6 +366,35 @@ impl<V> RepoPathTree<V> {
     }
 }
 
+impl<V: Clone + Drop> RepoPathTree<V> {
+    /// A copy of the tree, in the same memory.
+    #[cycle(copies)]
+    pub fn clone(&self) -> Result<RepoPathTree<V>, AllocError>
+        requires { (value copy : V) → V.is_clone value copy → copy ≡ value }
+        ensures { IfOk result (λ copy. copy ≡ self.now) }
+    {
+        Ok(RepoPathTree {
+            node: self.node.clone()?,
+        })
+    }
+}
+
+impl<V: Clone + Drop> RepoPathNode<V> {
+    /// A copy of the node, with what is below it.
+    #[cycle(copies)]
+    pub fn clone(&self) -> Result<RepoPathNode<V>, AllocError>
+        requires { (value copy : V) → V.is_clone value copy → copy ≡ value }
+        ensures { IfOk result (λ copy. copy ≡ self.now) }
+    {
+        let value = self.value.clone()?;
+        let mut entries = Vec::with_capacity(*self.entries.allocator(), self.entries.len())?;
+        for (name, tree) in &self.entries {
+            entries.push((name.clone()?, tree.clone()?))?;
+        }
+        Ok(RepoPathNode { value, entries })
+    }
+}
+
 /// The value, then the children as a map from their names.
 impl<V: fmt::Debug> fmt::Debug for RepoPathTree<V> {
     #[cycle(shown)]

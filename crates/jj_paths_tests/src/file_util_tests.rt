@@ -10,7 +10,7 @@ const LONGEST: usize = 40000;
 
 /// A reader of the first `len` such bytes that gives at most `most` at a time, and fails once `left` reads are made.
 #[derive(Drop)]
-pub struct Cut {
+struct Cut {
     given: usize,
     len: usize,
     most: usize,
@@ -36,7 +36,7 @@ impl Read for Cut {
 /// A writer that takes at most `most` bytes at a time, compares them with those that are copied, and fails once `left`
 /// writes are made.
 #[derive(Drop)]
-pub struct Taken {
+struct Taken {
     len: usize,
     same: bool,
     most: usize,
@@ -85,74 +85,69 @@ fn copied(len: usize, most: usize, reads: u32, writes: u32) -> (io::Result<usize
     (result, taken.len, taken.same)
 }
 
-#[cfg(test)]
-mod tests {
-    use super::*;
-
-    #[test]
-    fn copies_across_buffers(rt: HostRuntime) {
-        for len in [0, 1, 16384, 16385, LONGEST] {
-            for most in [1, 1000, LONGEST] {
-                let (result, written, same) = copied(len, most, u32::MAX, u32::MAX);
-                assert!(rt; matches!(result, Ok(n) if n == len), "{len} {most}");
-                assert_eq!(rt; written, len);
-                assert!(rt; same);
-            }
-        }
-    }
-
-    #[test]
-    fn each_read_fails_in_turn(rt: HostRuntime) {
-        // Ten reads of one byte, and one that finds the end.
-        for reads in 0..12 {
-            let (result, written, same) = copied(10, 1, reads, u32::MAX);
-            match result {
-                Ok(count) => {
-                    assert_eq!(rt; reads, 11);
-                    assert_eq!(rt; count, 10);
-                }
-                Err(e) => {
-                    assert!(rt; reads < 11);
-                    assert_eq!(rt; e.kind(), ErrorKind::BrokenPipe);
-                }
-            }
-            assert_eq!(rt; written, usize::try_from(reads).unwrap_or(0).min(10));
+#[test]
+fn copies_across_buffers(rt: HostRuntime) {
+    for len in [0, 1, 16384, 16385, LONGEST] {
+        for most in [1, 1000, LONGEST] {
+            let (result, written, same) = copied(len, most, u32::MAX, u32::MAX);
+            assert!(rt; matches!(result, Ok(n) if n == len), "{len} {most}");
+            assert_eq!(rt; written, len);
             assert!(rt; same);
         }
     }
+}
 
-    #[test]
-    fn each_write_fails_in_turn(rt: HostRuntime) {
-        for writes in 0..11 {
-            let (result, written, same) = copied(10, 1, u32::MAX, writes);
-            match result {
-                Ok(count) => {
-                    assert_eq!(rt; writes, 10);
-                    assert_eq!(rt; count, 10);
-                }
-                // An interrupted write is a fault like any other.
-                Err(e) => {
-                    assert!(rt; writes < 10);
-                    assert_eq!(rt; e.kind(), ErrorKind::Interrupted);
-                }
+#[test]
+fn each_read_fails_in_turn(rt: HostRuntime) {
+    // Ten reads of one byte, and one that finds the end.
+    for reads in 0..12 {
+        let (result, written, same) = copied(10, 1, reads, u32::MAX);
+        match result {
+            Ok(count) => {
+                assert_eq!(rt; reads, 11);
+                assert_eq!(rt; count, 10);
             }
-            assert_eq!(rt; written, usize::try_from(writes).unwrap_or(0));
-            assert!(rt; same);
+            Err(e) => {
+                assert!(rt; reads < 11);
+                assert_eq!(rt; e.kind(), ErrorKind::BrokenPipe);
+            }
         }
+        assert_eq!(rt; written, usize::try_from(reads).unwrap_or(0).min(10));
+        assert!(rt; same);
     }
+}
 
-    #[test]
-    fn a_writer_that_takes_nothing_has_failed(rt: HostRuntime) {
-        let mut reader = Watched::new(b"abc".as_slice());
-        let mut writer = Watched::new(Taken {
-            len: 0,
-            same: true,
-            most: 0,
-            left: 1,
-        });
-        match copy(&mut reader, &mut writer) {
-            Ok(_) => panic!(rt; "nothing was written"),
-            Err(e) => assert_eq!(rt; e.kind(), ErrorKind::WriteZero),
+#[test]
+fn each_write_fails_in_turn(rt: HostRuntime) {
+    for writes in 0..11 {
+        let (result, written, same) = copied(10, 1, u32::MAX, writes);
+        match result {
+            Ok(count) => {
+                assert_eq!(rt; writes, 10);
+                assert_eq!(rt; count, 10);
+            }
+            // An interrupted write is a fault like any other.
+            Err(e) => {
+                assert!(rt; writes < 10);
+                assert_eq!(rt; e.kind(), ErrorKind::Interrupted);
+            }
         }
+        assert_eq!(rt; written, usize::try_from(writes).unwrap_or(0));
+        assert!(rt; same);
+    }
+}
+
+#[test]
+fn a_writer_that_takes_nothing_has_failed(rt: HostRuntime) {
+    let mut reader = Watched::new(b"abc".as_slice());
+    let mut writer = Watched::new(Taken {
+        len: 0,
+        same: true,
+        most: 0,
+        left: 1,
+    });
+    match copy(&mut reader, &mut writer) {
+        Ok(_) => panic!(rt; "nothing was written"),
+        Err(e) => assert_eq!(rt; e.kind(), ErrorKind::WriteZero),
     }
 }

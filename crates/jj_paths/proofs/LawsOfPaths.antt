@@ -1,0 +1,53 @@
+-- The laws of paths and of trees.
+use Rattle.std.proofs.Common.{◌≡◌, ◌<◌, ◌≤◌, true, [], ◌∷◌, ◌++◌, length, Option, Some, None, IsSome, refl, sym, ap, ◌∙◌, arith}
+use Rattle.std.specs.List.{list_all}
+use Rattle.std.specs.Option.{option_and_then}
+use Rattle.std.proofs.lemmas.Bool.{and_parts}
+use Rattle.jj_paths.specs.Paths.{Name, Path, components, path_text, is_name}
+use Rattle.jj_paths.specs.Tree.{Tree, child, get}
+use Rattle.jj_paths.specs.Laws.{PathsGiveBack, LastNamesAreOne, HoldsFronts}
+use Rattle.jj_paths.proofs.PathTexts.{components-name, components-split, is_name-parts, slice_split-at_slash}
+
+text-more : (name : Name) (rest : Path) → list_all is_name (name ∷ rest) ≡ true → 0 < length (path_text (name ∷ rest))
+text-more name [] all = (is_name-parts name (and_parts (is_name name) _ all).0).0
+text-more [] (next ∷ rest) all = omega arith
+text-more (b ∷ bs) (next ∷ rest) all = omega arith
+
+components-path_text : (path : Path) → list_all is_name path ≡ true → components (path_text path) ≡ path
+components-path_text [] all = refl
+components-path_text (name ∷ []) all = components-name name (and_parts (is_name name) _ all).0
+components-path_text (name ∷ next ∷ rest) all =
+    let parts = and_parts (is_name name) _ all in
+    let plain = (is_name-parts name parts.0).1 in
+    components-split (name ++ 47 ∷ path_text (next ∷ rest)) (text-more name (next ∷ rest) all)
+    ∙ slice_split-at_slash name (path_text (next ∷ rest)) plain
+    ∙ ap (λ l. name ∷ l) (sym (components-split (path_text (next ∷ rest)) (text-more next rest parts.1)) ∙ components-path_text (next ∷ rest) parts.1)
+
+pub paths_give_back : PathsGiveBack
+paths_give_back path all = let back = components-path_text path all in (back, ap (list_all is_name) back ∙ all)
+
+pub last_names_are_one : LastNamesAreOne
+last_names_are_one [] [] name last e = let same : name ≡ last = cc in (refl, same)
+last_names_are_one [] (x ∷ others) name last e = absurd (omega (arith, ap length e, longer others))
+  where
+    longer : (l : Path) → 1 ≤ length (l ++ last ∷ [])
+    longer [] = omega arith
+    longer (y ∷ l) = omega arith
+last_names_are_one (x ∷ above) [] name last e = absurd (omega (arith, ap length e, longer above))
+  where
+    longer : (l : Path) → 1 ≤ length (l ++ name ∷ [])
+    longer [] = omega arith
+    longer (y ∷ l) = omega arith
+last_names_are_one (x ∷ above) (y ∷ others) name last e =
+    let first : x ≡ y = cc in
+    let later : above ++ name ∷ [] ≡ others ++ last ∷ [] = cc in
+    let same = last_names_are_one above others name last later in
+    (ap (λ n. n ∷ above) first ∙ ap (λ l. y ∷ l) same.0, same.1)
+
+pub holds_fronts : (V : Type 0) → HoldsFronts V
+holds_fronts V tree [] rest there = refl
+holds_fronts V tree (name ∷ front) rest there = by_child (λ sub. holds_fronts V sub front rest) (child tree.1 name) there
+  where
+    by_child : ((sub : Tree V) → IsSome (get sub (front ++ rest)) → IsSome (get sub front)) → (o : Option (Tree V)) → IsSome (option_and_then (λ s. get s (front ++ rest)) o) → IsSome (option_and_then (λ s. get s front) o)
+    by_child later None h = h
+    by_child later (Some sub) h = later sub h

@@ -1,0 +1,59 @@
+-- The text of a path that goes on after another, as names are added to it.
+use Rattle.std.proofs.Common.{◌≡◌, ℕ, ◌<◌, List, [], ◌∷◌, ◌++◌, length, map, true, IsTrue, refl, sym, ap, subst, ◌∙◌, append_assoc, append-nil, arith}
+use Rattle.std.specs.List.{list_all, slice_index}
+use Rattle.std.proofs.lemmas.Bool.{and_parts, and_from}
+use Rattle.jj_paths.specs.Paths.{Name, Path, components, is_name, is_path_text}
+use Rattle.jj_paths.specs.Texts.{with_name, with_names, IsLonger}
+use Rattle.jj_paths.specs.Names.{name_of}
+use Rattle.jj_paths.specs.declared.repo_path.RepoPathComponent.{RepoPathComponent}
+use Rattle.jj_paths.proofs.PathTexts.{components-name, components-join, joined_by, IsJoined}
+
+pub longer-itself : (text : List ℕ) → IsLonger text text
+longer-itself text = record { more = []; is = sym (append-nil text); slash = λ a b. absurd (omega (arith, b)) }
+
+pub longer-with_name : (text : List ℕ) (name : Name) → IsLonger text (with_name text name)
+longer-with_name [] name = record { more = name; is = refl; slash = λ a b. absurd (omega (arith, a)) }
+longer-with_name (b ∷ bs) name = record { more = 47 ∷ name; is = refl; slash = λ a c. refl }
+
+pub longer-trans : (a b c : List ℕ) → IsLonger a b → IsLonger b c → IsLonger a c
+longer-trans a b c ab bc = by_more ab.more ab.is ab.slash
+  where
+    by_more : (more : List ℕ) → b ≡ a ++ more → (0 < length a → 0 < length more → slice_index more 0 ≡ 47) → IsLonger a c
+    by_more [] is slash =
+        let same : b ≡ a = is ∙ append-nil a in
+        record { more = bc.more; is = bc.is ∙ ap (λ l. l ++ bc.more) same; slash = λ h k. bc.slash (subst (λ l. 0 < length l) (sym same) h) k }
+    by_more (x ∷ xs) is slash = record { more = x ∷ (xs ++ bc.more); is = bc.is ∙ ap (λ l. l ++ bc.more) is ∙ append_assoc a (x ∷ xs) bc.more; slash = λ h k. slash h (omega arith) }
+
+pub longer-with_names : (text : List ℕ) (names : Path) → IsLonger text (with_names text names)
+longer-with_names text [] = longer-itself text
+longer-with_names text (name ∷ names) = longer-trans text (with_name text name) (with_names (with_name text name) names) (longer-with_name text name) (longer-with_names (with_name text name) names)
+
+pub with_names-append : (text : List ℕ) (names : Path) (name : Name) → with_names text (names ++ name ∷ []) ≡ with_name (with_names text names) name
+with_names-append text [] name = refl
+with_names-append text (first ∷ names) name = with_names-append (with_name text first) names name
+
+-- the components of such a text
+components-with_name : (text : List ℕ) (name : Name) → IsTrue (is_path_text text) → IsTrue (is_name name) → IsJoined text name (with_name text name)
+components-with_name [] name valid ok = joined_by [] name name valid ok (components-name name ok)
+components-with_name (b ∷ bs) name valid ok = joined_by (b ∷ bs) name ((b ∷ bs) ++ 47 ∷ name) valid ok (components-join (b ∷ bs) name (omega arith) ok)
+
+pub record IsExtendedText (text : List ℕ) (names : Path) (longer : List ℕ) : Type 0 where
+  pub valid : IsTrue (is_path_text longer)
+  pub is : components longer ≡ components text ++ names
+
+extended_text : (text : List ℕ) (names : Path) → IsTrue (is_path_text text) → list_all is_name names ≡ true → IsExtendedText text names (with_names text names)
+extended_text text [] valid all = record { valid = valid; is = sym (append-nil (components text)) }
+extended_text text (name ∷ names) valid all =
+    let parts = and_parts (is_name name) (list_all is_name names) all in
+    let first = components-with_name text name valid parts.0 in
+    let others = extended_text (with_name text name) names first.valid parts.1 in
+    record { valid = others.valid; is = others.is ∙ ap (λ l. l ++ names) first.is ∙ append_assoc (components text) (name ∷ []) names }
+
+all_valid : (added : List RepoPathComponent) → list_all is_name (map name_of added) ≡ true
+all_valid [] = refl
+all_valid (x ∷ added) = and_from _ _ x.valid (all_valid added)
+
+pub extended_by : (text longer : List ℕ) (added : List RepoPathComponent) → IsTrue (is_path_text text) → longer ≡ with_names text (map name_of added) → IsExtendedText text (map name_of added) longer
+extended_by text longer added valid is =
+    let made = extended_text text (map name_of added) valid (all_valid added) in
+    record { valid = ap is_path_text is ∙ made.valid; is = ap components is ∙ made.is }

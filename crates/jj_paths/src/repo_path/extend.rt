@@ -1,0 +1,56 @@
+//! Names added at the end of a path.
+ghost use Rattle.std.specs.Prelude.{◌≡◌, ◌++◌, List, IfOk, IfErr, map, string_bytes};
+ghost use Rattle.std.specs.Iterator.{IsFinite, Drains};
+ghost use Rattle.jj_paths.specs.Names.{name_of};
+ghost use Rattle.jj_paths.specs.Texts.{with_name, with_names, IsLonger};
+ghost use Rattle.jj_paths.specs.declared.repo_path.RepoPathComponent.{RepoPathComponent};
+
+use super::{RepoPathBuf, RepoPathComponent};
+use std::alloc::AllocError;
+
+impl RepoPathBuf {
+    /// Adds names at the end. Refused for want of memory, the path is as it was.
+    pub fn extend<'n, I: IntoIterator<Item = RepoPathComponent<'n>>>(
+        &mut self,
+        names: I,
+    ) -> Result<(), AllocError>
+        requires { (it : I.IntoIter) → I.into_iter_gives names it → I.IntoIter.can_next it × IsFinite (I.IntoIter.remaining it) }
+        ensures extended { IfOk result (λ done. (it : I.IntoIter) × (added : List RepoPathComponent) × I.into_iter_gives names it × Drains I.IntoIter.next_gives it added × (self.new ≡ self.old ++ map name_of added)) }
+        ensures refused { IfErr result (λ e. self.new ≡ self.old) }
+    {
+        let len = self.value.len();
+        match push_names(&mut self.value, names) {
+            Ok(()) => Ok(()),
+            Err(e) => {
+                self.value.truncate(len);
+                Err(e)
+            }
+        }
+    }
+}
+
+// adds names to a path's text; refused, it may have added some of them, and a slash
+fn push_names<'n, I: IntoIterator<Item = RepoPathComponent<'n>>>(
+    text: &mut String,
+    names: I,
+) -> Result<(), AllocError>
+    requires { (it : I.IntoIter) → I.into_iter_gives names it → I.IntoIter.can_next it × IsFinite (I.IntoIter.remaining it) }
+    ensures pushed { IfOk result (λ done. (it : I.IntoIter) × (added : List RepoPathComponent) × I.into_iter_gives names it × Drains I.IntoIter.next_gives it added × (string_bytes text.new ≡ with_names (string_bytes text.old) (map name_of added))) }
+    ensures refused { IfErr result (λ e. IsLonger (string_bytes text.old) (string_bytes text.new)) }
+{
+    for name in names {
+        push_name(text, name)?;
+    }
+    Ok(())
+}
+
+// adds a name to a path's text; refused, it may have added a slash
+fn push_name(text: &mut String, name: RepoPathComponent<'_>) -> Result<(), AllocError>
+    ensures pushed { IfOk result (λ done. string_bytes text.new ≡ with_name (string_bytes text.old) (name_of name.entry)) }
+    ensures refused { IfErr result (λ e. IsLonger (string_bytes text.old) (string_bytes text.new)) }
+{
+    if !text.is_empty() {
+        text.push('/')?;
+    }
+    text.push_str(name.value)
+}

@@ -1,0 +1,255 @@
+//! Paths as lists of names: joined, split, stripped and walked.
+use crate::fixtures::{name, owned, path};
+use jj_paths::repo_path::{RepoPath, RepoPathBuf, RepoPathComponent};
+use std::alloc::{AllocError, Global};
+use std::process::Abort;
+
+#[test]
+fn roots(rt: HostRuntime) {
+    let alloc = rt.alloc();
+    assert!(rt; RepoPath::root().is_root());
+    assert!(rt; RepoPathBuf::root(alloc).as_path().is_root());
+    assert!(rt; path(&rt, alloc, "").is_root());
+    assert!(rt; !path(&rt, alloc, "foo").is_root());
+}
+
+#[test]
+fn begins_with(rt: HostRuntime) {
+    let alloc = rt.alloc();
+    let cases = [
+        ("", "", true),
+        ("x", "", true),
+        ("", "x", false),
+        ("x", "x", true),
+        ("x/y", "x", true),
+        ("xy", "x", false),
+        ("x/y", "y", false),
+        ("x/y", "x/y", true),
+        ("x/y/z", "x/y", true),
+        ("x/yz", "x/y", false),
+        ("x", "x/y", false),
+        ("xy", "x/y", false),
+    ];
+    for (text, base, want) in cases {
+        let begins = path(&rt, alloc, text).starts_with(path(&rt, alloc, base));
+        assert_eq!(rt; begins, want, "{text} and {base}");
+    }
+}
+
+#[test]
+fn strips_a_base(rt: HostRuntime) {
+    let alloc = rt.alloc();
+    let cases = [
+        ("", "", Some("")),
+        ("x", "", Some("x")),
+        ("", "x", None),
+        ("x", "x", Some("")),
+        ("x/y", "x", Some("y")),
+        ("xy", "x", None),
+        ("x/y", "y", None),
+        ("x/y", "x/y", Some("")),
+        ("x/y/z", "x/y", Some("z")),
+        ("x/yz", "x/y", None),
+        ("x", "x/y", None),
+        ("xy", "x/y", None),
+    ];
+    for (text, base, want) in cases {
+        match path(&rt, alloc, text).strip_prefix(path(&rt, alloc, base)) {
+            Some(rest) => assert_eq!(rt;
+                Some(rest.as_internal_file_string()),
+                want,
+                "{text} and {base}"
+            ),
+            None => assert_eq!(rt; None, want, "{text} and {base}"),
+        }
+    }
+}
+
+#[test]
+fn splits_the_common_front(rt: HostRuntime) {
+    let alloc = rt.alloc();
+    let cases = [
+        ("foo/bar", "foo/bar/baz", "foo/bar", ""),
+        ("foo/bar/baz", "foo/bar", "foo/bar", "baz"),
+        ("foo/bar/bing", "foo/bar/baz", "foo/bar", "bing"),
+        ("no/common/prefix", "foo/bar/baz", "", "no/common/prefix"),
+        ("same/path", "same/path", "same/path", ""),
+        ("", "foo", "", ""),
+        ("", "", "", ""),
+        ("foo/bar", "", "", "foo/bar"),
+    ];
+    for (text, other, front, rest) in cases {
+        let parts = path(&rt, alloc, text).split_common_prefix(path(&rt, alloc, other));
+        assert_eq!(rt;
+            parts.0.as_internal_file_string(),
+            front,
+            "{text} and {other}"
+        );
+        assert_eq!(rt;
+            parts.1.as_internal_file_string(),
+            rest,
+            "{text} and {other}"
+        );
+    }
+}
+
+fn joins_names<R: Abort>(rt: &R, alloc: Global) -> Result<(), AllocError> {
+    let dir = RepoPath::root().join(alloc, name(rt, alloc, "dir"))?;
+    assert!(rt; dir.as_path() == path(rt, alloc, "dir"));
+    let subdir = dir.as_path().join(alloc, name(rt, alloc, "subdir"))?;
+    assert!(rt; subdir.as_path() == path(rt, alloc, "dir/subdir"));
+    let file = subdir.as_path().join(alloc, name(rt, alloc, "file"))?;
+    assert!(rt; file.as_path() == path(rt, alloc, "dir/subdir/file"));
+    Ok(())
+}
+
+#[test]
+fn joins(rt: HostRuntime) {
+    let alloc = rt.alloc();
+    assert!(rt;
+        joins_names(&rt, alloc)
+            .or_else(|_| joins_names(&rt, alloc))
+            .is_ok()
+    );
+}
+
+// The names are added, or the path is as it was.
+fn extend_by<R: Abort>(
+    rt: &R,
+    alloc: Global,
+    extended: &mut RepoPathBuf,
+    names: &[RepoPathComponent<'static>],
+    before: &'static str,
+    after: &'static str,
+) {
+    if extended.extend(names.iter().copied()).is_err() {
+        assert!(rt; extended.as_path() == path(rt, alloc, before));
+        assert!(rt; extended.extend(names.iter().copied()).is_ok());
+    }
+    assert!(rt; extended.as_path() == path(rt, alloc, after));
+}
+
+#[test]
+fn extends(rt: HostRuntime) {
+    let alloc = rt.alloc();
+    let dir = name(&rt, alloc, "dir");
+    let subdir = name(&rt, alloc, "subdir");
+    let long = "dir/subdir/subdir/subdir";
+    let mut extended = RepoPathBuf::root(alloc);
+    extend_by(&rt, alloc, &mut extended, &[], "", "");
+    extend_by(&rt, alloc, &mut extended, &[dir], "", "dir");
+    extend_by(
+        &rt,
+        alloc,
+        &mut extended,
+        &[subdir, subdir, subdir],
+        "dir",
+        long,
+    );
+    extend_by(&rt, alloc, &mut extended, &[], long, long);
+    match extended.extend(path(&rt, alloc, "a/b").components()) {
+        Ok(()) => assert!(rt;
+            extended.as_path() == path(&rt, alloc, "dir/subdir/subdir/subdir/a/b")
+        ),
+        Err(_) => assert!(rt; extended.as_path() == path(&rt, alloc, long)),
+    }
+}
+
+#[test]
+fn parents(rt: HostRuntime) {
+    let alloc = rt.alloc();
+    assert!(rt; RepoPath::root().parent() == None);
+    assert!(rt; path(&rt, alloc, "dir").parent() == Some(RepoPath::root()));
+    assert!(rt; path(&rt, alloc, "dir/subdir").parent() == Some(path(&rt, alloc, "dir")));
+}
+
+#[test]
+fn splits_the_last_name(rt: HostRuntime) {
+    let alloc = rt.alloc();
+    let dir = name(&rt, alloc, "dir");
+    let file = name(&rt, alloc, "file");
+    assert!(rt; RepoPath::root().split() == None);
+    assert!(rt; path(&rt, alloc, "dir").split() == Some((RepoPath::root(), dir)));
+    assert!(rt; path(&rt, alloc, "dir/file").split() == Some((path(&rt, alloc, "dir"), file)));
+}
+
+#[test]
+fn splits_the_first_name(rt: HostRuntime) {
+    let alloc = rt.alloc();
+    let dir = name(&rt, alloc, "dir");
+    assert!(rt; RepoPath::root().split_first() == None);
+    assert!(rt; path(&rt, alloc, "dir").split_first() == Some((dir, RepoPath::root())));
+    assert!(rt; path(&rt, alloc, "dir/a/b").split_first() == Some((dir, path(&rt, alloc, "a/b"))));
+}
+
+#[test]
+fn names_from_both_ends(rt: HostRuntime) {
+    let alloc = rt.alloc();
+    let a = name(&rt, alloc, "a");
+    let b = name(&rt, alloc, "b");
+    let c = name(&rt, alloc, "c");
+    let mut none = RepoPath::root().components();
+    assert!(rt; none.next() == None);
+    assert!(rt; none.next_back() == None);
+
+    let mut forward = path(&rt, alloc, "a/b/c").components();
+    assert!(rt; forward.next() == Some(a));
+    assert!(rt; forward.as_path() == path(&rt, alloc, "b/c"));
+    assert!(rt; forward.next() == Some(b));
+    assert!(rt; forward.next() == Some(c));
+    assert!(rt; forward.next() == None);
+    assert!(rt; forward.next() == None);
+
+    let mut backward = path(&rt, alloc, "a/b/c").components();
+    assert!(rt; backward.next_back() == Some(c));
+    assert!(rt; backward.as_path() == path(&rt, alloc, "a/b"));
+    assert!(rt; backward.next_back() == Some(b));
+    assert!(rt; backward.next_back() == Some(a));
+    assert!(rt; backward.next_back() == None);
+    assert!(rt; backward.next_back() == None);
+
+    let mut inward = path(&rt, alloc, "a/b/c").components();
+    assert!(rt; inward.next_back() == Some(c));
+    assert!(rt; inward.next() == Some(a));
+    assert!(rt; inward.next_back() == Some(b));
+    assert!(rt; inward.next() == None);
+}
+
+#[test]
+fn ancestors_up_to_the_root(rt: HostRuntime) {
+    let alloc = rt.alloc();
+    let mut of_root = RepoPath::root().ancestors();
+    assert!(rt; of_root.next() == Some(RepoPath::root()));
+    assert!(rt; of_root.next() == None);
+    assert!(rt; of_root.next() == None);
+
+    let mut of_subdir = path(&rt, alloc, "dir/subdir").ancestors();
+    assert!(rt; of_subdir.next() == Some(path(&rt, alloc, "dir/subdir")));
+    assert!(rt; of_subdir.next() == Some(path(&rt, alloc, "dir")));
+    assert!(rt; of_subdir.next() == Some(RepoPath::root()));
+    assert!(rt; of_subdir.next() == None);
+}
+
+fn copies_of<R: Abort>(rt: &R, alloc: Global) -> Result<(), AllocError> {
+    let file = owned(rt, alloc, "dir/file")?;
+    let copy = file.clone()?;
+    assert!(rt; copy == file);
+    assert!(rt; copy.into_internal_string().as_str() == "dir/file");
+    let dir = name(rt, alloc, "dir").to_owned(alloc)?;
+    let same = dir.clone()?;
+    assert!(rt; same == dir);
+    assert!(rt; same.as_component() == name(rt, alloc, "dir"));
+    assert_eq!(rt; same.as_internal_str(), "dir");
+    assert_eq!(rt; name(rt, alloc, "dir").as_internal_str(), "dir");
+    Ok(())
+}
+
+#[test]
+fn copies(rt: HostRuntime) {
+    let alloc = rt.alloc();
+    assert!(rt;
+        copies_of(&rt, alloc)
+            .or_else(|_| copies_of(&rt, alloc))
+            .is_ok()
+    );
+}

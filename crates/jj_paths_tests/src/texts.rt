@@ -1,0 +1,173 @@
+//! Texts that are paths and names, texts that are not, and how all are shown.
+use crate::fixtures::{name, owned, path};
+use jj_paths::repo_path::{
+    InvalidNewRepoPathError, RepoPath, RepoPathBuf, RepoPathComponent, RepoPathComponentBuf,
+};
+use std::alloc::{AllocError, Global};
+use std::process::Abort;
+
+const NO_PATHS: [&str; 8] = ["/", "/x", "x/", "x//y", "/a", "a/", "a//b", "//"];
+
+const NO_NAMES: [&str; 5] = ["", "/", "a/b", "/a", "a/"];
+
+// The text is handed back, or memory was refused.
+fn is_refused(error: InvalidNewRepoPathError, text: &str) -> Result<bool, AllocError> {
+    match error {
+        InvalidNewRepoPathError::Invalid { value } => Ok(value.as_str() == text),
+        InvalidNewRepoPathError::Memory => Err(AllocError),
+    }
+}
+
+fn refuses_paths<R: Abort>(rt: &R, alloc: Global) -> Result<(), AllocError> {
+    for text in NO_PATHS {
+        match RepoPath::from_internal_string(alloc, text) {
+            Ok(_) => panic!(rt; "{text} is no path"),
+            Err(e) => assert!(rt; is_refused(e, text)?, "{text}"),
+        }
+        match RepoPathBuf::from_internal_string(String::from_str(alloc, text)?) {
+            Ok(_) => panic!(rt; "{text} is no path"),
+            Err(e) => assert!(rt; is_refused(e, text)?, "{text}"),
+        }
+    }
+    Ok(())
+}
+
+#[test]
+fn no_paths(rt: HostRuntime) {
+    let alloc = rt.alloc();
+    assert!(rt;
+        refuses_paths(&rt, alloc)
+            .or_else(|_| refuses_paths(&rt, alloc))
+            .is_ok()
+    );
+}
+
+fn refuses_names<R: Abort>(rt: &R, alloc: Global) -> Result<(), AllocError> {
+    for text in NO_NAMES {
+        match RepoPathComponent::new(alloc, text) {
+            Ok(_) => panic!(rt; "{text} is no name"),
+            Err(e) => assert!(rt; is_refused(e, text)?, "{text}"),
+        }
+        match RepoPathComponentBuf::new(String::from_str(alloc, text)?) {
+            Ok(_) => panic!(rt; "{text} is no name"),
+            Err(e) => assert!(rt; is_refused(e, text)?, "{text}"),
+        }
+    }
+    Ok(())
+}
+
+#[test]
+fn no_names(rt: HostRuntime) {
+    let alloc = rt.alloc();
+    assert!(rt;
+        refuses_names(&rt, alloc)
+            .or_else(|_| refuses_names(&rt, alloc))
+            .is_ok()
+    );
+}
+
+fn reads_paths<R: Abort>(rt: &R, alloc: Global) -> Result<(), AllocError> {
+    for text in ["", "x", "x/y", "dir#/sub.dir/\u{e9}", ".", "../x"] {
+        match RepoPathBuf::from_internal_string(String::from_str(alloc, text)?) {
+            Ok(read) => {
+                assert!(rt; read.as_path() == path(rt, alloc, text));
+                assert_eq!(rt; read.as_path().as_internal_file_string(), text);
+            }
+            Err(_) => panic!(rt; "{text} is a path"),
+        }
+    }
+    match RepoPathComponentBuf::new(String::from_str(alloc, "dir")?) {
+        Ok(dir) => assert!(rt; dir.as_component() == name(rt, alloc, "dir")),
+        Err(_) => panic!(rt; "dir is a name"),
+    }
+    Ok(())
+}
+
+#[test]
+fn paths_and_names(rt: HostRuntime) {
+    let alloc = rt.alloc();
+    assert!(rt;
+        reads_paths(&rt, alloc)
+            .or_else(|_| reads_paths(&rt, alloc))
+            .is_ok()
+    );
+}
+
+fn writes_directories<R: Abort>(rt: &R, alloc: Global) -> Result<(), AllocError> {
+    for (text, want) in [("", ""), ("dir", "dir/"), ("dir/file", "dir/file/")] {
+        assert!(rt;
+            path(rt, alloc, text)
+                .to_internal_dir_string(alloc)?
+                .as_str()
+                == want,
+            "{text}"
+        );
+    }
+    Ok(())
+}
+
+#[test]
+fn directories(rt: HostRuntime) {
+    let alloc = rt.alloc();
+    assert!(rt;
+        writes_directories(&rt, alloc)
+            .or_else(|_| writes_directories(&rt, alloc))
+            .is_ok()
+    );
+}
+
+fn shows_errors<R: Abort>(rt: &R, alloc: Global) -> Result<(), AllocError> {
+    let invalid = InvalidNewRepoPathError::Invalid {
+        value: String::from_str(alloc, "a//b")?,
+    };
+    assert_eq!(rt;
+        invalid.to_string(alloc)?.as_str(),
+        "Invalid repo path input \"a//b\""
+    );
+    assert_eq!(rt;
+        InvalidNewRepoPathError::Memory.to_string(alloc)?.as_str(),
+        "out of memory"
+    );
+    Ok(())
+}
+
+#[test]
+fn errors_shown(rt: HostRuntime) {
+    let alloc = rt.alloc();
+    assert!(rt;
+        shows_errors(&rt, alloc)
+            .or_else(|_| shows_errors(&rt, alloc))
+            .is_ok()
+    );
+}
+
+fn shows_paths<R: Abort>(rt: &R, alloc: Global) -> Result<(), AllocError> {
+    let quoted = path(rt, alloc, "dir/a \"b\"");
+    assert_eq!(rt;
+        format!(in alloc; "{:?}", quoted)?.as_str(),
+        "\"dir/a \\\"b\\\"\""
+    );
+    assert_eq!(rt;
+        format!(in alloc; "{:?}", owned(rt, alloc, "dir/file")?)?.as_str(),
+        "\"dir/file\""
+    );
+    assert_eq!(rt;
+        format!(in alloc; "{:?}", name(rt, alloc, "dir"))?.as_str(),
+        "\"dir\""
+    );
+    assert_eq!(rt;
+        format!(in alloc; "{:?}", name(rt, alloc, "dir").to_owned(alloc)?)?.as_str(),
+        "\"dir\""
+    );
+    Ok(())
+}
+
+#[test]
+fn paths_shown(rt: HostRuntime) {
+    let alloc = rt.alloc();
+    assert!(rt;
+        shows_paths(&rt, alloc)
+            .or_else(|_| shows_paths(&rt, alloc))
+            .is_ok()
+    );
+}

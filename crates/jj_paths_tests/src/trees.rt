@@ -1,0 +1,264 @@
+//! Trees of values at paths.
+use crate::fixtures::{name, path};
+use jj_paths::repo_path::{RepoPath, RepoPathBuf, RepoPathComponentBuf};
+use jj_paths::repo_path_tree::RepoPathTree;
+use std::alloc::{AllocError, Global};
+use std::process::Abort;
+
+// A tree with 1 at `a`, 2 at `a/b` and 3 at `c/d`, and so 0 at the root and at `c`.
+fn small_tree<R: Abort>(rt: &R, alloc: Global) -> Result<RepoPathTree<u32>, AllocError> {
+    let mut tree: RepoPathTree<u32> = RepoPathTree::default(alloc);
+    tree.set(alloc, path(rt, alloc, "a/b"), 2)?;
+    tree.add(alloc, path(rt, alloc, "a"))?.set_value(1);
+    *tree.add(alloc, path(rt, alloc, "c/d"))?.value_mut() = 3;
+    Ok(tree)
+}
+
+// The value at a path, or 99 where the tree has none.
+fn value_at<R: Abort>(rt: &R, alloc: Global, tree: &RepoPathTree<u32>, text: &'static str) -> u32 {
+    match tree.get(path(rt, alloc, text)) {
+        Some(found) => *found.value(),
+        None => 99,
+    }
+}
+
+fn reads_values<R: Abort>(rt: &R, alloc: Global) -> Result<(), AllocError> {
+    let mut tree = small_tree(rt, alloc)?;
+    for (text, want) in [
+        ("", 0),
+        ("a", 1),
+        ("a/b", 2),
+        ("c", 0),
+        ("c/d", 3),
+        ("b", 99),
+        ("a/b/c", 99),
+        ("ab", 99),
+    ] {
+        assert_eq!(rt; value_at(rt, alloc, &tree, text), want, "{text}");
+    }
+    assert!(rt; tree.has_children());
+    tree.set_value(7);
+    *tree.value_mut() += 1;
+    assert_eq!(rt; *tree.value(), 8);
+    assert_eq!(rt; value_at(rt, alloc, &tree, "c/d"), 3);
+    match tree.get(path(rt, alloc, "a/b")) {
+        Some(leaf) => assert!(rt; !leaf.has_children() && leaf.children().next().is_none()),
+        None => panic!(rt; "a/b was added"),
+    }
+    Ok(())
+}
+
+#[test]
+fn values(rt: HostRuntime) {
+    let alloc = rt.alloc();
+    assert!(rt;
+        reads_values(&rt, alloc)
+            .or_else(|_| reads_values(&rt, alloc))
+            .is_ok()
+    );
+}
+
+fn lists_children<R: Abort>(rt: &R, alloc: Global) -> Result<(), AllocError> {
+    let tree = small_tree(rt, alloc)?;
+    let mut children = tree.children();
+    match (children.next(), children.next(), children.next()) {
+        (Some((first, a)), Some((second, c)), None) => {
+            assert!(rt; first == name(rt, alloc, "a") && second == name(rt, alloc, "c"));
+            assert_eq!(rt; (*a.value(), *c.value()), (1, 0));
+        }
+        _ => panic!(rt; "there are two children"),
+    }
+    match tree.entries() {
+        [(first, _), (second, c)] => {
+            assert_eq!(rt;
+                (first.as_internal_str(), second.as_internal_str()),
+                ("a", "c")
+            );
+            assert!(rt; c.has_children());
+        }
+        _ => panic!(rt; "there are two children"),
+    }
+    match tree.child(name(rt, alloc, "c")) {
+        Some(c) => assert_eq!(rt; value_at(rt, alloc, c, "d"), 3),
+        None => panic!(rt; "c was added"),
+    }
+    assert!(rt; tree.child(name(rt, alloc, "d")).is_none());
+    Ok(())
+}
+
+#[test]
+fn children(rt: HostRuntime) {
+    let alloc = rt.alloc();
+    assert!(rt;
+        lists_children(&rt, alloc)
+            .or_else(|_| lists_children(&rt, alloc))
+            .is_ok()
+    );
+}
+
+fn walks_to_paths<R: Abort>(rt: &R, alloc: Global) -> Result<(), AllocError> {
+    let tree = small_tree(rt, alloc)?;
+    let mut whole = tree.walk_to(path(rt, alloc, "a/b"));
+    for (want_value, want_rest) in [(0, "a/b"), (1, "b"), (2, "")] {
+        match whole.next() {
+            Some((below, rest)) => assert_eq!(rt;
+                (*below.value(), rest.as_internal_file_string()),
+                (want_value, want_rest)
+            ),
+            None => panic!(rt; "the tree holds a/b"),
+        }
+    }
+    assert!(rt; whole.next().is_none());
+    let mut cut_short = tree.walk_to(path(rt, alloc, "c/x/y"));
+    for (want_value, want_rest) in [(0, "c/x/y"), (0, "x/y")] {
+        match cut_short.next() {
+            Some((below, rest)) => assert_eq!(rt;
+                (*below.value(), rest.as_internal_file_string()),
+                (want_value, want_rest)
+            ),
+            None => panic!(rt; "the tree holds c"),
+        }
+    }
+    assert!(rt; cut_short.next().is_none());
+    assert!(rt; cut_short.next().is_none());
+    Ok(())
+}
+
+#[test]
+fn walks(rt: HostRuntime) {
+    let alloc = rt.alloc();
+    assert!(rt;
+        walks_to_paths(&rt, alloc)
+            .or_else(|_| walks_to_paths(&rt, alloc))
+            .is_ok()
+    );
+}
+
+fn copies_trees<R: Abort>(rt: &R, alloc: Global) -> Result<(), AllocError> {
+    let mut tree = small_tree(rt, alloc)?;
+    let copy = tree.clone()?;
+    tree.set(alloc, path(rt, alloc, "a/b"), 5)?;
+    for (text, want) in [
+        ("", 0),
+        ("a", 1),
+        ("a/b", 2),
+        ("c", 0),
+        ("c/d", 3),
+        ("b", 99),
+    ] {
+        assert_eq!(rt; value_at(rt, alloc, &copy, text), want, "{text}");
+    }
+    Ok(())
+}
+
+#[test]
+fn copies(rt: HostRuntime) {
+    let alloc = rt.alloc();
+    assert!(rt;
+        copies_trees(&rt, alloc)
+            .or_else(|_| copies_trees(&rt, alloc))
+            .is_ok()
+    );
+}
+
+fn shows_trees<R: Abort>(rt: &R, alloc: Global) -> Result<(), AllocError> {
+    let tree = small_tree(rt, alloc)?;
+    let shown = format!(in alloc; "{:?}", tree)?;
+    assert_eq!(rt;
+        shown.as_str(),
+        "0 {\"a\": 1 {\"b\": 2 {}}, \"c\": 0 {\"d\": 3 {}}}"
+    );
+    Ok(())
+}
+
+#[test]
+fn trees_shown(rt: HostRuntime) {
+    let alloc = rt.alloc();
+    assert!(rt;
+        shows_trees(&rt, alloc)
+            .or_else(|_| shows_trees(&rt, alloc))
+            .is_ok()
+    );
+}
+
+// Where `add` is refused, each value is kept, and what is new on the way has the default value.
+#[test]
+fn refused_adds(rt: HostRuntime) {
+    let alloc = rt.alloc();
+    let mut tree = match small_tree(&rt, alloc).or_else(|_| small_tree(&rt, alloc)) {
+        Ok(tree) => tree,
+        Err(_) => panic!(rt; "memory was refused twice"),
+    };
+    match tree.add(alloc, path(&rt, alloc, "a/b/c/d")) {
+        Ok(node) => node.set_value(4),
+        Err(_) => {
+            assert!(rt;
+                value_at(&rt, alloc, &tree, "a/b/c/d") == 99
+                    || value_at(&rt, alloc, &tree, "a/b/c/d") == 0
+            );
+            assert!(rt; tree.set(alloc, path(&rt, alloc, "a/b/c/d"), 4).is_ok());
+        }
+    }
+    for (text, want) in [
+        ("", 0),
+        ("a", 1),
+        ("a/b", 2),
+        ("c", 0),
+        ("c/d", 3),
+        ("a/b/c", 0),
+        ("a/b/c/d", 4),
+    ] {
+        assert_eq!(rt; value_at(&rt, alloc, &tree, text), want, "{text}");
+    }
+}
+
+// A name of four digits, written by the caller's number.
+fn numbered(alloc: Global, number: u32) -> Result<String, AllocError> {
+    format!(in alloc; "{number:04}")
+}
+
+fn adds_in_descending_order<R: Abort>(rt: &R, alloc: Global) -> Result<(), AllocError> {
+    let mut tree: RepoPathTree<u32> = RepoPathTree::default(alloc);
+    for number in (0u32..2000).rev() {
+        match RepoPathBuf::from_internal_string(numbered(alloc, 2 * number)?) {
+            Ok(added) => tree.set(alloc, added.as_path(), number)?,
+            Err(_) => panic!(rt; "digits are a path"),
+        }
+    }
+    let mut children = tree.children();
+    for number in 0u32..2000 {
+        match children.next() {
+            Some((name, child)) => {
+                assert_eq!(rt; *child.value(), number);
+                assert!(rt; name.as_internal_str() == numbered(alloc, 2 * number)?.as_str());
+            }
+            None => panic!(rt; "2,000 children were added"),
+        }
+    }
+    assert!(rt; children.next().is_none());
+    for number in 0u32..2000 {
+        let even = numbered(alloc, 2 * number)?;
+        let odd = numbered(alloc, 2 * number + 1)?;
+        match (
+            RepoPath::from_internal_string(alloc, even.as_str()),
+            RepoPath::from_internal_string(alloc, odd.as_str()),
+        ) {
+            (Ok(there), Ok(between)) => {
+                assert!(rt; tree.get(there).is_some());
+                assert!(rt; tree.get(between).is_none());
+            }
+            _ => panic!(rt; "digits are a path"),
+        }
+    }
+    Ok(())
+}
+
+#[test]
+fn two_thousand_children(rt: HostRuntime) {
+    let alloc = rt.alloc();
+    assert!(rt;
+        adds_in_descending_order(&rt, alloc)
+            .or_else(|_| adds_in_descending_order(&rt, alloc))
+            .is_ok()
+    );
+}
