@@ -7,7 +7,7 @@ use Rattle.std.specs.List.Sorted.{IsStrictlySortedBy}
 use Rattle.jj_paths.specs.Paths.{Name, Path, path_cmp}
 use Rattle.jj_paths.specs.Tree.{Tree, has_branches}
 use Rattle.jj_matchers.specs.Answers.{Answer, all_recursively, specific, nothing, IsSound, NamesAll}
-use Rattle.jj_matchers.specs.Walk.{nodes_below, paths_where, is_file, is_entered, leads_to, enters, is_entered_directory}
+use Rattle.jj_matchers.specs.Walk.{nodes_below, is_file, is_entered, leads_to, enters, is_entered_directory}
 use Rattle.jj_matchers.specs.WalkParts.{paths_below, paths_from, is_marked_node, is_directory, ComesTo}
 use Rattle.std.specs.declared.cmp.Ordering.TheVariants.{Less}
 use Rattle.jj_matchers.proofs.Orders.{sorted_none, sorted-cons, before_below, all-append}

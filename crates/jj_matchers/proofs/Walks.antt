@@ -1,16 +1,16 @@
 -- The nodes below a directory, branch by branch.
-use Rattle.std.proofs.Common.{◌≡◌, ℕ, ◌≤◌, ◌<◌, ◌+◌, Bool, true, false, cond, if◌then◌else◌, List, [], ◌∷◌, ◌++◌, map, refl, ap, sym, subst, ◌∙◌, append_assoc, append-nil, arith}
+use Rattle.std.proofs.Common.{◌≡◌, Bool, true, false, List, [], ◌∷◌, ◌++◌, refl, ap, sym, subst, ◌∙◌, append_assoc, append-nil}
 use Rattle.std.specs.declared.cmp.Ordering.TheVariants.{Less}
-use Rattle.std.specs.List.{filter, AllByRecursion}
+use Rattle.std.specs.List.{AllByRecursion}
 use Rattle.std.specs.List.Sorted.{IsStrictlySortedBy}
 use Rattle.std.specs.FinMap.{is_sorted}
 use Rattle.std.specs.FinMap.Entries.{below_all}
 use mathlib.Core.Bool.{false≢true}
 use Rattle.std.proofs.lemmas.Bool.{and_parts}
 use Rattle.jj_paths.specs.Paths.{Name, Path, name_cmp, path_cmp}
-use Rattle.jj_paths.specs.Tree.{Tree, Branches, none, branch, branches_of, children, branch_count, has_branches}
+use Rattle.jj_paths.specs.Tree.{Tree, Branches, none, branch, branches_of, children, has_branches}
 use Rattle.jj_matchers.specs.Walk.{nodes_below, paths_where}
-use Rattle.jj_matchers.proofs.Orders.{before_name, before_below, less_from_is_lt, all-append, all-map, sorted-append, sorted-cons, sorted_none}
+use Rattle.jj_matchers.proofs.Orders.{before_name, before_below, less_from_is_lt, all-append, sorted-append, sorted-cons, sorted_none}
 
 -- a path, if the test passes
 abbrev pub path_if : Bool → Path → List Path

@@ -1,8 +1,8 @@
 -- What contracts see of a `Visit`.
-use Rattle.std.specs.Prelude.{Bool, true, false, List, [], ◌∷◌}
+use Rattle.std.specs.Prelude.{Bool, true, List, [], ◌∷◌}
 use Rattle.std.specs.Str.{bytes_eq}
 use Rattle.std.specs.List.{list_any}
-use Rattle.jj_paths.specs.Paths.{Name, Path}
+use Rattle.jj_paths.specs.Paths.{Name}
 use Rattle.jj_matchers.specs.Answers.{Answer, all_recursively, specific, nothing}
 use Rattle.jj_matchers.specs.declared.matchers.visits.Visit.{Visit}
 use Rattle.jj_matchers.specs.declared.matchers.visits.Visit.TheVariants.{AllRecursively, Specific, Nothing}

@@ -1,5 +1,8 @@
 //! Matchers: sets of paths that can tell where below a directory their paths are.
 
+mod files_matcher;
+mod marked_tree;
+mod prefix_matcher;
 mod tree_walk;
 mod visits;
 
@@ -9,7 +12,9 @@ ghost use Rattle.jj_paths.specs.Names.{path_of};
 ghost use Rattle.jj_matchers.specs.Answers.{Answer, IsSound, all_recursively, nothing};
 ghost use Rattle.jj_matchers.specs.Visits.{answer_of};
 
+pub use files_matcher::FilesMatcher;
 use jj_paths::repo_path::RepoPath;
+pub use prefix_matcher::PrefixMatcher;
 use std::alloc::{AllocError, Global};
 pub use tree_walk::{Walk, walk_matching};
 pub use visits::{Visit, VisitDirs, VisitFiles};

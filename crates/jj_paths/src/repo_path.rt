@@ -7,6 +7,9 @@ mod iter;
 mod orders;
 mod shown;
 
+pub use crate::repo_path_tree::{
+    RepoPathNode, RepoPathTree, RepoPathTreeChildren, RepoPathTreeWalk,
+};
 pub use iter::{RepoPathAncestors, RepoPathComponentsIter};
 use std::alloc::{AllocError, Global};
 use std::marker::Model;

@@ -7,7 +7,7 @@ ghost use Rattle.jj_paths.specs.Names.{name_of, path_of};
 use super::{RepoPath, RepoPathComponent};
 
 /// The names of a path that have not been given yet. Once it has answered `None`, it goes on so.
-#[derive(Clone, Copy)]
+#[derive(Clone, Copy, Debug)]
 pub struct RepoPathComponentsIter<'a> {
     path: RepoPath<'a>,
 }
@@ -58,7 +58,7 @@ impl<'a> DoubleEndedIterator for RepoPathComponentsIter<'a> {
 }
 
 /// A path and the paths above it that have not been given yet, up to the root.
-#[derive(Clone, Copy)]
+#[derive(Clone, Copy, Debug)]
 pub struct RepoPathAncestors<'a> {
     next: Option<RepoPath<'a>>,
 }

@@ -1,11 +1,11 @@
-use Rattle.std.proofs.Common.{◌≡◌, ◌∷◌, ◌++◌, [], List, Bool, true, sym, ap, ◌∙◌, subst, arith}
+use Rattle.std.proofs.Common.{◌≡◌, ◌∷◌, ◌++◌, [], sym, ap, ◌∙◌, subst, arith}
 use Rattle.std.specs.FinMap.{is_sorted}
 use Rattle.std.specs.List.Sorted.{IsStrictlySortedBy}
 use Rattle.std.proofs.lemmas.Bool.{and_parts}
-use Rattle.jj_paths.specs.Paths.{Path, name_cmp, path_cmp}
-use Rattle.jj_paths.specs.Names.{path_of, name_of}
+use Rattle.jj_paths.specs.Paths.{name_cmp, path_cmp}
+use Rattle.jj_paths.specs.Names.{name_of}
 use Rattle.jj_paths.specs.Children.{children_left}
-use Rattle.jj_paths.specs.Tree.{branches_of, branch_count, has_branches, children}
+use Rattle.jj_paths.specs.Tree.{branches_of, branch_count, children}
 use Rattle.jj_matchers.specs.Walk.{nodes_below, paths_where}
 use Rattle.jj_matchers.specs.WalkParts.{paths_below, paths_from, is_marked_node, is_directory}
 use Rattle.jj_matchers.proofs.Walks.{path_if, path_if_true, path_if_false, branches_of-children, from_start, from_split, found_step, ordered_step, sorted_nothing, sorted_end}

@@ -1,16 +1,16 @@
-use Rattle.std.proofs.Common.{◌≡◌, ◌<◌, ◌∷◌, ◌++◌, ◌&&◌, [], List, Bool, true, false, sym, ap, ◌∙◌, subst, append-nil, arith, Result, Ok, Err, OnOk}
+use Rattle.std.proofs.Common.{◌≡◌, ◌<◌, ◌∷◌, ◌++◌, ◌&&◌, [], true, false, sym, ap, ◌∙◌, subst, append-nil, arith, Result, Ok, Err, OnOk}
 use Rattle.std.specs.FinMap.{is_sorted}
 use Rattle.std.specs.List.{AllByRecursion}
 use Rattle.std.specs.List.Sorted.{IsStrictlySortedBy}
 use Rattle.std.proofs.lemmas.Bool.{and_parts}
-use Rattle.jj_paths.specs.Paths.{Path, Name, name_cmp, path_cmp}
-use Rattle.jj_paths.specs.Names.{path_of, name_of}
+use Rattle.jj_paths.specs.Paths.{name_cmp, path_cmp}
+use Rattle.jj_paths.specs.Names.{name_of}
 use Rattle.jj_paths.specs.Children.{children_left}
-use Rattle.jj_paths.specs.Tree.{Tree, branches_of, branch_count, has_branches, children}
-use Rattle.jj_matchers.specs.Answers.{Answer, all_recursively, specific, nothing, IsSound, NamesAll}
+use Rattle.jj_paths.specs.Tree.{branches_of, branch_count, children}
+use Rattle.jj_matchers.specs.Answers.{all_recursively, specific, nothing, IsSound, NamesAll}
 use Rattle.jj_matchers.specs.Visits.{answer_of, dir_names, file_names}
 use Rattle.jj_matchers.specs.Walk.{nodes_below, paths_where, is_file, is_entered_directory}
-use Rattle.jj_matchers.specs.WalkParts.{paths_below, paths_from, is_marked_node, is_directory, ComesTo}
+use Rattle.jj_matchers.specs.WalkParts.{paths_below, paths_from, ComesTo}
 use Rattle.jj_matchers.proofs.Walks.{path_if, path_if_true, path_if_false, branches_of-children, from_start, from_split, found_step, ordered_step, sorted_nothing, sorted_end, all_step, all_end}
 use Rattle.jj_matchers.proofs.Answered
 use Rattle.jj_matchers.proofs.Answered.{FindsChild}

@@ -1,0 +1,47 @@
+-- The paths that a tree of marks stands for.
+use Rattle.std.specs.Prelude.{◌≡◌, Bool, true, false, ◌||◌, List, [], ◌∷◌, ◌++◌, Option, Some, None, map, if◌then◌else◌}
+use Rattle.std.specs.List.{filter, list_any}
+use Rattle.jj_paths.specs.Paths.{Name, Path}
+use Rattle.jj_paths.specs.Tree.{Tree, Branches, child, children, has_branches, value_at}
+use Rattle.jj_matchers.specs.Answers.{Answer, specific, nothing}
+use Rattle.jj_matchers.specs.Walk.{nodes_below}
+
+abbrev pub is_some_true : Option Bool → Bool
+is_some_true None = false
+is_some_true (Some mark) = mark
+
+-- whether a tree has a mark at a path
+abbrev pub is_marked : Tree Bool → Path → Bool
+is_marked tree path = is_some_true (value_at tree path)
+
+-- the marked paths of a tree
+abbrev pub marked_paths : Tree Bool → List Path
+marked_paths tree = filter (is_marked tree) ([] ∷ map (λ node. node.0) (nodes_below [] tree.1))
+
+-- each node but the root that has no mark has a child, and so leads to a mark
+abbrev pub LeadsToMarks : Tree Bool → Type 0
+LeadsToMarks tree = (above : Path) (name : Name) → value_at tree (above ++ name ∷ []) ≡ Some false → ((next : Name) → value_at tree (above ++ name ∷ next ∷ []) ≡ None) → ⊥
+
+-- whether the node of a name passes a test, and whether any node does
+abbrev pub passes : (Tree Bool → Bool) → Option (Tree Bool) → Bool
+passes test None = false
+passes test (Some node) = test node
+
+abbrev pub named_by : (Tree Bool → Bool) → Branches Bool → Name → Bool
+named_by test branches name = passes test (child branches name)
+
+abbrev pub any_child : (Tree Bool → Bool) → Branches Bool → Bool
+any_child test branches = list_any (λ child. test child.1) (children branches)
+
+-- the answer that names the children that pass a test as directories, and those that pass another as files
+abbrev pub children_answer : (Tree Bool → Bool) → (Tree Bool → Bool) → Branches Bool → Answer
+children_answer dirs files branches = if any_child dirs branches || any_child files branches then specific (named_by dirs branches) (named_by files branches) else nothing
+
+abbrev pub has_children : Tree Bool → Bool
+has_children node = has_branches node.1
+
+abbrev pub has_mark : Tree Bool → Bool
+has_mark node = node.0
+
+abbrev pub any_node : Tree Bool → Bool
+any_node node = true

@@ -1,0 +1,68 @@
+//! The matcher of wanted files.
+ghost use Rattle.std.specs.Prelude.{◌≡◌, IfOk};
+ghost use Rattle.std.specs.List.{list_any};
+ghost use Rattle.jj_paths.specs.Paths.{Path};
+ghost use Rattle.jj_paths.specs.Names.{path_of};
+ghost use Rattle.jj_paths.specs.Orders.{path_eq};
+ghost use Rattle.jj_matchers.specs.Wanted.{is_wanted, leads_to_wanted, files_answer};
+
+use crate::matchers::marked_tree::{marked_tree, visit_files};
+use crate::matchers::{Matcher, Visit};
+use jj_paths::repo_path::RepoPath;
+use jj_paths::repo_path_tree::RepoPathTree;
+use std::alloc::{AllocError, Global};
+use std::marker::Model;
+
+/// The wanted files. A contract sees them as a list of paths, in no order.
+#[derive(Drop)]
+pub struct FilesMatcher {
+    tree: RepoPathTree<bool>,
+}
+
+impl Model for FilesMatcher {
+    ghost use Rattle.std.specs.Prelude.{List};
+    ghost use Rattle.jj_paths.specs.Paths.{Path};
+    ghost use Rattle.jj_matchers.specs.Marks.{marked_paths, LeadsToMarks};
+
+    ghost Value = { List Path };
+
+    ghost view = { λ m. marked_paths m.tree };
+
+    ghost invariant = { λ m. LeadsToMarks m.tree };
+}
+
+impl FilesMatcher {
+    /// The matcher of these files; a path may come more than once.
+    pub fn new(alloc: Global, files: &[RepoPath<'_>]) -> Result<FilesMatcher, AllocError>
+        ensures { IfOk result (λ wanted. (path : Path) → is_wanted wanted path ≡ list_any (λ file. path_eq path (path_of file)) files.now) }
+    {
+        Ok(FilesMatcher {
+            tree: marked_tree(alloc, files)?,
+        })
+    }
+}
+
+impl Matcher for FilesMatcher {
+    ghost accepts = { is_wanted };
+
+    ghost opens = { leads_to_wanted };
+
+    ghost answers = { files_answer };
+
+    fn matches(&self, file: RepoPath<'_>) -> bool {
+        match self.tree.get(file) {
+            Some(node) => *node.value(),
+            None => false,
+        }
+    }
+
+    fn visit(&self, alloc: Global, dir: RepoPath<'_>) -> Result<Visit, AllocError> {
+        match self.tree.get(dir) {
+            Some(node) => {
+                let visit = visit_files(alloc, node)?;
+                Ok(visit)
+            }
+            None => Ok(Visit::Nothing),
+        }
+    }
+}

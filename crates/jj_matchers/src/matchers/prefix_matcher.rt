@@ -1,0 +1,68 @@
+//! The matcher of everything at or below some paths.
+ghost use Rattle.std.specs.Prelude.{◌≡◌, ◌||◌, IfOk};
+ghost use Rattle.std.specs.List.{list_any};
+ghost use Rattle.jj_paths.specs.Paths.{Path};
+ghost use Rattle.jj_paths.specs.Names.{path_of};
+ghost use Rattle.jj_paths.specs.Orders.{path_eq};
+ghost use Rattle.jj_matchers.specs.Wanted.{is_wanted, has_prefix, leads_to_prefix, prefix_answer};
+
+use crate::matchers::marked_tree::{marked_tree, visit_prefixes};
+use crate::matchers::{Matcher, Visit};
+use jj_paths::repo_path::RepoPath;
+use jj_paths::repo_path_tree::RepoPathTree;
+use std::alloc::{AllocError, Global};
+use std::marker::Model;
+
+/// The paths at or below a prefix. A contract sees the prefixes as a list of paths, in no order.
+#[derive(Drop)]
+pub struct PrefixMatcher {
+    tree: RepoPathTree<bool>,
+}
+
+impl Model for PrefixMatcher {
+    ghost use Rattle.std.specs.Prelude.{List};
+    ghost use Rattle.jj_paths.specs.Paths.{Path};
+    ghost use Rattle.jj_matchers.specs.Marks.{marked_paths, LeadsToMarks};
+
+    ghost Value = { List Path };
+
+    ghost view = { λ m. marked_paths m.tree };
+
+    ghost invariant = { λ m. LeadsToMarks m.tree };
+}
+
+impl PrefixMatcher {
+    /// The matcher of these prefixes; a path may come more than once.
+    pub fn new(alloc: Global, prefixes: &[RepoPath<'_>]) -> Result<PrefixMatcher, AllocError>
+        ensures { IfOk result (λ all. (path : Path) → is_wanted all path ≡ list_any (λ prefix. path_eq path (path_of prefix)) prefixes.now) }
+    {
+        Ok(PrefixMatcher {
+            tree: marked_tree(alloc, prefixes)?,
+        })
+    }
+}
+
+impl Matcher for PrefixMatcher {
+    ghost accepts = { has_prefix };
+
+    ghost opens = { λ prefixes path. has_prefix prefixes path || leads_to_prefix prefixes path };
+
+    ghost answers = { prefix_answer };
+
+    fn matches(&self, file: RepoPath<'_>) -> bool {
+        self.tree.walk_to(file).any(|(node, _)| *node.value())
+    }
+
+    fn visit(&self, alloc: Global, dir: RepoPath<'_>) -> Result<Visit, AllocError> {
+        if self.matches(dir) {
+            return Ok(Visit::AllRecursively);
+        }
+        match self.tree.get(dir) {
+            Some(node) => {
+                let visit = visit_prefixes(alloc, node)?;
+                Ok(visit)
+            }
+            None => Ok(Visit::Nothing),
+        }
+    }
+}
