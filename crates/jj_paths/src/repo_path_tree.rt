@@ -9,7 +9,7 @@ ghost use Rattle.jj_paths.specs.Paths.{Name, Path, name_cmp, rest_of};
 ghost use Rattle.jj_paths.specs.Names.{name_of, path_of};
 ghost use Rattle.std.specs.FinMap.{is_sorted};
 ghost use Rattle.std.specs.Iterator.{YieldsFirstBy, item_count};
-ghost use Rattle.jj_paths.specs.Tree.{Tree, none, children, child, get, has_branches, put, put_value, update_child, put_below, nodes_on, nodes_below, nodes_from, IsPartOf, IsExtended, IsEdited, IsSet, IsGrown, IsAt, IsGapFor};
+ghost use Rattle.jj_paths.specs.Tree.{Tree, branches_of, none, children, child, get, has_branches, put, put_value, update_child, put_below, nodes_on, nodes_below, nodes_from, IsPartOf, IsExtended, IsEdited, IsSet, IsGrown, IsAt, IsGapFor};
 
 use crate::repo_path::{RepoPath, RepoPathComponent, RepoPathComponentBuf};
 use std::alloc::{AllocError, Global};
@@ -26,7 +26,6 @@ pub struct RepoPathTree<V> {
 
 /// A node of a tree, with what is below it.
 #[cycle(tree)]
-#[derive(Drop)]
 pub struct RepoPathNode<V> {
     value: V,
     entries: Vec<(RepoPathComponentBuf, RepoPathTree<V>)>,
@@ -65,6 +64,89 @@ impl<V> Model for RepoPathNode<V> {
     ghost size = { λ t. 2 * branch_count t.1 };
 
     ghost size_decreases = { λ t h. most_le-branch_count _ weight_le-pair t.entries.items };
+}
+
+/// Goes down and up again without a recursion, so that a deep tree takes no more stack than a flat one. On the way down
+/// the place that a child leaves in its parent's list keeps the way back up: it holds the list above the parent.
+impl<V: Drop> Drop for RepoPathNode<V> {
+    fn drop(self) {
+        let mut current = self.into_entries();
+        let mut above = Vec::new(*current.allocator());
+        loop {
+            match current.pop() {
+                Some((name, tree)) => {
+                    let (value, below) = tree.into_parts();
+                    let way_up = RepoPathTree::from_parts(value, above);
+                    if let Err(_) = current.push((name, way_up)) {
+                        unreachable!();
+                    }
+                    above = current;
+                    current = below;
+                }
+                None => match above.pop() {
+                    Some((_name, way_up)) => {
+                        let (_value, further_up) = way_up.into_parts();
+                        current.destroy_empty();
+                        current = above;
+                        above = further_up;
+                    }
+                    None => {
+                        current.destroy_empty();
+                        above.destroy_empty();
+                        return;
+                    }
+                },
+            }
+        }
+    }
+}
+
+impl<V> RepoPathNode<V> {
+    // the children alone
+    fn into_entries(self) -> Vec<(RepoPathComponentBuf, RepoPathTree<V>)>
+    where
+        V: Drop,
+        ensures by_name { IsTrue (is_sorted name_cmp result.items) }
+    {
+        let RepoPathNode {
+            value: _value,
+            entries,
+        } = self;
+        entries
+    }
+
+    // the value and the children
+    fn into_parts(self) -> (V, Vec<(RepoPathComponentBuf, RepoPathTree<V>)>)
+        ensures parts { self ≡ (result.0, branches_of result.1.items) }
+        ensures by_name { IsTrue (is_sorted name_cmp result.1.items) }
+    {
+        let RepoPathNode { value, entries } = self;
+        (value, entries)
+    }
+}
+
+impl<V> RepoPathTree<V> {
+    // the value and the children of the root
+    fn into_parts(self) -> (V, Vec<(RepoPathComponentBuf, RepoPathTree<V>)>)
+        ensures parts { self ≡ (result.0, branches_of result.1.items) }
+        ensures by_name { IsTrue (is_sorted name_cmp result.1.items) }
+    {
+        let RepoPathTree { node } = self;
+        node.into_parts()
+    }
+
+    // a tree of a value and children
+    fn from_parts(
+        value: V,
+        entries: Vec<(RepoPathComponentBuf, RepoPathTree<V>)>,
+    ) -> RepoPathTree<V>
+        requires { IsTrue (is_sorted name_cmp entries.items) }
+        ensures { result ≡ (value, branches_of entries.items) }
+    {
+        RepoPathTree {
+            node: RepoPathNode { value, entries },
+        }
+    }
 }
 
 impl<V> RepoPathNode<V> {
