@@ -1,14 +1,15 @@
 -- The answers for sets of paths that are given by a list are sound.
-use Rattle.std.proofs.Common.{◌≡◌, Bool, true, false, ◌&&◌, ◌||◌, List, [], ◌∷◌, ◌++◌, refl, ap, sym, ◌∙◌, append_assoc, inl, inr, if◌then◌else◌}
+use Rattle.std.proofs.Common.{◌≡◌, Bool, true, false, ◌&&◌, ◌||◌, List, [], ◌∷◌, ◌++◌, map, refl, ap, sym, ◌∙◌, append_assoc, inl, inr, if◌then◌else◌}
 use mathlib.Core.Bool.{false≢true}
 use Rattle.std.proofs.lemmas.Bool.{and_parts, or_cases, or_right}
 use Rattle.std.specs.Str.{bytes_eq}
+use Rattle.std.specs.Cmp.{both_ways}
 use Rattle.std.specs.List.{list_any}
 use Rattle.std.proofs.lemmas.Slice.Eq.{bytes_eq-Decides}
 use Rattle.jj_paths.specs.Paths.{Name, Path}
 use Rattle.jj_paths.specs.Orders.{path_eq, path_eq-Decides}
 use Rattle.jj_matchers.specs.Answers.{all_recursively, specific, nothing, IsSound}
-use Rattle.jj_matchers.specs.Wanted.{is_at_or_below, is_below, is_wanted, leads_to_wanted, files_answer, has_prefix, leads_to_prefix, prefix_answer}
+use Rattle.jj_matchers.specs.Wanted.{is_at_or_below, is_below, is_wanted, HasSamePaths, leads_to_wanted, files_answer, has_prefix, leads_to_prefix, prefix_answer}
 
 pub or_left : (a b : Bool) → a ≡ true → (a || b) ≡ true
 or_left a b e = ap (λ x. x || b) e
@@ -152,3 +153,23 @@ module _ (prefixes : List Path) where
   pub prefix_inside : (dir : Path) → has_prefix prefixes dir ≡ true → all_recursively ≡ prefix_answer prefixes dir
   prefix_inside dir e =
       ap (λ b. if b then all_recursively else (if leads_to_wanted prefixes dir then specific (λ name. leads_to_prefix prefixes (dir ++ name ∷ [])) (λ name. is_wanted prefixes (dir ++ name ∷ [])) else nothing)) (sym e)
+
+some_passes : (test : Path → Bool) (xs : List Path) → list_any test xs ≡ true → (x : Path) × ((is_wanted xs x ≡ true) × (test x ≡ true))
+some_passes test [] h = absurd (false≢true h)
+some_passes test (x ∷ xs) h = elim (or_cases (test x) (list_any test xs) h) [
+  | inl e ↦ (x, (or_left (path_eq x x) _ ((path_eq-Decides x x).1 refl), e))
+  | inr e ↦ let later = some_passes test xs e in (later.0, (or_right (path_eq later.0 x) _ later.1.0, later.1.1))
+]
+
+-- lists that have the same paths, path by path
+pub same_members : (paths others : List Path) → ((path : Path) → is_wanted paths path ≡ is_wanted others path) → HasSamePaths paths others
+same_members paths others same test = both_ways (list_any test paths) (list_any test others) (moved paths others same) (moved others paths (λ path. sym (same path)))
+  where
+    moved : (a b : List Path) → ((path : Path) → is_wanted a path ≡ is_wanted b path) → list_any test a ≡ true → list_any test b ≡ true
+    moved a b same h =
+        let found = some_passes test a h in
+        any_implies (path_eq found.0) test (λ y e. ap test (sym ((path_eq-Decides found.0 y).0 e)) ∙ found.1.1) b (sym (same found.0) ∙ found.1.0)
+
+pub list_any-map : {X : Type 0} (f : X → Path) (test : Path → Bool) (xs : List X) → list_any (λ x. test (f x)) xs ≡ list_any test (map f xs)
+list_any-map f test [] = refl
+list_any-map f test (x ∷ xs) = ap (λ b. test (f x) || b) (list_any-map f test xs)

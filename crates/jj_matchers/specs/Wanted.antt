@@ -1,5 +1,5 @@
 -- Sets of paths that are given by a list: the paths of the list, and the paths at or below one of them.
-use Rattle.std.specs.Prelude.{Bool, true, false, ◌&&◌, List, [], ◌∷◌, ◌++◌, if◌then◌else◌}
+use Rattle.std.specs.Prelude.{◌≡◌, Bool, true, false, ◌&&◌, List, [], ◌∷◌, ◌++◌, if◌then◌else◌}
 use Rattle.std.specs.List.{list_any}
 use Rattle.std.specs.Str.{bytes_eq}
 use Rattle.jj_paths.specs.Paths.{Path}
@@ -22,6 +22,10 @@ is_below (name ∷ base) (first ∷ path) = bytes_eq name first && is_below base
 -- whether a path is one of the list
 abbrev pub is_wanted : List Path → Path → Bool
 is_wanted wanted path = list_any (path_eq path) wanted
+
+-- two lists have the same paths, in any order and however often
+abbrev pub HasSamePaths : List Path → List Path → Type 0
+HasSamePaths paths others = (test : Path → Bool) → list_any test paths ≡ list_any test others
 
 -- whether one of the list lies strictly below a directory
 abbrev pub leads_to_wanted : List Path → Path → Bool

@@ -1,10 +1,8 @@
 //! The matcher of wanted files.
-ghost use Rattle.std.specs.Prelude.{◌≡◌, IfOk};
-ghost use Rattle.std.specs.List.{list_any};
+ghost use Rattle.std.specs.Prelude.{◌≡◌, IfOk, map};
 ghost use Rattle.jj_paths.specs.Paths.{Path};
 ghost use Rattle.jj_paths.specs.Names.{path_of};
-ghost use Rattle.jj_paths.specs.Orders.{path_eq};
-ghost use Rattle.jj_matchers.specs.Wanted.{is_wanted, leads_to_wanted, files_answer};
+ghost use Rattle.jj_matchers.specs.Wanted.{HasSamePaths, is_wanted, leads_to_wanted, files_answer};
 
 use crate::matchers::marked_tree::{marked_tree, visit_files};
 use crate::matchers::{Matcher, Visit};
@@ -34,7 +32,7 @@ impl Model for FilesMatcher {
 impl FilesMatcher {
     /// The matcher of these files; a path may come more than once.
     pub fn new(alloc: Global, files: &[RepoPath<'_>]) -> Result<FilesMatcher, AllocError>
-        ensures { IfOk result (λ wanted. (path : Path) → is_wanted wanted path ≡ list_any (λ file. path_eq path (path_of file)) files.now) }
+        ensures { IfOk result (λ matcher. HasSamePaths matcher (map path_of files.now)) }
     {
         Ok(FilesMatcher {
             tree: marked_tree(alloc, files)?,

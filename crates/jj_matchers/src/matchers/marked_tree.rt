@@ -1,11 +1,10 @@
 //! A tree of marks at given paths, and the answers that its children give.
-ghost use Rattle.std.specs.Prelude.{◌≡◌, IfOk};
-ghost use Rattle.std.specs.List.{list_any};
+ghost use Rattle.std.specs.Prelude.{◌≡◌, IfOk, map};
 ghost use Rattle.jj_paths.specs.Paths.{Path};
 ghost use Rattle.jj_paths.specs.Names.{path_of};
-ghost use Rattle.jj_paths.specs.Orders.{path_eq};
 ghost use Rattle.jj_matchers.specs.Marks.{is_marked, LeadsToMarks, children_answer, has_children, has_mark, any_node};
 ghost use Rattle.jj_matchers.specs.Visits.{answer_of};
+ghost use Rattle.jj_matchers.specs.Wanted.{is_wanted};
 
 use crate::matchers::Visit;
 use jj_paths::repo_path::RepoPath;
@@ -15,7 +14,7 @@ use std::collections::HashSet;
 
 /// The tree with `true` at these paths, and `false` at the other nodes on the way to them.
 pub fn marked_tree(alloc: Global, paths: &[RepoPath<'_>]) -> Result<RepoPathTree<bool>, AllocError>
-    ensures marks { IfOk result (λ tree. (path : Path) → is_marked tree path ≡ list_any (λ p. path_eq path (path_of p)) paths.now) }
+    ensures marks { IfOk result (λ tree. (path : Path) → is_marked tree path ≡ is_wanted (map path_of paths.now) path) }
     ensures leads { IfOk result LeadsToMarks }
 {
     let mut sorted = paths.to_vec(alloc)?;

@@ -1,10 +1,8 @@
 //! The matcher of everything at or below some paths.
-ghost use Rattle.std.specs.Prelude.{◌≡◌, ◌||◌, IfOk};
-ghost use Rattle.std.specs.List.{list_any};
+ghost use Rattle.std.specs.Prelude.{◌≡◌, ◌||◌, IfOk, map};
 ghost use Rattle.jj_paths.specs.Paths.{Path};
 ghost use Rattle.jj_paths.specs.Names.{path_of};
-ghost use Rattle.jj_paths.specs.Orders.{path_eq};
-ghost use Rattle.jj_matchers.specs.Wanted.{is_wanted, has_prefix, leads_to_prefix, prefix_answer};
+ghost use Rattle.jj_matchers.specs.Wanted.{HasSamePaths, has_prefix, leads_to_prefix, prefix_answer};
 
 use crate::matchers::marked_tree::{marked_tree, visit_prefixes};
 use crate::matchers::{Matcher, Visit};
@@ -34,7 +32,7 @@ impl Model for PrefixMatcher {
 impl PrefixMatcher {
     /// The matcher of these prefixes; a path may come more than once.
     pub fn new(alloc: Global, prefixes: &[RepoPath<'_>]) -> Result<PrefixMatcher, AllocError>
-        ensures { IfOk result (λ all. (path : Path) → is_wanted all path ≡ list_any (λ prefix. path_eq path (path_of prefix)) prefixes.now) }
+        ensures { IfOk result (λ matcher. HasSamePaths matcher (map path_of prefixes.now)) }
     {
         Ok(PrefixMatcher {
             tree: marked_tree(alloc, prefixes)?,

@@ -7,7 +7,7 @@ use jj_paths::repo_path::RepoPathComponentBuf;
 use std::collections::HashSet;
 
 /// What is worth a look below a directory.
-#[derive(Drop)]
+#[derive(Debug, PartialEq, Eq, Drop)]
 pub enum Visit {
     /// Everything below, and all of it is in the set.
     AllRecursively,
@@ -18,14 +18,14 @@ pub enum Visit {
 }
 
 /// The children that are worth a look as directories.
-#[derive(Drop)]
+#[derive(Debug, PartialEq, Eq, Drop)]
 pub enum VisitDirs {
     All,
     Set(HashSet<RepoPathComponentBuf>),
 }
 
 /// The children that are worth a look as files.
-#[derive(Drop)]
+#[derive(Debug, PartialEq, Eq, Drop)]
 pub enum VisitFiles {
     All,
     Set(HashSet<RepoPathComponentBuf>),

@@ -7,6 +7,7 @@ use Rattle.jj_paths.specs.declared.repo_path.RepoPath.{RepoPath}
 use Rattle.jj_paths.specs.Names.{path_of}
 use Rattle.jj_paths.specs.Orders.{path_eq}
 use Rattle.jj_matchers.proofs.Marked.{is_marked-set, leads-set, is_marked-blank, leads-blank}
+use Rattle.jj_matchers.proofs.Wanted.{list_any-map}
 use Rattle.jj_matchers.proofs.matchers.marked_tree.marked_tree.Goals as goal
 
 pub loop-path-init : goal.loop-path-init
@@ -35,4 +36,4 @@ returns-clause-marks c = λ path.
     c.loop-path.invariant.marks path
     ∙ ap (list_any test) (take_all c.loop-path.path-index c.deref-path-items.result.now c.loop-path-test.false ∙ c.deref-path-items.ensures.value)
     ∙ sym (list_any-IsPermutation test _ _ c.sort_unstable.ensures.permutation)
-    ∙ ap (list_any test) (c.in_ok-sorted.ensures.items_if_clones_equal (λ x y e. e))
+    ∙ ap (list_any test) (c.in_ok-sorted.ensures.items_if_clones_equal (λ x y e. e)) ∙ list_any-map path_of (path_eq path) c.args.paths.now
