@@ -2,6 +2,6 @@ pub mod MarkedTrees
 pub mod Steps
 pub mod PathFields
 pub mod Inputs
-pub mod SameMembers
+pub mod SamePaths
 pub mod OneTree
 pub mod OneAnswer
