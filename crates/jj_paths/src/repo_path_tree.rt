@@ -5,7 +5,7 @@ ghost use Rattle.std.specs.Borrow.{sem, Lends};
 ghost use denote.Struct.Tuple.{Tuple};
 ghost use Rattle.std.specs.Option.{option_copied, option_map};
 ghost use Rattle.std.specs.List.{All};
-ghost use Rattle.jj_paths.specs.Paths.{Name, Path, name_cmp, rest_of};
+ghost use Rattle.jj_paths.specs.Paths.{Name, Path, name_cmp, first_of, rest_of};
 ghost use Rattle.jj_paths.specs.Names.{name_of, path_of};
 ghost use Rattle.std.specs.FinMap.{is_sorted};
 ghost use Rattle.std.specs.Iterator.{YieldsFirstBy, item_count};
@@ -230,7 +230,21 @@ impl<V> RepoPathNode<V> {
         Ok(())
     }
 
-    // the tree below, at the name that a path begins with
+    // makes the child of the name that a path begins with, where the node lacks it
+    #[inline(never)]
+    fn make_first(&mut self, alloc: Global, path: RepoPath<'_>) -> Result<(), AllocError>
+    where
+        V: Default + Drop,
+        ensures made { IfOk result (λ done. path_of path.entry ≢ [] → IsGrown V.is_default self.old (first_of (path_of path.entry)) self.new) }
+        ensures refused { IfErr result (λ e. self.new ≡ self.old) }
+    {
+        match path.split_first() {
+            None => Ok(()),
+            Some((name, _rest)) => self.make_child(alloc, name),
+        }
+    }
+
+    // the tree below, at a name
     fn child_mut(&mut self, name: RepoPathComponent<'_>) -> &mut RepoPathTree<V>
         requires { IsSome (child self.old.1 (name_of name)) }
         ensures* writes_back { sem 𝓛 (Lends (the_row V.row) (tree.the_row V.row) self.entry result (λ w. (self.old.0, update_child self.old.1 (name_of name.entry) (λ sub. w)))) }
@@ -249,7 +263,20 @@ impl<V> RepoPathNode<V> {
     ghost use Rattle.jj_paths.specs.contracts.repo_path_tree.RepoPathTree as tree;
     ghost use Rattle.jj_paths.specs.Names.{name_of, path_of};
 
-    // the tree below, at the name that the path begins with
+    // the tree below, at the name that a path begins with
+    #[inline(never)]
+    fn first_mut(&mut self, path: RepoPath<'_>) -> &mut RepoPathTree<V>
+        requires { (path_of path ≢ []) × IsSome (child self.old.1 (first_of (path_of path))) }
+        ensures* writes_back { sem 𝓛 (Lends (the_row V.row) (tree.the_row V.row) self.entry result (λ w. (self.old.0, update_child self.old.1 (first_of (path_of path.entry)) (λ sub. w)))) }
+        ensures value { child self.old.1 (first_of (path_of path.entry)) ≡ Some result.now }
+    {
+        match path.split_first() {
+            None => unreachable!(),
+            Some((name, _rest)) => self.child_mut(name),
+        }
+    }
+
+    // the same, seen from a path that the node has
     fn step_mut(&mut self, path: RepoPath<'_>) -> &mut RepoPathTree<V>
         requires { IsSome (get self.old (path_of path)) × (path_of path ≢ []) }
         ensures* writes_back { sem 𝓛 (Lends (the_row V.row) (tree.the_row V.row) self.entry result (put_below self.old (path_of path.entry))) }
@@ -411,13 +438,11 @@ impl<V> RepoPathTree<V> {
         ensures there { IfOk result (λ done. IsSome (get self.new (path_of path.entry))) }
         ensures extended { IsExtended V.is_default self.old (path_of path.entry) self.new }
     {
-        match path.split_first() {
-            None => Ok(()),
-            Some((name, rest)) => {
-                self.node.make_child(alloc, name)?;
-                self.node.child_mut(name).extend(alloc, rest)
-            }
+        if path.is_root() {
+            return Ok(());
         }
+        self.node.make_first(alloc, path)?;
+        self.node.first_mut(path).extend(alloc, path.rest())
     }
 
     /// The node at a path. Where the tree lacks it, it is made with a default value, and so are the nodes on the way.

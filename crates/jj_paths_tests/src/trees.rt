@@ -262,3 +262,33 @@ fn two_thousand_children(rt: HostRuntime) {
             .is_ok()
     );
 }
+
+fn drops_a_deep_tree<R: Abort>(rt: &R, alloc: Global) -> Result<(), AllocError> {
+    let mut text = String::from_str(alloc, "a")?;
+    for _ in 0u32..8000 {
+        text.push_str("/a")?;
+    }
+    match RepoPathBuf::from_internal_string(text) {
+        Ok(deep) => {
+            let mut tree: RepoPathTree<u32> = RepoPathTree::default(alloc);
+            tree.set(alloc, deep.as_path(), 3)?;
+            match tree.get(deep.as_path()) {
+                Some(leaf) => assert_eq!(rt; *leaf.value(), 3),
+                None => panic!(rt; "the path was added"),
+            }
+        }
+        Err(_) => panic!(rt; "the names are joined by slashes"),
+    }
+    Ok(())
+}
+
+// A tree is dropped by a loop, and not by a recursion as deep as the tree.
+#[test]
+fn deep_trees(rt: HostRuntime) {
+    let alloc = rt.alloc();
+    assert!(rt;
+        drops_a_deep_tree(&rt, alloc)
+            .or_else(|_| drops_a_deep_tree(&rt, alloc))
+            .is_ok()
+    );
+}
