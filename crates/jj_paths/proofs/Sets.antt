@@ -5,8 +5,9 @@ use Rattle.std.specs.Str.{bytes_eq}
 use Rattle.std.specs.Option.{option_and_then, option_map}
 use Rattle.std.proofs.lemmas.Slice.Eq.{bytes_eq-Decides}
 use Rattle.jj_paths.specs.Paths.{Name, Path}
-use Rattle.jj_paths.specs.Tree.{Tree, update_child, put, put_value, get, value_at, child, IsExtended, IsEdited, IsSet}
+use Rattle.jj_paths.specs.Tree.{Tree, update_child, put, put_value, get, value_at, child, IsExtended, IsEdited, IsSet, is_ordered}
 use Rattle.jj_paths.proofs.Grown.{some_none, child-update_same, child-update_other}
+use Rattle.jj_paths.proofs.Ordered.{is_ordered-put_value}
 
 module _ {V : Type 0} where
   abbrev below : Option (Tree V) → Path → Option (Tree V)
@@ -95,4 +96,5 @@ module _ {V : Type 0} where
     here = ap (λ t. value_at t path) is ∙ value_at-put_value tree path node v at;
     keeps = λ q w off e. ap (λ t. value_at t q) is ∙ value_at-put_value-others tree path q node v at off ∙ extended.keeps q w e;
     makes = λ q w off e f. extended.makes q w e (sym (ap (λ t. value_at t q) is ∙ value_at-put_value-others tree path q node v at off) ∙ f);
+    ordered = λ up. ap (λ t. is_ordered t.1) is ∙ is_ordered-put_value tree path v (extended.ordered up);
   }

@@ -1,8 +1,9 @@
 -- A tree of values at paths: each node has a value, and branches with names to further nodes.
-use Rattle.std.specs.Prelude.{◌≡◌, ◌≢◌, IsSome, Bool, true, false, ℕ, ◌+◌, ◌*◌, ◌≤◌, ◌<◌, length, slice_index_or, if◌then◌else◌, List, [], ◌∷◌, ◌++◌, Option, None, Some, refl, max}
+use Rattle.std.specs.Prelude.{◌≡◌, ◌≢◌, IsSome, Bool, true, false, ◌&&◌, ℕ, ◌+◌, ◌*◌, ◌≤◌, ◌<◌, length, slice_index_or, if◌then◌else◌, List, [], ◌∷◌, ◌++◌, Option, None, Some, refl, max}
 use Rattle.std.specs.declared.cmp.Ordering.TheVariants.{Less, Greater}
 use Rattle.std.specs.Str.{bytes_eq}
 use Rattle.std.specs.Option.{option_and_then, option_map}
+use Rattle.std.specs.FinMap.Entries.{below_all}
 use Rattle.std.specs.Coded.{Coded, code_by, coded×, coded_ℕ, coded_list, coded_option}
 use Rattle.std.proofs.Common.{ap, ◌∙◌, append_assoc, append-nil, sym, arith}
 use denote.Param.Weighed.{most}
@@ -35,6 +36,11 @@ module _ {V : Type 0} where
   abbrev pub has_branches : Branches V → Bool
   has_branches none = false
   has_branches (branch name value below after) = true
+
+  -- the names ascend at every node
+  abbrev pub is_ordered : Branches V → Bool
+  is_ordered none = true
+  is_ordered (branch name value below after) = below_all name_cmp name (children after) && (is_ordered below && is_ordered after)
 
   -- the node of the first branch with that name
   abbrev pub child : Branches V → Name → Option (Tree V)
@@ -91,15 +97,18 @@ module _ {V : Type 0} where
     pub others : (n : Name) → n ≢ name → child node.1 n ≡ child old.1 n
     pub keeps : (sub : Tree V) → child old.1 name ≡ Some sub → child node.1 name ≡ Some sub
     pub makes : (sub : Tree V) → child old.1 name ≡ None → child node.1 name ≡ Some sub → is_new sub.0 × (sub.1 ≡ none)
+    pub ordered : is_ordered old.1 ≡ true → is_ordered node.1 ≡ true
 
   -- the value at a path
   abbrev pub value_at : Tree V → Path → Option V
   value_at tree path = option_map (λ node. node.0) (get tree path)
 
-  -- a tree keeps the values of another, and has at most new ones on the fronts of a path, which the test passes
+  -- a tree keeps the values of another, and has at most new ones on the fronts of a path, which the test passes; names
+  -- that ascended at every node still do
   pub record IsExtended (is_new : V → Type 0) (old : Tree V) (path : Path) (tree : Tree V) : Type 0 where
     pub keeps : (q : Path) (value : V) → value_at old q ≡ Some value → value_at tree q ≡ Some value
     pub makes : (q : Path) (value : V) → value_at old q ≡ None → value_at tree q ≡ Some value → is_new value × ((rest : Path) × (path ≡ q ++ rest))
+    pub ordered : is_ordered old.1 ≡ true → is_ordered tree.1 ≡ true
 
   -- the node at the path of a tree that was extended becomes another, and so the old tree becomes the new one:
   -- what is at or below the path is the other node's, and every other value is as it was
@@ -112,11 +121,12 @@ module _ {V : Type 0} where
     pub others : (q : Path) → ((rest : Path) → q ≢ path ++ rest) → value_at new q ≡ value_at tree q
 
   -- the value at the path is the given one, every other value is kept, and further values are at most new ones on the
-  -- fronts of the path, which the test passes
+  -- fronts of the path, which the test passes; names that ascended at every node still do
   pub record IsSet (is_new : V → Type 0) (old : Tree V) (path : Path) (value : V) (new : Tree V) : Type 0 where
     pub here : value_at new path ≡ Some value
     pub keeps : (q : Path) (v : V) → q ≢ path → value_at old q ≡ Some v → value_at new q ≡ Some v
     pub makes : (q : Path) (v : V) → q ≢ path → value_at old q ≡ None → value_at new q ≡ Some v → is_new v × ((rest : Path) × (path ≡ q ++ rest))
+    pub ordered : is_ordered old.1 ≡ true → is_ordered new.1 ≡ true
 
   -- the branch at place i has the name
   pub record IsAt (entries : List (Name × Tree V)) (name : Name) (i : ℕ) : Type 0 where

@@ -4,6 +4,8 @@
 #![tactic(auto)]
 
 #[cfg(test)]
+mod file_util_tests;
+#[cfg(test)]
 mod fixtures;
 #[cfg(test)]
 mod orders;

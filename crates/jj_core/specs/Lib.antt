@@ -1,0 +1,10 @@
+pub mod Faults
+pub mod Lines
+pub mod Marks
+pub mod WalkCommand
+pub mod Walked
+pub mod WalkRead
+pub mod Matching
+pub mod Program
+pub mod Reports
+pub mod Laws

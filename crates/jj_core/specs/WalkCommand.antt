@@ -1,0 +1,89 @@
+-- The command `walk`: lines that mark paths, and lines that put file sets on a stack, of which one has to be left.
+use Rattle.std.specs.Prelude.{ℕ, List, [], ◌∷◌, ◌++◌, cond, codes, length, map, Result, Ok, Err}
+use Rattle.std.specs.Str.{bytes_eq}
+use Rattle.std.specs.List.{list_all}
+use Rattle.jj_paths.specs.Paths.{Path, components, is_path_text}
+use Rattle.jj_core.specs.declared.fault.LineFault.{LineFault}
+use Rattle.jj_core.specs.declared.fault.LineFault.TheVariants.{UnknownCommand, BadFieldCount, BadPath}
+use Rattle.jj_core.specs.declared.fault.Fault.{Fault}
+use Rattle.jj_core.specs.declared.fault.Fault.TheVariants.{Matchers}
+use Rattle.jj_core.specs.Lines.{lines_of, after_lines}
+
+-- a set of files that a line puts on the stack
+pub data FileSet : Type 0 where
+  Everything : FileSet
+  Nothing : FileSet
+  Files : List Path → FileSet
+  Prefix : List Path → FileSet
+
+-- what the lines so far have marked, and the sets that they left, the last first
+pub record WalkState : Type 0 where
+  pub marks : List Path
+  pub stack : List FileSet
+
+-- the state before the first line
+abbrev pub walk_start : WalkState
+walk_start = record { marks = []; stack = [] }
+
+-- the state with a path marked
+abbrev pub marked : WalkState → Result Path LineFault → Result WalkState LineFault
+marked state (Ok path) = Ok (record { marks = state.marks ++ path ∷ []; stack = state.stack })
+marked state (Err kind) = Err kind
+
+-- the state with a set on the stack
+abbrev pub pushed : WalkState → FileSet → WalkState
+pushed state set = record { marks = state.marks; stack = set ∷ state.stack }
+
+-- the path of a text
+abbrev pub path_at : List ℕ → Result Path LineFault
+path_at text = cond (is_path_text text) (Ok (components text)) (Err BadPath)
+
+-- the paths of these texts, where all are paths
+abbrev pub paths_of : List (List ℕ) → Result (List Path) LineFault
+paths_of texts = cond (list_all is_path_text texts) (Ok (map components texts)) (Err BadPath)
+
+-- the state with a set of the paths of these texts on the stack
+abbrev pub pushed_paths : WalkState → (List Path → FileSet) → Result (List Path) LineFault → Result WalkState LineFault
+pushed_paths state set (Ok paths) = Ok (pushed state (set paths))
+pushed_paths state set (Err kind) = Err kind
+
+-- the state with a set on the stack that takes no fields
+abbrev pub pushed_alone : WalkState → FileSet → List (List ℕ) → Result WalkState LineFault
+pushed_alone state set [] = Ok (pushed state set)
+pushed_alone state set (field ∷ fields) = Err BadFieldCount
+
+-- the state with the path of the one field marked
+abbrev pub mark_step : WalkState → List (List ℕ) → Result WalkState LineFault
+mark_step state [] = Err BadFieldCount
+mark_step state (text ∷ []) = marked state (path_at text)
+mark_step state (text ∷ other ∷ texts) = Err BadFieldCount
+
+-- what a line's fields make of the state, or what is wrong with them
+abbrev pub walk_step : WalkState → List (List ℕ) → Result WalkState LineFault
+walk_step state [] = Err UnknownCommand
+walk_step state (name ∷ fields) =
+    cond (bytes_eq name (codes "mark")) (mark_step state fields)
+    (cond (bytes_eq name (codes "everything")) (pushed_alone state Everything fields)
+    (cond (bytes_eq name (codes "nothing")) (pushed_alone state Nothing fields)
+    (cond (bytes_eq name (codes "files")) (pushed_paths state Files (paths_of fields))
+    (cond (bytes_eq name (codes "prefix")) (pushed_paths state Prefix (paths_of fields))
+    (Err UnknownCommand)))))
+
+-- what a whole text asks for: the marks, and the one set
+pub record WalkRequest : Type 0 where
+  pub marks : List Path
+  pub set : FileSet
+
+-- the request with the one set that is left; where none or more are left, their number is the fault
+abbrev pub only_set : List Path → List FileSet → Result WalkRequest Fault
+only_set marks [] = Err (Matchers 0)
+only_set marks (set ∷ []) = Ok (record { marks = marks; set = set })
+only_set marks (set ∷ other ∷ stack) = Err (Matchers (length (set ∷ other ∷ stack)))
+
+abbrev pub walk_end : Result WalkState Fault → Result WalkRequest Fault
+walk_end (Ok state) = only_set state.marks state.stack
+walk_end (Err fault) = Err fault
+
+-- what a text asks for, or its first fault
+abbrev pub walk_request : List ℕ → Result WalkRequest Fault
+walk_request text = walk_end (after_lines walk_step 1 walk_start (lines_of text))

@@ -1,0 +1,33 @@
+//! The program `jj-core`: it reads standard input, and writes standard output.
+#![tactic(auto)]
+
+use jj_core::file_util::Watched;
+use jj_core::program;
+use jj_core::program::Fault;
+use std::io::ErrorKind;
+use std::process::ExitCode;
+use std::rt::Env;
+use std::{env, io};
+
+/// The words after the program's name.
+fn words(rt: &(impl Env + AllocGlobal)) -> io::Result<Vec<String>> {
+    Ok(env::args(rt)?.skip(1).collect(rt.alloc())?)
+}
+
+fn main(rt: HostRuntime) -> ExitCode {
+    let words = match words(&rt) {
+        Ok(words) => words,
+        Err(e) if e.kind() == ErrorKind::OutOfMemory => {
+            let fault = Fault::Memory;
+            let _ = eprintln!(rt; "jj-core: {fault}");
+            return ExitCode::FAILURE;
+        }
+        // Words that are not text name no command.
+        Err(_) => Vec::new(rt.alloc()),
+    };
+    let mut reader = Watched::new(rt.stdin());
+    let mut writer = Watched::new(rt.stdout());
+    let mut errors = Watched::new(rt.stderr());
+    let status = program::start(rt.alloc(), &words, &mut reader, &mut writer, &mut errors);
+    ExitCode::from(status)
+}

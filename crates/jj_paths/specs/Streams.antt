@@ -1,0 +1,29 @@
+-- What is said of reads from a source and writes to a sink, where their bytes are known.
+use Rattle.std.specs.Prelude.{◌≡◌, ℕ, ◌<◌, ◌^◌, ◌-◌, Bool, ◌||◌, is_err, List, ◌++◌, length, min, Option, Result, IfOk}
+use Rattle.std.specs.Io.KnownBytes.{Appends, Consumes, IsAtEnd}
+
+-- the failure is kept once there was one, and comes exactly with an error
+abbrev pub NotesFailure : {A E : Type 0} → Bool → Bool → Result A E → Type 0
+NotesFailure old new r = new ≡ (is_err r || old)
+
+-- a count that stops at the greatest `usize`
+abbrev pub usize_saturate : ℕ → ℕ
+usize_saturate n = min n (2 ^ 64 - 1)
+
+-- known bytes grew by a beginning of `whole`
+abbrev pub AppendsFrontOf : Option (List ℕ) → Option (List ℕ) → List ℕ → Type 0
+AppendsFrontOf old new whole = (written rest : List ℕ) × Appends old new written × (written ++ rest ≡ whole)
+
+-- the source's bytes were all read, and written to the sink, and the answer is their number
+abbrev pub CopiesAll : Option (List ℕ) → Option (List ℕ) → Option (List ℕ) → Option (List ℕ) → ℕ → Type 0
+CopiesAll source source' sink sink' n =
+    (bytes : List ℕ) × Consumes source source' bytes × IsAtEnd source' × Appends sink sink' bytes × (n ≡ usize_saturate (length bytes))
+
+-- what was written is a beginning of what was read
+abbrev pub CopiesFront : Option (List ℕ) → Option (List ℕ) → Option (List ℕ) → Option (List ℕ) → Type 0
+CopiesFront source source' sink sink' =
+    (written lost : List ℕ) × Consumes source source' (written ++ lost) × Appends sink sink' written
+
+-- a sink took some of a nonempty piece, or failed
+abbrev pub TakesSome : {E : Type 0} → Result ℕ E → List ℕ → Type 0
+TakesSome r piece = IfOk r (λ n. 0 < length piece → 0 < n)
