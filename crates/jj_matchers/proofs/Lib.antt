@@ -5,3 +5,13 @@ pub mod Marks
 pub mod Orders
 pub mod Walks
 pub mod Wanted
+pub mod GlobRows
+pub mod GlobSound
+pub mod GlobTable
+pub mod GlobClasses
+pub mod GlobPuts
+pub mod GlobSteps
+pub mod GlobClosed
+pub mod GlobBack
+pub mod GlobPrefix
+pub mod GlobEscapes

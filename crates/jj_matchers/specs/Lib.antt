@@ -4,3 +4,11 @@ pub mod Visits
 pub mod Walk
 pub mod WalkParts
 pub mod Wanted
+pub mod GlobText
+pub mod GlobMeaning
+pub mod GlobPlain
+pub mod GlobRow
+pub mod GlobKept
+pub mod GlobReads
+pub mod GlobGroups
+pub mod GlobEscape

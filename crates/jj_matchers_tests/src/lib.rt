@@ -8,4 +8,6 @@ mod answers;
 #[cfg(test)]
 mod fixtures;
 #[cfg(test)]
+mod globs;
+#[cfg(test)]
 mod walks;

@@ -1,0 +1,14 @@
+-- A text as a glob that stands for it alone.
+use Rattle.std.specs.Prelude.{ℕ, Bool, ◌==◌, ◌||◌, if◌then◌else◌, List, [], ◌∷◌}
+use Rattle.std.specs.List.{flat_map}
+
+-- the byte has a meaning outside of classes and groups: one of `? * [ ] { } \`
+abbrev pub is_special : ℕ → Bool
+is_special b = (b == 63) || (b == 42) || (b == 91) || (b == 93) || (b == 123) || (b == 125) || (b == 92)
+
+-- such a byte in brackets, any other as it is
+abbrev pub escaped_byte : ℕ → List ℕ
+escaped_byte b = if is_special b then 91 ∷ b ∷ 93 ∷ [] else b ∷ []
+
+unfoldable pub escaped : List ℕ → List ℕ
+escaped text = flat_map escaped_byte text
