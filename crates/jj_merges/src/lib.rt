@@ -1,0 +1,4 @@
+//! Merges of versions, and the labels of their terms.
+#![tactic(auto)]
+
+pub mod merge;

@@ -1,0 +1,246 @@
+//! Merges of several sides, as lists of terms that are added and removed by turns.
+ghost use Rattle.std.specs.Prelude.{map, ◌≡◌, ℕ, ◌+◌, ◌-◌, ◌*◌, ◌/◌, ◌%◌, ◌<◌, ◌≤◌, List, [], ◌∷◌, length, slice_get, IsTrue, ◌↔◌, slice_index_or, MatchResult, MatchOption, IfOk, ◌^◌};
+ghost use Rattle.std.specs.Option.{option_copied};
+ghost use Rattle.std.specs.Fn.{CalledAt};
+ghost use Rattle.std.specs.Slice.Iter.{iter_mut_rest};
+ghost use Rattle.std.specs.Borrow.{sem};
+ghost use Rattle.jj_merges.specs.Maps.{MapsTo};
+ghost use Rattle.jj_merges.specs.Odd.{IsOdd};
+ghost use Rattle.std.specs.Cmp.{IsEquivalence};
+ghost use Rattle.std.specs.List.{AllZip};
+ghost use Rattle.jj_merges.specs.Merge.{adds, removes, HaveSameCounts, IsDisjoint};
+ghost use Rattle.jj_merges.specs.Simplify.{kept_places, at_places};
+
+mod by_value;
+mod into_iter;
+mod simplified;
+mod storage;
+mod trivial;
+
+pub use into_iter::IntoIter;
+pub use trivial::trivial_merge;
+
+use storage::{Terms, only_of};
+use smallvec::SmallVec;
+use std::alloc::{AllocError, Global};
+use std::default::MadeWith;
+use std::marker::Model;
+use std::slice;
+
+/// What becomes of sides that made the same change.
+#[derive(Copy, Clone, Debug, PartialEq, Eq, Drop)]
+pub enum SameChange {
+    Keep,
+    Accept,
+}
+
+/// A conflict among several sides, or a resolved value.
+#[derive(Drop)]
+pub struct Merge<T> {
+    pub(crate) terms: Terms<T>,
+}
+
+impl<T> Model for Merge<T> {
+    ghost use Rattle.std.specs.Prelude.{List, length};
+    ghost use Rattle.std.specs.Coded.{coded_list};
+
+    ghost Value = { List T };
+
+    ghost coded = { coded_list T.code };
+
+    ghost use Rattle.jj_merges.specs.Terms.{items, IsSound};
+
+    ghost view = { λ m. items m.terms };
+
+    ghost invariant = { λ m. IsSound m.terms };
+}
+
+impl<T> Merge<T> {
+    ghost use Rattle.jj_merges.specs.Lends.{lends_slice, lends_iter};
+
+    /// A merge of one term.
+    pub fn resolved(value: T) -> Self
+        ensures { result ≡ value ∷ [] }
+    {
+        Merge {
+            terms: Terms::one(value),
+        }
+    }
+
+    pub fn as_slice(&self) -> &[T]
+        ensures terms { result.now ≡ self.now }
+        ensures odd { IsOdd (length self.now) }
+    {
+        match &self.terms {
+            Terms::One(values) => values.as_slice(),
+            Terms::Many(values) => values.as_slice(),
+        }
+    }
+
+    /// The terms, for writing.
+    pub fn as_mut_slice(&mut self) -> &mut [T]
+        ensures* writes_back { sem 𝓛 (lends_slice T.row self.entry result) }
+        ensures terms { result.now ≡ self.old }
+        ensures odd { IsOdd (length self.old) }
+    {
+        self.terms.as_mut_slice()
+    }
+
+    /// The terms, one after another, for writing.
+    pub fn iter_mut(&mut self) -> slice::IterMut<'_, T>
+        ensures* writes_back { sem 𝓛 (lends_iter T.row self.entry result) }
+        ensures terms { iter_mut_rest result ≡ self.old }
+    {
+        self.as_mut_slice().iter_mut()
+    }
+
+    pub fn num_sides(&self) -> usize
+        ensures { length self.now + 1 ≡ 2 * result }
+    {
+        self.as_slice().len() / 2 + 1
+    }
+
+    pub fn is_resolved(&self) -> bool
+        ensures { IsTrue result ↔ (length self.now ≡ 1) }
+    {
+        self.as_slice().len() == 1
+    }
+
+    pub fn first(&self) -> &T
+        ensures { slice_get self.now 0 ≡ Some result.now }
+    {
+        &self.as_slice()[0]
+    }
+
+    #[tactic(auto, using(crate::proofs::Sides::places))]
+    pub fn get_add(&self, index: usize) -> Option<&T>
+        ensures { option_copied result ≡ slice_get (adds self.now) index }
+    {
+        let terms = self.as_slice();
+        if index > terms.len() / 2 {
+            None
+        } else {
+            Some(&terms[index * 2])
+        }
+    }
+
+    #[tactic(auto, using(crate::proofs::Sides::places))]
+    pub fn get_remove(&self, index: usize) -> Option<&T>
+        ensures { option_copied result ≡ slice_get (removes self.now) index }
+    {
+        let terms = self.as_slice();
+        if index >= terms.len() / 2 {
+            None
+        } else {
+            Some(&terms[index * 2 + 1])
+        }
+    }
+
+    pub fn as_resolved(&self) -> Option<&T>
+        ensures { MatchOption result (1 < length self.now) (λ x. self.now ≡ x.now ∷ []) }
+    {
+        match self.as_slice() {
+            [value] => Some(value),
+            _ => None,
+        }
+    }
+
+    pub fn into_resolved(self) -> Result<T, Self>
+    where
+        T: Drop,
+        ensures { MatchResult result (λ x. self ≡ x ∷ []) (λ m. (m ≡ self) × (1 < length self)) }
+    {
+        let Merge { terms } = self;
+        match terms {
+            Terms::One(values) => Ok(only_of(values)),
+            Terms::Many(mut values) => {
+                if values.len() > 1 {
+                    return Err(Merge {
+                        terms: Terms::Many(values),
+                    });
+                }
+                match values.pop() {
+                    Some(value) => {
+                        values.destroy_empty();
+                        Ok(value)
+                    }
+                    None => unreachable!(),
+                }
+            }
+        }
+    }
+
+    /// A merge of these terms.
+    pub(crate) fn from_terms(terms: Vec<T>) -> Self
+        requires { IsOdd (length terms.items) }
+        ensures { result ≡ terms.items }
+    {
+        Merge {
+            terms: Terms::Many(terms),
+        }
+    }
+
+    /// What `f` gives of each term, in order.
+    pub fn map<U: Drop, F: FnMut(&T) -> U>(&self, alloc: Global, f: F) -> Result<Merge<U>, AllocError>
+        requires { F.IsAlwaysCallable f }
+        ensures images { IfOk result (λ m. (last : F) × MapsTo (CalledAt F.FnMut) f self.now m last) }
+    {
+        let values = self.as_slice();
+        let mut f = f;
+        let mut images = Vec::new(alloc);
+        for term in values {
+            images.push(f(term))?;
+        }
+        Ok(Merge {
+            terms: Terms::Many(images),
+        })
+    }
+
+    /// The terms by reference.
+    pub fn as_ref(&self, alloc: Global) -> Result<Merge<&T>, AllocError>
+        ensures { IfOk result (λ m. map (λ x. x.now) m ≡ self.now) }
+    {
+        Ok(Merge {
+            terms: Terms::Many(self.as_slice().iter().collect(alloc)?),
+        })
+    }
+}
+
+impl<T: MadeWith<Global> + Drop> Merge<T> {
+    /// A merge of these terms.
+    pub fn from_vec(values: SmallVec<T, 1>) -> Self
+        requires { IsOdd (length values.items) }
+        ensures { result ≡ values.items }
+    {
+        let mut values = values;
+        if !values.spilled() {
+            if let Some(value) = values.pop() {
+                return Merge::resolved(value);
+            }
+        }
+        match values.into_vec() {
+            Ok(values) => Merge {
+                terms: Terms::Many(values),
+            },
+            Err(_) => unreachable!(),
+        }
+    }
+}
+
+impl<T: PartialEq + Clone> Merge<T> {
+    /// The merge without the adds that equal removes.
+    pub fn simplify(&self, alloc: Global) -> Result<Self, AllocError>
+        requires clones { (x y : T) → T.is_clone x y → IsTrue (T.eq x y) }
+        ensures terms { IfOk result (λ s. AllZip T.is_clone (at_places self.now (kept_places T.eq self.now)) s) }
+        ensures counts { IfOk result (λ s. HaveSameCounts T.eq s self.now) }
+        ensures disjoint { IfOk result (IsDisjoint T.eq) }
+        ensures fewest { IfOk result (λ s. IsEquivalence T.eq → (n : List T) → HaveSameCounts T.eq s n → length s ≤ length n) }
+    {
+        let values = self.as_slice();
+        let places = simplified::kept(alloc, values)?;
+        let terms = simplified::clones_at(alloc, values, &places)?;
+        Ok(Merge {
+            terms: Terms::Many(terms),
+        })
+    }
+}
