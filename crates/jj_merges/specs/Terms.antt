@@ -12,6 +12,16 @@ module _ {T : Type 0} where
   items (One v) = v.items
   items (Many v) = v.items
 
+  -- one term and no more is kept in the value
+  abbrev pub HoldsOne : Terms T → Type 0
+  HoldsOne (One v) = length v.items ≡ 1
+  HoldsOne (Many v) = Unit {0}
+
+  -- the terms are in an allocation, or there are none
+  abbrev pub IsMany : Terms T → Type 0
+  IsMany (One v) = ⊥
+  IsMany (Many v) = Unit {0}
+
   -- the number of terms is odd, and one is kept in the value
   abbrev pub IsSound : Terms T → Type 0
   IsSound (One v) = length v.items ≡ 1

@@ -11,7 +11,7 @@ ghost use Rattle.std.specs.List.{AllZip};
 ghost use Rattle.jj_merges.specs.Merge.{adds, removes, HaveSameCounts, IsDisjoint};
 ghost use Rattle.jj_merges.specs.Simplify.{kept_places, at_places};
 
-mod by_value;
+mod images;
 mod into_iter;
 mod simplified;
 mod storage;
@@ -170,40 +170,6 @@ impl<T> Merge<T> {
         }
     }
 
-    /// A merge of these terms.
-    pub(crate) fn from_terms(terms: Vec<T>) -> Self
-        requires { IsOdd (length terms.items) }
-        ensures { result ≡ terms.items }
-    {
-        Merge {
-            terms: Terms::Many(terms),
-        }
-    }
-
-    /// What `f` gives of each term, in order.
-    pub fn map<U: Drop, F: FnMut(&T) -> U>(&self, alloc: Global, f: F) -> Result<Merge<U>, AllocError>
-        requires { F.IsAlwaysCallable f }
-        ensures images { IfOk result (λ m. (last : F) × MapsTo (CalledAt F.FnMut) f self.now m last) }
-    {
-        let values = self.as_slice();
-        let mut f = f;
-        let mut images = Vec::new(alloc);
-        for term in values {
-            images.push(f(term))?;
-        }
-        Ok(Merge {
-            terms: Terms::Many(images),
-        })
-    }
-
-    /// The terms by reference.
-    pub fn as_ref(&self, alloc: Global) -> Result<Merge<&T>, AllocError>
-        ensures { IfOk result (λ m. map (λ x. x.now) m ≡ self.now) }
-    {
-        Ok(Merge {
-            terms: Terms::Many(self.as_slice().iter().collect(alloc)?),
-        })
-    }
 }
 
 impl<T: MadeWith<Global> + Drop> Merge<T> {
