@@ -1,8 +1,8 @@
 //! Merges of several sides, as lists of terms that are added and removed by turns.
-ghost use Rattle.std.specs.Prelude.{map, ◌≡◌, ℕ, ◌+◌, ◌-◌, ◌*◌, ◌/◌, ◌%◌, ◌<◌, ◌≤◌, List, [], ◌∷◌, length, slice_get, IsTrue, ◌↔◌, slice_index_or, MatchResult, MatchOption, IfOk, ◌^◌};
+ghost use Rattle.std.specs.Prelude.{map, ◌≡◌, ℕ, ◌+◌, ◌-◌, ◌*◌, ◌/◌, ◌%◌, ◌<◌, ◌≤◌, List, [], ◌∷◌, length, slice_get, IsTrue, ◌↔◌, slice_index_or, MatchResult, MatchOption, IfOk, ◌^◌, codes};
 ghost use Rattle.std.specs.Option.{option_copied};
 ghost use Rattle.std.specs.Fn.{CalledAt};
-ghost use Rattle.std.specs.Slice.Iter.{iter_mut_rest};
+ghost use Rattle.std.specs.Slice.Iter.{iter_rest, iter_mut_rest};
 ghost use Rattle.std.specs.Borrow.{sem};
 ghost use Rattle.jj_merges.specs.Maps.{MapsTo};
 ghost use Rattle.jj_merges.specs.Odd.{IsOdd};
@@ -11,13 +11,22 @@ ghost use Rattle.std.specs.List.{AllZip};
 ghost use Rattle.jj_merges.specs.Merge.{adds, removes, HaveSameCounts, IsDisjoint};
 ghost use Rattle.jj_merges.specs.Simplify.{kept_places, at_places};
 
+mod changes;
+mod diffs;
+mod every_second;
 mod images;
 mod into_iter;
+mod options;
 mod simplified;
+mod simplifies;
+mod standard;
 mod storage;
 mod trivial;
 
+pub use diffs::Diff;
+pub use every_second::EverySecond;
 pub use into_iter::IntoIter;
+pub use options::Present;
 pub use trivial::trivial_merge;
 
 use storage::{Terms, only_of};
@@ -27,11 +36,25 @@ use std::default::MadeWith;
 use std::marker::Model;
 use std::slice;
 
-/// What becomes of sides that made the same change.
+/// What becomes of sides that made the same change: `Keep` leaves them as a conflict, `Accept` takes the change.
 #[derive(Copy, Clone, Debug, PartialEq, Eq, Drop)]
 pub enum SameChange {
     Keep,
     Accept,
+}
+
+impl SameChange {
+    /// The setting of this name: `keep` or `accept`.
+    pub fn from_name(name: &str) -> Option<Self>
+        ensures keep { (result ≡ Some SameChange.Keep) ↔ (name.now ≡ codes "keep") }
+        ensures accept { (result ≡ Some SameChange.Accept) ↔ (name.now ≡ codes "accept") }
+    {
+        match name {
+            "keep" => Some(SameChange::Keep),
+            "accept" => Some(SameChange::Accept),
+            _ => None,
+        }
+    }
 }
 
 /// A conflict among several sides, or a resolved value.
@@ -58,8 +81,8 @@ impl<T> Model for Merge<T> {
 impl<T> Merge<T> {
     ghost use Rattle.jj_merges.specs.Lends.{lends_slice, lends_iter};
 
-    /// A merge of one term.
-    pub fn resolved(value: T) -> Self
+    /// A merge of one term. It is kept in the value, so this takes no memory.
+    pub fn resolved(_alloc: Global, value: T) -> Self
         ensures { result ≡ value ∷ [] }
     {
         Merge {
@@ -67,6 +90,7 @@ impl<T> Merge<T> {
         }
     }
 
+    /// The terms, adds at even places.
     pub fn as_slice(&self) -> &[T]
         ensures terms { result.now ≡ self.now }
         ensures odd { IsOdd (length self.now) }
@@ -77,8 +101,15 @@ impl<T> Merge<T> {
         }
     }
 
+    /// The terms, one after another.
+    pub fn iter(&self) -> slice::Iter<'_, T>
+        ensures { iter_rest result ≡ self.now }
+    {
+        self.as_slice().iter()
+    }
+
     /// The terms, for writing.
-    pub fn as_mut_slice(&mut self) -> &mut [T]
+    fn as_mut_slice(&mut self) -> &mut [T]
         ensures* writes_back { sem 𝓛 (lends_slice T.row self.entry result) }
         ensures terms { result.now ≡ self.old }
         ensures odd { IsOdd (length self.old) }
@@ -94,24 +125,28 @@ impl<T> Merge<T> {
         self.as_mut_slice().iter_mut()
     }
 
+    /// The number of adds.
     pub fn num_sides(&self) -> usize
         ensures { length self.now + 1 ≡ 2 * result }
     {
         self.as_slice().len() / 2 + 1
     }
 
+    /// Whether there is one term alone.
     pub fn is_resolved(&self) -> bool
         ensures { IsTrue result ↔ (length self.now ≡ 1) }
     {
         self.as_slice().len() == 1
     }
 
+    /// The first add.
     pub fn first(&self) -> &T
         ensures { slice_get self.now 0 ≡ Some result.now }
     {
         &self.as_slice()[0]
     }
 
+    /// The add of this index, from 0 on.
     #[tactic(auto, using(crate::proofs::Sides::places))]
     pub fn get_add(&self, index: usize) -> Option<&T>
         ensures { option_copied result ≡ slice_get (adds self.now) index }
@@ -124,6 +159,7 @@ impl<T> Merge<T> {
         }
     }
 
+    /// The remove of this index, from 0 on.
     #[tactic(auto, using(crate::proofs::Sides::places))]
     pub fn get_remove(&self, index: usize) -> Option<&T>
         ensures { option_copied result ≡ slice_get (removes self.now) index }
@@ -136,6 +172,7 @@ impl<T> Merge<T> {
         }
     }
 
+    /// The term of a resolved merge.
     pub fn as_resolved(&self) -> Option<&T>
         ensures { MatchOption result (1 < length self.now) (λ x. self.now ≡ x.now ∷ []) }
     {
@@ -145,6 +182,7 @@ impl<T> Merge<T> {
         }
     }
 
+    /// The term of a resolved merge, or the merge itself.
     pub fn into_resolved(self) -> Result<T, Self>
     where
         T: Drop,
@@ -181,7 +219,9 @@ impl<T: MadeWith<Global> + Drop> Merge<T> {
         let mut values = values;
         if !values.spilled() {
             if let Some(value) = values.pop() {
-                return Merge::resolved(value);
+                return Merge {
+                    terms: Terms::one(value),
+                };
             }
         }
         match values.into_vec() {
@@ -190,23 +230,5 @@ impl<T: MadeWith<Global> + Drop> Merge<T> {
             },
             Err(_) => unreachable!(),
         }
-    }
-}
-
-impl<T: PartialEq + Clone> Merge<T> {
-    /// The merge without the adds that equal removes.
-    pub fn simplify(&self, alloc: Global) -> Result<Self, AllocError>
-        requires clones { (x y : T) → T.is_clone x y → IsTrue (T.eq x y) }
-        ensures terms { IfOk result (λ s. AllZip T.is_clone (at_places self.now (kept_places T.eq self.now)) s) }
-        ensures counts { IfOk result (λ s. HaveSameCounts T.eq s self.now) }
-        ensures disjoint { IfOk result (IsDisjoint T.eq) }
-        ensures fewest { IfOk result (λ s. IsEquivalence T.eq → (n : List T) → HaveSameCounts T.eq s n → length s ≤ length n) }
-    {
-        let values = self.as_slice();
-        let places = simplified::kept(alloc, values)?;
-        let terms = simplified::clones_at(alloc, values, &places)?;
-        Ok(Merge {
-            terms: Terms::Many(terms),
-        })
     }
 }

@@ -3,12 +3,15 @@ ghost use Rattle.std.specs.Prelude.{◌≡◌, ◌⊎◌, ℕ, ◌+◌, ◌*◌,
 ghost use Rattle.std.specs.Fn.{CalledAt};
 ghost use Rattle.std.specs.List.{AllZip};
 ghost use Rattle.std.specs.Option.{option_copied};
+ghost use Rattle.std.specs.Vec.Iter.{into_iter_items};
+ghost use Rattle.jj_merges.specs.Merge.{adds, removes};
 ghost use Rattle.jj_merges.specs.Maps.{MapsTo, FailsAmong};
 ghost use Rattle.jj_merges.specs.Options.{IsOptionClone};
 
 use super::Merge;
 use super::storage::Terms;
 use std::alloc::{AllocError, Global};
+use std::vec;
 
 impl<T> Merge<T> {
     /// What `f` gives of each term, in order.
@@ -89,6 +92,29 @@ impl<T: Drop> Merge<T> {
             }
         }
         Ok(Merge { terms: pairs })
+    }
+}
+
+impl<T: Drop> Merge<T> {
+    /// The removes and the adds by value, apart.
+    #[tactic(auto, using(crate::proofs::Places::pushed))]
+    pub fn into_removes_adds(self, alloc: Global) -> Result<(vec::IntoIter<T>, vec::IntoIter<T>), AllocError>
+        ensures removes { IfOk result (λ p. into_iter_items p.0 ≡ removes self) }
+        ensures adds { IfOk result (λ p. into_iter_items p.1 ≡ adds self) }
+    {
+        let len = self.as_slice().len();
+        let mut removes = Vec::with_capacity(alloc, len / 2)?;
+        let mut adds = Vec::with_capacity(alloc, len / 2 + 1)?;
+        let mut is_add = true;
+        for term in self {
+            if is_add {
+                adds.push(term)?;
+            } else {
+                removes.push(term)?;
+            }
+            is_add = !is_add;
+        }
+        Ok((removes.into_iter(), adds.into_iter()))
     }
 }
 
