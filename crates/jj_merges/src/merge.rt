@@ -17,7 +17,7 @@ mod every_second;
 mod images;
 mod into_iter;
 mod options;
-mod simplified;
+pub(crate) mod simplified;
 mod simplifies;
 mod standard;
 mod storage;

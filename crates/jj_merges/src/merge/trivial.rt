@@ -4,7 +4,7 @@ ghost use Rattle.jj_merges.specs.Odd.{IsOdd};
 ghost use Rattle.jj_merges.specs.Merge.{adds, removes};
 ghost use Rattle.jj_merges.specs.Decided.{IsDecided};
 
-use super::SameChange;
+use super::{Merge, SameChange};
 
 /// How many adds equal `value`.
 #[tactic(auto, using(crate::proofs::Counts::count_more))]
@@ -88,4 +88,15 @@ pub fn trivial_merge<T: Eq>(values: &[T], same_change: SameChange) -> Option<&T>
         }
     }
     add
+}
+
+impl<T: Eq> Merge<T> {
+    /// The outcome of the merge, where the counts of its terms decide it.
+    pub fn resolve_trivial(&self, same_change: SameChange) -> Option<&T>
+        ensures member { IfSome result (λ v. Contains self.now v.now) }
+        ensures decided { IfSome result (λ v. IsDecided T.eq same_change self.now v.now) }
+        ensures undecided { IfNone result ((v : T) → IsDecided T.eq same_change self.now v → ⊥) }
+    {
+        trivial_merge(self.as_slice(), same_change)
+    }
 }
