@@ -34,7 +34,7 @@ pub IsPermutation-cut : {X : Type 0} (a b c d : List X) → IsPermutation ((a ++
 IsPermutation-cut a b c d =
     rw (append_assoc a b (c ++ d), append_assoc a c (b ++ d))
     (IsPermutation-append_right a (b ++ (c ++ d)) (c ++ (b ++ d))
-      (rw (← append_assoc b c d, ← append_assoc c b d) (IsPermutation-append_left d (b ++ c) (c ++ b) (IsPermutation-append_comm b c))))
+    (rw (← append_assoc b c d, ← append_assoc c b d) (IsPermutation-append_left d (b ++ c) (c ++ b) (IsPermutation-append_comm b c))))
 
 -- what holds of pairs of a list holds of pairs of its front
 pub AllPairs-front : {X : Type 0} (R : X → X → Type 0) (xs ys : List X) → AllPairs R (xs ++ ys) → AllPairs R xs
@@ -53,20 +53,21 @@ pub apart_permutation : (n : ℕ) (xs : List ℕ) → IsPermutation (range_with_
 apart_permutation n xs h =
     AllPairs-from_IsDistinct {eq = nat_eq} Decides-eqb xs
     (IsDistinct-IsPermutation nat_eq
-      (λ x y. same_answer (nat_eq x y) (nat_eq y x) (λ h. (Decides-eqb y x).1 (sym ((Decides-eqb x y).0 h))) (λ h. (Decides-eqb x y).1 (sym ((Decides-eqb y x).0 h))))
-      (range_with_len 0 n) xs h (IsDistinct-from_AllPairs {eq = nat_eq} Decides-eqb (range_with_len 0 n) (range_apart n)))
+    (λ x y. same_answer (nat_eq x y) (nat_eq y x) (λ h. (Decides-eqb y x).1 (sym ((Decides-eqb x y).0 h))) (λ h. (Decides-eqb x y).1 (sym ((Decides-eqb y x).0 h))))
+    (range_with_len 0 n) xs h (IsDistinct-from_AllPairs {eq = nat_eq} Decides-eqb (range_with_len 0 n) (range_apart n)))
 
 module _ {T : Type 0} (eq : T → T → Bool) where
   -- the places that are kept, as two sides
   pub sides-kept : (m : List T) → length m % 2 ≡ 1 → (merge.adds (kept_places eq m) ≡ (kept_sides eq m).adds) × (merge.removes (kept_places eq m) ≡ (kept_sides eq m).removes)
   unfolding kept_places
-  sides-kept m odd =
-      (adds-by_turns (kept_sides eq m).adds (kept_sides eq m).removes (length-kept_sides eq m odd),
-        removes-by_turns (kept_sides eq m).adds (kept_sides eq m).removes (length-kept_sides eq m odd))
+  sides-kept m odd = (
+    adds-by_turns (kept_sides eq m).adds (kept_sides eq m).removes (length-kept_sides eq m odd),
+    removes-by_turns (kept_sides eq m).adds (kept_sides eq m).removes (length-kept_sides eq m odd),
+  )
 
   -- all places are those that are kept and those that are not
   pub all_places : (m : List T) (odd : length m % 2 ≡ 1)
-    → IsPermutation (range_with_len 0 (length m)) (kept_places eq m ++ (map (λ p. p.0) (kept_leaves_out eq m odd).pairs ++ map (λ p. p.1) (kept_leaves_out eq m odd).pairs))
+      → IsPermutation (range_with_len 0 (length m)) (kept_places eq m ++ (map (λ p. p.0) (kept_leaves_out eq m odd).pairs ++ map (λ p. p.1) (kept_leaves_out eq m odd).pairs))
   all_places m odd =
       let l = kept_leaves_out eq m odd in
       let t = kept_sides eq m in
@@ -76,13 +77,13 @@ module _ {T : Type 0} (eq : T → T → Bool) where
       let s = sides-kept m odd in
       let whole = range_with_len 0 (length m) in
       let kept : IsPermutation (t.adds ++ t.removes) ps =
-        IsPermutation-sym ps (t.adds ++ t.removes) (subst (λ xs. IsPermutation ps (xs ++ t.removes)) s.0 (subst (λ ys. IsPermutation ps (merge.adds ps ++ ys)) s.1 (IsPermutation-sides ps))) in
+      IsPermutation-sym ps (t.adds ++ t.removes) (subst (λ xs. IsPermutation ps (xs ++ t.removes)) s.0 (subst (λ ys. IsPermutation ps (merge.adds ps ++ ys)) s.1 (IsPermutation-sides ps))) in
       IsPermutation-trans whole (merge.adds whole ++ merge.removes whole) (ps ++ (a ++ r)) (IsPermutation-sides whole)
       (IsPermutation-trans (merge.adds whole ++ merge.removes whole) ((t.adds ++ a) ++ (t.removes ++ r)) (ps ++ (a ++ r))
-        (IsPermutation-append (merge.adds whole) (t.adds ++ a) (merge.removes whole) (t.removes ++ r) l.adds l.removes)
-        (IsPermutation-trans ((t.adds ++ a) ++ (t.removes ++ r)) ((t.adds ++ t.removes) ++ (a ++ r)) (ps ++ (a ++ r))
-          (IsPermutation-cut t.adds a t.removes r)
-          (IsPermutation-append_left (a ++ r) (t.adds ++ t.removes) ps kept)))
+      (IsPermutation-append (merge.adds whole) (t.adds ++ a) (merge.removes whole) (t.removes ++ r) l.adds l.removes)
+      (IsPermutation-trans ((t.adds ++ a) ++ (t.removes ++ r)) ((t.adds ++ t.removes) ++ (a ++ r)) (ps ++ (a ++ r))
+      (IsPermutation-cut t.adds a t.removes r)
+      (IsPermutation-append_left (a ++ r) (t.adds ++ t.removes) ps kept)))
 
   pub are_kept : (m : List T) → length m % 2 ≡ 1 → AreKept eq m (kept_places eq m)
   are_kept m odd =
@@ -94,8 +95,8 @@ module _ {T : Type 0} (eq : T → T → Bool) where
         pairs = subst (LeavesOutPairs (same_term eq m) (all_sides (length m))) (sym e) (kept_leaves_out eq m odd);
         disjoint = subst (NoneEqual (same_term eq m)) (sym e) (kept_none_equal eq m odd);
         distinct = AllPairs-front (λ p q. p ≢ q) (kept_places eq m) (map (λ p. p.0) (kept_leaves_out eq m odd).pairs ++ map (λ p. p.1) (kept_leaves_out eq m odd).pairs)
-          (apart_permutation (length m) _ (all_places m odd));
-        in_order = rw s.1 (λ k hk. removes_rise (same_term eq m) (length (merge.adds m)) 0 (all_sides (length m)) (all_rise eq (length m)) k (k + 1) (omega arith) hk)
+            (apart_permutation (length m) _ (all_places m odd));
+        in_order = rw s.1 (λ k hk. removes_rise (same_term eq m) (length (merge.adds m)) 0 (all_sides (length m)) (all_rise eq (length m)) k (k + 1) (omega arith) hk);
       }
 
   -- where no add equals a remove, each add is passed
@@ -115,15 +116,15 @@ module _ {T : Type 0} (eq : T → T → Bool) where
       let ea : slice_index (all_sides (length m)).adds i ≡ i * 2 = get_or-adds (range_with_len 0 (length m)) i 0 ∙ (get_or-range_with_len 0 (length m) (i * 2) 0 (omega arith) ∙ omega arith) in
       let er : slice_index (all_sides (length m)).removes j ≡ j * 2 + 1 = get_or-removes (range_with_len 0 (length m)) j 0 ∙ (get_or-range_with_len 0 (length m) (j * 2 + 1) 0 (omega arith) ∙ omega arith) in
       elim (slice_get_cases m (i * 2)).1 [
-        inl x ↦ elim (slice_get_cases m (j * 2 + 1)).1 [
-          inl y ↦
-            let a = get_or_from_slice_get (merge.adds m) i x.0 x.0 (slice_get-adds m i ∙ x.2) in
-            let r = get_or_from_slice_get (merge.removes m) j y.0 y.0 (slice_get-removes m j ∙ y.2) in
-            let ia : i < length (merge.adds m) = omega (arith, length-adds m) in
-            let jr : j < length (merge.removes m) = omega (arith, length-removes m) in
-            let no : eq x.0 y.0 ≡ false = sym (ap (λ z. eq z y.0) a) ∙ (sym (ap (eq (get_or (merge.adds m) i x.0)) r) ∙ d i x.0 ia j y.0 jr) in
-            ap (λ p. same_term eq m p (slice_index (all_sides (length m)).removes j)) ea ∙ (ap (same_term eq m (i * 2)) er
-            ∙ (ap (λ o. both_equal eq o (slice_get m (j * 2 + 1))) x.2 ∙ (ap (both_equal eq (Some x.0)) y.2 ∙ no)))
+        | inl x ↦ elim (slice_get_cases m (j * 2 + 1)).1 [
+          | inl y ↦
+              let a = get_or_from_slice_get (merge.adds m) i x.0 x.0 (slice_get-adds m i ∙ x.2) in
+              let r = get_or_from_slice_get (merge.removes m) j y.0 y.0 (slice_get-removes m j ∙ y.2) in
+              let ia : i < length (merge.adds m) = omega (arith, length-adds m) in
+              let jr : j < length (merge.removes m) = omega (arith, length-removes m) in
+              let no : eq x.0 y.0 ≡ false = sym (ap (λ z. eq z y.0) a) ∙ (sym (ap (eq (get_or (merge.adds m) i x.0)) r) ∙ d i x.0 ia j y.0 jr) in
+              ap (λ p. same_term eq m p (slice_index (all_sides (length m)).removes j)) ea ∙ (ap (same_term eq m (i * 2)) er
+              ∙ (ap (λ o. both_equal eq o (slice_get m (j * 2 + 1))) x.2 ∙ (ap (both_equal eq (Some x.0)) y.2 ∙ no)))
           | inr past ↦ absurd (omega (arith, past.0))
         ]
         | inr past ↦ absurd (omega (arith, past.0))

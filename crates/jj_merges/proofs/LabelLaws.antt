@@ -25,14 +25,14 @@ one_add (suc i) = refl
 pub nonempty-adds : (texts : List (List ℕ)) (i : ℕ) → AreNormal texts → nonempty (slice_get (adds texts) i) ≡ nonempty (slice_get (adds (labels_of texts)) i)
 nonempty-adds texts i h =
     elim (say_nothing texts) as (λ b. say_nothing texts ≡ b → nonempty (slice_get (adds texts) i) ≡ nonempty (slice_get (adds (cond b [] texts)) i)) [
-      true ↦ λ e. ap (λ ts. nonempty (slice_get (adds ts) i)) (h e) ∙ one_add i
+      | true ↦ λ e. ap (λ ts. nonempty (slice_get (adds ts) i)) (h e) ∙ one_add i
       | false ↦ λ e. refl
     ] refl
 
 pub nonempty-removes : (texts : List (List ℕ)) (i : ℕ) → AreNormal texts → nonempty (slice_get (removes texts) i) ≡ nonempty (slice_get (removes (labels_of texts)) i)
 nonempty-removes texts i h =
     elim (say_nothing texts) as (λ b. say_nothing texts ≡ b → nonempty (slice_get (removes texts) i) ≡ nonempty (slice_get (removes (cond b [] texts)) i)) [
-      true ↦ λ e. ap (λ ts. nonempty (slice_get (removes ts) i)) (h e)
+      | true ↦ λ e. ap (λ ts. nonempty (slice_get (removes ts) i)) (h e)
       | false ↦ λ e. refl
     ] refl
 

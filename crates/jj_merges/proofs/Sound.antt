@@ -18,3 +18,8 @@ many (Many v) h long = tt
 pub sound_many : {T : Type 0} (t : Terms T) → IsMany t → IsOdd (length (items t)) → IsSound t
 sound_many (One v) h odd = absurd h
 sound_many (Many v) h odd = odd
+
+-- the terms of a merge can grow
+pub holds_one : {T : Type 0} (t : Terms T) → IsSound t → HoldsOne t
+holds_one (One v) h = h
+holds_one (Many v) h = tt

@@ -61,10 +61,10 @@ module _ {T : Type 0} where
   at_places-written m (p ∷ ps) (n ∷ ns) e h apart =
       let others : All (λ q. q ≢ p) ps = λ k d hk same. apart 0 (suc k) d (omega arith) (omega arith) (sym same) in
       let here : slice_get (written (slice_set m p n) ps ns) p ≡ Some n =
-        slice_get-written (slice_set m p n) ps ns p others ∙ slice_get-set_same m p n (All-head (λ p. p < length m) p ps h) in
+      slice_get-written (slice_set m p n) ps ns p others ∙ slice_get-set_same m p n (All-head (λ p. p < length m) p ps h) in
       let rest = at_places-written (slice_set m p n) ps ns (omega arith)
-        (λ k d hk. omega (arith, length-set m p n, h (suc k) d (omega arith)))
-        (λ i j d hij hj. apart (suc i) (suc j) d (omega arith) (omega arith)) in
+      (λ k d hk. omega (arith, length-set m p n, h (suc k) d (omega arith)))
+      (λ i j d hij hj. apart (suc i) (suc j) d (omega arith) (omega arith)) in
       rw here (ap (λ zs. n ∷ zs) rest)
 
   pub AllZip-set : (R : T → T → Type 0) (m u : List T) (p : ℕ) (n : T) → AllZip R m u → ((x : T) → slice_get m p ≡ Some x → R x n) → AllZip R m (slice_set u p n)
@@ -80,11 +80,11 @@ module _ {T : Type 0} where
   AllZip-written R m u (p ∷ ps) [] h r k = h
   AllZip-written R m u (p ∷ ps) (n ∷ ns) h r k =
       elim (slice_get_cases m p).1 [
-        inl x ↦
-          let both : AllZip R (x.0 ∷ at_places m ps) (n ∷ ns) = rw x.2 at k in
-          AllZip-written R m (slice_set u p n) ps ns
-          (AllZip-set R m u p n h (λ y e. let same : Some y ≡ Some x.0 = sym e ∙ x.2 in let here : y ≡ x.0 = cc in rw here both.0))
-          (All-tail (λ p. p < length m) p ps r) both.1
+        | inl x ↦
+            let both : AllZip R (x.0 ∷ at_places m ps) (n ∷ ns) = rw x.2 at k in
+            AllZip-written R m (slice_set u p n) ps ns
+            (AllZip-set R m u p n h (λ y e. let same : Some y ≡ Some x.0 = sym e ∙ x.2 in let here : y ≡ x.0 = cc in rw here both.0))
+            (All-tail (λ p. p < length m) p ps r) both.1
         | inr past ↦ absurd (omega (arith, past.0, All-head (λ p. p < length m) p ps r))
       ]
 
@@ -107,7 +107,7 @@ count-agree p q (x ∷ xs) h =
 module _ {T : Type 0} (eq : T → T → Bool) where
   -- the counts of a list that is u at the places that are kept of m, and m elsewhere
   pub update_counts : IsPartialEquivalence eq → (m u n : List T) (odd : length m % 2 ≡ 1) → length u ≡ length m → at_places u (kept_places eq m) ≡ n
-    → ((q : ℕ) → All (λ p. p ≢ q) (kept_places eq m) → slice_get u q ≡ slice_get m q) → HaveSameCounts eq u n
+      → ((q : ℕ) → All (λ p. p ≢ q) (kept_places eq m) → slice_get u q ≡ slice_get m q) → HaveSameCounts eq u n
   update_counts laws m u n odd e at others v =
       let l = kept_leaves_out eq m odd in
       let t = kept_sides eq m in
@@ -117,7 +117,7 @@ module _ {T : Type 0} (eq : T → T → Bool) where
       let r = map (λ p. p.1) l.pairs in
       let apart = apart_permutation (length m) (ps ++ (a ++ r)) (all_places eq m odd) in
       let left_out : All (λ q. slice_get u q ≡ slice_get m q) (a ++ r) = λ k d hk.
-        rw get_or-append-add at (others (get_or (ps ++ (a ++ r)) (length ps + k) d) (λ i d' hi same. apart i (length ps + k) d (omega arith) (omega (arith, length-append ps (a ++ r))) (get_or_append_left ps (a ++ r) d i hi ∙ (get_or_default ps i d d' hi ∙ same)))) in
+      rw get_or-append-add at (others (get_or (ps ++ (a ++ r)) (length ps + k) d) (λ i d' hi same. apart i (length ps + k) d (omega arith) (omega (arith, length-append ps (a ++ r))) (get_or_append_left ps (a ++ r) d i hi ∙ (get_or_default ps i d d' hi ∙ same)))) in
       let now : ℕ → Bool = is_value_at eq u v in
       let before : ℕ → Bool = is_value_at eq m v in
       let agree : All (λ q. now q ≡ before q) (a ++ r) = λ k d hk. ap (λ o. both_equal eq (Some v) o) (left_out k d hk) in
@@ -130,10 +130,10 @@ module _ {T : Type 0} (eq : T → T → Bool) where
       let cut_adds = sum_by-IsPermutation f s.adds (t.adds ++ a) l.adds in
       let cut_removes = sum_by-IsPermutation f s.removes (t.removes ++ r) l.removes in
       let found : AllFound (slice_get u) ps = λ k d hk.
-        elim (slice_get_cases u (get_or ps k d)).1 [ inl x ↦ (x.0, x.2) | inr past ↦ absurd (omega (arith, past.0, kept_in_range eq m odd k d hk, e)) ] in
+      elim (slice_get_cases u (get_or ps k d)).1 [ inl x ↦ (x.0, x.2) | inr past ↦ absurd (omega (arith, past.0, kept_in_range eq m odd k d hk, e)) ] in
       let kept_adds : count_by (eq v) (merge.adds n) ≡ count_by now t.adds =
-        ap (λ xs. count_by (eq v) (merge.adds xs)) (sym at) ∙ (ap (count_by (eq v)) (adds-filter_map (slice_get u) ps found) ∙ (count-at_places eq u v (merge.adds ps) ∙ ap (count_by now) (sides-kept eq m odd).0)) in
+      ap (λ xs. count_by (eq v) (merge.adds xs)) (sym at) ∙ (ap (count_by (eq v)) (adds-filter_map (slice_get u) ps found) ∙ (count-at_places eq u v (merge.adds ps) ∙ ap (count_by now) (sides-kept eq m odd).0)) in
       let kept_removes : count_by (eq v) (merge.removes n) ≡ count_by now t.removes =
-        ap (λ xs. count_by (eq v) (merge.removes xs)) (sym at) ∙ (ap (count_by (eq v)) (removes-filter_map (slice_get u) ps found) ∙ (count-at_places eq u v (merge.removes ps) ∙ ap (count_by now) (sides-kept eq m odd).1)) in
+      ap (λ xs. count_by (eq v) (merge.removes xs)) (sym at) ∙ (ap (count_by (eq v)) (removes-filter_map (slice_get u) ps found) ∙ (count-at_places eq u v (merge.removes ps) ∙ ap (count_by now) (sides-kept eq m odd).1)) in
       signed_counts_equal (count_by (eq v) (merge.adds u)) (count_by (eq v) (merge.removes u)) (count_by (eq v) (merge.adds n)) (count_by (eq v) (merge.removes n))
       (omega (arith, all_adds, all_removes, cut_adds, cut_removes, sum_by-append f t.adds a, sum_by-append f t.removes r, kept_adds, kept_removes, on_adds, on_removes, pairs))

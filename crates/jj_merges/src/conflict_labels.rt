@@ -171,7 +171,9 @@ fn shown(label: Option<&String>) -> Option<&str>
 impl fmt::Debug for ConflictLabels {
     fn fmt<W: fmt::Write>(&self, f: &mut fmt::Formatter<W>) -> fmt::Result {
         if self.has_labels() {
-            f.debug_tuple("Labeled").field(&self.labels.as_slice()).finish()
+            f.debug_tuple("Labeled")
+                .field(&self.labels.as_slice())
+                .finish()
         } else {
             f.write_str("Unlabeled")
         }

@@ -14,6 +14,7 @@ ghost use Rattle.jj_merges.specs.Simplify.{kept_places, at_places};
 mod changes;
 mod diffs;
 mod every_second;
+mod flatten;
 mod images;
 mod into_iter;
 mod options;
@@ -27,14 +28,13 @@ pub use diffs::Diff;
 pub use every_second::EverySecond;
 pub use into_iter::IntoIter;
 pub use options::Present;
-pub use trivial::trivial_merge;
-
-use storage::{Terms, only_of};
 use smallvec::SmallVec;
 use std::alloc::{AllocError, Global};
 use std::default::MadeWith;
 use std::marker::Model;
 use std::slice;
+use storage::{Terms, only_of};
+pub use trivial::trivial_merge;
 
 /// What becomes of sides that made the same change: `Keep` leaves them as a conflict, `Accept` takes the change.
 #[derive(Copy, Clone, Debug, PartialEq, Eq, Drop)]
@@ -207,7 +207,6 @@ impl<T> Merge<T> {
             }
         }
     }
-
 }
 
 impl<T: MadeWith<Global> + Drop> Merge<T> {

@@ -16,7 +16,11 @@ use std::vec;
 impl<T> Merge<T> {
     /// What `f` gives of each term, in order.
     #[tactic(auto, using(crate::proofs::Sound::sound))]
-    pub fn map<'a, U: Drop, F: FnMut(&'a T) -> U>(&'a self, alloc: Global, f: F) -> Result<Merge<U>, AllocError>
+    pub fn map<'a, U: Drop, F: FnMut(&'a T) -> U>(
+        &'a self,
+        alloc: Global,
+        f: F,
+    ) -> Result<Merge<U>, AllocError>
         requires { F.IsAlwaysCallable f }
         ensures images { IfOk result (λ m. (last : F) × MapsTo (CalledAt F.FnMut) f self.now m last) }
     {
@@ -30,7 +34,11 @@ impl<T> Merge<T> {
     }
 
     /// What `f` gives of each term, in order, or its first error.
-    pub fn try_map<'a, U: Drop, E: From<AllocError>, F: FnMut(&'a T) -> Result<U, E>>(&'a self, alloc: Global, f: F) -> Result<Merge<U>, E>
+    pub fn try_map<'a, U: Drop, E: From<AllocError>, F: FnMut(&'a T) -> Result<U, E>>(
+        &'a self,
+        alloc: Global,
+        f: F,
+    ) -> Result<Merge<U>, E>
         requires { F.IsAlwaysCallable f }
         ensures images { IfOk result (λ m. (last : F) × MapsTo (λ f x y next. CalledAt F.FnMut f x (Ok y) next) f self.now m last) }
         // An error is the closure's at the first term where it fails, or want of memory.
@@ -63,7 +71,11 @@ impl<T> Merge<T> {
 
 impl<T: Drop> Merge<T> {
     /// What `f` gives of each term, in order.
-    pub fn into_map<U: Drop, F: FnMut(T) -> U>(self, alloc: Global, f: F) -> Result<Merge<U>, AllocError>
+    pub fn into_map<U: Drop, F: FnMut(T) -> U>(
+        self,
+        alloc: Global,
+        f: F,
+    ) -> Result<Merge<U>, AllocError>
         requires { F.IsAlwaysCallable f }
         ensures images { IfOk result (λ m. (last : F) × MapsTo F.step f self m last) }
     {
@@ -98,7 +110,10 @@ impl<T: Drop> Merge<T> {
 impl<T: Drop> Merge<T> {
     /// The removes and the adds by value, apart.
     #[tactic(auto, using(crate::proofs::Places::pushed))]
-    pub fn into_removes_adds(self, alloc: Global) -> Result<(vec::IntoIter<T>, vec::IntoIter<T>), AllocError>
+    pub fn into_removes_adds(
+        self,
+        alloc: Global,
+    ) -> Result<(vec::IntoIter<T>, vec::IntoIter<T>), AllocError>
         ensures removes { IfOk result (λ p. into_iter_items p.0 ≡ removes self) }
         ensures adds { IfOk result (λ p. into_iter_items p.1 ≡ adds self) }
     {

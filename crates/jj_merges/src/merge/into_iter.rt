@@ -78,8 +78,12 @@ impl<T: Drop> IntoIterator for Merge<T> {
     fn into_iter(self) -> IntoIter<T> {
         let Merge { terms } = self;
         match terms {
-            Terms::One(values) => IntoIter { rest: Rest::One(Some(only_of(values))) },
-            Terms::Many(values) => IntoIter { rest: Rest::Many(values.into_iter()) },
+            Terms::One(values) => IntoIter {
+                rest: Rest::One(Some(only_of(values))),
+            },
+            Terms::Many(values) => IntoIter {
+                rest: Rest::Many(values.into_iter()),
+            },
         }
     }
 }

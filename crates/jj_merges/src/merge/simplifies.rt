@@ -7,8 +7,7 @@ ghost use Rattle.jj_merges.specs.Maps.{MapsTo};
 ghost use Rattle.jj_merges.specs.Merge.{AreEqual, HaveSameCounts, HaveSameSides, IsDisjoint};
 ghost use Rattle.jj_merges.specs.Simplify.{AreKept, kept_places, at_places};
 
-use super::Merge;
-use super::simplified;
+use super::{Merge, simplified};
 use std::alloc::{AllocError, Global};
 
 impl<T: PartialEq + Clone> Merge<T> {
@@ -43,7 +42,11 @@ impl<T: PartialEq + Clone> Merge<T> {
 
 impl<T: Clone> Merge<T> {
     /// The merge without the adds whose keys equal those of removes, nor those removes. `f` gives each term's key.
-    pub fn simplify_by<'a, U: PartialEq + Drop, F: FnMut(&'a T) -> U>(&'a self, alloc: Global, f: F) -> Result<Self, AllocError>
+    pub fn simplify_by<'a, U: PartialEq + Drop, F: FnMut(&'a T) -> U>(
+        &'a self,
+        alloc: Global,
+        f: F,
+    ) -> Result<Self, AllocError>
         requires { F.IsAlwaysCallable f }
         ensures { IfOk result (λ s. (keys : List U) × (last : F) × MapsTo (CalledAt F.FnMut) f self.now keys last
             × AllZip T.is_clone (at_places self.now (kept_places U.eq keys)) s × AreKept U.eq keys (kept_places U.eq keys)

@@ -12,6 +12,6 @@ returns c =
     let labels = c.self.inside.labels in
     let i = c.args.add_index in
     let at : option_map string_bytes (slice_get (adds labels) i) ≡ slice_get (adds (map string_bytes labels)) i =
-      sym (slice_get-map string_bytes (adds labels) i) ∙ ap (λ xs. slice_get xs i) (sym (adds-map string_bytes labels)) in
+    sym (slice_get-map string_bytes (adds labels) i) ∙ ap (λ xs. slice_get xs i) (sym (adds-map string_bytes labels)) in
     c.shown.ensures ∙ (ap (λ o. nonempty (option_map string_bytes o)) c.get_add.ensures ∙ (ap nonempty at
     ∙ (nonempty-adds (map string_bytes labels) i c.self.invariant ∙ ap (λ xs. nonempty (slice_get (adds xs) i)) c.self.view_is)))

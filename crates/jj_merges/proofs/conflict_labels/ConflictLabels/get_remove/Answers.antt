@@ -12,6 +12,6 @@ returns c =
     let labels = c.self.inside.labels in
     let i = c.args.remove_index in
     let at : option_map string_bytes (slice_get (removes labels) i) ≡ slice_get (removes (map string_bytes labels)) i =
-      sym (slice_get-map string_bytes (removes labels) i) ∙ ap (λ xs. slice_get xs i) (sym (removes-map string_bytes labels)) in
+    sym (slice_get-map string_bytes (removes labels) i) ∙ ap (λ xs. slice_get xs i) (sym (removes-map string_bytes labels)) in
     c.shown.ensures ∙ (ap (λ o. nonempty (option_map string_bytes o)) c.get_remove.ensures ∙ (ap nonempty at
     ∙ (nonempty-removes (map string_bytes labels) i c.self.invariant ∙ ap (λ xs. nonempty (slice_get (removes xs) i)) c.self.view_is)))

@@ -20,10 +20,13 @@ clones_at-requires g c =
     let eq = g.U.PartialEq.eq in
     let long = length-MapsTo (CalledAt g.F.FnMut) _ _ _ _ c.in_ok-keys.ensures.1 in
     let odd : IsOdd (length keys) = omega (arith, long, ap length c.as_slice-values.ensures.terms, c.as_slice-values.ensures.odd) in
-    let places : c.deref-2.result.now ≡ kept_places eq keys = c.deref-2.ensures.value ∙ (c.in_ok-places.ensures ∙ ap (kept_places eq) c.deref.ensures.value) in
-    (search rules,
-      (rw (places, ← long) (kept_in_range eq keys odd),
-        rw places (odd-kept_places eq keys odd)))
+    let places : c.deref-2.result.now ≡ kept_places eq keys = c.deref-2.ensures.value ∙ (c.in_ok-places.ensures ∙ ap (kept_places eq) c.deref.ensures.value) in (
+      search rules,
+      (
+        rw (places, ← long) (kept_in_range eq keys odd),
+        rw places (odd-kept_places eq keys odd),
+      ),
+    )
 
 pub returns : goal.returns
 returns g c =
@@ -33,6 +36,13 @@ returns g c =
     let odd : IsOdd (length keys) = omega (arith, long, ap length c.as_slice-values.ensures.terms, c.as_slice-values.ensures.odd) in
     let places : c.deref-2.result.now ≡ kept_places eq keys = c.deref-2.ensures.value ∙ (c.in_ok-places.ensures ∙ ap (kept_places eq) c.deref.ensures.value) in
     IfOk-weaker c.clones_at.result _ _
-      (λ s h. (keys, c.in_ok-keys.ensures.0, rw (← c.as_slice-values.ensures.terms) c.in_ok-keys.ensures.1,
-        rw (← places, ← c.as_slice-values.ensures.terms) h, are_kept eq keys odd, HaveSameCounts-kept eq g.met.U.PartialEq.laws keys odd, IsDisjoint-kept eq keys odd))
-      c.clones_at.ensures
+    (λ s h. (
+      keys,
+      c.in_ok-keys.ensures.0,
+      rw (← c.as_slice-values.ensures.terms) c.in_ok-keys.ensures.1,
+      rw (← places, ← c.as_slice-values.ensures.terms) h,
+      are_kept eq keys odd,
+      HaveSameCounts-kept eq g.met.U.PartialEq.laws keys odd,
+      IsDisjoint-kept eq keys odd,
+    ))
+    c.clones_at.ensures

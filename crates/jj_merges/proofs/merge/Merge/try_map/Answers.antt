@@ -11,11 +11,12 @@ pub loop-term-preserved : goal.loop-term-preserved
 loop-term-preserved g c =
     let xs = c.as_slice-values.result.now in
     let i = c.loop-term.term-index in
-    let before = c.loop-term.invariant.0 in
-    (search (of_calls, before),
+    let before = c.loop-term.invariant.0 in (
+      search (of_calls, before),
       c.in_ok-push-in-Ok.ensures.holds_one,
       rw (take_more xs i c.term-item.result c.loop-term-test.true, c.in_ok-push-in-Ok.ensures.ok, ← c.term-item.is)
-      (MapsTo-push (λ f x y next. CalledAt g.F.FnMut f x (Ok y) next) c.args.f (take i xs) (items c.loop-term.images) c.loop-term.f c.term-item.result c.in-Ok.image c.f.new.self c.loop-term.invariant.2 (record { shown = _; shows = refl; called = c.in-Ok.ensures })))
+          (MapsTo-push (λ f x y next. CalledAt g.F.FnMut f x (Ok y) next) c.args.f (take i xs) (items c.loop-term.images) c.loop-term.f c.term-item.result c.in-Ok.image c.f.new.self c.loop-term.invariant.2 (record { shown = _; shows = refl; called = c.in-Ok.ensures })),
+    )
 
 pub invariant_of-result : goal.invariant_of-result
 invariant_of-result g c =

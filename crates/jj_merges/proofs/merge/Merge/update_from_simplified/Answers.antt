@@ -31,11 +31,12 @@ loop-place-preserved g c =
     let more : suc i ≡ i + 1 = omega arith in
     let at : drop i ps ≡ p ∷ drop (i + 1) ps = drop-cons ps i 0 c.loop-place-test.true ∙ ap (λ n. p ∷ drop n ps) more in
     let step : written ts (drop i ps) c.loop-place.updates ≡ written (slice_set ts p x) (drop (i + 1) ps) next =
-      ap (λ qs. written ts qs c.loop-place.updates) at ∙ ap (λ us. written ts (p ∷ drop (i + 1) ps) us) c.in-Some.ensures.steps in
-    (c.set.ensures.sound now.0,
+    ap (λ qs. written ts qs c.loop-place.updates) at ∙ ap (λ us. written ts (p ∷ drop (i + 1) ps) us) c.in-Some.ensures.steps in (
+      c.set.ensures.sound now.0,
       ap length c.set.ensures.items ∙ (length-set ts p x ∙ now.1),
       ap (λ us. written us (drop (i + 1) ps) next) c.set.ensures.items ∙ (sym step ∙ now.2),
-      omega (arith, length-drop (i + 1) ps, length-drop i ps, now.3, ap length c.in-Some.ensures.steps))
+      omega (arith, length-drop (i + 1) ps, length-drop i ps, now.3, ap length c.in-Some.ensures.steps),
+    )
 
 -- the terms in the end
 final : (g : _) (c : goal.After-drop-places g) → items c.loop-place.terms ≡ written c.args.self (kept_places g.T.PartialEq.eq c.args.self) c.args.simplified
@@ -44,7 +45,7 @@ final g c =
     let ps : c.deref-place-items.result.now ≡ kept_places eq c.args.self = c.deref-place-items.ensures.value ∙ (c.in_ok-places.ensures ∙ ap (kept_places eq) c.as_slice.ensures.terms) in
     let now = c.loop-place.invariant in
     sym (written_done (items c.loop-place.terms) (drop c.loop-place.place-index c.deref-place-items.result.now) c.loop-place.updates
-      (omega (arith, length-drop c.loop-place.place-index c.deref-place-items.result.now, c.loop-place-test.false)))
+    (omega (arith, length-drop c.loop-place.place-index c.deref-place-items.result.now, c.loop-place-test.false)))
     ∙ (now.2 ∙ ap (λ qs. written c.args.self qs c.args.simplified) ps)
 
 pub returns-clause-kept : goal.returns-clause-kept

@@ -15,7 +15,7 @@ loop-index-preserved-in-Some g c =
     let same = same_term g.T.PartialEq.eq c.args.values.now in
     let s : Sides = record { adds = c.loop-index.adds.items; removes = c.loop-index.removes.items } in
     let found : Some c.in-Some.found ≡ position (same (slice_index s.adds c.loop-index.index)) s.removes =
-      position-at same s.adds s.removes c.deref.result.now c.loop-index.index c.index.result.now (Some c.in-Some.found) (omega arith) c.index.ensures c.deref.ensures.value c.in-Some.ensures in
+    position-at same s.adds s.removes c.deref.result.now c.loop-index.index c.index.result.now (Some c.in-Some.found) (omega arith) c.index.ensures c.deref.ensures.value c.in-Some.ensures in
     rw (c.cancel.ensures.adds, c.cancel.ensures.removes)
     (Reached-found same (length c.args.values.now) (kept_sides g.T.PartialEq.eq c.args.values.now) c.loop-index.index c.in-Some.found s c.loop-index.invariant (omega arith) found)
 
@@ -24,7 +24,7 @@ loop-index-preserved g c =
     let same = same_term g.T.PartialEq.eq c.args.values.now in
     let s : Sides = record { adds = c.loop-index.adds.items; removes = c.loop-index.removes.items } in
     let none : None ≡ position (same (slice_index s.adds c.loop-index.index)) s.removes =
-      position-at same s.adds s.removes c.deref.result.now c.loop-index.index c.index.result.now None (omega arith) c.index.ensures c.deref.ensures.value c.in-None.ensures in
+    position-at same s.adds s.removes c.deref.result.now c.loop-index.index c.index.result.now None (omega arith) c.index.ensures c.deref.ensures.value c.in-None.ensures in
     Reached-passed same (length c.args.values.now) (kept_sides g.T.PartialEq.eq c.args.values.now) c.loop-index.index s c.loop-index.invariant (omega arith) none
 
 pub returns : goal.returns

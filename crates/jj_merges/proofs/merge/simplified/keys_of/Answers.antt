@@ -9,7 +9,8 @@ loop-value-preserved g c =
     let xs = c.args.values.now in
     let i = c.loop-value.value-index in
     let m = c.f.ensures.met in
-    let before = c.loop-value.invariant.0 in
-    (search (of_calls, before),
+    let before = c.loop-value.invariant.0 in (
+      search (of_calls, before),
       rw (take_more xs i c.value-item.result c.loop-value-test.true, c.in_ok-push.ensures.items, ← c.value-item.is)
-      (MapsTo-push (CalledAt g.F.FnMut) c.args.f (take i xs) c.loop-value.keys.items c.loop-value.f c.value-item.result c.f.result c.f.new.self c.loop-value.invariant.1 (search (rules, m))))
+          (MapsTo-push (CalledAt g.F.FnMut) c.args.f (take i xs) c.loop-value.keys.items c.loop-value.f c.value-item.result c.f.result c.f.new.self c.loop-value.invariant.1 (search (rules, m))),
+    )

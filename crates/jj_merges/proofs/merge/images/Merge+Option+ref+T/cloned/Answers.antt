@@ -11,10 +11,11 @@ use Rattle.jj_merges.proofs.merge.images.Merge+Option+ref+T.cloned.Goals as goal
 pub loop-term-preserved : goal.loop-term-preserved
 loop-term-preserved g c =
     let xs = c.as_slice-values.result.now in
-    let i = c.loop-term.term-index in
-    (c.in_ok-push.ensures.holds_one,
+    let i = c.loop-term.term-index in (
+      c.in_ok-push.ensures.holds_one,
       rw (take_more xs i c.term-item.result c.loop-term-test.true, c.in_ok-push.ensures.ok, ← c.term-item.is, map-append)
-      (AllZip-push (IsOptionClone g.T.Clone.is_clone) (map option_copied (take i xs)) (items c.loop-term.terms) (option_copied c.term-item.result) c.in_ok-clone_of.field-0 c.loop-term.invariant.1 c.in_ok-clone_of.ensures))
+          (AllZip-push (IsOptionClone g.T.Clone.is_clone) (map option_copied (take i xs)) (items c.loop-term.terms) (option_copied c.term-item.result) c.in_ok-clone_of.field-0 c.loop-term.invariant.1 c.in_ok-clone_of.ensures),
+    )
 
 pub invariant_of-result : goal.invariant_of-result
 invariant_of-result g c =

@@ -9,10 +9,11 @@ use Rattle.jj_merges.proofs.merge.images.Merge+ref+T.cloned.Goals as goal
 pub loop-term-preserved : goal.loop-term-preserved
 loop-term-preserved g c =
     let xs = c.as_slice-values.result.now in
-    let i = c.loop-term.term-index in
-    (c.in_ok-push.ensures.holds_one,
+    let i = c.loop-term.term-index in (
+      c.in_ok-push.ensures.holds_one,
       rw (take_more xs i c.term-item.result c.loop-term-test.true, c.in_ok-push.ensures.ok, ← c.term-item.is, map-append)
-      (AllZip-push g.T.Clone.is_clone (map (λ x. x.now) (take i xs)) (items c.loop-term.terms) c.term-item.result.now c.in_ok-clone.field-0 c.loop-term.invariant.1 c.in_ok-clone.ensures.cases))
+          (AllZip-push g.T.Clone.is_clone (map (λ x. x.now) (take i xs)) (items c.loop-term.terms) c.term-item.result.now c.in_ok-clone.field-0 c.loop-term.invariant.1 c.in_ok-clone.ensures.cases),
+    )
 
 pub invariant_of-result : goal.invariant_of-result
 invariant_of-result g c =
