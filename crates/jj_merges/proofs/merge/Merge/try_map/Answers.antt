@@ -1,0 +1,40 @@
+use Rattle.std.proofs.Common.{◌≡◌, ◌∙◌, ◌+◌, ◌++◌, ◌∷◌, sym, ap, arith, length, refl, take, drop, subst, rules, of_calls, Ok, Err, inl}
+use Rattle.std.specs.Fn.{CalledAt}
+use Rattle.std.proofs.lemmas.List.{take_more, take_all}
+use Rattle.jj_merges.specs.Maps.{MapsTo, FailsAmong}
+use Rattle.jj_merges.specs.Terms.{items}
+use Rattle.jj_merges.proofs.MapsLemmas.{MapsTo-push, length-MapsTo, FailsAmong-at, split_at}
+use Rattle.jj_merges.proofs.Sound.{sound}
+use Rattle.jj_merges.proofs.merge.Merge.try_map.Goals as goal
+
+pub loop-term-preserved : goal.loop-term-preserved
+loop-term-preserved g c =
+    let xs = c.as_slice-values.result.now in
+    let i = c.loop-term.term-index in
+    let before = c.loop-term.invariant.0 in (
+      search (of_calls, before),
+      c.in_ok-push-in-Ok.ensures.holds_one,
+      rw (take_more xs i c.term-item.result c.loop-term-test.true, c.in_ok-push-in-Ok.ensures.ok, ← c.term-item.is)
+          (MapsTo-push (λ f x y next. CalledAt g.F.FnMut f x (Ok y) next) c.args.f (take i xs) (items c.loop-term.images) c.loop-term.f c.term-item.result c.in-Ok.image c.f.new.self c.loop-term.invariant.2 (record { shown = _; shows = refl; called = c.in-Ok.ensures })),
+    )
+
+pub invariant_of-result : goal.invariant_of-result
+invariant_of-result g c =
+    let n = length-MapsTo (λ f x y next. CalledAt g.F.FnMut f x (Ok y) next) _ _ _ _ c.loop-term.invariant.2 in
+    let all = ap length (take_all c.loop-term.term-index c.as_slice-values.result.now (omega arith)) in
+    sound c.loop-term.images c.loop-term.invariant.1
+    (omega (arith, n, all, ap length c.as_slice-values.ensures.terms, c.as_slice-values.ensures.odd))
+
+pub returns-in-Err-clause-failed : goal.returns-in-Err-clause-failed
+returns-in-Err-clause-failed g c =
+    let xs = c.as_slice-values.result.now in
+    let i = c.loop-term.term-index in
+    let x = c.term-item.result in
+    let whole : take i xs ++ (x ∷ drop (i + 1) xs) ≡ c.args.self.now = split_at xs i x c.loop-term-test.true c.term-item.is ∙ c.as_slice-values.ensures.terms in
+    inl (subst (λ ys. FailsAmong (λ f x y next. CalledAt g.F.FnMut f x (Ok y) next) (λ f x. (last : _) × CalledAt g.F.FnMut f x (Err c.in-Err.error) last) c.args.f ys) whole
+    (FailsAmong-at (λ f x y next. CalledAt g.F.FnMut f x (Ok y) next) (λ f x. (last : _) × CalledAt g.F.FnMut f x (Err c.in-Err.error) last) c.args.f (take i xs) (items c.loop-term.images) c.loop-term.f x (drop (i + 1) xs) c.loop-term.invariant.2 (c.f.new.self, record { shown = _; shows = refl; called = c.in-Err.ensures })))
+
+pub returns-clause-images : goal.returns-clause-images
+returns-clause-images g c =
+    let all = take_all c.loop-term.term-index c.as_slice-values.result.now (omega arith) in
+    (c.loop-term.f, rw (← c.as_slice-values.ensures.terms, ← all) c.loop-term.invariant.2)

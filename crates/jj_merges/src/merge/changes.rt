@@ -1,0 +1,59 @@
+//! Merges that grow and shrink, and merges of one value.
+ghost use Rattle.std.specs.Prelude.{◌≡◌, ℕ, ◌+◌, ◌-◌, ◌*◌, ◌/◌, ◌^◌, ◌<◌, ◌≤◌, length, max, slice_get, IfOk, OnOk, OnErr, Some};
+ghost use Rattle.std.specs.List.{AllClonesOf, AppendsClonesOf, swap_remove};
+ghost use Rattle.jj_merges.specs.Merge.{adds, removes};
+
+use super::Merge;
+use super::storage::Terms;
+use std::alloc::{AllocError, Global};
+use std::vec::VecCloneMethods;
+
+impl<T> Merge<T> {
+    /// Takes out a remove and an add, in this order. The last remove and the last add move into their places.
+    #[tactic(auto, using(crate::proofs::Changes::removed))]
+    pub fn swap_remove(&mut self, remove_index: usize, add_index: usize) -> (T, T)
+        requires remove { remove_index < length (removes self.old) }
+        requires add { add_index < length (adds self.old) }
+        ensures removed { slice_get (removes self.old) remove_index ≡ Some result.0 }
+        ensures added { slice_get (adds self.old) add_index ≡ Some result.1 }
+        ensures removes { removes self.new ≡ swap_remove (removes self.old) remove_index result.0 }
+        ensures adds { adds self.new ≡ swap_remove (adds self.old) add_index result.1 }
+    {
+        let len = self.as_slice().len();
+        let add = self.terms.swap_remove(add_index * 2);
+        let remove = self.terms.swap_remove(remove_index * 2 + 1);
+        (remove, add)
+    }
+}
+
+impl<T: Clone> Merge<T> {
+    /// A merge of so many sides, all of them the value or clones of it.
+    pub fn repeated(alloc: Global, value: T, num_sides: usize) -> Result<Self, AllocError>
+        requires some { 1 ≤ num_sides }
+        requires limit { num_sides ≤ (2 ^ 64 - 1) / 2 }
+        ensures terms { IfOk result (AllClonesOf T.is_clone value) }
+        ensures len { IfOk result (λ m. length m + 1 ≡ 2 * num_sides) }
+    {
+        if num_sides == 1 {
+            return Ok(Merge::resolved(alloc, value));
+        }
+        let mut terms = Vec::new(alloc);
+        VecCloneMethods::resize(&mut terms, num_sides * 2 - 1, value)?;
+        Ok(Merge {
+            terms: Terms::Many(terms),
+        })
+    }
+
+    /// Appends clones of the value, a remove and an add at a time, until there are so many sides.
+    pub fn pad_to(&mut self, alloc: Global, num_sides: usize, value: &T) -> Result<(), AllocError>
+        requires { num_sides ≤ (2 ^ 64 - 1) / 2 }
+        ensures terms { OnOk result (AppendsClonesOf T.is_clone self.old self.new value.now) }
+        ensures len { OnOk result (length self.new ≡ max (length self.old) (2 * num_sides - 1)) }
+        ensures err { OnErr result (self.new ≡ self.old) }
+    {
+        if num_sides <= self.num_sides() {
+            return Ok(());
+        }
+        self.terms.pad(alloc, num_sides * 2 - 1, value)
+    }
+}

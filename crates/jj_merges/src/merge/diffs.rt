@@ -1,0 +1,107 @@
+//! Two versions of a value.
+ghost use Rattle.std.specs.Prelude.{◌≡◌, ◌↔◌, IsTrue, IfOk, false, [], ◌∷◌};
+
+use std::alloc::{AllocError, Global};
+use std::ops::AsDeref;
+
+/// A value before a change and after it.
+#[derive(Debug, PartialEq, Eq, Drop)]
+pub struct Diff<T> {
+    pub before: T,
+    pub after: T,
+}
+
+impl<T> Diff<T> {
+    pub fn new(before: T, after: T) -> Self
+        ensures before { result.before ≡ before }
+        ensures after { result.after ≡ after }
+    {
+        Diff { before, after }
+    }
+
+    /// What `f` gives of both values, the one before first.
+    pub fn map<U, F: FnMut(T) -> U + Drop>(self, f: F) -> Diff<U>
+        requires { F.IsAlwaysCallable f }
+        ensures { (next : F) × (last : F) × F.step f self.before result.before next × F.step next self.after result.after last }
+    {
+        let mut f = f;
+        let before = f(self.before);
+        let after = f(self.after);
+        Diff { before, after }
+    }
+
+    /// The values of both diffs, side by side.
+    pub fn zip<U>(self, other: Diff<U>) -> Diff<(T, U)>
+        ensures before { (result.before.0 ≡ self.before) × (result.before.1 ≡ other.before) }
+        ensures after { (result.after.0 ≡ self.after) × (result.after.1 ≡ other.after) }
+    {
+        Diff {
+            before: (self.before, other.before),
+            after: (self.after, other.after),
+        }
+    }
+
+    /// The change back.
+    pub fn invert(self) -> Self
+        ensures before { result.before ≡ self.after }
+        ensures after { result.after ≡ self.before }
+    {
+        Diff {
+            before: self.after,
+            after: self.before,
+        }
+    }
+
+    pub fn as_ref(&self) -> Diff<&T>
+        ensures before { result.before.now ≡ self.now.before }
+        ensures after { result.after.now ≡ self.now.after }
+    {
+        Diff {
+            before: &self.before,
+            after: &self.after,
+        }
+    }
+
+    /// What both values show by reference, as a text of a `String`.
+    pub fn as_deref<'a>(&'a self) -> Diff<T::Shown>
+    where
+        T: AsDeref<'a>,
+        ensures before { T.as_deref_gives self.now.before result.before }
+        ensures after { T.as_deref_gives self.now.after result.after }
+        ensures views { (T.output_view result.before ≡ T.view self.now.before) × (T.output_view result.after ≡ T.view self.now.after) }
+    {
+        Diff {
+            before: self.before.shown(),
+            after: self.after.shown(),
+        }
+    }
+
+    /// The value before, then the one after.
+    pub fn into_array(self) -> [T; 2]
+        ensures { result ≡ self.before ∷ self.after ∷ [] }
+    {
+        [self.before, self.after]
+    }
+}
+
+impl<T: Eq> Diff<T> {
+    /// Whether the values differ.
+    pub fn is_changed(&self) -> bool
+        ensures { IsTrue result ↔ (T.eq self.now.before self.now.after ≡ false) }
+    {
+        self.before != self.after
+    }
+}
+
+impl<T: Clone> Diff<T> {
+    /// The same values, each a clone.
+    pub fn clone(&self, _alloc: Global) -> Result<Self, AllocError>
+        ensures before { IfOk result (λ d. T.is_clone self.now.before d.before) }
+        ensures after { IfOk result (λ d. T.is_clone self.now.after d.after) }
+    {
+        Ok(Diff {
+            before: self.before.clone()?,
+            after: self.after.clone()?,
+        })
+    }
+}

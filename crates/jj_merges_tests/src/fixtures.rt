@@ -1,0 +1,28 @@
+//! Merges of digits, written as texts.
+//
+// In a run in which one request for memory is refused, a call answers that or the right value, and is then made
+// once more, when there is memory.
+use jj_merges::merge::Merge;
+use smallvec::SmallVec;
+use std::alloc::{AllocError, Global};
+use std::process::Abort;
+
+/// The digits of a text.
+pub fn digits(alloc: Global, text: &str) -> Result<Vec<u32>, AllocError> {
+    let mut numbers = Vec::new(alloc);
+    for byte in text.as_bytes() {
+        numbers.push(u32::from(byte.saturating_sub(b'0')))?;
+    }
+    Ok(numbers)
+}
+
+/// A merge of these terms.
+pub fn of_terms<R: Abort>(rt: &R, terms: Vec<u32>) -> Merge<u32> {
+    assert!(rt; terms.len() % 2 == 1);
+    Merge::from_vec(SmallVec::from_vec(terms))
+}
+
+/// A merge of the digits of a text.
+pub fn merge<R: Abort>(rt: &R, alloc: Global, text: &str) -> Result<Merge<u32>, AllocError> {
+    Ok(of_terms(rt, digits(alloc, text)?))
+}

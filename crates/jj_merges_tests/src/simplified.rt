@@ -1,0 +1,132 @@
+//! What `simplify` leaves of merges, and writing back into them.
+use crate::fixtures::{digits, merge, of_terms};
+use jj_merges::merge::{Merge, SameChange};
+use smallvec::SmallVec;
+use std::alloc::{AllocError, Global};
+use std::process::Abort;
+use std::test::Fail;
+
+/// Terms, and those that are left.
+const SIMPLIFIED: [&str; 7] = [
+    "0 0,000 0,001 1,100 1,101 101,102 102,00000 0,00001 1,00010 010,00011 0,00012 012,00100 1",
+    "00101 101,00102 102,00110 0,00111 1,00112 2,00210 210,00211 2,00212 212,00213 213,01000 010",
+    "01001 0,01002 210,01010 01010,01011 010,01012 01012,01020 01020,01021 020,01022 010",
+    "01023 01023,01100 0,01101 1,01102 2,01110 010,01111 0,01112 012,01120 020,01121 021,01122 0",
+    "01123 023,01200 012,01201 2,01202 212,01203 312,01210 01210,01211 012,01212 01212,01213 01213",
+    "01220 010,01221 0,01222 012,01223 013,01230 01230,01231 032,01232 01232,01233 012,01234 01234",
+    "0123451 03452,0031324 31324",
+];
+
+/// Terms, and the places that are kept.
+const KEPT: [&str; 7] = [
+    "0 0,000 2,001 2,010 012,011 0,012 012,00000 4,00001 4,00010 234,00011 2,00012 234,00100 2",
+    "00101 234,00102 234,00110 4,00111 4,00112 4,00210 234,00211 2,00212 234,00213 234,01000 412",
+    "01001 2,01002 412,01010 01234,01011 032,01012 01234,01020 01234,01021 032,01022 012",
+    "01023 01234,01100 4,01101 2,01102 4,01110 034,01111 0,01112 034,01120 034,01121 034,01122 0",
+    "01123 034,01200 412,01201 2,01202 412,01203 412,01210 01234,01211 032,01212 01234,01213 01234",
+    "01220 014,01221 0,01222 014,01223 014,01230 01234,01231 032,01232 01234,0123451 03452",
+    "01234 01234,20311 012",
+];
+
+fn simplified<R: Abort>(rt: &R, alloc: Global, terms: &str) -> Result<Merge<u32>, AllocError> {
+    merge(rt, alloc, terms)?.simplify(alloc)
+}
+
+#[test]
+fn simplify(rt: HostRuntime) -> Result<(), Fail> {
+    let alloc = rt.alloc();
+    for rows in SIMPLIFIED {
+        for row in rows.split(',') {
+            let (terms, wanted) = row.split_once(' ').ok_or("two columns")?;
+            let left = simplified(&rt, alloc, terms).or_else(|_| simplified(&rt, alloc, terms))?;
+            let wanted = merge(&rt, alloc, wanted).or_else(|_| merge(&rt, alloc, wanted))?;
+            assert!(rt; left == wanted, "{terms} leaves {left:?}");
+        }
+    }
+    Ok(())
+}
+
+fn again<R: Abort>(rt: &R, alloc: Global, terms: &str) -> Result<Merge<u32>, AllocError> {
+    simplified(rt, alloc, terms)?.simplify(alloc)
+}
+
+#[test]
+fn simplify_keeps_outcomes(rt: HostRuntime) -> Result<(), Fail> {
+    let alloc = rt.alloc();
+    for rows in SIMPLIFIED {
+        for row in rows.split(',') {
+            let (terms, _) = row.split_once(' ').ok_or("two columns")?;
+            let whole = merge(&rt, alloc, terms).or_else(|_| merge(&rt, alloc, terms))?;
+            let left = simplified(&rt, alloc, terms).or_else(|_| simplified(&rt, alloc, terms))?;
+            let twice = again(&rt, alloc, terms).or_else(|_| again(&rt, alloc, terms))?;
+            assert!(rt; twice == left, "{terms} simplified twice leaves {twice:?}");
+            for change in [SameChange::Keep, SameChange::Accept] {
+                assert_eq!(rt;
+                    left.resolve_trivial(change),
+                    whole.resolve_trivial(change),
+                    "{terms}"
+                );
+            }
+        }
+    }
+    Ok(())
+}
+
+/// The places that `simplify_by` keeps, where each term is paired with its place and the key is the term.
+fn kept_places<R: Abort>(rt: &R, alloc: Global, terms: &str) -> Result<Vec<u32>, AllocError> {
+    let mut pairs = Vec::new(alloc);
+    let mut place = 0u32;
+    for term in &digits(alloc, terms)? {
+        pairs.push((place, *term))?;
+        place = place.wrapping_add(1);
+    }
+    assert!(rt; pairs.len() % 2 == 1);
+    let places = Merge::from_vec(SmallVec::from_vec(pairs));
+    let kept = places.simplify_by(alloc, |pair| pair.1)?;
+    kept.iter().map(|pair| pair.0).collect(alloc)
+}
+
+#[test]
+fn simplify_by_keys(rt: HostRuntime) -> Result<(), Fail> {
+    let alloc = rt.alloc();
+    for rows in KEPT {
+        for row in rows.split(',') {
+            let (terms, wanted) = row.split_once(' ').ok_or("two columns")?;
+            let kept = kept_places(&rt, alloc, terms).or_else(|_| kept_places(&rt, alloc, terms))?;
+            let wanted = digits(alloc, wanted).or_else(|_| digits(alloc, wanted))?;
+            assert!(rt; kept == wanted, "{terms} keeps {kept:?}");
+        }
+    }
+    Ok(())
+}
+
+/// `count` numbers from 0 on, each twice, and then `count`.
+fn doubled(alloc: Global, count: u32) -> Result<Vec<u32>, AllocError> {
+    let mut terms = Vec::new(alloc);
+    for number in 0..count {
+        terms.push(number)?;
+        terms.push(number)?;
+    }
+    terms.push(count)?;
+    Ok(terms)
+}
+
+#[test]
+fn long_merges(rt: HostRuntime) -> Result<(), Fail> {
+    let alloc = rt.alloc();
+    let sevens = Merge::repeated(alloc, 7u32, 1001).or_else(|_| Merge::repeated(
+        alloc, 7u32, 1001,
+    ))?;
+    let left = sevens.simplify(alloc).or_else(|_| sevens.simplify(alloc))?;
+    assert_eq!(rt; left.as_slice(), [7].as_slice());
+
+    let terms = doubled(alloc, 1000).or_else(|_| doubled(alloc, 1000))?;
+    let whole = of_terms(&rt, terms);
+    assert_eq!(rt;
+        whole.resolve_trivial(SameChange::Keep).copied(),
+        Some(1000)
+    );
+    let left = whole.simplify(alloc).or_else(|_| whole.simplify(alloc))?;
+    assert_eq!(rt; left.as_slice(), [1000].as_slice());
+    Ok(())
+}
