@@ -1,0 +1,7 @@
+//! Walks over directed graphs, and the edges of graphs that are shown to users.
+#![tactic(auto)]
+
+pub mod dag_walk;
+mod depth_first;
+mod topo_order;
+mod walk_error;
