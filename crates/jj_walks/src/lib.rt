@@ -3,5 +3,6 @@
 
 pub mod dag_walk;
 mod depth_first;
+mod depth_first_ok;
 mod topo_order;
 mod walk_error;
