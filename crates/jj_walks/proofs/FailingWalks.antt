@@ -1,5 +1,5 @@
 -- Lemmas about depth-first walks over items that may fail.
-use Rattle.std.proofs.Common.{◌≡◌, ℕ, zero, suc, ◌+◌, ◌<◌, Bool, true, false, cond, ◌||◌, List, [], ◌∷◌, ◌++◌, length, map, reverse, refl, sym, ◌∙◌, ap, subst, arith, ◌==◌, append_assoc, append-nil, ⊎_elim, true≢false, Option, Result, Ok, Err, Some, None}
+use Rattle.std.proofs.Common.{◌≡◌, ℕ, zero, suc, Bool, true, false, cond, ◌||◌, List, [], ◌∷◌, ◌++◌, map, reverse, refl, sym, ◌∙◌, ap, subst, arith, ◌==◌, append-nil, ⊎_elim, true≢false, Option, Result, Ok, Err}
 use Rattle.std.proofs.lemmas.List.{reverse-append, map-append}
 use Rattle.std.proofs.lemmas.List.Elements.{Contains-push, Contains-append_left, Contains-append_right, Contains-append_cases, filter_map-append}
 use Rattle.std.specs.Iterator.{Yields, AlwaysYields}
@@ -97,7 +97,7 @@ module _ {T ID E : Type 0} (w : Numbered T ID) (items : FailingGraph E) where
       → (out : List (Result ℕ E)) → FailingPreorder items (number_item w.node x ∷ reverse (numbered rest)) (numbered given) out → FailingPreorder items (reverse starts) [] out
   continues starts work given rest x e k out p =
       let turned : reverse (numbered work) ≡ number_item w.node x ∷ reverse (numbered rest) =
-          ap (λ l. reverse (numbered l)) e ∙ ap reverse (numbered-push rest x) ∙ reverse-append (numbered rest) (number_item w.node x ∷ []) in
+      ap (λ l. reverse (numbered l)) e ∙ ap reverse (numbered-push rest x) ∙ reverse-append (numbered rest) (number_item w.node x ∷ []) in
       k out (subst (λ (l : List (Result ℕ E)). FailingPreorder items l (numbered given) out) (sym turned) p)
 
   pub walking_item_passed : {starts : List (Result ℕ E)} {test : ID → Bool} {work given : List (Result T E)} (rest : List (Result T E)) (x : T) (i : ID)
@@ -131,24 +131,24 @@ module _ {T ID E : Type 0} (w : Numbered T ID) (items : FailingGraph E) where
       let gs : numbered (given ++ Ok x ∷ []) ≡ numbered given ++ Ok (w.node x) ∷ [] = numbered-push given (Ok x) in
       let nodes2 : nodes_in (given ++ Ok x ∷ []) ≡ nodes_in given ++ w.node x ∷ [] = nodes_in-append given (Ok x ∷ []) in
       let more_nodes : nodes_in work2 ≡ nodes_in rest ++ sound_items (items (w.node x)) =
-          ap nodes_in more ∙ nodes_in-append rest below ∙ ap (λ l. nodes_in rest ++ sound_items l) lists in
+      ap nodes_in more ∙ nodes_in-append rest below ∙ ap (λ l. nodes_in rest ++ sound_items l) lists in
       let more_work : reverse (numbered work2) ≡ reverse (items (w.node x)) ++ reverse (numbered rest) =
-          ap (λ l. reverse (numbered l)) more ∙ ap reverse (map-append (number_item w.node) rest below) ∙ reverse-append (numbered rest) (numbered below) ∙ ap (λ l. reverse l ++ reverse (numbered rest)) lists in
+      ap (λ l. reverse (numbered l)) more ∙ ap reverse (map-append (number_item w.node) rest below) ∙ reverse-append (numbered rest) (numbered below) ∙ ap (λ l. reverse l ++ reverse (numbered rest)) lists in
       let fresh : Contains (numbered given) (Ok (w.node x)) → ⊥ =
-          λ h. absurd (true≢false (sym (has-from_Contains (nodes_in given) (w.node x) (Contains-sound (numbered given) (w.node x) h)) ∙ new)) in
+      λ h. absurd (true≢false (sym (has-from_Contains (nodes_in given) (w.node x) (Contains-sound (numbered given) (w.node x) h)) ∙ new)) in
       record {
         nodes = λ a h. ⊎_elim (λ l. keeps_nodes rest (Ok x) k e a l) (λ r. closed (w.node x) here a r)
-          (Contains-append_cases (nodes_in rest) (sound_items (items (w.node x))) a (rw more_nodes at h));
+            (Contains-append_cases (nodes_in rest) (sound_items (items (w.node x))) a (rw more_nodes at h));
         knows = λ j lt.
-          let told : eq i j ≡ (w.id i == w.id j) = apart i j (rw same here) lt in
-          let flip : (w.id i == w.id j) ≡ (w.id j == w.node x) = rw same (eqb-flip (w.node x) (w.id j)) in
-          updates j ∙ ap (λ b. cond b true (test j)) (told ∙ flip) ∙ ap (λ b. cond (w.id j == w.node x) true b) (k.knows j lt) ∙ or_cond (w.id j == w.node x) (has (nodes_in given) (w.id j))
+            let told : eq i j ≡ (w.id i == w.id j) = apart i j (rw same here) lt in
+            let flip : (w.id i == w.id j) ≡ (w.id j == w.node x) = rw same (eqb-flip (w.node x) (w.id j)) in
+            updates j ∙ ap (λ b. cond b true (test j)) (told ∙ flip) ∙ ap (λ b. cond (w.id j == w.node x) true b) (k.knows j lt) ∙ or_cond (w.id j == w.node x) (has (nodes_in given) (w.id j))
             ∙ sym (has-push (nodes_in given) (w.node x) (w.id j)) ∙ sym (ap (λ l. has l (w.id j)) nodes2);
         rest = λ out p.
-          let all = FailingPreorder-append items (reverse (items (w.node x))) (reverse (numbered rest)) (numbered given ++ Ok (w.node x) ∷ []) out
-              (subst (λ (l : List (Result ℕ E)). FailingPreorder items l (numbered given ++ Ok (w.node x) ∷ []) out) more_work
-                (subst (λ (l : List (Result ℕ E)). FailingPreorder items (reverse (numbered work2)) l out) gs p)) in
-          continues starts work given rest (Ok x) e k.rest out (entered fresh all.1 all.2);
+            let all = FailingPreorder-append items (reverse (items (w.node x))) (reverse (numbered rest)) (numbered given ++ Ok (w.node x) ∷ []) out
+            (subst (λ (l : List (Result ℕ E)). FailingPreorder items l (numbered given ++ Ok (w.node x) ∷ []) out) more_work
+            (subst (λ (l : List (Result ℕ E)). FailingPreorder items (reverse (numbered work2)) l out) gs p)) in
+            continues starts work given rest (Ok x) e k.rest out (entered fresh all.1 all.2);
       }
     where
       or_cond : (b d : Bool) → cond b true d ≡ (b || d)

@@ -34,5 +34,5 @@ module _ {T ID E F N U S : Type 0} (ids : Shared F (Bor T × Unit {0}) ID) (list
   WalksOn eq becomes steps s r t =
       (w : Numbered T ID) (items : FailingGraph E) (starts : List (Result ℕ E)) (given : List (Result T E)) → IsLeftOf w items eq becomes steps starts given s →
       MatchOption r (IsFailingPreorder items starts (map (number_item w.node) given) × (t.work.items ≡ []))
-        (λ x. MatchResult x (λ node. IsLeftOf w items eq becomes steps starts (given ++ Ok node ∷ []) t)
-          (λ refused. elim refused [ Memory ↦ t.work.items ≡ [] | Node e ↦ IsLeftOf w items eq becomes steps starts (given ++ Err e ∷ []) t ]))
+      (λ x. MatchResult x (λ node. IsLeftOf w items eq becomes steps starts (given ++ Ok node ∷ []) t)
+      (λ refused. elim refused [ Memory ↦ t.work.items ≡ [] | Node e ↦ IsLeftOf w items eq becomes steps starts (given ++ Err e ∷ []) t ]))

@@ -7,11 +7,10 @@ ghost use Rattle.jj_walks.specs.DfsOkSteps.{CanWalk, IsLeftOf};
 ghost use Rattle.jj_walks.specs.Failing.{FailingGraph, ShowsItems, AreSoundNodes, number_item};
 ghost use Rattle.jj_walks.specs.Walk.{Numbered, DrainsTo};
 
+use crate::walk_error::WalkError;
 use std::alloc::{AllocError, Global};
 use std::collections::HashSet;
 use std::hash::Hash;
-
-use crate::walk_error::WalkError;
 
 /// The items of a depth-first walk, as they are met.
 #[derive(Drop)]

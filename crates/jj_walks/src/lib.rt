@@ -2,7 +2,9 @@
 #![tactic(auto)]
 
 pub mod dag_walk;
+pub mod dag_walk_async;
 mod depth_first;
 mod depth_first_ok;
 mod topo_order;
+mod topo_order_ok;
 mod walk_error;

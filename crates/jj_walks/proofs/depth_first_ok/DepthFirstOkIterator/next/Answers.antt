@@ -1,4 +1,4 @@
-use Rattle.std.proofs.Common.{rules, arith, ◌≡◌, ◌++◌, ◌∷◌, [], Ok, Err, ℕ, List, length, length-append, ap, subst, sym, ◌∙◌}
+use Rattle.std.proofs.Common.{rules, arith, ◌≡◌, ◌++◌, ◌∷◌, [], Ok, Err, ℕ, List, length, length-append, ap, subst, ◌∙◌}
 use Rattle.std.proofs.lemmas.Grind.{common_steps}
 use Rattle.jj_walks.specs.Walk.{AreNodes}
 use Rattle.jj_walks.proofs.Walking.{returned, AlwaysReturns-call}
