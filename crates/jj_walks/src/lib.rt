@@ -5,6 +5,7 @@ pub mod dag_walk;
 pub mod dag_walk_async;
 mod depth_first;
 mod depth_first_ok;
+pub mod graph;
 mod topo_order;
 mod topo_order_ok;
 mod walk_error;
