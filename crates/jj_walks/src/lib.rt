@@ -6,6 +6,7 @@ pub mod dag_walk_async;
 mod depth_first;
 mod depth_first_ok;
 pub mod graph;
+mod maximal;
 mod topo_order;
 mod topo_order_ok;
 mod walk_error;
