@@ -1,5 +1,5 @@
 -- What the sets of a search for maximal nodes hold.
-use Rattle.std.proofs.Common.{◌≡◌, ℕ, zero, suc, ◌+◌, ◌-◌, ◌*◌, ◌^◌, ◌<◌, ◌≤◌, length, Bool, true, false, not, ◌&&◌, ◌||◌, ◌==◌, cond, List, [], ◌∷◌, ◌++◌, map, get_or, refl, sym, ◌∙◌, ap, subst, arith, inl, inr, ◌⊎◌, ⊎_elim, true≢false, append_assoc, eqb}
+use Rattle.std.proofs.Common.{◌≡◌, ℕ, zero, suc, ◌+◌, ◌-◌, ◌*◌, ◌^◌, ◌<◌, ◌≤◌, length, Bool, true, false, not, ◌&&◌, ◌||◌, ◌==◌, cond, List, [], ◌∷◌, ◌++◌, map, refl, sym, ◌∙◌, ap, subst, arith, inl, inr, ◌⊎◌, ⊎_elim, true≢false, eqb}
 use Rattle.std.specs.Bool.{MatchBool}
 use Rattle.std.specs.List.{Contains, IsDistinct, AllByRecursion, list_any}
 use Rattle.std.specs.List.Sorted.{IsPermutation}
@@ -8,9 +8,9 @@ use Rattle.std.proofs.lemmas.List.Folds.{list_any_at}
 use Rattle.std.proofs.lemmas.List.Sorted.{Contains-permutation, IsPermutation-sym}
 use Rattle.std.proofs.lemmas.List.Elements.{Contains-append_left, Contains-append_right, Contains-append_cases, Contains-push, Contains-push_cases}
 use Rattle.std.proofs.lemmas.Map.Keys.{IsDistinct-tail, IsDistinct-head, IsDistinct-cons}
-use Rattle.jj_walks.specs.Graph.{Graph, HasEdge, ReachedFrom, HasNoCycle, IsMaximal, IsMaximalIn}
+use Rattle.jj_walks.specs.Graph.{HasEdge, ReachedFrom, HasNoCycle, IsMaximal, IsMaximalIn}
 use Rattle.jj_walks.specs.Walk.{Numbered, AreNodes, StandsForNodes}
-use Rattle.jj_walks.proofs.Walking.{has, has-push, has-from_Contains, Contains-from_has, eqb-flip, numbers, numbers-push}
+use Rattle.jj_walks.proofs.Walking.{has, has-push, has-from_Contains, Contains-from_has, eqb-flip, numbers}
 use Rattle.jj_walks.proofs.Reaching.{ReachedFrom-edge}
 use Rattle.jj_walks.proofs.Searching.{Seen, IsSearching, search_met, search_asked, search_maximal, met_not_maximal}
 

@@ -1,7 +1,6 @@
-use Rattle.std.proofs.Common.{rules, of_calls, arith, append-nil, append_assoc, ◌≡◌, ℕ, ◌+◌, ◌≤◌, ◌<◌, true, false, ◌||◌, Bool, ◌++◌, ◌∷◌, List, [], length, length-append, refl, sym, ◌∙◌, ap, subst, true≢false, ⊎_elim}
+use Rattle.std.proofs.Common.{rules, of_calls, arith, append-nil, append_assoc, ◌≡◌, ℕ, ◌≤◌, true, ◌++◌, ◌∷◌, List, [], length, refl, sym, ◌∙◌, ap, subst, true≢false, ⊎_elim}
 use Rattle.std.specs.HashSet.{contains, hash_set_len}
 use Rattle.std.specs.List.{Contains}
-use Rattle.std.proofs.lemmas.Grind.{common_steps}
 use Rattle.std.proofs.lemmas.List.Elements.{Contains-append_left, Contains-append_right, Contains-push, Contains-push_cases}
 use Rattle.jj_walks.specs.Graph.{HasEdge}
 use Rattle.jj_walks.specs.Walk.{DrainsTo, IsShownBy}

@@ -1,14 +1,13 @@
-use Rattle.std.proofs.Common.{rules, of_calls, arith, append-nil, append_assoc, ◌≡◌, ℕ, ◌+◌, ◌≤◌, ◌<◌, true, false, ◌||◌, Bool, ◌++◌, ◌∷◌, List, [], length, length-append, refl, sym, ◌∙◌, ap, subst, true≢false, ⊎_elim, inl, inr, map, Ok, Err}
+use Rattle.std.proofs.Common.{rules, of_calls, arith, append-nil, append_assoc, ◌≡◌, ℕ, ◌≤◌, true, ◌++◌, ◌∷◌, List, [], length, refl, sym, ◌∙◌, ap, subst, true≢false, ⊎_elim, inl, inr, map, Ok, Err}
 use Rattle.std.specs.HashSet.{contains, hash_set_len}
 use Rattle.std.specs.List.{Contains}
-use Rattle.std.proofs.lemmas.Grind.{common_steps}
 use Rattle.std.proofs.lemmas.List.Elements.{Contains-append_left, Contains-append_right, Contains-push, Contains-push_cases}
 use Rattle.jj_walks.specs.Graph.{HasEdge}
 use Rattle.jj_walks.specs.Walk.{DrainsTo}
 use Rattle.jj_walks.specs.Failing.{ShowsItems, sound_items, sound as sound_graph}
 use Rattle.jj_walks.proofs.FailingOrders.{ReachedFrom-same, sound_items-ok, failed_first, ok-push, Yields-push}
 use Rattle.jj_walks.proofs.Walking.{numbers, numbers-push, returned, AlwaysReturns-call}
-use Rattle.jj_walks.proofs.Heads.{Contains-map, Contains-put, started_none, started_again, started_new, started_holds, seen_is_node, holds_met, holds_asked, holds_maximal, one_waits, no_root_waits, neither, search_falls, starts_reached, still_reached, adds_one, adds_more, none_contained, start_waits}
+use Rattle.jj_walks.proofs.Heads.{Contains-map, Contains-put, started_none, started_again, started_new, started_holds, holds_met, holds_asked, holds_maximal, one_waits, no_root_waits, neither, search_falls, starts_reached, still_reached, adds_one, adds_more, none_contained, start_waits}
 use Rattle.jj_walks.proofs.maximal_ok.heads_ok.Goals as goal
 
 pub loop-item-init : goal.loop-item-init
