@@ -1,0 +1,8 @@
+-- What a clause says of the error of a walk.
+use Rattle.jj_walks.specs.declared.walk_error.WalkError.{WalkError}
+use Rattle.jj_walks.specs.declared.walk_error.WalkError.TheVariants.{Memory, Node}
+
+-- P of the error that a node gave, if it is one
+abbrev pub IfNode : {E : Type 0} → WalkError E → (E → Type 0) → Type 0
+IfNode Memory P = Unit {0}
+IfNode (Node e) P = P e

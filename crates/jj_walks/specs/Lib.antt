@@ -1,0 +1,6 @@
+pub mod Graph
+pub mod Walk
+pub mod DfsSteps
+pub mod Failing
+pub mod Errors
+pub mod DfsOkSteps

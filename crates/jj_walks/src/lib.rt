@@ -1,0 +1,14 @@
+//! Walks over directed graphs, and the edges of graphs that are shown to users.
+#![tactic(auto)]
+
+pub mod dag_walk;
+pub mod dag_walk_async;
+mod depth_first;
+mod depth_first_ok;
+pub mod graph;
+mod maximal;
+mod maximal_lists;
+mod maximal_ok;
+mod topo_order;
+mod topo_order_ok;
+mod walk_error;
