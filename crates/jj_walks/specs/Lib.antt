@@ -3,3 +3,4 @@ pub mod Walk
 pub mod DfsSteps
 pub mod Failing
 pub mod Errors
+pub mod ReadyNodes

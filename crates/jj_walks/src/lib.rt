@@ -3,5 +3,6 @@
 
 pub mod dag_walk;
 mod depth_first;
+mod greatest_order;
 mod topo_order;
 mod walk_error;

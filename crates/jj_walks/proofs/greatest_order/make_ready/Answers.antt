@@ -1,0 +1,2 @@
+use Rattle.jj_walks.proofs.TakingReady.{counted}
+use Rattle.jj_walks.proofs.greatest_order.make_ready.Goals as goal

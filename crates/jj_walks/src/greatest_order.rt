@@ -1,0 +1,71 @@
+//! The greatest of the orders in which each node stands before its neighbours.
+ghost use Rattle.std.specs.Prelude.{◌≡◌, ℕ, ◌+◌, ◌<◌, ◌≤◌, ◌∷◌, List, map, length, slice_index, slice_index_or, slice_set, IfOk, IsSome, OnOk, MatchOption, eqb};
+ghost use Rattle.std.specs.List.{All, Contains};
+ghost use Rattle.std.specs.List.Sorted.{IsPermutation};
+ghost use Rattle.std.specs.BinaryHeap.{heap_items, KeepsHeap, HeapUnchanged};
+ghost use Rattle.std.specs.Ordering.{nat_cmp, ordering_then};
+ghost use Rattle.jj_walks.specs.ReadyNodes.{IsStuck, IsNotBelow, TakesGreatestReady, edges_to, places_graph};
+
+use std::alloc::{AllocError, Global};
+use std::collections::BinaryHeap;
+use std::mem;
+
+/// Moves the waiting node at the index to those without a child that was not taken.
+fn make_ready<T: Ord + Drop>(
+    waiting: &mut Vec<Option<T>>,
+    ready: &mut BinaryHeap<(T, usize)>,
+    index: usize,
+) -> Result<(), AllocError>
+    requires { index < length waiting.old.items }
+    ensures waiting { OnOk result (waiting.new.items ≡ slice_set waiting.old.items index None) }
+    ensures ready { OnOk result (MatchOption (slice_index_or waiting.old.items index None) (heap_items ready.new ≡ heap_items ready.old) (λ x. IsPermutation ((x, index) ∷ heap_items ready.old) (heap_items ready.new))) }
+    ensures heap_order { OnOk result (KeepsHeap (λ x y. ordering_then (T.cmp x.0 y.0) (nat_cmp x.1 y.1)) (heap_items ready.old) (heap_items ready.new)) }
+{
+    if let Some(node) = mem::replace(&mut waiting[index], None) {
+        ready.push((node, index))?;
+    }
+    Ok(())
+}
+
+/// Takes the greatest node without a child that was not taken, as long as there is one. Beside the nodes taken stands one
+/// of those left, which all are on or below a cycle.
+fn take_greatest_first<T: Ord + Drop>(
+    alloc: Global,
+    mut waiting: Vec<Option<T>>,
+    targets: &[Vec<usize>],
+    mut indegrees: Vec<usize>,
+) -> Result<(Vec<T>, Option<T>), AllocError>
+    requires present { (k : ℕ) → k < length waiting.items → IsSome (slice_index_or waiting.items k None) }
+    requires lists { length targets.now ≡ length waiting.items }
+    requires counts { length indegrees.items ≡ length waiting.items }
+    requires within { (a b : ℕ) → Contains (places_graph (map (λ ts. ts.items) targets.now) a) b → b < length waiting.items }
+    requires indegrees { (k : ℕ) → k < length waiting.items → slice_index indegrees.items k ≡ edges_to (map (λ ts. ts.items) targets.now) k }
+    ensures { IfOk result (λ r. (order : List ℕ) × (map (λ x. Some x) r.0.items ≡ map (λ k. slice_index_or waiting.items k None) order)
+        × TakesGreatestReady (places_graph (map (λ ts. ts.items) targets.now)) (λ k. k < length waiting.items) (IsNotBelow T.cmp waiting.items) order
+        × MatchOption r.1 ((k : ℕ) → k < length waiting.items → Contains order k)
+          (λ x. (k : ℕ) × (k < length waiting.items) × (slice_index_or waiting.items k None ≡ Some x) × (Contains order k → ⊥) × IsStuck (places_graph (map (λ ts. ts.items) targets.now)) (λ k. k < length waiting.items) order)) }
+{
+    let mut ready = BinaryHeap::new(alloc);
+    for index in 0..indegrees.len() {
+        if indegrees[index] == 0 {
+            make_ready(&mut waiting, &mut ready, index)?;
+        }
+    }
+    let mut order = Vec::new(alloc);
+    while let Some((node, index)) = ready.pop() {
+        order.push(node)?;
+        for target in &targets[index] {
+            let target = *target;
+            indegrees[target] -= 1;
+            if indegrees[target] == 0 {
+                make_ready(&mut waiting, &mut ready, target)?;
+            }
+        }
+    }
+    for left in 0..waiting.len() {
+        if waiting[left].is_some() {
+            return Ok((order, waiting.swap_remove(left)));
+        }
+    }
+    Ok((order, None))
+}
