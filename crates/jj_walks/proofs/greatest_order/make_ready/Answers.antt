@@ -1,2 +1,3 @@
 use Rattle.jj_walks.proofs.TakingReady.{counted}
+use Rattle.jj_walks.proofs.ReadyOrders.{here}
 use Rattle.jj_walks.proofs.greatest_order.make_ready.Goals as goal
