@@ -35,16 +35,16 @@ is_counted p xs x (k, lt, e) t =
     let one : 1 ≤ count_by p xs = subst (λ (b : Bool). cond {A = ℕ} b 1 0 ≤ count_by p xs) (ap p e ∙ t) q in
     omega arith
 
-same : (a : ℕ) → eqb a a ≡ true
+pub same : (a : ℕ) → eqb a a ≡ true
 same a = (Decides-eqb a a).1 refl
 
-apart : (a b : ℕ) → a ≢ b → eqb a b ≡ false
+pub apart : (a b : ℕ) → a ≢ b → eqb a b ≡ false
 apart a b h = elim (eqb a b) as (λ t. eqb a b ≡ t → eqb a b ≡ false) [ true ↦ λ e. absurd (h ((Decides-eqb a b).0 e)) | false ↦ λ e. e ] refl
 
-one_at : (a : ℕ) → cond {A = ℕ} (eqb a a) 1 0 ≡ 1
+pub one_at : (a : ℕ) → cond {A = ℕ} (eqb a a) 1 0 ≡ 1
 one_at a = ap (λ b. cond {A = ℕ} b 1 0) (same a)
 
-zero_at : (a b : ℕ) → a ≢ b → cond {A = ℕ} (eqb a b) 1 0 ≡ 0
+pub zero_at : (a b : ℕ) → a ≢ b → cond {A = ℕ} (eqb a b) 1 0 ≡ 0
 zero_at a b h = ap (λ t. cond {A = ℕ} t 1 0) (apart a b h)
 
 pub has-none : (xs : List ℕ) (a : ℕ) → count_by (eqb a) xs ≡ 0 → has xs a ≡ false

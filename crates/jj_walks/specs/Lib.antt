@@ -4,3 +4,4 @@ pub mod DfsSteps
 pub mod Failing
 pub mod Errors
 pub mod ReadyNodes
+pub mod FailingLists

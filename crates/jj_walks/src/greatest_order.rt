@@ -1,13 +1,15 @@
 //! The greatest of the orders in which each node stands before its neighbours.
 ghost use Rattle.std.specs.Prelude.{◌≡◌, ℕ, ◌+◌, ◌<◌, ◌≤◌, ◌∷◌, List, map, length, slice_index, slice_index_or, slice_set, IfOk, IsSome, OnOk, MatchOption, eqb};
-ghost use Rattle.std.specs.List.{All, Contains};
+ghost use Rattle.std.specs.HashMap.{get};
+ghost use Rattle.std.specs.List.{All, Contains, filter_map};
 ghost use Rattle.std.specs.List.Sorted.{IsPermutation};
 ghost use Rattle.std.specs.BinaryHeap.{heap_items, KeepsHeap, HeapUnchanged};
 ghost use Rattle.std.specs.Ordering.{nat_cmp, ordering_then};
 ghost use Rattle.jj_walks.specs.ReadyNodes.{IsStuck, IsNotBelow, TakesGreatestReady, edges_to, places_graph};
 
 use std::alloc::{AllocError, Global};
-use std::collections::BinaryHeap;
+use std::collections::{BinaryHeap, HashMap};
+use std::hash::Hash;
 use std::mem;
 
 /// Moves the waiting node at the index to those without a child that was not taken.
@@ -25,6 +27,37 @@ fn make_ready<T: Ord + Drop>(
         ready.push((node, index))?;
     }
     Ok(())
+}
+
+/// The places of the neighbours of each node, and how many edges lead to each place.
+fn link<ID: Hash + Eq + Drop>(
+    alloc: Global,
+    index_of: &HashMap<ID, usize>,
+    neighbor_ids: &[Vec<ID>],
+) -> Result<(Vec<Vec<usize>>, Vec<usize>), AllocError>
+    requires { (i : ID) (k : ℕ) → get ID.eq index_of.now i ≡ Some k → k < length neighbor_ids.now }
+    ensures targets { IfOk result (λ r. map (λ v. v.items) r.0.items ≡ map (λ v. filter_map (get ID.eq index_of.now) v.items) neighbor_ids.now) }
+    ensures counts { IfOk result (λ r. length r.1.items ≡ length neighbor_ids.now) }
+    ensures indegrees { IfOk result (λ r. (k : ℕ) → k < length neighbor_ids.now → slice_index r.1.items k ≡ edges_to (map (λ v. v.items) r.0.items) k) }
+{
+    let mut indegrees: Vec<usize> = vec![in alloc; 0; neighbor_ids.len()]?;
+    let mut targets = Vec::new(alloc);
+    for ids in neighbor_ids {
+        let mut places = Vec::new(alloc);
+        for id in ids {
+            if let Some(place) = index_of.get(id) {
+                let place = *place;
+                // More edges than a `usize` counts do not fit into memory.
+                let Some(count) = indegrees[place].checked_add(1) else {
+                    return Err(AllocError);
+                };
+                indegrees[place] = count;
+                places.push(place)?;
+            }
+        }
+        targets.push(places)?;
+    }
+    Ok((targets, indegrees))
 }
 
 /// Takes the greatest node without a child that was not taken, as long as there is one. Beside the nodes taken stands one
