@@ -5,3 +5,4 @@ pub mod Failing
 pub mod Errors
 pub mod ReadyNodes
 pub mod FailingLists
+pub mod Collecting

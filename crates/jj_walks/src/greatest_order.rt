@@ -1,16 +1,25 @@
 //! The greatest of the orders in which each node stands before its neighbours.
-ghost use Rattle.std.specs.Prelude.{◌≡◌, ℕ, ◌+◌, ◌<◌, ◌≤◌, ◌∷◌, List, map, length, slice_index, slice_index_or, slice_set, IfOk, IsSome, OnOk, MatchOption, eqb};
+ghost use Rattle.std.specs.Prelude.{◌≡◌, ℕ, ◌+◌, ◌<◌, ◌≤◌, ◌∷◌, [], List, map, length, slice_index, slice_index_or, slice_set, IfOk, IfErr, IsSome, OnOk, MatchOption, eqb};
 ghost use Rattle.std.specs.HashMap.{get};
 ghost use Rattle.std.specs.List.{All, Contains, filter_map};
 ghost use Rattle.std.specs.List.Sorted.{IsPermutation};
 ghost use Rattle.std.specs.BinaryHeap.{heap_items, KeepsHeap, HeapUnchanged};
 ghost use Rattle.std.specs.Ordering.{nat_cmp, ordering_then};
+ghost use Rattle.std.specs.Fn.{AlwaysReturns};
+ghost use Rattle.std.specs.Iterator.{IsFiniteIterable};
+ghost use Rattle.jj_walks.specs.Errors.{IfNode};
+ghost use Rattle.jj_walks.specs.Failing.{FailingGraph};
+ghost use Rattle.jj_walks.specs.FailingLists.{ReachesFailedItem, ShowsLists};
+ghost use Rattle.jj_walks.specs.Collecting.{IsCollecting};
+ghost use Rattle.jj_walks.specs.Walk.{Numbered, AreNodes, DrainsTo};
 ghost use Rattle.jj_walks.specs.ReadyNodes.{IsStuck, IsNotBelow, TakesGreatestReady, edges_to, places_graph};
 
 use std::alloc::{AllocError, Global};
 use std::collections::{BinaryHeap, HashMap};
 use std::hash::Hash;
 use std::mem;
+
+use crate::walk_error::WalkError;
 
 /// Moves the waiting node at the index to those without a child that was not taken.
 fn make_ready<T: Ord + Drop>(
@@ -27,6 +36,74 @@ fn make_ready<T: Ord + Drop>(
         ready.push((node, index))?;
     }
     Ok(())
+}
+
+/// The nodes that the starts reach, in the order in which they were visited.
+#[derive(Drop)]
+struct Collected<T, ID: Hash + Eq> {
+    nodes: Vec<Option<T>>,
+    neighbor_ids: Vec<Vec<ID>>,
+    index_of: HashMap<ID, usize>,
+}
+
+/// Visits all nodes that the starts reach, the last start and the last neighbour first.
+fn collect_nodes<T, ID, E, II, NI, F, N>(
+    alloc: Global,
+    start: II,
+    id_fn: F,
+    mut neighbors_fn: N,
+) -> Result<Collected<T, ID>, WalkError<E>>
+where
+    T: Drop,
+    ID: Hash + Eq + Drop,
+    II: IntoIterator<Item = T>,
+    II::IntoIter: Drop,
+    NI: IntoIterator<Item = T>,
+    NI::IntoIter: Drop,
+    F: Fn(&T) -> ID + Drop,
+    N: FnMut(&T) -> Result<NI, E> + Drop,
+    requires id_fn { F.IsAlwaysCallable id_fn }
+    requires neighbors_fn { N.IsAlwaysCallable neighbors_fn }
+    requires lists { AlwaysReturns N.FnMut (λ a r. IfOk r (IsFiniteIterable NI.into_iter_gives NI.IntoIter.can_next NI.IntoIter.remaining)) neighbors_fn }
+    requires start { IsFiniteIterable II.into_iter_gives II.IntoIter.can_next II.IntoIter.remaining start }
+    ensures collected { IfOk result (λ found. (xs given : List T) × DrainsTo II.into_iter_gives II.IntoIter.next_gives start xs × (found.nodes.items ≡ map (λ x. Some x) given)
+        × (length found.neighbor_ids.items ≡ length given) × ((i : ID) (k : ℕ) → get ID.eq found.index_of i ≡ Some k → k < length given)
+        × ((walk : Numbered T ID) (items : FailingGraph E) → ShowsLists walk items ID.eq F.Fn N.FnMut NI.into_iter_gives NI.IntoIter.next_gives id_fn neighbors_fn → AreNodes walk (map walk.node xs)
+            → IsCollecting walk items (map walk.node xs) (get ID.eq found.index_of) [] given (map (λ v. v.items) found.neighbor_ids.items))) }
+    ensures failed { IfErr result (λ e. IfNode e (λ error. (xs : List T) × DrainsTo II.into_iter_gives II.IntoIter.next_gives start xs
+        × ((walk : Numbered T ID) (items : FailingGraph E) → ShowsLists walk items ID.eq F.Fn N.FnMut NI.into_iter_gives NI.IntoIter.next_gives id_fn neighbors_fn → AreNodes walk (map walk.node xs)
+            → ReachesFailedItem items (map walk.node xs) error))) }
+{
+    let mut stack = Vec::new(alloc);
+    for node in start {
+        stack.push(node)?;
+    }
+    let mut nodes = Vec::new(alloc);
+    let mut neighbor_ids = Vec::new(alloc);
+    let mut index_of = HashMap::new(alloc);
+    while let Some(node) = stack.pop() {
+        let id = id_fn(&node);
+        if index_of.contains_key(&id) {
+            continue;
+        }
+        let neighbors = match neighbors_fn(&node) {
+            Ok(neighbors) => neighbors.into_iter(),
+            Err(error) => return Err(WalkError::Node(error)),
+        };
+        let mut ids = Vec::new(alloc);
+        for neighbor in neighbors {
+            ids.push(id_fn(&neighbor))?;
+            stack.push(neighbor)?;
+        }
+        index_of.insert(id, nodes.len())?;
+        nodes.push(Some(node))?;
+        neighbor_ids.push(ids)?;
+    }
+    Ok(Collected {
+        nodes,
+        neighbor_ids,
+        index_of,
+    })
 }
 
 /// The places of the neighbours of each node, and how many edges lead to each place.
