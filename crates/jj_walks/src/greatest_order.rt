@@ -1,5 +1,5 @@
 //! The greatest of the orders in which each node stands before its neighbours.
-ghost use Rattle.std.specs.Prelude.{◌≡◌, ℕ, ◌+◌, ◌<◌, ◌≤◌, ◌∷◌, [], List, map, length, slice_index, slice_index_or, slice_set, IfOk, IfErr, IsSome, OnOk, MatchOption, eqb};
+ghost use Rattle.std.specs.Prelude.{◌≡◌, ℕ, ◌+◌, ◌<◌, ◌≤◌, ◌∷◌, [], List, map, length, slice_index, slice_index_or, slice_set, IfOk, IfErr, IsSome, OnOk, MatchOption, eqb, ◌⊎◌};
 ghost use Rattle.std.specs.HashMap.{get};
 ghost use Rattle.std.specs.List.{All, Contains, filter_map};
 ghost use Rattle.std.specs.List.Sorted.{IsPermutation};
@@ -11,7 +11,8 @@ ghost use Rattle.jj_walks.specs.Errors.{IfNode};
 ghost use Rattle.jj_walks.specs.Failing.{FailingGraph};
 ghost use Rattle.jj_walks.specs.FailingLists.{ReachesFailedItem, ShowsLists};
 ghost use Rattle.jj_walks.specs.Collecting.{IsCollecting};
-ghost use Rattle.jj_walks.specs.Walk.{Numbered, AreNodes, DrainsTo};
+ghost use Rattle.jj_walks.specs.Graph.{HasNoCycle, IsChildFirst, IsGreatestChildFirst, ReachedFrom, ReachesCycle};
+ghost use Rattle.jj_walks.specs.Walk.{Numbered, AreNodes, DrainsTo, IsOrderedLike};
 ghost use Rattle.jj_walks.specs.ReadyNodes.{IsStuck, IsNotBelow, TakesGreatestReady, edges_to, places_graph};
 
 use std::alloc::{AllocError, Global};
@@ -20,6 +21,51 @@ use std::hash::Hash;
 use std::mem;
 
 use crate::walk_error::WalkError;
+
+/// The nodes that the starts reach, each before its neighbours: at each place the greatest node whose children stand
+/// before it. A failed list of neighbours gives its error, and where a cycle is reached `cycle_fn` makes the error of a
+/// node on the cycle or below it.
+pub fn topo_order_reverse_ord<T, ID, E, II, NI, F, N, C>(
+    alloc: Global,
+    start: II,
+    id_fn: F,
+    neighbors_fn: N,
+    cycle_fn: C,
+) -> Result<Vec<T>, WalkError<E>>
+where
+    T: Ord + Drop,
+    ID: Hash + Eq + Drop,
+    II: IntoIterator<Item = T>,
+    II::IntoIter: Drop,
+    NI: IntoIterator<Item = T>,
+    NI::IntoIter: Drop,
+    F: Fn(&T) -> ID + Drop,
+    N: FnMut(&T) -> Result<NI, E> + Drop,
+    C: FnOnce(T) -> E + Drop,
+    requires id_fn { F.IsAlwaysCallable id_fn }
+    requires neighbors_fn { N.IsAlwaysCallable neighbors_fn }
+    requires cycle_fn { C.IsAlwaysCallable cycle_fn }
+    requires lists { AlwaysReturns N.FnMut (λ a r. IfOk r (IsFiniteIterable NI.into_iter_gives NI.IntoIter.can_next NI.IntoIter.remaining)) neighbors_fn }
+    requires start { IsFiniteIterable II.into_iter_gives II.IntoIter.can_next II.IntoIter.remaining start }
+    ensures order { IfOk result (λ v. (xs : List T) × DrainsTo II.into_iter_gives II.IntoIter.next_gives start xs
+        × ((walk : Numbered T ID) (items : FailingGraph E) → ShowsLists walk items ID.eq F.Fn N.FnMut NI.into_iter_gives NI.IntoIter.next_gives id_fn neighbors_fn → AreNodes walk (map walk.node xs)
+            → IsChildFirst walk.graph (map walk.node xs) (map walk.node v.items) × HasNoCycle walk.graph (map walk.node xs) × ((e : E) → ReachesFailedItem items (map walk.node xs) e → ⊥)
+              × (IsOrderedLike walk T.cmp → IsGreatestChildFirst walk.graph (map walk.node xs) (map walk.node v.items)))) }
+    ensures node { IfErr result (λ e. IfNode e (λ error. (xs : List T) × DrainsTo II.into_iter_gives II.IntoIter.next_gives start xs
+        × (((walk : Numbered T ID) (items : FailingGraph E) → ShowsLists walk items ID.eq F.Fn N.FnMut NI.into_iter_gives NI.IntoIter.next_gives id_fn neighbors_fn → AreNodes walk (map walk.node xs)
+              → ReachesFailedItem items (map walk.node xs) error)
+          ⊎ ((x : T) × C.post cycle_fn x error
+            × ((walk : Numbered T ID) (items : FailingGraph E) → ShowsLists walk items ID.eq F.Fn N.FnMut NI.into_iter_gives NI.IntoIter.next_gives id_fn neighbors_fn → AreNodes walk (map walk.node xs)
+                → ReachedFrom walk.graph (map walk.node xs) (walk.node x) × ReachesCycle walk.graph (map walk.node xs)))))) }
+{
+    let found = collect_nodes(alloc, start, id_fn, neighbors_fn)?;
+    let (targets, indegrees) = link(alloc, &found.index_of, &found.neighbor_ids)?;
+    let (order, left) = take_greatest_first(alloc, found.nodes, &targets, indegrees)?;
+    match left {
+        Some(node) => Err(WalkError::Node(cycle_fn(node))),
+        None => Ok(order),
+    }
+}
 
 /// Moves the waiting node at the index to those without a child that was not taken.
 fn make_ready<T: Ord + Drop>(
