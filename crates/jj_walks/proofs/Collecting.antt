@@ -8,7 +8,6 @@ use Rattle.std.proofs.lemmas.List.{map-append, map_push, length-map, get_or_appe
 use Rattle.std.proofs.lemmas.List.Elements.{Contains-append_left, Contains-append_right, Contains-append_cases, Contains-push, Contains-push_cases, Contains-get_or}
 use Rattle.jj_walks.specs.Graph.{Graph, HasEdge, Path, ReachedFrom}
 use Rattle.jj_walks.specs.Failing.{FailingGraph, sound}
-use Rattle.jj_walks.specs.FailingLists.{ReachesFailedItem}
 use Rattle.jj_walks.specs.Collecting.{IsInjective, Finds, IsCollecting}
 use Rattle.jj_walks.specs.Walk.{Numbered, AreNodes}
 use Rattle.jj_walks.proofs.Reaching.{ReachedFrom-edge}
@@ -183,11 +182,3 @@ places_more eq find find2 i n place before at updates j k found =
 pub some_of : {X : Type 0} (o : Option X) → true ≡ is_some o → (x : X) × (o ≡ Some x)
 some_of None h = absurd (true≢false h)
 some_of (Some x) h = (x, refl)
-
--- graphs with the same neighbours reach the same nodes
-pub ReachedFrom-same : (g h : Graph) (starts : List ℕ) (a : ℕ) → ((b : ℕ) → g b ≡ h b) → ReachedFrom g starts a → ReachedFrom h starts a
-ReachedFrom-same g h starts a same (s, at, r) = (s, at, (r.0, along r.0 s r.1))
-  where
-    along : (n b : ℕ) → Path g b a n → Path h b a n
-    along zero b p = p
-    along (suc n) b (c, edge, p) = (c, subst (λ (l : List ℕ). Contains l c) (same b) edge, along n c p)

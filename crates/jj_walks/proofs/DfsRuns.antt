@@ -1,9 +1,7 @@
 -- What a whole run of the iterator `DepthFirst` gave.
-use Rattle.std.proofs.Common.{◌≡◌, ℕ, Bool, Option, Result, Ok, List, [], ◌∷◌, ◌++◌, map, sym, subst, append_assoc, append-nil}
+use Rattle.std.proofs.Common.{ℕ, Bool, Option, Ok, List, [], ◌∷◌, ◌++◌, map, subst, append_assoc, append-nil}
 use Rattle.std.specs.Fn.{Shared, Mut}
-use Rattle.std.specs.Iterator.{Drains, Yields}
-use Rattle.std.specs.Global.{Global}
-use Rattle.std.specs.declared.alloc.AllocError.{AllocError}
+use Rattle.std.specs.Iterator.{Drains}
 use denote.Ref.{Bor}
 use Rattle.jj_walks.specs.declared.depth_first.DepthFirst.{DepthFirst}
 use Rattle.jj_walks.specs.Graph.{IsPreorder}

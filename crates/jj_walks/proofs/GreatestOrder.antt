@@ -9,13 +9,13 @@ use Rattle.std.proofs.lemmas.Bool.{cases_eq}
 use Rattle.std.proofs.lemmas.Bool.Decides.{nat_tests}
 use Rattle.std.proofs.lemmas.List.{length-map, get_or-map, get_or_past, get_or_default}
 use Rattle.jj_walks.specs.Graph.{Graph, HasEdge, ReachedFrom, HasNoCycle, ReachesCycle, IsChildFirst, IsGreatestChildFirst}
-use Rattle.jj_walks.specs.Failing.{FailingGraph, sound}
-use Rattle.jj_walks.specs.FailingLists.{ReachesFailedItem}
+use Rattle.jj_walks.specs.Failing.{FailingGraph, HasNoFailure, ReachesFailure, sound}
 use Rattle.jj_walks.specs.Walk.{Numbered, AreNodes, IsOrderedLike}
 use Rattle.jj_walks.specs.Collecting.{IsCollecting}
 use Rattle.jj_walks.specs.ReadyNodes.{TakesGreatestReady, IsStuck, IsNotBelow, places_graph}
 use Rattle.jj_walks.proofs.Reaching.{Contains-reached}
-use Rattle.jj_walks.proofs.Collecting.{are_nodes, ReachedFrom-same}
+use Rattle.jj_walks.proofs.Collecting.{are_nodes}
+use Rattle.jj_walks.proofs.FailingOrders.{ReachedFrom-same}
 use Rattle.jj_walks.proofs.ReadyOrders.{here, later, IsChildFirst-from_taken, IsGreatest-from_taken, HasNoCycle-from_child_first, cycle_from_stuck}
 use Rattle.jj_walks.proofs.Relabelled.{Contains-map, AtPlaces, relabelled, StrictlyReaches-up}
 
@@ -134,9 +134,9 @@ module _ {T ID E : Type 0} (w : Numbered T ID) (items : FailingGraph E) (cmp : T
     within : (a b : ℕ) → Contains (get_or ts a []) b → b < length ns
     within a b h = rw (length-map given w.node) (linked_within find ids ts (length given) linked places a b h)
 
-    pub nothing_failed : (e : E) → ReachesFailedItem items starts e → ⊥
+    pub nothing_failed : HasNoFailure items starts
     nothing_failed e (a, reached, bad) =
-        collected.none_failed a e ((are_reached a).1 (ReachedFrom-same (sound items) w.graph starts a (λ b. sym (sound_graph b)) reached)) bad
+        collected.none_failed a e ((are_reached a).1 (ReachedFrom-same (sound items) w.graph (λ b. sym (sound_graph b)) starts a reached)) bad
 
     module _ (order : List ℕ) (takes : TakesGreatestReady (places_graph ts) (λ k. k < length (map (λ x. Some x) given)) (IsNotBelow cmp (map (λ x. Some x) given)) order) where
       numbers_taken : TakesGreatestReady w.graph (Contains ns) (AtPlaces w.graph ns ts collected.injective edges_stand within (IsNotBelow cmp (map (λ x. Some x) given))) (map (λ k. get_or ns k 0) order)

@@ -1,5 +1,5 @@
 -- What the iterator `DepthFirst` does from a state.
-use Rattle.std.specs.Prelude.{◌≡◌, ℕ, ◌+◌, ◌-◌, ◌^◌, Bool, List, [], ◌∷◌, ◌++◌, map, reverse, length, Option, Result, MatchOption, MatchResult}
+use Rattle.std.specs.Prelude.{◌≡◌, ℕ, ◌+◌, ◌-◌, ◌^◌, Bool, List, [], ◌∷◌, ◌++◌, map, Option, Result, MatchOption, MatchResult}
 use Rattle.std.specs.Iterator.{Count, IsFiniteIterable}
 use Rattle.std.specs.Fn.{Shared, Mut, AlwaysReturns}
 use Rattle.std.specs.HashSet.{contains, hash_set_len}
@@ -31,4 +31,4 @@ module _ {T ID F N U S : Type 0} (ids : Shared F (Bor T × Unit {0}) ID) (lists 
   WalksOn eq becomes steps s r t =
       (w : Numbered T ID) (starts : List ℕ) (given : List T) → IsLeftOf w eq becomes steps starts given s →
       MatchOption r (IsPreorder w.graph starts (map w.node given) × (t.work.items ≡ []))
-        (λ x. MatchResult x (λ node. IsLeftOf w eq becomes steps starts (given ++ node ∷ []) t) (λ _. t.work.items ≡ []))
+      (λ x. MatchResult x (λ node. IsLeftOf w eq becomes steps starts (given ++ node ∷ []) t) (λ _. t.work.items ≡ []))

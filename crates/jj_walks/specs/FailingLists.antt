@@ -1,16 +1,10 @@
 -- Graphs whose lists of neighbours may fail as a whole: the items of such a node are its error alone.
 use Rattle.std.specs.Prelude.{◌≡◌, ℕ, List, [], ◌∷◌, ◌==◌, Bool, true, map, Option, Result, MatchResult}
 use Rattle.std.specs.declared.result.Result.TheVariants.{Ok, Err}
-use Rattle.std.specs.List.{Contains}
 use Rattle.std.specs.Fn.{Shared, Mut, FnReturnsAt, AlwaysReturns}
 use denote.Ref.{Bor}
-use Rattle.jj_walks.specs.Graph.{Graph, ReachedFrom}
 use Rattle.jj_walks.specs.Failing.{FailingGraph, sound}
 use Rattle.jj_walks.specs.Walk.{Numbered, AreNodes, DrainsTo}
-
--- a node that the starts reach has the failed item
-abbrev pub ReachesFailedItem : {E : Type 0} → FailingGraph E → List ℕ → E → Type 0
-ReachesFailedItem items starts e = (a : ℕ) × ReachedFrom (sound items) starts a × Contains (items a) (Err e)
 
 -- `IsShownBy` for a closure whose list of neighbours may fail
 pub record ShowsLists {T ID E F N U S : Type 0} (w : Numbered T ID) (items : FailingGraph E) (eq : ID → ID → Bool) (ids : Shared F (Bor T × Unit {0}) ID) (lists : Mut N (Bor T × Unit {0}) (Result U E))

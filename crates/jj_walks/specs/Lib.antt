@@ -3,6 +3,7 @@ pub mod Walk
 pub mod DfsSteps
 pub mod Failing
 pub mod Errors
+pub mod DfsOkSteps
 pub mod ReadyNodes
 pub mod FailingLists
 pub mod Collecting

@@ -105,7 +105,7 @@ where
     ensures can_walk { IfOk result (CanWalk F.Fn N.FnMut NI.into_iter_gives NI.IntoIter.can_next NI.IntoIter.remaining) }
     ensures left { IfOk result (λ it. (xs : List T) × DrainsTo II.into_iter_gives II.IntoIter.next_gives start xs
         × ((walk : Numbered T ID) → IsShownBy walk ID.eq F.Fn N.FnMut NI.into_iter_gives NI.IntoIter.next_gives id_fn neighbors_fn → AreNodes walk (map walk.node xs)
-            → IsLeftOf F.Fn N.FnMut walk ID.eq NI.into_iter_gives NI.IntoIter.next_gives (map walk.node xs) [] it)) }
+        → IsLeftOf F.Fn N.FnMut walk ID.eq NI.into_iter_gives NI.IntoIter.next_gives (map walk.node xs) [] it)) }
 {
     let mut work = Vec::new(alloc);
     for node in start {

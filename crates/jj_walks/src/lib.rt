@@ -2,7 +2,12 @@
 #![tactic(auto)]
 
 pub mod dag_walk;
+pub mod dag_walk_async;
 mod depth_first;
+mod depth_first_ok;
+pub mod graph;
 mod greatest_order;
+mod maximal;
 mod topo_order;
+mod topo_order_ok;
 mod walk_error;

@@ -1,16 +1,18 @@
 //! Orders in which each node stands after, or before, its neighbours.
-ghost use Rattle.std.specs.Prelude.{◌≡◌, IfOk, IfErr, List, map};
+ghost use Rattle.std.specs.Prelude.{◌≡◌, IfOk, IfErr, List, map, reverse};
 ghost use Rattle.std.specs.Fn.{AlwaysReturns};
 ghost use Rattle.std.specs.Iterator.{IsFiniteIterable};
-ghost use Rattle.jj_walks.specs.Graph.{IsPostorder};
+ghost use Rattle.jj_walks.specs.Graph.{IsPostorder, HasNoCycle, OnCycleFrom};
 ghost use Rattle.jj_walks.specs.Walk.{Numbered, AreNodes, DrainsTo, IsShownBy};
+ghost use Rattle.jj_walks.specs.Errors.{IfNode};
 
+use crate::walk_error::WalkError;
 use std::alloc::Global;
 use std::collections::HashSet;
 use std::hash::Hash;
 
-use crate::walk_error::WalkError;
-
+/// The nodes that the starts reach, each once and after its neighbours; later starts and later neighbours come first.
+/// A cycle is `Node(cycle_fn(node))` of some node on it.
 pub fn topo_order_forward<T, ID, E, II, NI, F, N, C>(
     alloc: Global,
     start: II,
@@ -36,7 +38,10 @@ where
     requires clones { (i j : ID) → ID.is_clone i j → j ≡ i }
     ensures order { IfOk result (λ v. (xs : List T) × DrainsTo II.into_iter_gives II.IntoIter.next_gives start xs
         × ((walk : Numbered T ID) → IsShownBy walk ID.eq F.Fn N.FnMut NI.into_iter_gives NI.IntoIter.next_gives id_fn neighbors_fn → AreNodes walk (map walk.node xs)
-            → IsPostorder walk.graph (map walk.node xs) (map walk.node v.items))) }
+        → IsPostorder walk.graph (map walk.node xs) (map walk.node v.items) × HasNoCycle walk.graph (map walk.node xs))) }
+    ensures cycle { IfErr result (λ e. IfNode e (λ error. (x : T) × (xs : List T) × C.post cycle_fn x error × DrainsTo II.into_iter_gives II.IntoIter.next_gives start xs
+        × ((walk : Numbered T ID) → IsShownBy walk ID.eq F.Fn N.FnMut NI.into_iter_gives NI.IntoIter.next_gives id_fn neighbors_fn → AreNodes walk (map walk.node xs)
+        → OnCycleFrom walk.graph (map walk.node xs) (walk.node x)))) }
 {
     let mut stack: Vec<(T, bool)> = Vec::new(alloc);
     for node in start {
@@ -68,4 +73,41 @@ where
         }
     }
     Ok(result)
+}
+
+/// The nodes that the starts reach, each once and before its neighbours: `topo_order_forward`'s list from its end.
+/// A cycle is `Node(cycle_fn(node))` of some node on it.
+pub fn topo_order_reverse<T, ID, E, II, NI, F, N, C>(
+    alloc: Global,
+    start: II,
+    id_fn: F,
+    neighbors_fn: N,
+    cycle_fn: C,
+) -> Result<Vec<T>, WalkError<E>>
+where
+    T: Drop,
+    ID: Hash + Eq + Clone + Drop,
+    II: IntoIterator<Item = T> + Drop,
+    II::IntoIter: Drop,
+    NI: IntoIterator<Item = T>,
+    NI::IntoIter: Drop,
+    F: Fn(&T) -> ID + Drop,
+    N: FnMut(&T) -> NI + Drop,
+    C: FnOnce(T) -> E + Drop,
+    requires id_fn { F.IsAlwaysCallable id_fn }
+    requires neighbors_fn { N.IsAlwaysCallable neighbors_fn }
+    requires cycle_fn { C.IsAlwaysCallable cycle_fn }
+    requires lists { AlwaysReturns N.FnMut (λ a r. IsFiniteIterable NI.into_iter_gives NI.IntoIter.can_next NI.IntoIter.remaining r) neighbors_fn }
+    requires start { IsFiniteIterable II.into_iter_gives II.IntoIter.can_next II.IntoIter.remaining start }
+    requires clones { (i j : ID) → ID.is_clone i j → j ≡ i }
+    ensures order { IfOk result (λ v. (xs : List T) × DrainsTo II.into_iter_gives II.IntoIter.next_gives start xs
+        × ((walk : Numbered T ID) → IsShownBy walk ID.eq F.Fn N.FnMut NI.into_iter_gives NI.IntoIter.next_gives id_fn neighbors_fn → AreNodes walk (map walk.node xs)
+        → IsPostorder walk.graph (map walk.node xs) (reverse (map walk.node v.items)) × HasNoCycle walk.graph (map walk.node xs))) }
+    ensures cycle { IfErr result (λ e. IfNode e (λ error. (x : T) × (xs : List T) × C.post cycle_fn x error × DrainsTo II.into_iter_gives II.IntoIter.next_gives start xs
+        × ((walk : Numbered T ID) → IsShownBy walk ID.eq F.Fn N.FnMut NI.into_iter_gives NI.IntoIter.next_gives id_fn neighbors_fn → AreNodes walk (map walk.node xs)
+        → OnCycleFrom walk.graph (map walk.node xs) (walk.node x)))) }
+{
+    let mut order = topo_order_forward(alloc, start, id_fn, neighbors_fn, cycle_fn)?;
+    order.reverse();
+    Ok(order)
 }

@@ -6,7 +6,8 @@ use Rattle.std.specs.HashMap.{get}
 use Rattle.jj_walks.specs.Walk.{DrainsTo}
 use Rattle.jj_walks.proofs.Walking.{left-given, returned, AlwaysReturns-call}
 use Rattle.jj_walks.proofs.TakingReady.{none_is}
-use Rattle.jj_walks.proofs.Collecting.{collecting_starts, collecting_passed, collecting_entered, top_reached, are_nodes, places_more, some_of, ReachedFrom-same}
+use Rattle.jj_walks.proofs.Collecting.{collecting_starts, collecting_passed, collecting_entered, top_reached, are_nodes, places_more, some_of}
+use Rattle.jj_walks.proofs.FailingOrders.{ReachedFrom-same}
 use Rattle.jj_walks.proofs.greatest_order.collect_nodes.Goals as goal
 
 pub loop-node-2-init : goal.loop-node-2-init
@@ -45,7 +46,7 @@ returns-in-Err-clause-failed g c =
       let reached = top_reached walk items c.pop.new.self.items c.in-Some-pop.node known.1 c.in-Some-pop.ensures.items in
       let turn = AlwaysReturns-call g.N.FnMut _ known.0.neighbors c.in-Err.ensures in
       let listed = turn.0 (are_nodes walk items (map walk.node p.0) shown.closed nodes _ reached) in
-      (walk.node c.in-Some-pop.node, ReachedFrom-same walk.graph _ (map walk.node p.0) _ shown.sound_graph reached,
+      (walk.node c.in-Some-pop.node, ReachedFrom-same walk.graph _ shown.sound_graph (map walk.node p.0) _ reached,
         rw listed (0, omega arith, refl)))
 
 pub loop-neighbor-init : goal.loop-neighbor-init

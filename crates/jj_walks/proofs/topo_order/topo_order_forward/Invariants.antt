@@ -1,4 +1,4 @@
-use Rattle.std.proofs.Common.{◌≡◌, ◌+◌, ◌-◌, ◌*◌, ◌^◌, ◌++◌, length, map, List, true, false}
+use Rattle.std.proofs.Common.{◌≡◌, ◌+◌, ◌-◌, ◌*◌, ◌^◌, ◌++◌, length, map, List, false}
 use Rattle.jj_walks.specs.Walk.{Numbered, AreNodes, DrainsTo, IsShownBy}
 use Rattle.jj_walks.proofs.Walking.{numbers}
 use Rattle.jj_walks.proofs.Unwinding.{IsUnwinding, from_top}
@@ -26,10 +26,10 @@ invariant-loop-node-2 g l = record {
   callable : goal.N-IsAlwaysCallable g l.neighbors_fn;
   lists : AlwaysReturns g.N.FnMut (λ a r. IsFiniteIterable g.NI.IntoIterator.into_iter_gives g.NI.IntoIter.Iterator.can_next g.NI.IntoIter.Iterator.remaining r) l.neighbors_fn;
   walking : (xs : List g.row.T.Denot) × DrainsTo g.II.IntoIterator.into_iter_gives g.II.IntoIter.Iterator.next_gives l.fn.start xs
-    × ((walk : Numbered g.row.T.Denot g.row.ID.Denot)
+      × ((walk : Numbered g.row.T.Denot g.row.ID.Denot)
       → IsShownBy walk g.ID.PartialEq.eq g.F.Fn g.N.FnMut g.NI.IntoIterator.into_iter_gives g.NI.IntoIter.Iterator.next_gives l.id_fn l.fn.neighbors_fn → AreNodes walk (numbers walk xs)
       → IsShownBy walk g.ID.PartialEq.eq g.F.Fn g.N.FnMut g.NI.IntoIterator.into_iter_gives g.NI.IntoIter.Iterator.next_gives l.id_fn l.neighbors_fn
-        × IsUnwinding walk (numbers walk xs) (contains g.ID.PartialEq.eq l.visiting) (contains g.ID.PartialEq.eq l.emitted) (from_top walk l.stack.items) (numbers walk l.result.items));
+      × IsUnwinding walk (numbers walk xs) (contains g.ID.PartialEq.eq l.visiting) (contains g.ID.PartialEq.eq l.emitted) (from_top walk l.stack.items) (numbers walk l.result.items));
 }
 
 abbrev pub decreases-loop-node-2 : goal.decreases-loop-node-2

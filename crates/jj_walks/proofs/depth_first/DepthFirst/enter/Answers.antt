@@ -1,4 +1,4 @@
-use Rattle.std.proofs.Common.{rules, sym, append-nil, refl}
+use Rattle.std.proofs.Common.{sym, append-nil, refl}
 use Rattle.std.proofs.lemmas.Fn.{called_at}
 use Rattle.jj_walks.specs.Walk.{DrainsTo}
 use Rattle.jj_walks.proofs.Walking.{AlwaysReturns-call}
@@ -21,5 +21,5 @@ returns-clause-ends g c = rw c.loop-neighbor.invariant.neighbors_fn (AlwaysRetur
 pub returns-clause-neighbors : goal.returns-clause-neighbors
 returns-clause-neighbors g c =
     let drained : DrainsTo g.NI.IntoIterator.into_iter_gives g.NI.IntoIter.Iterator.next_gives c.neighbors_fn-neighbor-items.result c.loop-neighbor.yielded =
-        (c.into_iter-neighbor-iterator.result, c.into_iter-neighbor-iterator.ensures.into_iter_gives, (c.next.new.self, (c.loop-neighbor.neighbor-iterator, c.loop-neighbor.yielded_by, c.in-None.ensures.steps))) in
+    (c.into_iter-neighbor-iterator.result, c.into_iter-neighbor-iterator.ensures.into_iter_gives, (c.next.new.self, (c.loop-neighbor.neighbor-iterator, c.loop-neighbor.yielded_by, c.in-None.ensures.steps))) in
     (c.neighbors_fn-neighbor-items.result, c.loop-neighbor.yielded, rw c.loop-neighbor.invariant.neighbors_fn (called_at g.N.FnMut c.neighbors_fn-neighbor-items.ensures refl), drained, c.loop-neighbor.invariant.work)

@@ -1,6 +1,6 @@
-use Rattle.std.proofs.Common.{rules, arith, ◌≡◌, true, ◌∷◌, [], List, length, length-append, refl, sym, subst, ap, ◌∙◌}
+use Rattle.std.proofs.Common.{rules, arith, ◌∷◌, [], length, length-append, refl, ap, ◌∙◌}
 use Rattle.std.proofs.lemmas.Grind.{common_steps}
-use Rattle.jj_walks.proofs.Walking.{numbers, walking_passed, walking_entered, walked, returned, AlwaysReturns-call}
+use Rattle.jj_walks.proofs.Walking.{walking_passed, walking_entered, walked, returned, AlwaysReturns-call}
 use Rattle.jj_walks.proofs.depth_first.DepthFirstIterator.next.Goals as goal
 
 pub loop-node-preserved : goal.loop-node-preserved
@@ -13,12 +13,12 @@ loop-node-preserved g c =
       neighbors_fn = before.neighbors_fn;
       less = omega (arith, len, before.less);
       walking = λ w starts given k.
-        let b = before.walking w starts given k in
-        record {
-          shown = b.shown;
-          walking = walking_passed w c.pop.new.self.items c.in-Some.node c.id_fn-id.result b.walking c.in-Some.ensures.items
-            (b.shown.ids_stand c.in-Some.node c.id_fn-id.result (returned g.F.Fn c.id_fn-id.ensures)) c.if-contains.ensures;
-        };
+          let b = before.walking w starts given k in
+          record {
+            shown = b.shown;
+            walking = walking_passed w c.pop.new.self.items c.in-Some.node c.id_fn-id.result b.walking c.in-Some.ensures.items
+                (b.shown.ids_stand c.in-Some.node c.id_fn-id.result (returned g.F.Fn c.id_fn-id.ensures)) c.if-contains.ensures;
+          };
     }
 
 pub enter-requires-clause-ends : goal.enter-requires-clause-ends
@@ -33,8 +33,8 @@ returns-in-Ok-clause-steps g c = λ w starts given k.
     record {
       shown = record { closed = b.shown.closed; apart = b.shown.apart; ids_stand = rw c.in-Ok.ensures.id_fn b.shown.ids_stand; neighbors = turn.1 };
       walking = walking_entered w g.ID.PartialEq.eq _ c.pop.new.self.items c.in-Some.node c.id_fn-id.result did.1 _ _ b.shown.closed b.shown.apart b.walking c.in-Some.ensures.items
-        same c.if-contains.ensures
-        (λ here. rw did.2.shows at (turn.0 did.1 (rw did.2.shows here) did.3)) did.4 refl c.in-Ok.ensures.visited.0;
+          same c.if-contains.ensures
+          (λ here. rw did.2.shows at (turn.0 did.1 (rw did.2.shows here) did.3)) did.4 refl c.in-Ok.ensures.visited.0;
     }
 
 pub returns-clause-steps : goal.returns-clause-steps

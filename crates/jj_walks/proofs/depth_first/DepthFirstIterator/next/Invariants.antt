@@ -10,8 +10,8 @@ invariant-loop-node g l = record {
   neighbors_fn : l.self.neighbors_fn ≡ l.initial.self.neighbors_fn;
   less : length l.self.work.items ≤ length l.initial.self.work.items;
   walking : (w : Numbered g.row.T.Denot g.row.ID.Denot) (starts : List ℕ) (given : List g.row.T.Denot)
-    → IsLeftOf g.F.Fn g.N.FnMut w g.ID.PartialEq.eq g.NI.IntoIterator.into_iter_gives g.NI.IntoIter.Iterator.next_gives starts given l.initial.self
-    → IsLeftOf g.F.Fn g.N.FnMut w g.ID.PartialEq.eq g.NI.IntoIterator.into_iter_gives g.NI.IntoIter.Iterator.next_gives starts given l.self;
+      → IsLeftOf g.F.Fn g.N.FnMut w g.ID.PartialEq.eq g.NI.IntoIterator.into_iter_gives g.NI.IntoIter.Iterator.next_gives starts given l.initial.self
+      → IsLeftOf g.F.Fn g.N.FnMut w g.ID.PartialEq.eq g.NI.IntoIterator.into_iter_gives g.NI.IntoIter.Iterator.next_gives starts given l.self;
 }
 
 abbrev pub decreases-loop-node : goal.decreases-loop-node

@@ -1,0 +1,87 @@
+-- What orders over items that may fail know of the failed ones.
+use Rattle.std.proofs.Common.{◌≡◌, ℕ, zero, suc, Bool, true, false, List, [], ◌∷◌, ◌++◌, map, reverse, refl, sym, ◌∙◌, ap, subst, arith, ⊎_elim, append-nil, Option, Result, Ok, Err, Some}
+use Rattle.std.proofs.lemmas.List.{map-append}
+use Rattle.std.proofs.lemmas.List.Elements.{Contains-append_left, Contains-append_right, Contains-push, Contains-push_cases}
+use Rattle.std.specs.Iterator.{Yields}
+use Rattle.std.specs.List.{Contains}
+use Rattle.jj_walks.specs.Graph.{Graph, Path, ReachedFrom, IsPostorder}
+use Rattle.jj_walks.specs.Failing.{FailingGraph, HasNoFailure, sound, sound_items, number_item}
+use Rattle.jj_walks.proofs.Reaching.{Contains-postorder}
+use Rattle.jj_walks.proofs.Unwinding.{visited_above, visited_above-waits, waits}
+
+-- none of these nodes has a failed item
+abbrev pub NoneFails : {E : Type 0} → FailingGraph E → List ℕ → Type 0
+NoneFails {E} items xs = (a : ℕ) → Contains xs a → (e : E) → Contains (items a) (Err e) → ⊥
+
+pub none_fails_yet : {E : Type 0} (items : FailingGraph E) → NoneFails items []
+none_fails_yet items a (k, lt, e) = absurd (omega arith)
+
+pub none_fails_below : {E : Type 0} (items : FailingGraph E) (a : ℕ) (f : Bool) (top : List (ℕ × Bool)) → NoneFails items (visited_above ((a, f) ∷ top)) → NoneFails items (visited_above top)
+none_fails_below items a true top k = λ b h. k b (Contains-append_right (a ∷ []) (visited_above top) b h)
+none_fails_below items a false top k = k
+
+pub none_fails_finished : {E : Type 0} (items : FailingGraph E) (a : ℕ) (top : List (ℕ × Bool)) (given : List ℕ) → NoneFails items given → NoneFails items (visited_above ((a, true) ∷ top)) → NoneFails items (given ++ a ∷ [])
+none_fails_finished items a top given k l = λ b h. ⊎_elim (λ old. k b old) (λ same. l b (0, omega arith, same)) (Contains-push_cases given a b h)
+
+pub none_fails_entered : {E : Type 0} (items : FailingGraph E) (a : ℕ) (top : List (ℕ × Bool)) (below : List ℕ) → ((e : E) → Contains (items a) (Err e) → ⊥) → NoneFails items (visited_above top)
+    → NoneFails items (visited_above (waits below ++ (a, true) ∷ top))
+none_fails_entered {E} items a top below here k =
+    let now : NoneFails items (a ∷ visited_above top) = λ b h. first b h in
+    subst (λ (l : List ℕ). NoneFails items l) (sym (visited_above-waits below ((a, true) ∷ top))) now
+  where
+    first : (b : ℕ) → Contains (a ∷ visited_above top) b → (e : E) → Contains (items b) (Err e) → ⊥
+    first b (zero, lt, same) = subst (λ (n : ℕ). (e : E) → Contains (items n) (Err e) → ⊥) same here
+    first b (suc n, lt, same) = k b (n, omega arith, same)
+
+pub none_fails_starts : {E : Type 0} (items : FailingGraph E) (starts : List ℕ) → NoneFails items (visited_above (waits (reverse starts)))
+none_fails_starts {E} items starts =
+    let none : visited_above (waits (reverse starts)) ≡ [] = ap visited_above (sym (append-nil (waits (reverse starts)))) ∙ visited_above-waits (reverse starts) [] in
+    subst (λ (l : List ℕ). NoneFails items l) (sym none) (none_fails_yet items)
+
+-- ---- a list of sound items
+
+pub sound_items-ok : {T : Type 0} (E : Type 0) (node : T → ℕ) (xs : List T) → sound_items {E = E} (map (number_item node) (map (λ x. Ok x) xs)) ≡ map node xs
+sound_items-ok E node [] = refl
+sound_items-ok E node (x ∷ xs) = ap (λ l. node x ∷ l) (sound_items-ok E node xs)
+
+pub none_of_ok : {T E : Type 0} (node : T → ℕ) (xs : List T) (e : E) → Contains (map (number_item node) (map (λ x. Ok x) xs)) (Err e) → ⊥
+none_of_ok node [] e (k, lt, same) = absurd (omega arith)
+none_of_ok node (x ∷ xs) e (zero, lt, same) = cc
+none_of_ok node (x ∷ xs) e (suc k, lt, same) = none_of_ok node xs e (k, omega arith, same)
+
+-- an error that came first is one of the items
+pub failed_first : {T E : Type 0} (items : List (Result ℕ E)) (node : T → ℕ) (xs : List (Result T E)) (e : E) (rest : List (Result ℕ E)) → items ≡ map (number_item node) (xs ++ Err e ∷ []) ++ rest → Contains items (Err e)
+failed_first {T} {E} items node xs e rest same =
+    let P : List (Result ℕ E) → Type 0 = λ l. Contains l (Err e) in
+    let begins : map (number_item node) (xs ++ Err e ∷ []) ≡ map (number_item node) xs ++ Err e ∷ [] = map-append (number_item node) xs (Err e ∷ []) in
+    subst P (sym same) (Contains-append_left (map (number_item node) (xs ++ Err e ∷ [])) rest (Err e) (subst P (sym begins) (Contains-push (map (number_item node) xs) (Err e))))
+
+-- ---- one graph for another
+
+pub ReachedFrom-same : (g h : Graph) → ((a : ℕ) → g a ≡ h a) → (starts : List ℕ) (b : ℕ) → ReachedFrom g starts b → ReachedFrom h starts b
+ReachedFrom-same g h same starts b (a, at, (n, p)) = (a, at, (n, path n a p))
+  where
+    path : (n a : ℕ) → Path g a b n → Path h a b n
+    path zero a p = p
+    path (suc n) a (c, e, p) = (c, subst (λ (l : List ℕ). Contains l c) (same a) e, path n c p)
+
+-- where a postorder of sound nodes was given, nothing that the starts reach has a failed item
+pub HasNoFailure-from_postorder : {E : Type 0} (items : FailingGraph E) (g : Graph) → ((a : ℕ) → g a ≡ sound items a) → (starts out : List ℕ) → IsPostorder g starts out → NoneFails items out
+    → HasNoFailure items starts
+HasNoFailure-from_postorder items g same starts out p none e (a, reached, at) =
+    none a (Contains-postorder g starts out p a (ReachedFrom-same (sound items) g (λ b. sym (same b)) starts a reached)) e at
+
+-- ---- one more item
+
+pub Yields-push : {S A : Type 0} (steps : S → Option A → S → Type 0) (xs : List A) (x : A) (s t u : S) → Yields steps s xs t → steps t (Some x) u → Yields steps s (xs ++ x ∷ []) u
+Yields-push {S} steps [] x s t u same step = (u, subst (λ (v : S). steps v (Some x) u) (sym same) step, refl)
+Yields-push steps (y ∷ xs) x s t u (j, first, more) step = (j, first, Yields-push steps xs x j t u more step)
+
+pub ok-push : {T E : Type 0} (ys : List (Result T E)) (xs : List T) (x : T) → ys ≡ map (λ z. Ok z) xs → ys ++ Ok x ∷ [] ≡ map (λ z. Ok z) (xs ++ x ∷ [])
+ok-push {T} {E} ys xs x e = ap (λ l. l ++ Ok x ∷ []) e ∙ sym (map-append ok xs (x ∷ []))
+  where
+    ok : T → Result T E
+    ok z = Ok z
+
+pub waiting-push : {T : Type 0} (xs : List T) (x : T) → map {B = T × Bool} (λ z. (z, false)) (xs ++ x ∷ []) ≡ map (λ z. (z, false)) xs ++ (x, false) ∷ []
+waiting-push {T} xs x = map-append {B = T × Bool} (λ (z : T). (z, false)) xs (x ∷ [])

@@ -1,0 +1,14 @@
+use Rattle.std.proofs.Common.{List, ℕ, sym, subst}
+use Rattle.jj_walks.specs.Graph.{HasNoCycle, IsPostorder}
+use Rattle.jj_walks.proofs.Walking.{numbers, numbers-turned}
+use Rattle.jj_walks.proofs.topo_order.topo_order_reverse.Goals as goal
+
+pub returns-clause-order : goal.returns-clause-order
+returns-clause-order g c =
+    let found = c.in_ok-order.ensures.order in (
+      found.0,
+      found.1,
+      λ walk shown nodes.
+          let Whole : List ℕ → Type 0 = λ order. IsPostorder walk.graph (numbers walk found.0) order × HasNoCycle walk.graph (numbers walk found.0) in
+          subst Whole (sym (numbers-turned walk c.in_ok-order.order.items c.reverse.new.self.items c.reverse.ensures.items)) (found.2 walk shown nodes),
+    )

@@ -1,0 +1,86 @@
+//! The edges of graphs that are shown to users.
+ghost use Rattle.std.specs.Prelude.{◌≡◌, ◌↔◌, IsTrue};
+
+/// A node and its edges to ids.
+pub type GraphNode<N, ID = N> = (N, Vec<GraphEdge<ID>>);
+
+/// An edge to a target, which may stand for a longer way.
+#[derive(Debug, PartialEq, Eq, Clone, Hash, Drop)]
+pub struct GraphEdge<N> {
+    pub target: N,
+    pub edge_type: GraphEdgeType,
+}
+
+/// How an edge leads to its target.
+#[derive(Debug, PartialEq, Eq, Clone, Copy, Hash)]
+pub enum GraphEdgeType {
+    /// The target is not in the graph.
+    Missing,
+    /// The target is a parent.
+    Direct,
+    /// The target is an ancestor, and nodes between are left out.
+    Indirect,
+}
+
+impl<N> GraphEdge<N> {
+    pub fn missing(target: N) -> Self
+        ensures target { result.target ≡ target }
+        ensures edge_type { result.edge_type ≡ GraphEdgeType.Missing }
+    {
+        GraphEdge {
+            target,
+            edge_type: GraphEdgeType::Missing,
+        }
+    }
+
+    pub fn direct(target: N) -> Self
+        ensures target { result.target ≡ target }
+        ensures edge_type { result.edge_type ≡ GraphEdgeType.Direct }
+    {
+        GraphEdge {
+            target,
+            edge_type: GraphEdgeType::Direct,
+        }
+    }
+
+    pub fn indirect(target: N) -> Self
+        ensures target { result.target ≡ target }
+        ensures edge_type { result.edge_type ≡ GraphEdgeType.Indirect }
+    {
+        GraphEdge {
+            target,
+            edge_type: GraphEdgeType::Indirect,
+        }
+    }
+
+    /// The edge of the same type to what `f` makes of the target.
+    pub fn map<M, F: FnOnce(N) -> M>(self, f: F) -> GraphEdge<M>
+        requires { F.pre f self.target }
+        ensures target { F.post f self.target result.target }
+        ensures edge_type { result.edge_type ≡ self.edge_type }
+    {
+        let GraphEdge { target, edge_type } = self;
+        GraphEdge {
+            target: f(target),
+            edge_type,
+        }
+    }
+
+    pub fn is_missing(&self) -> bool
+        ensures { IsTrue result ↔ (self.now.edge_type ≡ GraphEdgeType.Missing) }
+    {
+        self.edge_type == GraphEdgeType::Missing
+    }
+
+    pub fn is_direct(&self) -> bool
+        ensures { IsTrue result ↔ (self.now.edge_type ≡ GraphEdgeType.Direct) }
+    {
+        self.edge_type == GraphEdgeType::Direct
+    }
+
+    pub fn is_indirect(&self) -> bool
+        ensures { IsTrue result ↔ (self.now.edge_type ≡ GraphEdgeType.Indirect) }
+    {
+        self.edge_type == GraphEdgeType::Indirect
+    }
+}
