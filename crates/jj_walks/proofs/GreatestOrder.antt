@@ -36,8 +36,8 @@ pub found_by : {X : Type 0} (find : X → Option ℕ) (xs : List X) (b : ℕ) �
 found_by find [] b (k, lt, e) = absurd (omega arith)
 found_by {X} find (x ∷ xs) b h =
     elim (find x) as (λ o. find x ≡ o → Contains (cons_option o (filter_map find xs)) b → (x : X) × (find x ≡ Some b)) [
-      None ↦ λ e c. found_by find xs b c
-    | Some y ↦ λ e c. ⊎_elim (λ l. (x, e ∙ ap (λ n. Some n) (only_one y b l))) (λ r. found_by find xs b r) (Contains-append_cases (y ∷ []) (filter_map find xs) b c)
+      | None ↦ λ e c. found_by find xs b c
+      | Some y ↦ λ e c. ⊎_elim (λ l. (x, e ∙ ap (λ n. Some n) (only_one y b l))) (λ r. found_by find xs b r) (Contains-append_cases (y ∷ []) (filter_map find xs) b c)
     ] refl h
 
 -- the places that are linked are among those of the nodes
@@ -46,14 +46,15 @@ pub linked_within : {X : Type 0} (find : X → Option ℕ) (ids : List (List X))
 linked_within {X} find ids ts n e places a b h =
     let q : Contains (get_or (map (λ is. filter_map find is) ids) a []) b = subst (λ (l : List (List ℕ)). Contains (get_or l a []) b) e h in
     elim (cases_lt a (length ids)) [
-      inl lt ↦ let f = found_by find (get_or ids a []) b (subst (λ (l : List ℕ). Contains l b) (get_or-map (λ is. filter_map find is) ids a [] [] lt) q) in places f.0 b f.1
-    | inr ge ↦
-        let past : get_or (map (λ is. filter_map find is) ids) a [] ≡ [] = get_or_past _ a [] (rw (length-map ids (λ is. filter_map find is)) ge) in
-        absurd (nothing b (subst (λ (l : List ℕ). Contains l b) past q))
+      | inl lt ↦ let f = found_by find (get_or ids a []) b (subst (λ (l : List ℕ). Contains l b) (get_or-map (λ is. filter_map find is) ids a [] [] lt) q) in places f.0 b f.1
+      | inr ge ↦
+          let past : get_or (map (λ is. filter_map find is) ids) a [] ≡ [] = get_or_past _ a [] (rw (length-map ids (λ is. filter_map find is)) ge) in
+          absurd (nothing b (subst (λ (l : List ℕ). Contains l b) past q))
     ]
   where
     nothing : (b : ℕ) → Contains [] b → ⊥
     nothing b (k, lt, e) = absurd (omega arith)
+
     cases_lt : (a n : ℕ) → (a < n) ⊎ (n ≤ a)
     cases_lt a n = grind arith
 
@@ -109,8 +110,10 @@ module _ {T ID E : Type 0} (w : Numbered T ID) (items : FailingGraph E) (cmp : T
 
     -- the numbers are those that the starts reach
     are_reached : (a : ℕ) → Contains ns a ↔ ReachedFrom w.graph starts a
-    are_reached a = (collected.given_reached a,
-      λ (s, at, r). Contains-reached w.graph ns (λ b c h edge. none_waits c (collected.closed b c h edge)) r.0 s a (none_waits s (collected.starts_met s at)) r.1)
+    are_reached a = (
+      collected.given_reached a,
+      λ (s, at, r). Contains-reached w.graph ns (λ b c h edge. none_waits c (collected.closed b c h edge)) r.0 s a (none_waits s (collected.starts_met s at)) r.1,
+    )
 
     is_node : (a : ℕ) → Contains ns a → w.is_node a ≡ true
     is_node a h = are_nodes w items starts closed nodes a (collected.given_reached a h)
@@ -121,11 +124,11 @@ module _ {T ID E : Type 0} (w : Numbered T ID) (items : FailingGraph E) (cmp : T
         let below : k < length ids = omega arith in
         let list : get_or ts k [] ≡ filter_map find (get_or ids k []) = ap (λ l. get_or l k []) linked ∙ get_or-map (λ is. filter_map find is) ids k [] [] below in
         let listed : map w.id (get_or ids k []) ≡ w.graph (get_or ns k 0) =
-            sym (get_or-map (λ is. map w.id is) ids k [] [] below) ∙ ap (λ l. get_or l k []) collected.lists ∙ get_or-map w.graph ns k 0 [] lt in
+        sym (get_or-map (λ is. map w.id is) ids k [] [] below) ∙ ap (λ l. get_or l k []) collected.lists ∙ get_or-map w.graph ns k 0 [] lt in
         ap (map (λ j. get_or ns j 0)) list ∙ linked_numbers find ns (get_or ids k []) (λ i h.
-          let edge : HasEdge w.graph (get_or ns k 0) (w.id i) = subst (λ (l : List ℕ). Contains l (w.id i)) listed (Contains-map w.id (get_or ids k []) i h) in
-          let there = none_waits (w.id i) (collected.closed (get_or ns k 0) (w.id i) (Contains-get_or ns k 0 lt) edge) in
-          found i (find i) refl there) ∙ listed
+        let edge : HasEdge w.graph (get_or ns k 0) (w.id i) = subst (λ (l : List ℕ). Contains l (w.id i)) listed (Contains-map w.id (get_or ids k []) i h) in
+        let there = none_waits (w.id i) (collected.closed (get_or ns k 0) (w.id i) (Contains-get_or ns k 0 lt) edge) in
+        found i (find i) refl there) ∙ listed
       where
         found : (i : ID) (o : Option ℕ) → find i ≡ o → Contains ns (w.id i) → (p : ℕ) × (find i ≡ Some p) × (get_or ns p 0 ≡ w.id i)
         found i None e there = absurd (subst (λ (o : Option ℕ). MatchOption o (Contains ns (w.id i) → ⊥) (λ k. (k < length ns) × (get_or ns k 0 ≡ w.id i))) e (collected.finds i (is_node (w.id i) there)) there)
@@ -165,14 +168,17 @@ module _ {T ID E : Type 0} (w : Numbered T ID) (items : FailingGraph E) (cmp : T
           let same = picked_numbers given vs order picked in
           let slots : length (map (λ x. Some x) given) ≡ length ns = length-map given (λ x. Some x) ∙ sym (length-map given w.node) in
           let taken : (a : ℕ) → Contains ns a → Contains (map (λ k. get_or ns k 0) order) a = λ a h.
-              let lt : h.0 < length ns = h.1 in
-              let at : get_or ns h.0 0 ≡ a = get_or_default ns h.0 0 a h.1 ∙ h.2 in
-              subst (λ (n : ℕ). Contains (map (λ k. get_or ns k 0) order) n) at (Contains-map (λ k. get_or ns k 0) order h.0 (all h.0 (omega arith))) in
-          let first : IsChildFirst w.graph starts (map w.node vs) = rw same (IsChildFirst-from_taken w.graph starts (Contains ns) _ are_reached _ numbers_taken taken) in
-          (first, HasNoCycle-from_child_first w.graph starts _ first, λ ordered. record {
-            child_first = first;
-            greatest = rw same (IsGreatest-from_taken w.graph starts (Contains ns) _ are_reached _ numbers_taken (above ordered));
-          })
+          let lt : h.0 < length ns = h.1 in
+          let at : get_or ns h.0 0 ≡ a = get_or_default ns h.0 0 a h.1 ∙ h.2 in
+          subst (λ (n : ℕ). Contains (map (λ k. get_or ns k 0) order) n) at (Contains-map (λ k. get_or ns k 0) order h.0 (all h.0 (omega arith))) in
+          let first : IsChildFirst w.graph starts (map w.node vs) = rw same (IsChildFirst-from_taken w.graph starts (Contains ns) _ are_reached _ numbers_taken taken) in (
+            first,
+            HasNoCycle-from_child_first w.graph starts _ first,
+            λ ordered. record {
+              child_first = first;
+              greatest = rw same (IsGreatest-from_taken w.graph starts (Contains ns) _ are_reached _ numbers_taken (above ordered));
+            },
+          )
 
     pub cycle_is : (order : List ℕ) (k : ℕ) → k < length (map (λ x. Some x) given) → (Contains order k → ⊥) → IsStuck (places_graph ts) (λ k. k < length (map (λ x. Some x) given)) order → ReachesCycle w.graph starts
     cycle_is order k lt out stuck =

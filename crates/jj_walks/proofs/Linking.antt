@@ -19,15 +19,15 @@ counts_edge n degrees places targets p r c before lt e more k below =
     let one_more : count_by (eqb k) (places ++ p ∷ []) ≡ count_by (eqb k) places + cond (eqb k p) 1 0 = sum_by_push (λ y. cond (eqb k y) 1 0) places p in
     let is = read_is degrees p r lt e in
     elim (cases_eq k p) [
-      inl q ↦
-        let one : cond {A = ℕ} (eqb k p) 1 0 ≡ 1 = ap (λ n. cond {A = ℕ} (eqb n p) 1 0) q ∙ one_at p in
-        let new : get_or (set degrees p c) k 0 ≡ c = ap (λ n. get_or (set degrees p c) n 0) q ∙ get_or-set_same degrees p c 0 lt in
-        let old : get_or degrees k 0 ≡ get_or degrees p 0 = ap (λ n. get_or degrees n 0) q in
-        omega arith
-    | inr ne ↦
-        let none = zero_at k p ne in
-        let other : get_or (set degrees p c) k 0 ≡ get_or degrees k 0 = get_or-set_other degrees p k c 0 ne in
-        omega arith
+      | inl q ↦
+          let one : cond {A = ℕ} (eqb k p) 1 0 ≡ 1 = ap (λ n. cond {A = ℕ} (eqb n p) 1 0) q ∙ one_at p in
+          let new : get_or (set degrees p c) k 0 ≡ c = ap (λ n. get_or (set degrees p c) n 0) q ∙ get_or-set_same degrees p c 0 lt in
+          let old : get_or degrees k 0 ≡ get_or degrees p 0 = ap (λ n. get_or degrees n 0) q in
+          omega arith
+      | inr ne ↦
+          let none = zero_at k p ne in
+          let other : get_or (set degrees p c) k 0 ≡ get_or degrees k 0 = get_or-set_other degrees p k c 0 ne in
+          omega arith
     ]
 
 pub counts_list : (n : ℕ) (degrees places : List ℕ) (targets : List (List ℕ)) → AreCounts n degrees targets places → AreCounts n degrees (targets ++ places ∷ []) []

@@ -24,16 +24,20 @@ at_split front a back = Contains-append_right front (a ∷ back) a (here a back)
 pub distinct : (xs : List ℕ) → ((front back : List ℕ) (a : ℕ) → xs ≡ front ++ a ∷ back → Contains front a → ⊥) → IsDistinct eqb xs
 unfolding IsDistinct
 distinct [] h = tt
-distinct (x ∷ xs) h =
-    (absent xs (λ k. let s = Contains-split xs x k in h (x ∷ s.0) s.1 x (ap (λ l. x ∷ l) s.2) (here x s.0)),
-      distinct xs (λ front back a e k. h (x ∷ front) back a (ap (λ l. x ∷ l) e) (later x front a k)))
+distinct (x ∷ xs) h = (
+  absent xs (λ k. let s = Contains-split xs x k in h (x ∷ s.0) s.1 x (ap (λ l. x ∷ l) s.2) (here x s.0)),
+  distinct xs (λ front back a e k. h (x ∷ front) back a (ap (λ l. x ∷ l) e) (later x front a k)),
+)
   where
     absent : (ys : List ℕ) → (Contains ys x → ⊥) → AllByRecursion (λ y. eqb x y ≡ false) ys
     absent [] k = tt
-    absent (y ∷ ys) k = (elim (eqb x y) as (λ t. eqb x y ≡ t → eqb x y ≡ false) [
-          true ↦ λ e. absurd (k (let s : x ≡ y = (Decides-eqb x y).0 e in subst (λ (n : ℕ). Contains (y ∷ ys) n) (sym s) (here y ys)))
+    absent (y ∷ ys) k = (
+      elim (eqb x y) as (λ t. eqb x y ≡ t → eqb x y ≡ false) [
+        | true ↦ λ e. absurd (k (let s : x ≡ y = (Decides-eqb x y).0 e in subst (λ (n : ℕ). Contains (y ∷ ys) n) (sym s) (here y ys)))
         | false ↦ λ e. e
-        ] refl, absent ys (λ r. k (later y ys x r)))
+      ] refl,
+      absent ys (λ r. k (later y ys x r)),
+    )
 
 not_again : (x : ℕ) (xs : List ℕ) → IsDistinct eqb (x ∷ xs) → Contains xs x → ⊥
 unfolding IsDistinct
@@ -96,18 +100,19 @@ module _ (g : Graph) (starts : List ℕ) (IsNode : ℕ → Type 0) (NotBelow : �
 
   pub IsChildFirst-from_taken : (order : List ℕ) → TakesGreatestReady g IsNode NotBelow order → ((a : ℕ) → IsNode a → Contains order a) → IsChildFirst g starts order
   IsChildFirst-from_taken order k all = record {
-      all = λ a. (λ h. (nodes a).0 (taken a h), λ r. all a ((nodes a).1 r));
-      once = distinct order (λ front back a e. (k.ready front back a e).1);
-      before = λ a b h s.
+    all = λ a. (λ h. (nodes a).0 (taken a h), λ r. all a ((nodes a).1 r));
+    once = distinct order (λ front back a e. (k.ready front back a e).1);
+    before = λ a b h s.
         let reached = Contains_reached (s.0 + 1) a b (taken a h) (subst (λ (n : ℕ). Path g a b n) (let e : suc s.0 ≡ s.0 + 1 = omega arith in e) s.1) in
         let split = Contains-split order b (all b reached) in
         let front = in_front order k s.0 split.0 split.1 a b split.2 (taken a h) s.1 in
         let cut = Contains-split split.0 a front in
         (cut.0, cut.1 ++ b ∷ split.1, split.2 ∙ ap (λ l. l ++ b ∷ split.1) cut.2 ∙ append_assoc cut.0 (a ∷ cut.1) (b ∷ split.1), at_split cut.1 b split.1);
-    }
+  }
     where
       taken : (a : ℕ) → Contains order a → IsNode a
       taken a h = let s = Contains-split order a h in (k.ready s.0 s.1 a s.2).0
+
       Contains_reached : (n : ℕ) (a b : ℕ) → IsNode a → Path g a b n → IsNode b
       Contains_reached zero a b h p = subst (λ (x : ℕ). IsNode x) p h
       Contains_reached (suc n) a b h (c, edge, p) = Contains_reached n c b (node_edge a c h edge) p
@@ -118,15 +123,16 @@ module _ (g : Graph) (starts : List ℕ) (IsNode : ℕ → Type 0) (NotBelow : �
       let is_a = (k.ready front highs a e).0 in
       let in_b : Contains other b = subst (λ (l : List ℕ). Contains l b) (sym f) (at_split front b lows) in
       let is_b = (nodes b).1 ((o.all b).0 in_b) in
-      let ready_b : IsReady g IsNode front b =
-          (is_b,
-            λ h. let s = Contains-split front b h in
-              let whole : other ≡ s.0 ++ b ∷ (s.1 ++ b ∷ lows) = f ∙ ap (λ l. l ++ b ∷ lows) s.2 ∙ append_assoc s.0 (b ∷ s.1) (b ∷ lows) in
-              twice other s.0 (s.1 ++ b ∷ lows) b o.once whole (at_split s.1 b lows),
-            λ c is_c edge.
-              let in_c = (o.all c).1 ((nodes c).0 is_c) in
-              let s = o.before c b in_c (0, (b, edge, refl)) in
-              stands_in_front other s.0 s.1 front lows c b o.once s.2 s.3 f) in
+      let ready_b : IsReady g IsNode front b = (
+        is_b,
+        λ h. let s = Contains-split front b h in
+            let whole : other ≡ s.0 ++ b ∷ (s.1 ++ b ∷ lows) = f ∙ ap (λ l. l ++ b ∷ lows) s.2 ∙ append_assoc s.0 (b ∷ s.1) (b ∷ lows) in
+            twice other s.0 (s.1 ++ b ∷ lows) b o.once whole (at_split s.1 b lows),
+        λ c is_c edge.
+            let in_c = (o.all c).1 ((nodes c).0 is_c) in
+            let s = o.before c b in_c (0, (b, edge, refl)) in
+            stands_in_front other s.0 s.1 front lows c b o.once s.2 s.3 f,
+      ) in
       let le : b ≤ a = ordered a b is_a is_b (k.greatest front highs a b e ready_b) in
       omega arith
 
@@ -141,20 +147,20 @@ cycle_back g IsLeft back zero others short a left seen =
 cycle_back g IsLeft back (suc room) others short a left seen =
     let p = back a left in
     ⊎_elim (λ h.
-        let s = Contains-split others p.0 h in
-        let len : length others ≡ length s.0 + suc (length s.1) = ap length s.2 ∙ length-append s.0 (p.0 ∷ s.1) in
-        let len2 : length (s.0 ++ s.1) ≡ length s.0 + length s.1 = length-append s.0 s.1 in
-        cycle_back g IsLeft back room (s.0 ++ s.1) (omega arith) p.0 p.1 (λ b is_b. elim (seen b is_b) [
-            inl l ↦ elim (Contains-append_cases s.0 (p.0 ∷ s.1) b (subst (λ (l : List ℕ). Contains l b) s.2 l)) [
-                inl f ↦ inl (Contains-append_left s.0 s.1 b f)
-              | inr q ↦ elim (Contains-append_cases (p.0 ∷ []) s.1 b q) [
-                  inl o ↦ inr (0, only_one p.0 b o)
-                | inr t ↦ inl (Contains-append_right s.0 s.1 b t)
-                ]
-              ]
-          | inr r ↦ inr (suc r.0, (a, p.2, r.1))
-          ]))
-      (λ r. (p.0, p.1, edge_then_Reaches g p.0 a p.0 p.2 r)) (seen p.0 p.1)
+    let s = Contains-split others p.0 h in
+    let len : length others ≡ length s.0 + suc (length s.1) = ap length s.2 ∙ length-append s.0 (p.0 ∷ s.1) in
+    let len2 : length (s.0 ++ s.1) ≡ length s.0 + length s.1 = length-append s.0 s.1 in
+    cycle_back g IsLeft back room (s.0 ++ s.1) (omega arith) p.0 p.1 (λ b is_b. elim (seen b is_b) [
+      | inl l ↦ elim (Contains-append_cases s.0 (p.0 ∷ s.1) b (subst (λ (l : List ℕ). Contains l b) s.2 l)) [
+        | inl f ↦ inl (Contains-append_left s.0 s.1 b f)
+        | inr q ↦ elim (Contains-append_cases (p.0 ∷ []) s.1 b q) [
+          | inl o ↦ inr (0, only_one p.0 b o)
+          | inr t ↦ inl (Contains-append_right s.0 s.1 b t)
+        ]
+      ]
+      | inr r ↦ inr (suc r.0, (a, p.2, r.1))
+    ]))
+    (λ r. (p.0, p.1, edge_then_Reaches g p.0 a p.0 p.2 r)) (seen p.0 p.1)
 
 -- where nodes are left and each has an edge from another one, there is a cycle among them
 pub cycle_from_stuck : (g : Graph) (IsNode : ℕ → Type 0) (all order : List ℕ) → ((a : ℕ) → IsNode a → Contains all a) → IsStuck g IsNode order

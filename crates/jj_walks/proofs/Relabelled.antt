@@ -65,32 +65,38 @@ module _ (g : Graph) (ns : List ℕ) (ts : List (List ℕ)) (injective : IsInjec
   pub relabelled : (P : ℕ → ℕ → Type 0) (order : List ℕ) → TakesGreatestReady (places_graph ts) (λ k. k < length ns) P order
       → TakesGreatestReady g (Contains ns) (AtPlaces P) (map (λ k. get_or ns k 0) order)
   relabelled P order k = record {
-      ready = λ front back a e.
+    ready = λ front back a e.
         let s = split_map (λ k. get_or ns k 0) order front back a e in
         let r = k.ready s.0 s.2 s.1 s.3 in
         subst (λ (n : ℕ). IsReady g (Contains ns) front n) s.5 (subst (λ (l : List ℕ). IsReady g (Contains ns) l (number s.1)) s.4 (up s.0 s.1 (below_front s.0 s.2 s.1 s.3) r));
-      greatest = λ front back a b e r.
+    greatest = λ front back a b e r.
         let s = split_map (λ k. get_or ns k 0) order front back a e in
         let q = place_of b r.0 in
         let x_in = (k.ready s.0 s.2 s.1 s.3).0 in
         let ready_q = down s.0 q.0 q.1 (below_front s.0 s.2 s.1 s.3) (subst (λ (n : ℕ). IsReady g (Contains ns) (map (λ k. get_or ns k 0) s.0) n) (sym q.2) (subst (λ (l : List ℕ). IsReady g (Contains ns) l b) (sym s.4) r)) in
         let holds = k.greatest s.0 s.2 s.1 q.0 s.3 ready_q in
         λ i j il jl ei ej.
-          let ii : i ≡ s.1 = injective i s.1 il x_in (ei ∙ sym s.5) in
-          let jj : j ≡ q.0 = injective j q.0 jl q.1 (ej ∙ sym q.2) in
-          subst (λ (n : ℕ). P n j) (sym ii) (subst (λ (n : ℕ). P s.1 n) (sym jj) holds);
-    }
+        let ii : i ≡ s.1 = injective i s.1 il x_in (ei ∙ sym s.5) in
+        let jj : j ≡ q.0 = injective j q.0 jl q.1 (ej ∙ sym q.2) in
+        subst (λ (n : ℕ). P n j) (sym ii) (subst (λ (n : ℕ). P s.1 n) (sym jj) holds);
+  }
     where
       below_front : (front back : List ℕ) (x : ℕ) → order ≡ front ++ x ∷ back → (j : ℕ) → Contains front j → j < length ns
       below_front front back x e j h =
           let in_order : Contains order j = subst (λ (l : List ℕ). Contains l j) (sym e) (Contains-append_left front (x ∷ back) j h) in
           let s = Contains-split order j in_order in
           (k.ready s.0 s.1 j s.2).0
+
       up : (front : List ℕ) (x : ℕ) → ((j : ℕ) → Contains front j → j < length ns) → IsReady (places_graph ts) (λ k. k < length ns) front x → IsReady g (Contains ns) (map (λ k. get_or ns k 0) front) (number x)
-      up front x below r = (numbered x r.0, λ h. r.1 (unnumbered front below x r.0 h), λ c is edge.
-          let p = place_of c is in
-          let edge_p : HasEdge g (number p.0) (number x) = subst (λ (n : ℕ). HasEdge g n (number x)) (sym p.2) edge in
-          subst (λ (n : ℕ). Contains (map (λ k. get_or ns k 0) front) n) p.2 (Contains-map (λ k. get_or ns k 0) front p.0 (r.2 p.0 p.1 (edge_down p.0 x p.1 r.0 edge_p))))
+      up front x below r = (
+        numbered x r.0,
+        λ h. r.1 (unnumbered front below x r.0 h),
+        λ c is edge.
+            let p = place_of c is in
+            let edge_p : HasEdge g (number p.0) (number x) = subst (λ (n : ℕ). HasEdge g n (number x)) (sym p.2) edge in
+            subst (λ (n : ℕ). Contains (map (λ k. get_or ns k 0) front) n) p.2 (Contains-map (λ k. get_or ns k 0) front p.0 (r.2 p.0 p.1 (edge_down p.0 x p.1 r.0 edge_p))),
+      )
+
       down : (front : List ℕ) (x : ℕ) → x < length ns → ((j : ℕ) → Contains front j → j < length ns) → IsReady g (Contains ns) (map (λ k. get_or ns k 0) front) (number x) → IsReady (places_graph ts) (λ k. k < length ns) front x
       down front x lt below r = (lt, λ h. r.1 (Contains-map (λ k. get_or ns k 0) front x h), λ c is edge. unnumbered front below c is (r.2 (number c) (numbered c is) (edge_up c x is edge)))
 

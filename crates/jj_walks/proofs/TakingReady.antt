@@ -23,10 +23,10 @@ counted p [] h = absurd (omega arith)
 counted {X} p (y ∷ ys) h =
     let P : Bool → Type 0 = λ b. p y ≡ b → (x : X) × Contains (y ∷ ys) x × (p x ≡ true) in
     elim (p y) as P [
-      true ↦ λ e. (y, (0, omega arith, refl), e)
-    | false ↦ λ e.
-        let c : count_by p (y ∷ ys) ≡ 0 + count_by p ys = sum_by-cons (λ x. cond (p x) 1 0) y ys ∙ ap (λ b. cond b 1 0 + count_by p ys) e in
-        let r = counted p ys (omega arith) in (r.0, Contains-append_right (y ∷ []) ys r.0 r.1, r.2)
+      | true ↦ λ e. (y, (0, omega arith, refl), e)
+      | false ↦ λ e.
+          let c : count_by p (y ∷ ys) ≡ 0 + count_by p ys = sum_by-cons (λ x. cond (p x) 1 0) y ys ∙ ap (λ b. cond b 1 0 + count_by p ys) e in
+          let r = counted p ys (omega arith) in (r.0, Contains-append_right (y ∷ []) ys r.0 r.1, r.2)
     ] refl
 
 pub is_counted : {X : Type 0} (p : X → Bool) (xs : List X) (x : X) → Contains xs x → p x ≡ true → 0 < count_by p xs
@@ -49,9 +49,9 @@ zero_at a b h = ap (λ t. cond {A = ℕ} t 1 0) (apart a b h)
 
 pub has-none : (xs : List ℕ) (a : ℕ) → count_by (eqb a) xs ≡ 0 → has xs a ≡ false
 has-none xs a none = elim (has xs a) as (λ t. has xs a ≡ t → has xs a ≡ false) [
-      true ↦ λ e. let p = is_counted (eqb a) xs a (Contains-from_has xs a e) (same a) in absurd (omega arith)
-    | false ↦ λ e. e
-    ] refl
+  | true ↦ λ e. let p = is_counted (eqb a) xs a (Contains-from_has xs a e) (same a) in absurd (omega arith)
+  | false ↦ λ e. e
+] refl
 
 pub not_in : (xs : List ℕ) (a : ℕ) → has xs a ≡ false → Contains xs a → ⊥
 not_in xs a f h = true≢false (sym (has-from_Contains xs a h) ∙ f)
@@ -65,8 +65,8 @@ some_part f [] h = absurd (omega arith)
 some_part f (l ∷ ls) h =
     let e : sum_by f (l ∷ ls) ≡ f l + sum_by f ls = sum_by-cons f l ls in
     elim (cases_eq (f l) 0) [
-      inl z ↦ let r = some_part f ls (omega arith) in (suc r.0, let lt : r.0 < length ls = r.1 in omega arith, r.2)
-    | inr nz ↦ (0, omega arith, omega arith)
+      | inl z ↦ let r = some_part f ls (omega arith) in (suc r.0, let lt : r.0 < length ls = r.1 in omega arith, r.2)
+      | inr nz ↦ (0, omega arith, omega arith)
     ]
 
 -- ---- lists
@@ -136,13 +136,13 @@ module _ {T : Type 0} (cmp : T → T → Ordering) (slots : List (Option T)) (ts
   taken_children {degrees = degrees} {live} {order} i k lt zero_degree c below edge =
       let none : get_or degrees i 0 ≡ count_by (eqb i) [] + edges_to live i = k.counts i lt in
       elim (has order c) as (λ t. has order c ≡ t → Contains order c) [
-        true ↦ λ e. Contains-from_has order c e
-      | false ↦ λ e.
-          let same_list : get_or live c [] ≡ get_or ts c [] = k.live_is c below ∙ ap (λ b. cond b [] (get_or ts c [])) e in
-          let many = is_counted (eqb i) (get_or ts c []) i edge (same i) in
-          let part : count_by (eqb i) (get_or live c []) ≤ edges_to live i = get_or-le-sum_by (λ l. count_by (eqb i) l) live c [] (rw (k.lists) below) in
-          let q : count_by (eqb i) (get_or live c []) ≡ count_by (eqb i) (get_or ts c []) = ap (count_by (eqb i)) same_list in
-          absurd (omega arith)
+        | true ↦ λ e. Contains-from_has order c e
+        | false ↦ λ e.
+            let same_list : get_or live c [] ≡ get_or ts c [] = k.live_is c below ∙ ap (λ b. cond b [] (get_or ts c [])) e in
+            let many = is_counted (eqb i) (get_or ts c []) i edge (same i) in
+            let part : count_by (eqb i) (get_or live c []) ≤ edges_to live i = get_or-le-sum_by (λ l. count_by (eqb i) l) live c [] (rw (k.lists) below) in
+            let q : count_by (eqb i) (get_or live c []) ≡ count_by (eqb i) (get_or ts c []) = ap (count_by (eqb i)) same_list in
+            absurd (omega arith)
       ] refl
 
   -- no edge is counted to a place whose children were all taken
@@ -151,18 +151,18 @@ module _ {T : Type 0} (cmp : T → T → Ordering) (slots : List (Option T)) (ts
   no_edges {degrees = degrees} {live} {order} b k lt children =
       let total : get_or degrees b 0 ≡ count_by (eqb b) [] + edges_to live b = k.counts b lt in
       let bound : edges_to live b ≤ length live * 0 = sum_by-le (λ l. count_by (eqb b) l) 0 live (All-from_get_or (λ l. count_by (eqb b) l ≤ 0) live [] (λ c below.
-          let here : c < length slots = rw (← k.lists) below in
-          let is = k.live_is c here in
-          elim (has order c) as (λ t. has order c ≡ t → count_by (eqb b) (get_or live c []) ≤ 0) [
-            true ↦ λ e. let q : get_or live c [] ≡ [] = is ∙ ap (λ b. cond b [] (get_or ts c [])) e in let n : count_by (eqb b) (get_or live c []) ≡ 0 = ap (count_by (eqb b)) q in omega arith
-          | false ↦ λ e.
-              let q : get_or live c [] ≡ get_or ts c [] = is ∙ ap (λ b. cond b [] (get_or ts c [])) e in
-              let n : count_by (eqb b) (get_or live c []) ≡ count_by (eqb b) (get_or ts c []) = ap (count_by (eqb b)) q in
-              elim (cases_eq (count_by (eqb b) (get_or ts c [])) 0) [
-                inl z ↦ omega arith
+      let here : c < length slots = rw (← k.lists) below in
+      let is = k.live_is c here in
+      elim (has order c) as (λ t. has order c ≡ t → count_by (eqb b) (get_or live c []) ≤ 0) [
+        | true ↦ λ e. let q : get_or live c [] ≡ [] = is ∙ ap (λ b. cond b [] (get_or ts c [])) e in let n : count_by (eqb b) (get_or live c []) ≡ 0 = ap (count_by (eqb b)) q in omega arith
+        | false ↦ λ e.
+            let q : get_or live c [] ≡ get_or ts c [] = is ∙ ap (λ b. cond b [] (get_or ts c [])) e in
+            let n : count_by (eqb b) (get_or live c []) ≡ count_by (eqb b) (get_or ts c []) = ap (count_by (eqb b)) q in
+            elim (cases_eq (count_by (eqb b) (get_or ts c [])) 0) [
+              | inl z ↦ omega arith
               | inr z ↦ absurd (not_in order c e (children c here (counted_once (get_or ts c []) b (omega arith))))
-              ]
-          ] refl)) in
+            ]
+      ] refl)) in
       omega arith
 
   status_of : (waiting : List (Option T)) (degrees order order2 : List ℕ) (ready ready2 : List (T × ℕ)) (k : ℕ) → placed order2 ready2 k ≡ placed order ready k
@@ -176,7 +176,7 @@ module _ {T : Type 0} (cmp : T → T → Ordering) (slots : List (Option T)) (ts
       let here = k.heaped x i at in
       let some : 0 < count_by {X = T × ℕ} (λ e. eqb i e.1) ready = is_counted {X = T × ℕ} (λ e. eqb i e.1) ready (x, i) at (same i) in
       ⊎_elim (λ l. let once : placed order ready i ≡ 1 = l.2 in (l.0, has-none order i (omega arith)))
-        (λ r. let none : placed order ready i ≡ 0 = r.2 in absurd (omega arith)) (k.status i here.0)
+      (λ r. let none : placed order ready i ≡ 0 = r.2 in absurd (omega arith)) (k.status i here.0)
 
   -- the node that leaves the heap is taken, and the edges from it are left to be counted off
   pub taking_popped : {waiting : List (Option T)} {degrees : List ℕ} {live : List (List ℕ)} {order : List ℕ} {ready : List (T × ℕ)} (x : T) (i : ℕ) (ready2 : List (T × ℕ))
@@ -194,17 +194,17 @@ module _ {T : Type 0} (cmp : T → T → Ordering) (slots : List (Option T)) (ts
         lists = length-set live i [] ∙ k.lists;
         heaped = λ y j h. k.heaped y j (Contains-permutation {X = T × ℕ} ((x, i) ∷ ready2) ready (y, j) (IsPermutation-sym ready ((x, i) ∷ ready2) perm) (Contains-append_right ((x, i) ∷ []) ready2 (y, j) h));
         status = λ j lt.
-          let a : count_by {X = T × ℕ} (λ e. eqb j e.1) ready2 + cond (eqb j i) 1 0 ≡ count_by {X = T × ℕ} (λ e. eqb j e.1) ready = sum_by_popped {X = T × ℕ} (λ e. cond (eqb j e.1) 1 0) (x, i) ready ready2 perm in
-          let b : count_by (eqb j) (order ++ i ∷ []) ≡ count_by (eqb j) order + cond (eqb j i) 1 0 = sum_by_push (λ e. cond (eqb j e) 1 0) order i in
-          status_of waiting degrees order (order ++ i ∷ []) ready ready2 j (omega arith) (k.status j lt);
+            let a : count_by {X = T × ℕ} (λ e. eqb j e.1) ready2 + cond (eqb j i) 1 0 ≡ count_by {X = T × ℕ} (λ e. eqb j e.1) ready = sum_by_popped {X = T × ℕ} (λ e. cond (eqb j e.1) 1 0) (x, i) ready ready2 perm in
+            let b : count_by (eqb j) (order ++ i ∷ []) ≡ count_by (eqb j) order + cond (eqb j i) 1 0 = sum_by_push (λ e. cond (eqb j e) 1 0) order i in
+            status_of waiting degrees order (order ++ i ∷ []) ready ready2 j (omega arith) (k.status j lt);
         counts = λ j lt.
-          let total : get_or degrees j 0 ≡ count_by (eqb j) [] + edges_to live j = k.counts j lt in
-          let moved : edges_to (set live i []) j + count_by (eqb j) (get_or live i []) ≡ edges_to live j + count_by (eqb j) [] = sum_by-set (λ l. count_by (eqb j) l) live i [] [] within in
-          let is : get_or live i [] ≡ get_or ts i [] = k.live_is i here.0 ∙ ap (λ b. cond b [] (get_or ts i [])) fresh in
-          let part : count_by (eqb j) (get_or live i []) ≡ count_by (eqb j) (get_or ts i []) = ap (count_by (eqb j)) is in
-          omega arith;
+            let total : get_or degrees j 0 ≡ count_by (eqb j) [] + edges_to live j = k.counts j lt in
+            let moved : edges_to (set live i []) j + count_by (eqb j) (get_or live i []) ≡ edges_to live j + count_by (eqb j) [] = sum_by-set (λ l. count_by (eqb j) l) live i [] [] within in
+            let is : get_or live i [] ≡ get_or ts i [] = k.live_is i here.0 ∙ ap (λ b. cond b [] (get_or ts i [])) fresh in
+            let part : count_by (eqb j) (get_or live i []) ≡ count_by (eqb j) (get_or ts i []) = ap (count_by (eqb j)) is in
+            omega arith;
         live_is = λ j lt. elim (cases_eq j i) [
-            inl e ↦
+          | inl e ↦
               let left : get_or (set live i []) j [] ≡ [] = ap (λ n. get_or (set live i []) n []) e ∙ get_or-set_same live i [] [] within in
               let h : has (order ++ i ∷ []) j ≡ true = has-push order i j ∙ ap (λ b. b || has order j) (ap (eqb j) (sym e) ∙ same j) in
               left ∙ sym (ap (λ b. cond b [] (get_or ts j [])) h)
@@ -212,22 +212,22 @@ module _ {T : Type 0} (cmp : T → T → Ordering) (slots : List (Option T)) (ts
               let left : get_or (set live i []) j [] ≡ get_or live j [] = get_or-set_other live i j [] [] ne in
               let h : has (order ++ i ∷ []) j ≡ has order j = has-push order i j ∙ ap (λ b. b || has order j) (apart j i ne) in
               left ∙ k.live_is j lt ∙ sym (ap (λ b. cond b [] (get_or ts j [])) h)
-          ];
+        ];
         takes =
-          let before = k.takes in
-          record {
-            ready = λ front back a e. elim (split_push order i front back a e) [
-                inl l ↦ subst (λ (n : ℕ). IsReady (places_graph ts) (λ c. c < length slots) front n) (sym l.1)
-                  (subst (λ (l : List ℕ). IsReady (places_graph ts) (λ c. c < length slots) l i) (sym l.0)
+            let before = k.takes in
+            record {
+              ready = λ front back a e. elim (split_push order i front back a e) [
+                | inl l ↦ subst (λ (n : ℕ). IsReady (places_graph ts) (λ c. c < length slots) front n) (sym l.1)
+                    (subst (λ (l : List ℕ). IsReady (places_graph ts) (λ c. c < length slots) l i) (sym l.0)
                     (here.0, not_in order i fresh, taken_children i k here.0 found.0))
-              | inr r ↦ before.ready front r.0 a r.1
+                | inr r ↦ before.ready front r.0 a r.1
               ];
-            greatest = λ front back a b e ready_b. elim (split_push order i front back a e) [
-                inl l ↦ subst (λ (n : ℕ). IsNotBelow cmp slots n b) (sym l.1)
-                  (top b (subst (λ (l : List ℕ). IsReady (places_graph ts) (λ c. c < length slots) l b) l.0 ready_b))
-              | inr r ↦ before.greatest front r.0 a b r.1 ready_b
+              greatest = λ front back a b e ready_b. elim (split_push order i front back a e) [
+                | inl l ↦ subst (λ (n : ℕ). IsNotBelow cmp slots n b) (sym l.1)
+                    (top b (subst (λ (l : List ℕ). IsReady (places_graph ts) (λ c. c < length slots) l b) l.0 ready_b))
+                | inr r ↦ before.greatest front r.0 a b r.1 ready_b
               ];
-          };
+            };
       }
     where
       top : (b : ℕ) → IsReady (places_graph ts) (λ c. c < length slots) order b → IsNotBelow cmp slots i b
@@ -262,15 +262,15 @@ module _ {T : Type 0} (cmp : T → T → Ordering) (slots : List (Option T)) (ts
       let more : count_by (eqb j) (t ∷ extra) ≡ cond (eqb j t) 1 0 + count_by (eqb j) extra = sum_by-cons (λ y. cond (eqb j y) 1 0) t extra in
       let within : t < length degrees = rw (k.counters) lt in
       elim (cases_eq j t) [
-        inl e ↦
-          let one : cond {A = ℕ} (eqb j t) 1 0 ≡ 1 = ap (λ n. cond {A = ℕ} (eqb n t) 1 0) e ∙ one_at t in
-          let new : get_or (set degrees t d) j 0 ≡ d = ap (λ n. get_or (set degrees t d) n 0) e ∙ get_or-set_same degrees t d 0 within in
-          let old : get_or degrees j 0 ≡ get_or degrees t 0 = ap (λ n. get_or degrees n 0) e in
-          omega arith
-      | inr ne ↦
-          let none = zero_at j t ne in
-          let other : get_or (set degrees t d) j 0 ≡ get_or degrees j 0 = get_or-set_other degrees t j d 0 ne in
-          omega arith
+        | inl e ↦
+            let one : cond {A = ℕ} (eqb j t) 1 0 ≡ 1 = ap (λ n. cond {A = ℕ} (eqb n t) 1 0) e ∙ one_at t in
+            let new : get_or (set degrees t d) j 0 ≡ d = ap (λ n. get_or (set degrees t d) n 0) e ∙ get_or-set_same degrees t d 0 within in
+            let old : get_or degrees j 0 ≡ get_or degrees t 0 = ap (λ n. get_or degrees n 0) e in
+            omega arith
+        | inr ne ↦
+            let none = zero_at j t ne in
+            let other : get_or (set degrees t d) j 0 ≡ get_or degrees j 0 = get_or-set_other degrees t j d 0 ne in
+            omega arith
       ]
 
   -- an edge is counted off, and others to its target are left
@@ -285,10 +285,10 @@ module _ {T : Type 0} (cmp : T → T → Ordering) (slots : List (Option T)) (ts
         lists = k.lists;
         heaped = k.heaped;
         status = λ j below. elim (cases_eq j t) [
-            inl e ↦ subst (λ (n : ℕ). HasStatus waiting (set degrees t d) order ready n) (sym e) (inr (let new : get_or (set degrees t d) t 0 ≡ d = get_or-set_same degrees t d 0 within in omega arith, was.1, was.2))
+          | inl e ↦ subst (λ (n : ℕ). HasStatus waiting (set degrees t d) order ready n) (sym e) (inr (let new : get_or (set degrees t d) t 0 ≡ d = get_or-set_same degrees t d 0 within in omega arith, was.1, was.2))
           | inr ne ↦ let other : get_or (set degrees t d) j 0 ≡ get_or degrees j 0 = get_or-set_other degrees t j d 0 ne in
               ⊎_elim (λ l. inl (other ∙ l.0, l.1, l.2)) (λ r. inr (let some : 0 < get_or degrees j 0 = r.0 in omega arith, r.1, r.2)) (k.status j below)
-          ];
+        ];
         counts = counts_less t d k lt less;
         live_is = k.live_is;
         takes = k.takes;
@@ -308,19 +308,22 @@ module _ {T : Type 0} (cmp : T → T → Ordering) (slots : List (Option T)) (ts
         counters = length-set degrees t 0 ∙ k.counters;
         lists = k.lists;
         heaped = λ y j h. elim (Contains-append_cases {X = T × ℕ} ((x, t) ∷ []) ready (y, j) (Contains-permutation {X = T × ℕ} ready2 ((x, t) ∷ ready) (y, j) (IsPermutation-sym ((x, t) ∷ ready) ready2 perm) h)) [
-            inl l ↦
+          | inl l ↦
               let e : (x, t) ≡ (y, j) = only_one {X = T × ℕ} (x, t) (y, j) l in
               let value : get_or slots t None ≡ Some x = sym was.1 ∙ is in
               subst (λ (p : T × ℕ). (p.1 < length slots) × (get_or slots p.1 None ≡ Some p.0)) e (lt, value)
           | inr r ↦ k.heaped y j r
-          ];
+        ];
         status = λ j below. elim (cases_eq j t) [
-            inl e ↦ subst (λ (n : ℕ). HasStatus (set waiting t None) (set degrees t 0) order ready2 n) (sym e)
-              (inl (get_or-set_same degrees t 0 0 within, get_or-set_same waiting t None None within_waiting,
+          | inl e ↦ subst (λ (n : ℕ). HasStatus (set waiting t None) (set degrees t 0) order ready2 n) (sym e)
+              (inl (
+                get_or-set_same degrees t 0 0 within,
+                get_or-set_same waiting t None None within_waiting,
                 let none : placed order ready t ≡ 0 = was.2 in
-                let m = many t in
-                let one = one_at t in
-                omega arith))
+                    let m = many t in
+                    let one = one_at t in
+                    omega arith,
+              ))
           | inr ne ↦
               let other : get_or (set degrees t 0) j 0 ≡ get_or degrees j 0 = get_or-set_other degrees t j 0 0 ne in
               let still : get_or (set waiting t None) j None ≡ get_or waiting j None = get_or-set_other waiting t j None None ne in
@@ -328,7 +331,7 @@ module _ {T : Type 0} (cmp : T → T → Ordering) (slots : List (Option T)) (ts
               let zero_more = zero_at j t ne in
               let p : placed order ready2 j ≡ placed order ready j = omega arith in
               ⊎_elim (λ l. inl (other ∙ l.0, still ∙ l.1, p ∙ l.2)) (λ r. inr (let some : 0 < get_or degrees j 0 = r.0 in omega arith, still ∙ r.1, p ∙ r.2)) (k.status j below)
-          ];
+        ];
         counts = counts_less t 0 k lt (omega arith);
         live_is = k.live_is;
         takes = k.takes;
@@ -344,23 +347,23 @@ module _ {T : Type 0} (cmp : T → T → Ordering) (slots : List (Option T)) (ts
 
   pub sorting_starts : (degrees : List ℕ) (ready : List (T × ℕ)) → ready ≡ [] → IsSorting degrees 0 slots ready
   sorting_starts degrees ready e = rw e (record {
-      waits = refl;
-      heaped = λ x k (j, lt, q). absurd (omega arith);
-      done = λ k lt. absurd (omega arith);
-      rest = λ k ge lt. (refl, refl);
-    })
+    waits = refl;
+    heaped = λ x k (j, lt, q). absurd (omega arith);
+    done = λ k lt. absurd (omega arith);
+    rest = λ k ge lt. (refl, refl);
+  })
 
   pub sorting_kept : {degrees : List ℕ} {waiting : List (Option T)} {ready : List (T × ℕ)} (index : ℕ) → IsSorting degrees index waiting ready → index < length slots → 0 < get_or degrees index 0
       → IsSorting degrees (index + 1) waiting ready
   sorting_kept {degrees} {waiting} {ready} index k lt some = record {
-      waits = k.waits;
-      heaped = k.heaped;
-      done = λ j below. elim (cases_eq j index) [
-          inl e ↦ subst (λ (n : ℕ). HasStatus waiting degrees [] ready n) (sym e) (let r = k.rest index (omega arith) lt in inr (some, r.0, r.1))
-        | inr ne ↦ k.done j (omega arith)
-        ];
-      rest = λ j above below. k.rest j (omega arith) below;
-    }
+    waits = k.waits;
+    heaped = k.heaped;
+    done = λ j below. elim (cases_eq j index) [
+      | inl e ↦ subst (λ (n : ℕ). HasStatus waiting degrees [] ready n) (sym e) (let r = k.rest index (omega arith) lt in inr (some, r.0, r.1))
+      | inr ne ↦ k.done j (omega arith)
+    ];
+    rest = λ j above below. k.rest j (omega arith) below;
+  }
 
   pub sorting_readied : {degrees : List ℕ} {waiting : List (Option T)} {ready : List (T × ℕ)} (index : ℕ) (x : T) (ready2 : List (T × ℕ)) → IsSorting degrees index waiting ready → index < length slots → get_or degrees index 0 ≡ 0
       → get_or waiting index None ≡ Some x → IsPermutation ((x, index) ∷ ready) ready2 → IsSorting degrees (index + 1) (set waiting index None) ready2
@@ -369,50 +372,53 @@ module _ {T : Type 0} (cmp : T → T → Ordering) (slots : List (Option T)) (ts
       let within : index < length waiting = rw (k.waits) lt in
       let many : (j : ℕ) → count_by {X = T × ℕ} (λ e. eqb j e.1) ready2 ≡ cond (eqb j index) 1 0 + count_by {X = T × ℕ} (λ e. eqb j e.1) ready = λ j. sum_by_pushed {X = T × ℕ} (λ e. cond (eqb j e.1) 1 0) (x, index) ready ready2 perm in
       let others : (j : ℕ) → j ≢ index → (get_or (set waiting index None) j None ≡ get_or waiting j None) × (placed [] ready2 j ≡ placed [] ready j) = λ j ne.
-          let m = many j in
-          let zero_more = zero_at j index ne in
-          (get_or-set_other waiting index j None None ne, omega arith) in
+      let m = many j in
+      let zero_more = zero_at j index ne in
+      (get_or-set_other waiting index j None None ne, omega arith) in
       record {
         waits = length-set waiting index None ∙ k.waits;
         heaped = λ y j h. elim (Contains-append_cases {X = T × ℕ} ((x, index) ∷ []) ready (y, j) (Contains-permutation {X = T × ℕ} ready2 ((x, index) ∷ ready) (y, j) (IsPermutation-sym ((x, index) ∷ ready) ready2 perm) h)) [
-            inl l ↦
+          | inl l ↦
               let e : (x, index) ≡ (y, j) = only_one {X = T × ℕ} (x, index) (y, j) l in
               let value : get_or slots index None ≡ Some x = sym was.0 ∙ is in
               subst (λ (p : T × ℕ). (p.1 < length slots) × (get_or slots p.1 None ≡ Some p.0)) e (lt, value)
           | inr r ↦ k.heaped y j r
-          ];
+        ];
         done = λ j below. elim (cases_eq j index) [
-            inl e ↦ subst (λ (n : ℕ). HasStatus (set waiting index None) degrees [] ready2 n) (sym e)
-              (inl (none, get_or-set_same waiting index None None within,
+          | inl e ↦ subst (λ (n : ℕ). HasStatus (set waiting index None) degrees [] ready2 n) (sym e)
+              (inl (
+                none,
+                get_or-set_same waiting index None None within,
                 let before : placed [] ready index ≡ 0 = was.1 in
-                let m = many index in
-                let one = one_at index in
-                omega arith))
+                    let m = many index in
+                    let one = one_at index in
+                    omega arith,
+              ))
           | inr ne ↦
               let o = others j ne in
               ⊎_elim (λ l. inl (l.0, o.0 ∙ l.1, o.1 ∙ l.2)) (λ r. inr (r.0, o.0 ∙ r.1, o.1 ∙ r.2)) (k.done j (omega arith))
-          ];
+        ];
         rest = λ j above below.
-          let o = others j (omega arith) in
-          let r = k.rest j (omega arith) below in
-          (o.0 ∙ r.0, o.1 ∙ r.1);
+            let o = others j (omega arith) in
+            let r = k.rest j (omega arith) below in
+            (o.0 ∙ r.0, o.1 ∙ r.1);
       }
 
   pub taking_starts : {waiting : List (Option T)} {ready : List (T × ℕ)} (degrees : List ℕ) → IsSorting degrees (length slots) waiting ready → length degrees ≡ length slots → length ts ≡ length slots
       → ((k : ℕ) → k < length slots → get_or degrees k 0 ≡ edges_to ts k) → IsTaking waiting degrees [] ts [] ready
   taking_starts degrees k counters lists counts = record {
-      waits = k.waits;
-      counters = counters;
-      lists = lists;
-      heaped = k.heaped;
-      status = k.done;
-      counts = λ j lt. let e = counts j lt in omega arith;
-      live_is = λ j lt. refl;
-      takes = record {
-        ready = λ front back a e. absurd (no_split front back a e);
-        greatest = λ front back a b e r. absurd (no_split front back a e);
-      };
-    }
+    waits = k.waits;
+    counters = counters;
+    lists = lists;
+    heaped = k.heaped;
+    status = k.done;
+    counts = λ j lt. let e = counts j lt in omega arith;
+    live_is = λ j lt. refl;
+    takes = record {
+      ready = λ front back a e. absurd (no_split front back a e);
+      greatest = λ front back a b e r. absurd (no_split front back a e);
+    };
+  }
 
   -- ---- the end: no node is ready any more
 
@@ -421,14 +427,14 @@ module _ {T : Type 0} (cmp : T → T → Ordering) (slots : List (Option T)) (ts
   taken_all {waiting} {order = order} {ready} empty k present gone j lt =
       let none : count_by {X = T × ℕ} (λ e. eqb j e.1) ready ≡ 0 = ap (λ l. count_by {X = T × ℕ} (λ e. eqb j e.1) l) empty in
       ⊎_elim (λ l. let one : placed order ready j ≡ 1 = l.2 in counted_once order j (omega arith))
-        (λ r. absurd (true≢false (sym (subst (λ (o : Option T). IsSome o) (sym r.1 ∙ gone j lt) (present j lt))))) (k.status j lt)
+      (λ r. absurd (true≢false (sym (subst (λ (o : Option T). IsSome o) (sym r.1 ∙ gone j lt) (present j lt))))) (k.status j lt)
 
   pub left_over : {waiting : List (Option T)} {degrees : List ℕ} {live : List (List ℕ)} {order : List ℕ} {ready : List (T × ℕ)} → IsTaking waiting degrees [] live order ready
       → (j : ℕ) (x : T) → j < length slots → get_or waiting j None ≡ Some x → (get_or slots j None ≡ Some x) × (Contains order j → ⊥)
   left_over {waiting} {order = order} {ready} k j x lt is =
       ⊎_elim (λ l. let gone : get_or waiting j None ≡ None = l.1 in absurd cc)
-        (λ r. let none : placed order ready j ≡ 0 = r.2 in
-          (sym r.1 ∙ is, λ h. let some = is_counted (eqb j) order j h (same j) in absurd (omega arith))) (k.status j lt)
+      (λ r. let none : placed order ready j ≡ 0 = r.2 in
+      (sym r.1 ∙ is, λ h. let some = is_counted (eqb j) order j h (same j) in absurd (omega arith))) (k.status j lt)
 
   pub stuck : {waiting : List (Option T)} {degrees : List ℕ} {live : List (List ℕ)} {order : List ℕ} {ready : List (T × ℕ)} → ready ≡ [] → IsTaking waiting degrees [] live order ready
       → IsStuck (places_graph ts) (λ k. k < length slots) order
@@ -442,10 +448,10 @@ module _ {T : Type 0} (cmp : T → T → Ordering) (slots : List (Option T)) (ts
       let is = k.live_is c below in
       let here : 0 < count_by (eqb a) (get_or live c []) = found.2 in
       elim (has order c) as (λ t. has order c ≡ t → (c : ℕ) × (c < length slots) × (Contains order c → ⊥) × HasEdge (places_graph ts) c a) [
-        true ↦ λ e. let q : count_by (eqb a) (get_or live c []) ≡ 0 = ap (count_by (eqb a)) (is ∙ ap (λ b. cond b [] (get_or ts c [])) e) in absurd (omega arith)
-      | false ↦ λ e.
-          let q : count_by (eqb a) (get_or live c []) ≡ count_by (eqb a) (get_or ts c []) = ap (count_by (eqb a)) (is ∙ ap (λ b. cond b [] (get_or ts c [])) e) in
-          (c, below, not_in order c e, counted_once (get_or ts c []) a (omega arith))
+        | true ↦ λ e. let q : count_by (eqb a) (get_or live c []) ≡ 0 = ap (count_by (eqb a)) (is ∙ ap (λ b. cond b [] (get_or ts c [])) e) in absurd (omega arith)
+        | false ↦ λ e.
+            let q : count_by (eqb a) (get_or live c []) ≡ count_by (eqb a) (get_or ts c []) = ap (count_by (eqb a)) (is ∙ ap (λ b. cond b [] (get_or ts c [])) e) in
+            (c, below, not_in order c e, counted_once (get_or ts c []) a (omega arith))
       ] refl
 
   -- ---- by what `make_ready` ensures
@@ -455,8 +461,8 @@ module _ {T : Type 0} (cmp : T → T → Ordering) (slots : List (Option T)) (ts
   sorting_taken {degrees} {waiting} {ready} index waiting2 ready2 k lt none present is moved =
       let was = k.rest index (omega arith) lt in
       elim (get_or waiting index None) as (λ o. get_or waiting index None ≡ o → MatchOption o (ready2 ≡ ready) (λ x. IsPermutation ((x, index) ∷ ready) ready2) → IsSorting degrees (index + 1) waiting2 ready2) [
-        None ↦ λ e m. absurd (true≢false (sym (subst (λ (o : Option T). IsSome o) (sym was.0 ∙ e) present)))
-      | Some x ↦ λ e m. rw is (sorting_readied index x ready2 k lt none e m)
+        | None ↦ λ e m. absurd (true≢false (sym (subst (λ (o : Option T). IsSome o) (sym was.0 ∙ e) present)))
+        | Some x ↦ λ e m. rw is (sorting_readied index x ready2 k lt none e m)
       ] refl moved
 
   pub taking_taken : {waiting : List (Option T)} {degrees extra : List ℕ} {live : List (List ℕ)} {order : List ℕ} {ready : List (T × ℕ)} (t : ℕ) (waiting2 : List (Option T)) (ready2 : List (T × ℕ))
@@ -465,8 +471,8 @@ module _ {T : Type 0} (cmp : T → T → Ordering) (slots : List (Option T)) (ts
   taking_taken {waiting} {degrees} {extra} {live} {order} {ready} t waiting2 ready2 k lt less present is moved =
       let was = counted_edge t k lt in
       elim (get_or waiting t None) as (λ o. get_or waiting t None ≡ o → MatchOption o (ready2 ≡ ready) (λ x. IsPermutation ((x, t) ∷ ready) ready2) → IsTaking waiting2 (set degrees t 0) extra live order ready2) [
-        None ↦ λ e m. absurd (true≢false (sym (subst (λ (o : Option T). IsSome o) (sym was.1 ∙ e) present)))
-      | Some x ↦ λ e m. rw is (taking_readied t x ready2 k lt less e m)
+        | None ↦ λ e m. absurd (true≢false (sym (subst (λ (o : Option T). IsSome o) (sym was.1 ∙ e) present)))
+        | Some x ↦ λ e m. rw is (taking_readied t x ready2 k lt less e m)
       ] refl moved
 
   -- the next edge of a list, as the loop reads it
@@ -506,13 +512,13 @@ module _ {T : Type 0} (cmp : T → T → Ordering) (slots : List (Option T)) (ts
       let after : read ≡ r - 1 = new ∙ get_or-set_same degrees t (r - 1) read below in
       let gone : 0 ≡ r - 1 = omega arith in
       subst (λ (d : ℕ). IsTaking waiting2 (set degrees t d) (drop (i + 1) xs) live order ready2) gone
-        (taking_taken t waiting2 ready2 (at_next xs i k lt) within (omega arith) present is moved)
+      (taking_taken t waiting2 ready2 (at_next xs i k lt) within (omega arith) present is moved)
 
   -- what is left at a place
   pub left_is : {waiting : List (Option T)} {degrees : List ℕ} {live : List (List ℕ)} {order : List ℕ} {ready : List (T × ℕ)} → ready ≡ [] → IsTaking waiting degrees [] live order ready
       → (j : ℕ) (o : Option T) → j < length slots → get_or waiting j None ≡ o → IsSome o
       → MatchOption o ((k : ℕ) → k < length slots → Contains order k)
-          (λ x. (k : ℕ) × (k < length slots) × (get_or slots k None ≡ Some x) × (Contains order k → ⊥) × IsStuck (places_graph ts) (λ k. k < length slots) order)
+      (λ x. (k : ℕ) × (k < length slots) × (get_or slots k None ≡ Some x) × (Contains order k → ⊥) × IsStuck (places_graph ts) (λ k. k < length slots) order)
   left_is empty k j None lt is some = absurd (true≢false (sym some))
   left_is empty k j (Some x) lt is some = let l = left_over k j x lt is in (j, lt, l.0, l.1, stuck empty k)
 

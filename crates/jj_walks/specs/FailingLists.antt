@@ -14,5 +14,5 @@ pub record ShowsLists {T ID E F N U S : Type 0} (w : Numbered T ID) (items : Fai
   pub apart : (i j : ID) → w.is_node (w.id i) ≡ true → w.is_node (w.id j) ≡ true → eq i j ≡ (w.id i == w.id j)
   pub ids_stand : (x : T) (i : ID) → FnReturnsAt ids id_fn x i → w.id i ≡ w.node x
   pub neighbors : AlwaysReturns lists (λ a r. w.is_node (w.node a.0.now) ≡ true → MatchResult r
-    (λ value. (xs : List T) → DrainsTo becomes steps value xs → items (w.node a.0.now) ≡ map (λ x. Ok (w.node x)) xs)
-    (λ e. items (w.node a.0.now) ≡ Err e ∷ [])) neighbors_fn
+      (λ value. (xs : List T) → DrainsTo becomes steps value xs → items (w.node a.0.now) ≡ map (λ x. Ok (w.node x)) xs)
+      (λ e. items (w.node a.0.now) ≡ Err e ∷ [])) neighbors_fn

@@ -15,12 +15,11 @@ ghost use Rattle.jj_walks.specs.Graph.{HasNoCycle, IsChildFirst, IsGreatestChild
 ghost use Rattle.jj_walks.specs.Walk.{Numbered, AreNodes, DrainsTo, IsOrderedLike};
 ghost use Rattle.jj_walks.specs.ReadyNodes.{IsStuck, IsNotBelow, TakesGreatestReady, edges_to, places_graph};
 
+use crate::walk_error::WalkError;
 use std::alloc::{AllocError, Global};
 use std::collections::{BinaryHeap, HashMap};
 use std::hash::Hash;
 use std::mem;
-
-use crate::walk_error::WalkError;
 
 /// The nodes that the starts reach, each before its neighbours: at each place the greatest node whose children stand
 /// before it. A failed list of neighbours gives its error, and where a cycle is reached `cycle_fn` makes the error of a
@@ -49,14 +48,14 @@ where
     requires start { IsFiniteIterable II.into_iter_gives II.IntoIter.can_next II.IntoIter.remaining start }
     ensures order { IfOk result (λ v. (xs : List T) × DrainsTo II.into_iter_gives II.IntoIter.next_gives start xs
         × ((walk : Numbered T ID) (items : FailingGraph E) → ShowsLists walk items ID.eq F.Fn N.FnMut NI.into_iter_gives NI.IntoIter.next_gives id_fn neighbors_fn → AreNodes walk (map walk.node xs)
-            → IsChildFirst walk.graph (map walk.node xs) (map walk.node v.items) × HasNoCycle walk.graph (map walk.node xs) × HasNoFailure items (map walk.node xs)
-              × (IsOrderedLike walk T.cmp → IsGreatestChildFirst walk.graph (map walk.node xs) (map walk.node v.items)))) }
+        → IsChildFirst walk.graph (map walk.node xs) (map walk.node v.items) × HasNoCycle walk.graph (map walk.node xs) × HasNoFailure items (map walk.node xs)
+        × (IsOrderedLike walk T.cmp → IsGreatestChildFirst walk.graph (map walk.node xs) (map walk.node v.items)))) }
     ensures node { IfErr result (λ e. IfNode e (λ error. (xs : List T) × DrainsTo II.into_iter_gives II.IntoIter.next_gives start xs
         × (((walk : Numbered T ID) (items : FailingGraph E) → ShowsLists walk items ID.eq F.Fn N.FnMut NI.into_iter_gives NI.IntoIter.next_gives id_fn neighbors_fn → AreNodes walk (map walk.node xs)
-              → ReachesFailure items (map walk.node xs) error)
-          ⊎ ((x : T) × C.post cycle_fn x error
-            × ((walk : Numbered T ID) (items : FailingGraph E) → ShowsLists walk items ID.eq F.Fn N.FnMut NI.into_iter_gives NI.IntoIter.next_gives id_fn neighbors_fn → AreNodes walk (map walk.node xs)
-                → ReachedFrom walk.graph (map walk.node xs) (walk.node x) × ReachesCycle walk.graph (map walk.node xs)))))) }
+        → ReachesFailure items (map walk.node xs) error)
+        ⊎ ((x : T) × C.post cycle_fn x error
+        × ((walk : Numbered T ID) (items : FailingGraph E) → ShowsLists walk items ID.eq F.Fn N.FnMut NI.into_iter_gives NI.IntoIter.next_gives id_fn neighbors_fn → AreNodes walk (map walk.node xs)
+        → ReachedFrom walk.graph (map walk.node xs) (walk.node x) × ReachesCycle walk.graph (map walk.node xs)))))) }
 {
     let found = collect_nodes(alloc, start, id_fn, neighbors_fn)?;
     let (targets, indegrees) = link(alloc, &found.index_of, &found.neighbor_ids)?;
@@ -115,10 +114,10 @@ where
     ensures collected { IfOk result (λ found. (xs given : List T) × DrainsTo II.into_iter_gives II.IntoIter.next_gives start xs × (found.nodes.items ≡ map (λ x. Some x) given)
         × (length found.neighbor_ids.items ≡ length given) × ((i : ID) (k : ℕ) → get ID.eq found.index_of i ≡ Some k → k < length given)
         × ((walk : Numbered T ID) (items : FailingGraph E) → ShowsLists walk items ID.eq F.Fn N.FnMut NI.into_iter_gives NI.IntoIter.next_gives id_fn neighbors_fn → AreNodes walk (map walk.node xs)
-            → IsCollecting walk items (map walk.node xs) (get ID.eq found.index_of) [] given (map (λ v. v.items) found.neighbor_ids.items))) }
+        → IsCollecting walk items (map walk.node xs) (get ID.eq found.index_of) [] given (map (λ v. v.items) found.neighbor_ids.items))) }
     ensures failed { IfErr result (λ e. IfNode e (λ error. (xs : List T) × DrainsTo II.into_iter_gives II.IntoIter.next_gives start xs
         × ((walk : Numbered T ID) (items : FailingGraph E) → ShowsLists walk items ID.eq F.Fn N.FnMut NI.into_iter_gives NI.IntoIter.next_gives id_fn neighbors_fn → AreNodes walk (map walk.node xs)
-            → ReachesFailure items (map walk.node xs) error))) }
+        → ReachesFailure items (map walk.node xs) error))) }
 {
     let mut stack = Vec::new(alloc);
     for node in start {
@@ -199,7 +198,7 @@ fn take_greatest_first<T: Ord + Drop>(
     ensures { IfOk result (λ r. (order : List ℕ) × (map (λ x. Some x) r.0.items ≡ map (λ k. slice_index_or waiting.items k None) order)
         × TakesGreatestReady (places_graph (map (λ ts. ts.items) targets.now)) (λ k. k < length waiting.items) (IsNotBelow T.cmp waiting.items) order
         × MatchOption r.1 ((k : ℕ) → k < length waiting.items → Contains order k)
-          (λ x. (k : ℕ) × (k < length waiting.items) × (slice_index_or waiting.items k None ≡ Some x) × (Contains order k → ⊥) × IsStuck (places_graph (map (λ ts. ts.items) targets.now)) (λ k. k < length waiting.items) order)) }
+        (λ x. (k : ℕ) × (k < length waiting.items) × (slice_index_or waiting.items k None ≡ Some x) × (Contains order k → ⊥) × IsStuck (places_graph (map (λ ts. ts.items) targets.now)) (λ k. k < length waiting.items) order)) }
 {
     let mut ready = BinaryHeap::new(alloc);
     for index in 0..indegrees.len() {

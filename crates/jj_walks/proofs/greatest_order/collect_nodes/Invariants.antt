@@ -29,12 +29,12 @@ invariant-loop-node-2 g l = record {
   callable : goal.N-IsAlwaysCallable g l.neighbors_fn;
   lists : AlwaysReturns g.N.FnMut (λ a r. IfOk r (IsFiniteIterable g.NI.IntoIterator.into_iter_gives g.NI.IntoIter.Iterator.can_next g.NI.IntoIter.Iterator.remaining)) l.neighbors_fn;
   collecting : (xs given : List g.row.T.Denot) × DrainsTo g.II.IntoIterator.into_iter_gives g.II.IntoIter.Iterator.next_gives l.fn.start xs
-    × (l.nodes.items ≡ map (λ x. Some x) given) × (length l.neighbor_ids.items ≡ length given)
-    × ((i : g.row.ID.Denot) (k : ℕ) → get g.ID.PartialEq.eq l.index_of i ≡ Some k → k < length given)
-    × ((walk : Numbered g.row.T.Denot g.row.ID.Denot) (items : FailingGraph g.row.E.Denot)
+      × (l.nodes.items ≡ map (λ x. Some x) given) × (length l.neighbor_ids.items ≡ length given)
+      × ((i : g.row.ID.Denot) (k : ℕ) → get g.ID.PartialEq.eq l.index_of i ≡ Some k → k < length given)
+      × ((walk : Numbered g.row.T.Denot g.row.ID.Denot) (items : FailingGraph g.row.E.Denot)
       → ShowsLists walk items g.ID.PartialEq.eq g.F.Fn g.N.FnMut g.NI.IntoIterator.into_iter_gives g.NI.IntoIter.Iterator.next_gives l.id_fn l.fn.neighbors_fn → AreNodes walk (map walk.node xs)
       → ShowsLists walk items g.ID.PartialEq.eq g.F.Fn g.N.FnMut g.NI.IntoIterator.into_iter_gives g.NI.IntoIter.Iterator.next_gives l.id_fn l.neighbors_fn
-        × IsCollecting walk items (map walk.node xs) (get g.ID.PartialEq.eq l.index_of) l.stack.items given (map (λ v. v.items) l.neighbor_ids.items));
+      × IsCollecting walk items (map walk.node xs) (get g.ID.PartialEq.eq l.index_of) l.stack.items given (map (λ v. v.items) l.neighbor_ids.items));
 }
 
 abbrev pub decreases-loop-node-2 : goal.decreases-loop-node-2

@@ -14,7 +14,7 @@ abbrev pub invariant-loop-node : goal.invariant-loop-node
 invariant-loop-node g l = record {
   heap_order : IsHeap (λ x y. ordering_then (g.T.Ord.cmp x.0 y.0) (nat_cmp x.1 y.1)) (heap_items l.ready);
   taking : (order : List ℕ) × (live : List (List ℕ)) × (map (λ x. Some x) l.order.items ≡ map (λ k. get_or l.fn.waiting.items k None) order)
-    × IsTaking g.T.Ord.cmp l.fn.waiting.items (map (λ ts. ts.items) l.targets) l.waiting.items l.indegrees.items [] live order (heap_items l.ready);
+      × IsTaking g.T.Ord.cmp l.fn.waiting.items (map (λ ts. ts.items) l.targets) l.waiting.items l.indegrees.items [] live order (heap_items l.ready);
 }
 
 abbrev pub decreases-loop-node : goal.decreases-loop-node
@@ -25,7 +25,7 @@ invariant-loop-target g l = record {
   heap_order : IsHeap (λ x y. ordering_then (g.T.Ord.cmp x.0 y.0) (nat_cmp x.1 y.1)) (heap_items l.ready);
   list : l.target-items ≡ get_or (map (λ ts. ts.items) l.targets) l.index [];
   taking : (order : List ℕ) × (live : List (List ℕ)) × (map (λ x. Some x) l.order.items ≡ map (λ k. get_or l.fn.waiting.items k None) order)
-    × IsTaking g.T.Ord.cmp l.fn.waiting.items (map (λ ts. ts.items) l.targets) l.waiting.items l.indegrees.items (drop l.target-index l.target-items) live order (heap_items l.ready);
+      × IsTaking g.T.Ord.cmp l.fn.waiting.items (map (λ ts. ts.items) l.targets) l.waiting.items l.indegrees.items (drop l.target-index l.target-items) live order (heap_items l.ready);
 }
 
 abbrev pub invariant-loop-left : goal.invariant-loop-left

@@ -29,7 +29,7 @@ take_greatest_first-requires-clause-within g c =
     let p = c.in_ok-found.ensures.collected in
     let find = get g.ID.PartialEq.eq c.in_ok-found.found.index_of in
     let linked : map (λ v. v.items) c.deref-2.result.now ≡ map (λ is. filter_map find is) (map (λ v. v.items) c.in_ok-found.found.neighbor_ids.items) =
-        ap (map (λ v. v.items)) c.deref-2.ensures.value ∙ c.in_ok-targets.ensures.targets ∙ ap (map (λ v. filter_map find v.items)) c.deref.ensures.value ∙ sym (map_twice (λ is. filter_map find is) (λ v. v.items) c.in_ok-found.found.neighbor_ids.items) in
+    ap (map (λ v. v.items)) c.deref-2.ensures.value ∙ c.in_ok-targets.ensures.targets ∙ ap (map (λ v. filter_map find v.items)) c.deref.ensures.value ∙ sym (map_twice (λ is. filter_map find is) (λ v. v.items) c.in_ok-found.found.neighbor_ids.items) in
     rw (p.3, length-map p.1) (linked_within find (map (λ v. v.items) c.in_ok-found.found.neighbor_ids.items) _ (length p.1) linked p.5)
 
 pub take_greatest_first-requires-clause-indegrees : goal.take_greatest_first-requires-clause-indegrees
@@ -46,13 +46,21 @@ returns-in-Some-clause-node g c =
     let find = get g.ID.PartialEq.eq c.in_ok-found.found.index_of in
     let ids = map (λ v. v.items) c.in_ok-found.found.neighbor_ids.items in
     let linked : map (λ v. v.items) c.deref-2.result.now ≡ map (λ is. filter_map find is) ids =
-        ap (map (λ v. v.items)) c.deref-2.ensures.value ∙ c.in_ok-targets.ensures.targets ∙ ap (map (λ v. filter_map find v.items)) c.deref.ensures.value ∙ sym (map_twice (λ is. filter_map find is) (λ v. v.items) c.in_ok-found.found.neighbor_ids.items) in
+    ap (map (λ v. v.items)) c.deref-2.ensures.value ∙ c.in_ok-targets.ensures.targets ∙ ap (map (λ v. filter_map find v.items)) c.deref.ensures.value ∙ sym (map_twice (λ is. filter_map find is) (λ v. v.items) c.in_ok-found.found.neighbor_ids.items) in
     let sizes : length ids ≡ length p.1 = length-map c.in_ok-found.found.neighbor_ids.items (λ v. v.items) ∙ p.4 in
-    let left = rw (c.in-Some.is, p.3) at q.3 in
-    (p.0, p.2, inr (c.in-Some.node, c.cycle_fn.ensures, λ walk items shown nodes.
-      let collected = p.6 walk items shown nodes in
-      (place_reached walk items g.T.Ord.cmp (map walk.node p.0) find p.1 ids (map (λ v. v.items) c.deref-2.result.now) shown.sound_graph shown.closed nodes collected sizes linked p.5 left.0 c.in-Some.node left.2 left.1,
-        cycle_is walk items g.T.Ord.cmp (map walk.node p.0) find p.1 ids (map (λ v. v.items) c.deref-2.result.now) shown.sound_graph shown.closed nodes collected sizes linked p.5 q.0 left.0 left.1 left.3 left.4)))
+    let left = rw (c.in-Some.is, p.3) at q.3 in (
+      p.0,
+      p.2,
+      inr (
+        c.in-Some.node,
+        c.cycle_fn.ensures,
+        λ walk items shown nodes.
+            let collected = p.6 walk items shown nodes in (
+              place_reached walk items g.T.Ord.cmp (map walk.node p.0) find p.1 ids (map (λ v. v.items) c.deref-2.result.now) shown.sound_graph shown.closed nodes collected sizes linked p.5 left.0 c.in-Some.node left.2 left.1,
+              cycle_is walk items g.T.Ord.cmp (map walk.node p.0) find p.1 ids (map (λ v. v.items) c.deref-2.result.now) shown.sound_graph shown.closed nodes collected sizes linked p.5 q.0 left.0 left.1 left.3 left.4,
+            ),
+      ),
+    )
 
 pub returns-in-None-clause-order : goal.returns-in-None-clause-order
 returns-in-None-clause-order g c =
@@ -61,11 +69,14 @@ returns-in-None-clause-order g c =
     let find = get g.ID.PartialEq.eq c.in_ok-found.found.index_of in
     let ids = map (λ v. v.items) c.in_ok-found.found.neighbor_ids.items in
     let linked : map (λ v. v.items) c.deref-2.result.now ≡ map (λ is. filter_map find is) ids =
-        ap (map (λ v. v.items)) c.deref-2.ensures.value ∙ c.in_ok-targets.ensures.targets ∙ ap (map (λ v. filter_map find v.items)) c.deref.ensures.value ∙ sym (map_twice (λ is. filter_map find is) (λ v. v.items) c.in_ok-found.found.neighbor_ids.items) in
+    ap (map (λ v. v.items)) c.deref-2.ensures.value ∙ c.in_ok-targets.ensures.targets ∙ ap (map (λ v. filter_map find v.items)) c.deref.ensures.value ∙ sym (map_twice (λ is. filter_map find is) (λ v. v.items) c.in_ok-found.found.neighbor_ids.items) in
     let sizes : length ids ≡ length p.1 = length-map c.in_ok-found.found.neighbor_ids.items (λ v. v.items) ∙ p.4 in
     let takes = rw (p.3) at q.2 in
-    let all = rw (c.in-None.is, p.3) at q.3 in
-    (p.0, p.2, λ walk items shown nodes.
-      let collected = p.6 walk items shown nodes in
-      let o = order_is walk items g.T.Ord.cmp (map walk.node p.0) find p.1 ids (map (λ v. v.items) c.deref-2.result.now) shown.sound_graph shown.closed nodes collected sizes linked p.5 q.0 takes c.in_ok-order.order.items (rw (p.3) at q.1) all in
-      (o.0, o.1, nothing_failed walk items g.T.Ord.cmp (map walk.node p.0) find p.1 ids (map (λ v. v.items) c.deref-2.result.now) shown.sound_graph shown.closed nodes collected sizes linked p.5, o.2))
+    let all = rw (c.in-None.is, p.3) at q.3 in (
+      p.0,
+      p.2,
+      λ walk items shown nodes.
+          let collected = p.6 walk items shown nodes in
+          let o = order_is walk items g.T.Ord.cmp (map walk.node p.0) find p.1 ids (map (λ v. v.items) c.deref-2.result.now) shown.sound_graph shown.closed nodes collected sizes linked p.5 q.0 takes c.in_ok-order.order.items (rw (p.3) at q.1) all in
+          (o.0, o.1, nothing_failed walk items g.T.Ord.cmp (map walk.node p.0) find p.1 ids (map (λ v. v.items) c.deref-2.result.now) shown.sound_graph shown.closed nodes collected sizes linked p.5, o.2),
+    )
