@@ -44,6 +44,15 @@ pub sound_items-ok : {T : Type 0} (E : Type 0) (node : T → ℕ) (xs : List T) 
 sound_items-ok E node [] = refl
 sound_items-ok E node (x ∷ xs) = ap (λ l. node x ∷ l) (sound_items-ok E node xs)
 
+pub sound_items-nodes : {T : Type 0} (E : Type 0) (node : T → ℕ) (xs : List T) → sound_items {E = E} (map (λ x. Ok (node x)) xs) ≡ map node xs
+sound_items-nodes E node [] = refl
+sound_items-nodes E node (x ∷ xs) = ap (λ l. node x ∷ l) (sound_items-nodes E node xs)
+
+pub failed_list : {E : Type 0} (items : List (Result ℕ E)) (e : E) → items ≡ Err e ∷ [] → Contains items (Err e)
+failed_list {E} items e same =
+    let one : Contains {X = Result ℕ E} (Err e ∷ []) (Err e) = (0, omega arith, refl) in
+    subst (λ (l : List (Result ℕ E)). Contains l (Err e)) (sym same) one
+
 pub none_of_ok : {T E : Type 0} (node : T → ℕ) (xs : List T) (e : E) → Contains (map (number_item node) (map (λ x. Ok x) xs)) (Err e) → ⊥
 none_of_ok node [] e (k, lt, same) = absurd (omega arith)
 none_of_ok node (x ∷ xs) e (zero, lt, same) = cc

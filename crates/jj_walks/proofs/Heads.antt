@@ -8,9 +8,10 @@ use Rattle.std.proofs.lemmas.List.Folds.{list_any_at}
 use Rattle.std.proofs.lemmas.List.Sorted.{Contains-permutation, IsPermutation-sym}
 use Rattle.std.proofs.lemmas.List.Elements.{Contains-append_left, Contains-append_right, Contains-append_cases, Contains-push, Contains-push_cases}
 use Rattle.std.proofs.lemmas.Map.Keys.{IsDistinct-tail, IsDistinct-head, IsDistinct-cons}
-use Rattle.jj_walks.specs.Graph.{Graph, HasEdge, HasNoCycle, IsMaximal, IsMaximalIn}
+use Rattle.jj_walks.specs.Graph.{Graph, HasEdge, ReachedFrom, HasNoCycle, IsMaximal, IsMaximalIn}
 use Rattle.jj_walks.specs.Walk.{Numbered, AreNodes, StandsForNodes}
 use Rattle.jj_walks.proofs.Walking.{has, has-push, has-from_Contains, Contains-from_has, eqb-flip, numbers, numbers-push}
+use Rattle.jj_walks.proofs.Reaching.{ReachedFrom-edge}
 use Rattle.jj_walks.proofs.Searching.{Seen, IsSearching, search_met, search_asked, search_maximal, met_not_maximal}
 
 -- ---- lists
@@ -46,6 +47,16 @@ Contains-put old new k true moved x h =
     only (zero, lt, e) = e
     only (suc n, lt, e) = absurd (omega arith)
 Contains-put {K} old new k false same x h = inl (subst (λ (l : List K). Contains l x) same h)
+
+pub none_contained : {T : Type 0} (xs : List T) → xs ≡ [] → (x : T) → Contains xs x → ⊥
+none_contained [] same x (k, lt, e) = omega arith
+none_contained (y ∷ xs) same x h = cc
+
+-- one more start waits
+pub start_waits : {T : Type 0} (ys old new : List T) (x y : T) → new ≡ old ++ y ∷ [] → y ≡ x → ((b : T) → Contains old b → Contains ys b) → (b : T) → Contains new b → Contains (ys ++ x ∷ []) b
+start_waits {T} ys old new x y more copy before b h =
+    ⊎_elim (λ o. Contains-append_left ys (x ∷ []) b (before b o)) (λ same. subst (λ (z : T). Contains (ys ++ x ∷ []) z) (sym copy ∙ same) (Contains-push ys x))
+    (Contains-push_cases old y b (subst (λ (l : List T). Contains l b) more h))
 
 has-again : (xs : List ℕ) (a : ℕ) → has xs a ≡ true → (b : ℕ) → has (xs ++ a ∷ []) b ≡ has xs b
 has-again xs a seen b =
@@ -293,6 +304,39 @@ module _ {T ID : Type 0} (w : Numbered T ID) where
   no_root_waits items false none a h = refl
   no_root_waits [] true none a (k, lt, e) = absurd (omega arith)
   no_root_waits (x ∷ items) true none a h = let same : x ∷ items ≡ [] = none refl in cc
+
+  -- ---- the nodes that wait are reached
+
+  pub starts_reached : (xs waiting : List T) → AreNodes w (numbers w xs) → ((b : T) → Contains waiting b → Contains xs b)
+      → (a : ℕ) → Contains (numbers w waiting) a → (w.is_node a ≡ true) × ReachedFrom w.graph (numbers w xs) a
+  starts_reached xs waiting nodes among a h =
+      let x = Contains-from_map w.node waiting a h in
+      let at : Contains (numbers w xs) a = subst (λ (n : ℕ). Contains (numbers w xs) n) x.2 (Contains-map w.node xs x.0 (among x.0 x.1)) in
+      (nodes a at, (a, at, (0, refl)))
+
+  pub still_reached : (starts : List ℕ) (n : T) (rest waiting below : List T) → ((b : T) → Contains waiting b → Contains rest b ⊎ Contains below b) → numbers w below ≡ w.graph (w.node n)
+      → ((a : ℕ) → w.is_node a ≡ true → AreNodes w (w.graph a))
+      → ((a : ℕ) → Contains (w.node n ∷ numbers w rest) a → (w.is_node a ≡ true) × ReachedFrom w.graph starts a)
+      → (a : ℕ) → Contains (numbers w waiting) a → (w.is_node a ≡ true) × ReachedFrom w.graph starts a
+  still_reached starts n rest waiting below adds listed closed before a h =
+      let x = Contains-from_map w.node waiting a h in
+      let here = before (w.node n) (0, omega arith, refl) in
+      let P : ℕ → Type 0 = λ m. (w.is_node m ≡ true) × ReachedFrom w.graph starts m in
+      subst P x.2 (⊎_elim (λ old. before (w.node x.0) (Contains-append_right (w.node n ∷ []) (numbers w rest) (w.node x.0) (Contains-map w.node rest x.0 old)))
+      (λ new.
+      let edge : HasEdge w.graph (w.node n) (w.node x.0) = subst (λ (l : List ℕ). Contains l (w.node x.0)) listed (Contains-map w.node below x.0 new) in
+      (closed (w.node n) here.0 (w.node x.0) edge, ReachedFrom-edge w.graph starts (w.node n) (w.node x.0) here.1 edge))
+      (adds x.0 x.1))
+
+pub adds_one : {T : Type 0} (known : Bool) (old new : List T) (y : T) → (known ≡ true → new ≡ old) → (known ≡ false → new ≡ old ++ y ∷ []) → (b : T) → Contains new b → Contains old b ⊎ (y ≡ b)
+adds_one {T} true old new y same more b h = inl (subst (λ (l : List T). Contains l b) (same refl) h)
+adds_one {T} false old new y same more b h = Contains-push_cases old y b (subst (λ (l : List T). Contains l b) (more refl) h)
+
+-- a list of starts or neighbours with one more
+pub adds_more : {T : Type 0} (first ys old new : List T) (y : T) → ((b : T) → Contains old b → Contains first b ⊎ Contains ys b) → ((b : T) → Contains new b → Contains old b ⊎ (y ≡ b))
+    → (b : T) → Contains new b → Contains first b ⊎ Contains (ys ++ y ∷ []) b
+adds_more {T} first ys old new y before one b h =
+    ⊎_elim (λ o. ⊎_elim (λ l. inl l) (λ r. inr (Contains-append_left ys (y ∷ []) b r)) (before b o)) (λ same. inr (subst (λ (z : T). Contains (ys ++ y ∷ []) z) same (Contains-push ys y))) (one b h)
 
 pub neither : (a b : Bool) → (a || b) ≡ false → (a ≡ false) × (b ≡ false)
 neither true b e = absurd (true≢false e)

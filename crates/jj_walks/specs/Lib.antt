@@ -5,5 +5,4 @@ pub mod Failing
 pub mod Errors
 pub mod DfsOkSteps
 pub mod ReadyNodes
-pub mod FailingLists
 pub mod Collecting

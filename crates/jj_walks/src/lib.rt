@@ -8,6 +8,8 @@ mod depth_first_ok;
 pub mod graph;
 mod greatest_order;
 mod maximal;
+mod maximal_lists;
+mod maximal_ok;
 mod topo_order;
 mod topo_order_ok;
 mod walk_error;

@@ -2,8 +2,7 @@ use Rattle.std.proofs.Common.{◌≡◌, ℕ, ◌<◌, Some, IfOk, List, [], ◌
 use Rattle.std.specs.Fn.{AlwaysReturns, FnReturnsAt}
 use Rattle.std.specs.Iterator.{IsFiniteIterable}
 use Rattle.std.specs.HashMap.{get}
-use Rattle.jj_walks.specs.Failing.{FailingGraph}
-use Rattle.jj_walks.specs.FailingLists.{ShowsLists}
+use Rattle.jj_walks.specs.Failing.{FailingGraph, ShowsLists}
 use Rattle.jj_walks.specs.Collecting.{IsCollecting}
 use Rattle.jj_walks.specs.Walk.{Numbered, AreNodes, DrainsTo}
 use Rattle.jj_walks.proofs.Walking.{left}

@@ -1,0 +1,82 @@
+//! The maximal nodes of a set, over items that may fail.
+ghost use Rattle.std.specs.Prelude.{◌≡◌, ◌⊎◌, ◌++◌, ◌∷◌, [], IfOk, IfErr, List, map};
+ghost use Rattle.std.specs.Fn.{AlwaysReturns};
+ghost use Rattle.std.specs.Iterator.{IsFiniteIterable};
+ghost use Rattle.jj_walks.specs.Graph.{HasNoCycle, IsMaximalIn};
+ghost use Rattle.jj_walks.specs.Failing.{FailingGraph, ShowsItems, ReachesFailure, BeginsWith};
+ghost use Rattle.jj_walks.specs.Walk.{Numbered, AreNodes, DrainsTo, StandsForNodes};
+ghost use Rattle.jj_walks.specs.Errors.{IfNode};
+
+use crate::maximal::{meet, next_to_ask};
+use crate::walk_error::WalkError;
+use std::alloc::Global;
+use std::collections::{HashSet, VecDeque};
+use std::hash::Hash;
+
+/// `heads` over items that may fail: `Node` of the first failed item that is met. Failed items below the place where the
+/// walk ends early are not met.
+pub fn heads_ok<T, ID, E, II, NI, F, N>(
+    alloc: Global,
+    start: II,
+    id_fn: F,
+    mut neighbors_fn: N,
+) -> Result<HashSet<T>, WalkError<E>>
+where
+    T: Hash + Eq + Clone + Drop,
+    ID: Hash + Eq + Drop,
+    E: Drop,
+    II: IntoIterator<Item = Result<T, E>> + Drop,
+    II::IntoIter: Drop,
+    NI: IntoIterator<Item = Result<T, E>>,
+    NI::IntoIter: Drop,
+    F: Fn(&T) -> ID + Drop,
+    N: FnMut(&T) -> NI + Drop,
+    requires id_fn { F.IsAlwaysCallable id_fn }
+    requires neighbors_fn { N.IsAlwaysCallable neighbors_fn }
+    requires lists { AlwaysReturns N.FnMut (λ a r. IsFiniteIterable NI.into_iter_gives NI.IntoIter.can_next NI.IntoIter.remaining r) neighbors_fn }
+    requires start { IsFiniteIterable II.into_iter_gives II.IntoIter.can_next II.IntoIter.remaining start }
+    requires clones { (x y : T) → T.is_clone x y → y ≡ x }
+    ensures heads { IfOk result (λ s. (xs : List T) × DrainsTo II.into_iter_gives II.IntoIter.next_gives start (map Ok xs)
+        × ((walk : Numbered T ID) (items : FailingGraph E) → ShowsItems walk items ID.eq F.Fn N.FnMut NI.into_iter_gives NI.IntoIter.next_gives id_fn neighbors_fn → AreNodes walk (map walk.node xs)
+        → HasNoCycle walk.graph (map walk.node xs) → StandsForNodes walk T.eq
+        → IsMaximalIn walk.graph (map walk.node xs) (map walk.node s.keys))) }
+    ensures refused { IfErr result (λ e. IfNode e (λ error.
+        ((xs : List T) × BeginsWith II.into_iter_gives II.IntoIter.next_gives start (map Ok xs ++ Err error ∷ []))
+        ⊎ ((xs : List T) × DrainsTo II.into_iter_gives II.IntoIter.next_gives start (map Ok xs)
+        × ((walk : Numbered T ID) (items : FailingGraph E) → ShowsItems walk items ID.eq F.Fn N.FnMut NI.into_iter_gives NI.IntoIter.next_gives id_fn neighbors_fn → AreNodes walk (map walk.node xs)
+        → ReachesFailure items (map walk.node xs) error)))) }
+{
+    let mut heads = HashSet::new(alloc);
+    let mut visited = HashSet::new(alloc);
+    let mut waiting = VecDeque::new(alloc);
+    for item in start {
+        let node = match item {
+            Ok(node) => node,
+            Err(error) => return Err(WalkError::Node(error)),
+        };
+        if heads.contains(&node) {
+            continue;
+        }
+        visited.insert(id_fn(&node))?;
+        waiting.push_back(node.clone()?)?;
+        heads.insert(node)?;
+    }
+    let mut root_met = false;
+    let mut level = 0;
+    while let Some(node) = next_to_ask(&mut waiting, &mut level, root_met) {
+        // A set never holds 2^63 ids, so the walk ends.
+        let _count = visited.len();
+        let mut is_root = true;
+        for neighbor in neighbors_fn(&node) {
+            is_root = false;
+            let neighbor = match neighbor {
+                Ok(neighbor) => neighbor,
+                Err(error) => return Err(WalkError::Node(error)),
+            };
+            let id = id_fn(&neighbor);
+            meet(&mut heads, &mut visited, &mut waiting, neighbor, id)?;
+        }
+        root_met |= is_root;
+    }
+    Ok(heads)
+}
