@@ -20,13 +20,30 @@ const SHARED: Rows<'static> = &[(1, Ok(&[9])), (2, Ok(&[9])), (9, Ok(&[5]))];
 const TWO_ROOTS: Rows<'static> = &[(3, Ok(&[1])), (4, Ok(&[1])), (2, Ok(&[5]))];
 
 /// A node that becomes the greatest once its child is taken.
-const LATE: Rows<'static> = &[(8, Ok(&[20, 1])), (7, Ok(&[3])), (20, Ok(&[2])), (3, Ok(&[2]))];
+const LATE: Rows<'static> = &[
+    (8, Ok(&[20, 1])),
+    (7, Ok(&[3])),
+    (20, Ok(&[2])),
+    (3, Ok(&[2])),
+];
 
 /// A cycle of two, one of itself, and one below a node.
-const CYCLES: Rows<'static> = &[(1, Ok(&[2])), (2, Ok(&[1])), (3, Ok(&[3])), (4, Ok(&[5, 6])), (5, Ok(&[6])), (6, Ok(&[5]))];
+const CYCLES: Rows<'static> = &[
+    (1, Ok(&[2])),
+    (2, Ok(&[1])),
+    (3, Ok(&[3])),
+    (4, Ok(&[5, 6])),
+    (5, Ok(&[6])),
+    (6, Ok(&[5])),
+];
 
 /// The list of 2 fails, and that of 7, which no other node has as a neighbour.
-const FAILING: Rows<'static> = &[(1, Ok(&[2, 3])), (2, Err(102)), (4, Ok(&[3])), (7, Err(107))];
+const FAILING: Rows<'static> = &[
+    (1, Ok(&[2, 3])),
+    (2, Err(102)),
+    (4, Ok(&[3])),
+    (7, Err(107)),
+];
 
 fn neighbors<'a>(rows: Rows<'a>, id: u64) -> Result<&'a [u64], u64> {
     for (row, list) in rows {
@@ -88,7 +105,10 @@ fn refuses_cycles_and_failed_lists(rt: HostRuntime) -> Result<(), Fail> {
     for (rows, start, errors) in cases {
         match greatest(alloc, *rows, *start) {
             Ok(order) => assert!(rt; false, "an order of {} nodes", order.len()),
-            Err(WalkError::Node(error)) => assert!(rt; errors.contains(&error), "the error {error}"),
+            Err(WalkError::Node(error)) => assert!(rt;
+                errors.contains(&error),
+                "the error {error}"
+            ),
             Err(WalkError::Memory) => return Err(WalkError::<u64>::Memory.into()),
         }
     }
