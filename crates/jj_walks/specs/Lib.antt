@@ -4,3 +4,5 @@ pub mod DfsSteps
 pub mod Failing
 pub mod Errors
 pub mod DfsOkSteps
+pub mod ReadyNodes
+pub mod Collecting

@@ -6,6 +6,7 @@ pub mod dag_walk_async;
 mod depth_first;
 mod depth_first_ok;
 pub mod graph;
+mod greatest_order;
 mod maximal;
 mod maximal_lists;
 mod maximal_ok;

@@ -7,3 +7,4 @@ mod maximal;
 mod orders;
 mod shown;
 mod tables;
+mod topo_order_reverse_ord_tests;

@@ -1,0 +1,225 @@
+//! The greatest of the orders in which each node stands before its neighbours.
+ghost use Rattle.std.specs.Prelude.{◌≡◌, ℕ, ◌+◌, ◌<◌, ◌≤◌, ◌∷◌, [], List, map, length, slice_index, slice_index_or, slice_set, IfOk, IfErr, IsSome, OnOk, MatchOption, eqb, ◌⊎◌};
+ghost use Rattle.std.specs.HashMap.{get};
+ghost use Rattle.std.specs.List.{All, Contains, filter_map};
+ghost use Rattle.std.specs.List.Sorted.{IsPermutation};
+ghost use Rattle.std.specs.BinaryHeap.{heap_items, KeepsHeap, HeapUnchanged};
+ghost use Rattle.std.specs.Ordering.{nat_cmp, ordering_then};
+ghost use Rattle.std.specs.Fn.{AlwaysReturns};
+ghost use Rattle.std.specs.Iterator.{IsFiniteIterable};
+ghost use Rattle.jj_walks.specs.Errors.{IfNode};
+ghost use Rattle.jj_walks.specs.Failing.{FailingGraph, HasNoFailure, ReachesFailure, ShowsLists};
+ghost use Rattle.jj_walks.specs.Collecting.{IsCollecting};
+ghost use Rattle.jj_walks.specs.Graph.{HasNoCycle, IsChildFirst, IsGreatestChildFirst, ReachedFrom, ReachesCycle};
+ghost use Rattle.jj_walks.specs.Walk.{Numbered, AreNodes, DrainsTo, IsOrderedLike};
+ghost use Rattle.jj_walks.specs.ReadyNodes.{IsStuck, IsNotBelow, TakesGreatestReady, edges_to, places_graph};
+
+use crate::walk_error::WalkError;
+use std::alloc::{AllocError, Global};
+use std::collections::{BinaryHeap, HashMap};
+use std::hash::Hash;
+use std::mem;
+
+/// The nodes that the starts reach, each before its neighbours: at each place the greatest node whose children stand
+/// before it. A failed list of neighbours gives its error, and where a cycle is reached `cycle_fn` makes the error of a
+/// node on the cycle or below it.
+pub fn topo_order_reverse_ord<T, ID, E, II, NI, F, N, C>(
+    alloc: Global,
+    start: II,
+    id_fn: F,
+    neighbors_fn: N,
+    cycle_fn: C,
+) -> Result<Vec<T>, WalkError<E>>
+where
+    T: Ord + Drop,
+    ID: Hash + Eq + Drop,
+    II: IntoIterator<Item = T>,
+    II::IntoIter: Drop,
+    NI: IntoIterator<Item = T>,
+    NI::IntoIter: Drop,
+    F: Fn(&T) -> ID + Drop,
+    N: FnMut(&T) -> Result<NI, E> + Drop,
+    C: FnOnce(T) -> E + Drop,
+    requires id_fn { F.IsAlwaysCallable id_fn }
+    requires neighbors_fn { N.IsAlwaysCallable neighbors_fn }
+    requires cycle_fn { C.IsAlwaysCallable cycle_fn }
+    requires lists { AlwaysReturns N.FnMut (λ a r. IfOk r (IsFiniteIterable NI.into_iter_gives NI.IntoIter.can_next NI.IntoIter.remaining)) neighbors_fn }
+    requires start { IsFiniteIterable II.into_iter_gives II.IntoIter.can_next II.IntoIter.remaining start }
+    ensures order { IfOk result (λ v. (xs : List T) × DrainsTo II.into_iter_gives II.IntoIter.next_gives start xs
+        × ((walk : Numbered T ID) (items : FailingGraph E) → ShowsLists walk items ID.eq F.Fn N.FnMut NI.into_iter_gives NI.IntoIter.next_gives id_fn neighbors_fn → AreNodes walk (map walk.node xs)
+        → IsChildFirst walk.graph (map walk.node xs) (map walk.node v.items) × HasNoCycle walk.graph (map walk.node xs) × HasNoFailure items (map walk.node xs)
+        × (IsOrderedLike walk T.cmp → IsGreatestChildFirst walk.graph (map walk.node xs) (map walk.node v.items)))) }
+    ensures node { IfErr result (λ e. IfNode e (λ error. (xs : List T) × DrainsTo II.into_iter_gives II.IntoIter.next_gives start xs
+        × (((walk : Numbered T ID) (items : FailingGraph E) → ShowsLists walk items ID.eq F.Fn N.FnMut NI.into_iter_gives NI.IntoIter.next_gives id_fn neighbors_fn → AreNodes walk (map walk.node xs)
+        → ReachesFailure items (map walk.node xs) error)
+        ⊎ ((x : T) × C.post cycle_fn x error
+        × ((walk : Numbered T ID) (items : FailingGraph E) → ShowsLists walk items ID.eq F.Fn N.FnMut NI.into_iter_gives NI.IntoIter.next_gives id_fn neighbors_fn → AreNodes walk (map walk.node xs)
+        → ReachedFrom walk.graph (map walk.node xs) (walk.node x) × ReachesCycle walk.graph (map walk.node xs)))))) }
+{
+    let found = collect_nodes(alloc, start, id_fn, neighbors_fn)?;
+    let (targets, indegrees) = link(alloc, &found.index_of, &found.neighbor_ids)?;
+    let (order, left) = take_greatest_first(alloc, found.nodes, &targets, indegrees)?;
+    match left {
+        Some(node) => Err(WalkError::Node(cycle_fn(node))),
+        None => Ok(order),
+    }
+}
+
+/// Moves the waiting node at the index to those without a child that was not taken.
+fn make_ready<T: Ord + Drop>(
+    waiting: &mut Vec<Option<T>>,
+    ready: &mut BinaryHeap<(T, usize)>,
+    index: usize,
+) -> Result<(), AllocError>
+    requires { index < length waiting.old.items }
+    ensures waiting { OnOk result (waiting.new.items ≡ slice_set waiting.old.items index None) }
+    ensures ready { OnOk result (MatchOption (slice_index_or waiting.old.items index None) (heap_items ready.new ≡ heap_items ready.old) (λ x. IsPermutation ((x, index) ∷ heap_items ready.old) (heap_items ready.new))) }
+    ensures heap_order { OnOk result (KeepsHeap (λ x y. ordering_then (T.cmp x.0 y.0) (nat_cmp x.1 y.1)) (heap_items ready.old) (heap_items ready.new)) }
+{
+    if let Some(node) = mem::replace(&mut waiting[index], None) {
+        ready.push((node, index))?;
+    }
+    Ok(())
+}
+
+/// The nodes that the starts reach, in the order in which they were visited.
+#[derive(Drop)]
+struct Collected<T, ID: Hash + Eq> {
+    nodes: Vec<Option<T>>,
+    neighbor_ids: Vec<Vec<ID>>,
+    index_of: HashMap<ID, usize>,
+}
+
+/// Visits all nodes that the starts reach, the last start and the last neighbour first.
+fn collect_nodes<T, ID, E, II, NI, F, N>(
+    alloc: Global,
+    start: II,
+    id_fn: F,
+    mut neighbors_fn: N,
+) -> Result<Collected<T, ID>, WalkError<E>>
+where
+    T: Drop,
+    ID: Hash + Eq + Drop,
+    II: IntoIterator<Item = T>,
+    II::IntoIter: Drop,
+    NI: IntoIterator<Item = T>,
+    NI::IntoIter: Drop,
+    F: Fn(&T) -> ID + Drop,
+    N: FnMut(&T) -> Result<NI, E> + Drop,
+    requires id_fn { F.IsAlwaysCallable id_fn }
+    requires neighbors_fn { N.IsAlwaysCallable neighbors_fn }
+    requires lists { AlwaysReturns N.FnMut (λ a r. IfOk r (IsFiniteIterable NI.into_iter_gives NI.IntoIter.can_next NI.IntoIter.remaining)) neighbors_fn }
+    requires start { IsFiniteIterable II.into_iter_gives II.IntoIter.can_next II.IntoIter.remaining start }
+    ensures collected { IfOk result (λ found. (xs given : List T) × DrainsTo II.into_iter_gives II.IntoIter.next_gives start xs × (found.nodes.items ≡ map (λ x. Some x) given)
+        × (length found.neighbor_ids.items ≡ length given) × ((i : ID) (k : ℕ) → get ID.eq found.index_of i ≡ Some k → k < length given)
+        × ((walk : Numbered T ID) (items : FailingGraph E) → ShowsLists walk items ID.eq F.Fn N.FnMut NI.into_iter_gives NI.IntoIter.next_gives id_fn neighbors_fn → AreNodes walk (map walk.node xs)
+        → IsCollecting walk items (map walk.node xs) (get ID.eq found.index_of) [] given (map (λ v. v.items) found.neighbor_ids.items))) }
+    ensures failed { IfErr result (λ e. IfNode e (λ error. (xs : List T) × DrainsTo II.into_iter_gives II.IntoIter.next_gives start xs
+        × ((walk : Numbered T ID) (items : FailingGraph E) → ShowsLists walk items ID.eq F.Fn N.FnMut NI.into_iter_gives NI.IntoIter.next_gives id_fn neighbors_fn → AreNodes walk (map walk.node xs)
+        → ReachesFailure items (map walk.node xs) error))) }
+{
+    let mut stack = Vec::new(alloc);
+    for node in start {
+        stack.push(node)?;
+    }
+    let mut nodes = Vec::new(alloc);
+    let mut neighbor_ids = Vec::new(alloc);
+    let mut index_of = HashMap::new(alloc);
+    while let Some(node) = stack.pop() {
+        let id = id_fn(&node);
+        if index_of.contains_key(&id) {
+            continue;
+        }
+        let neighbors = match neighbors_fn(&node) {
+            Ok(neighbors) => neighbors.into_iter(),
+            Err(error) => return Err(WalkError::Node(error)),
+        };
+        let mut ids = Vec::new(alloc);
+        for neighbor in neighbors {
+            ids.push(id_fn(&neighbor))?;
+            stack.push(neighbor)?;
+        }
+        index_of.insert(id, nodes.len())?;
+        nodes.push(Some(node))?;
+        neighbor_ids.push(ids)?;
+    }
+    Ok(Collected {
+        nodes,
+        neighbor_ids,
+        index_of,
+    })
+}
+
+/// The places of the neighbours of each node, and how many edges lead to each place.
+fn link<ID: Hash + Eq + Drop>(
+    alloc: Global,
+    index_of: &HashMap<ID, usize>,
+    neighbor_ids: &[Vec<ID>],
+) -> Result<(Vec<Vec<usize>>, Vec<usize>), AllocError>
+    requires { (i : ID) (k : ℕ) → get ID.eq index_of.now i ≡ Some k → k < length neighbor_ids.now }
+    ensures targets { IfOk result (λ r. map (λ v. v.items) r.0.items ≡ map (λ v. filter_map (get ID.eq index_of.now) v.items) neighbor_ids.now) }
+    ensures counts { IfOk result (λ r. length r.1.items ≡ length neighbor_ids.now) }
+    ensures indegrees { IfOk result (λ r. (k : ℕ) → k < length neighbor_ids.now → slice_index r.1.items k ≡ edges_to (map (λ v. v.items) r.0.items) k) }
+{
+    let mut indegrees: Vec<usize> = vec![in alloc; 0; neighbor_ids.len()]?;
+    let mut targets = Vec::new(alloc);
+    for ids in neighbor_ids {
+        let mut places = Vec::new(alloc);
+        for id in ids {
+            if let Some(place) = index_of.get(id) {
+                let place = *place;
+                // More edges than a `usize` counts do not fit into memory.
+                let Some(count) = indegrees[place].checked_add(1) else {
+                    return Err(AllocError);
+                };
+                indegrees[place] = count;
+                places.push(place)?;
+            }
+        }
+        targets.push(places)?;
+    }
+    Ok((targets, indegrees))
+}
+
+/// Takes the greatest node without a child that was not taken, as long as there is one. Beside the nodes taken stands one
+/// of those left, which all are on or below a cycle.
+fn take_greatest_first<T: Ord + Drop>(
+    alloc: Global,
+    mut waiting: Vec<Option<T>>,
+    targets: &[Vec<usize>],
+    mut indegrees: Vec<usize>,
+) -> Result<(Vec<T>, Option<T>), AllocError>
+    requires present { (k : ℕ) → k < length waiting.items → IsSome (slice_index_or waiting.items k None) }
+    requires lists { length targets.now ≡ length waiting.items }
+    requires counts { length indegrees.items ≡ length waiting.items }
+    requires within { (a b : ℕ) → Contains (places_graph (map (λ ts. ts.items) targets.now) a) b → b < length waiting.items }
+    requires indegrees { (k : ℕ) → k < length waiting.items → slice_index indegrees.items k ≡ edges_to (map (λ ts. ts.items) targets.now) k }
+    ensures { IfOk result (λ r. (order : List ℕ) × (map (λ x. Some x) r.0.items ≡ map (λ k. slice_index_or waiting.items k None) order)
+        × TakesGreatestReady (places_graph (map (λ ts. ts.items) targets.now)) (λ k. k < length waiting.items) (IsNotBelow T.cmp waiting.items) order
+        × MatchOption r.1 ((k : ℕ) → k < length waiting.items → Contains order k)
+        (λ x. (k : ℕ) × (k < length waiting.items) × (slice_index_or waiting.items k None ≡ Some x) × (Contains order k → ⊥) × IsStuck (places_graph (map (λ ts. ts.items) targets.now)) (λ k. k < length waiting.items) order)) }
+{
+    let mut ready = BinaryHeap::new(alloc);
+    for index in 0..indegrees.len() {
+        if indegrees[index] == 0 {
+            make_ready(&mut waiting, &mut ready, index)?;
+        }
+    }
+    let mut order = Vec::new(alloc);
+    while let Some((node, index)) = ready.pop() {
+        order.push(node)?;
+        for target in &targets[index] {
+            let target = *target;
+            indegrees[target] -= 1;
+            if indegrees[target] == 0 {
+                make_ready(&mut waiting, &mut ready, target)?;
+            }
+        }
+    }
+    for left in 0..waiting.len() {
+        if waiting[left].is_some() {
+            return Ok((order, waiting.swap_remove(left)));
+        }
+    }
+    Ok((order, None))
+}

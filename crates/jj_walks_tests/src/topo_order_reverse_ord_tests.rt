@@ -1,0 +1,116 @@
+//! The greatest child-first order of small graphs.
+use jj_walks::dag_walk::WalkError;
+use jj_walks::dag_walk_async::topo_order_reverse_ord;
+use std::alloc::Global;
+use std::test::Fail;
+
+/// Each id with its neighbours, or with the error of their list.
+type Rows<'a> = &'a [(u64, Result<&'a [u64], u64>)];
+
+/// Two chains of which the one with the greater end has the smaller root.
+const TWO_CHAINS: Rows<'static> = &[(1, Ok(&[9])), (5, Ok(&[2]))];
+
+/// The same, with an edge listed twice.
+const EDGE_TWICE: Rows<'static> = &[(1, Ok(&[9, 9])), (5, Ok(&[2]))];
+
+/// Two nodes with one neighbour, which has another.
+const SHARED: Rows<'static> = &[(1, Ok(&[9])), (2, Ok(&[9])), (9, Ok(&[5]))];
+
+/// Two roots under three nodes.
+const TWO_ROOTS: Rows<'static> = &[(3, Ok(&[1])), (4, Ok(&[1])), (2, Ok(&[5]))];
+
+/// A node that becomes the greatest once its child is taken.
+const LATE: Rows<'static> = &[
+    (8, Ok(&[20, 1])),
+    (7, Ok(&[3])),
+    (20, Ok(&[2])),
+    (3, Ok(&[2])),
+];
+
+/// A cycle of two, one of itself, and one below a node.
+const CYCLES: Rows<'static> = &[
+    (1, Ok(&[2])),
+    (2, Ok(&[1])),
+    (3, Ok(&[3])),
+    (4, Ok(&[5, 6])),
+    (5, Ok(&[6])),
+    (6, Ok(&[5])),
+];
+
+/// The list of 2 fails, and that of 7, which no other node has as a neighbour.
+const FAILING: Rows<'static> = &[
+    (1, Ok(&[2, 3])),
+    (2, Err(102)),
+    (4, Ok(&[3])),
+    (7, Err(107)),
+];
+
+fn neighbors<'a>(rows: Rows<'a>, id: u64) -> Result<&'a [u64], u64> {
+    for (row, list) in rows {
+        if *row == id {
+            return *list;
+        }
+    }
+    Ok(&[])
+}
+
+fn greatest(alloc: Global, rows: Rows<'_>, start: &[u64]) -> Result<Vec<u64>, WalkError<u64>> {
+    topo_order_reverse_ord(
+        alloc,
+        start.iter().copied(),
+        |id: &u64| *id,
+        |id: &u64| match neighbors(rows, *id) {
+            Ok(list) => Ok(list.iter().copied()),
+            Err(error) => Err(error),
+        },
+        |id: u64| id,
+    )
+}
+
+#[test]
+fn takes_the_greatest_ready_node(rt: HostRuntime) -> Result<(), Fail> {
+    let alloc = rt.alloc();
+    let cases: &[(Rows<'static>, &[u64], &[u64])] = &[
+        (TWO_CHAINS, &[1, 5], &[5, 2, 1, 9]),
+        (TWO_CHAINS, &[5, 1], &[5, 2, 1, 9]),
+        (TWO_CHAINS, &[1, 1, 5], &[5, 2, 1, 9]),
+        (EDGE_TWICE, &[1, 5], &[5, 2, 1, 9]),
+        (SHARED, &[1, 2], &[2, 1, 9, 5]),
+        (SHARED, &[5, 9, 2, 1], &[2, 1, 9, 5]),
+        (TWO_ROOTS, &[2, 3, 4], &[4, 3, 2, 5, 1]),
+        (LATE, &[7, 8], &[8, 20, 7, 3, 2, 1]),
+        (FAILING, &[4], &[4, 3]),
+        (FAILING, &[], &[]),
+    ];
+    for (rows, start, want) in cases {
+        match greatest(alloc, *rows, *start) {
+            Ok(order) => assert_eq!(rt; order.as_slice(), *want),
+            Err(WalkError::Node(node)) => assert!(rt; false, "an error at {node}"),
+            Err(WalkError::Memory) => return Err(WalkError::<u64>::Memory.into()),
+        }
+    }
+    Ok(())
+}
+
+#[test]
+fn refuses_cycles_and_failed_lists(rt: HostRuntime) -> Result<(), Fail> {
+    let alloc = rt.alloc();
+    let cases: &[(Rows<'static>, &[u64], &[u64])] = &[
+        (CYCLES, &[1], &[1, 2]),
+        (CYCLES, &[3], &[3]),
+        (CYCLES, &[9, 4], &[5, 6]),
+        (FAILING, &[1], &[102]),
+        (FAILING, &[4, 7], &[107]),
+    ];
+    for (rows, start, errors) in cases {
+        match greatest(alloc, *rows, *start) {
+            Ok(order) => assert!(rt; false, "an order of {} nodes", order.len()),
+            Err(WalkError::Node(error)) => assert!(rt;
+                errors.contains(&error),
+                "the error {error}"
+            ),
+            Err(WalkError::Memory) => return Err(WalkError::<u64>::Memory.into()),
+        }
+    }
+    Ok(())
+}
