@@ -22,7 +22,7 @@ use std::mem;
 
 /// The nodes that the starts reach, each before its neighbours: at each place the greatest node whose children stand
 /// before it. A failed list of neighbours gives its error, and where a cycle is reached `cycle_fn` makes the error of a
-/// node on the cycle or below it.
+/// node that the starts reach.
 pub fn topo_order_reverse_ord<T, ID, E, II, NI, F, N, C>(
     alloc: Global,
     start: II,
