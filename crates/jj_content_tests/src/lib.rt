@@ -1,0 +1,12 @@
+//! Tests of jj_content over its public calls.
+#![tactic(auto)]
+
+#[cfg(test)]
+mod blake2b;
+#[cfg(test)]
+mod content;
+#[cfg(test)]
+mod json;
+#[cfg(test)]
+mod known_answers;
+pub mod records;
