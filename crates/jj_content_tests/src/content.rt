@@ -3,58 +3,12 @@
 // In a run in which one request for memory is refused, a call answers that or the right value, and is
 // then made once more, when there is memory.
 use crate::known_answers::OF_RECORD;
+use crate::recorder::{assert_content, digest_of};
 use crate::records::{Foo, GenericFoo, Kind, Maybe, Quadruple, Single, Triple};
 use jj_content::blake2b::Blake2b512;
-use jj_content::content_hash::{ContentHash, DigestUpdate, blake2b_hash, content_decides};
+use jj_content::content_hash::{DigestUpdate, content_decides};
 use std::alloc::{AllocError, Global};
-use std::collections::BTreeMap;
-use std::process::Abort;
 use std::test::Fail;
-
-// What was taken in, of which the first 64 bytes are kept.
-#[derive(Clone, Copy, Debug, PartialEq, Eq)]
-struct Recorder {
-    bytes: [u8; 64],
-    len: usize,
-}
-
-impl DigestUpdate for Recorder {
-    ghost use Rattle.std.specs.Prelude.{⊤};
-    ghost use Rattle.jj_content.specs.Content.{Takes};
-
-    ghost stands_for = { λ _ _. ⊤ };
-
-    fn update(&mut self, bytes: &[u8]) {
-        for byte in bytes {
-            if self.len < 64 {
-                self.bytes[self.len] = *byte;
-                self.len += 1;
-            }
-        }
-    }
-}
-
-// Asserts that these are a value's content bytes, and that a refused call has appended a beginning of them.
-fn assert_content<T: ContentHash, R: Abort>(rt: &R, alloc: Global, value: &T, content: &[u8]) {
-    let blank = Recorder {
-        bytes: [0; 64],
-        len: 0,
-    };
-    let mut first = blank;
-    let mut second = blank;
-    if value.hash(alloc, &mut first).is_err() {
-        assert!(rt; first.len <= content.len() && first.len <= 64);
-        assert_eq!(rt; &first.bytes[..first.len], &content[..first.len]);
-        assert!(rt; value.hash(alloc, &mut second).is_ok());
-        first = second;
-    }
-    assert!(rt; first.len == content.len() && first.len <= 64);
-    assert_eq!(rt; &first.bytes[..first.len], content);
-}
-
-fn digest_of<T: ContentHash>(alloc: Global, value: &T) -> Result<[u8; 64], AllocError> {
-    blake2b_hash(alloc, value).or_else(|_| blake2b_hash(alloc, value))
-}
 
 fn foo(alloc: Global) -> Result<Foo, AllocError> {
     Ok(Foo {
@@ -239,31 +193,5 @@ fn record_vector(rt: HostRuntime) -> Result<(), Fail> {
         y: 17i64,
     };
     assert_eq!(rt; digest_of(alloc, &generic)?, OF_RECORD);
-    Ok(())
-}
-
-fn text(alloc: Global, value: &str) -> Result<String, AllocError> {
-    String::from_str(alloc, value).or_else(|_| String::from_str(alloc, value))
-}
-
-fn ordered_map(alloc: Global, entries: &[(u8, u8)]) -> Result<BTreeMap<u8, u8>, AllocError> {
-    let mut map = BTreeMap::new(alloc);
-    for (key, value) in entries {
-        map.insert(*key, *value)?;
-    }
-    Ok(map)
-}
-
-#[test]
-fn ordered_maps(rt: HostRuntime) -> Result<(), Fail> {
-    let alloc = rt.alloc();
-    let entries = [(9, 1), (2, 5), (7, 3)];
-    let map = ordered_map(alloc, &entries).or_else(|_| ordered_map(alloc, &entries))?;
-    assert_content(
-        &rt,
-        alloc,
-        &map,
-        b"\x03\x00\x00\x00\x00\x00\x00\x00\x02\x05\x07\x03\x09\x01",
-    );
     Ok(())
 }

@@ -9,4 +9,8 @@ mod content;
 mod json;
 #[cfg(test)]
 mod known_answers;
+#[cfg(test)]
+mod maps;
+#[cfg(test)]
+mod recorder;
 pub mod records;
