@@ -1,6 +1,6 @@
 -- What a state took in, over calls one after another.
-use Rattle.std.proofs.Common.{◌≡◌, ℕ, List, [], ◌∷◌, ◌++◌, ◌+◌, ◌<◌, length, take, drop, get_or, sym, ap, ◌∙◌, subst, Result, Ok, Err, OnErr}
-use Rattle.std.proofs.lemmas.List.{append_assoc, append-nil, take_more, take-append-drop}
+use Rattle.std.proofs.Common.{◌≡◌, ℕ, List, [], ◌∷◌, ◌++◌, ◌+◌, ◌<◌, length, take, drop, map, get_or, sym, ap, ◌∙◌, subst, Result, Ok, Err, OnErr}
+use Rattle.std.proofs.lemmas.List.{append_assoc, append-nil, take_more, take-append-drop, map-append}
 use Rattle.std.proofs.lemmas.Grind.{flat_map-append}
 use Rattle.std.specs.List.{flat_map}
 use Rattle.jj_content.specs.Content.{Takes, TakesFront}
@@ -9,6 +9,17 @@ use Rattle.jj_content.specs.Content.{Takes, TakesFront}
 pub on_err_from : {T E P : Type 0} (r : Result T E) → P → OnErr r P
 on_err_from (Ok x) p = tt
 on_err_from (Err e) p = p
+
+-- the items seen so far, where the one at i is next
+module _ {A X : Type 0} (shows : A → X) (xs : List A) (i : ℕ) (x : A) (lt : i < length xs) (at : x ≡ get_or xs i x) where
+  pub shown_more : map shows (take (i + 1) xs) ≡ map shows (take i xs) ++ shows x ∷ []
+  shown_more = ap (map shows) (take_more xs i x lt ∙ ap (λ y. take i xs ++ y ∷ []) (sym at)) ∙ map-append shows (take i xs) (x ∷ [])
+
+  pub shown_whole : map shows (take i xs) ++ (shows x ∷ map shows (drop (i + 1) xs)) ≡ map shows xs
+  shown_whole =
+      sym (append_assoc (map shows (take i xs)) (shows x ∷ []) (map shows (drop (i + 1) xs)))
+      ∙ ap (λ z. z ++ map shows (drop (i + 1) xs)) (sym shown_more)
+      ∙ sym (map-append shows (take (i + 1) xs) (drop (i + 1) xs)) ∙ ap (map shows) (take-append-drop (i + 1) xs)
 
 module _ {D : Type 0} (stands_for : D → List ℕ → Type 0) where
   -- a beginning of the first part is one of the whole

@@ -1,16 +1,22 @@
 //! Content bytes of values, fed to a digest.
-ghost use Rattle.std.specs.Prelude.{◌≡◌, ℕ, ◌<◌, ◌^◌, ◌++◌, List, [], ◌∷◌, length, OnOk, OnErr, IfOk, ⊤, FitsSigned, IsPermutation, IsSortedByKey, map, ◌↔◌, true};
+ghost use Rattle.std.specs.Prelude.{◌≡◌, ℕ, ◌<◌, ◌^◌, ◌++◌, List, [], ◌∷◌, length, OnOk, OnErr, IfOk, ⊤, FitsSigned, ◌↔◌, true};
+ghost use Rattle.std.specs.Prelude.{map as map_of};
+ghost use Rattle.std.specs.Map.Iter.{deref, deref_pair};
+ghost use Rattle.std.specs.HashMap.{IsUnique};
+ghost use Rattle.std.specs.HashSet.{IsUnique as HasUniqueKeys};
+ghost use Rattle.std.specs.Ordering.{on};
 ghost use Rattle.jj_content.specs.Blake2b.{blake2b};
 ghost use Rattle.jj_content.specs.Blake2bState.{Holds};
 ghost use Rattle.std.specs.Int.{w32, w64};
 ghost use Rattle.std.specs.String.{string_bytes};
-ghost use Rattle.jj_content.specs.Content.{Takes, TakesFront, IsLawful, AreValues, IsOptionOf, bool_content, u32_content, u64_content, i32_content, i64_content, list_content, text_content, option_content, entry_content};
+ghost use Rattle.jj_content.specs.Content.{Takes, TakesFront, IsLawful, AreValues, IsOptionOf, bool_content, u32_content, u64_content, i32_content, i64_content, list_content, text_content, option_content, entry_content, in_order, map_content, set_content};
 ghost use Rattle.jj_content.specs.Lawful.{unit_lawful, bool_lawful, u8_lawful, u32_lawful, u64_lawful, i32_lawful, i64_lawful, text_lawful, list_lawful, option_lawful, on_lawful, both_lawful};
+ghost use Rattle.jj_content.specs.Tables.{hash_map_lawful, hash_set_lawful};
 
 use crate::blake2b::Blake2b512;
 pub use crate::to_json::{ToJson, ToJsonError};
 use std::alloc::{AllocError, Global};
-use std::collections::BTreeMap;
+use std::collections::{BTreeMap, HashMap, HashSet};
 
 /// A state that takes in bytes, as a digest does.
 pub trait DigestUpdate {
@@ -262,6 +268,114 @@ impl<K: ContentHash + Ord, V: ContentHash> ContentHash for BTreeMap<K, V> {
             hash_entry(alloc, key, value, state)?;
         }
         Ok(())
+    }
+}
+
+// The entries of a hashed map, by reference.
+fn pairs_of<K: Eq + std::hash::Hash, V>(
+    alloc: Global,
+    map: &HashMap<K, V>,
+) -> Result<Vec<(&K, &V)>, AllocError>
+    ensures pairs { IfOk result (λ pairs. map_of deref_pair pairs.items ≡ map.now.entries) }
+    ensures unique { IsUnique K.eq map.now }
+{
+    map.iter().collect(alloc)
+}
+
+// The entries of a hashed map, by reference and in key order.
+fn sorted_pairs<K: Ord + std::hash::Hash, V>(
+    alloc: Global,
+    map: &HashMap<K, V>,
+) -> Result<Vec<(&K, &V)>, AllocError>
+    ensures pairs { IfOk result (λ pairs. map_of deref_pair pairs.items ≡ in_order (on (λ e. e.0) K.cmp) map.now.entries) }
+    ensures unique { IsUnique K.eq map.now }
+{
+    let mut pairs = pairs_of(alloc, map)?;
+    pairs.sort_unstable_by_key(|pair| pair.0);
+    Ok(pairs)
+}
+
+#[tactic(auto, unfolding(crate::specs::Content::list_content, crate::specs::Content::u64_content))]
+fn hash_pairs<K: ContentHash, V: ContentHash, D: DigestUpdate>(
+    alloc: Global,
+    pairs: &[(&K, &V)],
+    state: &mut D,
+) -> Result<(), AllocError>
+    ensures ok { OnOk result (Takes D.stands_for state.old state.new (list_content (entry_content K.content V.content) (map_of deref_pair pairs.now))) }
+    ensures value { OnOk result (AreValues (λ e. K.is_value e.0 × V.is_value e.1) (map_of deref_pair pairs.now)) }
+    ensures err { OnErr result (TakesFront D.stands_for state.old state.new (list_content (entry_content K.content V.content) (map_of deref_pair pairs.now))) }
+{
+    state.update(&(pairs.len() as u64).to_le_bytes());
+    for pair in pairs {
+        hash_entry(alloc, pair.0, pair.1, state)?;
+    }
+    Ok(())
+}
+
+impl<K: ContentHash + Ord + std::hash::Hash, V: ContentHash> ContentHash for HashMap<K, V> {
+    ghost is_value = { λ m. IsUnique K.eq m × AreValues (λ e. K.is_value e.0 × V.is_value e.1) m.entries };
+
+    ghost content = { λ m. map_content K.cmp K.content V.content m.entries };
+
+    ghost lawful = { hash_map_lawful K.total K.Eq.laws K.matches_eq K.lawful V.lawful };
+
+    fn hash<D: DigestUpdate>(&self, alloc: Global, state: &mut D) -> Result<(), AllocError> {
+        let pairs = sorted_pairs(alloc, self)?;
+        hash_pairs(alloc, pairs.as_slice(), state)
+    }
+}
+
+// The members of a hashed set, by reference.
+fn members_of<K: Eq + std::hash::Hash>(
+    alloc: Global,
+    set: &HashSet<K>,
+) -> Result<Vec<&K>, AllocError>
+    ensures members { IfOk result (λ members. map_of deref members.items ≡ set.now.keys) }
+    ensures unique { HasUniqueKeys K.eq set.now }
+{
+    set.iter().collect(alloc)
+}
+
+// The members of a hashed set, by reference and in order.
+fn sorted_members<K: Ord + std::hash::Hash>(
+    alloc: Global,
+    set: &HashSet<K>,
+) -> Result<Vec<&K>, AllocError>
+    ensures members { IfOk result (λ members. map_of deref members.items ≡ in_order K.cmp set.now.keys) }
+    ensures unique { HasUniqueKeys K.eq set.now }
+{
+    let mut members = members_of(alloc, set)?;
+    members.sort_unstable();
+    Ok(members)
+}
+
+#[tactic(auto, unfolding(crate::specs::Content::list_content, crate::specs::Content::u64_content))]
+fn hash_members<K: ContentHash, D: DigestUpdate>(
+    alloc: Global,
+    members: &[&K],
+    state: &mut D,
+) -> Result<(), AllocError>
+    ensures ok { OnOk result (Takes D.stands_for state.old state.new (list_content K.content (map_of deref members.now))) }
+    ensures value { OnOk result (AreValues K.is_value (map_of deref members.now)) }
+    ensures err { OnErr result (TakesFront D.stands_for state.old state.new (list_content K.content (map_of deref members.now))) }
+{
+    state.update(&(members.len() as u64).to_le_bytes());
+    for member in members {
+        ContentHash::hash(*member, alloc, state)?;
+    }
+    Ok(())
+}
+
+impl<K: ContentHash + Ord + std::hash::Hash> ContentHash for HashSet<K> {
+    ghost is_value = { λ s. HasUniqueKeys K.eq s × AreValues K.is_value s.keys };
+
+    ghost content = { λ s. set_content K.cmp K.content s.keys };
+
+    ghost lawful = { hash_set_lawful K.total K.Eq.laws K.matches_eq K.lawful };
+
+    fn hash<D: DigestUpdate>(&self, alloc: Global, state: &mut D) -> Result<(), AllocError> {
+        let members = sorted_members(alloc, self)?;
+        hash_members(alloc, members.as_slice(), state)
     }
 }
 

@@ -1,0 +1,4 @@
+pub mod KindContent
+pub mod KindLaw
+pub mod MaybeContent
+pub mod MaybeLaw

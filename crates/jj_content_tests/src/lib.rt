@@ -2,6 +2,19 @@
 #![tactic(auto)]
 
 #[cfg(test)]
+mod blake2b;
+#[cfg(test)]
+mod content;
+#[cfg(test)]
 mod hex_util_tests;
+#[cfg(test)]
+mod json;
+#[cfg(test)]
+mod known_answers;
+#[cfg(test)]
+mod maps;
+#[cfg(test)]
+mod recorder;
+pub mod records;
 #[cfg(test)]
 mod symbol_util_tests;

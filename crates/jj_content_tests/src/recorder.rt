@@ -1,0 +1,50 @@
+//! A state that records what it takes in.
+use jj_content::content_hash::{ContentHash, DigestUpdate, blake2b_hash};
+use std::alloc::{AllocError, Global};
+use std::process::Abort;
+
+// What was taken in, of which the first 64 bytes are kept.
+#[derive(Clone, Copy, Debug, PartialEq, Eq)]
+struct Recorder {
+    bytes: [u8; 64],
+    len: usize,
+}
+
+impl DigestUpdate for Recorder {
+    ghost use Rattle.std.specs.Prelude.{⊤};
+    ghost use Rattle.jj_content.specs.Content.{Takes};
+
+    ghost stands_for = { λ _ _. ⊤ };
+
+    fn update(&mut self, bytes: &[u8]) {
+        for byte in bytes {
+            if self.len < 64 {
+                self.bytes[self.len] = *byte;
+                self.len += 1;
+            }
+        }
+    }
+}
+
+/// Asserts that these are a value's content bytes, and that a refused call has appended a beginning of them.
+pub fn assert_content<T: ContentHash, R: Abort>(rt: &R, alloc: Global, value: &T, content: &[u8]) {
+    let blank = Recorder {
+        bytes: [0; 64],
+        len: 0,
+    };
+    let mut first = blank;
+    let mut second = blank;
+    if value.hash(alloc, &mut first).is_err() {
+        assert!(rt; first.len <= content.len() && first.len <= 64);
+        assert_eq!(rt; &first.bytes[..first.len], &content[..first.len]);
+        assert!(rt; value.hash(alloc, &mut second).is_ok());
+        first = second;
+    }
+    assert!(rt; first.len == content.len() && first.len <= 64);
+    assert_eq!(rt; &first.bytes[..first.len], content);
+}
+
+/// A value's digest, by a second call where memory was refused in the first.
+pub fn digest_of<T: ContentHash>(alloc: Global, value: &T) -> Result<[u8; 64], AllocError> {
+    blake2b_hash(alloc, value).or_else(|_| blake2b_hash(alloc, value))
+}

@@ -1,0 +1,172 @@
+//! Records and enums that prove the law of content from their parts' law.
+ghost use Rattle.std.specs.Prelude.{◌≡◌, ℕ, ◌++◌, List, OnOk, OnErr};
+ghost use Rattle.jj_content.specs.Content.{Takes, TakesFront, IsLawful};
+ghost use Rattle.jj_content.specs.Lawful.{on_lawful, both_lawful, list_lawful, option_lawful, i32_lawful, i64_lawful};
+
+use jj_content::content_hash::{ContentHash, DigestUpdate};
+use std::alloc::{AllocError, Global};
+
+/// A list of options, and a number.
+#[derive(Debug, PartialEq, Eq, Drop)]
+pub struct Foo {
+    pub x: Vec<Option<i32>>,
+    pub y: i64,
+}
+
+impl ContentHash for Foo {
+    ghost is_value = { λ r. ⟦<Vec<Option<i32>> as ContentHash>⟧.is_value r.x × ⟦<i64 as ContentHash>⟧.is_value r.y };
+
+    ghost content = { λ r. ⟦<Vec<Option<i32>> as ContentHash>⟧.content r.x ++ ⟦<i64 as ContentHash>⟧.content r.y };
+
+    ghost lawful = { both_lawful (on_lawful (λ r. r.x.items) (list_lawful (option_lawful i32_lawful))) (on_lawful (λ r. r.y) i64_lawful) };
+
+    #[tactic(auto, using(jj_content::proofs::Fronts::fronts))]
+    fn hash<D: DigestUpdate>(&self, alloc: Global, state: &mut D) -> Result<(), AllocError> {
+        self.x.hash(alloc, state)?;
+        self.y.hash(alloc, state)
+    }
+}
+
+/// Two parts of any types.
+#[derive(Debug, PartialEq, Eq, Drop)]
+pub struct GenericFoo<X, Y> {
+    pub x: X,
+    pub y: Y,
+}
+
+impl<X: ContentHash, Y: ContentHash> ContentHash for GenericFoo<X, Y> {
+    ghost is_value = { λ r. X.is_value r.x × Y.is_value r.y };
+
+    ghost content = { λ r. X.content r.x ++ Y.content r.y };
+
+    ghost lawful = { both_lawful (on_lawful (λ r. r.x) X.lawful) (on_lawful (λ r. r.y) Y.lawful) };
+
+    #[tactic(auto, using(jj_content::proofs::Fronts::fronts))]
+    fn hash<D: DigestUpdate>(&self, alloc: Global, state: &mut D) -> Result<(), AllocError> {
+        self.x.hash(alloc, state)?;
+        self.y.hash(alloc, state)
+    }
+}
+
+/// One number.
+#[derive(Debug, PartialEq, Eq, Clone, Copy)]
+pub struct Single(pub i32);
+
+impl ContentHash for Single {
+    ghost is_value = { λ r. ⟦<i32 as ContentHash>⟧.is_value r.0 };
+
+    ghost content = { λ r. ⟦<i32 as ContentHash>⟧.content r.0 };
+
+    ghost lawful = { on_lawful (λ r. r.0) i32_lawful };
+
+    fn hash<D: DigestUpdate>(&self, alloc: Global, state: &mut D) -> Result<(), AllocError> {
+        self.0.hash(alloc, state)
+    }
+}
+
+/// Three numbers.
+#[derive(Debug, PartialEq, Eq, Clone, Copy)]
+pub struct Triple(pub i32, pub i32, pub i32);
+
+impl ContentHash for Triple {
+    ghost is_value = { λ r. ⟦<i32 as ContentHash>⟧.is_value r.0 × (⟦<i32 as ContentHash>⟧.is_value r.1 × ⟦<i32 as ContentHash>⟧.is_value r.2) };
+
+    ghost content = { λ r. ⟦<i32 as ContentHash>⟧.content r.0 ++ (⟦<i32 as ContentHash>⟧.content r.1 ++ ⟦<i32 as ContentHash>⟧.content r.2) };
+
+    ghost lawful = { both_lawful (on_lawful (λ r. r.0) i32_lawful) (both_lawful (on_lawful (λ r. r.1) i32_lawful) (on_lawful (λ r. r.2) i32_lawful)) };
+
+    #[tactic(auto, using(jj_content::proofs::Fronts::fronts))]
+    fn hash<D: DigestUpdate>(&self, alloc: Global, state: &mut D) -> Result<(), AllocError> {
+        self.0.hash(alloc, state)?;
+        self.1.hash(alloc, state)?;
+        self.2.hash(alloc, state)?;
+        Ok(())
+    }
+}
+
+/// Four numbers.
+#[derive(Debug, PartialEq, Eq, Clone, Copy)]
+pub struct Quadruple(pub i32, pub i32, pub i32, pub i32);
+
+impl ContentHash for Quadruple {
+    ghost is_value = { λ r. ⟦<i32 as ContentHash>⟧.is_value r.0 × (⟦<i32 as ContentHash>⟧.is_value r.1 × (⟦<i32 as ContentHash>⟧.is_value r.2 × ⟦<i32 as ContentHash>⟧.is_value r.3)) };
+
+    ghost content = { λ r. ⟦<i32 as ContentHash>⟧.content r.0 ++ (⟦<i32 as ContentHash>⟧.content r.1 ++ (⟦<i32 as ContentHash>⟧.content r.2 ++ ⟦<i32 as ContentHash>⟧.content r.3)) };
+
+    ghost lawful = { both_lawful (on_lawful (λ r. r.0) i32_lawful) (both_lawful (on_lawful (λ r. r.1) i32_lawful) (both_lawful (on_lawful (λ r. r.2) i32_lawful) (on_lawful (λ r. r.3) i32_lawful))) };
+
+    #[tactic(auto, using(jj_content::proofs::Fronts::fronts))]
+    fn hash<D: DigestUpdate>(&self, alloc: Global, state: &mut D) -> Result<(), AllocError> {
+        self.0.hash(alloc, state)?;
+        self.1.hash(alloc, state)?;
+        self.2.hash(alloc, state)?;
+        self.3.hash(alloc, state)?;
+        Ok(())
+    }
+}
+
+/// An option of a number, as an enum of its own.
+#[derive(Debug, PartialEq, Eq, Clone, Copy)]
+pub enum Maybe {
+    Nothing,
+    Just(i32),
+}
+
+impl ContentHash for Maybe {
+    ghost use Rattle.std.specs.Prelude.{OnOk, OnErr};
+    ghost use Rattle.jj_content.specs.Content.{Takes, TakesFront, IsLawful};
+    ghost use Rattle.jj_content_tests.specs.MaybeContent.{maybe_content, IsMaybe};
+    ghost use Rattle.jj_content_tests.specs.MaybeLaw.{maybe_lawful};
+
+    ghost is_value = { IsMaybe };
+
+    ghost content = { maybe_content };
+
+    ghost lawful = { maybe_lawful };
+
+    fn hash<D: DigestUpdate>(&self, alloc: Global, state: &mut D) -> Result<(), AllocError> {
+        match self {
+            Maybe::Nothing => 0u32.hash(alloc, state),
+            Maybe::Just(number) => {
+                1u32.hash(alloc, state)?;
+                number.hash(alloc, state)
+            }
+        }
+    }
+}
+
+/// What a place holds: a variant with two fields, one with one, and one with none.
+#[derive(Debug, PartialEq, Eq, Drop)]
+pub enum Kind {
+    File { id: Vec<u8>, executable: bool },
+    Symlink(u64),
+    Absent,
+}
+
+impl ContentHash for Kind {
+    ghost use Rattle.std.specs.Prelude.{OnOk, OnErr};
+    ghost use Rattle.jj_content.specs.Content.{Takes, TakesFront, IsLawful};
+    ghost use Rattle.jj_content_tests.specs.KindContent.{kind_content, IsKind};
+    ghost use Rattle.jj_content_tests.specs.KindLaw.{kind_lawful};
+
+    ghost is_value = { IsKind };
+
+    ghost content = { kind_content };
+
+    ghost lawful = { kind_lawful };
+
+    fn hash<D: DigestUpdate>(&self, alloc: Global, state: &mut D) -> Result<(), AllocError> {
+        match self {
+            Kind::File { id, executable } => {
+                0u32.hash(alloc, state)?;
+                id.hash(alloc, state)?;
+                executable.hash(alloc, state)
+            }
+            Kind::Symlink(target) => {
+                1u32.hash(alloc, state)?;
+                target.hash(alloc, state)
+            }
+            Kind::Absent => 2u32.hash(alloc, state),
+        }
+    }
+}
