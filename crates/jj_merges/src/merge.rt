@@ -11,6 +11,7 @@ ghost use Rattle.std.specs.List.{AllZip};
 ghost use Rattle.jj_merges.specs.Merge.{adds, removes, HaveSameCounts, IsDisjoint};
 ghost use Rattle.jj_merges.specs.Simplify.{kept_places, at_places};
 
+mod builder;
 mod changes;
 mod diffs;
 mod every_second;
@@ -24,6 +25,7 @@ mod standard;
 mod storage;
 mod trivial;
 
+pub use builder::MergeBuilder;
 pub use diffs::Diff;
 pub use every_second::EverySecond;
 pub use into_iter::IntoIter;
@@ -126,8 +128,11 @@ impl<T> Merge<T> {
     }
 
     /// The number of adds.
+    #[tactic(auto, using(crate::proofs::Sides::lengths))]
     pub fn num_sides(&self) -> usize
-        ensures { length self.now + 1 ≡ 2 * result }
+        ensures terms { length self.now + 1 ≡ 2 * result }
+        ensures adds { length (adds self.now) ≡ result }
+        ensures removes { length (removes self.now) + 1 ≡ result }
     {
         self.as_slice().len() / 2 + 1
     }

@@ -18,6 +18,7 @@ impl<T: PartialEq + Clone> Merge<T> {
 
         // The terms are clones of those at the places that are kept, and what holds of these places.
         ensures terms { IfOk result (λ s. AllZip T.is_clone (at_places self.now (kept_places T.eq self.now)) s) }
+        ensures len { IfOk result (λ s. length s ≡ length (kept_places T.eq self.now)) }
         ensures places { AreKept T.eq self.now (kept_places T.eq self.now) }
 
         // The counts are those of the merge, and no value stands on both sides.
