@@ -29,6 +29,11 @@ swap_conds true false u v w h = refl
 swap_conds false true u v w h = refl
 swap_conds false false u v w h = refl
 
+-- keys that differ differ in the order
+pub distinct_by_order : {X K : Type 0} (key : X → K) (R : K → K → Ordering) (E : K → K → Bool) → ((x y : K) → E x y ≡ is_eq (R x y)) → (xs : List X)
+    → IsDistinct (on key E) xs → IsDistinct (λ x y. is_eq (on key R x y)) xs
+distinct_by_order {X} key R E ties xs d = subst (λ (t : X → X → Bool). IsDistinct t xs) (λ i x y. ties (key x) (key y) i) d
+
 module _ {X K : Type 0} (key : X → K) {R : K → K → Ordering} (o : IsTotalOrder R) {E : K → K → Bool} (laws : IsEquivalence E)
     (ties : (x y : K) → E x y ≡ is_eq (R x y)) (F : X → X → Bool) where
   -- the first item whose key is equal to q
@@ -119,14 +124,11 @@ module _ {X K : Type 0} (key : X → K) {R : K → K → Ordering} (o : IsTotalO
         | inr miss ↦ (λ i. option_eq F (cond (miss i) (Some x) (found q xs)) (cond ((other ∙ miss) i) (Some y) (found q ys))) ∙ agree_from_pointwise xs ys parts.1 q
       ]
 
-  pub distinct_by_order : (xs : List X) → IsDistinct (on key E) xs → IsDistinct (λ x y. is_eq (on key R x y)) xs
-  distinct_by_order xs d = subst (λ (t : X → X → Bool). IsDistinct t xs) (λ i x y. ties (key x) (key y) i) d
-
   pub in_order_from_agree : (xs ys : List X) → IsDistinct (on key E) xs → IsDistinct (on key E) ys → Agree xs ys
       → pointwise same (in_order (on key R) xs) (in_order (on key R) ys) ≡ true
   in_order_from_agree xs ys d e h =
       pointwise_from_agree (in_order (on key R) xs) (in_order (on key R) ys)
-      (sorted_in_order (on_total key o) xs (distinct_by_order xs d)) (sorted_in_order (on_total key o) ys (distinct_by_order ys e))
+      (sorted_in_order (on_total key o) xs (distinct_by_order key R E ties xs d)) (sorted_in_order (on_total key o) ys (distinct_by_order key R E ties ys e))
       (λ q. (λ i. option_eq F (found_in_order q xs d i) (found_in_order q ys e i)) ∙ h q)
 
   pub agree_from_in_order : (xs ys : List X) → IsDistinct (on key E) xs → IsDistinct (on key E) ys

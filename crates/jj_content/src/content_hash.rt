@@ -36,7 +36,8 @@ pub trait ContentHash: Eq {
     /// The content bytes of a value.
     ghost content: { Self → List ℕ };
 
-    /// Appends the content bytes to what the state stands for.
+    /// Appends the content bytes to what the state stands for. Where memory is refused, a beginning of them was
+    /// appended.
     fn hash<D: DigestUpdate>(&self, alloc: Global, state: &mut D) -> Result<(), AllocError>
         ensures ok { OnOk result (Takes D.stands_for state.old state.new (content self.now)) }
         ensures value { OnOk result (is_value self.now) }
@@ -141,6 +142,7 @@ impl ContentHash for i64 {
     }
 }
 
+// A text: its length in bytes, and then the bytes.
 #[tactic(auto, unfolding(crate::specs::Content::text_content, crate::specs::Content::u64_content))]
 fn hash_text<D: DigestUpdate>(text: &str, state: &mut D)
     ensures { Takes D.stands_for state.old state.new (text_content text.now) }
@@ -149,6 +151,7 @@ fn hash_text<D: DigestUpdate>(text: &str, state: &mut D)
     state.update(text.as_bytes());
 }
 
+// A list: its length, and then the items.
 #[tactic(auto, unfolding(crate::specs::Content::list_content, crate::specs::Content::u64_content))]
 fn hash_items<T: ContentHash, D: DigestUpdate>(
     alloc: Global,
@@ -295,6 +298,7 @@ fn sorted_pairs<K: Ord + std::hash::Hash, V>(
     Ok(pairs)
 }
 
+// A list of entries: its length, and then keys and values by turns.
 #[tactic(auto, unfolding(crate::specs::Content::list_content, crate::specs::Content::u64_content))]
 fn hash_pairs<K: ContentHash, V: ContentHash, D: DigestUpdate>(
     alloc: Global,
@@ -312,6 +316,7 @@ fn hash_pairs<K: ContentHash, V: ContentHash, D: DigestUpdate>(
     Ok(())
 }
 
+/// A map is written in key order, whatever the order in which it is walked.
 impl<K: ContentHash + Ord + std::hash::Hash, V: ContentHash> ContentHash for HashMap<K, V> {
     ghost is_value = { λ m. IsUnique K.eq m × AreValues (λ e. K.is_value e.0 × V.is_value e.1) m.entries };
 
@@ -349,6 +354,7 @@ fn sorted_members<K: Ord + std::hash::Hash>(
     Ok(members)
 }
 
+// A list of members: its length, and then the members.
 #[tactic(auto, unfolding(crate::specs::Content::list_content, crate::specs::Content::u64_content))]
 fn hash_members<K: ContentHash, D: DigestUpdate>(
     alloc: Global,
@@ -366,6 +372,7 @@ fn hash_members<K: ContentHash, D: DigestUpdate>(
     Ok(())
 }
 
+/// A set is written in order, whatever the order in which it is walked.
 impl<K: ContentHash + Ord + std::hash::Hash> ContentHash for HashSet<K> {
     ghost is_value = { λ s. HasUniqueKeys K.eq s × AreValues K.is_value s.keys };
 

@@ -1,12 +1,12 @@
 //! JSON values of texts, options and lists.
-ghost use Rattle.std.specs.Prelude.{◌≡◌, ⊤, All, Option, Some, None, IfOk, MatchOption, MatchResult, string_bytes};
-ghost use Rattle.std.specs.List.{AllZip};
-ghost use Rattle.serde_json.specs.Data.{Data, null, string, array};
-ghost use Rattle.serde_json.specs.View.{view, items_of};
+ghost use Rattle.std.specs.Prelude.{◌≡◌, ⊤, All, MatchOption, string_bytes};
+ghost use Rattle.serde_json.specs.Data.{null, string};
 ghost use Rattle.jj_content.specs.Json.{IsAnswer, IsJsonList};
 
 use serde_json::Value;
 use std::alloc::{AllocError, AllocFailed, Global};
+use std::error::Error;
+use std::fmt;
 
 /// Why a value was not turned into JSON.
 #[derive(Clone, Copy, Debug, PartialEq, Eq)]
@@ -16,6 +16,17 @@ pub enum ToJsonError {
     /// A time in it is out of the range of dates.
     TimestampOutOfRange,
 }
+
+impl fmt::Display for ToJsonError {
+    fn fmt<W: fmt::Write>(&self, f: &mut fmt::Formatter<W>) -> fmt::Result {
+        f.write_str(match self {
+            ToJsonError::Memory => "out of memory",
+            ToJsonError::TimestampOutOfRange => "a time is out of the range of dates",
+        })
+    }
+}
+
+impl Error for ToJsonError {}
 
 impl From<AllocError> for ToJsonError {
     ghost use Rattle.std.specs.Prelude.{◌≡◌};

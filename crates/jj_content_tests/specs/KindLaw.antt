@@ -1,5 +1,5 @@
 -- The content of a kind is lawful.
-use Rattle.std.proofs.Common.{◌≡◌, ℕ, List, ◌++◌, ◌<◌, ◌^◌, true, refl, ap, sym, ◌∙◌, Bool, arith}
+use Rattle.std.proofs.Common.{◌≡◌, ℕ, List, ◌++◌, ◌<◌, ◌^◌, true, refl, Bool, arith}
 use Rattle.std.proofs.Common.{Vec, Global}
 use Rattle.jj_content.specs.Content.{IsLawful}
 use Rattle.jj_content.specs.Lawful.{enum_lawful, both_lawful, on_lawful, list_lawful, u8_lawful, u64_lawful, bool_lawful}

@@ -30,3 +30,19 @@ fn texts_options_and_lists(rt: HostRuntime) -> Result<(), Fail> {
     );
     Ok(())
 }
+
+#[test]
+fn errors_print(rt: HostRuntime) -> Result<(), Fail> {
+    let alloc = rt.alloc();
+    for (error, expected) in [
+        (ToJsonError::Memory, "out of memory"),
+        (
+            ToJsonError::TimestampOutOfRange,
+            "a time is out of the range of dates",
+        ),
+    ] {
+        let printed = error.to_string(alloc).or_else(|_| error.to_string(alloc))?;
+        assert_eq!(rt; printed.as_str(), expected);
+    }
+    Ok(())
+}

@@ -1,4 +1,3 @@
-use Rattle.std.proofs.Common.{true}
 use Rattle.std.specs.Map.Iter.{deref}
 use Rattle.jj_content.specs.InOrder.{in_order_shown}
 use Rattle.jj_content.specs.Tables.{distinct_by_order}
@@ -8,6 +7,6 @@ pub returns-clause-members : goal.returns-clause-members
 returns-clause-members g c =
     let key : g.row.K.Denot → g.row.K.Denot = λ k. k in
     let keys = c.args.set.now.keys in
-    let distinct = distinct_by_order key g.met.K.Ord.total g.met.K.Eq.laws g.met.K.Ord.matches_eq (λ _ _. true) keys c.in_ok-members.ensures.unique in
+    let distinct = distinct_by_order key g.K.Ord.cmp g.K.PartialEq.eq g.met.K.Ord.matches_eq keys c.in_ok-members.ensures.unique in
     in_order_shown g.met.K.Ord.total deref keys c.in_ok-members.members.items c.sort_unstable.new.self.items
     c.in_ok-members.ensures.members distinct c.sort_unstable.ensures.permutation c.sort_unstable.ensures.sorted
