@@ -1,5 +1,5 @@
 -- What a binary search finds among named nodes whose names rise.
-use Rattle.std.proofs.Common.{◌≡◌, ℕ, zero, suc, ◌<◌, ◌≤◌, true, List, [], ◌∷◌, length, get_or, Result, Ok, Err, IfOk, IfErr, refl, sym, ap, ◌∙◌, arith}
+use Rattle.std.proofs.Common.{◌≡◌, ℕ, zero, suc, ◌-◌, ◌<◌, ◌≤◌, true, List, [], ◌∷◌, length, get_or, Result, Ok, Err, IfOk, IfErr, refl, sym, ap, ◌∙◌, arith}
 use mathlib.Core.Bool.{false≢true}
 use Rattle.std.specs.declared.cmp.Ordering.{Ordering}
 use Rattle.std.specs.declared.cmp.Ordering.TheVariants.{Less, Equal, Greater}
@@ -19,6 +19,11 @@ less_from_is_lt : (r : Ordering) → is_lt r ≡ true → r ≡ Less
 less_from_is_lt Less e = refl
 less_from_is_lt Equal e = absurd (false≢true e)
 less_from_is_lt Greater e = absurd (false≢true e)
+
+least_index : (r : Ordering) → ordering_index r ≤ 0 → r ≡ Less
+least_index Less le = refl
+least_index Equal le = absurd (omega arith)
+least_index Greater le = absurd (omega arith)
 
 -- a smaller name compares no higher with any name
 rises : (x y q : Name) (r : Ordering) → name_cmp y q ≡ r → name_cmp x y ≡ Less → ordering_index (name_cmp x q) ≤ ordering_index r
@@ -63,3 +68,18 @@ module _ {V : Type 0} where
       greater_after = λ j d le lt. (parted (comparisons_rise q es sorted)).1 j d le lt;
     };
   }
+
+  -- the last name tells where a name that is not below it goes
+  module _ (es : List (Name × Tree V)) (q : Name) (last : Name × Tree V) (some : 0 < length es) (at_end : (d : Name × Tree V) → last ≡ get_or es (length es - 1) d) where
+    pub behind_last : is_sorted name_cmp es ≡ true → name_cmp last.0 q ≡ Less → IsGapFor es q (length es)
+    behind_last sorted less = record {
+      in_range = omega arith;
+      smaller_before = λ j d lt. least_index _
+          (let up = comparisons_rise q es sorted j (length es - 1) d (omega arith) (omega arith) in
+          let top : ordering_index (name_cmp (get_or es (length es - 1) d).0 q) ≡ 0 = ap (λ x. ordering_index (name_cmp x.0 q)) (sym (at_end d)) ∙ ap ordering_index less in
+          omega (arith, up, top));
+      greater_after = λ j d le lt. absurd (omega arith);
+    }
+
+    pub at_last : name_cmp last.0 q ≡ Equal → IsAt es q (length es - 1)
+    at_last same = record { in_range = omega arith; has_name = λ d. ap (λ x. x.0) (sym (at_end d)) ∙ name_cmp-same _ _ same }

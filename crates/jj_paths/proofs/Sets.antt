@@ -1,12 +1,12 @@
 -- What a tree holds once the node, or the value, at a path is another.
-use Rattle.std.proofs.Common.{◌≡◌, ◌≢◌, Option, Some, None, ◌∙◌, Bool, true, false, [], ◌∷◌, ◌++◌, refl, ap, sym}
+use Rattle.std.proofs.Common.{◌≡◌, ◌≢◌, Option, Some, None, IsSome, is_some, Result, Ok, Err, IfOk, MatchResult, ◌∙◌, Bool, true, false, [], ◌∷◌, ◌++◌, refl, ap, sym}
 use mathlib.Core.Bool.{false≢true}
 use Rattle.std.specs.Str.{bytes_eq}
 use Rattle.std.specs.Option.{option_and_then, option_map}
 use Rattle.std.proofs.lemmas.Slice.Eq.{bytes_eq-Decides}
 use Rattle.jj_paths.specs.Paths.{Name, Path}
-use Rattle.jj_paths.specs.Tree.{Tree, update_child, put, put_value, get, value_at, child, IsExtended, IsEdited, IsSet, is_ordered}
-use Rattle.jj_paths.proofs.Grown.{some_none, child-update_same, child-update_other}
+use Rattle.jj_paths.specs.Tree.{Tree, Branches, none, branch, IsGrown, update_child, put, put_value, get, value_at, child, IsExtended, IsEdited, IsSet, is_ordered}
+use Rattle.jj_paths.proofs.Grown.{some_none, child-update_same, child-update_other, extended-step, extended-same, there-step}
 use Rattle.jj_paths.proofs.Ordered.{is_ordered-put_value}
 
 module _ {V : Type 0} where
@@ -98,3 +98,42 @@ module _ {V : Type 0} where
     makes = λ q w off e f. extended.makes q w e (sym (ap (λ t. value_at t q) is ∙ value_at-put_value-others tree path q node v at off) ∙ f);
     ordered = λ up. ap (λ t. is_ordered t.1) is ∙ is_ordered-put_value tree path v (extended.ordered up);
   }
+
+  -- setting a value at the root of a tree, or below one of its children
+  pub set-root : (is_new : V → Type 0) (old new : Tree V) (path : Path) (v : V) → path ≡ [] → new ≡ (v, old.1) → (t : Tree V) × IsExtended is_new old path t × IsSome (get t path) × (new ≡ put_value t path v)
+  set-root is_new old new path v root is = (old, extended-same is_new old path, ap (λ p. is_some (get old p)) root, is ∙ ap (λ p. put_value old p v) (sym root))
+
+  some_node : (o : Option (Tree V)) → IsSome o → (node : Tree V) × (o ≡ Some node)
+  some_node None there = absurd (false≢true there)
+  some_node (Some node) there = (node, refl)
+
+  pub edited-as_map : (is_new : V → Type 0) (old new : Tree V) (path : Path) (v : V) → (t : Tree V) × IsExtended is_new old path t × IsSome (get t path) × (new ≡ put_value t path v) → IsSet is_new old path v new
+  edited-as_map is_new old new path v edited = let found = some_node (get edited.0 path) edited.2 in set-as_map is_new old edited.0 path found.0 new v edited.1 found.1 edited.3
+
+  update_child-twice : (b : Branches V) (name : Name) (sub : Tree V) (f : Tree V → Tree V) → update_child (update_child b name (λ _. sub)) name f ≡ update_child b name (λ _. f sub)
+  update_child-twice none name sub f = refl
+  update_child-twice (branch n value below after) name sub f = by_name (bytes_eq n name) refl (update_child-twice after name sub f)
+    where
+      by_name : (t : Bool) → bytes_eq n name ≡ t → update_child (update_child after name (λ _. sub)) name f ≡ update_child after name (λ _. f sub)
+          → update_child (update_child (branch n value below after) name (λ _. sub)) name f ≡ update_child (branch n value below after) name (λ _. f sub)
+      by_name true is later = rw (is, is) refl
+      by_name false is later = rw (is, is) (ap (branch n value below) later)
+
+  module _ {A E : Type 0} where
+    pub set-step : (is_new : V → Type 0) (old node sub sub' : Tree V) (path : Path) (name : Name) (rest : Path) (v : V) (r : Result A E) → path ≡ name ∷ rest → IsGrown is_new old name node → child node.1 name ≡ Some sub
+        → MatchResult r (λ _. (t : Tree V) × IsExtended is_new sub rest t × IsSome (get t rest) × (sub' ≡ put_value t rest v)) (λ _. IsExtended is_new sub rest sub')
+        → MatchResult r (λ _. (t : Tree V) × IsExtended is_new old path t × IsSome (get t path) × ((node.0, update_child node.1 name (λ _. sub')) ≡ put_value t path v)) (λ _. IsExtended is_new old path (node.0, update_child node.1 name (λ _. sub')))
+    set-step is_new old node sub sub' path name rest v (Ok a) is grown at h =
+        let t = h.0 in (
+          (node.0, update_child node.1 name (λ _. t)),
+          extended-step is_new old node sub t path name rest is grown at h.1,
+          there-step node sub t path name rest is at h.2,
+          ap (λ s. (node.0, update_child node.1 name (λ _. s))) h.3
+              ∙ ap (λ b. (node.0, b)) (sym (update_child-twice node.1 name t (λ s. put_value s rest v)))
+              ∙ ap (λ p. put_value (node.0, update_child node.1 name (λ _. t)) p v) (sym is),
+        )
+    set-step is_new old node sub sub' path name rest v (Err e) is grown at h = extended-step is_new old node sub sub' path name rest is grown at h
+
+    pub edited-as_map_on_ok : (is_new : V → Type 0) (old new : Tree V) (path : Path) (v : V) (r : Result A E) → MatchResult r (λ _. (t : Tree V) × IsExtended is_new old path t × IsSome (get t path) × (new ≡ put_value t path v)) (λ _. IsExtended is_new old path new) → IfOk r (λ _. IsSet is_new old path v new)
+    edited-as_map_on_ok is_new old new path v (Ok a) h = edited-as_map is_new old new path v h
+    edited-as_map_on_ok is_new old new path v (Err e) h = tt

@@ -1,11 +1,13 @@
 -- The equality and the order of paths, name by name, with their laws, and what a path gives to a hash.
-use Rattle.std.specs.Prelude.{◌≡◌, Bool, true, Some}
+use Rattle.std.specs.Prelude.{◌≡◌, ◌==◌, ℕ, Bool, true, Some, if◌then◌else◌}
 use Rattle.std.proofs.Common.{ap}
 use Rattle.std.specs.Str.{bytes_eq}
 use Rattle.std.specs.Bool.{Decides}
 use Rattle.std.specs.Cmp.{IsEquivalence, IsTotalOrder, IsPartialOrder, po}
 use Rattle.std.specs.Cmp.Lexicographic.{pointwise, pointwise_decides, bytes_decides, lists_equiv, lists_total, lists_ties, nat_list_eq_equiv, nat_list_cmp_total, texts_ties}
-use Rattle.std.specs.Ordering.{eq_by_cmp}
+use Rattle.std.specs.declared.cmp.Ordering.{Ordering}
+use Rattle.std.specs.declared.cmp.Ordering.TheVariants.{Less, Equal, Greater}
+use Rattle.std.specs.Ordering.{nat_cmp, eq_by_cmp}
 use Rattle.std.specs.Hash as fed
 use Rattle.std.specs.Hash.{HashWrites}
 use Rattle.jj_paths.specs.Paths.{Path, name_cmp, path_cmp, path_text}
@@ -35,3 +37,7 @@ path_hash path = fed.str (path_text path)
 
 pub path_hash-respects_eq : (a b : Path) → path_eq a b ≡ true → path_hash a ≡ path_hash b
 path_hash-respects_eq a b same = ap path_hash ((path_eq-Decides a b).0 same)
+
+-- bytes in their order, but a slash (byte 47) first
+abbrev pub slash_cmp : ℕ → ℕ → Ordering
+slash_cmp x y = if x == 47 then (if y == 47 then Equal else Less) else (if y == 47 then Greater else nat_cmp x y)

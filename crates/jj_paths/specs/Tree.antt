@@ -128,6 +128,16 @@ module _ {V : Type 0} where
     pub makes : (q : Path) (v : V) → q ≢ path → value_at old q ≡ None → value_at new q ≡ Some v → is_new v × ((rest : Path) × (path ≡ q ++ rest))
     pub ordered : is_ordered old.1 ≡ true → is_ordered new.1 ≡ true
 
+  -- branches of the same names, whose values are clones of the others', each at its place; and a node's
+  abbrev pub AreClones : (V → V → Type 0) → Branches V → Branches V → Type 0
+  AreClones is_clone none none = Unit {0}
+  AreClones is_clone none (branch name value below after) = ⊥
+  AreClones is_clone (branch name value below after) none = ⊥
+  AreClones is_clone (branch name value below after) (branch name' value' below' after') = (name ≡ name') × is_clone value value' × AreClones is_clone below below' × AreClones is_clone after after'
+
+  abbrev pub IsTreeClone : (V → V → Type 0) → Tree V → Tree V → Type 0
+  IsTreeClone is_clone tree copy = is_clone tree.0 copy.0 × AreClones is_clone tree.1 copy.1
+
   -- the branch at place i has the name
   pub record IsAt (entries : List (Name × Tree V)) (name : Name) (i : ℕ) : Type 0 where
     pub in_range : i < length entries

@@ -8,7 +8,7 @@ ghost use Rattle.jj_paths.specs.Paths.{Name, Path, name_cmp, first_of, rest_of};
 ghost use Rattle.jj_paths.specs.Names.{name_of, path_of};
 ghost use Rattle.std.specs.FinMap.{is_sorted};
 ghost use Rattle.std.specs.Iterator.{YieldsFirstBy, item_count};
-ghost use Rattle.jj_paths.specs.Tree.{Tree, branches_of, none, children, child, get, has_branches, put, put_value, update_child, put_below, nodes_on, nodes_below, nodes_from, IsPartOf, IsExtended, IsEdited, IsSet, IsGrown, IsAt, IsGapFor};
+ghost use Rattle.jj_paths.specs.Tree.{Tree, branches_of, none, children, child, get, has_branches, put, put_value, update_child, put_below, nodes_on, nodes_below, nodes_from, IsPartOf, IsExtended, IsEdited, IsSet, IsGrown, IsAt, IsGapFor, IsTreeClone};
 
 use crate::repo_path::{RepoPath, RepoPathComponent, RepoPathComponentBuf};
 use std::alloc::{AllocError, Global};
@@ -215,13 +215,14 @@ impl<V> RepoPathNode<V> {
     }
 
     // makes the child of that name, with a default value, where the node lacks it
-    fn make_child(&mut self, alloc: Global, name: RepoPathComponent<'_>) -> Result<(), AllocError>
+    fn make_child(&mut self, name: RepoPathComponent<'_>) -> Result<(), AllocError>
     where
         V: Default + Drop,
         ensures made { IfOk result (λ done. IsGrown V.is_default self.old (name_of name.entry) self.new) }
         ensures refused { IfErr result (λ e. self.new ≡ self.old) }
     {
         if let Err(at) = place(&self.entries, name) {
+            let alloc = *self.entries.allocator();
             let tree = RepoPathTree::new(alloc, V::default());
             let owned = name.to_owned(alloc)?;
             self.entries.insert(at, (owned, tree))?;
@@ -231,7 +232,7 @@ impl<V> RepoPathNode<V> {
 
     // makes the child of the name that a path begins with, where the node lacks it
     #[inline(never)]
-    fn make_first(&mut self, alloc: Global, path: RepoPath<'_>) -> Result<(), AllocError>
+    fn make_first(&mut self, path: RepoPath<'_>) -> Result<(), AllocError>
     where
         V: Default + Drop,
         ensures made { IfOk result (λ done. path_of path.entry ≢ [] → IsGrown V.is_default self.old (first_of (path_of path.entry)) self.new) }
@@ -239,7 +240,7 @@ impl<V> RepoPathNode<V> {
     {
         match path.split_first() {
             None => Ok(()),
-            Some((name, _rest)) => self.make_child(alloc, name),
+            Some((name, _rest)) => self.make_child(name),
         }
     }
 
@@ -431,7 +432,7 @@ impl<V> RepoPathTree<V> {
     }
 
     // makes the nodes that a path lacks, with default values
-    fn extend(&mut self, alloc: Global, path: RepoPath<'_>) -> Result<(), AllocError>
+    fn extend(&mut self, path: RepoPath<'_>) -> Result<(), AllocError>
     where
         V: Default + Drop,
         ensures there { IfOk result (λ done. IsSome (get self.new (path_of path.entry))) }
@@ -440,35 +441,35 @@ impl<V> RepoPathTree<V> {
         if path.is_root() {
             return Ok(());
         }
-        self.node.make_first(alloc, path)?;
-        self.node.first_mut(path).extend(alloc, path.rest())
+        self.node.make_first(path)?;
+        self.node.first_mut(path).extend(path.rest())
     }
 
     /// The node at a path. Where the tree lacks it, it is made with a default value, and so are the nodes on the way.
     /// Refused for want of memory, every value is kept, and new nodes may stand on the way.
-    pub fn add(
-        &mut self,
-        alloc: Global,
-        path: RepoPath<'_>,
-    ) -> Result<&mut RepoPathNode<V>, AllocError>
+    pub fn add(&mut self, path: RepoPath<'_>) -> Result<&mut RepoPathNode<V>, AllocError>
     where
         V: Default + Drop,
         ensures* writes_back { sem 𝓛 (LendsSoOk (the_row V.row) (node.the_row V.row) self.entry result (λ new changed. IfOk result (λ node. IsEdited V.is_default self.old (path_of path.entry) node.now changed new)) (λ new. IsExtended V.is_default self.old (path_of path.entry) new)) }
         ensures value { IfOk result (λ node. (t : Tree V) × IsExtended V.is_default self.old (path_of path.entry) t × (get t (path_of path.entry) ≡ Some node.now)) }
     {
-        self.extend(alloc, path)?;
+        self.extend(path)?;
         Ok(self.node_mut(path))
     }
 
     /// Sets the value at a path, with the nodes that `add` makes. Refused, it leaves what `add` leaves.
-    pub fn set(&mut self, alloc: Global, path: RepoPath<'_>, value: V) -> Result<(), AllocError>
+    pub fn set(&mut self, path: RepoPath<'_>, value: V) -> Result<(), AllocError>
     where
         V: Default + Drop,
         ensures as_map { IfOk result (λ done. IsSet V.is_default self.old (path_of path.entry) value self.new) }
-        ensures edited { MatchResult result (λ done. (t : Tree V) × IsExtended V.is_default self.old (path_of path.entry) t × (self.new ≡ put_value t (path_of path.entry) value)) (λ e. IsExtended V.is_default self.old (path_of path.entry) self.new) }
+        ensures edited { MatchResult result (λ done. (t : Tree V) × IsExtended V.is_default self.old (path_of path.entry) t × IsSome (get t (path_of path.entry)) × (self.new ≡ put_value t (path_of path.entry) value)) (λ e. IsExtended V.is_default self.old (path_of path.entry) self.new) }
     {
-        *self.add(alloc, path)?.value_mut() = value;
-        Ok(())
+        if path.is_root() {
+            self.set_value(value);
+            return Ok(());
+        }
+        self.node.make_first(path)?;
+        self.node.first_mut(path).set(path.rest(), value)
     }
 }
 
@@ -476,8 +477,8 @@ impl<V: Clone + Drop> RepoPathTree<V> {
     /// A copy of the tree, in the same memory.
     #[cycle(copies)]
     pub fn clone(&self) -> Result<RepoPathTree<V>, AllocError>
-        requires { (value copy : V) → V.is_clone value copy → copy ≡ value }
-        ensures { IfOk result (λ copy. copy ≡ self.now) }
+        ensures clones { IfOk result (IsTreeClone V.is_clone self.now) }
+        ensures equal { IfOk result (λ copy. ((value copied : V) → V.is_clone value copied → copied ≡ value) → copy ≡ self.now) }
     {
         Ok(RepoPathTree {
             node: self.node.clone()?,
@@ -489,8 +490,8 @@ impl<V: Clone + Drop> RepoPathNode<V> {
     /// A copy of the node, with what is below it.
     #[cycle(copies)]
     pub fn clone(&self) -> Result<RepoPathNode<V>, AllocError>
-        requires { (value copy : V) → V.is_clone value copy → copy ≡ value }
-        ensures { IfOk result (λ copy. copy ≡ self.now) }
+        ensures clones { IfOk result (IsTreeClone V.is_clone self.now) }
+        ensures equal { IfOk result (λ copy. ((value copied : V) → V.is_clone value copied → copied ≡ value) → copy ≡ self.now) }
     {
         let value = self.value.clone()?;
         let mut entries = Vec::with_capacity(*self.entries.allocator(), self.entries.len())?;
@@ -499,6 +500,58 @@ impl<V: Clone + Drop> RepoPathNode<V> {
         }
         Ok(RepoPathNode { value, entries })
     }
+}
+
+/// Two trees are equal where they have the same paths, and equal values there.
+impl<V: PartialEq> PartialEq for RepoPathTree<V> {
+    ghost use Rattle.jj_paths.specs.Equal.{tree_eq, tree_per};
+
+    ghost eq = { tree_eq V.eq };
+
+    ghost laws = { tree_per V.laws };
+
+    #[cycle(equals)]
+    fn eq(&self, other: &RepoPathTree<V>) -> bool {
+        self.node == other.node
+    }
+}
+
+impl<V: Eq> Eq for RepoPathTree<V> {
+    ghost use Rattle.jj_paths.specs.Equal.{tree_equiv};
+
+    ghost laws = { tree_equiv V.Eq.laws };
+}
+
+impl<V: PartialEq> PartialEq for RepoPathNode<V> {
+    ghost use Rattle.jj_paths.specs.Equal.{tree_eq, tree_per};
+
+    ghost eq = { tree_eq V.eq };
+
+    ghost laws = { tree_per V.laws };
+
+    #[cycle(equals)]
+    fn eq(&self, other: &RepoPathNode<V>) -> bool {
+        if self.value != other.value {
+            return false;
+        }
+        let (mine, theirs) = (self.entries.as_slice(), other.entries.as_slice());
+        if mine.len() != theirs.len() {
+            return false;
+        }
+        for (i, child) in mine.iter().enumerate() {
+            let other_child = &theirs[i];
+            if child.0 != other_child.0 || !child.1.eq(&other_child.1) {
+                return false;
+            }
+        }
+        true
+    }
+}
+
+impl<V: Eq> Eq for RepoPathNode<V> {
+    ghost use Rattle.jj_paths.specs.Equal.{tree_equiv};
+
+    ghost laws = { tree_equiv V.Eq.laws };
 }
 
 /// The value, then the children as a map from their names.
@@ -571,8 +624,27 @@ fn second<A, B>(pair: &mut (A, B)) -> &mut B
     &mut pair.1
 }
 
-// where the branch with that name is, or would go
+// where the branch with that name is, or would go; names that come in their order are looked for at the last branch alone
 fn place<V>(
+    entries: &[(RepoPathComponentBuf, RepoPathTree<V>)],
+    name: RepoPathComponent<'_>,
+) -> Result<usize, usize>
+    requires { IsTrue (is_sorted name_cmp entries.now) }
+    ensures found { IfOk result (λ at. IsAt entries.now (name_of name.entry) at) }
+    ensures absent { IfErr result (λ at. IsGapFor entries.now (name_of name.entry) at) }
+{
+    let Some(last) = entries.last() else {
+        return Err(0);
+    };
+    match last.0.as_component().cmp(&name) {
+        Ordering::Less => Err(entries.len()),
+        Ordering::Equal => Ok(entries.len() - 1),
+        Ordering::Greater => search(entries, name),
+    }
+}
+
+// the same among all branches
+fn search<V>(
     entries: &[(RepoPathComponentBuf, RepoPathTree<V>)],
     name: RepoPathComponent<'_>,
 ) -> Result<usize, usize>

@@ -8,9 +8,9 @@ use std::process::Abort;
 // A tree with 1 at `a`, 2 at `a/b` and 3 at `c/d`, and so 0 at the root and at `c`.
 fn small_tree<R: Abort>(rt: &R, alloc: Global) -> Result<RepoPathTree<u32>, AllocError> {
     let mut tree: RepoPathTree<u32> = RepoPathTree::default(alloc);
-    tree.set(alloc, path(rt, alloc, "a/b"), 2)?;
-    tree.add(alloc, path(rt, alloc, "a"))?.set_value(1);
-    *tree.add(alloc, path(rt, alloc, "c/d"))?.value_mut() = 3;
+    tree.set(path(rt, alloc, "a/b"), 2)?;
+    tree.add(path(rt, alloc, "a"))?.set_value(1);
+    *tree.add(path(rt, alloc, "c/d"))?.value_mut() = 3;
     Ok(tree)
 }
 
@@ -137,7 +137,7 @@ fn walks(rt: HostRuntime) {
 fn copies_trees<R: Abort>(rt: &R, alloc: Global) -> Result<(), AllocError> {
     let mut tree = small_tree(rt, alloc)?;
     let copy = tree.clone()?;
-    tree.set(alloc, path(rt, alloc, "a/b"), 5)?;
+    tree.set(path(rt, alloc, "a/b"), 5)?;
     for (text, want) in [
         ("", 0),
         ("a", 1),
@@ -189,14 +189,14 @@ fn refused_adds(rt: HostRuntime) {
         Ok(tree) => tree,
         Err(_) => panic!(rt; "memory was refused twice"),
     };
-    match tree.add(alloc, path(&rt, alloc, "a/b/c/d")) {
+    match tree.add(path(&rt, alloc, "a/b/c/d")) {
         Ok(node) => node.set_value(4),
         Err(_) => {
             assert!(rt;
                 value_at(&rt, alloc, &tree, "a/b/c/d") == 99
                     || value_at(&rt, alloc, &tree, "a/b/c/d") == 0
             );
-            assert!(rt; tree.set(alloc, path(&rt, alloc, "a/b/c/d"), 4).is_ok());
+            assert!(rt; tree.set(path(&rt, alloc, "a/b/c/d"), 4).is_ok());
         }
     }
     for (text, want) in [
@@ -212,6 +212,61 @@ fn refused_adds(rt: HostRuntime) {
     }
 }
 
+fn compares_trees<R: Abort>(rt: &R, alloc: Global) -> Result<(), AllocError> {
+    let tree = small_tree(rt, alloc)?;
+    let mut other: RepoPathTree<u32> = RepoPathTree::default(alloc);
+    other.set(path(rt, alloc, "c/d"), 3)?;
+    other.set(path(rt, alloc, "a"), 1)?;
+    assert!(rt; tree != other);
+    other.set(path(rt, alloc, "a/b"), 2)?;
+    assert!(rt; tree == other);
+    other.set(path(rt, alloc, "c"), 1)?;
+    assert!(rt; tree != other);
+    other.set(path(rt, alloc, "c"), 0)?;
+    other.add(path(rt, alloc, "c/d/e"))?;
+    assert!(rt; tree != other);
+    Ok(())
+}
+
+// Trees are equal by their paths and values, however they were made.
+#[test]
+fn equality(rt: HostRuntime) {
+    let alloc = rt.alloc();
+    assert!(rt;
+        compares_trees(&rt, alloc)
+            .or_else(|_| compares_trees(&rt, alloc))
+            .is_ok()
+    );
+}
+
+fn clones_texts<R: Abort>(rt: &R, alloc: Global) -> Result<(), AllocError> {
+    let mut tree: RepoPathTree<Option<String>> = RepoPathTree::default(alloc);
+    let text = String::from_str(alloc, "text")?;
+    tree.set(path(rt, alloc, "a/b"), Some(text))?;
+    let copy = tree.clone()?;
+    tree.set(path(rt, alloc, "a/b"), None)?;
+    match copy.get(path(rt, alloc, "a/b")) {
+        Some(node) => match node.value() {
+            Some(text) => assert_eq!(rt; text.as_str(), "text"),
+            None => panic!(rt; "the copy has texts of its own"),
+        },
+        None => panic!(rt; "the copy holds a/b"),
+    }
+    assert!(rt; copy.value().is_none());
+    Ok(())
+}
+
+// Values may be texts, which are equal to their clones and not the same.
+#[test]
+fn clones_of_texts(rt: HostRuntime) {
+    let alloc = rt.alloc();
+    assert!(rt;
+        clones_texts(&rt, alloc)
+            .or_else(|_| clones_texts(&rt, alloc))
+            .is_ok()
+    );
+}
+
 // A name of four digits, written by the caller's number.
 fn numbered(alloc: Global, number: u32) -> Result<String, AllocError> {
     format!(in alloc; "{number:04}")
@@ -221,7 +276,7 @@ fn adds_in_descending_order<R: Abort>(rt: &R, alloc: Global) -> Result<(), Alloc
     let mut tree: RepoPathTree<u32> = RepoPathTree::default(alloc);
     for number in (0u32..2000).rev() {
         match RepoPathBuf::from_internal_string(numbered(alloc, 2 * number)?) {
-            Ok(added) => tree.set(alloc, added.as_path(), number)?,
+            Ok(added) => tree.set(added.as_path(), number)?,
             Err(_) => panic!(rt; "digits are a path"),
         }
     }
@@ -271,7 +326,7 @@ fn drops_a_deep_tree<R: Abort>(rt: &R, alloc: Global) -> Result<(), AllocError> 
     match RepoPathBuf::from_internal_string(text) {
         Ok(deep) => {
             let mut tree: RepoPathTree<u32> = RepoPathTree::default(alloc);
-            tree.set(alloc, deep.as_path(), 3)?;
+            tree.set(deep.as_path(), 3)?;
             match tree.get(deep.as_path()) {
                 Some(leaf) => assert_eq!(rt; *leaf.value(), 3),
                 None => panic!(rt; "the path was added"),

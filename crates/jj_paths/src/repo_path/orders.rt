@@ -1,16 +1,16 @@
 //! Equality, order, hashes and copies of names and paths: names by their bytes, paths name by name. A borrowed name or
 //! path has the order and the hash of the owned one.
-ghost use Rattle.std.specs.Prelude.{◌≡◌, Some, refl};
+ghost use Rattle.std.specs.Prelude.{◌≡◌, ◌≢◌, Some, refl};
 ghost use Rattle.std.specs.Str.{bytes_eq};
 ghost use Rattle.std.specs.Cmp;
 ghost use Rattle.std.specs.Cmp.{on_total, on_equiv, po};
-ghost use Rattle.std.specs.Cmp.Lexicographic.{nat_list_eq_equiv, nat_list_cmp_total, texts_po, texts_ties};
+ghost use Rattle.std.specs.Cmp.Lexicographic.{slice_cmp, nat_list_eq_equiv, nat_list_cmp_total, texts_po, texts_ties};
 ghost use Rattle.std.specs.Cmp.Rules.{hashing};
 ghost use Rattle.std.specs.Hash as fed;
 ghost use Rattle.std.proofs.Common.{rules};
 ghost use Rattle.jj_paths.specs.Paths.{name_cmp, path_cmp};
 ghost use Rattle.jj_paths.specs.Names.{name_of, path_of};
-ghost use Rattle.jj_paths.specs.Orders.{path_eq, path_eq_equiv, path_cmp_total, path_ties, path_po, path_hash, path_hash-respects_eq};
+ghost use Rattle.jj_paths.specs.Orders.{slash_cmp, path_eq, path_eq_equiv, path_cmp_total, path_ties, path_po, path_hash, path_hash-respects_eq};
 
 use super::{RepoPath, RepoPathBuf, RepoPathComponent, RepoPathComponentBuf};
 use std::alloc::AllocError;
@@ -215,7 +215,7 @@ impl<'a> Ord for RepoPath<'a> {
     ghost matches_eq = { λ a b. path_ties (path_of a) (path_of b) };
 
     fn cmp(&self, other: &RepoPath<'a>) -> Ordering {
-        self.components().cmp(other.components())
+        slash_first(self.value.as_bytes(), other.value.as_bytes())
     }
 }
 
@@ -226,5 +226,32 @@ impl<'a> Hash for RepoPath<'a> {
 
     fn hash<H: Hasher>(&self, state: &mut H) {
         self.value.hash(state);
+    }
+}
+
+// Texts by their bytes, where a slash comes before all others: so a name that goes on comes behind one that has ended, and
+// the order is that of the lists of names.
+fn slash_first(mine: &[u8], theirs: &[u8]) -> Ordering
+    ensures { result ≡ slice_cmp slash_cmp mine.now theirs.now }
+{
+    for i in 0..mine.len().min(theirs.len()) {
+        if mine[i] != theirs[i] {
+            return unequal_bytes(mine[i], theirs[i]);
+        }
+    }
+    mine.len().cmp(&theirs.len())
+}
+
+// The order of two bytes that differ.
+fn unequal_bytes(mine: u8, theirs: u8) -> Ordering
+    requires { mine ≢ theirs }
+    ensures { result ≡ slash_cmp mine theirs }
+{
+    if mine == b'/' {
+        Ordering::Less
+    } else if theirs == b'/' {
+        Ordering::Greater
+    } else {
+        mine.cmp(&theirs)
     }
 }

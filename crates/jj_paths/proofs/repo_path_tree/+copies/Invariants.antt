@@ -1,6 +1,7 @@
-use Rattle.std.proofs.Common.{◌≡◌, take}
+use Rattle.std.proofs.Common.{take}
+use Rattle.jj_paths.specs.Tree.{branches_of, AreClones}
 use Rattle.jj_paths.proofs.repo_path_tree.+copies.Given as goal
 
--- the children so far were copied
+-- the children so far were cloned
 abbrev pub invariant-RepoPathNode::clone-loop-name : goal.invariant-RepoPathNode::clone-loop-name
-invariant-RepoPathNode::clone-loop-name g l = l.entries.items ≡ take l.name-index l.name-items
+invariant-RepoPathNode::clone-loop-name g l = AreClones g.V.Clone.is_clone (branches_of (take l.name-index l.name-items)) (branches_of l.entries.items)

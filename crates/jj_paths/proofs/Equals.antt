@@ -1,0 +1,45 @@
+-- Trees are compared by their values, and then child by child.
+use Rattle.std.proofs.Common.{◌≡◌, ◌≢◌, suc, Bool, true, false, not, ◌&&◌, List, length, refl, ap, sym, ◌∙◌}
+use Rattle.std.proofs.Math.Bool.{and-false}
+use mathlib.Core.Bool.{false≢true}
+use Rattle.std.proofs.lemmas.Bool.{and_parts}
+use Rattle.std.specs.Str.{bytes_eq}
+use Rattle.jj_paths.specs.Paths.{Name}
+use Rattle.jj_paths.specs.Tree.{Tree, Branches, none, branch, branches_of, children}
+use Rattle.jj_paths.specs.Equal.{branches_eq, tree_eq}
+
+module _ {V : Type 0} (eq : V → V → Bool) where
+  same_length : (b c : Branches V) → branches_eq eq b c ≡ true → length (children b) ≡ length (children c)
+  same_length none none e = refl
+  same_length none (branch m w c d) e = absurd (false≢true e)
+  same_length (branch n v a b) none e = absurd (false≢true e)
+  same_length (branch n v a b) (branch m w c d) e =
+      let names = and_parts (bytes_eq n m) _ e in
+      let values = and_parts (eq v w) _ names.1 in
+      let both = and_parts (branches_eq eq a c) _ values.1 in
+      ap suc (same_length b d both.1)
+
+  pub unequal_lengths : (s t : Tree V) → length (children s.1) ≢ length (children t.1) → false ≡ tree_eq eq s t
+  unequal_lengths s t differ = by_cases (branches_eq eq s.1 t.1) refl
+    where
+      by_cases : (r : Bool) → branches_eq eq s.1 t.1 ≡ r → false ≡ (eq s.0 t.0 && branches_eq eq s.1 t.1)
+      by_cases true e = absurd (differ (same_length s.1 t.1 e))
+      by_cases false e = rw e (sym (and-false (eq s.0 t.0)))
+
+  not_unequal : (b : Bool) → false ≡ not b → b ≡ true
+  not_unequal true e = refl
+  not_unequal false e = absurd (false≢true e)
+
+  children_as_branches : (b : Branches V) → branches_of (children b) ≡ b
+  children_as_branches none = refl
+  children_as_branches (branch n v b a) = ap (branch n v b) (children_as_branches a)
+
+  -- where the values are equal, the children decide
+  pub children_decide : (s t : Tree V) (v w : V) (b c : Branches V) (mine theirs : List (Name × Tree V)) → (v, b) ≡ s → (w, c) ≡ t → false ≡ not (eq v w) → mine ≡ children s.1 → theirs ≡ children t.1 →
+      tree_eq eq s t ≡ branches_eq eq (branches_of mine) (branches_of theirs)
+  children_decide s t v w b c mine theirs is is' e m n =
+      ap (λ x. eq x.0 t.0 && branches_eq eq s.1 t.1) (sym is)
+      ∙ ap (λ x. eq v x.0 && branches_eq eq s.1 t.1) (sym is')
+      ∙ ap (λ r. r && branches_eq eq s.1 t.1) (not_unequal (eq v w) e)
+      ∙ ap (λ x. branches_eq eq x t.1) (sym (ap branches_of m ∙ children_as_branches s.1))
+      ∙ ap (λ x. branches_eq eq (branches_of mine) x) (sym (ap branches_of n ∙ children_as_branches t.1))
