@@ -1,5 +1,5 @@
 -- The terms and the counts of flattened merges.
-use Rattle.std.proofs.Common.{◌≡◌, ℕ, ◌+◌, ◌-◌, ◌*◌, ◌/◌, ◌%◌, ◌<◌, ◌≤◌, suc, zero, Bool, true, false, cond, List, [], ◌∷◌, ◌++◌, length, All, refl, ap, arith, sym, ◌∙◌, append_assoc, append-nil, length-append}
+use Rattle.std.proofs.Common.{◌≡◌, ℕ, ◌+◌, ◌%◌, suc, Bool, cond, List, [], ◌∷◌, ◌++◌, length, All, refl, ap, arith, sym, ◌∙◌, append_assoc, append-nil, length-append}
 use Rattle.std.specs.Prelude.{count_by, pos, ◌-ℤ◌}
 use Rattle.std.proofs.lemmas.Int.{ints}
 use Rattle.std.proofs.lemmas.List.Elements.{All-head, All-tail, All-nil, All-cons}

@@ -1,26 +1,24 @@
 -- The laws of the places that `simplify` keeps, and that a second `simplify` keeps them all.
-use Rattle.std.proofs.Common.{◌≡◌, ◌≢◌, ℕ, ◌+◌, ◌-◌, ◌*◌, ◌/◌, ◌%◌, ◌<◌, ◌≤◌, ◌⊎◌, suc, zero, Bool, true, false, cond, List, [], ◌∷◌, ◌++◌, length, map, Option, Some, None, refl, ap, subst, arith, get_or, sym, ◌∙◌, All, IsPermutation, inl, inr, append_assoc}
-use Rattle.std.specs.Prelude.{slice_index, slice_get, count_by, nat_lt, nat_eq, AllPairs}
-use Rattle.std.specs.List.{range_with_len, position_or_len, IsDistinct}
-use Rattle.std.specs.List.Sorted.{IsStrictlyIncreasing}
-use Rattle.std.specs.Cmp.{IsPartialEquivalence, IsEquivalence}
-use Rattle.std.proofs.lemmas.Bool.{false≢true, ltb-false, lt-ltb, ltb-true}
+use Rattle.std.proofs.Common.{◌≡◌, ◌≢◌, ℕ, ◌+◌, ◌*◌, ◌%◌, ◌<◌, suc, zero, Bool, false, List, [], ◌∷◌, ◌++◌, length, map, Some, refl, ap, subst, arith, get_or, sym, ◌∙◌, IsPermutation, inl, inr, append_assoc}
+use Rattle.std.specs.Prelude.{slice_index, slice_get, nat_lt, nat_eq, AllPairs}
+use Rattle.std.specs.List.{range_with_len}
+use Rattle.std.proofs.lemmas.Bool.{ltb-true}
 use Rattle.std.proofs.lemmas.Bool.Decides.{Decides-eqb}
 use Rattle.std.proofs.lemmas.List.{get_or_append_left}
-use Rattle.std.proofs.lemmas.Option.{slice_get_cases, slice_get_read, get_or_from_slice_get, slice_get-get_or, slice_get_within}
+use Rattle.std.proofs.lemmas.Option.{slice_get_cases, get_or_from_slice_get}
 use Rattle.std.proofs.lemmas.List.Sorted.{IsPermutation-refl, IsPermutation-sym, IsPermutation-trans, IsPermutation-cons, IsPermutation-append, IsPermutation-append_comm, IsPermutation-append_left, IsPermutation-append_right}
 use Rattle.std.proofs.lemmas.List.Sums.{position_or_len_is}
-use Rattle.std.proofs.lemmas.List.{length-append, length-map}
+use Rattle.std.proofs.lemmas.List.{length-append}
 use Rattle.std.proofs.lemmas.List.FromFn.{length-range_with_len, get_or-range_with_len}
 use Rattle.std.proofs.lemmas.Map.Keys.{IsDistinct-IsPermutation}
 use Rattle.std.proofs.lemmas.Map.Made.{IsDistinct-from_AllPairs, AllPairs-from_IsDistinct}
 use Rattle.jj_merges.specs.Merge as merge
 use Rattle.jj_merges.specs.Merge.{by_turns, HaveSameCounts, IsDisjoint}
-use Rattle.jj_merges.specs.Simplify.{Sides, LeavesOutPairs, NoneEqual, AreKept, first_equal, cancel, simplified_from, both_equal, same_term, all_sides, kept_sides, kept_places, at_places}
+use Rattle.jj_merges.specs.Simplify.{Sides, LeavesOutPairs, NoneEqual, AreKept, first_equal, simplified_from, both_equal, same_term, all_sides, kept_sides, kept_places, at_places}
 use Rattle.jj_merges.proofs.Sides.{length-adds, length-removes, slice_get-adds, slice_get-removes}
 use Rattle.jj_merges.proofs.Changes.{get_or-adds, get_or-removes}
-use Rattle.jj_merges.proofs.Cancel.{by_test, removes_rise, All-front}
-use Rattle.jj_merges.proofs.Kept.{same_answer, at_places-all, adds-by_turns, removes-by_turns, kept_leaves_out, kept_none_equal, length-kept_sides, length-all_sides, all_adds, all_rise}
+use Rattle.jj_merges.proofs.Cancel.{by_test, removes_rise}
+use Rattle.jj_merges.proofs.Kept.{same_answer, at_places-all, adds-by_turns, removes-by_turns, kept_leaves_out, kept_none_equal, length-kept_sides, all_adds, all_rise}
 
 -- a list has the elements of its adds and removes
 pub IsPermutation-sides : {X : Type 0} (xs : List X) → IsPermutation xs (merge.adds xs ++ merge.removes xs)

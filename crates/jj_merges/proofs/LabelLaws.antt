@@ -1,12 +1,12 @@
 -- Labels as texts: those of a merge, of its adds and removes, and of places.
-use Rattle.std.proofs.Common.{◌≡◌, ◌≢◌, ℕ, ◌+◌, ◌*◌, ◌/◌, ◌%◌, ◌<◌, ◌≤◌, ◌⊎◌, suc, zero, Bool, true, false, cond, List, [], ◌∷◌, length, map, Option, Some, None, refl, ap, arith, sym, ◌∙◌, inl, inr}
-use Rattle.std.specs.Prelude.{slice_get, nat_lt, ◌||◌}
-use Rattle.std.specs.List.{list_all, filter_map, cons_option, AllZip}
+use Rattle.std.proofs.Common.{◌≡◌, ℕ, ◌<◌, suc, zero, true, false, cond, List, [], ◌∷◌, length, map, Some, None, refl, ap, arith, ◌∙◌}
+use Rattle.std.specs.Prelude.{slice_get}
+use Rattle.std.specs.List.{cons_option, AllZip}
 use Rattle.std.specs.Option.{option_map}
 use Rattle.std.proofs.lemmas.Option.{slice_get-map}
 use Rattle.jj_merges.specs.Merge.{adds, removes}
 use Rattle.jj_merges.specs.Simplify.{at_places}
-use Rattle.jj_merges.specs.Labels.{say_nothing, labels_of, AreNormal, merge_of, nonempty}
+use Rattle.jj_merges.specs.Labels.{say_nothing, labels_of, AreNormal, nonempty}
 
 mutual
   pub adds-map : {A B : Type 0} (f : A → B) (xs : List A) → adds (map f xs) ≡ map f (adds xs)

@@ -1,5 +1,5 @@
 -- When the terms of a merge in the making make a merge.
-use Rattle.std.proofs.Common.{◌≡◌, ℕ, ◌%◌, ◌<◌, List, length, arith}
+use Rattle.std.proofs.Common.{◌<◌, length, arith}
 use Rattle.jj_merges.specs.Odd.{IsOdd}
 use Rattle.jj_merges.specs.Terms.{items, HoldsOne, IsMany, IsSound}
 use Rattle.jj_merges.specs.declared.merge.storage.Terms.{Terms}

@@ -1,10 +1,10 @@
 -- What writing at the places that `simplify` keeps makes of a merge.
-use Rattle.std.proofs.Common.{◌≡◌, ◌≢◌, ℕ, ◌+◌, ◌-◌, ◌*◌, ◌/◌, ◌%◌, ◌<◌, ◌≤◌, ◌⊎◌, suc, zero, Bool, true, false, cond, List, [], ◌∷◌, ◌++◌, length, map, drop, Option, Some, None, refl, ap, subst, arith, get_or, sym, ◌∙◌, All, IsPermutation, inl, inr}
-use Rattle.std.specs.Prelude.{slice_index, slice_get, slice_set, count_by, AllPairs, pos, ◌-ℤ◌}
-use Rattle.std.specs.List.{AllZip, filter_map, range_with_len}
-use Rattle.std.specs.Cmp.{IsPartialEquivalence, IsEquivalence}
-use Rattle.std.proofs.lemmas.List.{length-set, get_or-set_same, get_or-set_other}
-use Rattle.std.proofs.lemmas.Option.{slice_get_cases, slice_get_within}
+use Rattle.std.proofs.Common.{◌≡◌, ◌≢◌, ℕ, ◌+◌, ◌%◌, ◌<◌, suc, zero, Bool, cond, List, [], ◌∷◌, ◌++◌, length, map, Some, refl, ap, arith, get_or, sym, ◌∙◌, All, inl, inr}
+use Rattle.std.specs.Prelude.{slice_get, slice_set, count_by, AllPairs}
+use Rattle.std.specs.List.{AllZip}
+use Rattle.std.specs.Cmp.{IsPartialEquivalence}
+use Rattle.std.proofs.lemmas.List.{length-set}
+use Rattle.std.proofs.lemmas.Option.{slice_get_cases}
 use Rattle.std.proofs.lemmas.List.Elements.{All-head, All-tail}
 use Rattle.std.proofs.lemmas.List.Sorted.{sum_by-IsPermutation}
 use Rattle.std.proofs.lemmas.List.Sums.{sum_by-append, sum_by-cons}
@@ -15,8 +15,8 @@ use Rattle.jj_merges.specs.Simplify.{both_equal}
 use Rattle.jj_merges.specs.Merge as merge
 use Rattle.jj_merges.specs.Merge.{AreEqual, HaveSameCounts, signed_count}
 use Rattle.jj_merges.specs.Simplify.{same_term, all_sides, kept_sides, kept_places, at_places}
-use Rattle.jj_merges.proofs.Kept.{count-pairs, count-at_places, is_value_at, is_value_at-same, kept_leaves_out, kept_found, signed_counts_equal, adds-all, removes-all, adds-filter_map, removes-filter_map, AllFound}
-use Rattle.jj_merges.proofs.KeptLaws.{all_places, sides-kept, apart_permutation, are_kept}
+use Rattle.jj_merges.proofs.Kept.{count-pairs, count-at_places, is_value_at, is_value_at-same, kept_leaves_out, signed_counts_equal, adds-all, removes-all, adds-filter_map, removes-filter_map, AllFound}
+use Rattle.jj_merges.proofs.KeptLaws.{all_places, sides-kept, apart_permutation}
 
 module _ {T : Type 0} where
   -- the values ns written at the places ps, one after another

@@ -1,6 +1,11 @@
 //! Labels of the terms of a conflict.
 ghost use Rattle.std.specs.Prelude.{◌≡◌, ℕ, ◌+◌, ◌*◌, ◌<◌, ◌≤◌, ◌⊎◌, [], ◌∷◌, map, length, nat_lt, slice_get, string_bytes, IsTrue, ◌↔◌, ◌≢◌, IfOk, MatchOption};
+ghost use Rattle.std.specs.Cmp;
+ghost use Rattle.std.specs.Cmp.Lexicographic.{pointwise, lists_per, lists_equiv, nat_list_eq_equiv, bytes_decides};
+ghost use Rattle.std.specs.Hash as fed;
+ghost use Rattle.std.specs.Hash.{items_Alike, same_Alike};
 ghost use Rattle.std.specs.List.{AllZip, list_all};
+ghost use Rattle.std.specs.Str.{bytes_eq};
 ghost use Rattle.std.specs.Option.{option_copied, option_map};
 ghost use Rattle.jj_merges.specs.Odd.{IsOdd};
 ghost use Rattle.jj_merges.specs.Merge.{adds, removes};
@@ -11,6 +16,7 @@ use crate::merge::{Merge, simplified};
 use smallvec::SmallVec;
 use std::alloc::{AllocError, Global};
 use std::fmt;
+use std::hash::{Hash, Hasher};
 use std::marker::Model;
 
 /// The labels of a conflict's terms, or none. Labels that are all empty, or of a resolved merge, are dropped.
@@ -165,6 +171,41 @@ fn shown(label: Option<&String>) -> Option<&str>
     match label {
         Some(text) if !text.is_empty() => Some(text.as_str()),
         _ => None,
+    }
+}
+
+/// Labels are cloned on the allocator of the first one.
+impl Clone for ConflictLabels {
+    ghost is_clone = { λ labels c. c ≡ labels };
+
+    fn clone(&self) -> Result<Self, AllocError> {
+        let alloc = *self.labels.first().allocator();
+        let labels = self.labels.clone(alloc)?;
+        Ok(ConflictLabels { labels })
+    }
+}
+
+impl PartialEq for ConflictLabels {
+    ghost eq = { pointwise bytes_eq };
+
+    ghost laws = { lists_per (Cmp.partial_equiv_from_equiv nat_list_eq_equiv) };
+
+    fn eq(&self, other: &Self) -> bool {
+        self.as_slice() == other.as_slice()
+    }
+}
+
+impl Eq for ConflictLabels {
+    ghost laws = { lists_equiv nat_list_eq_equiv };
+}
+
+impl Hash for ConflictLabels {
+    ghost hash_input = { fed.slice fed.str };
+
+    ghost respects_eq = { (items_Alike (same_Alike fed.str bytes_decides)).fed };
+
+    fn hash<H: Hasher>(&self, state: &mut H) {
+        self.as_slice().hash(state);
     }
 }
 

@@ -13,11 +13,13 @@ ghost use Rattle.jj_merges.specs.Simplify.{kept_places, at_places};
 
 mod builder;
 mod changes;
+mod contents;
 mod diffs;
 mod every_second;
 mod flatten;
 mod images;
 mod into_iter;
+mod legacy;
 mod options;
 pub(crate) mod simplified;
 mod simplifies;
@@ -97,10 +99,7 @@ impl<T> Merge<T> {
         ensures terms { result.now ≡ self.now }
         ensures odd { IsOdd (length self.now) }
     {
-        match &self.terms {
-            Terms::One(values) => values.as_slice(),
-            Terms::Many(values) => values.as_slice(),
-        }
+        self.terms.as_slice()
     }
 
     /// The terms, one after another.

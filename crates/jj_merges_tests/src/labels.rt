@@ -6,14 +6,49 @@ use std::alloc::{AllocError, Global};
 use std::process::Abort;
 use std::test::Fail;
 
-/// Labels of these texts, which commas part.
-fn labels_of<R: Abort>(rt: &R, alloc: Global, texts: &str) -> Result<ConflictLabels, AllocError> {
+/// The parts of a text, which commas part.
+fn parts(alloc: Global, texts: &str) -> Result<Vec<String>, AllocError> {
     let mut labels = Vec::new(alloc);
     for text in texts.split(',') {
         labels.push(String::from_str(alloc, text)?)?;
     }
+    Ok(labels)
+}
+
+/// Labels of these texts, which commas part.
+fn labels_of<R: Abort>(rt: &R, alloc: Global, texts: &str) -> Result<ConflictLabels, AllocError> {
+    let labels = parts(alloc, texts)?;
     assert!(rt; labels.len() % 2 == 1);
     Ok(ConflictLabels::from_vec(SmallVec::from_vec(labels)))
+}
+
+/// The same by way of a merge.
+fn merged<R: Abort>(rt: &R, alloc: Global, texts: &str) -> Result<ConflictLabels, AllocError> {
+    let labels = parts(alloc, texts)?;
+    assert!(rt; labels.len() % 2 == 1);
+    let labels = Merge::from_vec(SmallVec::from_vec(labels));
+    Ok(ConflictLabels::from_merge(labels))
+}
+
+/// Whether labels of a vector are those of a merge, their own clone, and of these texts.
+fn agree<R: Abort>(rt: &R, alloc: Global, texts: &str) -> Result<bool, AllocError> {
+    let labels = labels_of(rt, alloc, texts)?;
+    let shown = labels.as_slice() == parts(alloc, texts)?.as_slice();
+    Ok(shown && labels == merged(rt, alloc, texts)? && labels == labels.clone()?)
+}
+
+#[test]
+fn equal_labels(rt: HostRuntime) -> Result<(), Fail> {
+    let alloc = rt.alloc();
+    let texts = "left,base,right";
+    assert!(rt; agree(&rt, alloc, texts).or_else(|_| agree(&rt, alloc, texts))?);
+    let labels = labels_of(&rt, alloc, texts).or_else(|_| labels_of(&rt, alloc, texts))?;
+    let none = ConflictLabels::from_vec(SmallVec::new(alloc));
+    assert!(rt; none == ConflictLabels::unlabeled(alloc));
+    assert!(rt; labels != none);
+    let other = merged(&rt, alloc, "left,,right").or_else(|_| merged(&rt, alloc, "left,,right"))?;
+    assert!(rt; labels != other);
+    Ok(())
 }
 
 fn digits_of(alloc: Global, labels: &ConflictLabels) -> Result<String, AllocError> {

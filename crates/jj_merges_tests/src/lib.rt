@@ -2,9 +2,13 @@
 #![tactic(auto)]
 
 #[cfg(test)]
+mod contents;
+#[cfg(test)]
 mod fixtures;
 #[cfg(test)]
 mod labels;
+#[cfg(test)]
+mod made;
 #[cfg(test)]
 mod merges;
 #[cfg(test)]

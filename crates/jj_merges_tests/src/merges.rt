@@ -11,6 +11,8 @@ fn diffs(rt: HostRuntime) {
     assert!(rt; diff.is_changed());
     assert!(rt; !Diff::new(1, 1).is_changed());
     assert!(rt; diff.as_ref() == Diff::new(&1, &2));
+    let copy = diff;
+    assert!(rt; copy == diff);
     assert!(rt; diff.map(|x: u32| x.wrapping_add(2)) == Diff::new(3, 4));
     assert!(rt; Diff::new(1, 2).zip(Diff::new(3, 4)) == Diff::new((1, 3), (2, 4)));
     assert!(rt; Diff::new(1, 2).invert() == Diff::new(2, 1));
@@ -72,11 +74,19 @@ fn padded<R: Abort>(rt: &R, alloc: Global) -> Result<Merge<u32>, AllocError> {
     Ok(one)
 }
 
+fn padded_with_twos<R: Abort>(rt: &R, alloc: Global) -> Result<Merge<u32>, AllocError> {
+    let mut one = merge(rt, alloc, "1")?;
+    one.pad_to(alloc, 3, &2)?;
+    Ok(one)
+}
+
 #[test]
 fn pad_and_repeat(rt: HostRuntime) -> Result<(), Fail> {
     let alloc = rt.alloc();
     let long = padded(&rt, alloc).or_else(|_| padded(&rt, alloc))?;
     assert_eq!(rt; long.as_slice(), [1, 0, 0, 0, 0].as_slice());
+    let long = padded_with_twos(&rt, alloc).or_else(|_| padded_with_twos(&rt, alloc))?;
+    assert_eq!(rt; long.as_slice(), [1, 2, 2, 2, 2].as_slice());
     let four = Merge::repeated(alloc, 4u32, 2).or_else(|_| Merge::repeated(alloc, 4u32, 2))?;
     assert_eq!(rt; four.as_slice(), [4, 4, 4].as_slice());
     Ok(())

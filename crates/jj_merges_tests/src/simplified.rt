@@ -14,7 +14,7 @@ const SIMPLIFIED: [&str; 7] = [
     "01023 01023,01100 0,01101 1,01102 2,01110 010,01111 0,01112 012,01120 020,01121 021,01122 0",
     "01123 023,01200 012,01201 2,01202 212,01203 312,01210 01210,01211 012,01212 01212,01213 01213",
     "01220 010,01221 0,01222 012,01223 013,01230 01230,01231 032,01232 01232,01233 012,01234 01234",
-    "0123451 03452,0031324 31324",
+    "0123451 03452,0031324 31324,00120 120,00121 121,00122 1,00123 123",
 ];
 
 /// Terms, and the places that are kept.
@@ -25,7 +25,7 @@ const KEPT: [&str; 7] = [
     "01023 01234,01100 4,01101 2,01102 4,01110 034,01111 0,01112 034,01120 034,01121 034,01122 0",
     "01123 034,01200 412,01201 2,01202 412,01203 412,01210 01234,01211 032,01212 01234,01213 01234",
     "01220 014,01221 0,01222 014,01223 014,01230 01234,01231 032,01232 01234,0123451 03452",
-    "01234 01234,20311 012",
+    "01234 01234,20311 012,100 0,102 012",
 ];
 
 fn simplified<R: Abort>(rt: &R, alloc: Global, terms: &str) -> Result<Merge<u32>, AllocError> {
@@ -41,6 +41,42 @@ fn simplify(rt: HostRuntime) -> Result<(), Fail> {
             let left = simplified(&rt, alloc, terms).or_else(|_| simplified(&rt, alloc, terms))?;
             let wanted = merge(&rt, alloc, wanted).or_else(|_| merge(&rt, alloc, wanted))?;
             assert!(rt; left == wanted, "{terms} leaves {left:?}");
+        }
+    }
+    Ok(())
+}
+
+/// Terms, those of an update, and the terms with the update.
+const UPDATED: [&str; 2] = [
+    "0 1 1,000 1 001,100 2 200,102 213 213,00000 1 00001,00010 231 00231,01000 231 03102",
+    "20314 31425 31425,01223 987 98227,0031324 81924 0081924",
+];
+
+fn updated<R: Abort>(
+    rt: &R,
+    alloc: Global,
+    terms: &str,
+    update: &str,
+) -> Result<Merge<u32>, AllocError> {
+    let whole = merge(rt, alloc, terms)?;
+    let update = merge(rt, alloc, update)?;
+    let left = whole.simplify(alloc)?;
+    assert_eq!(rt; update.as_slice().len(), left.as_slice().len());
+    whole.update_from_simplified(alloc, update)
+}
+
+#[test]
+fn update_from_simplified(rt: HostRuntime) -> Result<(), Fail> {
+    let alloc = rt.alloc();
+    for rows in UPDATED {
+        for row in rows.split(',') {
+            let (terms, columns) = row.split_once(' ').ok_or("three columns")?;
+            let (update, wanted) = columns.split_once(' ').ok_or("three columns")?;
+            let whole = updated(&rt, alloc, terms, update).or_else(|_| updated(
+                &rt, alloc, terms, update,
+            ))?;
+            let wanted = merge(&rt, alloc, wanted).or_else(|_| merge(&rt, alloc, wanted))?;
+            assert!(rt; whole == wanted, "{terms} with {update} is {whole:?}");
         }
     }
     Ok(())

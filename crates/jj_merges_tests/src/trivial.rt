@@ -72,6 +72,7 @@ fn long<const N: usize>(add: u32, remove: u32, last: u32) -> [u32; N] {
     terms
 }
 
+/// These terms too are in the test's own memory.
 #[test]
 fn long_merges(rt: HostRuntime) {
     let terms: [u32; 2001] = long(5, 6, 6);
@@ -80,6 +81,25 @@ fn long_merges(rt: HostRuntime) {
     let terms: [u32; 2001] = long(5, 6, 7);
     assert_outcome(&rt, &terms, SameChange::Accept, None);
     assert_outcome(&rt, &terms, SameChange::Keep, None);
+    let terms: [u32; 2001] = [7; 2001];
+    assert_outcome(&rt, &terms, SameChange::Accept, Some(7));
+    assert_outcome(&rt, &terms, SameChange::Keep, Some(7));
+    let terms = doubled();
+    assert_outcome(&rt, &terms, SameChange::Accept, Some(1000));
+    assert_outcome(&rt, &terms, SameChange::Keep, Some(1000));
+}
+
+/// The numbers from 0 on, each twice, and 1000 once.
+fn doubled() -> [u32; 2001] {
+    let mut terms = [0u32; 2001];
+    let mut number = 0u32;
+    for place in 0..2001usize {
+        terms[place] = number;
+        if place % 2 == 1 {
+            number = number.wrapping_add(1);
+        }
+    }
+    terms
 }
 
 #[test]

@@ -1,13 +1,17 @@
 //! Merges made of the items of iterators.
-ghost use Rattle.std.specs.Prelude.{◌≡◌, ◌++◌, [], ◌∷◌, List, length, IfOk};
+ghost use Rattle.std.specs.Prelude.{◌≡◌, ◌+◌, ◌++◌, [], ◌∷◌, List, length, IfOk};
+ghost use Rattle.std.specs.Cmp.Lexicographic.{pointwise, lists_per, lists_equiv};
 ghost use Rattle.std.specs.Iterator.{Drains, ExtendsWithItems, IsFinite};
+ghost use Rattle.std.specs.List.{AllZip};
 ghost use Rattle.jj_merges.specs.Odd.{IsOdd};
 ghost use Rattle.jj_merges.specs.Terms.{items};
-ghost use Rattle.jj_merges.specs.Made.{Appends, diff_terms};
+ghost use Rattle.jj_merges.specs.Made.{Appends, Gives, diff_terms};
+ghost use Rattle.jj_merges.specs.Merge as merge;
 
 use super::storage::Terms;
 use super::{Diff, Merge};
 use std::alloc::{AllocError, Global};
+use std::fmt;
 use std::marker::Model;
 
 /// The terms of a merge to come, seen as their list.
@@ -67,7 +71,71 @@ impl<T: Drop> MergeBuilder<T> {
     }
 }
 
+impl<T: Clone> MergeBuilder<T> {
+    /// The same terms, each a clone.
+    pub fn clone(&self, alloc: Global) -> Result<Self, AllocError>
+        ensures { IfOk result (λ b. AllZip T.is_clone self.now b) }
+    {
+        let terms = Terms::clones_of(alloc, self.terms.as_slice())?;
+        Ok(MergeBuilder { terms })
+    }
+}
+
+impl<T: PartialEq> PartialEq for MergeBuilder<T> {
+    ghost eq = { pointwise T.eq };
+
+    ghost laws = { lists_per T.laws };
+
+    fn eq(&self, other: &Self) -> bool {
+        self.terms.as_slice() == other.terms.as_slice()
+    }
+}
+
+impl<T: Eq> Eq for MergeBuilder<T> {
+    ghost laws = { lists_equiv T.Eq.laws };
+}
+
+impl<T: fmt::Debug> fmt::Debug for MergeBuilder<T> {
+    fn fmt<W: fmt::Write>(&self, f: &mut fmt::Formatter<W>) -> fmt::Result {
+        f.debug_struct("MergeBuilder")
+            .field("values", &self.terms.as_slice())
+            .finish()
+    }
+}
+
 impl<T: Drop> Merge<T> {
+    /// The first of the adds, and then each remove with the add after it.
+    pub fn from_removes_adds<R: IntoIterator<Item = T>, A: IntoIterator<Item = T>>(
+        alloc: Global,
+        removes: R,
+        adds: A,
+    ) -> Result<Self, AllocError>
+        requires removes_end { (it : R.IntoIter) → R.into_iter_gives removes it → R.IntoIter.can_next it × IsFinite (R.IntoIter.remaining it) }
+        requires adds_end { (it : A.IntoIter) → A.into_iter_gives adds it → A.IntoIter.can_next it × IsFinite (A.IntoIter.remaining it) }
+        requires one_more { (xs ys : List T) → Gives R.into_iter_gives R.IntoIter.next_gives removes xs → Gives A.into_iter_gives A.IntoIter.next_gives adds ys → length ys ≡ length xs + 1 }
+        ensures removes { IfOk result (λ m. Gives R.into_iter_gives R.IntoIter.next_gives removes (merge.removes m)) }
+        ensures adds { IfOk result (λ m. Gives A.into_iter_gives A.IntoIter.next_gives adds (merge.adds m)) }
+    {
+        let removes = removes.into_iter();
+        let mut adds = adds.into_iter();
+        let (room, _) = removes.size_hint();
+        let mut terms = Terms::with_room(alloc, room.saturating_mul(2).saturating_add(1))?;
+        let mut add = adds.next();
+        for remove in removes {
+            if let Some(value) = add {
+                terms.push(alloc, value)?;
+                terms.push(alloc, remove)?;
+                add = adds.next();
+            }
+        }
+        match add {
+            Some(value) => terms.push(alloc, value)?,
+            None => unreachable!(),
+        }
+        for _none in adds {}
+        Ok(Merge { terms })
+    }
+
     /// A first side, and then for each diff its value before as a remove and the one after as an add.
     pub fn from_diffs<U: IntoIterator<Item = Diff<T>>>(
         alloc: Global,

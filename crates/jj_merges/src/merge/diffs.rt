@@ -5,7 +5,7 @@ use std::alloc::{AllocError, Global};
 use std::ops::AsDeref;
 
 /// A value before a change and after it.
-#[derive(Debug, PartialEq, Eq, Drop)]
+#[derive(Clone, Copy, Debug, PartialEq, Eq, Drop)]
 pub struct Diff<T> {
     pub before: T,
     pub after: T,

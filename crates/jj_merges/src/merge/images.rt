@@ -193,11 +193,7 @@ impl<T: Clone> Merge<T> {
     pub fn clone(&self, alloc: Global) -> Result<Merge<T>, AllocError>
         ensures { IfOk result (λ m. AllZip T.is_clone self.now m) }
     {
-        let values = self.as_slice();
-        let mut terms = Terms::with_room(alloc, values.len())?;
-        for term in values {
-            terms.push(alloc, term.clone()?)?;
-        }
+        let terms = Terms::clones_of(alloc, self.as_slice())?;
         Ok(Merge { terms })
     }
 }

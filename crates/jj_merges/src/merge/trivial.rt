@@ -1,5 +1,5 @@
 //! Whether the terms of a merge have one outcome, by cancelling adds with equal removes.
-ghost use Rattle.std.specs.Prelude.{◌≡◌, ◌≢◌, ℕ, ◌+◌, ◌%◌, ◌<◌, ◌≤◌, ◌↔◌, length, take, count_by, IsTrue, IfSome, IfNone, Contains, slice_get, Some, slice_index_or};
+ghost use Rattle.std.specs.Prelude.{[], ◌∷◌, ◌⊎◌, ◌≡◌, ◌≢◌, ℕ, ◌+◌, ◌%◌, ◌<◌, ◌≤◌, ◌↔◌, length, take, count_by, IsTrue, IfSome, IfNone, Contains, slice_get, Some, slice_index_or};
 ghost use Rattle.jj_merges.specs.Odd.{IsOdd};
 ghost use Rattle.jj_merges.specs.Merge.{adds, removes};
 ghost use Rattle.jj_merges.specs.Decided.{IsDecided};
@@ -50,9 +50,31 @@ fn is_remove_left<T: Eq>(values: &[T], place: usize, value: &T) -> bool
     count_adds(values, value) <= count_removes(&values[..place], value)
 }
 
-/// The outcome of the terms, where their counts decide it.
-pub fn trivial_merge<T: Eq>(values: &[T], same_change: SameChange) -> Option<&T>
-    requires { IsOdd (length values.now) }
+/// The outcome of two adds over a remove, where their counts decide it.
+fn three_way<'a, T: Eq>(
+    first: &'a T,
+    remove: &'a T,
+    last: &'a T,
+    same_change: SameChange,
+) -> Option<&'a T>
+    ensures member { IfSome result (λ v. (v.now ≡ first.now) ⊎ (v.now ≡ last.now)) }
+    ensures decided { IfSome result (λ v. IsDecided T.eq same_change (first.now ∷ remove.now ∷ last.now ∷ []) v.now) }
+    ensures undecided { IfNone result ((v : T) → IsDecided T.eq same_change (first.now ∷ remove.now ∷ last.now ∷ []) v → ⊥) }
+{
+    if same_change == SameChange::Accept && first == last {
+        return Some(first);
+    }
+    if first == remove {
+        return Some(last);
+    }
+    if last == remove {
+        return Some(first);
+    }
+    None
+}
+
+/// The add that is left where the others cancel with equal removes, and where their counts then decide it.
+fn add_left<T: Eq>(values: &[T], same_change: SameChange) -> Option<&T>
     ensures member { IfSome result (λ v. Contains values.now v.now) }
     ensures decided { IfSome result (λ v. IsDecided T.eq same_change values.now v.now) }
     ensures undecided { IfNone result ((v : T) → IsDecided T.eq same_change values.now v → ⊥) }
@@ -88,6 +110,20 @@ pub fn trivial_merge<T: Eq>(values: &[T], same_change: SameChange) -> Option<&T>
         }
     }
     add
+}
+
+/// The outcome of the terms, where their counts decide it.
+pub fn trivial_merge<T: Eq>(values: &[T], same_change: SameChange) -> Option<&T>
+    requires { IsOdd (length values.now) }
+    ensures member { IfSome result (λ v. Contains values.now v.now) }
+    ensures decided { IfSome result (λ v. IsDecided T.eq same_change values.now v.now) }
+    ensures undecided { IfNone result ((v : T) → IsDecided T.eq same_change values.now v → ⊥) }
+{
+    match values {
+        [value] => Some(value),
+        [first, remove, last] => three_way(first, remove, last, same_change),
+        _ => add_left(values, same_change),
+    }
 }
 
 impl<T: Eq> Merge<T> {

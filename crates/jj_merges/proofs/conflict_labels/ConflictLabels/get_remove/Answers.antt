@@ -2,7 +2,7 @@ use Rattle.std.proofs.Common.{◌≡◌, ◌∙◌, ap, sym, map}
 use Rattle.std.specs.Prelude.{slice_get, string_bytes}
 use Rattle.std.specs.Option.{option_map}
 use Rattle.std.proofs.lemmas.Option.{slice_get-map}
-use Rattle.jj_merges.specs.Merge.{adds, removes}
+use Rattle.jj_merges.specs.Merge.{removes}
 use Rattle.jj_merges.specs.Labels.{nonempty}
 use Rattle.jj_merges.proofs.LabelLaws.{removes-map, nonempty-removes}
 use Rattle.jj_merges.proofs.conflict_labels.ConflictLabels.get_remove.Goals as goal

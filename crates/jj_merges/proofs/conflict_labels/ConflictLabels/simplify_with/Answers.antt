@@ -1,6 +1,5 @@
-use Rattle.std.proofs.Common.{◌≡◌, ◌∙◌, ◌<◌, ◌⊎◌, ap, sym, map, arith, rules, length, List, [], inl, inr}
+use Rattle.std.proofs.Common.{◌≡◌, ◌∙◌, ◌<◌, ap, sym, map, arith, rules, length, [], inl, inr}
 use Rattle.std.specs.Prelude.{string_bytes}
-use Rattle.std.specs.List.{AllZip}
 use Rattle.std.proofs.lemmas.Bool.{false≢true, cases_lt}
 use Rattle.std.proofs.lemmas.List.{length-map}
 use Rattle.jj_merges.specs.Simplify.{kept_places, at_places}

@@ -1,23 +1,10 @@
-use Rattle.std.proofs.Common.{◌≡◌, ◌∙◌, ◌+◌, sym, ap, arith, length, take, rules}
-use Rattle.std.specs.List.{AllZip}
-use Rattle.std.proofs.lemmas.List.{take_more, take_all}
-use Rattle.std.proofs.lemmas.List.Elements.{AllZip-push, length_all_zip}
-use Rattle.jj_merges.specs.Terms.{items}
+use Rattle.std.proofs.Common.{◌%◌, arith, ap, length}
+use Rattle.std.proofs.lemmas.List.Elements.{length_all_zip}
 use Rattle.jj_merges.proofs.Sound.{sound}
 use Rattle.jj_merges.proofs.merge.Merge.clone.Goals as goal
 
-pub loop-term-preserved : goal.loop-term-preserved
-loop-term-preserved g c =
-    let xs = c.as_slice-values.result.now in
-    let i = c.loop-term.term-index in (
-      c.in_ok-push.ensures.holds_one,
-      rw (take_more xs i c.term-item.result c.loop-term-test.true, c.in_ok-push.ensures.ok, ← c.term-item.is)
-          (AllZip-push g.T.Clone.is_clone (take i xs) (items c.loop-term.terms) c.term-item.result c.in_ok-clone.field-0 c.loop-term.invariant.1 c.in_ok-clone.ensures.cases),
-    )
-
 pub invariant_of-result : goal.invariant_of-result
 invariant_of-result g c =
-    let n = length_all_zip g.T.Clone.is_clone _ _ c.loop-term.invariant.1 in
-    let all = ap length (take_all c.loop-term.term-index c.as_slice-values.result.now (omega arith)) in
-    sound c.loop-term.terms c.loop-term.invariant.0
-    (omega (arith, n, all, ap length c.as_slice-values.ensures.terms, c.as_slice-values.ensures.odd))
+    let n = length_all_zip g.T.Clone.is_clone _ _ c.in_ok-terms.ensures.0 in
+    sound c.in_ok-terms.terms c.in_ok-terms.ensures.1
+    (omega (arith, n, ap length c.as_slice.ensures.terms, c.as_slice.ensures.odd))

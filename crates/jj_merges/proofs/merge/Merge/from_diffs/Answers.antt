@@ -1,5 +1,4 @@
-use Rattle.std.proofs.Common.{◌≡◌, ◌∙◌, ◌+◌, ◌∷◌, ◌++◌, [], ap, sym, arith, length, length-append}
-use Rattle.jj_merges.specs.Made.{diff_terms}
+use Rattle.std.proofs.Common.{◌≡◌, ◌∙◌, ◌∷◌, ◌++◌, [], ap, sym, arith, length, length-append}
 use Rattle.jj_merges.specs.Terms.{items}
 use Rattle.jj_merges.proofs.MadeLaws.{diff_terms_push}
 use Rattle.jj_merges.proofs.merge.Merge.from_diffs.Goals as goal

@@ -1,6 +1,5 @@
-use Rattle.std.proofs.Common.{◌≡◌, ◌∙◌, ◌+◌, ◌++◌, ◌∷◌, [], List, sym, ap, arith, rules, length, append_assoc, length-append}
+use Rattle.std.proofs.Common.{◌∙◌, ◌++◌, ◌∷◌, [], sym, ap, arith, append_assoc, length-append}
 use Rattle.std.proofs.lemmas.Bool.{not-true, not-false}
-use Rattle.jj_merges.specs.Merge.{adds, removes}
 use Rattle.jj_merges.proofs.Places.{adds-push_even, adds-push_odd, removes-push_even, removes-push_odd}
 use Rattle.jj_merges.proofs.merge.Merge.into_removes_adds.Goals as goal
 use Rattle.jj_merges.proofs.merge.Merge.into_removes_adds.Goals.{then-is_add+in_ok-push, else-is_add+in_ok-push-2}

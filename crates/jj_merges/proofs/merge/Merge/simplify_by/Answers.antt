@@ -1,8 +1,8 @@
-use Rattle.std.proofs.Common.{◌≡◌, ◌≢◌, ◌∙◌, ◌+◌, ◌<◌, sym, ap, arith, rules, length, List, subst}
+use Rattle.std.proofs.Common.{◌≡◌, ◌∙◌, ap, arith, rules, length}
 use Rattle.std.specs.Fn.{CalledAt}
 use Rattle.std.proofs.lemmas.Result.{IfOk-weaker}
 use Rattle.jj_merges.specs.Odd.{IsOdd}
-use Rattle.jj_merges.specs.Simplify.{kept_places, at_places}
+use Rattle.jj_merges.specs.Simplify.{kept_places}
 use Rattle.jj_merges.proofs.MapsLemmas.{length-MapsTo}
 use Rattle.jj_merges.proofs.CloneLaws.{kept_in_range, odd-kept_places}
 use Rattle.jj_merges.proofs.Kept.{HaveSameCounts-kept, IsDisjoint-kept}

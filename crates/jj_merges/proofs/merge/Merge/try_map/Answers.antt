@@ -1,7 +1,7 @@
-use Rattle.std.proofs.Common.{◌≡◌, ◌∙◌, ◌+◌, ◌++◌, ◌∷◌, sym, ap, arith, length, refl, take, drop, subst, rules, of_calls, Ok, Err, inl}
+use Rattle.std.proofs.Common.{◌≡◌, ◌∙◌, ◌+◌, ◌++◌, ◌∷◌, ap, arith, length, refl, take, drop, subst, of_calls, Ok, Err, inl}
 use Rattle.std.specs.Fn.{CalledAt}
 use Rattle.std.proofs.lemmas.List.{take_more, take_all}
-use Rattle.jj_merges.specs.Maps.{MapsTo, FailsAmong}
+use Rattle.jj_merges.specs.Maps.{FailsAmong}
 use Rattle.jj_merges.specs.Terms.{items}
 use Rattle.jj_merges.proofs.MapsLemmas.{MapsTo-push, length-MapsTo, FailsAmong-at, split_at}
 use Rattle.jj_merges.proofs.Sound.{sound}

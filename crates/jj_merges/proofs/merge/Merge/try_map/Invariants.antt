@@ -1,4 +1,4 @@
-use Rattle.std.proofs.Common.{take, drop, Ok, Result}
+use Rattle.std.proofs.Common.{take, Ok}
 use Rattle.std.specs.Fn.{CalledAt}
 use Rattle.jj_merges.specs.Maps.{MapsTo}
 use Rattle.jj_merges.specs.Terms.{items, HoldsOne}

@@ -1,4 +1,4 @@
-use Rattle.std.proofs.Common.{◌≡◌, ◌+◌, ◌∷◌, [], arith, ap, length, length-append}
+use Rattle.std.proofs.Common.{◌∷◌, [], arith, ap, length, length-append}
 use Rattle.jj_merges.specs.Terms.{items}
 use Rattle.jj_merges.proofs.Clones.{clones_more}
 use Rattle.jj_merges.proofs.merge.simplified.clones_at.Goals as goal

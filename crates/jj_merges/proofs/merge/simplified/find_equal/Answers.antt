@@ -1,4 +1,4 @@
-use Rattle.std.proofs.Common.{◌≡◌, ℕ, ◌+◌, ◌<◌, true, false, below_more, arith, ◌∙◌, sym}
+use Rattle.std.proofs.Common.{below_more, arith, ◌∙◌, sym}
 use Rattle.jj_merges.specs.Simplify.{same_term}
 use Rattle.jj_merges.proofs.Found.{position-found, position-none, same_term-read}
 use Rattle.jj_merges.proofs.merge.simplified.find_equal.Goals as goal

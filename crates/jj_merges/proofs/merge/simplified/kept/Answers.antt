@@ -1,10 +1,10 @@
-use Rattle.std.proofs.Common.{◌≡◌, ◌+◌, ◌-◌, ◌<◌, ◌≤◌, length, arith, rules, sym, ◌∙◌, ap, refl, Some, None, IfOk}
+use Rattle.std.proofs.Common.{◌≡◌, length, arith, ◌∙◌, ap, Some, None}
 use Rattle.std.specs.Prelude.{slice_index, position}
 use Rattle.std.proofs.lemmas.Result.{IfOk-weaker}
 use Rattle.jj_merges.specs.Merge as merge
-use Rattle.jj_merges.specs.Simplify.{Sides, same_term, kept_sides, cancel, kept_places, all_sides}
+use Rattle.jj_merges.specs.Simplify.{Sides, same_term, kept_sides, kept_places}
 use Rattle.jj_merges.proofs.Found.{position-at}
-use Rattle.jj_merges.proofs.Left.{Reached, Reached-start, Reached-found, Reached-passed, Reached-done, length-found}
+use Rattle.jj_merges.proofs.Left.{Reached-start, Reached-found, Reached-passed, Reached-done}
 use Rattle.jj_merges.proofs.merge.simplified.kept.Goals as goal
 
 pub loop-index-init : goal.loop-index-init

@@ -1,4 +1,4 @@
-use Rattle.std.proofs.Common.{◌≡◌, ◌+◌, length, take, rules, of_calls}
+use Rattle.std.proofs.Common.{take, rules, of_calls}
 use Rattle.std.specs.Fn.{CalledAt}
 use Rattle.std.proofs.lemmas.List.{take_more}
 use Rattle.jj_merges.proofs.MapsLemmas.{MapsTo-push}

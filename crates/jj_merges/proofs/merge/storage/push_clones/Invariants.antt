@@ -1,4 +1,4 @@
-use Rattle.std.proofs.Common.{◌+◌, ◌-◌, ◌≤◌, ◌≡◌, length, vec_len}
+use Rattle.std.proofs.Common.{◌≤◌, ◌≡◌, length}
 use Rattle.std.specs.Prelude.{vec_capacity}
 use Rattle.std.specs.List.{AppendsClonesOf}
 use Rattle.jj_merges.proofs.merge.storage.push_clones.Given as goal

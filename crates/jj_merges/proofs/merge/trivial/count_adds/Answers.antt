@@ -1,4 +1,4 @@
-use Rattle.std.proofs.Common.{◌≡◌, ℕ, ◌+◌, ◌%◌, ◌<◌, cond, length, arith, sym, ◌∙◌, ap, true, false}
+use Rattle.std.proofs.Common.{◌<◌, length, arith, sym, ◌∙◌}
 use Rattle.jj_merges.proofs.Counts.{weight-true, weight-false, count-adds-even, count-adds-odd}
 use Rattle.jj_merges.proofs.merge.trivial.count_adds.Goals as goal
 use Rattle.jj_merges.proofs.merge.trivial.count_adds.Goals.{then-place-eq0+then-eq, else-place-eq0, else-place-eq0-via-then-place-eq0+else-eq, else-place-eq0-via-else-place-eq0}

@@ -1,4 +1,4 @@
-use Rattle.std.proofs.Common.{◌≡◌, ℕ, ◌+◌, ◌%◌, ◌<◌, cond, length, arith, sym, ◌∙◌, ap, true, false}
+use Rattle.std.proofs.Common.{◌<◌, length, arith, sym, ◌∙◌}
 use Rattle.jj_merges.proofs.Counts.{weight-true, weight-false, count-removes-odd, count-removes-even}
 use Rattle.jj_merges.proofs.merge.trivial.count_removes.Goals as goal
 use Rattle.jj_merges.proofs.merge.trivial.count_removes.Goals.{then-place-eq1+then-eq, else-place-eq1, else-place-eq1-via-then-place-eq1+else-eq, else-place-eq1-via-else-place-eq1}

@@ -1,9 +1,8 @@
-use Rattle.std.proofs.Common.{◌≡◌, ◌∙◌, ◌++◌, ◌∷◌, ◌+◌, [], List, sym, ap, arith, rules, length, append_assoc, append-nil, length-append}
-use Rattle.jj_merges.specs.Flatten.{flattened, turned, outer_count}
+use Rattle.std.proofs.Common.{◌≡◌, ◌∙◌, ◌++◌, ◌∷◌, [], sym, ap, arith, append_assoc, append-nil, length-append}
+use Rattle.jj_merges.specs.Flatten.{turned, outer_count}
 use Rattle.jj_merges.specs.Merge.{signed_count}
-use Rattle.jj_merges.specs.Terms.{items}
 use Rattle.jj_merges.proofs.Sound.{sound, holds_one}
-use Rattle.jj_merges.proofs.FlattenLaws.{AreOdd, AreOdd-push, flattened-push_even, flattened-push_odd, odd_flattened, count-flattened}
+use Rattle.jj_merges.proofs.FlattenLaws.{AreOdd-push, flattened-push_even, flattened-push_odd, odd_flattened, count-flattened}
 use Rattle.jj_merges.proofs.merge.flatten.Merge+Merge+T.flatten.Goals as goal
 
 pub loop-remove-init : goal.loop-remove-init

@@ -1,5 +1,4 @@
-use Rattle.std.proofs.Common.{◌≡◌, ◌∙◌, ◌+◌, ◌++◌, ◌∷◌, [], sym, ap, arith, length, map, take, rules}
-use Rattle.std.specs.List.{AllZip}
+use Rattle.std.proofs.Common.{ap, arith, length, map, take}
 use Rattle.std.proofs.lemmas.List.{take_more, take_all, map-append, length-map}
 use Rattle.std.proofs.lemmas.List.Elements.{AllZip-push, length_all_zip}
 use Rattle.jj_merges.specs.Terms.{items}

@@ -1,10 +1,10 @@
-use Rattle.std.proofs.Common.{◌≡◌, ◌+◌, ◌%◌, ◌<◌, ◌≤◌, length, arith, sym, ◌∙◌, ap, subst, true, false, inl, inr, Some, None}
+use Rattle.std.proofs.Common.{arith, sym, ◌∙◌, inl, inr}
 use Rattle.std.specs.Option.{option_copied}
 use Rattle.std.proofs.lemmas.Bool.{not-true, not-false, false≢true, cases_lt}
-use Rattle.jj_merges.proofs.Outcome.{Progress, is_keep, is_not_keep, two_adds, kept_remove_at, two_removes, passed_add, first_add, equal_add, passed_remove, first_remove, equal_remove, decided_option, if_copied, added, removed, all_added, all_removed}
-use Rattle.jj_merges.proofs.merge.trivial.trivial_merge.Goals as goal
-use Rattle.jj_merges.proofs.merge.trivial.trivial_merge.Goals.{then-eq-via-then-eq, then-eq-via-else-eq+then-ne}
-use Rattle.jj_merges.proofs.merge.trivial.trivial_merge.Goals.{then-place-eq0+then-is_add_left+in-None, then-place-eq0+then-is_add_left+in-Some+else-eq+else-ne, then-place-eq0+else-is_add_left, else-place-eq0+then-is_remove_left+in-None-remove+else-eq-2, else-place-eq0+then-is_remove_left+in-Some-remove+else-ne-2, else-place-eq0+else-is_remove_left}
+use Rattle.jj_merges.proofs.Outcome.{is_keep, is_not_keep, two_adds, kept_remove_at, two_removes, passed_add, first_add, equal_add, passed_remove, first_remove, equal_remove, decided_option, if_copied, added, removed, all_added, all_removed}
+use Rattle.jj_merges.proofs.merge.trivial.add_left.Goals as goal
+use Rattle.jj_merges.proofs.merge.trivial.add_left.Goals.{then-eq-via-then-eq, then-eq-via-else-eq+then-ne}
+use Rattle.jj_merges.proofs.merge.trivial.add_left.Goals.{then-place-eq0+then-is_add_left+in-None, then-place-eq0+then-is_add_left+in-Some+else-eq+else-ne, then-place-eq0+else-is_add_left, else-place-eq0+then-is_remove_left+in-None-remove+else-eq-2, else-place-eq0+then-is_remove_left+in-Some-remove+else-ne-2, else-place-eq0+else-is_remove_left}
 
 pub returns-then-eq-clause-undecided : goal.returns-then-eq-clause-undecided
 returns-then-eq-clause-undecided g c =

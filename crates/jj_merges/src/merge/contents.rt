@@ -1,0 +1,32 @@
+//! Content bytes and JSON values of merges, which are those of the list of terms.
+ghost use Rattle.std.specs.Prelude.{All};
+ghost use Rattle.jj_content.specs.Content.{AreValues, list_content};
+ghost use Rattle.jj_content.specs.Json.{IsJsonList};
+ghost use Rattle.jj_content.specs.Lawful.{list_lawful};
+
+use super::Merge;
+use jj_content::content_hash::{ContentHash, DigestUpdate, ToJson, ToJsonError};
+use serde_json::Value;
+use std::alloc::{AllocError, Global};
+
+impl<T: ContentHash> ContentHash for Merge<T> {
+    ghost is_value = { AreValues T.is_value };
+
+    ghost content = { list_content T.content };
+
+    ghost lawful = { list_lawful T.lawful };
+
+    fn hash<D: DigestUpdate>(&self, alloc: Global, state: &mut D) -> Result<(), AllocError> {
+        ContentHash::hash(&self.as_slice(), alloc, state)
+    }
+}
+
+impl<T: ToJson> ToJson for Merge<T> {
+    ghost is_in_range = { All T.is_in_range };
+
+    ghost is_json = { IsJsonList T.is_json };
+
+    fn to_json(&self, alloc: Global) -> Result<Value, ToJsonError> {
+        ToJson::to_json(&self.as_slice(), alloc)
+    }
+}

@@ -1,0 +1,13 @@
+use Rattle.std.proofs.Common.{◌≡◌, ◌∙◌, ◌+◌, ◌%◌, ◌++◌, length, ap, arith, rules, length-append}
+use Rattle.std.proofs.IntoIterSteps.{All-taken}
+use Rattle.jj_merges_tests.proofs.made.built.Goals as goal
+
+pub build-requires : goal.build-requires
+build-requires g c =
+    let ran = c.in_ok-extend.ensures in (
+      search rules,
+      (
+        search rules,
+        omega (arith, ap length ran.3, length-append c.default-builder.result ran.1, ap length c.default-builder.ensures, ap length (All-taken ran.0 ran.1 ran.4 ∙ ran.2.0)),
+      ),
+    )

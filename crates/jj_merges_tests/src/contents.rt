@@ -1,0 +1,50 @@
+//! Content bytes and JSON values of merges.
+use jj_content::content_hash::{ToJson, ToJsonError, blake2b_hash};
+use jj_merges::merge::Merge;
+use smallvec::SmallVec;
+use std::alloc::{AllocError, Global};
+use std::process::Abort;
+use std::test::Fail;
+
+/// A merge of these texts, which commas part.
+fn texts<R: Abort>(rt: &R, alloc: Global, text: &str) -> Result<Merge<String>, AllocError> {
+    let mut terms = Vec::new(alloc);
+    for term in text.split(',') {
+        terms.push(String::from_str(alloc, term)?)?;
+    }
+    assert!(rt; terms.len() % 2 == 1);
+    Ok(Merge::from_vec(SmallVec::from_vec(terms)))
+}
+
+/// Whether a merge has the digest of the list of its terms.
+fn is_hashed_as_list<R: Abort>(rt: &R, alloc: Global, text: &str) -> Result<bool, AllocError> {
+    let whole = texts(rt, alloc, text)?;
+    Ok(blake2b_hash(alloc, &whole)? == blake2b_hash(alloc, &whole.as_slice())?)
+}
+
+#[test]
+fn content_is_the_list(rt: HostRuntime) -> Result<(), Fail> {
+    let alloc = rt.alloc();
+    for text in ["a", "a,,b"] {
+        let same = is_hashed_as_list(&rt, alloc, text).or_else(|_| is_hashed_as_list(
+            &rt, alloc, text,
+        ))?;
+        assert!(rt; same, "{text}");
+    }
+    Ok(())
+}
+
+/// The compact text of a merge's JSON.
+fn json<R: Abort>(rt: &R, alloc: Global, text: &str) -> Result<String, ToJsonError> {
+    Ok(texts(rt, alloc, text)?.to_json(alloc)?.to_string(alloc)?)
+}
+
+#[test]
+fn json_is_the_list(rt: HostRuntime) -> Result<(), Fail> {
+    let alloc = rt.alloc();
+    for (text, wanted) in [("a", "[\"a\"]"), ("a,,b", "[\"a\",\"\",\"b\"]")] {
+        let text = json(&rt, alloc, text).or_else(|_| json(&rt, alloc, text))?;
+        assert_eq!(rt; text.as_str(), wanted);
+    }
+    Ok(())
+}
