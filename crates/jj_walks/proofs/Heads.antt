@@ -39,7 +39,7 @@ found_at : {T : Type 0} (p : T → Bool) (xs : List T) (x : T) → Contains xs x
 found_at p xs x (k, lt, e) t = list_any_at p xs k x lt (subst (λ y. p y ≡ true) (sym e) t)
 
 -- a key that was put, or was there
-pub Contains-put : {K : Type 0} (old new : List K) (k : K) (added : Bool) → MatchBool added (IsPermutation (k ∷ old) new) (new ≡ old) → (x : K) → Contains new x → Contains old x ⊎ (k ≡ x)
+Contains-put : {K : Type 0} (old new : List K) (k : K) (added : Bool) → MatchBool added (IsPermutation (k ∷ old) new) (new ≡ old) → (x : K) → Contains new x → Contains old x ⊎ (k ≡ x)
 Contains-put old new k true moved x h =
     ⊎_elim (λ first. inr (only first)) (λ rest. inl rest) (Contains-append_cases (k ∷ []) old x (Contains-permutation new (k ∷ old) x (IsPermutation-sym (k ∷ old) new moved) h))
   where
@@ -53,10 +53,10 @@ none_contained [] same x (k, lt, e) = omega arith
 none_contained (y ∷ xs) same x h = cc
 
 -- one more start waits
-pub start_waits : {T : Type 0} (ys old new : List T) (x y : T) → new ≡ old ++ y ∷ [] → y ≡ x → ((b : T) → Contains old b → Contains ys b) → (b : T) → Contains new b → Contains (ys ++ x ∷ []) b
-start_waits {T} ys old new x y more copy before b h =
-    ⊎_elim (λ o. Contains-append_left ys (x ∷ []) b (before b o)) (λ same. subst (λ (z : T). Contains (ys ++ x ∷ []) z) (sym copy ∙ same) (Contains-push ys x))
-    (Contains-push_cases old y b (subst (λ (l : List T). Contains l b) more h))
+pub start_waits : {T : Type 0} (ys old new : List T) (x : T) → new ≡ old ++ x ∷ [] → ((b : T) → Contains old b → Contains ys b) → (b : T) → Contains new b → Contains (ys ++ x ∷ []) b
+start_waits {T} ys old new x more before b h =
+    ⊎_elim (λ o. Contains-append_left ys (x ∷ []) b (before b o)) (λ same. subst (λ (z : T). Contains (ys ++ x ∷ []) z) same (Contains-push ys x))
+    (Contains-push_cases old x b (subst (λ (l : List T). Contains l b) more h))
 
 has-again : (xs : List ℕ) (a : ℕ) → has xs a ≡ true → (b : ℕ) → has (xs ++ a ∷ []) b ≡ has xs b
 has-again xs a seen b =
@@ -94,6 +94,16 @@ module _ {T ID : Type 0} (w : Numbered T ID) where
   abbrev Apart : (ID → ID → Bool) → Type 0
   Apart eq = (i j : ID) → w.is_node (w.id i) ≡ true → w.is_node (w.id j) ≡ true → eq i j ≡ (w.id i == w.id j)
 
+  -- a value that is equal to a node's stands for the node
+  stands_for : {eqT : T → T → Bool} → StandsForNodes w eqT → (x y : T) → w.is_node (w.node x) ≡ true → eqT x y ≡ true → w.node x ≡ w.node y
+  stands_for stands x y here same = (Decides-eqb (w.node x) (w.node y)).0 (sym (stands x y here) ∙ same)
+
+  -- the keys after an equal value of a node was put in: each was there before, or stands for the node
+  pub put_for : {eqT : T → T → Bool} → StandsForNodes w eqT → (old new : List T) (x copy : T) (added : Bool) → w.is_node (w.node x) ≡ true → eqT x copy ≡ true
+      → MatchBool added (IsPermutation (copy ∷ old) new) (new ≡ old) → (y : T) → Contains new y → Contains old y ⊎ (w.node x ≡ w.node y)
+  put_for stands old new x copy added here same moved y h =
+      ⊎_elim (λ kept. inl kept) (λ put. inr (stands_for stands x copy here same ∙ ap w.node put)) (Contains-put old new copy added moved y h)
+
   -- ---- the starts are put in
 
   pub record IsStarted (starts : List ℕ) (keys : List T) (in_heads : T → Bool) (test : ID → Bool) (waiting : List ℕ) : Type 0 where
@@ -129,14 +139,14 @@ module _ {T ID : Type 0} (w : Numbered T ID) where
 
   pub started_new : {starts : List ℕ} {keys : List T} {in_heads : T → Bool} {test : ID → Bool} {waiting : List ℕ} (eqT : T → T → Bool) (eq : ID → ID → Bool)
       (keys2 : List T) (in_heads2 : T → Bool) (test2 : ID → Bool) (x : T) (i : ID) → StandsForNodes w eqT → Apart eq → IsStarted starts keys in_heads test waiting
-      → w.is_node (w.node x) ≡ true → w.id i ≡ w.node x → ((y : T) → Contains keys2 y → Contains keys y ⊎ (x ≡ y))
+      → w.is_node (w.node x) ≡ true → w.id i ≡ w.node x → ((y : T) → Contains keys2 y → Contains keys y ⊎ (w.node x ≡ w.node y))
       → ((q : T) → in_heads2 q ≡ cond (eqT x q) true (in_heads q)) → ((q : ID) → test2 q ≡ cond (eq i q) true (test q))
       → IsStarted (starts ++ w.node x ∷ []) keys2 in_heads2 test2 (waiting ++ w.node x ∷ [])
   started_new {starts} {keys} {in_heads} {test} {waiting} eqT eq keys2 in_heads2 test2 x i stands tells k here same adds puts_head puts_id =
       let here_id : w.is_node (w.id i) ≡ true = subst (λ (n : ℕ). w.is_node n ≡ true) (sym same) here in
       record {
-        keys_stand = λ y h. ⊎_elim (λ old. k.keys_stand y old) (λ new. subst (λ (z : T). w.is_node (w.node z) ≡ true) new here) (adds y h);
-        heads = λ q h. puts_head q ∙ ap (λ b. cond b true (in_heads q)) (stands x q here h ∙ eqb-flip (w.node x) (w.node q)) ∙ ap (λ b. cond (w.node q == w.node x) true b) (k.heads q h)
+        keys_stand = λ y h. ⊎_elim (λ old. k.keys_stand y old) (λ new. subst (λ (n : ℕ). w.is_node n ≡ true) new here) (adds y h);
+        heads = λ q h. puts_head q ∙ ap (λ b. cond b true (in_heads q)) (stands x q here ∙ eqb-flip (w.node x) (w.node q)) ∙ ap (λ b. cond (w.node q == w.node x) true b) (k.heads q h)
             ∙ or_cond (w.node q == w.node x) (has starts (w.node q)) ∙ sym (has-push starts (w.node x) (w.node q));
         knows = λ q h. puts_id q ∙ ap (λ b. cond b true (test q)) (tells i q here_id h ∙ ap (λ n. n == w.id q) same ∙ eqb-flip (w.node x) (w.id q)) ∙ ap (λ b. cond (w.id q == w.node x) true b) (k.knows q h)
             ∙ or_cond (w.id q == w.node x) (has starts (w.id q)) ∙ sym (has-push starts (w.node x) (w.id q));
@@ -198,7 +208,7 @@ module _ {T ID : Type 0} (w : Numbered T ID) where
         starts_stand = k.starts_stand;
         met_stand = λ a h. ⊎_elim (λ o. k.met_stand a o) (λ e. subst (λ (n : ℕ). w.is_node n ≡ true) e here) (Contains-push_cases met (w.node y) a h);
         keys_stand = λ x h. k.keys_stand x (keeps x h);
-        heads = λ q h. takes q ∙ ap (λ b. cond b false (in_heads q)) (stands y q here h ∙ eqb-flip (w.node y) (w.node q)) ∙ ap (λ b. cond (w.node q == w.node y) false b) (k.heads q h)
+        heads = λ q h. takes q ∙ ap (λ b. cond b false (in_heads q)) (stands y q here ∙ eqb-flip (w.node y) (w.node q)) ∙ ap (λ b. cond (w.node q == w.node y) false b) (k.heads q h)
             ∙ taken_out (w.node q == w.node y) (has starts (w.node q)) (has met (w.node q)) ∙ ap (λ b. has starts (w.node q) && not b) (sym (has-push met (w.node y) (w.node q)));
         knows = λ q h. puts q ∙ ap (λ b. cond b true (test q)) (tells i q here_id h ∙ ap (λ n. n == w.id q) same ∙ eqb-flip (w.node y) (w.id q)) ∙ ap (λ b. cond (w.id q == w.node y) true b) (k.knows q h)
             ∙ put_in (w.id q == w.node y) (has starts (w.id q)) (has met (w.id q)) ∙ ap (λ b. has starts (w.id q) || b) (sym (has-push met (w.node y) (w.id q)));
@@ -254,7 +264,7 @@ module _ {T ID : Type 0} (w : Numbered T ID) where
       apart : (ys : List T) → ((y : T) → Contains ys y → w.is_node (w.node y) ≡ true) → AllByRecursion (λ y. eqT x y ≡ false) ys → AllByRecursion (λ n. eqb (w.node x) n ≡ false) (numbers w ys)
       apart [] stand a = tt
       apart (y ∷ ys) stand a =
-          (sym (stands x y (nodes x (0, omega arith, refl)) (stand y (0, omega arith, refl))) ∙ a.0, apart ys (λ z h. stand z (Contains-append_right (y ∷ []) ys z h)) a.1)
+          (sym (stands x y (nodes x (0, omega arith, refl))) ∙ a.0, apart ys (λ z h. stand z (Contains-append_right (y ∷ []) ys z h)) a.1)
 
   pub holds_maximal : {met waiting : List ℕ} {rooted : Bool} {keys : List T} {test : ID → Bool} (eqT : T → T → Bool) (xs : List T)
       → HoldsSearch (numbers w xs) met waiting rooted keys (λ x. list_any (eqT x) keys) test → StandsForNodes w eqT → IsDistinct eqT keys
@@ -269,7 +279,7 @@ module _ {T ID : Type 0} (w : Numbered T ID) where
       to_maximal a h =
           let key = Contains-from_map w.node keys a h in
           let here : w.is_node (w.node key.0) ≡ true = k.keys_stand key.0 key.1 in
-          let same : eqT key.0 key.0 ≡ true = stands key.0 key.0 here here ∙ (Decides-eqb (w.node key.0) (w.node key.0)).1 refl in
+          let same : eqT key.0 key.0 ≡ true = stands key.0 key.0 here ∙ (Decides-eqb (w.node key.0) (w.node key.0)).1 refl in
           let is = both (has (numbers w xs) (w.node key.0)) (has met (w.node key.0)) (sym (k.heads key.0 here) ∙ found_at (eqT key.0) keys key.0 key.1 same) in
           subst (λ (n : ℕ). IsMaximal w.graph (Contains (numbers w xs)) n) key.2
           (search_maximal w.graph (numbers w xs) met waiting rooted k.searching one no_root acyclic (w.node key.0) (Contains-from_has (numbers w xs) (w.node key.0) is.0)
@@ -288,8 +298,7 @@ module _ {T ID : Type 0} (w : Numbered T ID) where
           let is : list_any (eqT start.0) keys ≡ true =
           k.heads start.0 here ∙ ap (λ b. b && not (has met (w.node start.0))) (has-from_Contains (numbers w xs) (w.node start.0) at) ∙ ap (λ b. not b) unmet in
           let key = found_by (eqT start.0) keys is in
-          let key_here : w.is_node (w.node key.0) ≡ true = k.keys_stand key.0 key.1 in
-          let same : w.node start.0 ≡ w.node key.0 = (Decides-eqb (w.node start.0) (w.node key.0)).0 (sym (stands start.0 key.0 here key_here) ∙ key.2) in
+          let same : w.node start.0 ≡ w.node key.0 = stands_for stands start.0 key.0 here key.2 in
           subst (λ (n : ℕ). Contains (numbers w keys) n) (sym same ∙ start.2) (Contains-map w.node keys key.0 key.1)
 
   -- a list of one entry at most

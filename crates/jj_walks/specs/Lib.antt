@@ -6,3 +6,4 @@ pub mod Errors
 pub mod DfsOkSteps
 pub mod ReadyNodes
 pub mod Collecting
+pub mod Reversed

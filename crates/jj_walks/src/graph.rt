@@ -1,6 +1,8 @@
 //! The edges of graphs that are shown to users.
 ghost use Rattle.std.specs.Prelude.{◌≡◌, ◌↔◌, IsTrue};
 
+pub use crate::reversed::reverse_graph;
+
 /// A node and its edges to ids.
 pub type GraphNode<N, ID = N> = (N, Vec<GraphEdge<ID>>);
 

@@ -10,6 +10,7 @@ mod greatest_order;
 mod maximal;
 mod maximal_lists;
 mod maximal_ok;
+mod reversed;
 mod topo_order;
 mod topo_order_ok;
 mod walk_error;

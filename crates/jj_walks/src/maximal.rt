@@ -74,7 +74,7 @@ where
     requires neighbors_fn { N.IsAlwaysCallable neighbors_fn }
     requires lists { AlwaysReturns N.FnMut (λ a r. IsFiniteIterable NI.into_iter_gives NI.IntoIter.can_next NI.IntoIter.remaining r) neighbors_fn }
     requires start { IsFiniteIterable II.into_iter_gives II.IntoIter.can_next II.IntoIter.remaining start }
-    requires clones { (x y : T) → T.is_clone x y → y ≡ x }
+    requires clones { (x y : T) → T.is_clone x y → IsTrue (T.eq x y) }
     ensures heads { IfOk result (λ s. (xs : List T) × DrainsTo II.into_iter_gives II.IntoIter.next_gives start xs
         × ((walk : Numbered T ID) → IsShownBy walk ID.eq F.Fn N.FnMut NI.into_iter_gives NI.IntoIter.next_gives id_fn neighbors_fn → AreNodes walk (map walk.node xs)
         → HasNoCycle walk.graph (map walk.node xs) → StandsForNodes walk T.eq
@@ -88,8 +88,8 @@ where
             continue;
         }
         visited.insert(id_fn(&node))?;
-        waiting.push_back(node.clone()?)?;
-        heads.insert(node)?;
+        heads.insert(node.clone()?)?;
+        waiting.push_back(node)?;
     }
     let mut root_met = false;
     let mut level = 0;

@@ -1,5 +1,5 @@
 //! The orders of `topo_order`, over items that may fail.
-ghost use Rattle.std.specs.Prelude.{◌≡◌, ◌⊎◌, IfOk, IfErr, List, [], ◌∷◌, ◌++◌, map, reverse};
+ghost use Rattle.std.specs.Prelude.{◌⊎◌, IfOk, IfErr, IsTrue, List, [], ◌∷◌, ◌++◌, map, reverse};
 ghost use Rattle.std.specs.Fn.{AlwaysReturns};
 ghost use Rattle.std.specs.Iterator.{IsFiniteIterable};
 ghost use Rattle.jj_walks.specs.Graph.{IsPostorder, HasNoCycle, OnCycleFrom};
@@ -37,7 +37,7 @@ where
     requires cycle_fn { C.IsAlwaysCallable cycle_fn }
     requires lists { AlwaysReturns N.FnMut (λ a r. IsFiniteIterable NI.into_iter_gives NI.IntoIter.can_next NI.IntoIter.remaining r) neighbors_fn }
     requires start { IsFiniteIterable II.into_iter_gives II.IntoIter.can_next II.IntoIter.remaining start }
-    requires clones { (i j : ID) → ID.is_clone i j → j ≡ i }
+    requires clones { (i j : ID) → ID.is_clone i j → IsTrue (ID.eq i j) }
     ensures order { IfOk result (λ v. (xs : List T) × DrainsTo II.into_iter_gives II.IntoIter.next_gives start (map Ok xs)
         × ((walk : Numbered T ID) (items : FailingGraph E) → ShowsItems walk items ID.eq F.Fn N.FnMut NI.into_iter_gives NI.IntoIter.next_gives id_fn neighbors_fn → AreNodes walk (map walk.node xs)
         → IsPostorder walk.graph (map walk.node xs) (map walk.node v.items) × HasNoCycle walk.graph (map walk.node xs) × HasNoFailure items (map walk.node xs))) }
@@ -113,7 +113,7 @@ where
     requires cycle_fn { C.IsAlwaysCallable cycle_fn }
     requires lists { AlwaysReturns N.FnMut (λ a r. IsFiniteIterable NI.into_iter_gives NI.IntoIter.can_next NI.IntoIter.remaining r) neighbors_fn }
     requires start { IsFiniteIterable II.into_iter_gives II.IntoIter.can_next II.IntoIter.remaining start }
-    requires clones { (i j : ID) → ID.is_clone i j → j ≡ i }
+    requires clones { (i j : ID) → ID.is_clone i j → IsTrue (ID.eq i j) }
     ensures order { IfOk result (λ v. (xs : List T) × DrainsTo II.into_iter_gives II.IntoIter.next_gives start (map Ok xs)
         × ((walk : Numbered T ID) (items : FailingGraph E) → ShowsItems walk items ID.eq F.Fn N.FnMut NI.into_iter_gives NI.IntoIter.next_gives id_fn neighbors_fn → AreNodes walk (map walk.node xs)
         → IsPostorder walk.graph (map walk.node xs) (reverse (map walk.node v.items)) × HasNoCycle walk.graph (map walk.node xs) × HasNoFailure items (map walk.node xs))) }

@@ -5,6 +5,10 @@ pub mod callers;
 mod hostile;
 mod maximal;
 mod orders;
+#[cfg(test)]
+mod reversed;
 mod shown;
 mod tables;
+#[cfg(test)]
+mod texts;
 mod topo_order_reverse_ord_tests;

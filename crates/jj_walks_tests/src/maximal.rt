@@ -20,6 +20,9 @@ const CROSSED: &[(char, &[char])] = &[
     ('C', &['A']),
 ];
 
+/// 3 and 4 over 1, and 2 over 5.
+const TWO_ROOTS: &[(char, &[char])] = &[('3', &['1']), ('4', &['1']), ('2', &['5'])];
+
 /// B to A and to a failed item, C to B.
 const BROKEN: &[(char, &[Result<char, char>])] = &[('B', &[Ok('A'), Err('X')]), ('C', &[Ok('B')])];
 
@@ -37,6 +40,9 @@ fn heads_of_sets(rt: HostRuntime) -> Result<(), Fail> {
     let found = maximal(alloc, CROSSED, &['A', 'C', 'D'])?;
     assert_eq!(rt; found.len(), 1);
     assert!(rt; found.contains(&'D'));
+    let found = maximal(alloc, TWO_ROOTS, &['1', '3', '4'])?;
+    assert_eq!(rt; found.len(), 2);
+    assert!(rt; found.contains(&'3') && found.contains(&'4'));
     assert_eq!(rt; maximal(alloc, CROSSED, &[])?.len(), 0);
     Ok(())
 }

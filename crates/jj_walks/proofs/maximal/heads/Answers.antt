@@ -4,8 +4,9 @@ use Rattle.std.specs.List.{Contains}
 use Rattle.std.proofs.lemmas.List.Elements.{Contains-append_left, Contains-append_right, Contains-push, Contains-push_cases}
 use Rattle.jj_walks.specs.Graph.{HasEdge}
 use Rattle.jj_walks.specs.Walk.{DrainsTo, IsShownBy}
+use Rattle.jj_walks.proofs.Clones.{contains-put_clone}
 use Rattle.jj_walks.proofs.Walking.{numbers, numbers-push, returned, AlwaysReturns-call}
-use Rattle.jj_walks.proofs.Heads.{Contains-map, Contains-put, started_none, started_again, started_new, started_holds, seen_is_node, holds_met, holds_asked, holds_maximal, one_waits, no_root_waits, neither, search_falls}
+use Rattle.jj_walks.proofs.Heads.{Contains-map, put_for, started_none, started_again, started_new, started_holds, seen_is_node, holds_met, holds_asked, holds_maximal, one_waits, no_root_waits, neither, search_falls}
 use Rattle.jj_walks.proofs.maximal.heads.Goals as goal
 
 pub loop-node-init : goal.loop-node-init
@@ -38,21 +39,23 @@ loop-node-preserved-then-contains g c =
 pub loop-node-preserved : goal.loop-node-preserved
 loop-node-preserved g c =
     let before = c.loop-node.invariant in
-    let copy : c.in_ok-clone.field-0 ≡ c.in-Some.node = c.requires.clones c.in-Some.node c.in_ok-clone.field-0 c.in_ok-clone.ensures.cases in
-    let more : c.push_back.new.self.items ≡ c.loop-node.waiting.items ++ c.in_ok-clone.field-0 ∷ [] = c.in_ok-push_back.ensures.items in
+    let same : g.T.PartialEq.eq c.in-Some.node c.in_ok-clone.field-0 ≡ true = c.requires.clones c.in-Some.node c.in_ok-clone.field-0 c.in_ok-clone.ensures.cases in
+    let more : c.push_back.new.self.items ≡ c.loop-node.waiting.items ++ c.in-Some.node ∷ [] = c.in_ok-push_back.ensures.items in
     record {
       can = search rules;
       finite = search rules;
       unique = c.in_ok-insert-2.ensures.unique;
       started = λ walk shown stands nodes.
           let split = numbers-push walk c.loop-node.yielded c.in-Some.node in
-          rw (split, more, copy, numbers-push walk c.loop-node.waiting.items c.in-Some.node) (started_new walk g.T.PartialEq.eq g.ID.PartialEq.eq
+          rw (split, more, numbers-push walk c.loop-node.waiting.items c.in-Some.node) (started_new walk g.T.PartialEq.eq g.ID.PartialEq.eq
           c.insert-in-loop-node.new.self.keys (contains g.T.PartialEq.eq c.insert-in-loop-node.new.self) (contains g.ID.PartialEq.eq c.insert.new.self) c.in-Some.node c.id_fn.result stands shown.apart
           (before.started walk shown stands (λ a h. nodes a (rw split (Contains-append_left (numbers walk c.loop-node.yielded) (walk.node c.in-Some.node ∷ []) a h))))
           (nodes (walk.node c.in-Some.node) (rw split (Contains-push (numbers walk c.loop-node.yielded) (walk.node c.in-Some.node))))
           (shown.ids_stand c.in-Some.node c.id_fn.result (returned g.F.Fn c.id_fn.ensures))
-          (Contains-put c.loop-node.heads.keys c.insert-in-loop-node.new.self.keys c.in-Some.node c.in_ok-insert-2.field-0 c.in_ok-insert-2.ensures.keys)
-          c.in_ok-insert-2.ensures.updates.0 c.in_ok-insert.ensures.updates.0);
+          (put_for walk stands c.loop-node.heads.keys c.insert-in-loop-node.new.self.keys c.in-Some.node c.in_ok-clone.field-0 c.in_ok-insert-2.field-0
+          (nodes (walk.node c.in-Some.node) (rw split (Contains-push (numbers walk c.loop-node.yielded) (walk.node c.in-Some.node))))
+          same c.in_ok-insert-2.ensures.keys)
+          (contains-put_clone g.met.T.Eq.laws c.loop-node.heads c.insert-in-loop-node.new.self c.in-Some.node c.in_ok-clone.field-0 same c.in_ok-insert-2.ensures.updates.0) c.in_ok-insert.ensures.updates.0);
     }
 
 pub loop-node-2-init : goal.loop-node-2-init

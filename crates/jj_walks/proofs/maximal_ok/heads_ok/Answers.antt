@@ -6,8 +6,9 @@ use Rattle.jj_walks.specs.Graph.{HasEdge}
 use Rattle.jj_walks.specs.Walk.{DrainsTo}
 use Rattle.jj_walks.specs.Failing.{ShowsItems, sound_items, sound as sound_graph}
 use Rattle.jj_walks.proofs.FailingOrders.{ReachedFrom-same, sound_items-ok, failed_first, ok-push, Yields-push}
+use Rattle.jj_walks.proofs.Clones.{contains-put_clone}
 use Rattle.jj_walks.proofs.Walking.{numbers, numbers-push, returned, AlwaysReturns-call}
-use Rattle.jj_walks.proofs.Heads.{Contains-map, Contains-put, started_none, started_again, started_new, started_holds, holds_met, holds_asked, holds_maximal, one_waits, no_root_waits, neither, search_falls, starts_reached, still_reached, adds_one, adds_more, none_contained, start_waits}
+use Rattle.jj_walks.proofs.Heads.{Contains-map, put_for, started_none, started_again, started_new, started_holds, holds_met, holds_asked, holds_maximal, one_waits, no_root_waits, neither, search_falls, starts_reached, still_reached, adds_one, adds_more, none_contained, start_waits}
 use Rattle.jj_walks.proofs.maximal_ok.heads_ok.Goals as goal
 
 pub loop-item-init : goal.loop-item-init
@@ -47,8 +48,8 @@ pub loop-item-preserved : goal.loop-item-preserved
 loop-item-preserved g c =
     let before = c.loop-item.invariant.sound in
     let is : c.in-Some.item ≡ Ok c.in-Ok.node = c.in-Ok.is in
-    let copy : c.in_ok-clone.field-0 ≡ c.in-Ok.node = c.requires.clones c.in-Ok.node c.in_ok-clone.field-0 c.in_ok-clone.ensures.cases in
-    let more : c.push_back.new.self.items ≡ c.loop-item.waiting.items ++ c.in_ok-clone.field-0 ∷ [] = c.in_ok-push_back.ensures.items in
+    let same : g.T.PartialEq.eq c.in-Ok.node c.in_ok-clone.field-0 ≡ true = c.requires.clones c.in-Ok.node c.in_ok-clone.field-0 c.in_ok-clone.ensures.cases in
+    let more : c.push_back.new.self.items ≡ c.loop-item.waiting.items ++ c.in-Ok.node ∷ [] = c.in_ok-push_back.ensures.items in
     record {
       can = search rules;
       finite = search rules;
@@ -56,16 +57,18 @@ loop-item-preserved g c =
       sound = (
         before.0 ++ c.in-Ok.node ∷ [],
         ap (λ x. c.loop-item.yielded ++ x ∷ []) is ∙ ok-push c.loop-item.yielded before.0 c.in-Ok.node before.1,
-        start_waits before.0 c.loop-item.waiting.items c.push_back.new.self.items c.in-Ok.node c.in_ok-clone.field-0 more copy before.2,
+        start_waits before.0 c.loop-item.waiting.items c.push_back.new.self.items c.in-Ok.node more before.2,
         λ walk items shown stands nodes.
             let split = numbers-push walk before.0 c.in-Ok.node in
-            rw (split, more, copy, numbers-push walk c.loop-item.waiting.items c.in-Ok.node) (started_new walk g.T.PartialEq.eq g.ID.PartialEq.eq
+            rw (split, more, numbers-push walk c.loop-item.waiting.items c.in-Ok.node) (started_new walk g.T.PartialEq.eq g.ID.PartialEq.eq
             c.insert-in-loop-item.new.self.keys (contains g.T.PartialEq.eq c.insert-in-loop-item.new.self) (contains g.ID.PartialEq.eq c.insert.new.self) c.in-Ok.node c.id_fn.result stands shown.apart
             (before.3 walk items shown stands (λ a h. nodes a (rw split (Contains-append_left (numbers walk before.0) (walk.node c.in-Ok.node ∷ []) a h))))
             (nodes (walk.node c.in-Ok.node) (rw split (Contains-push (numbers walk before.0) (walk.node c.in-Ok.node))))
             (shown.ids_stand c.in-Ok.node c.id_fn.result (returned g.F.Fn c.id_fn.ensures))
-            (Contains-put c.loop-item.heads.keys c.insert-in-loop-item.new.self.keys c.in-Ok.node c.in_ok-insert-2.field-0 c.in_ok-insert-2.ensures.keys)
-            c.in_ok-insert-2.ensures.updates.0 c.in_ok-insert.ensures.updates.0),
+            (put_for walk stands c.loop-item.heads.keys c.insert-in-loop-item.new.self.keys c.in-Ok.node c.in_ok-clone.field-0 c.in_ok-insert-2.field-0
+            (nodes (walk.node c.in-Ok.node) (rw split (Contains-push (numbers walk before.0) (walk.node c.in-Ok.node))))
+            same c.in_ok-insert-2.ensures.keys)
+            (contains-put_clone g.met.T.Eq.laws c.loop-item.heads c.insert-in-loop-item.new.self c.in-Ok.node c.in_ok-clone.field-0 same c.in_ok-insert-2.ensures.updates.0) c.in_ok-insert.ensures.updates.0),
       );
     }
 

@@ -1,6 +1,7 @@
 use Rattle.std.proofs.Common.{rules, of_calls, arith, append-nil, ◌≡◌, true, false, ◌++◌, ◌∷◌, [], map, not, Bool, true≢false, refl, sym, ◌∙◌}
 use Rattle.std.specs.HashSet.{contains}
 use Rattle.jj_walks.specs.Walk.{DrainsTo}
+use Rattle.jj_walks.proofs.Clones.{contains-clone, contains-put_clone}
 use Rattle.jj_walks.proofs.Walking.{numbers, numbers-push, returned, AlwaysReturns-call}
 use Rattle.jj_walks.proofs.Unwinding.{unwinding_starts, unwinding_passed, unwinding_finished, unwinding_entered, unwinding_cycle, top_is_node, from_top-push, from_top-neighbors}
 use Rattle.jj_walks.proofs.Reaching.{HasNoCycle-from_postorder}
@@ -88,7 +89,7 @@ loop-node-2-preserved g c =
     let flag : c.in-Some-pop.neighbors_visited ≡ false = c.if-neighbors_visited.false in
     let again : c.push-else-neighbors_visited.new.self.items ≡ c.pop.new.self.items ++ (c.in-Some-pop.node, true) ∷ [] = c.in_ok-push-3.ensures.items in
     let above : c.loop-neighbor.stack.items ≡ c.push-else-neighbors_visited.new.self.items ++ map (λ y. (y, false)) c.loop-neighbor.yielded = c.loop-neighbor.invariant.stack in
-    let copy : c.in_ok-clone.field-0 ≡ c.id_fn-id.result = c.requires.clones c.id_fn-id.result c.in_ok-clone.field-0 c.in_ok-clone.ensures.cases in
+    let same : g.ID.PartialEq.eq c.id_fn-id.result c.in_ok-clone.field-0 ≡ true = c.requires.clones c.id_fn-id.result c.in_ok-clone.field-0 c.in_ok-clone.ensures.cases in
     let added : c.in_ok-insert-2.field-0 ≡ not (contains g.ID.PartialEq.eq c.loop-node-2.visiting c.in_ok-clone.field-0) = c.in_ok-insert-2.ensures.added in
     let first : contains g.ID.PartialEq.eq c.loop-node-2.visiting c.in_ok-clone.field-0 ≡ false =
     let yes : c.in_ok-insert-2.field-0 ≡ true = first_of (search rules, grind (arith, common_steps)) in
@@ -109,8 +110,10 @@ loop-node-2-preserved g c =
             let listed = turn.0 c.loop-neighbor.yielded (top_is_node walk (walk.node c.in-Some-pop.node) false top) drained in (
               record { closed = shown.closed; apart = shown.apart; ids_stand = shown.ids_stand; neighbors = turn.1 },
               rw (above, again, from_top-neighbors walk, from_top-push walk, listed)
-                  (unwinding_entered walk g.ID.PartialEq.eq _ (walk.node c.in-Some-pop.node) c.in_ok-clone.field-0 shown.closed shown.apart top
-                  (rw copy (shown.ids_stand c.in-Some-pop.node c.id_fn-id.result (returned g.F.Fn c.id_fn-id.ensures))) (rw copy c.if-contains.ensures) first c.in_ok-insert-2.ensures.updates.0),
+                  (unwinding_entered walk g.ID.PartialEq.eq _ (walk.node c.in-Some-pop.node) c.id_fn-id.result shown.closed shown.apart top
+                  (shown.ids_stand c.in-Some-pop.node c.id_fn-id.result (returned g.F.Fn c.id_fn-id.ensures)) c.if-contains.ensures
+                  (contains-clone g.met.ID.Eq.laws c.loop-node-2.visiting c.id_fn-id.result c.in_ok-clone.field-0 same ∙ first)
+                  (contains-put_clone g.met.ID.Eq.laws c.loop-node-2.visiting c.insert-else-neighbors_visited.new.self c.id_fn-id.result c.in_ok-clone.field-0 same c.in_ok-insert-2.ensures.updates.0)),
             ),
       );
     }
@@ -124,7 +127,7 @@ returns-then-not-branch-clause-cycle g c =
     let before = c.loop-node-2.invariant in
     let e : c.loop-node-2.stack.items ≡ c.pop.new.self.items ++ (c.in-Some-pop.node, c.in-Some-pop.neighbors_visited) ∷ [] = c.in-Some-pop.ensures.items in
     let flag : c.in-Some-pop.neighbors_visited ≡ false = c.if-neighbors_visited.false in
-    let copy : c.in_ok-clone.field-0 ≡ c.id_fn-id.result = c.requires.clones c.id_fn-id.result c.in_ok-clone.field-0 c.in_ok-clone.ensures.cases in
+    let same : g.ID.PartialEq.eq c.id_fn-id.result c.in_ok-clone.field-0 ≡ true = c.requires.clones c.id_fn-id.result c.in_ok-clone.field-0 c.in_ok-clone.ensures.cases in
     let added : c.in_ok-insert-2.field-0 ≡ not (contains g.ID.PartialEq.eq c.loop-node-2.visiting c.in_ok-clone.field-0) = c.in_ok-insert-2.ensures.added in
     let again : contains g.ID.PartialEq.eq c.loop-node-2.visiting c.in_ok-clone.field-0 ≡ true =
     let no : c.in_ok-insert-2.field-0 ≡ false = first_of (search rules, grind (arith, common_steps)) in
@@ -135,8 +138,9 @@ returns-then-not-branch-clause-cycle g c =
       before.walking.1,
       λ walk shown nodes.
           let known = before.walking.2 walk shown nodes in
-          unwinding_cycle walk (walk.node c.in-Some-pop.node) c.in_ok-clone.field-0 (rw (e, from_top-push walk, flag) at known.1)
-          (rw copy (shown.ids_stand c.in-Some-pop.node c.id_fn-id.result (returned g.F.Fn c.id_fn-id.ensures))) again,
+          unwinding_cycle walk (walk.node c.in-Some-pop.node) c.id_fn-id.result (rw (e, from_top-push walk, flag) at known.1)
+          (shown.ids_stand c.in-Some-pop.node c.id_fn-id.result (returned g.F.Fn c.id_fn-id.ensures))
+          (contains-clone g.met.ID.Eq.laws c.loop-node-2.visiting c.id_fn-id.result c.in_ok-clone.field-0 same ∙ again),
     )
 
 pub returns-clause-order : goal.returns-clause-order

@@ -2,6 +2,7 @@ use Rattle.std.proofs.Common.{rules, of_calls, arith, append-nil, append_assoc, 
 use Rattle.std.specs.HashSet.{contains}
 use Rattle.jj_walks.specs.Walk.{DrainsTo}
 use Rattle.jj_walks.specs.Failing.{sound_items, sound as sound_graph}
+use Rattle.jj_walks.proofs.Clones.{contains-clone, contains-put_clone}
 use Rattle.jj_walks.proofs.Walking.{numbers, numbers-push, returned, AlwaysReturns-call}
 use Rattle.jj_walks.proofs.Reaching.{HasNoCycle-from_postorder}
 use Rattle.jj_walks.proofs.Unwinding.{unwinding_starts, unwinding_passed, unwinding_finished, unwinding_entered, unwinding_cycle, top_is_node, here_reached, from_top, from_top-push, from_top-neighbors}
@@ -121,7 +122,7 @@ returns-then-not-branch-clause-refused g c =
     let before = c.loop-node.invariant in
     let e : c.loop-node.stack.items ≡ c.pop.new.self.items ++ (c.in-Some-pop.node, c.in-Some-pop.neighbors_visited) ∷ [] = c.in-Some-pop.ensures.items in
     let flag : c.in-Some-pop.neighbors_visited ≡ false = c.if-neighbors_visited.false in
-    let copy : c.in_ok-clone.field-0 ≡ c.id_fn-id.result = c.requires.clones c.id_fn-id.result c.in_ok-clone.field-0 c.in_ok-clone.ensures.cases in
+    let same : g.ID.PartialEq.eq c.id_fn-id.result c.in_ok-clone.field-0 ≡ true = c.requires.clones c.id_fn-id.result c.in_ok-clone.field-0 c.in_ok-clone.ensures.cases in
     let added : c.in_ok-insert-2.field-0 ≡ not (contains g.ID.PartialEq.eq c.loop-node.visiting c.in_ok-clone.field-0) = c.in_ok-insert-2.ensures.added in
     let again : contains g.ID.PartialEq.eq c.loop-node.visiting c.in_ok-clone.field-0 ≡ true =
     let no : c.in_ok-insert-2.field-0 ≡ false = first_of (search rules, grind (arith, common_steps)) in
@@ -133,8 +134,9 @@ returns-then-not-branch-clause-refused g c =
       before.walking.1,
       λ walk items shown nodes.
           let known = before.walking.2 walk items shown nodes in
-          unwinding_cycle walk (walk.node c.in-Some-pop.node) c.in_ok-clone.field-0 (rw (e, from_top-push walk, flag) at known.1)
-          (rw copy (shown.ids_stand c.in-Some-pop.node c.id_fn-id.result (returned g.F.Fn c.id_fn-id.ensures))) again,
+          unwinding_cycle walk (walk.node c.in-Some-pop.node) c.id_fn-id.result (rw (e, from_top-push walk, flag) at known.1)
+          (shown.ids_stand c.in-Some-pop.node c.id_fn-id.result (returned g.F.Fn c.id_fn-id.ensures))
+          (contains-clone g.met.ID.Eq.laws c.loop-node.visiting c.id_fn-id.result c.in_ok-clone.field-0 same ∙ again),
     ))
 
 pub loop-neighbor-init : goal.loop-neighbor-init
@@ -195,7 +197,7 @@ loop-node-preserved g c =
     let flag : c.in-Some-pop.neighbors_visited ≡ false = c.if-neighbors_visited.false in
     let again : c.push-else-neighbors_visited.new.self.items ≡ c.pop.new.self.items ++ (c.in-Some-pop.node, true) ∷ [] = c.in_ok-push-2.ensures.items in
     let above : c.loop-neighbor.stack.items ≡ c.push-else-neighbors_visited.new.self.items ++ map (λ y. (y, false)) sound.0 = sound.2 in
-    let copy : c.in_ok-clone.field-0 ≡ c.id_fn-id.result = c.requires.clones c.id_fn-id.result c.in_ok-clone.field-0 c.in_ok-clone.ensures.cases in
+    let same : g.ID.PartialEq.eq c.id_fn-id.result c.in_ok-clone.field-0 ≡ true = c.requires.clones c.id_fn-id.result c.in_ok-clone.field-0 c.in_ok-clone.ensures.cases in
     let added : c.in_ok-insert-2.field-0 ≡ not (contains g.ID.PartialEq.eq c.loop-node.visiting c.in_ok-clone.field-0) = c.in_ok-insert-2.ensures.added in
     let first : contains g.ID.PartialEq.eq c.loop-node.visiting c.in_ok-clone.field-0 ≡ false =
     let yes : c.in_ok-insert-2.field-0 ≡ true = first_of (search rules, grind (arith, common_steps)) in
@@ -218,8 +220,10 @@ loop-node-preserved g c =
             sym (sound_items-ok g.row.E.Denot walk.node sound.0) ∙ ap sound_items whole ∙ sym (shown.sound_graph (walk.node c.in-Some-pop.node)) in (
               record { sound_graph = shown.sound_graph; closed = shown.closed; apart = shown.apart; ids_stand = shown.ids_stand; neighbors = turn.1 },
               rw (above, again, from_top-neighbors walk, from_top-push walk, listed)
-                  (unwinding_entered walk g.ID.PartialEq.eq _ (walk.node c.in-Some-pop.node) c.in_ok-clone.field-0 shown.closed shown.apart top
-                  (rw copy (shown.ids_stand c.in-Some-pop.node c.id_fn-id.result (returned g.F.Fn c.id_fn-id.ensures))) (rw copy c.if-contains.ensures) first c.in_ok-insert-2.ensures.updates.0),
+                  (unwinding_entered walk g.ID.PartialEq.eq _ (walk.node c.in-Some-pop.node) c.id_fn-id.result shown.closed shown.apart top
+                  (shown.ids_stand c.in-Some-pop.node c.id_fn-id.result (returned g.F.Fn c.id_fn-id.ensures)) c.if-contains.ensures
+                  (contains-clone g.met.ID.Eq.laws c.loop-node.visiting c.id_fn-id.result c.in_ok-clone.field-0 same ∙ first)
+                  (contains-put_clone g.met.ID.Eq.laws c.loop-node.visiting c.insert-else-neighbors_visited.new.self c.id_fn-id.result c.in_ok-clone.field-0 same c.in_ok-insert-2.ensures.updates.0)),
               known.2,
               rw (above, again, from_top-neighbors walk, from_top-push walk)
                   (none_fails_entered items (walk.node c.in-Some-pop.node) (from_top walk c.pop.new.self.items) (reverse (numbers walk sound.0)) (λ error at_error. none_of_ok walk.node sound.0 error (rw whole at_error))

@@ -1,0 +1,116 @@
+-- The lists of edges by id, while a shown graph is turned round.
+use Rattle.std.proofs.Common.{◌≡◌, Bool, true, false, cond, ◌||◌, Option, None, Some, List, [], ◌∷◌, ◌++◌, map, reverse, refl, sym, ◌∙◌, ap, subst, append-nil, append_assoc}
+use Rattle.std.proofs.lemmas.List.{map-append, reverse-append}
+use Rattle.std.proofs.lemmas.List.Elements.{filter-append}
+use Rattle.std.specs.Cmp.{IsEquivalence}
+use Rattle.std.specs.HashMap.{HashMap, get}
+use Rattle.std.specs.HashMap.Eq.{lookup_congr}
+use Rattle.std.specs.List.{AllZip, list_any}
+use Rattle.std.specs.Option.{UnwrapsOrElse}
+use Rattle.std.specs.Global.{Global}
+use Rattle.std.specs.Vec.{vec_len}
+use Rattle.std.specs.declared.vec.Vec.{Vec}
+use Rattle.jj_walks.specs.declared.graph.GraphEdge.{GraphEdge}
+use Rattle.jj_walks.specs.Reversed.{ShownGraph, shown_graph, edge_to, turned_edges, incoming_edges, with_incoming, reversed_graph, LeadsToId, ShowsById, edges_of, edges_at}
+
+-- the list that an entry lends
+pub edges_of-lent : {ID : Type 0} (found : Option (Vec (GraphEdge ID) Global)) (lent : Vec (GraphEdge ID) Global)
+    → UnwrapsOrElse found (λ made. (made.items ≡ []) × (vec_len made ≡ 0)) lent → lent.items ≡ edges_of found
+edges_of-lent None lent empty = empty.0
+edges_of-lent (Some edges) lent same = ap (λ v. v.items) same
+
+module _ {ID S : Type 0} {eq : ID → ID → Bool} (laws : IsEquivalence eq) (old : HashMap ID (Vec (GraphEdge ID) Global) S) where
+  -- what an id has where one more edge was put at an id
+  pub edges_of-put : (id q : ID) (got : Option (Vec (GraphEdge ID) Global)) (edges : Vec (GraphEdge ID) Global) (edge : GraphEdge ID)
+      → got ≡ cond (eq id q) (Some edges) (get eq old q) → edges.items ≡ edges_at eq old id ++ edge ∷ []
+      → edges_of got ≡ cond (eq id q) (edges_at eq old q ++ edge ∷ []) (edges_at eq old q)
+  edges_of-put id q got edges edge puts more =
+      let P : Bool → Type 0 = λ b. eq id q ≡ b → edges_of (cond b (Some edges) (get eq old q)) ≡ cond b (edges_at eq old q ++ edge ∷ []) (edges_at eq old q) in
+      ap edges_of puts ∙ elim (eq id q) as P [
+        | true ↦ λ same. more ∙ ap (λ o. edges_of o ++ edge ∷ []) (lookup_congr eq laws.congr old.entries id q same)
+        | false ↦ λ other. refl
+      ] refl
+
+AllZip-append : {A B : Type 0} (R : A → B → Type 0) (xs more : List A) (ys last : List B) → AllZip R xs ys → AllZip R more last → AllZip R (xs ++ more) (ys ++ last)
+AllZip-append R [] more [] last k h = h
+AllZip-append R [] more (y ∷ ys) last k h = absurd k
+AllZip-append R (x ∷ xs) more [] last k h = absurd k
+AllZip-append R (x ∷ xs) more (y ∷ ys) last k h = (k.0, AllZip-append R xs more ys last k.1 h)
+
+module _ {N ID : Type 0} (eq : ID → ID → Bool) where
+  turned_edges-push : (q : ID) (node : N) (edges : List (GraphEdge ID)) (edge : GraphEdge ID)
+      → turned_edges eq q node (edges ++ edge ∷ []) ≡ turned_edges eq q node edges ++ cond (eq edge.target q) (edge_to node edge ∷ []) []
+  turned_edges-push q node edges edge =
+      ap (map (edge_to node)) (filter-append (λ e. eq e.target q) edges (edge ∷ [])) ∙ map-append (edge_to node) _ _ ∙ ap (λ l. turned_edges eq q node edges ++ l) (one (eq edge.target q))
+    where
+      one : (b : Bool) → map (edge_to node) (cond b (edge ∷ []) []) ≡ cond b (edge_to node edge ∷ []) []
+      one true = refl
+      one false = refl
+
+  incoming_edges-push : (q : ID) (graph : ShownGraph N ID) (node : N) (edges : List (GraphEdge ID))
+      → incoming_edges eq q (graph ++ (node, edges) ∷ []) ≡ incoming_edges eq q graph ++ turned_edges eq q node edges
+  incoming_edges-push q [] node edges = append-nil (turned_edges eq q node edges)
+  incoming_edges-push q (entry ∷ graph) node edges =
+      ap (λ l. turned_edges eq q entry.0 entry.1 ++ l) (incoming_edges-push q graph node edges)
+      ∙ sym (append_assoc (turned_edges eq q entry.0 entry.1) (incoming_edges eq q graph) (turned_edges eq q node edges))
+
+  module _ (clone : ID → ID → Type 0) (id : N → ID) where
+    abbrev Leads : List (GraphEdge N) → List (GraphEdge ID) → Type 0
+    Leads edges given = AllZip (LeadsToId clone id) edges given
+
+    -- one more edge of a node is turned
+    pub leads_turned : (before : List (GraphEdge N)) (edges : List (GraphEdge ID)) (edge : GraphEdge ID) (node : N) (source q : ID) (old new : List (GraphEdge ID)) → clone (id node) source
+        → new ≡ cond (eq edge.target q) (old ++ record { target = source; edge_type = edge.edge_type } ∷ []) old
+        → Leads (before ++ turned_edges eq q node edges) old → Leads (before ++ turned_edges eq q node (edges ++ edge ∷ [])) new
+    leads_turned before edges edge node source q old new copy puts k =
+        subst (λ (l : List (GraphEdge N)). Leads (before ++ l) new) (sym (turned_edges-push q node edges edge))
+        (subst (λ (l : List (GraphEdge ID)). Leads (before ++ (turned_edges eq q node edges ++ cond (eq edge.target q) (edge_to node edge ∷ []) [])) l) (sym puts) (step (eq edge.target q)))
+      where
+        step : (b : Bool) → Leads (before ++ (turned_edges eq q node edges ++ cond b (edge_to node edge ∷ []) [])) (cond b (old ++ record { target = source; edge_type = edge.edge_type } ∷ []) old)
+        step true = subst (λ (l : List (GraphEdge N)). Leads l (old ++ record { target = source; edge_type = edge.edge_type } ∷ [])) (append_assoc before (turned_edges eq q node edges) (edge_to node edge ∷ []))
+            (AllZip-append (LeadsToId clone id) (before ++ turned_edges eq q node edges) (edge_to node edge ∷ []) old (record { target = source; edge_type = edge.edge_type } ∷ []) k ((copy, refl), tt))
+        step false = subst (λ (l : List (GraphEdge N)). Leads (before ++ l) old) (sym (append-nil (turned_edges eq q node edges))) k
+
+    pub leads_nothing : (before : List (GraphEdge N)) (given : List (GraphEdge ID)) → Leads before given → Leads (before ++ []) given
+    leads_nothing before given k = subst (λ (l : List (GraphEdge N)). Leads l given) (sym (append-nil before)) k
+
+    -- all edges of a node were turned
+    pub leads_entered : (nodes : List (N × Vec (GraphEdge ID) Global)) (entry : N × Vec (GraphEdge ID) Global) (edges given : List (GraphEdge ID)) (q : ID) → edges ≡ entry.1.items
+        → Leads (incoming_edges eq q (shown_graph nodes) ++ turned_edges eq q entry.0 edges) given → Leads (incoming_edges eq q (shown_graph (nodes ++ entry ∷ []))) given
+    leads_entered nodes entry edges given q same k =
+        subst (λ (l : List (GraphEdge N)). Leads l given) (
+        ap (λ l. incoming_edges eq q (shown_graph nodes) ++ turned_edges eq q entry.0 l) same ∙ sym (incoming_edges-push q (shown_graph nodes) entry.0 entry.1.items)
+        ∙ ap (incoming_edges eq q) (sym (map-append {B = N × List (GraphEdge ID)} (λ e. (e.0, e.1.items)) nodes (entry ∷ [])))
+        ) k
+
+    -- the edges of one id more were taken out
+    pub leads_left : (node : N) (later : List N) (edges : List (GraphEdge N)) (i q : ID) (old new : List (GraphEdge ID)) → i ≡ id node → new ≡ cond (eq i q) [] old
+        → Leads (cond (list_any (λ other. eq (id other) q) later) [] edges) old → Leads (cond (list_any (λ other. eq (id other) q) (node ∷ later)) [] edges) new
+    leads_left node later edges i q old new same takes k =
+        subst (λ (l : List (GraphEdge ID)). Leads (cond (eq (id node) q || list_any (λ other. eq (id other) q) later) [] edges) l) (sym (takes ∙ ap (λ j. cond (eq j q) [] old) same))
+        (step (eq (id node) q) (list_any (λ other. eq (id other) q) later) k)
+      where
+        step : (b c : Bool) → Leads (cond c [] edges) old → Leads (cond (b || c) [] edges) (cond b [] old)
+        step true c h = tt
+        step false c h = h
+
+    -- one node more was given
+    pub shows_more : (graph : ShownGraph N ID) (later : List N) (node : N) (edges : Vec (GraphEdge ID) Global) (done more : List (N × Vec (GraphEdge ID) Global)) → more ≡ done ++ (node, edges) ∷ []
+        → Leads (cond (list_any (λ other. eq (id other) (id node)) later) [] (incoming_edges eq (id node) graph)) edges.items
+        → ShowsById clone id (reverse (with_incoming eq id graph later)) (shown_graph done) → ShowsById clone id (reverse (with_incoming eq id graph (node ∷ later))) (shown_graph more)
+    shows_more graph later node edges done more pushed leads k =
+        subst (λ (l : ShownGraph N N). ShowsById clone id l (shown_graph more))
+        (sym (reverse-append ((node, cond (list_any (λ other. eq (id other) (id node)) later) [] (incoming_edges eq (id node) graph)) ∷ []) (with_incoming eq id graph later)))
+        (subst (λ (l : ShownGraph N ID). ShowsById clone id (reverse (with_incoming eq id graph later) ++ (node, cond (list_any (λ other. eq (id other) (id node)) later) [] (incoming_edges eq (id node) graph)) ∷ []) l)
+        (sym (ap shown_graph pushed ∙ map-append {B = N × List (GraphEdge ID)} (λ e. (e.0, e.1.items)) done ((node, edges) ∷ [])))
+        (AllZip-append (λ want got. (got.0 ≡ want.0) × AllZip (LeadsToId clone id) want.1 got.1) (reverse (with_incoming eq id graph later)) _ (shown_graph done) _ k ((refl, leads), tt)))
+
+    -- all nodes were given
+    pub shows_all : (nodes : List (N × Vec (GraphEdge ID) Global)) (rest later : List N) (given : ShownGraph N ID) → map (λ x. x.0) nodes ≡ rest ++ later → rest ≡ []
+        → ShowsById clone id (reverse (with_incoming eq id (shown_graph nodes) later)) given → ShowsById clone id (reversed_graph eq id (shown_graph nodes)) given
+    shows_all nodes rest later given all none k =
+        subst (λ (l : List N). ShowsById clone id (reverse (with_incoming eq id (shown_graph nodes) l)) given) (sym (nodes_of nodes ∙ all ∙ ap (λ l. l ++ later) none)) k
+      where
+        nodes_of : (ns : List (N × Vec (GraphEdge ID) Global)) → map (λ entry. entry.0) (shown_graph ns) ≡ map (λ x. x.0) ns
+        nodes_of [] = refl
+        nodes_of (n ∷ ns) = ap (λ l. n.0 ∷ l) (nodes_of ns)

@@ -1,0 +1,93 @@
+//! The reverse of a shown graph.
+ghost use Rattle.std.specs.Prelude.{◌≡◌, ◌++◌, ◌∷◌, [], IfOk, IfErr, List, OnOk, map, if◌then◌else◌};
+ghost use Rattle.std.specs.Fn.{FnReturnsAt};
+ghost use Rattle.std.specs.Global.{Global as global};
+ghost use Rattle.std.specs.Iterator.{Drains, IsFinite, Yields};
+ghost use Rattle.std.specs.declared.vec.Vec.{Vec as vec};
+ghost use Rattle.jj_walks.specs.Errors.{IfNode};
+ghost use Rattle.jj_walks.specs.Reversed.{ShowsById, edges_at, reversed_graph, shown_graph};
+ghost use denote.Ref.{Bor};
+
+use crate::graph::{GraphEdge, GraphNode};
+use crate::walk_error::WalkError;
+use std::alloc::{AllocError, Global};
+use std::collections::HashMap;
+use std::hash::Hash;
+
+/// The edges that lead to each id.
+type Incoming<ID> = HashMap<ID, Vec<GraphEdge<ID>>>;
+
+/// The nodes from the last to the first, each with the edges that lead to it: to the id of each node that has an edge to
+/// it, in the order of the input. Edges to ids that no node has are left out, and of nodes with one id the last has all
+/// edges.
+pub fn reverse_graph<N, ID, E, I, F>(
+    alloc: Global,
+    input: I,
+    as_id: F,
+) -> Result<Vec<GraphNode<N, ID>>, WalkError<E>>
+where
+    N: Drop,
+    ID: Hash + Eq + Clone + Drop,
+    E: Drop,
+    I: Iterator<Item = Result<GraphNode<N, ID>, E>> + Drop,
+    F: Fn(&N) -> &ID + Drop,
+    requires as_id { F.IsAlwaysCallable as_id }
+    requires callable { I.can_next input }
+    requires finite { IsFinite (I.remaining input) }
+    ensures reversed { IfOk result (λ v. (nodes : List (N × vec (GraphEdge ID) global)) × Drains I.next_gives input (map Ok nodes)
+        × ((id : N → ID) → ((x : N) (r : Bor ID) → FnReturnsAt F.Fn as_id x r → r.now ≡ id x)
+        → ShowsById ID.is_clone id (reversed_graph ID.eq id (shown_graph nodes)) (shown_graph v.items))) }
+    ensures refused { IfErr result (λ e. IfNode e (λ error. (nodes : List (N × vec (GraphEdge ID) global)) × (t : I) × Yields I.next_gives input (map Ok nodes ++ Err error ∷ []) t)) }
+{
+    let mut nodes = Vec::new(alloc);
+    let mut incoming = HashMap::new(alloc);
+    for item in input {
+        let (node, edges) = match item {
+            Ok(item) => item,
+            Err(error) => return Err(WalkError::Node(error)),
+        };
+        for edge in edges {
+            let GraphEdge { target, edge_type } = edge;
+            let source = as_id(&node).clone()?;
+            let back = GraphEdge {
+                target: source,
+                edge_type,
+            };
+            add_edge(&mut incoming, target, back)?;
+        }
+        nodes.push(node)?;
+    }
+    let mut reversed = Vec::new(alloc);
+    while let Some(node) = nodes.pop() {
+        let edges = take_edges(alloc, &mut incoming, as_id(&node));
+        reversed.push((node, edges))?;
+    }
+    Ok(reversed)
+}
+
+/// Puts an edge behind those that lead to the id.
+fn add_edge<ID: Hash + Eq + Drop>(
+    incoming: &mut Incoming<ID>,
+    id: ID,
+    edge: GraphEdge<ID>,
+) -> Result<(), AllocError>
+    ensures { OnOk result ((q : ID) → edges_at ID.eq incoming.new q ≡ (if ID.eq id q then edges_at ID.eq incoming.old q ++ edge ∷ [] else edges_at ID.eq incoming.old q)) }
+{
+    incoming.entry(id)?.or_default().push(edge)?;
+    Ok(())
+}
+
+/// Takes out the edges that lead to the id.
+fn take_edges<ID: Hash + Eq + Drop>(
+    alloc: Global,
+    incoming: &mut Incoming<ID>,
+    id: &ID,
+) -> Vec<GraphEdge<ID>>
+    ensures taken { result.items ≡ edges_at ID.eq incoming.old id.now }
+    ensures left { (q : ID) → edges_at ID.eq incoming.new q ≡ (if ID.eq id.now q then [] else edges_at ID.eq incoming.old q) }
+{
+    match incoming.remove(id) {
+        Some(edges) => edges,
+        None => Vec::new(alloc),
+    }
+}
