@@ -1,8 +1,10 @@
-pub mod Answered
 pub mod Children
+pub mod Combined
+pub mod Listed
 pub mod Marked
 pub mod Marks
 pub mod Orders
+pub mod UnderWay
 pub mod Walks
 pub mod Wanted
 pub mod GlobRows
@@ -15,3 +17,15 @@ pub mod GlobClosed
 pub mod GlobBack
 pub mod GlobPrefix
 pub mod GlobEscapes
+pub mod PatternTexts
+pub mod PatternSound
+pub mod PatternTrees
+pub mod PatternAdds
+pub mod Occurrences
+pub mod FirstLines
+pub mod EmptyRegex
+pub mod AllStrings
+pub mod FoundEntries
+pub mod Unions
+pub mod EscapedTokens
+pub mod EscapedMeaning

@@ -19,7 +19,16 @@ or_true : (a : Bool) → (a || true) ≡ true
 or_true true = refl
 or_true false = refl
 
-module _ (old new : Tree Bool) (path : Path) (set : IsSet IsBlank old path true new) where
+-- the path has a mark, every other value is kept, and further values are at most blank ones on the fronts of the path
+pub record IsMarkedAt (old : Tree Bool) (path : Path) (new : Tree Bool) : Type 0 where
+  pub here : value_at new path ≡ Some true
+  pub keeps : (q : Path) (v : Bool) → q ≢ path → value_at old q ≡ Some v → value_at new q ≡ Some v
+  pub makes : (q : Path) (v : Bool) → q ≢ path → value_at old q ≡ None → value_at new q ≡ Some v → IsBlank v × ((rest : Path) × (path ≡ q ++ rest))
+
+pub marked-set : (old new : Tree Bool) (path : Path) → IsSet IsBlank old path true new → IsMarkedAt old path new
+marked-set old new path set = record { here = set.here; keeps = set.keeps; makes = set.makes }
+
+module _ (old new : Tree Bool) (path : Path) (set : IsMarkedAt old path new) where
   pub is_marked-set : (q : Path) → is_marked new q ≡ (is_marked old q || path_eq q path)
   is_marked-set q = by_path (path_eq q path) refl
     where

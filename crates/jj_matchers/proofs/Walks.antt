@@ -75,23 +75,6 @@ module _ {V : Type 0} where
       ∙ ap (λ l. found ++ paths_where test (nodes_below dir (branches_of l))) (sym e)
       ∙ whole
 
-  -- the start of a walk: the directory itself comes first, where it passes the test
-  pub from_start : (test : Path × Tree V → Bool) (dir d : Path) (tree : Tree V) (b : Branches V) (found new : List Path) → test (dir, tree) ≡ true → new ≡ found ++ d ∷ [] → d ≡ dir → b ≡ tree.1 →
-      new ++ paths_where test (nodes_below dir b) ≡ found ++ paths_where test ((dir, tree) ∷ nodes_below dir tree.1)
-  from_start test dir d tree b found new passes is at e =
-      ap (λ l. l ++ paths_where test (nodes_below dir b)) is
-      ∙ append_assoc found (d ∷ []) _
-      ∙ ap (λ x. found ++ x ∷ paths_where test (nodes_below dir b)) at
-      ∙ ap (λ x. found ++ dir ∷ paths_where test (nodes_below dir x)) e
-      ∙ ap (λ t. found ++ (path_if t dir ++ paths_where test (nodes_below dir tree.1))) (sym passes)
-      ∙ ap (λ l. found ++ l) (sym (paths_where_first test dir tree (nodes_below dir tree.1)))
-
-  -- a directory and what is below it, after what was found before
-  pub from_split : (test : Path × Tree V → Bool) (found : List Path) (dir : Path) (tree : Tree V) → found ++ paths_where test ((dir, tree) ∷ nodes_below dir tree.1) ≡ (found ++ path_if (test (dir, tree)) dir) ++ paths_where test (nodes_below dir tree.1)
-  from_split test found dir tree =
-      ap (λ l. found ++ l) (paths_where_first test dir tree (nodes_below dir tree.1))
-      ∙ sym (append_assoc found (path_if (test (dir, tree)) dir) (paths_where test (nodes_below dir tree.1)))
-
   -- two tests that agree on all that is below a directory find the same there
   pub same_below : (f g : Path × Tree V → Bool) (dir : Path) (b : Branches V) → ((name : Name) (rest : Path) (sub : Tree V) → f (dir ++ name ∷ rest, sub) ≡ g (dir ++ name ∷ rest, sub)) → paths_where f (nodes_below dir b) ≡ paths_where g (nodes_below dir b)
   same_below f g dir none same = refl
@@ -168,31 +151,3 @@ module _ {V : Type 0} where
   pub nothing_below : (test : Path × Tree V → Bool) (dir : Path) (b : Branches V) → has_branches b ≡ false → paths_where test (nodes_below dir b) ≡ []
   nothing_below test dir none e = refl
   nothing_below test dir (branch name value below after) e = absurd (false≢true (sym e))
-
-  pub sorted_nothing : (test : Path × Tree V → Bool) (dir : Path) (b : Branches V) → has_branches b ≡ false → IsStrictlySortedBy path_cmp (paths_where test (nodes_below dir b))
-  sorted_nothing test dir b e = subst (IsStrictlySortedBy path_cmp) (sym (nothing_below test dir b e)) sorted_none
-
-  -- a walk that has seen every branch has the order of what it found
-  pub sorted_end : (test : Path × Tree V → Bool) (dir : Path) (left : List (Name × Tree V)) (all : List Path) → left ≡ [] →
-      (IsStrictlySortedBy path_cmp (paths_where test (nodes_below dir (branches_of left))) → IsStrictlySortedBy path_cmp all) → IsStrictlySortedBy path_cmp all
-  sorted_end test dir left all e whole = whole (subst (λ l. IsStrictlySortedBy path_cmp (paths_where test (nodes_below dir (branches_of l)))) (sym e) sorted_none)
-
-  -- a step of a walk keeps what holds of all that is found
-  pub all_step : (P : Path → Type 0) (test : Path × Tree V → Bool) (dir : Path) (name : Name) (sub : Tree V) (after left : List (Name × Tree V)) (all : List Path) →
-      left ≡ (name, sub) ∷ after →
-      (AllByRecursion P (paths_where test (nodes_below dir (branches_of left))) → AllByRecursion P all) →
-      (test (dir ++ name ∷ [], sub) ≡ true → P (dir ++ name ∷ [])) →
-      AllByRecursion P (paths_where test (nodes_below (dir ++ name ∷ []) sub.1)) →
-      AllByRecursion P (paths_where test (nodes_below dir (branches_of after))) → AllByRecursion P all
-  all_step P test dir name sub after left all e whole here below later =
-      let p = dir ++ name ∷ [] in
-      whole (subst (AllByRecursion P) (sym (paths_below_first test dir name sub (branches_of after)) ∙ ap (λ l. paths_where test (nodes_below dir (branches_of l))) (sym e))
-      (all-append P _ _ (all_path_if P _ p here) (all-append P _ _ below later)))
-
-  pub all_end : (P : Path → Type 0) (test : Path × Tree V → Bool) (dir : Path) (left : List (Name × Tree V)) (all : List Path) → left ≡ [] →
-      (AllByRecursion P (paths_where test (nodes_below dir (branches_of left))) → AllByRecursion P all) → AllByRecursion P all
-  all_end P test dir left all e whole = whole (subst (λ l. AllByRecursion P (paths_where test (nodes_below dir (branches_of l)))) (sym e) tt)
-
-  -- what is left of a list begins with the element at hand
-  pub first_left : (nodes : List (Name × Tree V)) (i : ℕ) (node : Name × Tree V) → i < length nodes → node ≡ get_or nodes i node → drop i nodes ≡ node ∷ drop (i + 1) nodes
-  first_left nodes i node lt is = rw add-one (drop-cons nodes i node lt ∙ ap (λ x. x ∷ drop (suc i) nodes) (sym is))

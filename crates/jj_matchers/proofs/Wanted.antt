@@ -109,7 +109,7 @@ module _ (prefixes : List Path) where
   prefix_opens path = has_prefix prefixes path || leads_to_prefix prefixes path
 
   -- beyond a directory that has no prefix, a prefix of a path below it lies below it
-  prefix_below : (dir : Path) (name : Name) (rest : Path) → has_prefix prefixes dir ≡ false → has_prefix prefixes (dir ++ name ∷ rest) ≡ true → leads_to_wanted prefixes dir ≡ true
+  pub prefix_below : (dir : Path) (name : Name) (rest : Path) → has_prefix prefixes dir ≡ false → has_prefix prefixes (dir ++ name ∷ rest) ≡ true → leads_to_wanted prefixes dir ≡ true
   prefix_below dir name rest =
       any_beyond (λ prefix. is_at_or_below prefix (dir ++ name ∷ rest)) (λ prefix. is_at_or_below prefix dir) (is_below dir)
       (λ prefix h refused. let r = reaches_below prefix dir (name ∷ rest) h refused in ap (is_below dir) r.is ∙ is_below-append dir r.name r.middle) prefixes
@@ -123,7 +123,7 @@ module _ (prefixes : List Path) where
       one_name dir name n [] end e = let same : name ≡ n = cc in ap (λ x. dir ++ x ∷ []) same
       one_name dir name n (x ∷ middle) end e = let no_more : [] ≡ x ∷ (middle ++ end) = cc in cc
 
-  prefix_deeper : (dir : Path) (name next : Name) (rest : Path) → has_prefix prefixes dir ≡ false → has_prefix prefixes (dir ++ name ∷ next ∷ rest) ≡ true → leads_to_prefix prefixes (dir ++ name ∷ []) ≡ true
+  pub prefix_deeper : (dir : Path) (name next : Name) (rest : Path) → has_prefix prefixes dir ≡ false → has_prefix prefixes (dir ++ name ∷ next ∷ rest) ≡ true → leads_to_prefix prefixes (dir ++ name ∷ []) ≡ true
   prefix_deeper dir name next rest =
       any_beyond (λ prefix. is_at_or_below prefix (dir ++ name ∷ next ∷ rest)) (λ prefix. is_at_or_below prefix dir) (is_at_or_below (dir ++ name ∷ []))
       (λ prefix h refused.

@@ -1,4 +1,6 @@
 pub mod Answers
+pub mod Combined
+pub mod Listed
 pub mod Marks
 pub mod Visits
 pub mod Walk
@@ -12,3 +14,19 @@ pub mod GlobKept
 pub mod GlobReads
 pub mod GlobGroups
 pub mod GlobEscape
+pub mod Patterns
+pub mod PatternTree
+pub mod Folded
+pub mod StringGlobs
+pub mod StringSets
+pub mod PatternViews
+pub mod PatternFaults
+pub mod PatternKinds
+pub mod GlobsOfPatterns
+pub mod ExpressionViews
+pub mod Predicates
+pub mod StringMatchers
+pub mod Lines
+pub mod LinesLeft
+pub mod EntriesLeft
+pub mod FilterViews

@@ -7,10 +7,12 @@ mod groups;
 mod pattern;
 mod put;
 mod reader;
+mod regex_text;
 mod sign;
 mod table;
 mod token;
 
 pub use error::GlobError;
 pub use escaping::escape;
+pub(crate) use escaping::is_special;
 pub use pattern::Glob;

@@ -1,22 +1,34 @@
 //! Matchers: sets of paths that can tell where below a directory their paths are.
 
+mod difference_matcher;
+mod dir_patterns;
 mod files_matcher;
+mod globs_matcher;
+mod intersection_matcher;
 mod marked_tree;
+mod path_glob_pattern;
 mod prefix_matcher;
 mod tree_walk;
+mod union_matcher;
 mod visits;
 
-ghost use Rattle.std.specs.Prelude.{◌≡◌, Bool, true, false, IfOk};
-ghost use Rattle.jj_paths.specs.Paths.{Path};
+ghost use Rattle.std.specs.Prelude.{◌≡◌, Bool, true, false, List, [], IfOk};
+ghost use Rattle.jj_paths.specs.Paths.{Name, Path};
 ghost use Rattle.jj_paths.specs.Names.{path_of};
 ghost use Rattle.jj_matchers.specs.Answers.{Answer, IsSound, all_recursively, nothing};
+ghost use Rattle.jj_matchers.specs.Listed.{ChoosesFrom};
 ghost use Rattle.jj_matchers.specs.Visits.{answer_of};
 
+pub use difference_matcher::DifferenceMatcher;
 pub use files_matcher::FilesMatcher;
+pub use globs_matcher::{GlobsMatcher, GlobsMatcherBuilder};
+pub use intersection_matcher::IntersectionMatcher;
 use jj_paths::repo_path::RepoPath;
+pub use path_glob_pattern::PathGlobPattern;
 pub use prefix_matcher::PrefixMatcher;
 use std::alloc::{AllocError, Global};
 pub use tree_walk::{Walk, walk_matching};
+pub use union_matcher::UnionMatcher;
 pub use visits::{Visit, VisitDirs, VisitFiles};
 
 /// A set of paths.
@@ -30,6 +42,9 @@ pub trait Matcher: Drop {
     /// The answer for a directory.
     ghost answers: { Self → Path → Answer };
 
+    /// The names from which the answer for a directory chooses, where it does not name every child.
+    ghost candidates: { Self → Path → List Name };
+
     /// Whether the path is in the set.
     fn matches(&self, file: RepoPath<'_>) -> bool
         ensures { result ≡ accepts self.now (path_of file.entry) };
@@ -37,7 +52,8 @@ pub trait Matcher: Drop {
     /// Where to look for paths of the set strictly below a directory.
     fn visit(&self, alloc: Global, dir: RepoPath<'_>) -> Result<Visit, AllocError>
         ensures answer { IfOk result (λ visit. answer_of visit ≡ answers self.now (path_of dir.entry)) }
-        ensures sound { IfOk result (λ visit. IsSound (accepts self.now) (opens self.now) (path_of dir.entry) (answer_of visit)) };
+        ensures sound { IfOk result (λ visit. IsSound (accepts self.now) (opens self.now) (path_of dir.entry) (answer_of visit)) }
+        ensures chosen { IfOk result (λ visit. ChoosesFrom (candidates self.now (path_of dir.entry)) (answer_of visit)) };
 }
 
 impl<T: Matcher> Matcher for &T {
@@ -46,6 +62,8 @@ impl<T: Matcher> Matcher for &T {
     ghost opens = { λ m. T.opens m.now };
 
     ghost answers = { λ m. T.answers m.now };
+
+    ghost candidates = { λ m. T.candidates m.now };
 
     fn matches(&self, file: RepoPath<'_>) -> bool {
         (**self).matches(file)
@@ -63,6 +81,8 @@ impl Matcher for Box<dyn Matcher> {
     ghost opens = { λ b. (Matcher-box b).opens b.value };
 
     ghost answers = { λ b. (Matcher-box b).answers b.value };
+
+    ghost candidates = { λ b. (Matcher-box b).candidates b.value };
 
     fn matches(&self, file: RepoPath<'_>) -> bool {
         (**self).matches(file)
@@ -84,6 +104,8 @@ impl Matcher for NothingMatcher {
 
     ghost answers = { λ _ dir. nothing };
 
+    ghost candidates = { λ _ dir. [] };
+
     fn matches(&self, _file: RepoPath<'_>) -> bool {
         false
     }
@@ -103,6 +125,8 @@ impl Matcher for EverythingMatcher {
     ghost opens = { λ _ path. true };
 
     ghost answers = { λ _ dir. all_recursively };
+
+    ghost candidates = { λ _ dir. [] };
 
     fn matches(&self, _file: RepoPath<'_>) -> bool {
         true

@@ -29,7 +29,7 @@ pub fn marked<R: Abort>(
 ) -> Result<RepoPathTree<bool>, AllocError> {
     let mut tree: RepoPathTree<bool> = RepoPathTree::default(alloc);
     for text in texts {
-        tree.set(alloc, path(rt, alloc, text), true)?;
+        tree.set(path(rt, alloc, text), true)?;
     }
     Ok(tree)
 }

@@ -2,9 +2,16 @@
 ghost use Rattle.std.specs.Prelude.{◌≡◌, ◌++◌, IfOk, OnOk, encode_utf8};
 ghost use Rattle.std.specs.List.{flat_map};
 ghost use Rattle.std.specs.String.{string_bytes};
-ghost use Rattle.jj_matchers.specs.GlobEscape.{escaped, escaped_byte};
+ghost use Rattle.jj_matchers.specs.GlobEscape.{escaped, escaped_byte, is_special};
 
 use std::alloc::{AllocError, Global};
+
+// Whether the byte is one of `? * [ ] { } \`, which do not stand for themselves in a glob.
+pub(crate) fn is_special(byte: u8) -> bool
+    ensures { result ≡ is_special byte }
+{
+    matches!(byte, b'?' | b'*' | b'[' | b']' | b'{' | b'}' | b'\\')
+}
 
 // Writes the character as it stands for itself.
 fn push_escaped(glob: &mut String, c: char) -> Result<(), AllocError>

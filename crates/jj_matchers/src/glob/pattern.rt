@@ -9,9 +9,10 @@ use crate::glob::backtrack::accepts;
 use crate::glob::error::GlobError;
 use crate::glob::put::put_prefix_end;
 use crate::glob::reader::read_tokens;
+use crate::glob::regex_text::regex_of_tokens;
 use crate::glob::table::{ROOM, matches_in_table};
 use crate::glob::token::{Options, Token};
-use std::alloc::Global;
+use std::alloc::{AllocError, Global};
 use std::marker::Model;
 
 /// A glob, seen as its text and its options.
@@ -64,6 +65,13 @@ impl Glob {
         ensures { result.now ≡ self.now.text }
     {
         self.text.as_str()
+    }
+
+    /// The text of a regular expression over bytes that matches as the glob does, where its `.` matches a line feed too. That it
+    /// matches so is tested, not proved.
+    pub fn regex_text(&self, alloc: Global) -> Result<String, AllocError> {
+        let tokens = self.tokens.as_slice();
+        regex_of_tokens(alloc, &tokens[..tokens.len() - 4], self.options)
     }
 
     /// Whether the glob stands for the bytes.

@@ -117,6 +117,20 @@ impl Class {
         Class { negated, ranges }
     }
 
+    /// Whether the class holds all bytes but those of its ranges.
+    pub fn is_negated(&self) -> bool
+        ensures { result ≡ self.now.0 }
+    {
+        self.negated
+    }
+
+    /// The ranges, in order.
+    pub fn ranges(&self) -> &[ByteRange]
+        ensures { result.now ≡ self.now.1 }
+    {
+        self.ranges.as_slice()
+    }
+
     /// Whether the class holds the byte.
     pub fn holds(&self, options: Options, byte: u8) -> bool
         ensures { result ≡ in_class options self.now byte }

@@ -2,6 +2,7 @@
 ghost use Rattle.std.specs.Prelude.{◌≡◌, IfOk, map};
 ghost use Rattle.jj_paths.specs.Paths.{Path};
 ghost use Rattle.jj_paths.specs.Names.{path_of};
+ghost use Rattle.jj_matchers.specs.Listed.{names_of};
 ghost use Rattle.jj_matchers.specs.Wanted.{HasSamePaths, is_wanted, leads_to_wanted, files_answer};
 
 use crate::matchers::marked_tree::{marked_tree, visit_files};
@@ -46,6 +47,8 @@ impl Matcher for FilesMatcher {
     ghost opens = { leads_to_wanted };
 
     ghost answers = { files_answer };
+
+    ghost candidates = { λ wanted dir. names_of wanted };
 
     fn matches(&self, file: RepoPath<'_>) -> bool {
         match self.tree.get(file) {

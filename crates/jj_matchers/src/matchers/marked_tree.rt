@@ -21,7 +21,7 @@ pub fn marked_tree(alloc: Global, paths: &[RepoPath<'_>]) -> Result<RepoPathTree
     sorted.sort_unstable();
     let mut tree = RepoPathTree::default(alloc);
     for path in &sorted {
-        tree.set(alloc, *path, true)?;
+        tree.set(*path, true)?;
     }
     Ok(tree)
 }

@@ -2,6 +2,7 @@
 ghost use Rattle.std.specs.Prelude.{◌≡◌, ◌||◌, IfOk, map};
 ghost use Rattle.jj_paths.specs.Paths.{Path};
 ghost use Rattle.jj_paths.specs.Names.{path_of};
+ghost use Rattle.jj_matchers.specs.Listed.{names_of};
 ghost use Rattle.jj_matchers.specs.Wanted.{HasSamePaths, has_prefix, leads_to_prefix, prefix_answer};
 
 use crate::matchers::marked_tree::{marked_tree, visit_prefixes};
@@ -46,6 +47,8 @@ impl Matcher for PrefixMatcher {
     ghost opens = { λ prefixes path. has_prefix prefixes path || leads_to_prefix prefixes path };
 
     ghost answers = { prefix_answer };
+
+    ghost candidates = { λ prefixes dir. names_of prefixes };
 
     fn matches(&self, file: RepoPath<'_>) -> bool {
         self.tree.walk_to(file).any(|(node, _)| *node.value())

@@ -1,13 +1,17 @@
 //! A walk of a tree of marks that goes only where a matcher has paths.
-ghost use Rattle.std.specs.Prelude.{◌≡◌, Bool, true, List, [], ◌∷◌, ◌++◌, IfOk, OnOk, ◌⊎◌};
+ghost use Rattle.std.specs.Prelude.{◌≡◌, ◌<◌, Bool, true, List, [], ◌∷◌, ◌++◌, IfOk, OnOk, ◌⊎◌};
+ghost use Rattle.jj_paths.specs.Names.{path_of};
 ghost use Rattle.jj_paths.specs.Paths.{path_cmp};
-ghost use Rattle.jj_matchers.specs.Walk.{files_of, entered_by, is_file, is_entered_directory};
-ghost use Rattle.jj_matchers.specs.WalkParts.{paths_below, paths_from, is_marked_node, is_directory, ComesTo};
-ghost use Rattle.std.specs.List.{All, AllByRecursion};
+ghost use Rattle.jj_paths.specs.Tree.{Tree};
+ghost use Rattle.jj_matchers.specs.Answers.{IsSound};
+ghost use Rattle.jj_matchers.specs.Visits.{answer_of};
+ghost use Rattle.jj_matchers.specs.Walk.{files_of, entered_by, is_entered};
+ghost use Rattle.jj_matchers.specs.WalkParts.{GoesOnBy, Enters, IsUnderWay, IsOnTheWay, work_left};
+ghost use Rattle.std.specs.List.{All};
 ghost use Rattle.std.specs.List.Sorted.{IsStrictlySortedBy};
 
 use crate::matchers::{Matcher, Visit};
-use jj_paths::repo_path::RepoPathBuf;
+use jj_paths::repo_path::{RepoPath, RepoPathBuf, RepoPathComponentBuf};
 use jj_paths::repo_path_tree::RepoPathTree;
 use std::alloc::{AllocError, Global};
 
@@ -20,7 +24,16 @@ pub struct Walk {
     pub entered: Vec<RepoPathBuf>,
 }
 
-/// The marked paths below the root that the matcher accepts, and the directories that were opened to find them.
+/// A directory that a walk has entered, with its answer and the children that the walk has not come to yet.
+#[derive(Drop)]
+struct Entered<'t> {
+    dir: RepoPathBuf,
+    answer: Visit,
+    left: &'t [(RepoPathComponentBuf, RepoPathTree<bool>)],
+}
+
+/// The marked paths below the root that the matcher accepts, and the directories that were opened to find them. The
+/// directories on the way down are kept in a list, so that a deep tree takes no more stack than a flat one.
 pub fn walk_matching<M: Matcher>(
     alloc: Global,
     tree: &RepoPathTree<bool>,
@@ -35,70 +48,132 @@ pub fn walk_matching<M: Matcher>(
         files: Vec::new(alloc),
         entered: Vec::new(alloc),
     };
-    let root = RepoPathBuf::root(alloc);
-    walk_directory(alloc, tree, &root, matcher, &mut walk)?;
+    let mut unfinished = enter_root(alloc, tree, matcher, &mut walk)?;
+    while let Some(directory) = unfinished.pop() {
+        go_on(alloc, directory, matcher, &mut walk, &mut unfinished)?;
+    }
     Ok(walk)
 }
 
-// Asks for the answer of a directory, and goes on below it.
-fn walk_directory<M: Matcher>(
+// Asks for the answer of the root, and enters it unless there is nothing below it.
+fn enter_root<'t, M: Matcher>(
     alloc: Global,
-    tree: &RepoPathTree<bool>,
-    dir: &RepoPathBuf,
+    tree: &'t RepoPathTree<bool>,
     matcher: &M,
     walk: &mut Walk,
-) -> Result<(), AllocError>
-    requires { ComesTo (M.answers matcher.now) dir.now }
-    ensures files { OnOk result (walk.new.files.items ≡ walk.old.files.items ++ paths_below (is_file (M.accepts matcher.now)) dir.now tree.now) }
-    ensures entered { OnOk result (walk.new.entered.items ≡ walk.old.entered.items ++ paths_from (is_entered_directory (M.answers matcher.now)) dir.now tree.now) }
-    ensures files_ordered { OnOk result (IsStrictlySortedBy path_cmp (paths_below (is_file (M.accepts matcher.now)) dir.now tree.now)) }
-    ensures entered_ordered { OnOk result (IsStrictlySortedBy path_cmp (paths_below (is_entered_directory (M.answers matcher.now)) dir.now tree.now)) }
-    ensures only_open { OnOk result (AllByRecursion (λ d. M.opens matcher.now d ≡ true) (paths_below (is_entered_directory (M.answers matcher.now)) dir.now tree.now)) }
+) -> Result<Vec<Entered<'t>>, AllocError>
+    requires { (walk.old.files.items ≡ []) × (walk.old.entered.items ≡ []) }
+    ensures { IfOk result (λ unfinished. IsOnTheWay (M.accepts matcher.now) (M.opens matcher.now) (M.answers matcher.now) tree.now walk.new.files.items walk.new.entered.items unfinished.items) }
 {
+    let mut unfinished = Vec::new(alloc);
     if !tree.has_children() {
-        return Ok(());
+        return Ok(unfinished);
     }
-    match matcher.visit(alloc, dir.as_path())? {
-        Visit::Nothing => Ok(()),
-        Visit::AllRecursively => take_all(alloc, tree, dir, walk),
-        Visit::Specific { dirs, files } => {
-            walk.entered.push(dir.as_path().to_owned(alloc)?)?;
-            for (name, sub) in tree.entries() {
-                let path = dir.as_path().join(alloc, name.as_component())?;
-                if *sub.value() && files.contains(name) && matcher.matches(path.as_path()) {
-                    walk.files.push(path.as_path().to_owned(alloc)?)?;
-                }
-                if dirs.contains(name) {
-                    walk_directory(alloc, sub, &path, matcher, walk)?;
-                }
-            }
-            Ok(())
-        }
-    }
+    let root = RepoPathBuf::root(alloc);
+    let answer = matcher.visit(alloc, root.as_path())?;
+    enter(alloc, tree, root, answer, walk, &mut unfinished)?;
+    Ok(unfinished)
 }
 
-// Takes every marked path below a directory, and every directory at and below it.
-fn take_all(
+// Takes the next child of the directory that was entered last: its file, and itself as a directory.
+fn go_on<'t, M: Matcher>(
     alloc: Global,
-    tree: &RepoPathTree<bool>,
-    dir: &RepoPathBuf,
+    directory: Entered<'t>,
+    matcher: &M,
     walk: &mut Walk,
+    unfinished: &mut Vec<Entered<'t>>,
 ) -> Result<(), AllocError>
-    ensures files { OnOk result (walk.new.files.items ≡ walk.old.files.items ++ paths_below is_marked_node dir.now tree.now) }
-    ensures entered { OnOk result (walk.new.entered.items ≡ walk.old.entered.items ++ paths_from is_directory dir.now tree.now) }
-    ensures files_ordered { OnOk result (IsStrictlySortedBy path_cmp (paths_below is_marked_node dir.now tree.now)) }
-    ensures entered_ordered { OnOk result (IsStrictlySortedBy path_cmp (paths_below is_directory dir.now tree.now)) }
+    requires { IsUnderWay (M.accepts matcher.now) (M.opens matcher.now) (M.answers matcher.now) directory }
+    ensures on_the_way { OnOk result ((tree : Tree Bool) →
+        IsOnTheWay (M.accepts matcher.now) (M.opens matcher.now) (M.answers matcher.now) tree walk.old.files.items walk.old.entered.items (unfinished.old.items ++ directory.entry ∷ []) →
+        IsOnTheWay (M.accepts matcher.now) (M.opens matcher.now) (M.answers matcher.now) tree walk.new.files.items walk.new.entered.items unfinished.new.items) }
+    ensures less_left { OnOk result (work_left unfinished.new.items < work_left (unfinished.old.items ++ directory.entry ∷ [])) }
 {
-    if !tree.has_children() {
+    let Entered { dir, answer, left } = directory;
+    let Some((child, left)) = left.split_first() else {
+        return Ok(());
+    };
+    let (name, sub) = child;
+    let path = dir.as_path().join(alloc, name.as_component())?;
+    if *sub.value() && is_accepted(&dir, &answer, name, path.as_path(), matcher) {
+        walk.files.push(path.as_path().to_owned(alloc)?)?;
+    }
+    if !sub.has_children() {
+        unfinished.push(Entered { dir, answer, left })?;
+        return Ok(());
+    }
+    let below = answer_below(alloc, &dir, &answer, name, path.as_path(), matcher)?;
+    unfinished.push(Entered { dir, answer, left })?;
+    enter(alloc, sub, path, below, walk, unfinished)?;
+    Ok(())
+}
+
+// Enters a directory with this answer, unless there is nothing below it.
+fn enter<'t>(
+    alloc: Global,
+    tree: &'t RepoPathTree<bool>,
+    dir: RepoPathBuf,
+    answer: Visit,
+    walk: &mut Walk,
+    unfinished: &mut Vec<Entered<'t>>,
+) -> Result<(), AllocError>
+    ensures files { OnOk result (walk.new.files.items ≡ walk.old.files.items) }
+    ensures entered { OnOk result (Enters dir (answer_of answer) tree.now walk.old.entered.items walk.new.entered.items unfinished.old.items unfinished.new.items) }
+{
+    if answer.is_nothing() {
         return Ok(());
     }
     walk.entered.push(dir.as_path().to_owned(alloc)?)?;
-    for (name, sub) in tree.children() {
-        let path = dir.as_path().join(alloc, name)?;
-        if *sub.value() {
-            walk.files.push(path.as_path().to_owned(alloc)?)?;
-        }
-        take_all(alloc, sub, &path, walk)?;
-    }
+    unfinished.push(Entered {
+        dir,
+        answer,
+        left: tree.entries(),
+    })?;
     Ok(())
+}
+
+// Whether a child of a directory with this answer is accepted.
+fn is_accepted<M: Matcher>(
+    dir: &RepoPathBuf,
+    answer: &Visit,
+    name: &RepoPathComponentBuf,
+    path: RepoPath<'_>,
+    matcher: &M,
+) -> bool
+    requires at { path_of path ≡ dir.now ++ name.now ∷ [] }
+    requires sound { IsSound (M.accepts matcher.now) (M.opens matcher.now) dir.now (answer_of answer.now) }
+    ensures { result ≡ M.accepts matcher.now (path_of path.entry) }
+{
+    match answer {
+        Visit::AllRecursively => true,
+        Visit::Specific { dirs: _, files } => files.contains(name) && matcher.matches(path),
+        Visit::Nothing => false,
+    }
+}
+
+// The answer for a child of a directory with this answer.
+fn answer_below<M: Matcher>(
+    alloc: Global,
+    dir: &RepoPathBuf,
+    answer: &Visit,
+    name: &RepoPathComponentBuf,
+    path: RepoPath<'_>,
+    matcher: &M,
+) -> Result<Visit, AllocError>
+    requires at { path_of path ≡ dir.now ++ name.now ∷ [] }
+    requires above { GoesOnBy (M.accepts matcher.now) (M.opens matcher.now) (M.answers matcher.now) dir.now (answer_of answer.now) }
+    ensures below { IfOk result (λ visit. GoesOnBy (M.accepts matcher.now) (M.opens matcher.now) (M.answers matcher.now) (path_of path.entry) (answer_of visit)) }
+    ensures open { IfOk result (λ visit. is_entered (answer_of visit) ≡ true → M.opens matcher.now (path_of path.entry) ≡ true) }
+{
+    match answer {
+        Visit::AllRecursively => Ok(Visit::AllRecursively),
+        Visit::Specific { dirs, files: _ } => {
+            if dirs.contains(name) {
+                matcher.visit(alloc, path)
+            } else {
+                Ok(Visit::Nothing)
+            }
+        }
+        Visit::Nothing => Ok(Visit::Nothing),
+    }
 }

@@ -6,7 +6,7 @@ use Rattle.std.proofs.lemmas.List.{take_all}
 use Rattle.jj_paths.specs.declared.repo_path.RepoPath.{RepoPath}
 use Rattle.jj_paths.specs.Names.{path_of}
 use Rattle.jj_paths.specs.Orders.{path_eq}
-use Rattle.jj_matchers.proofs.Marked.{is_marked-set, leads-set, is_marked-blank, leads-blank}
+use Rattle.jj_matchers.proofs.Marked.{marked-set, is_marked-set, leads-set, is_marked-blank, leads-blank}
 use Rattle.jj_matchers.proofs.Wanted.{list_any-map}
 use Rattle.jj_matchers.proofs.matchers.marked_tree.marked_tree.Goals as goal
 
@@ -18,7 +18,7 @@ loop-path-init c = record {
 
 pub loop-path-preserved : goal.loop-path-preserved
 loop-path-preserved c =
-    let set = c.in_ok-set.ensures.as_map in
+    let set = marked-set _ _ _ c.in_ok-set.ensures.as_map in
     let items = c.deref-path-items.result.now in
     let path = c.path-item.result in
     record {

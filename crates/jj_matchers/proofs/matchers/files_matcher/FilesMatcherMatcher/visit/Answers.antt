@@ -2,7 +2,9 @@ use Rattle.std.proofs.Common.{◌≡◌, sym, ap, subst, ◌∙◌}
 use Rattle.jj_paths.specs.Names.{path_of}
 use Rattle.jj_matchers.specs.Answers.{nothing, IsSound}
 use Rattle.jj_matchers.specs.Visits.{answer_of}
+use Rattle.jj_matchers.specs.Listed.{ChoosesFrom, names_of}
 use Rattle.jj_matchers.specs.Wanted.{is_wanted, leads_to_wanted, files_answer}
+use Rattle.jj_matchers.proofs.Listed.{files_choose}
 use Rattle.jj_matchers.proofs.Marks.{files_are, no_files_are}
 use Rattle.jj_matchers.proofs.Wanted.{files_sound}
 use Rattle.jj_matchers.proofs.matchers.files_matcher.FilesMatcherMatcher.visit.Goals as goal
@@ -24,9 +26,14 @@ returns-in_ok-visit-in-Some-clause-sound c =
     let dir = path_of c.args.dir in
     subst (IsSound (is_wanted wanted) (leads_to_wanted wanted) dir) (sym (answer_is c)) (files_sound wanted dir)
 
+pub returns-in_ok-visit-in-Some-clause-chosen : goal.returns-in_ok-visit-in-Some-clause-chosen
+returns-in_ok-visit-in-Some-clause-chosen c =
+    let wanted = c.args.self.now in
+    subst (ChoosesFrom (names_of wanted)) (sym (answer_is c)) (files_choose wanted (path_of c.args.dir))
+
 pub returns-in-None : goal.returns-in-None
 returns-in-None c =
     let wanted = c.args.self.now in
     let dir = path_of c.args.dir in
     let is : nothing ≡ files_answer wanted dir = no_files_are c.self.inside.tree c.self.invariant dir (sym c.in-None.ensures) ∙ ap (λ w. files_answer w dir) c.self.view_is in
-    record { answer = is; sound = subst (IsSound (is_wanted wanted) (leads_to_wanted wanted) dir) (sym is) (files_sound wanted dir) }
+    record { answer = is; sound = subst (IsSound (is_wanted wanted) (leads_to_wanted wanted) dir) (sym is) (files_sound wanted dir); chosen = tt }

@@ -2,8 +2,10 @@ use Rattle.std.proofs.Common.{◌≡◌, true, false, sym, ap, subst, ◌∙◌}
 use Rattle.jj_paths.specs.Names.{path_of}
 use Rattle.jj_matchers.specs.Answers.{nothing, IsSound}
 use Rattle.jj_matchers.specs.Visits.{answer_of}
+use Rattle.jj_matchers.specs.Listed.{ChoosesFrom, names_of}
 use Rattle.jj_matchers.specs.Wanted.{has_prefix, prefix_answer}
 use Rattle.jj_matchers.specs.Marks.{marked_paths}
+use Rattle.jj_matchers.proofs.Listed.{prefixes_choose}
 use Rattle.jj_matchers.proofs.Marks.{prefixes_are, no_prefixes_are}
 use Rattle.jj_matchers.proofs.Wanted.{prefix_sound, prefix_opens, prefix_inside}
 use Rattle.jj_matchers.proofs.matchers.prefix_matcher.PrefixMatcherMatcher.visit.Goals as goal
@@ -32,6 +34,11 @@ returns-in_ok-visit-in-Some-clause-sound c =
     let prefixes = c.args.self.now in
     let dir = path_of c.args.dir in
     subst (IsSound (has_prefix prefixes) (prefix_opens prefixes) dir) (sym (answer_is c)) (prefix_sound prefixes dir)
+
+pub returns-in_ok-visit-in-Some-clause-chosen : goal.returns-in_ok-visit-in-Some-clause-chosen
+returns-in_ok-visit-in-Some-clause-chosen c =
+    let prefixes = c.args.self.now in
+    subst (ChoosesFrom (names_of prefixes)) (sym (answer_is c)) (prefixes_choose prefixes (path_of c.args.dir))
 
 -- the answer where no node is
 none_is : (c : goal.In-None) → nothing ≡ prefix_answer c.args.self.now (path_of c.args.dir)

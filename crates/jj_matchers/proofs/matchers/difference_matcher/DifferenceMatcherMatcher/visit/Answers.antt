@@ -1,0 +1,24 @@
+use Rattle.std.proofs.Common.{sym, subst}
+use Rattle.jj_paths.specs.Names.{path_of}
+use Rattle.jj_matchers.specs.Answers.{IsSound}
+use Rattle.jj_matchers.specs.Listed.{ChoosesFrom}
+use Rattle.jj_matchers.specs.Visits.{answer_of}
+use Rattle.jj_matchers.proofs.Combined.{less, difference_sound}
+use Rattle.jj_matchers.proofs.Listed.{difference_chooses}
+use Rattle.jj_matchers.proofs.matchers.difference_matcher.DifferenceMatcherMatcher.visit.Goals as goal
+
+pub returns-clause-sound : goal.returns-clause-sound
+returns-clause-sound g c =
+    let dir = path_of c.args.dir in
+    let wanted = c.args.self.now.wanted in
+    let unwanted = c.args.self.now.unwanted in
+    let accepts = less (g.M1.Matcher.accepts wanted) (g.M2.Matcher.accepts unwanted) in
+    subst (IsSound accepts (g.M1.Matcher.opens wanted) dir) (sym c.difference_visit.ensures)
+    (difference_sound (g.M1.Matcher.accepts wanted) (g.M2.Matcher.accepts unwanted) (g.M1.Matcher.opens wanted) (g.M2.Matcher.opens unwanted) dir (answer_of c.in_ok-wanted.wanted) (answer_of c.in_ok-unwanted.unwanted)
+    c.in_ok-wanted.ensures.sound c.in_ok-unwanted.ensures.sound)
+
+pub returns-clause-chosen : goal.returns-clause-chosen
+returns-clause-chosen g c =
+    let names = g.M1.Matcher.candidates c.args.self.now.wanted (path_of c.args.dir) in
+    subst (ChoosesFrom names) (sym c.difference_visit.ensures)
+    (difference_chooses names (answer_of c.in_ok-wanted.wanted) (answer_of c.in_ok-unwanted.unwanted) c.in_ok-wanted.ensures.chosen)

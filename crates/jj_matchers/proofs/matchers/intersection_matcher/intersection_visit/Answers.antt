@@ -1,0 +1,24 @@
+use Rattle.std.proofs.Common.{◌≡◌, ◌&&◌, ◌∙◌, Bool, ap, sym, subst}
+use Rattle.jj_paths.specs.Paths.{Name}
+use Rattle.jj_matchers.specs.Combined.{named_answer}
+use Rattle.jj_matchers.specs.Listed.{IsAllOrAmong}
+use Rattle.jj_matchers.specs.Visits.{dir_names, file_names}
+use Rattle.jj_matchers.proofs.Listed.{both_listed}
+use Rattle.jj_matchers.proofs.matchers.intersection_matcher.intersection_visit.Goals as goal
+
+pub returns-in-Specific-second : goal.returns-in-Specific-second
+returns-in-Specific-second c =
+    let one_dirs = dir_names c.in-Specific.dirs in
+    let other_dirs = dir_names c.in-Specific-second.other_dirs in
+    let one_files = file_names c.in-Specific.files in
+    let other_files = file_names c.in-Specific-second.other_files in
+    let dirs : Name → Bool = λ name. one_dirs name && other_dirs name in
+    let files : Name → Bool = λ name. one_files name && other_files name in
+    let common_dirs = dir_names c.intersection_dirs.result in
+    let common_files = file_names c.intersection_files.result in
+    let same_dirs : ◌≡◌ {A = Name → Bool} common_dirs dirs = λ i name. (c.intersection_dirs.ensures name) i in
+    let same_files : ◌≡◌ {A = Name → Bool} common_files files = λ i name. (c.intersection_files.ensures name) i in
+    rw (c.in-Specific.is, c.in-Specific-second.is) (λ names one other.
+    c.named.ensures names (subst (IsAllOrAmong names) (sym same_dirs) (both_listed names one_dirs other_dirs one.0 other.0)) (subst (IsAllOrAmong names) (sym same_files) (both_listed names one_files other_files one.1 other.1))
+    ∙ ap (λ (t : Name → Bool). named_answer names t common_files) same_dirs
+    ∙ ap (named_answer names dirs) same_files)

@@ -1,0 +1,29 @@
+use Rattle.std.proofs.Common.{◌++◌, sym, subst}
+use Rattle.jj_paths.specs.Names.{path_of}
+use Rattle.jj_matchers.specs.Answers.{IsSound}
+use Rattle.jj_matchers.specs.Listed.{ChoosesFrom}
+use Rattle.jj_matchers.specs.Visits.{answer_of}
+use Rattle.jj_matchers.proofs.Combined.{either, union_sound}
+use Rattle.jj_matchers.proofs.Listed.{chosen_left, chosen_right, union_chooses}
+use Rattle.jj_matchers.proofs.matchers.union_matcher.UnionMatcherMatcher.visit.Goals as goal
+
+pub returns-clause-sound : goal.returns-clause-sound
+returns-clause-sound g c =
+    let dir = path_of c.args.dir in
+    let one = c.args.self.now.input1 in
+    let two = c.args.self.now.input2 in
+    let accepts = either (g.M1.Matcher.accepts one) (g.M2.Matcher.accepts two) in
+    let opens = either (g.M1.Matcher.opens one) (g.M2.Matcher.opens two) in
+    subst (IsSound accepts opens dir) (sym c.in_ok-both.ensures)
+    (union_sound (g.M1.Matcher.accepts one) (g.M2.Matcher.accepts two) (g.M1.Matcher.opens one) (g.M2.Matcher.opens two) dir (answer_of c.in_ok-first.first) (answer_of c.in_ok-second.second)
+    c.in_ok-first.ensures.sound c.in_ok-second.ensures.sound)
+
+pub returns-clause-chosen : goal.returns-clause-chosen
+returns-clause-chosen g c =
+    let dir = path_of c.args.dir in
+    let ours = g.M1.Matcher.candidates c.args.self.now.input1 dir in
+    let theirs = g.M2.Matcher.candidates c.args.self.now.input2 dir in
+    let first = answer_of c.in_ok-first.first in
+    let second = answer_of c.in_ok-second.second in
+    subst (ChoosesFrom (ours ++ theirs)) (sym c.in_ok-both.ensures)
+    (union_chooses (ours ++ theirs) first second (chosen_left ours theirs first c.in_ok-first.ensures.chosen) (chosen_right ours theirs second c.in_ok-second.ensures.chosen))

@@ -1,0 +1,36 @@
+-- The lines of a text, and steps that look for those of a set.
+use Rattle.std.specs.Prelude.{◌≡◌, ℕ, suc, ◌==◌, if◌then◌else◌, List, [], ◌∷◌, ◌++◌, All, Option, Some, None, Result, Ok, Err}
+use Rattle.std.specs.Borrow.{Bor}
+use Rattle.std.specs.declared.alloc.AllocError.{AllocError}
+
+abbrev pub with_byte : ℕ → List (List ℕ) → List (List ℕ)
+with_byte b [] = (b ∷ []) ∷ []
+with_byte b (l ∷ ls) = (b ∷ l) ∷ ls
+
+-- the lines of a text, each with its line feed
+abbrev pub lines : List ℕ → List (List ℕ)
+lines [] = []
+lines (b ∷ bs) = if b == 10 then (b ∷ []) ∷ lines bs else with_byte b (lines bs)
+
+-- a line without its line feed
+abbrev pub without_feed : List ℕ → List ℕ
+without_feed [] = []
+without_feed (b ∷ []) = if b == 10 then [] else b ∷ []
+without_feed (b ∷ c ∷ bs) = b ∷ without_feed (c ∷ bs)
+
+-- how long the first line is, with its line feed
+abbrev pub first_len : List ℕ → ℕ
+first_len [] = 0
+first_len (b ∷ bs) = if b == 10 then 1 else suc (first_len bs)
+
+-- One step over a list, where `view` reads an item: the items of which P does not hold are passed over, and the first of which
+-- it holds is given. At the end, and after a refusal, no item is left.
+abbrev pub GivesNext : {R X : Type 0} → (R → X) → (X → Type 0) → List X → Option (Result R AllocError) → List X → Type 0
+GivesNext view P old None left = All (λ x. P x → ⊥) old × (left ≡ [])
+GivesNext {X = X} view P old (Some (Ok item)) left =
+    (passed : List X) × All (λ x. P x → ⊥) passed × P (view item) × (old ≡ passed ++ view item ∷ left)
+GivesNext view P old (Some (Err e)) left = left ≡ []
+
+-- one step over the lines of a text
+abbrev pub GivesNextLine : (List ℕ → Type 0) → List ℕ → Option (Result (Bor (List ℕ)) AllocError) → List ℕ → Type 0
+GivesNextLine InSet old r left = GivesNext (λ (line : Bor (List ℕ)). line.now) (λ line. InSet (without_feed line)) (lines old) r (lines left)

@@ -1,0 +1,48 @@
+-- A tree of the globs that stand in each directory.
+use Rattle.std.specs.Prelude.{◌≡◌, ◌≢◌, Bool, true, false, List, [], ◌∷◌, ◌++◌, map, Option, Some, None}
+use Rattle.std.specs.List.{flat_map}
+use Rattle.jj_paths.specs.Paths.{Path}
+use Rattle.jj_paths.specs.Tree.{Tree, Branches, none, branch, value_at}
+use Rattle.jj_matchers.specs.GlobMeaning.{GlobSpec}
+use Rattle.jj_matchers.specs.Marks.{LeadsToMarks}
+use Rattle.jj_matchers.specs.Walk.{nodes_below}
+
+abbrev pub has_globs : List GlobSpec → Bool
+has_globs [] = false
+has_globs (glob ∷ globs) = true
+
+-- the tree of marks at the directories that have globs
+abbrev pub marked_branches : Branches (List GlobSpec) → Branches Bool
+marked_branches none = none
+marked_branches (branch name globs below after) = branch name (has_globs globs) (marked_branches below) (marked_branches after)
+
+abbrev pub marks_of : Tree (List GlobSpec) → Tree Bool
+marks_of tree = (has_globs tree.0, marked_branches tree.1)
+
+abbrev pub no_node : Tree Bool → Bool
+no_node node = false
+
+-- the globs in a directory
+abbrev pub globs_or_none : Option (List GlobSpec) → List GlobSpec
+globs_or_none None = []
+globs_or_none (Some globs) = globs
+
+abbrev pub globs_at : Tree (List GlobSpec) → Path → List GlobSpec
+globs_at tree dir = globs_or_none (value_at tree dir)
+
+-- the patterns of a directory, and of all directories
+abbrev pub patterns_at : Tree (List GlobSpec) → Path → List (Path × GlobSpec)
+patterns_at tree dir = map (λ glob. (dir, glob)) (globs_at tree dir)
+
+abbrev pub patterns_of : Tree (List GlobSpec) → List (Path × GlobSpec)
+patterns_of tree = flat_map (patterns_at tree) ([] ∷ map (λ node. node.0) (nodes_below [] tree.1))
+
+-- each directory but the root that has no globs has a child, and so leads to some
+abbrev pub LeadsToGlobs : Tree (List GlobSpec) → Type 0
+LeadsToGlobs tree = LeadsToMarks (marks_of tree)
+
+-- one more glob in a directory, and no others
+pub record AddsGlob (old : Tree (List GlobSpec)) (dir : Path) (glob : GlobSpec) (new : Tree (List GlobSpec)) : Type 0 where
+  pub here : globs_at new dir ≡ globs_at old dir ++ glob ∷ []
+  pub others : (path : Path) → path ≢ dir → globs_at new path ≡ globs_at old path
+  pub leads : LeadsToGlobs old → LeadsToGlobs new

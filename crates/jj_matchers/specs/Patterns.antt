@@ -1,0 +1,99 @@
+-- Globs in directories: the paths that they accept, and what they answer for a directory.
+use Rattle.std.specs.Prelude.{◌≡◌, ℕ, Bool, true, false, ◌==◌, ◌&&◌, ◌||◌, List, [], ◌∷◌, ◌++◌, map, if◌then◌else◌, Any}
+use Rattle.std.specs.List.{list_any, list_all}
+use Rattle.std.specs.Str.{bytes_eq}
+use Rattle.jj_paths.specs.Paths.{Name, Path, path_text}
+use Rattle.jj_matchers.specs.Answers.{Answer, all_recursively, specific, nothing}
+use Rattle.jj_matchers.specs.GlobMeaning.{GlobSpec, IsMatch, IsPrefixMatch}
+use Rattle.jj_matchers.specs.GlobPlain.{Verdict, yes, no, faulty, matches}
+use Rattle.jj_matchers.specs.Wanted.{has_prefix, leads_to_wanted, leads_to_prefix}
+
+-- 1. Texts.
+
+abbrev pub is_yes : Verdict → Bool
+is_yes yes = true
+is_yes no = false
+is_yes (faulty error) = false
+
+-- whether the glob stands for the bytes
+unfoldable pub is_match : GlobSpec → List ℕ → Bool
+is_match glob bytes = is_yes (matches glob.options glob.text bytes)
+
+-- whether, behind some bytes, a front that a slash follows passes a test
+abbrev pub passes_before_slash : (List ℕ → Bool) → List ℕ → List ℕ → Bool
+passes_before_slash test before [] = false
+passes_before_slash test before (b ∷ bytes) = ((b == 47) && test before) || passes_before_slash test (before ++ b ∷ []) bytes
+
+-- whether the glob stands for the bytes, or for a front of them that a slash follows
+unfoldable pub is_prefix_match : GlobSpec → List ℕ → Bool
+is_prefix_match glob bytes = is_match glob bytes || passes_before_slash (is_match glob) [] bytes
+
+-- a text of one or more stars alone
+abbrev pub is_stars : List ℕ → Bool
+is_stars [] = false
+is_stars (b ∷ bytes) = list_all (λ c. c == 42) (b ∷ bytes)
+
+-- 2. Tails: what is left of a path below a pattern's directory.
+
+-- whether the glob accepts the path at a tail
+abbrev pub accepts_tail : Bool → GlobSpec → Path → Bool
+accepts_tail prefix_paths glob [] = false
+accepts_tail false glob (name ∷ rest) = is_match glob (path_text (name ∷ rest))
+accepts_tail true glob (name ∷ rest) = is_prefix_match glob (path_text (name ∷ rest))
+
+-- whether the glob, where it accepts what lies below a match too, is known to accept everything below a tail
+abbrev pub covers_tail : GlobSpec → Path → Bool
+covers_tail glob [] = is_stars glob.text
+covers_tail glob (name ∷ rest) = is_prefix_match glob (path_text (name ∷ rest))
+
+-- whether a path is a directory or lies below it, and its tail passes a test
+abbrev pub tail_passes : Path → (Path → Bool) → Path → Bool
+tail_passes [] test path = test path
+tail_passes (name ∷ dir) test [] = false
+tail_passes (name ∷ dir) test (first ∷ path) = bytes_eq name first && tail_passes dir test path
+
+-- 3. Sets of patterns.
+
+-- each pattern is a directory and a glob; the flag says that what lies below a match is accepted too
+pub record Patterns : Type 0 where
+  pub prefix_paths : Bool
+  pub patterns : List (Path × GlobSpec)
+
+-- two sets have the same patterns, in any order and however often
+pub record HasSamePatterns (set other : Patterns) : Type 0 where
+  pub mode : set.prefix_paths ≡ other.prefix_paths
+  pub members : (test : Path × GlobSpec → Bool) → list_any test set.patterns ≡ list_any test other.patterns
+
+abbrev pub pattern_dirs : Patterns → List Path
+pattern_dirs set = map (λ pattern. pattern.0) set.patterns
+
+-- whether a pattern accepts the path
+abbrev pub is_accepted : Patterns → Path → Bool
+is_accepted set path = list_any (λ pattern. tail_passes pattern.0 (accepts_tail set.prefix_paths pattern.1) path) set.patterns
+
+-- whether a pattern covers everything below a directory
+abbrev pub is_covered : Patterns → Path → Bool
+is_covered set dir = set.prefix_paths && list_any (λ pattern. tail_passes pattern.0 (covers_tail pattern.1) dir) set.patterns
+
+-- the directories that a walk may open: those at, above or below a pattern's
+abbrev pub opens_to_patterns : Patterns → Path → Bool
+opens_to_patterns set dir = has_prefix (pattern_dirs set) dir || leads_to_prefix (pattern_dirs set) dir
+
+-- the answer: everything where a pattern covers it, else all names at or below a pattern's directory, else the children on the way
+-- to patterns' directories, as directories alone
+abbrev pub patterns_answer : Patterns → Path → Answer
+patterns_answer set dir =
+    if is_covered set dir then all_recursively
+    else (if has_prefix (pattern_dirs set) dir then specific (λ name. true) (λ name. true)
+    else (if leads_to_wanted (pattern_dirs set) dir then specific (λ name. leads_to_prefix (pattern_dirs set) (dir ++ name ∷ [])) (λ name. false) else nothing))
+
+-- 4. The meaning of a set.
+
+-- the glob stands for the text, or with the flag for a front of it that a slash follows
+abbrev pub AcceptsText : Bool → GlobSpec → List ℕ → Type 0
+AcceptsText false glob text = IsMatch glob text
+AcceptsText true glob text = IsPrefixMatch glob text
+
+-- the path lies strictly below the directory of a pattern whose glob accepts the text of the tail
+abbrev pub IsAccepted : Patterns → Path → Type 0
+IsAccepted set path = Any (λ pattern. (name : Name) × (rest : Path) × (path ≡ pattern.0 ++ name ∷ rest) × AcceptsText set.prefix_paths pattern.1 (path_text (name ∷ rest))) set.patterns

@@ -1,0 +1,74 @@
+//! The matcher of a difference.
+ghost use Rattle.std.specs.Prelude.{◌≡◌, ◌&&◌, not, true};
+ghost use Rattle.jj_matchers.specs.Answers.{specific};
+ghost use Rattle.jj_matchers.specs.Combined.{difference_answer};
+ghost use Rattle.jj_matchers.specs.Visits.{answer_of};
+
+use crate::matchers::{Matcher, Visit, VisitDirs, VisitFiles};
+use jj_paths::repo_path::RepoPath;
+use std::alloc::{AllocError, Global};
+
+/// The paths of one set that are not in the other.
+#[derive(Drop)]
+pub struct DifferenceMatcher<M1, M2> {
+    wanted: M1,
+    unwanted: M2,
+}
+
+impl<M1: Matcher, M2: Matcher> DifferenceMatcher<M1, M2> {
+    /// The wanted set less the unwanted one.
+    pub fn new(wanted: M1, unwanted: M2) -> Self
+        ensures first { result.wanted ≡ wanted }
+        ensures second { result.unwanted ≡ unwanted }
+    {
+        DifferenceMatcher { wanted, unwanted }
+    }
+}
+
+impl<M1: Matcher, M2: Matcher> Matcher for DifferenceMatcher<M1, M2> {
+    ghost accepts = { λ m path. M1.accepts m.wanted path && not (M2.accepts m.unwanted path) };
+
+    ghost opens = { λ m path. M1.opens m.wanted path };
+
+    ghost answers = { λ m dir. difference_answer (M1.answers m.wanted dir) (M2.answers m.unwanted dir) };
+
+    ghost candidates = { λ m dir. M1.candidates m.wanted dir };
+
+    fn matches(&self, file: RepoPath<'_>) -> bool {
+        self.wanted.matches(file) && !self.unwanted.matches(file)
+    }
+
+    fn visit(&self, alloc: Global, dir: RepoPath<'_>) -> Result<Visit, AllocError> {
+        let unwanted = self.unwanted.visit(alloc, dir)?;
+        if matches!(unwanted, Visit::AllRecursively) {
+            return Ok(Visit::Nothing);
+        }
+        let wanted = self.wanted.visit(alloc, dir)?;
+        Ok(difference_visit(wanted, unwanted))
+    }
+}
+
+// The wanted answer, where something is left of it. What is unwanted below a directory need not be all of it.
+fn difference_visit(wanted: Visit, unwanted: Visit) -> Visit
+    ensures { answer_of result ≡ difference_answer (answer_of wanted) (answer_of unwanted) }
+{
+    match unwanted {
+        Visit::AllRecursively => Visit::Nothing,
+        Visit::Nothing => wanted,
+        Visit::Specific { .. } => match wanted {
+            Visit::AllRecursively => all_children(),
+            Visit::Specific { dirs, files } => Visit::Specific { dirs, files },
+            Visit::Nothing => Visit::Nothing,
+        },
+    }
+}
+
+// Every child is worth a look, as a directory and as a file.
+fn all_children() -> Visit
+    ensures { answer_of result ≡ specific (λ name. true) (λ name. true) }
+{
+    Visit::Specific {
+        dirs: VisitDirs::All,
+        files: VisitFiles::All,
+    }
+}

@@ -1,0 +1,190 @@
+//! The matcher of globs in directories, and its builder.
+ghost use Rattle.std.specs.Prelude.{◌≡◌, ◌↔◌, false, [], ◌∷◌, ◌++◌, IsTrue, IfOk, MatchResult};
+ghost use Rattle.jj_paths.specs.Names.{path_of};
+ghost use Rattle.jj_matchers.specs.Visits.{answer_of};
+ghost use Rattle.jj_matchers.specs.Listed.{names_of};
+ghost use Rattle.jj_matchers.specs.Marks.{children_answer, any_node};
+ghost use Rattle.jj_matchers.specs.Wanted.{has_prefix};
+ghost use Rattle.jj_matchers.specs.Patterns.{HasSamePatterns, IsAccepted, is_accepted, is_covered, opens_to_patterns, pattern_dirs, patterns_answer};
+ghost use Rattle.jj_matchers.specs.PatternTree.{AddsGlob, marked_branches, no_node};
+
+use crate::matchers::dir_patterns::DirPatterns;
+use crate::matchers::{Matcher, PathGlobPattern, Visit, VisitDirs, VisitFiles};
+use jj_paths::repo_path::RepoPath;
+use jj_paths::repo_path_tree::RepoPathTree;
+use std::alloc::{AllocError, Global};
+use std::collections::HashSet;
+use std::marker::Model;
+
+/// The paths strictly below a directory whose tail, the text of what is left of the path below it, fits a pattern of the
+/// directory. A contract sees the patterns as a list of directories and globs, in no order.
+#[derive(Drop)]
+pub struct GlobsMatcher {
+    tree: RepoPathTree<DirPatterns>,
+    matches_prefix_paths: bool,
+}
+
+impl Model for GlobsMatcher {
+    ghost use Rattle.jj_matchers.specs.Patterns.{Patterns};
+    ghost use Rattle.jj_matchers.specs.PatternTree.{patterns_of, LeadsToGlobs};
+
+    ghost Value = { Patterns };
+
+    ghost view = { λ m. record { prefix_paths = m.matches_prefix_paths; patterns = patterns_of m.tree } };
+
+    ghost invariant = { λ m. LeadsToGlobs m.tree };
+}
+
+impl GlobsMatcher {
+    /// A builder without patterns, which takes no memory.
+    pub fn builder<'a>(alloc: Global) -> GlobsMatcherBuilder<'a>
+        ensures { result ≡ record { prefix_paths = false; patterns = [] } }
+    {
+        GlobsMatcherBuilder {
+            dir_patterns: Vec::new(alloc),
+            matches_prefix_paths: false,
+        }
+    }
+
+    // whether a pattern covers everything below the directory
+    fn covers(&self, dir: RepoPath<'_>) -> bool
+        ensures { result ≡ is_covered self.now (path_of dir.entry) }
+    {
+        self.matches_prefix_paths
+            && self
+                .tree
+                .walk_to(dir)
+                .any(|(node, tail)| node.value().cover(tail))
+    }
+
+    // whether the directory is that of a pattern, or below one
+    fn has_patterns_above(&self, dir: RepoPath<'_>) -> bool
+        ensures { result ≡ has_prefix (pattern_dirs self.now) (path_of dir.entry) }
+    {
+        self.tree
+            .walk_to(dir)
+            .any(|(node, _)| node.value().has_patterns())
+    }
+}
+
+impl Matcher for GlobsMatcher {
+    ghost accepts = { is_accepted };
+
+    ghost opens = { opens_to_patterns };
+
+    ghost answers = { patterns_answer };
+
+    ghost candidates = { λ set dir. names_of (pattern_dirs set) };
+
+    fn matches(&self, file: RepoPath<'_>) -> bool
+        ensures accepted { result ≡ is_accepted self.now (path_of file.entry) }
+        ensures meaning { IsTrue result ↔ IsAccepted self.now (path_of file.entry) }
+    {
+        let prefix_paths = self.matches_prefix_paths;
+        self.tree
+            .walk_to(file)
+            .any(|(node, tail)| node.value().accept(prefix_paths, tail))
+    }
+
+    fn visit(&self, alloc: Global, dir: RepoPath<'_>) -> Result<Visit, AllocError> {
+        if self.covers(dir) {
+            return Ok(Visit::AllRecursively);
+        }
+        if self.has_patterns_above(dir) {
+            return Ok(Visit::Specific {
+                dirs: VisitDirs::All,
+                files: VisitFiles::All,
+            });
+        }
+        match self.tree.get(dir) {
+            Some(node) => {
+                let visit = visit_directories(alloc, node)?;
+                Ok(visit)
+            }
+            None => Ok(Visit::Nothing),
+        }
+    }
+}
+
+// The answer that names all children as directories.
+fn visit_directories(alloc: Global, tree: &RepoPathTree<DirPatterns>) -> Result<Visit, AllocError>
+    ensures { IfOk result (λ visit. answer_of visit ≡ children_answer any_node no_node (marked_branches tree.now.1)) }
+{
+    let mut dirs = HashSet::new(alloc);
+    for (name, _) in tree.children() {
+        dirs.insert(name.to_owned(alloc)?)?;
+    }
+    Ok(Visit::sets(dirs, HashSet::new(alloc)))
+}
+
+/// Directories and patterns in them, of which a matcher is made.
+#[derive(Drop)]
+pub struct GlobsMatcherBuilder<'a> {
+    dir_patterns: Vec<(RepoPath<'a>, &'a PathGlobPattern)>,
+    matches_prefix_paths: bool,
+}
+
+impl<'a> Model for GlobsMatcherBuilder<'a> {
+    ghost use Rattle.std.specs.Prelude.{map};
+    ghost use Rattle.jj_paths.specs.Names.{path_of};
+    ghost use Rattle.jj_matchers.specs.Patterns.{Patterns};
+
+    ghost Value = { Patterns };
+
+    ghost view = { λ b. record { prefix_paths = b.matches_prefix_paths; patterns = map (λ pattern. (path_of pattern.0, pattern.1.now)) b.dir_patterns.items } };
+}
+
+impl<'a> GlobsMatcherBuilder<'a> {
+    /// Whether what lies below a match is to be accepted too.
+    pub fn prefix_paths(mut self, yes: bool) -> Self
+        ensures { result ≡ record { prefix_paths = yes; patterns = self.entry.patterns } }
+    {
+        self.matches_prefix_paths = yes;
+        self
+    }
+
+    /// Whether there are no patterns yet.
+    pub fn is_empty(&self) -> bool
+        ensures { IsTrue result ↔ (self.now.patterns ≡ []) }
+    {
+        self.dir_patterns.is_empty()
+    }
+
+    /// Adds a pattern for the paths below a directory. Refused for want of memory, the patterns are as they were.
+    pub fn add(&mut self, dir: RepoPath<'a>, pattern: &'a PathGlobPattern) -> Result<(), AllocError>
+        ensures { MatchResult result (λ done. self.new ≡ record { prefix_paths = self.old.prefix_paths; patterns = self.old.patterns ++ (path_of dir.entry, pattern.now) ∷ [] }) (λ e. self.new ≡ self.old) }
+    {
+        self.dir_patterns.push((dir, pattern))?;
+        Ok(())
+    }
+
+    /// The matcher of the patterns. It shares what was read of them.
+    pub fn build(&self) -> Result<GlobsMatcher, AllocError>
+        ensures { IfOk result (λ matcher. HasSamePatterns matcher self.now) }
+    {
+        let alloc = *self.dir_patterns.allocator();
+        let mut sorted = Vec::from_slice(alloc, self.dir_patterns.as_slice())?;
+        sorted.sort_unstable_by_key(|(dir, _)| *dir);
+        let mut tree = RepoPathTree::default(alloc);
+        for (dir, pattern) in &sorted {
+            add_pattern(alloc, &mut tree, *dir, pattern)?;
+        }
+        Ok(GlobsMatcher {
+            tree,
+            matches_prefix_paths: self.matches_prefix_paths,
+        })
+    }
+}
+
+// Adds a pattern to those of a directory.
+fn add_pattern(
+    alloc: Global,
+    tree: &mut RepoPathTree<DirPatterns>,
+    dir: RepoPath<'_>,
+    pattern: &PathGlobPattern,
+) -> Result<(), AllocError>
+    ensures { IfOk result (λ done. AddsGlob tree.old (path_of dir.entry) pattern.now tree.new) }
+{
+    let own = pattern.clone()?;
+    tree.add(dir)?.value_mut().push(alloc, own)
+}

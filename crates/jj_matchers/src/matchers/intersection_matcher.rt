@@ -1,0 +1,140 @@
+//! The matcher of an intersection.
+ghost use Rattle.std.specs.Prelude.{◌≡◌, ◌&&◌, ◌++◌, List};
+ghost use Rattle.jj_paths.specs.Paths.{Name};
+ghost use Rattle.jj_matchers.specs.Combined.{intersection_answer, named_answer};
+ghost use Rattle.jj_matchers.specs.Listed.{ChoosesFrom, IsAllOrAmong};
+ghost use Rattle.jj_matchers.specs.Visits.{answer_of, dir_names, file_names, is_among};
+
+use crate::matchers::{Matcher, Visit, VisitDirs, VisitFiles};
+use jj_paths::repo_path::{RepoPath, RepoPathComponentBuf};
+use std::alloc::{AllocError, Global};
+use std::collections::HashSet;
+
+/// The paths of both sets.
+#[derive(Drop)]
+pub struct IntersectionMatcher<M1, M2> {
+    input1: M1,
+    input2: M2,
+}
+
+impl<M1: Matcher, M2: Matcher> IntersectionMatcher<M1, M2> {
+    /// The intersection of two sets.
+    pub fn new(input1: M1, input2: M2) -> Self
+        ensures first { result.input1 ≡ input1 }
+        ensures second { result.input2 ≡ input2 }
+    {
+        IntersectionMatcher { input1, input2 }
+    }
+}
+
+impl<M1: Matcher, M2: Matcher> Matcher for IntersectionMatcher<M1, M2> {
+    ghost accepts = { λ m path. M1.accepts m.input1 path && M2.accepts m.input2 path };
+
+    ghost opens = { λ m path. M1.opens m.input1 path && M2.opens m.input2 path };
+
+    ghost answers = { λ m dir. intersection_answer (M1.candidates m.input1 dir ++ M2.candidates m.input2 dir) (M1.answers m.input1 dir) (M2.answers m.input2 dir) };
+
+    ghost candidates = { λ m dir. M1.candidates m.input1 dir ++ M2.candidates m.input2 dir };
+
+    fn matches(&self, file: RepoPath<'_>) -> bool {
+        self.input1.matches(file) && self.input2.matches(file)
+    }
+
+    fn visit(&self, alloc: Global, dir: RepoPath<'_>) -> Result<Visit, AllocError> {
+        let first = self.input1.visit(alloc, dir)?;
+        if matches!(first, Visit::Nothing) {
+            return Ok(first);
+        }
+        let second = self.input2.visit(alloc, dir)?;
+        Ok(intersection_visit(first, second))
+    }
+}
+
+// What both of two answers name.
+fn intersection_visit(first: Visit, second: Visit) -> Visit
+    ensures { (names : List Name) → ChoosesFrom names (answer_of first) → ChoosesFrom names (answer_of second) → answer_of result ≡ intersection_answer names (answer_of first) (answer_of second) }
+{
+    match first {
+        Visit::AllRecursively => second,
+        Visit::Nothing => Visit::Nothing,
+        Visit::Specific { dirs, files } => match second {
+            Visit::AllRecursively => Visit::Specific { dirs, files },
+            Visit::Nothing => Visit::Nothing,
+            Visit::Specific {
+                dirs: other_dirs,
+                files: other_files,
+            } => named(
+                intersection_dirs(dirs, other_dirs),
+                intersection_files(files, other_files),
+            ),
+        },
+    }
+}
+
+// The answer that names these; `Nothing` where both are empty sets.
+fn named(dirs: VisitDirs, files: VisitFiles) -> Visit
+    ensures { (names : List Name) → IsAllOrAmong names (dir_names dirs) → IsAllOrAmong names (file_names files) → answer_of result ≡ named_answer names (dir_names dirs) (file_names files) }
+{
+    match dirs {
+        VisitDirs::All => Visit::Specific {
+            dirs: VisitDirs::All,
+            files,
+        },
+        VisitDirs::Set(dirs) => match files {
+            VisitFiles::All => Visit::Specific {
+                dirs: VisitDirs::Set(dirs),
+                files: VisitFiles::All,
+            },
+            VisitFiles::Set(files) => Visit::sets(dirs, files),
+        },
+    }
+}
+
+fn intersection_dirs(first: VisitDirs, second: VisitDirs) -> VisitDirs
+    ensures { (name : Name) → dir_names result name ≡ (dir_names first name && dir_names second name) }
+{
+    match first {
+        VisitDirs::All => second,
+        VisitDirs::Set(names) => match second {
+            VisitDirs::All => VisitDirs::Set(names),
+            VisitDirs::Set(others) => VisitDirs::Set(intersection_names(names, others)),
+        },
+    }
+}
+
+fn intersection_files(first: VisitFiles, second: VisitFiles) -> VisitFiles
+    ensures { (name : Name) → file_names result name ≡ (file_names first name && file_names second name) }
+{
+    match first {
+        VisitFiles::All => second,
+        VisitFiles::Set(names) => match second {
+            VisitFiles::All => VisitFiles::Set(names),
+            VisitFiles::Set(others) => VisitFiles::Set(intersection_names(names, others)),
+        },
+    }
+}
+
+// Keeps the names of the smaller set that the larger one has.
+fn intersection_names(
+    first: HashSet<RepoPathComponentBuf>,
+    second: HashSet<RepoPathComponentBuf>,
+) -> HashSet<RepoPathComponentBuf>
+    ensures { (name : Name) → is_among result.keys name ≡ (is_among first.keys name && is_among second.keys name) }
+{
+    if second.len() < first.len() {
+        common_names(second, &first)
+    } else {
+        common_names(first, &second)
+    }
+}
+
+fn common_names(
+    names: HashSet<RepoPathComponentBuf>,
+    others: &HashSet<RepoPathComponentBuf>,
+) -> HashSet<RepoPathComponentBuf>
+    ensures { (name : Name) → is_among result.keys name ≡ (is_among names.keys name && is_among others.now.keys name) }
+{
+    let mut common = names;
+    common.retain(|name| others.contains(name));
+    common
+}

@@ -1,0 +1,113 @@
+//! The globs of paths.
+ghost use Rattle.std.specs.Prelude.{◌≡◌, ◌==◌, true, false, IsOk, OnOk, MatchResult};
+ghost use Rattle.std.specs.List.{list_all};
+ghost use Rattle.jj_matchers.specs.GlobText.{tokens_of};
+ghost use Rattle.jj_matchers.specs.GlobReads.{IsReadingFault};
+ghost use Rattle.jj_matchers.specs.Patterns.{is_match, is_prefix_match, is_stars};
+
+use crate::glob::{Glob, GlobError};
+use std::alloc::{AllocError, Global};
+use std::marker::Model;
+use std::rc::Rc;
+
+/// A glob for paths: neither `?` nor `*` stands for `/`. Copies share what was read.
+#[derive(Drop)]
+pub struct PathGlobPattern {
+    glob: Rc<Glob>,
+}
+
+impl Model for PathGlobPattern {
+    ghost use Rattle.jj_matchers.specs.GlobMeaning.{GlobSpec};
+
+    ghost Value = { GlobSpec };
+
+    ghost view = { λ p. p.glob.value };
+}
+
+impl PathGlobPattern {
+    /// The pattern that the text is, by the syntax of `Glob`.
+    pub fn parse(alloc: Global, input: &str) -> Result<PathGlobPattern, GlobError>
+        ensures pattern { MatchResult result
+            (λ pattern. pattern ≡ record { text = input.now; options = record { separator = true; icase = false } })
+            (λ error. IsReadingFault error (tokens_of input.now)) }
+        ensures reads { OnOk result (IsOk (tokens_of input.now)) }
+    {
+        PathGlobPattern::parse_inner(alloc, input, false)
+    }
+
+    /// The same pattern, in which ASCII letters match in either case.
+    pub fn parse_i(alloc: Global, input: &str) -> Result<PathGlobPattern, GlobError>
+        ensures pattern { MatchResult result
+            (λ pattern. pattern ≡ record { text = input.now; options = record { separator = true; icase = true } })
+            (λ error. IsReadingFault error (tokens_of input.now)) }
+        ensures reads { OnOk result (IsOk (tokens_of input.now)) }
+    {
+        PathGlobPattern::parse_inner(alloc, input, true)
+    }
+
+    fn parse_inner(alloc: Global, input: &str, icase: bool) -> Result<PathGlobPattern, GlobError>
+        ensures pattern { MatchResult result
+            (λ pattern. pattern ≡ record { text = input.now; options = record { separator = true; icase = icase } })
+            (λ error. IsReadingFault error (tokens_of input.now)) }
+        ensures reads { OnOk result (IsOk (tokens_of input.now)) }
+    {
+        let glob = match Glob::parse(alloc, input, true, icase) {
+            Ok(glob) => glob,
+            Err(error) => return Err(error),
+        };
+        Ok(PathGlobPattern {
+            glob: Rc::new(alloc, glob)?,
+        })
+    }
+
+    /// The text that was parsed.
+    pub fn as_str(&self) -> &str
+        ensures { result.now ≡ self.now.text }
+    {
+        self.glob.as_str()
+    }
+
+    /// The text of the regular expression over bytes that matches as the pattern does, where `.` matches a line feed too.
+    pub fn as_regex(&self, alloc: Global) -> Result<String, AllocError> {
+        self.glob.regex_text(alloc)
+    }
+
+    // whether the pattern stands for the text of a path
+    pub(super) fn is_match(&self, path: &str) -> bool
+        ensures { result ≡ is_match self.now path.now }
+    {
+        self.glob.is_match(path.as_bytes())
+    }
+
+    // whether it stands for the text of a path, or for a front of it that `/` follows
+    pub(super) fn is_prefix_match(&self, path: &str) -> bool
+        ensures { result ≡ is_prefix_match self.now path.now }
+    {
+        self.glob.is_prefix_match(path.as_bytes())
+    }
+
+    // whether the pattern is one or more stars alone
+    pub(super) fn is_stars(&self) -> bool
+        ensures { result ≡ is_stars self.now.text }
+    {
+        let text = self.as_str().as_bytes();
+        !text.is_empty() && are_stars(text)
+    }
+}
+
+impl Clone for PathGlobPattern {
+    ghost is_clone = { λ pattern copy. copy ≡ pattern };
+
+    fn clone(&self) -> Result<PathGlobPattern, AllocError> {
+        Ok(PathGlobPattern {
+            glob: self.glob.clone()?,
+        })
+    }
+}
+
+// whether each byte is a star
+fn are_stars(text: &[u8]) -> bool
+    ensures { result ≡ list_all (λ c. c == 42) text.now }
+{
+    text.iter().all(|byte| *byte == b'*')
+}

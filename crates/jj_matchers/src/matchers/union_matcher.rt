@@ -1,0 +1,125 @@
+//! The matcher of a union.
+ghost use Rattle.std.specs.Prelude.{◌≡◌, ◌||◌, ◌++◌, IfOk};
+ghost use Rattle.jj_paths.specs.Paths.{Name};
+ghost use Rattle.jj_matchers.specs.Combined.{union_answer};
+ghost use Rattle.jj_matchers.specs.Visits.{answer_of, dir_names, file_names, is_among};
+
+use crate::matchers::{Matcher, Visit, VisitDirs, VisitFiles};
+use jj_paths::repo_path::{RepoPath, RepoPathComponentBuf};
+use std::alloc::{AllocError, Global};
+use std::collections::HashSet;
+
+/// The paths of either set.
+#[derive(Drop)]
+pub struct UnionMatcher<M1, M2> {
+    input1: M1,
+    input2: M2,
+}
+
+impl<M1: Matcher, M2: Matcher> UnionMatcher<M1, M2> {
+    /// The union of two sets.
+    pub fn new(input1: M1, input2: M2) -> Self
+        ensures first { result.input1 ≡ input1 }
+        ensures second { result.input2 ≡ input2 }
+    {
+        UnionMatcher { input1, input2 }
+    }
+}
+
+impl<M1: Matcher, M2: Matcher> Matcher for UnionMatcher<M1, M2> {
+    ghost accepts = { λ m path. M1.accepts m.input1 path || M2.accepts m.input2 path };
+
+    ghost opens = { λ m path. M1.opens m.input1 path || M2.opens m.input2 path };
+
+    ghost answers = { λ m dir. union_answer (M1.answers m.input1 dir) (M2.answers m.input2 dir) };
+
+    ghost candidates = { λ m dir. M1.candidates m.input1 dir ++ M2.candidates m.input2 dir };
+
+    fn matches(&self, file: RepoPath<'_>) -> bool {
+        self.input1.matches(file) || self.input2.matches(file)
+    }
+
+    fn visit(&self, alloc: Global, dir: RepoPath<'_>) -> Result<Visit, AllocError> {
+        let first = self.input1.visit(alloc, dir)?;
+        if matches!(first, Visit::AllRecursively) {
+            return Ok(first);
+        }
+        let second = self.input2.visit(alloc, dir)?;
+        let both = union_visit(first, second)?;
+        Ok(both)
+    }
+}
+
+// What either of two answers names.
+fn union_visit(first: Visit, second: Visit) -> Result<Visit, AllocError>
+    ensures { IfOk result (λ visit. answer_of visit ≡ union_answer (answer_of first) (answer_of second)) }
+{
+    match first {
+        Visit::AllRecursively => Ok(Visit::AllRecursively),
+        Visit::Nothing => Ok(second),
+        Visit::Specific { dirs, files } => match second {
+            Visit::AllRecursively => Ok(Visit::AllRecursively),
+            Visit::Nothing => Ok(Visit::Specific { dirs, files }),
+            Visit::Specific {
+                dirs: more_dirs,
+                files: more_files,
+            } => Ok(Visit::Specific {
+                dirs: union_dirs(dirs, more_dirs)?,
+                files: union_files(files, more_files)?,
+            }),
+        },
+    }
+}
+
+fn union_dirs(first: VisitDirs, second: VisitDirs) -> Result<VisitDirs, AllocError>
+    ensures { IfOk result (λ dirs. (name : Name) → dir_names dirs name ≡ (dir_names first name || dir_names second name)) }
+{
+    match first {
+        VisitDirs::All => Ok(VisitDirs::All),
+        VisitDirs::Set(names) => match second {
+            VisitDirs::All => Ok(VisitDirs::All),
+            VisitDirs::Set(more) => Ok(VisitDirs::Set(union_names(names, more)?)),
+        },
+    }
+}
+
+fn union_files(first: VisitFiles, second: VisitFiles) -> Result<VisitFiles, AllocError>
+    ensures { IfOk result (λ files. (name : Name) → file_names files name ≡ (file_names first name || file_names second name)) }
+{
+    match first {
+        VisitFiles::All => Ok(VisitFiles::All),
+        VisitFiles::Set(names) => match second {
+            VisitFiles::All => Ok(VisitFiles::All),
+            VisitFiles::Set(more) => Ok(VisitFiles::Set(union_names(names, more)?)),
+        },
+    }
+}
+
+// Moves the names of the smaller set to the larger one.
+fn union_names(
+    first: HashSet<RepoPathComponentBuf>,
+    second: HashSet<RepoPathComponentBuf>,
+) -> Result<HashSet<RepoPathComponentBuf>, AllocError>
+    ensures { IfOk result (λ names. (name : Name) → is_among names.keys name ≡ (is_among first.keys name || is_among second.keys name)) }
+{
+    if first.len() < second.len() {
+        let names = with_names(second, first)?;
+        Ok(names)
+    } else {
+        let names = with_names(first, second)?;
+        Ok(names)
+    }
+}
+
+fn with_names(
+    names: HashSet<RepoPathComponentBuf>,
+    more: HashSet<RepoPathComponentBuf>,
+) -> Result<HashSet<RepoPathComponentBuf>, AllocError>
+    ensures { IfOk result (λ all. (name : Name) → is_among all.keys name ≡ (is_among names.keys name || is_among more.keys name)) }
+{
+    let mut all = names;
+    for name in more {
+        all.insert(name)?;
+    }
+    Ok(all)
+}

@@ -1,0 +1,25 @@
+//! Sets of strings: patterns, expressions of patterns, and what looks for the strings of a set in lines and maps.
+mod error;
+mod expression;
+mod filter_btree_map;
+mod folding;
+mod glob_pattern;
+mod kind;
+mod match_lines;
+mod matcher;
+mod pattern;
+mod predicate;
+mod text_key;
+mod to_glob;
+mod to_matcher;
+mod to_regex;
+
+pub use error::StringPatternParseError;
+pub use expression::StringExpression;
+pub use filter_btree_map::FilterBTreeMap;
+pub use glob_pattern::GlobPattern;
+pub use match_lines::MatchLines;
+pub use matcher::StringMatcher;
+pub use pattern::StringPattern;
+pub use predicate::{BytePredicate, ByteTest};
+pub use text_key::TextKey;
