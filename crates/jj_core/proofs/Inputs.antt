@@ -1,14 +1,11 @@
 -- What a command gives for an input that is text, and for one that is not.
-use Rattle.std.proofs.Common.{◌≡◌, ℕ, List, Bool, true, false, refl, Result, Err}
+use Rattle.std.proofs.Common.{◌≡◌, ℕ, List, Bool, true, false, refl, subst, sym, Result, Err}
 use Rattle.std.specs.Str.{IsUtf8, is_utf8}
 use Rattle.std.proofs.lemmas.Str.{IsUtf8-from_is_utf8, is_utf8-from_IsUtf8}
 use Rattle.jj_core.specs.declared.program.Command.{Command}
-use Rattle.jj_core.specs.declared.program.Command.TheVariants.{Walk}
 use Rattle.jj_core.specs.declared.fault.Fault.{Fault}
 use Rattle.jj_core.specs.declared.fault.Fault.TheVariants.{ReadInput, NotUtf8, Memory, WriteOutput, Matchers, Line}
 use Rattle.jj_core.specs.Lines.{IsFaultOf}
-use Rattle.jj_core.specs.WalkCommand.{walk_request}
-use Rattle.jj_core.specs.Walked.{GivesWalk}
 use Rattle.jj_core.specs.Program.{Gives, GivesText, IsFaultOn}
 
 false_or : (b : Bool) → (b ≡ true → ⊥) → b ≡ false
@@ -23,14 +20,16 @@ gives_text command input answer utf8 given = let e : is_utf8 input ≡ true = is
 pub gives_not_utf8 : (command : Command) (input : List ℕ) → ¬ (IsUtf8 input) → Gives command input (Err NotUtf8)
 gives_not_utf8 command input f = let e : is_utf8 input ≡ false = false_or (is_utf8 input) (λ h. f (IsUtf8-from_is_utf8 input h)) in rw e refl
 
-pub gives_walk : (command : Command) (input : List ℕ) (answer : Result (List ℕ) Fault) → IsUtf8 input → GivesWalk input answer → Gives command input answer
-gives_walk Walk input answer utf8 given = gives_text Walk input answer utf8 given
+-- what is given for a known command's text is given for the input
+pub known_gives : (command known : Command) (input : List ℕ) (answer : Result (List ℕ) Fault) → command ≡ known → IsUtf8 input → GivesText known input answer → Gives command input answer
+known_gives command known input answer is utf8 given = gives_text command input answer utf8 (subst (λ c. GivesText c input answer) (sym is) given)
 
--- a fault of the text is a fault of the input
-pub walk_fault : (command : Command) (input : List ℕ) (fault : Fault) → IsUtf8 input → IsFaultOf fault (walk_request input) → IsFaultOn command input fault
-walk_fault command input Memory utf8 h = tt
-walk_fault command input ReadInput utf8 h = h
-walk_fault command input WriteOutput utf8 h = h
-walk_fault command input NotUtf8 utf8 h = gives_walk command input (Err NotUtf8) utf8 h
-walk_fault command input (Matchers count) utf8 h = gives_walk command input (Err (Matchers count)) utf8 h
-walk_fault command input (Line line kind) utf8 h = gives_walk command input (Err (Line line kind)) utf8 h
+-- a fault of what a text asks for is a fault of the input
+pub known_fault : {A : Type 0} (command known : Command) (input : List ℕ) (asked : Result A Fault) → ((fault : Fault) → asked ≡ Err fault → GivesText known input (Err fault)) → command ≡ known
+    → (fault : Fault) → IsUtf8 input → IsFaultOf fault asked → IsFaultOn command input fault
+known_fault command known input asked given is Memory utf8 h = tt
+known_fault command known input asked given is ReadInput utf8 h = h
+known_fault command known input asked given is WriteOutput utf8 h = h
+known_fault command known input asked given is NotUtf8 utf8 h = known_gives command known input (Err NotUtf8) is utf8 (given NotUtf8 h)
+known_fault command known input asked given is (Matchers count) utf8 h = known_gives command known input (Err (Matchers count)) is utf8 (given (Matchers count) h)
+known_fault command known input asked given is (Line line kind) utf8 h = known_gives command known input (Err (Line line kind)) is utf8 (given (Line line kind) h)

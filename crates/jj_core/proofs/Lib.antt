@@ -1,7 +1,12 @@
 pub mod MarkedTrees
 pub mod Steps
-pub mod PathFields
+pub mod Requests
+pub mod Fields
+pub mod TextMerges
 pub mod Inputs
 pub mod SamePaths
 pub mod OneTree
+pub mod Numbers
+pub mod ListedGraphs
+pub mod OneGraph
 pub mod OneAnswer

@@ -1,10 +1,17 @@
 pub mod Faults
 pub mod Lines
+pub mod Requests
 pub mod Marks
 pub mod WalkCommand
 pub mod Walked
 pub mod WalkRead
 pub mod Matching
+pub mod MergeCommand
+pub mod MergeRead
+pub mod Numbers
+pub mod GraphCommand
+pub mod Neighbors
+pub mod GraphRead
 pub mod Program
 pub mod Reports
 pub mod Laws

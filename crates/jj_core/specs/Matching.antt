@@ -1,7 +1,8 @@
 -- What is seen of the matcher of a set.
-use Rattle.std.specs.Prelude.{Bool, true, false, ◌||◌}
-use Rattle.jj_paths.specs.Paths.{Path}
+use Rattle.std.specs.Prelude.{Bool, true, false, ◌||◌, List, []}
+use Rattle.jj_paths.specs.Paths.{Name, Path}
 use Rattle.jj_matchers.specs.Answers.{Answer, all_recursively, nothing}
+use Rattle.jj_matchers.specs.Listed.{names_of}
 use Rattle.jj_matchers.specs.Wanted.{is_wanted, leads_to_wanted, files_answer, has_prefix, leads_to_prefix, prefix_answer}
 use Rattle.jj_core.specs.declared.matching.SetMatcher.{SetMatcher}
 use Rattle.jj_core.specs.declared.matching.SetMatcher.TheVariants.{Everything, Nothing, Files, Prefix}
@@ -26,3 +27,10 @@ answers_of (Everything matcher) dir = all_recursively
 answers_of (Nothing matcher) dir = nothing
 answers_of (Files wanted) dir = files_answer wanted dir
 answers_of (Prefix prefixes) dir = prefix_answer prefixes dir
+
+-- the names that its answers choose from
+abbrev pub candidates_of : SetMatcher → Path → List Name
+candidates_of (Everything matcher) dir = []
+candidates_of (Nothing matcher) dir = []
+candidates_of (Files wanted) dir = names_of wanted
+candidates_of (Prefix prefixes) dir = names_of prefixes

@@ -24,13 +24,15 @@ pub(crate) enum SetMatcher {
 }
 
 impl Matcher for SetMatcher {
-    ghost use Rattle.jj_core.specs.Matching.{accepts_of, opens_of, answers_of};
+    ghost use Rattle.jj_core.specs.Matching.{accepts_of, opens_of, answers_of, candidates_of};
 
     ghost accepts = { accepts_of };
 
     ghost opens = { opens_of };
 
     ghost answers = { answers_of };
+
+    ghost candidates = { candidates_of };
 
     fn matches(&self, file: RepoPath<'_>) -> bool {
         match self {

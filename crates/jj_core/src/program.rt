@@ -7,6 +7,8 @@ ghost use Rattle.jj_core.specs.Reports.{usage_text, Says, Reports};
 ghost use Rattle.jj_core.specs.declared.fault.Fault.{Fault};
 
 pub use crate::fault::{Fault, LineFault};
+use crate::graph_command::graph_output;
+use crate::merge_command::merge_output;
 use crate::walk_command::walk_output;
 use jj_paths::file_util::{Sink, Source, write_all};
 use std::alloc::Global;
@@ -15,6 +17,8 @@ use std::alloc::Global;
 #[derive(Clone, Copy, Debug, PartialEq, Eq)]
 pub enum Command {
     Walk,
+    Merge,
+    Graph,
 }
 
 impl Command {
@@ -26,6 +30,8 @@ impl Command {
     {
         match name {
             "walk" => Some(Command::Walk),
+            "merge" => Some(Command::Merge),
+            "graph" => Some(Command::Graph),
             _ => None,
         }
     }
@@ -68,6 +74,8 @@ fn output(alloc: Global, command: Command, input: &[u8]) -> Result<Vec<u8>, Faul
     };
     match command {
         Command::Walk => walk_output(alloc, text),
+        Command::Merge => merge_output(alloc, text),
+        Command::Graph => graph_output(alloc, text),
     }
 }
 

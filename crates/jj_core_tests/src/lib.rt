@@ -2,5 +2,9 @@
 #![tactic(auto)]
 
 mod ends;
+mod graph_tests;
+mod merge_tests;
+#[cfg(test)]
+mod runs;
 mod start_tests;
 mod walk_tests;

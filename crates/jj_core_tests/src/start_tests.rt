@@ -76,9 +76,27 @@ mod tests {
     }
 
     #[test]
+    fn each_command_is_named(rt: HostRuntime) {
+        for (name, input, expected) in [
+            ("merge", "keep\ta\n", "resolved\ta\n"),
+            ("graph", "order\t7\n", "order\t7\n"),
+        ] {
+            let Ok(word) = String::from_str(rt.alloc(), name) else {
+                return;
+            };
+            let (status, output, errors) = outcome(rt.alloc(), &[word], input.as_bytes(), 1000);
+            if errors.as_slice() == OUT_OF_MEMORY.as_bytes() {
+                return;
+            }
+            assert_eq!(rt; status, 0, "{name}");
+            assert_eq!(rt; output.as_slice(), expected.as_bytes());
+        }
+    }
+
+    #[test]
     fn other_command_lines_are_told_the_usage(rt: HostRuntime) {
-        // The other commands are not there yet.
-        for word in ["merge", "graph", "hash", "Walk", "walk ", ""] {
+        // The command `hash` is not there yet.
+        for word in ["hash", "Walk", "walk ", "merges", ""] {
             let Ok(word) = String::from_str(rt.alloc(), word) else {
                 return;
             };

@@ -2,65 +2,8 @@
 
 #[cfg(test)]
 mod tests {
-    use crate::ends::{Cut, Kept};
-    use jj_core::file_util::Watched;
-    use jj_core::program::{Command, Fault, LineFault, run};
-    use std::alloc::Global;
-    use std::process::Abort;
-
-    /// What a run answers and writes where reads and writes are cut to `most` bytes, and fail after so many.
-    fn outcome(
-        alloc: Global,
-        input: &[u8],
-        most: usize,
-        reads: u32,
-        writes: u32,
-    ) -> (Result<(), Fault>, Kept) {
-        let mut reader = Watched::new(Cut {
-            rest: input,
-            most,
-            left: reads,
-        });
-        let mut kept = Kept::new(most, writes);
-        let mut writer = Watched::new(&mut kept);
-        let result = run(alloc, Command::Walk, &mut reader, &mut writer);
-        (result, kept)
-    }
-
-    /// The input writes this output, however its reads and writes are cut; memory may run out.
-    fn writes(rt: &(impl Abort + AllocGlobal), input: &str, output: &str) {
-        for most in [1, 7, 1000] {
-            let (result, kept) = outcome(rt.alloc(), input.as_bytes(), most, 1000, 1000);
-            match result {
-                Ok(()) => {
-                    assert_eq!(rt; kept.as_slice(), output.as_bytes(), "{input:?} {most}");
-                }
-                Err(fault) => {
-                    assert_eq!(rt; fault, Fault::Memory, "{input:?} {most}");
-                    assert!(rt; kept.as_slice().is_empty());
-                }
-            }
-        }
-    }
-
-    /// The input has this fault, and nothing is written; memory may run out.
-    fn fails(rt: &(impl Abort + AllocGlobal), input: &[u8], expected: Fault) {
-        let (result, kept) = outcome(rt.alloc(), input, 1000, 1000, 1000);
-        match result {
-            Ok(()) => panic!(rt; "no fault in {input:?}"),
-            Err(fault) => {
-                assert!(rt;
-                    fault == expected || fault == Fault::Memory,
-                    "{fault} in {input:?}"
-                );
-            }
-        }
-        assert!(rt; kept.as_slice().is_empty());
-    }
-
-    const fn at(line: usize, kind: LineFault) -> Fault {
-        Fault::Line { line, kind }
-    }
+    use crate::runs::{at, fails, reads_fail, writes, writes_fail};
+    use jj_core::program::{Command, Fault, LineFault};
 
     #[test]
     fn finds_what_the_sets_accept(rt: HostRuntime) {
@@ -90,7 +33,7 @@ mod tests {
                 "file\ta\nfile\tb\nfile\tc\nenter\t\n",
             ),
         ] {
-            writes(&rt, input, output);
+            writes(&rt, Command::Walk, input, output);
         }
     }
 
@@ -111,15 +54,15 @@ mod tests {
             ("files\ta\ta//b\n", at(1, LineFault::BadPath)),
             ("mark\ta\n\nprefix\t/\nx\n", at(3, LineFault::BadPath)),
         ] {
-            fails(&rt, input.as_bytes(), fault);
+            fails(&rt, Command::Walk, input.as_bytes(), fault);
         }
     }
 
     #[test]
     fn bytes_have_to_be_text(rt: HostRuntime) {
         // The byte comes before the fault of a line.
-        fails(&rt, b"x\n\xff", Fault::NotUtf8);
-        fails(&rt, b"mark\t\xc3\nnothing\n", Fault::NotUtf8);
+        fails(&rt, Command::Walk, b"x\n\xff", Fault::NotUtf8);
+        fails(&rt, Command::Walk, b"mark\t\xc3\nnothing\n", Fault::NotUtf8);
     }
 
     const INPUT: &str = "mark\ta/x\nmark\tab\nprefix\ta\n";
@@ -128,49 +71,11 @@ mod tests {
 
     #[test]
     fn each_read_fails_in_turn(rt: HostRuntime) {
-        let bytes = INPUT.len();
-        for (most, needed) in [(1, bytes + 1), (7, bytes.div_ceil(7) + 1), (1000, 2)] {
-            for reads in 0..40u32 {
-                let (result, kept) = outcome(rt.alloc(), INPUT.as_bytes(), most, reads, 1000);
-                let works = usize::try_from(reads).is_ok_and(|reads| reads >= needed);
-                match result {
-                    Ok(()) => {
-                        assert!(rt; works, "{most} {reads}");
-                        assert_eq!(rt; kept.as_slice(), OUTPUT.as_bytes());
-                    }
-                    Err(fault) => {
-                        assert!(rt;
-                            fault == Fault::Memory || fault == Fault::ReadInput && !works,
-                            "{fault} {most} {reads}"
-                        );
-                        assert!(rt; kept.as_slice().is_empty());
-                    }
-                }
-            }
-        }
+        reads_fail(&rt, Command::Walk, INPUT, OUTPUT);
     }
 
     #[test]
     fn each_write_fails_in_turn(rt: HostRuntime) {
-        let bytes = OUTPUT.len();
-        for (most, needed) in [(1, bytes), (7, bytes.div_ceil(7)), (1000, 1)] {
-            for writes in 0..40u32 {
-                let (result, kept) = outcome(rt.alloc(), INPUT.as_bytes(), most, 1000, writes);
-                let works = usize::try_from(writes).is_ok_and(|writes| writes >= needed);
-                match result {
-                    Ok(()) => {
-                        assert!(rt; works, "{most} {writes}");
-                        assert_eq!(rt; kept.as_slice(), OUTPUT.as_bytes());
-                    }
-                    Err(fault) => {
-                        assert!(rt;
-                            fault == Fault::Memory || fault == Fault::WriteOutput && !works,
-                            "{fault} {most} {writes}"
-                        );
-                        assert!(rt; OUTPUT.as_bytes().starts_with(kept.as_slice()));
-                    }
-                }
-            }
-        }
+        writes_fail(&rt, Command::Walk, INPUT, OUTPUT);
     }
 }

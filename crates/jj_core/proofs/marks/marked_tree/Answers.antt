@@ -29,6 +29,6 @@ returns c =
     let given = c.args.marks.items in
     let sorted = c.deref-mark-items.result.now in
     let whole : take c.loop-mark.mark-index (map path_of sorted) ≡ map path_of sorted = take_all c.loop-mark.mark-index (map path_of sorted) (omega (arith, length-map sorted path_of)) in
-    let moved : IsPermutation given sorted = subst (IsPermutation given) (sym c.deref-mark-items.ensures.value) c.sort_unstable.ensures.permutation in
+    let moved : IsPermutation given sorted = subst (IsPermutation given) (sym c.deref-mark-items.ensures.value) c.sort_unstable_by_key.ensures.permutation in
     marked_permutation (map path_of sorted) (map path_of given) c.loop-mark.tree (IsPermutation-sym (map path_of given) (map path_of sorted) (IsPermutation-map path_of given sorted moved))
     (subst (λ l. IsMarkedTree l c.loop-mark.tree) whole c.loop-mark.invariant)

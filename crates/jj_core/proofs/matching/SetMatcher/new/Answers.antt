@@ -1,4 +1,4 @@
-use Rattle.std.proofs.Common.{◌≡◌, ◌∙◌, ap, sym, map, subst}
+use Rattle.std.proofs.Common.{◌∙◌, ap, sym, map, subst}
 use Rattle.jj_paths.specs.Names.{path_of}
 use Rattle.jj_paths.specs.Orders.{path_eq}
 use Rattle.jj_matchers.specs.Wanted.{HasSamePaths, is_at_or_below}

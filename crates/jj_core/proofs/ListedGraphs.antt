@@ -1,0 +1,91 @@
+-- Graphs whose edges a map lists: where their cycles lie, and their maximal nodes in ascending order.
+use Rattle.std.proofs.Common.{◌≡◌, ◌∙◌, Iter, ℕ, ◌<◌, List, [], ◌∷◌, length, get_or, Result, Ok, Err, Option, Some, None, IsSome, ap, refl, sym, subst, arith, eqb, map}
+use Rattle.std.specs.Prelude.{unwrap_or, IsOkAnd, MatchResult}
+use Rattle.std.specs.declared.iter.Copied.{Copied}
+use Rattle.std.specs.Iterator.Adapters.{copied_source}
+use Rattle.std.specs.Slice.Iter.{iter_rest}
+use Rattle.std.proofs.iter.Yields.{copies, fronts}
+use Rattle.std.proofs.lemmas.Iterator.{YieldsList-from_slice}
+use Rattle.std.proofs.lemmas.Iterator.Consumers.{YieldsList-from_copied}
+use Rattle.std.specs.Option.{option_map}
+use Rattle.std.specs.List.{Contains}
+use Rattle.std.specs.List.Sorted.{IsPermutation, IsSorted, IsStrictlyIncreasing}
+use Rattle.std.specs.Ordering.{nat_cmp}
+use Rattle.std.specs.HashMap.{HashMap, get, keys}
+use Rattle.std.specs.Global.{Global}
+use Rattle.std.specs.Map.{lookup}
+use Rattle.std.proofs.lemmas.List.{get_or-map, length-map, map-id}
+use Rattle.std.specs.declared.vec.Vec.{Vec}
+use Rattle.std.proofs.lemmas.Bool.Decides.{Decides-eqb}
+use Rattle.std.proofs.lemmas.Cmp.{nat_eq_equiv}
+use Rattle.std.proofs.lemmas.List.Sorted.{Contains-permutation, IsPermutation-sym, IsNonDecreasingBy-from_sort}
+use Rattle.std.proofs.lemmas.Map.Keys.{IsDistinct-IsPermutation, IsStrictlyIncreasing-from_distinct}
+use Rattle.std.proofs.lemmas.Map.Views.{hash_map_contains_key_iff}
+use Rattle.jj_walks.specs.Graph.{Graph, StrictlyReaches, HasNoCycle, IsMaximalIn}
+use Rattle.jj_walks.specs.declared.walk_error.WalkError.{WalkError}
+use Rattle.jj_walks.specs.declared.walk_error.WalkError.TheVariants.{Node}
+use Rattle.jj_walks.specs.Errors.{IfNode}
+use Rattle.jj_walks.specs.Failing.{sound_items}
+use Rattle.jj_walks.specs.Walk.{DrainsTo}
+use Rattle.jj_walks.proofs.Walking.{drained_are, eqb-flip}
+use Rattle.jj_core.specs.Neighbors.{listed_in}
+use Rattle.jj_core.specs.GraphCommand.{graph_of, HasCycle}
+
+-- a node with a neighbour has an entry
+node_listed : {S : Type 0} (m : HashMap ℕ (Vec ℕ Global) S) (id neighbor : ℕ) (o : Option (Vec ℕ Global)) → get eqb m id ≡ o
+    → Contains (unwrap_or (option_map (λ v. v.items) o) []) neighbor → IsSome (get eqb m id)
+node_listed m id neighbor None is (k, within, e) = absurd (omega arith)
+node_listed m id neighbor (Some v) is h = rw is refl
+
+-- so a node on a cycle is one of the keys
+pub cycle_listed : {S : Type 0} (m : HashMap ℕ (Vec ℕ Global) S) (id : ℕ) → StrictlyReaches (graph_of (listed_in m)) id id → Contains (keys m) id
+cycle_listed m id (steps, way) =
+    (hash_map_contains_key_iff nat_eq_equiv (λ x y. (Decides-eqb x y).0) m id).0 (node_listed m id way.0 (get eqb m id) refl way.1)
+
+-- where the keys reach no cycle, there is none
+pub none_listed : {S : Type 0} (m : HashMap ℕ (Vec ℕ Global) S) → HasNoCycle (graph_of (listed_in m)) (keys m) → HasCycle (graph_of (listed_in m)) → ⊥
+none_listed m none (id, cycle) = none id (id, cycle_listed m id cycle, (0, refl)) cycle
+
+-- where there is no cycle, no nodes reach one
+pub none_reached : (graph : Graph) (starts : List ℕ) → (HasCycle graph → ⊥) → HasNoCycle graph starts
+none_reached graph starts none a reached cycle = none (a, cycle)
+
+-- neighbours that are all sound
+pub sound_neighbors : (E : Type 0) (ids : List ℕ) → ids ≡ sound_items {E = E} (map (λ id. Ok id) ids)
+sound_neighbors E [] = refl
+sound_neighbors E (id ∷ ids) = ap (λ l. id ∷ l) (sound_neighbors E ids)
+
+-- and none of which failed
+pub none_failed : (E : Type 0) (ids : List ℕ) (e : E) → Contains (map (λ id. Ok id) ids) (Err e) → ⊥
+none_failed E ids e (k, within, is) =
+    let sound_item : ℕ → Result ℕ E = λ id. Ok id in
+    let inside : k < length ids = omega (arith, length-map ids sound_item) in
+    let sound : get_or (map sound_item ids) k (Err e) ≡ Ok (get_or ids k 0) = get_or-map sound_item ids k 0 (Err e) inside in
+    let both : Ok (get_or ids k 0) ≡ Err e = sym sound ∙ is in cc
+
+-- what such a list drains to
+pub lists_neighbors : (r : Result (Copied (Iter ℕ)) ℕ) (ids : List ℕ) → IsOkAnd r (λ list. iter_rest (copied_source list) ≡ ids)
+    → MatchResult r (λ list. (xs : List ℕ) → DrainsTo (λ s t. t ≡ s) (copies fronts) list xs → map {B = Result ℕ ℕ} (λ id. Ok id) ids ≡ map (λ x. Ok x) xs) (λ e. map (λ id. Ok id) ids ≡ Err e ∷ [])
+lists_neighbors (Ok list) ids rest = λ xs d.
+    let given = drained_are (λ s t. t ≡ s) (copies fronts) list xs (λ x. x) ids (λ it b. YieldsList-from_copied (YieldsList-from_slice ids (ap (λ s. iter_rest (copied_source s)) b ∙ rest))) d in
+    ap (map {B = Result ℕ ℕ} (λ id. Ok id)) (sym given ∙ map-id xs)
+lists_neighbors (Err e) ids none = absurd none
+
+-- what is said of the error of a node
+pub node_says : {E : Type 0} (P : E → Type 0) (refused : WalkError E) (error : E) → refused ≡ Node error → IfNode refused P → P error
+node_says P refused error node h = subst (λ e. IfNode e P) node h
+
+-- an empty map lists nothing
+pub listed_in-empty : {S : Type 0} (m : HashMap ℕ (Vec ℕ Global) S) → m.entries ≡ [] → listed_in m ≡ (λ id. None)
+listed_in-empty m empty = λ i id. option_map (λ v. v.items) (lookup (eqb id) (empty i))
+
+-- the maximal nodes in another order
+pub maximal_permuted : (graph : Graph) (ids found sorted : List ℕ) → IsPermutation found sorted → IsMaximalIn graph ids found → IsMaximalIn graph ids sorted
+maximal_permuted graph ids found sorted moved of_found = record {
+  all = λ a. ((λ h. (of_found.all a).0 (Contains-permutation sorted found a (IsPermutation-sym found sorted moved) h)), λ h. Contains-permutation found sorted a moved ((of_found.all a).1 h));
+  once = IsDistinct-IsPermutation eqb eqb-flip found sorted moved of_found.once;
+}
+
+-- sorted, they rise
+pub maximal_rising : (graph : Graph) (ids sorted : List ℕ) → IsSorted nat_cmp sorted → IsMaximalIn graph ids sorted → IsStrictlyIncreasing sorted
+maximal_rising graph ids sorted in_order of_sorted = IsStrictlyIncreasing-from_distinct sorted (IsNonDecreasingBy-from_sort (λ x. x) sorted in_order) of_sorted.once

@@ -1,0 +1,34 @@
+use Rattle.std.proofs.Common.{◌≡◌, ◌∙◌, ◌++◌, ℕ, List, ap, refl, sym, subst}
+use Rattle.std.specs.Prelude.{codes, string_bytes}
+use Rattle.std.specs.List.Sorted.{IsStrictlyIncreasing}
+use Rattle.std.proofs.lemmas.Result.{IfOk-weaker}
+use Rattle.jj_walks.specs.Graph.{IsGreatestChildFirst, IsMaximalIn}
+use Rattle.jj_core.specs.Neighbors.{listed_in}
+use Rattle.jj_core.specs.GraphCommand.{AnswersRequest, graph_of, numbers_line}
+use Rattle.jj_core.specs.GraphRead.{graph_request_of}
+use Rattle.jj_core.proofs.graph_command.push_answer.Goals as goal
+
+pub returns-in_ok-order-in-Order : goal.returns-in_ok-order-in-Order
+returns-in_ok-order-in-Order c =
+    let graph = graph_of (listed_in c.args.neighbors.now) in
+    let old = string_bytes c.args.output.now in
+    let order = c.in_ok-order-in-Order.order.items in
+    let line = numbers_line (codes "order") order in
+    let greatest : IsGreatestChildFirst graph c.in-Order.ids.items order = subst (λ ids. IsGreatestChildFirst graph ids order) c.deref.ensures.value c.in_ok-order-in-Order.ensures in
+    let answered : AnswersRequest graph (graph_request_of c.args.request.now) line = subst (λ request. AnswersRequest graph (graph_request_of request) line) (sym c.in-Order.is) (order, greatest, refl) in
+    IfOk-weaker c.push_numbers.result (λ _. string_bytes c.push_numbers.new.output ≡ old ++ numbers_line (codes "order") c.deref-in-Order.result.now)
+    (λ _. (answer : List ℕ) × AnswersRequest graph (graph_request_of c.args.request.now) answer × (string_bytes c.push_numbers.new.output ≡ old ++ answer))
+    (λ done written. (line, answered, written ∙ ap (λ ids. old ++ numbers_line (codes "order") ids) c.deref-in-Order.ensures.value)) c.push_numbers.ensures
+
+pub returns-in_ok-heads-in-Heads : goal.returns-in_ok-heads-in-Heads
+returns-in_ok-heads-in-Heads c =
+    let graph = graph_of (listed_in c.args.neighbors.now) in
+    let old = string_bytes c.args.output.now in
+    let heads = c.in_ok-heads-in-Heads.heads.items in
+    let line = numbers_line (codes "heads") heads in
+    let maximal : IsMaximalIn graph c.in-Heads.ids.items heads = subst (λ ids. IsMaximalIn graph ids heads) c.deref-in-Heads.ensures.value c.in_ok-heads-in-Heads.ensures.maximal in
+    let ascending : IsStrictlyIncreasing heads = c.in_ok-heads-in-Heads.ensures.ascending in
+    let answered : AnswersRequest graph (graph_request_of c.args.request.now) line = subst (λ request. AnswersRequest graph (graph_request_of request) line) (sym c.in-Heads.is) (heads, maximal, ascending, refl) in
+    IfOk-weaker c.push_numbers-in-Heads.result (λ _. string_bytes c.push_numbers-in-Heads.new.output ≡ old ++ numbers_line (codes "heads") c.deref-in-Heads-2.result.now)
+    (λ _. (answer : List ℕ) × AnswersRequest graph (graph_request_of c.args.request.now) answer × (string_bytes c.push_numbers-in-Heads.new.output ≡ old ++ answer))
+    (λ done written. (line, answered, written ∙ ap (λ ids. old ++ numbers_line (codes "heads") ids) c.deref-in-Heads-2.ensures.value)) c.push_numbers-in-Heads.ensures

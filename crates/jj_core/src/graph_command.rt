@@ -1,0 +1,203 @@
+//! The command `graph`: lines list the neighbours of nodes, or ask for the order or the heads of some.
+ghost use Rattle.std.specs.Prelude.{◌≡◌, ◌++◌, ℕ, List, map, Ok, MatchResult, IfOk, IfErr, OnOk, string_bytes};
+ghost use Rattle.std.specs.Str.Parse.{digits_value};
+ghost use Rattle.jj_core.specs.Lines.{at_line, IsFaultOf};
+ghost use Rattle.jj_core.specs.Neighbors.{listed_in};
+ghost use Rattle.jj_core.specs.GraphCommand.{GraphState, Order, Heads, HasCycle, AnswersRequest, GivesGraph, graph_of, graph_state, graph_step, node_step, number_at, numbers_of, numbers_line, with_request};
+ghost use Rattle.jj_core.specs.GraphRead.{graph_request_of, graph_state_of};
+
+use crate::fault::{Fault, LineFault};
+use crate::listed_graph::{ascending_heads, greatest_order, has_cycle};
+use crate::number::parse_number;
+use crate::reading::{Reading, take_lines};
+use std::alloc::{AllocError, Global};
+use std::collections::HashMap;
+
+/// What a line asks.
+#[derive(Drop)]
+pub(crate) enum GraphRequest {
+    Order(Vec<u64>),
+    Heads(Vec<u64>),
+}
+
+/// The neighbours of each node that has a line so far, and what the lines ask.
+#[derive(Drop)]
+pub(crate) struct GraphReading {
+    neighbors: HashMap<u64, Vec<u64>>,
+    requests: Vec<GraphRequest>,
+}
+
+/// The number that a field of a line is.
+fn number_field(number: usize, text: &str) -> Result<u64, Fault>
+    ensures { MatchResult result
+        (λ id. at_line number (number_at text.now) ≡ Ok id)
+        (λ fault. IsFaultOf fault (at_line number (number_at text.now))) }
+{
+    match parse_number(text) {
+        Some(id) => Ok(id),
+        None => Err(Fault::Line {
+            line: number,
+            kind: LineFault::BadNumber,
+        }),
+    }
+}
+
+/// The numbers of the fields of a line.
+fn numbers(alloc: Global, number: usize, fields: &[&str]) -> Result<Vec<u64>, Fault>
+    ensures { MatchResult result
+        (λ ids. at_line number (numbers_of (map (λ field. field.now) fields.now)) ≡ Ok ids.items)
+        (λ fault. IsFaultOf fault (at_line number (numbers_of (map (λ field. field.now) fields.now)))) }
+{
+    let mut ids = Vec::new(alloc);
+    for field in fields {
+        match number_field(number, field) {
+            Ok(id) => ids.push(id)?,
+            Err(fault) => return Err(fault),
+        }
+    }
+    Ok(ids)
+}
+
+impl GraphReading {
+    /// Lists the neighbours of the node of the first field.
+    fn list(&mut self, alloc: Global, number: usize, fields: &[&str]) -> Result<(), Fault>
+        ensures { MatchResult result
+            (λ _. at_line number (node_step (graph_state_of self.old) (map (λ field. field.now) fields.now)) ≡ Ok (graph_state_of self.new))
+            (λ fault. IsFaultOf fault (at_line number (node_step (graph_state_of self.old) (map (λ field. field.now) fields.now)))) }
+    {
+        let [id, neighbors @ ..] = fields else {
+            return Err(Fault::Line {
+                line: number,
+                kind: LineFault::BadFieldCount,
+            });
+        };
+        let id = match number_field(number, id) {
+            Ok(id) => id,
+            Err(fault) => return Err(fault),
+        };
+        let neighbors = match numbers(alloc, number, neighbors) {
+            Ok(neighbors) => neighbors,
+            Err(fault) => return Err(fault),
+        };
+        if self.neighbors.contains_key(&id) {
+            return Err(Fault::Line {
+                line: number,
+                kind: LineFault::RepeatedNode,
+            });
+        }
+        self.neighbors.insert(id, neighbors)?;
+        Ok(())
+    }
+
+    /// Takes a request for the order of the ids of the fields.
+    fn ask_order(&mut self, alloc: Global, number: usize, fields: &[&str]) -> Result<(), Fault>
+        ensures { MatchResult result
+            (λ _. at_line number (with_request (graph_state_of self.old) Order (numbers_of (map (λ field. field.now) fields.now))) ≡ Ok (graph_state_of self.new))
+            (λ fault. IsFaultOf fault (at_line number (with_request (graph_state_of self.old) Order (numbers_of (map (λ field. field.now) fields.now))))) }
+    {
+        match numbers(alloc, number, fields) {
+            Ok(ids) => Ok(self.requests.push(GraphRequest::Order(ids))?),
+            Err(fault) => Err(fault),
+        }
+    }
+
+    /// Takes a request for the heads of the ids of the fields.
+    fn ask_heads(&mut self, alloc: Global, number: usize, fields: &[&str]) -> Result<(), Fault>
+        ensures { MatchResult result
+            (λ _. at_line number (with_request (graph_state_of self.old) Heads (numbers_of (map (λ field. field.now) fields.now))) ≡ Ok (graph_state_of self.new))
+            (λ fault. IsFaultOf fault (at_line number (with_request (graph_state_of self.old) Heads (numbers_of (map (λ field. field.now) fields.now))))) }
+    {
+        match numbers(alloc, number, fields) {
+            Ok(ids) => Ok(self.requests.push(GraphRequest::Heads(ids))?),
+            Err(fault) => Err(fault),
+        }
+    }
+}
+
+impl<'t> Reading<'t> for GraphReading {
+    ghost State = { GraphState };
+
+    ghost state = { graph_state_of };
+
+    ghost step = { graph_step };
+
+    fn take(&mut self, alloc: Global, number: usize, fields: &[&'t str]) -> Result<(), Fault> {
+        let [name, rest @ ..] = fields else {
+            return Err(Fault::Line {
+                line: number,
+                kind: LineFault::UnknownCommand,
+            });
+        };
+        match *name {
+            "node" => self.list(alloc, number, rest),
+            "order" => self.ask_order(alloc, number, rest),
+            "heads" => self.ask_heads(alloc, number, rest),
+            _ => Err(Fault::Line {
+                line: number,
+                kind: LineFault::UnknownCommand,
+            }),
+        }
+    }
+}
+
+/// What the command `graph` writes for a text.
+pub(crate) fn graph_output(alloc: Global, text: &str) -> Result<Vec<u8>, Fault>
+    ensures done { IfOk result (λ output. GivesGraph text.now (Ok output.items)) }
+    ensures fault { IfErr result (λ fault. IsFaultOf fault (graph_state text.now)) }
+{
+    let mut reading = GraphReading {
+        neighbors: HashMap::new(alloc),
+        requests: Vec::new(alloc),
+    };
+    if let Err(fault) = take_lines(alloc, &mut reading, text) {
+        return Err(fault);
+    }
+    let GraphReading {
+        neighbors,
+        requests,
+    } = reading;
+    let cyclic = has_cycle(alloc, &neighbors)?;
+    let mut output = String::new(alloc);
+    for request in &requests {
+        if cyclic {
+            output.push_str("cycle\n")?;
+        } else {
+            push_answer(alloc, &mut output, &neighbors, request)?;
+        }
+    }
+    Ok(output.into_bytes())
+}
+
+/// Adds the answer to a request to the output, where the graph has no cycle.
+fn push_answer(
+    alloc: Global,
+    output: &mut String,
+    neighbors: &HashMap<u64, Vec<u64>>,
+    request: &GraphRequest,
+) -> Result<(), AllocError>
+    requires { ¬ (HasCycle (graph_of (listed_in neighbors.now))) }
+    ensures { OnOk result ((answer : List ℕ) × AnswersRequest (graph_of (listed_in neighbors.now)) (graph_request_of request.now) answer × (string_bytes output.new ≡ string_bytes output.old ++ answer)) }
+{
+    match request {
+        GraphRequest::Order(ids) => {
+            let order = greatest_order(alloc, neighbors, ids)?;
+            push_numbers(output, "order", &order)
+        }
+        GraphRequest::Heads(ids) => {
+            let heads = ascending_heads(alloc, neighbors, ids)?;
+            push_numbers(output, "heads", &heads)
+        }
+    }
+}
+
+/// Adds a line to the output: its first field, and each number after a TAB.
+fn push_numbers(output: &mut String, name: &str, numbers: &[u64]) -> Result<(), AllocError>
+    ensures { OnOk result (string_bytes output.new ≡ string_bytes output.old ++ numbers_line name.now numbers.now) }
+{
+    output.push_str(name)?;
+    for number in numbers {
+        write!(output, "\t{number}")?;
+    }
+    output.push('\n')?;
+    Ok(())
+}

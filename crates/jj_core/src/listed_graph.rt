@@ -1,0 +1,102 @@
+//! Graphs whose edges a map lists, by the walks over them.
+ghost use Rattle.std.specs.Prelude.{◌≡◌, IfOk, IsOkAnd, MatchBool};
+ghost use Rattle.std.specs.Iterator.Adapters.{copied_source};
+ghost use Rattle.std.specs.List.Sorted.{IsStrictlyIncreasing};
+ghost use Rattle.std.specs.Slice.Iter.{iter_rest};
+ghost use Rattle.jj_walks.specs.Graph.{IsGreatestChildFirst, IsMaximalIn};
+ghost use Rattle.jj_core.specs.Neighbors.{listed_in};
+ghost use Rattle.jj_core.specs.GraphCommand.{graph_of, HasCycle};
+
+use jj_walks::dag_walk::{WalkError, heads, topo_order_forward};
+use jj_walks::dag_walk_async::topo_order_reverse_ord;
+use std::alloc::{AllocError, Global};
+use std::collections::HashMap;
+use std::iter::Copied;
+use std::slice;
+
+/// The neighbours that the map lists, none where it has no entry.
+fn neighbors_of(listed: &HashMap<u64, Vec<u64>>, id: u64) -> &[u64]
+    ensures { result.now ≡ graph_of (listed_in listed.now) id }
+{
+    match listed.get(&id) {
+        Some(neighbors) => neighbors.as_slice(),
+        None => &[],
+    }
+}
+
+/// The same, as a list that may fail in the eyes of a walk. It never does.
+fn sound_neighbors_of(
+    listed: &HashMap<u64, Vec<u64>>,
+    id: u64,
+) -> Result<Copied<slice::Iter<'_, u64>>, u64>
+    ensures { IsOkAnd result (λ list. iter_rest (copied_source list) ≡ graph_of (listed_in listed.now) id) }
+{
+    Ok(neighbors_of(listed, id).iter().copied())
+}
+
+/// Whether the graph has a cycle anywhere.
+pub(crate) fn has_cycle(alloc: Global, listed: &HashMap<u64, Vec<u64>>) -> Result<bool, AllocError>
+    ensures { IfOk result (λ cyclic. MatchBool cyclic (HasCycle (graph_of (listed_in listed.now))) (¬ (HasCycle (graph_of (listed_in listed.now))))) }
+{
+    let order = topo_order_forward(
+        alloc,
+        listed.keys().copied(),
+        |id: &u64| *id,
+        |id: &u64| neighbors_of(listed, *id).iter().copied(),
+        |id: u64| id,
+    );
+    match order {
+        Ok(_order) => Ok(false),
+        Err(error) => match error {
+            WalkError::Node(_) => Ok(true),
+            WalkError::Memory => Err(AllocError),
+        },
+    }
+}
+
+/// The greatest child-first order of what these ids reach.
+pub(crate) fn greatest_order(
+    alloc: Global,
+    listed: &HashMap<u64, Vec<u64>>,
+    ids: &[u64],
+) -> Result<Vec<u64>, AllocError>
+    requires { ¬ (HasCycle (graph_of (listed_in listed.now))) }
+    ensures { IfOk result (λ order. IsGreatestChildFirst (graph_of (listed_in listed.now)) ids.now order.items) }
+{
+    let order = topo_order_reverse_ord(
+        alloc,
+        ids.iter().copied(),
+        |id: &u64| *id,
+        |id: &u64| sound_neighbors_of(listed, *id),
+        |id: u64| id,
+    );
+    match order {
+        Ok(order) => Ok(order),
+        Err(error) => match error {
+            WalkError::Memory => Err(AllocError),
+            // Only a cycle would be refused.
+            WalkError::Node(_) => unreachable!(),
+        },
+    }
+}
+
+/// The ids that no other of them reaches, in ascending order.
+pub(crate) fn ascending_heads(
+    alloc: Global,
+    listed: &HashMap<u64, Vec<u64>>,
+    ids: &[u64],
+) -> Result<Vec<u64>, AllocError>
+    requires { ¬ (HasCycle (graph_of (listed_in listed.now))) }
+    ensures maximal { IfOk result (λ heads. IsMaximalIn (graph_of (listed_in listed.now)) ids.now heads.items) }
+    ensures ascending { IfOk result (λ heads. IsStrictlyIncreasing heads.items) }
+{
+    let found = heads(
+        alloc,
+        ids.iter().copied(),
+        |id: &u64| *id,
+        |id: &u64| neighbors_of(listed, *id).iter().copied(),
+    )?;
+    let mut ascending: Vec<u64> = found.iter().copied().collect(alloc)?;
+    ascending.sort_unstable();
+    Ok(ascending)
+}
