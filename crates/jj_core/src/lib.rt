@@ -14,8 +14,10 @@ mod reading;
 mod walk_command;
 
 pub use jj_content::{blake2b, content_hash, hex_util, symbol_util};
+pub use jj_globs::glob;
 pub use jj_ids::{object_id, ref_name};
-pub use jj_matchers::{glob, matchers, str_util};
+pub use jj_matchers::matchers;
 pub use jj_merges::{conflict_labels, merge};
 pub use jj_paths::{file_util, repo_path, repo_path_tree};
+pub use jj_strings::str_util;
 pub use jj_walks::{dag_walk, dag_walk_async, graph};

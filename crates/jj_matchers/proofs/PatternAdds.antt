@@ -4,7 +4,7 @@ use mathlib.Core.Bool.{false≢true}
 use Rattle.std.specs.Option.{option_map}
 use Rattle.jj_paths.specs.Paths.{Path}
 use Rattle.jj_paths.specs.Tree.{Tree, get, value_at, IsEdited}
-use Rattle.jj_matchers.specs.GlobMeaning.{GlobSpec}
+use Rattle.jj_globs.specs.GlobMeaning.{GlobSpec}
 use Rattle.jj_matchers.specs.Wanted.{is_at_or_below}
 use Rattle.jj_matchers.specs.PatternTree.{has_globs, marks_of, globs_or_none, globs_at, AddsGlob}
 use Rattle.jj_matchers.proofs.Marks.{get-below}

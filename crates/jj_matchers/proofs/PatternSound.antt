@@ -9,7 +9,7 @@ use Rattle.std.proofs.lemmas.List.Folds.{Any-from_list_any, list_any-from_Any}
 use Rattle.std.proofs.lemmas.Slice.Eq.{bytes_eq-Decides}
 use Rattle.jj_paths.specs.Paths.{Name, Path, path_text}
 use Rattle.jj_matchers.specs.Answers.{Answer, all_recursively, specific, nothing, IsSound}
-use Rattle.jj_matchers.specs.GlobMeaning.{GlobSpec}
+use Rattle.jj_globs.specs.GlobMeaning.{GlobSpec}
 use Rattle.jj_matchers.specs.Listed.{ChoosesFrom, names_of}
 use Rattle.jj_matchers.specs.Wanted.{is_at_or_below, has_prefix, leads_to_wanted, leads_to_prefix}
 use Rattle.jj_matchers.specs.Patterns.{Patterns, is_prefix_match, accepts_tail, covers_tail, tail_passes, pattern_dirs, is_accepted, is_covered, opens_to_patterns, patterns_answer, AcceptsText, IsAccepted}

@@ -6,17 +6,17 @@ use Rattle.std.specs.Bool.{Decides}
 use Rattle.std.specs.List.{list_all}
 use Rattle.std.proofs.lemmas.Bool.{and_parts, or_cases, or_right}
 use Rattle.std.proofs.lemmas.Bool.Decides.{Decides-eqb}
-use Rattle.jj_matchers.specs.declared.glob.token.Part.TheVariants.{Star, Everything}
-use Rattle.jj_matchers.specs.declared.glob.token.Token.{Token}
-use Rattle.jj_matchers.specs.declared.glob.token.Token.TheVariants.{Part as part}
-use Rattle.jj_matchers.specs.declared.glob.token.Options.{Options}
-use Rattle.jj_matchers.specs.declared.glob.error.GlobError.{GlobError}
-use Rattle.jj_matchers.specs.GlobText.{tokens_of, words, read, sign_of, Word, asterisk}
-use Rattle.jj_matchers.specs.GlobMeaning.{GlobSpec, IsMatch, IsPrefixMatch, is_plain}
-use Rattle.jj_matchers.specs.GlobPlain.{Test, tests_of, judge, verdict_of, many, any_byte, is_empty}
+use Rattle.jj_globs.specs.declared.glob.token.Part.TheVariants.{Star, Everything}
+use Rattle.jj_globs.specs.declared.glob.token.Token.{Token}
+use Rattle.jj_globs.specs.declared.glob.token.Token.TheVariants.{Part as part}
+use Rattle.jj_globs.specs.declared.glob.token.Options.{Options}
+use Rattle.jj_globs.specs.declared.glob.error.GlobError.{GlobError}
+use Rattle.jj_globs.specs.GlobText.{tokens_of, words, read, sign_of, Word, asterisk}
+use Rattle.jj_globs.specs.GlobMeaning.{GlobSpec, IsMatch, IsPrefixMatch, is_plain}
+use Rattle.jj_globs.specs.GlobPlain.{Test, tests_of, judge, verdict_of, many, any_byte, is_empty}
 use Rattle.jj_matchers.specs.Patterns.{is_yes, is_match, is_prefix_match, passes_before_slash, is_stars}
-use Rattle.jj_matchers.proofs.GlobSound.{Tells, Tells-glob}
-use Rattle.jj_matchers.proofs.GlobClosed.{closed-tokens_of}
+use Rattle.jj_globs.proofs.GlobSound.{Tells, Tells-glob}
+use Rattle.jj_globs.proofs.GlobClosed.{closed-tokens_of}
 use Rattle.jj_matchers.proofs.Wanted.{or_left, both_true}
 
 -- 1. Matches.

@@ -14,7 +14,7 @@ use Rattle.jj_paths.specs.Paths.{Name, Path, name_cmp}
 use Rattle.jj_paths.specs.Orders.{path_eq, path_eq-Decides}
 use Rattle.jj_paths.specs.Tree.{Tree, Branches, none, branch, child, children, get, has_branches, nodes_on, value_at}
 use Rattle.jj_matchers.specs.Answers.{Answer, specific, nothing}
-use Rattle.jj_matchers.specs.GlobMeaning.{GlobSpec}
+use Rattle.jj_globs.specs.GlobMeaning.{GlobSpec}
 use Rattle.jj_matchers.specs.Walk.{nodes_below}
 use Rattle.jj_matchers.specs.Wanted.{is_at_or_below, is_below, is_wanted, HasSamePaths, has_prefix, leads_to_wanted, leads_to_prefix}
 use Rattle.jj_matchers.specs.Marks.{is_some_true, is_marked, marked_paths, passes, any_child, children_answer, any_node}

@@ -3,7 +3,7 @@ use Rattle.std.specs.Prelude.{◌≡◌, ◌≢◌, Bool, true, false, List, [],
 use Rattle.std.specs.List.{flat_map}
 use Rattle.jj_paths.specs.Paths.{Path}
 use Rattle.jj_paths.specs.Tree.{Tree, Branches, none, branch, value_at}
-use Rattle.jj_matchers.specs.GlobMeaning.{GlobSpec}
+use Rattle.jj_globs.specs.GlobMeaning.{GlobSpec}
 use Rattle.jj_matchers.specs.Marks.{LeadsToMarks}
 use Rattle.jj_matchers.specs.Walk.{nodes_below}
 

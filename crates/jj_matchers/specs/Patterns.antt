@@ -4,8 +4,8 @@ use Rattle.std.specs.List.{list_any, list_all}
 use Rattle.std.specs.Str.{bytes_eq}
 use Rattle.jj_paths.specs.Paths.{Name, Path, path_text}
 use Rattle.jj_matchers.specs.Answers.{Answer, all_recursively, specific, nothing}
-use Rattle.jj_matchers.specs.GlobMeaning.{GlobSpec, IsMatch, IsPrefixMatch}
-use Rattle.jj_matchers.specs.GlobPlain.{Verdict, yes, no, faulty, matches}
+use Rattle.jj_globs.specs.GlobMeaning.{GlobSpec, IsMatch, IsPrefixMatch}
+use Rattle.jj_globs.specs.GlobPlain.{Verdict, yes, no, faulty, matches}
 use Rattle.jj_matchers.specs.Wanted.{has_prefix, leads_to_wanted, leads_to_prefix}
 
 -- 1. Texts.

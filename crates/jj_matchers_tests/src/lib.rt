@@ -1,4 +1,4 @@
-//! Tests of matchers, of the walk, of globs and of sets of strings, over the public calls.
+//! Tests of matchers and of the walk, over the public calls.
 //
 // In a run in which one request for memory is refused, a test answers that, and is then run once more, when there is memory.
 #![tactic(auto)]
@@ -7,9 +7,5 @@
 mod answers;
 #[cfg(test)]
 mod fixtures;
-#[cfg(test)]
-mod globs;
-#[cfg(test)]
-mod string_sets;
 #[cfg(test)]
 mod walks;

@@ -18,7 +18,7 @@ pub struct DirPatterns {
 impl Model for DirPatterns {
     ghost use Rattle.std.specs.Prelude.{List, []};
     ghost use Rattle.std.specs.Option.{option_map_or};
-    ghost use Rattle.jj_matchers.specs.GlobMeaning.{GlobSpec};
+    ghost use Rattle.jj_globs.specs.GlobMeaning.{GlobSpec};
 
     ghost Value = { List GlobSpec };
 

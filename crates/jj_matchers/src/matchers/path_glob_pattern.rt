@@ -1,11 +1,11 @@
 //! The globs of paths.
 ghost use Rattle.std.specs.Prelude.{◌≡◌, ◌==◌, true, false, IsOk, OnOk, MatchResult};
 ghost use Rattle.std.specs.List.{list_all};
-ghost use Rattle.jj_matchers.specs.GlobText.{tokens_of};
-ghost use Rattle.jj_matchers.specs.GlobReads.{IsReadingFault};
+ghost use Rattle.jj_globs.specs.GlobText.{tokens_of};
+ghost use Rattle.jj_globs.specs.GlobReads.{IsReadingFault};
 ghost use Rattle.jj_matchers.specs.Patterns.{is_match, is_prefix_match, is_stars};
 
-use crate::glob::{Glob, GlobError};
+use jj_globs::glob::{Glob, GlobError};
 use std::alloc::{AllocError, Global};
 use std::marker::Model;
 use std::rc::Rc;
@@ -17,7 +17,7 @@ pub struct PathGlobPattern {
 }
 
 impl Model for PathGlobPattern {
-    ghost use Rattle.jj_matchers.specs.GlobMeaning.{GlobSpec};
+    ghost use Rattle.jj_globs.specs.GlobMeaning.{GlobSpec};
 
     ghost Value = { GlobSpec };
 

@@ -2,7 +2,7 @@ use Rattle.std.proofs.Common.{◌≡◌, List, ◌++◌, [], ◌∷◌, ap, refl
 use Rattle.std.specs.Result.{IsOk, MatchResult}
 use Rattle.jj_paths.specs.Names.{path_of}
 use Rattle.jj_paths.specs.Tree.{Tree, IsEdited}
-use Rattle.jj_matchers.specs.GlobMeaning.{GlobSpec}
+use Rattle.jj_globs.specs.GlobMeaning.{GlobSpec}
 use Rattle.jj_matchers.proofs.PatternAdds.{IsBare, adds-edited}
 use Rattle.jj_matchers.proofs.matchers.globs_matcher.add_pattern.Goals as goal
 

@@ -1,7 +1,7 @@
 use Rattle.std.proofs.Common.{◌≡◌, ◌∙◌, ap, sym, refl, Bool, false, List, [], ◌∷◌}
 use Rattle.std.specs.List.{list_any}
 use Rattle.jj_paths.specs.Paths.{Path}
-use Rattle.jj_matchers.specs.GlobMeaning.{GlobSpec}
+use Rattle.jj_globs.specs.GlobMeaning.{GlobSpec}
 use Rattle.jj_matchers.specs.Patterns.{accepts_tail}
 use Rattle.jj_matchers.proofs.matchers.dir_patterns.DirPatterns.accept.Goals as goal
 

@@ -6,7 +6,7 @@ use Rattle.jj_paths.specs.Paths.{Path}
 use Rattle.jj_paths.specs.Names.{path_of}
 use Rattle.jj_paths.specs.Tree.{Tree}
 use Rattle.jj_paths.specs.Children.{walk_left}
-use Rattle.jj_matchers.specs.GlobMeaning.{GlobSpec}
+use Rattle.jj_globs.specs.GlobMeaning.{GlobSpec}
 use Rattle.jj_matchers.specs.Patterns.{covers_tail, tail_passes, is_covered}
 use Rattle.jj_matchers.specs.PatternTree.{patterns_of}
 use Rattle.jj_matchers.proofs.PatternTrees.{way_passes}

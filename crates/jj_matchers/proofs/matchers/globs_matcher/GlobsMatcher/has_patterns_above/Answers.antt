@@ -5,7 +5,7 @@ use Rattle.jj_paths.specs.Paths.{Path}
 use Rattle.jj_paths.specs.Names.{path_of}
 use Rattle.jj_paths.specs.Tree.{Tree}
 use Rattle.jj_paths.specs.Children.{walk_left}
-use Rattle.jj_matchers.specs.GlobMeaning.{GlobSpec}
+use Rattle.jj_globs.specs.GlobMeaning.{GlobSpec}
 use Rattle.jj_matchers.specs.Wanted.{has_prefix}
 use Rattle.jj_matchers.specs.Patterns.{pattern_dirs}
 use Rattle.jj_matchers.specs.PatternTree.{has_globs}

@@ -8,7 +8,7 @@ use Rattle.jj_paths.specs.declared.repo_path.RepoPath.{RepoPath}
 use Rattle.jj_paths.specs.Names.{path_of}
 use Rattle.jj_paths.specs.Orders.{path_eq}
 use Rattle.jj_matchers.specs.declared.matchers.path_glob_pattern.PathGlobPattern.{PathGlobPattern}
-use Rattle.jj_matchers.specs.GlobMeaning.{GlobSpec}
+use Rattle.jj_globs.specs.GlobMeaning.{GlobSpec}
 use Rattle.jj_matchers.specs.Patterns.{Patterns}
 use Rattle.jj_matchers.proofs.PatternTrees.{any-map, any_more, bare_tree, bare_leads, same_patterns}
 use Rattle.jj_matchers.proofs.matchers.globs_matcher.GlobsMatcherBuilder.build.Goals as goal

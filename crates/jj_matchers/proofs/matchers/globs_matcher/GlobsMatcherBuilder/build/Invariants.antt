@@ -3,7 +3,7 @@ use Rattle.std.specs.List.{list_any}
 use Rattle.jj_paths.specs.Paths.{Path}
 use Rattle.jj_paths.specs.Names.{path_of}
 use Rattle.jj_paths.specs.Orders.{path_eq}
-use Rattle.jj_matchers.specs.GlobMeaning.{GlobSpec}
+use Rattle.jj_globs.specs.GlobMeaning.{GlobSpec}
 use Rattle.jj_matchers.specs.PatternTree.{globs_at, LeadsToGlobs}
 use Rattle.jj_matchers.proofs.matchers.globs_matcher.GlobsMatcherBuilder.build.Given as goal
 

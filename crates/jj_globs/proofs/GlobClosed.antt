@@ -1,0 +1,148 @@
+-- In the tokens that a text reads as no group is left open.
+use Rattle.std.proofs.Common.{◌≡◌, ◌∙◌, ap, sym, ℕ, zero, suc, Bool, true, false, if◌then◌else◌, ◌==◌, List, [], ◌∷◌, ◌++◌, reverse, length, Ok, Err, Result, refl, map, append-nil, append_assoc, arith}
+use Rattle.std.proofs.lemmas.List.{reverse-append}
+use Rattle.jj_globs.specs.declared.glob.token.Token.{Token}
+use Rattle.jj_globs.specs.declared.glob.token.Token.TheVariants.{Part as part, Open, Or, Close}
+use Rattle.jj_globs.specs.declared.glob.token.Part.{Part}
+use Rattle.jj_globs.specs.declared.glob.token.Part.TheVariants.{Byte, AnyByte, Star, LeadingDirs, InnerDirs, Below, Everything, OneOf}
+use Rattle.jj_globs.specs.declared.glob.sign.Place.{Place}
+use Rattle.jj_globs.specs.declared.glob.sign.Place.TheVariants.{Start, LeadingRun, InnerRun, AfterSlash, Elsewhere}
+use Rattle.jj_globs.specs.declared.glob.error.GlobError.{GlobError}
+use Rattle.jj_globs.specs.GlobText.{Word, question, asterisk, slash, open_brace, comma, close_brace, literal, class, fault, place_behind, place_behind_group, place_of, instead, two_stars, with_dirs, with_last_dirs, ends_sequence, with_or, with_close, closes_nothing, whole, read, tokens_of, words, sign_of}
+use Rattle.jj_globs.specs.GlobMeaning.{Sequence, Alternatives, Reading, before, before_or, before_open, reading_of}
+
+-- so many groups are open behind these tokens, the last first
+abbrev pub HasOpen : List Token → ℕ → Type 0
+HasOpen [] n = n ≡ 0
+HasOpen (part p ∷ ts) n = HasOpen ts n
+HasOpen (Or ∷ ts) n = HasOpen ts n
+HasOpen (Close ∷ ts) n = HasOpen ts (suc n)
+HasOpen (Open ∷ ts) zero = ⊥
+HasOpen (Open ∷ ts) (suc n) = HasOpen ts n
+
+-- 1. Each step of the reader keeps the number of open groups.
+
+open-instead : (ts : List Token) (n : ℕ) (p : Part) → (place_behind ts ≡ Start → ⊥) → (place_behind ts ≡ Elsewhere → ⊥) → HasOpen ts n → HasOpen (instead p ts) n
+open-instead [] n p h k o = o
+open-instead (part q ∷ ts) n p h k o = o
+open-instead (Or ∷ ts) n p h k o = absurd (h refl)
+open-instead (Close ∷ ts) n p h k o = absurd (k refl)
+open-instead (Open ∷ ts) n p h k o = absurd (h refl)
+
+dirs-at : (place : Place) (ts : List Token) (n : ℕ) → place_behind ts ≡ place → HasOpen ts n → HasOpen (with_dirs place ts) n
+dirs-at Start ts n e o = o
+dirs-at LeadingRun ts n e o = o
+dirs-at InnerRun ts n e o = o
+dirs-at AfterSlash ts n e o = open-instead ts n InnerDirs (λ h. let k : AfterSlash ≡ Start = sym e ∙ h in cc) (λ h. let k : AfterSlash ≡ Elsewhere = sym e ∙ h in cc) o
+dirs-at Elsewhere ts n e o = o
+
+dirs-behind_group : (place : Place) (ts : List Token) (n : ℕ) → HasOpen ts n → HasOpen (with_dirs (place_behind_group place) ts) n
+dirs-behind_group Start ts n o = o
+dirs-behind_group place ts n o = o
+
+open-dirs : (e : Bool) (ts : List Token) (n : ℕ) → HasOpen ts n → HasOpen (with_dirs (place_of e ts) ts) n
+open-dirs true ts n o = dirs-behind_group (place_behind ts) ts n o
+open-dirs false ts n o = dirs-at (place_behind ts) ts n refl o
+
+last-at : (place : Place) (ts : List Token) (n : ℕ) → place_behind ts ≡ place → HasOpen ts n → HasOpen (with_last_dirs n place ts) n
+last-at Start ts zero e o = o
+last-at Start ts (suc n) e o = o
+last-at LeadingRun ts zero e o = open-instead ts zero Everything (λ h. let k : LeadingRun ≡ Start = sym e ∙ h in cc) (λ h. let k : LeadingRun ≡ Elsewhere = sym e ∙ h in cc) o
+last-at LeadingRun ts (suc n) e o = o
+last-at InnerRun ts zero e o = open-instead ts zero Below (λ h. let k : InnerRun ≡ Start = sym e ∙ h in cc) (λ h. let k : InnerRun ≡ Elsewhere = sym e ∙ h in cc) o
+last-at InnerRun ts (suc n) e o = open-instead ts (suc n) Below (λ h. let k : InnerRun ≡ Start = sym e ∙ h in cc) (λ h. let k : InnerRun ≡ Elsewhere = sym e ∙ h in cc) o
+last-at AfterSlash ts zero e o = open-instead ts zero Below (λ h. let k : AfterSlash ≡ Start = sym e ∙ h in cc) (λ h. let k : AfterSlash ≡ Elsewhere = sym e ∙ h in cc) o
+last-at AfterSlash ts (suc n) e o = open-instead ts (suc n) Below (λ h. let k : AfterSlash ≡ Start = sym e ∙ h in cc) (λ h. let k : AfterSlash ≡ Elsewhere = sym e ∙ h in cc) o
+last-at Elsewhere ts zero e o = o
+last-at Elsewhere ts (suc n) e o = o
+
+last-behind_group : (place : Place) (ts : List Token) (n : ℕ) → HasOpen ts n → HasOpen (with_last_dirs n (place_behind_group place) ts) n
+last-behind_group Start ts zero o = o
+last-behind_group Start ts (suc n) o = o
+last-behind_group LeadingRun ts zero o = o
+last-behind_group LeadingRun ts (suc n) o = o
+last-behind_group InnerRun ts zero o = o
+last-behind_group InnerRun ts (suc n) o = o
+last-behind_group AfterSlash ts zero o = o
+last-behind_group AfterSlash ts (suc n) o = o
+last-behind_group Elsewhere ts zero o = o
+last-behind_group Elsewhere ts (suc n) o = o
+
+open-last : (e : Bool) (ts : List Token) (n : ℕ) → HasOpen ts n → HasOpen (with_last_dirs n (place_of e ts) ts) n
+open-last true ts n o = last-behind_group (place_behind ts) ts n o
+open-last false ts n o = last-at (place_behind ts) ts n refl o
+
+open-stars : (ends e : Bool) (ts : List Token) (n : ℕ) → HasOpen ts n → HasOpen (if ends then with_last_dirs n (place_of e ts) ts else two_stars ts) n
+open-stars true e ts n o = open-last e ts n o
+open-stars false e ts n o = o
+
+open-or : (ts : List Token) (n : ℕ) → HasOpen ts n → HasOpen (with_or ts) n
+open-or [] n o = o
+open-or (part p ∷ ts) n o = o
+open-or (Or ∷ ts) n o = o
+open-or (Close ∷ ts) n o = o
+open-or (Open ∷ ts) zero o = o
+open-or (Open ∷ ts) (suc n) o = o
+
+open-close : (ts : List Token) (n : ℕ) → HasOpen ts (suc n) → HasOpen (with_close ts) n
+open-close [] n o = o
+open-close (part p ∷ ts) n o = o
+open-close (Or ∷ ts) n o = o
+open-close (Close ∷ ts) n o = o
+open-close (Open ∷ ts) n o = o
+
+-- 2. The reading of tokens in which no group is open has nothing outside.
+
+outer-or : (s : Sequence) (gs : List (Alternatives × Sequence)) → length (before_or s gs).outer ≡ length gs
+outer-or s [] = refl
+outer-or s (g ∷ gs) = refl
+
+open-front : (ts : List Token) (s : Sequence) (gs : List (Alternatives × Sequence)) → HasOpen (Open ∷ ts) (length gs) → HasOpen ts (length (before_open s gs).outer)
+open-front ts s [] o = absurd o
+open-front ts s (g ∷ gs) o = o
+
+shift : (t : Token) (ts more : List Token) → reverse (t ∷ ts) ++ more ≡ reverse ts ++ t ∷ more
+shift t ts more = rw (reverse-append (t ∷ []) ts) (append_assoc (reverse ts) (t ∷ []) more)
+
+outer-front : (ts more : List Token) → HasOpen ts (length (reading_of more).outer) → length (reading_of (reverse ts ++ more)).outer ≡ 0
+outer-front [] more o = o
+outer-front (part p ∷ ts) more o = rw (shift (part p) ts more) (outer-front ts (part p ∷ more) o)
+outer-front (Or ∷ ts) more o = rw (shift Or ts more) (outer-front ts (Or ∷ more) (rw (outer-or (reading_of more).here (reading_of more).outer) o))
+outer-front (Close ∷ ts) more o = rw (shift Close ts more) (outer-front ts (Close ∷ more) o)
+outer-front (Open ∷ ts) more o = rw (shift Open ts more) (outer-front ts (Open ∷ more) (open-front ts (reading_of more).here (reading_of more).outer o))
+
+-- 3. The whole text.
+
+no_items : {X : Type 0} → (xs : List X) → length xs ≡ 0 → xs ≡ []
+no_items [] h = refl
+no_items (x ∷ xs) h = absurd (let k : ⊥ = omega (arith, h) in k)
+
+closed-reverse : (ts : List Token) → HasOpen ts 0 → (reading_of (reverse ts)).outer ≡ []
+closed-reverse ts o = no_items (reading_of (reverse ts)).outer (let k = outer-front ts [] o in rw (append-nil (reverse ts)) at k)
+
+closed-whole : (ts : List Token) → HasOpen ts 0 → (reading_of (whole ts)).outer ≡ []
+closed-whole (part LeadingDirs ∷ []) o = refl
+closed-whole ts o = closed-reverse ts o
+
+pub closed-read : (n : ℕ) (e : Bool) (ts : List Token) (ws : List Word) (out : List Token) → HasOpen ts n → read n e ts ws ≡ Ok out → (reading_of out).outer ≡ []
+unfolding read
+closed-read zero e ts [] out o r = let same : whole ts ≡ out = cc in rw (← same) (closed-whole ts o)
+closed-read (suc n) e ts [] out o r = cc
+closed-read n e ts (question ∷ ws) out o r = closed-read n false (part AnyByte ∷ ts) ws out o r
+closed-read n e ts (asterisk ∷ asterisk ∷ slash ∷ ws) out o r = closed-read n false (with_dirs (place_of e ts) ts) ws out (open-dirs e ts n o) r
+closed-read n e ts (asterisk ∷ asterisk ∷ ws) out o r =
+    closed-read n false (if ends_sequence n ws then with_last_dirs n (place_of e ts) ts else two_stars ts) ws out (open-stars (ends_sequence n ws) e ts n o) r
+closed-read n e ts (asterisk ∷ ws) out o r = closed-read n false (part Star ∷ ts) ws out o r
+closed-read n e ts (slash ∷ ws) out o r = closed-read n false (part (Byte 47) ∷ ts) ws out o r
+closed-read n e ts (literal b ∷ ws) out o r = closed-read n false (part (Byte b) ∷ ts) ws out o r
+closed-read n e ts (class negated ranges ∷ ws) out o r = closed-read n false (part (OneOf (negated, ranges)) ∷ ts) ws out o r
+closed-read n e ts (open_brace ∷ ws) out o r = closed-read (suc n) false (Open ∷ ts) ws out o r
+closed-read zero e ts (comma ∷ ws) out o r = closed-read zero false (part (Byte 44) ∷ ts) ws out o r
+closed-read (suc n) e ts (comma ∷ ws) out o r = closed-read (suc n) false (with_or ts) ws out (open-or ts (suc n) o) r
+closed-read zero e ts (close_brace ∷ ws) out o r = cc
+closed-read (suc n) e ts (close_brace ∷ ws) out o r = closed-read n (closes_nothing ts) (with_close ts) ws out (open-close ts n o) r
+closed-read n e ts (fault g ∷ ws) out o r = cc
+
+pub closed-tokens_of : (text : List ℕ) (ts : List Token) → tokens_of text ≡ Ok ts → (reading_of ts).outer ≡ []
+unfolding tokens_of
+closed-tokens_of text ts r = closed-read 0 false [] (words (map sign_of text)) ts refl r

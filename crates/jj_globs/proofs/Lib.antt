@@ -1,0 +1,10 @@
+pub mod GlobRows
+pub mod GlobSound
+pub mod GlobTable
+pub mod GlobClasses
+pub mod GlobPuts
+pub mod GlobSteps
+pub mod GlobClosed
+pub mod GlobBack
+pub mod GlobPrefix
+pub mod GlobEscapes

@@ -1,0 +1,12 @@
+use Rattle.std.proofs.Common.{◌≡◌, ◌≤◌, ◌+◌, ℕ, length, map, reverse}
+use Rattle.jj_globs.specs.GlobText.{sign_of, words, read, tokens_of}
+use Rattle.jj_globs.proofs.glob.reader.read_tokens.Given as goal
+
+abbrev pub invariant-loop-sign : goal.invariant-loop-sign
+invariant-loop-sign l = record {
+  fits : l.open_groups + length l.rest ≤ length l.fn.text;
+  reads : tokens_of l.fn.text ≡ read l.open_groups l.is_behind_group (reverse l.tokens.items) (words (map sign_of l.rest));
+}
+
+abbrev pub decreases-loop-sign : goal.decreases-loop-sign
+decreases-loop-sign l = length l.rest

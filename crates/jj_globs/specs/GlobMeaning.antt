@@ -1,0 +1,125 @@
+-- Which bytes a glob stands for.
+use Rattle.std.specs.Prelude.{◌≡◌, ◌≢◌, ℕ, ◌+◌, ◌-◌, Bool, true, false, not, IsTrue, ◌==◌, ◌&&◌, ◌||◌, nat_le, if◌then◌else◌, ◌⊎◌, List, [], ◌∷◌, ◌++◌, Result, Ok, All}
+use Rattle.std.specs.List.{list_any}
+use Rattle.jj_globs.specs.declared.glob.token.ByteRange.{ByteRange}
+use Rattle.jj_globs.specs.declared.glob.token.Part.{Part}
+use Rattle.jj_globs.specs.declared.glob.token.Part.TheVariants.{Byte, AnyByte, Star, LeadingDirs, InnerDirs, Below, Everything, OneOf}
+use Rattle.jj_globs.specs.declared.glob.token.Token.{Token}
+use Rattle.jj_globs.specs.declared.glob.token.Token.TheVariants.{Part as part, Open, Or, Close}
+use Rattle.jj_globs.specs.declared.glob.token.Options.{Options}
+use Rattle.jj_globs.specs.GlobText.{tokens_of}
+
+-- 1. One byte.
+
+-- the byte, with an ASCII capital as its small letter
+abbrev pub lower : ℕ → ℕ
+lower b = if nat_le 65 b && nat_le b 90 then b + 32 else b
+
+-- the byte, with a small ASCII letter as its capital
+abbrev pub upper : ℕ → ℕ
+upper b = if nat_le 97 b && nat_le b 122 then b - 32 else b
+
+abbrev pub same_byte : Options → ℕ → ℕ → Bool
+same_byte o a b = if o.icase then lower a == lower b else a == b
+
+-- `?` and `*` stand for this byte
+abbrev pub is_plain : Options → ℕ → Bool
+is_plain o b = not (o.separator && (b == 47))
+
+abbrev pub in_range : ℕ → ByteRange → Bool
+in_range b r = nat_le r.first b && nat_le b r.last
+
+abbrev pub any_range : ℕ → List ByteRange → Bool
+any_range b rs = list_any (in_range b) rs
+
+abbrev pub in_ranges : Options → List ByteRange → ℕ → Bool
+in_ranges o rs b =
+    any_range b rs || (o.icase && (any_range (lower b) rs || any_range (upper b) rs))
+
+-- the class holds the byte
+abbrev pub in_class : Options → Bool × List ByteRange → ℕ → Bool
+in_class o (negated, rs) b = if negated then not (in_ranges o rs b) else in_ranges o rs b
+
+-- 2. Parts.
+
+-- the bytes are one, which passes the test
+abbrev pub IsOne : (ℕ → Bool) → List ℕ → Type 0
+IsOne p bytes = (b : ℕ) × (bytes ≡ b ∷ []) × IsTrue (p b)
+
+abbrev pub StandsAlone : Options → Part → List ℕ → Type 0
+StandsAlone o (Byte c) bytes = IsOne (same_byte o c) bytes
+StandsAlone o AnyByte bytes = IsOne (is_plain o) bytes
+StandsAlone o (OneOf c) bytes = IsOne (in_class o c) bytes
+StandsAlone o Star bytes = All (λ b. IsTrue (is_plain o b)) bytes
+StandsAlone o LeadingDirs bytes = (bytes ≡ []) ⊎ ((dirs : List ℕ) × (bytes ≡ dirs ++ 47 ∷ []))
+StandsAlone o InnerDirs bytes = (bytes ≡ 47 ∷ []) ⊎ ((dirs : List ℕ) × (bytes ≡ 47 ∷ (dirs ++ 47 ∷ [])))
+StandsAlone o Below bytes = (rest : List ℕ) × (bytes ≡ 47 ∷ rest)
+StandsAlone o Everything bytes = Unit {0}
+
+-- 3. The tree that the brackets of a token list show.
+
+mutual
+  -- a sequence: its first token, and the rest
+  pub data Sequence : Type 0 where
+    done : Sequence
+    next : Part → Sequence → Sequence
+    group : Alternatives → Sequence → Sequence
+
+  pub data Alternatives : Type 0 where
+    no_more : Alternatives
+    either : Sequence → Alternatives → Alternatives
+
+-- what stands from a place on, up to the end of its group, and then for each group that is open there,
+-- from the inside: the alternatives that are still to come, and what follows the group
+pub record Reading : Type 0 where
+  pub here : Sequence
+  pub outer : List (Alternatives × Sequence)
+
+-- a `,`: an alternative begins behind it, and what stands here ends
+abbrev pub before_or : Sequence → List (Alternatives × Sequence) → Reading
+before_or s [] = record { here = s; outer = [] }
+before_or s (g ∷ gs) = record { here = done; outer = (either s g.0, g.1) ∷ gs }
+
+-- a `{`: its group is whole
+abbrev pub before_open : Sequence → List (Alternatives × Sequence) → Reading
+before_open s [] = record { here = s; outer = [] }
+before_open s (g ∷ gs) = record { here = group (either s g.0) g.1; outer = gs }
+
+abbrev pub before : Token → Reading → Reading
+before (part p) r = record { here = next p r.here; outer = r.outer }
+before Close r = record { here = done; outer = (no_more, r.here) ∷ r.outer }
+before Or r = before_or r.here r.outer
+before Open r = before_open r.here r.outer
+
+abbrev pub reading_of : List Token → Reading
+reading_of [] = record { here = done; outer = [] }
+reading_of (t ∷ ts) = before t (reading_of ts)
+
+-- 4. Globs.
+
+-- the bytes are a part of which P holds, and a rest of which Q holds
+abbrev pub IsSplit : (List ℕ → Type 0) → (List ℕ → Type 0) → List ℕ → Type 0
+IsSplit P Q bytes = (front rest : List ℕ) × (bytes ≡ front ++ rest) × P front × Q rest
+
+abbrev mutual
+  pub Stands : Options → Sequence → List ℕ → Type 0
+  Stands o done bytes = bytes ≡ []
+  Stands o (next p s) bytes = IsSplit (StandsAlone o p) (Stands o s) bytes
+  Stands o (group a s) bytes = IsSplit (StandsForOne o a) (Stands o s) bytes
+
+  pub StandsForOne : Options → Alternatives → List ℕ → Type 0
+  StandsForOne o no_more bytes = ⊥
+  StandsForOne o (either s a) bytes = Stands o s bytes ⊎ StandsForOne o a bytes
+
+-- a glob, as contracts see it
+pub record GlobSpec : Type 0 where
+  pub text : List ℕ
+  pub options : Options
+
+-- the glob's text reads as tokens that stand for the bytes
+abbrev pub IsMatch : GlobSpec → List ℕ → Type 0
+IsMatch g bytes = (ts : List Token) × (tokens_of g.text ≡ Ok ts) × Stands g.options (reading_of ts).here bytes
+
+-- the bytes match, or a front of them that a slash follows
+abbrev pub IsPrefixMatch : GlobSpec → List ℕ → Type 0
+IsPrefixMatch g bytes = IsMatch g bytes ⊎ ((front rest : List ℕ) × (bytes ≡ front ++ 47 ∷ rest) × IsMatch g front)

@@ -1,0 +1,90 @@
+-- A plain, slow program for the meaning of a glob: it goes back wherever a star may stand for more.
+use Rattle.std.specs.Prelude.{ℕ, Bool, true, false, ◌==◌, ◌&&◌, ◌||◌, List, [], ◌∷◌, Result, Ok, Err}
+use Rattle.jj_globs.specs.declared.glob.token.Part.{Part}
+use Rattle.jj_globs.specs.declared.glob.token.Part.TheVariants.{Byte, AnyByte, Star, LeadingDirs, InnerDirs, Below, Everything, OneOf}
+use Rattle.jj_globs.specs.declared.glob.token.Token.{Token}
+use Rattle.jj_globs.specs.declared.glob.token.Token.TheVariants.{Part as part, Open, Or, Close}
+use Rattle.jj_globs.specs.declared.glob.error.GlobError.{GlobError}
+use Rattle.jj_globs.specs.GlobText.{tokens_of}
+use Rattle.jj_globs.specs.declared.glob.token.Options.{Options}
+use Rattle.jj_globs.specs.GlobMeaning.{same_byte, is_plain, in_class}
+
+-- a test of bytes
+abbrev pub Test : Type 0
+Test = List ℕ → Bool
+
+-- one byte that passes, and then bytes that pass
+abbrev pub one : (ℕ → Bool) → Test → Test
+one p next [] = false
+one p next (b ∷ bs) = p b && next bs
+
+-- bytes that pass, and then bytes that pass
+abbrev pub many : (ℕ → Bool) → Test → Test
+many p next [] = next []
+many p next (b ∷ bs) = next (b ∷ bs) || (p b && many p next bs)
+
+-- some slash, and then bytes that pass
+abbrev pub past_slash : Test → Test
+past_slash next [] = false
+past_slash next (b ∷ bs) = ((b == 47) && next bs) || past_slash next bs
+
+abbrev pub is_slash : ℕ → Bool
+is_slash b = b == 47
+
+abbrev pub any_byte : ℕ → Bool
+any_byte b = true
+
+abbrev pub part_then : Options → Part → Test → Test
+part_then o (Byte c) next bs = one (same_byte o c) next bs
+part_then o AnyByte next bs = one (is_plain o) next bs
+part_then o (OneOf c) next bs = one (in_class o c) next bs
+part_then o Star next bs = many (is_plain o) next bs
+part_then o LeadingDirs next bs = next bs || past_slash next bs
+part_then o InnerDirs next bs = one is_slash (λ rest. next rest || past_slash next rest) bs
+part_then o Below next bs = one is_slash (many any_byte next) bs
+part_then o Everything next bs = many any_byte next bs
+
+-- what a place accepts; and for each group that is open there, what its alternatives still to come
+-- accept, and what follows it
+pub record Tests : Type 0 where
+  pub here : Test
+  pub outer : List (Test × Test)
+
+abbrev pub test_or : Test → List (Test × Test) → Tests
+test_or t [] = record { here = t; outer = [] }
+test_or t (g ∷ gs) = record { here = g.1; outer = ((λ bs. t bs || g.0 bs), g.1) ∷ gs }
+
+abbrev pub test_open : Test → List (Test × Test) → Tests
+test_open t [] = record { here = t; outer = [] }
+test_open t (g ∷ gs) = record { here = (λ bs. t bs || g.0 bs); outer = gs }
+
+abbrev pub test_before : Options → Token → Tests → Tests
+test_before o (part p) r = record { here = part_then o p r.here; outer = r.outer }
+test_before o Close r = record { here = r.here; outer = ((λ _. false), r.here) ∷ r.outer }
+test_before o Or r = test_or r.here r.outer
+test_before o Open r = test_open r.here r.outer
+
+abbrev pub is_empty : Test
+is_empty [] = true
+is_empty (b ∷ bs) = false
+
+abbrev pub tests_of : Options → List Token → Tests
+tests_of o [] = record { here = is_empty; outer = [] }
+tests_of o (t ∷ ts) = test_before o t (tests_of o ts)
+
+pub data Verdict : Type 0 where
+  yes : Verdict
+  no : Verdict
+  faulty : GlobError → Verdict
+
+abbrev pub verdict_of : Bool → Verdict
+verdict_of true = yes
+verdict_of false = no
+
+abbrev pub judge : Options → List ℕ → Result (List Token) GlobError → Verdict
+judge o bytes (Ok ts) = verdict_of ((tests_of o ts).here bytes)
+judge o bytes (Err e) = faulty e
+
+-- whether the text is a glob, and stands for the bytes
+abbrev pub matches : Options → List ℕ → List ℕ → Verdict
+matches o text bytes = judge o bytes (tokens_of text)

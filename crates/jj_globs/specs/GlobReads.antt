@@ -1,0 +1,40 @@
+-- What each step of the reader of globs has found in the words that are left.
+use Rattle.std.specs.Prelude.{◌≡◌, ℕ, zero, suc, Bool, true, false, List, [], ◌∷◌, map, Result, Err}
+use Rattle.jj_globs.specs.declared.glob.token.Token.{Token}
+use Rattle.jj_globs.specs.declared.glob.sign.Sign.{Sign}
+use Rattle.jj_globs.specs.declared.glob.sign.Sign.TheVariants.{Comma, CloseBrace}
+use Rattle.jj_globs.specs.declared.glob.token.ByteRange.{ByteRange}
+use Rattle.jj_globs.specs.declared.glob.error.GlobError.{GlobError}
+use Rattle.jj_globs.specs.declared.glob.error.GlobError.TheVariants.{Memory, UnclosedClass, InvalidRange, NonAsciiRange, UnopenedAlternates, UnclosedAlternates, DanglingEscape}
+use Rattle.jj_globs.specs.GlobText.{Word, sign_of, words, class, fault}
+
+-- the words are a class, and then those of the rest of the text
+abbrev pub IsClassRead : List Word → Bool × List ByteRange → List ℕ → Type 0
+IsClassRead found (negated, ranges) rest = found ≡ class negated ranges ∷ words (map sign_of rest)
+
+-- the words are a fault, or memory ran out, of which nothing is claimed
+abbrev pub IsFault : GlobError → List Word → Type 0
+IsFault Memory found = Unit {0}
+IsFault UnclosedClass found = found ≡ fault UnclosedClass ∷ []
+IsFault InvalidRange found = found ≡ fault InvalidRange ∷ []
+IsFault NonAsciiRange found = found ≡ fault NonAsciiRange ∷ []
+IsFault UnopenedAlternates found = found ≡ fault UnopenedAlternates ∷ []
+IsFault UnclosedAlternates found = found ≡ fault UnclosedAlternates ∷ []
+IsFault DanglingEscape found = found ≡ fault DanglingEscape ∷ []
+
+-- the text reads as its first fault, or memory ran out, of which nothing is claimed
+abbrev pub IsReadingFault : GlobError → Result (List Token) GlobError → Type 0
+IsReadingFault Memory reading = Unit {0}
+IsReadingFault UnclosedClass reading = reading ≡ Err UnclosedClass
+IsReadingFault InvalidRange reading = reading ≡ Err InvalidRange
+IsReadingFault NonAsciiRange reading = reading ≡ Err NonAsciiRange
+IsReadingFault UnopenedAlternates reading = reading ≡ Err UnopenedAlternates
+IsReadingFault UnclosedAlternates reading = reading ≡ Err UnclosedAlternates
+IsReadingFault DanglingEscape reading = reading ≡ Err DanglingEscape
+
+-- a sequence ends before these signs
+abbrev pub ends_here : ℕ → List Sign → Bool
+ends_here zero [] = true
+ends_here (suc n) (Comma ∷ s) = true
+ends_here (suc n) (CloseBrace ∷ s) = true
+ends_here n s = false

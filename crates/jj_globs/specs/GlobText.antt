@@ -1,0 +1,199 @@
+-- Which tokens a glob's text reads as, or its first fault.
+use Rattle.std.specs.Prelude.{ℕ, zero, suc, Bool, true, false, ◌||◌, nat_lt, nat_le, ◌==◌, if◌then◌else◌, List, [], ◌∷◌, ◌++◌, map, reverse, Result, Ok, Err}
+use Rattle.jj_globs.specs.declared.glob.token.ByteRange.{ByteRange}
+use Rattle.jj_globs.specs.declared.glob.token.Part.{Part}
+use Rattle.jj_globs.specs.declared.glob.token.Part.TheVariants.{Byte, AnyByte, Star, LeadingDirs, InnerDirs, Below, Everything, OneOf}
+use Rattle.jj_globs.specs.declared.glob.token.Token.{Token}
+use Rattle.jj_globs.specs.declared.glob.token.Token.TheVariants.{Part as part, Open, Or, Close}
+use Rattle.jj_globs.specs.declared.glob.sign.Sign.{Sign}
+use Rattle.jj_globs.specs.declared.glob.sign.Sign.TheVariants.{Question, Asterisk, Slash, OpenBrace, Comma, CloseBrace, OpenBracket, CloseBracket, Bang, Caret, Dash, Backslash, Other}
+use Rattle.jj_globs.specs.declared.glob.sign.Place.{Place}
+use Rattle.jj_globs.specs.declared.glob.sign.Place.TheVariants.{Start, LeadingRun, InnerRun, AfterSlash, Elsewhere}
+use Rattle.jj_globs.specs.declared.glob.error.GlobError.{GlobError}
+use Rattle.jj_globs.specs.declared.glob.error.GlobError.TheVariants.{UnclosedClass, InvalidRange, NonAsciiRange, UnopenedAlternates, UnclosedAlternates, DanglingEscape}
+
+-- 1. Signs: the bytes with a meaning in a glob by name.
+
+abbrev pub sign_of : ℕ → Sign
+sign_of b =
+    if b == 63 then Question else
+    if b == 42 then Asterisk else
+    if b == 47 then Slash else
+    if b == 123 then OpenBrace else
+    if b == 44 then Comma else
+    if b == 125 then CloseBrace else
+    if b == 91 then OpenBracket else
+    if b == 93 then CloseBracket else
+    if b == 33 then Bang else
+    if b == 94 then Caret else
+    if b == 45 then Dash else
+    if b == 92 then Backslash else Other b
+
+-- the byte of a sign
+abbrev pub byte_of : Sign → ℕ
+byte_of Question = 63
+byte_of Asterisk = 42
+byte_of Slash = 47
+byte_of OpenBrace = 123
+byte_of Comma = 44
+byte_of CloseBrace = 125
+byte_of OpenBracket = 91
+byte_of CloseBracket = 93
+byte_of Bang = 33
+byte_of Caret = 94
+byte_of Dash = 45
+byte_of Backslash = 92
+byte_of (Other b) = b
+
+-- 2. Words: escapes and classes are read. A fault is the last word.
+
+pub data Word : Type 0 where
+  question : Word
+  asterisk : Word
+  slash : Word
+  open_brace : Word
+  comma : Word
+  close_brace : Word
+  literal : ℕ → Word
+  class : Bool → List ByteRange → Word
+  fault : GlobError → Word
+
+abbrev pub single : Sign → ByteRange
+single s = record { first = byte_of s; last = byte_of s }
+
+-- the fault of a range between these bytes, if it has one
+abbrev pub range_fault : ℕ → ℕ → List Word → List Word
+range_fault first last good =
+    if nat_le 128 first || nat_le 128 last then fault NonAsciiRange ∷ [] else
+    if nat_lt last first then fault InvalidRange ∷ [] else good
+
+unfoldable mutual
+  pub words : List Sign → List Word
+  words [] = []
+  words (Question ∷ s) = question ∷ words s
+  words (Asterisk ∷ s) = asterisk ∷ words s
+  words (Slash ∷ s) = slash ∷ words s
+  words (OpenBrace ∷ s) = open_brace ∷ words s
+  words (Comma ∷ s) = comma ∷ words s
+  words (CloseBrace ∷ s) = close_brace ∷ words s
+  words (Backslash ∷ []) = fault DanglingEscape ∷ []
+  words (Backslash ∷ c ∷ s) = literal (byte_of c) ∷ words s
+  words (OpenBracket ∷ Bang ∷ s) = first_item true s
+  words (OpenBracket ∷ Caret ∷ s) = first_item true s
+  words (OpenBracket ∷ []) = fault UnclosedClass ∷ []
+  words (OpenBracket ∷ c ∷ s) = items false [] (single c) s
+  words (c ∷ s) = literal (byte_of c) ∷ words s
+
+  -- the first item of a class: every sign stands for itself
+  pub first_item : Bool → List Sign → List Word
+  first_item negated [] = fault UnclosedClass ∷ []
+  first_item negated (c ∷ s) = items negated [] (single c) s
+
+  -- the rest of a class, with its ranges so far, of which the last may still grow
+  pub items : Bool → List ByteRange → ByteRange → List Sign → List Word
+  items negated before r [] = fault UnclosedClass ∷ []
+  items negated before r (CloseBracket ∷ s) = class negated (before ++ r ∷ []) ∷ words s
+  items negated before r (Dash ∷ []) = fault UnclosedClass ∷ []
+  items negated before r (Dash ∷ CloseBracket ∷ s) = class negated (before ++ r ∷ single Dash ∷ []) ∷ words s
+  items negated before r (Dash ∷ c ∷ s) =
+      range_fault r.first (byte_of c) (items negated before (record { first = r.first; last = byte_of c }) s)
+  items negated before r (c ∷ s) = items negated (before ++ r ∷ []) (single c) s
+
+-- 3. Tokens, read with the tokens so far, the last first.
+
+-- the place behind the last token
+abbrev pub place_behind : List Token → Place
+place_behind [] = Start
+place_behind (Open ∷ ts) = Start
+place_behind (Or ∷ ts) = Start
+place_behind (part LeadingDirs ∷ ts) = LeadingRun
+place_behind (part InnerDirs ∷ ts) = InnerRun
+place_behind (part (Byte b) ∷ ts) = if b == 47 then AfterSlash else Elsewhere
+place_behind ts = Elsewhere
+
+-- the place behind a group that left no token: a slash before it does not stand right before what follows
+abbrev pub place_behind_group : Place → Place
+place_behind_group Start = Start
+place_behind_group place = Elsewhere
+
+-- where a `**` stands in its sequence, by whether a group that left no token is right before it, and the tokens
+abbrev pub place_of : Bool → List Token → Place
+place_of true ts = place_behind_group (place_behind ts)
+place_of false ts = place_behind ts
+
+-- the tokens with one more, in place of the last one
+abbrev pub instead : Part → List Token → List Token
+instead p [] = part p ∷ []
+instead p (t ∷ ts) = part p ∷ ts
+
+abbrev pub two_stars : List Token → List Token
+two_stars ts = part Star ∷ part Star ∷ ts
+
+-- the tokens after `**/`; a run such as `**/**/` counts as one
+abbrev pub with_dirs : Place → List Token → List Token
+with_dirs Start ts = part LeadingDirs ∷ ts
+with_dirs LeadingRun ts = ts
+with_dirs InnerRun ts = ts
+with_dirs AfterSlash ts = instead InnerDirs ts
+with_dirs Elsewhere ts = part (Byte 47) ∷ two_stars ts
+
+-- the tokens after a `**` that ends its sequence, which is the whole text or an alternative
+abbrev pub with_last_dirs : ℕ → Place → List Token → List Token
+with_last_dirs zero Start ts = part Everything ∷ ts
+with_last_dirs zero LeadingRun ts = instead Everything ts
+with_last_dirs (suc n) LeadingRun ts = ts
+with_last_dirs n AfterSlash ts = instead Below ts
+with_last_dirs n InnerRun ts = instead Below ts
+with_last_dirs n place ts = two_stars ts
+
+-- the rest of the text ends this sequence
+abbrev pub ends_sequence : ℕ → List Word → Bool
+ends_sequence zero [] = true
+ends_sequence (suc n) (comma ∷ ws) = true
+ends_sequence (suc n) (close_brace ∷ ws) = true
+ends_sequence n ws = false
+
+-- the tokens after a `,` in a group: an alternative without tokens is dropped
+abbrev pub with_or : List Token → List Token
+with_or (Open ∷ ts) = Open ∷ ts
+with_or (Or ∷ ts) = Or ∷ ts
+with_or ts = Or ∷ ts
+
+-- the tokens after a `}`: so is a group without alternatives
+abbrev pub with_close : List Token → List Token
+with_close (Open ∷ ts) = ts
+with_close (Or ∷ ts) = Close ∷ ts
+with_close ts = Close ∷ ts
+
+-- the tokens of the whole text, the first first: `**/` alone stands for any bytes
+abbrev pub whole : List Token → List Token
+whole (part LeadingDirs ∷ []) = part Everything ∷ []
+whole ts = reverse ts
+
+-- the `}` that is next closes a group without alternatives
+abbrev pub closes_nothing : List Token → Bool
+closes_nothing (Open ∷ ts) = true
+closes_nothing ts = false
+
+-- from the number of open groups, whether a group that left no token is right before, and the tokens so far
+unfoldable pub read : ℕ → Bool → List Token → List Word → Result (List Token) GlobError
+read zero e ts [] = Ok (whole ts)
+read (suc n) e ts [] = Err UnclosedAlternates
+read n e ts (question ∷ ws) = read n false (part AnyByte ∷ ts) ws
+read n e ts (asterisk ∷ asterisk ∷ slash ∷ ws) = read n false (with_dirs (place_of e ts) ts) ws
+read n e ts (asterisk ∷ asterisk ∷ ws) =
+    read n false (if ends_sequence n ws then with_last_dirs n (place_of e ts) ts else two_stars ts) ws
+read n e ts (asterisk ∷ ws) = read n false (part Star ∷ ts) ws
+read n e ts (slash ∷ ws) = read n false (part (Byte 47) ∷ ts) ws
+read n e ts (literal b ∷ ws) = read n false (part (Byte b) ∷ ts) ws
+read n e ts (class negated ranges ∷ ws) = read n false (part (OneOf (negated, ranges)) ∷ ts) ws
+read n e ts (open_brace ∷ ws) = read (suc n) false (Open ∷ ts) ws
+read zero e ts (comma ∷ ws) = read zero false (part (Byte 44) ∷ ts) ws
+read (suc n) e ts (comma ∷ ws) = read (suc n) false (with_or ts) ws
+read zero e ts (close_brace ∷ ws) = Err UnopenedAlternates
+read (suc n) e ts (close_brace ∷ ws) = read n (closes_nothing ts) (with_close ts) ws
+read n e ts (fault g ∷ ws) = Err g
+
+-- what a text reads as: its tokens, or its first fault
+unfoldable pub tokens_of : List ℕ → Result (List Token) GlobError
+tokens_of text = read zero false [] (words (map sign_of text))

@@ -1,0 +1,90 @@
+//! Reading a class such as `[a-z]` or `[!.]`.
+ghost use Rattle.std.specs.Prelude.{◌≡◌, ◌≢◌, ◌<◌, ℕ, List, [], ◌∷◌, ◌++◌, map, length, MatchOption, MatchResult, IfOk, IfErr, ◌≤◌};
+ghost use Rattle.jj_globs.specs.GlobText.{sign_of, words, items, first_item, single, class, fault, range_fault};
+ghost use Rattle.jj_globs.specs.GlobReads.{IsClassRead, IsFault};
+
+use crate::glob::error::GlobError;
+use crate::glob::sign::{Sign, next_sign};
+use crate::glob::token::{ByteRange, Class};
+use std::alloc::Global;
+
+/// A class, from behind its `[` on, and what follows it.
+pub(crate) fn read_class<'a>(alloc: Global, text: &'a [u8]) -> Result<(Class, &'a [u8]), GlobError>
+    ensures read { MatchResult result
+        (λ read. IsClassRead (words (Sign.OpenBracket ∷ map sign_of text.now)) read.0 read.1.now)
+        (λ error. IsFault error (words (Sign.OpenBracket ∷ map sign_of text.now))) }
+    ensures shorter { IfOk result (λ read. length read.1.now ≤ length text.now) }
+{
+    let Some((sign, rest)) = next_sign(text) else {
+        return Err(GlobError::UnclosedClass);
+    };
+    match sign {
+        Sign::Bang => read_items(alloc, true, rest),
+        Sign::Caret => read_items(alloc, true, rest),
+        _ => read_items(alloc, false, text),
+    }
+}
+
+// The items of a class, from its first one on: every sign stands for itself there.
+fn read_items<'a>(
+    alloc: Global,
+    negated: bool,
+    text: &'a [u8],
+) -> Result<(Class, &'a [u8]), GlobError>
+    ensures read { MatchResult result
+        (λ read. IsClassRead (first_item negated (map sign_of text.now)) read.0 read.1.now)
+        (λ error. IsFault error (first_item negated (map sign_of text.now))) }
+    ensures shorter { IfOk result (λ read. length read.1.now ≤ length text.now) }
+{
+    let Some((first, mut rest)) = next_sign(text) else {
+        return Err(GlobError::UnclosedClass);
+    };
+    let mut ranges = Vec::new(alloc);
+    let mut range = ByteRange::one(first.byte());
+    while let Some((sign, behind)) = next_sign(rest) {
+        rest = behind;
+        match sign {
+            Sign::CloseBracket => {
+                ranges.push(range)?;
+                return Ok((Class::new(negated, ranges), rest));
+            }
+            Sign::Dash => {
+                let Some((bound, behind)) = next_sign(rest) else {
+                    return Err(GlobError::UnclosedClass);
+                };
+                rest = behind;
+                match bound {
+                    Sign::CloseBracket => {
+                        ranges.push(range)?;
+                        ranges.push(ByteRange::one(b'-'))?;
+                        return Ok((Class::new(negated, ranges), rest));
+                    }
+                    bound => match ranged(range.first, bound.byte()) {
+                        Ok(wider) => range = wider,
+                        Err(error) => return Err(error),
+                    },
+                }
+            }
+            item => {
+                ranges.push(range)?;
+                range = ByteRange::one(item.byte());
+            }
+        }
+    }
+    Err(GlobError::UnclosedClass)
+}
+
+// The range between two bytes of a class.
+fn ranged(first: u8, last: u8) -> Result<ByteRange, GlobError>
+    ensures { MatchResult result
+        (λ range. (range ≡ record { first = first; last = last }) × ((good : _) → range_fault first last good ≡ good))
+        (λ error. (good : _) → IsFault error (range_fault first last good)) }
+{
+    if first >= 128 || last >= 128 {
+        Err(GlobError::NonAsciiRange)
+    } else if last < first {
+        Err(GlobError::InvalidRange)
+    } else {
+        Ok(ByteRange { first, last })
+    }
+}

@@ -1,0 +1,44 @@
+//! Why a text is no glob.
+use std::alloc::{AllocError, AllocFailed};
+use thiserror::Error;
+
+/// Why a text is no glob: the first fault, read from left to right.
+#[derive(Debug, Drop, PartialEq, Eq, Error)]
+pub enum GlobError {
+    #[error("unclosed character class; missing ']'")]
+    UnclosedClass,
+    #[error("invalid range; its end is below its start")]
+    InvalidRange,
+    #[error("invalid range; a bound is no ASCII character")]
+    NonAsciiRange,
+    #[error("unopened alternate group; missing '{{' (maybe escape '}}' with '[}}]'?)")]
+    UnopenedAlternates,
+    #[error("unclosed alternate group; missing '}}' (maybe escape '{{' with '[{{]'?)")]
+    UnclosedAlternates,
+    #[error("dangling '\\'")]
+    DanglingEscape,
+    #[error("out of memory")]
+    Memory,
+}
+
+impl From<AllocError> for GlobError {
+    ghost use Rattle.std.specs.Prelude.{◌≡◌};
+    ghost use Rattle.jj_globs.specs.declared.glob.error.GlobError.TheVariants.{Memory};
+
+    ghost from_gives = { λ _ error. error ≡ Memory };
+
+    fn from(_refused: AllocError) -> Self {
+        GlobError::Memory
+    }
+}
+
+impl<T: Drop> From<AllocFailed<T>> for GlobError {
+    ghost use Rattle.std.specs.Prelude.{◌≡◌};
+    ghost use Rattle.jj_globs.specs.declared.glob.error.GlobError.TheVariants.{Memory};
+
+    ghost from_gives = { λ _ error. error ≡ Memory };
+
+    fn from(_refused: AllocFailed<T>) -> Self {
+        GlobError::Memory
+    }
+}

@@ -1,0 +1,41 @@
+//! A text as a glob that stands for it alone.
+ghost use Rattle.std.specs.Prelude.{◌≡◌, ◌++◌, IfOk, OnOk, encode_utf8};
+ghost use Rattle.std.specs.List.{flat_map};
+ghost use Rattle.std.specs.String.{string_bytes};
+ghost use Rattle.jj_globs.specs.GlobEscape.{escaped, escaped_byte, is_special};
+
+use std::alloc::{AllocError, Global};
+
+/// Whether the byte is one of `? * [ ] { } \`, which do not stand for themselves in a glob.
+pub fn is_special(byte: u8) -> bool
+    ensures { result ≡ is_special byte }
+{
+    matches!(byte, b'?' | b'*' | b'[' | b']' | b'{' | b'}' | b'\\')
+}
+
+// Writes the character as it stands for itself.
+fn push_escaped(glob: &mut String, c: char) -> Result<(), AllocError>
+    ensures { OnOk result (string_bytes glob.new ≡ string_bytes glob.old ++ flat_map escaped_byte (encode_utf8 c)) }
+{
+    match c {
+        '?' => glob.push_str("[?]"),
+        '*' => glob.push_str("[*]"),
+        '[' => glob.push_str("[[]"),
+        ']' => glob.push_str("[]]"),
+        '{' => glob.push_str("[{]"),
+        '}' => glob.push_str("[}]"),
+        '\\' => glob.push_str("[\\]"),
+        c => glob.push(c),
+    }
+}
+
+/// The text with each of `? * [ ] { } \` in brackets: a glob that stands for the text alone.
+pub fn escape(alloc: Global, text: &str) -> Result<String, AllocError>
+    ensures { IfOk result (λ glob. string_bytes glob ≡ escaped text.now) }
+{
+    let mut glob = String::with_capacity(alloc, text.len())?;
+    for c in text.chars() {
+        push_escaped(&mut glob, c)?;
+    }
+    Ok(glob)
+}

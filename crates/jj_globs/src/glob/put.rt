@@ -1,0 +1,173 @@
+//! The tokens so far, after one more piece of a glob's text.
+ghost use Rattle.std.specs.Prelude.{◌≡◌, ◌<◌, ℕ, Bool, true, false, List, [], ◌∷◌, ◌++◌, reverse, OnOk, IfOk};
+ghost use Rattle.jj_globs.specs.GlobKept.{prefix_end};
+ghost use Rattle.jj_globs.specs.GlobText.{place_behind, place_behind_group, place_of, with_or, with_close, with_dirs, with_last_dirs, two_stars, instead, closes_nothing, whole};
+
+use crate::glob::sign::Place;
+use crate::glob::token::{Part, Token};
+use std::alloc::AllocError;
+
+/// A `,`, which stands for itself where no group is open.
+pub(crate) fn put_comma(tokens: &mut Vec<Token>, open_groups: usize) -> Result<(), AllocError>
+    ensures plain { OnOk result (open_groups ≡ 0 → reverse tokens.new.items ≡ Token.Part (Part.Byte 44) ∷ reverse tokens.old.items) }
+    ensures group { OnOk result (0 < open_groups → reverse tokens.new.items ≡ with_or (reverse tokens.old.items)) }
+{
+    if open_groups > 0 {
+        return put_or(tokens);
+    }
+    tokens.push(Token::Part(Part::Byte(b',')))?;
+    Ok(())
+}
+
+/// The end of the whole text: `**/` alone stands for any bytes.
+pub(crate) fn put_end(tokens: &mut Vec<Token>) -> Result<(), AllocError>
+    ensures { OnOk result (tokens.new.items ≡ whole (reverse tokens.old.items)) }
+{
+    let read = tokens.as_slice();
+    if read.len() == 1 {
+        match place_behind(read) {
+            Place::LeadingRun => return put_instead(tokens, Part::Everything),
+            _ => {}
+        }
+    }
+    Ok(())
+}
+
+// The `,` of a group ends an alternative: one without tokens is dropped.
+fn put_or(tokens: &mut Vec<Token>) -> Result<(), AllocError>
+    ensures { OnOk result (reverse tokens.new.items ≡ with_or (reverse tokens.old.items)) }
+{
+    match tokens.pop() {
+        None => tokens.push(Token::Or)?,
+        Some(Token::Open) => tokens.push(Token::Open)?,
+        Some(Token::Or) => tokens.push(Token::Or)?,
+        Some(last) => {
+            tokens.push(last)?;
+            tokens.push(Token::Or)?;
+        }
+    }
+    Ok(())
+}
+
+/// The `}` of a group: an alternative without tokens is dropped, and so is a group without alternatives. Tells whether
+/// the group was dropped.
+pub(crate) fn put_close(tokens: &mut Vec<Token>) -> Result<bool, AllocError>
+    ensures tokens { OnOk result (reverse tokens.new.items ≡ with_close (reverse tokens.old.items)) }
+    ensures dropped { IfOk result (λ dropped. dropped ≡ closes_nothing (reverse tokens.old.items)) }
+{
+    match tokens.pop() {
+        None => tokens.push(Token::Close)?,
+        Some(Token::Open) => return Ok(true),
+        Some(Token::Or) => tokens.push(Token::Close)?,
+        Some(last) => {
+            tokens.push(last)?;
+            tokens.push(Token::Close)?;
+        }
+    }
+    Ok(false)
+}
+
+/// A `**/` at a place.
+pub(crate) fn put_dirs(tokens: &mut Vec<Token>, place: Place) -> Result<(), AllocError>
+    ensures { OnOk result (reverse tokens.new.items ≡ with_dirs place (reverse tokens.old.items)) }
+{
+    match place {
+        Place::Start => tokens.push(Token::Part(Part::LeadingDirs))?,
+        Place::LeadingRun => {}
+        Place::InnerRun => {}
+        Place::AfterSlash => put_instead(tokens, Part::InnerDirs)?,
+        Place::Elsewhere => {
+            put_two_stars(tokens)?;
+            tokens.push(Token::Part(Part::Byte(b'/')))?;
+        }
+    }
+    Ok(())
+}
+
+/// A `**` at a place where its sequence ends.
+pub(crate) fn put_last_dirs(
+    tokens: &mut Vec<Token>,
+    open_groups: usize,
+    place: Place,
+) -> Result<(), AllocError>
+    ensures { OnOk result (reverse tokens.new.items ≡ with_last_dirs open_groups place (reverse tokens.old.items)) }
+{
+    match place {
+        Place::Start => {
+            if open_groups == 0 {
+                tokens.push(Token::Part(Part::Everything))?;
+            } else {
+                put_two_stars(tokens)?;
+            }
+        }
+        Place::LeadingRun => {
+            if open_groups == 0 {
+                put_instead(tokens, Part::Everything)?;
+            }
+        }
+        Place::AfterSlash => put_instead(tokens, Part::Below)?,
+        Place::InnerRun => put_instead(tokens, Part::Below)?,
+        Place::Elsewhere => put_two_stars(tokens)?,
+    }
+    Ok(())
+}
+
+/// Two stars that stand for no directories.
+pub(crate) fn put_two_stars(tokens: &mut Vec<Token>) -> Result<(), AllocError>
+    ensures { OnOk result (reverse tokens.new.items ≡ two_stars (reverse tokens.old.items)) }
+{
+    tokens.push(Token::Part(Part::Star))?;
+    tokens.push(Token::Part(Part::Star))?;
+    Ok(())
+}
+
+// The part in the place of the last token.
+fn put_instead(tokens: &mut Vec<Token>, part: Part) -> Result<(), AllocError>
+    ensures { OnOk result (reverse tokens.new.items ≡ instead part (reverse tokens.old.items)) }
+{
+    let _last = tokens.pop();
+    tokens.push(Token::Part(part))?;
+    Ok(())
+}
+
+/// Where a `**` stands that comes next.
+pub(crate) fn place_of(is_behind_group: bool, tokens: &[Token]) -> Place
+    ensures { result ≡ place_of is_behind_group (reverse tokens.now) }
+{
+    let place = place_behind(tokens);
+    match place {
+        Place::Start => Place::Start,
+        _ => if is_behind_group {
+            Place::Elsewhere
+        } else {
+            place
+        },
+    }
+}
+
+fn place_behind(tokens: &[Token]) -> Place
+    ensures { result ≡ place_behind (reverse tokens.now) }
+{
+    let Some((last, _)) = tokens.split_last() else {
+        return Place::Start;
+    };
+    match last {
+        Token::Open => Place::Start,
+        Token::Or => Place::Start,
+        Token::Part(Part::LeadingDirs) => Place::LeadingRun,
+        Token::Part(Part::InnerDirs) => Place::InnerRun,
+        Token::Part(Part::Byte(b'/')) => Place::AfterSlash,
+        _ => Place::Elsewhere,
+    }
+}
+
+/// Behind the tokens of a glob those of `{/**,}`: what follows a front that matches.
+pub(crate) fn put_prefix_end(tokens: &mut Vec<Token>) -> Result<(), AllocError>
+    ensures { OnOk result (tokens.new.items ≡ tokens.old.items ++ prefix_end) }
+{
+    tokens.push(Token::Open)?;
+    tokens.push(Token::Part(Part::Below))?;
+    tokens.push(Token::Or)?;
+    tokens.push(Token::Close)?;
+    Ok(())
+}

@@ -1,0 +1,130 @@
+//! Reading the text of a glob, from left to right, into tokens.
+ghost use Rattle.std.specs.Prelude.{◌≡◌, ◌≢◌, ℕ, ◌+◌, ◌<◌, ◌≤◌, ◌^◌, Bool, true, false, Ok, Err, List, [], ◌∷◌, ◌++◌, reverse, length, map, OnOk, IfOk, IfErr, MatchResult, MatchOption, IsTrue, ◌↔◌};
+ghost use Rattle.jj_globs.specs.GlobText.{sign_of, words, read, tokens_of, place_behind, place_behind_group, place_of, with_or, with_close, with_dirs, with_last_dirs, two_stars, instead, closes_nothing, whole};
+ghost use Rattle.jj_globs.specs.GlobReads.{IsReadingFault, ends_here};
+ghost use Rattle.jj_globs.specs.declared.glob.sign.Sign.{Sign};
+
+use crate::glob::class::read_class;
+use crate::glob::error::GlobError;
+use crate::glob::put::{
+    place_of, put_close, put_comma, put_dirs, put_end, put_last_dirs, put_two_stars,
+};
+use crate::glob::sign::{Sign, next_sign};
+use crate::glob::token::{Part, Token};
+use std::alloc::{AllocError, Global};
+
+/// The tokens that a text reads as, or its first fault.
+pub(crate) fn read_tokens(alloc: Global, text: &[u8]) -> Result<Vec<Token>, GlobError>
+    ensures { MatchResult result (λ tokens. tokens_of text.now ≡ Ok tokens.items) (λ error. IsReadingFault error (tokens_of text.now)) }
+{
+    // Each open group is a byte of the text, so their number fits.
+    let _len = text.len();
+    let mut tokens = Vec::new(alloc);
+    let mut rest = text;
+    let mut open_groups = 0;
+    let mut is_behind_group = false;
+    while let Some((sign, behind)) = next_sign(rest) {
+        rest = behind;
+        match sign {
+            Sign::Asterisk => rest = read_stars(&mut tokens, open_groups, is_behind_group, behind)?,
+            Sign::OpenBracket => match read_class(alloc, behind) {
+                Ok((class, behind_class)) => {
+                    tokens.push(Token::Part(Part::OneOf(class)))?;
+                    rest = behind_class;
+                }
+                Err(error) => return Err(error),
+            },
+            Sign::Backslash => {
+                let Some((escaped, behind_escaped)) = next_sign(behind) else {
+                    return Err(GlobError::DanglingEscape);
+                };
+                tokens.push(Token::Part(Part::Byte(escaped.byte())))?;
+                rest = behind_escaped;
+            }
+            Sign::CloseBrace => {
+                if open_groups == 0 {
+                    return Err(GlobError::UnopenedAlternates);
+                }
+                open_groups -= 1;
+                is_behind_group = put_close(&mut tokens)?;
+                continue;
+            }
+            Sign::OpenBrace => {
+                tokens.push(Token::Open)?;
+                open_groups += 1;
+            }
+            Sign::Comma => put_comma(&mut tokens, open_groups)?,
+            Sign::Question => tokens.push(Token::Part(Part::AnyByte))?,
+            literal => tokens.push(Token::Part(Part::Byte(literal.byte())))?,
+        }
+        is_behind_group = false;
+    }
+    if open_groups > 0 {
+        return Err(GlobError::UnclosedAlternates);
+    }
+    put_end(&mut tokens)?;
+    Ok(tokens)
+}
+
+// What follows a star: whether the text goes on with another one, and what follows that.
+fn behind_star(text: &[u8]) -> Option<&[u8]>
+    ensures { MatchOption result ((rest : List Sign) → map sign_of text.now ≡ Sign.Asterisk ∷ rest → ⊥) (λ rest. map sign_of text.now ≡ Sign.Asterisk ∷ map sign_of rest.now) }
+{
+    let (sign, rest) = next_sign(text)?;
+    match sign {
+        Sign::Asterisk => Some(rest),
+        _ => None,
+    }
+}
+
+fn behind_slash(text: &[u8]) -> Option<&[u8]>
+    ensures { MatchOption result ((rest : List Sign) → map sign_of text.now ≡ Sign.Slash ∷ rest → ⊥) (λ rest. map sign_of text.now ≡ Sign.Slash ∷ map sign_of rest.now) }
+{
+    let (sign, rest) = next_sign(text)?;
+    match sign {
+        Sign::Slash => Some(rest),
+        _ => None,
+    }
+}
+
+// Whether the sequence ends here: the whole text, or an alternative of a group.
+fn ends_sequence(open_groups: usize, text: &[u8]) -> bool
+    ensures { result ≡ ends_here open_groups (map sign_of text.now) }
+{
+    let Some((sign, _)) = next_sign(text) else {
+        return open_groups == 0;
+    };
+    match sign {
+        Sign::Comma => open_groups > 0,
+        Sign::CloseBrace => open_groups > 0,
+        _ => false,
+    }
+}
+
+// The text from behind a first star on.
+fn read_stars<'a>(
+    tokens: &mut Vec<Token>,
+    open_groups: usize,
+    is_behind_group: bool,
+    text: &'a [u8],
+) -> Result<&'a [u8], AllocError>
+    ensures read { IfOk result (λ rest. read open_groups is_behind_group (reverse tokens.old.items) (words (Sign.Asterisk ∷ map sign_of text.now))
+        ≡ read open_groups false (reverse tokens.new.items) (words (map sign_of rest.now))) }
+    ensures shorter { IfOk result (λ rest. length rest.now ≤ length text.now) }
+{
+    let Some(rest) = behind_star(text) else {
+        tokens.push(Token::Part(Part::Star))?;
+        return Ok(text);
+    };
+    let place = place_of(is_behind_group, tokens.as_slice());
+    if let Some(behind) = behind_slash(rest) {
+        put_dirs(tokens, place)?;
+        return Ok(behind);
+    }
+    if ends_sequence(open_groups, rest) {
+        put_last_dirs(tokens, open_groups, place)?;
+        return Ok(rest);
+    }
+    put_two_stars(tokens)?;
+    Ok(rest)
+}

@@ -1,0 +1,4 @@
+//! Globs of bytes.
+#![tactic(auto)]
+
+pub mod glob;

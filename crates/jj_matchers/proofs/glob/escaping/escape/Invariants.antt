@@ -1,8 +1,0 @@
-use Rattle.std.proofs.Common.{◌≡◌, ◌++◌}
-use Rattle.std.specs.String.{string_bytes}
-use Rattle.std.specs.Str.Iter.{chars_rest}
-use Rattle.jj_matchers.specs.GlobEscape.{escaped}
-use Rattle.jj_matchers.proofs.glob.escaping.escape.Given as goal
-
-abbrev pub invariant-loop-c : goal.invariant-loop-c
-invariant-loop-c l = string_bytes l.glob ++ escaped (chars_rest l.c-iterator) ≡ escaped l.text

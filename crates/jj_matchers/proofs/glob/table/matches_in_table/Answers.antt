@@ -1,9 +1,0 @@
-use Rattle.std.proofs.Common.{◌≡◌, ◌+◌, ◌-◌, arith}
-use Rattle.jj_matchers.proofs.GlobTable.{past_shown}
-use Rattle.jj_matchers.proofs.glob.table.matches_in_table.Goals as goal
-
-pub fill_row-requires-in-loop-from-clause-past : goal.fill_row-requires-in-loop-from-clause-past
-fill_row-requires-in-loop-from-clause-past c =
-    let turn : c.loop-from.from - 1 + 1 ≡ c.loop-from.from = omega arith in
-    past_shown c.args.options c.args.tokens.now c.args.bytes.now c.loop-from.cells c.loop-from.from (c.loop-from.from - 1) turn
-    c.loop-from.invariant.within c.loop-from.invariant.shown

@@ -1,8 +1,0 @@
--- The text stands at no place before `at`.
-use Rattle.std.proofs.Common.{ℕ, ◌<◌}
-use Rattle.bstr.specs.Find.{OccursAt}
-use Rattle.jj_matchers.specs.Folded.{folded}
-use Rattle.jj_matchers.proofs.str_util.folding.contains_folded.Given as goal
-
-abbrev pub invariant-loop-at : goal.invariant-loop-at
-invariant-loop-at l = (k : ℕ) → k < l.at → OccursAt (folded l.bytes) (folded l.text) k → ⊥

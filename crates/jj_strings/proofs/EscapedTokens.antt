@@ -1,0 +1,127 @@
+-- What an escaped text reads as: a token for each of its bytes.
+use Rattle.std.proofs.Common.{◌≡◌, ℕ, zero, Bool, true, false, ◌==◌, if◌then◌else◌, List, [], ◌∷◌, ◌++◌, map, reverse, Ok, inl, inr, refl, sym, ap, ◌∙◌, subst, append_assoc}
+use Rattle.std.proofs.lemmas.Bool.Decides.{eqb_tells}
+use Rattle.std.proofs.lemmas.List.{append-nil, map-append, reverse-append}
+use Rattle.jj_globs.specs.declared.glob.token.Part.{Part}
+use Rattle.jj_globs.specs.declared.glob.token.Part.TheVariants.{Byte, Star, OneOf}
+use Rattle.jj_globs.specs.declared.glob.token.Token.{Token}
+use Rattle.jj_globs.specs.declared.glob.token.Token.TheVariants.{Part as part}
+use Rattle.jj_globs.specs.declared.glob.sign.Sign.{Sign}
+use Rattle.jj_globs.specs.declared.glob.sign.Sign.TheVariants.{Asterisk, Other}
+use Rattle.jj_globs.specs.GlobText.{tokens_of, words, read, whole, sign_of, asterisk}
+use Rattle.jj_globs.specs.GlobEscape.{is_special, escaped_byte, escaped}
+
+-- the part that an escaped byte reads as
+abbrev pub part_of : ℕ → Part
+part_of b = if is_special b then OneOf (false, record { first = b; last = b } ∷ []) else Byte b
+
+abbrev pub tokens_for : List ℕ → List Token
+tokens_for [] = []
+tokens_for (b ∷ bs) = part (part_of b) ∷ tokens_for bs
+
+-- the tokens with those of the bytes, the last first
+abbrev pushed : List ℕ → List Token → List Token
+pushed [] ts = ts
+pushed (b ∷ bs) ts = pushed bs (part (part_of b) ∷ ts)
+
+-- a byte that has no sign of its own
+record IsPlainByte (b : ℕ) : Type 0 where
+  sign : sign_of b ≡ Other b
+  special : is_special b ≡ false
+
+decide : (n b : ℕ) (P : ℕ → Type 0) → P n → ((b == n) ≡ false → P b) → P b
+decide n b P here there = elim (eqb_tells b n) [ inl w ↦ subst P (sym w.1) here | inr w ↦ there w.0 ]
+
+plain_byte : (b : ℕ) → (b == 63) ≡ false → (b == 42) ≡ false → (b == 47) ≡ false → (b == 123) ≡ false → (b == 44) ≡ false → (b == 125) ≡ false
+    → (b == 91) ≡ false → (b == 93) ≡ false → (b == 33) ≡ false → (b == 94) ≡ false → (b == 45) ≡ false → (b == 92) ≡ false → IsPlainByte b
+plain_byte b h0 h1 h2 h3 h4 h5 h6 h7 h8 h9 h10 h11 = record {
+  sign = rw (h0, h1, h2, h3, h4, h5, h6, h7, h8, h9, h10, h11) refl;
+  special = rw (h0, h1, h6, h7, h3, h5, h11) refl;
+}
+
+-- what holds of each byte that has a sign, and of all others, holds of every byte
+by_byte : (P : ℕ → Type 0) → P 63 → P 42 → P 47 → P 123 → P 44 → P 125 → P 91 → P 93 → P 33 → P 94 → P 45 → P 92
+    → ((b : ℕ) → IsPlainByte b → P b) → (b : ℕ) → P b
+by_byte P p0 p1 p2 p3 p4 p5 p6 p7 p8 p9 p10 p11 others b =
+    decide 63 b P p0 (λ h0. decide 42 b P p1 (λ h1. decide 47 b P p2 (λ h2. decide 123 b P p3 (λ h3.
+    decide 44 b P p4 (λ h4. decide 125 b P p5 (λ h5. decide 91 b P p6 (λ h6. decide 93 b P p7 (λ h7.
+    decide 33 b P p8 (λ h8. decide 94 b P p9 (λ h9. decide 45 b P p10 (λ h10. decide 92 b P p11 (λ h11.
+    others b (plain_byte b h0 h1 h2 h3 h4 h5 h6 h7 h8 h9 h10 h11)))))))))))))
+
+plain-escaped : (b : ℕ) → IsPlainByte b → escaped_byte b ≡ b ∷ []
+plain-escaped b plain = ap (λ (s : Bool). if s then 91 ∷ b ∷ 93 ∷ [] else b ∷ []) plain.special
+
+plain-part : (b : ℕ) → IsPlainByte b → part_of b ≡ Byte b
+plain-part b plain = ap (λ (s : Bool). if s then OneOf (false, record { first = b; last = b } ∷ []) else Byte b) plain.special
+
+-- one escaped byte behind others
+abbrev Steps : ℕ → Type 0
+Steps b = (ts : List Token) (s : List Sign) → read zero false ts (words (map sign_of (escaped_byte b) ++ s)) ≡ read zero false (part (part_of b) ∷ ts) (words s)
+
+step : (b : ℕ) → Steps b
+unfolding words read
+step =
+    by_byte Steps (λ ts s. refl) (λ ts s. refl) (λ ts s. refl) (λ ts s. refl) (λ ts s. refl) (λ ts s. refl) (λ ts s. refl) (λ ts s. refl)
+    (λ ts s. refl) (λ ts s. refl) (λ ts s. refl) (λ ts s. refl)
+    (λ b plain ts s. ap (λ (l : List ℕ). read zero false ts (words (map sign_of l ++ s))) (plain-escaped b plain)
+    ∙ ap (λ (g : Sign). read zero false ts (words (g ∷ s))) plain.sign
+    ∙ ap (λ (p : Part). read zero false (part p ∷ ts) (words s)) (sym (plain-part b plain)))
+
+-- and right behind a star that begins the text
+abbrev StarSteps : ℕ → Type 0
+StarSteps b = (s : List Sign) → read zero false [] (asterisk ∷ words (map sign_of (escaped_byte b) ++ s)) ≡ read zero false (part (part_of b) ∷ part Star ∷ []) (words s)
+
+star_step : (b : ℕ) → StarSteps b
+unfolding words read
+star_step =
+    by_byte StarSteps (λ s. refl) (λ s. refl) (λ s. refl) (λ s. refl) (λ s. refl) (λ s. refl) (λ s. refl) (λ s. refl)
+    (λ s. refl) (λ s. refl) (λ s. refl) (λ s. refl)
+    (λ b plain s. ap (λ (l : List ℕ). read zero false [] (asterisk ∷ words (map sign_of l ++ s))) (plain-escaped b plain)
+    ∙ ap (λ (g : Sign). read zero false [] (asterisk ∷ words (g ∷ s))) plain.sign
+    ∙ ap (λ (p : Part). read zero false (part p ∷ part Star ∷ []) (words s)) (sym (plain-part b plain)))
+
+regroup : (b : ℕ) (t : List ℕ) (s : List Sign) → map sign_of (escaped (b ∷ t)) ++ s ≡ map sign_of (escaped_byte b) ++ (map sign_of (escaped t) ++ s)
+unfolding escaped
+regroup b t s =
+    ap (λ (l : List Sign). l ++ s) (map-append sign_of (escaped_byte b) (escaped t)) ∙ append_assoc (map sign_of (escaped_byte b)) (map sign_of (escaped t)) s
+
+steps : (t : List ℕ) (ts : List Token) (s : List Sign) → read zero false ts (words (map sign_of (escaped t) ++ s)) ≡ read zero false (pushed t ts) (words s)
+unfolding escaped
+steps [] ts s = refl
+steps (b ∷ t) ts s =
+    ap (λ (l : List Sign). read zero false ts (words l)) (regroup b t s) ∙ step b ts (map sign_of (escaped t) ++ s)
+    ∙ steps t (part (part_of b) ∷ ts) s
+
+whole_part : (special : Bool) (b : ℕ) (ts : List Token)
+    → whole (part (if special then OneOf (false, record { first = b; last = b } ∷ []) else Byte b) ∷ ts)
+    ≡ reverse (part (if special then OneOf (false, record { first = b; last = b } ∷ []) else Byte b) ∷ ts)
+whole_part true b ts = refl
+whole_part false b ts = refl
+
+whole_pushed : (t : List ℕ) (ts : List Token) → whole ts ≡ reverse ts → whole (pushed t ts) ≡ reverse (pushed t ts)
+whole_pushed [] ts h = h
+whole_pushed (b ∷ t) ts h = whole_pushed t (part (part_of b) ∷ ts) (whole_part (is_special b) b ts)
+
+reverse_pushed : (t : List ℕ) (ts : List Token) → reverse (pushed t ts) ≡ reverse ts ++ tokens_for t
+reverse_pushed [] ts = sym (append-nil (reverse ts))
+reverse_pushed (b ∷ t) ts =
+    let x = part (part_of b) in
+    reverse_pushed t (x ∷ ts) ∙ ap (λ (l : List Token). l ++ tokens_for t) (reverse-append (x ∷ []) ts)
+    ∙ append_assoc (reverse ts) (x ∷ []) (tokens_for t)
+
+-- an escaped text reads as its bytes
+pub tokens_of-escaped : (t : List ℕ) → tokens_of (escaped t) ≡ Ok (tokens_for t)
+unfolding tokens_of words read
+tokens_of-escaped t =
+    ap (λ (l : List Sign). read zero false [] (words l)) (sym (append-nil (map sign_of (escaped t)))) ∙ steps t [] []
+    ∙ ap Ok (whole_pushed t [] refl ∙ reverse_pushed t [])
+
+-- and between two stars as its bytes between two stars
+pub tokens_of-part : (b : ℕ) (t : List ℕ) → tokens_of (42 ∷ (escaped (b ∷ t) ++ 42 ∷ [])) ≡ Ok (part Star ∷ (tokens_for (b ∷ t) ++ part Star ∷ []))
+unfolding tokens_of words read
+tokens_of-part b t =
+    let end = Asterisk ∷ [] in
+    ap (λ (l : List Sign). read zero false [] (asterisk ∷ words l)) (map-append sign_of (escaped (b ∷ t)) (42 ∷ []) ∙ regroup b t end)
+    ∙ star_step b (map sign_of (escaped t) ++ end) ∙ steps t (part (part_of b) ∷ part Star ∷ []) end
+    ∙ ap Ok (reverse-append (part Star ∷ []) (pushed t (part (part_of b) ∷ part Star ∷ []))
+    ∙ ap (λ (l : List Token). l ++ part Star ∷ []) (reverse_pushed t (part (part_of b) ∷ part Star ∷ [])))

@@ -1,0 +1,14 @@
+-- The lines so far are not in the set.
+use Rattle.std.proofs.Common.{◌≡◌, ℕ, List, ◌++◌, ◌≤◌, length, All}
+use Rattle.jj_strings.specs.Lines.{lines, without_feed}
+use Rattle.jj_strings.specs.StringMatchers.{InMatcher}
+use Rattle.jj_strings.proofs.str_util.match_lines.MatchLinesIterator.next.Given as goal
+
+abbrev pub invariant-loop-line : goal.invariant-loop-line
+invariant-loop-line g l =
+    (l.self.matcher ≡ l.fn.self.matcher)
+    × ((passed : List (List ℕ)) × All (λ x. InMatcher l.fn.self.matcher.now (without_feed x) → ⊥) passed × (lines l.fn.self.rest.now ≡ passed ++ lines l.self.rest.now))
+    × (length l.self.rest.now ≤ length l.fn.self.rest.now)
+
+abbrev pub decreases-loop-line : goal.decreases-loop-line
+decreases-loop-line g l = length l.self.rest.now

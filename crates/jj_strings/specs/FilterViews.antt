@@ -1,0 +1,13 @@
+-- What an iterator over matching entries of a map holds.
+use Rattle.std.specs.Prelude.{List}
+use Rattle.jj_strings.specs.declared.str_util.matcher.StringMatcher.{StringMatcher}
+use Rattle.jj_strings.specs.declared.str_util.filter_btree_map.FilterBTreeMap.{FilterBTreeMap}
+use Rattle.jj_strings.specs.EntriesLeft.{entries_left}
+
+-- the matcher whose set is looked for
+abbrev pub filter_matcher : {K V : Type 0} {F : _} {W : _} {m : _} → FilterBTreeMap K V F W m → StringMatcher F W m
+filter_matcher s = s.matcher.now
+
+-- the entries that are left
+abbrev pub filter_entries : {K V : Type 0} {F : _} {W : _} {m : _} → FilterBTreeMap K V F W m → List (K × V)
+filter_entries s = entries_left s.entries

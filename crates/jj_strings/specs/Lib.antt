@@ -1,0 +1,14 @@
+pub mod Folded
+pub mod StringGlobs
+pub mod StringSets
+pub mod PatternViews
+pub mod PatternFaults
+pub mod PatternKinds
+pub mod GlobsOfPatterns
+pub mod ExpressionViews
+pub mod Predicates
+pub mod StringMatchers
+pub mod Lines
+pub mod LinesLeft
+pub mod EntriesLeft
+pub mod FilterViews

@@ -1,0 +1,38 @@
+-- Which error a text gets that is no pattern of strings.
+use Rattle.std.specs.Prelude.{◌≡◌, ℕ, List, Err}
+use Rattle.regex.specs.Sources.{IsRefusal}
+use Rattle.regex.specs.Failures.{IsRightKind}
+use Rattle.regex.specs.Patterns.{Config}
+use Rattle.regex.specs.declared.error.Error as regexes
+use Rattle.regex.specs.declared.error.Error.TheVariants.{Syntax, CompiledTooBig, Internal, OutOfMemory}
+use Rattle.jj_globs.specs.declared.glob.error.GlobError.{GlobError}
+use Rattle.jj_globs.specs.declared.glob.error.GlobError.TheVariants.{UnclosedClass, InvalidRange, NonAsciiRange, UnopenedAlternates, UnclosedAlternates, DanglingEscape, Memory as no_room}
+use Rattle.jj_strings.specs.declared.str_util.error.StringPatternParseError.{StringPatternParseError}
+use Rattle.jj_strings.specs.declared.str_util.error.StringPatternParseError.TheVariants.{InvalidKind, GlobPattern, Regex, Memory}
+use Rattle.jj_globs.specs.GlobText.{tokens_of}
+
+-- the error for one of the glob
+abbrev pub of_glob_error : GlobError → StringPatternParseError
+of_glob_error no_room = Memory
+of_glob_error error = GlobPattern error
+
+-- the error for one of the regular expression
+abbrev pub of_regex_error : regexes.Error → StringPatternParseError
+of_regex_error OutOfMemory = Memory
+of_regex_error error = Regex error
+
+-- memory ran out
+abbrev pub IsMemory : StringPatternParseError → Type 0
+IsMemory error = error ≡ Memory
+
+-- the text's first fault as a glob, or memory ran out
+abbrev pub IsGlobFault : List ℕ → StringPatternParseError → Type 0
+IsGlobFault text Memory = Unit {0}
+IsGlobFault text (GlobPattern error) = tokens_of text ≡ Err error
+IsGlobFault text error = ⊥
+
+-- a fault that the grammar finds in the text, or a size that is too large, or memory ran out
+abbrev pub IsRegexFault : Config → List ℕ → StringPatternParseError → Type 0
+IsRegexFault config text Memory = Unit {0}
+IsRegexFault config text (Regex error) = IsRefusal config text error × IsRightKind config text error
+IsRegexFault config text error = ⊥

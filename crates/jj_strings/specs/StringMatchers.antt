@@ -1,0 +1,36 @@
+-- A matcher of strings as a set of byte lists.
+use Rattle.std.specs.Prelude.{◌≡◌, ◌↔◌, ◌⊎◌, ℕ, List, string_bytes}
+use Rattle.regex.specs.Bytes.{regex_config, IsReadFromSource}
+use Rattle.regex.specs.declared.bytes.regex.Regex as compiled
+use Rattle.jj_strings.specs.Predicates.{Accepts}
+use Rattle.jj_strings.specs.declared.str_util.matcher.StringMatcher.{StringMatcher}
+use Rattle.jj_strings.specs.declared.str_util.matcher.StringMatcher.TheVariants.{All, Exact, Expr, Fn}
+use Rattle.jj_strings.specs.ExpressionViews.{expression_of}
+use Rattle.jj_strings.specs.PatternKinds.{bytes_config, bytes_config_i}
+use Rattle.jj_strings.specs.StringSets.{Pattern, exact, regex, regex_i, Expression, of_pattern, is_all, exact_text, InExpression, HasRegex}
+
+-- the matcher's set holds the bytes
+abbrev pub InMatcher : {F : _} {V : _} {m : _} → StringMatcher F V m → List ℕ → Type 0
+InMatcher All bytes = Unit {0}
+InMatcher (Exact text) bytes = bytes ≡ string_bytes text
+InMatcher (Expr e) bytes = InExpression (expression_of e) bytes
+InMatcher (Fn p) bytes = Accepts p bytes
+
+-- a match may take memory: a regular expression is inside
+abbrev pub MayAllocate : {F : _} {V : _} {m : _} → StringMatcher F V m → Type 0
+MayAllocate (Expr e) = HasRegex (expression_of e)
+MayAllocate _ = ⊥
+
+-- a regular expression that was made of its text, with letters in either case or not
+abbrev pub IsFromText : compiled.Regex → Type 0
+IsFromText r = IsReadFromSource r × ((regex_config r ≡ bytes_config) ⊎ (regex_config r ≡ bytes_config_i))
+
+-- the regular expression of a pattern was made of its text
+abbrev pub IsPatternFromText : Pattern → Type 0
+IsPatternFromText (regex r) = IsFromText r
+IsPatternFromText (regex_i r) = IsFromText r
+IsPatternFromText p = Unit {0}
+
+abbrev pub IsExpressionFromText : Expression → Type 0
+IsExpressionFromText (of_pattern p) = IsPatternFromText p
+IsExpressionFromText e = Unit {0}

@@ -1,0 +1,130 @@
+-- Patterns and expressions of strings: what they say, and the sets of byte lists that they stand for.
+use Rattle.std.specs.Prelude.{◌≡◌, ℕ, ◌/◌, ◌<◌, ◌⊎◌, Bool, true, false, ◌==◌, if◌then◌else◌, List, [], ◌∷◌, ◌++◌, length, Option, None, Some, IsSome}
+use Rattle.std.specs.Option.{option_to_list}
+use Rattle.std.specs.List.{list_any}
+use Rattle.bstr.specs.Text.{Contains}
+use Rattle.regex.specs.Patterns.{find}
+use Rattle.regex.specs.Bytes.{regex_pattern, regex_source}
+use Rattle.regex.specs.declared.bytes.regex.Regex.{Regex}
+use Rattle.jj_strings.specs.Folded.{folded}
+use Rattle.jj_globs.specs.GlobEscape.{is_special}
+use Rattle.jj_strings.specs.StringGlobs.{StringGlob, as_glob}
+use Rattle.jj_globs.specs.GlobMeaning.{IsMatch}
+
+-- 1. Patterns.
+
+-- a pattern of strings; those that end in `_i` take ASCII letters in either case
+pub data Pattern : Type 0 where
+  exact : List ℕ → Pattern
+  exact_i : List ℕ → Pattern
+  substring : List ℕ → Pattern
+  substring_i : List ℕ → Pattern
+  glob : StringGlob → Pattern
+  glob_i : StringGlob → Pattern
+  regex : Regex → Pattern
+  regex_i : Regex → Pattern
+
+-- the pattern's set holds the bytes
+abbrev pub InPattern : Pattern → List ℕ → Type 0
+InPattern (exact text) bytes = bytes ≡ text
+InPattern (exact_i text) bytes = folded bytes ≡ folded text
+InPattern (substring text) bytes = Contains bytes text
+InPattern (substring_i text) bytes = Contains (folded bytes) (folded text)
+InPattern (glob g) bytes = IsMatch (as_glob g) bytes
+InPattern (glob_i g) bytes = IsMatch (as_glob g) bytes
+InPattern (regex r) bytes = IsSome (find (regex_pattern r) bytes 0)
+InPattern (regex_i r) bytes = IsSome (find (regex_pattern r) bytes 0)
+
+-- the text that the pattern was made of
+abbrev pub text_of : Pattern → List ℕ
+text_of (exact text) = text
+text_of (exact_i text) = text
+text_of (substring text) = text
+text_of (substring_i text) = text
+text_of (glob g) = g.text
+text_of (glob_i g) = g.text
+text_of (regex r) = regex_source r
+text_of (regex_i r) = regex_source r
+
+-- the text is empty
+abbrev pub is_empty_text : List ℕ → Bool
+is_empty_text [] = true
+is_empty_text (b ∷ bs) = false
+
+-- the text is one star
+abbrev pub is_one_star : List ℕ → Bool
+is_one_star (b ∷ []) = b == 42
+is_one_star text = false
+
+-- the pattern is seen at once to hold every string: the empty part, the empty regular expression, the glob `*`
+abbrev pub is_all : Pattern → Bool
+is_all (exact text) = false
+is_all (exact_i text) = false
+is_all (substring text) = is_empty_text text
+is_all (substring_i text) = is_empty_text text
+is_all (glob g) = is_one_star g.text
+is_all (glob_i g) = is_one_star g.text
+is_all (regex r) = is_empty_text (regex_source r)
+is_all (regex_i r) = is_empty_text (regex_source r)
+
+-- the one text of an exact pattern
+abbrev pub exact_text : Pattern → Option (List ℕ)
+exact_text (exact text) = Some text
+exact_text pattern = None
+
+-- a regular expression is in the pattern
+abbrev pub IsRegex : Pattern → Type 0
+IsRegex (regex r) = Unit {0}
+IsRegex (regex_i r) = Unit {0}
+IsRegex pattern = ⊥
+
+-- the glob of this text
+abbrev pub string_glob : List ℕ → Bool → StringGlob
+string_glob text icase = record { text = text; icase = icase }
+
+-- a glob without `? * [ ] { } \` is its text alone
+abbrev pub glob_or_exact : List ℕ → Pattern
+glob_or_exact text = if list_any is_special text then glob (string_glob text false) else exact text
+
+-- 2. Expressions.
+
+pub data Expression : Type 0 where
+  of_pattern : Pattern → Expression
+  not_in : Expression → Expression
+  union : Expression → Expression → Expression
+  intersection : Expression → Expression → Expression
+
+-- the expression's set holds the bytes
+abbrev pub InExpression : Expression → List ℕ → Type 0
+InExpression (of_pattern p) bytes = InPattern p bytes
+InExpression (not_in e) bytes = InExpression e bytes → ⊥
+InExpression (union a b) bytes = InExpression a bytes ⊎ InExpression b bytes
+InExpression (intersection a b) bytes = InExpression a bytes × InExpression b bytes
+
+-- every string, and none
+abbrev pub everything : Expression
+everything = of_pattern (substring [])
+
+abbrev pub nothing : Expression
+nothing = not_in everything
+
+-- the texts of the exact patterns, from left to right
+abbrev pub exact_texts : Expression → List (List ℕ)
+exact_texts (of_pattern p) = option_to_list (exact_text p)
+exact_texts (not_in e) = exact_texts e
+exact_texts (union a b) = exact_texts a ++ exact_texts b
+exact_texts (intersection a b) = exact_texts a ++ exact_texts b
+
+-- a regular expression is inside
+abbrev pub HasRegex : Expression → Type 0
+HasRegex (of_pattern p) = IsRegex p
+HasRegex (not_in e) = HasRegex e
+HasRegex (union a b) = HasRegex a ⊎ HasRegex b
+HasRegex (intersection a b) = HasRegex a ⊎ HasRegex b
+
+-- the union of the expressions: none is `nothing`, one is itself, more are the union of both halves
+pub data IsUnionOf : List Expression → Expression → Type 0 where
+  of_none : IsUnionOf [] nothing
+  of_one : (e : Expression) → IsUnionOf (e ∷ []) e
+  of_halves : (es front back : List Expression) (a b : Expression) → es ≡ front ++ back → length front ≡ length es / 2 → 1 < length es
+      → IsUnionOf front a → IsUnionOf back b → IsUnionOf es (union a b)

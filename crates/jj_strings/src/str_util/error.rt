@@ -1,0 +1,68 @@
+//! Why a text is no pattern of strings.
+use jj_globs::glob::GlobError;
+use std::alloc::{AllocError, AllocFailed};
+use thiserror::Error;
+
+/// Why a text is no pattern of strings.
+#[derive(Debug, Drop, Error)]
+pub enum StringPatternParseError {
+    /// There is no kind of this name.
+    #[error("Invalid string pattern kind `{0}:`")]
+    InvalidKind(String),
+    #[error(transparent)]
+    GlobPattern(GlobError),
+    #[error(transparent)]
+    Regex(regex::Error),
+    #[error("out of memory")]
+    Memory,
+}
+
+impl From<AllocError> for StringPatternParseError {
+    ghost use Rattle.std.specs.Prelude.{◌≡◌};
+    ghost use Rattle.jj_strings.specs.declared.str_util.error.StringPatternParseError.TheVariants.{Memory};
+
+    ghost from_gives = { λ _ error. error ≡ Memory };
+
+    fn from(_refused: AllocError) -> Self {
+        StringPatternParseError::Memory
+    }
+}
+
+impl<T: Drop> From<AllocFailed<T>> for StringPatternParseError {
+    ghost use Rattle.std.specs.Prelude.{◌≡◌};
+    ghost use Rattle.jj_strings.specs.declared.str_util.error.StringPatternParseError.TheVariants.{Memory};
+
+    ghost from_gives = { λ _ error. error ≡ Memory };
+
+    fn from(_refused: AllocFailed<T>) -> Self {
+        StringPatternParseError::Memory
+    }
+}
+
+impl From<GlobError> for StringPatternParseError {
+    ghost use Rattle.std.specs.Prelude.{◌≡◌};
+    ghost use Rattle.jj_strings.specs.PatternFaults.{of_glob_error};
+
+    ghost from_gives = { λ given error. error ≡ of_glob_error given };
+
+    fn from(error: GlobError) -> Self {
+        match error {
+            GlobError::Memory => StringPatternParseError::Memory,
+            error => StringPatternParseError::GlobPattern(error),
+        }
+    }
+}
+
+impl From<regex::Error> for StringPatternParseError {
+    ghost use Rattle.std.specs.Prelude.{◌≡◌};
+    ghost use Rattle.jj_strings.specs.PatternFaults.{of_regex_error};
+
+    ghost from_gives = { λ given error. error ≡ of_regex_error given };
+
+    fn from(error: regex::Error) -> Self {
+        match error {
+            regex::Error::OutOfMemory => StringPatternParseError::Memory,
+            error => StringPatternParseError::Regex(error),
+        }
+    }
+}

@@ -1,0 +1,192 @@
+//! Expressions of patterns: complements, unions and intersections of their sets.
+ghost use Rattle.std.specs.Prelude.{◌≡◌, ◌↔◌, ◌++◌, IsTrue, IsErr, IfOk, OnOk, map, string_bytes};
+
+use crate::str_util::pattern::StringPattern;
+use std::alloc::{AllocError, Global};
+use std::vec::IntoIter;
+
+/// A set of strings, put together from patterns.
+#[derive(Debug, Drop)]
+pub enum StringExpression {
+    /// The strings of the pattern.
+    Pattern(Box<StringPattern>),
+    /// All other strings.
+    NotIn(Box<StringExpression>),
+    /// The strings of either.
+    Union(Box<StringExpression>, Box<StringExpression>),
+    /// The strings of both.
+    Intersection(Box<StringExpression>, Box<StringExpression>),
+}
+
+impl StringExpression {
+    ghost use Rattle.std.specs.Vec.Iter.{into_iter_items};
+    ghost use Rattle.jj_strings.specs.StringSets.{InExpression, HasRegex, IsUnionOf, exact_texts, everything, nothing, of_pattern, exact, substring, not_in, union, intersection};
+    ghost use Rattle.jj_strings.specs.PatternViews.{pattern_of};
+    ghost use Rattle.jj_strings.specs.ExpressionViews.{expression_of};
+
+    /// No string.
+    pub fn none(alloc: Global) -> Result<Self, AllocError>
+        ensures { IfOk result (λ e. expression_of e ≡ nothing) }
+    {
+        StringExpression::all(alloc)?.negated(alloc)
+    }
+
+    /// Every string.
+    pub fn all(alloc: Global) -> Result<Self, AllocError>
+        ensures { IfOk result (λ e. expression_of e ≡ everything) }
+    {
+        StringExpression::pattern(alloc, StringPattern::all(alloc))
+    }
+
+    /// The strings of the pattern.
+    pub fn pattern(alloc: Global, pattern: StringPattern) -> Result<Self, AllocError>
+        ensures { IfOk result (λ e. expression_of e ≡ of_pattern (pattern_of pattern)) }
+    {
+        Ok(StringExpression::Pattern(Box::new(alloc, pattern)?))
+    }
+
+    /// The text alone.
+    pub fn exact(alloc: Global, text: String) -> Result<Self, AllocError>
+        ensures { IfOk result (λ e. expression_of e ≡ of_pattern (exact (string_bytes text))) }
+    {
+        StringExpression::pattern(alloc, StringPattern::exact(text))
+    }
+
+    /// Every string that has the text as a part.
+    pub fn substring(alloc: Global, text: String) -> Result<Self, AllocError>
+        ensures { IfOk result (λ e. expression_of e ≡ of_pattern (substring (string_bytes text))) }
+    {
+        StringExpression::pattern(alloc, StringPattern::substring(text))
+    }
+
+    /// All other strings.
+    pub fn negated(self, alloc: Global) -> Result<Self, AllocError>
+        ensures { IfOk result (λ e. expression_of e ≡ not_in (expression_of self)) }
+    {
+        Ok(StringExpression::NotIn(Box::new(alloc, self)?))
+    }
+
+    /// The strings of either.
+    pub fn union(self, alloc: Global, other: Self) -> Result<Self, AllocError>
+        ensures { IfOk result (λ e. expression_of e ≡ union (expression_of self) (expression_of other)) }
+    {
+        let left = Box::new(alloc, self)?;
+        let right = Box::new(alloc, other)?;
+        Ok(StringExpression::Union(left, right))
+    }
+
+    /// The strings of any of them: no expression is `none`, one is itself, more are the union of both halves, so that the depth
+    /// grows with the logarithm of their number.
+    pub fn union_all(alloc: Global, expressions: Vec<Self>) -> Result<Self, AllocError>
+        ensures { IfOk result (λ e. IsUnionOf (map expression_of expressions.items) (expression_of e)) }
+    {
+        let mut left = expressions;
+        if left.len() < 2 {
+            return match left.pop() {
+                Some(only) => Ok(only),
+                None => StringExpression::none(alloc),
+            };
+        }
+        let right = left.split_off(left.len() / 2)?;
+        let left = StringExpression::union_all(alloc, left)?;
+        let right = StringExpression::union_all(alloc, right)?;
+        left.union(alloc, right)
+    }
+
+    /// The strings of both.
+    pub fn intersection(self, alloc: Global, other: Self) -> Result<Self, AllocError>
+        ensures { IfOk result (λ e. expression_of e ≡ intersection (expression_of self) (expression_of other)) }
+    {
+        let left = Box::new(alloc, self)?;
+        let right = Box::new(alloc, other)?;
+        Ok(StringExpression::Intersection(left, right))
+    }
+
+    /// The texts of the exact patterns, from left to right, those below a complement too.
+    pub fn exact_strings(&self, alloc: Global) -> Result<IntoIter<&str>, AllocError>
+        ensures { IfOk result (λ texts. map (λ text. text.now) (into_iter_items texts) ≡ exact_texts (expression_of self.now)) }
+    {
+        let mut texts = Vec::new(alloc);
+        self.push_exact_strings(&mut texts)?;
+        Ok(texts.into_iter())
+    }
+
+    // Puts the texts of the exact patterns behind those that are there.
+    fn push_exact_strings<'a>(&'a self, texts: &mut Vec<&'a str>) -> Result<(), AllocError>
+        ensures { OnOk result (map (λ text. text.now) texts.new.items
+            ≡ map (λ text. text.now) texts.old.items ++ exact_texts (expression_of self.now)) }
+    {
+        match self {
+            StringExpression::Pattern(pattern) => {
+                if let Some(text) = pattern.as_exact() {
+                    texts.push(text)?;
+                }
+                Ok(())
+            }
+            StringExpression::NotIn(inner) => inner.push_exact_strings(texts),
+            StringExpression::Union(left, right) => {
+                left.push_exact_strings(texts)?;
+                right.push_exact_strings(texts)
+            }
+            StringExpression::Intersection(left, right) => {
+                left.push_exact_strings(texts)?;
+                right.push_exact_strings(texts)
+            }
+        }
+    }
+
+    // A copy, on the allocators of the boxes.
+    fn copied(&self) -> Result<StringExpression, AllocError>
+        ensures { IfOk result (λ copy. expression_of copy ≡ expression_of self.now) }
+    {
+        match self {
+            StringExpression::Pattern(pattern) => Ok(StringExpression::Pattern(pattern.clone()?)),
+            StringExpression::NotIn(inner) => inner.copied()?.negated(*Box::allocator(inner)),
+            StringExpression::Union(left, right) => {
+                let right_copy = right.copied()?;
+                left.copied()?.union(*Box::allocator(left), right_copy)
+            }
+            StringExpression::Intersection(left, right) => {
+                let right_copy = right.copied()?;
+                left.copied()?
+                    .intersection(*Box::allocator(left), right_copy)
+            }
+        }
+    }
+
+    // Whether the expression's set holds the bytes.
+    pub(crate) fn holds(&self, alloc: Global, bytes: &[u8]) -> Result<bool, AllocError>
+        ensures answer { IfOk result (λ yes. IsTrue yes ↔ InExpression (expression_of self.now) bytes.now) }
+        ensures memory { IsErr result → HasRegex (expression_of self.now) }
+    {
+        match self {
+            StringExpression::Pattern(pattern) => pattern.holds(alloc, bytes),
+            StringExpression::NotIn(inner) => {
+                let yes = inner.holds(alloc, bytes)?;
+                Ok(!yes)
+            }
+            StringExpression::Union(left, right) => {
+                if left.holds(alloc, bytes)? {
+                    return Ok(true);
+                }
+                right.holds(alloc, bytes)
+            }
+            StringExpression::Intersection(left, right) => {
+                if !left.holds(alloc, bytes)? {
+                    return Ok(false);
+                }
+                right.holds(alloc, bytes)
+            }
+        }
+    }
+}
+
+impl Clone for StringExpression {
+    ghost use Rattle.jj_strings.specs.ExpressionViews.{expression_of};
+
+    ghost is_clone = { λ expression copy. expression_of copy ≡ expression_of expression };
+
+    fn clone(&self) -> Result<StringExpression, AllocError> {
+        self.copied()
+    }
+}

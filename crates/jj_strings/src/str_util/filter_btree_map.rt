@@ -1,0 +1,113 @@
+//! The entries of a map whose keys' texts a matcher's set holds.
+ghost use Rattle.std.specs.Prelude.{◌≡◌, length};
+ghost use Rattle.std.specs.Map.Iter.{TakesFirst, deref_pair};
+ghost use Rattle.jj_strings.specs.EntriesLeft.{entries_left, HoldsAllOf};
+
+use crate::str_util::matcher::StringMatcher;
+use crate::str_util::text_key::TextKey;
+use either::{Either, Left, Right};
+use std::alloc::{AllocError, Global};
+use std::collections::BTreeMap;
+use std::collections::btree_map::Iter;
+use std::option::IntoIter;
+
+/// Entries of a map that are still to be looked at: all of them, or the one of a key.
+type Entries<'a, K, V> = Either<Iter<'a, K, V>, IntoIter<(&'a K, &'a V)>>;
+
+/// The entries, in order. After an error there are no more.
+#[derive(Drop)]
+pub struct FilterBTreeMap<'a, 'm, K: TextKey, V> {
+    matcher: &'m StringMatcher,
+    alloc: Global,
+    entries: Entries<'a, K, V>,
+}
+
+impl StringMatcher {
+    ghost use Rattle.jj_strings.specs.StringMatchers.{InMatcher};
+    ghost use Rattle.jj_strings.specs.FilterViews.{filter_matcher, filter_entries};
+
+    /// The entries whose keys' texts the set holds, in order. The entry of an exact text is looked up. Memory is taken only
+    /// where a regular expression is inside.
+    pub fn filter_btree_map<'a, 'm, K: TextKey, V>(
+        &'m self,
+        alloc: Global,
+        map: &'a BTreeMap<K, V>,
+    ) -> FilterBTreeMap<'a, 'm, K, V>
+        ensures matcher { filter_matcher result ≡ self.now }
+        ensures entries { HoldsAllOf (λ e. InMatcher self.now (K.key_text e.0)) map.now.entries (filter_entries result) }
+    {
+        FilterBTreeMap {
+            matcher: self,
+            alloc,
+            entries: self.candidates(alloc, map),
+        }
+    }
+
+    /// The entries whose keys' texts the set holds, in order, as `filter_btree_map` gives them.
+    pub fn filter_btree_map_as_deref<'a, 'm, K: TextKey, V>(
+        &'m self,
+        alloc: Global,
+        map: &'a BTreeMap<K, V>,
+    ) -> FilterBTreeMap<'a, 'm, K, V>
+        ensures matcher { filter_matcher result ≡ self.now }
+        ensures entries { HoldsAllOf (λ e. InMatcher self.now (K.key_text e.0)) map.now.entries (filter_entries result) }
+    {
+        self.filter_btree_map(alloc, map)
+    }
+
+    // The entries that have to be looked at: that of the text for an exact matcher, else all. Where there is no memory for the
+    // key of the text, all are looked at.
+    fn candidates<'a, K: TextKey, V>(
+        &self,
+        alloc: Global,
+        map: &'a BTreeMap<K, V>,
+    ) -> Entries<'a, K, V>
+        ensures { HoldsAllOf (λ e. InMatcher self.now (K.key_text e.0)) map.now.entries (entries_left result) }
+    {
+        let entries = map.iter();
+        let StringMatcher::Exact(text) = self else {
+            return Left(entries);
+        };
+        match K::from_text(alloc, text.as_str()) {
+            Ok(key) => Right(map.get_key_value(&key).into_iter()),
+            Err(_) => Left(entries),
+        }
+    }
+}
+
+impl<'a, 'm, K: TextKey, V> Iterator for FilterBTreeMap<'a, 'm, K, V> {
+    ghost use Rattle.std.specs.Iterator.{at_most};
+    ghost use Rattle.std.specs.Map.Iter.{deref_pair};
+    ghost use Rattle.jj_strings.specs.Lines.{GivesNext};
+    ghost use Rattle.jj_strings.specs.StringMatchers.{InMatcher};
+
+    type Item = Result<(&'a K, &'a V), AllocError>;
+
+    ghost next_gives = { λ s r t. GivesNext deref_pair (λ e. InMatcher s.matcher.now (K.key_text e.0)) (entries_left s.entries) r (entries_left t.entries) × (t.matcher ≡ s.matcher) };
+
+    ghost remaining = { λ s. at_most (length (entries_left s.entries)) };
+
+    fn next(&mut self) -> Option<Result<(&'a K, &'a V), AllocError>> {
+        while let Some(entry) = next_entry(&mut self.entries) {
+            match self.matcher.is_match(self.alloc, entry.0.as_text()) {
+                Ok(true) => return Some(Ok(entry)),
+                Ok(false) => {}
+                Err(error) => {
+                    self.entries = Right(None.into_iter());
+                    return Some(Err(error));
+                }
+            }
+        }
+        None
+    }
+}
+
+// The next of the entries that are left.
+fn next_entry<'a, K: TextKey, V>(entries: &mut Entries<'a, K, V>) -> Option<(&'a K, &'a V)>
+    ensures { TakesFirst deref_pair (entries_left entries.old) result (entries_left entries.new) }
+{
+    match entries {
+        Left(all) => all.next(),
+        Right(found) => found.next(),
+    }
+}

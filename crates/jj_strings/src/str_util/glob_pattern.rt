@@ -1,0 +1,84 @@
+//! A glob as a pattern of strings: its `?` and `*` stand for `/` too.
+ghost use Rattle.std.specs.Prelude.{◌≡◌, ◌↔◌, IsTrue, IsOk, OnOk, MatchResult};
+ghost use Rattle.jj_globs.specs.GlobText.{tokens_of};
+ghost use Rattle.jj_globs.specs.GlobReads.{IsReadingFault};
+ghost use Rattle.jj_strings.specs.StringSets.{string_glob};
+
+use jj_globs::glob::{Glob, GlobError};
+use std::alloc::{AllocError, Global};
+use std::fmt;
+use std::marker::Model;
+use std::rc::Rc;
+
+/// A glob without separator, seen as its text and whether ASCII letters match in either case. A clone shares the glob.
+#[derive(Drop)]
+pub struct GlobPattern {
+    parsed: Rc<Glob>,
+}
+
+impl Model for GlobPattern {
+    ghost use Rattle.std.specs.Prelude.{◌≡◌, false};
+    ghost use Rattle.jj_strings.specs.StringGlobs.{StringGlob};
+
+    ghost Value = { StringGlob };
+
+    ghost view = { λ p. record { text = p.parsed.value.text; icase = p.parsed.value.options.icase } };
+
+    ghost invariant = { λ p. p.parsed.value.options.separator ≡ false };
+}
+
+impl GlobPattern {
+    ghost use Rattle.jj_globs.specs.GlobMeaning.{IsMatch};
+    ghost use Rattle.jj_strings.specs.StringGlobs.{as_glob};
+
+    // The pattern that the text is; with `icase` ASCII letters match in either case.
+    pub(crate) fn parse(alloc: Global, text: &str, icase: bool) -> Result<GlobPattern, GlobError>
+        ensures pattern { MatchResult result
+            (λ pattern. pattern ≡ string_glob text.now icase)
+            (λ error. IsReadingFault error (tokens_of text.now)) }
+        ensures reads { OnOk result (IsOk (tokens_of text.now)) }
+    {
+        let glob = match Glob::parse(alloc, text, false, icase) {
+            Ok(glob) => glob,
+            Err(error) => return Err(error),
+        };
+        Ok(GlobPattern {
+            parsed: Rc::new(alloc, glob)?,
+        })
+    }
+
+    /// The text that was parsed.
+    pub fn as_str(&self) -> &str
+        ensures { result.now ≡ self.now.text }
+    {
+        self.parsed.as_str()
+    }
+
+    // The text of the regular expression that matches as the glob does.
+    pub(crate) fn regex_text(&self, alloc: Global) -> Result<String, AllocError> {
+        self.parsed.regex_text(alloc)
+    }
+
+    // Whether the pattern's set holds the bytes.
+    pub(crate) fn holds(&self, bytes: &[u8]) -> bool
+        ensures { IsTrue result ↔ IsMatch (as_glob self.now) bytes.now }
+    {
+        self.parsed.is_match(bytes)
+    }
+}
+
+impl Clone for GlobPattern {
+    ghost is_clone = { λ pattern copy. copy ≡ pattern };
+
+    fn clone(&self) -> Result<GlobPattern, AllocError> {
+        Ok(GlobPattern {
+            parsed: self.parsed.clone()?,
+        })
+    }
+}
+
+impl fmt::Debug for GlobPattern {
+    fn fmt<W: fmt::Write>(&self, f: &mut fmt::Formatter<W>) -> fmt::Result {
+        f.debug_tuple("GlobPattern").field(&self.as_str()).finish()
+    }
+}

@@ -1,0 +1,90 @@
+//! The lines of a text that a matcher's set holds.
+ghost use Rattle.std.specs.Prelude.{◌≡◌, ◌<◌, ◌∷◌, length};
+ghost use Rattle.jj_strings.specs.Lines.{lines, without_feed, first_len};
+
+use crate::str_util::matcher::StringMatcher;
+use std::alloc::{AllocError, Global};
+
+/// The lines, with their line feeds, in order. After an error there are no more.
+#[derive(Drop)]
+pub struct MatchLines<'a, 'm> {
+    matcher: &'m StringMatcher,
+    alloc: Global,
+    rest: &'a [u8],
+}
+
+impl StringMatcher {
+    ghost use Rattle.jj_strings.specs.LinesLeft.{matcher_of, rest_of};
+
+    /// The lines of the text that the set holds without their line feeds. Memory is taken only where a regular expression is
+    /// inside.
+    pub fn match_lines<'a, 'm>(&'m self, alloc: Global, text: &'a [u8]) -> MatchLines<'a, 'm>
+        ensures matcher { matcher_of result ≡ self.now }
+        ensures rest { rest_of result ≡ text.now }
+    {
+        MatchLines {
+            matcher: self,
+            alloc,
+            rest: text,
+        }
+    }
+}
+
+impl<'a, 'm> Iterator for MatchLines<'a, 'm> {
+    ghost use Rattle.std.specs.Iterator.{at_most};
+    ghost use Rattle.jj_strings.specs.StringMatchers.{InMatcher};
+    ghost use Rattle.jj_strings.specs.Lines.{GivesNextLine};
+
+    type Item = Result<&'a [u8], AllocError>;
+
+    ghost next_gives = { λ s r t. GivesNextLine (InMatcher s.matcher.now) s.rest.now r t.rest.now × (t.matcher ≡ s.matcher) };
+
+    ghost remaining = { λ s. at_most (length s.rest.now) };
+
+    fn next(&mut self) -> Option<Result<&'a [u8], AllocError>> {
+        while !self.rest.is_empty() {
+            let (line, rest) = cut_line(self.rest);
+            self.rest = rest;
+            match self.matcher.is_match_bytes(self.alloc, strip_feed(line)) {
+                Ok(true) => return Some(Ok(line)),
+                Ok(false) => {}
+                Err(error) => {
+                    self.rest = &rest[rest.len()..];
+                    return Some(Err(error));
+                }
+            }
+        }
+        None
+    }
+}
+
+// The first line, and what follows it.
+fn cut_line(text: &[u8]) -> (&[u8], &[u8])
+    requires { 0 < length text.now }
+    ensures lines { lines text.now ≡ result.0.now ∷ lines result.1.now }
+    ensures shorter { length result.1.now < length text.now }
+{
+    text.split_at(first_line_len(text))
+}
+
+// How long the first line is, with its line feed.
+fn first_line_len(text: &[u8]) -> usize
+    ensures { result ≡ first_len text.now }
+{
+    for (at, byte) in text.iter().enumerate() {
+        if *byte == b'\n' {
+            return at + 1;
+        }
+    }
+    text.len()
+}
+
+// The line without its line feed.
+fn strip_feed(line: &[u8]) -> &[u8]
+    ensures { result.now ≡ without_feed line.now }
+{
+    match line.split_last() {
+        Some((last, front)) => { if *last == b'\n' { front } else { line } }
+        None => line,
+    }
+}

@@ -1,0 +1,70 @@
+//! Matchers of strings: sets in the form in which they are asked.
+ghost use Rattle.std.specs.Prelude.{◌≡◌, ◌↔◌, ℕ, List, IsTrue, IsErr, IfOk, string_bytes};
+
+use crate::str_util::expression::StringExpression;
+use crate::str_util::predicate::BytePredicate;
+use std::alloc::{AllocError, Global};
+use std::fmt;
+
+/// A set of strings that can be asked.
+#[derive(Drop)]
+pub enum StringMatcher {
+    /// Every string.
+    All,
+    /// This text alone.
+    Exact(String),
+    /// The strings of the expression, which the matcher owns.
+    Expr(StringExpression),
+    /// The strings that the caller's predicate accepts.
+    Fn(BytePredicate),
+}
+
+impl StringMatcher {
+    ghost use Rattle.jj_strings.specs.StringMatchers.{InMatcher, MayAllocate};
+
+    /// Every string.
+    pub fn all() -> Self
+        ensures { (bytes : List ℕ) → InMatcher result bytes }
+    {
+        StringMatcher::All
+    }
+
+    /// The text alone.
+    pub fn exact(text: String) -> Self
+        ensures { (bytes : List ℕ) → InMatcher result bytes ↔ (bytes ≡ string_bytes text) }
+    {
+        StringMatcher::Exact(text)
+    }
+
+    /// Whether the set holds the text. Memory is taken only where a regular expression is inside.
+    pub fn is_match(&self, alloc: Global, haystack: &str) -> Result<bool, AllocError>
+        ensures answer { IfOk result (λ yes. IsTrue yes ↔ InMatcher self.now haystack.now) }
+        ensures memory { IsErr result → MayAllocate self.now }
+    {
+        self.is_match_bytes(alloc, haystack.as_bytes())
+    }
+
+    /// Whether the set holds the bytes. Memory is taken only where a regular expression is inside.
+    pub fn is_match_bytes(&self, alloc: Global, haystack: &[u8]) -> Result<bool, AllocError>
+        ensures answer { IfOk result (λ yes. IsTrue yes ↔ InMatcher self.now haystack.now) }
+        ensures memory { IsErr result → MayAllocate self.now }
+    {
+        match self {
+            StringMatcher::All => Ok(true),
+            StringMatcher::Exact(needle) => Ok(haystack == needle.as_bytes()),
+            StringMatcher::Expr(expression) => expression.holds(alloc, haystack),
+            StringMatcher::Fn(predicate) => Ok(predicate.accepts(haystack)),
+        }
+    }
+}
+
+impl fmt::Debug for StringMatcher {
+    fn fmt<W: fmt::Write>(&self, f: &mut fmt::Formatter<W>) -> fmt::Result {
+        match self {
+            StringMatcher::All => f.write_str("All"),
+            StringMatcher::Exact(text) => f.debug_tuple("Exact").field(text).finish(),
+            StringMatcher::Expr(expression) => f.debug_tuple("Expr").field(expression).finish(),
+            StringMatcher::Fn(_) => f.debug_tuple("Fn").finish_non_exhaustive(),
+        }
+    }
+}

@@ -1,0 +1,229 @@
+//! Patterns of strings.
+ghost use Rattle.std.specs.Prelude.{◌≡◌, ◌↔◌, ℕ, [], Bool, true, false, IsTrue, IsOk, IsErr, IfOk, IfErr, OnOk, MatchOption, MatchResult, option_map, is_some, string_bytes};
+ghost use Rattle.std.specs.List.{list_any};
+ghost use Rattle.jj_globs.specs.GlobEscape.{is_special};
+
+use jj_globs::glob::is_special;
+use crate::str_util::error::StringPatternParseError;
+use crate::str_util::folding::contains_folded;
+use crate::str_util::glob_pattern::GlobPattern;
+use crate::str_util::kind::PatternKind;
+use bstr::ByteSlice;
+use regex::RegexBuilder;
+use regex::bytes::Regex;
+use std::alloc::{AllocError, Global};
+use std::rc::Rc;
+
+/// A pattern of strings. `I` takes ASCII letters in either case.
+#[derive(Debug, Drop)]
+pub enum StringPattern {
+    /// This text alone.
+    Exact(String),
+    ExactI(String),
+    /// Every string that has this text as a part.
+    Substring(String),
+    SubstringI(String),
+    /// Every string for which the glob stands.
+    Glob(Box<GlobPattern>),
+    GlobI(Box<GlobPattern>),
+    /// Every string in which the regular expression has a match.
+    Regex(Rc<Regex>),
+    RegexI(Rc<Regex>),
+}
+
+impl StringPattern {
+    ghost use Rattle.jj_strings.specs.StringSets.{InPattern, IsRegex, exact, exact_i, substring, substring_i, glob_i, glob_or_exact, string_glob, text_of, is_all, exact_text};
+    ghost use Rattle.jj_strings.specs.PatternViews.{pattern_of};
+    ghost use Rattle.jj_strings.specs.PatternFaults.{IsGlobFault, IsRegexFault};
+    ghost use Rattle.jj_strings.specs.PatternKinds.{kind_named, ReadsAsKind, IsUnknownKind, IsRegexOf, IsRegexIOf, bytes_config, bytes_config_i};
+
+    /// Every string.
+    pub fn all(alloc: Global) -> Self
+        ensures { pattern_of result ≡ substring [] }
+    {
+        StringPattern::Substring(String::new(alloc))
+    }
+
+    /// The text alone.
+    pub fn exact(text: String) -> Self
+        ensures { pattern_of result ≡ exact (string_bytes text) }
+    {
+        StringPattern::Exact(text)
+    }
+
+    /// Every string that is the text but for the case of ASCII letters.
+    pub fn exact_i(text: String) -> Self
+        ensures { pattern_of result ≡ exact_i (string_bytes text) }
+    {
+        StringPattern::ExactI(text)
+    }
+
+    /// Every string that has the text as a part.
+    pub fn substring(text: String) -> Self
+        ensures { pattern_of result ≡ substring (string_bytes text) }
+    {
+        StringPattern::Substring(text)
+    }
+
+    /// Every string that has the text as a part, but for the case of ASCII letters.
+    pub fn substring_i(text: String) -> Self
+        ensures { pattern_of result ≡ substring_i (string_bytes text) }
+    {
+        StringPattern::SubstringI(text)
+    }
+
+    /// Every string for which the glob stands. A glob without any of `? * [ ] { } \` is exact.
+    pub fn glob(alloc: Global, text: &str) -> Result<Self, StringPatternParseError>
+        ensures { MatchResult result (λ pattern. pattern_of pattern ≡ glob_or_exact text.now) (IsGlobFault text.now) }
+    {
+        if !has_special(text) {
+            return Ok(StringPattern::exact(String::from_str(alloc, text)?));
+        }
+        let pattern = GlobPattern::parse(alloc, text, false)?;
+        Ok(StringPattern::Glob(Box::new(alloc, pattern)?))
+    }
+
+    /// Every string for which the glob stands, with ASCII letters in either case.
+    pub fn glob_i(alloc: Global, text: &str) -> Result<Self, StringPatternParseError>
+        ensures { MatchResult result (λ pattern. pattern_of pattern ≡ glob_i (string_glob text.now true)) (IsGlobFault text.now) }
+    {
+        let pattern = GlobPattern::parse(alloc, text, true)?;
+        Ok(StringPattern::GlobI(Box::new(alloc, pattern)?))
+    }
+
+    /// Every string in which the regular expression has a match.
+    pub fn regex(alloc: Global, text: &str) -> Result<Self, StringPatternParseError>
+        ensures { MatchResult result (λ pattern. IsRegexOf bytes_config text.now (pattern_of pattern)) (IsRegexFault bytes_config text.now) }
+    {
+        let pattern = Regex::new(alloc, text)?;
+        Ok(StringPattern::Regex(Rc::new(alloc, pattern)?))
+    }
+
+    /// Every string in which the regular expression has a match, with letters in either case.
+    pub fn regex_i(alloc: Global, text: &str) -> Result<Self, StringPatternParseError>
+        ensures { MatchResult result (λ pattern. IsRegexIOf bytes_config_i text.now (pattern_of pattern)) (IsRegexFault bytes_config_i text.now) }
+    {
+        let pattern = RegexBuilder::new(text)
+            .case_insensitive(true)
+            .build_bytes(alloc)?;
+        Ok(StringPattern::RegexI(Rc::new(alloc, pattern)?))
+    }
+
+    /// The pattern that the text is as one of the kind: `exact`, `substring`, `glob`, `regex`, each also with `-i`.
+    pub fn from_str_kind(
+        alloc: Global,
+        text: &str,
+        kind: &str,
+    ) -> Result<Self, StringPatternParseError>
+        ensures { MatchOption (kind_named kind.now) (IsUnknownKind kind.now result) (λ k. ReadsAsKind k text.now result) }
+    {
+        let Some(kind) = PatternKind::from_name(kind) else {
+            let kind = String::from_str(alloc, kind)?;
+            return Err(StringPatternParseError::InvalidKind(kind));
+        };
+        match kind {
+            PatternKind::Exact => Ok(StringPattern::exact(String::from_str(alloc, text)?)),
+            PatternKind::ExactI => Ok(StringPattern::exact_i(String::from_str(alloc, text)?)),
+            PatternKind::Substring => Ok(StringPattern::substring(String::from_str(alloc, text)?)),
+            PatternKind::SubstringI => Ok(StringPattern::substring_i(String::from_str(
+                alloc, text,
+            )?)),
+            PatternKind::Glob => StringPattern::glob(alloc, text),
+            PatternKind::GlobI => StringPattern::glob_i(alloc, text),
+            PatternKind::Regex => StringPattern::regex(alloc, text),
+            PatternKind::RegexI => StringPattern::regex_i(alloc, text),
+        }
+    }
+
+    /// Whether the pattern is seen at once to hold every string: an empty part, an empty regular expression, the glob `*`.
+    pub fn is_all(&self) -> bool
+        ensures { result ≡ is_all (pattern_of self.now) }
+    {
+        match self {
+            StringPattern::Exact(_) => false,
+            StringPattern::ExactI(_) => false,
+            StringPattern::Substring(text) => text.is_empty(),
+            StringPattern::SubstringI(text) => text.is_empty(),
+            StringPattern::Glob(pattern) => pattern.as_str() == "*",
+            StringPattern::GlobI(pattern) => pattern.as_str() == "*",
+            StringPattern::Regex(pattern) => pattern.as_str().is_empty(),
+            StringPattern::RegexI(pattern) => pattern.as_str().is_empty(),
+        }
+    }
+
+    /// Whether the pattern is one text alone.
+    pub fn is_exact(&self) -> bool
+        ensures { result ≡ is_some (exact_text (pattern_of self.now)) }
+    {
+        self.as_exact().is_some()
+    }
+
+    /// The one text of an exact pattern.
+    pub fn as_exact(&self) -> Option<&str>
+        ensures { option_map (λ text. text.now) result ≡ exact_text (pattern_of self.now) }
+    {
+        match self {
+            StringPattern::Exact(text) => Some(text.as_str()),
+            _ => None,
+        }
+    }
+
+    /// The text that the pattern was made of.
+    pub fn as_str(&self) -> &str
+        ensures { result.now ≡ text_of (pattern_of self.now) }
+    {
+        match self {
+            StringPattern::Exact(text) => text.as_str(),
+            StringPattern::ExactI(text) => text.as_str(),
+            StringPattern::Substring(text) => text.as_str(),
+            StringPattern::SubstringI(text) => text.as_str(),
+            StringPattern::Glob(pattern) => pattern.as_str(),
+            StringPattern::GlobI(pattern) => pattern.as_str(),
+            StringPattern::Regex(pattern) => pattern.as_str(),
+            StringPattern::RegexI(pattern) => pattern.as_str(),
+        }
+    }
+
+    // Whether the pattern's set holds the bytes.
+    pub(crate) fn holds(&self, alloc: Global, bytes: &[u8]) -> Result<bool, AllocError>
+        ensures answer { IfOk result (λ yes. IsTrue yes ↔ InPattern (pattern_of self.now) bytes.now) }
+        ensures memory { IsErr result → IsRegex (pattern_of self.now) }
+    {
+        match self {
+            StringPattern::Exact(text) => Ok(bytes == text.as_bytes()),
+            StringPattern::ExactI(text) => Ok(bytes.eq_ignore_ascii_case(text.as_bytes())),
+            StringPattern::Substring(text) => Ok(bytes.contains_str(text.as_bytes())),
+            StringPattern::SubstringI(text) => Ok(contains_folded(bytes, text.as_bytes())),
+            StringPattern::Glob(pattern) => Ok(pattern.holds(bytes)),
+            StringPattern::GlobI(pattern) => Ok(pattern.holds(bytes)),
+            StringPattern::Regex(pattern) => Ok(pattern.matcher(alloc)?.is_match(bytes)),
+            StringPattern::RegexI(pattern) => Ok(pattern.matcher(alloc)?.is_match(bytes)),
+        }
+    }
+}
+
+// Whether the text has one of the bytes that do not stand for themselves in a glob.
+fn has_special(text: &str) -> bool
+    ensures { result ≡ list_any is_special text.now }
+{
+    text.as_bytes().iter().any(|byte| is_special(*byte))
+}
+
+impl Clone for StringPattern {
+    ghost use Rattle.jj_strings.specs.PatternViews.{pattern_of};
+
+    ghost is_clone = { λ pattern copy. pattern_of copy ≡ pattern_of pattern };
+
+    fn clone(&self) -> Result<StringPattern, AllocError> {
+        match self {
+            StringPattern::Exact(text) => Ok(StringPattern::Exact(text.clone()?)),
+            StringPattern::ExactI(text) => Ok(StringPattern::ExactI(text.clone()?)),
+            StringPattern::Substring(text) => Ok(StringPattern::Substring(text.clone()?)),
+            StringPattern::SubstringI(text) => Ok(StringPattern::SubstringI(text.clone()?)),
+            StringPattern::Glob(pattern) => Ok(StringPattern::Glob(pattern.clone()?)),
+            StringPattern::GlobI(pattern) => Ok(StringPattern::GlobI(pattern.clone()?)),
+            StringPattern::Regex(pattern) => Ok(StringPattern::Regex(pattern.clone()?)),
+            StringPattern::RegexI(pattern) => Ok(StringPattern::RegexI(pattern.clone()?)),
+        }
+    }
+}

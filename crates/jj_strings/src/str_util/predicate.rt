@@ -1,0 +1,34 @@
+//! A predicate on bytes that the caller brings.
+ghost use Rattle.std.specs.Prelude.{◌≡◌, Bool};
+
+/// The caller's test of bytes.
+pub type ByteTest = Box<dyn Fn(&[u8]) -> bool>;
+
+/// A predicate that may be called on all bytes, and has one answer for each.
+#[derive(Drop)]
+pub struct BytePredicate {
+    test: ByteTest,
+    ghost callable: { ByteTest.IsAlwaysCallable test },
+    ghost one_answer: { (x y : _) (r s : Bool) → x.now ≡ y.now → ByteTest.post test x r → ByteTest.post test y s → r ≡ s },
+}
+
+impl BytePredicate {
+    ghost use Rattle.std.specs.Prelude.{◌≡◌, ◌↔◌, ℕ, Bool, true, List};
+    ghost use Rattle.jj_strings.specs.Predicates.{Accepts};
+
+    /// The predicate of this test.
+    pub fn new(test: ByteTest) -> BytePredicate
+        requires callable { ByteTest.IsAlwaysCallable test }
+        requires one_answer { (x y : _) (r s : Bool) → x.now ≡ y.now → ByteTest.post test x r → ByteTest.post test y s → r ≡ s }
+        ensures { (bytes : List ℕ) → Accepts result bytes ↔ ((x : _) × (x.now ≡ bytes) × ByteTest.post test x true) }
+    {
+        BytePredicate { test }
+    }
+
+    // Whether the test accepts the bytes.
+    pub(crate) fn accepts(&self, bytes: &[u8]) -> bool
+        ensures { ByteTest.post self.now.test bytes.entry result }
+    {
+        (self.test)(bytes)
+    }
+}

@@ -1,0 +1,7 @@
+//! Tests of sets of strings, over the public calls.
+//
+// In a run in which one request for memory is refused, a test answers that, and is then run once more, when there is memory.
+#![tactic(auto)]
+
+#[cfg(test)]
+mod string_sets;
