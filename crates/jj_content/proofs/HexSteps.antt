@@ -1,12 +1,12 @@
 -- A text read two digits at a time: a bad digit, one more pair, and a last digit that stands alone.
-use Rattle.std.proofs.Common.{◌≡◌, ℕ, ◌+◌, ◌*◌, ◌/◌, ◌%◌, ◌<◌, ◌≤◌, List, [], ◌∷◌, ◌++◌, length, get_or, take, drop, Option, Some, None, refl, sym, ap, ◌∙◌, subst, arith, suc, zero}
+use Rattle.std.proofs.Common.{◌≡◌, ℕ, ◌+◌, ◌*◌, ◌/◌, ◌%◌, ◌<◌, ◌≤◌, List, [], ◌∷◌, ◌++◌, length, get_or, take, drop, Some, None, refl, sym, ap, ◌∙◌, arith, suc, zero}
 use Rattle.std.specs.Simd.{first_chunks}
-use Rattle.std.proofs.lemmas.List.{append-nil, append_assoc, drop-drop, drop_more, get_or-take, get_or-drop, get_or_append_left, length-append, take_more, take_all}
+use Rattle.std.proofs.lemmas.List.{append-nil, append_assoc, drop-drop, get_or-take, get_or-drop, get_or_append_left, length-append, take_more, take_all}
 use Rattle.jj_content.specs.Hex.{ReadsAs, ReadsAsNothing, evened, digit_value}
 use Rattle.jj_content.specs.HexKinds.{digits_of}
 use Rattle.jj_content.specs.declared.hex_util.Digits.{Digits}
 use Rattle.jj_content.specs.declared.hex_util.Digits.TheVariants.{Forward, Reverse}
-use Rattle.jj_content.proofs.HexTexts.{AreDigits, are_hex_digits, are_reverse_hex_digits, ReadsAs-push, ReadsAs-digit, ReadsAs-length}
+use Rattle.jj_content.proofs.HexTexts.{AreDigits, are_hex_digits, are_reverse_hex_digits, ReadsAs-push, ReadsAs-digit}
 
 pub are_digits : (digits : Digits) → AreDigits (digits_of digits)
 are_digits Forward = are_hex_digits

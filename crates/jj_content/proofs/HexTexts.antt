@@ -1,19 +1,18 @@
 -- Each digit stands at one place, so a text that reads as bytes has a digit at each place and reads as no others.
-use Rattle.std.proofs.Common.{◌≡◌, ℕ, ◌+◌, ◌*◌, ◌/◌, ◌%◌, ◌<◌, ◌≤◌, List, [], ◌∷◌, ◌++◌, length, get_or, take, drop, replicate, All, Option, Some, None, true, false, cond, eqb, refl, sym, ap, ◌∙◌, subst, arith, rules, lit<, lit≤, suc, zero, map, min, inl, inr, ◌≢◌}
-use Rattle.std.specs.Prelude.{position, codes, slice_index}
+use Rattle.std.proofs.Common.{◌≡◌, ℕ, ◌+◌, ◌*◌, ◌/◌, ◌%◌, ◌<◌, ◌≤◌, List, [], ◌∷◌, ◌++◌, length, get_or, take, drop, All, Option, Some, None, true, false, eqb, refl, sym, ap, ◌∙◌, arith, lit<, lit≤, suc, zero, map, min, inl, inr, ◌≢◌}
+use Rattle.std.specs.Prelude.{position}
 use Rattle.std.specs.Str.{str_to_ascii_lowercase, IsAscii}
 use Rattle.std.proofs.lemmas.Str.Ascii.{IsAscii-nil, IsAscii-cons, IsAscii-from_reads}
 use Rattle.std.specs.Char.{to_ascii_lowercase}
-use Rattle.std.specs.List.{flat_map, list_all}
+use Rattle.std.specs.List.{list_all}
 use Rattle.std.specs.Option.{is_some}
-use Rattle.std.proofs.lemmas.Grind.{common_steps}
 use Rattle.std.proofs.lemmas.List.{map-append, length-map, drop_more, drop_all}
 use Rattle.std.proofs.lemmas.List.Concat.{flat_map-append}
 use Rattle.std.proofs.lemmas.List.Elements.{All-nil, All-push, All-head, All-tail, All-append}
 use Rattle.std.proofs.lemmas.Bool.{eqb-true, eq-eqb, cases_lt, and_parts}
 use Rattle.std.proofs.lemmas.Bool.Decides.{eqb_tells}
 use Rattle.std.proofs.lemmas.List.Quantifiers.{position-Some}
-use Rattle.jj_content.specs.Hex.{hex_digits, reverse_hex_digits, digit_pair, text_with, ReadsAs, ReadsAsNothing, evened, digit_value, common_length, is_text_of}
+use Rattle.jj_content.specs.Hex.{hex_digits, reverse_hex_digits, digit_pair, text_with, ReadsAs, ReadsAsNothing, digit_value, common_length, is_text_of}
 
 -- a number that is a byte
 abbrev pub IsByte : ℕ → Type 0

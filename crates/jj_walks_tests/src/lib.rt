@@ -1,14 +1,19 @@
-//! Tests of `jj_walks` over its public calls, and two callers that are proved by its contracts.
+//! Tests of `jj_walks` over its public calls, and a caller that is proved by its contracts.
 #![tactic(auto)]
 
 pub mod callers;
+#[cfg(test)]
 mod hostile;
+#[cfg(test)]
 mod maximal;
+#[cfg(test)]
 mod orders;
 #[cfg(test)]
 mod reversed;
 mod shown;
+#[cfg(test)]
 mod tables;
 #[cfg(test)]
 mod texts;
+#[cfg(test)]
 mod topo_order_reverse_ord_tests;

@@ -1,6 +1,7 @@
 //! The heads of sets in small graphs.
-use crate::tables::{maximal, maximal_lists, maximal_ok};
-use jj_walks::dag_walk::WalkError;
+use crate::tables::{found, maximal, maximal_lists, maximal_ok, met};
+use std::alloc::{AllocError, Global};
+use std::process::Abort;
 use std::test::Fail;
 
 /// D and F over C, F over e, and both over b and A.
@@ -26,60 +27,75 @@ const TWO_ROOTS: &[(char, &[char])] = &[('3', &['1']), ('4', &['1']), ('2', &['5
 /// B to A and to a failed item, C to B.
 const BROKEN: &[(char, &[Result<char, char>])] = &[('B', &[Ok('A'), Err('X')]), ('C', &[Ok('B')])];
 
+fn sets<R: Abort>(rt: &R, alloc: Global) -> Result<(), AllocError> {
+    for start in [&['A', 'C', 'D', 'F'], &['F', 'D', 'C', 'A']] {
+        let heads = maximal(alloc, MIXED, start)?;
+        assert_eq!(rt; heads.len(), 2);
+        assert!(rt; heads.contains(&'D') && heads.contains(&'F'));
+    }
+    let heads = maximal(alloc, MIXED, &['A', 'C'])?;
+    assert_eq!(rt; heads.len(), 1);
+    assert!(rt; heads.contains(&'C'));
+    let heads = maximal(alloc, CROSSED, &['A', 'C', 'D'])?;
+    assert_eq!(rt; heads.len(), 1);
+    assert!(rt; heads.contains(&'D'));
+    let heads = maximal(alloc, TWO_ROOTS, &['1', '3', '4'])?;
+    assert_eq!(rt; heads.len(), 2);
+    assert!(rt; heads.contains(&'3') && heads.contains(&'4'));
+    assert_eq!(rt; maximal(alloc, CROSSED, &[])?.len(), 0);
+    Ok(())
+}
+
 #[test]
 fn heads_of_sets(rt: HostRuntime) -> Result<(), Fail> {
     let alloc = rt.alloc();
-    for start in [&['A', 'C', 'D', 'F'], &['F', 'D', 'C', 'A']] {
-        let found = maximal(alloc, MIXED, start)?;
-        assert_eq!(rt; found.len(), 2);
-        assert!(rt; found.contains(&'D') && found.contains(&'F'));
+    let first = sets(&rt, alloc);
+    if first.is_err() {
+        sets(&rt, alloc)?;
     }
-    let found = maximal(alloc, MIXED, &['A', 'C'])?;
-    assert_eq!(rt; found.len(), 1);
-    assert!(rt; found.contains(&'C'));
-    let found = maximal(alloc, CROSSED, &['A', 'C', 'D'])?;
-    assert_eq!(rt; found.len(), 1);
-    assert!(rt; found.contains(&'D'));
-    let found = maximal(alloc, TWO_ROOTS, &['1', '3', '4'])?;
-    assert_eq!(rt; found.len(), 2);
-    assert!(rt; found.contains(&'3') && found.contains(&'4'));
-    assert_eq!(rt; maximal(alloc, CROSSED, &[])?.len(), 0);
+    Ok(())
+}
+
+fn failing_graphs<R: Abort>(rt: &R, alloc: Global) -> Result<(), AllocError> {
+    for node in ['A', 'B', 'C'] {
+        let heads = found(rt, maximal_ok(alloc, BROKEN, &[Ok(node)]))?;
+        assert_eq!(rt; heads.len(), 1);
+        assert!(rt; heads.contains(&node));
+    }
+    for second in ['B', 'A'] {
+        let error = met(rt, maximal_ok(alloc, BROKEN, &[Ok('C'), Ok(second)]))?;
+        assert_eq!(rt; error, 'X');
+    }
+    let error = met(rt, maximal_ok(alloc, BROKEN, &[Ok('C'), Err('Z')]))?;
+    assert_eq!(rt; error, 'Z');
     Ok(())
 }
 
 #[test]
 fn heads_of_failing_graphs(rt: HostRuntime) -> Result<(), Fail> {
     let alloc = rt.alloc();
-    for node in ['A', 'B', 'C'] {
-        let found = maximal_ok(alloc, BROKEN, &[Ok(node)])?;
-        assert_eq!(rt; found.len(), 1);
-        assert!(rt; found.contains(&node));
+    let first = failing_graphs(&rt, alloc);
+    if first.is_err() {
+        failing_graphs(&rt, alloc)?;
     }
-    for second in ['B', 'A'] {
-        match maximal_ok(alloc, BROKEN, &[Ok('C'), Ok(second)]) {
-            Ok(_found) => assert!(rt; false, "heads below a failed item"),
-            Err(WalkError::Node(error)) => assert_eq!(rt; error, 'X'),
-            Err(WalkError::Memory) => return Err(WalkError::<char>::Memory.into()),
-        }
-    }
-    match maximal_ok(alloc, BROKEN, &[Ok('C'), Err('Z')]) {
-        Ok(_found) => assert!(rt; false, "heads of a failed start"),
-        Err(WalkError::Node(error)) => assert_eq!(rt; error, 'Z'),
-        Err(WalkError::Memory) => return Err(WalkError::<char>::Memory.into()),
-    }
+    Ok(())
+}
+
+fn failing_lists<R: Abort>(rt: &R, alloc: Global) -> Result<(), AllocError> {
+    let heads = found(rt, maximal_lists(alloc, MIXED, &['A'], &['C', 'b']))?;
+    assert_eq!(rt; heads.len(), 1);
+    assert!(rt; heads.contains(&'C'));
+    let error = met(rt, maximal_lists(alloc, MIXED, &['b'], &['C', 'b']))?;
+    assert_eq!(rt; error, 'b');
     Ok(())
 }
 
 #[test]
 fn heads_of_failing_lists(rt: HostRuntime) -> Result<(), Fail> {
     let alloc = rt.alloc();
-    let found = maximal_lists(alloc, MIXED, &['A'], &['C', 'b'])?;
-    assert_eq!(rt; found.len(), 1);
-    assert!(rt; found.contains(&'C'));
-    match maximal_lists(alloc, MIXED, &['b'], &['C', 'b']) {
-        Ok(_found) => assert!(rt; false, "heads below a failed list"),
-        Err(WalkError::Node(error)) => assert_eq!(rt; error, 'b'),
-        Err(WalkError::Memory) => return Err(WalkError::<char>::Memory.into()),
+    let first = failing_lists(&rt, alloc);
+    if first.is_err() {
+        failing_lists(&rt, alloc)?;
     }
     Ok(())
 }

@@ -1,4 +1,6 @@
 //! Graphs written as tables of letters, and the walks over them.
+//
+// In a run in which one request for memory is refused, a test answers that, and is then run once more, when there is memory.
 use jj_walks::dag_walk::{
     WalkError, dfs, dfs_ok, heads, heads_ok, topo_order_forward, topo_order_forward_ok,
     topo_order_reverse, topo_order_reverse_ok,
@@ -6,6 +8,7 @@ use jj_walks::dag_walk::{
 use jj_walks::dag_walk_async;
 use std::alloc::{AllocError, Global};
 use std::collections::HashSet;
+use std::process::Abort;
 
 /// Each letter with its neighbours.
 pub type Table<'a> = &'a [(char, &'a [char])];
@@ -13,7 +16,36 @@ pub type Table<'a> = &'a [(char, &'a [char])];
 /// Each letter with its items: neighbours, or errors in their place.
 pub type FailingTable<'a> = &'a [(char, &'a [Result<char, char>])];
 
-fn neighbors<'a>(table: Table<'a>, node: char) -> &'a [char] {
+/// What a walk found, where no error of a node is wanted.
+pub fn found<R: Abort, V: Drop, E: Drop>(
+    rt: &R,
+    outcome: Result<V, WalkError<E>>,
+) -> Result<V, AllocError> {
+    if let Err(WalkError::Node(_)) = &outcome {
+        assert!(rt; false, "an error of a node");
+    }
+    match outcome {
+        Ok(value) => Ok(value),
+        Err(_refused) => Err(AllocError),
+    }
+}
+
+/// The error of a node that a walk met, where one is wanted.
+pub fn met<R: Abort, V: Drop, E: Drop>(
+    rt: &R,
+    outcome: Result<V, WalkError<E>>,
+) -> Result<E, AllocError> {
+    match outcome {
+        Ok(_value) => {
+            assert!(rt; false, "no error of a node");
+            Err(AllocError)
+        }
+        Err(WalkError::Node(error)) => Ok(error),
+        Err(WalkError::Memory) => Err(AllocError),
+    }
+}
+
+pub fn neighbors<'a>(table: Table<'a>, node: char) -> &'a [char] {
     for (letter, list) in table {
         if *letter == node {
             return list;
@@ -22,7 +54,7 @@ fn neighbors<'a>(table: Table<'a>, node: char) -> &'a [char] {
     &[]
 }
 
-fn items<'a>(table: FailingTable<'a>, node: char) -> &'a [Result<char, char>] {
+pub fn items<'a>(table: FailingTable<'a>, node: char) -> &'a [Result<char, char>] {
     for (letter, list) in table {
         if *letter == node {
             return list;

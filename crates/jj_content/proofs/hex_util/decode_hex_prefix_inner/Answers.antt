@@ -1,4 +1,4 @@
-use Rattle.std.proofs.Common.{ℕ, sym, arith}
+use Rattle.std.proofs.Common.{sym, arith}
 use Rattle.std.proofs.lemmas.Bool.{eq-eqb}
 use Rattle.jj_content.proofs.HexTexts.{ReadsAs-nil}
 use Rattle.jj_content.proofs.HexSteps.{are_digits, bad_chunk, bad_last, next_pair, last_digit}
