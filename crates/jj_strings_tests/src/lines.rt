@@ -1,0 +1,64 @@
+//! The lines that a matcher finds.
+use crate::fixtures::{items, matcher};
+use std::alloc::{AllocError, Global};
+use std::process::Abort;
+
+// Kind and text of a pattern, a text, and the lines that are found in it.
+type Row = (
+    &'static str,
+    &'static str,
+    &'static str,
+    &'static [&'static str],
+);
+
+fn lines<R: Abort>(rt: &R, alloc: Global, rows: &[Row]) -> Result<(), AllocError> {
+    for (kind, pattern, text, lines) in rows {
+        let matcher = matcher(rt, alloc, kind, pattern)?;
+        let found = items(rt, alloc, matcher.match_lines(alloc, text.as_bytes()))?;
+        assert_eq!(rt; found.len(), lines.len(), "the lines of {text:?}");
+        for (bytes, line) in found.iter().zip(*lines) {
+            assert_eq!(rt; *bytes, line.as_bytes(), "in {text:?}");
+        }
+    }
+    Ok(())
+}
+
+const LINES: [Row; 14] = [
+    ("substring", "", "", &[]),
+    ("substring", "", "\n", &["\n"]),
+    ("substring", "", "foo", &["foo"]),
+    ("substring", "", "foo\n", &["foo\n"]),
+    ("substring", "", "a\n\nb", &["a\n", "\n", "b"]),
+    ("substring", "", "a\r\nb\r\n", &["a\r\n", "b\r\n"]),
+    ("exact", "foo", "foo\nbar\n", &["foo\n"]),
+    ("exact", "foo", "bar\nfoo", &["foo"]),
+    ("exact", "foo\n", "foo\nbar\n", &[]),
+    ("exact", "", "a\n\nb\n", &["\n"]),
+    ("exact", "", "a\nb\n", &[]),
+    ("exact", "foo", "foo\r\nbar", &[]),
+    ("exact", "foo\r", "foo\r\nbar", &["foo\r\n"]),
+    ("exact", "", "a\r\n\r\n", &[]),
+];
+
+#[test]
+fn lines_of_a_text(rt: HostRuntime) {
+    let alloc = rt.alloc();
+    if lines(&rt, alloc, &LINES).is_err() {
+        assert!(rt; lines(&rt, alloc, &LINES).is_ok());
+    }
+}
+
+// Memory may be refused at each line.
+const REGEX_LINES: [Row; 3] = [
+    ("regex", "^a", "ab\nba\na", &["ab\n", "a"]),
+    ("regex", "a$", "ab\nba\na", &["ba\n", "a"]),
+    ("regex", "a$", "ba\r\nba\n", &["ba\n"]),
+];
+
+#[test]
+fn lines_of_a_regex(rt: HostRuntime) {
+    let alloc = rt.alloc();
+    if lines(&rt, alloc, &REGEX_LINES).is_err() {
+        assert!(rt; lines(&rt, alloc, &REGEX_LINES).is_ok());
+    }
+}
