@@ -13,6 +13,5 @@ mod table;
 mod token;
 
 pub use error::GlobError;
-pub use escaping::escape;
-pub use escaping::is_special;
+pub use escaping::{escape, is_special};
 pub use pattern::Glob;
