@@ -10,3 +10,11 @@ pub mod Numbers
 pub mod ListedGraphs
 pub mod OneGraph
 pub mod OneAnswer
+pub mod SamePatterns
+pub mod SetPasses
+pub mod SetBuilds
+pub mod SetMatchers
+pub mod Stands
+pub mod GlobFields
+pub mod SetVisits
+pub mod SetCounts

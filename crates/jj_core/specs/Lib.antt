@@ -2,10 +2,17 @@ pub mod Faults
 pub mod Lines
 pub mod Requests
 pub mod Marks
+pub mod SetTrees
+pub mod SetParts
+pub mod FieldPairs
 pub mod WalkCommand
+pub mod SetsRead
+pub mod SetStacks
 pub mod Walked
 pub mod WalkRead
+pub mod Leaves
 pub mod Matching
+pub mod SetMatching
 pub mod MergeCommand
 pub mod MergeRead
 pub mod Numbers

@@ -1,36 +1,71 @@
--- What is seen of the matcher of a set.
-use Rattle.std.specs.Prelude.{Bool, true, false, ◌||◌, List, []}
+-- Sets that lines have combined, with a matcher at each leaf.
+use Rattle.std.specs.Prelude.{◌≡◌, Bool, false, List, [], ◌∷◌}
 use Rattle.jj_paths.specs.Paths.{Name, Path}
-use Rattle.jj_matchers.specs.Answers.{Answer, all_recursively, nothing}
-use Rattle.jj_matchers.specs.Listed.{names_of}
-use Rattle.jj_matchers.specs.Wanted.{is_wanted, leads_to_wanted, files_answer, has_prefix, leads_to_prefix, prefix_answer}
-use Rattle.jj_core.specs.declared.matching.SetMatcher.{SetMatcher}
-use Rattle.jj_core.specs.declared.matching.SetMatcher.TheVariants.{Everything, Nothing, Files, Prefix}
+use Rattle.jj_matchers.specs.Answers.{Answer, IsSound}
+use Rattle.jj_matchers.specs.Listed.{ChoosesFrom}
+use Rattle.jj_matchers.specs.declared.matchers.visits.Visit.{Visit}
+use Rattle.jj_matchers.specs.Visits.{answer_of}
+use Rattle.jj_core.specs.declared.leaf_matcher.LeafMatcher.{LeafMatcher}
+use Rattle.jj_core.specs.declared.leaf_matcher.LeafMatcher.TheVariants.{Nothing}
+use Rattle.jj_core.specs.declared.set_parts.Part.{Part}
+use Rattle.jj_core.specs.declared.set_parts.Part.TheVariants.{Leaf, Second, Combined}
+use Rattle.jj_core.specs.Leaves.{StandsFor, leaf_accepts, leaf_opens, leaf_answer, leaf_names}
+use Rattle.jj_core.specs.SetTrees.{SetTree, one, passes, is_open, names_by, answer_by}
+use Rattle.jj_core.specs.SetParts.{pass_at, pass_over, sets_of}
+use Rattle.jj_core.specs.WalkCommand.{FileSet}
 
--- the paths that it accepts
-abbrev pub accepts_of : SetMatcher → Path → Bool
-accepts_of (Everything matcher) path = true
-accepts_of (Nothing matcher) path = false
-accepts_of (Files wanted) path = is_wanted wanted path
-accepts_of (Prefix prefixes) path = has_prefix prefixes path
+-- the set on top of a stack, and the one that parts make
+abbrev pub top_set : List (SetTree LeafMatcher) → SetTree LeafMatcher
+top_set [] = one Nothing
+top_set (set ∷ stack) = set
 
--- the directories that it may open
-abbrev pub opens_of : SetMatcher → Path → Bool
-opens_of (Everything matcher) dir = true
-opens_of (Nothing matcher) dir = false
-opens_of (Files wanted) dir = leads_to_wanted wanted dir
-opens_of (Prefix prefixes) dir = has_prefix prefixes dir || leads_to_prefix prefixes dir
+abbrev pub made_by : List (Part LeafMatcher) → SetTree LeafMatcher
+made_by parts = top_set (sets_of parts)
 
--- its answer for a directory
-abbrev pub answers_of : SetMatcher → Path → Answer
-answers_of (Everything matcher) dir = all_recursively
-answers_of (Nothing matcher) dir = nothing
-answers_of (Files wanted) dir = files_answer wanted dir
-answers_of (Prefix prefixes) dir = prefix_answer prefixes dir
+-- the paths that a set accepts, the directories that it may open, its answers and the names from which they choose
+abbrev pub set_accepts : SetTree LeafMatcher → Path → Bool
+set_accepts set path = passes (leaf_accepts path) set
 
--- the names that its answers choose from
-abbrev pub candidates_of : SetMatcher → Path → List Name
-candidates_of (Everything matcher) dir = []
-candidates_of (Nothing matcher) dir = []
-candidates_of (Files wanted) dir = names_of wanted
-candidates_of (Prefix prefixes) dir = names_of prefixes
+abbrev pub set_opens : SetTree LeafMatcher → Path → Bool
+set_opens set dir = is_open (leaf_opens dir) set
+
+abbrev pub set_answer : SetTree LeafMatcher → Path → Answer
+set_answer set dir = answer_by leaf_names (leaf_answer dir) set
+
+abbrev pub set_names : SetTree LeafMatcher → List Name
+set_names set = names_by leaf_names set
+
+-- one pass over the parts tells whether the set passes a test
+abbrev pub IsTold : List (Part LeafMatcher) → Type 0
+IsTold parts = (test : LeafMatcher → Bool) → (pass_over test parts (pass_at 0 false)).is_in ≡ passes test (made_by parts)
+
+-- an answer for a directory is a set's, and promises what a matcher's has to
+pub record IsAnswerOf (dir : Path) (set : SetTree LeafMatcher) (answer : Answer) : Type 0 where
+  pub same : answer ≡ set_answer set dir
+  pub sound : IsSound (set_accepts set) (set_opens set) dir answer
+  pub chosen : ChoosesFrom (set_names set) answer
+
+-- there is such an answer for each set of a stack
+abbrev pub AnswerAll : Path → List (SetTree LeafMatcher) → List Visit → Type 0
+AnswerAll dir [] [] = Unit {0}
+AnswerAll dir [] (visit ∷ visits) = ⊥
+AnswerAll dir (set ∷ sets) [] = ⊥
+AnswerAll dir (set ∷ sets) (visit ∷ visits) = IsAnswerOf dir set (answer_of visit) × AnswerAll dir sets visits
+
+-- a part with a matcher in place of its set
+abbrev pub StandsForPart : Part LeafMatcher → Part FileSet → Type 0
+StandsForPart (Leaf matcher) (Leaf set) = StandsFor matcher set
+StandsForPart (Leaf matcher) (Second combination) = ⊥
+StandsForPart (Leaf matcher) (Combined combination) = ⊥
+StandsForPart (Second own) (Leaf set) = ⊥
+StandsForPart (Second own) (Second combination) = own ≡ combination
+StandsForPart (Second own) (Combined combination) = ⊥
+StandsForPart (Combined own) (Leaf set) = ⊥
+StandsForPart (Combined own) (Second combination) = ⊥
+StandsForPart (Combined own) (Combined combination) = own ≡ combination
+
+abbrev pub StandForParts : List (Part LeafMatcher) → List (Part FileSet) → Type 0
+StandForParts [] [] = Unit {0}
+StandForParts [] (part ∷ parts) = ⊥
+StandForParts (own ∷ others) [] = ⊥
+StandForParts (own ∷ others) (part ∷ parts) = StandsForPart own part × StandForParts others parts

@@ -2,8 +2,10 @@
 #![tactic(auto)]
 
 mod fault;
+mod file_set;
 mod graph_command;
 pub mod laws;
+mod leaf_matcher;
 mod listed_graph;
 mod marks;
 mod matching;
@@ -11,6 +13,8 @@ mod merge_command;
 mod number;
 pub mod program;
 mod reading;
+mod set_parts;
+mod set_stack;
 mod walk_command;
 
 pub use jj_content::{blake2b, content_hash, hex_util, symbol_util};

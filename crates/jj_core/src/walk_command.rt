@@ -1,34 +1,34 @@
 //! The command `walk`: it marks paths, builds one set of files, and writes what a walk by the set finds.
-ghost use Rattle.std.specs.Prelude.{◌≡◌, ◌++◌, [], ◌∷◌, map, Bool, Ok, MatchResult, IfOk, IfErr, OnOk};
+ghost use Rattle.std.specs.Prelude.{◌≡◌, ◌++◌, ℕ, List, [], ◌∷◌, length, map, Bool, Ok, MatchResult, IfOk, IfErr, OnOk};
 ghost use Rattle.jj_paths.specs.Names.{path_of};
+ghost use Rattle.jj_globs.specs.GlobText.{tokens_of};
+ghost use Rattle.jj_globs.specs.GlobReads.{IsReadingFault};
 ghost use Rattle.jj_paths.specs.Tree.{Tree};
 ghost use Rattle.jj_core.specs.Marks.{IsMarkedTree};
 ghost use Rattle.jj_core.specs.Lines.{at_line, IsFaultOf};
-ghost use Rattle.jj_core.specs.WalkCommand.{WalkState, WalkRequest, Files, Prefix, path_at, paths_of, pushed_alone, pushed_paths, mark_step, walk_step, walk_request};
-ghost use Rattle.jj_core.specs.WalkRead.{set_of, state_of};
+ghost use Rattle.jj_core.specs.SetTrees.{SetTree};
+ghost use Rattle.jj_core.specs.WalkCommand.{FileSet as NamedSet, WalkState, WalkRequest, Files, Prefix, path_at, paths_of, glob_at, globs_of, globs_step, paired_fields, combined_step, pushed_alone, pushed_paths, mark_step, walk_step, walk_request};
+ghost use Rattle.jj_core.specs.SetsRead.{set_of};
+ghost use Rattle.jj_core.specs.SetStacks.{sets_in};
+ghost use Rattle.jj_core.specs.WalkRead.{state_of};
 ghost use Rattle.jj_core.specs.Walked.{GivesWalk, walk_lines, path_lines};
 
 use crate::fault::{Fault, LineFault};
+use crate::file_set::{Combination, FileSet};
 use crate::marks::marked_tree;
 use crate::matching::walk_set;
 use crate::reading::{Reading, push_line, take_lines};
+use crate::set_stack::SetStack;
+use jj_globs::glob::GlobError;
+use jj_matchers::matchers::PathGlobPattern;
 use jj_paths::repo_path::{InvalidNewRepoPathError, RepoPath, RepoPathBuf};
 use std::alloc::{AllocError, Global};
-
-/// A set of files that a line puts on the stack.
-#[derive(Drop)]
-pub(crate) enum FileSet<'t> {
-    Everything,
-    Nothing,
-    Files(Vec<RepoPath<'t>>),
-    Prefix(Vec<RepoPath<'t>>),
-}
 
 /// The marks and the sets of the lines so far.
 #[derive(Drop)]
 pub(crate) struct WalkReading<'t> {
     marks: Vec<RepoPath<'t>>,
-    stack: Vec<FileSet<'t>>,
+    sets: SetStack<'t>,
 }
 
 /// The path that a field of a line is.
@@ -61,6 +61,74 @@ fn paths<'t>(alloc: Global, number: usize, fields: &[&'t str]) -> Result<Vec<Rep
         }
     }
     Ok(paths)
+}
+
+/// The directories and the globs of fields that come in pairs.
+fn pairs<'t>(
+    alloc: Global,
+    number: usize,
+    fields: &[&'t str],
+) -> Result<(Vec<&'t str>, Vec<&'t str>), Fault>
+    ensures { MatchResult result
+        (λ pairs. at_line number (paired_fields (map (λ field. field.now) fields.now)) ≡ Ok (map (λ dir. dir.now) pairs.0.items, map (λ glob. glob.now) pairs.1.items))
+        (λ fault. IsFaultOf fault (at_line number (paired_fields (map (λ field. field.now) fields.now)))) }
+{
+    let mut dirs = Vec::new(alloc);
+    let mut globs = Vec::new(alloc);
+    let mut rest = fields;
+    while let [dir, glob, more @ ..] = rest {
+        dirs.push(*dir)?;
+        globs.push(*glob)?;
+        rest = more;
+    }
+    if !rest.is_empty() {
+        return Err(Fault::Line {
+            line: number,
+            kind: LineFault::BadFieldCount,
+        });
+    }
+    Ok((dirs, globs))
+}
+
+/// The glob that a field of a line is.
+fn glob_field(alloc: Global, number: usize, text: &str) -> Result<PathGlobPattern, Fault>
+    ensures { MatchResult result
+        (λ glob. at_line number (glob_at text.now) ≡ Ok glob)
+        (λ fault. IsFaultOf fault (at_line number (glob_at text.now))) }
+{
+    match PathGlobPattern::parse(alloc, text) {
+        Ok(glob) => Ok(glob),
+        Err(error) => Err(glob_fault(number, error)),
+    }
+}
+
+/// The fault of a field that is no glob.
+fn glob_fault(number: usize, error: GlobError) -> Fault
+    ensures { (text : List ℕ) → IsReadingFault error (tokens_of text) → IsFaultOf result (at_line number (glob_at text)) }
+{
+    match error {
+        GlobError::Memory => Fault::Memory,
+        _ => Fault::Line {
+            line: number,
+            kind: LineFault::BadGlob,
+        },
+    }
+}
+
+/// The globs of the fields of a line.
+fn path_globs(alloc: Global, number: usize, fields: &[&str]) -> Result<Vec<PathGlobPattern>, Fault>
+    ensures { MatchResult result
+        (λ globs. at_line number (globs_of (map (λ field. field.now) fields.now)) ≡ Ok globs.items)
+        (λ fault. IsFaultOf fault (at_line number (globs_of (map (λ field. field.now) fields.now)))) }
+{
+    let mut globs = Vec::new(alloc);
+    for field in fields {
+        match glob_field(alloc, number, field) {
+            Ok(glob) => globs.push(glob)?,
+            Err(fault) => return Err(fault),
+        }
+    }
+    Ok(globs)
 }
 
 impl<'t> WalkReading<'t> {
@@ -99,7 +167,7 @@ impl<'t> WalkReading<'t> {
                 kind: LineFault::BadFieldCount,
             });
         }
-        self.stack.push(set)?;
+        self.sets.push(set)?;
         Ok(())
     }
 
@@ -110,7 +178,7 @@ impl<'t> WalkReading<'t> {
             (λ fault. IsFaultOf fault (at_line number (pushed_paths (state_of self.old) Files (paths_of (map (λ field. field.now) fields.now))))) }
     {
         match paths(alloc, number, fields) {
-            Ok(paths) => Ok(self.stack.push(FileSet::Files(paths))?),
+            Ok(paths) => Ok(self.sets.push(FileSet::Files(paths))?),
             Err(fault) => Err(fault),
         }
     }
@@ -122,9 +190,68 @@ impl<'t> WalkReading<'t> {
             (λ fault. IsFaultOf fault (at_line number (pushed_paths (state_of self.old) Prefix (paths_of (map (λ field. field.now) fields.now))))) }
     {
         match paths(alloc, number, fields) {
-            Ok(paths) => Ok(self.stack.push(FileSet::Prefix(paths))?),
+            Ok(paths) => Ok(self.sets.push(FileSet::Prefix(paths))?),
             Err(fault) => Err(fault),
         }
+    }
+
+    /// Puts the set of what these globs accept, each in its directory, on the stack.
+    fn push_globs(
+        &mut self,
+        alloc: Global,
+        number: usize,
+        fields: &[&'t str],
+        prefix_paths: bool,
+    ) -> Result<(), Fault>
+        ensures { MatchResult result
+            (λ _. at_line number (globs_step (state_of self.old) prefix_paths (map (λ field. field.now) fields.now)) ≡ Ok (state_of self.new))
+            (λ fault. IsFaultOf fault (at_line number (globs_step (state_of self.old) prefix_paths (map (λ field. field.now) fields.now)))) }
+    {
+        let (dirs, globs) = match pairs(alloc, number, fields) {
+            Ok(pairs) => pairs,
+            Err(fault) => return Err(fault),
+        };
+        let dirs = match paths(alloc, number, &dirs) {
+            Ok(dirs) => dirs,
+            Err(fault) => return Err(fault),
+        };
+        let globs = match path_globs(alloc, number, &globs) {
+            Ok(globs) => globs,
+            Err(fault) => return Err(fault),
+        };
+        self.sets.push(FileSet::Globs {
+            prefix_paths,
+            dirs,
+            globs,
+        })?;
+        Ok(())
+    }
+
+    /// Combines the two sets on top of the stack, where no field is left.
+    fn combine(
+        &mut self,
+        number: usize,
+        fields: &[&'t str],
+        combination: Combination,
+    ) -> Result<(), Fault>
+        ensures { MatchResult result
+            (λ _. at_line number (combined_step (state_of self.old) combination (map (λ field. field.now) fields.now)) ≡ Ok (state_of self.new))
+            (λ fault. IsFaultOf fault (at_line number (combined_step (state_of self.old) combination (map (λ field. field.now) fields.now)))) }
+    {
+        if !fields.is_empty() {
+            return Err(Fault::Line {
+                line: number,
+                kind: LineFault::BadFieldCount,
+            });
+        }
+        if self.sets.height() < 2 {
+            return Err(Fault::Line {
+                line: number,
+                kind: LineFault::EmptyStack,
+            });
+        }
+        self.sets.combine(combination)?;
+        Ok(())
     }
 }
 
@@ -148,6 +275,11 @@ impl<'t> Reading<'t> for WalkReading<'t> {
             "nothing" => self.push_alone(number, rest, FileSet::Nothing),
             "files" => self.push_files(alloc, number, rest),
             "prefix" => self.push_prefix(alloc, number, rest),
+            "globs" => self.push_globs(alloc, number, rest, false),
+            "prefix-globs" => self.push_globs(alloc, number, rest, true),
+            "union" => self.combine(number, rest, Combination::Union),
+            "difference" => self.combine(number, rest, Combination::Difference),
+            "intersection" => self.combine(number, rest, Combination::Intersection),
             _ => Err(Fault::Line {
                 line: number,
                 kind: LineFault::UnknownCommand,
@@ -163,15 +295,15 @@ pub(crate) fn walk_output<'t>(alloc: Global, text: &'t str) -> Result<Vec<u8>, F
 {
     let mut reading = WalkReading {
         marks: Vec::new(alloc),
-        stack: Vec::new(alloc),
+        sets: SetStack::new(alloc),
     };
     if let Err(fault) = take_lines(alloc, &mut reading, text) {
         return Err(fault);
     }
-    let WalkReading { marks, stack } = reading;
-    match stack.as_slice() {
-        [set] => Ok(found_lines(alloc, marks, set)?),
-        sets => Err(Fault::Matchers(sets.len())),
+    let WalkReading { marks, sets } = reading;
+    match sets.height() {
+        1 => Ok(found_lines(alloc, marks, sets)?),
+        height => Err(Fault::Matchers(height)),
     }
 }
 
@@ -179,12 +311,13 @@ pub(crate) fn walk_output<'t>(alloc: Global, text: &'t str) -> Result<Vec<u8>, F
 fn found_lines(
     alloc: Global,
     marks: Vec<RepoPath<'_>>,
-    set: &FileSet<'_>,
+    sets: SetStack<'_>,
 ) -> Result<Vec<u8>, AllocError>
-    ensures { IfOk result (λ output. (tree : Tree Bool) × IsMarkedTree (map path_of marks.entry.items) tree × (output.items ≡ walk_lines (set_of set.now) tree)) }
+    requires { length (sets_in sets) ≡ 1 }
+    ensures { IfOk result (λ output. (set : SetTree NamedSet) → sets_in sets.entry ≡ set ∷ [] → (tree : Tree Bool) × IsMarkedTree (map path_of marks.entry.items) tree × (output.items ≡ walk_lines set tree)) }
 {
     let tree = marked_tree(alloc, marks)?;
-    let found = walk_set(alloc, &tree, set)?;
+    let found = walk_set(alloc, &tree, sets)?;
     let mut output = Vec::new(alloc);
     push_paths(&mut output, "file", &found.files)?;
     push_paths(&mut output, "enter", &found.entered)?;

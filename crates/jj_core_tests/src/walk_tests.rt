@@ -44,7 +44,7 @@ mod tests {
             ("mark\ta\nnothing\neverything\n", Fault::Matchers(2)),
             ("\nx", at(2, LineFault::UnknownCommand)),
             ("\tmark", at(1, LineFault::UnknownCommand)),
-            ("everything\nunion\n", at(2, LineFault::UnknownCommand)),
+            ("everything\nunion\n", at(2, LineFault::EmptyStack)),
             ("mark\ta\tb", at(1, LineFault::BadFieldCount)),
             ("mark\n", at(1, LineFault::BadFieldCount)),
             ("mark\t/x\t/y\n", at(1, LineFault::BadFieldCount)),
@@ -53,6 +53,115 @@ mod tests {
             ("mark\ta/\n", at(1, LineFault::BadPath)),
             ("files\ta\ta//b\n", at(1, LineFault::BadPath)),
             ("mark\ta\n\nprefix\t/\nx\n", at(3, LineFault::BadPath)),
+        ] {
+            fails(&rt, Command::Walk, input.as_bytes(), fault);
+        }
+    }
+
+    #[test]
+    fn globs_stand_in_directories(rt: HostRuntime) {
+        for (input, output) in [
+            // Stars alone accept a directory's files, which a walk meets only where they are marked.
+            ("mark\td/x\nprefix-globs\td\t\n", "enter\t\nenter\td\n"),
+            (
+                "mark\td/x\nprefix-globs\td\t*\n",
+                "file\td/x\nenter\t\nenter\td\n",
+            ),
+            (
+                "mark\ta/x\nmark\ta/y/z\nprefix\ta\nglobs\ta\t*\nintersection\n",
+                "file\ta/x\nenter\t\nenter\ta\nenter\ta/y\n",
+            ),
+            // No pair is a set of nothing.
+            ("mark\ta\nglobs\n", ""),
+            ("mark\ta\nprefix-globs\n", ""),
+            // Each glob is its own directory's.
+            (
+                "mark\ta/x\nmark\ta/y\nmark\tb/x\nmark\tb/y\nglobs\ta\tx\tb\ty\n",
+                "file\ta/x\nfile\tb/y\nenter\t\nenter\ta\nenter\tb\n",
+            ),
+            // What is below a match is accepted by its prefix alone.
+            (
+                "mark\ta/x/y\nglobs\ta\tx\n",
+                "enter\t\nenter\ta\nenter\ta/x\n",
+            ),
+            (
+                "mark\ta/x/y\nprefix-globs\ta\tx\n",
+                "file\ta/x/y\nenter\t\nenter\ta\nenter\ta/x\n",
+            ),
+        ] {
+            writes(&rt, Command::Walk, input, output);
+        }
+    }
+
+    #[test]
+    fn sets_combine(rt: HostRuntime) {
+        for (input, output) in [
+            (
+                "mark\ta/x\nmark\tb\neverything\nprefix\ta\ndifference\n",
+                "file\tb\nenter\t\n",
+            ),
+            (
+                "mark\ta/x\nmark\tb\nprefix\ta\neverything\ndifference\n",
+                "",
+            ),
+            (
+                "mark\ta/x\nmark\tb\nmark\tc\nfiles\tc\nprefix\ta\nunion\n",
+                "file\ta/x\nfile\tc\nenter\t\nenter\ta\n",
+            ),
+            (
+                "mark\ta/x\nmark\tb\nfiles\tb\ta/x\nprefix\ta\nintersection\n",
+                "file\ta/x\nenter\t\nenter\ta\n",
+            ),
+            // a less (b less c), and (a less b) less c.
+            (
+                "mark\ta\nmark\tb\nmark\tc\neverything\nfiles\tb\tc\nfiles\tc\ndifference\ndifference\n",
+                "file\ta\nfile\tc\nenter\t\n",
+            ),
+            (
+                "mark\ta\nmark\tb\nmark\tc\neverything\nfiles\tb\tc\ndifference\nfiles\tc\ndifference\n",
+                "file\ta\nenter\t\n",
+            ),
+            // (a or b) and (b or c), and ((nothing and all) or c) less b.
+            (
+                "mark\ta\nmark\tb\nmark\tc\nfiles\ta\nfiles\tb\nunion\nfiles\tb\nfiles\tc\nunion\nintersection\n",
+                "file\tb\nenter\t\n",
+            ),
+            (
+                "mark\ta\nmark\tb\nmark\tc\nnothing\neverything\nintersection\nfiles\tc\tb\nunion\nfiles\tb\ndifference\n",
+                "file\tc\nenter\t\n",
+            ),
+        ] {
+            writes(&rt, Command::Walk, input, output);
+        }
+    }
+
+    #[test]
+    fn faults_of_globs_and_combinations(rt: HostRuntime) {
+        for (input, fault) in [
+            ("globs\ta\n", at(1, LineFault::BadFieldCount)),
+            ("prefix-globs\t/\t[\tb\n", at(1, LineFault::BadFieldCount)),
+            // The path comes first, wherever the glob stands.
+            ("globs\ta\t[\t/b\t*\n", at(1, LineFault::BadPath)),
+            ("globs\ta\t*\tb\t[z-a]\n", at(1, LineFault::BadGlob)),
+            (
+                "everything\nprefix-globs\t\ta\\\n",
+                at(2, LineFault::BadGlob),
+            ),
+            ("union\n", at(1, LineFault::EmptyStack)),
+            ("union\tx\n", at(1, LineFault::BadFieldCount)),
+            (
+                "everything\ndifference\t\n",
+                at(2, LineFault::BadFieldCount),
+            ),
+            (
+                "mark\ta\neverything\nintersection\n",
+                at(3, LineFault::EmptyStack),
+            ),
+            (
+                "nothing\nnothing\nunion\nunion\n",
+                at(4, LineFault::EmptyStack),
+            ),
+            ("nothing\nnothing\nnothing\nunion\n", Fault::Matchers(2)),
         ] {
             fails(&rt, Command::Walk, input.as_bytes(), fault);
         }

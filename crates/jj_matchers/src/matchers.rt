@@ -19,16 +19,16 @@ ghost use Rattle.jj_matchers.specs.Answers.{Answer, IsSound, all_recursively, no
 ghost use Rattle.jj_matchers.specs.Listed.{ChoosesFrom};
 ghost use Rattle.jj_matchers.specs.Visits.{answer_of};
 
-pub use difference_matcher::DifferenceMatcher;
+pub use difference_matcher::{DifferenceMatcher, difference_visit};
 pub use files_matcher::FilesMatcher;
 pub use globs_matcher::{GlobsMatcher, GlobsMatcherBuilder};
-pub use intersection_matcher::IntersectionMatcher;
+pub use intersection_matcher::{IntersectionMatcher, intersection_visit};
 use jj_paths::repo_path::RepoPath;
 pub use path_glob_pattern::PathGlobPattern;
 pub use prefix_matcher::PrefixMatcher;
 use std::alloc::{AllocError, Global};
 pub use tree_walk::{Walk, walk_matching};
-pub use union_matcher::UnionMatcher;
+pub use union_matcher::{UnionMatcher, union_visit};
 pub use visits::{Visit, VisitDirs, VisitFiles};
 
 /// A set of paths.

@@ -48,8 +48,8 @@ impl<M1: Matcher, M2: Matcher> Matcher for DifferenceMatcher<M1, M2> {
     }
 }
 
-// The wanted answer, where something is left of it. What is unwanted below a directory need not be all of it.
-fn difference_visit(wanted: Visit, unwanted: Visit) -> Visit
+/// The wanted answer, where something is left of it. What is unwanted below a directory need not be all of it.
+pub fn difference_visit(wanted: Visit, unwanted: Visit) -> Visit
     ensures { answer_of result ≡ difference_answer (answer_of wanted) (answer_of unwanted) }
 {
     match unwanted {

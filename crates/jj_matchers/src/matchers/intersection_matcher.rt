@@ -50,8 +50,8 @@ impl<M1: Matcher, M2: Matcher> Matcher for IntersectionMatcher<M1, M2> {
     }
 }
 
-// What both of two answers name.
-fn intersection_visit(first: Visit, second: Visit) -> Visit
+/// What both of two answers name, where both choose from one list of names. What the list is makes no difference.
+pub fn intersection_visit(first: Visit, second: Visit) -> Visit
     ensures { (names : List Name) → ChoosesFrom names (answer_of first) → ChoosesFrom names (answer_of second) → answer_of result ≡ intersection_answer names (answer_of first) (answer_of second) }
 {
     match first {

@@ -1,14 +1,20 @@
-use Rattle.std.proofs.Common.{IfOk, subst, sym}
+use Rattle.std.proofs.Common.{◌≡◌, subst}
+use Rattle.std.proofs.lemmas.Result.{IfOk-weaker}
 use Rattle.jj_paths.specs.Names.{path_of}
+use Rattle.jj_matchers.specs.Answers.{IsSound}
 use Rattle.jj_matchers.specs.Listed.{ChoosesFrom}
 use Rattle.jj_matchers.specs.Visits.{answer_of}
-use Rattle.jj_core.specs.Matching.{candidates_of}
+use Rattle.jj_core.specs.Matching.{IsAnswerOf, made_by, set_accepts, set_opens, set_answer, set_names}
 use Rattle.jj_core.proofs.matching.SetMatcherMatcher.visit.Goals as goal
 
-pub returns-in-Files-clause-chosen : goal.returns-in-Files-clause-chosen
-returns-in-Files-clause-chosen c =
-    subst (λ matcher. IfOk c.visit-in-Files.result (λ visit. ChoosesFrom (candidates_of matcher (path_of c.args.dir)) (answer_of visit))) (sym c.in-Files.is) c.visit-in-Files.ensures.chosen
-
-pub returns-in-Prefix-clause-chosen : goal.returns-in-Prefix-clause-chosen
-returns-in-Prefix-clause-chosen c =
-    subst (λ matcher. IfOk c.visit-in-Prefix.result (λ visit. ChoosesFrom (candidates_of matcher (path_of c.args.dir)) (answer_of visit))) (sym c.in-Prefix.is) c.visit-in-Prefix.ensures.chosen
+pub returns : goal.returns
+returns c =
+    let set = made_by c.args.self.now.parts.items in
+    let dir = path_of c.args.dir in
+    let result = c.visit_parts.result in
+    let weaker = IfOk-weaker result (λ visit. IsAnswerOf dir (made_by c.deref.result.now) (answer_of visit)) in
+    record {
+      answer = weaker (λ visit. answer_of visit ≡ set_answer set dir) (λ visit h. (subst (λ l. IsAnswerOf dir (made_by l) (answer_of visit)) c.deref.ensures.value h).same) c.visit_parts.ensures;
+      sound = weaker (λ visit. IsSound (set_accepts set) (set_opens set) dir (answer_of visit)) (λ visit h. (subst (λ l. IsAnswerOf dir (made_by l) (answer_of visit)) c.deref.ensures.value h).sound) c.visit_parts.ensures;
+      chosen = weaker (λ visit. ChoosesFrom (set_names set) (answer_of visit)) (λ visit h. (subst (λ l. IsAnswerOf dir (made_by l) (answer_of visit)) c.deref.ensures.value h).chosen) c.visit_parts.ensures;
+    }

@@ -1,0 +1,86 @@
+-- Steps that make one set make its parts, and these make the set again.
+use Rattle.std.proofs.Common.{◌≡◌, ◌∙◌, List, [], ◌∷◌, ◌++◌, refl, ap, sym, map, reverse}
+use Rattle.std.proofs.lemmas.List.{append_assoc, append-nil, reverse-append}
+use Rattle.jj_core.specs.declared.file_set.Combination.{Combination}
+use Rattle.jj_core.specs.declared.file_set.FileSet.{FileSet as FileSetValue}
+use Rattle.jj_core.specs.declared.file_set.SetStep.{SetStep}
+use Rattle.jj_core.specs.declared.file_set.SetStep.TheVariants.{Push, Combine}
+use Rattle.jj_core.specs.declared.set_parts.Part.{Part}
+use Rattle.jj_core.specs.declared.set_parts.Part.TheVariants.{Leaf, Second, Combined}
+use Rattle.jj_core.specs.SetTrees.{SetTree, one, both, joined, stack_of, steps_to, steps_to_all}
+use Rattle.jj_core.specs.SetParts.{parts_of, parts_along, sets_of}
+use Rattle.jj_core.specs.SetsRead.{step_of, part_of}
+
+module _ {A : Type 0} where
+  along_wanting : (k : Combination) (wanting : List Combination) (set : SetTree A) (rest : List (SetStep A)) →
+      parts_along (k ∷ wanting) (steps_to set ++ rest) ≡ parts_of set ++ Second k ∷ parts_along wanting rest
+  along_wanting k wanting (one x) rest = refl
+  along_wanting k wanting (both c first second) rest =
+      ap (λ l. Combined c ∷ parts_along (c ∷ k ∷ wanting) l) (append_assoc (steps_to second) (steps_to first) rest)
+      ∙ ap (λ l. Combined c ∷ l) (along_wanting c (k ∷ wanting) second (steps_to first ++ rest)
+      ∙ ap (λ l. parts_of second ++ Second c ∷ l) (along_wanting k wanting first rest)
+      ∙ sym (append_assoc (parts_of second) (Second c ∷ parts_of first) (Second k ∷ parts_along wanting rest)))
+
+  along_alone : (set : SetTree A) (rest : List (SetStep A)) → parts_along [] (steps_to set ++ rest) ≡ parts_of set ++ parts_along [] rest
+  along_alone (one x) rest = refl
+  along_alone (both c first second) rest =
+      ap (λ l. Combined c ∷ parts_along (c ∷ []) l) (append_assoc (steps_to second) (steps_to first) rest)
+      ∙ ap (λ l. Combined c ∷ l) (along_wanting c [] second (steps_to first ++ rest)
+      ∙ ap (λ l. parts_of second ++ Second c ∷ l) (along_alone first rest)
+      ∙ sym (append_assoc (parts_of second) (Second c ∷ parts_of first) (parts_along [] rest)))
+
+  -- the steps of one set make its parts
+  pub parts_of_steps : (set : SetTree A) → parts_along [] (steps_to_all (set ∷ [])) ≡ parts_of set
+  parts_of_steps set = along_alone set [] ∙ append-nil (parts_of set)
+
+  sets_from : (set : SetTree A) (rest : List (Part A)) → sets_of (parts_of set ++ rest) ≡ set ∷ sets_of rest
+  sets_from (one x) rest = refl
+  sets_from (both k first second) rest =
+      ap (λ l. joined k (sets_of l)) (append_assoc (parts_of second) (Second k ∷ parts_of first) rest)
+      ∙ ap (joined k) (sets_from second (Second k ∷ (parts_of first ++ rest)) ∙ ap (λ l. second ∷ l) (sets_from first rest))
+
+  -- and the parts make the set
+  pub sets_of_parts : (set : SetTree A) → sets_of (parts_of set) ≡ set ∷ []
+  sets_of_parts set = ap sets_of (sym (append-nil (parts_of set))) ∙ sets_from set []
+
+  -- two sets that are combined leave steps that make the stack
+  pub whole_joined : (k : Combination) (first second : SetTree A) (stack : List (SetTree A)) →
+      Combine k ∷ steps_to_all (second ∷ first ∷ stack) ≡ steps_to_all (both k first second ∷ stack)
+  whole_joined k first second stack = ap (λ l. Combine k ∷ l) (sym (append_assoc (steps_to second) (steps_to first) (steps_to_all stack)))
+
+pub reverse_more : {A : Type 0} (xs : List A) (x : A) → reverse (xs ++ x ∷ []) ≡ x ∷ reverse xs
+reverse_more xs x = reverse-append xs (x ∷ [])
+
+module _ {A : Type 0} (parts : List (Part A)) (wanting : List Combination) (earlier : List (SetStep A)) where
+  -- one more combination, whose second set is still to come
+  pub parts-combine : (k : Combination) (grown : List (Part A)) (more : List Combination) → grown ≡ parts ++ Combined k ∷ [] → more ≡ wanting ++ k ∷ [] →
+      grown ++ parts_along (reverse more) earlier ≡ parts ++ parts_along (reverse wanting) (Combine k ∷ earlier)
+  parts-combine k grown more is other =
+      ap (λ l. l ++ parts_along (reverse more) earlier) is
+      ∙ ap (λ w. (parts ++ Combined k ∷ []) ++ parts_along w earlier) (ap reverse other ∙ reverse_more wanting k)
+      ∙ append_assoc parts (Combined k ∷ []) (parts_along (k ∷ reverse wanting) earlier)
+
+  -- one more set, which is the second of a combination
+  pub parts-second : (set : A) (k : Combination) (grown whole : List (Part A)) (left : List Combination) → grown ≡ parts ++ Leaf set ∷ [] → whole ≡ grown ++ Second k ∷ [] → wanting ≡ left ++ k ∷ [] →
+      whole ++ parts_along (reverse left) earlier ≡ parts ++ parts_along (reverse wanting) (Push set ∷ earlier)
+  parts-second set k grown whole left is next top =
+      ap (λ l. l ++ parts_along (reverse left) earlier) (next ∙ ap (λ l. l ++ Second k ∷ []) is)
+      ∙ append_assoc (parts ++ Leaf set ∷ []) (Second k ∷ []) (parts_along (reverse left) earlier)
+      ∙ append_assoc parts (Leaf set ∷ []) (Second k ∷ parts_along (reverse left) earlier)
+      ∙ sym (ap (λ w. parts ++ parts_along w (Push set ∷ earlier)) (ap reverse top ∙ reverse_more left k))
+
+  -- or of none
+  pub parts-last : (set : A) (grown : List (Part A)) (left : List Combination) → grown ≡ parts ++ Leaf set ∷ [] → wanting ≡ [] → left ≡ [] →
+      grown ++ parts_along (reverse left) earlier ≡ parts ++ parts_along (reverse wanting) (Push set ∷ earlier)
+  parts-last set grown left is none none' =
+      ap (λ l. l ++ parts_along (reverse left) earlier) is
+      ∙ ap (λ w. (parts ++ Leaf set ∷ []) ++ parts_along (reverse w) earlier) none'
+      ∙ append_assoc parts (Leaf set ∷ []) (parts_along [] earlier)
+      ∙ sym (ap (λ w. parts ++ parts_along (reverse w) (Push set ∷ earlier)) none)
+
+-- the parts of values are the values' parts
+pub parts_along-map : (wanting : List Combination) (steps : List (SetStep FileSetValue)) → map part_of (parts_along wanting steps) ≡ parts_along wanting (map step_of steps)
+parts_along-map wanting [] = refl
+parts_along-map wanting (Combine k ∷ earlier) = ap (λ l. Combined k ∷ l) (parts_along-map (k ∷ wanting) earlier)
+parts_along-map [] (Push set ∷ earlier) = ap (λ l. part_of (Leaf set) ∷ l) (parts_along-map [] earlier)
+parts_along-map (k ∷ wanting) (Push set ∷ earlier) = ap (λ l. part_of (Leaf set) ∷ Second k ∷ l) (parts_along-map wanting earlier)

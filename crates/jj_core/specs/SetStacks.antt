@@ -1,0 +1,10 @@
+-- What is seen of a stack of sets.
+use Rattle.std.specs.Prelude.{List}
+use Rattle.jj_core.specs.declared.set_stack.SetStack.{SetStack}
+use Rattle.jj_core.specs.SetTrees.{SetTree}
+use Rattle.jj_core.specs.SetsRead.{sets_by}
+use Rattle.jj_core.specs.WalkCommand.{FileSet}
+
+-- its sets, the last first
+abbrev pub sets_in : SetStack → List (SetTree FileSet)
+sets_in stack = sets_by stack.steps.items
