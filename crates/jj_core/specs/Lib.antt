@@ -2,6 +2,7 @@ pub mod Faults
 pub mod Lines
 pub mod Requests
 pub mod Marks
+pub mod KeyedMarks
 pub mod WalkCommand
 pub mod Walked
 pub mod WalkRead
