@@ -1,4 +1,5 @@
 pub mod MarkedTrees
+pub mod AddedMarks
 pub mod Steps
 pub mod Requests
 pub mod Fields

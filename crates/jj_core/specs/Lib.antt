@@ -5,6 +5,7 @@ pub mod Marks
 pub mod SetTrees
 pub mod SetParts
 pub mod FieldPairs
+pub mod KeyedMarks
 pub mod WalkCommand
 pub mod SetsRead
 pub mod SetStacks

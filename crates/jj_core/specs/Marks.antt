@@ -8,3 +8,7 @@ pub record IsMarkedTree (marks : List Path) (tree : Tree Bool) : Type 0 where
   pub ordered : is_ordered tree.1 ≡ true
   pub marked : (path : Path) → (value_at tree path ≡ Some true) ↔ Contains marks path
   pub nodes : (path : Path) → IsSome (get tree path) ↔ ((path ≡ []) ⊎ ((rest : Path) × Contains marks (path ++ rest)))
+
+-- the tree of any marks before becomes that of those marks and these
+abbrev pub AddsMarks : List Path → Tree Bool → Tree Bool → Type 0
+AddsMarks marks old new = (before : List Path) → IsMarkedTree before old → IsMarkedTree (before ++ marks) new

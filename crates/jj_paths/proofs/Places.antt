@@ -15,7 +15,7 @@ use Rattle.jj_paths.specs.Tree.{Tree, IsAt, IsGapFor}
 pub name_cmp-same : (x y : Name) → name_cmp x y ≡ Equal → x ≡ y
 name_cmp-same = slice_cmp-IsAntisymmetric nat_cmp-IsAntisymmetric
 
-less_from_is_lt : (r : Ordering) → is_lt r ≡ true → r ≡ Less
+pub less_from_is_lt : (r : Ordering) → is_lt r ≡ true → r ≡ Less
 less_from_is_lt Less e = refl
 less_from_is_lt Equal e = absurd (false≢true e)
 less_from_is_lt Greater e = absurd (false≢true e)

@@ -13,7 +13,7 @@ use Rattle.std.proofs.lemmas.Bool.{and_parts, cases_lt}
 use Rattle.jj_paths.specs.Tree.{Tree, branches_of, children, has_branches, child, IsAt, IsGapFor}
 use Rattle.jj_paths.proofs.Places.{below_all-at}
 
-name_cmp-itself : (x : Name) → name_cmp x x ≡ Equal
+pub name_cmp-itself : (x : Name) → name_cmp x x ≡ Equal
 name_cmp-itself x = by_antisymm (name_cmp x x) (nat_list_cmp_total.antisymm x x)
   where
     by_antisymm : (r : Ordering) → r ≡ ordering_reverse r → r ≡ Equal
