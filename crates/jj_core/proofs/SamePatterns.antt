@@ -1,13 +1,13 @@
 -- Sets of patterns with the same patterns, and lists with the same paths, give the same answers.
-use Rattle.std.proofs.Common.{◌≡◌, ◌∙◌, Bool, true, false, List, [], ◌∷◌, ◌++◌, refl, ap, sym, map, ◌||◌, ◌&&◌, if◌then◌else◌}
+use Rattle.std.proofs.Common.{◌≡◌, ◌∙◌, Bool, true, false, List, [], ◌∷◌, ◌++◌, refl, ap, sym, ◌||◌, ◌&&◌, if◌then◌else◌}
 use Rattle.std.specs.List.{list_any}
 use Rattle.std.proofs.lemmas.List.Folds.{list_any-append}
 use Rattle.jj_paths.specs.Paths.{Name, Path}
 use Rattle.jj_globs.specs.GlobMeaning.{GlobSpec}
-use Rattle.jj_matchers.specs.Answers.{Answer, all_recursively, specific, nothing}
+use Rattle.jj_matchers.specs.Answers.{all_recursively, specific, nothing}
 use Rattle.jj_matchers.specs.Listed.{names_of}
 use Rattle.jj_matchers.specs.Patterns.{Patterns, HasSamePatterns, pattern_dirs, is_accepted, is_covered, patterns_answer, tail_passes, accepts_tail, covers_tail}
-use Rattle.jj_matchers.specs.Wanted.{HasSamePaths, is_below, is_at_or_below, has_prefix, leads_to_wanted, leads_to_prefix}
+use Rattle.jj_matchers.specs.Wanted.{HasSamePaths, is_below, is_at_or_below}
 use Rattle.jj_matchers.proofs.PatternTrees.{any-map}
 
 names_any : (test : Name → Bool) (paths : List Path) → list_any test (names_of paths) ≡ list_any (λ path. list_any test path) paths

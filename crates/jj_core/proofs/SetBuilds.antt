@@ -7,7 +7,7 @@ use Rattle.jj_core.specs.declared.file_set.SetStep.{SetStep}
 use Rattle.jj_core.specs.declared.file_set.SetStep.TheVariants.{Push, Combine}
 use Rattle.jj_core.specs.declared.set_parts.Part.{Part}
 use Rattle.jj_core.specs.declared.set_parts.Part.TheVariants.{Leaf, Second, Combined}
-use Rattle.jj_core.specs.SetTrees.{SetTree, one, both, joined, stack_of, steps_to, steps_to_all}
+use Rattle.jj_core.specs.SetTrees.{SetTree, one, both, joined, steps_to, steps_to_all}
 use Rattle.jj_core.specs.SetParts.{parts_of, parts_along, sets_of}
 use Rattle.jj_core.specs.SetsRead.{step_of, part_of}
 
@@ -48,35 +48,9 @@ module _ {A : Type 0} where
       Combine k ∷ steps_to_all (second ∷ first ∷ stack) ≡ steps_to_all (both k first second ∷ stack)
   whole_joined k first second stack = ap (λ l. Combine k ∷ l) (sym (append_assoc (steps_to second) (steps_to first) (steps_to_all stack)))
 
+-- the last item comes first
 pub reverse_more : {A : Type 0} (xs : List A) (x : A) → reverse (xs ++ x ∷ []) ≡ x ∷ reverse xs
 reverse_more xs x = reverse-append xs (x ∷ [])
-
-module _ {A : Type 0} (parts : List (Part A)) (wanting : List Combination) (earlier : List (SetStep A)) where
-  -- one more combination, whose second set is still to come
-  pub parts-combine : (k : Combination) (grown : List (Part A)) (more : List Combination) → grown ≡ parts ++ Combined k ∷ [] → more ≡ wanting ++ k ∷ [] →
-      grown ++ parts_along (reverse more) earlier ≡ parts ++ parts_along (reverse wanting) (Combine k ∷ earlier)
-  parts-combine k grown more is other =
-      ap (λ l. l ++ parts_along (reverse more) earlier) is
-      ∙ ap (λ w. (parts ++ Combined k ∷ []) ++ parts_along w earlier) (ap reverse other ∙ reverse_more wanting k)
-      ∙ append_assoc parts (Combined k ∷ []) (parts_along (k ∷ reverse wanting) earlier)
-
-  -- one more set, which is the second of a combination
-  pub parts-second : (set : A) (k : Combination) (grown whole : List (Part A)) (left : List Combination) → grown ≡ parts ++ Leaf set ∷ [] → whole ≡ grown ++ Second k ∷ [] → wanting ≡ left ++ k ∷ [] →
-      whole ++ parts_along (reverse left) earlier ≡ parts ++ parts_along (reverse wanting) (Push set ∷ earlier)
-  parts-second set k grown whole left is next top =
-      ap (λ l. l ++ parts_along (reverse left) earlier) (next ∙ ap (λ l. l ++ Second k ∷ []) is)
-      ∙ append_assoc (parts ++ Leaf set ∷ []) (Second k ∷ []) (parts_along (reverse left) earlier)
-      ∙ append_assoc parts (Leaf set ∷ []) (Second k ∷ parts_along (reverse left) earlier)
-      ∙ sym (ap (λ w. parts ++ parts_along w (Push set ∷ earlier)) (ap reverse top ∙ reverse_more left k))
-
-  -- or of none
-  pub parts-last : (set : A) (grown : List (Part A)) (left : List Combination) → grown ≡ parts ++ Leaf set ∷ [] → wanting ≡ [] → left ≡ [] →
-      grown ++ parts_along (reverse left) earlier ≡ parts ++ parts_along (reverse wanting) (Push set ∷ earlier)
-  parts-last set grown left is none none' =
-      ap (λ l. l ++ parts_along (reverse left) earlier) is
-      ∙ ap (λ w. (parts ++ Leaf set ∷ []) ++ parts_along (reverse w) earlier) none'
-      ∙ append_assoc parts (Leaf set ∷ []) (parts_along [] earlier)
-      ∙ sym (ap (λ w. parts ++ parts_along (reverse w) (Push set ∷ earlier)) none)
 
 -- the parts of values are the values' parts
 pub parts_along-map : (wanting : List Combination) (steps : List (SetStep FileSetValue)) → map part_of (parts_along wanting steps) ≡ parts_along wanting (map step_of steps)

@@ -1,59 +1,16 @@
--- How the steps of a stack of sets, and its height, go on.
-use Rattle.std.proofs.Common.{◌≡◌, ◌≢◌, ◌∙◌, ◌≤◌, ◌+◌, ◌-◌, ◌&&◌, ℕ, true, List, [], ◌∷◌, ◌++◌, refl, ap, sym, subst, arith, length, map, reverse, Ok, Err, Result}
+-- How many sets steps make, and that the steps of a stack are those that make it.
+use Rattle.std.proofs.Common.{◌≡◌, ◌∙◌, ◌≤◌, true, List, [], ◌∷◌, refl, ap, arith, length, reverse}
 use mathlib.Core.Bool.{false≢true}
 use Rattle.std.proofs.lemmas.Bool.{and_parts}
 use Rattle.std.proofs.lemmas.List.{length-reverse, length-map}
-use Rattle.jj_paths.specs.Paths.{Path}
-use Rattle.jj_core.specs.declared.fault.Fault.{Fault}
-use Rattle.jj_core.specs.declared.fault.Fault.TheVariants.{Matchers}
 use Rattle.jj_core.specs.declared.file_set.Combination.{Combination}
 use Rattle.jj_core.specs.declared.file_set.FileSet.{FileSet as FileSetValue}
 use Rattle.jj_core.specs.declared.file_set.SetStep.{SetStep}
 use Rattle.jj_core.specs.declared.file_set.SetStep.TheVariants.{Push, Combine}
-use Rattle.jj_core.specs.SetTrees.{SetTree, one, both, joined, stack_of, steps_to_all}
-use Rattle.jj_core.specs.SetsRead.{are_whole, has_two, is_whole, set_of, sets_by, step_of, steps_back}
-use Rattle.jj_core.specs.WalkCommand.{FileSet, WalkRequest, only_set}
-use Rattle.jj_core.proofs.SetBuilds.{reverse_more, whole_joined}
-
-one_less : (k : Combination) (stack : List (SetTree FileSet)) (height : ℕ) → 2 ≤ length stack → height ≡ length stack → height - 1 ≡ length (joined k stack)
-one_less k [] height two counted = absurd (omega arith)
-one_less k (alone ∷ []) height two counted = absurd (omega arith)
-one_less k (second ∷ first ∷ stack) height two counted = omega (arith, counted)
-
-two_there : {A : Type 0} (xs : List A) → 2 ≤ length xs → has_two xs ≡ true
-two_there [] two = absurd (omega arith)
-two_there (alone ∷ []) two = absurd (omega arith)
-two_there (first ∷ second ∷ others) two = refl
-
--- one more step comes before the others
-pub steps_back-more : (steps grown : List (SetStep FileSetValue)) (step : SetStep FileSetValue) → grown ≡ steps ++ step ∷ [] → steps_back grown ≡ step_of step ∷ steps_back steps
-steps_back-more steps grown step is = ap steps_back is ∙ ap (map step_of) (reverse_more steps step)
-
-module _ (steps grown : List (SetStep FileSetValue)) where
-  -- one more set on the stack
-  pub sets_by-push : (set : FileSetValue) → grown ≡ steps ++ Push set ∷ [] → sets_by grown ≡ one (set_of set) ∷ sets_by steps
-  sets_by-push set is = ap stack_of (steps_back-more steps grown (Push set) is)
-
-  pub counted_push : (set : FileSetValue) (height : ℕ) → grown ≡ steps ++ Push set ∷ [] → height ≡ length (sets_by steps) → height + 1 ≡ length (sets_by grown)
-  counted_push set height is had =
-      let more : height + 1 ≡ length (one (set_of set) ∷ sets_by steps) = omega (arith, had) in
-      more ∙ sym (ap length (sets_by-push set is))
-
-  pub whole_push : (set : FileSetValue) → grown ≡ steps ++ Push set ∷ [] → are_whole steps ≡ true → are_whole grown ≡ true
-  whole_push set is had = ap is_whole (steps_back-more steps grown (Push set) is) ∙ had
-
-  -- two sets combined
-  pub sets_by-combine : (k : Combination) → grown ≡ steps ++ Combine k ∷ [] → sets_by grown ≡ joined k (sets_by steps)
-  sets_by-combine k is = ap stack_of (steps_back-more steps grown (Combine k) is)
-
-  pub counted_combine : (k : Combination) (height : ℕ) → grown ≡ steps ++ Combine k ∷ [] → 2 ≤ length (sets_by steps) → height ≡ length (sets_by steps) → height - 1 ≡ length (sets_by grown)
-  counted_combine k height is two had = one_less k (sets_by steps) height two had ∙ sym (ap length (sets_by-combine k is))
-
-  pub whole_combine : (k : Combination) → grown ≡ steps ++ Combine k ∷ [] → 2 ≤ length (sets_by steps) → are_whole steps ≡ true → are_whole grown ≡ true
-  whole_combine k is two had =
-      ap is_whole (steps_back-more steps grown (Combine k) is)
-      ∙ ap (λ b. b && are_whole steps) (two_there (sets_by steps) two)
-      ∙ had
+use Rattle.jj_core.specs.SetTrees.{SetTree, joined, stack_of, steps_to_all}
+use Rattle.jj_core.specs.SetsRead.{has_two, is_whole, sets_by, step_of, steps_back}
+use Rattle.jj_core.specs.WalkCommand.{FileSet}
+use Rattle.jj_core.proofs.SetBuilds.{whole_joined}
 
 joined_short : (k : Combination) (stack : List (SetTree FileSet)) → length (joined k stack) ≤ length stack
 joined_short k [] = omega arith
@@ -93,9 +50,3 @@ pub only_item : {A : Type 0} (xs : List A) → length xs ≡ 1 → (x : A) × (x
 only_item [] h = absurd (omega arith)
 only_item (x ∷ []) h = (x, refl)
 only_item (x ∷ y ∷ xs) h = absurd (omega arith)
-
--- any other number of sets is the fault
-pub not_only : (marks : List Path) (stack : List (SetTree FileSet)) (height : ℕ) → height ≡ length stack → height ≢ 1 → only_set marks stack ≡ Err (Matchers height)
-not_only marks [] height counted other = ap (λ n. Err (Matchers n)) (sym counted)
-not_only marks (set ∷ []) height counted other = absurd (other counted)
-not_only marks (set ∷ more ∷ stack) height counted other = ap (λ n. Err (Matchers n)) (sym counted)

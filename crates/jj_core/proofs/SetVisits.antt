@@ -49,34 +49,13 @@ module _ (dir : Path) (s t : SetTree LeafMatcher) (a b : Answer) (one : IsAnswer
         chosen = subst (ChoosesFrom (joined_names k ours theirs)) (sym is) (chosen_joined k);
       }
 
--- one more answer, for one more set
-pub answer_more : (dir : Path) (set : SetTree LeafMatcher) (sets : List (SetTree LeafMatcher)) (visits grown : List Visit) (visit : Visit) → grown ≡ visits ++ visit ∷ [] →
-    IsAnswerOf dir set (answer_of visit) → AnswerAll dir sets (reverse visits) → AnswerAll dir (set ∷ sets) (reverse grown)
-answer_more dir set sets visits grown visit is answer answers = subst (AnswerAll dir (set ∷ sets)) (sym (ap reverse is ∙ reverse_more visits visit)) (answer, answers)
-
 module _ (dir : Path) (k : Combination) where
-  join_none : (stack : List (SetTree LeafMatcher)) → AnswerAll dir stack [] → AnswerAll dir (joined k stack) []
-  join_none [] h = tt
-  join_none (set ∷ stack) h = absurd h
-
-  join_one : (stack : List (SetTree LeafMatcher)) (visit : Visit) → AnswerAll dir stack (visit ∷ []) → AnswerAll dir (joined k stack) []
-  join_one [] visit h = absurd h
-  join_one (set ∷ []) visit h = tt
-  join_one (set ∷ other ∷ stack) visit h = absurd h.1
-
   join_two : (stack : List (SetTree LeafMatcher)) (second first visit : Visit) (visits : List Visit) →
       ((names : List Name) → ChoosesFrom names (answer_of first) → ChoosesFrom names (answer_of second) → answer_of visit ≡ joined_answer k names (answer_of first) (answer_of second)) →
       AnswerAll dir stack (second ∷ first ∷ visits) → AnswerAll dir (joined k stack) (visit ∷ visits)
   join_two [] second first visit visits combined h = absurd h
   join_two (t ∷ []) second first visit visits combined h = absurd h.1
   join_two (t ∷ s ∷ stack) second first visit visits combined h = (joined_is_answer dir s t (answer_of first) (answer_of second) h.1.0 h.0 k (answer_of visit) combined, h.1.1)
-
-  -- no answers, or one alone, are given up
-  pub combine_none : (stack : List (SetTree LeafMatcher)) (old new : List Visit) → old ≡ [] → new ≡ [] → AnswerAll dir stack (reverse old) → AnswerAll dir (joined k stack) (reverse new)
-  combine_none stack old new e e' h = subst (λ l. AnswerAll dir (joined k stack) (reverse l)) (sym e') (join_none stack (subst (λ l. AnswerAll dir stack (reverse l)) e h))
-
-  pub combine_one : (stack : List (SetTree LeafMatcher)) (visit : Visit) (old new : List Visit) → old ≡ visit ∷ [] → new ≡ [] → AnswerAll dir stack (reverse old) → AnswerAll dir (joined k stack) (reverse new)
-  combine_one stack visit old new e e' h = subst (λ l. AnswerAll dir (joined k stack) (reverse l)) (sym e') (join_one stack visit (subst (λ l. AnswerAll dir stack (reverse l)) e h))
 
   -- two are combined
   pub combine_two : (stack : List (SetTree LeafMatcher)) (second first visit : Visit) (old mid rest new : List Visit) → old ≡ mid ++ second ∷ [] → mid ≡ rest ++ first ∷ [] → new ≡ rest ++ visit ∷ [] →

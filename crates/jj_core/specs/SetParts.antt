@@ -1,5 +1,5 @@
 -- A set as parts, over which one pass tells whether it passes a test. The parts stand backwards: the pass begins with the last.
-use Rattle.std.specs.Prelude.{ℕ, zero, suc, Bool, true, false, not, List, [], ◌∷◌, ◌++◌, if◌then◌else◌}
+use Rattle.std.specs.Prelude.{ℕ, zero, suc, Bool, not, List, [], ◌∷◌, ◌++◌, if◌then◌else◌}
 use Rattle.jj_core.specs.declared.file_set.Combination.{Combination}
 use Rattle.jj_core.specs.declared.file_set.Combination.TheVariants.{Union, Difference, Intersection}
 use Rattle.jj_core.specs.declared.file_set.SetStep.{SetStep}

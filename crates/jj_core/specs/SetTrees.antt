@@ -1,5 +1,5 @@
 -- Sets that are combined of sets: the steps that build them on a stack, and what holds of them by their leaves.
-use Rattle.std.specs.Prelude.{Bool, not, ◌&&◌, ◌||◌, List, [], ◌∷◌, ◌++◌, flat_map}
+use Rattle.std.specs.Prelude.{Bool, not, ◌&&◌, ◌||◌, List, [], ◌∷◌, ◌++◌}
 use Rattle.jj_paths.specs.Paths.{Name}
 use Rattle.jj_matchers.specs.Answers.{Answer}
 use Rattle.jj_matchers.specs.Combined.{union_answer, difference_answer, intersection_answer}

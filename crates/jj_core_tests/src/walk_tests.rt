@@ -61,7 +61,7 @@ mod tests {
     #[test]
     fn globs_stand_in_directories(rt: HostRuntime) {
         for (input, output) in [
-            // Stars alone accept a directory's files, which a walk meets only where they are marked.
+            // The empty glob stands for no file, yet in prefix mode the directory is one of a pattern, and is entered.
             ("mark\td/x\nprefix-globs\td\t\n", "enter\t\nenter\td\n"),
             (
                 "mark\td/x\nprefix-globs\td\t*\n",

@@ -1,4 +1,4 @@
-use Rattle.std.proofs.Common.{◌≡◌, ◌∙◌, ap, sym, subst, map, List, [], ◌∷◌, ◌++◌, refl, Bor}
+use Rattle.std.proofs.Common.{◌≡◌, ◌∙◌, ap, subst, map, List, [], ◌∷◌, refl, Bor}
 use Rattle.std.specs.List.{zip}
 use Rattle.std.proofs.lemmas.Iterator.{YieldsList-from_slice, YieldsList-from_zip}
 use Rattle.std.proofs.lemmas.Iterator.Consumers.{YieldsList-end}

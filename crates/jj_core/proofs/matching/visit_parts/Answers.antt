@@ -1,4 +1,4 @@
-use Rattle.std.proofs.Common.{◌≡◌, ◌∙◌, ◌∷◌, ◌<◌, ◌≤◌, ◌-◌, suc, ap, sym, subst, arith, drop, drop-cons, length, reverse}
+use Rattle.std.proofs.Common.{◌≡◌, ◌∙◌, ◌∷◌, ◌<◌, ◌-◌, suc, ap, sym, subst, arith, drop, drop-cons, length, reverse}
 use Rattle.std.proofs.lemmas.List.{nil_from_length}
 use Rattle.jj_paths.specs.Names.{path_of}
 use Rattle.jj_core.specs.Matching.{AnswerAll}

@@ -1,5 +1,5 @@
 -- There is an answer for each set that the parts behind `left` make.
-use Rattle.std.proofs.Common.{◌≡◌, ◌≤◌, drop, length, reverse}
+use Rattle.std.proofs.Common.{◌≤◌, drop, length, reverse}
 use Rattle.jj_paths.specs.Names.{path_of}
 use Rattle.jj_core.specs.Matching.{AnswerAll}
 use Rattle.jj_core.specs.SetParts.{sets_of}

@@ -1,4 +1,4 @@
-use Rattle.std.proofs.Common.{◌≡◌, ◌∙◌, ◌++◌, [], ◌∷◌, ap, sym, reverse}
+use Rattle.std.proofs.Common.{◌∙◌, ◌++◌, ap, sym, reverse}
 use Rattle.jj_core.specs.SetParts.{parts_along}
 use Rattle.jj_core.proofs.SetBuilds.{reverse_more}
 use Rattle.jj_core.proofs.set_parts.parts.Goals as goal

@@ -1,4 +1,4 @@
-use Rattle.std.proofs.Common.{◌≡◌, ◌∙◌, ap, sym, Ok}
+use Rattle.std.proofs.Common.{◌∙◌, ap, sym, Ok}
 use Rattle.jj_core.specs.Lines.{at_line}
 use Rattle.jj_core.proofs.GlobFields.{glob_at-reads}
 use Rattle.jj_core.proofs.walk_command.glob_field.Goals as goal

@@ -1,4 +1,4 @@
-use Rattle.std.proofs.Common.{◌≡◌, ◌∙◌, List, [], ◌∷◌, Ok, map, length, ap, sym}
+use Rattle.std.proofs.Common.{◌≡◌, ◌∙◌, [], Ok, map, ap, sym}
 use Rattle.jj_paths.specs.Names.{path_of}
 use Rattle.jj_core.specs.Lines.{after_lines, lines_of}
 use Rattle.jj_core.specs.SetStacks.{sets_in}

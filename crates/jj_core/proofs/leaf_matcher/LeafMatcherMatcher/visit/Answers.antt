@@ -1,5 +1,4 @@
 use Rattle.std.proofs.Common.{IfOk, subst, sym}
-use Rattle.jj_paths.specs.Names.{path_of}
 use Rattle.jj_matchers.specs.Listed.{ChoosesFrom}
 use Rattle.jj_matchers.specs.Visits.{answer_of}
 use Rattle.jj_core.specs.Leaves.{leaf_names}

@@ -1,4 +1,4 @@
-use Rattle.std.proofs.Common.{◌≡◌, ◌∙◌, [], ◌∷◌, ap, length, map, subst}
+use Rattle.std.proofs.Common.{◌∙◌, ap, length, map, subst}
 use Rattle.jj_core.specs.Matching.{StandForParts}
 use Rattle.jj_core.specs.SetsRead.{part_of}
 use Rattle.jj_core.proofs.SetMatchers.{new_matcher}

@@ -1,4 +1,4 @@
-use Rattle.std.proofs.Common.{◌≡◌, ◌∙◌, ap, false}
+use Rattle.std.proofs.Common.{◌∙◌, ap, false}
 use Rattle.jj_paths.specs.Names.{path_of}
 use Rattle.jj_core.specs.Leaves.{leaf_accepts}
 use Rattle.jj_core.specs.SetParts.{pass_at, pass_over}
