@@ -3,12 +3,12 @@ ghost use Rattle.std.specs.Prelude.{◌≡◌, ◌↔◌, ℕ, [], Bool, true, f
 ghost use Rattle.std.specs.List.{list_any};
 ghost use Rattle.jj_globs.specs.GlobEscape.{is_special};
 
-use jj_globs::glob::is_special;
 use crate::str_util::error::StringPatternParseError;
 use crate::str_util::folding::contains_folded;
 use crate::str_util::glob_pattern::GlobPattern;
 use crate::str_util::kind::PatternKind;
 use bstr::ByteSlice;
+use jj_globs::glob::is_special;
 use regex::RegexBuilder;
 use regex::bytes::Regex;
 use std::alloc::{AllocError, Global};

@@ -3,8 +3,8 @@ ghost use Rattle.std.specs.Prelude.{◌≡◌, ◌↔◌, ◌++◌, ◌∷◌, [
 ghost use Rattle.std.specs.Cow.{cow_str_bytes};
 ghost use Rattle.jj_strings.specs.GlobsOfPatterns.{glob_text, glob_icase, part_glob};
 
-use jj_globs::glob::escape;
 use crate::str_util::pattern::StringPattern;
+use jj_globs::glob::escape;
 use std::alloc::{AllocError, Global};
 use std::borrow::CowStr;
 
