@@ -1,12 +1,10 @@
 -- Patterns that are seen at once to hold every string do so.
-use Rattle.std.proofs.Common.{◌≡◌, ◌∙◌, sym, ap, refl, ℕ, ◌+◌, ◌<◌, ◌≤◌, ◌⊎◌, inl, inr, Bool, true, false, true≢false, IsTrue, List, [], ◌∷◌, ◌++◌, length, Option, None, Some, IsSome, IsSomeAnd, Ok, All, arith}
+use Rattle.std.proofs.Common.{◌≡◌, ◌∙◌, sym, ap, refl, ℕ, ◌<◌, inl, inr, true, true≢false, IsTrue, List, [], ◌∷◌, Ok, All, arith}
 use Rattle.std.proofs.lemmas.List.{append-nil}
 use Rattle.std.proofs.lemmas.List.Elements.{All-nil, All-cons}
 use Rattle.std.proofs.lemmas.Bool.Decides.{eqb_tells}
-use Rattle.bstr.specs.Find.{OccursAt}
 use Rattle.bstr.specs.Text.{Contains}
 use Rattle.jj_globs.specs.declared.glob.token.Part.TheVariants.{Star}
-use Rattle.jj_globs.specs.declared.glob.token.Token.{Token}
 use Rattle.jj_globs.specs.declared.glob.token.Token.TheVariants.{Part as part}
 use Rattle.jj_globs.specs.GlobText.{tokens_of, words, read}
 use Rattle.jj_globs.specs.GlobMeaning.{IsMatch, is_plain}
@@ -14,7 +12,6 @@ use Rattle.jj_strings.specs.StringGlobs.{StringGlob, as_glob}
 use Rattle.jj_strings.specs.StringMatchers.{IsPatternFromText}
 use Rattle.jj_strings.specs.StringSets.{Pattern, exact, exact_i, substring, substring_i, glob, glob_i, regex, regex_i, InPattern, is_all, is_one_star}
 use Rattle.jj_strings.proofs.EmptyRegex.{holds_everything}
-use Rattle.regex.specs.Bytes.{regex_source}
 
 pub contains_empty : (bytes : List ℕ) → Contains bytes []
 contains_empty bytes = (0, record { fits = omega arith; reads = λ j low. absurd (omega arith) })

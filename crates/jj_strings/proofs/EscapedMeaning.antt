@@ -1,5 +1,5 @@
 -- An escaped text stands for itself alone, and between stars for all that have it as a part.
-use Rattle.std.proofs.Common.{◌≡◌, ◌∙◌, sym, ap, refl, subst, ℕ, ◌+◌, ◌<◌, ◌≤◌, Bool, true, false, ◌==◌, if◌then◌else◌, IsTrue, ◌↔◌, List, [], ◌∷◌, ◌++◌, length, get_or, take, drop, Option, Some, None, Result, Ok, Err, IfOk, IfSome, option_map, All, arith, length-append}
+use Rattle.std.proofs.Common.{◌≡◌, ◌∙◌, sym, ap, refl, subst, ℕ, ◌+◌, Bool, true, false, ◌==◌, if◌then◌else◌, ◌↔◌, List, [], ◌∷◌, ◌++◌, length, get_or, take, drop, Option, Some, None, Result, Ok, Err, IfOk, IfSome, option_map, arith, length-append}
 use Rattle.std.proofs.lemmas.Bool.Decides.{nat_tests}
 use Rattle.std.proofs.lemmas.List.{append-nil, take-append-drop, get_or_append_left, get_or-append-add}
 use Rattle.std.proofs.lemmas.Option.{none-some, same_Some}
@@ -7,7 +7,6 @@ use Rattle.std.specs.Cow.{cow_str_bytes}
 use Rattle.std.specs.declared.borrow.CowStr.{CowStr}
 use Rattle.std.specs.declared.alloc.Global.{Global}
 use Rattle.std.specs.declared.alloc.AllocError.{AllocError}
-use Rattle.bstr.specs.Find.{OccursAt}
 use Rattle.bstr.specs.Text.{Contains}
 use Rattle.jj_globs.specs.declared.glob.token.Part.TheVariants.{Byte, Star, OneOf}
 use Rattle.jj_globs.specs.declared.glob.token.Token.{Token}
@@ -15,12 +14,12 @@ use Rattle.jj_globs.specs.declared.glob.token.Token.TheVariants.{Part as part}
 use Rattle.jj_globs.specs.declared.glob.token.Options.{Options}
 use Rattle.jj_globs.specs.GlobEscape.{is_special, escaped}
 use Rattle.jj_globs.specs.GlobText.{tokens_of}
-use Rattle.jj_globs.specs.GlobMeaning.{IsMatch, Stands, StandsAlone, in_class, same_byte, is_plain, reading_of}
+use Rattle.jj_globs.specs.GlobMeaning.{IsMatch, Stands, StandsAlone, in_class, reading_of}
 use Rattle.jj_strings.specs.GlobsOfPatterns.{glob_text, glob_icase, part_glob}
 use Rattle.jj_strings.specs.StringGlobs.{StringGlob, as_glob}
 use Rattle.jj_strings.specs.StringSets.{Pattern, exact, exact_i, substring, substring_i, glob, glob_i, regex, regex_i, InPattern, string_glob}
 use Rattle.jj_strings.proofs.AllStrings.{star_holds, contains_empty, all_plain}
-use Rattle.jj_strings.proofs.EscapedTokens.{part_of, tokens_for, tokens_of-escaped, tokens_of-part}
+use Rattle.jj_strings.proofs.EscapedTokens.{tokens_for, tokens_of-escaped, tokens_of-part}
 use Rattle.jj_strings.proofs.Occurrences.{occurs_to}
 
 -- the options of a glob that tells letters apart and has no separator

@@ -1,5 +1,5 @@
 -- Unions of lists of expressions.
-use Rattle.std.proofs.Common.{◌≡◌, ◌∙◌, sym, ap, subst, ℕ, ◌+◌, ◌/◌, ◌<◌, ◌≤◌, List, [], ◌∷◌, ◌++◌, length, take, drop, map, Result, Ok, Err, IfOk, arith, length-append}
+use Rattle.std.proofs.Common.{◌≡◌, ◌∙◌, sym, ap, subst, ℕ, ◌/◌, ◌<◌, ◌≤◌, List, [], ◌∷◌, ◌++◌, length, take, drop, map, Result, Ok, Err, IfOk, arith, length-append}
 use Rattle.std.proofs.lemmas.List.{take-append-drop, length-map, length-take-le, map-append, nil_from_length}
 use Rattle.std.specs.declared.alloc.AllocError.{AllocError}
 use Rattle.jj_strings.specs.declared.str_util.expression.StringExpression.{StringExpression}

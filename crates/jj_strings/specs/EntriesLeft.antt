@@ -1,14 +1,12 @@
 -- What an iterator over matching entries of a map holds.
-use Rattle.std.specs.Prelude.{◌≡◌, List, ◌++◌, map, All, Option, Result}
+use Rattle.std.specs.Prelude.{◌≡◌, List, ◌++◌, map, All}
 use Rattle.std.specs.Option.{option_to_list}
 use Rattle.std.specs.Borrow.{Bor}
 use Rattle.std.specs.Map.Iter.{deref_pair}
 use Rattle.std.specs.Iterator.Adapters.{once_item}
-use Rattle.std.specs.declared.alloc.AllocError.{AllocError}
 use Rattle.std.specs.declared.iter.Once.{Once}
 use Rattle.either.specs.declared.Either.{Either}
 use Rattle.either.specs.declared.Either.TheVariants.{Left, Right}
-use Rattle.jj_strings.specs.Lines.{GivesNext}
 
 -- the entries that are left: those of the map, or the one that a look-up found
 abbrev pub entries_left : {K V : Type 0} → Either (List (K × V)) (Once (Bor K × Bor V)) → List (K × V)

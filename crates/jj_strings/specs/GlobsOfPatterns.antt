@@ -1,7 +1,7 @@
 -- The glob that stands for the same strings as a pattern.
 use Rattle.std.specs.Prelude.{ℕ, Bool, false, List, [], ◌∷◌, ◌++◌, Option, None, Some}
 use Rattle.jj_globs.specs.GlobEscape.{escaped}
-use Rattle.jj_strings.specs.StringSets.{Pattern, exact, exact_i, substring, substring_i, glob, glob_i, regex, regex_i}
+use Rattle.jj_strings.specs.StringSets.{Pattern, exact, substring, glob}
 
 -- the escaped text between stars; the empty text is one star
 abbrev pub part_glob : List ℕ → List ℕ

@@ -4,11 +4,11 @@ use Rattle.regex.specs.Sources.{IsRefusal}
 use Rattle.regex.specs.Failures.{IsRightKind}
 use Rattle.regex.specs.Patterns.{Config}
 use Rattle.regex.specs.declared.error.Error as regexes
-use Rattle.regex.specs.declared.error.Error.TheVariants.{Syntax, CompiledTooBig, Internal, OutOfMemory}
+use Rattle.regex.specs.declared.error.Error.TheVariants.{OutOfMemory}
 use Rattle.jj_globs.specs.declared.glob.error.GlobError.{GlobError}
-use Rattle.jj_globs.specs.declared.glob.error.GlobError.TheVariants.{UnclosedClass, InvalidRange, NonAsciiRange, UnopenedAlternates, UnclosedAlternates, DanglingEscape, Memory as no_room}
+use Rattle.jj_globs.specs.declared.glob.error.GlobError.TheVariants.{Memory as no_room}
 use Rattle.jj_strings.specs.declared.str_util.error.StringPatternParseError.{StringPatternParseError}
-use Rattle.jj_strings.specs.declared.str_util.error.StringPatternParseError.TheVariants.{InvalidKind, GlobPattern, Regex, Memory}
+use Rattle.jj_strings.specs.declared.str_util.error.StringPatternParseError.TheVariants.{GlobPattern, Regex, Memory}
 use Rattle.jj_globs.specs.GlobText.{tokens_of}
 
 -- the error for one of the glob

@@ -1,5 +1,5 @@
 -- A matcher of strings as a set of byte lists.
-use Rattle.std.specs.Prelude.{◌≡◌, ◌↔◌, ◌⊎◌, ℕ, List, string_bytes}
+use Rattle.std.specs.Prelude.{◌≡◌, ◌⊎◌, ℕ, List, string_bytes}
 use Rattle.regex.specs.Bytes.{regex_config, IsReadFromSource}
 use Rattle.regex.specs.declared.bytes.regex.Regex as compiled
 use Rattle.jj_strings.specs.Predicates.{Accepts}
@@ -7,7 +7,7 @@ use Rattle.jj_strings.specs.declared.str_util.matcher.StringMatcher.{StringMatch
 use Rattle.jj_strings.specs.declared.str_util.matcher.StringMatcher.TheVariants.{All, Exact, Expr, Fn}
 use Rattle.jj_strings.specs.ExpressionViews.{expression_of}
 use Rattle.jj_strings.specs.PatternKinds.{bytes_config, bytes_config_i}
-use Rattle.jj_strings.specs.StringSets.{Pattern, exact, regex, regex_i, Expression, of_pattern, is_all, exact_text, InExpression, HasRegex}
+use Rattle.jj_strings.specs.StringSets.{Pattern, regex, regex_i, Expression, of_pattern, InExpression, HasRegex}
 
 -- the matcher's set holds the bytes
 abbrev pub InMatcher : {F : _} {V : _} {m : _} → StringMatcher F V m → List ℕ → Type 0

@@ -12,6 +12,8 @@ mod forms;
 #[cfg(test)]
 mod lines;
 #[cfg(test)]
+mod lookup;
+#[cfg(test)]
 mod maps;
 #[cfg(test)]
 mod patterns;

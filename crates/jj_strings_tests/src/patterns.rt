@@ -1,8 +1,68 @@
 //! Patterns of each kind: how a text is read as one, and which strings its set holds.
-use crate::fixtures::matcher;
+use crate::fixtures::{matcher, pattern, shows};
 use jj_strings::str_util::{StringPattern, StringPatternParseError};
 use std::alloc::{AllocError, Global};
 use std::process::Abort;
+
+// Kind, text, the debug form of the pattern, whether its set is seen to be everything, and the one text of an exact pattern.
+const KINDS: [(&str, &str, &str, bool, Option<&str>); 24] = [
+    ("exact", "", "Exact(\"\")", false, Some("")),
+    ("exact", "foo", "Exact(\"foo\")", false, Some("foo")),
+    ("exact", "*", "Exact(\"*\")", false, Some("*")),
+    ("exact-i", "", "ExactI(\"\")", false, None),
+    ("exact-i", "Foo", "ExactI(\"Foo\")", false, None),
+    ("substring", "", "Substring(\"\")", true, None),
+    ("substring", "foo", "Substring(\"foo\")", false, None),
+    ("substring-i", "", "SubstringI(\"\")", true, None),
+    ("substring-i", "foo", "SubstringI(\"foo\")", false, None),
+    ("glob", "", "Exact(\"\")", false, Some("")),
+    (
+        "glob",
+        "a,b.c-d!^",
+        "Exact(\"a,b.c-d!^\")",
+        false,
+        Some("a,b.c-d!^"),
+    ),
+    ("glob", "foo*", "Glob(GlobPattern(\"foo*\"))", false, None),
+    ("glob", "*", "Glob(GlobPattern(\"*\"))", true, None),
+    ("glob", "**", "Glob(GlobPattern(\"**\"))", false, None),
+    ("glob", "?", "Glob(GlobPattern(\"?\"))", false, None),
+    ("glob", "]", "Glob(GlobPattern(\"]\"))", false, None),
+    ("glob", "{}", "Glob(GlobPattern(\"{}\"))", false, None),
+    ("glob-i", "", "GlobI(GlobPattern(\"\"))", false, None),
+    ("glob-i", "foo", "GlobI(GlobPattern(\"foo\"))", false, None),
+    ("glob-i", "*", "GlobI(GlobPattern(\"*\"))", true, None),
+    ("regex", "", "Regex(Regex(\"\"))", true, None),
+    ("regex", "foo", "Regex(Regex(\"foo\"))", false, None),
+    ("regex-i", "", "RegexI(Regex(\"\"))", true, None),
+    ("regex-i", "foo", "RegexI(Regex(\"foo\"))", false, None),
+];
+
+// Checks what a pattern says of itself.
+fn says<R: Abort>(rt: &R, pattern: &StringPattern, text: &str, is_all: bool, exact: Option<&str>) {
+    assert!(rt; pattern.as_str() == text, "the text of {text}");
+    assert!(rt; pattern.is_all() == is_all, "{text} as everything");
+    assert!(rt; pattern.is_exact() == exact.is_some(), "{text} as exact");
+    assert!(rt; pattern.as_exact() == exact, "the exact text of {text}");
+}
+
+fn kinds<R: Abort>(rt: &R, alloc: Global) -> Result<(), AllocError> {
+    for (kind, text, shown, is_all, exact) in KINDS {
+        let pattern = pattern(rt, alloc, kind, text)?;
+        shows(rt, alloc, &pattern, shown)?;
+        shows(rt, alloc, &pattern.clone()?, shown)?;
+        says(rt, &pattern, text, is_all, exact);
+    }
+    shows(rt, alloc, &StringPattern::all(alloc), "Substring(\"\")")
+}
+
+#[test]
+fn texts_of_a_kind(rt: HostRuntime) {
+    let alloc = rt.alloc();
+    if kinds(&rt, alloc).is_err() {
+        assert!(rt; kinds(&rt, alloc).is_ok());
+    }
+}
 
 // Kind, text, and how the debug form and the text of the error begin.
 const FAULTS: [(&str, &str, &str, &str); 14] = [

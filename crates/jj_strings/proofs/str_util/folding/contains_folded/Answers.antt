@@ -1,4 +1,4 @@
-use Rattle.std.proofs.Common.{◌≡◌, ◌∙◌, sym, ℕ, ◌+◌, ◌-◌, ◌≤◌, ◌<◌, length, arith, below_more}
+use Rattle.std.proofs.Common.{ℕ, arith, below_more}
 use Rattle.std.proofs.lemmas.List.{length-map}
 use Rattle.jj_strings.proofs.str_util.folding.contains_folded.Goals as goal
 

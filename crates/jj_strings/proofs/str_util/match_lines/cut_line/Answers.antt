@@ -1,4 +1,4 @@
-use Rattle.std.proofs.Common.{◌≡◌, ◌<◌, arith, length-drop, length, ap, ◌∙◌}
+use Rattle.std.proofs.Common.{arith}
 use Rattle.jj_strings.proofs.FirstLines.{first_len-le, first_len-positive, cut_is}
 use Rattle.jj_strings.proofs.str_util.match_lines.cut_line.Goals as goal
 

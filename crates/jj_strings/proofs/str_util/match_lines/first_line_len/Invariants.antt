@@ -1,5 +1,5 @@
 -- There is no line feed before `at`.
-use Rattle.std.proofs.Common.{◌≡◌, ◌+◌, ◌≤◌, length, drop}
+use Rattle.std.proofs.Common.{◌≡◌, ◌+◌, drop}
 use Rattle.jj_strings.specs.Lines.{first_len}
 use Rattle.jj_strings.proofs.str_util.match_lines.first_line_len.Given as goal
 

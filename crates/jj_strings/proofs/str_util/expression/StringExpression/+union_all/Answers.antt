@@ -1,4 +1,4 @@
-use Rattle.std.proofs.Common.{◌≡◌, ◌∙◌, sym, ap, ◌/◌, ◌<◌, length, arith}
+use Rattle.std.proofs.Common.{◌∙◌, sym, ap, ◌/◌, ◌<◌, length, arith}
 use Rattle.jj_strings.specs.ExpressionViews.{expression_of}
 use Rattle.jj_strings.proofs.Unions.{union_of_one, union_of_none, union_of_halves}
 use Rattle.jj_strings.proofs.str_util.expression.StringExpression.+union_all.Goals as goal

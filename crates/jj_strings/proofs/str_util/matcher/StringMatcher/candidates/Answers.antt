@@ -1,4 +1,4 @@
-use Rattle.std.proofs.Common.{◌≡◌, ◌∙◌, sym, [], arith, string_bytes}
+use Rattle.std.proofs.Common.{◌∙◌, sym, [], arith, string_bytes}
 use Rattle.std.proofs.lemmas.List.{append-nil}
 use Rattle.std.specs.Iterator.Adapters.{once_item}
 use Rattle.jj_strings.proofs.FoundEntries.{found_holds}
