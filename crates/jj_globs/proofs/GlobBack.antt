@@ -1,11 +1,11 @@
 -- The plain program finds a group's alternatives and its end where they stand.
-use Rattle.std.proofs.Common.{◌≡◌, ◌∙◌, ap, sym, ℕ, zero, suc, Bool, true, false, ◌||◌, List, [], ◌∷◌, Option, None, Some, IsSome, refl}
+use Rattle.std.proofs.Common.{◌≡◌, ◌∙◌, ap, ℕ, zero, suc, false, ◌||◌, List, [], ◌∷◌, Option, None, Some, IsSome, refl}
 use Rattle.std.proofs.lemmas.Bool.{false≢true}
 use Rattle.std.specs.Option.{option_map}
 use Rattle.jj_globs.specs.declared.glob.token.Token.{Token}
 use Rattle.jj_globs.specs.declared.glob.token.Token.TheVariants.{Part as part, Open, Or, Close}
 use Rattle.jj_globs.specs.declared.glob.token.Options.{Options}
-use Rattle.jj_globs.specs.GlobPlain.{Test, Tests, test_or, test_open, tests_of}
+use Rattle.jj_globs.specs.GlobPlain.{Test, test_or, test_open, tests_of}
 use Rattle.jj_globs.specs.GlobGroups.{behind_close, behind_or, any_of, after_of, any_from, here_of}
 
 after_of-or : (d : ℕ) (t : Test) (gs : List (Test × Test)) → after_of d (test_or t gs).outer ≡ after_of d gs

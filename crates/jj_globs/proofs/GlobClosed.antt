@@ -1,5 +1,5 @@
 -- In the tokens that a text reads as no group is left open.
-use Rattle.std.proofs.Common.{◌≡◌, ◌∙◌, ap, sym, ℕ, zero, suc, Bool, true, false, if◌then◌else◌, ◌==◌, List, [], ◌∷◌, ◌++◌, reverse, length, Ok, Err, Result, refl, map, append-nil, append_assoc, arith}
+use Rattle.std.proofs.Common.{◌≡◌, ◌∙◌, sym, ℕ, zero, suc, Bool, true, false, if◌then◌else◌, List, [], ◌∷◌, ◌++◌, reverse, length, Ok, refl, map, append-nil, append_assoc, arith}
 use Rattle.std.proofs.lemmas.List.{reverse-append}
 use Rattle.jj_globs.specs.declared.glob.token.Token.{Token}
 use Rattle.jj_globs.specs.declared.glob.token.Token.TheVariants.{Part as part, Open, Or, Close}
@@ -7,9 +7,8 @@ use Rattle.jj_globs.specs.declared.glob.token.Part.{Part}
 use Rattle.jj_globs.specs.declared.glob.token.Part.TheVariants.{Byte, AnyByte, Star, LeadingDirs, InnerDirs, Below, Everything, OneOf}
 use Rattle.jj_globs.specs.declared.glob.sign.Place.{Place}
 use Rattle.jj_globs.specs.declared.glob.sign.Place.TheVariants.{Start, LeadingRun, InnerRun, AfterSlash, Elsewhere}
-use Rattle.jj_globs.specs.declared.glob.error.GlobError.{GlobError}
 use Rattle.jj_globs.specs.GlobText.{Word, question, asterisk, slash, open_brace, comma, close_brace, literal, class, fault, place_behind, place_behind_group, place_of, instead, two_stars, with_dirs, with_last_dirs, ends_sequence, with_or, with_close, closes_nothing, whole, read, tokens_of, words, sign_of}
-use Rattle.jj_globs.specs.GlobMeaning.{Sequence, Alternatives, Reading, before, before_or, before_open, reading_of}
+use Rattle.jj_globs.specs.GlobMeaning.{Sequence, Alternatives, before_or, before_open, reading_of}
 
 -- so many groups are open behind these tokens, the last first
 abbrev pub HasOpen : List Token → ℕ → Type 0

@@ -1,5 +1,5 @@
 -- Escaped texts, character by character, and what they read as.
-use Rattle.std.proofs.Common.{◌≡◌, ℕ, ◌+◌, ◌<◌, ◌≤◌, ◌≢◌, ◌*◌, ◌/◌, ◌%◌, List, [], length, ◌∷◌, ◌++◌, Bool, true, false, cond, ltb, refl, sym, ap, ◌∙◌, arith}
+use Rattle.std.proofs.Common.{◌≡◌, ℕ, ◌+◌, ◌≤◌, ◌≢◌, ◌/◌, ◌%◌, List, [], length, ◌∷◌, ◌++◌, Bool, true, false, cond, ltb, refl, sym, ap, ◌∙◌, arith}
 use Rattle.std.specs.List.{flat_map}
 use Rattle.std.proofs.lemmas.Bool.Decides.{nat_tests}
 use Rattle.std.proofs.lemmas.List.{append-nil, append_assoc, nil_from_length}

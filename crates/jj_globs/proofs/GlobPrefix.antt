@@ -1,16 +1,13 @@
 -- The tokens of a glob with `{/**,}` behind them stand for the bytes of which a front matches.
-use Rattle.std.proofs.Common.{◌≡◌, ◌∙◌, ap, sym, subst, ℕ, ◌+◌, ◌-◌, ◌≤◌, ◌⊎◌, inl, inr, List, [], ◌∷◌, ◌++◌, length, take, Ok, Result, refl, arith, append_assoc, append-nil}
-use Rattle.jj_globs.specs.declared.glob.token.Part.{Part}
-use Rattle.jj_globs.specs.declared.glob.token.Part.TheVariants.{Below}
+use Rattle.std.proofs.Common.{◌≡◌, ◌∙◌, ap, sym, subst, ℕ, ◌⊎◌, inl, inr, List, [], ◌∷◌, ◌++◌, Ok, refl, append-nil}
 use Rattle.jj_globs.specs.declared.glob.token.Token.{Token}
 use Rattle.jj_globs.specs.declared.glob.token.Token.TheVariants.{Part as part, Open, Or, Close}
 use Rattle.jj_globs.specs.declared.glob.token.Options.{Options}
-use Rattle.jj_globs.specs.declared.glob.error.GlobError.{GlobError}
 use Rattle.jj_globs.specs.GlobText.{tokens_of}
 use Rattle.jj_globs.specs.GlobKept.{prefix_end}
-use Rattle.jj_globs.specs.GlobMeaning.{StandsAlone, Sequence, done, next, group, Alternatives, no_more, either, Reading, before, reading_of, IsSplit, Stands, StandsForOne, GlobSpec, IsMatch, IsPrefixMatch}
+use Rattle.jj_globs.specs.GlobMeaning.{StandsAlone, Sequence, done, next, group, Alternatives, Reading, before, reading_of, IsSplit, Stands, StandsForOne, GlobSpec, IsMatch, IsPrefixMatch}
 use Rattle.jj_globs.specs.GlobPlain.{tests_of}
-use Rattle.jj_globs.proofs.GlobSound.{Onward, Tells, Bytes, split_at_once, split_map, split_left, split_right, agrees, same_ok}
+use Rattle.jj_globs.proofs.GlobSound.{Onward, Tells, split_at_once, split_map, split_left, split_right, agrees, same_ok}
 use Rattle.jj_globs.proofs.GlobClosed.{closed-tokens_of}
 
 -- one sequence after another

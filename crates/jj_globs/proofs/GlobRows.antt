@@ -1,5 +1,5 @@
 -- The rows of the glob profile, computed.
-use Rattle.std.proofs.Common.{◌≡◌, refl, true, false, [], ◌∷◌, length}
+use Rattle.std.proofs.Common.{◌≡◌, refl, true, false, [], ◌∷◌}
 use Rattle.std.specs.Prelude.{codes}
 use Rattle.jj_globs.specs.declared.glob.error.GlobError.TheVariants.{UnclosedClass, InvalidRange, NonAsciiRange, UnopenedAlternates, UnclosedAlternates, DanglingEscape}
 use Rattle.jj_globs.specs.GlobText.{tokens_of, words, read}

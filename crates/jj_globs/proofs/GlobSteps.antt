@@ -6,11 +6,10 @@ use Rattle.jj_globs.specs.declared.glob.token.Token.TheVariants.{Part as part, O
 use Rattle.jj_globs.specs.declared.glob.token.Part.TheVariants.{Byte, AnyByte, Star, OneOf, LeadingDirs, InnerDirs, Everything}
 use Rattle.jj_globs.specs.declared.glob.sign.Sign.{Sign}
 use Rattle.jj_globs.specs.declared.glob.sign.Sign.TheVariants.{Question, Asterisk, Slash, OpenBrace, Comma, CloseBrace, OpenBracket, CloseBracket, Bang, Caret, Dash, Backslash, Other}
-use Rattle.jj_globs.specs.declared.glob.sign.Place.{Place}
 use Rattle.jj_globs.specs.declared.glob.sign.Place.TheVariants.{LeadingRun, AfterSlash, Elsewhere}
 use Rattle.jj_globs.specs.declared.glob.error.GlobError.{GlobError}
 use Rattle.jj_globs.specs.declared.glob.error.GlobError.TheVariants.{UnclosedClass, InvalidRange, NonAsciiRange, UnopenedAlternates, UnclosedAlternates, DanglingEscape, Memory}
-use Rattle.jj_globs.specs.GlobText.{Word, question, asterisk, byte_of, words, items, first_item, single, class, fault, range_fault, read, ends_sequence, place_of, place_behind, with_dirs, with_last_dirs, two_stars, with_or, with_close, closes_nothing, whole, instead, sign_of, tokens_of}
+use Rattle.jj_globs.specs.GlobText.{Word, asterisk, byte_of, words, items, first_item, single, class, fault, read, place_of, place_behind, with_dirs, with_last_dirs, two_stars, with_or, with_close, closes_nothing, whole, instead, sign_of, tokens_of}
 use Rattle.jj_globs.specs.GlobReads.{ends_here, IsFault, IsReadingFault}
 
 -- 1. The words from a `[` on begin with a class, or are a fault.

@@ -1,6 +1,6 @@
 -- The plain program for globs, for all places of the token list at once: from the last byte to the first, and
 -- for each byte from the last token to the first.
-use Rattle.std.specs.Prelude.{◌≡◌, ℕ, ◌≤◌, Bool, true, false, ◌==◌, ◌&&◌, ◌||◌, List, [], ◌∷◌, map, reverse, length, drop, Option, Some, None, slice_get}
+use Rattle.std.specs.Prelude.{◌≡◌, ℕ, ◌≤◌, Bool, false, ◌==◌, ◌&&◌, ◌||◌, List, [], ◌∷◌, length, drop, Option, Some, None, slice_get}
 use Rattle.jj_globs.specs.declared.glob.token.Part.{Part}
 use Rattle.jj_globs.specs.declared.glob.token.Part.TheVariants.{Byte, AnyByte, Star, LeadingDirs, InnerDirs, Below, Everything, OneOf}
 use Rattle.jj_globs.specs.declared.glob.token.Token.{Token}
@@ -9,7 +9,7 @@ use Rattle.jj_globs.specs.declared.glob.table.Cell.{Cell}
 use Rattle.jj_globs.specs.declared.glob.table.Group.{Group}
 use Rattle.jj_globs.specs.declared.glob.token.Options.{Options}
 use Rattle.jj_globs.specs.GlobMeaning.{same_byte, is_plain, in_class}
-use Rattle.jj_globs.specs.GlobPlain.{Test, many, past_slash, is_slash, any_byte, Tests, tests_of}
+use Rattle.jj_globs.specs.GlobPlain.{Test, many, past_slash, any_byte, tests_of}
 
 -- what a part that stands for many bytes accepts once it has begun
 abbrev pub run_of : Options → Part → Test → Test

@@ -1,7 +1,6 @@
 -- Which names an answer chooses from.
-use Rattle.std.proofs.Common.{◌≡◌, ◌⊎◌, Bool, true, false, ◌&&◌, ◌||◌, List, [], ◌∷◌, ◌++◌, refl, ap, sym, ◌∙◌, inl, inr, if◌then◌else◌}
+use Rattle.std.proofs.Common.{◌≡◌, Bool, true, false, ◌&&◌, ◌||◌, List, [], ◌∷◌, ◌++◌, refl, ap, sym, ◌∙◌, inl, inr, if◌then◌else◌}
 use mathlib.Core.Bool.{false≢true}
-use Rattle.std.proofs.Math.Bool.{and-true}
 use Rattle.std.specs.Str.{bytes_eq}
 use Rattle.std.specs.List.{list_any}
 use Rattle.std.proofs.lemmas.Bool.{and_parts, or_cases, or_right}
@@ -14,7 +13,7 @@ use Rattle.jj_matchers.specs.Visits.{is_among, sets_answer}
 use Rattle.jj_matchers.specs.Wanted.{is_at_or_below, is_below, is_wanted, leads_to_wanted, leads_to_prefix, has_prefix, files_answer, prefix_answer}
 use Rattle.jj_matchers.specs.Listed.{IsAllOrAmong, ChoosesFrom, any_passes, names_of}
 use Rattle.jj_matchers.specs.Combined.{named_answer, union_answer, difference_answer, intersection_answer}
-use Rattle.jj_matchers.proofs.Wanted.{or_left, false_if, any_implies, both_true, is_at_or_below-append, below_dir}
+use Rattle.jj_matchers.proofs.Wanted.{or_left, any_implies, both_true, is_at_or_below-append, below_dir}
 
 -- a test that a name passes is passed by some name
 found_among : (test : Name → Bool) (name : Name) → test name ≡ true → (names : List Name) → is_among names name ≡ true → list_any test names ≡ true

@@ -1,5 +1,5 @@
 -- A walk under way: how it goes on below a directory, and what a child adds to what was found.
-use Rattle.std.proofs.Common.{◌≡◌, ◌⊎◌, inl, inr, ◌+◌, ◌*◌, ◌<◌, ◌≤◌, arith, Bool, true, false, ◌&&◌, List, [], ◌∷◌, ◌++◌, length, refl, ap, sym, subst, ◌∙◌, append_assoc, append-nil}
+use Rattle.std.proofs.Common.{◌≡◌, ◌⊎◌, inl, inr, ◌+◌, ◌*◌, ◌<◌, arith, Bool, true, false, ◌&&◌, List, [], ◌∷◌, ◌++◌, length, refl, ap, sym, subst, ◌∙◌, append_assoc, append-nil}
 use mathlib.Core.Bool.{false≢true}
 use Rattle.std.proofs.Math.Bool.{and-false}
 use Rattle.std.proofs.lemmas.Bool.{and_parts}
@@ -9,9 +9,9 @@ use Rattle.std.specs.List.Sorted.{IsStrictlySortedBy}
 use Rattle.jj_paths.specs.Paths.{Name, Path, name_cmp, path_cmp}
 use Rattle.jj_paths.specs.Tree.{Tree, branches_of, branch_count, children, has_branches}
 use Rattle.jj_matchers.specs.declared.matchers.tree_walk.Entered.{Entered}
-use Rattle.jj_matchers.specs.Answers.{Answer, all_recursively, specific, nothing, IsSound, NamesAll}
+use Rattle.jj_matchers.specs.Answers.{Answer, all_recursively, specific, nothing, IsSound}
 use Rattle.jj_matchers.specs.Visits.{answer_of}
-use Rattle.jj_matchers.specs.Walk.{nodes_below, paths_where, files_of, entered_by, is_file, is_entered, leads_to, enters, is_entered_directory}
+use Rattle.jj_matchers.specs.Walk.{nodes_below, paths_where, entered_by, is_file, is_entered, leads_to, enters, is_entered_directory}
 use Rattle.jj_matchers.specs.WalkParts.{paths_below, GoesOnBy, Enters, IsOpened, IsUnderWay, IsOnTheWay, GivesAll, left_in, left_in_all, work_left}
 use Rattle.std.specs.declared.cmp.Ordering.TheVariants.{Less}
 use Rattle.jj_matchers.proofs.Orders.{sorted_none, sorted-cons, before_below, all-append}

@@ -6,6 +6,10 @@
 #[cfg(test)]
 mod answers;
 #[cfg(test)]
+mod combined;
+#[cfg(test)]
 mod fixtures;
+#[cfg(test)]
+mod globs;
 #[cfg(test)]
 mod walks;

@@ -1,5 +1,5 @@
-use Rattle.std.proofs.Common.{◌≡◌, ◌∙◌, ap, sym, zero, Bool, true, false, not, ◌==◌, ◌&&◌, ◌||◌, List, ℕ, [], ◌∷◌, refl, arith, length, Some, None}
-use Rattle.jj_globs.specs.GlobGroups.{behind_close, behind_or, any_from, here_of}
+use Rattle.std.proofs.Common.{◌≡◌, ◌∙◌, ap, sym, zero, Bool, true, not, ◌==◌, ◌&&◌, List, ℕ, [], ◌∷◌, refl, arith}
+use Rattle.jj_globs.specs.GlobGroups.{behind_close, any_from, here_of}
 use Rattle.jj_globs.specs.GlobPlain.{Test, many}
 use Rattle.jj_globs.proofs.GlobBack.{here-or, here-or-none, here-open, here-open-none, any_from-rest, behind_close-or}
 use Rattle.jj_globs.proofs.glob.backtrack.+backtrack.Goals as goal

@@ -1,4 +1,4 @@
-use Rattle.std.proofs.Common.{◌≡◌, ◌==◌, ◌&&◌, ◌||◌, ℕ, zero, true, false, not, length, ◌+◌, ◌*◌, ◌≤◌}
+use Rattle.std.proofs.Common.{◌≡◌, ◌==◌, ◌&&◌, zero, false, not, length, ◌+◌, ◌*◌, ◌≤◌}
 use Rattle.jj_globs.specs.GlobGroups.{behind_close, behind_or, any_from, here_of}
 use Rattle.jj_globs.specs.GlobPlain.{many, past_slash}
 use Rattle.jj_globs.proofs.glob.backtrack.+backtrack.Given as goal

@@ -1,4 +1,4 @@
-use Rattle.std.proofs.Common.{◌≡◌, ◌≤◌, ℕ, length, map}
+use Rattle.std.proofs.Common.{◌≡◌, ◌≤◌, length, map}
 use Rattle.jj_globs.specs.GlobText.{sign_of, first_item, items}
 use Rattle.jj_globs.proofs.glob.class.read_items.Given as goal
 

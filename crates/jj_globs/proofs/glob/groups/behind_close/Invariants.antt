@@ -1,4 +1,4 @@
-use Rattle.std.proofs.Common.{◌≡◌, ◌≤◌, ◌+◌, ℕ, zero, length}
+use Rattle.std.proofs.Common.{◌≡◌, ◌≤◌, ◌+◌, zero, length}
 use Rattle.jj_globs.specs.GlobGroups.{behind_close}
 use Rattle.jj_globs.proofs.glob.groups.behind_close.Given as goal
 

@@ -1,4 +1,4 @@
-use Rattle.std.proofs.Common.{◌≡◌, ◌≤◌, ◌+◌, ℕ, zero, length}
+use Rattle.std.proofs.Common.{◌≡◌, ◌≤◌, ◌+◌, zero, length}
 use Rattle.jj_globs.specs.GlobGroups.{behind_or}
 use Rattle.jj_globs.proofs.glob.groups.behind_or.Given as goal
 

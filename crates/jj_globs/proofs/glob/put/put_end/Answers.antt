@@ -1,4 +1,4 @@
-use Rattle.std.proofs.Common.{◌≡◌, ◌∙◌, sym, ap, reverse, length}
+use Rattle.std.proofs.Common.{◌∙◌, sym, ap, reverse}
 use Rattle.std.proofs.lemmas.List.{reverse-reverse, length-reverse}
 use Rattle.std.proofs.lemmas.Result.{on_ok_weaker}
 use Rattle.jj_globs.proofs.GlobSteps.{whole-run, whole-other}

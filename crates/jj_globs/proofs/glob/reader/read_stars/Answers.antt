@@ -1,5 +1,5 @@
-use Rattle.std.proofs.Common.{◌∙◌, ap, sym, if◌then◌else◌, map, reverse, false, refl}
-use Rattle.jj_globs.specs.GlobText.{sign_of, words, read, place_of, with_last_dirs, two_stars}
+use Rattle.std.proofs.Common.{◌∙◌, sym, map, reverse, refl}
+use Rattle.jj_globs.specs.GlobText.{sign_of}
 use Rattle.jj_globs.specs.declared.glob.token.Token.TheVariants.{Part as part}
 use Rattle.jj_globs.specs.declared.glob.token.Part.TheVariants.{Star}
 use Rattle.jj_globs.proofs.GlobPuts.{reverse-push}

@@ -1,14 +1,10 @@
-use Rattle.std.proofs.Common.{◌≡◌, ◌∙◌, sym, ap, ◌≤◌, reverse, length, map, ℕ, zero, suc, ◌+◌, ◌<◌, ◌⊎◌, arith, refl, [], ◌∷◌, Ok, Err, List, Result, rules}
-use Rattle.jj_globs.specs.GlobText.{sign_of, words, read, tokens_of, Word, fault, class}
-use Rattle.jj_globs.specs.GlobReads.{IsFault, IsReadingFault}
-use Rattle.jj_globs.specs.declared.glob.error.GlobError.{GlobError}
-use Rattle.jj_globs.specs.declared.glob.error.GlobError.TheVariants.{Memory, UnclosedClass, InvalidRange, NonAsciiRange, UnopenedAlternates, UnclosedAlternates, DanglingEscape}
+use Rattle.std.proofs.Common.{reverse, map, arith, refl, ◌∷◌}
+use Rattle.jj_globs.specs.GlobText.{sign_of, words, tokens_of}
 use Rattle.jj_globs.specs.declared.glob.sign.Sign.TheVariants.{OpenBracket}
-use Rattle.jj_globs.specs.declared.glob.token.Token.{Token}
 use Rattle.jj_globs.specs.declared.glob.token.Token.TheVariants.{Part as part, Open}
 use Rattle.jj_globs.specs.declared.glob.token.Part.TheVariants.{Byte, AnyByte, OneOf}
 use Rattle.jj_globs.proofs.GlobPuts.{reverse-push, length-next}
-use Rattle.jj_globs.proofs.GlobSteps.{question-read, class-read, fault-read, escape-read, escape-ended, open-read, comma-either, start, comma-plain, comma-read, close-unopened, close-read, read-end, read-unclosed, literal-read, faulty}
+use Rattle.jj_globs.proofs.GlobSteps.{question-read, class-read, escape-read, escape-ended, open-read, comma-either, start, close-unopened, close-read, read-end, read-unclosed, literal-read, faulty}
 use Rattle.jj_globs.proofs.glob.reader.read_tokens.Goals as goal
 
 pub loop-sign-init : goal.loop-sign-init

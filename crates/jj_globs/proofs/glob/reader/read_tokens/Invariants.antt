@@ -1,4 +1,4 @@
-use Rattle.std.proofs.Common.{◌≡◌, ◌≤◌, ◌+◌, ℕ, length, map, reverse}
+use Rattle.std.proofs.Common.{◌≡◌, ◌≤◌, ◌+◌, length, map, reverse}
 use Rattle.jj_globs.specs.GlobText.{sign_of, words, read, tokens_of}
 use Rattle.jj_globs.proofs.glob.reader.read_tokens.Given as goal
 

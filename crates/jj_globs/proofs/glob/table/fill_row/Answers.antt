@@ -1,10 +1,9 @@
-use Rattle.std.proofs.Common.{◌≡◌, ◌∙◌, ap, refl, Some, ℕ, ◌+◌, ◌-◌, ◌<◌, ◌≤◌, reverse, length, drop, slice_get, arith}
+use Rattle.std.proofs.Common.{◌≡◌, ◌∙◌, ap, refl, Some, ◌+◌, ◌-◌, ◌<◌, reverse, length, drop, slice_get, arith}
 use Rattle.std.proofs.Math.ListN.{length-set}
 use Rattle.std.proofs.Math.Seq.{drop-length}
 use Rattle.jj_globs.specs.declared.glob.table.Cell.{Cell}
-use Rattle.jj_globs.specs.GlobRow.{Column, still, column_before, groups_of, cell_of}
-use Rattle.jj_globs.specs.GlobPlain.{tests_of}
-use Rattle.jj_globs.proofs.GlobTable.{column_of, column_kept, kept_cell, set_there, shown_more, shown_last, empty_is}
+use Rattle.jj_globs.specs.GlobRow.{Column, still, cell_of}
+use Rattle.jj_globs.proofs.GlobTable.{column_kept, kept_cell, set_there, shown_more, shown_last, empty_is}
 use Rattle.jj_globs.proofs.glob.table.fill_row.Goals as goal
 
 pub loop-at-init : goal.loop-at-init

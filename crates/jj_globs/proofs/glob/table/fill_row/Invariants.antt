@@ -1,9 +1,9 @@
 -- The row is right from the place `at` on, and the groups are those that are open there.
-use Rattle.std.proofs.Common.{◌≡◌, ◌+◌, ◌≤◌, ◌<◌, ℕ, Some, List, reverse, length, drop, slice_get}
+use Rattle.std.proofs.Common.{◌≡◌, ◌+◌, ◌≤◌, ◌<◌, ℕ, Some, reverse, length, drop, slice_get}
 use Rattle.arrayvec.specs.ArrayVec.{array_vec_len}
 use Rattle.jj_globs.specs.declared.glob.table.Cell.{Cell}
 use Rattle.jj_globs.specs.GlobPlain.{tests_of}
-use Rattle.jj_globs.specs.GlobRow.{ShowsRow, ShowsPast, cell_of, groups_of}
+use Rattle.jj_globs.specs.GlobRow.{cell_of, groups_of}
 use Rattle.jj_globs.proofs.glob.table.fill_row.Given as goal
 
 abbrev pub invariant-loop-at : goal.invariant-loop-at
