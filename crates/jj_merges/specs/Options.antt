@@ -1,5 +1,5 @@
 -- Terms that are there or absent.
-use Rattle.std.specs.Prelude.{◌≡◌, Option, Some, None, List, [], ◌∷◌}
+use Rattle.std.specs.Prelude.{Option, Some, None, List, [], ◌∷◌}
 use Rattle.std.specs.List.{filter_map}
 
 -- both are absent, or the second is a clone of the first

@@ -1,5 +1,5 @@
 -- Where a merge keeps its terms. No public clause cites this module.
-use Rattle.std.specs.Prelude.{◌≡◌, ℕ, List, [], ◌∷◌, length}
+use Rattle.std.specs.Prelude.{◌≡◌, List, length}
 use Rattle.std.specs.Vec as vec
 use Rattle.arrayvec.specs.ArrayVec as inline
 use Rattle.jj_merges.specs.Odd.{IsOdd}

@@ -1,4 +1,4 @@
-use Rattle.std.proofs.Common.{◌%◌, arith, ap, length}
+use Rattle.std.proofs.Common.{arith, ap, length}
 use Rattle.std.proofs.lemmas.List.Elements.{length_all_zip}
 use Rattle.jj_merges.proofs.Sound.{sound}
 use Rattle.jj_merges.proofs.merge.Merge.clone.Goals as goal
