@@ -1,5 +1,6 @@
 //! Patterns as matchers, as globs and as regular expressions.
 use crate::fixtures::{matcher, pattern, shows};
+use jj_strings::str_util::StringPattern;
 use std::alloc::{AllocError, Global};
 use std::process::Abort;
 
@@ -83,20 +84,29 @@ const GLOBS: [(&str, &str, Option<&str>); 21] = [
 fn to_globs<R: Abort>(rt: &R, alloc: Global) -> Result<(), AllocError> {
     for (kind, text, wanted) in GLOBS {
         let pattern = pattern(rt, alloc, kind, text)?;
-        match (pattern.to_glob(alloc)?, wanted) {
-            (Some(glob), Some(wanted)) => {
-                assert_eq!(rt; glob.as_str(), wanted, "{kind}:{text}");
-                let read = matcher(rt, alloc, "glob", glob.as_str())?;
-                let matcher = pattern.to_matcher(alloc)?;
-                for string in STRINGS {
-                    let is_in = matcher.is_match(alloc, string)?;
-                    assert_eq!(rt; read.is_match(alloc, string)?, is_in, "{glob} and {string}");
-                }
+        match pattern.to_glob(alloc)? {
+            Some(glob) => {
+                assert!(rt; wanted == Some(glob.as_str()), "{kind}:{text}");
+                reads_back(rt, alloc, &pattern, glob.as_str())?;
             }
-            (glob, wanted) => {
-                assert!(rt; glob.is_none() && wanted.is_none(), "{kind}:{text}");
-            }
+            None => assert!(rt; wanted.is_none(), "{kind}:{text}"),
         }
+    }
+    Ok(())
+}
+
+// Checks that the pattern and the glob of this text hold the same strings.
+fn reads_back<R: Abort>(
+    rt: &R,
+    alloc: Global,
+    pattern: &StringPattern,
+    glob: &str,
+) -> Result<(), AllocError> {
+    let read = matcher(rt, alloc, "glob", glob)?;
+    let matcher = pattern.to_matcher(alloc)?;
+    for string in STRINGS {
+        let is_in = matcher.is_match(alloc, string)?;
+        assert_eq!(rt; read.is_match(alloc, string)?, is_in, "{glob} and {string}");
     }
     Ok(())
 }
