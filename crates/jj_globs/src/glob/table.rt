@@ -169,15 +169,22 @@ fn cell_at(cells: &[Cell], place: usize) -> Cell
     cells[place]
 }
 
-// Makes the row of the cells at all places for these bytes out of the row for the bytes behind the first.
-fn fill_row(tokens: &[Token], options: Options, bytes: &[u8], cells: &mut [Cell])
+// Makes the row of the cells at all places for these bytes out of the row for the bytes behind the first. The room for open
+// groups is handed in, since to make it anew costs more than most rows.
+fn fill_row(
+    tokens: &[Token],
+    options: Options,
+    bytes: &[u8],
+    cells: &mut [Cell],
+    groups: &mut Groups,
+)
     requires room { length tokens.now ≤ 1024 }
     requires cells_room { length cells.old ≡ 1025 }
     requires past { ShowsPast options tokens.now bytes.now cells.old }
     ensures { ShowsRow options tokens.now bytes.now cells.new }
 {
     let byte = bytes.first().copied();
-    let mut groups = Groups::new();
+    groups.clear();
     let mut next = bytes.is_empty();
     let mut at = tokens.len();
     let mut behind = cell_at(cells, at);
@@ -188,7 +195,7 @@ fn fill_row(tokens: &[Token], options: Options, bytes: &[u8], cells: &mut [Cell]
     while at > 0 {
         at -= 1;
         let own = cell_at(cells, at);
-        let cell = tokens[at].step(options, byte, own, behind.value, next, &mut groups);
+        let cell = tokens[at].step(options, byte, own, behind.value, next, groups);
         cells[at] = cell;
         next = cell.value;
         behind = own;
@@ -204,11 +211,12 @@ pub(crate) fn matches_in_table(tokens: &[Token], options: Options, bytes: &[u8])
         value: false,
         run: false,
     }; 1025];
+    let mut groups = Groups::new();
     let mut from = bytes.len();
-    fill_row(tokens, options, &bytes[from..], &mut cells);
+    fill_row(tokens, options, &bytes[from..], &mut cells, &mut groups);
     while from > 0 {
         from -= 1;
-        fill_row(tokens, options, &bytes[from..], &mut cells);
+        fill_row(tokens, options, &bytes[from..], &mut cells, &mut groups);
     }
     cell_at(&cells, 0).value
 }

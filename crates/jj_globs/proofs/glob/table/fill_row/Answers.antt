@@ -13,8 +13,8 @@ loop-at-init c =
     record {
       within = omega arith;
       next_is = rw (drop-length c.args.tokens.now) empty;
-      groups_are = rw (drop-length c.args.tokens.now, c.new-groups.ensures) refl;
-      count = rw c.new-groups.ensures (omega arith);
+      groups_are = rw (drop-length c.args.tokens.now, c.clear.ensures) refl;
+      count = rw c.clear.ensures (omega arith);
       behind_is = c.cell_at-behind.ensures;
       below = λ k b low is. set_there c.args.cells.now (length c.args.tokens.now) k (still c.is_empty-next.result) b (omega (arith, low)) is;
       shown = shown_last c.args.options c.args.tokens.now c.args.bytes.now c.args.cells.now c.is_empty-next.result fits empty;
