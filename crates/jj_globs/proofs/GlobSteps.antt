@@ -63,9 +63,9 @@ pub escape-read : (n : ℕ) (e : Bool) (ts : List Token) (c : Sign) (s : List Si
 unfolding words read
 escape-read n e ts c s = refl
 
-pub escape-ended : (n : ℕ) (e : Bool) (ts : List Token) → read n e ts (words (Backslash ∷ [])) ≡ Err DanglingEscape
-unfolding words read
-escape-ended n e ts = refl
+pub escape-unended : words (Backslash ∷ []) ≡ fault DanglingEscape ∷ []
+unfolding words
+escape-unended = refl
 
 pub open-read : (n : ℕ) (e : Bool) (ts : List Token) (s : List Sign) → read n e ts (words (OpenBrace ∷ s)) ≡ read (n + 1) false (Open ∷ ts) (words s)
 unfolding words read

@@ -1,16 +1,22 @@
 -- What each step of the reader of globs has found in the words that are left.
 use Rattle.std.specs.Prelude.{◌≡◌, ℕ, zero, suc, Bool, true, false, List, [], ◌∷◌, map, Result, Err}
+use Rattle.jj_globs.specs.declared.glob.token.Part.{Part}
 use Rattle.jj_globs.specs.declared.glob.token.Token.{Token}
+use Rattle.jj_globs.specs.declared.glob.token.Token.TheVariants.{Part as part}
 use Rattle.jj_globs.specs.declared.glob.sign.Sign.{Sign}
 use Rattle.jj_globs.specs.declared.glob.sign.Sign.TheVariants.{Comma, CloseBrace}
 use Rattle.jj_globs.specs.declared.glob.token.ByteRange.{ByteRange}
 use Rattle.jj_globs.specs.declared.glob.error.GlobError.{GlobError}
 use Rattle.jj_globs.specs.declared.glob.error.GlobError.TheVariants.{Memory, UnclosedClass, InvalidRange, NonAsciiRange, UnopenedAlternates, UnclosedAlternates, DanglingEscape}
-use Rattle.jj_globs.specs.GlobText.{Word, sign_of, words, class, fault}
+use Rattle.jj_globs.specs.GlobText.{Word, sign_of, words, class, fault, read}
 
 -- the words are a class, and then those of the rest of the text
 abbrev pub IsClassRead : List Word → Bool × List ByteRange → List ℕ → Type 0
 IsClassRead found (negated, ranges) rest = found ≡ class negated ranges ∷ words (map sign_of rest)
+
+-- behind any tokens, the words read as one part and what follows it
+abbrev pub IsPartRead : List Word → Part → List ℕ → Type 0
+IsPartRead found next rest = (n : ℕ) (e : Bool) (ts : List Token) → read n e ts found ≡ read n false (part next ∷ ts) (words (map sign_of rest))
 
 -- the words are a fault, or memory ran out, of which nothing is claimed
 abbrev pub IsFault : GlobError → List Word → Type 0

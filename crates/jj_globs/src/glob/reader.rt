@@ -1,7 +1,7 @@
 //! Reading the text of a glob, from left to right, into tokens.
 ghost use Rattle.std.specs.Prelude.{◌≡◌, ◌≢◌, ℕ, ◌+◌, ◌<◌, ◌≤◌, ◌^◌, Bool, true, false, Ok, Err, List, [], ◌∷◌, ◌++◌, reverse, length, map, OnOk, IfOk, IfErr, MatchResult, MatchOption, IsTrue, ◌↔◌};
 ghost use Rattle.jj_globs.specs.GlobText.{sign_of, words, read, tokens_of, place_behind, place_behind_group, place_of, with_or, with_close, with_dirs, with_last_dirs, two_stars, instead, closes_nothing, whole};
-ghost use Rattle.jj_globs.specs.GlobReads.{IsReadingFault, ends_here};
+ghost use Rattle.jj_globs.specs.GlobReads.{IsReadingFault, IsFault, IsPartRead, ends_here};
 ghost use Rattle.jj_globs.specs.declared.glob.sign.Sign.{Sign};
 
 use crate::glob::class::read_class;
@@ -27,24 +27,8 @@ pub(crate) fn read_tokens(alloc: Global, text: &[u8]) -> Result<Vec<Token>, Glob
         rest = behind;
         match sign {
             Sign::Asterisk => rest = read_stars(&mut tokens, open_groups, is_behind_group, behind)?,
-            Sign::OpenBracket => match read_class(alloc, behind) {
-                Ok((class, behind_class)) => {
-                    tokens.push(Token::Part(Part::OneOf(class)))?;
-                    rest = behind_class;
-                }
-                Err(error) => return Err(error),
-            },
-            Sign::Backslash => {
-                let Some((escaped, behind_escaped)) = next_sign(behind) else {
-                    return Err(GlobError::DanglingEscape);
-                };
-                tokens.push(Token::Part(Part::Byte(escaped.byte())))?;
-                rest = behind_escaped;
-            }
+            Sign::CloseBrace if open_groups == 0 => return Err(GlobError::UnopenedAlternates),
             Sign::CloseBrace => {
-                if open_groups == 0 {
-                    return Err(GlobError::UnopenedAlternates);
-                }
                 open_groups -= 1;
                 is_behind_group = put_close(&mut tokens)?;
                 continue;
@@ -54,8 +38,13 @@ pub(crate) fn read_tokens(alloc: Global, text: &[u8]) -> Result<Vec<Token>, Glob
                 open_groups += 1;
             }
             Sign::Comma => put_comma(&mut tokens, open_groups)?,
-            Sign::Question => tokens.push(Token::Part(Part::AnyByte))?,
-            literal => tokens.push(Token::Part(Part::Byte(literal.byte())))?,
+            sign => match read_part(alloc, sign, behind) {
+                Ok((part, behind_part)) => {
+                    tokens.push(Token::Part(part))?;
+                    rest = behind_part;
+                }
+                Err(error) => return Err(error),
+            },
         }
         is_behind_group = false;
     }
@@ -64,6 +53,31 @@ pub(crate) fn read_tokens(alloc: Global, text: &[u8]) -> Result<Vec<Token>, Glob
     }
     put_end(&mut tokens)?;
     Ok(tokens)
+}
+
+// What the other signs begin, from behind the sign on: a class, an escaped byte, any byte, or a byte that stands for itself.
+fn read_part<'a>(alloc: Global, sign: Sign, text: &'a [u8]) -> Result<(Part, &'a [u8]), GlobError>
+    requires no_star { sign ≢ Sign.Asterisk }
+    requires no_open { sign ≢ Sign.OpenBrace }
+    requires no_comma { sign ≢ Sign.Comma }
+    requires no_close { sign ≢ Sign.CloseBrace }
+    ensures read { MatchResult result
+        (λ read. IsPartRead (words (sign ∷ map sign_of text.now)) read.0 read.1.now)
+        (λ error. IsFault error (words (sign ∷ map sign_of text.now))) }
+    ensures shorter { IfOk result (λ read. length read.1.now ≤ length text.now) }
+{
+    match sign {
+        Sign::Question => Ok((Part::AnyByte, text)),
+        Sign::OpenBracket => match read_class(alloc, text) {
+            Ok((class, rest)) => Ok((Part::OneOf(class), rest)),
+            Err(error) => Err(error),
+        },
+        Sign::Backslash => match next_sign(text) {
+            Some((escaped, rest)) => Ok((Part::Byte(escaped.byte()), rest)),
+            None => Err(GlobError::DanglingEscape),
+        },
+        literal => Ok((Part::Byte(literal.byte()), text)),
+    }
 }
 
 // What follows a star: whether the text goes on with another one, and what follows that.

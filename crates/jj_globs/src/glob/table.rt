@@ -169,8 +169,8 @@ fn cell_at(cells: &[Cell], place: usize) -> Cell
     cells[place]
 }
 
-// Makes the row of the cells at all places for these bytes out of the row for the bytes behind the first. The list of
-// groups is cleared first.
+// Makes the row of the cells at all places for these bytes out of the row for the bytes behind the first. The room for open
+// groups is handed in, since to make it anew costs more than most rows.
 fn fill_row(
     tokens: &[Token],
     options: Options,
