@@ -12,8 +12,8 @@ use Rattle.std.proofs.lemmas.Slice.Eq.{bytes_eq-Decides}
 use Rattle.jj_paths.specs.Paths.{Name, Path}
 use Rattle.jj_paths.specs.Orders.{path_eq, path_eq-Decides}
 use Rattle.jj_paths.specs.Tree.{Tree, Branches, none, branch, child, get, has_branches, nodes_on}
+use Rattle.jj_paths.specs.Listed.{nodes_under}
 use Rattle.jj_matchers.specs.Answers.{Answer, all_recursively, specific, nothing}
-use Rattle.jj_matchers.specs.Walk.{nodes_below}
 use Rattle.jj_matchers.specs.Wanted.{is_at_or_below, is_below, is_wanted, leads_to_wanted, files_answer, has_prefix, leads_to_prefix, prefix_answer}
 use Rattle.jj_matchers.specs.Marks.{is_some_true, is_marked, marked_paths, LeadsToMarks, passes, named_by, any_child, children_answer, has_children, has_mark, any_node}
 use Rattle.jj_matchers.proofs.Wanted.{or_left, false_if, is_below-append, is_at_or_below-append, below_base, below_dir}
@@ -41,7 +41,7 @@ module _ {V : Type 0} where
 
   -- each path with a value is among the paths of the nodes
   pub path_listed : (b : Branches V) (dir : Path) (name : Name) (rest : Path) (sub : Tree V) (v : V) → option_and_then (λ n. get n rest) (child b name) ≡ Some sub →
-      list_any (path_eq (dir ++ name ∷ rest)) (map (λ (node : Path × Tree V). node.0) (nodes_below dir b)) ≡ true
+      list_any (path_eq (dir ++ name ∷ rest)) (map (λ (node : Path × Tree V). node.0) (nodes_under dir b)) ≡ true
   path_listed none dir name rest sub v e = absurd (no_node e)
     where
       no_node : None ≡ Some sub → ⊥
@@ -55,19 +55,19 @@ module _ {V : Type 0} where
       here : (m : Name) → n ≡ m → path_eq (dir ++ m ∷ []) (dir ++ n ∷ []) ≡ true
       here m is = (path_eq-Decides (dir ++ m ∷ []) (dir ++ n ∷ [])).1 (ap (λ x. dir ++ x ∷ []) (sym is))
 
-      split : (p : Path) → list_any (path_eq p) (paths (nodes_below (dir ++ n ∷ []) below ++ nodes_below dir after)) ≡ (list_any (path_eq p) (paths (nodes_below (dir ++ n ∷ []) below)) || list_any (path_eq p) (paths (nodes_below dir after)))
-      split p = ap (list_any (path_eq p)) (map-append (λ (node : Path × Tree V). node.0) (nodes_below (dir ++ n ∷ []) below) (nodes_below dir after)) ∙ list_any-append (path_eq p) (paths (nodes_below (dir ++ n ∷ []) below)) (paths (nodes_below dir after))
+      split : (p : Path) → list_any (path_eq p) (paths (nodes_under (dir ++ n ∷ []) below ++ nodes_under dir after)) ≡ (list_any (path_eq p) (paths (nodes_under (dir ++ n ∷ []) below)) || list_any (path_eq p) (paths (nodes_under dir after)))
+      split p = ap (list_any (path_eq p)) (map-append (λ (node : Path × Tree V). node.0) (nodes_under (dir ++ n ∷ []) below) (nodes_under dir after)) ∙ list_any-append (path_eq p) (paths (nodes_under (dir ++ n ∷ []) below)) (paths (nodes_under dir after))
 
       by_name : (t : Bool) → bytes_eq n name ≡ t → (rest : Path) → option_and_then (λ n. get n rest) (child (branch n value below after) name) ≡ Some sub →
-          ((next : Name) (more : Path) → option_and_then (λ n. get n more) (child below next) ≡ Some sub → list_any (path_eq ((dir ++ n ∷ []) ++ next ∷ more)) (paths (nodes_below (dir ++ n ∷ []) below)) ≡ true) →
-          (option_and_then (λ n. get n rest) (child after name) ≡ Some sub → list_any (path_eq (dir ++ name ∷ rest)) (paths (nodes_below dir after)) ≡ true) →
-          list_any (path_eq (dir ++ name ∷ rest)) (paths (nodes_below dir (branch n value below after))) ≡ true
+          ((next : Name) (more : Path) → option_and_then (λ n. get n more) (child below next) ≡ Some sub → list_any (path_eq ((dir ++ n ∷ []) ++ next ∷ more)) (paths (nodes_under (dir ++ n ∷ []) below)) ≡ true) →
+          (option_and_then (λ n. get n rest) (child after name) ≡ Some sub → list_any (path_eq (dir ++ name ∷ rest)) (paths (nodes_under dir after)) ≡ true) →
+          list_any (path_eq (dir ++ name ∷ rest)) (paths (nodes_under dir (branch n value below after))) ≡ true
       by_name true same [] h deep later = or_left _ _ (here name ((bytes_eq-Decides n name).0 same))
       by_name true same (next ∷ more) h deep later =
           let is : n ≡ name = (bytes_eq-Decides n name).0 same in
           let found : option_and_then (λ n. get n more) (child below next) ≡ Some sub = rw same at h in
           or_right _ _ (split (dir ++ name ∷ next ∷ more)
-          ∙ or_left _ _ (ap (λ p. list_any (path_eq p) (paths (nodes_below (dir ++ n ∷ []) below))) (ap (λ x. dir ++ x ∷ next ∷ more) (sym is) ∙ sym (append_assoc dir (n ∷ []) (next ∷ more))) ∙ deep next more found))
+          ∙ or_left _ _ (ap (λ p. list_any (path_eq p) (paths (nodes_under (dir ++ n ∷ []) below))) (ap (λ x. dir ++ x ∷ next ∷ more) (sym is) ∙ sym (append_assoc dir (n ∷ []) (next ∷ more))) ∙ deep next more found))
       by_name false differs rest h deep later =
           let found : option_and_then (λ n. get n rest) (child after name) ≡ Some sub = rw differs at h in
           or_right _ _ (split (dir ++ name ∷ rest) ∙ or_right _ _ (later found))
@@ -95,19 +95,19 @@ module _ where
       by_keep false is further = further (rw is at h)
 
   -- a path with a mark is among the paths of the nodes
-  listed : (tree : Tree Bool) (path : Path) → is_marked tree path ≡ true → list_any (path_eq path) ([] ∷ map (λ (node : Path × Tree Bool). node.0) (nodes_below [] tree.1)) ≡ true
+  listed : (tree : Tree Bool) (path : Path) → is_marked tree path ≡ true → list_any (path_eq path) ([] ∷ map (λ (node : Path × Tree Bool). node.0) (nodes_under [] tree.1)) ≡ true
   listed tree [] marked = refl
   listed tree (name ∷ rest) marked = by_node (get tree (name ∷ rest)) refl
     where
-      by_node : (o : Option (Tree Bool)) → get tree (name ∷ rest) ≡ o → list_any (path_eq (name ∷ rest)) ([] ∷ map (λ (node : Path × Tree Bool). node.0) (nodes_below [] tree.1)) ≡ true
+      by_node : (o : Option (Tree Bool)) → get tree (name ∷ rest) ≡ o → list_any (path_eq (name ∷ rest)) ([] ∷ map (λ (node : Path × Tree Bool). node.0) (nodes_under [] tree.1)) ≡ true
       by_node None is = absurd (false≢true (sym (ap (λ o. is_some_true (option_map (λ (node : Tree Bool). node.0) o)) is) ∙ marked))
       by_node (Some sub) is = path_listed tree.1 [] name rest sub true is
 
   pub any_marked : (tree : Tree Bool) (test : Path → Bool) → list_any test (marked_paths tree) ≡ true → (path : Path) × ((is_marked tree path ≡ true) × (test path ≡ true))
-  any_marked tree test = found_in (is_marked tree) test ([] ∷ map (λ (node : Path × Tree Bool). node.0) (nodes_below [] tree.1))
+  any_marked tree test = found_in (is_marked tree) test ([] ∷ map (λ (node : Path × Tree Bool). node.0) (nodes_under [] tree.1))
 
   pub marked_any : (tree : Tree Bool) (test : Path → Bool) (path : Path) → is_marked tree path ≡ true → test path ≡ true → list_any test (marked_paths tree) ≡ true
-  marked_any tree test path marked passing = any_filter (is_marked tree) test path marked passing ([] ∷ map (λ (node : Path × Tree Bool). node.0) (nodes_below [] tree.1)) (listed tree path marked)
+  marked_any tree test path marked passing = any_filter (is_marked tree) test path marked passing ([] ∷ map (λ (node : Path × Tree Bool). node.0) (nodes_under [] tree.1)) (listed tree path marked)
 
   pub is_wanted-marked : (tree : Tree Bool) (path : Path) → is_wanted (marked_paths tree) path ≡ is_marked tree path
   is_wanted-marked tree path =

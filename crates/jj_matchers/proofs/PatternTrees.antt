@@ -13,9 +13,9 @@ use Rattle.std.proofs.lemmas.List.Folds.{list_any-append}
 use Rattle.jj_paths.specs.Paths.{Name, Path, name_cmp}
 use Rattle.jj_paths.specs.Orders.{path_eq, path_eq-Decides}
 use Rattle.jj_paths.specs.Tree.{Tree, Branches, none, branch, child, children, get, has_branches, nodes_on, value_at}
+use Rattle.jj_paths.specs.Listed.{nodes_under}
 use Rattle.jj_matchers.specs.Answers.{Answer, specific, nothing}
 use Rattle.jj_globs.specs.GlobMeaning.{GlobSpec}
-use Rattle.jj_matchers.specs.Walk.{nodes_below}
 use Rattle.jj_matchers.specs.Wanted.{is_at_or_below, is_below, is_wanted, HasSamePaths, has_prefix, leads_to_wanted, leads_to_prefix}
 use Rattle.jj_matchers.specs.Marks.{is_some_true, is_marked, marked_paths, passes, any_child, children_answer, any_node}
 use Rattle.jj_matchers.specs.Patterns.{tail_passes}
@@ -88,7 +88,7 @@ children-marks (branch n globs below after) = ap (λ l. (n, (has_globs globs, ma
 
 module _ (tree : Tree (List GlobSpec)) where
   abbrev paths : List Path
-  paths = [] ∷ map (λ (node : Path × Tree (List GlobSpec)). node.0) (nodes_below [] tree.1)
+  paths = [] ∷ map (λ (node : Path × Tree (List GlobSpec)). node.0) (nodes_under [] tree.1)
 
   at_dir : (test : Path × GlobSpec → Bool) (dir : Path) → list_any test (patterns_at tree dir) ≡ list_any (λ glob. test (dir, glob)) (globs_at tree dir)
   at_dir test dir = any-map (λ glob. (dir, glob)) test (globs_at tree dir)

@@ -8,10 +8,11 @@ use Rattle.std.specs.List.{AllByRecursion}
 use Rattle.std.specs.List.Sorted.{IsStrictlySortedBy}
 use Rattle.jj_paths.specs.Paths.{Name, Path, name_cmp, path_cmp}
 use Rattle.jj_paths.specs.Tree.{Tree, branches_of, branch_count, children, has_branches}
+use Rattle.jj_paths.specs.Listed.{nodes_under}
 use Rattle.jj_matchers.specs.declared.matchers.tree_walk.Entered.{Entered}
 use Rattle.jj_matchers.specs.Answers.{Answer, all_recursively, specific, nothing, IsSound}
 use Rattle.jj_matchers.specs.Visits.{answer_of}
-use Rattle.jj_matchers.specs.Walk.{nodes_below, paths_where, entered_by, is_file, is_entered, leads_to, enters, is_entered_directory}
+use Rattle.jj_matchers.specs.Walk.{paths_where, entered_by, is_file, is_entered, leads_to, enters, is_entered_directory}
 use Rattle.jj_matchers.specs.WalkParts.{paths_below, GoesOnBy, Enters, IsOpened, IsUnderWay, IsOnTheWay, GivesAll, left_in, left_in_all, work_left}
 use Rattle.std.specs.declared.cmp.Ordering.TheVariants.{Less}
 use Rattle.jj_matchers.proofs.Orders.{sorted_none, sorted-cons, before_below, all-append}
@@ -67,7 +68,7 @@ work_left-snoc (first ∷ further) directory = omega (arith, work_left-snoc furt
 
 -- what is left of a directory without further children
 left_none : (test : Path × Tree Bool → Bool) (directory : Entered) → directory.left.now ≡ [] → left_in test directory ≡ []
-left_none test directory done = ap (λ l. paths_where test (nodes_below directory.dir (branches_of l))) done
+left_none test directory done = ap (λ l. paths_where test (nodes_under directory.dir (branches_of l))) done
 
 abbrev IsInOrder : (Path × Tree Bool → Bool) → Entered → Type 0
 IsInOrder test directory = IsStrictlySortedBy path_cmp (left_in test directory)
@@ -83,8 +84,8 @@ finished test all found further directory done gives = record {
 module _ (test : Path × Tree Bool → Bool) (further unfinished : List Entered) (directory : Entered) (name : Name) (sub : Tree Bool) (after : List (Name × Tree Bool)) where
   past_child : (all found new : List Path) → directory.left.now ≡ (name, sub) ∷ after → is_sorted name_cmp directory.left.now ≡ true →
       new ≡ found ++ path_if (test (directory.dir ++ name ∷ [], sub)) (directory.dir ++ name ∷ []) →
-      left_in_all test unfinished ≡ (paths_below test (directory.dir ++ name ∷ []) sub ++ paths_where test (nodes_below directory.dir (branches_of after))) ++ left_in_all test further →
-      (AllByRecursion (IsInOrder test) unfinished → AllByRecursion (IsInOrder test) further × IsStrictlySortedBy path_cmp (paths_below test (directory.dir ++ name ∷ []) sub) × IsStrictlySortedBy path_cmp (paths_where test (nodes_below directory.dir (branches_of after)))) →
+      left_in_all test unfinished ≡ (paths_below test (directory.dir ++ name ∷ []) sub ++ paths_where test (nodes_under directory.dir (branches_of after))) ++ left_in_all test further →
+      (AllByRecursion (IsInOrder test) unfinished → AllByRecursion (IsInOrder test) further × IsStrictlySortedBy path_cmp (paths_below test (directory.dir ++ name ∷ []) sub) × IsStrictlySortedBy path_cmp (paths_where test (nodes_under directory.dir (branches_of after)))) →
       GivesAll test all found (further ++ directory ∷ []) → GivesAll test all new unfinished
   past_child all found new left names is parts sorted gives = record {
     whole = ap (λ l. new ++ l) parts
@@ -100,7 +101,7 @@ module _ (test : Path × Tree Bool → Bool) (further unfinished : List Entered)
       deep = paths_below test (directory.dir ++ name ∷ []) sub
 
       later : List Path
-      later = paths_where test (nodes_below directory.dir (branches_of after))
+      later = paths_where test (nodes_under directory.dir (branches_of after))
 
 module _ (accepts opens : Path → Bool) (answer : Path → Answer) (tree : Tree Bool) (files entered : List Path) (further : List Entered) (directory : Entered) where
   -- a directory without further children is finished
@@ -117,8 +118,8 @@ module _ (accepts opens : Path → Bool) (answer : Path → Answer) (tree : Tree
     abbrev child : Path
     child = directory.dir ++ name ∷ []
 
-    rest_in : (test : Path × Tree Bool → Bool) → left_in test next ≡ paths_where test (nodes_below directory.dir (branches_of after))
-    rest_in test = ap (λ d. paths_where test (nodes_below d (branches_of next.left.now))) path ∙ ap (λ l. paths_where test (nodes_below directory.dir (branches_of l))) rest
+    rest_in : (test : Path × Tree Bool → Bool) → left_in test next ≡ paths_where test (nodes_under directory.dir (branches_of after))
+    rest_in test = ap (λ d. paths_where test (nodes_under d (branches_of next.left.now))) path ∙ ap (λ l. paths_where test (nodes_under directory.dir (branches_of l))) rest
 
     -- the directory is still under way
     next_under_way : IsUnderWay accepts opens answer directory → IsUnderWay accepts opens answer next
@@ -131,7 +132,7 @@ module _ (accepts opens : Path → Bool) (answer : Path → Answer) (tree : Tree
     module _ (test : Path × Tree Bool → Bool) (all found new : List Path) (names : is_sorted name_cmp directory.left.now ≡ true) (is : new ≡ found ++ path_if (test (directory.dir ++ name ∷ [], sub)) (directory.dir ++ name ∷ [])) where
       past_leaf : paths_below test (directory.dir ++ name ∷ []) sub ≡ [] → GivesAll test all found (further ++ directory ∷ []) → GivesAll test all new (further ++ next ∷ [])
       past_leaf nothing_there = past_child test further (further ++ next ∷ []) directory name sub after all found new left names is
-          (left_in_all-snoc test further next ∙ ap (λ l. l ++ left_in_all test further) (rest_in test ∙ ap (λ l. l ++ paths_where test (nodes_below directory.dir (branches_of after))) (sym nothing_there)))
+          (left_in_all-snoc test further next ∙ ap (λ l. l ++ left_in_all test further) (rest_in test ∙ ap (λ l. l ++ paths_where test (nodes_under directory.dir (branches_of after))) (sym nothing_there)))
           (λ h. let parts = all_append_parts (IsInOrder test) further (next ∷ []) h in (parts.0, subst (IsStrictlySortedBy path_cmp) (sym nothing_there) sorted_none, subst (IsStrictlySortedBy path_cmp) (rest_in test) parts.1.0))
 
       -- a child that is entered
@@ -147,7 +148,7 @@ module _ (accepts opens : Path → Bool) (answer : Path → Answer) (tree : Tree
           (parts.0, subst (IsStrictlySortedBy path_cmp) deep outer.1.0, subst (IsStrictlySortedBy path_cmp) (rest_in test) parts.1.0))
         where
           deep : left_in test below ≡ paths_below test (directory.dir ++ name ∷ []) sub
-          deep = ap (λ d. paths_where test (nodes_below d (branches_of below.left.now))) at ∙ ap (λ b. paths_where test (nodes_below (directory.dir ++ name ∷ []) b)) (ap branches_of all_left ∙ branches_of-children sub.1)
+          deep = ap (λ d. paths_where test (nodes_under d (branches_of below.left.now))) at ∙ ap (λ b. paths_where test (nodes_under (directory.dir ++ name ∷ []) b)) (ap branches_of all_left ∙ branches_of-children sub.1)
 
     module _ (new_files new_entered : List Path) (file_is : new_files ≡ files ++ path_if (is_file accepts (directory.dir ++ name ∷ [], sub)) (directory.dir ++ name ∷ [])) where
       pub way_past : (is_entered_directory answer (directory.dir ++ name ∷ [], sub)) ≡ false → new_entered ≡ entered →
@@ -189,11 +190,11 @@ module _ (accepts opens : Path → Bool) (answer : Path → Answer) (tree : Tree
   }
     where
       from_parts : (t : Bool) → is_entered_directory answer ([], tree) ≡ t → entered_by answer tree ≡ path_if t [] ++ paths_below (is_entered_directory answer) [] tree
-      from_parts t e = paths_where_first (is_entered_directory answer) [] tree (nodes_below [] tree.1) ∙ ap (λ b. path_if b [] ++ paths_below (is_entered_directory answer) [] tree) e
+      from_parts t e = paths_where_first (is_entered_directory answer) [] tree (nodes_under [] tree.1) ∙ ap (λ b. path_if b [] ++ paths_below (is_entered_directory answer) [] tree) e
 
   module _ (known : Answer) (on : GoesOnBy accepts opens answer [] known) (has : has_branches tree.1 ≡ true) where
     root_first : (t : Bool) → is_entered known ≡ t → entered_by answer tree ≡ path_if t [] ++ paths_below (is_entered_directory answer) [] tree
-    root_first t e = paths_where_first (is_entered_directory answer) [] tree (nodes_below [] tree.1) ∙ ap (λ b. path_if b [] ++ paths_below (is_entered_directory answer) [] tree) (entered_itself accepts opens answer [] tree known on has ∙ e)
+    root_first t e = paths_where_first (is_entered_directory answer) [] tree (nodes_under [] tree.1) ∙ ap (λ b. path_if b [] ++ paths_below (is_entered_directory answer) [] tree) (entered_itself accepts opens answer [] tree known on has ∙ e)
 
     pub way_at_root : (root : Entered) (entered : List Path) → entered ≡ [] ∷ [] → IsOpened [] known tree root → IsOnTheWay accepts opens answer tree [] entered (root ∷ [])
     way_at_root root entered is opened = record {
@@ -208,7 +209,7 @@ module _ (accepts opens : Path → Bool) (answer : Path → Answer) (tree : Tree
     }
       where
         deep : (test : Path × Tree Bool → Bool) → left_in test root ≡ paths_below test [] tree
-        deep test = ap (λ d. paths_where test (nodes_below d (branches_of root.left.now))) opened.path ∙ ap (λ b. paths_where test (nodes_below [] b)) (ap branches_of opened.left ∙ branches_of-children tree.1)
+        deep test = ap (λ d. paths_where test (nodes_under d (branches_of root.left.now))) opened.path ∙ ap (λ b. paths_where test (nodes_under [] b)) (ap branches_of opened.left ∙ branches_of-children tree.1)
 
   pub way_past_root : (known : Answer) → GoesOnBy accepts opens answer [] known → has_branches tree.1 ≡ true → is_entered known ≡ false → IsOnTheWay accepts opens answer tree [] [] []
   way_past_root all_recursively on has e = absurd (false≢true (sym e))

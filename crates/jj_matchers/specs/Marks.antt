@@ -3,8 +3,8 @@ use Rattle.std.specs.Prelude.{◌≡◌, Bool, true, false, ◌||◌, List, [], 
 use Rattle.std.specs.List.{filter, list_any}
 use Rattle.jj_paths.specs.Paths.{Name, Path}
 use Rattle.jj_paths.specs.Tree.{Tree, Branches, child, children, has_branches, value_at}
+use Rattle.jj_paths.specs.Listed.{all_nodes}
 use Rattle.jj_matchers.specs.Answers.{Answer, specific, nothing}
-use Rattle.jj_matchers.specs.Walk.{nodes_below}
 
 abbrev pub is_some_true : Option Bool → Bool
 is_some_true None = false
@@ -16,7 +16,7 @@ is_marked tree path = is_some_true (value_at tree path)
 
 -- the marked paths of a tree
 abbrev pub marked_paths : Tree Bool → List Path
-marked_paths tree = filter (is_marked tree) ([] ∷ map (λ node. node.0) (nodes_below [] tree.1))
+marked_paths tree = filter (is_marked tree) (map (λ node. node.0) (all_nodes tree))
 
 -- each node but the root that has no mark has a child, and so leads to a mark
 abbrev pub LeadsToMarks : Tree Bool → Type 0

@@ -3,9 +3,9 @@ use Rattle.std.specs.Prelude.{◌≡◌, ◌≢◌, Bool, true, false, List, [],
 use Rattle.std.specs.List.{flat_map}
 use Rattle.jj_paths.specs.Paths.{Path}
 use Rattle.jj_paths.specs.Tree.{Tree, Branches, none, branch, value_at}
+use Rattle.jj_paths.specs.Listed.{all_nodes}
 use Rattle.jj_globs.specs.GlobMeaning.{GlobSpec}
 use Rattle.jj_matchers.specs.Marks.{LeadsToMarks}
-use Rattle.jj_matchers.specs.Walk.{nodes_below}
 
 abbrev pub has_globs : List GlobSpec → Bool
 has_globs [] = false
@@ -35,7 +35,7 @@ abbrev pub patterns_at : Tree (List GlobSpec) → Path → List (Path × GlobSpe
 patterns_at tree dir = map (λ glob. (dir, glob)) (globs_at tree dir)
 
 abbrev pub patterns_of : Tree (List GlobSpec) → List (Path × GlobSpec)
-patterns_of tree = flat_map (patterns_at tree) ([] ∷ map (λ node. node.0) (nodes_below [] tree.1))
+patterns_of tree = flat_map (patterns_at tree) (map (λ node. node.0) (all_nodes tree))
 
 -- each directory but the root that has no globs has a child, and so leads to some
 abbrev pub LeadsToGlobs : Tree (List GlobSpec) → Type 0

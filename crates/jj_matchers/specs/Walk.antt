@@ -2,13 +2,9 @@
 use Rattle.std.specs.Prelude.{Bool, true, false, ◌&&◌, List, [], ◌∷◌, ◌++◌, map}
 use Rattle.std.specs.List.{filter}
 use Rattle.jj_paths.specs.Paths.{Name, Path}
-use Rattle.jj_paths.specs.Tree.{Tree, Branches, none, branch, has_branches}
+use Rattle.jj_paths.specs.Tree.{Tree, has_branches}
+use Rattle.jj_paths.specs.Listed.{nodes_under, all_nodes}
 use Rattle.jj_matchers.specs.Answers.{Answer, all_recursively, specific, nothing}
-
--- the nodes below a directory with their paths, each before those below it
-abbrev pub nodes_below : {V : Type 0} → Path → Branches V → List (Path × Tree V)
-nodes_below dir none = []
-nodes_below dir (branch name value below after) = (dir ++ name ∷ [], (value, below)) ∷ (nodes_below (dir ++ name ∷ []) below ++ nodes_below dir after)
 
 -- the paths of the nodes that pass a test
 abbrev pub paths_where : {V : Type 0} → (Path × Tree V → Bool) → List (Path × Tree V) → List Path
@@ -20,7 +16,7 @@ is_file accepts node = node.1.0 && accepts node.0
 
 -- the marked paths below the root that are accepted
 abbrev pub files_of : (Path → Bool) → Tree Bool → List Path
-files_of accepts tree = paths_where (is_file accepts) (nodes_below [] tree.1)
+files_of accepts tree = paths_where (is_file accepts) (nodes_under [] tree.1)
 
 -- a directory is entered unless its answer is `nothing`
 abbrev pub is_entered : Answer → Bool
@@ -45,4 +41,4 @@ is_entered_directory answer node = has_branches node.1.1 && enters answer [] nod
 
 -- the directories that a walk enters, from the root on
 abbrev pub entered_by : (Path → Answer) → Tree Bool → List Path
-entered_by answer tree = paths_where (is_entered_directory answer) (([], tree) ∷ nodes_below [] tree.1)
+entered_by answer tree = paths_where (is_entered_directory answer) (all_nodes tree)

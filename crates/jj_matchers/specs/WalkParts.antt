@@ -5,14 +5,15 @@ use Rattle.std.specs.List.Sorted.{IsStrictlySortedBy}
 use Rattle.std.specs.FinMap.{is_sorted}
 use Rattle.jj_paths.specs.Paths.{Name, Path, name_cmp, path_cmp}
 use Rattle.jj_paths.specs.Tree.{Tree, branches_of, branch_count, children}
+use Rattle.jj_paths.specs.Listed.{nodes_under}
 use Rattle.jj_matchers.specs.Answers.{Answer, IsSound}
 use Rattle.jj_matchers.specs.Visits.{answer_of}
-use Rattle.jj_matchers.specs.Walk.{nodes_below, paths_where, files_of, entered_by, is_file, is_entered, is_entered_directory, leads_to, enters}
+use Rattle.jj_matchers.specs.Walk.{paths_where, files_of, entered_by, is_file, is_entered, is_entered_directory, leads_to, enters}
 use Rattle.jj_matchers.specs.declared.matchers.tree_walk.Entered.{Entered}
 
 -- the paths of the nodes strictly below a directory that pass a test
 abbrev pub paths_below : (Path × Tree Bool → Bool) → Path → Tree Bool → List Path
-paths_below test dir tree = paths_where test (nodes_below dir tree.1)
+paths_below test dir tree = paths_where test (nodes_under dir tree.1)
 
 -- an answer for a directory that is sound, and by which a walk from the root goes on there
 pub record GoesOnBy (accepts opens : Path → Bool) (answer : Path → Answer) (dir : Path) (known : Answer) : Type 0 where
@@ -41,7 +42,7 @@ pub record IsUnderWay (accepts opens : Path → Bool) (answer : Path → Answer)
 
 -- the paths that pass a test below the children that a walk has not come to: of one directory, and of all, the last entered first
 abbrev pub left_in : (Path × Tree Bool → Bool) → Entered → List Path
-left_in test directory = paths_where test (nodes_below directory.dir (branches_of directory.left.now))
+left_in test directory = paths_where test (nodes_under directory.dir (branches_of directory.left.now))
 
 abbrev pub left_in_all : (Path × Tree Bool → Bool) → List Entered → List Path
 left_in_all test [] = []

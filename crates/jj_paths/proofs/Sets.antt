@@ -1,13 +1,18 @@
 -- What a tree holds once the node, or the value, at a path is another.
-use Rattle.std.proofs.Common.{◌≡◌, ◌≢◌, Option, Some, None, IsSome, is_some, Result, Ok, Err, IfOk, MatchResult, ◌∙◌, Bool, true, false, [], ◌∷◌, ◌++◌, refl, ap, sym}
+use Rattle.std.proofs.Common.{◌≡◌, ◌≢◌, Option, Some, None, IsSome, is_some, Result, Ok, Err, IfOk, MatchResult, ◌∙◌, Bool, true, false, [], ◌∷◌, ◌++◌, refl, ap, sym, subst}
 use mathlib.Core.Bool.{false≢true}
 use Rattle.std.specs.Str.{bytes_eq}
 use Rattle.std.specs.Option.{option_and_then, option_map}
 use Rattle.std.proofs.lemmas.Slice.Eq.{bytes_eq-Decides}
-use Rattle.jj_paths.specs.Paths.{Name, Path}
-use Rattle.jj_paths.specs.Tree.{Tree, Branches, none, branch, IsGrown, update_child, put, put_value, get, value_at, child, IsExtended, IsEdited, IsSet, is_ordered}
+use Rattle.jj_paths.specs.Paths.{Name, Path, first_of, rest_of}
+use Rattle.jj_paths.specs.Tree.{Tree, Branches, none, branch, IsChildEdited, update_child, put, put_value, get, value_at, child, IsExtended, IsEdited, IsSet, is_ordered}
 use Rattle.jj_paths.proofs.Grown.{some_none, child-update_same, child-update_other, extended-step, extended-same, there-step}
 use Rattle.jj_paths.proofs.Ordered.{is_ordered-put_value}
+
+-- a path that is not the root is its first name and the rest
+pub parted : (path rest : Path) → path ≢ [] → rest ≡ rest_of path → path ≡ first_of path ∷ rest
+parted [] rest more is = absurd (more refl)
+parted (name ∷ below) rest more is = ap (λ r. name ∷ r) (sym is)
 
 module _ {V : Type 0} where
   abbrev below : Option (Tree V) → Path → Option (Tree V)
@@ -119,21 +124,36 @@ module _ {V : Type 0} where
       by_name true is later = rw (is, is) refl
       by_name false is later = rw (is, is) (ap (branch n value below) later)
 
-  module _ {A E : Type 0} where
-    pub set-step : (is_new : V → Type 0) (old node sub sub' : Tree V) (path : Path) (name : Name) (rest : Path) (v : V) (r : Result A E) → path ≡ name ∷ rest → IsGrown is_new old name node → child node.1 name ≡ Some sub
-        → MatchResult r (λ _. (t : Tree V) × IsExtended is_new sub rest t × IsSome (get t rest) × (sub' ≡ put_value t rest v)) (λ _. IsExtended is_new sub rest sub')
-        → MatchResult r (λ _. (t : Tree V) × IsExtended is_new old path t × IsSome (get t path) × ((node.0, update_child node.1 name (λ _. sub')) ≡ put_value t path v)) (λ _. IsExtended is_new old path (node.0, update_child node.1 name (λ _. sub')))
-    set-step is_new old node sub sub' path name rest v (Ok a) is grown at h =
-        let t = h.0 in (
-          (node.0, update_child node.1 name (λ _. t)),
-          extended-step is_new old node sub t path name rest is grown at h.1,
-          there-step node sub t path name rest is at h.2,
-          ap (λ s. (node.0, update_child node.1 name (λ _. s))) h.3
-              ∙ ap (λ b. (node.0, b)) (sym (update_child-twice node.1 name t (λ s. put_value s rest v)))
-              ∙ ap (λ p. put_value (node.0, update_child node.1 name (λ _. t)) p v) (sym is),
-        )
-    set-step is_new old node sub sub' path name rest v (Err e) is grown at h = extended-step is_new old node sub sub' path name rest is grown at h
+  -- a child is made or found, and then the nodes below it are made, or a value is set there
+  module _ {is_new : V → Type 0} {old sub sub' new : Tree V} {path : Path} {name : Name} {rest : Path} (is : path ≡ name ∷ rest) (edit : IsChildEdited is_new old name sub sub' new) where
+    pub extended-below : IsExtended is_new sub rest sub' → IsExtended is_new old path new
+    extended-below below = subst (IsExtended is_new old path) (sym edit.is_put) (extended-step is_new old edit.tree sub sub' path name rest is edit.grown edit.at_name below)
 
+    there-below : IsSome (get sub' rest) → IsSome (get new path)
+    there-below there = subst (λ t. IsSome (get t path)) (sym edit.is_put) (there-step edit.tree sub sub' path name rest is edit.at_name there)
+
+    module _ {A E : Type 0} where
+      pub there-below_on_ok : (r : Result A E) → IfOk r (λ _. IsSome (get sub' rest)) → IfOk r (λ _. IsSome (get new path))
+      there-below_on_ok (Ok a) there = there-below there
+      there-below_on_ok (Err e) there = tt
+
+      pub set-below : (v : V) (r : Result A E)
+          → MatchResult r (λ _. (t : Tree V) × IsExtended is_new sub rest t × IsSome (get t rest) × (sub' ≡ put_value t rest v)) (λ _. IsExtended is_new sub rest sub')
+          → MatchResult r (λ _. (t : Tree V) × IsExtended is_new old path t × IsSome (get t path) × (new ≡ put_value t path v)) (λ _. IsExtended is_new old path new)
+      set-below v (Ok a) h =
+          let t = h.0 in
+          let node = edit.tree in (
+            (node.0, update_child node.1 name (λ _. t)),
+            extended-step is_new old node sub t path name rest is edit.grown edit.at_name h.1,
+            there-step node sub t path name rest is edit.at_name h.2,
+            edit.is_put
+                ∙ ap (λ s. (node.0, update_child node.1 name (λ _. s))) h.3
+                ∙ ap (λ b. (node.0, b)) (sym (update_child-twice node.1 name t (λ s. put_value s rest v)))
+                ∙ ap (λ p. put_value (node.0, update_child node.1 name (λ _. t)) p v) (sym is),
+          )
+      set-below v (Err e) h = extended-below h
+
+  module _ {A E : Type 0} where
     pub edited-as_map_on_ok : (is_new : V → Type 0) (old new : Tree V) (path : Path) (v : V) (r : Result A E) → MatchResult r (λ _. (t : Tree V) × IsExtended is_new old path t × IsSome (get t path) × (new ≡ put_value t path v)) (λ _. IsExtended is_new old path new) → IfOk r (λ _. IsSet is_new old path v new)
     edited-as_map_on_ok is_new old new path v (Ok a) h = edited-as_map is_new old new path v h
     edited-as_map_on_ok is_new old new path v (Err e) h = tt

@@ -99,6 +99,13 @@ module _ {V : Type 0} where
     pub makes : (sub : Tree V) → child old.1 name ≡ None → child node.1 name ≡ Some sub → is_new sub.0 × (sub.1 ≡ none)
     pub ordered : is_ordered old.1 ≡ true → is_ordered node.1 ≡ true
 
+  -- the child of a node that was grown becomes another, and so the old node becomes the new one
+  pub record IsChildEdited (is_new : V → Type 0) (old : Tree V) (name : Name) (sub changed new : Tree V) : Type 0 where
+    pub tree : Tree V
+    pub grown : IsGrown is_new old name tree
+    pub at_name : child tree.1 name ≡ Some sub
+    pub is_put : new ≡ (tree.0, update_child tree.1 name (λ _. changed))
+
   -- the value at a path
   abbrev pub value_at : Tree V → Path → Option V
   value_at tree path = option_map (λ node. node.0) (get tree path)

@@ -8,7 +8,7 @@ ghost use Rattle.jj_paths.specs.Paths.{Name, Path, name_cmp, first_of, rest_of};
 ghost use Rattle.jj_paths.specs.Names.{name_of, path_of};
 ghost use Rattle.std.specs.FinMap.{is_sorted};
 ghost use Rattle.std.specs.Iterator.{YieldsFirstBy, item_count};
-ghost use Rattle.jj_paths.specs.Tree.{Tree, branches_of, none, children, child, get, has_branches, put, put_value, update_child, put_below, nodes_on, nodes_below, nodes_from, IsPartOf, IsExtended, IsEdited, IsSet, IsGrown, IsAt, IsGapFor, IsTreeClone};
+ghost use Rattle.jj_paths.specs.Tree.{Tree, branches_of, none, children, child, get, has_branches, put, put_value, update_child, put_below, nodes_on, nodes_below, nodes_from, IsPartOf, IsExtended, IsEdited, IsSet, IsGrown, IsChildEdited, IsAt, IsGapFor, IsTreeClone};
 
 use crate::repo_path::{RepoPath, RepoPathComponent, RepoPathComponentBuf};
 use std::alloc::{AllocError, Global};
@@ -149,7 +149,7 @@ impl<V> RepoPathTree<V> {
 }
 
 impl<V> RepoPathNode<V> {
-    ghost use Rattle.std.specs.Borrow.{sem, Lends};
+    ghost use Rattle.std.specs.Borrow.{sem, Lends, LendsSoOk};
     ghost use Rattle.jj_paths.specs.contracts.repo_path_tree.RepoPathNode.{the_row};
     ghost use Rattle.jj_paths.specs.contracts.repo_path_tree.RepoPathTree as tree;
     ghost use Rattle.jj_paths.specs.Names.{name_of, path_of};
@@ -214,33 +214,40 @@ impl<V> RepoPathNode<V> {
         &mut self.value
     }
 
-    // makes the child of that name, with a default value, where the node lacks it
-    fn make_child(&mut self, name: RepoPathComponent<'_>) -> Result<(), AllocError>
+    // the child of that name, which is made with a default value where the node lacks it
+    fn child_or_new(
+        &mut self,
+        name: RepoPathComponent<'_>,
+    ) -> Result<&mut RepoPathTree<V>, AllocError>
     where
         V: Default + Drop,
-        ensures made { IfOk result (λ done. IsGrown V.is_default self.old (name_of name.entry) self.new) }
-        ensures refused { IfErr result (λ e. self.new ≡ self.old) }
+        ensures* writes_back { sem 𝓛 (LendsSoOk (the_row V.row) (tree.the_row V.row) self.entry result (λ new changed. IfOk result (λ sub. IsChildEdited V.is_default self.old (name_of name.entry) sub.now changed new)) (λ new. new ≡ self.old)) }
+        ensures value { IfOk result (λ sub. (t : Tree V) × IsGrown V.is_default self.old (name_of name.entry) t × (child t.1 (name_of name.entry) ≡ Some sub.now)) }
     {
-        if let Err(at) = place(&self.entries, name) {
-            let alloc = *self.entries.allocator();
-            let tree = RepoPathTree::new(alloc, V::default());
-            let owned = name.to_owned(alloc)?;
-            self.entries.insert(at, (owned, tree))?;
+        match place(&self.entries, name) {
+            Ok(at) => Ok(second(&mut self.entries[at])),
+            Err(at) => {
+                let alloc = *self.entries.allocator();
+                let tree = RepoPathTree::new(alloc, V::default());
+                let owned = name.to_owned(alloc)?;
+                self.entries.insert(at, (owned, tree))?;
+                Ok(second(&mut self.entries[at]))
+            }
         }
-        Ok(())
     }
 
-    // makes the child of the name that a path begins with, where the node lacks it
+    // the same for the first name of a path
     #[inline(never)]
-    fn make_first(&mut self, path: RepoPath<'_>) -> Result<(), AllocError>
+    fn first_or_new(&mut self, path: RepoPath<'_>) -> Result<&mut RepoPathTree<V>, AllocError>
     where
         V: Default + Drop,
-        ensures made { IfOk result (λ done. path_of path.entry ≢ [] → IsGrown V.is_default self.old (first_of (path_of path.entry)) self.new) }
-        ensures refused { IfErr result (λ e. self.new ≡ self.old) }
+        requires { path_of path ≢ [] }
+        ensures* writes_back { sem 𝓛 (LendsSoOk (the_row V.row) (tree.the_row V.row) self.entry result (λ new changed. IfOk result (λ sub. IsChildEdited V.is_default self.old (first_of (path_of path.entry)) sub.now changed new)) (λ new. new ≡ self.old)) }
+        ensures value { IfOk result (λ sub. (t : Tree V) × IsGrown V.is_default self.old (first_of (path_of path.entry)) t × (child t.1 (first_of (path_of path.entry)) ≡ Some sub.now)) }
     {
         match path.split_first() {
-            None => Ok(()),
-            Some((name, _rest)) => self.make_child(name),
+            None => unreachable!(),
+            Some((name, _rest)) => self.child_or_new(name),
         }
     }
 
@@ -263,20 +270,7 @@ impl<V> RepoPathNode<V> {
     ghost use Rattle.jj_paths.specs.contracts.repo_path_tree.RepoPathTree as tree;
     ghost use Rattle.jj_paths.specs.Names.{name_of, path_of};
 
-    // the tree below, at the name that a path begins with
-    #[inline(never)]
-    fn first_mut(&mut self, path: RepoPath<'_>) -> &mut RepoPathTree<V>
-        requires { (path_of path ≢ []) × IsSome (child self.old.1 (first_of (path_of path))) }
-        ensures* writes_back { sem 𝓛 (Lends (the_row V.row) (tree.the_row V.row) self.entry result (λ w. (self.old.0, update_child self.old.1 (first_of (path_of path.entry)) (λ sub. w)))) }
-        ensures value { child self.old.1 (first_of (path_of path.entry)) ≡ Some result.now }
-    {
-        match path.split_first() {
-            None => unreachable!(),
-            Some((name, _rest)) => self.child_mut(name),
-        }
-    }
-
-    // the same, seen from a path that the node has
+    // the tree below, at the first name of a path that the node has
     fn step_mut(&mut self, path: RepoPath<'_>) -> &mut RepoPathTree<V>
         requires { IsSome (get self.old (path_of path)) × (path_of path ≢ []) }
         ensures* writes_back { sem 𝓛 (Lends (the_row V.row) (tree.the_row V.row) self.entry result (put_below self.old (path_of path.entry))) }
@@ -441,8 +435,7 @@ impl<V> RepoPathTree<V> {
         if path.is_root() {
             return Ok(());
         }
-        self.node.make_first(path)?;
-        self.node.first_mut(path).extend(path.rest())
+        self.node.first_or_new(path)?.extend(path.rest())
     }
 
     /// The node at a path. Where the tree lacks it, it is made with a default value, and so are the nodes on the way.
@@ -468,8 +461,7 @@ impl<V> RepoPathTree<V> {
             self.set_value(value);
             return Ok(());
         }
-        self.node.make_first(path)?;
-        self.node.first_mut(path).set(path.rest(), value)
+        self.node.first_or_new(path)?.set(path.rest(), value)
     }
 }
 

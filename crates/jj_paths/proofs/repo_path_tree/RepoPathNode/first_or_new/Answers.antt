@@ -1,0 +1,19 @@
+use Rattle.std.proofs.Common.{◌≡◌, Some, IfOk, sym, ap, subst, refl}
+use Rattle.jj_paths.specs.Paths.{first_of}
+use Rattle.jj_paths.specs.Names.{name_of, path_of}
+use Rattle.jj_paths.specs.Tree.{Tree, child, IsGrown, IsChildEdited}
+use Rattle.jj_paths.proofs.repo_path_tree.RepoPathNode.first_or_new.Goals as goal
+
+pub returns : goal.returns
+returns g c =
+    let first = ap first_of (sym c.in-Some.ensures) in (
+      (
+        refl,
+        λ w ok. subst (λ n. IfOk c.child_or_new.result (λ sub. IsChildEdited g.V.Default.is_default c.args.self.now n sub.now w (c.child_or_new.follows.lender w))) first (c.child_or_new.follows.holds w ok),
+        c.child_or_new.follows.holds-at-none,
+      ),
+      record {
+        writes_back = tt;
+        value = subst (λ n. IfOk c.child_or_new.result (λ sub. (t : Tree g.row.V.Denot) × IsGrown g.V.Default.is_default c.args.self.now n t × (child t.1 n ≡ Some sub.now))) first c.child_or_new.ensures.value;
+      },
+    )
