@@ -2,8 +2,9 @@
 use crate::fixtures::{answers, files, globs, prefix, walks};
 use jj_matchers::matchers::{
     DifferenceMatcher, EverythingMatcher, IntersectionMatcher, Matcher, NothingMatcher,
-    UnionMatcher,
+    UnionMatcher, Visit,
 };
+use jj_paths::repo_path::RepoPath;
 use std::alloc::{AllocError, Global};
 use std::process::Abort;
 
@@ -135,7 +136,31 @@ fn walks_around<R: Abort, M: Matcher>(rt: &R, alloc: Global, matcher: M) -> Resu
     )
 }
 
-// A box with a matcher gives what the matcher itself gives, in a union and around one.
+// A box of a named matcher, which is a matcher itself.
+#[derive(Drop)]
+struct Boxed<M> {
+    matcher: Box<M>,
+}
+
+impl<M: Matcher> Matcher for Boxed<M> {
+    ghost accepts = { λ b. M.accepts b.matcher.value };
+
+    ghost opens = { λ b. M.opens b.matcher.value };
+
+    ghost answers = { λ b. M.answers b.matcher.value };
+
+    ghost candidates = { λ b. M.candidates b.matcher.value };
+
+    fn matches(&self, file: RepoPath<'_>) -> bool {
+        self.matcher.matches(file)
+    }
+
+    fn visit(&self, alloc: Global, dir: RepoPath<'_>) -> Result<Visit, AllocError> {
+        self.matcher.visit(alloc, dir)
+    }
+}
+
+// A box with a matcher gives what the matcher itself gives, in a union, around one, and both at once.
 fn walks_boxed<R: Abort>(rt: &R, alloc: Global) -> Result<(), AllocError> {
     let rest = DifferenceMatcher::new(EverythingMatcher, prefix(rt, alloc, &["a"])?);
     let inner: Box<dyn Matcher> = Box::new(alloc, rest)?;
@@ -144,6 +169,13 @@ fn walks_boxed<R: Abort>(rt: &R, alloc: Global) -> Result<(), AllocError> {
     let rest = DifferenceMatcher::new(EverythingMatcher, prefix(rt, alloc, &["a"])?);
     let kept = files(rt, alloc, &["a/kept"])?;
     let outer: Box<dyn Matcher> = Box::new(alloc, UnionMatcher::new(rest, kept))?;
+    walks_around(rt, alloc, outer)?;
+    let rest = DifferenceMatcher::new(EverythingMatcher, prefix(rt, alloc, &["a"])?);
+    let inner = Boxed {
+        matcher: Box::new(alloc, rest)?,
+    };
+    let kept = files(rt, alloc, &["a/kept"])?;
+    let outer: Box<dyn Matcher> = Box::new(alloc, UnionMatcher::new(inner, kept))?;
     walks_around(rt, alloc, outer)
 }
 
