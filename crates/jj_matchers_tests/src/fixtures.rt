@@ -48,8 +48,13 @@ pub fn names<R: Abort>(
     Ok(names)
 }
 
-// The answer of a row.
-fn expected<R: Abort>(rt: &R, alloc: Global, dirs: &str, files: &str) -> Result<Visit, AllocError> {
+/// The answer of a row.
+pub fn expected<R: Abort>(
+    rt: &R,
+    alloc: Global,
+    dirs: &str,
+    files: &str,
+) -> Result<Visit, AllocError> {
     if dirs == "**" {
         return Ok(Visit::AllRecursively);
     }

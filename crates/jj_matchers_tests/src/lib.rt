@@ -12,4 +12,6 @@ mod fixtures;
 #[cfg(test)]
 mod globs;
 #[cfg(test)]
+mod visits;
+#[cfg(test)]
 mod walks;
