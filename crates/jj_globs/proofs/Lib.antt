@@ -8,3 +8,4 @@ pub mod GlobClosed
 pub mod GlobBack
 pub mod GlobPrefix
 pub mod GlobEscapes
+pub mod GlobNothing

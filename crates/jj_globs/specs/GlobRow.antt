@@ -89,6 +89,10 @@ column_before o Open b past_next past_run next gs = column_open next gs
 abbrev pub ShowsRow : Options → List Token → List ℕ → List Cell → Type 0
 ShowsRow o ts bs cells = (k : ℕ) → k ≤ length ts → slice_get cells k ≡ Some (cell_of o (drop k ts) bs)
 
+-- no place accepts the bytes, whether or not its part has begun
+abbrev pub NothingFits : Options → List Token → List ℕ → Type 0
+NothingFits o ts bs = (k : ℕ) → k ≤ length ts → cell_of o (drop k ts) bs ≡ still false
+
 -- the row for the bytes behind the first, if there is a first
 abbrev pub ShowsPast : Options → List Token → List ℕ → List Cell → Type 0
 ShowsPast o ts [] cells = Unit {0}

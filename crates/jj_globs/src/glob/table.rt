@@ -1,8 +1,8 @@
 //! Whether the tokens of a glob stand for bytes, in a table on the stack: no memory is taken, and each token
 //! meets each byte once.
 
-ghost use Rattle.std.specs.Prelude.{◌≡◌, ℕ, ◌+◌, ◌<◌, ◌≤◌, Bool, Option, Some, None, List, [], ◌∷◌, ◌++◌, reverse, length, drop, slice_get};
-ghost use Rattle.jj_globs.specs.GlobRow.{ShowsRow, ShowsPast};
+ghost use Rattle.std.specs.Prelude.{◌≡◌, ℕ, false, ◌||◌, ◌+◌, ◌<◌, ◌≤◌, Bool, Option, Some, None, List, [], ◌∷◌, ◌++◌, reverse, length, drop, slice_get};
+ghost use Rattle.jj_globs.specs.GlobRow.{ShowsRow, ShowsPast, NothingFits};
 ghost use Rattle.jj_globs.specs.GlobPlain.{tests_of};
 
 use crate::glob::token::{Options, Part, Token};
@@ -16,6 +16,15 @@ pub(crate) const ROOM: usize = 1024;
 pub struct Cell {
     pub value: bool,
     pub run: bool,
+}
+
+impl Cell {
+    // Whether the place accepts the bytes, with its part begun or not, or another one does.
+    fn fits_or(self, other: bool) -> bool
+        ensures { result ≡ (other || (self.value || self.run)) }
+    {
+        other || self.value || self.run
+    }
 }
 
 /// What the alternatives of an open group that are still to come accept, and what follows the group.
@@ -169,19 +178,20 @@ fn cell_at(cells: &[Cell], place: usize) -> Cell
     cells[place]
 }
 
-// Makes the row of the cells at all places for these bytes out of the row for the bytes behind the first. The room for open
-// groups is handed in, since to make it anew costs more than most rows.
+// Makes the row of the cells at all places for these bytes out of the row for the bytes behind the first, and answers whether
+// any place accepts them. The room for open groups is handed in, since to make it anew costs more than most rows.
 fn fill_row(
     tokens: &[Token],
     options: Options,
     bytes: &[u8],
     cells: &mut [Cell],
     groups: &mut Groups,
-)
+) -> bool
     requires room { length tokens.now ≤ 1024 }
     requires cells_room { length cells.old ≡ 1025 }
     requires past { ShowsPast options tokens.now bytes.now cells.old }
-    ensures { ShowsRow options tokens.now bytes.now cells.new }
+    ensures row { ShowsRow options tokens.now bytes.now cells.new }
+    ensures nothing { result ≡ false → NothingFits options tokens.now bytes.now }
 {
     let byte = bytes.first().copied();
     groups.clear();
@@ -192,17 +202,21 @@ fn fill_row(
         value: next,
         run: false,
     };
+    let mut fits = next;
     while at > 0 {
         at -= 1;
         let own = cell_at(cells, at);
         let cell = tokens[at].step(options, byte, own, behind.value, next, groups);
         cells[at] = cell;
+        fits = cell.fits_or(fits);
         next = cell.value;
         behind = own;
     }
+    fits
 }
 
-/// Whether the tokens stand for the bytes, where the table has room for them.
+/// Whether the tokens stand for the bytes, where the table has room for them. Where no place accepts the bytes from one on, none
+/// accepts more bytes before them.
 pub(crate) fn matches_in_table(tokens: &[Token], options: Options, bytes: &[u8]) -> bool
     requires room { length tokens.now ≤ 1024 }
     ensures { result ≡ (tests_of options tokens.now).here bytes.now }
@@ -216,7 +230,9 @@ pub(crate) fn matches_in_table(tokens: &[Token], options: Options, bytes: &[u8])
     fill_row(tokens, options, &bytes[from..], &mut cells, &mut groups);
     while from > 0 {
         from -= 1;
-        fill_row(tokens, options, &bytes[from..], &mut cells, &mut groups);
+        if !fill_row(tokens, options, &bytes[from..], &mut cells, &mut groups) {
+            return false;
+        }
     }
     cell_at(&cells, 0).value
 }

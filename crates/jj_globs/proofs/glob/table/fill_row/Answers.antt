@@ -1,9 +1,10 @@
-use Rattle.std.proofs.Common.{◌≡◌, ◌∙◌, ap, refl, Some, ◌+◌, ◌-◌, ◌<◌, reverse, length, drop, slice_get, arith}
+use Rattle.std.proofs.Common.{◌≡◌, ◌∙◌, ap, sym, refl, Some, ◌+◌, ◌-◌, ◌<◌, reverse, length, drop, slice_get, arith}
 use Rattle.std.proofs.Math.ListN.{length-set}
 use Rattle.std.proofs.Math.Seq.{drop-length}
 use Rattle.jj_globs.specs.declared.glob.table.Cell.{Cell}
 use Rattle.jj_globs.specs.GlobRow.{Column, still, cell_of}
 use Rattle.jj_globs.proofs.GlobTable.{column_kept, kept_cell, set_there, shown_more, shown_last, empty_is}
+use Rattle.jj_globs.proofs.GlobNothing.{nothing_last, nothing_from}
 use Rattle.jj_globs.proofs.glob.table.fill_row.Goals as goal
 
 pub loop-at-init : goal.loop-at-init
@@ -17,6 +18,7 @@ loop-at-init c =
       count = rw c.clear.ensures (omega arith);
       behind_is = c.cell_at-behind.ensures;
       below = λ k b low is. set_there c.args.cells.now (length c.args.tokens.now) k (still c.is_empty-next.result) b (omega (arith, low)) is;
+      nothing = nothing_last c.args.options c.args.tokens.now c.args.bytes.now c.is_empty-next.result empty;
       shown = shown_last c.args.options c.args.tokens.now c.args.bytes.now c.args.cells.now c.is_empty-next.result fits empty;
     }
 
@@ -42,6 +44,7 @@ loop-at-preserved c =
       count = omega (arith, c.step-cell.ensures.len, c.loop-at.invariant.count);
       behind_is = own;
       below = λ k b low is. set_there c.loop-at.cells (c.loop-at.at - 1) k c.step-cell.result b (omega (arith, low)) (c.loop-at.invariant.below k b (omega (arith, low)) is);
+      nothing = λ none. nothing_from c.args.options c.args.tokens.now c.args.bytes.now c.loop-at.fits c.step-cell.result c.loop-at.at (c.loop-at.at - 1) turn cell c.loop-at.invariant.nothing (sym c.fits_or-fits.ensures ∙ none);
       shown = shown_more c.args.options c.args.tokens.now c.args.bytes.now c.loop-at.cells c.loop-at.at (c.loop-at.at - 1) c.step-cell.result
           turn fits cell c.loop-at.invariant.shown;
     }
