@@ -12,7 +12,7 @@ use Rattle.jj_globs.specs.declared.glob.token.Token.TheVariants.{Part as part, O
 use Rattle.jj_globs.specs.declared.glob.token.Options.{Options}
 use Rattle.jj_globs.specs.GlobMeaning.{same_byte, is_plain, in_class}
 use Rattle.jj_globs.specs.GlobPlain.{Test, is_empty, tests_of, test_or, test_open}
-use Rattle.jj_globs.specs.GlobRow.{run_of, run_at, cell_of, still, run_step, value_step, NothingFits}
+use Rattle.jj_globs.specs.GlobRow.{run_of, cell_of, still, run_step, value_step, NothingFits}
 use Rattle.jj_globs.proofs.GlobTable.{run_on, value_on, take_rest}
 
 and_false : (a : Bool) → a && false ≡ false

@@ -1,10 +1,8 @@
 use Rattle.std.proofs.Common.{reverse, map, arith, refl, ◌∷◌}
 use Rattle.jj_globs.specs.GlobText.{sign_of, words, tokens_of}
-use Rattle.jj_globs.specs.declared.glob.sign.Sign.TheVariants.{OpenBracket}
 use Rattle.jj_globs.specs.declared.glob.token.Token.TheVariants.{Part as part, Open}
-use Rattle.jj_globs.specs.declared.glob.token.Part.TheVariants.{Byte, AnyByte, OneOf}
 use Rattle.jj_globs.proofs.GlobPuts.{reverse-push, length-next}
-use Rattle.jj_globs.proofs.GlobSteps.{open-read, comma-either, start, comma-plain, comma-read, close-unopened, close-read, read-end, read-unclosed, faulty}
+use Rattle.jj_globs.proofs.GlobSteps.{open-read, comma-either, start, close-unopened, close-read, read-end, read-unclosed, faulty}
 use Rattle.jj_globs.proofs.glob.reader.read_tokens.Goals as goal
 
 pub loop-sign-init : goal.loop-sign-init

@@ -35,7 +35,7 @@ returns-in_ok-insert-in-Err g c =
     let gap = subst (λ l. IsGapFor l (name_of c.args.name) c.in-Err.at) c.deref.ensures.value c.in-Err.ensures.absent in
     let made = c.in_ok-insert-in-Err.ensures.items ∙ ap (λ n. insert items c.in-Err.at (n, c.new-tree.result)) c.in_ok-owned-in-Err.ensures in
     let grown = grown-insert g.V.Default.is_default c.args.self.now c.self.inside.value items c.insert.new.self.items c.in-Err.at (name_of c.args.name) c.new-tree.result c.self.view_is gap made
-        (subst (λ t. g.V.Default.is_default t.0) (sym c.new-tree.ensures) c.default.ensures) (ap (λ t. t.1) c.new-tree.ensures) in
+    (subst (λ t. g.V.Default.is_default t.0) (sym c.new-tree.ensures) c.default.ensures) (ap (λ t. t.1) c.new-tree.ensures) in
     let sorted = ap (λ l. is_sorted name_cmp l) made ∙ is_sorted-insert items c.in-Err.at (name_of c.args.name) c.new-tree.result c.self.invariant gap in
     let at = subst (λ l. IsAt l (name_of c.args.name) c.in-Err.at) (sym made) (is_at-insert items c.in-Err.at (name_of c.args.name) c.new-tree.result gap.in_range) in (
       (refl, λ w _. child-edited sorted at c.index_mut-in-Err.ensures.value c.second-in-Err.ensures.value grown w, tt),

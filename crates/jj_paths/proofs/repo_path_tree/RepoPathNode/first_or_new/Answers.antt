@@ -1,6 +1,5 @@
 use Rattle.std.proofs.Common.{◌≡◌, Some, IfOk, sym, ap, subst, refl}
 use Rattle.jj_paths.specs.Paths.{first_of}
-use Rattle.jj_paths.specs.Names.{name_of, path_of}
 use Rattle.jj_paths.specs.Tree.{Tree, child, IsGrown, IsChildEdited}
 use Rattle.jj_paths.proofs.repo_path_tree.RepoPathNode.first_or_new.Goals as goal
 
