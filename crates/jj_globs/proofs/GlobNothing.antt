@@ -1,8 +1,9 @@
 -- Where no place accepts the bytes, none accepts more bytes before them.
-use Rattle.std.proofs.Common.{◌≡◌, ◌≢◌, ℕ, zero, suc, ◌+◌, ◌-◌, ◌≤◌, inl, inr, Bool, true, false, ◌==◌, ◌&&◌, ◌||◌, List, [], ◌∷◌, ◌++◌, Some, refl, sym, ap, subst, ◌∙◌, length, take, drop, arith}
+use Rattle.std.proofs.Common.{◌≡◌, ◌≢◌, ℕ, zero, suc, ◌+◌, ◌-◌, ◌≤◌, inl, inr, Bool, false, ◌==◌, ◌||◌, List, [], ◌∷◌, ◌++◌, Some, refl, sym, ap, subst, ◌∙◌, length, take, drop, arith}
 use Rattle.std.proofs.lemmas.List.{take-append-drop}
 use Rattle.std.proofs.lemmas.Bool.{or_parts}
 use Rattle.std.proofs.lemmas.Bool.Decides.{eqb_tells}
+use Rattle.std.proofs.Math.Bool.{and-false}
 use Rattle.std.proofs.Math.Seq.{drop-length}
 use Rattle.jj_globs.specs.declared.glob.table.Cell.{Cell}
 use Rattle.jj_globs.specs.declared.glob.token.Part.{Part}
@@ -14,10 +15,6 @@ use Rattle.jj_globs.specs.GlobMeaning.{same_byte, is_plain, in_class}
 use Rattle.jj_globs.specs.GlobPlain.{Test, is_empty, tests_of, test_or, test_open}
 use Rattle.jj_globs.specs.GlobRow.{run_of, cell_of, still, run_step, value_step, NothingFits}
 use Rattle.jj_globs.proofs.GlobTable.{run_on, value_on, take_rest}
-
-and_false : (a : Bool) → a && false ≡ false
-and_false false = refl
-and_false true = refl
 
 behind : (o : Options) (t : Token) (ts : List Token) (bs : List ℕ) → NothingFits o (t ∷ ts) bs → NothingFits o ts bs
 behind o t ts bs none k le = none (suc k) (omega arith)
@@ -54,22 +51,22 @@ open_here t [] bs fails none = fails
 open_here t (g ∷ gs) bs fails none = ap (λ v. v || g.0 bs) fails ∙ none.0.0
 
 value_none : (o : Options) (p : Part) (b : ℕ) → value_step o p (Some b) false false false ≡ false
-value_none o (Byte c) b = and_false (same_byte o c b)
-value_none o AnyByte b = and_false (is_plain o b)
-value_none o (OneOf c) b = and_false (in_class o c b)
-value_none o Star b = and_false (is_plain o b)
-value_none o LeadingDirs b = ap (λ v. v || false) (and_false (b == 47))
-value_none o InnerDirs b = and_false (b == 47)
-value_none o Below b = and_false (b == 47)
+value_none o (Byte c) b = and-false (same_byte o c b)
+value_none o AnyByte b = and-false (is_plain o b)
+value_none o (OneOf c) b = and-false (in_class o c b)
+value_none o Star b = and-false (is_plain o b)
+value_none o LeadingDirs b = ap (λ v. v || false) (and-false (b == 47))
+value_none o InnerDirs b = and-false (b == 47)
+value_none o Below b = and-false (b == 47)
 value_none o Everything b = refl
 
 run_none : (o : Options) (p : Part) (b : ℕ) → run_step o p (Some b) false false false ≡ false
 run_none o (Byte c) b = refl
 run_none o AnyByte b = refl
 run_none o (OneOf c) b = refl
-run_none o Star b = and_false (is_plain o b)
-run_none o LeadingDirs b = ap (λ v. v || false) (and_false (b == 47))
-run_none o InnerDirs b = ap (λ v. v || false) (and_false (b == 47))
+run_none o Star b = and-false (is_plain o b)
+run_none o LeadingDirs b = ap (λ v. v || false) (and-false (b == 47))
+run_none o InnerDirs b = ap (λ v. v || false) (and-false (b == 47))
 run_none o Below b = refl
 run_none o Everything b = refl
 
