@@ -8,6 +8,7 @@ pub mod GlobsOfPatterns
 pub mod ExpressionViews
 pub mod Predicates
 pub mod StringMatchers
+pub mod MatcherForms
 pub mod Lines
 pub mod LinesLeft
 pub mod EntriesLeft

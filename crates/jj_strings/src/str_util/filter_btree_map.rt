@@ -14,7 +14,7 @@ use std::option::IntoIter;
 /// Entries of a map that are still to be looked at: all of them, or the one of a key.
 type Entries<'a, K, V> = Either<Iter<'a, K, V>, IntoIter<(&'a K, &'a V)>>;
 
-/// The entries, in order. After an error there are no more.
+/// The entries, in order. An error comes only where a regular expression is inside; after it there are no more.
 #[derive(Drop)]
 pub struct FilterBTreeMap<'a, 'm, K: TextKey, V> {
     matcher: &'m StringMatcher,
@@ -26,8 +26,9 @@ impl StringMatcher {
     ghost use Rattle.jj_strings.specs.StringMatchers.{InMatcher};
     ghost use Rattle.jj_strings.specs.FilterViews.{filter_matcher, filter_entries};
 
-    /// The entries whose keys' texts the set holds, in order. The entry of an exact text is looked up. Memory is taken only
-    /// where a regular expression is inside.
+    /// The entries whose keys' texts the set holds, in order. The entry of an exact text is looked up by a key made of the
+    /// text; where there is no memory for that key, all entries are looked at. A match takes memory only where a regular
+    /// expression is inside.
     pub fn filter_btree_map<'a, 'm, K: TextKey, V>(
         &'m self,
         alloc: Global,
@@ -79,11 +80,12 @@ impl<'a, 'm, K: TextKey, V> Iterator for FilterBTreeMap<'a, 'm, K, V> {
     ghost use Rattle.std.specs.Iterator.{at_most};
     ghost use Rattle.std.specs.Map.Iter.{deref_pair};
     ghost use Rattle.jj_strings.specs.Lines.{GivesNext};
-    ghost use Rattle.jj_strings.specs.StringMatchers.{InMatcher};
+    ghost use Rattle.jj_strings.specs.StringMatchers.{InMatcher, MayAllocate};
 
     type Item = Result<(&'a K, &'a V), AllocError>;
 
-    ghost next_gives = { λ s r t. GivesNext deref_pair (λ e. InMatcher s.matcher.now (K.key_text e.0)) (entries_left s.entries) r (entries_left t.entries) × (t.matcher ≡ s.matcher) };
+    ghost next_gives = { λ s r t. GivesNext deref_pair (λ e. InMatcher s.matcher.now (K.key_text e.0)) (MayAllocate s.matcher.now)
+        (entries_left s.entries) r (entries_left t.entries) × (t.matcher ≡ s.matcher) };
 
     ghost remaining = { λ s. at_most (length (entries_left s.entries)) };
 

@@ -5,7 +5,8 @@ ghost use Rattle.jj_strings.specs.Lines.{lines, without_feed, first_len};
 use crate::str_util::matcher::StringMatcher;
 use std::alloc::{AllocError, Global};
 
-/// The lines, with their line feeds, in order. After an error there are no more.
+/// The lines, with their line feeds, in order. An error comes only where a regular expression is inside; after it there
+/// are no more.
 #[derive(Drop)]
 pub struct MatchLines<'a, 'm> {
     matcher: &'m StringMatcher,
@@ -32,12 +33,13 @@ impl StringMatcher {
 
 impl<'a, 'm> Iterator for MatchLines<'a, 'm> {
     ghost use Rattle.std.specs.Iterator.{at_most};
-    ghost use Rattle.jj_strings.specs.StringMatchers.{InMatcher};
+    ghost use Rattle.jj_strings.specs.StringMatchers.{InMatcher, MayAllocate};
     ghost use Rattle.jj_strings.specs.Lines.{GivesNextLine};
 
     type Item = Result<&'a [u8], AllocError>;
 
-    ghost next_gives = { λ s r t. GivesNextLine (InMatcher s.matcher.now) s.rest.now r t.rest.now × (t.matcher ≡ s.matcher) };
+    ghost next_gives = { λ s r t. GivesNextLine (InMatcher s.matcher.now) (MayAllocate s.matcher.now)
+        s.rest.now r t.rest.now × (t.matcher ≡ s.matcher) };
 
     ghost remaining = { λ s. at_most (length s.rest.now) };
 

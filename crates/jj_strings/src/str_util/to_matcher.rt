@@ -1,5 +1,6 @@
 //! Patterns and expressions in the form in which they are asked.
-ghost use Rattle.std.specs.Prelude.{◌↔◌, ◌<◌, ℕ, List, All, IfOk};
+ghost use Rattle.std.specs.Prelude.{◌≡◌, ◌↔◌, ◌<◌, ℕ, List, All, IfOk};
+ghost use Rattle.jj_strings.specs.MatcherForms.{form_of, pattern_form, expression_form};
 
 use crate::str_util::expression::StringExpression;
 use crate::str_util::matcher::StringMatcher;
@@ -16,6 +17,7 @@ impl StringPattern {
     pub fn to_matcher(&self, alloc: Global) -> Result<StringMatcher, AllocError>
         ensures set { IfOk result (λ matcher. IsPatternFromText (pattern_of self.now)
             → (bytes : List ℕ) → All (λ b. b < 256) bytes → InMatcher matcher bytes ↔ InPattern (pattern_of self.now) bytes) }
+        ensures form { IfOk result (λ matcher. form_of matcher ≡ pattern_form (pattern_of self.now)) }
         ensures memory { IfOk result (λ matcher. MayAllocate matcher → IsRegex (pattern_of self.now)) }
     {
         if self.is_all() {
@@ -37,6 +39,7 @@ impl StringExpression {
     pub fn to_matcher(&self, alloc: Global) -> Result<StringMatcher, AllocError>
         ensures set { IfOk result (λ matcher. IsExpressionFromText (expression_of self.now)
             → (bytes : List ℕ) → All (λ b. b < 256) bytes → InMatcher matcher bytes ↔ InExpression (expression_of self.now) bytes) }
+        ensures form { IfOk result (λ matcher. form_of matcher ≡ expression_form (expression_of self.now)) }
         ensures memory { IfOk result (λ matcher. MayAllocate matcher → HasRegex (expression_of self.now)) }
     {
         match self {

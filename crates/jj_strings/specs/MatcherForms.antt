@@ -1,0 +1,36 @@
+-- The form in which a set of strings is asked.
+use Rattle.std.specs.Prelude.{ℕ, if◌then◌else◌, List, Option, None, Some, string_bytes}
+use Rattle.jj_strings.specs.declared.str_util.matcher.StringMatcher.{StringMatcher}
+use Rattle.jj_strings.specs.declared.str_util.matcher.StringMatcher.TheVariants.{All, Exact, Expr, Fn}
+use Rattle.jj_strings.specs.ExpressionViews.{expression_of}
+use Rattle.jj_strings.specs.StringSets.{Pattern, is_all, exact_text, Expression, of_pattern, not_in, union, intersection}
+
+-- every string, one text, an expression, or the caller's predicate
+pub data Form : Type 0 where
+  every_string : Form
+  one_text : List ℕ → Form
+  an_expression : Expression → Form
+  a_predicate : Form
+
+-- the form of a matcher
+abbrev pub form_of : {F : _} {V : _} {m : _} → StringMatcher F V m → Form
+form_of All = every_string
+form_of (Exact text) = one_text (string_bytes text)
+form_of (Expr e) = an_expression (expression_of e)
+form_of (Fn p) = a_predicate
+
+-- one text where there is one
+abbrev pub text_or_pattern : Option (List ℕ) → Pattern → Form
+text_or_pattern (Some text) p = one_text text
+text_or_pattern None p = an_expression (of_pattern p)
+
+-- the form of a pattern: every string where that is seen at once, else its one text where it is exact
+abbrev pub pattern_form : Pattern → Form
+pattern_form p = if is_all p then every_string else text_or_pattern (exact_text p) p
+
+-- the form of an expression: a lone pattern has that of the pattern
+abbrev pub expression_form : Expression → Form
+expression_form (of_pattern p) = pattern_form p
+expression_form (not_in e) = an_expression (not_in e)
+expression_form (union a b) = an_expression (union a b)
+expression_form (intersection a b) = an_expression (intersection a b)
