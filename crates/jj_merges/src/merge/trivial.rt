@@ -1,8 +1,10 @@
 //! Whether the terms of a merge have one outcome, by cancelling adds with equal removes.
-ghost use Rattle.std.specs.Prelude.{[], ◌∷◌, ◌⊎◌, ◌≡◌, ◌≢◌, ℕ, ◌+◌, ◌%◌, ◌<◌, ◌≤◌, ◌↔◌, length, take, count_by, IsTrue, IfSome, IfNone, Contains, slice_get, Some, slice_index_or};
+ghost use Rattle.std.specs.Prelude.{[], ◌∷◌, ◌⊎◌, ◌≡◌, ◌≢◌, ℕ, ◌+◌, ◌<◌, ◌↔◌, length, count_by, IsTrue, IfSome, IfNone, Contains};
+ghost use Rattle.std.specs.List.{list_any};
 ghost use Rattle.jj_merges.specs.Odd.{IsOdd};
 ghost use Rattle.jj_merges.specs.Merge.{adds, removes};
 ghost use Rattle.jj_merges.specs.Decided.{IsDecided};
+ghost use Rattle.jj_merges.specs.declared.merge.SameChange.{SameChange};
 
 use super::{Merge, SameChange};
 
@@ -34,20 +36,11 @@ fn count_removes<T: Eq>(values: &[T], value: &T) -> usize
     count
 }
 
-/// Whether the add at this place is left: the k-th add of a value cancels with its k-th remove.
-fn is_add_left<T: Eq>(values: &[T], place: usize, value: &T) -> bool
-    requires { place ≤ length values.now }
-    ensures { IsTrue result ↔ (count_by (T.eq value.now) (removes values.now) ≤ count_by (T.eq value.now) (adds (take place values.now))) }
+/// Whether one of the values equals this one.
+fn stands_in<T: Eq>(values: &[T], value: &T) -> bool
+    ensures { result ≡ list_any (T.eq value.now) values.now }
 {
-    count_removes(values, value) <= count_adds(&values[..place], value)
-}
-
-/// Whether the remove at this place is left.
-fn is_remove_left<T: Eq>(values: &[T], place: usize, value: &T) -> bool
-    requires { place ≤ length values.now }
-    ensures { IsTrue result ↔ (count_by (T.eq value.now) (adds values.now) ≤ count_by (T.eq value.now) (removes (take place values.now))) }
-{
-    count_adds(values, value) <= count_removes(&values[..place], value)
+    values.iter().any(|other| value == other)
 }
 
 /// The outcome of two adds over a remove, where their counts decide it.
@@ -73,43 +66,42 @@ fn three_way<'a, T: Eq>(
     None
 }
 
-/// The add that is left where the others cancel with equal removes, and where their counts then decide it.
+/// The value that is added, where the counts of all values decide it. Each value is counted once, at the first place where it
+/// stands, so that the comparisons are at most four times the terms times the distinct values.
 fn add_left<T: Eq>(values: &[T], same_change: SameChange) -> Option<&T>
     ensures member { IfSome result (λ v. Contains values.now v.now) }
     ensures decided { IfSome result (λ v. IsDecided T.eq same_change values.now v.now) }
     ensures undecided { IfNone result ((v : T) → IsDecided T.eq same_change values.now v → ⊥) }
 {
-    let mut add: Option<&T> = None;
-    let mut remove: Option<&T> = None;
+    let mut added: Option<&T> = None;
+    let mut removed: Option<&T> = None;
     for (place, value) in values.iter().enumerate() {
-        if place % 2 == 0 {
-            if is_add_left(values, place, value) {
-                match add {
-                    None => add = Some(value),
-                    Some(other) => {
-                        if same_change == SameChange::Keep || other != value {
-                            return None;
-                        }
-                    }
-                }
+        if stands_in(&values[..place], value) {
+            continue;
+        }
+        let adds = count_adds(values, value);
+        let removes = count_removes(values, value);
+        if removes < adds {
+            if added.is_some() || is_repeated(same_change, adds, removes) {
+                return None;
             }
-        } else if is_remove_left(values, place, value) {
-            match remove {
-                None => {
-                    if same_change == SameChange::Keep {
-                        return None;
-                    }
-                    remove = Some(value);
-                }
-                Some(other) => {
-                    if other != value {
-                        return None;
-                    }
-                }
+            added = Some(value);
+        } else if adds < removes {
+            if removed.is_some() || same_change == SameChange::Keep {
+                return None;
             }
+            removed = Some(value);
         }
     }
-    add
+    added
+}
+
+/// Whether equal changes are kept, and this one is made more than once.
+fn is_repeated(same_change: SameChange, adds: usize, removes: usize) -> bool
+    requires { removes < adds }
+    ensures { IsTrue result ↔ ((same_change ≡ SameChange.Keep) × (adds ≢ removes + 1)) }
+{
+    same_change == SameChange::Keep && adds - removes != 1
 }
 
 /// The outcome of the terms, where their counts decide it.

@@ -1,29 +1,47 @@
-use Rattle.std.proofs.Common.{arith, sym, ◌∙◌, inl, inr}
+use Rattle.std.proofs.Common.{arith, sym, ◌∙◌}
 use Rattle.std.specs.Option.{option_copied}
-use Rattle.std.proofs.lemmas.Bool.{not-true, not-false, false≢true, cases_lt}
-use Rattle.jj_merges.proofs.Outcome.{is_keep, is_not_keep, two_adds, kept_remove_at, two_removes, passed_add, first_add, equal_add, passed_remove, first_remove, equal_remove, decided_option, if_copied, added, removed, all_added, all_removed}
+use Rattle.std.specs.Prelude.{Contains}
+use Rattle.jj_merges.proofs.Outcome.{start, seen_before, balanced, none_yet_added, none_yet_removed, some_added, some_removed, kept_apart, is_keep, is_not_keep, decided_option, undecided_option, member, copied_is_some, if_copied}
 use Rattle.jj_merges.proofs.merge.trivial.add_left.Goals as goal
-use Rattle.jj_merges.proofs.merge.trivial.add_left.Goals.{then-eq-via-then-eq, then-eq-via-else-eq+then-ne}
-use Rattle.jj_merges.proofs.merge.trivial.add_left.Goals.{then-place-eq0+then-is_add_left+in-None, then-place-eq0+then-is_add_left+in-Some+else-eq+else-ne, then-place-eq0+else-is_add_left, else-place-eq0+then-is_remove_left+in-None-remove+else-eq-2, else-place-eq0+then-is_remove_left+in-Some-remove+else-ne-2, else-place-eq0+else-is_remove_left}
+use Rattle.jj_merges.proofs.merge.trivial.add_left.Goals.{then-is_some-via-then-is_some, then-is_some-via-else-is_some+then-is_repeated, then-is_some-2-via-then-is_some-2, then-is_some-2-via-else-is_some-2+then-eq}
+use Rattle.jj_merges.proofs.merge.trivial.add_left.Goals.{then-removes-adds+else-is_some+else-is_repeated, else-removes-adds+then-adds-removes+else-is_some-2+else-eq, else-removes-adds+else-adds-removes}
 
-pub returns-then-eq-clause-undecided : goal.returns-then-eq-clause-undecided
-returns-then-eq-clause-undecided g c =
-    let r = rw c.in-Some.is at c.loop-place.invariant in
-    let out = two_adds g.T.PartialEq.eq g.met.T.Eq.laws c.args.values.now c.args.same_change c.in-Some.other.now c.index-values-place.result (option_copied c.loop-place.remove) c.loop-place.place c.loop-place-test.true c.index-values-place.is c.if-place-eq0.true (c.is_add_left.ensures.0 c.if-is_add_left.true) r in
-    elim c.then-eq.branch [
-      | then-eq-via-then-eq w ↦ out (inl (is_keep c.args.same_change (sym c.eq.ensures ∙ w.if-eq.true)))
-      | then-eq-via-else-eq+then-ne w ↦ out (inr (not-true (g.T.PartialEq.eq c.in-Some.other.now c.index-values-place.result) (sym w.ne.ensures ∙ w.if-ne.true)))
+pub loop-place-init : goal.loop-place-init
+loop-place-init g c = start g.T.PartialEq.eq g.met.T.Eq.laws c.args.values.now c.args.same_change
+
+pub loop-place-preserved-then-stands_in : goal.loop-place-preserved-then-stands_in
+loop-place-preserved-then-stands_in g c =
+    seen_before g.T.PartialEq.eq g.met.T.Eq.laws c.args.values.now c.args.same_change c.index-values-place.result (option_copied c.loop-place.added) (option_copied c.loop-place.removed) c.loop-place.place
+    c.loop-place-test.true c.index-values-place.is (sym c.stands_in.ensures ∙ c.if-stands_in.true) c.loop-place.invariant
+
+pub returns-then-is_some-clause-undecided : goal.returns-then-is_some-clause-undecided
+returns-then-is_some-clause-undecided g c =
+    let eq = g.T.PartialEq.eq in
+    let m = c.args.values.now in
+    let x = c.index-values-place.result in
+    let new = sym c.stands_in.ensures ∙ c.if-stands_in.false in
+    elim c.then-is_some.branch [
+      | then-is_some-via-then-is_some w ↦
+          some_added eq g.met.T.Eq.laws m c.args.same_change x (option_copied c.loop-place.added) (option_copied c.loop-place.removed) c.loop-place.place
+          (copied_is_some c.loop-place.added ∙ sym c.is_some.ensures ∙ w.if-is_some.true) new (omega arith) c.loop-place.invariant
+      | then-is_some-via-else-is_some+then-is_repeated w ↦
+          let repeated = w.is_repeated.ensures.0 w.if-is_repeated.true in
+          kept_apart eq g.met.T.Eq.laws m c.args.same_change x repeated.0 (λ e. omega (arith, e)) (λ e. repeated.1 (omega (arith, e)))
     ]
 
-pub returns-then-eq-2-clause-undecided : goal.returns-then-eq-2-clause-undecided
-returns-then-eq-2-clause-undecided g c =
-    kept_remove_at g.T.PartialEq.eq g.met.T.Eq.laws c.args.values.now c.args.same_change (is_keep c.args.same_change (sym c.eq-in-None-remove.ensures ∙ c.if-eq-2.true)) c.index-values-place.result (option_copied c.loop-place.add) (option_copied c.loop-place.remove) c.loop-place.place c.loop-place-test.true c.index-values-place.is c.if-place-eq0.false (c.is_remove_left.ensures.0 c.if-is_remove_left.true) c.loop-place.invariant
-
-pub returns-then-ne-2-clause-undecided : goal.returns-then-ne-2-clause-undecided
-returns-then-ne-2-clause-undecided g c =
-    let r = rw c.in-Some-remove.is at c.loop-place.invariant in
-    two_removes g.T.PartialEq.eq g.met.T.Eq.laws c.args.values.now c.args.same_change c.in-Some-remove.other.now c.index-values-place.result (option_copied c.loop-place.add) c.loop-place.place c.loop-place-test.true c.index-values-place.is c.if-place-eq0.false (c.is_remove_left.ensures.0 c.if-is_remove_left.true) r
-    (not-true (g.T.PartialEq.eq c.in-Some-remove.other.now c.index-values-place.result) (sym c.ne-in-Some-remove.ensures ∙ c.if-ne-2.true))
+pub returns-then-is_some-2-clause-undecided : goal.returns-then-is_some-2-clause-undecided
+returns-then-is_some-2-clause-undecided g c =
+    let eq = g.T.PartialEq.eq in
+    let m = c.args.values.now in
+    let x = c.index-values-place.result in
+    let new = sym c.stands_in.ensures ∙ c.if-stands_in.false in
+    elim c.then-is_some-2.branch [
+      | then-is_some-2-via-then-is_some-2 w ↦
+          some_removed eq g.met.T.Eq.laws m c.args.same_change x (option_copied c.loop-place.added) (option_copied c.loop-place.removed) c.loop-place.place
+          (copied_is_some c.loop-place.removed ∙ sym c.is_some-then-adds-removes.ensures ∙ w.if-is_some-2.true) new (omega arith) c.loop-place.invariant
+      | then-is_some-2-via-else-is_some-2+then-eq w ↦
+          kept_apart eq g.met.T.Eq.laws m c.args.same_change x (is_keep c.args.same_change (sym w.eq.ensures ∙ w.if-eq.true)) (λ e. omega (arith, e)) (λ e. omega (arith, e))
+    ]
 
 pub loop-place-preserved : goal.loop-place-preserved
 loop-place-preserved g c =
@@ -32,35 +50,29 @@ loop-place-preserved g c =
     let x = c.index-values-place.result in
     let i = c.loop-place.place in
     let change = c.args.same_change in
-    let add = option_copied c.loop-place.add in
-    let remove = option_copied c.loop-place.remove in
-    elim c.if-place-eq0.branch [
-      | then-place-eq0+then-is_add_left+in-None w ↦
-          rw (w.add-is, w.remove-is) (first_add eq g.met.T.Eq.laws m change x remove i c.loop-place-test.true c.index-values-place.is w.if-place-eq0.true (w.is_add_left.ensures.0 w.if-is_add_left.true) (rw w.in-None.is at c.loop-place.invariant))
-      | then-place-eq0+then-is_add_left+in-Some+else-eq+else-ne w ↦
-          let r = rw w.in-Some.is at c.loop-place.invariant in
-          let next = equal_add eq g.met.T.Eq.laws m change (is_not_keep change (sym w.eq.ensures ∙ w.if-eq.false)) w.in-Some.other.now x remove i c.loop-place-test.true c.index-values-place.is w.if-place-eq0.true
-          (not-false (eq w.in-Some.other.now x) (sym w.ne.ensures ∙ w.if-ne.false)) r in
-          rw (w.add-is, w.remove-is, w.in-Some.is) next
-      | then-place-eq0+else-is_add_left w ↦
-          elim (cases_lt (added eq m i x) (all_removed eq m x)) [
-            | inl less ↦ rw (w.add-is, w.remove-is) (passed_add eq g.met.T.Eq.laws m change x add remove i c.loop-place-test.true c.index-values-place.is w.if-place-eq0.true less c.loop-place.invariant)
-            | inr le ↦ absurd (false≢true (sym w.if-is_add_left.false ∙ w.is_add_left.ensures.1 le))
-          ]
-      | else-place-eq0+then-is_remove_left+in-None-remove+else-eq-2 w ↦
-          rw (w.add-is, w.remove-is) (first_remove eq g.met.T.Eq.laws m change (is_not_keep change (sym w.eq-in-None-remove.ensures ∙ w.if-eq-2.false)) x add i c.loop-place-test.true c.index-values-place.is w.if-place-eq0.false (w.is_remove_left.ensures.0 w.if-is_remove_left.true) (rw w.in-None-remove.is at c.loop-place.invariant))
-      | else-place-eq0+then-is_remove_left+in-Some-remove+else-ne-2 w ↦
-          let r = rw w.in-Some-remove.is at c.loop-place.invariant in
-          let next = equal_remove eq g.met.T.Eq.laws m change w.in-Some-remove.other.now x add i c.loop-place-test.true c.index-values-place.is w.if-place-eq0.false
-          (not-false (eq w.in-Some-remove.other.now x) (sym w.ne-in-Some-remove.ensures ∙ w.if-ne-2.false)) r in
-          rw (w.add-is, w.remove-is, w.in-Some-remove.is) next
-      | else-place-eq0+else-is_remove_left w ↦
-          elim (cases_lt (removed eq m i x) (all_added eq m x)) [
-            | inl less ↦ rw (w.add-is, w.remove-is) (passed_remove eq g.met.T.Eq.laws m change x add remove i c.loop-place-test.true c.index-values-place.is w.if-place-eq0.false less c.loop-place.invariant)
-            | inr le ↦ absurd (false≢true (sym w.if-is_remove_left.false ∙ w.is_remove_left.ensures.1 le))
-          ]
+    let added = option_copied c.loop-place.added in
+    let removed = option_copied c.loop-place.removed in
+    elim c.if-removes-adds.branch [
+      | then-removes-adds+else-is_some+else-is_repeated w ↦
+          rw (w.added-is, w.removed-is) (none_yet_added eq g.met.T.Eq.laws m change x added removed i (copied_is_some c.loop-place.added ∙ sym w.is_some.ensures ∙ w.if-is_some.false)
+          c.loop-place-test.true c.index-values-place.is (omega arith) (λ r. let yes = w.is_repeated.ensures.1 (r.0, λ e. r.1 (omega (arith, e))) in let no = w.if-is_repeated.false in cc) c.loop-place.invariant)
+      | else-removes-adds+then-adds-removes+else-is_some-2+else-eq w ↦
+          rw (w.added-is, w.removed-is) (none_yet_removed eq g.met.T.Eq.laws m change (is_not_keep change (sym w.eq.ensures ∙ w.if-eq.false)) x added removed i
+          (copied_is_some c.loop-place.removed ∙ sym w.is_some-then-adds-removes.ensures ∙ w.if-is_some-2.false) c.loop-place-test.true c.index-values-place.is (omega arith) c.loop-place.invariant)
+      | else-removes-adds+else-adds-removes w ↦
+          rw (w.added-is, w.removed-is) (balanced eq g.met.T.Eq.laws m change x added removed i c.loop-place-test.true c.index-values-place.is (omega arith) c.loop-place.invariant)
     ]
+
+pub returns-clause-member : goal.returns-clause-member
+returns-clause-member g c =
+    if_copied (Contains c.args.values.now) c.loop-place.added
+    (member g.T.PartialEq.eq g.met.T.Eq.laws c.args.values.now c.args.same_change (option_copied c.loop-place.added) (option_copied c.loop-place.removed) c.loop-place.place c.loop-place.invariant)
 
 pub returns-clause-decided : goal.returns-clause-decided
 returns-clause-decided g c =
-    if_copied _ c.loop-place.add (decided_option g.T.PartialEq.eq g.met.T.Eq.laws c.args.values.now c.args.same_change (option_copied c.loop-place.add) (option_copied c.loop-place.remove) c.loop-place.place (omega arith) c.loop-place.invariant)
+    if_copied _ c.loop-place.added
+    (decided_option g.T.PartialEq.eq g.met.T.Eq.laws c.args.values.now c.args.same_change (option_copied c.loop-place.added) (option_copied c.loop-place.removed) c.loop-place.place (omega arith) c.loop-place.invariant)
+
+pub returns-clause-undecided : goal.returns-clause-undecided
+returns-clause-undecided g c =
+    undecided_option g.T.PartialEq.eq g.met.T.Eq.laws c.args.values.now c.args.same_change c.loop-place.added (option_copied c.loop-place.removed) c.loop-place.place (omega arith) c.loop-place.invariant
