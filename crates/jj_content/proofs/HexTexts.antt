@@ -80,7 +80,7 @@ digit_value-Some digits c v are is =
     let found = position-Some (λ digit. eqb digit (to_ascii_lowercase c)) digits v 0 is in
     (omega (arith, found.0, are.count), eqb-true (get_or digits v 0) (to_ascii_lowercase c) found.1)
 
-digit_value-same : (digits : List ℕ) (a b : ℕ) → to_ascii_lowercase a ≡ to_ascii_lowercase b → digit_value digits a ≡ digit_value digits b
+pub digit_value-same : (digits : List ℕ) (a b : ℕ) → to_ascii_lowercase a ≡ to_ascii_lowercase b → digit_value digits a ≡ digit_value digits b
 digit_value-same digits a b e = ap (λ (c : ℕ). position (λ digit. eqb digit c) digits) e
 
 pub ReadsAs-nil : (digits : List ℕ) → ReadsAs digits [] []
@@ -240,7 +240,7 @@ common_length-all digits xs ys n is same =
     ]
 
 -- a digit with a value is the first of a pair, or the second
-ReadsAs-cons : (digits text bytes : List ℕ) (a b high low : ℕ) → AreDigits digits → ReadsAs digits text bytes → digit_value digits a ≡ Some high → digit_value digits b ≡ Some low
+pub ReadsAs-cons : (digits text bytes : List ℕ) (a b high low : ℕ) → AreDigits digits → ReadsAs digits text bytes → digit_value digits a ≡ Some high → digit_value digits b ≡ Some low
     → ReadsAs digits (a ∷ b ∷ text) ((high * 16 + low) ∷ bytes)
 ReadsAs-cons digits text bytes a b high low are reads is_high is_low =
     let pair = ReadsAs-push digits [] [] a b high low are (ReadsAs-nil digits) is_high is_low in

@@ -10,6 +10,8 @@ pub mod OneTree
 pub mod Numbers
 pub mod ListedGraphs
 pub mod OneGraph
+pub mod HexBytes
+pub mod HashContent
 pub mod OneAnswer
 pub mod SamePatterns
 pub mod SetPasses

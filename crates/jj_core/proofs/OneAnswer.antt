@@ -11,7 +11,7 @@ use Rattle.jj_paths.specs.Tree.{Tree}
 use Rattle.jj_core.specs.declared.fault.Fault.{Fault}
 use Rattle.jj_core.specs.declared.fault.Fault.TheVariants.{NotUtf8}
 use Rattle.jj_core.specs.declared.program.Command.{Command}
-use Rattle.jj_core.specs.declared.program.Command.TheVariants.{Walk, Merge, Graph}
+use Rattle.jj_core.specs.declared.program.Command.TheVariants.{Walk, Merge, Graph, Hash}
 use Rattle.jj_core.specs.Marks.{IsMarkedTree}
 use Rattle.jj_core.specs.WalkCommand.{WalkRequest}
 use Rattle.jj_core.specs.Walked.{GivesWalk, walk_lines}
@@ -70,6 +70,7 @@ text_gives_one : (command : Command) (text : List ℕ) (first second : Result (L
 text_gives_one Walk text first second given given' = walk_gives_one text first second given given'
 text_gives_one Merge text first second given given' = merge_gives_one text first second given given'
 text_gives_one Graph text first second given given' = graph_gives_one text first second given given'
+text_gives_one Hash text first second given given' = sym given ∙ given'
 
 pub gives_one_answer : GivesOneAnswer
 gives_one_answer command input first second given given' = by_text (is_utf8 input) given given'

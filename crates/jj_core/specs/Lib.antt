@@ -20,6 +20,7 @@ pub mod Numbers
 pub mod GraphCommand
 pub mod Neighbors
 pub mod GraphRead
+pub mod HashCommand
 pub mod Program
 pub mod Reports
 pub mod Laws

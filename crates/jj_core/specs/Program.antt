@@ -7,14 +7,20 @@ use Rattle.jj_paths.specs.Streams.{AppendsFrontOf}
 use Rattle.jj_core.specs.declared.fault.Fault.{Fault}
 use Rattle.jj_core.specs.declared.fault.Fault.TheVariants.{ReadInput, NotUtf8, Memory, WriteOutput, Matchers, Line}
 use Rattle.jj_core.specs.declared.program.Command.{Command}
-use Rattle.jj_core.specs.declared.program.Command.TheVariants.{Walk, Merge, Graph}
+use Rattle.jj_core.specs.declared.program.Command.TheVariants.{Walk, Merge, Graph, Hash}
 use Rattle.jj_core.specs.Walked.{GivesWalk}
 use Rattle.jj_core.specs.MergeCommand.{GivesMerge}
 use Rattle.jj_core.specs.GraphCommand.{GivesGraph}
+use Rattle.jj_core.specs.HashCommand.{GivesHash}
 
 -- the command of this name
 abbrev pub command_named : List ℕ → Option Command
-command_named name = cond (bytes_eq name (codes "walk")) (Some Walk) (cond (bytes_eq name (codes "merge")) (Some Merge) (cond (bytes_eq name (codes "graph")) (Some Graph) None))
+command_named name =
+    cond (bytes_eq name (codes "walk")) (Some Walk)
+    (cond (bytes_eq name (codes "merge")) (Some Merge)
+    (cond (bytes_eq name (codes "graph")) (Some Graph)
+    (cond (bytes_eq name (codes "hash")) (Some Hash)
+    None)))
 
 -- the command that the words of a command line name, if they are its name alone
 abbrev pub command_line : List (List ℕ) → Option Command
@@ -27,6 +33,7 @@ abbrev pub GivesText : Command → List ℕ → Result (List ℕ) Fault → Type
 GivesText Walk text = GivesWalk text
 GivesText Merge text = GivesMerge text
 GivesText Graph text = GivesGraph text
+GivesText Hash text = GivesHash text
 
 -- what a command gives for an input: that of its text, if it is UTF-8
 abbrev pub Gives : Command → List ℕ → Result (List ℕ) Fault → Type 0

@@ -4,6 +4,7 @@
 mod fault;
 mod file_set;
 mod graph_command;
+mod hash_command;
 pub mod laws;
 mod leaf_matcher;
 mod listed_graph;

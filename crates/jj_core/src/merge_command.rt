@@ -45,7 +45,7 @@ pub(crate) struct MergeReading<'t> {
 }
 
 /// The merge of these terms.
-fn merge_of<'t>(alloc: Global, terms: &[&'t str]) -> Result<Merge<&'t str>, AllocError>
+pub(crate) fn merge_of<'t>(alloc: Global, terms: &[&'t str]) -> Result<Merge<&'t str>, AllocError>
     requires { IsOdd (length terms.now) }
     ensures { IfOk result (λ merge. merge ≡ terms.now) }
 {

@@ -8,6 +8,7 @@ ghost use Rattle.jj_core.specs.declared.fault.Fault.{Fault};
 
 pub use crate::fault::{Fault, LineFault};
 use crate::graph_command::graph_output;
+use crate::hash_command::hash_lines;
 use crate::merge_command::merge_output;
 use crate::walk_command::walk_output;
 use jj_paths::file_util::{Sink, Source, write_all};
@@ -19,6 +20,7 @@ pub enum Command {
     Walk,
     Merge,
     Graph,
+    Hash,
 }
 
 impl Command {
@@ -32,6 +34,7 @@ impl Command {
             "walk" => Some(Command::Walk),
             "merge" => Some(Command::Merge),
             "graph" => Some(Command::Graph),
+            "hash" => Some(Command::Hash),
             _ => None,
         }
     }
@@ -76,6 +79,7 @@ fn output(alloc: Global, command: Command, input: &[u8]) -> Result<Vec<u8>, Faul
         Command::Walk => walk_output(alloc, text),
         Command::Merge => merge_output(alloc, text),
         Command::Graph => graph_output(alloc, text),
+        Command::Hash => hash_lines(alloc, text),
     }
 }
 

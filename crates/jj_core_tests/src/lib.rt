@@ -3,6 +3,7 @@
 
 mod ends;
 mod graph_tests;
+mod hash_tests;
 mod merge_tests;
 #[cfg(test)]
 mod runs;

@@ -80,6 +80,7 @@ mod tests {
         for (name, input, expected) in [
             ("merge", "keep\ta\n", "resolved\ta\n"),
             ("graph", "order\t7\n", "order\t7\n"),
+            ("hash", "", ""),
         ] {
             let Ok(word) = String::from_str(rt.alloc(), name) else {
                 return;
@@ -95,8 +96,7 @@ mod tests {
 
     #[test]
     fn other_command_lines_are_told_the_usage(rt: HostRuntime) {
-        // The command `hash` is not there yet.
-        for word in ["hash", "Walk", "walk ", "merges", ""] {
+        for word in ["Hash", "Walk", "walk ", "merges", ""] {
             let Ok(word) = String::from_str(rt.alloc(), word) else {
                 return;
             };

@@ -1,12 +1,13 @@
 use Rattle.std.proofs.Common.{Ok, subst}
 use Rattle.std.proofs.lemmas.Result.{IfOk-weaker, IfErr-weaker}
-use Rattle.jj_core.specs.declared.program.Command.TheVariants.{Walk, Merge, Graph}
+use Rattle.jj_core.specs.declared.program.Command.TheVariants.{Walk, Merge, Graph, Hash}
 use Rattle.jj_core.specs.Lines.{IsFaultOf}
 use Rattle.jj_core.specs.Program.{Gives, IsFaultOn}
 use Rattle.jj_core.specs.WalkCommand.{walk_request}
 use Rattle.jj_core.specs.Walked.{GivesWalk}
 use Rattle.jj_core.specs.MergeCommand.{merge_requests, GivesMerge}
 use Rattle.jj_core.specs.GraphCommand.{graph_state, GivesGraph}
+use Rattle.jj_core.specs.HashCommand.{hash_output, GivesHash}
 use Rattle.jj_core.proofs.Inputs.{known_gives, known_fault, gives_not_utf8}
 use Rattle.jj_core.proofs.program.output.Goals as goal
 
@@ -48,3 +49,15 @@ returns-in-Graph-clause-fault c =
     let (same, utf8) = c.in-Ok.ensures.cases in
     IfErr-weaker c.graph_output.result (λ fault. IsFaultOf fault (graph_state c.in-Ok.text.now)) (IsFaultOn c.args.command c.args.input.now)
     (λ fault found. known_fault c.args.command Graph c.args.input.now (graph_state c.args.input.now) (λ _ e. e) c.in-Graph.is fault utf8 (subst (λ text. IsFaultOf fault (graph_state text)) same found)) c.graph_output.ensures.fault
+
+pub returns-in-Hash-clause-done : goal.returns-in-Hash-clause-done
+returns-in-Hash-clause-done c =
+    let (same, utf8) = c.in-Ok.ensures.cases in
+    IfOk-weaker c.hash_lines.result (λ output. GivesHash c.in-Ok.text.now (Ok output.items)) (λ output. Gives c.args.command c.args.input.now (Ok output.items))
+    (λ output given. known_gives c.args.command Hash c.args.input.now (Ok output.items) c.in-Hash.is utf8 (subst (λ text. GivesHash text (Ok output.items)) same given)) c.hash_lines.ensures.done
+
+pub returns-in-Hash-clause-fault : goal.returns-in-Hash-clause-fault
+returns-in-Hash-clause-fault c =
+    let (same, utf8) = c.in-Ok.ensures.cases in
+    IfErr-weaker c.hash_lines.result (λ fault. IsFaultOf fault (hash_output c.in-Ok.text.now)) (IsFaultOn c.args.command c.args.input.now)
+    (λ fault found. known_fault c.args.command Hash c.args.input.now (hash_output c.args.input.now) (λ _ e. e) c.in-Hash.is fault utf8 (subst (λ text. IsFaultOf fault (hash_output text)) same found)) c.hash_lines.ensures.fault
