@@ -5,6 +5,9 @@ ghost use Rattle.std.specs.Io.KnownBytes.{Appends, ReadConsumes, WriteAppends};
 ghost use Rattle.jj_paths.specs.Streams.{NotesFailure, TakesSome, CopiesAll, CopiesFront, AppendsFrontOf};
 ghost use Rattle.jj_paths.specs.Watching.{watched, watched_failed, watched_reads_left};
 
+mod errors;
+
+pub use errors::{IoResultExt, PathError, SourceError, SourceKind};
 use std::io;
 use std::io::{ErrorKind, Read, Write};
 
