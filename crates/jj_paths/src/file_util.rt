@@ -5,9 +5,15 @@ ghost use Rattle.std.specs.Io.KnownBytes.{Appends, ReadConsumes, WriteAppends};
 ghost use Rattle.jj_paths.specs.Streams.{NotesFailure, SettlesWrite, TakesSome, CopiesAll, CopiesFront, AppendsFrontOf};
 ghost use Rattle.jj_paths.specs.Watching.{watched, watched_failed, watched_reads_left};
 
+mod dirs;
 mod errors;
+mod path_texts;
 
+pub use dirs::{DirAccess, create_or_reuse_dir, is_empty_dir, remove_dir_contents};
 pub use errors::{IoResultExt, PathError, SourceError, SourceKind};
+pub use path_texts::{
+    BadPathEncoding, expand_home_path, path_from_bytes, path_to_bytes, slash_path,
+};
 use std::io;
 use std::io::{ErrorKind, Read, Write};
 
