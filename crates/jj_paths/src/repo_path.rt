@@ -4,17 +4,21 @@ ghost use Rattle.jj_paths.specs.Paths.{Name, Path, is_name, is_path_text, compon
 
 mod content;
 mod extend;
+mod from_relative;
 mod iter;
 mod orders;
 mod shown;
+mod to_fs;
 
 pub use crate::repo_path_tree::{
     RepoPathNode, RepoPathTree, RepoPathTreeChildren, RepoPathTreeWalk,
 };
+pub use from_relative::RelativePathParseError;
 pub use iter::{RepoPathAncestors, RepoPathComponentsIter};
 use std::alloc::{AllocError, Global};
 use std::marker::Model;
 use thiserror::Error;
+pub use to_fs::{InvalidRepoPathComponentError, InvalidRepoPathError};
 
 /// One name of a path, borrowed: a text that is not empty and has no slash.
 #[derive(Clone, Copy)]
@@ -391,7 +395,7 @@ impl RepoPathBuf {
 }
 
 /// A text that is no path, or no name of one.
-#[derive(Debug, PartialEq, Eq, Drop, Error)]
+#[derive(Clone, Debug, PartialEq, Eq, Drop, Error)]
 pub enum InvalidNewRepoPathError {
     #[error(r#"Invalid repo path input "{value}""#)]
     Invalid { value: String },
