@@ -1,7 +1,9 @@
 //! Tests of `jj_walks` over its public calls, and a caller that is proved by its contracts.
 #![tactic(auto)]
 
+pub mod ancestry;
 pub mod callers;
+pub mod commits;
 #[cfg(test)]
 mod hostile;
 #[cfg(test)]
