@@ -3,6 +3,8 @@
 
 pub mod ancestry;
 pub mod callers;
+#[cfg(test)]
+mod closest_common_tests;
 pub mod commits;
 #[cfg(test)]
 mod hostile;
