@@ -22,9 +22,6 @@ use Rattle.std.proofs.lemmas.List.Sorted.{Contains-permutation, IsPermutation-sy
 use Rattle.std.proofs.lemmas.Map.Keys.{IsDistinct-IsPermutation, IsStrictlyIncreasing-from_distinct}
 use Rattle.std.proofs.lemmas.Map.Views.{hash_map_contains_key_iff}
 use Rattle.jj_walks.specs.Graph.{Graph, StrictlyReaches, HasNoCycle, IsMaximalIn}
-use Rattle.jj_walks.specs.declared.walk_error.WalkError.{WalkError}
-use Rattle.jj_walks.specs.declared.walk_error.WalkError.TheVariants.{Node}
-use Rattle.jj_walks.specs.Errors.{IfNode}
 use Rattle.jj_walks.specs.Failing.{sound_items}
 use Rattle.jj_walks.specs.Walk.{DrainsTo}
 use Rattle.jj_walks.proofs.Walking.{drained_are, eqb-flip}
@@ -70,10 +67,6 @@ lists_neighbors (Ok list) ids rest = λ xs d.
     let given = drained_are (λ s t. t ≡ s) (copies fronts) list xs (λ x. x) ids (λ it b. YieldsList-from_copied (YieldsList-from_slice ids (ap (λ s. iter_rest (copied_source s)) b ∙ rest))) d in
     ap (map {B = Result ℕ ℕ} (λ id. Ok id)) (sym given ∙ map-id xs)
 lists_neighbors (Err e) ids none = absurd none
-
--- what is said of the error of a node
-pub node_says : {E : Type 0} (P : E → Type 0) (refused : WalkError E) (error : E) → refused ≡ Node error → IfNode refused P → P error
-node_says P refused error node h = subst (λ e. IfNode e P) node h
 
 -- an empty map lists nothing
 pub listed_in-empty : {S : Type 0} (m : HashMap ℕ (Vec ℕ Global) S) → m.entries ≡ [] → listed_in m ≡ (λ id. None)

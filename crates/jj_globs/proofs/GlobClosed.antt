@@ -7,7 +7,7 @@ use Rattle.jj_globs.specs.declared.glob.token.Part.{Part}
 use Rattle.jj_globs.specs.declared.glob.token.Part.TheVariants.{Byte, AnyByte, Star, LeadingDirs, InnerDirs, Below, Everything, OneOf}
 use Rattle.jj_globs.specs.declared.glob.sign.Place.{Place}
 use Rattle.jj_globs.specs.declared.glob.sign.Place.TheVariants.{Start, LeadingRun, InnerRun, AfterSlash, Elsewhere}
-use Rattle.jj_globs.specs.GlobText.{Word, question, asterisk, slash, open_brace, comma, close_brace, literal, class, fault, place_behind, place_behind_group, place_of, instead, two_stars, with_dirs, with_last_dirs, ends_sequence, with_or, with_close, closes_nothing, whole, read, tokens_of, words, sign_of}
+use Rattle.jj_globs.specs.GlobText.{Word, question, asterisk, slash, open_brace, comma, close_brace, literal, class, fault, place_behind, place_behind_group, place_of, instead, two_stars, with_dirs, with_last_dirs, ends_sequence, with_or, with_close, closes_nothing, only_dirs, read, tokens_of, words, sign_of}
 use Rattle.jj_globs.specs.GlobMeaning.{Sequence, Alternatives, before_or, before_open, reading_of}
 
 -- so many groups are open behind these tokens, the last first
@@ -43,35 +43,25 @@ open-dirs : (e : Bool) (ts : List Token) (n : ℕ) → HasOpen ts n → HasOpen 
 open-dirs true ts n o = dirs-behind_group (place_behind ts) ts n o
 open-dirs false ts n o = dirs-at (place_behind ts) ts n refl o
 
-last-at : (place : Place) (ts : List Token) (n : ℕ) → place_behind ts ≡ place → HasOpen ts n → HasOpen (with_last_dirs n place ts) n
-last-at Start ts zero e o = o
-last-at Start ts (suc n) e o = o
-last-at LeadingRun ts zero e o = open-instead ts zero Everything (λ h. let k : LeadingRun ≡ Start = sym e ∙ h in cc) (λ h. let k : LeadingRun ≡ Elsewhere = sym e ∙ h in cc) o
-last-at LeadingRun ts (suc n) e o = o
-last-at InnerRun ts zero e o = open-instead ts zero Below (λ h. let k : InnerRun ≡ Start = sym e ∙ h in cc) (λ h. let k : InnerRun ≡ Elsewhere = sym e ∙ h in cc) o
-last-at InnerRun ts (suc n) e o = open-instead ts (suc n) Below (λ h. let k : InnerRun ≡ Start = sym e ∙ h in cc) (λ h. let k : InnerRun ≡ Elsewhere = sym e ∙ h in cc) o
-last-at AfterSlash ts zero e o = open-instead ts zero Below (λ h. let k : AfterSlash ≡ Start = sym e ∙ h in cc) (λ h. let k : AfterSlash ≡ Elsewhere = sym e ∙ h in cc) o
-last-at AfterSlash ts (suc n) e o = open-instead ts (suc n) Below (λ h. let k : AfterSlash ≡ Start = sym e ∙ h in cc) (λ h. let k : AfterSlash ≡ Elsewhere = sym e ∙ h in cc) o
-last-at Elsewhere ts zero e o = o
-last-at Elsewhere ts (suc n) e o = o
+last-at : (place : Place) (ts : List Token) (n : ℕ) → place_behind ts ≡ place → HasOpen ts n → HasOpen (with_last_dirs place ts) n
+last-at Start ts n e o = o
+last-at LeadingRun ts n e o = o
+last-at InnerRun ts n e o = open-instead ts n Below (λ h. let k : InnerRun ≡ Start = sym e ∙ h in cc) (λ h. let k : InnerRun ≡ Elsewhere = sym e ∙ h in cc) o
+last-at AfterSlash ts n e o = open-instead ts n Below (λ h. let k : AfterSlash ≡ Start = sym e ∙ h in cc) (λ h. let k : AfterSlash ≡ Elsewhere = sym e ∙ h in cc) o
+last-at Elsewhere ts n e o = o
 
-last-behind_group : (place : Place) (ts : List Token) (n : ℕ) → HasOpen ts n → HasOpen (with_last_dirs n (place_behind_group place) ts) n
-last-behind_group Start ts zero o = o
-last-behind_group Start ts (suc n) o = o
-last-behind_group LeadingRun ts zero o = o
-last-behind_group LeadingRun ts (suc n) o = o
-last-behind_group InnerRun ts zero o = o
-last-behind_group InnerRun ts (suc n) o = o
-last-behind_group AfterSlash ts zero o = o
-last-behind_group AfterSlash ts (suc n) o = o
-last-behind_group Elsewhere ts zero o = o
-last-behind_group Elsewhere ts (suc n) o = o
+last-behind_group : (place : Place) (ts : List Token) (n : ℕ) → HasOpen ts n → HasOpen (with_last_dirs (place_behind_group place) ts) n
+last-behind_group Start ts n o = o
+last-behind_group LeadingRun ts n o = o
+last-behind_group InnerRun ts n o = o
+last-behind_group AfterSlash ts n o = o
+last-behind_group Elsewhere ts n o = o
 
-open-last : (e : Bool) (ts : List Token) (n : ℕ) → HasOpen ts n → HasOpen (with_last_dirs n (place_of e ts) ts) n
+open-last : (e : Bool) (ts : List Token) (n : ℕ) → HasOpen ts n → HasOpen (with_last_dirs (place_of e ts) ts) n
 open-last true ts n o = last-behind_group (place_behind ts) ts n o
 open-last false ts n o = last-at (place_behind ts) ts n refl o
 
-open-stars : (ends e : Bool) (ts : List Token) (n : ℕ) → HasOpen ts n → HasOpen (if ends then with_last_dirs n (place_of e ts) ts else two_stars ts) n
+open-stars : (ends e : Bool) (ts : List Token) (n : ℕ) → HasOpen ts n → HasOpen (if ends then with_last_dirs (place_of e ts) ts else two_stars ts) n
 open-stars true e ts n o = open-last e ts n o
 open-stars false e ts n o = o
 
@@ -119,18 +109,14 @@ no_items (x ∷ xs) h = absurd (let k : ⊥ = omega (arith, h) in k)
 closed-reverse : (ts : List Token) → HasOpen ts 0 → (reading_of (reverse ts)).outer ≡ []
 closed-reverse ts o = no_items (reading_of (reverse ts)).outer (let k = outer-front ts [] o in rw (append-nil (reverse ts)) at k)
 
-closed-whole : (ts : List Token) → HasOpen ts 0 → (reading_of (whole ts)).outer ≡ []
-closed-whole (part LeadingDirs ∷ []) o = refl
-closed-whole ts o = closed-reverse ts o
-
 pub closed-read : (n : ℕ) (e : Bool) (ts : List Token) (ws : List Word) (out : List Token) → HasOpen ts n → read n e ts ws ≡ Ok out → (reading_of out).outer ≡ []
 unfolding read
-closed-read zero e ts [] out o r = let same : whole ts ≡ out = cc in rw (← same) (closed-whole ts o)
+closed-read zero e ts [] out o r = let same : reverse ts ≡ out = cc in rw (← same) (closed-reverse ts o)
 closed-read (suc n) e ts [] out o r = cc
 closed-read n e ts (question ∷ ws) out o r = closed-read n false (part AnyByte ∷ ts) ws out o r
 closed-read n e ts (asterisk ∷ asterisk ∷ slash ∷ ws) out o r = closed-read n false (with_dirs (place_of e ts) ts) ws out (open-dirs e ts n o) r
 closed-read n e ts (asterisk ∷ asterisk ∷ ws) out o r =
-    closed-read n false (if ends_sequence n ws then with_last_dirs n (place_of e ts) ts else two_stars ts) ws out (open-stars (ends_sequence n ws) e ts n o) r
+    closed-read n false (if ends_sequence n ws then with_last_dirs (place_of e ts) ts else two_stars ts) ws out (open-stars (ends_sequence n ws) e ts n o) r
 closed-read n e ts (asterisk ∷ ws) out o r = closed-read n false (part Star ∷ ts) ws out o r
 closed-read n e ts (slash ∷ ws) out o r = closed-read n false (part (Byte 47) ∷ ts) ws out o r
 closed-read n e ts (literal b ∷ ws) out o r = closed-read n false (part (Byte b) ∷ ts) ws out o r
@@ -142,6 +128,10 @@ closed-read zero e ts (close_brace ∷ ws) out o r = cc
 closed-read (suc n) e ts (close_brace ∷ ws) out o r = closed-read n (closes_nothing ts) (with_close ts) ws out (open-close ts n o) r
 closed-read n e ts (fault g ∷ ws) out o r = cc
 
+closed-either : (b : Bool) (ws : List Word) (ts : List Token) → (if b then Ok (part Everything ∷ []) else read 0 false [] ws) ≡ Ok ts → (reading_of ts).outer ≡ []
+closed-either true ws ts r = let same : part Everything ∷ [] ≡ ts = cc in rw (← same) refl
+closed-either false ws ts r = closed-read 0 false [] ws ts refl r
+
 pub closed-tokens_of : (text : List ℕ) (ts : List Token) → tokens_of text ≡ Ok ts → (reading_of ts).outer ≡ []
 unfolding tokens_of
-closed-tokens_of text ts r = closed-read 0 false [] (words (map sign_of text)) ts refl r
+closed-tokens_of text ts r = closed-either (only_dirs (map sign_of text)) (words (map sign_of text)) ts r

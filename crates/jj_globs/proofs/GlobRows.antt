@@ -252,3 +252,52 @@ run_in_group_dirs = refl
 escaped_slash_before : matches path (codes "a\\/**") (codes "a/x/y") ≡ yes
 unfolding tokens_of words read
 escaped_slash_before = refl
+
+-- any bytes: only where the whole text is a run of `**` joined by `/`, with or without a last `/`
+run_joined : matches path (codes "**/**") (codes "x/y") ≡ yes
+unfolding tokens_of words read
+run_joined = refl
+
+run_with_slash : matches path (codes "**/**/") (codes "x/y") ≡ yes
+unfolding tokens_of words read
+run_with_slash = refl
+
+run_then_empty_group : matches path (codes "**/{}") (codes "x/y") ≡ no
+unfolding tokens_of words read
+run_then_empty_group = refl
+
+run_then_empty_group_dirs : matches path (codes "**/{}") (codes "x/y/") ≡ yes
+unfolding tokens_of words read
+run_then_empty_group_dirs = refl
+
+run_then_empty_alternatives : matches path (codes "**/{,}") (codes "a") ≡ no
+unfolding tokens_of words read
+run_then_empty_alternatives = refl
+
+long_run_then_empty_group : matches path (codes "**/**/{}") (codes "x/y") ≡ no
+unfolding tokens_of words read
+long_run_then_empty_group = refl
+
+empty_group_then_stars : matches path (codes "{}**") (codes "x/y") ≡ no
+unfolding tokens_of words read
+empty_group_then_stars = refl
+
+empty_group_then_stars_name : matches path (codes "{}**") (codes "x") ≡ yes
+unfolding tokens_of words read
+empty_group_then_stars_name = refl
+
+empty_alternatives_then_stars : matches path (codes "{,}**") (codes "x/y") ≡ no
+unfolding tokens_of words read
+empty_alternatives_then_stars = refl
+
+empty_group_then_run : matches path (codes "{}**/") (codes "a") ≡ no
+unfolding tokens_of words read
+empty_group_then_run = refl
+
+empty_group_then_run_dirs : matches path (codes "{}**/") (codes "a/") ≡ yes
+unfolding tokens_of words read
+empty_group_then_run_dirs = refl
+
+empty_group_then_runs : matches path (codes "{}**/**") (codes "a") ≡ no
+unfolding tokens_of words read
+empty_group_then_runs = refl

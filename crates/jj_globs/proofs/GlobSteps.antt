@@ -9,7 +9,7 @@ use Rattle.jj_globs.specs.declared.glob.sign.Sign.TheVariants.{Question, Asteris
 use Rattle.jj_globs.specs.declared.glob.sign.Place.TheVariants.{LeadingRun, AfterSlash, Elsewhere}
 use Rattle.jj_globs.specs.declared.glob.error.GlobError.{GlobError}
 use Rattle.jj_globs.specs.declared.glob.error.GlobError.TheVariants.{UnclosedClass, InvalidRange, NonAsciiRange, UnopenedAlternates, UnclosedAlternates, DanglingEscape, Memory}
-use Rattle.jj_globs.specs.GlobText.{Word, asterisk, byte_of, words, items, first_item, single, class, fault, read, place_of, place_behind, with_dirs, with_last_dirs, two_stars, with_or, with_close, closes_nothing, whole, instead, sign_of, tokens_of}
+use Rattle.jj_globs.specs.GlobText.{Word, asterisk, byte_of, words, items, first_item, single, class, fault, read, place_of, place_behind, with_dirs, with_last_dirs, two_stars, with_or, with_close, closes_nothing, only_dirs, sign_of, tokens_of}
 use Rattle.jj_globs.specs.GlobReads.{ends_here, IsFault, IsReadingFault}
 
 -- 1. The words from a `[` on begin with a class, or are a fault.
@@ -92,7 +92,7 @@ unfolding words read
 close-read zero e ts s h = absurd (let k : ⊥ = omega (arith, h) in k)
 close-read (suc n) e ts s h = let same : suc n - 1 ≡ n = omega arith in rw same refl
 
-pub read-end : (n : ℕ) (e : Bool) (ts : List Token) → n ≡ 0 → read n e ts (words []) ≡ Ok (whole ts)
+pub read-end : (n : ℕ) (e : Bool) (ts : List Token) → n ≡ 0 → read n e ts (words []) ≡ Ok (reverse ts)
 unfolding words read
 read-end zero e ts h = refl
 read-end (suc n) e ts h = absurd (let k : ⊥ = omega (arith, h) in k)
@@ -152,7 +152,7 @@ dirs-read n e ts s = refl
 
 -- two stars that no slash follows
 pub stars-read : (n : ℕ) (e : Bool) (ts : List Token) (s : List Sign) → ((r : List Sign) → s ≡ Slash ∷ r → ⊥)
-    → read n e ts (words (Asterisk ∷ Asterisk ∷ s)) ≡ read n false (if ends_here n s then with_last_dirs n (place_of e ts) ts else two_stars ts) (words s)
+    → read n e ts (words (Asterisk ∷ Asterisk ∷ s)) ≡ read n false (if ends_here n s then with_last_dirs (place_of e ts) ts else two_stars ts) (words s)
 unfolding words read
 stars-read zero e ts [] h = refl
 stars-read zero e ts (Question ∷ s) h = refl
@@ -189,29 +189,30 @@ stars-read (suc n) e ts ((Other b) ∷ s) h = refl
 
 -- 4. The whole text.
 
-no_run : (b : Bool) → (if b then AfterSlash else Elsewhere) ≡ LeadingRun → ⊥
-no_run true h = cc
-no_run false h = cc
+pub only_dirs-other : (s : List Sign) → ((r : List Sign) → s ≡ Asterisk ∷ Asterisk ∷ r → ⊥) → only_dirs s ≡ false
+only_dirs-other (Asterisk ∷ Asterisk ∷ r) h = absurd (h r refl)
+only_dirs-other s h = refl
 
-pub whole-run : (ts : List Token) → place_behind ts ≡ LeadingRun → length ts ≡ 1 → whole ts ≡ reverse (instead Everything ts)
-whole-run [] h k = cc
-whole-run (part LeadingDirs ∷ []) h k = refl
-whole-run (part (Byte b) ∷ []) h k = absurd (no_run (b == 47) h)
-whole-run (part InnerDirs ∷ []) h k = cc
-whole-run (part p ∷ []) h k = cc
-whole-run (Open ∷ []) h k = cc
-whole-run (Or ∷ []) h k = cc
-whole-run (Close ∷ []) h k = cc
-whole-run (t ∷ u ∷ ts) h k = absurd (let f : ⊥ = omega (arith, k) in f)
+pub only_dirs-unjoined : (s : List Sign) → s ≢ [] → ((r : List Sign) → s ≡ Slash ∷ r → ⊥) → only_dirs (Asterisk ∷ Asterisk ∷ s) ≡ false
+only_dirs-unjoined [] some h = absurd (some refl)
+only_dirs-unjoined (Slash ∷ r) some h = absurd (h r refl)
+only_dirs-unjoined s some h = refl
 
-pub whole-other : (ts : List Token) → (place_behind ts ≡ LeadingRun → length ts ≡ 1 → ⊥) → whole ts ≡ reverse ts
-whole-other [] h = refl
-whole-other (part LeadingDirs ∷ []) h = absurd (h refl refl)
-whole-other (t ∷ ts) h = refl
+pub only_dirs-joined : (s : List Sign) → s ≢ [] → only_dirs (Asterisk ∷ Asterisk ∷ Slash ∷ s) ≡ only_dirs s
+only_dirs-joined [] some = absurd (some refl)
+only_dirs-joined (c ∷ s) some = refl
 
-pub start : (text : List ℕ) (none : List Token) → none ≡ [] → tokens_of text ≡ read 0 false (reverse none) (words (map sign_of text))
+-- a text that does not stand for any bytes as a whole is read from its first word on
+pub tokens_of-read : (text : List ℕ) → only_dirs (map sign_of text) ≡ false → tokens_of text ≡ read 0 false [] (words (map sign_of text))
 unfolding tokens_of
-start text none h = rw h refl
+tokens_of-read text h = rw h refl
+
+pub tokens_of-only_dirs : (text : List ℕ) → only_dirs (map sign_of text) ≡ true → tokens_of text ≡ Ok (part Everything ∷ [])
+unfolding tokens_of
+tokens_of-only_dirs text h = rw h refl
+
+pub start : (text : List ℕ) (none : List Token) → only_dirs (map sign_of text) ≡ false → none ≡ [] → tokens_of text ≡ read 0 false (reverse none) (words (map sign_of text))
+start text none other h = tokens_of-read text other ∙ rw h refl
 
 -- a `,` with its tokens, in a group or outside
 pub comma-either : (n : ℕ) (e : Bool) (ts us : List Token) (s : List Sign) → (n ≡ 0 → us ≡ part (Byte 44) ∷ ts) → (0 < n → us ≡ with_or ts)

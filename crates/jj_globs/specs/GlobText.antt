@@ -99,7 +99,16 @@ unfoldable mutual
       range_fault r.first (byte_of c) (items negated before (record { first = r.first; last = byte_of c }) s)
   items negated before r (c ∷ s) = items negated (before ++ r ∷ []) (single c) s
 
--- 3. Tokens, read with the tokens so far, the last first.
+-- 3. The whole text.
+
+-- a run of `**` joined by `/`, with or without a last `/`: such a text stands for any bytes
+abbrev pub only_dirs : List Sign → Bool
+only_dirs (Asterisk ∷ Asterisk ∷ []) = true
+only_dirs (Asterisk ∷ Asterisk ∷ Slash ∷ []) = true
+only_dirs (Asterisk ∷ Asterisk ∷ Slash ∷ s) = only_dirs s
+only_dirs s = false
+
+-- 4. Tokens of any other text, read with the tokens so far, the last first.
 
 -- the place behind the last token
 abbrev pub place_behind : List Token → Place
@@ -138,13 +147,11 @@ with_dirs AfterSlash ts = instead InnerDirs ts
 with_dirs Elsewhere ts = part (Byte 47) ∷ two_stars ts
 
 -- the tokens after a `**` that ends its sequence, which is the whole text or an alternative
-abbrev pub with_last_dirs : ℕ → Place → List Token → List Token
-with_last_dirs zero Start ts = part Everything ∷ ts
-with_last_dirs zero LeadingRun ts = instead Everything ts
-with_last_dirs (suc n) LeadingRun ts = ts
-with_last_dirs n AfterSlash ts = instead Below ts
-with_last_dirs n InnerRun ts = instead Below ts
-with_last_dirs n place ts = two_stars ts
+abbrev pub with_last_dirs : Place → List Token → List Token
+with_last_dirs LeadingRun ts = ts
+with_last_dirs AfterSlash ts = instead Below ts
+with_last_dirs InnerRun ts = instead Below ts
+with_last_dirs place ts = two_stars ts
 
 -- the rest of the text ends this sequence
 abbrev pub ends_sequence : ℕ → List Word → Bool
@@ -165,11 +172,6 @@ with_close (Open ∷ ts) = ts
 with_close (Or ∷ ts) = Close ∷ ts
 with_close ts = Close ∷ ts
 
--- the tokens of the whole text, the first first: `**/` alone stands for any bytes
-abbrev pub whole : List Token → List Token
-whole (part LeadingDirs ∷ []) = part Everything ∷ []
-whole ts = reverse ts
-
 -- the `}` that is next closes a group without alternatives
 abbrev pub closes_nothing : List Token → Bool
 closes_nothing (Open ∷ ts) = true
@@ -177,12 +179,12 @@ closes_nothing ts = false
 
 -- from the number of open groups, whether a group that left no token is right before, and the tokens so far
 unfoldable pub read : ℕ → Bool → List Token → List Word → Result (List Token) GlobError
-read zero e ts [] = Ok (whole ts)
+read zero e ts [] = Ok (reverse ts)
 read (suc n) e ts [] = Err UnclosedAlternates
 read n e ts (question ∷ ws) = read n false (part AnyByte ∷ ts) ws
 read n e ts (asterisk ∷ asterisk ∷ slash ∷ ws) = read n false (with_dirs (place_of e ts) ts) ws
 read n e ts (asterisk ∷ asterisk ∷ ws) =
-    read n false (if ends_sequence n ws then with_last_dirs n (place_of e ts) ts else two_stars ts) ws
+    read n false (if ends_sequence n ws then with_last_dirs (place_of e ts) ts else two_stars ts) ws
 read n e ts (asterisk ∷ ws) = read n false (part Star ∷ ts) ws
 read n e ts (slash ∷ ws) = read n false (part (Byte 47) ∷ ts) ws
 read n e ts (literal b ∷ ws) = read n false (part (Byte b) ∷ ts) ws
@@ -196,4 +198,4 @@ read n e ts (fault g ∷ ws) = Err g
 
 -- what a text reads as: its tokens, or its first fault
 unfoldable pub tokens_of : List ℕ → Result (List Token) GlobError
-tokens_of text = read zero false [] (words (map sign_of text))
+tokens_of text = if only_dirs (map sign_of text) then Ok (part Everything ∷ []) else read zero false [] (words (map sign_of text))

@@ -146,6 +146,30 @@ fn groups<R: Abort>(rt: &R, alloc: Global) -> Result<(), AllocError> {
     )
 }
 
+// Any bytes only where the whole text is a run of `**` joined by `/`: beside a group that leaves nothing it is not.
+fn runs_beside_empty_groups<R: Abort>(rt: &R, alloc: Global) -> Result<(), AllocError> {
+    matches(
+        rt,
+        alloc,
+        false,
+        &[
+            ("**/{}", &["", "x/", "x/y/"], &["a", "x/y"]),
+            ("**/{,}", &["", "x/", "x/y/"], &["a", "x/y"]),
+            ("**/**/{}", &["", "x/", "x/y/"], &["a", "x/y"]),
+            ("**/{{},}", &["", "x/"], &["a", "x/y"]),
+            ("{}**", &["", "a"], &["x/y", "x/"]),
+            ("{,}**", &["", "a"], &["x/y", "/"]),
+            ("{}**/", &["", "x/", "x/y/"], &["a", "x/y"]),
+            ("{}**/**", &["", "x/", "x/y/"], &["a", "x/y"]),
+            ("**/{}**", &["", "x/", "x/y", "a"], &[]),
+            ("{}**{}", &["", "a"], &["x/y"]),
+            ("{}**/{}", &["", "x/"], &["a", "x/y"]),
+            ("**\\/", &["a/", "/"], &["", "a", "x/y/"]),
+            ("*[*]", &["a*", "*"], &["", "a", "x/*"]),
+        ],
+    )
+}
+
 fn escapes<R: Abort>(rt: &R, alloc: Global) -> Result<(), AllocError> {
     matches(
         rt,
@@ -359,6 +383,9 @@ fn groups_have_alternatives(rt: HostRuntime) {
     let alloc = rt.alloc();
     if groups(&rt, alloc).is_err() {
         assert!(rt; groups(&rt, alloc).is_ok());
+    }
+    if runs_beside_empty_groups(&rt, alloc).is_err() {
+        assert!(rt; runs_beside_empty_groups(&rt, alloc).is_ok());
     }
 }
 

@@ -1,7 +1,11 @@
 //! Ids, prefixes of them, and resolutions. A refused call is made once more, when there is memory.
 use jj_content::content_hash::{ToJson, ToJsonError};
-use jj_ids::object_id::{ChangeId, CommitId, HexPrefix, ObjectId, PrefixResolution};
+use jj_ids::object_id::{
+    ChangeId, CommitId, CommitKind, CopyId, CopyKind, FileKind, HexPrefix, Id, IdKind, ObjectId,
+    OperationKind, PrefixResolution, SymlinkKind, TreeKind, ViewKind,
+};
 use std::alloc::{AllocError, Global};
+use std::process::Abort;
 use std::test::Fail;
 
 const BYTES: [u8; 6] = [0xde, 0xad, 0xbe, 0xef, 0x01, 0x23];
@@ -62,6 +66,36 @@ fn change_ids_print_reversed(rt: HostRuntime) -> Result<(), Fail> {
         |_| ChangeId::try_from_reverse_hex(alloc, "MLPMollkzyxw"),
     )?;
     assert!(rt; read == Some(id));
+    Ok(())
+}
+
+// Checks the debug text and the type's name of an id of a kind.
+fn shows<K: IdKind, R: Abort>(
+    rt: &R,
+    alloc: Global,
+    debug: &str,
+    object_type: &str,
+) -> Result<(), AllocError> {
+    let id = Id::<K>::from_bytes(alloc, &BYTES).or_else(|_| Id::<K>::from_bytes(alloc, &BYTES))?;
+    let text = format!(in alloc; "{id:?}").or_else(|_| format!(in alloc; "{id:?}"))?;
+    assert_eq!(rt; text.as_str(), debug);
+    let text = format!(in alloc; "{id}").or_else(|_| format!(in alloc; "{id}"))?;
+    assert_eq!(rt; text.as_str(), "deadbeef0123");
+    let text = id.object_type(alloc).or_else(|_| id.object_type(alloc))?;
+    assert_eq!(rt; text.as_str(), object_type);
+    Ok(())
+}
+
+#[test]
+fn ids_of_each_kind_show_their_type(rt: HostRuntime) -> Result<(), Fail> {
+    let alloc = rt.alloc();
+    shows::<CommitKind, _>(&rt, alloc, "CommitId(\"deadbeef0123\")", "commit")?;
+    shows::<TreeKind, _>(&rt, alloc, "TreeId(\"deadbeef0123\")", "tree")?;
+    shows::<FileKind, _>(&rt, alloc, "FileId(\"deadbeef0123\")", "file")?;
+    shows::<SymlinkKind, _>(&rt, alloc, "SymlinkId(\"deadbeef0123\")", "symlink")?;
+    shows::<CopyKind, _>(&rt, alloc, "CopyId(\"deadbeef0123\")", "copy")?;
+    shows::<ViewKind, _>(&rt, alloc, "ViewId(\"deadbeef0123\")", "view")?;
+    shows::<OperationKind, _>(&rt, alloc, "OperationId(\"deadbeef0123\")", "operation")?;
     Ok(())
 }
 
@@ -223,4 +257,28 @@ fn resolutions_map(rt: HostRuntime) {
     assert!(rt;
         PrefixResolution::<u8>::NoMatch.filter_map(|x| Some(x)) == PrefixResolution::NoMatch
     );
+}
+
+#[test]
+fn resolutions_show_their_cases(rt: HostRuntime) -> Result<(), Fail> {
+    let alloc = rt.alloc();
+    for (resolution, expected) in [
+        (PrefixResolution::NoMatch, "NoMatch"),
+        (PrefixResolution::SingleMatch(1u8), "SingleMatch(1)"),
+        (PrefixResolution::AmbiguousMatch, "AmbiguousMatch"),
+    ] {
+        let text = format!(in alloc; "{resolution:?}").or_else(|_| format!(in alloc;
+            "{resolution:?}"
+        ))?;
+        assert_eq!(rt; text.as_str(), expected);
+    }
+    Ok(())
+}
+
+#[test]
+fn the_placeholder_of_a_copy_is_empty(rt: HostRuntime) -> Result<(), Fail> {
+    let alloc = rt.alloc();
+    let id = CopyId::placeholder(alloc);
+    assert!(rt; id.as_bytes().is_empty());
+    Ok(())
 }

@@ -11,12 +11,15 @@ use Rattle.jj_globs.specs.declared.glob.token.Token.{Token}
 use Rattle.jj_globs.specs.declared.glob.token.Token.TheVariants.{Part as part}
 use Rattle.jj_globs.specs.declared.glob.token.Options.{Options}
 use Rattle.jj_globs.specs.declared.glob.error.GlobError.{GlobError}
-use Rattle.jj_globs.specs.GlobText.{tokens_of, words, read, sign_of, Word, asterisk}
+use Rattle.jj_globs.specs.GlobText.{tokens_of, words, read, only_dirs, sign_of, Word, asterisk}
+use Rattle.jj_globs.specs.declared.glob.sign.Sign.{Sign}
+use Rattle.jj_globs.specs.declared.glob.sign.Sign.TheVariants.{Asterisk}
 use Rattle.jj_globs.specs.GlobMeaning.{GlobSpec, IsMatch, IsPrefixMatch, is_plain}
 use Rattle.jj_globs.specs.GlobPlain.{Test, tests_of, judge, verdict_of, many, any_byte, is_empty}
 use Rattle.jj_matchers.specs.Patterns.{is_yes, is_match, is_prefix_match, passes_before_slash, is_stars}
 use Rattle.jj_globs.proofs.GlobSound.{Tells, Tells-glob}
 use Rattle.jj_globs.proofs.GlobClosed.{closed-tokens_of}
+use Rattle.jj_globs.proofs.GlobSteps.{tokens_of-read, tokens_of-only_dirs}
 use Rattle.jj_matchers.proofs.Wanted.{or_left, both_true}
 
 -- 1. Matches.
@@ -114,16 +117,40 @@ stars_reversed : (stars : List ℕ) (b : ℕ) (before : List ℕ) → (all : Lis
 stars_reversed [] b before = (before, refl)
 stars_reversed (c ∷ stars) b before = stars_reversed stars b (b ∷ before)
 
+one_star : read zero false [] (asterisk ∷ []) ≡ Ok (part Star ∷ [])
+unfolding read
+one_star = refl
+
+abbrev asterisks : List ℕ → List Sign
+asterisks [] = []
+asterisks (b ∷ bytes) = Asterisk ∷ asterisks bytes
+
+signs-stars : (text : List ℕ) → are_stars text ≡ true → map sign_of text ≡ asterisks text
+signs-stars [] h = refl
+signs-stars (b ∷ text) h =
+    let parts = and_parts (b == 42) (are_stars text) h in
+    let first : b ≡ 42 = (Decides-eqb b 42).0 parts.0 in
+    ap (λ (x : ℕ). sign_of x ∷ map sign_of text) first ∙ ap (λ (s : List Sign). Asterisk ∷ s) (signs-stars text parts.1)
+
+first_stars : (d : ℕ) (text : List ℕ) (b c : ℕ) → read zero false [] (star_words (b ∷ c ∷ d ∷ text)) ≡ read zero false (part Star ∷ star_tokens (b ∷ [])) (star_words (d ∷ text))
+unfolding read
+first_stars d text b c = refl
+
 -- two stars are one part, any others as many stars
 tokens_of-stars : (text : List ℕ) → is_stars text ≡ true → (tokens_of text ≡ Ok (part Everything ∷ [])) ⊎ ((all : List ℕ) × (tokens_of text ≡ Ok (part Star ∷ star_tokens all)))
-unfolding tokens_of read
 tokens_of-stars [] h = absurd (false≢true h)
-tokens_of-stars (b ∷ []) h = inr ([], ap (read zero false []) (words-stars (b ∷ []) h))
-tokens_of-stars (b ∷ c ∷ []) h = inl (ap (read zero false []) (words-stars (b ∷ c ∷ []) h))
+tokens_of-stars (b ∷ []) h =
+    inr ([], tokens_of-read (b ∷ []) (ap only_dirs (signs-stars (b ∷ []) h)) ∙ ap (read zero false []) (words-stars (b ∷ []) h) ∙ one_star)
+tokens_of-stars (b ∷ c ∷ []) h = inl (tokens_of-only_dirs (b ∷ c ∷ []) (ap only_dirs (signs-stars (b ∷ c ∷ []) h)))
 tokens_of-stars (b ∷ c ∷ d ∷ text) h =
+    let all = b ∷ c ∷ d ∷ text in
     let further = read-stars (d ∷ text) b (b ∷ []) in
     let back = stars_reversed further.0 b [] in
-    inr (back.0, ap (read zero false []) (words-stars (b ∷ c ∷ d ∷ text) h) ∙ further.1 ∙ ap (λ (ts : List Token). Ok ts) back.1)
+    inr (
+      back.0,
+      tokens_of-read all (ap only_dirs (signs-stars all h)) ∙ ap (read zero false []) (words-stars all h) ∙ first_stars d text b c ∙ further.1
+          ∙ ap (λ (ts : List Token). Ok ts) back.1,
+    )
 
 many_all : (p : ℕ → Bool) (next : Test) (bytes : List ℕ) → list_all p bytes ≡ true → next [] ≡ true → many p next bytes ≡ true
 many_all p next [] h e = e

@@ -41,7 +41,7 @@ pub record IsExtendedText (text : List ℕ) (names : Path) (longer : List ℕ) :
   pub valid : IsTrue (is_path_text longer)
   pub is : components longer ≡ components text ++ names
 
-extended_text : (text : List ℕ) (names : Path) → IsTrue (is_path_text text) → list_all is_name names ≡ true → IsExtendedText text names (with_names text names)
+pub extended_text : (text : List ℕ) (names : Path) → IsTrue (is_path_text text) → list_all is_name names ≡ true → IsExtendedText text names (with_names text names)
 extended_text text [] valid all = record { valid = valid; is = sym (append-nil (components text)) }
 extended_text text (name ∷ names) valid all =
     let parts = and_parts (is_name name) (list_all is_name names) all in

@@ -1,6 +1,9 @@
 -- What is said of reads from a source and writes to a sink, where their bytes are known.
-use Rattle.std.specs.Prelude.{◌≡◌, ℕ, ◌<◌, ◌^◌, ◌-◌, Bool, ◌||◌, is_err, List, ◌++◌, length, min, Option, Result, IfOk}
+use Rattle.std.specs.Prelude.{◌≡◌, ℕ, ◌<◌, ◌^◌, ◌-◌, Bool, ◌||◌, ◌&&◌, ◌==◌, is_err, List, ◌++◌, length, min, nat_lt, Option, Result, Ok, Err, IfOk, IsErrAnd, MatchBool}
 use Rattle.std.specs.Io.KnownBytes.{Appends, Consumes, IsAtEnd}
+use Rattle.std.specs.IoError.{error_kind}
+use Rattle.std.specs.declared.io.Error.{Error}
+use Rattle.std.specs.declared.io.ErrorKind.TheVariants.{WriteZero}
 
 -- the failure is kept once there was one, and comes exactly with an error
 abbrev pub NotesFailure : {A E : Type 0} → Bool → Bool → Result A E → Type 0
@@ -27,3 +30,9 @@ CopiesFront source source' sink sink' =
 -- a sink took some of a nonempty piece, or failed
 abbrev pub TakesSome : {E : Type 0} → Result ℕ E → List ℕ → Type 0
 TakesSome r piece = IfOk r (λ n. 0 < length piece → 0 < n)
+
+-- the answer of a write stands, but that none was taken of a piece with bytes is a failure of its own kind
+abbrev pub SettlesWrite : Result ℕ Error → ℕ → Result ℕ Error → Type 0
+SettlesWrite (Err e) offered result = result ≡ Err e
+SettlesWrite (Ok taken) offered result =
+    MatchBool (taken == 0 && nat_lt 0 offered) (IsErrAnd result (λ e. error_kind e ≡ WriteZero)) (result ≡ Ok taken)

@@ -1,10 +1,19 @@
 //! Reading and writing bytes through interfaces that say what was moved and whether a call failed.
-ghost use Rattle.std.specs.Prelude.{◌≡◌, ℕ, ◌<◌, ◌^◌, ◌-◌, Bool, false, List, IfOk, OnOk, Option, is_err, ◌||◌};
+ghost use Rattle.std.specs.Prelude.{◌≡◌, ℕ, ◌<◌, ◌^◌, ◌-◌, Bool, false, List, IfOk, IsErr, OnOk, Option, is_err, ◌||◌};
 ghost use Rattle.std.specs.Io.{ReadsAtMost, WritesAtMost};
 ghost use Rattle.std.specs.Io.KnownBytes.{Appends, ReadConsumes, WriteAppends};
-ghost use Rattle.jj_paths.specs.Streams.{NotesFailure, TakesSome, CopiesAll, CopiesFront, AppendsFrontOf};
+ghost use Rattle.jj_paths.specs.Streams.{NotesFailure, SettlesWrite, TakesSome, CopiesAll, CopiesFront, AppendsFrontOf};
 ghost use Rattle.jj_paths.specs.Watching.{watched, watched_failed, watched_reads_left};
 
+mod dirs;
+mod errors;
+mod path_texts;
+
+pub use dirs::{DirAccess, create_or_reuse_dir, is_empty_dir, remove_dir_contents};
+pub use errors::{IoResultExt, PathError, SourceError, SourceKind};
+pub use path_texts::{
+    BadPathEncoding, expand_home_path, path_from_bytes, path_to_bytes, slash_path,
+};
 use std::io;
 use std::io::{ErrorKind, Read, Write};
 
@@ -65,6 +74,37 @@ impl<T> Watched<T> {
     }
 }
 
+impl<T> Watched<T> {
+    // Counts a read, and notes whether its answer is a failure.
+    fn note_read(&mut self, answer: io::Result<usize>) -> io::Result<usize>
+        requires { 0 < watched_reads_left self.old }
+        ensures answer { result ≡ answer }
+        ensures inner { watched self.new ≡ watched self.old }
+        ensures failure { NotesFailure (watched_failed self.old) (watched_failed self.new) result }
+        ensures counted { watched_reads_left self.new ≡ watched_reads_left self.old - 1 }
+    {
+        self.reads_left -= 1;
+        self.failed = self.failed || answer.is_err();
+        answer
+    }
+
+    // Makes an answer that a nonempty piece was not taken a failure, and notes a failure.
+    fn note_write(&mut self, answer: io::Result<usize>, offered: usize) -> io::Result<usize>
+        ensures answer { SettlesWrite answer offered result }
+        ensures inner { watched self.new ≡ watched self.old }
+        ensures failure { NotesFailure (watched_failed self.old) (watched_failed self.new) result }
+    {
+        if let Ok(0) = answer
+            && offered > 0
+        {
+            self.failed = true;
+            return Err(io::Error::from(ErrorKind::WriteZero));
+        }
+        self.failed = self.failed || answer.is_err();
+        answer
+    }
+}
+
 impl<R: Read> Source for Watched<R> {
     ghost remaining = { λ w. R.remaining (watched w) };
 
@@ -72,19 +112,21 @@ impl<R: Read> Source for Watched<R> {
 
     ghost reads_left = { watched_reads_left };
 
-    fn read(&mut self, buf: &mut [u8]) -> io::Result<usize> {
+    /// A read after 2^64 - 1 reads fails. Any other answer is that of the reader.
+    fn read(&mut self, buf: &mut [u8]) -> io::Result<usize>
+        ensures bound { ReadsAtMost result buf.new }
+        ensures bytes { ReadConsumes (R.remaining (watched self.old)) (R.remaining (watched self.new)) result buf.new }
+        ensures failure { NotesFailure (watched_failed self.old) (watched_failed self.new) result }
+        ensures fewer { OnOk result (watched_reads_left self.new < watched_reads_left self.old) }
+        ensures counted { watched_reads_left self.new ≡ watched_reads_left self.old - 1 }
+        ensures spent { watched_reads_left self.old ≡ 0 → IsErr result × (watched self.new ≡ watched self.old) }
+    {
         if self.reads_left == 0 {
             self.failed = true;
             return Err(io::Error::other("too many reads"));
         }
-        self.reads_left -= 1;
-        match self.inner.read(buf) {
-            Ok(n) => Ok(n),
-            Err(e) => {
-                self.failed = true;
-                Err(e)
-            }
-        }
+        let answer = self.inner.read(buf);
+        self.note_read(answer)
     }
 }
 
@@ -93,20 +135,11 @@ impl<W: Write> Sink for Watched<W> {
 
     ghost has_failed = { watched_failed };
 
+    /// A write that takes none of a nonempty piece fails as `WriteZero`. Any other answer is that
+    /// of the writer.
     fn write(&mut self, piece: &[u8]) -> io::Result<usize> {
-        match self.inner.write(piece) {
-            Ok(n) => {
-                if n == 0 && !piece.is_empty() {
-                    self.failed = true;
-                    return Err(io::Error::from(ErrorKind::WriteZero));
-                }
-                Ok(n)
-            }
-            Err(e) => {
-                self.failed = true;
-                Err(e)
-            }
-        }
+        let answer = self.inner.write(piece);
+        self.note_write(answer, piece.len())
     }
 }
 

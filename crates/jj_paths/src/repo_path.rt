@@ -2,18 +2,23 @@
 ghost use Rattle.std.specs.Prelude.{◌≡◌, ◌≢◌, ◌↔◌, false, [], ◌∷◌, ◌++◌, IsTrue, IsOk, IfOk, IfErr, MatchOption, string_bytes};
 ghost use Rattle.jj_paths.specs.Paths.{Name, Path, is_name, is_path_text, components, path_text, rest_of};
 
+mod content;
 mod extend;
+mod from_relative;
 mod iter;
 mod orders;
 mod shown;
+mod to_fs;
 
 pub use crate::repo_path_tree::{
     RepoPathNode, RepoPathTree, RepoPathTreeChildren, RepoPathTreeWalk,
 };
+pub use from_relative::RelativePathParseError;
 pub use iter::{RepoPathAncestors, RepoPathComponentsIter};
 use std::alloc::{AllocError, Global};
 use std::marker::Model;
 use thiserror::Error;
+pub use to_fs::{InvalidRepoPathComponentError, InvalidRepoPathError};
 
 /// One name of a path, borrowed: a text that is not empty and has no slash.
 #[derive(Clone, Copy)]
@@ -390,7 +395,7 @@ impl RepoPathBuf {
 }
 
 /// A text that is no path, or no name of one.
-#[derive(Debug, PartialEq, Eq, Drop, Error)]
+#[derive(Clone, Debug, PartialEq, Eq, Drop, Error)]
 pub enum InvalidNewRepoPathError {
     #[error(r#"Invalid repo path input "{value}""#)]
     Invalid { value: String },

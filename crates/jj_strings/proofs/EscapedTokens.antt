@@ -8,7 +8,8 @@ use Rattle.jj_globs.specs.declared.glob.token.Token.{Token}
 use Rattle.jj_globs.specs.declared.glob.token.Token.TheVariants.{Part as part}
 use Rattle.jj_globs.specs.declared.glob.sign.Sign.{Sign}
 use Rattle.jj_globs.specs.declared.glob.sign.Sign.TheVariants.{Asterisk, Other}
-use Rattle.jj_globs.specs.GlobText.{tokens_of, words, read, whole, sign_of, asterisk}
+use Rattle.jj_globs.specs.GlobText.{tokens_of, words, read, only_dirs, sign_of, asterisk}
+use Rattle.jj_globs.proofs.GlobSteps.{tokens_of-read}
 use Rattle.jj_globs.specs.GlobEscape.{is_special, escaped_byte, escaped}
 
 -- the part that an escaped byte reads as
@@ -92,16 +93,6 @@ steps (b ∷ t) ts s =
     ap (λ (l : List Sign). read zero false ts (words l)) (regroup b t s) ∙ step b ts (map sign_of (escaped t) ++ s)
     ∙ steps t (part (part_of b) ∷ ts) s
 
-whole_part : (special : Bool) (b : ℕ) (ts : List Token)
-    → whole (part (if special then OneOf (false, record { first = b; last = b } ∷ []) else Byte b) ∷ ts)
-    ≡ reverse (part (if special then OneOf (false, record { first = b; last = b } ∷ []) else Byte b) ∷ ts)
-whole_part true b ts = refl
-whole_part false b ts = refl
-
-whole_pushed : (t : List ℕ) (ts : List Token) → whole ts ≡ reverse ts → whole (pushed t ts) ≡ reverse (pushed t ts)
-whole_pushed [] ts h = h
-whole_pushed (b ∷ t) ts h = whole_pushed t (part (part_of b) ∷ ts) (whole_part (is_special b) b ts)
-
 reverse_pushed : (t : List ℕ) (ts : List Token) → reverse (pushed t ts) ≡ reverse ts ++ tokens_for t
 reverse_pushed [] ts = sym (append-nil (reverse ts))
 reverse_pushed (b ∷ t) ts =
@@ -109,19 +100,41 @@ reverse_pushed (b ∷ t) ts =
     reverse_pushed t (x ∷ ts) ∙ ap (λ (l : List Token). l ++ tokens_for t) (reverse-append (x ∷ []) ts)
     ∙ append_assoc (reverse ts) (x ∷ []) (tokens_for t)
 
+-- an escaped text is no run of `**`, nor one behind a star: it begins with no star
+abbrev NoRun : ℕ → Type 0
+NoRun b = (s : List Sign) → (only_dirs (map sign_of (escaped_byte b) ++ s) ≡ false) × (only_dirs (Asterisk ∷ (map sign_of (escaped_byte b) ++ s)) ≡ false)
+
+no_run : (b : ℕ) → NoRun b
+no_run =
+    by_byte NoRun (λ s. (refl, refl)) (λ s. (refl, refl)) (λ s. (refl, refl)) (λ s. (refl, refl)) (λ s. (refl, refl)) (λ s. (refl, refl))
+    (λ s. (refl, refl)) (λ s. (refl, refl)) (λ s. (refl, refl)) (λ s. (refl, refl)) (λ s. (refl, refl)) (λ s. (refl, refl))
+    (λ b plain s.
+    let signs : map sign_of (escaped_byte b) ++ s ≡ Other b ∷ s =
+    ap (λ (l : List ℕ). map sign_of l ++ s) (plain-escaped b plain) ∙ ap (λ (g : Sign). g ∷ s) plain.sign in
+    (ap only_dirs signs, ap (λ (l : List Sign). only_dirs (Asterisk ∷ l)) signs))
+
+no_run-escaped : (t : List ℕ) → only_dirs (map sign_of (escaped t)) ≡ false
+unfolding escaped
+no_run-escaped [] = refl
+no_run-escaped (b ∷ t) = ap only_dirs (map-append sign_of (escaped_byte b) (escaped t)) ∙ (no_run b (map sign_of (escaped t))).0
+
 -- an escaped text reads as its bytes
 pub tokens_of-escaped : (t : List ℕ) → tokens_of (escaped t) ≡ Ok (tokens_for t)
-unfolding tokens_of words read
+unfolding words read
 tokens_of-escaped t =
-    ap (λ (l : List Sign). read zero false [] (words l)) (sym (append-nil (map sign_of (escaped t)))) ∙ steps t [] []
-    ∙ ap Ok (whole_pushed t [] refl ∙ reverse_pushed t [])
+    tokens_of-read (escaped t) (no_run-escaped t)
+    ∙ ap (λ (l : List Sign). read zero false [] (words l)) (sym (append-nil (map sign_of (escaped t)))) ∙ steps t [] []
+    ∙ ap Ok (reverse_pushed t [])
 
 -- and between two stars as its bytes between two stars
 pub tokens_of-part : (b : ℕ) (t : List ℕ) → tokens_of (42 ∷ (escaped (b ∷ t) ++ 42 ∷ [])) ≡ Ok (part Star ∷ (tokens_for (b ∷ t) ++ part Star ∷ []))
-unfolding tokens_of words read
+unfolding words read
 tokens_of-part b t =
     let end = Asterisk ∷ [] in
-    ap (λ (l : List Sign). read zero false [] (asterisk ∷ words l)) (map-append sign_of (escaped (b ∷ t)) (42 ∷ []) ∙ regroup b t end)
+    let signs = map-append sign_of (escaped (b ∷ t)) (42 ∷ []) ∙ regroup b t end in
+    tokens_of-read (42 ∷ (escaped (b ∷ t) ++ 42 ∷ []))
+    (ap (λ (l : List Sign). only_dirs (Asterisk ∷ l)) signs ∙ (no_run b (map sign_of (escaped t) ++ end)).1)
+    ∙ ap (λ (l : List Sign). read zero false [] (asterisk ∷ words l)) signs
     ∙ star_step b (map sign_of (escaped t) ++ end) ∙ steps t (part (part_of b) ∷ part Star ∷ []) end
     ∙ ap Ok (reverse-append (part Star ∷ []) (pushed t (part (part_of b) ∷ part Star ∷ []))
     ∙ ap (λ (l : List Token). l ++ part Star ∷ []) (reverse_pushed t (part (part_of b) ∷ part Star ∷ [])))

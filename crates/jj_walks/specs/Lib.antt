@@ -7,3 +7,5 @@ pub mod DfsOkSteps
 pub mod ReadyNodes
 pub mod Collecting
 pub mod Reversed
+pub mod CommonNodes
+pub mod Marks

@@ -7,7 +7,7 @@ pub use crate::reversed::reverse_graph;
 pub type GraphNode<N, ID = N> = (N, Vec<GraphEdge<ID>>);
 
 /// An edge to a target, which may stand for a longer way.
-#[derive(Debug, PartialEq, Eq, Clone, Hash, Drop)]
+#[derive(Debug, PartialEq, Eq, Clone, Copy, Hash, Drop)]
 pub struct GraphEdge<N> {
     pub target: N,
     pub edge_type: GraphEdgeType,

@@ -1,6 +1,7 @@
 //! Walks over directed graphs, and the edges of graphs that are shown to users.
 #![tactic(auto)]
 
+mod closest_common;
 pub mod dag_walk;
 pub mod dag_walk_async;
 mod depth_first;

@@ -1,7 +1,11 @@
 //! Tests of `jj_walks` over its public calls, and a caller that is proved by its contracts.
 #![tactic(auto)]
 
+pub mod ancestry;
 pub mod callers;
+#[cfg(test)]
+mod closest_common_tests;
+pub mod commits;
 #[cfg(test)]
 mod hostile;
 #[cfg(test)]

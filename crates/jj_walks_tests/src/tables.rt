@@ -200,3 +200,26 @@ pub fn maximal_lists(
         },
     )
 }
+
+/// The closest common nodes of two sets where the lists of the letters in `broken` fail.
+pub fn closest(
+    alloc: Global,
+    table: Table<'_>,
+    broken: &[char],
+    set1: &[char],
+    set2: &[char],
+) -> Result<Vec<char>, WalkError<char>> {
+    dag_walk_async::closest_common_nodes(
+        alloc,
+        set1.iter().copied(),
+        set2.iter().copied(),
+        |node: &char| *node,
+        |node: &char| {
+            if broken.contains(node) {
+                Err(*node)
+            } else {
+                Ok(neighbors(table, *node).iter().copied())
+            }
+        },
+    )
+}

@@ -1,7 +1,7 @@
 //! The tokens so far, after one more piece of a glob's text.
 ghost use Rattle.std.specs.Prelude.{◌≡◌, ◌<◌, ℕ, Bool, true, false, List, [], ◌∷◌, ◌++◌, reverse, OnOk, IfOk};
 ghost use Rattle.jj_globs.specs.GlobKept.{prefix_end};
-ghost use Rattle.jj_globs.specs.GlobText.{place_behind, place_behind_group, place_of, with_or, with_close, with_dirs, with_last_dirs, two_stars, instead, closes_nothing, whole};
+ghost use Rattle.jj_globs.specs.GlobText.{place_behind, place_behind_group, place_of, with_or, with_close, with_dirs, with_last_dirs, two_stars, instead, closes_nothing};
 
 use crate::glob::sign::Place;
 use crate::glob::token::{Part, Token};
@@ -16,20 +16,6 @@ pub(crate) fn put_comma(tokens: &mut Vec<Token>, open_groups: usize) -> Result<(
         return put_or(tokens);
     }
     tokens.push(Token::Part(Part::Byte(b',')))?;
-    Ok(())
-}
-
-/// The end of the whole text: `**/` alone stands for any bytes.
-pub(crate) fn put_end(tokens: &mut Vec<Token>) -> Result<(), AllocError>
-    ensures { OnOk result (tokens.new.items ≡ whole (reverse tokens.old.items)) }
-{
-    let read = tokens.as_slice();
-    if read.len() == 1 {
-        match place_behind(read) {
-            Place::LeadingRun => return put_instead(tokens, Part::Everything),
-            _ => {}
-        }
-    }
     Ok(())
 }
 
@@ -85,26 +71,12 @@ pub(crate) fn put_dirs(tokens: &mut Vec<Token>, place: Place) -> Result<(), Allo
 }
 
 /// A `**` at a place where its sequence ends.
-pub(crate) fn put_last_dirs(
-    tokens: &mut Vec<Token>,
-    open_groups: usize,
-    place: Place,
-) -> Result<(), AllocError>
-    ensures { OnOk result (reverse tokens.new.items ≡ with_last_dirs open_groups place (reverse tokens.old.items)) }
+pub(crate) fn put_last_dirs(tokens: &mut Vec<Token>, place: Place) -> Result<(), AllocError>
+    ensures { OnOk result (reverse tokens.new.items ≡ with_last_dirs place (reverse tokens.old.items)) }
 {
     match place {
-        Place::Start => {
-            if open_groups == 0 {
-                tokens.push(Token::Part(Part::Everything))?;
-            } else {
-                put_two_stars(tokens)?;
-            }
-        }
-        Place::LeadingRun => {
-            if open_groups == 0 {
-                put_instead(tokens, Part::Everything)?;
-            }
-        }
+        Place::Start => put_two_stars(tokens)?,
+        Place::LeadingRun => {}
         Place::AfterSlash => put_instead(tokens, Part::Below)?,
         Place::InnerRun => put_instead(tokens, Part::Below)?,
         Place::Elsewhere => put_two_stars(tokens)?,

@@ -1,14 +1,12 @@
 //! Reading the text of a glob, from left to right, into tokens.
-ghost use Rattle.std.specs.Prelude.{◌≡◌, ◌≢◌, ℕ, ◌+◌, ◌<◌, ◌≤◌, ◌^◌, Bool, true, false, Ok, Err, List, [], ◌∷◌, ◌++◌, reverse, length, map, OnOk, IfOk, IfErr, MatchResult, MatchOption, IsTrue, ◌↔◌};
-ghost use Rattle.jj_globs.specs.GlobText.{sign_of, words, read, tokens_of, place_behind, place_behind_group, place_of, with_or, with_close, with_dirs, with_last_dirs, two_stars, instead, closes_nothing, whole};
+ghost use Rattle.std.specs.Prelude.{◌≡◌, ◌≢◌, ℕ, ◌+◌, ◌<◌, ◌≤◌, ◌^◌, Bool, true, false, Ok, Err, List, [], ◌∷◌, ◌++◌, reverse, length, map, OnOk, IfOk, IfErr, MatchResult, MatchOption, IfSome, IsTrue, ◌↔◌};
+ghost use Rattle.jj_globs.specs.GlobText.{sign_of, words, read, tokens_of, place_behind, place_behind_group, place_of, with_or, with_close, with_dirs, with_last_dirs, two_stars, instead, closes_nothing, only_dirs};
 ghost use Rattle.jj_globs.specs.GlobReads.{IsReadingFault, IsFault, IsPartRead, ends_here};
 ghost use Rattle.jj_globs.specs.declared.glob.sign.Sign.{Sign};
 
 use crate::glob::class::read_class;
 use crate::glob::error::GlobError;
-use crate::glob::put::{
-    place_of, put_close, put_comma, put_dirs, put_end, put_last_dirs, put_two_stars,
-};
+use crate::glob::put::{place_of, put_close, put_comma, put_dirs, put_last_dirs, put_two_stars};
 use crate::glob::sign::{Sign, next_sign};
 use crate::glob::token::{Part, Token};
 use std::alloc::{AllocError, Global};
@@ -20,6 +18,10 @@ pub(crate) fn read_tokens(alloc: Global, text: &[u8]) -> Result<Vec<Token>, Glob
     // Each open group is a byte of the text, so their number fits.
     let _len = text.len();
     let mut tokens = Vec::new(alloc);
+    if is_only_dirs(text) {
+        tokens.push(Token::Part(Part::Everything))?;
+        return Ok(tokens);
+    }
     let mut rest = text;
     let mut open_groups = 0;
     let mut is_behind_group = false;
@@ -51,8 +53,27 @@ pub(crate) fn read_tokens(alloc: Global, text: &[u8]) -> Result<Vec<Token>, Glob
     if open_groups > 0 {
         return Err(GlobError::UnclosedAlternates);
     }
-    put_end(&mut tokens)?;
     Ok(tokens)
+}
+
+// Whether the text is a run of `**` joined by `/`, with or without a last `/`.
+fn is_only_dirs(text: &[u8]) -> bool
+    ensures { result ≡ only_dirs (map sign_of text.now) }
+{
+    let mut rest = text;
+    while let Some(behind) = behind_two_stars(rest) {
+        if behind.is_empty() {
+            return true;
+        }
+        let Some(further) = behind_slash(behind) else {
+            return false;
+        };
+        if further.is_empty() {
+            return true;
+        }
+        rest = further;
+    }
+    false
 }
 
 // What the other signs begin, from behind the sign on: a class, an escaped byte, any byte, or a byte that stands for itself.
@@ -91,6 +112,18 @@ fn behind_star(text: &[u8]) -> Option<&[u8]>
     }
 }
 
+// What follows two stars.
+fn behind_two_stars(text: &[u8]) -> Option<&[u8]>
+    ensures found { MatchOption result
+        ((rest : List Sign) → map sign_of text.now ≡ Sign.Asterisk ∷ Sign.Asterisk ∷ rest → ⊥)
+        (λ rest. map sign_of text.now ≡ Sign.Asterisk ∷ Sign.Asterisk ∷ map sign_of rest.now) }
+    ensures shorter { IfSome result (λ rest. length rest.now < length text.now) }
+{
+    let rest = behind_star(text)?;
+    behind_star(rest)
+}
+
+// What follows a slash.
 fn behind_slash(text: &[u8]) -> Option<&[u8]>
     ensures { MatchOption result ((rest : List Sign) → map sign_of text.now ≡ Sign.Slash ∷ rest → ⊥) (λ rest. map sign_of text.now ≡ Sign.Slash ∷ map sign_of rest.now) }
 {
@@ -136,7 +169,7 @@ fn read_stars<'a>(
         return Ok(behind);
     }
     if ends_sequence(open_groups, rest) {
-        put_last_dirs(tokens, open_groups, place)?;
+        put_last_dirs(tokens, place)?;
         return Ok(rest);
     }
     put_two_stars(tokens)?;

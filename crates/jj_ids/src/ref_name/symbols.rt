@@ -1,8 +1,11 @@
 //! Symbols of names, alone and at a remote, for display.
-ghost use Rattle.std.specs.Prelude.{◌≡◌, ◌++◌, ◌∷◌, ℕ, List, OnOk, IfOk, Some};
+ghost use Rattle.std.specs.Prelude.{◌≡◌, ◌++◌, ◌∷◌, ℕ, List, OnOk, IfOk, Some, refl};
+ghost use Rattle.std.specs.Cmp.Lexicographic.{slice_cmp};
 ghost use Rattle.std.specs.Fmt.{WritesInCalls, WritesOnOk};
+ghost use Rattle.std.specs.Hash as fed;
 ghost use Rattle.std.specs.Option.{option_copied};
-ghost use Rattle.jj_ids.specs.Names.{ref_name_of, remote_name_of, ref_symbol_of};
+ghost use Rattle.std.specs.Ordering.{nat_cmp, ordering_then};
+ghost use Rattle.jj_ids.specs.Names.{name_of, ref_symbol_of};
 ghost use Rattle.jj_ids.specs.SymbolTexts.{is_separator, is_safe_byte, is_safe_symbol, symbol_text, remote_symbol_text, printed_text};
 
 use super::{RefName, RefNameBuf, RemoteName, RemoteNameBuf};
@@ -10,6 +13,7 @@ use jj_content::symbol_util::write_quoted;
 use std::alloc::{AllocError, Global};
 use std::fmt;
 use std::fmt::{Alignment, Write};
+use std::hash::Hash;
 
 /// A name for display, in quotes where it would not be read back as a symbol without them.
 #[derive(Clone, Copy)]
@@ -31,6 +35,41 @@ pub struct RemoteRefSymbolBuf {
     pub remote: RemoteNameBuf,
 }
 
+/// A symbol at a remote, which is ordered by its name and then its remote, and hashed so.
+pub trait AtRemote: Ord + Hash {
+    /// The text of the name.
+    ghost name_text: { Self → List ℕ };
+
+    /// The text of the remote's name.
+    ghost remote_text: { Self → List ℕ };
+
+    ghost ordered: { (a b : Self) → Self.cmp a b ≡ ordering_then
+        (slice_cmp nat_cmp (name_text a) (name_text b))
+        (slice_cmp nat_cmp (remote_text a) (remote_text b)) };
+
+    ghost hashed: { (a : Self) → Self.hash_input a ≡ fed.str (name_text a) ++ fed.str (remote_text a) };
+}
+
+impl<'a> AtRemote for RemoteRefSymbol<'a> {
+    ghost name_text = { λ symbol. name_of symbol.name };
+
+    ghost remote_text = { λ symbol. name_of symbol.remote };
+
+    ghost ordered = { λ a b. refl };
+
+    ghost hashed = { λ a. refl };
+}
+
+impl AtRemote for RemoteRefSymbolBuf {
+    ghost name_text = { λ symbol. symbol.name };
+
+    ghost remote_text = { λ symbol. symbol.remote };
+
+    ghost ordered = { λ a b. refl };
+
+    ghost hashed = { λ a. refl };
+}
+
 impl<'a> RefSymbol<'a> {
     pub(super) fn new(text: &'a str) -> Self
         ensures { ref_symbol_of result ≡ text.now }
@@ -42,8 +81,8 @@ impl<'a> RefSymbol<'a> {
 impl<'a> RemoteRefSymbol<'a> {
     /// A copy of the symbol.
     pub fn to_owned(self, alloc: Global) -> Result<RemoteRefSymbolBuf, AllocError>
-        ensures name { IfOk result (λ owned. owned.name ≡ ref_name_of self.entry.name) }
-        ensures remote { IfOk result (λ owned. owned.remote ≡ remote_name_of self.entry.remote) }
+        ensures name { IfOk result (λ owned. owned.name ≡ name_of self.entry.name) }
+        ensures remote { IfOk result (λ owned. owned.remote ≡ name_of self.entry.remote) }
     {
         Ok(RemoteRefSymbolBuf {
             name: self.name.to_owned(alloc)?,
@@ -55,8 +94,8 @@ impl<'a> RemoteRefSymbol<'a> {
 impl RemoteRefSymbolBuf {
     /// The symbol, borrowed.
     pub fn as_ref(&self) -> RemoteRefSymbol<'_>
-        ensures name { ref_name_of result.name ≡ self.now.name }
-        ensures remote { remote_name_of result.remote ≡ self.now.remote }
+        ensures name { name_of result.name ≡ self.now.name }
+        ensures remote { name_of result.remote ≡ self.now.remote }
     {
         RemoteRefSymbol {
             name: self.name.as_name(),
@@ -221,7 +260,7 @@ impl<'a> fmt::Debug for RefSymbol<'a> {
 }
 
 impl<'a> fmt::Display for RemoteRefSymbol<'a> {
-    ghost output = { λ symbol. Some (remote_symbol_text (ref_name_of symbol.name) (remote_name_of symbol.remote)) };
+    ghost output = { λ symbol. Some (remote_symbol_text (name_of symbol.name) (name_of symbol.remote)) };
 
     fn fmt<W: Write>(&self, f: &mut fmt::Formatter<W>) -> fmt::Result {
         display_printed(f, self.name.as_str(), Some(self.remote.as_str()))

@@ -5,6 +5,7 @@ ghost use Rattle.jj_paths.specs.Paths.{fronts};
 ghost use Rattle.jj_paths.specs.Names.{name_of, path_of};
 
 use super::{RepoPath, RepoPathComponent};
+use std::iter::FusedIterator;
 
 /// The names of a path that have not been given yet. Once it has answered `None`, it goes on so.
 #[derive(Clone, Copy, Debug)]
@@ -56,6 +57,8 @@ impl<'a> DoubleEndedIterator for RepoPathComponentsIter<'a> {
         Some(name)
     }
 }
+
+impl<'a> FusedIterator for RepoPathComponentsIter<'a> {}
 
 /// A path and the paths above it that have not been given yet, up to the root.
 #[derive(Clone, Copy, Debug)]

@@ -7,9 +7,10 @@ use Rattle.jj_walks.specs.Graph.{IsGreatestChildFirst}
 use Rattle.jj_walks.specs.Failing.{FailingGraph}
 use Rattle.jj_walks.specs.Walk.{Numbered}
 use Rattle.jj_walks.proofs.Walking.{drained_are}
+use Rattle.jj_walks.proofs.Errors.{node_says}
 use Rattle.jj_core.specs.Neighbors.{listed_in}
 use Rattle.jj_core.specs.GraphCommand.{graph_of}
-use Rattle.jj_core.proofs.ListedGraphs.{sound_neighbors, none_failed, lists_neighbors, node_says}
+use Rattle.jj_core.proofs.ListedGraphs.{sound_neighbors, none_failed, lists_neighbors}
 use Rattle.jj_core.proofs.listed_graph.greatest_order.Goals as goal
 
 pub topo_order_reverse_ord-order-requires-clause-lists : goal.topo_order_reverse_ord-order-requires-clause-lists
@@ -28,7 +29,7 @@ unreachable-requires c =
       sound_graph = λ a. sound_neighbors ℕ (graph a);
       closed = λ a s b h. refl;
       apart = λ i j a b. refl;
-      ids_stand = λ x i h. search (rules, h.says.met, h.shows);
+      ids_stand = λ x i is h. search (rules, h.says.met, h.shows);
       neighbors = always_returns_same _ _ _ (λ a r f h. (λ here. lists_neighbors r (graph a.0.now) (search (rules, of_calls, h)), search (rules, of_calls, h)));
     })
     (λ a h. refl) in
@@ -39,7 +40,7 @@ unreachable-requires c =
       sound_graph = λ a. sound_neighbors ℕ (graph a);
       closed = λ a s b h. refl;
       apart = λ i j a b. refl;
-      ids_stand = λ x i h. search (rules, h.says.met, h.shows);
+      ids_stand = λ x i is h. search (rules, h.says.met, h.shows);
       neighbors = always_returns_same _ _ _ (λ a r f h. (λ here. lists_neighbors r (graph a.0.now) (search (rules, of_calls, h)), search (rules, of_calls, h)));
     })
     (λ a h. refl) in
@@ -58,7 +59,7 @@ returns-in-Ok c =
       sound_graph = λ a. sound_neighbors ℕ (graph a);
       closed = λ a s b h. refl;
       apart = λ i j a b. refl;
-      ids_stand = λ x i h. search (rules, h.says.met, h.shows);
+      ids_stand = λ x i is h. search (rules, h.says.met, h.shows);
       neighbors = always_returns_same _ _ _ (λ a r f h. (λ here. lists_neighbors r (graph a.0.now) (search (rules, of_calls, h)), search (rules, of_calls, h)));
     })
     (λ a h. refl) in

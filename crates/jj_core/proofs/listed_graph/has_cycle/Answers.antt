@@ -6,9 +6,10 @@ use Rattle.std.specs.HashMap.{keys}
 use Rattle.jj_walks.specs.Graph.{HasNoCycle}
 use Rattle.jj_walks.specs.Walk.{Numbered}
 use Rattle.jj_walks.proofs.Walking.{drained_are}
+use Rattle.jj_walks.proofs.Errors.{node_says}
 use Rattle.jj_core.specs.Neighbors.{listed_in}
 use Rattle.jj_core.specs.GraphCommand.{graph_of}
-use Rattle.jj_core.proofs.ListedGraphs.{none_listed, node_says}
+use Rattle.jj_core.proofs.ListedGraphs.{none_listed}
 use Rattle.jj_core.proofs.listed_graph.has_cycle.Goals as goal
 
 pub topo_order_forward-order-requires-clause-lists : goal.topo_order_forward-order-requires-clause-lists
@@ -24,7 +25,7 @@ returns-in-Ok c =
     (record {
       closed = λ a s b h. refl;
       apart = λ i j a b. refl;
-      ids_stand = λ x i h. search (rules, h.says.met, h.shows);
+      ids_stand = λ x i is h. search (rules, h.says.met, h.shows);
       neighbors = always_returns_same _ _ _ (λ a r f h. (
         λ xs here d. drained_are (λ s k. k ≡ s) _ r xs (λ x. x) (graph a.0.now) (λ it b. YieldsList-from_copied (YieldsList-from_slice _ (search (rules, of_calls, h, b)))) d,
         search (rules, of_calls, h),
@@ -42,7 +43,7 @@ returns-in-Node c =
     (record {
       closed = λ a s b h. refl;
       apart = λ i j a b. refl;
-      ids_stand = λ x i h. search (rules, h.says.met, h.shows);
+      ids_stand = λ x i is h. search (rules, h.says.met, h.shows);
       neighbors = always_returns_same _ _ _ (λ a r f h. (
         λ xs here d. drained_are (λ s k. k ≡ s) _ r xs (λ x. x) (graph a.0.now) (λ it b. YieldsList-from_copied (YieldsList-from_slice _ (search (rules, of_calls, h, b)))) d,
         search (rules, of_calls, h),

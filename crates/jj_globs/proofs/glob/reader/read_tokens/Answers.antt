@@ -1,12 +1,13 @@
-use Rattle.std.proofs.Common.{reverse, map, arith, refl, ◌∷◌}
+use Rattle.std.proofs.Common.{reverse, map, arith, refl, ap, Ok, ◌∷◌, ◌∙◌, sym}
+use Rattle.std.proofs.lemmas.List.{reverse-reverse}
 use Rattle.jj_globs.specs.GlobText.{sign_of, words, tokens_of}
 use Rattle.jj_globs.specs.declared.glob.token.Token.TheVariants.{Part as part, Open}
 use Rattle.jj_globs.proofs.GlobPuts.{reverse-push, length-next}
-use Rattle.jj_globs.proofs.GlobSteps.{open-read, comma-either, start, close-unopened, close-read, read-end, read-unclosed, faulty}
+use Rattle.jj_globs.proofs.GlobSteps.{open-read, comma-either, start, close-unopened, close-read, tokens_of-only_dirs, read-end, read-unclosed, faulty}
 use Rattle.jj_globs.proofs.glob.reader.read_tokens.Goals as goal
 
 pub loop-sign-init : goal.loop-sign-init
-loop-sign-init c = record { fits = omega arith; reads = start c.args.text.now c.new-tokens.result.items c.new-tokens.ensures.items }
+loop-sign-init c = record { fits = omega arith; reads = start c.args.text.now c.new-tokens.result.items (sym c.is_only_dirs.ensures ∙ c.if-is_only_dirs.false) c.new-tokens.ensures.items }
 
 -- the words that begin with a class fault as the whole text does
 pub returns-in-Err : goal.returns-in-Err
@@ -26,7 +27,7 @@ loop-sign-preserved-in-CloseBrace-2 c = record {
 pub loop-sign-preserved-in_ok-push-in-OpenBrace : goal.loop-sign-preserved-in_ok-push-in-OpenBrace
 loop-sign-preserved-in_ok-push-in-OpenBrace c = record {
   fits = omega (arith, c.loop-sign.invariant.fits, length-next c.loop-sign.rest.now c.in-Some.behind.now c.in-Some.sign c.in-Some.ensures);
-  reads = rw (c.loop-sign.invariant.reads, c.in-Some.ensures, c.in-OpenBrace.is, reverse-push c.loop-sign.tokens.items c.push.new.self.items Open c.in_ok-push-in-OpenBrace.ensures.items) (open-read c.loop-sign.open_groups c.loop-sign.is_behind_group (reverse c.loop-sign.tokens.items) (map sign_of c.in-Some.behind.now));
+  reads = rw (c.loop-sign.invariant.reads, c.in-Some.ensures, c.in-OpenBrace.is, reverse-push c.loop-sign.tokens.items c.push-in-OpenBrace.new.self.items Open c.in_ok-push-in-OpenBrace.ensures.items) (open-read c.loop-sign.open_groups c.loop-sign.is_behind_group (reverse c.loop-sign.tokens.items) (map sign_of c.in-Some.behind.now));
 }
 
 pub loop-sign-preserved-in_ok-put_comma-in-Comma : goal.loop-sign-preserved-in_ok-put_comma-in-Comma
@@ -46,4 +47,11 @@ returns-then-open_groups-gt0 c = rw (c.loop-sign.invariant.reads, c.in_default.e
 
 pub returns : goal.returns
 returns c =
-    rw (c.loop-sign.invariant.reads, c.in_default.ensures, c.in_ok-put_end.ensures) (read-end c.loop-sign.open_groups c.loop-sign.is_behind_group (reverse c.loop-sign.tokens.items) (omega (arith, c.if-open_groups-gt0.false)))
+    rw (c.loop-sign.invariant.reads, c.in_default.ensures)
+    (read-end c.loop-sign.open_groups c.loop-sign.is_behind_group (reverse c.loop-sign.tokens.items) (omega (arith, c.if-open_groups-gt0.false))
+    ∙ ap Ok (reverse-reverse c.loop-sign.tokens.items))
+
+pub returns-then-is_only_dirs : goal.returns-then-is_only_dirs
+returns-then-is_only_dirs c =
+    rw (c.in_ok-push.ensures.items, c.new-tokens.ensures.items)
+    (tokens_of-only_dirs c.args.text.now (sym c.is_only_dirs.ensures ∙ c.if-is_only_dirs.true))

@@ -1,0 +1,14 @@
+use Rattle.std.proofs.Common.{subst}
+use Rattle.jj_content.proofs.Fronts.{on_err_from, front_2}
+use Rattle.jj_content.specs.Content.{TakesFront}
+use Rattle.jj_backend.specs.Contents.{message_content}
+use Rattle.jj_backend.specs.Records.{CommitValue}
+use Rattle.jj_backend.proofs.backend.commit.Commit.hash_message.Goals as goal
+
+pub returns-in_err-hash-2-clause-err : goal.returns-in_err-hash-2-clause-err
+returns-in_err-hash-2-clause-err g c =
+    let whole : CommitValue → Type 0 = λ value. TakesFront g.D.DigestUpdate.stands_for c.args.state.now c.hash-2.new.state (message_content value) in
+    on_err_from c.from_residual-in_err-hash-2.result
+    (subst whole c.self.view_is
+    (front_2 g.D.DigestUpdate.stands_for c.args.state.now c.hash_texts.new.state c.hash.new.state c.hash-2.new.state _ _ _
+    c.in_ok-hash_texts.ensures.ok c.in_ok-hash.ensures.ok c.in_err-hash-2.ensures.err))

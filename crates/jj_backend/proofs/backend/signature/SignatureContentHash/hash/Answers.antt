@@ -1,0 +1,14 @@
+use Rattle.std.proofs.Common.{subst}
+use Rattle.jj_content.proofs.Fronts.{on_err_from, front_2}
+use Rattle.jj_content.specs.Content.{TakesFront}
+use Rattle.jj_backend.specs.Contents.{signature_content}
+use Rattle.jj_backend.specs.Records.{SignatureValue}
+use Rattle.jj_backend.proofs.backend.signature.SignatureContentHash.hash.Goals as goal
+
+pub returns-in_err-hash-3-clause-err : goal.returns-in_err-hash-3-clause-err
+returns-in_err-hash-3-clause-err g c =
+    let whole : SignatureValue → Type 0 = λ value. TakesFront g.D.DigestUpdate.stands_for c.args.state.now c.hash-3.new.state (signature_content value) in
+    on_err_from c.from_residual-in_err-hash-3.result
+    (subst whole c.self.view_is
+    (front_2 g.D.DigestUpdate.stands_for c.args.state.now c.hash.new.state c.hash-2.new.state c.hash-3.new.state _ _ _
+    c.in_ok-hash.ensures.ok c.in_ok-hash-2.ensures.ok c.in_err-hash-3.ensures.err))

@@ -1,0 +1,88 @@
+-- The content bytes of records: those of the parts, in order; and the values whose lists and texts are no longer
+-- than a count can say.
+use Rattle.std.specs.Prelude.{ℕ, ◌<◌, ◌^◌, [], ◌∷◌, List, length, ◌++◌, FitsSigned}
+use Rattle.std.specs.Int.{w32, w64}
+use Rattle.jj_content.specs.Content.{i32_content, i64_content, text_content, list_content, option_content, AreValues, IsOptionOf}
+use Rattle.jj_paths.specs.Contents.{IsShortPath, path_content}
+use Rattle.jj_backend.specs.Records.{SignatureValue, SecureSigValue, CopyHistoryValue, CommitValue}
+use Rattle.jj_backend.specs.declared.backend.timestamp.MillisSinceEpoch.{MillisSinceEpoch}
+use Rattle.jj_backend.specs.declared.backend.timestamp.Timestamp.{Timestamp}
+
+-- ---- texts, and lists of bytes as ids and data are
+
+abbrev pub IsText : List ℕ → Type 0
+IsText text = length text < 2 ^ 64
+
+abbrev pub AreBytes : List ℕ → Type 0
+AreBytes = AreValues (λ byte. byte < 2 ^ 8)
+
+abbrev pub bytes_content : List ℕ → List ℕ
+bytes_content = list_content (λ byte. byte ∷ [])
+
+-- ---- moments
+
+abbrev pub IsMillis : MillisSinceEpoch → Type 0
+IsMillis millis = FitsSigned w64 millis.0
+
+abbrev pub millis_content : MillisSinceEpoch → List ℕ
+millis_content millis = i64_content millis.0
+
+abbrev pub IsTimestamp : Timestamp → Type 0
+IsTimestamp time = IsMillis time.timestamp × FitsSigned w32 time.tz_offset
+
+abbrev pub timestamp_content : Timestamp → List ℕ
+timestamp_content time = millis_content time.timestamp ++ i32_content time.tz_offset
+
+-- ---- signatures
+
+abbrev pub IsSignature : SignatureValue → Type 0
+IsSignature s = IsText s.name × (IsText s.email × IsTimestamp s.timestamp)
+
+abbrev pub signature_content : SignatureValue → List ℕ
+signature_content s = text_content s.name ++ (text_content s.email ++ timestamp_content s.timestamp)
+
+abbrev pub IsSecureSig : SecureSigValue → Type 0
+IsSecureSig s = AreBytes s.signed_data × AreBytes s.sig
+
+abbrev pub secure_sig_content : SecureSigValue → List ℕ
+secure_sig_content s = bytes_content s.signed_data ++ bytes_content s.sig
+
+-- ---- copies
+
+abbrev pub IsCopyHistory : CopyHistoryValue → Type 0
+IsCopyHistory h = IsShortPath h.current_path × (AreValues AreBytes h.parents × AreBytes h.salt)
+
+abbrev pub copy_history_content : CopyHistoryValue → List ℕ
+copy_history_content h =
+    path_content h.current_path ++ (list_content bytes_content h.parents ++ bytes_content h.salt)
+
+-- ---- commits: parents, predecessors, tree; labels, change, description; author, committer, signature
+
+abbrev pub IsOrigin : CommitValue → Type 0
+IsOrigin c = AreValues AreBytes c.parents × (AreValues AreBytes c.predecessors × AreValues AreBytes c.root_tree)
+
+abbrev pub origin_content : CommitValue → List ℕ
+origin_content c =
+    list_content bytes_content c.parents
+    ++ (list_content bytes_content c.predecessors ++ list_content bytes_content c.root_tree)
+
+abbrev pub IsMessage : CommitValue → Type 0
+IsMessage c = AreValues IsText c.conflict_labels × (AreBytes c.change_id × IsText c.description)
+
+abbrev pub message_content : CommitValue → List ℕ
+message_content c =
+    list_content text_content c.conflict_labels ++ (bytes_content c.change_id ++ text_content c.description)
+
+abbrev pub AreSigners : CommitValue → Type 0
+AreSigners c = IsSignature c.author × (IsSignature c.committer × IsOptionOf IsSecureSig c.secure_sig)
+
+abbrev pub signers_content : CommitValue → List ℕ
+signers_content c =
+    signature_content c.author
+    ++ (signature_content c.committer ++ option_content secure_sig_content c.secure_sig)
+
+abbrev pub IsCommit : CommitValue → Type 0
+IsCommit c = IsOrigin c × (IsMessage c × AreSigners c)
+
+abbrev pub commit_content : CommitValue → List ℕ
+commit_content c = origin_content c ++ (message_content c ++ signers_content c)

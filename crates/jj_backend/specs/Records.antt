@@ -1,0 +1,99 @@
+-- What contracts see of records: their parts, with texts and ids by their bytes and paths by their names.
+use Rattle.std.specs.Prelude.{ℕ, pos, List, [], ◌∷◌, Option, None, Bool}
+use Rattle.std.specs.Str.{bytes_eq}
+use Rattle.std.specs.Cmp.Lexicographic.{pointwise}
+use Rattle.std.specs.Option.{option_eq}
+use Rattle.std.specs.Ordering.{eq_of_both, on, int_eq}
+use Rattle.jj_paths.specs.Orders.{path_eq}
+use Rattle.jj_paths.specs.Paths.{Path}
+use Rattle.jj_backend.specs.declared.backend.timestamp.Timestamp.{Timestamp}
+
+-- who did something, and when
+pub record SignatureValue : Type 0 where
+  pub name : List ℕ
+  pub email : List ℕ
+  pub timestamp : Timestamp
+
+-- what was signed, and the signature
+pub record SecureSigValue : Type 0 where
+  pub signed_data : List ℕ
+  pub sig : List ℕ
+
+-- how a file came from others by copies
+pub record CopyHistoryValue : Type 0 where
+  pub current_path : Path
+  pub parents : List (List ℕ)
+  pub salt : List ℕ
+
+-- a commit; the tree and the labels are merges, by their terms
+pub record CommitValue : Type 0 where
+  pub parents : List (List ℕ)
+  pub predecessors : List (List ℕ)
+  pub root_tree : List (List ℕ)
+  pub conflict_labels : List (List ℕ)
+  pub change_id : List ℕ
+  pub description : List ℕ
+  pub author : SignatureValue
+  pub committer : SignatureValue
+  pub secure_sig : Option SecureSigValue
+
+-- ---- records of a repository that nobody has written to
+
+-- nobody, at the beginning of time
+abbrev pub no_signature : SignatureValue
+no_signature = record {
+  name = [];
+  email = [];
+  timestamp = record { timestamp = record { 0 = pos 0 }; tz_offset = pos 0 };
+}
+
+-- the commit that all others descend from
+abbrev pub root_commit : List ℕ → List ℕ → CommitValue
+root_commit change_id tree_id = record {
+  parents = [];
+  predecessors = [];
+  root_tree = tree_id ∷ [];
+  conflict_labels = [] ∷ [];
+  change_id = change_id;
+  description = [];
+  author = no_signature;
+  committer = no_signature;
+  secure_sig = None;
+}
+
+-- ---- equality, part by part
+
+abbrev pub timestamp_eq : Timestamp → Timestamp → Bool
+timestamp_eq = eq_of_both (on (λ time. time.timestamp.0) int_eq) (on (λ time. time.tz_offset) int_eq)
+
+abbrev pub signature_eq : SignatureValue → SignatureValue → Bool
+signature_eq =
+    eq_of_both (on (λ s. s.name) bytes_eq)
+    (eq_of_both (on (λ s. s.email) bytes_eq) (on (λ s. s.timestamp) timestamp_eq))
+
+abbrev pub secure_sig_eq : SecureSigValue → SecureSigValue → Bool
+secure_sig_eq = eq_of_both (on (λ s. s.signed_data) bytes_eq) (on (λ s. s.sig) bytes_eq)
+
+abbrev pub copy_history_eq : CopyHistoryValue → CopyHistoryValue → Bool
+copy_history_eq =
+    eq_of_both (on (λ h. h.current_path) path_eq)
+    (eq_of_both (on (λ h. h.parents) (pointwise bytes_eq)) (on (λ h. h.salt) bytes_eq))
+
+-- a commit's parts in threes: where it comes from and its tree, what it says, and who says so
+abbrev pub origin_eq : CommitValue → CommitValue → Bool
+origin_eq =
+    eq_of_both (on (λ c. c.parents) (pointwise bytes_eq))
+    (eq_of_both (on (λ c. c.predecessors) (pointwise bytes_eq)) (on (λ c. c.root_tree) (pointwise bytes_eq)))
+
+abbrev pub message_eq : CommitValue → CommitValue → Bool
+message_eq =
+    eq_of_both (on (λ c. c.conflict_labels) (pointwise bytes_eq))
+    (eq_of_both (on (λ c. c.change_id) bytes_eq) (on (λ c. c.description) bytes_eq))
+
+abbrev pub signers_eq : CommitValue → CommitValue → Bool
+signers_eq =
+    eq_of_both (on (λ c. c.author) signature_eq)
+    (eq_of_both (on (λ c. c.committer) signature_eq) (on (λ c. c.secure_sig) (option_eq secure_sig_eq)))
+
+abbrev pub commit_eq : CommitValue → CommitValue → Bool
+commit_eq = eq_of_both origin_eq (eq_of_both message_eq signers_eq)

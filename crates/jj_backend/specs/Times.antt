@@ -1,0 +1,13 @@
+-- Offsets of moments.
+use Rattle.std.specs.Prelude.{◌≡◌, ℤ, pos, negsuc, ◌*ℤ◌, ◌&&◌, if◌then◌else◌, int_le}
+use Rattle.jiff.specs.Words.{plain_zoned, fixed_zone}
+use Rattle.jiff.specs.declared.zoned.Zoned.{Zoned}
+
+-- the seconds of an offset in minutes, of which a day or more counts as none
+abbrev pub offset_seconds : ℤ → ℤ
+offset_seconds minutes =
+    if int_le (negsuc 1438) minutes && int_le minutes (pos 1439) then minutes *ℤ pos 60 else pos 0
+
+-- the date is told in a zone whose clock is always this many seconds ahead of UTC
+abbrev pub HasOffset : Zoned → ℤ → Type 0
+HasOffset date seconds = (o : _) × ((plain_zoned date).time_zone ≡ fixed_zone o) × (o.seconds ≡ seconds)

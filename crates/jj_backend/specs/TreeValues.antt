@@ -1,0 +1,39 @@
+-- What stands at a name of a tree: a file, a symbolic link, a tree or a Git submodule.
+use Rattle.std.specs.Prelude.{ℕ, Bool, List, ◌++◌, Option, Some, None, ⊤}
+use Rattle.jj_content.specs.Content.{u32_content, bool_content}
+use Rattle.jj_backend.specs.Contents.{AreBytes, bytes_content}
+use Rattle.jj_backend.specs.declared.backend.tree_value.TreeValue.{TreeValue}
+use Rattle.jj_backend.specs.declared.backend.tree_value.TreeValue.TheVariants.{File, Symlink, Tree, GitSubmodule}
+
+-- the copy that a file came from
+abbrev pub copy_id_of : TreeValue → Option (List ℕ)
+copy_id_of (File id executable copy) = Some copy
+copy_id_of (Symlink id) = None
+copy_id_of (Tree id) = None
+copy_id_of (GitSubmodule id) = None
+
+-- ---- content: the variant's number, and then its fields
+
+abbrev pub variant_of : TreeValue → ℕ
+variant_of (File id executable copy) = 0
+variant_of (Symlink id) = 1
+variant_of (Tree id) = 2
+variant_of (GitSubmodule id) = 3
+
+abbrev pub file_content : List ℕ → Bool → List ℕ → List ℕ
+file_content id executable copy = bytes_content id ++ (bool_content executable ++ bytes_content copy)
+
+abbrev pub fields_content : TreeValue → List ℕ
+fields_content (File id executable copy) = file_content id executable copy
+fields_content (Symlink id) = bytes_content id
+fields_content (Tree id) = bytes_content id
+fields_content (GitSubmodule id) = bytes_content id
+
+abbrev pub tree_value_content : TreeValue → List ℕ
+tree_value_content value = u32_content (variant_of value) ++ fields_content value
+
+abbrev pub IsTreeValue : TreeValue → Type 0
+IsTreeValue (File id executable copy) = AreBytes id × (⊤ × AreBytes copy)
+IsTreeValue (Symlink id) = AreBytes id
+IsTreeValue (Tree id) = AreBytes id
+IsTreeValue (GitSubmodule id) = AreBytes id

@@ -1,0 +1,16 @@
+//! Commits, trees and what else a backend keeps, and the interface of backends.
+mod commit;
+mod copies;
+mod errors;
+mod merged_parts;
+mod signature;
+mod timestamp;
+mod tree_value;
+
+pub use commit::{Commit, make_root_commit};
+pub use copies::{CopyHistory, CopyRecord, RelatedCopy};
+pub use errors::{BackendError, BackendInitError, BackendLoadError, BackendResult};
+pub use jj_ids::object_id::{ChangeId, CommitId, CopyId, FileId, SymlinkId, TreeId};
+pub use signature::{SecureSig, Signature};
+pub use timestamp::{MillisSinceEpoch, Timestamp, TimestampOutOfRange};
+pub use tree_value::TreeValue;

@@ -1,0 +1,207 @@
+//! Commits.
+ghost use Rattle.std.specs.Prelude.{◌≡◌, ◌++◌, map, IfOk, OnOk, OnErr, string_bytes};
+ghost use Rattle.std.specs.Cmp;
+ghost use Rattle.jj_content.specs.Content.{Takes, TakesFront, IsLawful};
+ghost use Rattle.jj_backend.specs.Contents.{IsOrigin, origin_content, IsMessage, message_content, AreSigners, signers_content, IsCommit, commit_content};
+ghost use Rattle.jj_backend.specs.RecordLaws.{commit_equiv, commit_lawful};
+ghost use Rattle.jj_backend.specs.Records.{CommitValue, origin_eq, message_eq, signers_eq, commit_eq, no_signature, root_commit};
+
+use super::merged_parts::{are_same_texts, copied_texts, copied_trees, hash_texts};
+use super::{MillisSinceEpoch, SecureSig, Signature, Timestamp};
+use jj_content::content_hash::{ContentHash, DigestUpdate};
+use jj_ids::object_id::{ChangeId, CommitId, TreeId};
+use jj_merges::merge::Merge;
+use std::alloc::{AllocError, Global};
+use std::marker::Model;
+
+/// A commit: where it comes from, the tree of its files, and what is said of the change. Trees and
+/// labels are merges of several where the commit has conflicts.
+#[derive(Debug, Drop)]
+pub struct Commit {
+    pub parents: Vec<CommitId>,
+    pub predecessors: Vec<CommitId>,
+    pub root_tree: Merge<TreeId>,
+    pub conflict_labels: Merge<String>,
+    pub change_id: ChangeId,
+    pub description: String,
+    pub author: Signature,
+    pub committer: Signature,
+    pub secure_sig: Option<SecureSig>,
+}
+
+impl Model for Commit {
+    ghost Value = { CommitValue };
+
+    ghost view = { λ c. record {
+      parents = c.parents.items;
+      predecessors = c.predecessors.items;
+      root_tree = c.root_tree;
+      conflict_labels = map string_bytes c.conflict_labels;
+      change_id = c.change_id;
+      description = string_bytes c.description;
+      author = c.author;
+      committer = c.committer;
+      secure_sig = c.secure_sig;
+    } };
+}
+
+impl Commit {
+    // Whether two commits come from the same ones and have the same tree.
+    fn has_same_origin(&self, other: &Commit) -> bool
+        ensures { result ≡ origin_eq self.now other.now }
+    {
+        self.parents == other.parents
+            && (self.predecessors == other.predecessors && self.root_tree == other.root_tree)
+    }
+
+    // Whether two commits have the same labels, change and description.
+    fn has_same_message(&self, other: &Commit) -> bool
+        ensures { result ≡ message_eq self.now other.now }
+    {
+        are_same_texts(&self.conflict_labels, &other.conflict_labels)
+            && (self.change_id == other.change_id && self.description == other.description)
+    }
+
+    // Whether two commits have the same author, committer and signature.
+    fn has_same_signers(&self, other: &Commit) -> bool
+        ensures { result ≡ signers_eq self.now other.now }
+    {
+        self.author == other.author
+            && (self.committer == other.committer && self.secure_sig == other.secure_sig)
+    }
+
+    #[tactic(auto, using(jj_content::proofs::Fronts::fronts))]
+    fn hash_origin<D: DigestUpdate>(&self, alloc: Global, state: &mut D) -> Result<(), AllocError>
+        ensures ok { OnOk result (Takes D.stands_for state.old state.new (origin_content self.now)) }
+        ensures value { OnOk result (IsOrigin self.now) }
+        ensures err { OnErr result (TakesFront D.stands_for state.old state.new (origin_content self.now)) }
+    {
+        ContentHash::hash(&self.parents, alloc, state)?;
+        ContentHash::hash(&self.predecessors, alloc, state)?;
+        ContentHash::hash(&self.root_tree, alloc, state)?;
+        Ok(())
+    }
+
+    #[tactic(auto, using(jj_content::proofs::Fronts::fronts))]
+    fn hash_message<D: DigestUpdate>(&self, alloc: Global, state: &mut D) -> Result<(), AllocError>
+        ensures ok { OnOk result (Takes D.stands_for state.old state.new (message_content self.now)) }
+        ensures value { OnOk result (IsMessage self.now) }
+        ensures err { OnErr result (TakesFront D.stands_for state.old state.new (message_content self.now)) }
+    {
+        hash_texts(alloc, state, &self.conflict_labels)?;
+        ContentHash::hash(&self.change_id, alloc, state)?;
+        ContentHash::hash(&self.description, alloc, state)?;
+        Ok(())
+    }
+
+    #[tactic(auto, using(jj_content::proofs::Fronts::fronts))]
+    fn hash_signers<D: DigestUpdate>(&self, alloc: Global, state: &mut D) -> Result<(), AllocError>
+        ensures ok { OnOk result (Takes D.stands_for state.old state.new (signers_content self.now)) }
+        ensures value { OnOk result (AreSigners self.now) }
+        ensures err { OnErr result (TakesFront D.stands_for state.old state.new (signers_content self.now)) }
+    {
+        ContentHash::hash(&self.author, alloc, state)?;
+        ContentHash::hash(&self.committer, alloc, state)?;
+        ContentHash::hash(&self.secure_sig, alloc, state)?;
+        Ok(())
+    }
+}
+
+// A copy of ids of commits.
+fn copied_ids(ids: &Vec<CommitId>) -> Result<Vec<CommitId>, AllocError>
+    ensures { IfOk result (λ copy. copy.items ≡ ids.now.items) }
+{
+    ids.clone()
+}
+
+// A copy of a signature, if there is one.
+fn copied_sig(sig: &Option<SecureSig>) -> Result<Option<SecureSig>, AllocError>
+    ensures { IfOk result (λ copy. copy ≡ sig.now) }
+{
+    match sig {
+        Some(sig) => Ok(Some(sig.clone()?)),
+        None => Ok(None),
+    }
+}
+
+/// Trees and labels are cloned on the allocator of the description.
+impl Clone for Commit {
+    ghost is_clone = { λ commit c. c ≡ commit };
+
+    fn clone(&self) -> Result<Self, AllocError> {
+        let alloc = *self.description.allocator();
+        Ok(Commit {
+            parents: copied_ids(&self.parents)?,
+            predecessors: copied_ids(&self.predecessors)?,
+            root_tree: copied_trees(alloc, &self.root_tree)?,
+            conflict_labels: copied_texts(alloc, &self.conflict_labels)?,
+            change_id: self.change_id.clone()?,
+            description: self.description.clone()?,
+            author: self.author.clone()?,
+            committer: self.committer.clone()?,
+            secure_sig: copied_sig(&self.secure_sig)?,
+        })
+    }
+}
+
+impl PartialEq for Commit {
+    ghost eq = { commit_eq };
+
+    ghost laws = { Cmp.partial_equiv_from_equiv commit_equiv };
+
+    fn eq(&self, other: &Commit) -> bool {
+        self.has_same_origin(other)
+            && (self.has_same_message(other) && self.has_same_signers(other))
+    }
+}
+
+impl Eq for Commit {
+    ghost laws = { commit_equiv };
+}
+
+impl ContentHash for Commit {
+    ghost is_value = { IsCommit };
+
+    ghost content = { commit_content };
+
+    ghost lawful = { commit_lawful };
+
+    #[tactic(auto, using(jj_content::proofs::Fronts::fronts))]
+    fn hash<D: DigestUpdate>(&self, alloc: Global, state: &mut D) -> Result<(), AllocError> {
+        self.hash_origin(alloc, state)?;
+        self.hash_message(alloc, state)?;
+        self.hash_signers(alloc, state)?;
+        Ok(())
+    }
+}
+
+// Nobody, at the beginning of time.
+fn nobody(alloc: Global) -> Signature
+    ensures { result ≡ no_signature }
+{
+    Signature {
+        name: String::new(alloc),
+        email: String::new(alloc),
+        timestamp: Timestamp {
+            timestamp: MillisSinceEpoch(0),
+            tz_offset: 0,
+        },
+    }
+}
+
+/// The commit that all others descend from: empty but for its change and its tree.
+pub fn make_root_commit(alloc: Global, root_change_id: ChangeId, empty_tree_id: TreeId) -> Commit
+    ensures { result ≡ root_commit root_change_id empty_tree_id }
+{
+    Commit {
+        parents: Vec::new(alloc),
+        predecessors: Vec::new(alloc),
+        root_tree: Merge::resolved(alloc, empty_tree_id),
+        conflict_labels: Merge::resolved(alloc, String::new(alloc)),
+        change_id: root_change_id,
+        description: String::new(alloc),
+        author: nobody(alloc),
+        committer: nobody(alloc),
+        secure_sig: None,
+    }
+}

@@ -1,0 +1,107 @@
+//! What is known of copies of files.
+ghost use Rattle.std.specs.Prelude.{◌≡◌, ◌++◌, OnOk, OnErr};
+ghost use Rattle.std.specs.Cmp;
+ghost use Rattle.jj_content.specs.Content.{Takes, TakesFront, IsLawful};
+ghost use Rattle.jj_backend.specs.Contents.{IsCopyHistory, copy_history_content};
+ghost use Rattle.jj_backend.specs.RecordLaws.{copy_history_equiv, copy_history_lawful};
+ghost use Rattle.jj_backend.specs.Records.{CopyHistoryValue, copy_history_eq};
+
+use jj_content::content_hash::{ContentHash, DigestUpdate};
+use jj_ids::object_id::{CommitId, CopyId, FileId};
+use jj_paths::repo_path::RepoPathBuf;
+use std::alloc::{AllocError, Global};
+use std::marker::Model;
+
+/// A copy that was found between two commits: the file `target` of `target_commit` came from
+/// `source` of `source_commit`.
+#[derive(Debug, PartialEq, Eq, Drop)]
+pub struct CopyRecord {
+    pub target: RepoPathBuf,
+    pub target_commit: CommitId,
+    pub source: RepoPathBuf,
+    pub source_file: FileId,
+    pub source_commit: CommitId,
+}
+
+impl Clone for CopyRecord {
+    ghost is_clone = { λ copy c. c ≡ copy };
+
+    fn clone(&self) -> Result<Self, AllocError> {
+        Ok(CopyRecord {
+            target: self.target.clone()?,
+            target_commit: self.target_commit.clone()?,
+            source: self.source.clone()?,
+            source_file: self.source_file.clone()?,
+            source_commit: self.source_commit.clone()?,
+        })
+    }
+}
+
+/// How a file came from others by copies: where it is now, the copies that it came from, and some
+/// bytes that tell it from others of that path and those parents.
+#[derive(Debug, Drop)]
+pub struct CopyHistory {
+    pub current_path: RepoPathBuf,
+    pub parents: Vec<CopyId>,
+    pub salt: Vec<u8>,
+}
+
+impl Model for CopyHistory {
+    ghost Value = { CopyHistoryValue };
+
+    ghost view = { λ h. record {
+      current_path = h.current_path;
+      parents = h.parents.items;
+      salt = h.salt.items;
+    } };
+}
+
+impl Clone for CopyHistory {
+    ghost is_clone = { λ history c. c ≡ history };
+
+    fn clone(&self) -> Result<Self, AllocError> {
+        Ok(CopyHistory {
+            current_path: self.current_path.clone()?,
+            parents: self.parents.clone()?,
+            salt: self.salt.clone()?,
+        })
+    }
+}
+
+impl PartialEq for CopyHistory {
+    ghost eq = { copy_history_eq };
+
+    ghost laws = { Cmp.partial_equiv_from_equiv copy_history_equiv };
+
+    fn eq(&self, other: &CopyHistory) -> bool {
+        self.current_path == other.current_path
+            && (self.parents == other.parents && self.salt == other.salt)
+    }
+}
+
+impl Eq for CopyHistory {
+    ghost laws = { copy_history_equiv };
+}
+
+impl ContentHash for CopyHistory {
+    ghost is_value = { IsCopyHistory };
+
+    ghost content = { copy_history_content };
+
+    ghost lawful = { copy_history_lawful };
+
+    #[tactic(auto, using(jj_content::proofs::Fronts::fronts))]
+    fn hash<D: DigestUpdate>(&self, alloc: Global, state: &mut D) -> Result<(), AllocError> {
+        ContentHash::hash(&self.current_path, alloc, state)?;
+        ContentHash::hash(&self.parents, alloc, state)?;
+        ContentHash::hash(&self.salt, alloc, state)?;
+        Ok(())
+    }
+}
+
+/// A copy that a file is related to by its history.
+#[derive(Debug, PartialEq, Eq, Drop)]
+pub struct RelatedCopy {
+    pub id: CopyId,
+    pub history: CopyHistory,
+}

@@ -1,0 +1,53 @@
+//! Equality, copies and content of merges of texts and of trees, as the records that hold them need.
+ghost use Rattle.std.specs.Prelude.{◌≡◌, map, string_bytes, IfOk, OnOk, OnErr};
+ghost use Rattle.std.specs.Cmp.Lexicographic.{pointwise};
+ghost use Rattle.std.specs.Str.{bytes_eq};
+ghost use Rattle.jj_content.specs.Content.{Takes, TakesFront, AreValues, list_content, text_content};
+ghost use Rattle.jj_backend.specs.Contents.{IsText};
+
+use jj_content::content_hash::{ContentHash, DigestUpdate};
+use jj_ids::object_id::TreeId;
+use jj_merges::merge::Merge;
+use std::alloc::{AllocError, Global};
+
+// Whether two merges have the same texts.
+pub(super) fn are_same_texts(a: &Merge<String>, b: &Merge<String>) -> bool
+    ensures { result ≡ pointwise bytes_eq (map string_bytes a.now) (map string_bytes b.now) }
+{
+    a == b
+}
+
+// A copy of a merge of texts.
+pub(super) fn copied_texts(
+    alloc: Global,
+    texts: &Merge<String>,
+) -> Result<Merge<String>, AllocError>
+    ensures { IfOk result (λ copy. map string_bytes copy ≡ map string_bytes texts.now) }
+{
+    texts.clone(alloc)
+}
+
+// Appends the content of a merge of texts.
+pub(super) fn hash_texts<D: DigestUpdate>(
+    alloc: Global,
+    state: &mut D,
+    texts: &Merge<String>,
+) -> Result<(), AllocError>
+    ensures ok { OnOk result (Takes D.stands_for state.old state.new
+        (list_content text_content (map string_bytes texts.now))) }
+    ensures value { OnOk result (AreValues IsText (map string_bytes texts.now)) }
+    ensures err { OnErr result (TakesFront D.stands_for state.old state.new
+        (list_content text_content (map string_bytes texts.now))) }
+{
+    ContentHash::hash(texts, alloc, state)
+}
+
+// A copy of a merge of trees.
+pub(super) fn copied_trees(
+    alloc: Global,
+    trees: &Merge<TreeId>,
+) -> Result<Merge<TreeId>, AllocError>
+    ensures { IfOk result (λ copy. copy ≡ trees.now) }
+{
+    trees.clone(alloc)
+}

@@ -1,0 +1,4 @@
+//! Callers of jj_ids, with what they promise of its answers.
+pub mod calls;
+pub mod own_kind;
+pub mod records;

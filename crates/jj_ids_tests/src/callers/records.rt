@@ -1,0 +1,87 @@
+//! Records and maps of ids.
+ghost use Rattle.std.specs.Prelude.{◌≡◌, ℕ, List, [], ◌∷◌, ◌++◌, IfOk, OnErr, IsTrue, ◌↔◌, Some, None, MatchOption, Option, ⊤};
+ghost use Rattle.std.specs.BTreeMap.{get_by};
+ghost use Rattle.std.specs.Ordering.{nat_cmp};
+ghost use Rattle.std.specs.Cmp.Lexicographic.{slice_cmp};
+ghost use Rattle.std.specs.Option.{option_copied};
+ghost use Rattle.jj_ids_tests.specs.Histories.{parents_of};
+
+use jj_ids::object_id::{ChangeId, CommitId, CopyId, FileId, ObjectId, SymlinkId, TreeId};
+use jj_ids::ref_name::{RefName, RefNameBuf, RemoteName, WorkspaceNameBuf};
+use std::alloc::{AllocError, Global};
+use std::collections::{BTreeMap, BTreeSet, HashMap};
+
+/// What stands at a name of a tree.
+#[derive(Clone, Debug, PartialEq, Eq, PartialOrd, Ord, Hash, Drop)]
+pub enum TreeValue {
+    File {
+        id: FileId,
+        executable: bool,
+        copy_id: CopyId,
+    },
+    Symlink(SymlinkId),
+    Tree(TreeId),
+    GitSubmodule(CommitId),
+}
+
+/// A commit, as far as ids go.
+#[derive(Clone, Debug, PartialEq, Eq, PartialOrd, Ord, Hash, Drop)]
+pub struct Commit {
+    pub parents: Vec<CommitId>,
+    pub change_id: ChangeId,
+    pub root: TreeId,
+}
+
+impl Commit {
+    /// The commit's only parent, where it has one.
+    pub fn only_parent(&self) -> Option<&CommitId>
+        ensures { MatchOption result ⊤ (λ id. parents_of self.now ≡ id.now ∷ []) }
+    {
+        match self.parents.as_slice() {
+            [id] => Some(id),
+            _ => None,
+        }
+    }
+
+    /// A copy of the id of the change.
+    pub fn change(&self) -> Result<ChangeId, AllocError>
+        ensures { IfOk result (λ id. id ≡ self.now.change_id) }
+    {
+        self.change_id.clone()
+    }
+}
+
+/// The name of a commit, in a map by ids.
+pub fn name_of_commit<'a>(
+    names: &'a BTreeMap<CommitId, RefNameBuf>,
+    id: &CommitId,
+) -> Option<&'a RefNameBuf>
+    ensures { option_copied result ≡ get_by (slice_cmp nat_cmp id.now) names.now }
+{
+    names.get(id)
+}
+
+pub fn count(ids: &HashMap<ChangeId, u64>, id: &ChangeId) -> Option<u64> {
+    ids.get(id).copied()
+}
+
+pub fn is_known(ids: &BTreeSet<TreeId>, id: &TreeId) -> bool {
+    ids.contains(id)
+}
+
+/// The same bytes as another type of id, by name.
+pub fn tree_of_commit(id: &CommitId, alloc: Global) -> Result<TreeId, AllocError>
+    ensures { IfOk result (λ tree. tree ≡ id.now) }
+{
+    TreeId::from_bytes(alloc, id.as_bytes())
+}
+
+pub fn workspaces(alloc: Global) -> BTreeMap<WorkspaceNameBuf, CommitId>
+    ensures { result.entries ≡ [] }
+{
+    BTreeMap::new(alloc)
+}
+
+pub fn tracked(name: RefName<'_>, remote: RemoteName<'_>) -> bool {
+    name.to_remote_symbol(remote).name == name
+}

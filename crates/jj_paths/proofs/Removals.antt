@@ -1,0 +1,24 @@
+-- One more entry removed.
+use Rattle.std.proofs.Common.{◌≡◌, ℕ, List, [], ◌∷◌, ◌++◌, ◌∙◌, ◌<◌, zero, suc, Ok, map, take, drop, length, get_or, ap, sym, refl, subst, arith, append_assoc, take-append-drop}
+use Rattle.std.specs.Path.{path_join}
+use Rattle.jj_paths.specs.Directories.{MayEnd, RemovesEach}
+
+pub removes_one_more : {D : Type 0} (may_remove : MayEnd D) (dir : List ℕ) (names : List (List ℕ)) (name : List ℕ) (old between new : D)
+    → RemovesEach may_remove dir names old between → may_remove between (path_join dir name) (Ok tt) new → RemovesEach may_remove dir (names ++ name ∷ []) old new
+removes_one_more {D} may_remove dir [] name old between new done one =
+    (new, subst (λ (d : D). may_remove d (path_join dir name) (Ok tt) new) done one, refl)
+removes_one_more may_remove dir (first ∷ names) name old between new done one =
+    (done.0, done.1, removes_one_more may_remove dir names name done.0 between new done.2 one)
+
+-- the values at the places before one and at that place
+pub front_more : {A B : Type 0} (f : A → B) (xs : List A) (i : ℕ) (x : A) → i < length xs → x ≡ get_or xs i x → take (suc i) (map f xs) ≡ take i (map f xs) ++ f x ∷ []
+front_more f [] i x lt is = absurd (omega arith)
+front_more f (y ∷ ys) zero x lt is = ap (λ v. f v ∷ []) (sym is)
+front_more f (y ∷ ys) (suc i) x lt is = ap (λ l. f y ∷ l) (front_more f ys i x (omega arith) is)
+
+-- and those after it
+pub split_at_place : {A B : Type 0} (f : A → B) (xs : List A) (i : ℕ) (x : A) → i < length xs → x ≡ get_or xs i x
+    → map f xs ≡ take i (map f xs) ++ f x ∷ drop (suc i) (map f xs)
+split_at_place f xs i x lt is =
+    sym (take-append-drop (suc i) (map f xs)) ∙ ap (λ l. l ++ drop (suc i) (map f xs)) (front_more f xs i x lt is)
+    ∙ append_assoc (take i (map f xs)) (f x ∷ []) (drop (suc i) (map f xs))

@@ -1,0 +1,50 @@
+use Rattle.std.proofs.Common.{◌≡◌, [], ◌∷◌, ◌∙◌, sym, ap, subst, refl, true, false, not, Bool, Some, string_bytes}
+use Rattle.std.specs.List.{find}
+use Rattle.std.specs.Str.{bytes_eq, is_utf8}
+use Rattle.std.specs.Path.{path_names}
+use Rattle.std.proofs.lemmas.Str.{IsUtf8-from_is_utf8, is_utf8-from_IsUtf8}
+use Rattle.jj_paths.specs.NamesLeft.{names_left}
+use Rattle.jj_paths.specs.RelativePaths.{is_refused, IsParseError}
+use Rattle.jj_paths.specs.Texts.{with_name, with_names}
+use Rattle.jj_paths.proofs.FsNames.{name-refused, names-valid}
+use Rattle.jj_paths.proofs.Longer.{extended_text}
+use Rattle.jj_paths.proofs.repo_path.from_relative.joined_names.Goals as goal
+
+false_or : (b : Bool) → (b ≡ true → ⊥) → b ≡ false
+false_or true f = absurd (f refl)
+false_or false f = refl
+
+pub returns-in_default-clause-refused : goal.returns-in_default-clause-refused
+returns-in_default-clause-refused c =
+    let name = c.in-Some.name.now in
+    let utf8 : is_utf8 name ≡ false = false_or (is_utf8 name) (λ h. c.in_default.ensures.cases.0 (IsUtf8-from_is_utf8 name h)) in
+    let is = name-refused c.loop-name.name-iterator.rest.now name _ c.in-Some.ensures.steps (c.if-eq.ensures ∙ ap (bytes_eq name) c.as_slice.ensures) in
+    let refused : is_refused name ≡ true = is ∙ ap not utf8 in
+    let first : find is_refused (name ∷ names_left c.next.new.self) ≡ Some name = rw refused refl in
+    let found : find is_refused (path_names c.args.path.now) ≡ Some name = sym c.loop-name.invariant.1 ∙ ap (find is_refused) c.in-Some.ensures.steps ∙ first in
+    subst (λ r. IsParseError c.args.path.now r c.not_utf8.result) (sym found) (c.not_utf8.ensures name utf8)
+
+pub loop-name-preserved : goal.loop-name-preserved
+loop-name-preserved c =
+    let name = c.in-Some.name.now in
+    let left = names_left c.next.new.self in
+    let utf8 : is_utf8 name ≡ true = is_utf8-from_IsUtf8 name c.in-Ok.ensures.cases.1 in
+    let is = name-refused c.loop-name.name-iterator.rest.now name _ c.in-Some.ensures.steps (c.if-eq.ensures ∙ ap (bytes_eq name) c.as_slice.ensures) in
+    let kept : is_refused name ≡ false = is ∙ ap not utf8 in
+    let first : find is_refused (name ∷ left) ≡ find is_refused left = rw kept refl in
+    let pushed = c.in_ok-push_name_text.ensures ∙ ap (with_name (string_bytes c.loop-name.value)) c.in-Ok.ensures.cases.0 in (
+      ap (λ text. with_names text left) pushed ∙ ap (with_names (string_bytes c.loop-name.value)) (sym c.in-Some.ensures.steps) ∙ c.loop-name.invariant.0,
+      sym first ∙ ap (find is_refused) (sym c.in-Some.ensures.steps) ∙ c.loop-name.invariant.1,
+    )
+
+pub invariant_of-result : goal.invariant_of-result
+invariant_of-result c =
+    let whole = ap (with_names (string_bytes c.loop-name.value)) (sym c.in-None.ensures.steps.0) ∙ c.loop-name.invariant.0 in
+    rw whole (extended_text [] (path_names c.args.path.now) refl (names-valid c.args.path.now)).valid
+
+pub returns-clause-ok : goal.returns-clause-ok
+returns-clause-ok c =
+    let whole = ap (with_names (string_bytes c.loop-name.value)) (sym c.in-None.ensures.steps.0) ∙ c.loop-name.invariant.0 in (
+      rw whole (extended_text [] (path_names c.args.path.now) refl (names-valid c.args.path.now)).is,
+      sym c.loop-name.invariant.1 ∙ ap (find is_refused) c.in-None.ensures.steps.0,
+    )

@@ -1,0 +1,28 @@
+-- What the errors of names and paths say that the file system cannot have.
+use Rattle.std.specs.Prelude.{◌≡◌, ◌≢◌, ◌⊎◌, ⊤, true, IsSomeAnd, string_bytes}
+use Rattle.std.specs.List.{find}
+use Rattle.jj_paths.specs.Paths.{Name, Path}
+use Rattle.jj_paths.specs.FsTexts.{is_dots}
+use Rattle.jj_paths.specs.declared.repo_path.to_fs.InvalidRepoPathComponentError.{InvalidRepoPathComponentError}
+use Rattle.jj_paths.specs.declared.repo_path.to_fs.InvalidRepoPathComponentError.TheVariants.{Invalid, Memory}
+use Rattle.jj_paths.specs.declared.repo_path.to_fs.InvalidRepoPathError.{InvalidRepoPathError}
+use Rattle.jj_paths.specs.declared.repo_path.to_fs.InvalidRepoPathError.TheVariants.{Invalid as of_path, Memory as no_memory}
+
+-- the error names this name
+abbrev pub IsOfName : Name → InvalidRepoPathComponentError → Type 0
+IsOfName name (Invalid component) = string_bytes component ≡ name
+IsOfName name Memory = ⊥
+
+-- the name is refused, and the error names it, or there was no memory to do so
+abbrev pub IsRefusedName : Name → InvalidRepoPathComponentError → Type 0
+IsRefusedName name error = (is_dots name ≡ true) × ((error ≡ Memory) ⊎ IsOfName name error)
+
+-- the error says this of a path, or that there was no memory to do so
+abbrev pub IsOfPath : Path → InvalidRepoPathComponentError → InvalidRepoPathError → Type 0
+IsOfPath path error (of_path at source) = (at ≡ path) × (source ≡ error) × (error ≢ Memory)
+IsOfPath path error no_memory = ⊤
+
+-- the path is refused for the first of its names that is, or memory ran out
+abbrev pub IsRefusedPath : Path → InvalidRepoPathError → Type 0
+IsRefusedPath path (of_path at source) = (at ≡ path) × IsSomeAnd (find is_dots path) (λ name. IsOfName name source)
+IsRefusedPath path no_memory = ⊤

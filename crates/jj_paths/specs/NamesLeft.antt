@@ -1,0 +1,8 @@
+-- What contracts see of the iterator over the names of a path of the file system.
+use Rattle.std.specs.Prelude.{ℕ, List}
+use Rattle.std.specs.Path.{path_names}
+use Rattle.jj_paths.specs.declared.repo_path.from_relative.Names.{Names}
+
+-- the names that have not been given yet
+abbrev pub names_left : Names → List (List ℕ)
+names_left left = path_names left.rest.now

@@ -1,0 +1,33 @@
+-- Which relative paths of the file system are paths in a repository, by their components: the
+-- standard library's `path_components`.
+use Rattle.std.specs.Prelude.{◌≡◌, ⊤, ℕ, Bool, false, true, not, ◌||◌, if◌then◌else◌, List, [], ◌∷◌, Option, Some, IsSomeAnd, string_bytes}
+use Rattle.std.specs.Str.{bytes_eq, is_utf8}
+use Rattle.std.specs.Path.{root_dir, cur_dir, path_components}
+use Rattle.jj_paths.specs.FsTexts.{is_dots}
+use Rattle.jj_paths.specs.declared.repo_path.from_relative.RelativePathParseError.{RelativePathParseError}
+use Rattle.jj_paths.specs.declared.repo_path.from_relative.RelativePathParseError.TheVariants.{InvalidComponent, InvalidUtf8, Memory}
+
+-- components, or none for `.` alone
+abbrev pub without_lone_dot : List (List ℕ) → List (List ℕ)
+without_lone_dot [] = []
+without_lone_dot (first ∷ []) = if bytes_eq first cur_dir then [] else first ∷ []
+without_lone_dot (first ∷ second ∷ rest) = first ∷ second ∷ rest
+
+-- the components of a relative path, of which the directory itself has none
+abbrev pub relative_components : List ℕ → List (List ℕ)
+relative_components path = without_lone_dot (path_components path)
+
+-- the component is no name: `/`, `.` or `..`
+abbrev pub is_place : List ℕ → Bool
+is_place component = bytes_eq component root_dir || is_dots component
+
+-- no path in a repository has the component
+abbrev pub is_refused : List ℕ → Bool
+is_refused component = is_place component || not (is_utf8 component)
+
+-- the path is refused for this component, and the error has the path and says why, or there was no memory to do so
+abbrev pub IsParseError : List ℕ → Option (List ℕ) → RelativePathParseError → Type 0
+IsParseError path refused (InvalidComponent component at) =
+    (at.items ≡ path) × (refused ≡ Some (string_bytes component)) × (is_place (string_bytes component) ≡ true)
+IsParseError path refused (InvalidUtf8 at) = (at.items ≡ path) × IsSomeAnd refused (λ component. is_utf8 component ≡ false)
+IsParseError path refused Memory = ⊤

@@ -1,0 +1,109 @@
+//! Content bytes and JSON values of paths and of their names, which are those of their texts.
+ghost use Rattle.std.specs.Prelude.{◌≡◌, ◌<◌, ◌^◌, length, OnOk, OnErr, ⊤};
+ghost use Rattle.serde_json.specs.Data.{string};
+ghost use Rattle.jj_content.specs.Content.{Takes, TakesFront, IsLawful, text_content};
+ghost use Rattle.jj_content.specs.Json.{IsAnswer};
+ghost use Rattle.jj_content.specs.Lawful.{on_lawful, text_lawful};
+ghost use Rattle.jj_paths.specs.Contents.{IsShortPath, path_content, path_lawful};
+ghost use Rattle.jj_paths.specs.Names.{name_of, path_of};
+ghost use Rattle.jj_paths.specs.Paths.{path_text};
+
+use super::{RepoPath, RepoPathBuf, RepoPathComponent, RepoPathComponentBuf};
+use jj_content::content_hash::{ContentHash, DigestUpdate, ToJson, ToJsonError};
+use serde_json::Value;
+use std::alloc::{AllocError, Global};
+
+impl ContentHash for RepoPathComponentBuf {
+    ghost is_value = { λ name. length name < 2 ^ 64 };
+
+    ghost content = { text_content };
+
+    ghost lawful = { text_lawful };
+
+    fn hash<D: DigestUpdate>(&self, alloc: Global, state: &mut D) -> Result<(), AllocError> {
+        ContentHash::hash(&self.value, alloc, state)
+    }
+}
+
+impl<'a> ContentHash for RepoPathComponent<'a> {
+    ghost is_value = { λ name. length (name_of name) < 2 ^ 64 };
+
+    ghost content = { λ name. text_content (name_of name) };
+
+    ghost lawful = { on_lawful name_of text_lawful };
+
+    fn hash<D: DigestUpdate>(&self, alloc: Global, state: &mut D) -> Result<(), AllocError> {
+        ContentHash::hash(&self.value, alloc, state)
+    }
+}
+
+impl ContentHash for RepoPathBuf {
+    ghost is_value = { IsShortPath };
+
+    ghost content = { path_content };
+
+    ghost lawful = { path_lawful };
+
+    fn hash<D: DigestUpdate>(&self, alloc: Global, state: &mut D) -> Result<(), AllocError> {
+        ContentHash::hash(&self.as_path(), alloc, state)
+    }
+}
+
+impl<'a> ContentHash for RepoPath<'a> {
+    ghost is_value = { λ path. IsShortPath (path_of path) };
+
+    ghost content = { λ path. path_content (path_of path) };
+
+    ghost lawful = { on_lawful path_of path_lawful };
+
+    fn hash<D: DigestUpdate>(&self, alloc: Global, state: &mut D) -> Result<(), AllocError> {
+        ContentHash::hash(&self.value, alloc, state)
+    }
+}
+
+// The JSON value of a text.
+fn text_json(alloc: Global, text: &str) -> Result<Value, ToJsonError>
+    ensures { IsAnswer ⊤ (λ d. d ≡ string text.now) result }
+{
+    Ok(Value::String(String::from_str(alloc, text)?))
+}
+
+impl ToJson for RepoPathComponentBuf {
+    ghost is_in_range = { λ _. ⊤ };
+
+    ghost is_json = { λ name d. d ≡ string name };
+
+    fn to_json(&self, alloc: Global) -> Result<Value, ToJsonError> {
+        text_json(alloc, self.value.as_str())
+    }
+}
+
+impl<'a> ToJson for RepoPathComponent<'a> {
+    ghost is_in_range = { λ _. ⊤ };
+
+    ghost is_json = { λ name d. d ≡ string (name_of name) };
+
+    fn to_json(&self, alloc: Global) -> Result<Value, ToJsonError> {
+        text_json(alloc, self.value)
+    }
+}
+
+impl ToJson for RepoPathBuf {
+    ghost is_in_range = { λ _. ⊤ };
+
+    ghost is_json = { λ path d. d ≡ string (path_text path) };
+
+    fn to_json(&self, alloc: Global) -> Result<Value, ToJsonError> {
+        self.as_path().to_json(alloc)
+    }
+}
+
+impl<'a> ToJson for RepoPath<'a> {
+    ghost is_in_range = { λ _. ⊤ };
+
+    ghost is_json = { λ path d. d ≡ string (path_text (path_of path)) };
+
+    fn to_json(&self, alloc: Global) -> Result<Value, ToJsonError> {
+        text_json(alloc, self.value)
+    }
+}

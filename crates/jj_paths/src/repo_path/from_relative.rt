@@ -1,0 +1,206 @@
+//! Paths of a repository from relative paths of the file system, which are bytes.
+ghost use Rattle.std.specs.Prelude.{◌≡◌, ◌<◌, ◌==◌, ◌++◌, ℕ, List, [], ◌∷◌, Some, None, true, false, OnOk, IfOk, IfErr, length, slice_index, string_bytes};
+ghost use Rattle.std.specs.List.{filter, find};
+ghost use Rattle.std.specs.Str.{is_utf8};
+ghost use Rattle.std.specs.Iterator.{YieldsFirstRef, item_count};
+ghost use Rattle.std.specs.Path.{slash, is_name, is_dot_at, path_names};
+ghost use Rattle.jj_paths.specs.Texts.{with_name};
+ghost use Rattle.jj_paths.specs.RelativePaths.{IsParseError, is_place, is_refused, relative_components};
+
+use super::RepoPathBuf;
+use std::alloc::{AllocError, Global};
+use std::error::Error;
+use std::fmt;
+
+/// A path that is not one below the directory that it starts from, or whose names are not texts.
+#[derive(Clone, Debug, PartialEq, Eq, Drop)]
+pub enum RelativePathParseError {
+    /// A component that is no name: `/`, `.` or `..`.
+    InvalidComponent { component: String, path: Vec<u8> },
+    InvalidUtf8 { path: Vec<u8> },
+    Memory,
+}
+
+// bytes as they are shown: what is not UTF-8 by U+FFFD
+#[derive(Clone, Copy)]
+struct Shown<'a>(&'a [u8]);
+
+impl fmt::Display for Shown<'_> {
+    fn fmt<W: fmt::Write>(&self, f: &mut fmt::Formatter<W>) -> fmt::Result {
+        for chunk in self.0.utf8_chunks() {
+            f.write_str(chunk.valid())?;
+            if !chunk.invalid().is_empty() {
+                f.write_char(char::REPLACEMENT_CHARACTER)?;
+            }
+        }
+        Ok(())
+    }
+}
+
+impl fmt::Display for RelativePathParseError {
+    fn fmt<W: fmt::Write>(&self, f: &mut fmt::Formatter<W>) -> fmt::Result {
+        match self {
+            RelativePathParseError::InvalidComponent { component, path } => {
+                let path = Shown(path.as_slice());
+                write!(
+                    f,
+                    "Invalid component \"{component}\" in repo-relative path \"{path}\""
+                )
+            }
+            RelativePathParseError::InvalidUtf8 { path } => {
+                let path = Shown(path.as_slice());
+                write!(f, "Not valid UTF-8 path \"{path}\"")
+            }
+            RelativePathParseError::Memory => f.write_str("out of memory"),
+        }
+    }
+}
+
+impl Error for RelativePathParseError {}
+
+impl From<AllocError> for RelativePathParseError {
+    ghost use Rattle.jj_paths.specs.declared.repo_path.from_relative.RelativePathParseError.TheVariants.{Memory};
+
+    ghost from_gives = { λ _ e. e ≡ Memory };
+
+    fn from(_error: AllocError) -> RelativePathParseError {
+        RelativePathParseError::Memory
+    }
+}
+
+// the part of a path before its first slash, and what comes after that slash
+fn cut_at_slash(path: &[u8]) -> (&[u8], &[u8])
+    ensures names { path_names path.now ≡ filter is_name (result.0.now ∷ []) ++ path_names result.1.now }
+    ensures shorter { 0 < length path.now → length result.1.now < length path.now }
+{
+    for (i, b) in path.iter().enumerate() {
+        if *b == b'/' {
+            return (&path[..i], &path[i + 1..]);
+        }
+    }
+    (path, &path[path.len()..])
+}
+
+// the names of a path that have not been given yet, `..` among them
+#[derive(Drop)]
+struct Names<'a> {
+    rest: &'a [u8],
+}
+
+impl<'a> Iterator for Names<'a> {
+    ghost use Rattle.jj_paths.specs.NamesLeft.{names_left};
+
+    type Item = &'a [u8];
+
+    ghost next_gives = { YieldsFirstRef names_left };
+
+    ghost remaining = { item_count names_left };
+
+    fn next(&mut self) -> Option<&'a [u8]> {
+        while !self.rest.is_empty() {
+            let (part, rest) = cut_at_slash(self.rest);
+            self.rest = rest;
+            if is_name(part) {
+                return Some(part);
+            }
+        }
+        None
+    }
+}
+
+fn is_name(part: &[u8]) -> bool
+    ensures { result ≡ is_name part.now }
+{
+    !part.is_empty() && part != b".".as_slice()
+}
+
+fn is_absolute(path: &[u8]) -> bool
+    ensures { result ≡ (slice_index path.now 0 == slash) }
+{
+    !path.is_empty() && path[0] == b'/'
+}
+
+// whether a path's first component is `.`
+fn starts_at_dot(path: &[u8]) -> bool
+    ensures { result ≡ is_dot_at path.now 0 }
+{
+    !path.is_empty() && path[0] == b'.' && (path.len() == 1 || path[1] == b'/')
+}
+
+impl RelativePathParseError {
+    // that the path has a component which is no name
+    fn at_place(alloc: Global, place: &str, path: &[u8]) -> RelativePathParseError
+        requires { is_place place.now ≡ true }
+        ensures { IsParseError path.now (Some place.now) result }
+    {
+        let Ok(component) = String::from_str(alloc, place) else {
+            return RelativePathParseError::Memory;
+        };
+        match Vec::from_slice(alloc, path) {
+            Ok(path) => RelativePathParseError::InvalidComponent { component, path },
+            Err(_) => RelativePathParseError::Memory,
+        }
+    }
+
+    // that the path has a name which is no text
+    fn not_utf8(alloc: Global, path: &[u8]) -> RelativePathParseError
+        ensures { (name : List ℕ) → is_utf8 name ≡ false → IsParseError path.now (Some name) result }
+    {
+        match Vec::from_slice(alloc, path) {
+            Ok(path) => RelativePathParseError::InvalidUtf8 { path },
+            Err(_) => RelativePathParseError::Memory,
+        }
+    }
+}
+
+impl RepoPathBuf {
+    /// The path in a repository that a relative path of the file system names, with no name for
+    /// the directory that it starts from. The first component that is `/`, `.` or `..` is
+    /// `InvalidComponent`, the first that is not UTF-8 is `InvalidUtf8`, whichever comes first.
+    pub fn from_relative_path(
+        alloc: Global,
+        path: &[u8],
+    ) -> Result<RepoPathBuf, RelativePathParseError>
+        ensures ok { IfOk result (λ made. (made ≡ relative_components path.now) × (find is_refused (relative_components path.now) ≡ None)) }
+        ensures refused { IfErr result (IsParseError path.now (find is_refused (relative_components path.now))) }
+    {
+        if is_absolute(path) {
+            return Err(RelativePathParseError::at_place(alloc, "/", path));
+        }
+        if !starts_at_dot(path) {
+            return joined_names(alloc, path);
+        }
+        match (Names { rest: path }).next() {
+            None => Ok(RepoPathBuf::root(alloc)),
+            Some(_name) => Err(RelativePathParseError::at_place(alloc, ".", path)),
+        }
+    }
+}
+
+// the path of the names of a path that starts with one
+fn joined_names(alloc: Global, path: &[u8]) -> Result<RepoPathBuf, RelativePathParseError>
+    ensures ok { IfOk result (λ made. (made ≡ path_names path.now) × (find is_refused (path_names path.now) ≡ None)) }
+    ensures refused { IfErr result (IsParseError path.now (find is_refused (path_names path.now))) }
+{
+    let mut value = String::with_capacity(alloc, path.len())?;
+    for name in (Names { rest: path }) {
+        if name == b"..".as_slice() {
+            return Err(RelativePathParseError::at_place(alloc, "..", path));
+        }
+        let Ok(name) = str::from_utf8(name) else {
+            return Err(RelativePathParseError::not_utf8(alloc, path));
+        };
+        push_name_text(&mut value, name)?;
+    }
+    Ok(RepoPathBuf { value })
+}
+
+// adds a name to a path's text
+fn push_name_text(text: &mut String, name: &str) -> Result<(), AllocError>
+    ensures { OnOk result (string_bytes text.new ≡ with_name (string_bytes text.old) name.now) }
+{
+    if !text.is_empty() {
+        text.push('/')?;
+    }
+    text.push_str(name)
+}

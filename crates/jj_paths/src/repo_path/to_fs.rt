@@ -1,0 +1,131 @@
+//! Names and paths of a repository as names and paths of the file system.
+ghost use Rattle.std.specs.Prelude.{◌≡◌, ◌≢◌, ◌⊎◌, false, None, IsOk, IfOk, IfErr, string_bytes};
+ghost use Rattle.std.specs.List.{find};
+ghost use Rattle.std.specs.Path.{path_buf_bytes};
+ghost use Rattle.jj_paths.specs.Names.{name_of, path_of};
+ghost use Rattle.jj_paths.specs.FsTexts.{appended, fs_text, is_dots};
+
+use super::{RepoPath, RepoPathBuf, RepoPathComponent};
+use crate::fs_text::text_or_dot;
+use std::alloc::{AllocError, Global};
+use std::path::PathBuf;
+use thiserror::Error;
+
+/// A name that the file system keeps for other uses: `.` or `..`.
+#[derive(Clone, Debug, PartialEq, Eq, Drop, Error)]
+pub enum InvalidRepoPathComponentError {
+    #[error(r#"Invalid path component "{component}""#)]
+    Invalid { component: String },
+    #[error("out of memory")]
+    Memory,
+}
+
+/// A path with a name that no file can have.
+#[derive(Clone, Debug, PartialEq, Eq, Drop, Error)]
+pub enum InvalidRepoPathError {
+    #[error(r#"Invalid repository path "{}""#, .path.as_path().as_internal_file_string())]
+    Invalid {
+        path: RepoPathBuf,
+        source: InvalidRepoPathComponentError,
+    },
+    #[error("out of memory")]
+    Memory,
+}
+
+impl InvalidRepoPathComponentError {
+    ghost use Rattle.jj_paths.specs.FsRefusals.{IsOfName, IsOfPath};
+    ghost use Rattle.jj_paths.specs.declared.repo_path.to_fs.InvalidRepoPathComponentError.TheVariants.{Memory};
+
+    // the error for this name, which is copied
+    fn of_name(alloc: Global, name: &str) -> InvalidRepoPathComponentError
+        ensures { (result ≡ Memory) ⊎ IsOfName name.now result }
+    {
+        match String::from_str(alloc, name) {
+            Ok(component) => InvalidRepoPathComponentError::Invalid { component },
+            Err(_) => InvalidRepoPathComponentError::Memory,
+        }
+    }
+
+    /// The same fault of a whole path, which is copied.
+    pub fn with_path(self, alloc: Global, path: RepoPath<'_>) -> InvalidRepoPathError
+        ensures { IsOfPath (path_of path.entry) self result }
+    {
+        if let InvalidRepoPathComponentError::Memory = self {
+            return InvalidRepoPathError::Memory;
+        }
+        match path.to_owned(alloc) {
+            Ok(path) => InvalidRepoPathError::Invalid { path, source: self },
+            Err(_) => InvalidRepoPathError::Memory,
+        }
+    }
+}
+
+impl<'a> RepoPathComponent<'a> {
+    ghost use Rattle.jj_paths.specs.FsRefusals.{IsRefusedName};
+
+    /// The name as a file's. `.` and `..` are `Invalid`.
+    pub fn to_fs_name(self, alloc: Global) -> Result<&'a str, InvalidRepoPathComponentError>
+        ensures ok { IfOk result (λ name. (name.now ≡ name_of self.entry) × (is_dots (name_of self.entry) ≡ false)) }
+        ensures valid { is_dots (name_of self.entry) ≡ false → IsOk result }
+        ensures refused { IfErr result (IsRefusedName (name_of self.entry)) }
+    {
+        let name = self.as_internal_str();
+        if name == "." || name == ".." {
+            Err(InvalidRepoPathComponentError::of_name(alloc, name))
+        } else {
+            Ok(name)
+        }
+    }
+}
+
+impl<'a> RepoPath<'a> {
+    ghost use Rattle.jj_paths.specs.FsRefusals.{IsRefusedPath};
+
+    /// The path below a directory of the file system. A path with a name `.` or `..` is `Invalid`,
+    /// with the first such name.
+    pub fn to_fs_path(self, alloc: Global, base: &str) -> Result<String, InvalidRepoPathError>
+        ensures ok { IfOk result (λ text. (string_bytes text ≡ fs_text base.now (path_of self.entry)) × (find is_dots (path_of self.entry) ≡ None)) }
+        ensures refused { IfErr result (IsRefusedPath (path_of self.entry)) }
+    {
+        let mut path = self.room_below(alloc, base)?;
+        for name in self.components() {
+            match name.to_fs_name(alloc) {
+                Ok(name) => path.push(name)?,
+                Err(error) => return Err(error.with_path(alloc, self)),
+            }
+        }
+        Ok(text_or_dot(path)?)
+    }
+
+    /// The path below a directory of the file system, whatever its names are: a name `..` leads
+    /// out of the directory.
+    pub fn to_fs_path_unchecked(self, alloc: Global, base: &str) -> Result<String, AllocError>
+        ensures { IfOk result (λ text. string_bytes text ≡ fs_text base.now (path_of self.entry)) }
+    {
+        let mut path = self.room_below(alloc, base)?;
+        for name in self.components() {
+            path.push(name.as_internal_str())?;
+        }
+        text_or_dot(path)
+    }
+
+    // the directory, with room for the path below it
+    fn room_below(self, alloc: Global, base: &str) -> Result<PathBuf, AllocError>
+        ensures { IfOk result (λ path. path_buf_bytes path ≡ base.now) }
+    {
+        let more = self.as_internal_file_string().len().saturating_add(1);
+        let mut path = PathBuf::with_capacity(alloc, base.len().saturating_add(more))?;
+        path.push(base)?;
+        Ok(path)
+    }
+}
+
+impl From<AllocError> for InvalidRepoPathError {
+    ghost use Rattle.jj_paths.specs.declared.repo_path.to_fs.InvalidRepoPathError.TheVariants.{Memory};
+
+    ghost from_gives = { λ _ e. e ≡ Memory };
+
+    fn from(_error: AllocError) -> InvalidRepoPathError {
+        InvalidRepoPathError::Memory
+    }
+}

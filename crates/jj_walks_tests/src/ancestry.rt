@@ -1,0 +1,43 @@
+//! Callers over a list of commits: each states what a walk gives in the words of commits, and is proved by the walk's contract.
+ghost use Rattle.std.specs.Prelude.{IfOk, IfErr, eqb, map};
+ghost use Rattle.std.specs.List.{IsDistinct};
+ghost use Rattle.jj_walks.specs.Errors.{IfNode};
+ghost use Rattle.jj_walks.specs.Graph.{HasNoCycle, IsMaximalIn};
+ghost use Rattle.jj_walks_tests.specs.Commits.{ids_of, parent_graph, IsParentsFirst, IsOnCycle};
+
+use crate::commits::{Commit, parents_of};
+use jj_walks::dag_walk::{WalkError, heads, topo_order_forward};
+use std::alloc::{AllocError, Global};
+use std::collections::HashSet;
+
+/// The commits of the list, each after its parents that are in the list; the id of a commit on a cycle is an error.
+pub fn parents_first<'a>(
+    alloc: Global,
+    commits: &'a [Commit],
+) -> Result<Vec<&'a Commit>, WalkError<u64>>
+    requires { IsDistinct eqb (ids_of commits.now) }
+    ensures order { IfOk result (λ order. IsParentsFirst commits.now (map (λ commit. commit.now) order.items)) }
+    ensures cycle { IfErr result (λ e. IfNode e (IsOnCycle commits.now)) }
+{
+    topo_order_forward(
+        alloc,
+        commits.iter(),
+        |commit: &&Commit| commit.id,
+        |commit: &&Commit| parents_of(commits, *commit),
+        |commit: &Commit| commit.id,
+    )
+}
+
+/// The commits of the list that no other of them has for an ancestor.
+pub fn tips<'a>(alloc: Global, commits: &'a [Commit]) -> Result<HashSet<&'a Commit>, AllocError>
+    requires once { IsDistinct eqb (ids_of commits.now) }
+    requires acyclic { HasNoCycle (parent_graph commits.now) (ids_of commits.now) }
+    ensures { IfOk result (λ found. IsMaximalIn (parent_graph commits.now) (ids_of commits.now) (map (λ commit. commit.now.id) found.keys)) }
+{
+    heads(
+        alloc,
+        commits.iter(),
+        |commit: &&Commit| commit.id,
+        |commit: &&Commit| parents_of(commits, *commit),
+    )
+}
