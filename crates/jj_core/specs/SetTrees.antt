@@ -15,7 +15,7 @@ pub data SetTree (A : Type 0) : Type 0 where
 
 -- 1. Stacks, the last set first.
 
--- the stack with the two sets on top combined; one of fewer sets is given up
+-- the stack with the two sets on top combined; of a stack of fewer sets nothing is left
 abbrev pub joined : {A : Type 0} → Combination → List (SetTree A) → List (SetTree A)
 joined combination [] = []
 joined combination (alone ∷ []) = []

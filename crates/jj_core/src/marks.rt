@@ -15,10 +15,10 @@ struct KeyedMark<'t> {
     path: RepoPath<'t>,
 }
 
-/// So many marks are sorted by their texts.
+/// Lists of at most this many marks are sorted by comparing whole texts.
 const FEW: usize = 32;
 
-/// So many parts of texts are compared as numbers. What differs behind them alone is compared as text.
+/// How many parts of eight bytes are compared as numbers; marks that agree in all of them are compared as texts.
 const PARTS: usize = 8;
 
 /// The bytes of a part.

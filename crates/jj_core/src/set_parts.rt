@@ -23,7 +23,7 @@ pub(crate) fn parts<S: Drop>(
     ensures { IfOk result (λ parts. parts.items ≡ parts_along [] (reverse steps.items)) }
 {
     let mut parts = Vec::new(alloc);
-    // The combinations of whose second operand the last step is still to come.
+    // The combinations whose second operand has a step that was not gone over yet.
     let mut wanting = Vec::new(alloc);
     while let Some(step) = steps.pop() {
         add_parts(step, &mut parts, &mut wanting)?;

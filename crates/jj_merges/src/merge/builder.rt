@@ -45,7 +45,7 @@ impl<T: Drop> MergeBuilder<T> {
         }
     }
 
-    /// Appends the items. Refused, those that came before are appended.
+    /// Appends the items. Where memory runs out, those that came before stay appended.
     pub fn extend<U: IntoIterator<Item = T>>(
         &mut self,
         alloc: Global,

@@ -1,4 +1,4 @@
-//! Leaving out adds that equal removes, and writing back into what was left out of.
+//! Cancelling adds with equal removes, and writing what was made of the simplified terms back to where they stood.
 ghost use Rattle.std.specs.Prelude.{◌≡◌, ◌≢◌, ℕ, ◌≤◌, List, All, length, slice_get, IsTrue, IfOk};
 ghost use Rattle.std.specs.Fn.{CalledAt};
 ghost use Rattle.std.specs.Cmp.{IsEquivalence};
