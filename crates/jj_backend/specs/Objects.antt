@@ -1,5 +1,5 @@
 -- What a backend keeps, by ids, and what reads and writes of it answer.
-use Rattle.std.specs.Prelude.{◌≡◌, ℕ, List, [], Option, Some, None, if◌then◌else◌, ◌⊎◌, Result, MatchResult, MatchOption}
+use Rattle.std.specs.Prelude.{◌≡◌, ℕ, List, [], Option, Some, None, if◌then◌else◌, ◌⊎◌, Result, Ok, MatchResult}
 use Rattle.std.specs.Bool.{MatchBool}
 use Rattle.std.specs.Str.{bytes_eq}
 use Rattle.jj_backend.specs.Contents.{commit_content}
@@ -7,6 +7,11 @@ use Rattle.jj_backend.specs.Errors.{is_not_found}
 use Rattle.jj_backend.specs.Records.{CommitValue, CopyHistoryValue}
 use Rattle.jj_backend.specs.Trees.{Entries}
 use Rattle.jj_backend.specs.declared.backend.errors.BackendError.{BackendError}
+use Rattle.jj_backend.specs.declared.signing.SignError.{SignError}
+
+-- what is signed of a commit
+abbrev pub unsigned_content : CommitValue → List ℕ
+unsigned_content commit = commit_content (record commit { secure_sig = None })
 
 -- a map from ids, by their bytes, to values
 abbrev pub ById : Type 0 → Type 0
@@ -51,3 +56,10 @@ AddsTree old new id entries = IsFree old.trees id entries × (new ≡ record old
 
 abbrev pub AddsCommit : Objects → Objects → List ℕ → CommitValue → Type 0
 AddsCommit old new id commit = IsFree old.commits id commit × (new ≡ record old { commits = put old.commits id commit })
+
+-- the commit as it is kept: itself where nothing signs it, else with its content and a signature of that
+abbrev pub IsSigned : {S : Type 0} → (S → List ℕ → Result (List ℕ) SignError → Type 0) → Option S → CommitValue → CommitValue → Type 0
+IsSigned may_sign None commit kept = kept ≡ commit
+IsSigned may_sign (Some signer) commit kept =
+    (sig : List ℕ) × may_sign signer (unsigned_content commit) (Ok sig)
+    × (kept ≡ record commit { secure_sig = Some (record { signed_data = unsigned_content commit; sig = sig }) })

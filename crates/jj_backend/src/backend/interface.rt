@@ -1,7 +1,8 @@
 //! Where objects are kept, and what signs commits.
 ghost use Rattle.std.specs.Prelude.{◌≡◌, ℕ, List, [], Some, IsSome, IfOk, OnErr, Result, string_bytes};
 ghost use Rattle.std.specs.Result.{result_map_both};
-ghost use Rattle.jj_backend.specs.Objects.{IsRead, AddsFile, AddsSymlink, AddsCopy, AddsTree, AddsCommit};
+ghost use Rattle.jj_backend.specs.Objects.{IsRead, AddsFile, AddsSymlink, AddsCopy, AddsTree, AddsCommit, IsSigned};
+ghost use Rattle.std.specs.Option.{option_map};
 
 use super::{
     BackendResult, ChangeId, Commit, CommitId, CopyHistory, CopyId, CopyRecord, FileId,
@@ -125,6 +126,7 @@ pub trait Backend {
         sign_with: Option<&mut S>,
     ) -> BackendResult<(CommitId, Commit)>
         ensures ok { IfOk result (λ kept. AddsCommit (objects self.old) (objects self.new) kept.0 kept.1) }
+        ensures signed { IfOk result (λ kept. IsSigned S.may_sign (option_map (λ f. f.now) sign_with.entry) contents kept.1) }
         ensures kept { OnErr result (objects self.new ≡ objects self.old) };
 
     /// The copies that were found between two commits, of these paths or of all.
