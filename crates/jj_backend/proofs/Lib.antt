@@ -1,1 +1,2 @@
 pub mod MergedParts
+pub mod Searched

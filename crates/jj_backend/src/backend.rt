@@ -2,15 +2,19 @@
 mod commit;
 mod copies;
 mod errors;
+mod interface;
 mod merged_parts;
 mod signature;
 mod timestamp;
+mod tree;
 mod tree_value;
 
 pub use commit::{Commit, make_root_commit};
 pub use copies::{CopyHistory, CopyRecord, RelatedCopy};
 pub use errors::{BackendError, BackendInitError, BackendLoadError, BackendResult};
+pub use interface::{Backend, SigningFn};
 pub use jj_ids::object_id::{ChangeId, CommitId, CopyId, FileId, SymlinkId, TreeId};
 pub use signature::{SecureSig, Signature};
 pub use timestamp::{MillisSinceEpoch, Timestamp, TimestampOutOfRange};
+pub use tree::{Tree, TreeEntriesNonRecursiveIterator, TreeEntry, TreeNames};
 pub use tree_value::TreeValue;

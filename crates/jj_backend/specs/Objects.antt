@@ -1,0 +1,65 @@
+-- What a backend keeps, by ids, and what reads and writes of it answer.
+use Rattle.std.specs.Prelude.{◌≡◌, ℕ, List, [], Option, Some, None, if◌then◌else◌, ◌⊎◌, Result, Ok, MatchResult}
+use Rattle.std.specs.Bool.{MatchBool}
+use Rattle.std.specs.Str.{bytes_eq}
+use Rattle.jj_backend.specs.Contents.{commit_content}
+use Rattle.jj_backend.specs.Errors.{is_not_found}
+use Rattle.jj_backend.specs.Records.{CommitValue, CopyHistoryValue}
+use Rattle.jj_backend.specs.Trees.{Entries}
+use Rattle.jj_backend.specs.declared.backend.errors.BackendError.{BackendError}
+use Rattle.jj_backend.specs.declared.signing.SignError.{SignError}
+
+-- what is signed of a commit
+abbrev pub unsigned_content : CommitValue → List ℕ
+unsigned_content commit = commit_content (record commit { secure_sig = None })
+
+-- a map from ids, by their bytes, to values
+abbrev pub ById : Type 0 → Type 0
+ById V = List ℕ → Option V
+
+module _ {V : Type 0} where
+  -- the map in which the id stands for that value
+  abbrev pub put : ById V → List ℕ → V → ById V
+  put m id v = λ q. if bytes_eq id q then Some v else m q
+
+  -- the id stands for no other value
+  abbrev pub IsFree : ById V → List ℕ → V → Type 0
+  IsFree m id v = (m id ≡ None) ⊎ (m id ≡ Some v)
+
+-- objects of each type, by their ids
+pub record Objects : Type 0 where
+  pub files : ById (List ℕ)
+  pub symlinks : ById (List ℕ)
+  pub copies : ById CopyHistoryValue
+  pub trees : ById Entries
+  pub commits : ById CommitValue
+
+-- A read of what an id stands for answers that value, or that there is none exactly where there
+-- is none; else the backend has failed.
+abbrev pub IsRead : {V R : Type 0} → (BackendError → Type 0) → Option V → (R → V) → Result R BackendError → Type 0
+IsRead may_fail found value result =
+    MatchResult result (λ r. found ≡ Some (value r)) (λ e. MatchBool (is_not_found e) (found ≡ None) (may_fail e))
+
+-- the new objects are the old ones and this one
+
+abbrev pub AddsFile : Objects → Objects → List ℕ → List ℕ → Type 0
+AddsFile old new id contents = IsFree old.files id contents × (new ≡ record old { files = put old.files id contents })
+
+abbrev pub AddsSymlink : Objects → Objects → List ℕ → List ℕ → Type 0
+AddsSymlink old new id target = IsFree old.symlinks id target × (new ≡ record old { symlinks = put old.symlinks id target })
+
+abbrev pub AddsCopy : Objects → Objects → List ℕ → CopyHistoryValue → Type 0
+AddsCopy old new id copy = IsFree old.copies id copy × (new ≡ record old { copies = put old.copies id copy })
+
+abbrev pub AddsTree : Objects → Objects → List ℕ → Entries → Type 0
+AddsTree old new id entries = IsFree old.trees id entries × (new ≡ record old { trees = put old.trees id entries })
+
+abbrev pub AddsCommit : Objects → Objects → List ℕ → CommitValue → Type 0
+AddsCommit old new id commit = IsFree old.commits id commit × (new ≡ record old { commits = put old.commits id commit })
+
+-- the commit as it is kept: itself where nothing signs it, else with its content and a signature of that
+abbrev pub IsSigned : {S : Type 0} → (S → List ℕ → Result (List ℕ) SignError → Type 0) → Option S → CommitValue → CommitValue → Type 0
+IsSigned may_sign None commit kept = kept ≡ commit
+IsSigned may_sign (Some signer) commit kept =
+    (sig : List ℕ) × may_sign signer (unsigned_content commit) (Ok sig)
+    × (kept ≡ record commit { secure_sig = Some (record { signed_data = unsigned_content commit; sig = sig }) })

@@ -1,0 +1,43 @@
+-- Equality and content of trees, entry by entry.
+use Rattle.std.specs.Prelude.{◌≡◌, ℕ, List, ◌++◌, Bool}
+use Rattle.std.specs.Cmp.{IsEquivalence, and_equiv, on_equiv}
+use Rattle.std.specs.Cmp.Lexicographic.{pointwise, nat_list_eq_equiv, lists_equiv}
+use Rattle.std.specs.Ordering.{eq_of_both, on}
+use Rattle.std.specs.Str.{bytes_eq}
+use Rattle.jj_content.specs.Content.{IsLawful, AreValues, list_content, text_content}
+use Rattle.jj_content.specs.Lawful.{on_lawful, both_lawful, list_lawful, text_lawful}
+use Rattle.jj_paths.specs.Paths.{Name}
+use Rattle.jj_backend.specs.Contents.{IsText}
+use Rattle.jj_backend.specs.Trees.{Entries}
+use Rattle.jj_backend.specs.TreeValues.{IsTreeValue, tree_value_content}
+use Rattle.jj_backend.specs.TreeValueLaws.{tree_value_lawful}
+use Rattle.jj_backend.specs.contracts.backend.tree_value.TreeValuePartialEq.TheImpl.{ghosts}
+use Rattle.jj_backend.specs.contracts.backend.tree_value.TreeValueEq.TheImpl.Laws.{laws-law}
+use Rattle.jj_backend.specs.declared.backend.tree_value.TreeValue.{TreeValue}
+
+-- the same name, and the same there
+abbrev pub entry_eq : Name × TreeValue → Name × TreeValue → Bool
+entry_eq = eq_of_both (on (λ e. e.0) bytes_eq) (on (λ e. e.1) ghosts.eq)
+
+abbrev pub tree_eq : Entries → Entries → Bool
+tree_eq = pointwise entry_eq
+
+pub tree_equiv : IsEquivalence tree_eq
+tree_equiv = lists_equiv (and_equiv (on_equiv (λ e. e.0) nat_list_eq_equiv) (on_equiv (λ e. e.1) laws-law))
+
+-- ---- content: the list of the entries, each the name and then what stands there
+
+abbrev pub IsEntry : Name × TreeValue → Type 0
+IsEntry e = IsText e.0 × IsTreeValue e.1
+
+abbrev pub IsTree : Entries → Type 0
+IsTree = AreValues IsEntry
+
+abbrev pub entry_content : Name × TreeValue → List ℕ
+entry_content e = text_content e.0 ++ tree_value_content e.1
+
+abbrev pub tree_content : Entries → List ℕ
+tree_content = list_content entry_content
+
+pub tree_lawful : IsLawful IsTree tree_eq tree_content
+tree_lawful = list_lawful (both_lawful (on_lawful (λ e. e.0) text_lawful) (on_lawful (λ e. e.1) tree_value_lawful))

@@ -1,0 +1,37 @@
+-- Trees of one directory: what stands at its names, and what is left of walks over it.
+use Rattle.std.specs.Prelude.{◌≡◌, ℕ, ◌<◌, List, map, length, Option, Some, Bool, slice_index_or, if◌then◌else◌}
+use Rattle.std.specs.Cmp.Lexicographic.{pointwise}
+use Rattle.std.specs.Map.{lookup}
+use Rattle.std.specs.Ordering.{eq_of_both, on}
+use Rattle.std.specs.Str.{bytes_eq}
+use Rattle.jj_paths.specs.Names.{name_of}
+use Rattle.jj_paths.specs.Paths.{Name}
+use Rattle.jj_backend.specs.declared.backend.tree.TreeEntriesNonRecursiveIterator.{TreeEntriesNonRecursiveIterator}
+use Rattle.jj_backend.specs.declared.backend.tree.TreeEntry.{TreeEntry}
+use Rattle.jj_backend.specs.declared.backend.tree.TreeNames.{TreeNames}
+use Rattle.jj_backend.specs.declared.backend.tree_value.TreeValue.{TreeValue}
+
+-- the entries of a directory, by their names
+abbrev pub Entries : Type 0
+Entries = List (Name × TreeValue)
+
+-- what stands at a name
+abbrev pub value_at : Entries → Name → Option TreeValue
+value_at entries name = lookup (bytes_eq name) entries
+
+-- this place of the list has the name, and so what stands there
+pub record IsEntryAt (entries : Entries) (name : Name) (place : ℕ) : Type 0 where
+  pub in_range : place < length entries
+  pub has_name : (d : Name × TreeValue) → (slice_index_or entries place d).0 ≡ name
+  pub has_value : (d : Name × TreeValue) → value_at entries name ≡ Some (slice_index_or entries place d).1
+
+-- a borrowed entry
+abbrev pub entry_of : TreeEntry → Name × TreeValue
+entry_of entry = (name_of entry.name, entry.value.now)
+
+-- the entries, or the names, that have not been given yet
+abbrev pub entries_left : TreeEntriesNonRecursiveIterator → Entries
+entries_left left = left.rest.now
+
+abbrev pub names_left : TreeNames → List Name
+names_left left = map (λ entry. entry.0) left.rest.now

@@ -1,0 +1,231 @@
+//! Trees: what stands at the names of one directory.
+ghost use Rattle.std.specs.Prelude.{◌≡◌, ◌↔◌, [], map, IsTrue, IfSome, MatchOption, None, OnOk, OnErr};
+ghost use Rattle.std.specs.Cmp;
+ghost use Rattle.std.specs.FinMap.{is_sorted};
+ghost use Rattle.std.specs.Iterator.{YieldsFirstBy, item_count};
+ghost use Rattle.std.specs.Option.{option_copied, option_map};
+ghost use Rattle.jj_content.specs.Content.{Takes, TakesFront, IsLawful};
+ghost use Rattle.jj_paths.specs.Names.{name_of};
+ghost use Rattle.jj_paths.specs.Paths.{name_cmp};
+ghost use Rattle.jj_backend.specs.TreeLaws.{tree_eq, tree_equiv, IsTree, tree_content, tree_lawful};
+ghost use Rattle.jj_backend.specs.Trees.{Entries, value_at, IsEntryAt, entry_of, entries_left, names_left};
+
+use super::TreeValue;
+use jj_content::content_hash::{ContentHash, DigestUpdate};
+use jj_paths::repo_path::{RepoPathComponent, RepoPathComponentBuf};
+use std::alloc::{AllocError, Global};
+use std::cmp::Ordering;
+use std::iter::FusedIterator;
+use std::marker::Model;
+
+/// A name of a tree, and what stands there.
+#[derive(Clone, Copy, Debug, PartialEq, Eq)]
+pub struct TreeEntry<'a> {
+    name: RepoPathComponent<'a>,
+    value: &'a TreeValue,
+}
+
+impl<'a> TreeEntry<'a> {
+    pub fn new(name: RepoPathComponent<'a>, value: &'a TreeValue) -> Self
+        ensures { entry_of result ≡ (name_of name.entry, value.now) }
+    {
+        TreeEntry { name, value }
+    }
+
+    pub fn name(&self) -> RepoPathComponent<'a>
+        ensures { name_of result ≡ (entry_of self.now).0 }
+    {
+        self.name
+    }
+
+    pub fn value(&self) -> &'a TreeValue
+        ensures { result.now ≡ (entry_of self.now).1 }
+    {
+        self.value
+    }
+}
+
+/// The entries of a tree, in the order of their names. Once it has answered `None`, it goes on so.
+#[derive(Clone, Copy)]
+pub struct TreeEntriesNonRecursiveIterator<'a> {
+    rest: &'a [(RepoPathComponentBuf, TreeValue)],
+}
+
+impl<'a> Iterator for TreeEntriesNonRecursiveIterator<'a> {
+    type Item = TreeEntry<'a>;
+
+    ghost next_gives = { YieldsFirstBy entry_of entries_left };
+
+    ghost remaining = { item_count entries_left };
+
+    fn next(&mut self) -> Option<TreeEntry<'a>> {
+        let (first, rest) = self.rest.split_first()?;
+        self.rest = rest;
+        Some(TreeEntry::new(first.0.as_component(), &first.1))
+    }
+}
+
+impl FusedIterator for TreeEntriesNonRecursiveIterator<'_> {}
+
+/// The names of a tree, in order. Once it has answered `None`, it goes on so.
+#[derive(Clone, Copy)]
+pub struct TreeNames<'a> {
+    rest: &'a [(RepoPathComponentBuf, TreeValue)],
+}
+
+impl<'a> Iterator for TreeNames<'a> {
+    type Item = RepoPathComponent<'a>;
+
+    ghost next_gives = { YieldsFirstBy name_of names_left };
+
+    ghost remaining = { item_count names_left };
+
+    fn next(&mut self) -> Option<RepoPathComponent<'a>> {
+        let (first, rest) = self.rest.split_first()?;
+        self.rest = rest;
+        Some(first.0.as_component())
+    }
+}
+
+impl FusedIterator for TreeNames<'_> {}
+
+/// What stands at the names of one directory, which ascend strictly.
+#[derive(Debug, Drop)]
+pub struct Tree {
+    entries: Vec<(RepoPathComponentBuf, TreeValue)>,
+}
+
+impl Model for Tree {
+    ghost Value = { Entries };
+
+    ghost view = { λ tree. tree.entries.items };
+
+    ghost invariant = { λ tree. IsTrue (is_sorted name_cmp tree.entries.items) };
+}
+
+impl Tree {
+    /// The tree without entries.
+    pub fn default(alloc: Global) -> Self
+        ensures { result ≡ [] }
+    {
+        Tree {
+            entries: Vec::new(alloc),
+        }
+    }
+
+    /// The tree of these entries.
+    pub fn from_sorted_entries(entries: Vec<(RepoPathComponentBuf, TreeValue)>) -> Self
+        requires { IsTrue (is_sorted name_cmp entries.items) }
+        ensures { result ≡ entries.items }
+    {
+        Tree { entries }
+    }
+
+    pub fn is_empty(&self) -> bool
+        ensures { IsTrue result ↔ (self.now ≡ []) }
+    {
+        self.entries.is_empty()
+    }
+
+    /// The names, in order.
+    pub fn names(&self) -> TreeNames<'_>
+        ensures { names_left result ≡ map (λ entry. entry.0) self.now }
+    {
+        TreeNames {
+            rest: self.entries.as_slice(),
+        }
+    }
+
+    /// The entries, in the order of their names.
+    pub fn entries(&self) -> TreeEntriesNonRecursiveIterator<'_>
+        ensures { entries_left result ≡ self.now }
+    {
+        TreeEntriesNonRecursiveIterator {
+            rest: self.entries.as_slice(),
+        }
+    }
+
+    /// The entry of a name.
+    pub fn entry(&self, name: RepoPathComponent<'_>) -> Option<TreeEntry<'_>>
+        ensures value { option_map (λ entry. (entry_of entry).1) result
+            ≡ value_at self.now (name_of name.entry) }
+        ensures name { IfSome result (λ entry. (entry_of entry).0 ≡ name_of name.entry) }
+    {
+        match place(self.entries.as_slice(), name) {
+            Some(at) => {
+                let found = &self.entries[at];
+                Some(TreeEntry::new(found.0.as_component(), &found.1))
+            }
+            None => None,
+        }
+    }
+
+    /// What stands at a name.
+    pub fn value(&self, name: RepoPathComponent<'_>) -> Option<&TreeValue>
+        ensures { option_copied result ≡ value_at self.now (name_of name.entry) }
+    {
+        match place(self.entries.as_slice(), name) {
+            Some(at) => Some(&self.entries[at].1),
+            None => None,
+        }
+    }
+}
+
+// The place of the entry with a name, by binary search.
+fn place(
+    entries: &[(RepoPathComponentBuf, TreeValue)],
+    name: RepoPathComponent<'_>,
+) -> Option<usize>
+    requires { IsTrue (is_sorted name_cmp entries.now) }
+    ensures { MatchOption result
+        (value_at entries.now (name_of name.entry) ≡ None)
+        (IsEntryAt entries.now (name_of name.entry)) }
+{
+    let found = entries.binary_search_by(
+        move |entry| -> Ordering
+            ensures { result ≡ name_cmp entry.now.0 (name_of name.entry) }
+        { entry.0.as_component().cmp(&name) },
+    );
+    match found {
+        Ok(at) => Some(at),
+        Err(_) => None,
+    }
+}
+
+impl Clone for Tree {
+    ghost is_clone = { λ tree c. c ≡ tree };
+
+    fn clone(&self) -> Result<Self, AllocError> {
+        let mut entries = Vec::with_capacity(*self.entries.allocator(), self.entries.len())?;
+        for (name, value) in self.entries.iter() {
+            entries.push((name.clone()?, value.clone()?))?;
+        }
+        Ok(Tree { entries })
+    }
+}
+
+impl PartialEq for Tree {
+    ghost eq = { tree_eq };
+
+    ghost laws = { Cmp.partial_equiv_from_equiv tree_equiv };
+
+    fn eq(&self, other: &Tree) -> bool {
+        self.entries == other.entries
+    }
+}
+
+impl Eq for Tree {
+    ghost laws = { tree_equiv };
+}
+
+impl ContentHash for Tree {
+    ghost is_value = { IsTree };
+
+    ghost content = { tree_content };
+
+    ghost lawful = { tree_lawful };
+
+    fn hash<D: DigestUpdate>(&self, alloc: Global, state: &mut D) -> Result<(), AllocError> {
+        ContentHash::hash(&self.entries, alloc, state)
+    }
+}
