@@ -1,0 +1,25 @@
+-- Where the workspaces of a repository are: the path of each name that has one.
+use Rattle.std.specs.Prelude.{◌≡◌, ℕ, if◌then◌else◌, List, Option, None, Some}
+use Rattle.std.specs.List.{list_any}
+use Rattle.std.specs.Str.{bytes_eq}
+
+-- the path of each name that has one
+abbrev pub Places : Type 0
+Places = List ℕ → Option (List ℕ)
+
+-- the places with this one
+abbrev pub with_place : List ℕ → List ℕ → Places → Places
+with_place name path places = λ other. if bytes_eq name other then Some path else places other
+
+-- the places without those of these names
+abbrev pub without_places : List (List ℕ) → Places → Places
+without_places names places = λ other. if list_any (λ name. bytes_eq name other) names then None else places other
+
+-- the places with one name in the place of another
+abbrev pub with_name_changed : List ℕ → List ℕ → Places → Places
+with_name_changed old new places = λ other.
+    if bytes_eq new other then places old else (if bytes_eq old other then None else places other)
+
+-- the same places
+abbrev pub SamePlaces : Places → Places → Type 0
+SamePlaces old new = (name : List ℕ) → new name ≡ old name

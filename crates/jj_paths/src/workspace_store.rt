@@ -1,0 +1,94 @@
+//! Where the workspaces of a repository are.
+ghost use Rattle.std.specs.Prelude.{◌≡◌, ℕ, List, Option, OnOk, OnErr, IfOk, map, option_map, string_bytes};
+ghost use Rattle.jj_ids.specs.Names.{name_of};
+ghost use Rattle.jj_paths.specs.Workspaces.{SamePlaces, with_name_changed, with_place, without_places};
+
+use crate::file_util::SourceError;
+use jj_ids::ref_name::WorkspaceName;
+use std::alloc::{AllocError, AllocFailed, Global};
+use thiserror::Error;
+
+/// Why a store of workspaces could not answer.
+#[derive(Debug, Drop, Error)]
+pub enum WorkspaceStoreError {
+    #[error("{0}")]
+    Other(SourceError),
+    #[error("out of memory")]
+    Memory,
+}
+
+impl From<SourceError> for WorkspaceStoreError {
+    ghost use Rattle.jj_paths.specs.declared.workspace_store.WorkspaceStoreError.TheVariants.{Other};
+
+    ghost from_gives = { λ source e. e ≡ Other source };
+
+    fn from(source: SourceError) -> WorkspaceStoreError {
+        WorkspaceStoreError::Other(source)
+    }
+}
+
+impl From<AllocError> for WorkspaceStoreError {
+    ghost use Rattle.jj_paths.specs.declared.workspace_store.WorkspaceStoreError.TheVariants.{Memory};
+
+    ghost from_gives = { λ _ e. e ≡ Memory };
+
+    fn from(_error: AllocError) -> WorkspaceStoreError {
+        WorkspaceStoreError::Memory
+    }
+}
+
+impl<T: Drop> From<AllocFailed<T>> for WorkspaceStoreError {
+    ghost use Rattle.jj_paths.specs.declared.workspace_store.WorkspaceStoreError.TheVariants.{Memory};
+
+    ghost from_gives = { λ _ e. e ≡ Memory };
+
+    fn from(_error: AllocFailed<T>) -> WorkspaceStoreError {
+        WorkspaceStoreError::Memory
+    }
+}
+
+/// What keeps the paths of workspaces by their names. A call that fails leaves all places as they were.
+pub trait WorkspaceStore {
+    /// The path of each name that has one.
+    ghost places: { Self → List ℕ → Option (List ℕ) };
+
+    /// The name of this kind of store.
+    fn name(&self) -> &str;
+
+    /// Puts a workspace at a path, in the place of one of its name.
+    fn add(
+        &mut self,
+        alloc: Global,
+        workspace_name: WorkspaceName<'_>,
+        path: &str,
+    ) -> Result<(), WorkspaceStoreError>
+        ensures added { OnOk result (SamePlaces (with_place (name_of workspace_name.entry) path.now (places self.old)) (places self.new)) }
+        ensures refused { OnErr result (SamePlaces (places self.old) (places self.new)) };
+
+    /// Forgets workspaces. A name without a place stays so.
+    fn forget(
+        &mut self,
+        alloc: Global,
+        workspace_names: &[WorkspaceName<'_>],
+    ) -> Result<(), WorkspaceStoreError>
+        ensures forgotten { OnOk result (SamePlaces (without_places (map name_of workspace_names.now) (places self.old)) (places self.new)) }
+        ensures refused { OnErr result (SamePlaces (places self.old) (places self.new)) };
+
+    /// Gives the place of one name to another.
+    fn rename(
+        &mut self,
+        alloc: Global,
+        old_name: WorkspaceName<'_>,
+        new_name: WorkspaceName<'_>,
+    ) -> Result<(), WorkspaceStoreError>
+        ensures renamed { OnOk result (SamePlaces (with_name_changed (name_of old_name.entry) (name_of new_name.entry) (places self.old)) (places self.new)) }
+        ensures refused { OnErr result (SamePlaces (places self.old) (places self.new)) };
+
+    /// The path of a workspace, if it has one.
+    fn get_workspace_path(
+        &self,
+        alloc: Global,
+        workspace_name: WorkspaceName<'_>,
+    ) -> Result<Option<String>, WorkspaceStoreError>
+        ensures { IfOk result (λ path. option_map string_bytes path ≡ places self.now (name_of workspace_name.entry)) };
+}
