@@ -4,7 +4,7 @@ use Rattle.std.proofs.lemmas.List.{reverse-append}
 use Rattle.jj_globs.specs.declared.glob.token.Token.{Token}
 use Rattle.jj_globs.specs.declared.glob.token.Token.TheVariants.{Part as part, Open, Or, Close}
 use Rattle.jj_globs.specs.declared.glob.token.Part.{Part}
-use Rattle.jj_globs.specs.declared.glob.token.Part.TheVariants.{Byte, AnyByte, Star, LeadingDirs, InnerDirs, Below, Everything, OneOf}
+use Rattle.jj_globs.specs.declared.glob.token.Part.TheVariants.{Byte, AnyByte, Star, InnerDirs, Below, Everything, OneOf}
 use Rattle.jj_globs.specs.declared.glob.sign.Place.{Place}
 use Rattle.jj_globs.specs.declared.glob.sign.Place.TheVariants.{Start, LeadingRun, InnerRun, AfterSlash, Elsewhere}
 use Rattle.jj_globs.specs.GlobText.{Word, question, asterisk, slash, open_brace, comma, close_brace, literal, class, fault, place_behind, place_behind_group, place_of, instead, two_stars, with_dirs, with_last_dirs, ends_sequence, with_or, with_close, closes_nothing, only_dirs, read, tokens_of, words, sign_of}

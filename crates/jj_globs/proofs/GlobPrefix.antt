@@ -1,14 +1,20 @@
 -- The tokens of a glob with `{/**,}` behind them stand for the bytes of which a front matches.
-use Rattle.std.proofs.Common.{◌≡◌, ◌∙◌, ap, sym, subst, ℕ, ◌⊎◌, inl, inr, List, [], ◌∷◌, ◌++◌, Ok, refl, append-nil}
+use Rattle.std.proofs.Math.Path.{fun_ext}
+use Rattle.std.proofs.Common.{◌||◌, ◌&&◌, ◌==◌, Bool, true, false, ◌≡◌, ◌∙◌, ap, sym, subst, ℕ, ◌⊎◌, inl, inr, List, [], ◌∷◌, ◌++◌, Ok, refl, append-nil}
 use Rattle.jj_globs.specs.declared.glob.token.Token.{Token}
 use Rattle.jj_globs.specs.declared.glob.token.Token.TheVariants.{Part as part, Open, Or, Close}
+use Rattle.jj_globs.specs.declared.glob.token.Part.TheVariants.{Below}
 use Rattle.jj_globs.specs.declared.glob.token.Options.{Options}
 use Rattle.jj_globs.specs.GlobText.{tokens_of}
-use Rattle.jj_globs.specs.GlobKept.{prefix_end}
 use Rattle.jj_globs.specs.GlobMeaning.{StandsAlone, Sequence, done, next, group, Alternatives, Reading, before, reading_of, IsSplit, Stands, StandsForOne, GlobSpec, IsMatch, IsPrefixMatch}
-use Rattle.jj_globs.specs.GlobPlain.{tests_of}
-use Rattle.jj_globs.proofs.GlobSound.{Onward, Tells, split_at_once, split_map, split_left, split_right, agrees, same_ok}
+use Rattle.jj_globs.specs.GlobPlain.{Test, Tests, many, any_byte, is_empty, part_then, test_before, tests_before, tests_of}
+use Rattle.jj_globs.specs.GlobPlaces.{end_test}
+use Rattle.jj_globs.proofs.GlobSound.{Onward, Tells, Tells-glob, split_at_once, split_map, split_left, split_right, agrees, same_ok}
 use Rattle.jj_globs.proofs.GlobClosed.{closed-tokens_of}
+
+-- the tokens of `{/**,}`
+abbrev pub prefix_end : List Token
+prefix_end = Open ∷ part Below ∷ Or ∷ Close ∷ []
 
 -- one sequence after another
 abbrev pub join : Sequence → Sequence → Sequence
@@ -105,7 +111,39 @@ prefix_back g ts bs reads h =
           (w.0, 47 ∷ w.1, w.2, stands_same g ts w.0 reads w.3, end_below g.options w.1)
     ]
 
-pub Tells-prefix : (g : GlobSpec) (ts : List Token) → tokens_of g.text ≡ Ok ts → Tells (tests_of g.options (ts ++ prefix_end)).here (IsPrefixMatch g)
+-- the end that accepts a slash and any bytes too is that of these tokens
+many_any : (bs : List ℕ) → many any_byte is_empty bs ≡ true
+many_any [] = refl
+many_any (b ∷ bs) = many_any bs
+
+and_true : (v : Bool) → ((v && true) || (false || false)) ≡ v
+and_true true = refl
+and_true false = refl
+
+abbrev only_here : Test → Tests
+only_here t = record { here = t; outer = [] }
+
+end_of_tokens : (o : Options) (bs : List ℕ) → (part_then o Below is_empty bs || (is_empty bs || false)) ≡ end_test true bs
+end_of_tokens o [] = refl
+end_of_tokens o (b ∷ bs) = ap (λ v. ((b == 47) && v) || (false || false)) (many_any bs) ∙ and_true (b == 47)
+
+with_end : (o : Options) (ts us : List Token) (t : Test) → tests_of o us ≡ only_here t → tests_of o (ts ++ us) ≡ tests_before o t ts
+with_end o [] us t h = h
+with_end o (k ∷ ts) us t h = ap (test_before o k) (with_end o ts us t h)
+
+tests_of-prefix : (o : Options) (ts : List Token) → tests_of o (ts ++ prefix_end) ≡ tests_before o (end_test true) ts
+tests_of-prefix o ts = with_end o ts prefix_end (end_test true) (ap only_here (fun_ext (end_of_tokens o)))
+
+end_alone : (bs : List ℕ) → end_test false bs ≡ is_empty bs
+end_alone [] = refl
+end_alone (b ∷ bs) = refl
+
+pub Tells-whole : (g : GlobSpec) (ts : List Token) → tokens_of g.text ≡ Ok ts → Tells (tests_before g.options (end_test false) ts).here (IsMatch g)
+Tells-whole g ts reads =
+    subst (λ (t : Test). Tells (tests_before g.options t ts).here (IsMatch g)) (sym (fun_ext end_alone))
+    (Tells-glob g ts reads (closed-tokens_of g.text ts reads))
+
+Tells-prefix : (g : GlobSpec) (ts : List Token) → tokens_of g.text ≡ Ok ts → Tells (tests_of g.options (ts ++ prefix_end)).here (IsPrefixMatch g)
 Tells-prefix g ts reads bs =
     let known = (agrees g.options (ts ++ prefix_end)).0 bs in
     let at_end : Onward g.options (reading_of (ts ++ prefix_end)).here (reading_of (ts ++ prefix_end)).outer bs ≡ Stands g.options (join (reading_of ts).here end_of_prefix) bs =
@@ -114,3 +152,6 @@ Tells-prefix g ts reads bs =
       (λ e. prefix_to g ts bs reads (subst (λ X. X) at_end (known.0 e))),
       (λ m. known.1 (subst (λ X. X) (sym at_end) (prefix_back g ts bs reads m))),
     )
+
+pub Tells-below : (g : GlobSpec) (ts : List Token) → tokens_of g.text ≡ Ok ts → Tells (tests_before g.options (end_test true) ts).here (IsPrefixMatch g)
+Tells-below g ts reads = subst (λ (t : Tests). Tells t.here (IsPrefixMatch g)) (tests_of-prefix g.options ts) (Tells-prefix g ts reads)

@@ -1,15 +1,14 @@
 -- What each sign makes of a glob that is read as far as it.
-use Rattle.std.proofs.Common.{◌≡◌, ◌≢◌, ℕ, zero, suc, ◌+◌, ◌-◌, ◌<◌, Bool, true, false, ◌||◌, if◌then◌else◌, List, [], ◌∷◌, ◌++◌, reverse, length, ◌==◌, Ok, Err, refl, map, ap, ◌∙◌, Result, add-one, arith, nat_le, nat_lt}
+use Rattle.std.proofs.Common.{◌≡◌, ◌≢◌, ℕ, zero, suc, ◌+◌, ◌-◌, ◌<◌, Bool, true, false, ◌||◌, if◌then◌else◌, List, [], ◌∷◌, ◌++◌, reverse, Ok, Err, refl, map, ap, ◌∙◌, Result, add-one, arith, nat_le, nat_lt}
 use Rattle.jj_globs.specs.declared.glob.token.ByteRange.{ByteRange}
 use Rattle.jj_globs.specs.declared.glob.token.Token.{Token}
-use Rattle.jj_globs.specs.declared.glob.token.Token.TheVariants.{Part as part, Open, Or, Close}
-use Rattle.jj_globs.specs.declared.glob.token.Part.TheVariants.{Byte, AnyByte, Star, OneOf, LeadingDirs, InnerDirs, Everything}
+use Rattle.jj_globs.specs.declared.glob.token.Token.TheVariants.{Part as part, Open}
+use Rattle.jj_globs.specs.declared.glob.token.Part.TheVariants.{Byte, AnyByte, Star, OneOf, Everything}
 use Rattle.jj_globs.specs.declared.glob.sign.Sign.{Sign}
 use Rattle.jj_globs.specs.declared.glob.sign.Sign.TheVariants.{Question, Asterisk, Slash, OpenBrace, Comma, CloseBrace, OpenBracket, CloseBracket, Bang, Caret, Dash, Backslash, Other}
-use Rattle.jj_globs.specs.declared.glob.sign.Place.TheVariants.{LeadingRun, AfterSlash, Elsewhere}
 use Rattle.jj_globs.specs.declared.glob.error.GlobError.{GlobError}
 use Rattle.jj_globs.specs.declared.glob.error.GlobError.TheVariants.{UnclosedClass, InvalidRange, NonAsciiRange, UnopenedAlternates, UnclosedAlternates, DanglingEscape, Memory}
-use Rattle.jj_globs.specs.GlobText.{Word, asterisk, byte_of, words, items, first_item, single, class, fault, read, place_of, place_behind, with_dirs, with_last_dirs, two_stars, with_or, with_close, closes_nothing, only_dirs, sign_of, tokens_of}
+use Rattle.jj_globs.specs.GlobText.{Word, asterisk, byte_of, words, items, first_item, single, class, fault, read, place_of, with_dirs, with_last_dirs, two_stars, with_or, with_close, closes_nothing, only_dirs, sign_of, tokens_of}
 use Rattle.jj_globs.specs.GlobReads.{ends_here, IsFault, IsReadingFault}
 
 -- 1. The words from a `[` on begin with a class, or are a fault.

@@ -1,11 +1,14 @@
 pub mod GlobRows
 pub mod GlobSound
-pub mod GlobTable
 pub mod GlobClasses
 pub mod GlobPuts
 pub mod GlobSteps
 pub mod GlobClosed
-pub mod GlobBack
 pub mod GlobPrefix
 pub mod GlobEscapes
-pub mod GlobNothing
+pub mod GlobLive
+pub mod GlobRun
+pub mod GlobSolved
+pub mod GlobLowered
+pub mod GlobByteSets
+pub mod GlobLowers

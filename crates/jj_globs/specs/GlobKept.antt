@@ -1,18 +1,12 @@
--- What a glob keeps beside its text: its tokens, and behind them those of `{/**,}`, with which they stand for the bytes of
--- which a front that `/` follows matches.
-use Rattle.std.specs.Prelude.{◌≡◌, ◌-◌, ℕ, List, [], ◌∷◌, ◌++◌, length, take, Ok}
-use Rattle.jj_globs.specs.declared.glob.token.Part.TheVariants.{Below}
+-- What a glob keeps beside its text: its tokens, and the steps that accept what they stand for.
+use Rattle.std.specs.Prelude.{◌≡◌, ℕ, ◌<◌, List, length, Ok}
+use Rattle.jj_globs.specs.declared.glob.token.Options.{Options}
 use Rattle.jj_globs.specs.declared.glob.token.Token.{Token}
-use Rattle.jj_globs.specs.declared.glob.token.Token.TheVariants.{Part as part, Open, Or, Close}
+use Rattle.jj_globs.specs.declared.glob.step.Step.{Step}
 use Rattle.jj_globs.specs.GlobText.{tokens_of}
+use Rattle.jj_globs.specs.GlobLowering.{AreSteps}
 
-abbrev pub prefix_end : List Token
-prefix_end = Open ∷ part Below ∷ Or ∷ Close ∷ []
-
--- the tokens of the text
-abbrev pub own_tokens : List Token → List Token
-own_tokens ts = take (length ts - 4) ts
-
-pub record IsKept (text : List ℕ) (ts : List Token) : Type 0 where
-  pub reads : tokens_of text ≡ Ok (own_tokens ts)
-  pub whole : ts ≡ own_tokens ts ++ prefix_end
+pub record IsKept (text : List ℕ) (o : Options) (ts : List Token) (ss : List Step) : Type 0 where
+  pub reads : tokens_of text ≡ Ok ts
+  pub steps : AreSteps o ts ss
+  pub size : length ss < 1048576

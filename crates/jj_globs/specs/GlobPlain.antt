@@ -68,9 +68,13 @@ abbrev pub is_empty : Test
 is_empty [] = true
 is_empty (b ∷ bs) = false
 
+-- where what follows the tokens is accepted by this test
+abbrev pub tests_before : Options → Test → List Token → Tests
+tests_before o end [] = record { here = end; outer = [] }
+tests_before o end (t ∷ ts) = test_before o t (tests_before o end ts)
+
 abbrev pub tests_of : Options → List Token → Tests
-tests_of o [] = record { here = is_empty; outer = [] }
-tests_of o (t ∷ ts) = test_before o t (tests_of o ts)
+tests_of o ts = tests_before o is_empty ts
 
 pub data Verdict : Type 0 where
   yes : Verdict

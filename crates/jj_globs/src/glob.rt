@@ -1,15 +1,16 @@
 //! Globs of bytes: what a text reads as, and which bytes it stands for.
-mod backtrack;
+mod byte_set;
 mod class;
 mod error;
 mod escaping;
-mod groups;
+mod live;
 mod pattern;
 mod put;
 mod reader;
 mod regex_text;
 mod sign;
-mod table;
+mod step;
+mod steps;
 mod token;
 
 pub use error::GlobError;

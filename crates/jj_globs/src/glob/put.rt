@@ -1,6 +1,5 @@
 //! The tokens so far, after one more piece of a glob's text.
 ghost use Rattle.std.specs.Prelude.{◌≡◌, ◌<◌, ℕ, Bool, true, false, List, [], ◌∷◌, ◌++◌, reverse, OnOk, IfOk};
-ghost use Rattle.jj_globs.specs.GlobKept.{prefix_end};
 ghost use Rattle.jj_globs.specs.GlobText.{place_behind, place_behind_group, place_of, with_or, with_close, with_dirs, with_last_dirs, two_stars, instead, closes_nothing};
 
 use crate::glob::sign::Place;
@@ -131,15 +130,4 @@ fn place_behind(tokens: &[Token]) -> Place
         Token::Part(Part::Byte(b'/')) => Place::AfterSlash,
         _ => Place::Elsewhere,
     }
-}
-
-/// Behind the tokens of a glob those of `{/**,}`: what follows a front that matches.
-pub(crate) fn put_prefix_end(tokens: &mut Vec<Token>) -> Result<(), AllocError>
-    ensures { OnOk result (tokens.new.items ≡ tokens.old.items ++ prefix_end) }
-{
-    tokens.push(Token::Open)?;
-    tokens.push(Token::Part(Part::Below))?;
-    tokens.push(Token::Or)?;
-    tokens.push(Token::Close)?;
-    Ok(())
 }

@@ -1,7 +1,7 @@
 //! What a glob reads as: parts, and the brackets of groups.
 ghost use Rattle.std.specs.Prelude.{◌≡◌, Bool, List, ℕ};
-ghost use Rattle.jj_globs.specs.GlobMeaning.{any_range};
 
+use crate::glob::byte_set::ByteSet;
 use std::marker::Model;
 
 /// How a glob matches: whether `/` stops `?` and `*`, and whether ASCII letters match in either case.
@@ -109,6 +109,7 @@ impl ByteRange {
 
 impl Class {
     ghost use Rattle.jj_globs.specs.GlobMeaning.{in_class};
+    ghost use Rattle.jj_globs.specs.GlobPlaces.{in_set};
 
     /// The class of these ranges, or of all other bytes.
     pub fn new(negated: bool, ranges: Vec<ByteRange>) -> Class
@@ -131,21 +132,10 @@ impl Class {
         self.ranges.as_slice()
     }
 
-    /// Whether the class holds the byte.
-    pub fn holds(&self, options: Options, byte: u8) -> bool
-        ensures { result ≡ in_class options self.now byte }
+    /// The bytes that the class holds.
+    pub fn set(&self, options: Options) -> ByteSet
+        ensures { (b : ℕ) → in_set result b ≡ in_class options self.now b }
     {
-        let found = has(self.ranges.as_slice(), byte)
-            || (options.icase
-                && (has(self.ranges.as_slice(), byte.to_ascii_lowercase())
-                    || has(self.ranges.as_slice(), byte.to_ascii_uppercase())));
-        if self.negated { !found } else { found }
+        ByteSet::of_ranges(self.ranges.as_slice(), options, self.negated)
     }
-}
-
-// Whether one of the ranges holds the byte.
-fn has(ranges: &[ByteRange], byte: u8) -> bool
-    ensures { result ≡ any_range byte ranges.now }
-{
-    ranges.iter().any(|range| range.contains(byte))
 }

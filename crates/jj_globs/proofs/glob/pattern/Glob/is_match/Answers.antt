@@ -1,17 +1,16 @@
-use Rattle.std.proofs.Common.{◌∙◌, ap, sym, List}
+use Rattle.std.proofs.Common.{◌∙◌, sym, ap, false, List}
 use Rattle.std.specs.Prelude.{string_bytes}
-use Rattle.jj_globs.specs.declared.glob.token.Token.{Token}
-use Rattle.jj_globs.specs.GlobGroups.{here_of}
-use Rattle.jj_globs.specs.GlobKept.{own_tokens}
+use Rattle.jj_globs.specs.declared.glob.step.Step.{Step}
 use Rattle.jj_globs.specs.GlobMeaning.{GlobSpec}
-use Rattle.jj_globs.proofs.GlobSound.{Tells-glob}
-use Rattle.jj_globs.proofs.GlobClosed.{closed-tokens_of}
+use Rattle.jj_globs.specs.GlobPlaces.{answers}
+use Rattle.jj_globs.proofs.GlobPrefix.{Tells-whole}
 use Rattle.jj_globs.proofs.glob.pattern.Glob.is_match.Goals as goal
 
 pub returns : goal.returns
 returns c =
     let g : GlobSpec = record { text = string_bytes c.self.inside.text; options = c.self.inside.options } in
-    let own = own_tokens c.self.inside.tokens.items in
-    let tells = Tells-glob g own c.self.invariant.reads (closed-tokens_of g.text own c.self.invariant.reads) c.args.bytes.now in
-    let answer = c.stands_for.ensures ∙ ap (λ (x : List Token). here_of c.self.inside.options x c.args.bytes.now) (ap own_tokens c.as_slice-tokens.ensures.value) in
+    let tells = Tells-whole g c.self.inside.tokens.items c.self.invariant.reads c.args.bytes.now in
+    let answer =
+    c.stand_for.ensures ∙ ap (λ (x : List Step). answers c.self.inside.options false x 0 c.args.bytes.now) c.as_slice.ensures.value
+    ∙ c.self.invariant.steps.same false c.args.bytes.now in
     rw (← c.self.view_is) ((λ h. tells.0 (sym answer ∙ h)), (λ m. answer ∙ tells.1 m))

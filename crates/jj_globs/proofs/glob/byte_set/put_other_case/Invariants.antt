@@ -1,0 +1,12 @@
+-- The letters so far are put.
+use Rattle.std.proofs.Common.{◌≡◌, ◌<◌, ◌↔◌, ◌⊎◌, ℕ, length}
+use Rattle.jj_globs.specs.GlobMeaning.{lower, upper}
+use Rattle.jj_globs.specs.GlobPlaces.{IsLive}
+use Rattle.jj_globs.proofs.glob.byte_set.put_other_case.Given as goal
+
+abbrev pub invariant-loop-byte : goal.invariant-loop-byte
+invariant-loop-byte l = record {
+  live : (b : ℕ) → IsLive l.words b
+      ↔ (IsLive l.fn.words b ⊎ ((b < l.byte) × (IsLive l.found.words (lower b) ⊎ IsLive l.found.words (upper b))));
+  room : length l.words ≡ 4;
+}

@@ -1,0 +1,14 @@
+-- What is left accepts what is left of the bytes as the whole does for all of them.
+use Rattle.std.proofs.Common.{◌≡◌, ◌<◌, length}
+use Rattle.jj_globs.specs.GlobPlaces.{answers, StaysInside}
+use Rattle.jj_globs.proofs.glob.pattern.stand_for.Given as goal
+
+abbrev pub invariant-loop-own : goal.invariant-loop-own
+invariant-loop-own l = record {
+  same : answers l.options l.below l.steps 0 l.bytes ≡ answers l.options l.below l.left 0 l.text;
+  inside : StaysInside l.left;
+  size : length l.left < 1048576;
+}
+
+abbrev pub decreases-loop-own : goal.decreases-loop-own
+decreases-loop-own l = length l.left

@@ -1,0 +1,74 @@
+-- The steps of a glob: what each place of them accepts, and places that are live, in bits.
+use Rattle.std.specs.Prelude.{◌≡◌, ℕ, zero, suc, ◌+◌, ◌/◌, ◌%◌, ◌≤◌, Bool, true, not, ◌==◌, ◌&&◌, ◌||◌, if◌then◌else◌, List, [], ◌∷◌, length, get_or, slice_get, Some, IsTrue}
+use Rattle.std.specs.Int.{bit_at}
+use Rattle.jj_globs.specs.declared.glob.token.Options.{Options}
+use Rattle.jj_globs.specs.declared.glob.byte_set.ByteSet.{ByteSet}
+use Rattle.jj_globs.specs.declared.glob.step.Step.{Step}
+use Rattle.jj_globs.specs.declared.glob.step.Step.TheVariants.{Byte, AnyByte, OneOf, Star, Everything, Fork, Jump}
+use Rattle.jj_globs.specs.GlobMeaning.{same_byte, is_plain}
+use Rattle.jj_globs.specs.GlobPlain.{Test, one, many, any_byte}
+
+-- 1. Sets of numbers in bits.
+
+-- the place is live
+abbrev pub IsLive : List ℕ → ℕ → Type 0
+IsLive words place = bit_at (get_or words (place / 64) 0) (place % 64) ≡ 1
+
+abbrev pub is_live : List ℕ → ℕ → Bool
+is_live words place = bit_at (get_or words (place / 64) 0) (place % 64) == 1
+
+-- the set holds the byte
+abbrev pub in_set : ByteSet → ℕ → Bool
+in_set set b = if set.negated then not (is_live set.words b) else is_live set.words b
+
+-- 2. What the places of a list of steps accept.
+
+-- what the end accepts: nothing, or with `below` also bytes that begin with a slash
+abbrev pub end_test : Bool → Test
+end_test below [] = true
+end_test below (b ∷ bs) = below && (b == 47)
+
+-- what a step accepts, from what the places behind it accept
+abbrev pub step_then : Options → (ℕ → Test) → Step → Test
+step_then o Q (Byte c) bs = one (same_byte o c) (Q 0) bs
+step_then o Q AnyByte bs = one (is_plain o) (Q 0) bs
+step_then o Q (OneOf set) bs = one (in_set set) (Q 0) bs
+step_then o Q Star bs = many (is_plain o) (Q 0) bs
+step_then o Q Everything bs = many any_byte (Q 0) bs
+step_then o Q (Fork further) bs = Q 0 bs || Q further bs
+step_then o Q (Jump further) bs = Q further bs
+
+-- what each place accepts
+abbrev pub answers : Options → Bool → List Step → ℕ → Test
+answers o below [] k bs = end_test below bs
+answers o below (s ∷ ss) zero bs = step_then o (answers o below ss) s bs
+answers o below (s ∷ ss) (suc k) bs = answers o below ss k bs
+
+-- the same, by the places of the whole list
+abbrev pub by_step : Options → (ℕ → Test) → Step → ℕ → Test
+by_step o P (Byte c) k bs = one (same_byte o c) (P (k + 1)) bs
+by_step o P AnyByte k bs = one (is_plain o) (P (k + 1)) bs
+by_step o P (OneOf set) k bs = one (in_set set) (P (k + 1)) bs
+by_step o P Star k bs = many (is_plain o) (P (k + 1)) bs
+by_step o P Everything k bs = many any_byte (P (k + 1)) bs
+by_step o P (Fork further) k bs = P (k + 1) bs || P (k + 1 + further) bs
+by_step o P (Jump further) k bs = P (k + 1 + further) bs
+
+-- P tells what each place accepts
+pub record Solves (o : Options) (below : Bool) (steps : List Step) (P : ℕ → Test) : Type 0 where
+  pub at_end : (bs : List ℕ) → P (length steps) bs ≡ end_test below bs
+  pub at_step : (k : ℕ) (s : Step) → slice_get steps k ≡ Some s → (bs : List ℕ) → P k bs ≡ by_step o P s k bs
+
+-- a live place accepts the bytes
+abbrev pub AnyLive : (ℕ → Test) → List ℕ → List ℕ → Type 0
+AnyLive P words bs = (place : ℕ) × IsLive words place × IsTrue (P place bs)
+
+-- how far behind the next place a step may lead
+abbrev pub further_of : Step → ℕ
+further_of (Fork further) = further
+further_of (Jump further) = further
+further_of s = 0
+
+-- no step leads past the end
+abbrev pub StaysInside : List Step → Type 0
+StaysInside steps = (k : ℕ) (s : Step) → slice_get steps k ≡ Some s → k + 1 + further_of s ≤ length steps

@@ -1,0 +1,116 @@
+//! The steps of a glob, made from its tokens, the last first: groups become forks and jumps.
+ghost use Rattle.std.specs.Prelude.{◌≡◌, ℕ, ◌+◌, ◌-◌, ◌∷◌, Bool, List, reverse, length, IfOk, OnOk};
+ghost use Rattle.jj_globs.specs.GlobMeaning.{in_class};
+ghost use Rattle.jj_globs.specs.GlobPlaces.{in_set};
+ghost use Rattle.jj_globs.specs.GlobLowering.{AddsPart, AddsToken, forked, AreSteps};
+
+use crate::glob::byte_set::ByteSet;
+use crate::glob::step::Step;
+use crate::glob::token::{Options, Part, Token};
+use std::alloc::{AllocError, Global};
+
+/// A group whose `}` was read and whose `{` was not. A place is named by the number of steps behind it.
+#[derive(Clone, Copy, Drop)]
+pub struct OpenGroup {
+    /// Where the alternatives that were read begin, if one was.
+    pub any: Option<usize>,
+    /// What follows the group.
+    pub after: usize,
+}
+
+/// The steps that accept what the tokens stand for.
+pub(crate) fn steps_of(
+    alloc: Global,
+    tokens: &[Token],
+    options: Options,
+) -> Result<Vec<Step>, AllocError>
+    ensures { IfOk result (λ steps. AreSteps options tokens.now steps.items) }
+{
+    let mut steps = Vec::new(alloc);
+    let mut groups = Vec::new(alloc);
+    let mut left = tokens;
+    while let Some((token, before)) = left.split_last() {
+        put_token(&mut steps, &mut groups, token, options)?;
+        left = before;
+    }
+    steps.reverse();
+    Ok(steps)
+}
+
+// Adds the steps of a token.
+fn put_token(
+    steps: &mut Vec<Step>,
+    groups: &mut Vec<OpenGroup>,
+    token: &Token,
+    options: Options,
+) -> Result<(), AllocError>
+    ensures { OnOk result (AddsToken options token.now (reverse steps.old.items) (reverse groups.old.items)
+        (reverse steps.new.items) (reverse groups.new.items)) }
+{
+    match token {
+        Token::Part(part) => put_part(steps, part, options)?,
+        Token::Close => {
+            groups.push(OpenGroup {
+                any: None,
+                after: steps.len(),
+            })?;
+        }
+        Token::Or => if let Some(group) = groups.pop() {
+            put_fork(steps, group.any)?;
+            let begin = steps.len();
+            steps.push(Step::Jump(begin.saturating_sub(group.after)))?;
+            groups.push(OpenGroup {
+                any: Some(begin),
+                after: group.after,
+            })?;
+        },
+        Token::Open => if let Some(group) = groups.pop() {
+            put_fork(steps, group.any)?;
+        },
+    }
+    Ok(())
+}
+
+// Where alternatives were read before, a fork to them and to what stands here.
+fn put_fork(steps: &mut Vec<Step>, others: Option<usize>) -> Result<(), AllocError>
+    ensures { OnOk result (reverse steps.new.items ≡ forked others (reverse steps.old.items)) }
+{
+    if let Some(others) = others {
+        let begin = steps.len();
+        steps.push(Step::Fork(begin.saturating_sub(others)))?;
+    }
+    Ok(())
+}
+
+// Adds the steps of a part.
+fn put_part(steps: &mut Vec<Step>, part: &Part, options: Options) -> Result<(), AllocError>
+    ensures { OnOk result (AddsPart options part.now (reverse steps.old.items) (reverse steps.new.items)) }
+{
+    match part {
+        Part::Byte(byte) => steps.push(Step::Byte(*byte))?,
+        Part::AnyByte => steps.push(Step::AnyByte)?,
+        Part::OneOf(class) => steps.push(Step::OneOf(class.set(options)))?,
+        Part::Star => steps.push(Step::Star)?,
+        Part::Everything => steps.push(Step::Everything)?,
+        Part::Below => {
+            steps.push(Step::Everything)?;
+            steps.push(Step::Byte(b'/'))?;
+        }
+        Part::LeadingDirs => put_dirs(steps)?,
+        Part::InnerDirs => {
+            put_dirs(steps)?;
+            steps.push(Step::Byte(b'/'))?;
+        }
+    }
+    Ok(())
+}
+
+// Adds the steps of nothing, or of any bytes that end in a slash.
+fn put_dirs(steps: &mut Vec<Step>) -> Result<(), AllocError>
+    ensures { OnOk result (reverse steps.new.items ≡ Step.Fork 2 ∷ Step.Everything ∷ Step.Byte 47 ∷ reverse steps.old.items) }
+{
+    steps.push(Step::Byte(b'/'))?;
+    steps.push(Step::Everything)?;
+    steps.push(Step::Fork(2))?;
+    Ok(())
+}
