@@ -19,3 +19,4 @@ pub mod Stands
 pub mod GlobFields
 pub mod SetVisits
 pub mod SetCounts
+pub mod Dashes
