@@ -21,3 +21,4 @@ pub mod Stands
 pub mod GlobFields
 pub mod SetVisits
 pub mod SetCounts
+pub mod Dashes

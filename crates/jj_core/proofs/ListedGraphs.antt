@@ -21,6 +21,7 @@ use Rattle.std.proofs.lemmas.Cmp.{nat_eq_equiv}
 use Rattle.std.proofs.lemmas.List.Sorted.{Contains-permutation, IsPermutation-sym, IsNonDecreasingBy-from_sort}
 use Rattle.std.proofs.lemmas.Map.Keys.{IsDistinct-IsPermutation, IsStrictlyIncreasing-from_distinct}
 use Rattle.std.proofs.lemmas.Map.Views.{hash_map_contains_key_iff}
+use Rattle.jj_walks.specs.CommonNodes.{AreClosestCommon}
 use Rattle.jj_walks.specs.Graph.{Graph, StrictlyReaches, HasNoCycle, IsMaximalIn}
 use Rattle.jj_walks.specs.Failing.{sound_items}
 use Rattle.jj_walks.specs.Walk.{DrainsTo}
@@ -82,3 +83,14 @@ maximal_permuted graph ids found sorted moved of_found = record {
 -- sorted, they rise
 pub maximal_rising : (graph : Graph) (ids sorted : List ℕ) → IsSorted nat_cmp sorted → IsMaximalIn graph ids sorted → IsStrictlyIncreasing sorted
 maximal_rising graph ids sorted in_order of_sorted = IsStrictlyIncreasing-from_distinct sorted (IsNonDecreasingBy-from_sort (λ x. x) sorted in_order) of_sorted.once
+
+-- the closest common nodes in another order
+pub closest_permuted : (graph : Graph) (set1 set2 found sorted : List ℕ) → IsPermutation found sorted → AreClosestCommon graph set1 set2 found → AreClosestCommon graph set1 set2 sorted
+closest_permuted graph set1 set2 found sorted moved of_found = record {
+  all = λ a. ((λ h. (of_found.all a).0 (Contains-permutation sorted found a (IsPermutation-sym found sorted moved) h)), λ h. Contains-permutation found sorted a moved ((of_found.all a).1 h));
+  once = IsDistinct-IsPermutation eqb eqb-flip found sorted moved of_found.once;
+}
+
+-- sorted, they rise
+pub closest_rising : (graph : Graph) (set1 set2 sorted : List ℕ) → IsSorted nat_cmp sorted → AreClosestCommon graph set1 set2 sorted → IsStrictlyIncreasing sorted
+closest_rising graph set1 set2 sorted in_order of_sorted = IsStrictlyIncreasing-from_distinct sorted (IsNonDecreasingBy-from_sort (λ x. x) sorted in_order) of_sorted.once

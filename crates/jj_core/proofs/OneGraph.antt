@@ -9,11 +9,12 @@ use Rattle.std.proofs.lemmas.Cmp.{nat_eq_equiv}
 use Rattle.std.proofs.lemmas.List.{get_or_at, get_or_append_left}
 use Rattle.std.proofs.lemmas.List.Kept.{AllPairs-from_increasing}
 use Rattle.std.proofs.lemmas.Map.Made.{length-from_same_keys}
+use Rattle.jj_walks.specs.CommonNodes.{AreClosestCommon}
 use Rattle.jj_walks.specs.Graph.{Graph, IsGreatestChildFirst, IsMaximalIn}
 use Rattle.jj_walks.proofs.Walking.{has, Decides-has}
 use Rattle.jj_core.specs.declared.fault.Fault.{Fault}
 use Rattle.jj_core.specs.Requests.{AnswersEach}
-use Rattle.jj_core.specs.GraphCommand.{GraphRequest, Order, Heads, numbers_line, AnswersRequest, IsGraphAnswer, GivesGraph, graph_of}
+use Rattle.jj_core.specs.GraphCommand.{GraphRequest, Order, Heads, Common, numbers_line, AnswersRequest, IsGraphAnswer, GivesGraph, graph_of}
 use Rattle.jj_core.proofs.Requests.{AnswersEach-once}
 
 -- the two lists do not first differ anywhere
@@ -91,9 +92,14 @@ heads_once : (graph : Graph) (ids one other : List ℕ) → IsMaximalIn graph id
 heads_once graph ids one other of_one of_other up up' =
     ascending_once one other up up' of_one.once of_other.once (λ a. ((λ h. (of_other.all a).1 ((of_one.all a).0 h)), λ h. (of_one.all a).1 ((of_other.all a).0 h)))
 
+closest_once : (graph : Graph) (set1 set2 one other : List ℕ) → AreClosestCommon graph set1 set2 one → AreClosestCommon graph set1 set2 other → IsStrictlyIncreasing one → IsStrictlyIncreasing other → one ≡ other
+closest_once graph set1 set2 one other of_one of_other up up' =
+    ascending_once one other up up' of_one.once of_other.once (λ a. ((λ h. (of_other.all a).1 ((of_one.all a).0 h)), λ h. (of_one.all a).1 ((of_other.all a).0 h)))
+
 request_once : (graph : Graph) (request : GraphRequest) (a b : List ℕ) → AnswersRequest graph request a → AnswersRequest graph request b → a ≡ b
 request_once graph (Order ids) a b (one, of_one, e) (other, of_other, e') = e ∙ ap (λ l. numbers_line (codes "order") l) (greatest_once graph ids one other of_one of_other) ∙ sym e'
 request_once graph (Heads ids) a b (one, of_one, up, e) (other, of_other, up', e') = e ∙ ap (λ l. numbers_line (codes "heads") l) (heads_once graph ids one other of_one of_other up up') ∙ sym e'
+request_once graph (Common set1 set2) a b (one, of_one, up, e) (other, of_other, up', e') = e ∙ ap (λ l. numbers_line (codes "common") l) (closest_once graph set1 set2 one other of_one of_other up up') ∙ sym e'
 
 graph_answer_once : (graph : Graph) (request : GraphRequest) (a b : List ℕ) → IsGraphAnswer graph request a → IsGraphAnswer graph request b → a ≡ b
 graph_answer_once graph request a b (inl (cycle, e)) (inl (cycle', e')) = e ∙ sym e'

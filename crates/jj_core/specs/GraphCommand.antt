@@ -1,11 +1,13 @@
--- The command `graph`: lines that list the neighbours of nodes, and lines that ask for the order or the heads of some.
-use Rattle.std.specs.Prelude.{◌≡◌, ◌⊎◌, ℕ, ◌==◌, List, [], ◌∷◌, ◌++◌, cond, codes, map, Option, Some, None, is_some, unwrap_or, Result, Ok, Err}
+-- The command `graph`: lines that list the neighbours of nodes, and lines that ask for the order, the heads or the closest common nodes of
+-- some.
+use Rattle.std.specs.Prelude.{◌≡◌, ◌⊎◌, ℕ, ◌==◌, Bool, List, [], ◌∷◌, ◌++◌, cond, codes, map, Option, Some, None, is_some, unwrap_or, Result, Ok, Err}
 use Rattle.std.specs.Str.{bytes_eq}
 use Rattle.std.specs.Str.Parse.{digits_value}
 use Rattle.std.specs.Fmt.{decimal}
-use Rattle.std.specs.List.{list_all}
+use Rattle.std.specs.List.{after_first, before_first, count_by, list_all}
 use Rattle.std.specs.List.Sorted.{IsStrictlyIncreasing}
 use Rattle.jj_walks.specs.Graph.{Graph, StrictlyReaches, IsGreatestChildFirst, IsMaximalIn}
+use Rattle.jj_walks.specs.CommonNodes.{AreClosestCommon}
 use Rattle.jj_core.specs.declared.fault.Fault.{Fault}
 use Rattle.jj_core.specs.declared.fault.LineFault.{LineFault}
 use Rattle.jj_core.specs.declared.fault.LineFault.TheVariants.{UnknownCommand, BadFieldCount, BadNumber, RepeatedNode}
@@ -17,6 +19,7 @@ use Rattle.jj_core.specs.Requests.{AnswersEach}
 pub data GraphRequest : Type 0 where
   Order : List ℕ → GraphRequest
   Heads : List ℕ → GraphRequest
+  Common : List ℕ → List ℕ → GraphRequest
 
 -- the neighbours of each node that has a line so far, and what the lines ask
 pub record GraphState : Type 0 where
@@ -55,6 +58,20 @@ abbrev pub with_request : GraphState → (List ℕ → GraphRequest) → Result 
 with_request state request (Ok ids) = Ok (record { listed = state.listed; requests = state.requests ++ request ids ∷ [] })
 with_request state request (Err kind) = Err kind
 
+-- a field that parts two sets
+abbrev pub is_dash : List ℕ → Bool
+is_dash field = bytes_eq field (codes "-")
+
+-- the state with one more request for the closest common nodes of two sets
+abbrev pub with_common : GraphState → Result (List ℕ) LineFault → Result (List ℕ) LineFault → Result GraphState LineFault
+with_common state (Ok set1) (Ok set2) = Ok (record { listed = state.listed; requests = state.requests ++ Common set1 set2 ∷ [] })
+with_common state (Ok set1) (Err kind) = Err kind
+with_common state (Err kind) set2 = Err kind
+
+-- the sets are the fields before and after a dash, of which there is one
+abbrev pub common_step : GraphState → List (List ℕ) → Result GraphState LineFault
+common_step state fields = cond (count_by is_dash fields == 1) (with_common state (numbers_of (before_first is_dash fields)) (numbers_of (after_first is_dash fields))) (Err BadFieldCount)
+
 -- what a line's fields make of the state, or what is wrong with them
 abbrev pub graph_step : GraphState → List (List ℕ) → Result GraphState LineFault
 graph_step state [] = Err UnknownCommand
@@ -62,7 +79,8 @@ graph_step state (name ∷ fields) =
     cond (bytes_eq name (codes "node")) (node_step state fields)
     (cond (bytes_eq name (codes "order")) (with_request state Order (numbers_of fields))
     (cond (bytes_eq name (codes "heads")) (with_request state Heads (numbers_of fields))
-    (Err UnknownCommand)))
+    (cond (bytes_eq name (codes "common")) (common_step state fields)
+    (Err UnknownCommand))))
 
 -- the nodes and the requests of a text, or its first fault
 abbrev pub graph_state : List ℕ → Result GraphState Fault
@@ -84,6 +102,7 @@ numbers_line name ids = line_text name (map decimal ids)
 abbrev pub AnswersRequest : Graph → GraphRequest → List ℕ → Type 0
 AnswersRequest graph (Order ids) answer = (order : List ℕ) × IsGreatestChildFirst graph ids order × (answer ≡ numbers_line (codes "order") order)
 AnswersRequest graph (Heads ids) answer = (heads : List ℕ) × IsMaximalIn graph ids heads × IsStrictlyIncreasing heads × (answer ≡ numbers_line (codes "heads") heads)
+AnswersRequest graph (Common set1 set2) answer = (common : List ℕ) × AreClosestCommon graph set1 set2 common × IsStrictlyIncreasing common × (answer ≡ numbers_line (codes "common") common)
 
 -- the answer to a request: `cycle` where the graph has one anywhere
 abbrev pub IsGraphAnswer : Graph → GraphRequest → List ℕ → Type 0

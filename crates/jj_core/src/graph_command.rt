@@ -1,13 +1,14 @@
-//! The command `graph`: lines list the neighbours of nodes, or ask for the order or the heads of some.
-ghost use Rattle.std.specs.Prelude.{◌≡◌, ◌++◌, ℕ, List, map, Ok, MatchResult, IfOk, IfErr, OnOk, string_bytes};
+//! The command `graph`: lines list the neighbours of nodes, or ask for the order, the heads or the closest common nodes of some.
+ghost use Rattle.std.specs.Prelude.{◌≡◌, ◌==◌, ◌<◌, ◌++◌, ℕ, List, length, map, true, false, Ok, MatchOption, MatchResult, IfOk, IfErr, OnOk, string_bytes};
+ghost use Rattle.std.specs.List.{after_first, before_first, count_by, position_or_len};
 ghost use Rattle.std.specs.Str.Parse.{digits_value};
 ghost use Rattle.jj_core.specs.Lines.{at_line, IsFaultOf};
 ghost use Rattle.jj_core.specs.Neighbors.{listed_in};
-ghost use Rattle.jj_core.specs.GraphCommand.{GraphState, Order, Heads, HasCycle, AnswersRequest, GivesGraph, graph_of, graph_state, graph_step, node_step, number_at, numbers_of, numbers_line, with_request};
+ghost use Rattle.jj_core.specs.GraphCommand.{GraphState, Order, Heads, HasCycle, AnswersRequest, GivesGraph, graph_of, graph_state, graph_step, common_step, is_dash, node_step, number_at, numbers_of, numbers_line, with_request};
 ghost use Rattle.jj_core.specs.GraphRead.{graph_request_of, graph_state_of};
 
 use crate::fault::{Fault, LineFault};
-use crate::listed_graph::{ascending_heads, greatest_order, has_cycle};
+use crate::listed_graph::{ascending_common, ascending_heads, greatest_order, has_cycle};
 use crate::number::parse_number;
 use crate::reading::{Reading, take_lines};
 use std::alloc::{AllocError, Global};
@@ -18,6 +19,7 @@ use std::collections::HashMap;
 pub(crate) enum GraphRequest {
     Order(Vec<u64>),
     Heads(Vec<u64>),
+    Common(Vec<u64>, Vec<u64>),
 }
 
 /// The neighbours of each node that has a line so far, and what the lines ask.
@@ -56,6 +58,54 @@ fn numbers(alloc: Global, number: usize, fields: &[&str]) -> Result<Vec<u64>, Fa
         }
     }
     Ok(ids)
+}
+
+/// Whether a field parts two sets.
+fn is_dash(field: &str) -> bool
+    ensures { result ≡ is_dash field.now }
+{
+    field == "-"
+}
+
+fn dash_count(fields: &[&str]) -> usize
+    ensures { result ≡ count_by is_dash (map (λ field. field.now) fields.now) }
+{
+    let mut dashes = 0;
+    for field in fields {
+        if is_dash(field) {
+            dashes += 1;
+        }
+    }
+    dashes
+}
+
+/// The place of the first field `-`, or the number of fields.
+fn dash_place(fields: &[&str]) -> usize
+    ensures place { result ≡ position_or_len is_dash (map (λ field. field.now) fields.now) }
+    ensures within { count_by is_dash (map (λ field. field.now) fields.now) ≡ 1 → result < length fields.now }
+{
+    let mut place = 0;
+    for field in fields {
+        if is_dash(field) {
+            return place;
+        }
+        place += 1;
+    }
+    place
+}
+
+/// The fields before the field `-`, and those after it, where there is one.
+fn split_sets<'a, 't>(fields: &'a [&'t str]) -> Option<(&'a [&'t str], &'a [&'t str])>
+    ensures { MatchOption result ((count_by is_dash (map (λ field. field.now) fields.now) == 1) ≡ false)
+        (λ sets. ((count_by is_dash (map (λ field. field.now) fields.now) == 1) ≡ true)
+        × (map (λ field. field.now) sets.0.now ≡ before_first is_dash (map (λ field. field.now) fields.now))
+        × (map (λ field. field.now) sets.1.now ≡ after_first is_dash (map (λ field. field.now) fields.now))) }
+{
+    if dash_count(fields) != 1 {
+        return None;
+    }
+    let place = dash_place(fields);
+    Some((&fields[..place], &fields[place + 1..]))
 }
 
 impl GraphReading {
@@ -114,6 +164,30 @@ impl GraphReading {
     }
 }
 
+impl GraphReading {
+    /// Takes a request for the closest common nodes of the ids before the field `-` and those after it.
+    fn ask_common(&mut self, alloc: Global, number: usize, fields: &[&str]) -> Result<(), Fault>
+        ensures { MatchResult result
+            (λ _. at_line number (common_step (graph_state_of self.old) (map (λ field. field.now) fields.now)) ≡ Ok (graph_state_of self.new))
+            (λ fault. IsFaultOf fault (at_line number (common_step (graph_state_of self.old) (map (λ field. field.now) fields.now)))) }
+    {
+        let Some((first, second)) = split_sets(fields) else {
+            return Err(Fault::Line {
+                line: number,
+                kind: LineFault::BadFieldCount,
+            });
+        };
+        let set1 = match numbers(alloc, number, first) {
+            Ok(ids) => ids,
+            Err(fault) => return Err(fault),
+        };
+        match numbers(alloc, number, second) {
+            Ok(set2) => Ok(self.requests.push(GraphRequest::Common(set1, set2))?),
+            Err(fault) => Err(fault),
+        }
+    }
+}
+
 impl<'t> Reading<'t> for GraphReading {
     ghost State = { GraphState };
 
@@ -132,6 +206,7 @@ impl<'t> Reading<'t> for GraphReading {
             "node" => self.list(alloc, number, rest),
             "order" => self.ask_order(alloc, number, rest),
             "heads" => self.ask_heads(alloc, number, rest),
+            "common" => self.ask_common(alloc, number, rest),
             _ => Err(Fault::Line {
                 line: number,
                 kind: LineFault::UnknownCommand,
@@ -186,6 +261,10 @@ fn push_answer(
         GraphRequest::Heads(ids) => {
             let heads = ascending_heads(alloc, neighbors, ids)?;
             push_numbers(output, "heads", &heads)
+        }
+        GraphRequest::Common(set1, set2) => {
+            let common = ascending_common(alloc, neighbors, set1, set2)?;
+            push_numbers(output, "common", &common)
         }
     }
 }

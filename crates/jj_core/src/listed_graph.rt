@@ -3,12 +3,13 @@ ghost use Rattle.std.specs.Prelude.{◌≡◌, IfOk, IsOkAnd, MatchBool};
 ghost use Rattle.std.specs.Iterator.Adapters.{copied_source};
 ghost use Rattle.std.specs.List.Sorted.{IsStrictlyIncreasing};
 ghost use Rattle.std.specs.Slice.Iter.{iter_rest};
+ghost use Rattle.jj_walks.specs.CommonNodes.{AreClosestCommon};
 ghost use Rattle.jj_walks.specs.Graph.{IsGreatestChildFirst, IsMaximalIn};
 ghost use Rattle.jj_core.specs.Neighbors.{listed_in};
 ghost use Rattle.jj_core.specs.GraphCommand.{graph_of, HasCycle};
 
 use jj_walks::dag_walk::{WalkError, heads, topo_order_forward};
-use jj_walks::dag_walk_async::topo_order_reverse_ord;
+use jj_walks::dag_walk_async::{closest_common_nodes, topo_order_reverse_ord};
 use std::alloc::{AllocError, Global};
 use std::collections::HashMap;
 use std::iter::Copied;
@@ -99,4 +100,35 @@ pub(crate) fn ascending_heads(
     let mut ascending: Vec<u64> = found.iter().copied().collect(alloc)?;
     ascending.sort_unstable();
     Ok(ascending)
+}
+
+/// The closest common nodes of two sets of ids, in ascending order.
+pub(crate) fn ascending_common(
+    alloc: Global,
+    listed: &HashMap<u64, Vec<u64>>,
+    set1: &[u64],
+    set2: &[u64],
+) -> Result<Vec<u64>, AllocError>
+    requires { ¬ (HasCycle (graph_of (listed_in listed.now))) }
+    ensures closest { IfOk result (λ common. AreClosestCommon (graph_of (listed_in listed.now)) set1.now set2.now common.items) }
+    ensures ascending { IfOk result (λ common. IsStrictlyIncreasing common.items) }
+{
+    let found = closest_common_nodes(
+        alloc,
+        set1.iter().copied(),
+        set2.iter().copied(),
+        |id: &u64| *id,
+        |id: &u64| sound_neighbors_of(listed, *id),
+    );
+    match found {
+        Ok(mut common) => {
+            common.sort_unstable();
+            Ok(common)
+        }
+        Err(error) => match error {
+            WalkError::Memory => Err(AllocError),
+            // No list of neighbours fails.
+            WalkError::Node(_) => unreachable!(),
+        },
+    }
 }

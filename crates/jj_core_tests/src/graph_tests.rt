@@ -61,9 +61,38 @@ mod tests {
     }
 
     #[test]
+    fn closest_common_nodes_are_ascending(rt: HostRuntime) {
+        for (input, output) in [
+            (
+                "node\t1\t9\nnode\t2\t9\nnode\t9\t5\ncommon\t1\t-\t2\ncommon\t1\t-\t9",
+                "common\t9\ncommon\t9\n",
+            ),
+            // D:[B,C], E:[B,C], B:[A], C:[A], as numbers.
+            (
+                "node\t4\t2\t3\nnode\t5\t2\t3\nnode\t2\t1\nnode\t3\t1\ncommon\t4\t-\t5",
+                "common\t2\t3\n",
+            ),
+            // The same with the ids the other way round.
+            (
+                "node\t2\t3\t4\nnode\t1\t4\t3\nnode\t3\t5\nnode\t4\t5\ncommon\t2\t2\t-\t1\t5",
+                "common\t3\t4\n",
+            ),
+            ("common\t1\t-\t1", "common\t1\n"),
+            ("common\t1\t-\t2", "common\n"),
+            ("common\t-", "common\n"),
+            ("common\t1\t-", "common\n"),
+        ] {
+            writes(&rt, Command::Graph, input, output);
+        }
+    }
+
+    #[test]
     fn a_cycle_anywhere_is_every_answer(rt: HostRuntime) {
         for (input, output) in [
-            ("node\t1\t1\norder\t5\nheads\t5\n", "cycle\ncycle\n"),
+            (
+                "node\t1\t1\norder\t5\nheads\t5\ncommon\t5\t-\t6\n",
+                "cycle\ncycle\ncycle\n",
+            ),
             ("order\t5\nnode\t1\t2\nnode\t2\t3\nnode\t3\t1\n", "cycle\n"),
             ("node\t1\t2\nnode\t2\t1\n", ""),
         ] {
@@ -71,9 +100,10 @@ mod tests {
         }
     }
 
-    const INPUT: &str = "node\t1\t9\nnode\t5\t2\norder\t1\t5\nheads\t1\t9\t5\n";
+    const INPUT: &str =
+        "node\t1\t9\nnode\t5\t2\norder\t1\t5\nheads\t1\t9\t5\ncommon\t1\t-\t5\n";
 
-    const OUTPUT: &str = "order\t5\t2\t1\t9\nheads\t1\t5\n";
+    const OUTPUT: &str = "order\t5\t2\t1\t9\nheads\t1\t5\ncommon\n";
 
     #[test]
     fn requests_are_answered_after_all_nodes(rt: HostRuntime) {
@@ -103,7 +133,14 @@ mod tests {
             // The number is told before the repetition.
             ("node\t1\nnode\t1\tx", at(2, LineFault::BadNumber)),
             ("node", at(1, LineFault::BadFieldCount)),
-            ("common\t1\t-\t2", at(1, LineFault::UnknownCommand)),
+            ("common\t1\t2", at(1, LineFault::BadFieldCount)),
+            ("common", at(1, LineFault::BadFieldCount)),
+            ("common\t1\t-\t-\t2", at(1, LineFault::BadFieldCount)),
+            // The fields are counted before the numbers are read.
+            ("common\tx", at(1, LineFault::BadFieldCount)),
+            ("common\tx\t-\t1", at(1, LineFault::BadNumber)),
+            ("common\t1\t-\t01", at(1, LineFault::BadNumber)),
+            ("Common\t1\t-\t2", at(1, LineFault::UnknownCommand)),
             ("edge\t1\t2", at(1, LineFault::UnknownCommand)),
             ("\tnode", at(1, LineFault::UnknownCommand)),
             // A cycle is no fault, and so the fault of a line comes first.

@@ -359,12 +359,12 @@ module _ {T ID : Type 0} (w : Numbered T ID) where
   hands_none eq set1 set2 m waiting waiting2 common rooted find find2 x i known apart k popped here same is updates =
       let y = w.node x in
       let W = map w.node waiting in
-      let still_waiting = map w.node waiting2 in
-      let moves : IsPermutation W (y ∷ still_waiting) = IsPermutation-map w.node waiting (x ∷ waiting2) popped in
-      let to : (b : ℕ) → Contains W b → Contains (y ∷ still_waiting) b = λ b h. Contains-permutation W (y ∷ still_waiting) b moves h in
-      let back : (b : ℕ) → Contains (y ∷ still_waiting) b → Contains W b = λ b h. Contains-permutation (y ∷ still_waiting) W b (IsPermutation-sym W (y ∷ still_waiting) moves) h in
-      let once : IsDistinct eqb (y ∷ still_waiting) = IsDistinct-IsPermutation eqb eqb-flip W (y ∷ still_waiting) moves k.marks.distinct in
-      let fresh : has still_waiting y ≡ false = none_has y still_waiting (IsDistinct-head eqb y still_waiting once) in
+      let later = map w.node waiting2 in
+      let moves : IsPermutation W (y ∷ later) = IsPermutation-map w.node waiting (x ∷ waiting2) popped in
+      let to : (b : ℕ) → Contains W b → Contains (y ∷ later) b = λ b h. Contains-permutation W (y ∷ later) b moves h in
+      let back : (b : ℕ) → Contains (y ∷ later) b → Contains W b = λ b h. Contains-permutation (y ∷ later) W b (IsPermutation-sym W (y ∷ later) moves) h in
+      let once : IsDistinct eqb (y ∷ later) = IsDistinct-IsPermutation eqb eqb-flip W (y ∷ later) moves k.marks.distinct in
+      let fresh : has later y ≡ false = none_has y later (IsDistinct-head eqb y later once) in
       let here_id : w.is_node (w.id i) ≡ true = subst (λ n. w.is_node n ≡ true) (sym same) here in
       let mark : find i ≡ record { reach = m y; waits = has W y } = k.marks.knows i here_id ∙ ap (λ n. record { reach = m n; waits = has W n }) same in
       let waited : has W y ≡ true = has-from_Contains W y (back y (0, omega arith, refl)) in
@@ -386,16 +386,16 @@ module _ {T ID : Type 0} (w : Numbered T ID) where
           knows = λ q there.
               let equal : eq i q ≡ (w.id q == y) = apart i q here_id there ∙ ap (λ n. n == w.id q) same ∙ eqb-flip y (w.id q) in
               let new : Mark = asked (find i) in
-              let P : Bool → Type 0 = λ t. w.id q == y ≡ t → cond t new (find q) ≡ record { reach = m (w.id q); waits = has still_waiting (w.id q) } in
+              let P : Bool → Type 0 = λ t. w.id q == y ≡ t → cond t new (find q) ≡ record { reach = m (w.id q); waits = has later (w.id q) } in
               told q ∙ ap (λ b. cond b new (find q)) equal
               ∙ elim (w.id q == y) as P [
                 | true ↦ λ e.
                     let at : w.id q ≡ y = (Decides-eqb (w.id q) y).0 e in
-                    ap asked mark ∙ same_mark (m y) (m (w.id q)) false (has still_waiting (w.id q)) (ap m (sym at)) (sym fresh ∙ ap (has still_waiting) (sym at))
+                    ap asked mark ∙ same_mark (m y) (m (w.id q)) false (has later (w.id q)) (ap m (sym at)) (sym fresh ∙ ap (has later) (sym at))
                 | false ↦ λ e.
-                    k.marks.knows q there ∙ same_mark (m (w.id q)) (m (w.id q)) (has W (w.id q)) (has still_waiting (w.id q)) refl (sym (has-permutation W (y ∷ still_waiting) moves (w.id q)) ∙ ap (λ t. t || has still_waiting (w.id q)) e)
+                    k.marks.knows q there ∙ same_mark (m (w.id q)) (m (w.id q)) (has W (w.id q)) (has later (w.id q)) refl (sym (has-permutation W (y ∷ later) moves (w.id q)) ∙ ap (λ t. t || has later (w.id q)) e)
               ] refl;
-          distinct = IsDistinct-tail eqb y still_waiting once;
+          distinct = IsDistinct-tail eqb y later once;
         };
         ids = k.ids;
         reached = λ b h. k.reached b (back b h);
@@ -432,24 +432,24 @@ module _ {T ID : Type 0} (w : Numbered T ID) where
       let y = w.node x in
       let r = handed_on known in
       let W = map w.node waiting in
-      let still_waiting = map w.node waiting2 in
+      let later = map w.node waiting2 in
       let more = knows_more eq m waiting waiting2 find find2 x i r apart k.marks here same updates puts in
-      let keeps : (b : ℕ) → Contains (a ∷ W) b → Contains (a ∷ still_waiting) b = λ b h.
+      let keeps : (b : ℕ) → Contains (a ∷ W) b → Contains (a ∷ later) b = λ b h.
       ⊎_elim (λ first. (0, omega arith, first))
-      (λ rest. Contains-append_right (a ∷ []) still_waiting b (Contains-from_has still_waiting b (more.1 b ∙ or_true (has W b) ((b == y) && grows (m y) r) (has-from_Contains W b rest))))
+      (λ rest. Contains-append_right (a ∷ []) later b (Contains-from_has later b (more.1 b ∙ or_true (has W b) ((b == y) && grows (m y) r) (has-from_Contains W b rest))))
       (head_or_rest a W b h) in
-      let adds : (b : ℕ) → Contains (a ∷ still_waiting) b → Contains (a ∷ W) b ⊎ ((b ≡ y) × (grows (m y) r ≡ true)) = λ b h.
+      let adds : (b : ℕ) → Contains (a ∷ later) b → Contains (a ∷ W) b ⊎ ((b ≡ y) × (grows (m y) r ≡ true)) = λ b h.
       ⊎_elim (λ first. inl (0, omega arith, first))
       (λ rest. ⊎_elim (λ old. inl (Contains-append_right (a ∷ []) W b (Contains-from_has W b old)))
       (λ new. let parts = and_both (b == y) (grows (m y) r) new in inr ((Decides-eqb b y).0 parts.0, parts.1))
-      (or_one (has W b) ((b == y) && grows (m y) r) (sym (more.1 b) ∙ has-from_Contains still_waiting b rest)))
-      (head_or_rest a still_waiting b h) in
-      let grown : grows (m y) r ≡ true → Contains (a ∷ still_waiting) y = λ e.
+      (or_one (has W b) ((b == y) && grows (m y) r) (sym (more.1 b) ∙ has-from_Contains later b rest)))
+      (head_or_rest a later b h) in
+      let grown : grows (m y) r ≡ true → Contains (a ∷ later) y = λ e.
       let t : (y == y) ≡ true = (Decides-eqb y y).1 refl in
       let f : ((y == y) && grows (m y) r) ≡ true = ap (λ b. b && grows (m y) r) t ∙ e in
-      Contains-append_right (a ∷ []) still_waiting y (Contains-from_has still_waiting y (more.1 y ∙ or_other (has W y) ((y == y) && grows (m y) r) f)) in
+      Contains-append_right (a ∷ []) later y (Contains-from_has later y (more.1 y ∙ or_other (has W y) ((y == y) && grows (m y) r) f)) in
       record {
-        marking = marking_more w.graph set1 set2 (a ∷ still_waiting) known a y k.marking (λ h. k.same_left ∙ h) (λ h. k.same_right ∙ h) edge keeps adds grown;
+        marking = marking_more w.graph set1 set2 (a ∷ later) known a y k.marking (λ h. k.same_left ∙ h) (λ h. k.same_right ∙ h) edge keeps adds grown;
         marks = more.0;
         ids = k.ids;
         reached = λ b h. ⊎_elim (λ old. k.reached b old) (λ new. subst (λ n. ReachedFrom w.graph (set1 ++ set2) n) (sym new.0) (ReachedFrom-edge w.graph (set1 ++ set2) a y (k.reached a (0, omega arith, refl)) edge)) (adds b h);

@@ -1,5 +1,5 @@
 -- The numbering under which a walk sees a list of commits: a commit of the list has its id for its number, and any other value a number that is no id.
-use Rattle.std.proofs.Common.{◌≡◌, ℕ, zero, suc, ◌+◌, ◌≤◌, Bool, true, false, cond, ◌&&◌, ◌==◌, List, [], ◌∷◌, ◌++◌, map, Option, None, Some, is_some, refl, sym, ◌∙◌, ap, subst, arith, true≢false, eqb, append_assoc}
+use Rattle.std.proofs.Common.{◌≡◌, ℕ, zero, suc, ◌+◌, ◌≤◌, Bool, true, false, cond, ◌&&◌, ◌==◌, List, [], ◌∷◌, ◌++◌, map, Option, None, Some, is_some, Result, Ok, refl, sym, ◌∙◌, ap, subst, arith, true≢false, eqb, append_assoc}
 use Rattle.std.specs.List.{Contains, IsDistinct, AllByRecursion, filter_map, cons_option}
 use Rattle.std.proofs.lemmas.Bool.Decides.{Decides-eqb}
 use Rattle.std.proofs.lemmas.Slice.Eq.{slice_eq-Decides}
@@ -10,7 +10,10 @@ use Rattle.std.proofs.lemmas.Map.Keys.{IsDistinct-tail, IsDistinct-head}
 use Rattle.std.proofs.lemmas.List.Elements.{Contains-append_right}
 use denote.Ref.{Bor}
 use Rattle.jj_walks.specs.Graph.{Graph, Postorder, IsPostorder, StandsBefore, ReachedFrom, HasEdge, IsMaximalIn}
+use Rattle.jj_walks.specs.CommonNodes.{AreClosestCommon}
+use Rattle.jj_walks.specs.Failing.{sound_items}
 use Rattle.jj_walks.specs.Walk.{Numbered, AreNodes}
+use Rattle.jj_walks.proofs.Collecting.{are_nodes}
 use Rattle.jj_walks.proofs.Heads.{Contains-from_map, Contains-map}
 use Rattle.jj_walks.proofs.Reaching.{Contains-split, Postorder-gives, Contains-postorder}
 use Rattle.jj_walks_tests.specs.declared.commits.Commit.{Commit}
@@ -191,11 +194,35 @@ module _ (commits : List Commit) where
         λ f. (Decides-eqb (node x) (node y)).1 (node_id x hx ∙ f.0 ∙ sym (node_id y (has_same x.now y.now hx f))),
       )
 
-  -- nodes that are the maximal ones of the list have their ids for their numbers
+  -- values of nodes have their ids for their numbers
+  ids_are : (ys : List (Bor Commit)) → ((x : Bor Commit) → Contains ys x → has_commit commits x.now ≡ true) → map node ys ≡ map (λ x. x.now.id) ys
+  ids_are [] h = refl
+  ids_are (y ∷ ys) h = ap (λ n. n ∷ map node ys) (node_id y (h y (0, omega arith, refl))) ∙ ap (λ l. y.now.id ∷ l) (ids_are ys (λ x k. h x (Contains-append_right (y ∷ []) ys x k)))
+
   pub maximal_ids : IsDistinct eqb (ids_of commits) → (xs : List (Bor Commit)) → IsMaximalIn (parent_graph commits) (ids_of commits) (map node xs)
       → IsMaximalIn (parent_graph commits) (ids_of commits) (map (λ x. x.now.id) xs)
-  maximal_ids once xs m = subst (λ l. IsMaximalIn (parent_graph commits) (ids_of commits) l) (are xs (λ x h. node_has x (starts_are_nodes once (node x) ((m.all (node x)).0 (Contains-map node xs x h)).0))) m
-    where
-      are : (ys : List (Bor Commit)) → ((x : Bor Commit) → Contains ys x → has_commit commits x.now ≡ true) → map node ys ≡ map (λ x. x.now.id) ys
-      are [] h = refl
-      are (y ∷ ys) h = ap (λ n. n ∷ map node ys) (node_id y (h y (0, omega arith, refl))) ∙ ap (λ l. y.now.id ∷ l) (are ys (λ x k. h x (Contains-append_right (y ∷ []) ys x k)))
+  maximal_ids once xs m = subst (λ l. IsMaximalIn (parent_graph commits) (ids_of commits) l) (ids_are xs (λ x h. node_has x (starts_are_nodes once (node x) ((m.all (node x)).0 (Contains-map node xs x h)).0))) m
+
+  -- a set of commits of the list, as starts
+  pub set_starts : (set : List Commit) → ((c : Commit) → Contains set c → has_commit commits c ≡ true) → (xs : List (Bor Commit)) → map (λ y. y.now) xs ≡ set → map node xs ≡ ids_of set
+  set_starts set had xs e = numbers_had xs (λ c k. had c (subst (λ l. Contains l c) e k)) ∙ ap ids_of e
+
+  pub set_are_nodes : (set : List Commit) → ((c : Commit) → Contains set c → has_commit commits c ≡ true) → AreNodes walk_of (ids_of set)
+  set_are_nodes set had a h =
+      let c = Contains-from_map (λ x. x.id) set a h in
+      ap (λ m. is_some (commit_with commits m)) (sym c.2) ∙ ap is_some (has_found c.0 (had c.0 c.1)).1
+
+  -- nodes that are the closest common ones of two sets have their ids for their numbers
+  pub closest_ids : (set1 set2 : List ℕ) → AreNodes walk_of set1 → (xs : List (Bor Commit)) → AreClosestCommon (parent_graph commits) set1 set2 (map node xs)
+      → AreClosestCommon (parent_graph commits) set1 set2 (map (λ x. x.now.id) xs)
+  closest_ids set1 set2 nodes xs m =
+      subst (λ l. AreClosestCommon (parent_graph commits) set1 set2 l)
+      (ids_are xs (λ x h. node_has x (are_nodes {E = ℕ} walk_of (λ a. []) set1 walk_closed nodes (node x) ((m.all (node x)).0 (Contains-map node xs x h)).0.0))) m
+
+  -- the parents of a commit, as a list that does not fail
+  abbrev pub items_of : ℕ → List (Result ℕ ℕ)
+  items_of a = map (λ b. Ok b) (parent_graph commits a)
+
+  pub items_sound : (ns : List ℕ) → ns ≡ sound_items (map {B = Result ℕ ℕ} (λ b. Ok b) ns)
+  items_sound [] = refl
+  items_sound (n ∷ ns) = ap (λ l. n ∷ l) (items_sound ns)

@@ -1,12 +1,15 @@
 //! Callers over a list of commits: each states what a walk gives in the words of commits, and is proved by the walk's contract.
-ghost use Rattle.std.specs.Prelude.{IfOk, IfErr, eqb, map};
-ghost use Rattle.std.specs.List.{IsDistinct};
+ghost use Rattle.std.specs.Prelude.{◌≡◌, true, IfOk, IfErr, eqb, map};
+ghost use Rattle.std.specs.List.{Contains, IsDistinct};
+ghost use Rattle.jj_walks.specs.CommonNodes.{AreClosestCommon};
 ghost use Rattle.jj_walks.specs.Errors.{IfNode};
 ghost use Rattle.jj_walks.specs.Graph.{HasNoCycle, IsMaximalIn};
-ghost use Rattle.jj_walks_tests.specs.Commits.{ids_of, parent_graph, IsParentsFirst, IsOnCycle};
+ghost use Rattle.jj_walks_tests.specs.declared.commits.Commit.{Commit};
+ghost use Rattle.jj_walks_tests.specs.Commits.{has_commit, ids_of, parent_graph, IsParentsFirst, IsOnCycle};
 
-use crate::commits::{Commit, parents_of};
+use crate::commits::{Commit, parents_of, sound_parents_of};
 use jj_walks::dag_walk::{WalkError, heads, topo_order_forward};
+use jj_walks::dag_walk_async::closest_common_nodes;
 use std::alloc::{AllocError, Global};
 use std::collections::HashSet;
 
@@ -39,5 +42,26 @@ pub fn tips<'a>(alloc: Global, commits: &'a [Commit]) -> Result<HashSet<&'a Comm
         commits.iter(),
         |commit: &&Commit| commit.id,
         |commit: &&Commit| parents_of(commits, *commit),
+    )
+}
+
+/// The commits from which two sets of commits of the list both come, and which no other such commit has for an ancestor.
+pub fn merge_bases<'a>(
+    alloc: Global,
+    commits: &'a [Commit],
+    set1: &'a [Commit],
+    set2: &'a [Commit],
+) -> Result<Vec<&'a Commit>, WalkError<u64>>
+    requires first { (c : Commit) → Contains set1.now c → has_commit commits.now c ≡ true }
+    requires second { (c : Commit) → Contains set2.now c → has_commit commits.now c ≡ true }
+    requires acyclic { HasNoCycle (parent_graph commits.now) (ids_of set1.now) }
+    ensures { IfOk result (λ bases. AreClosestCommon (parent_graph commits.now) (ids_of set1.now) (ids_of set2.now) (map (λ commit. commit.now.id) bases.items)) }
+{
+    closest_common_nodes(
+        alloc,
+        set1.iter(),
+        set2.iter(),
+        |commit: &&Commit| commit.id,
+        |commit: &&Commit| sound_parents_of(commits, *commit),
     )
 }

@@ -104,9 +104,9 @@ fn failing<R: Abort>(rt: &R, alloc: Global) -> Result<(), AllocError> {
         let error = met(rt, closest(alloc, CROSSED, &[broken], &['D'], &['E']))?;
         assert_eq!(rt; error, broken);
     }
-    // The search ends where 9 alone waits, before its list is asked for.
-    let nodes = found(rt, closest(alloc, JOINED, &['9'], &['1'], &['2']))?;
-    assert_eq!(rt; nodes.as_slice(), ['9'].as_slice());
+    // The search ends where A alone waits, before its list is asked for.
+    let nodes = found(rt, closest(alloc, CROSSED, &['A'], &['D'], &['B']))?;
+    assert_eq!(rt; nodes.as_slice(), ['B'].as_slice());
     Ok(())
 }
 
@@ -185,7 +185,10 @@ fn counted_squares(alloc: Global) -> Result<(Vec<u64>, usize), WalkError<u64>> {
 fn counts<R: Abort>(rt: &R, alloc: Global) -> Result<(), AllocError> {
     let (nodes, calls) = found(rt, counted_chain(alloc, BASE + 19, BASE + 20))?;
     assert_eq!(rt; nodes.as_slice(), [BASE].as_slice());
-    assert!(rt; calls <= 40, "{calls} lists for two heads ten nodes above their base");
+    assert!(rt;
+        calls <= 40,
+        "{calls} lists for two heads ten nodes above their base"
+    );
     let (mut nodes, calls) = found(rt, counted_squares(alloc))?;
     nodes.sort()?;
     assert_eq!(rt; nodes.as_slice(), [1, 2].as_slice());

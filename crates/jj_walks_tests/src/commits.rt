@@ -1,5 +1,5 @@
 //! A list of commits: the type of the nodes, and the parents of one.
-ghost use Rattle.std.specs.Prelude.{◌≡◌, MatchOption, None, Some};
+ghost use Rattle.std.specs.Prelude.{◌≡◌, IsOkAnd, MatchOption, None, Some};
 ghost use Rattle.std.specs.Iterator.{YieldsFirstRef, item_count};
 ghost use Rattle.jj_walks_tests.specs.Commits.{commit_with};
 
@@ -60,4 +60,11 @@ pub fn parents_of<'a>(commits: &'a [Commit], commit: &'a Commit) -> Parents<'a>
         commits,
         ids: &commit.parents,
     }
+}
+
+/// The same, as a list that may fail in the eyes of a walk. It never does.
+pub fn sound_parents_of<'a>(commits: &'a [Commit], commit: &'a Commit) -> Result<Parents<'a>, u64>
+    ensures { IsOkAnd result (λ parents. (parents.commits.now ≡ commits.now) × (parents.ids.now ≡ commit.now.parents.items)) }
+{
+    Ok(parents_of(commits, commit))
 }

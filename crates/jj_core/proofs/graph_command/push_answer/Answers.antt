@@ -2,6 +2,7 @@ use Rattle.std.proofs.Common.{◌≡◌, ◌∙◌, ◌++◌, ℕ, List, ap, ref
 use Rattle.std.specs.Prelude.{codes, string_bytes}
 use Rattle.std.specs.List.Sorted.{IsStrictlyIncreasing}
 use Rattle.std.proofs.lemmas.Result.{IfOk-weaker}
+use Rattle.jj_walks.specs.CommonNodes.{AreClosestCommon}
 use Rattle.jj_walks.specs.Graph.{IsGreatestChildFirst, IsMaximalIn}
 use Rattle.jj_core.specs.Neighbors.{listed_in}
 use Rattle.jj_core.specs.GraphCommand.{AnswersRequest, graph_of, numbers_line}
@@ -32,3 +33,18 @@ returns-in_ok-heads-in-Heads c =
     IfOk-weaker c.push_numbers-in-Heads.result (λ _. string_bytes c.push_numbers-in-Heads.new.output ≡ old ++ numbers_line (codes "heads") c.deref-in-Heads-2.result.now)
     (λ _. (answer : List ℕ) × AnswersRequest graph (graph_request_of c.args.request.now) answer × (string_bytes c.push_numbers-in-Heads.new.output ≡ old ++ answer))
     (λ done written. (line, answered, written ∙ ap (λ ids. old ++ numbers_line (codes "heads") ids) c.deref-in-Heads-2.ensures.value)) c.push_numbers-in-Heads.ensures
+
+pub returns-in_ok-common-in-Common : goal.returns-in_ok-common-in-Common
+returns-in_ok-common-in-Common c =
+    let graph = graph_of (listed_in c.args.neighbors.now) in
+    let old = string_bytes c.args.output.now in
+    let common = c.in_ok-common-in-Common.common.items in
+    let line = numbers_line (codes "common") common in
+    let closest : AreClosestCommon graph c.in-Common.set1.items c.in-Common.set2.items common =
+    subst (λ set. AreClosestCommon graph c.in-Common.set1.items set common) c.deref-in-Common-2.ensures.value
+    (subst (λ set. AreClosestCommon graph set c.deref-in-Common-2.result.now common) c.deref-in-Common.ensures.value c.in_ok-common-in-Common.ensures.closest) in
+    let ascending : IsStrictlyIncreasing common = c.in_ok-common-in-Common.ensures.ascending in
+    let answered : AnswersRequest graph (graph_request_of c.args.request.now) line = subst (λ request. AnswersRequest graph (graph_request_of request) line) (sym c.in-Common.is) (common, closest, ascending, refl) in
+    IfOk-weaker c.push_numbers-in-Common.result (λ _. string_bytes c.push_numbers-in-Common.new.output ≡ old ++ numbers_line (codes "common") c.deref-in-Common-3.result.now)
+    (λ _. (answer : List ℕ) × AnswersRequest graph (graph_request_of c.args.request.now) answer × (string_bytes c.push_numbers-in-Common.new.output ≡ old ++ answer))
+    (λ done written. (line, answered, written ∙ ap (λ ids. old ++ numbers_line (codes "common") ids) c.deref-in-Common-3.ensures.value)) c.push_numbers-in-Common.ensures
