@@ -24,5 +24,6 @@ IsOfPath path error no_memory = ⊤
 
 -- the path is refused for the first of its names that is, or memory ran out
 abbrev pub IsRefusedPath : Path → InvalidRepoPathError → Type 0
-IsRefusedPath path (of_path at source) = (at ≡ path) × IsSomeAnd (find is_dots path) (λ name. IsOfName name source)
+IsRefusedPath path (of_path at source) =
+    (at ≡ path) × IsSomeAnd (find is_dots path) (λ name. IsOfName name source)
 IsRefusedPath path no_memory = ⊤

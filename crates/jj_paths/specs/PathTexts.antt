@@ -7,4 +7,5 @@ use Rattle.std.specs.Path.{path_join}
 -- the path below the home directory where it begins with `~/`, if there is one, and else the path
 abbrev pub expanded : Option (List ℕ) → List ℕ → List ℕ
 expanded None path = path
-expanded (Some home) path = if starts_with nat_eq path (codes "~/") then path_join home (drop 2 path) else path
+expanded (Some home) path =
+    if starts_with nat_eq path (codes "~/") then path_join home (drop 2 path) else path

@@ -25,9 +25,12 @@ is_place component = bytes_eq component root_dir || is_dots component
 abbrev pub is_refused : List ℕ → Bool
 is_refused component = is_place component || not (is_utf8 component)
 
--- the path is refused for this component, and the error has the path and says why, or there was no memory to do so
+-- the path is refused for this component, and the error has the path and says why, or there was
+-- no memory to do so
 abbrev pub IsParseError : List ℕ → Option (List ℕ) → RelativePathParseError → Type 0
 IsParseError path refused (InvalidComponent component at) =
-    (at.items ≡ path) × (refused ≡ Some (string_bytes component)) × (is_place (string_bytes component) ≡ true)
-IsParseError path refused (InvalidUtf8 at) = (at.items ≡ path) × IsSomeAnd refused (λ component. is_utf8 component ≡ false)
+    (at.items ≡ path) × (refused ≡ Some (string_bytes component))
+    × (is_place (string_bytes component) ≡ true)
+IsParseError path refused (InvalidUtf8 at) =
+    (at.items ≡ path) × IsSomeAnd refused (λ component. is_utf8 component ≡ false)
 IsParseError path refused Memory = ⊤

@@ -35,4 +35,5 @@ TakesSome r piece = IfOk r (λ n. 0 < length piece → 0 < n)
 abbrev pub SettlesWrite : Result ℕ Error → ℕ → Result ℕ Error → Type 0
 SettlesWrite (Err e) offered result = result ≡ Err e
 SettlesWrite (Ok taken) offered result =
-    MatchBool (taken == 0 && nat_lt 0 offered) (IsErrAnd result (λ e. error_kind e ≡ WriteZero)) (result ≡ Ok taken)
+    MatchBool (taken == 0 && nat_lt 0 offered)
+    (IsErrAnd result (λ e. error_kind e ≡ WriteZero)) (result ≡ Ok taken)

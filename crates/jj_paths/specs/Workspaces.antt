@@ -13,7 +13,8 @@ with_place name path places = λ other. if bytes_eq name other then Some path el
 
 -- the places without those of these names
 abbrev pub without_places : List (List ℕ) → Places → Places
-without_places names places = λ other. if list_any (λ name. bytes_eq name other) names then None else places other
+without_places names places = λ other.
+    if list_any (λ name. bytes_eq name other) names then None else places other
 
 -- the places with one name in the place of another
 abbrev pub with_name_changed : List ℕ → List ℕ → Places → Places

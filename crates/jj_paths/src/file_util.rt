@@ -115,11 +115,13 @@ impl<R: Read> Source for Watched<R> {
     /// A read after 2^64 - 1 reads fails. Any other answer is that of the reader.
     fn read(&mut self, buf: &mut [u8]) -> io::Result<usize>
         ensures bound { ReadsAtMost result buf.new }
-        ensures bytes { ReadConsumes (R.remaining (watched self.old)) (R.remaining (watched self.new)) result buf.new }
+        ensures bytes { ReadConsumes
+            (R.remaining (watched self.old)) (R.remaining (watched self.new)) result buf.new }
         ensures failure { NotesFailure (watched_failed self.old) (watched_failed self.new) result }
         ensures fewer { OnOk result (watched_reads_left self.new < watched_reads_left self.old) }
         ensures counted { watched_reads_left self.new ≡ watched_reads_left self.old - 1 }
-        ensures spent { watched_reads_left self.old ≡ 0 → IsErr result × (watched self.new ≡ watched self.old) }
+        ensures spent { watched_reads_left self.old ≡ 0 →
+            IsErr result × (watched self.new ≡ watched self.old) }
     {
         if self.reads_left == 0 {
             self.failed = true;

@@ -47,7 +47,8 @@ impl<T: Drop> From<AllocFailed<T>> for WorkspaceStoreError {
     }
 }
 
-/// What keeps the paths of workspaces by their names. A call that fails leaves all places as they were.
+/// What keeps the paths of workspaces by their names. A call that fails leaves all places as they
+/// were.
 pub trait WorkspaceStore {
     /// The path of each name that has one.
     ghost places: { Self → List ℕ → Option (List ℕ) };
@@ -62,7 +63,9 @@ pub trait WorkspaceStore {
         workspace_name: WorkspaceName<'_>,
         path: &str,
     ) -> Result<(), WorkspaceStoreError>
-        ensures added { OnOk result (SamePlaces (with_place (name_of workspace_name.entry) path.now (places self.old)) (places self.new)) }
+        ensures added { OnOk result (SamePlaces
+            (with_place (name_of workspace_name.entry) path.now (places self.old))
+            (places self.new)) }
         ensures refused { OnErr result (SamePlaces (places self.old) (places self.new)) };
 
     /// Forgets workspaces. A name without a place stays so.
@@ -71,7 +74,9 @@ pub trait WorkspaceStore {
         alloc: Global,
         workspace_names: &[WorkspaceName<'_>],
     ) -> Result<(), WorkspaceStoreError>
-        ensures forgotten { OnOk result (SamePlaces (without_places (map name_of workspace_names.now) (places self.old)) (places self.new)) }
+        ensures forgotten { OnOk result (SamePlaces
+            (without_places (map name_of workspace_names.now) (places self.old))
+            (places self.new)) }
         ensures refused { OnErr result (SamePlaces (places self.old) (places self.new)) };
 
     /// Gives the place of one name to another.
@@ -81,7 +86,9 @@ pub trait WorkspaceStore {
         old_name: WorkspaceName<'_>,
         new_name: WorkspaceName<'_>,
     ) -> Result<(), WorkspaceStoreError>
-        ensures renamed { OnOk result (SamePlaces (with_name_changed (name_of old_name.entry) (name_of new_name.entry) (places self.old)) (places self.new)) }
+        ensures renamed { OnOk result (SamePlaces
+            (with_name_changed (name_of old_name.entry) (name_of new_name.entry) (places self.old))
+            (places self.new)) }
         ensures refused { OnErr result (SamePlaces (places self.old) (places self.new)) };
 
     /// The path of a workspace, if it has one.
@@ -90,5 +97,6 @@ pub trait WorkspaceStore {
         alloc: Global,
         workspace_name: WorkspaceName<'_>,
     ) -> Result<Option<String>, WorkspaceStoreError>
-        ensures { IfOk result (λ path. option_map string_bytes path ≡ places self.now (name_of workspace_name.entry)) };
+        ensures { IfOk result (λ path.
+            option_map string_bytes path ≡ places self.now (name_of workspace_name.entry)) };
 }

@@ -36,7 +36,8 @@ pub trait DirAccess {
 
     /// The names of the entries of a directory. A fault has the path that was to be listed.
     fn list(&self, alloc: Global, path: &str) -> Result<Vec<String>, PathError>
-        ensures listed { may_list self.now path.now (result_map_both (λ names. map string_bytes names.items) (λ e. e) result) }
+        ensures listed { may_list self.now path.now
+            (result_map_both (λ names. map string_bytes names.items) (λ e. e) result) }
         ensures fault { IfErr result (IsListFault path.now) };
 }
 

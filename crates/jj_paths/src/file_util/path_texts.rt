@@ -1,4 +1,5 @@
-//! Texts of paths of the file system, as Unix reads them. A path is a text here, so its bytes are UTF-8.
+//! Texts of paths of the file system, as Unix reads them. A path is a text here, so its bytes are
+//! UTF-8.
 ghost use Rattle.std.specs.Prelude.{◌≡◌, IsOk, IfOk, MatchResult, string_bytes};
 ghost use Rattle.std.specs.Option.{option_map};
 ghost use Rattle.std.specs.Str.{IsUtf8};
@@ -22,7 +23,8 @@ pub fn path_to_bytes(path: &str) -> &[u8]
 
 /// The path of these bytes, if they are UTF-8.
 pub fn path_from_bytes(bytes: &[u8]) -> Result<&str, BadPathEncoding>
-    ensures { MatchResult result (λ path. (path.now ≡ bytes.now) × IsUtf8 bytes.now) (λ e. ¬ (IsUtf8 bytes.now)) }
+    ensures { MatchResult result
+        (λ path. (path.now ≡ bytes.now) × IsUtf8 bytes.now) (λ e. ¬ (IsUtf8 bytes.now)) }
 {
     match str::from_utf8(bytes) {
         Ok(path) => Ok(path),
@@ -37,13 +39,15 @@ pub fn slash_path(path: &str) -> &str
     path
 }
 
-/// A path that begins with `~/` below the home directory, if one is given, and any other path as it is.
+/// A path that begins with `~/` below the home directory, if one is given, and any other path as
+/// it is.
 pub fn expand_home_path(
     alloc: Global,
     path: &str,
     home_dir: Option<&str>,
 ) -> Result<String, AllocError>
-    ensures { IfOk result (λ text. string_bytes text ≡ expanded (option_map (λ home. home.now) home_dir.entry) path.now) }
+    ensures { IfOk result (λ text. string_bytes text
+        ≡ expanded (option_map (λ home. home.now) home_dir.entry) path.now) }
 {
     if let Some(home) = home_dir
         && let Some(rest) = path.strip_prefix("~/")

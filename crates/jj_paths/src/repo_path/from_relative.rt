@@ -70,7 +70,8 @@ impl From<AllocError> for RelativePathParseError {
 
 // the part of a path before its first slash, and what comes after that slash
 fn cut_at_slash(path: &[u8]) -> (&[u8], &[u8])
-    ensures names { path_names path.now ≡ filter is_name (result.0.now ∷ []) ++ path_names result.1.now }
+    ensures names { path_names path.now
+        ≡ filter is_name (result.0.now ∷ []) ++ path_names result.1.now }
     ensures shorter { 0 < length path.now → length result.1.now < length path.now }
 {
     for (i, b) in path.iter().enumerate() {
@@ -144,7 +145,8 @@ impl RelativePathParseError {
 
     // that the path has a name which is no text
     fn not_utf8(alloc: Global, path: &[u8]) -> RelativePathParseError
-        ensures { (name : List ℕ) → is_utf8 name ≡ false → IsParseError path.now (Some name) result }
+        ensures { (name : List ℕ) → is_utf8 name ≡ false →
+            IsParseError path.now (Some name) result }
     {
         match Vec::from_slice(alloc, path) {
             Ok(path) => RelativePathParseError::InvalidUtf8 { path },
@@ -161,8 +163,10 @@ impl RepoPathBuf {
         alloc: Global,
         path: &[u8],
     ) -> Result<RepoPathBuf, RelativePathParseError>
-        ensures ok { IfOk result (λ made. (made ≡ relative_components path.now) × (find is_refused (relative_components path.now) ≡ None)) }
-        ensures refused { IfErr result (IsParseError path.now (find is_refused (relative_components path.now))) }
+        ensures ok { IfOk result (λ made. (made ≡ relative_components path.now)
+            × (find is_refused (relative_components path.now) ≡ None)) }
+        ensures refused { IfErr result
+            (IsParseError path.now (find is_refused (relative_components path.now))) }
     {
         if is_absolute(path) {
             return Err(RelativePathParseError::at_place(alloc, "/", path));
@@ -179,7 +183,8 @@ impl RepoPathBuf {
 
 // the path of the names of a path that starts with one
 fn joined_names(alloc: Global, path: &[u8]) -> Result<RepoPathBuf, RelativePathParseError>
-    ensures ok { IfOk result (λ made. (made ≡ path_names path.now) × (find is_refused (path_names path.now) ≡ None)) }
+    ensures ok { IfOk result (λ made. (made ≡ path_names path.now)
+        × (find is_refused (path_names path.now) ≡ None)) }
     ensures refused { IfErr result (IsParseError path.now (find is_refused (path_names path.now))) }
 {
     let mut value = String::with_capacity(alloc, path.len())?;

@@ -65,7 +65,8 @@ impl<'a> RepoPathComponent<'a> {
 
     /// The name as a file's. `.` and `..` are `Invalid`.
     pub fn to_fs_name(self, alloc: Global) -> Result<&'a str, InvalidRepoPathComponentError>
-        ensures ok { IfOk result (λ name. (name.now ≡ name_of self.entry) × (is_dots (name_of self.entry) ≡ false)) }
+        ensures ok { IfOk result (λ name.
+            (name.now ≡ name_of self.entry) × (is_dots (name_of self.entry) ≡ false)) }
         ensures valid { is_dots (name_of self.entry) ≡ false → IsOk result }
         ensures refused { IfErr result (IsRefusedName (name_of self.entry)) }
     {
@@ -84,7 +85,8 @@ impl<'a> RepoPath<'a> {
     /// The path below a directory of the file system. A path with a name `.` or `..` is `Invalid`,
     /// with the first such name.
     pub fn to_fs_path(self, alloc: Global, base: &str) -> Result<String, InvalidRepoPathError>
-        ensures ok { IfOk result (λ text. (string_bytes text ≡ fs_text base.now (path_of self.entry)) × (find is_dots (path_of self.entry) ≡ None)) }
+        ensures ok { IfOk result (λ text. (string_bytes text ≡ fs_text base.now (path_of self.entry))
+            × (find is_dots (path_of self.entry) ≡ None)) }
         ensures refused { IfErr result (IsRefusedPath (path_of self.entry)) }
     {
         let mut path = self.room_below(alloc, base)?;

@@ -1,0 +1,20 @@
+-- What a contract sees of a verification.
+use Rattle.std.specs.Prelude.{ℕ, List, Option, None, Bool, true, false}
+use Rattle.jj_stores.specs.declared.signing.SigStatus.{SigStatus}
+use Rattle.jj_stores.specs.declared.signing.SigStatus.TheVariants.{Good, Unknown, Bad}
+
+-- the status of a signature, and the texts of its key and of its signer's name, where they are
+-- known
+pub record Verdict : Type 0 where
+  pub status : SigStatus
+  pub key : Option (List ℕ)
+  pub display : Option (List ℕ)
+
+abbrev pub is_unknown : SigStatus → Bool
+is_unknown Unknown = true
+is_unknown Good = false
+is_unknown Bad = false
+
+-- nothing is known
+abbrev pub unknown_verdict : Verdict
+unknown_verdict = record { status = Unknown; key = None; display = None }

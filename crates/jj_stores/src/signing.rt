@@ -1,0 +1,357 @@
+//! Signing of commits, and verification of their signatures.
+ghost use Rattle.std.specs.Prelude.{◌≡◌, ◌↔◌, ◌≤◌, ℕ, List, Option, Result, Bool, map, Some};
+ghost use Rattle.std.specs.Prelude.{None, Ok, Err, length, ◌++◌, IsTrue, IfOk, IfErr, OnOk};
+ghost use Rattle.std.specs.Prelude.{OnErr, IsSome, MatchOption, MatchResult, string_bytes};
+ghost use Rattle.std.specs.Prelude.{option_map, [], ◌∷◌, is_some, IsNone, ◌⊎◌};
+ghost use Rattle.std.specs.NonZero.{non_zero_usize_get};
+ghost use Rattle.std.specs.Bool.{MatchBool};
+ghost use Rattle.std.specs.Option.{ForSome};
+ghost use Rattle.std.specs.Result.{result_map_both};
+ghost use Rattle.std.specs.List.{list_any};
+ghost use Rattle.std.specs.Map.{lookup};
+ghost use Rattle.std.specs.Str.{bytes_eq};
+ghost use Rattle.jj_stores.specs.Verdict.{Verdict, unknown_verdict, is_unknown};
+ghost use Rattle.jj_stores.specs.Asked.{Decide, is_decisive as decisive, IsVerified};
+ghost use Rattle.jj_stores.specs.Asked.{remembered, backends};
+
+pub use jj_backend::signing::{SignError, SignResult};
+use jj_ids::object_id::CommitId;
+use lru::LruCache;
+use std::alloc::{AllocError, Global};
+use std::marker::Model;
+use std::num::NonZeroUsize;
+
+/// What is known of a signature.
+#[derive(Clone, Copy, Debug, PartialEq, Eq)]
+pub enum SigStatus {
+    Good,
+    Unknown,
+    Bad,
+}
+
+/// What verification of a signature has found.
+#[derive(Drop)]
+pub struct Verification {
+    pub status: SigStatus,
+    pub key: Option<String>,
+    pub display: Option<String>,
+}
+
+impl Model for Verification {
+    ghost use Rattle.std.specs.Prelude.{string_bytes, option_map};
+    ghost use Rattle.jj_stores.specs.Verdict.{Verdict};
+
+    ghost Value = { Verdict };
+
+    ghost view = { λ v. record {
+      status = v.status;
+      key = option_map string_bytes v.key;
+      display = option_map string_bytes v.display;
+    } };
+}
+
+impl Verification {
+    /// Nothing is known.
+    pub fn unknown() -> Self
+        ensures { result ≡ unknown_verdict }
+    {
+        Verification {
+            status: SigStatus::Unknown,
+            key: None,
+            display: None,
+        }
+    }
+
+    pub fn new(status: SigStatus, key: Option<String>, display: Option<String>) -> Self
+        ensures { result ≡ record {
+          status = status;
+          key = option_map string_bytes key;
+          display = option_map string_bytes display;
+        } }
+    {
+        Verification {
+            status,
+            key,
+            display,
+        }
+    }
+
+    pub fn status(&self) -> SigStatus
+        ensures { result ≡ self.now.status }
+    {
+        self.status
+    }
+}
+
+impl Clone for Verification {
+    ghost is_clone = { λ v c. c ≡ v };
+
+    fn clone(&self) -> Result<Self, AllocError> {
+        Ok(Verification {
+            status: self.status,
+            key: self.key.clone()?,
+            display: self.display.clone()?,
+        })
+    }
+}
+
+/// What signs, and what verifies signatures.
+pub trait SigningBackend: Drop {
+    ghost use Rattle.std.specs.Prelude.{ℕ, List, Bool, Option, Result};
+    ghost use Rattle.jj_stores.specs.Verdict.{Verdict};
+    ghost use Rattle.jj_backend.specs.declared.signing.SignError.{SignError};
+
+    /// Whether it can read a signature.
+    ghost reads: { Self → List ℕ → Bool };
+
+    /// That it may answer so, asked whether data have a signature. The answer to one question
+    /// may change, as when a key is imported.
+    ghost may_verify: { Self → List ℕ → List ℕ → Result Verdict SignError → Type 0 };
+
+    /// That it may answer so, asked to sign data by a key.
+    ghost may_sign: { Self → List ℕ → Option (List ℕ) → Result (List ℕ) SignError → Type 0 };
+
+    fn name(&self) -> &str;
+
+    fn can_read(&self, signature: &[u8]) -> bool
+        ensures { result ≡ reads self.now signature.now };
+
+    fn sign(&self, alloc: Global, data: &[u8], key: Option<&str>) -> SignResult<Vec<u8>>
+        ensures { may_sign self.now «data».now (option_map (λ k. k.now) key.entry)
+            (result_map_both (λ v. v.items) (λ e. e) result) };
+
+    fn verify(&self, alloc: Global, data: &[u8], signature: &[u8]) -> SignResult<Verification>
+        ensures { may_verify self.now «data».now signature.now result };
+}
+
+fn is_decisive(answer: &SignResult<Verification>) -> bool
+    ensures { result ≡ decisive answer.now }
+{
+    match answer {
+        Ok(verification) => match verification.status {
+            SigStatus::Unknown => false,
+            _ => true,
+        },
+        Err(SignError::InvalidSignatureFormat) => false,
+        Err(_) => true,
+    }
+}
+
+impl SigningBackend for Box<dyn SigningBackend> {
+    ghost reads = { λ b. (SigningBackend-box b).reads b.value };
+
+    ghost may_verify = { λ b. (SigningBackend-box b).may_verify b.value };
+
+    ghost may_sign = { λ b. (SigningBackend-box b).may_sign b.value };
+
+    fn name(&self) -> &str {
+        (**self).name()
+    }
+
+    fn can_read(&self, signature: &[u8]) -> bool {
+        (**self).can_read(signature)
+    }
+
+    fn sign(&self, alloc: Global, data: &[u8], key: Option<&str>) -> SignResult<Vec<u8>> {
+        (**self).sign(alloc, data, key)
+    }
+
+    fn verify(&self, alloc: Global, data: &[u8], signature: &[u8]) -> SignResult<Verification> {
+        (**self).verify(alloc, data, signature)
+    }
+}
+
+/// The first decisive answer of those that can read the signature.
+fn ask<B: SigningBackend>(
+    alloc: Global,
+    backends: &[B],
+    data: &[u8],
+    signature: &[u8],
+) -> Option<SignResult<Verification>>
+    ensures { Decide (λ b. B.reads b signature.now) (λ b. B.may_verify b «data».now signature.now)
+        backends.now result }
+{
+    for backend in backends {
+        if backend.can_read(signature) {
+            let answer = backend.verify(alloc, data, signature);
+            if is_decisive(&answer) {
+                return Some(answer);
+            }
+        }
+    }
+    None
+}
+
+/// The same of a first backend, if there is one, and then the others.
+fn ask_first<B: SigningBackend>(
+    alloc: Global,
+    first: &Option<B>,
+    others: &[B],
+    data: &[u8],
+    signature: &[u8],
+) -> Option<SignResult<Verification>>
+    ensures { Decide (λ b. B.reads b signature.now) (λ b. B.may_verify b «data».now signature.now)
+        (backends first.now others.now) result }
+{
+    if let Some(backend) = first {
+        if backend.can_read(signature) {
+            let answer = backend.verify(alloc, data, signature);
+            if is_decisive(&answer) {
+                return Some(answer);
+            }
+        }
+    }
+    ask(alloc, others, data, signature)
+}
+
+fn can_one_read<B: SigningBackend>(backends: &[B], signature: &[u8]) -> bool
+    ensures { result ≡ list_any (λ b. B.reads b signature.now) backends.now }
+{
+    backends.iter().any(|backend| backend.can_read(signature))
+}
+
+fn can_any_read<B: SigningBackend>(first: &Option<B>, others: &[B], signature: &[u8]) -> bool
+    ensures { result ≡ list_any (λ b. B.reads b signature.now) (backends first.now others.now) }
+{
+    match first {
+        Some(backend) => backend.can_read(signature) || can_one_read(others, signature),
+        None => can_one_read(others, signature),
+    }
+}
+
+/// How many verifications a signer remembers if it is not told.
+const COMMIT_CACHE_CAPACITY: usize = 100;
+
+/// Signs commits, and verifies their signatures by the first backend that can.
+#[derive(Drop)]
+pub struct Signer {
+    main: Option<Box<dyn SigningBackend>>,
+    others: Vec<Box<dyn SigningBackend>>,
+    cache: LruCache<CommitId, Verification>,
+}
+
+impl Signer {
+    ghost use Rattle.jj_stores.specs.Signer.{cached, capacity_of};
+
+    pub fn with_capacity(
+        alloc: Global,
+        main: Option<Box<dyn SigningBackend>>,
+        others: Vec<Box<dyn SigningBackend>>,
+        capacity: NonZeroUsize,
+    ) -> Result<Self, AllocError>
+        ensures backends { IfOk result (λ s. (s.main ≡ main) × (s.others ≡ others)) }
+        ensures cached { IfOk result (λ s. cached s ≡ []) }
+        ensures capacity { IfOk result (λ s. capacity_of s ≡ non_zero_usize_get capacity) }
+    {
+        let cache = LruCache::new(alloc, capacity)?;
+        Ok(Signer {
+            main,
+            others,
+            cache,
+        })
+    }
+
+    /// A signer that remembers 100 verifications.
+    pub fn new(
+        alloc: Global,
+        main: Option<Box<dyn SigningBackend>>,
+        others: Vec<Box<dyn SigningBackend>>,
+    ) -> Result<Self, AllocError>
+        ensures backends { IfOk result (λ s. (s.main ≡ main) × (s.others ≡ others)) }
+        ensures cached { IfOk result (λ s. cached s ≡ []) }
+        ensures capacity { IfOk result (λ s. capacity_of s ≡ 100) }
+    {
+        match NonZeroUsize::new(COMMIT_CACHE_CAPACITY) {
+            Some(capacity) => Signer::with_capacity(alloc, main, others, capacity),
+            None => unreachable!(),
+        }
+    }
+
+    pub fn can_sign(&self) -> bool
+        ensures { result ≡ is_some self.now.main }
+    {
+        self.main.is_some()
+    }
+
+    /// The main backend's answer.
+    pub fn sign(&self, data: &[u8], key: Option<&str>) -> SignResult<Vec<u8>>
+        requires { IsSome self.now.main }
+        ensures { ForSome self.now.main (λ b. may_sign b «data».now
+            (option_map (λ k. k.now) key.entry) (result_map_both (λ v. v.items) (λ e. e) result)) }
+    {
+        match &self.main {
+            Some(main) => main.sign(*self.others.allocator(), data, key),
+            None => unreachable!(),
+        }
+    }
+
+    /// What is remembered of the commit, or else the first decisive answer of the backends that
+    /// can read the signature.
+    pub fn verify(
+        &mut self,
+        commit_id: &CommitId,
+        data: &[u8],
+        signature: &[u8],
+    ) -> SignResult<Verification>
+        ensures kept { (self.new.main ≡ self.old.main) × (self.new.others ≡ self.old.others)
+            × (capacity_of self.new ≡ capacity_of self.old) }
+        ensures known { ForSome (lookup (bytes_eq commit_id.now) (cached self.old))
+            (λ v. MatchResult result
+            (λ r. (r ≡ v) × (cached self.new
+            ≡ remembered (capacity_of self.old) commit_id.now v (cached self.old)))
+            (λ e. e ≡ SignError.Memory)) }
+        ensures asked { IsNone (lookup (bytes_eq commit_id.now) (cached self.old)) →
+            MatchResult result
+            (λ r. IsVerified (λ b. reads b signature.now)
+            (λ b. may_verify b «data».now signature.now)
+            (backends self.old.main self.old.others.items) commit_id.now
+            (capacity_of self.old) r (cached self.old) (cached self.new))
+            (λ e. (e ≡ SignError.Memory) ⊎ Decide (λ b. reads b signature.now)
+            (λ b. may_verify b «data».now signature.now)
+            (backends self.old.main self.old.others.items) (Some (Err e))) }
+        ensures refused { OnErr result (cached self.new ≡ cached self.old) }
+        ensures room { length (cached self.new) ≤ capacity_of self.new }
+    {
+        let _remembered = self.cache.len();
+        if let Some(known) = self.cache.peek(commit_id) {
+            let verification = known.clone()?;
+            let _ = self.cache.promote(commit_id);
+            return Ok(verification);
+        }
+        let alloc = *self.others.allocator();
+        let decision = ask_first(alloc, &self.main, self.others.as_slice(), data, signature);
+        match decision {
+            Some(answer) => {
+                let verification = answer?;
+                self.remember(commit_id, &verification)?;
+                Ok(verification)
+            }
+            None => {
+                let verification = Verification::unknown();
+                if !can_any_read(&self.main, self.others.as_slice(), signature) {
+                    self.remember(commit_id, &verification)?;
+                }
+                Ok(verification)
+            }
+        }
+    }
+
+    fn remember(
+        &mut self,
+        commit_id: &CommitId,
+        verification: &Verification,
+    ) -> Result<(), AllocError>
+        requires { lookup (bytes_eq commit_id.now) (cached self.old) ≡ None }
+        ensures kept { (self.new.main ≡ self.old.main) × (self.new.others ≡ self.old.others)
+            × (capacity_of self.new ≡ capacity_of self.old) }
+        ensures ok { OnOk result (cached self.new
+            ≡ remembered (capacity_of self.old) commit_id.now verification.now (cached self.old)) }
+        ensures err { OnErr result (cached self.new ≡ cached self.old) }
+    {
+        let id = commit_id.clone()?;
+        let verification = verification.clone()?;
+        let _remembered = self.cache.len();
+        self.cache.put(id, verification)?;
+        Ok(())
+    }
+}
