@@ -1,0 +1,9 @@
+pub mod Children
+pub mod Joining
+pub mod Merging
+pub mod Passing
+pub mod MadeRows
+pub mod Refusing
+pub mod Rounds
+pub mod Conflicting
+pub mod Roots

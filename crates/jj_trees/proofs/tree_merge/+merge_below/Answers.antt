@@ -1,0 +1,111 @@
+use Rattle.std.proofs.Common.{◌≡◌, ◌∙◌, ◌-◌, ◌++◌, ◌∷◌, [], length, refl, sym, ap, subst, arith, is_some}
+use Rattle.std.proofs.lemmas.Result.{err_from_is_err_and}
+use Rattle.jj_merges.specs.Odd.{IsOdd}
+use Rattle.std.specs.Vec.Iter.{into_iter_items}
+use Rattle.jj_paths.specs.Names.{path_of}
+use Rattle.jj_paths.specs.Paths.{Name}
+use Rattle.std.specs.Option.{option_eq}
+use Rattle.jj_trees.specs.declared.tree_merge.Row.{Row}
+use Rattle.jj_trees.specs.TreeMerges.{Values, conflict_entries}
+use Rattle.jj_backend.specs.contracts.backend.tree_value.TreeValuePartialEq.TheImpl as tree_values
+use Rattle.jj_trees.proofs.Merging.{same_values, passed_none}
+use Rattle.jj_trees.proofs.Passing.{rows_start, rows_next, next_row, row_length, same_sides}
+use Rattle.jj_trees.proofs.Rounds.{rows_passed, row_here, row_entered, row_refused, rows_ended, no_row, all_merged, all_rows_within}
+use Rattle.jj_trees.proofs.tree_merge.+merge_below.Goals as goal
+use Rattle.jj_trees.proofs.tree_merge.+merge_below.Goals.{in-None-entered, in-Some-entered+in_ok-merge_below-in-Some-entered}
+
+abbrev pub parts : Row → Name × Values
+parts row = (row.name, row.values.items)
+
+pub loop-row-init : goal.loop-row-init
+loop-row-init g t c = record {
+  can = tt;
+  ends = tt;
+  rows = rows_start parts _ _ _ _ (c.deref.ensures.value ∙ c.in_ok-trees.ensures.entries) c.into_iter-row-iterator.ensures.into_iter_gives.0 c.in_ok-rows.ensures;
+  passed = passed_none (option_eq tree_values.eq-value.it) same_values (g.B.Backend.objects c.args.backend.now).trees c.args.same_change c.args.labels.now
+      _ c.args.values.now (path_of c.args.dir) c.args.merged.now.resolved.items (conflict_entries c.args.merged.now.conflicts.items);
+}
+
+pub merge_here-requires-clause-odd : goal.merge_here-requires-clause-odd
+merge_here-requires-clause-odd g t c =
+    let next = next_row c.loop-row.row-iterator c.next.result c.next.new.self c.in-Some.row c.in-Some.is c.next.ensures.steps in
+    subst IsOdd (sym (row_length (g.B.Backend.objects c.args.backend.now).trees parts c.args.values.now c.loop-row.yielded c.in-Some.row (into_iter_items c.next.new.self)
+    (rows_next parts _ c.loop-row.yielded _ _ next c.loop-row.invariant.rows))) c.requires.odd
+
+pub merge_here-requires-clause-sides : goal.merge_here-requires-clause-sides
+merge_here-requires-clause-sides g t c =
+    let next = next_row c.loop-row.row-iterator c.next.result c.next.new.self c.in-Some.row c.in-Some.is c.next.ensures.steps in
+    same_sides _ _ _ (row_length (g.B.Backend.objects c.args.backend.now).trees parts c.args.values.now c.loop-row.yielded c.in-Some.row (into_iter_items c.next.new.self)
+    (rows_next parts _ c.loop-row.yielded _ _ next c.loop-row.invariant.rows)) c.requires.sides
+
+pub merge_below-requires : goal.merge_below-requires
+merge_below-requires g t c =
+    let next = next_row c.loop-row.row-iterator c.next.result c.next.new.self c.in-Some.row c.in-Some.is c.next.ensures.steps in
+    let entered = rw c.in-Some-entered.is at c.in_ok-entered.ensures.entered in
+    let same : length c.deref-in-Some-entered.result.now ≡ length c.args.values.now =
+    ap length (c.deref-in-Some-entered.ensures.value ∙ entered.1)
+    ∙ row_length (g.B.Backend.objects c.args.backend.now).trees parts c.args.values.now c.loop-row.yielded c.in-Some.row (into_iter_items c.next.new.self)
+    (rows_next parts _ c.loop-row.yielded _ _ next c.loop-row.invariant.rows) in
+    λ κs outlives. (omega arith, (outlives, (subst IsOdd (sym same) c.requires.odd, same_sides _ _ _ same c.requires.sides)))
+
+pub returns-in_err-merge_below-in-Some-entered-clause-refused : goal.returns-in_err-merge_below-in-Some-entered-clause-refused
+returns-in_err-merge_below-in-Some-entered-clause-refused g t c =
+    let next = next_row c.loop-row.row-iterator c.next.result c.next.new.self c.in-Some.row c.in-Some.is c.next.ensures.steps in
+    let entered = rw c.in-Some-entered.is at c.in_ok-entered.ensures.entered in
+    let p = err_from_is_err_and c.from_residual-in_err-merge_below-in-Some-entered.result c.from_residual-in_err-merge_below-in-Some-entered.ensures.1 in
+    rw (p.1, p.2)
+    (row_refused (option_eq tree_values.eq-value.it) same_values (g.B.Backend.objects c.args.backend.now).trees c.args.same_change c.args.labels.now
+    (c.args.levels - 1) c.args.values.now (path_of c.args.dir) parts c.loop-row.yielded c.in-Some.row (into_iter_items c.next.new.self)
+    (rows_next parts _ c.loop-row.yielded _ _ next c.loop-row.invariant.rows) (g.B.Backend.may_fail c.args.backend.now) c.args.levels _
+    c.deref-in-Some-entered.result.now (omega arith) (c.deref-in-Some-entered.ensures.value ∙ entered.1) entered.2
+    c.in_err-merge_below-in-Some-entered.ensures.refused)
+
+pub loop-row-preserved : goal.loop-row-preserved
+loop-row-preserved g t c =
+    let next = next_row c.loop-row.row-iterator c.next.result c.next.new.self c.in-Some.row c.in-Some.is c.next.ensures.steps in
+    let rows = rows_next parts _ c.loop-row.yielded _ _ next c.loop-row.invariant.rows in
+    let at : c.in_ok-path.path ≡ path_of c.args.dir ++ c.in-Some.row.name ∷ [] = c.in_ok-path.ensures ∙ ap (λ n. path_of c.args.dir ++ n ∷ []) c.as_component.ensures in
+    record {
+      can = tt;
+      ends = tt;
+      rows = rows_passed parts _ c.loop-row.yielded c.in-Some.row (into_iter_items c.next.new.self) rows;
+      passed = elim c.match-entered.branch [
+        | in-None-entered w ↦
+            rw w.merged-is
+            (row_here (option_eq tree_values.eq-value.it) same_values (g.B.Backend.objects c.args.backend.now).trees c.args.same_change c.args.labels.now
+            (c.args.levels - 1) c.args.values.now (path_of c.args.dir) parts c.loop-row.yielded c.in-Some.row (into_iter_items c.next.new.self) rows
+            c.args.merged.now.resolved.items c.loop-row.merged.resolved.items c.merge_here.new.merged.resolved.items
+            (conflict_entries c.args.merged.now.conflicts.items) (conflict_entries c.loop-row.merged.conflicts.items)
+            (conflict_entries c.merge_here.new.merged.conflicts.items) c.loop-row.invariant.passed
+            c.in_ok-path.path at (c.in_ok-entered.ensures.done (ap is_some w.in-None-entered.is)))
+        | in-Some-entered+in_ok-merge_below-in-Some-entered w ↦
+            let entered = rw w.in-Some-entered.is at c.in_ok-entered.ensures.entered in
+            rw w.merged-is
+            (row_entered (option_eq tree_values.eq-value.it) same_values (g.B.Backend.objects c.args.backend.now).trees c.args.same_change c.args.labels.now
+            (c.args.levels - 1) c.args.values.now (path_of c.args.dir) parts c.loop-row.yielded c.in-Some.row (into_iter_items c.next.new.self) rows
+            c.args.merged.now.resolved.items c.loop-row.merged.resolved.items w.merge_below.new.merged.resolved.items
+            (conflict_entries c.args.merged.now.conflicts.items) (conflict_entries c.loop-row.merged.conflicts.items)
+            (conflict_entries w.merge_below.new.merged.conflicts.items) c.loop-row.invariant.passed
+            (path_of w.as_path-dir.result) (w.as_path-dir.ensures ∙ entered.0 ∙ at)
+            w.deref-in-Some-entered.result.now (w.deref-in-Some-entered.ensures.value ∙ entered.1) entered.2
+            c.merge_here.new.merged.resolved.items (conflict_entries c.merge_here.new.merged.conflicts.items) entered.3 (ap conflict_entries entered.4)
+            w.in_ok-merge_below-in-Some-entered.ensures.merge w.in_ok-merge_below-in-Some-entered.ensures.within)
+      ];
+    }
+
+pub returns-clause-merge : goal.returns-clause-merge
+returns-clause-merge g t c =
+    all_merged (option_eq tree_values.eq-value.it) same_values (g.B.Backend.objects c.args.backend.now).trees c.args.same_change c.args.labels.now
+    (c.args.levels - 1) c.args.values.now (path_of c.args.dir) parts refl c.requires.odd c.loop-row.yielded
+    (rows_ended parts _ c.loop-row.yielded _ (no_row c.loop-row.row-iterator c.next.result c.next.new.self c.in-None.is c.next.ensures.steps) c.loop-row.invariant.rows)
+    c.args.merged.now.resolved.items c.loop-row.merged.resolved.items
+    (conflict_entries c.args.merged.now.conflicts.items) (conflict_entries c.loop-row.merged.conflicts.items) c.loop-row.invariant.passed
+
+pub returns-clause-within : goal.returns-clause-within
+returns-clause-within g t c =
+    all_rows_within (option_eq tree_values.eq-value.it) same_values (g.B.Backend.objects c.args.backend.now).trees c.args.same_change c.args.labels.now
+    (c.args.levels - 1) c.args.values.now (path_of c.args.dir) parts refl c.requires.odd c.loop-row.yielded
+    (rows_ended parts _ c.loop-row.yielded _ (no_row c.loop-row.row-iterator c.next.result c.next.new.self c.in-None.is c.next.ensures.steps) c.loop-row.invariant.rows)
+    c.args.merged.now.resolved.items c.loop-row.merged.resolved.items
+    (conflict_entries c.args.merged.now.conflicts.items) (conflict_entries c.loop-row.merged.conflicts.items) c.loop-row.invariant.passed
+    c.in_ok-trees.ensures.there c.args.levels (omega arith)

@@ -1,0 +1,3 @@
+pub mod TreeMerges
+pub mod Steps
+pub mod Rows

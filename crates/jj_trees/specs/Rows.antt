@@ -1,0 +1,25 @@
+-- The names of a directory's trees, with what stands there, tree by tree.
+use Rattle.std.specs.Prelude.{◌≡◌, ◌⊎◌, Bool, List, Option, None, map, All, Any, AllPairs}
+use Rattle.std.specs.List.{list_any}
+use Rattle.std.specs.Map.{lookup}
+use Rattle.std.specs.Ordering.{is_eq}
+use Rattle.std.specs.Str.{bytes_eq}
+use Rattle.std.specs.declared.cmp.Ordering.TheVariants.{Less}
+use Rattle.jj_paths.specs.Paths.{Name, name_cmp}
+use Rattle.jj_backend.specs.declared.backend.tree_value.TreeValue.{TreeValue}
+
+-- what the trees have at a name
+abbrev pub at_name : List (List (Name × TreeValue)) → Name → List (Option TreeValue)
+at_name trees name = map (λ entries. lookup (bytes_eq name) entries) trees
+
+-- whether an entry has the name
+abbrev pub has_name : Name → List (Name × TreeValue) → Bool
+has_name name entries = list_any (λ key. is_eq (name_cmp key name)) (map (λ entry. entry.0) entries)
+
+-- the rows are those of the names that any of the trees has, ascending
+pub record AreRows (trees : List (List (Name × TreeValue)))
+    (rows : List (Name × List (Option TreeValue))) : Type 0 where
+  pub ascending : AllPairs (λ a b. name_cmp a.0 b.0 ≡ Less) rows
+  pub values : All (λ row. row.1 ≡ at_name trees row.0) rows
+  pub every : (name : Name) → (All (λ entries. lookup (bytes_eq name) entries ≡ None) trees)
+      ⊎ Any (λ row. row.0 ≡ name) rows

@@ -1,0 +1,364 @@
+//! Merges of whole trees, name by name and all the way down.
+ghost use Rattle.std.specs.Prelude.{◌≡◌, ◌↔◌, ◌⊎◌, ◌||◌, [], map, length, Option, IsTrue, true};
+ghost use Rattle.std.specs.Prelude.{All, Any, IfOk, IfErr, IfSome, IsNone, OnOk};
+ghost use Rattle.std.specs.BTreeSet.{contains};
+ghost use Rattle.std.specs.List.{list_any};
+ghost use Rattle.std.specs.Map.{lookup};
+ghost use Rattle.std.specs.NonZero.{non_zero_usize_get};
+ghost use Rattle.std.specs.Str.{bytes_eq};
+ghost use Rattle.jj_merges.specs.Odd.{IsOdd};
+ghost use Rattle.jj_paths.specs.Names.{path_of, name_of};
+ghost use Rattle.jj_paths.specs.Paths.{Name, name_cmp};
+ghost use Rattle.jj_backend.specs.Errors.{is_not_found, is_unsupported};
+ghost use Rattle.jj_trees.specs.Rows.{AreRows, has_name};
+ghost use Rattle.jj_trees.specs.Steps.{IsStep};
+ghost use Rattle.jj_trees.specs.TreeMerges.{entries_of, root_values, conflict_entries};
+ghost use Rattle.jj_trees.specs.TreeMerges.{is_tree_or_absent, IsThere, IsEntered, IsHere};
+ghost use Rattle.jj_trees.specs.TreeMerges.{IsMerge, IsAppended, IsWithin, IsRefused};
+
+use jj_backend::backend::{Backend, BackendError, BackendResult, Tree, TreeId, TreeValue};
+use jj_merges::conflict_labels::ConflictLabels;
+use jj_merges::merge::{Merge, SameChange, trivial_merge};
+use jj_paths::repo_path::{RepoPath, RepoPathBuf, RepoPathComponent, RepoPathComponentBuf};
+use smallvec::SmallVec;
+use std::alloc::{AllocError, Global};
+use std::collections::BTreeSet;
+use std::num::NonZeroUsize;
+
+/// What becomes of one name.
+enum Step<'a> {
+    Resolved(&'a TreeValue),
+    Absent,
+    Entered,
+    Conflict,
+}
+
+/// A name of a directory, and what each term has there.
+#[derive(Drop)]
+struct Row {
+    name: RepoPathComponentBuf,
+    values: Vec<Option<TreeValue>>,
+}
+
+/// A directory whose entries are to be merged, and what each term has at its path.
+#[derive(Drop)]
+struct Directory {
+    path: RepoPathBuf,
+    values: Vec<Option<TreeValue>>,
+}
+
+/// Whether each value is a tree or absent.
+fn are_trees(values: &[Option<TreeValue>]) -> bool
+    ensures { IsTrue result ↔ All (λ v. is_tree_or_absent v ≡ true) values.now }
+{
+    values
+        .iter()
+        .all(|value| matches!(value, None | Some(TreeValue::Tree(_))))
+}
+
+/// What trees merge to, in the order of paths: the values that have one outcome, and the
+/// conflicts, simplified, each with the labels of its terms.
+#[derive(Drop)]
+pub struct TreeMerge {
+    pub resolved: Vec<(RepoPathBuf, TreeValue)>,
+    pub conflicts: Vec<(RepoPathBuf, Merge<Option<TreeValue>>, ConflictLabels)>,
+}
+
+/// What becomes of the values at one name.
+fn step_of(values: &[Option<TreeValue>], same_change: SameChange) -> Step<'_>
+    requires { IsOdd (length values.now) }
+    ensures { IsStep ⟦<Option<TreeValue> as PartialEq>⟧.eq same_change values.now result }
+{
+    match trivial_merge(values, same_change) {
+        Some(Some(value)) => Step::Resolved(value),
+        Some(None) => Step::Absent,
+        None => {
+            if are_trees(values) {
+                Step::Entered
+            } else {
+                Step::Conflict
+            }
+        }
+    }
+}
+
+/// Adds the names of a tree.
+fn add_names(
+    alloc: Global,
+    names: &mut BTreeSet<RepoPathComponentBuf>,
+    tree: &Tree,
+) -> Result<(), AllocError>
+    ensures { OnOk result ((name : Name) → contains name_cmp names.new name
+        ≡ (contains name_cmp names.old name || has_name name tree.now)) }
+{
+    for name in tree.names() {
+        names.insert(name.to_owned(alloc)?)?;
+    }
+    Ok(())
+}
+
+/// The names that stand in any of the trees, ascending.
+fn names_of(alloc: Global, trees: &[Tree]) -> Result<BTreeSet<RepoPathComponentBuf>, AllocError>
+    ensures { IfOk result (λ names. (name : Name) → contains name_cmp names name
+        ≡ list_any (has_name name) trees.now) }
+{
+    let mut names = BTreeSet::new(alloc);
+    for tree in trees {
+        add_names(alloc, &mut names, tree)?;
+    }
+    Ok(names)
+}
+
+/// What stands at a name, tree by tree.
+fn values_below(
+    alloc: Global,
+    trees: &[Tree],
+    name: RepoPathComponent<'_>,
+) -> Result<Vec<Option<TreeValue>>, AllocError>
+    ensures { IfOk result (λ values. values.items
+        ≡ map (λ tree. lookup (bytes_eq (name_of name.entry)) tree) trees.now) }
+{
+    let mut values = Vec::new(alloc);
+    for tree in trees {
+        values.push(match tree.value(name) {
+            Some(value) => Some(value.clone()?),
+            None => None,
+        })?;
+    }
+    Ok(values)
+}
+
+/// The names that stand in any of the trees, ascending, each with what stands there, tree by tree.
+fn rows_of(alloc: Global, trees: &[Tree]) -> Result<Vec<Row>, AllocError>
+    ensures { IfOk result (λ rows.
+        AreRows trees.now (map (λ row. (row.name, row.values.items)) rows.items)) }
+{
+    let names = names_of(alloc, trees)?;
+    let mut rows = Vec::new(alloc);
+    for name in names.iter() {
+        let values = values_below(alloc, trees, name.as_component())?;
+        rows.push(Row {
+            name: name.clone()?,
+            values,
+        })?;
+    }
+    Ok(rows)
+}
+
+/// The tree that a value is; an empty one where it is none.
+fn tree_of<B: Backend>(
+    alloc: Global,
+    backend: &B,
+    dir: RepoPath<'_>,
+    value: &Option<TreeValue>,
+) -> BackendResult<Tree>
+    ensures entries { IfOk result (λ tree.
+        tree ≡ entries_of (B.objects backend.now).trees value.now) }
+    ensures there { OnOk result (IsThere (B.objects backend.now).trees value.now) }
+    ensures refused { IfErr result (λ e. B.may_fail backend.now e
+        ⊎ ((is_not_found e ≡ true) × (IsThere (B.objects backend.now).trees value.now → ⊥))) }
+{
+    match value {
+        Some(TreeValue::Tree(id)) => backend.read_tree(alloc, dir, id),
+        _ => Ok(Tree::default(alloc)),
+    }
+}
+
+/// The trees of these values; an empty one where there is none.
+fn trees_of<B: Backend>(
+    alloc: Global,
+    backend: &B,
+    dir: RepoPath<'_>,
+    values: &[Option<TreeValue>],
+) -> BackendResult<Vec<Tree>>
+    ensures entries { IfOk result (λ trees.
+        trees.items ≡ map (entries_of (B.objects backend.now).trees) values.now) }
+    ensures there { OnOk result (All (IsThere (B.objects backend.now).trees) values.now) }
+    ensures refused { IfErr result (λ e. (e ≡ BackendError.Memory) ⊎ B.may_fail backend.now e
+        ⊎ ((is_not_found e ≡ true)
+        × Any (λ v. IsThere (B.objects backend.now).trees v → ⊥) values.now)) }
+{
+    let mut trees = Vec::new(alloc);
+    for value in values {
+        let tree = tree_of(alloc, backend, dir, value)?;
+        trees.push(tree)?;
+    }
+    Ok(trees)
+}
+
+/// The error of trees that are nested deeper than was asked for.
+fn too_deep(alloc: Global) -> BackendError
+    ensures { (result ≡ BackendError.Memory) ⊎ (is_unsupported result ≡ true) }
+{
+    match String::from_str(alloc, "trees are nested too deep") {
+        Ok(message) => BackendError::Unsupported(message),
+        Err(_) => BackendError::Memory,
+    }
+}
+
+/// Appends what comes of the values at a path; values that are to be entered are handed back.
+fn merge_here(
+    alloc: Global,
+    path: RepoPathBuf,
+    values: Vec<Option<TreeValue>>,
+    labels: &ConflictLabels,
+    same_change: SameChange,
+    merged: &mut TreeMerge,
+) -> Result<Option<Directory>, AllocError>
+    requires odd { IsOdd (length values.items) }
+    requires sides { (labels.now ≡ []) ⊎ (length labels.now ≡ length values.items) }
+    ensures done { IfOk result (λ o. IsNone o →
+        IsHere ⟦<Option<TreeValue> as PartialEq>⟧.eq same_change values.items labels.now path
+        merged.old.resolved.items merged.new.resolved.items
+        (conflict_entries merged.old.conflicts.items)
+        (conflict_entries merged.new.conflicts.items)) }
+    ensures entered { IfOk result (λ o. IfSome o (λ directory.
+        (directory.path ≡ path) × (directory.values.items ≡ values.items)
+        × IsEntered ⟦<Option<TreeValue> as PartialEq>⟧.eq same_change values.items
+        × (merged.new.resolved.items ≡ merged.old.resolved.items)
+        × (merged.new.conflicts.items ≡ merged.old.conflicts.items))) }
+{
+    match step_of(&values, same_change) {
+        Step::Resolved(value) => {
+            let value = value.clone()?;
+            merged.resolved.push((path, value))?;
+            Ok(None)
+        }
+        Step::Absent => Ok(None),
+        Step::Entered => Ok(Some(Directory { path, values })),
+        Step::Conflict => {
+            let conflict = Merge::from_vec(SmallVec::from_vec(values));
+            let (labels, terms) = labels.simplify_with(alloc, &conflict)?;
+            merged.conflicts.push((path, terms, labels))?;
+            Ok(None)
+        }
+    }
+}
+
+/// Merges the trees of a directory, and appends what comes of them.
+fn merge_below<B: Backend>(
+    alloc: Global,
+    backend: &B,
+    dir: RepoPath<'_>,
+    values: &[Option<TreeValue>],
+    labels: &ConflictLabels,
+    same_change: SameChange,
+    levels: usize,
+    merged: &mut TreeMerge,
+) -> BackendResult<()>
+    requires odd { IsOdd (length values.now) }
+    requires sides { (labels.now ≡ []) ⊎ (length labels.now ≡ length values.now) }
+    ensures merge { OnOk result (IsAppended (B.objects backend.now).trees
+        ⟦<Option<TreeValue> as PartialEq>⟧.eq same_change values.now labels.now (path_of dir.entry)
+        merged.old.resolved.items merged.new.resolved.items
+        (conflict_entries merged.old.conflicts.items)
+        (conflict_entries merged.new.conflicts.items)) }
+    ensures within { OnOk result (IsWithin (B.objects backend.now).trees
+        ⟦<Option<TreeValue> as PartialEq>⟧.eq same_change values.now levels) }
+    ensures refused { IfErr result (IsRefused (B.objects backend.now).trees
+        ⟦<Option<TreeValue> as PartialEq>⟧.eq same_change (B.may_fail backend.now)
+        values.now levels) }
+{
+    if levels == 0 {
+        return Err(too_deep(alloc));
+    }
+    let trees = trees_of(alloc, backend, dir, values)?;
+    let rows = rows_of(alloc, &trees)?;
+    for row in rows {
+        let path = dir.join(alloc, row.name.as_component())?;
+        let entered = merge_here(alloc, path, row.values, labels, same_change, merged)?;
+        match entered {
+            None => {}
+            Some(directory) => {
+                let dir = directory.path.as_path();
+                merge_below(
+                    alloc,
+                    backend,
+                    dir,
+                    &directory.values,
+                    labels,
+                    same_change,
+                    levels - 1,
+                    merged,
+                )?;
+            }
+        }
+    }
+    Ok(())
+}
+
+/// What each term has at the root.
+fn root_values_of(alloc: Global, ids: &[TreeId]) -> Result<Vec<Option<TreeValue>>, AllocError>
+    ensures { IfOk result (λ values. values.items ≡ root_values ids.now) }
+{
+    let mut values = Vec::with_capacity(alloc, ids.len())?;
+    for id in ids {
+        values.push(Some(TreeValue::Tree(id.clone()?)))?;
+    }
+    Ok(values)
+}
+
+/// The merge of trees, by their names all the way down. The trees are level 1, the trees of their
+/// entries level 2; a tree below `levels` that is to be entered is `Unsupported`, and one that is
+/// not there `ObjectNotFound`. Labels are none, or as many as trees.
+pub fn merge_trees_within<B: Backend>(
+    alloc: Global,
+    backend: &B,
+    trees: &Merge<TreeId>,
+    labels: &ConflictLabels,
+    same_change: SameChange,
+    levels: NonZeroUsize,
+) -> BackendResult<TreeMerge>
+    requires { (labels.now ≡ []) ⊎ (length labels.now ≡ length trees.now) }
+    ensures merge { IfOk result (λ m. IsMerge (B.objects backend.now).trees
+        ⟦<Option<TreeValue> as PartialEq>⟧.eq same_change (root_values trees.now) labels.now
+        m.resolved.items (conflict_entries m.conflicts.items)) }
+    ensures within { OnOk result (IsWithin (B.objects backend.now).trees
+        ⟦<Option<TreeValue> as PartialEq>⟧.eq same_change (root_values trees.now)
+        (non_zero_usize_get levels)) }
+    ensures refused { IfErr result (IsRefused (B.objects backend.now).trees
+        ⟦<Option<TreeValue> as PartialEq>⟧.eq same_change (B.may_fail backend.now)
+        (root_values trees.now) (non_zero_usize_get levels)) }
+{
+    let values = root_values_of(alloc, trees.as_slice())?;
+    let mut merged = TreeMerge {
+        resolved: Vec::new(alloc),
+        conflicts: Vec::new(alloc),
+    };
+    merge_below(
+        alloc,
+        backend,
+        RepoPath::root(),
+        &values,
+        labels,
+        same_change,
+        levels.get(),
+        &mut merged,
+    )?;
+    Ok(merged)
+}
+
+/// The merge of trees, as [`merge_trees_within`] gives it for 1,024 levels.
+pub fn merge_trees<B: Backend>(
+    alloc: Global,
+    backend: &B,
+    trees: &Merge<TreeId>,
+    labels: &ConflictLabels,
+    same_change: SameChange,
+) -> BackendResult<TreeMerge>
+    requires { (labels.now ≡ []) ⊎ (length labels.now ≡ length trees.now) }
+    ensures merge { IfOk result (λ m. IsMerge (B.objects backend.now).trees
+        ⟦<Option<TreeValue> as PartialEq>⟧.eq same_change (root_values trees.now) labels.now
+        m.resolved.items (conflict_entries m.conflicts.items)) }
+    ensures within { OnOk result (IsWithin (B.objects backend.now).trees
+        ⟦<Option<TreeValue> as PartialEq>⟧.eq same_change (root_values trees.now)
+        1024) }
+    ensures refused { IfErr result (IsRefused (B.objects backend.now).trees
+        ⟦<Option<TreeValue> as PartialEq>⟧.eq same_change (B.may_fail backend.now)
+        (root_values trees.now) 1024) }
+{
+    let Some(levels) = NonZeroUsize::new(1024) else {
+        unreachable!();
+    };
+    merge_trees_within(alloc, backend, trees, labels, same_change, levels)
+}
