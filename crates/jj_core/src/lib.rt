@@ -18,11 +18,14 @@ mod set_parts;
 mod set_stack;
 mod walk_command;
 
+pub use jj_backend::backend;
 pub use jj_content::{blake2b, content_hash, hex_util, symbol_util};
 pub use jj_globs::glob;
 pub use jj_ids::{object_id, ref_name};
 pub use jj_matchers::matchers;
 pub use jj_merges::{conflict_labels, merge};
-pub use jj_paths::{file_util, repo_path, repo_path_tree};
+pub use jj_paths::{file_util, repo_path, repo_path_tree, workspace_store};
+pub use jj_stores::signing;
 pub use jj_strings::str_util;
+pub use jj_trees::tree_merge;
 pub use jj_walks::{dag_walk, dag_walk_async, graph};
