@@ -4,11 +4,17 @@
 #![tactic(auto)]
 
 #[cfg(test)]
+mod directories;
+#[cfg(test)]
 mod file_util_tests;
 #[cfg(test)]
 mod fixtures;
 #[cfg(test)]
+mod fs_paths;
+#[cfg(test)]
 mod orders;
+#[cfg(test)]
+mod path_texts;
 #[cfg(test)]
 mod paths;
 #[cfg(test)]

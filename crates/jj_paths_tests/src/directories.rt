@@ -1,0 +1,191 @@
+//! Directories in memory, one call of which fails.
+ghost use Rattle.std.specs.Prelude.{◌≡◌, ℕ, Bool, List, Result, Ok, Err, IsTrue};
+
+use jj_paths::file_util::{
+    DirAccess, IoResultExt, PathError, create_or_reuse_dir, is_empty_dir, remove_dir_contents,
+};
+use std::alloc::{AllocError, Global};
+use std::cell::Cell;
+use std::io;
+use std::io::ErrorKind;
+use std::process::Abort;
+
+/// One directory, `dir`, with files in it. The call of this number, counted from 0, fails.
+#[derive(Drop)]
+struct Memory {
+    is_there: bool,
+    files: [bool; 3],
+    calls_left: Cell<u32>,
+}
+
+/// The names of the files.
+const NAMES: [&str; 3] = ["a", "b", "c"];
+
+/// Their paths.
+const PATHS: [&str; 3] = ["dir/a", "dir/b", "dir/c"];
+
+impl Memory {
+    fn new(is_there: bool, files: [bool; 3], calls_left: u32) -> Memory {
+        Memory {
+            is_there,
+            files,
+            calls_left: Cell::new(calls_left),
+        }
+    }
+
+    // Counts a call, and says whether it fails.
+    fn fails(&self) -> bool {
+        let left = self.calls_left.get();
+        self.calls_left.set(left.saturating_sub(1));
+        left == 0
+    }
+
+    fn count(&self) -> usize {
+        self.files.iter().filter(|file| **file).count()
+    }
+}
+
+impl DirAccess for Memory {
+    ghost is_directory = { λ m path. m.is_there };
+
+    ghost may_create = { λ m path r n. Unit {0} };
+
+    ghost may_remove = { λ m path r n. Unit {0} };
+
+    ghost may_list = { λ m path r. Unit {0} };
+
+    fn create_dir(&mut self, path: &str) -> io::Result<()> {
+        if self.fails() || path != "dir" {
+            return Err(io::Error::from(ErrorKind::PermissionDenied));
+        }
+        if self.is_there {
+            return Err(io::Error::from(ErrorKind::AlreadyExists));
+        }
+        self.is_there = true;
+        Ok(())
+    }
+
+    fn remove_file(&mut self, path: &str) -> io::Result<()> {
+        if self.fails() {
+            return Err(io::Error::from(ErrorKind::PermissionDenied));
+        }
+        for i in 0..3usize {
+            if path == PATHS[i] && self.files[i] {
+                self.files[i] = false;
+                return Ok(());
+            }
+        }
+        Err(io::Error::from(ErrorKind::NotFound))
+    }
+
+    fn is_dir(&self, path: &str) -> bool {
+        self.is_there
+    }
+
+    fn list(&self, alloc: Global, path: &str) -> Result<Vec<String>, PathError> {
+        let listed = if self.fails() {
+            Err(io::Error::from(ErrorKind::PermissionDenied))
+        } else {
+            Ok(())
+        };
+        listed.context(alloc, path)?;
+        let mut names = Vec::new(alloc);
+        for i in 0..3usize {
+            if self.files[i] {
+                names.push(String::from_str(alloc, NAMES[i])?)?;
+            }
+        }
+        Ok(names)
+    }
+}
+
+// That the fault has this path and this kind, or that memory was refused.
+fn is_fault<R: Abort>(
+    rt: &R,
+    fault: PathError,
+    at: &str,
+    kind: ErrorKind,
+) -> Result<(), AllocError> {
+    match fault {
+        PathError::Invalid { path, source } => {
+            assert_eq!(rt; path.as_str(), at);
+            assert!(rt; source.kind() == kind);
+            Ok(())
+        }
+        PathError::Memory => Err(AllocError),
+    }
+}
+
+fn creates<R: Abort>(rt: &R, alloc: Global) -> Result<(), AllocError> {
+    let mut new = Memory::new(false, [false; 3], 9);
+    assert!(rt; create_or_reuse_dir(alloc, &mut new, "dir").is_ok());
+    assert!(rt; new.is_there);
+    assert!(rt; create_or_reuse_dir(alloc, &mut new, "dir").is_ok());
+    let mut failing = Memory::new(false, [false; 3], 0);
+    match create_or_reuse_dir(alloc, &mut failing, "dir") {
+        Ok(()) => panic!(rt; "made"),
+        Err(fault) => is_fault(rt, fault, "dir", ErrorKind::PermissionDenied),
+    }
+}
+
+#[test]
+fn directories_are_made_or_used(rt: HostRuntime) {
+    let alloc = rt.alloc();
+    assert!(rt; creates(&rt, alloc).or_else(|_| creates(&rt, alloc)).is_ok());
+}
+
+fn empties<R: Abort>(rt: &R, alloc: Global) -> Result<(), AllocError> {
+    let mut full = Memory::new(true, [true; 3], 9);
+    match remove_dir_contents(alloc, &mut full, "dir") {
+        Ok(()) => assert_eq!(rt; full.count(), 0),
+        Err(fault) => return is_fault(rt, fault, "", ErrorKind::Other),
+    }
+    let mut unlisted = Memory::new(true, [true; 3], 0);
+    match remove_dir_contents(alloc, &mut unlisted, "dir") {
+        Ok(()) => panic!(rt; "listed"),
+        Err(fault) => is_fault(rt, fault, "dir", ErrorKind::PermissionDenied)?,
+    }
+    assert_eq!(rt; unlisted.count(), 3);
+    for (i, path) in PATHS.iter().enumerate() {
+        let mut failing = Memory::new(true, [true; 3], i as u32 + 1);
+        match remove_dir_contents(alloc, &mut failing, "dir") {
+            Ok(()) => panic!(rt; "removed"),
+            Err(fault) => is_fault(rt, fault, path, ErrorKind::PermissionDenied)?,
+        }
+        assert_eq!(rt; failing.count(), 3 - i);
+    }
+    Ok(())
+}
+
+#[test]
+fn entries_are_removed_up_to_the_first_fault(rt: HostRuntime) {
+    let alloc = rt.alloc();
+    assert!(rt; empties(&rt, alloc).or_else(|_| empties(&rt, alloc)).is_ok());
+}
+
+fn tells_empty<R: Abort>(rt: &R, alloc: Global) -> Result<(), AllocError> {
+    for (is_there, files, empty) in [
+        (true, [false; 3], true),
+        (true, [false, true, false], false),
+        (false, [false; 3], false),
+    ] {
+        match is_empty_dir(alloc, &Memory::new(is_there, files, 9), "dir") {
+            Ok(answer) => assert_eq!(rt; answer, empty),
+            Err(fault) => return is_fault(rt, fault, "", ErrorKind::Other),
+        }
+    }
+    match is_empty_dir(alloc, &Memory::new(true, [false; 3], 0), "dir") {
+        Ok(_) => panic!(rt; "listed"),
+        Err(fault) => is_fault(rt, fault, "dir", ErrorKind::PermissionDenied),
+    }
+}
+
+#[test]
+fn empty_directories(rt: HostRuntime) {
+    let alloc = rt.alloc();
+    assert!(rt;
+        tells_empty(&rt, alloc)
+            .or_else(|_| tells_empty(&rt, alloc))
+            .is_ok()
+    );
+}

@@ -1,0 +1,161 @@
+//! Repo paths below directories of the file system, and relative paths of the file system as repo paths.
+use crate::fixtures::path;
+use jj_paths::repo_path::{
+    InvalidRepoPathComponentError, InvalidRepoPathError, RelativePathParseError, RepoPathBuf,
+};
+use std::alloc::{AllocError, Global};
+use std::process::Abort;
+
+// a repo path, a base, and the path below it
+const BELOW: [[&str; 3]; 5] = [
+    ["", "base/dir", "base/dir"],
+    ["", "", "."],
+    ["file", "base/dir", "base/dir/file"],
+    [
+        "some/deep/dir/file",
+        "base/dir",
+        "base/dir/some/deep/dir/file",
+    ],
+    ["dir/file", "", "dir/file"],
+];
+
+// a repo path with a name that no file has, that name, and the path below `base` if it is not checked
+const WITH_DOTS: [[&str; 3]; 7] = [
+    [".", ".", "base/."],
+    ["..", "..", "base/.."],
+    ["dir/../file", "..", "base/dir/../file"],
+    ["./file", ".", "base/./file"],
+    ["file/.", ".", "base/file/."],
+    ["../file", "..", "base/../file"],
+    ["file/..", "..", "base/file/.."],
+];
+
+fn goes_below<R: Abort>(rt: &R, alloc: Global) -> Result<(), AllocError> {
+    for [text, base, below] in BELOW {
+        let made = match path(rt, alloc, text).to_fs_path(alloc, base) {
+            Ok(made) => made,
+            Err(InvalidRepoPathError::Memory) => return Err(AllocError),
+            Err(e) => panic!(rt; "{text}: {e}"),
+        };
+        assert_eq!(rt; made.as_str(), below);
+        let made = path(rt, alloc, text).to_fs_path_unchecked(alloc, base)?;
+        assert_eq!(rt; made.as_str(), below);
+    }
+    Ok(())
+}
+
+#[test]
+fn below_a_base(rt: HostRuntime) {
+    let alloc = rt.alloc();
+    assert!(rt;
+        goes_below(&rt, alloc)
+            .or_else(|_| goes_below(&rt, alloc))
+            .is_ok()
+    );
+}
+
+fn refuses_dots<R: Abort>(rt: &R, alloc: Global) -> Result<(), AllocError> {
+    for [text, name, unchecked] in WITH_DOTS {
+        match path(rt, alloc, text).to_fs_path(alloc, "base") {
+            Ok(made) => panic!(rt; "{made}"),
+            Err(InvalidRepoPathError::Memory) => return Err(AllocError),
+            Err(InvalidRepoPathError::Invalid { path, source }) => {
+                assert_eq!(rt; path.as_path().as_internal_file_string(), text);
+                match source {
+                    InvalidRepoPathComponentError::Invalid { component } => {
+                        assert_eq!(rt; component.as_str(), name);
+                    }
+                    InvalidRepoPathComponentError::Memory => return Err(AllocError),
+                }
+            }
+        }
+        let made = path(rt, alloc, text).to_fs_path_unchecked(alloc, "base")?;
+        assert_eq!(rt; made.as_str(), unchecked);
+    }
+    Ok(())
+}
+
+#[test]
+fn names_that_are_dots(rt: HostRuntime) {
+    let alloc = rt.alloc();
+    assert!(rt;
+        refuses_dots(&rt, alloc)
+            .or_else(|_| refuses_dots(&rt, alloc))
+            .is_ok()
+    );
+}
+
+// a relative path, and the repo path
+const RELATIVE: [[&str; 2]; 8] = [
+    ["a//b/./c/", "a/b/c"],
+    ["", ""],
+    ["./", ""],
+    [".", ""],
+    ["././.", ""],
+    ["a", "a"],
+    ["dir/file", "dir/file"],
+    ["a/.b/...", "a/.b/..."],
+];
+
+fn reads_relative<R: Abort>(rt: &R, alloc: Global) -> Result<(), AllocError> {
+    for [text, made] in RELATIVE {
+        match RepoPathBuf::from_relative_path(alloc, text.as_bytes()) {
+            Ok(path) => assert_eq!(rt; path.as_path().as_internal_file_string(), made),
+            Err(RelativePathParseError::Memory) => return Err(AllocError),
+            Err(e) => panic!(rt; "{text}: {e}"),
+        }
+    }
+    Ok(())
+}
+
+#[test]
+fn relative_paths(rt: HostRuntime) {
+    let alloc = rt.alloc();
+    assert!(rt;
+        reads_relative(&rt, alloc)
+            .or_else(|_| reads_relative(&rt, alloc))
+            .is_ok()
+    );
+}
+
+// a path that is refused, and the component that is no name, or nothing where a name is no text
+fn refused_relative() -> [(&'static [u8], &'static str); 8] {
+    [
+        (b"./a", "."),
+        (b"/", "/"),
+        (b"..", ".."),
+        (b"a/../b", ".."),
+        (b"/\xff", "/"),
+        (b"\xff", ""),
+        (b"a/\xff/..", ""),
+        (b"a/../\xff", ".."),
+    ]
+}
+
+fn refuses_relative<R: Abort>(rt: &R, alloc: Global) -> Result<(), AllocError> {
+    for (bytes, named) in refused_relative() {
+        match RepoPathBuf::from_relative_path(alloc, bytes) {
+            Ok(path) => panic!(rt; "{path:?} of {bytes:?}"),
+            Err(RelativePathParseError::InvalidComponent { component, path }) => {
+                assert_eq!(rt; component.as_str(), named);
+                assert_eq!(rt; path.as_slice(), bytes);
+            }
+            Err(RelativePathParseError::InvalidUtf8 { path }) => {
+                assert_eq!(rt; named, "");
+                assert_eq!(rt; path.as_slice(), bytes);
+            }
+            Err(RelativePathParseError::Memory) => return Err(AllocError),
+        }
+    }
+    Ok(())
+}
+
+#[test]
+fn no_relative_paths(rt: HostRuntime) {
+    let alloc = rt.alloc();
+    assert!(rt;
+        refuses_relative(&rt, alloc)
+            .or_else(|_| refuses_relative(&rt, alloc))
+            .is_ok()
+    );
+}
