@@ -100,8 +100,7 @@ mod tests {
         }
     }
 
-    const INPUT: &str =
-        "node\t1\t9\nnode\t5\t2\norder\t1\t5\nheads\t1\t9\t5\ncommon\t1\t-\t5\n";
+    const INPUT: &str = "node\t1\t9\nnode\t5\t2\norder\t1\t5\nheads\t1\t9\t5\ncommon\t1\t-\t5\n";
 
     const OUTPUT: &str = "order\t5\t2\t1\t9\nheads\t1\t5\ncommon\n";
 
