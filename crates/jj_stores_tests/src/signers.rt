@@ -1,0 +1,226 @@
+//! Signers over backends in memory that count how often they are asked.
+use jj_backend::signing::SignError;
+use jj_ids::object_id::CommitId;
+use jj_paths::file_util::{SourceError, SourceKind};
+use jj_stores::signing::{SigStatus, SignResult, Signer, SigningBackend, Verification};
+use std::alloc::{AllocError, Global};
+use std::cell::Cell;
+use std::num::NonZeroUsize;
+use std::process::Abort;
+use std::rc::Rc;
+
+/// What a backend in memory does with a signature.
+#[derive(Clone, Copy)]
+enum Does {
+    CannotRead,
+    Says(SigStatus),
+    FindsFault,
+    Fails,
+}
+
+/// A backend that does one thing, and counts how often it is asked to verify.
+#[derive(Drop)]
+struct Fake {
+    reads: bool,
+    does: Does,
+    asked: Rc<Cell<u32>>,
+}
+
+impl Fake {
+    fn new(does: Does, asked: Rc<Cell<u32>>) -> Fake {
+        let reads = !matches!(does, Does::CannotRead);
+        Fake { reads, does, asked }
+    }
+}
+
+impl SigningBackend for Fake {
+    ghost reads = { λ f signature. f.reads };
+
+    ghost may_verify = { λ f d s r. Unit {0} };
+
+    ghost may_sign = { λ f d k r. Unit {0} };
+
+    fn name(&self) -> &str {
+        "fake"
+    }
+
+    fn can_read(&self, signature: &[u8]) -> bool {
+        self.reads
+    }
+
+    fn sign(&self, alloc: Global, data: &[u8], key: Option<&str>) -> SignResult<Vec<u8>> {
+        let mut signature = Vec::from_slice(alloc, b"signed ")?;
+        signature.extend_from_slice(data)?;
+        if let Some(key) = key {
+            signature.extend_from_slice(key.as_bytes())?;
+        }
+        Ok(signature)
+    }
+
+    fn verify(&self, alloc: Global, data: &[u8], signature: &[u8]) -> SignResult<Verification> {
+        self.asked.set(self.asked.get().saturating_add(1));
+        match self.does {
+            Does::CannotRead => Ok(Verification::unknown()),
+            Does::Says(status) => Ok(Verification::new(status, None, None)),
+            Does::FindsFault => Err(SignError::InvalidSignatureFormat),
+            Does::Fails => Err(SignError::Backend(SourceError {
+                kind: SourceKind::Other,
+                message: String::from_str(alloc, "no answer")?,
+            })),
+        }
+    }
+}
+
+fn id_of(alloc: Global, byte: u8) -> Result<CommitId, AllocError> {
+    Ok(CommitId::new(Vec::from_slice(alloc, &[byte])?))
+}
+
+// What a backend that reads and then another one, asked twice about one commit, answer, and how
+// often each was asked.
+fn asked_twice<R: Abort>(
+    rt: &R,
+    alloc: Global,
+    first: Does,
+    second: Does,
+    status: SigStatus,
+    counts: (u32, u32),
+) -> Result<(), SignError> {
+    let counter = Rc::new(alloc, Cell::new(0))?;
+    let other_counter = Rc::new(alloc, Cell::new(0))?;
+    let main: Box<dyn SigningBackend> = Box::new(alloc, Fake::new(first, counter.clone()?))?;
+    let other: Box<dyn SigningBackend> = Box::new(
+        alloc,
+        Fake::new(second, other_counter.clone()?),
+    )?;
+    let mut others = Vec::new(alloc);
+    others.push(other)?;
+    let mut signer = Signer::new(alloc, Some(main), others)?;
+    let id = id_of(alloc, 1)?;
+    for _ in 0..2u8 {
+        let found = signer.verify(&id, b"data", b"signature")?;
+        assert!(rt; found.status() == status);
+    }
+    assert_eq!(rt; counter.get(), counts.0);
+    assert_eq!(rt; other_counter.get(), counts.1);
+    Ok(())
+}
+
+fn asks_in_turn<R: Abort>(rt: &R, alloc: Global) -> Result<(), SignError> {
+    let (none, unknown) = (Does::CannotRead, Does::Says(SigStatus::Unknown));
+    let (good, bad) = (Does::Says(SigStatus::Good), Does::Says(SigStatus::Bad));
+    asked_twice(rt, alloc, none, none, SigStatus::Unknown, (0, 0))?;
+    asked_twice(rt, alloc, unknown, good, SigStatus::Good, (1, 1))?;
+    asked_twice(rt, alloc, none, unknown, SigStatus::Unknown, (0, 2))?;
+    asked_twice(rt, alloc, unknown, none, SigStatus::Unknown, (2, 0))?;
+    asked_twice(rt, alloc, Does::FindsFault, bad, SigStatus::Bad, (1, 1))?;
+    asked_twice(rt, alloc, good, bad, SigStatus::Good, (1, 0))
+}
+
+#[test]
+fn backends_in_turn(rt: HostRuntime) {
+    let alloc = rt.alloc();
+    assert!(rt;
+        asks_in_turn(&rt, alloc)
+            .or_else(|_| asks_in_turn(&rt, alloc))
+            .is_ok()
+    );
+}
+
+// A backend whose failure is the answer, and is not remembered.
+fn hands_failures_on<R: Abort>(rt: &R, alloc: Global) -> Result<(), SignError> {
+    let counter = Rc::new(alloc, Cell::new(0))?;
+    let main: Box<dyn SigningBackend> = Box::new(alloc, Fake::new(Does::Fails, counter.clone()?))?;
+    let mut signer = Signer::new(alloc, Some(main), Vec::new(alloc))?;
+    let id = id_of(alloc, 1)?;
+    for _ in 0..2u8 {
+        match signer.verify(&id, b"data", b"signature") {
+            Err(SignError::Backend(source)) => {
+                assert_eq!(rt; source.message.as_str(), "no answer");
+            }
+            Err(e) => return Err(e),
+            Ok(_) => panic!(rt; "an answer"),
+        }
+    }
+    assert_eq!(rt; counter.get(), 2);
+    Ok(())
+}
+
+#[test]
+fn failures_are_not_remembered(rt: HostRuntime) {
+    let alloc = rt.alloc();
+    assert!(rt;
+        hands_failures_on(&rt, alloc)
+            .or_else(|_| hands_failures_on(&rt, alloc))
+            .is_ok()
+    );
+}
+
+// How often a good backend is asked about these commits, one after the other.
+fn times_asked(
+    alloc: Global,
+    capacity: Option<NonZeroUsize>,
+    commits: &[u8],
+) -> Result<u32, SignError> {
+    let counter = Rc::new(alloc, Cell::new(0))?;
+    let main: Box<dyn SigningBackend> = Box::new(
+        alloc,
+        Fake::new(Does::Says(SigStatus::Good), counter.clone()?),
+    )?;
+    let others = Vec::new(alloc);
+    let mut signer = match capacity {
+        Some(capacity) => Signer::with_capacity(alloc, Some(main), others, capacity)?,
+        None => Signer::new(alloc, Some(main), others)?,
+    };
+    for commit in commits {
+        let _ = signer.verify(&id_of(alloc, *commit)?, b"data", b"signature")?;
+    }
+    Ok(counter.get())
+}
+
+fn remembers<R: Abort>(rt: &R, alloc: Global) -> Result<(), SignError> {
+    let one = NonZeroUsize::new(1);
+    assert_eq!(rt; times_asked(alloc, one, b"pqp")?, 3);
+    assert_eq!(rt; times_asked(alloc, one, b"ppqq")?, 2);
+    let mut commits = Vec::new(alloc);
+    for commit in 0..101u8 {
+        commits.push(commit)?;
+    }
+    commits.push(0)?;
+    assert_eq!(rt; times_asked(alloc, None, commits.as_slice())?, 102);
+    commits.truncate(100);
+    commits.extend_from_slice(&[0, 200, 0])?;
+    assert_eq!(rt; times_asked(alloc, None, commits.as_slice())?, 101);
+    Ok(())
+}
+
+#[test]
+fn as_many_as_there_is_room_for(rt: HostRuntime) {
+    let alloc = rt.alloc();
+    assert!(rt;
+        remembers(&rt, alloc)
+            .or_else(|_| remembers(&rt, alloc))
+            .is_ok()
+    );
+}
+
+fn signs<R: Abort>(rt: &R, alloc: Global) -> Result<(), SignError> {
+    let main: Box<dyn SigningBackend> = Box::new(
+        alloc,
+        Fake::new(Does::CannotRead, Rc::new(alloc, Cell::new(0))?),
+    )?;
+    let signer = Signer::new(alloc, Some(main), Vec::new(alloc))?;
+    assert!(rt; signer.can_sign());
+    if signer.can_sign() {
+        let signature = signer.sign(b"data", Some(" key"))?;
+        assert_eq!(rt; signature.as_slice(), b"signed data key".as_slice());
+    }
+    let nobody = Signer::new(alloc, None, Vec::new(alloc))?;
+    assert!(rt; !nobody.can_sign());
+    Ok(())
+}
+
+#[test]
+fn the_main_backend_signs(rt: HostRuntime) {
+    let alloc = rt.alloc();
+    assert!(rt; signs(&rt, alloc).or_else(|_| signs(&rt, alloc)).is_ok());
+}
