@@ -12,3 +12,4 @@ pub mod GlobSolved
 pub mod GlobLowered
 pub mod GlobByteSets
 pub mod GlobLowers
+pub mod GlobEnding

@@ -6,3 +6,4 @@ pub mod GlobReads
 pub mod GlobEscape
 pub mod GlobPlaces
 pub mod GlobLowering
+pub mod GlobEnding

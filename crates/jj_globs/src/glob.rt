@@ -1,6 +1,7 @@
 //! Globs of bytes: what a text reads as, and which bytes it stands for.
 mod byte_set;
 mod class;
+mod ending;
 mod error;
 mod escaping;
 mod live;

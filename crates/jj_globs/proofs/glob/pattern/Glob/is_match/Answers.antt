@@ -11,6 +11,6 @@ returns c =
     let g : GlobSpec = record { text = string_bytes c.self.inside.text; options = c.self.inside.options } in
     let tells = Tells-whole g c.self.inside.tokens.items c.self.invariant.reads c.args.bytes.now in
     let answer =
-    c.stand_for.ensures ∙ ap (λ (x : List Step). answers c.self.inside.options false x 0 c.args.bytes.now) c.as_slice.ensures.value
+    c.stand_for_whole.ensures ∙ ap (λ (x : List Step). answers c.self.inside.options false x 0 c.args.bytes.now) c.as_slice.ensures.value
     ∙ c.self.invariant.steps.same false c.args.bytes.now in
     rw (← c.self.view_is) ((λ h. tells.0 (sym answer ∙ h)), (λ m. answer ∙ tells.1 m))

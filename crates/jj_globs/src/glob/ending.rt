@@ -1,0 +1,55 @@
+//! The literal end of a glob: bytes with which every text ends that the glob stands for.
+ghost use Rattle.std.specs.Prelude.{◌≡◌, ◌⊎◌, ◌+◌, ◌≤◌, reverse};
+ghost use Rattle.jj_globs.specs.GlobPlaces.{StaysInside, further_of};
+ghost use Rattle.jj_globs.specs.GlobEnding.{IsByte, IsLiteralFrom, fits_back};
+
+use crate::glob::step::Step;
+use crate::glob::token::Options;
+
+/// The place from which on each step is a byte, and past which no step before it leads.
+pub(crate) fn literal_end(steps: &[Step]) -> usize
+    requires inside { StaysInside steps.now }
+    ensures { IsLiteralFrom steps.now result }
+{
+    let mut literal = 0;
+    for place in 0..steps.len() {
+        let behind = place_behind(steps[place], place, steps.len());
+        if literal < behind {
+            literal = behind;
+        }
+    }
+    literal
+}
+
+// The furthest place to which the step at `place` leads, or 0 where it is a byte.
+fn place_behind(step: Step, place: usize, end: usize) -> usize
+    requires inside { place + 1 + further_of step ≤ end }
+    ensures behind { IsByte step ⊎ (result ≡ place + 1 + further_of step) }
+    ensures within { result ≤ end }
+{
+    match step {
+        Step::Byte(_) => 0,
+        Step::Fork(further) => place + 1 + further,
+        Step::Jump(further) => place + 1 + further,
+        _ => place + 1,
+    }
+}
+
+/// Whether the bytes end as these literal steps do.
+pub(crate) fn ends_as(options: Options, literals: &[Step], bytes: &[u8]) -> bool
+    ensures { result ≡ fits_back options (reverse literals.now) (reverse bytes.now) }
+{
+    let mut left = literals;
+    let mut text = bytes;
+    while let Some((Step::Byte(own), before)) = left.split_last() {
+        let Some((last, rest)) = text.split_last() else {
+            return false;
+        };
+        if !options.same_byte(*own, *last) {
+            return false;
+        }
+        left = before;
+        text = rest;
+    }
+    true
+}
