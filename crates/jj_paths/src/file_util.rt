@@ -7,10 +7,12 @@ ghost use Rattle.jj_paths.specs.Watching.{watched, watched_failed, watched_reads
 
 mod dirs;
 mod errors;
+mod path_components;
 mod path_texts;
 
 pub use dirs::{DirAccess, create_or_reuse_dir, is_empty_dir, remove_dir_contents};
 pub use errors::{IoResultExt, PathError, SourceError, SourceKind};
+pub use path_components::{normalize_path, relative_path};
 pub use path_texts::{
     BadPathEncoding, expand_home_path, path_from_bytes, path_to_bytes, slash_path,
 };

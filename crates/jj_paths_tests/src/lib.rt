@@ -14,6 +14,8 @@ mod fs_paths;
 #[cfg(test)]
 mod orders;
 #[cfg(test)]
+mod path_components;
+#[cfg(test)]
 mod path_texts;
 #[cfg(test)]
 mod paths;
