@@ -39,42 +39,66 @@ GivesText Hash text = GivesHash text
 abbrev pub Gives : Command → List ℕ → Result (List ℕ) Fault → Type 0
 Gives command input answer = MatchBool (is_utf8 input) (GivesText command input answer) (answer ≡ Err NotUtf8)
 
+-- a read failed
+abbrev pub is_read_failure : Fault → Bool
+is_read_failure ReadInput = true
+is_read_failure NotUtf8 = false
+is_read_failure Memory = false
+is_read_failure WriteOutput = false
+is_read_failure (Matchers count) = false
+is_read_failure (Line line kind) = false
+
+-- a write failed
+abbrev pub is_write_failure : Fault → Bool
+is_write_failure ReadInput = false
+is_write_failure NotUtf8 = false
+is_write_failure Memory = false
+is_write_failure WriteOutput = true
+is_write_failure (Matchers count) = false
+is_write_failure (Line line kind) = false
+
 -- whether a run failed by a read
 abbrev pub is_read_fault : {A : Type 0} → Result A Fault → Bool
-is_read_fault (Err ReadInput) = true
-is_read_fault (Err NotUtf8) = false
-is_read_fault (Err Memory) = false
-is_read_fault (Err WriteOutput) = false
-is_read_fault (Err (Matchers count)) = false
-is_read_fault (Err (Line line kind)) = false
+is_read_fault (Err fault) = is_read_failure fault
 is_read_fault (Ok x) = false
 
 -- whether a run failed by a write
 abbrev pub is_write_fault : {A : Type 0} → Result A Fault → Bool
-is_write_fault (Err ReadInput) = false
-is_write_fault (Err NotUtf8) = false
-is_write_fault (Err Memory) = false
-is_write_fault (Err WriteOutput) = true
-is_write_fault (Err (Matchers count)) = false
-is_write_fault (Err (Line line kind)) = false
+is_write_fault (Err fault) = is_write_failure fault
 is_write_fault (Ok x) = false
 
+-- the bytes that a source has yet to give, and those that a sink was given, where they are known
+pub record Streams : Type 0 where
+  pub unread : Option (List ℕ)
+  pub written : Option (List ℕ)
+
+abbrev pub streams : Option (List ℕ) → Option (List ℕ) → Streams
+streams unread written = record { unread = unread; written = written }
+
 -- the source was read to its end, and the command gives this answer for its bytes
-abbrev pub Answers : Command → Option (List ℕ) → Option (List ℕ) → Result (List ℕ) Fault → Type 0
-Answers command source source' answer = (input : List ℕ) × Consumes source source' input × IsAtEnd source' × Gives command input answer
+abbrev pub Answers : Command → (before after : Streams) → Result (List ℕ) Fault → Type 0
+Answers command before after answer = (input : List ℕ)
+    × Consumes before.unread after.unread input × IsAtEnd after.unread × Gives command input answer
 
 -- the output of all the source's bytes was written
-abbrev pub WritesOutput : Command → Option (List ℕ) → Option (List ℕ) → Option (List ℕ) → Option (List ℕ) → Type 0
-WritesOutput command source source' sink sink' = (output : List ℕ) × Answers command source source' (Ok output) × Appends sink sink' output
+abbrev pub WritesOutput : Command → (before after : Streams) → Type 0
+WritesOutput command before after = (output : List ℕ)
+    × Answers command before after (Ok output) × Appends before.written after.written output
+
+-- the source was read to its end, the command gives this fault, and nothing was written
+abbrev pub GivesFault : Command → (before after : Streams) → Fault → Type 0
+GivesFault command before after fault =
+    Answers command before after (Err fault) × Keeps before.written after.written
 
 -- what a run that fails leaves, by its fault: nothing was written, except where a write failed
-abbrev pub FailsBy : Command → Option (List ℕ) → Option (List ℕ) → Option (List ℕ) → Option (List ℕ) → Fault → Type 0
-FailsBy command source source' sink sink' ReadInput = Keeps sink sink'
-FailsBy command source source' sink sink' Memory = Keeps sink sink'
-FailsBy command source source' sink sink' WriteOutput = (output : List ℕ) × Answers command source source' (Ok output) × AppendsFrontOf sink sink' output
-FailsBy command source source' sink sink' NotUtf8 = Answers command source source' (Err NotUtf8) × Keeps sink sink'
-FailsBy command source source' sink sink' (Matchers count) = Answers command source source' (Err (Matchers count)) × Keeps sink sink'
-FailsBy command source source' sink sink' (Line line kind) = Answers command source source' (Err (Line line kind)) × Keeps sink sink'
+abbrev pub FailsBy : Command → (before after : Streams) → Fault → Type 0
+FailsBy command before after ReadInput = Keeps before.written after.written
+FailsBy command before after Memory = Keeps before.written after.written
+FailsBy command before after WriteOutput = (output : List ℕ)
+    × Answers command before after (Ok output) × AppendsFrontOf before.written after.written output
+FailsBy command before after NotUtf8 = GivesFault command before after NotUtf8
+FailsBy command before after (Matchers count) = GivesFault command before after (Matchers count)
+FailsBy command before after (Line line kind) = GivesFault command before after (Line line kind)
 
 -- the input has this fault, or memory ran out
 abbrev pub IsFaultOn : Command → List ℕ → Fault → Type 0

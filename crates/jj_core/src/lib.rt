@@ -14,6 +14,7 @@ mod merge_command;
 mod number;
 pub mod program;
 mod reading;
+mod report;
 mod set_parts;
 mod set_stack;
 mod walk_command;

@@ -2,14 +2,15 @@
 ghost use Rattle.std.specs.Prelude.{◌≡◌, ◌≢◌, ◌<◌, length, map, false, Ok, IfOk, IfErr, OnOk, IsSome, IfSome, None, string_bytes};
 ghost use Rattle.std.specs.Io.KnownBytes.{Consumes, IsAtEnd, Keeps};
 ghost use Rattle.jj_core.specs.Lines.{IsFaultOf};
-ghost use Rattle.jj_core.specs.Program.{command_named, command_line, Gives, is_read_fault, is_write_fault, WritesOutput, FailsBy, IsFaultOn};
-ghost use Rattle.jj_core.specs.Reports.{usage_text, Says, Reports};
+ghost use Rattle.jj_core.specs.Program.{command_named, command_line, Gives, is_read_failure, is_write_failure, is_read_fault, is_write_fault, streams, WritesOutput, FailsBy, IsFaultOn};
+ghost use Rattle.jj_core.specs.Reports.{usage_text, report_text, Says};
 ghost use Rattle.jj_core.specs.declared.fault.Fault.{Fault};
 
 pub use crate::fault::{Fault, LineFault};
 use crate::graph_command::graph_output;
 use crate::hash_command::hash_lines;
 use crate::merge_command::merge_output;
+use crate::report::{report_fault, report_usage};
 use crate::walk_command::walk_output;
 use jj_paths::file_util::{Sink, Source, write_all};
 use std::alloc::Global;
@@ -92,8 +93,12 @@ pub fn run<R: Source, W: Sink>(
 ) -> Result<(), Fault>
     requires reader_works { R.has_failed reader.old ≡ false }
     requires writer_works { W.has_failed writer.old ≡ false }
-    ensures done { OnOk result (WritesOutput command (R.remaining reader.old) (R.remaining reader.new) (W.contents writer.old) (W.contents writer.new)) }
-    ensures fails { IfErr result (FailsBy command (R.remaining reader.old) (R.remaining reader.new) (W.contents writer.old) (W.contents writer.new)) }
+    ensures done { OnOk result (WritesOutput command
+        (streams (R.remaining reader.old) (W.contents writer.old))
+        (streams (R.remaining reader.new) (W.contents writer.new))) }
+    ensures fails { IfErr result (FailsBy command
+        (streams (R.remaining reader.old) (W.contents writer.old))
+        (streams (R.remaining reader.new) (W.contents writer.new))) }
     ensures read_failure { R.has_failed reader.new ≡ is_read_fault result }
     ensures write_failure { W.has_failed writer.new ≡ is_write_fault result }
 {
@@ -103,31 +108,6 @@ pub fn run<R: Source, W: Sink>(
         return Err(Fault::WriteOutput);
     }
     Ok(())
-}
-
-/// What the program says of a command line that it cannot read.
-const USAGE: &str = "usage: jj-core walk|merge|graph|hash\n";
-
-/// What the program says where no memory is left for a fault's own text.
-const OUT_OF_MEMORY: &str = "jj-core: out of memory\n";
-
-/// Says a line. A fault of the sink changes nothing.
-fn say<E: Sink>(errors: &mut E, line: &str)
-    requires { E.has_failed errors.old ≡ false }
-    ensures { Says (E.contents errors.old) (E.contents errors.new) (E.has_failed errors.new) line.now }
-{
-    let _ = write_all(errors, line.as_bytes());
-}
-
-/// Says what a run failed by.
-fn report<E: Sink>(alloc: Global, errors: &mut E, fault: Fault)
-    requires { E.has_failed errors.old ≡ false }
-    ensures { Reports (E.contents errors.old) (E.contents errors.new) (E.has_failed errors.new) fault }
-{
-    match format!(in alloc; "jj-core: {fault}\n") {
-        Ok(text) => say(errors, text.as_str()),
-        Err(_) => say(errors, OUT_OF_MEMORY),
-    }
 }
 
 /// The command that these words name, if they are its name alone.
@@ -140,8 +120,9 @@ fn command_of(words: &[String]) -> Option<Command>
     }
 }
 
-/// Runs the program on the words after its name, and answers its exit status: 0 where the output was written, 1 after a
-/// fault, which is said in a line to `errors`, and 2, with a line on the usage, where the words name no command.
+/// Runs the program on the words after its name, and answers its exit status: 0 where the output
+/// was written, 1 after a fault, which is said in a line to `errors`, and 2, with a line on the
+/// usage, where the words name no command. Saying a fault takes no memory.
 pub fn start<R: Source, W: Sink, E: Sink>(
     alloc: Global,
     words: &[String],
@@ -152,21 +133,33 @@ pub fn start<R: Source, W: Sink, E: Sink>(
     requires reader_works { R.has_failed reader.old ≡ false }
     requires writer_works { W.has_failed writer.old ≡ false }
     requires errors_work { E.has_failed errors.old ≡ false }
-    ensures usage { command_line (map string_bytes words.now) ≡ None → (result ≡ 2) × (W.contents writer.new ≡ W.contents writer.old) × Says (E.contents errors.old) (E.contents errors.new) (E.has_failed errors.new) usage_text }
+    ensures usage { command_line (map string_bytes words.now) ≡ None → (result ≡ 2)
+        × (R.remaining reader.new ≡ R.remaining reader.old)
+        × (W.contents writer.new ≡ W.contents writer.old)
+        × Says (E.contents errors.old) (E.contents errors.new) (E.has_failed errors.new)
+        usage_text }
     ensures status { IsSome (command_line (map string_bytes words.now)) → result < 2 }
-    ensures success { IfSome (command_line (map string_bytes words.now)) (λ command.
-        result ≡ 0 → WritesOutput command (R.remaining reader.old) (R.remaining reader.new) (W.contents writer.old) (W.contents writer.new) × (E.contents errors.new ≡ E.contents errors.old)) }
-    ensures failure { IfSome (command_line (map string_bytes words.now)) (λ command.
-        result ≡ 1 → (fault : Fault) × FailsBy command (R.remaining reader.old) (R.remaining reader.new) (W.contents writer.old) (W.contents writer.new) fault × Reports (E.contents errors.old) (E.contents errors.new) (E.has_failed errors.new) fault) }
+    ensures success { IfSome (command_line (map string_bytes words.now)) (λ command. result ≡ 0 →
+        WritesOutput command (streams (R.remaining reader.old) (W.contents writer.old))
+        (streams (R.remaining reader.new) (W.contents writer.new))
+        × (R.has_failed reader.new ≡ false) × (W.has_failed writer.new ≡ false)
+        × (E.contents errors.new ≡ E.contents errors.old)) }
+    ensures failure { IfSome (command_line (map string_bytes words.now)) (λ command. result ≡ 1 →
+        (fault : Fault) × FailsBy command (streams (R.remaining reader.old) (W.contents writer.old))
+        (streams (R.remaining reader.new) (W.contents writer.new)) fault
+        × (R.has_failed reader.new ≡ is_read_failure fault)
+        × (W.has_failed writer.new ≡ is_write_failure fault)
+        × Says (E.contents errors.old) (E.contents errors.new) (E.has_failed errors.new)
+        (report_text fault)) }
 {
     let Some(command) = command_of(words) else {
-        say(errors, USAGE);
+        report_usage(errors);
         return 2;
     };
     match run(alloc, command, reader, writer) {
         Ok(()) => 0,
         Err(fault) => {
-            report(alloc, errors, fault);
+            report_fault(errors, fault);
             1
         }
     }
