@@ -12,7 +12,8 @@ IsByte s = (b : ℕ) × (s ≡ Byte b)
 -- from this place on each step is a byte, and no step before it leads past it
 pub record IsLiteralFrom (steps : List Step) (place : ℕ) : Type 0 where
   pub within : place ≤ length steps
-  pub inside : (k : ℕ) (s : Step) → slice_get steps k ≡ Some s → k < place → k + 1 + further_of s ≤ place
+  pub inside : (k : ℕ) (s : Step) → slice_get steps k ≡ Some s → k < place
+      → k + 1 + further_of s ≤ place
   pub bytes : (k : ℕ) (s : Step) → slice_get steps k ≡ Some s → place ≤ k → IsByte s
 
 -- steps and bytes, both from the last one on: each step that is a byte stands for its own

@@ -4,7 +4,8 @@ use Rattle.std.specs.List.{flat_map}
 
 -- the byte has a meaning outside of classes and groups: one of `? * [ ] { } \`
 abbrev pub is_special : ℕ → Bool
-is_special b = (b == 63) || (b == 42) || (b == 91) || (b == 93) || (b == 123) || (b == 125) || (b == 92)
+is_special b = (b == 63) || (b == 42) || (b == 91) || (b == 93) || (b == 123) || (b == 125)
+    || (b == 92)
 
 -- such a byte in brackets, any other as it is
 abbrev pub escaped_byte : ℕ → List ℕ

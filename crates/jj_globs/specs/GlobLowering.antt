@@ -1,5 +1,5 @@
--- What each token adds to the steps, which are made from the last token on, so that the step made last stands first; and when the
--- steps so far accept what the tokens so far do.
+-- What each token adds to the steps, which are made from the last token on, so that the step made
+-- last stands first; and when the steps so far accept what the tokens so far do.
 use Rattle.std.specs.Prelude.{◌≡◌, ℕ, ◌-◌, ◌≤◌, Bool, false, List, [], ◌∷◌, length, Option, Some, None}
 use Rattle.jj_globs.specs.declared.glob.token.Options.{Options}
 use Rattle.jj_globs.specs.declared.glob.token.Part.{Part}
@@ -18,22 +18,26 @@ use Rattle.jj_globs.specs.GlobPlaces.{in_set, answers, end_test, StaysInside}
 abbrev pub AddsPart : Options → Part → List Step → List Step → Type 0
 AddsPart o (byte c) ss new = new ≡ Byte c ∷ ss
 AddsPart o any_one ss new = new ≡ AnyByte ∷ ss
-AddsPart o (one_of c) ss new = (set : ByteSet) × (new ≡ OneOf set ∷ ss) × ((b : ℕ) → in_set set b ≡ in_class o c b)
+AddsPart o (one_of c) ss new = (set : ByteSet) × (new ≡ OneOf set ∷ ss)
+    × ((b : ℕ) → in_set set b ≡ in_class o c b)
 AddsPart o star ss new = new ≡ Star ∷ ss
 AddsPart o everything ss new = new ≡ Everything ∷ ss
 AddsPart o Below ss new = new ≡ Byte 47 ∷ Everything ∷ ss
 AddsPart o LeadingDirs ss new = new ≡ Fork 2 ∷ Everything ∷ Byte 47 ∷ ss
 AddsPart o InnerDirs ss new = new ≡ Byte 47 ∷ Fork 2 ∷ Everything ∷ Byte 47 ∷ ss
 
--- what stands here, or the alternatives that were read before, at the place with that many steps behind it
+-- what stands here, or the alternatives that were read before, at the place with that many steps
+-- behind it
 abbrev pub forked : Option ℕ → List Step → List Step
 forked None ss = ss
 forked (Some others) ss = Fork (length ss - others) ∷ ss
 
 -- the steps and the open groups, the innermost first, with one more token
-abbrev pub AddsToken : Options → Token → List Step → List OpenGroup → List Step → List OpenGroup → Type 0
+abbrev pub AddsToken : Options → Token → List Step → List OpenGroup → List Step → List OpenGroup
+    → Type 0
 AddsToken o (part p) ss gs new opened = AddsPart o p ss new × (opened ≡ gs)
-AddsToken o Close ss gs new opened = (new ≡ ss) × (opened ≡ record { any = None; after = length ss } ∷ gs)
+AddsToken o Close ss gs new opened = (new ≡ ss)
+    × (opened ≡ record { any = None; after = length ss } ∷ gs)
 AddsToken o Or ss [] new opened = (new ≡ ss) × (opened ≡ [])
 AddsToken o Or ss (g ∷ gs) new opened =
     (new ≡ Jump (length (forked g.any ss) - g.after) ∷ forked g.any ss)
@@ -47,20 +51,24 @@ test_at o below ss behind bs = answers o below ss (length ss - behind) bs
 
 abbrev pub AnyIs : Options → Bool → List Step → Option ℕ → Test → Type 0
 AnyIs o below ss None t = (bs : List ℕ) → t bs ≡ false
-AnyIs o below ss (Some others) t = (others ≤ length ss) × ((bs : List ℕ) → test_at o below ss others bs ≡ t bs)
+AnyIs o below ss (Some others) t = (others ≤ length ss)
+    × ((bs : List ℕ) → test_at o below ss others bs ≡ t bs)
 
 abbrev pub OuterIs : Options → Bool → List Step → List OpenGroup → List (Test × Test) → Type 0
 OuterIs o below ss [] [] = Unit {0}
 OuterIs o below ss (g ∷ gs) (t ∷ ts) =
-    AnyIs o below ss g.any t.0 × (g.after ≤ length ss) × ((bs : List ℕ) → test_at o below ss g.after bs ≡ t.1 bs) × OuterIs o below ss gs ts
+    AnyIs o below ss g.any t.0 × (g.after ≤ length ss)
+    × ((bs : List ℕ) → test_at o below ss g.after bs ≡ t.1 bs) × OuterIs o below ss gs ts
 OuterIs o below ss _ _ = ⊥
 
 -- the steps accept what the tests do, and so do the places of the groups that are open
-pub record AreLowered (o : Options) (below : Bool) (ss : List Step) (gs : List OpenGroup) (t : Tests) : Type 0 where
+pub record AreLowered (o : Options) (below : Bool) (ss : List Step) (gs : List OpenGroup)
+    (t : Tests) : Type 0 where
   pub here : (bs : List ℕ) → answers o below ss 0 bs ≡ t.here bs
   pub outer : OuterIs o below ss gs t.outer
 
 -- the steps of tokens
 pub record AreSteps (o : Options) (ts : List Token) (ss : List Step) : Type 0 where
-  pub same : (below : Bool) (bs : List ℕ) → answers o below ss 0 bs ≡ (tests_before o (end_test below) ts).here bs
+  pub same : (below : Bool) (bs : List ℕ) → answers o below ss 0 bs
+      ≡ (tests_before o (end_test below) ts).here bs
   pub inside : StaysInside ss

@@ -52,7 +52,8 @@ StandsAlone o AnyByte bytes = IsOne (is_plain o) bytes
 StandsAlone o (OneOf c) bytes = IsOne (in_class o c) bytes
 StandsAlone o Star bytes = All (λ b. IsTrue (is_plain o b)) bytes
 StandsAlone o LeadingDirs bytes = (bytes ≡ []) ⊎ ((dirs : List ℕ) × (bytes ≡ dirs ++ 47 ∷ []))
-StandsAlone o InnerDirs bytes = (bytes ≡ 47 ∷ []) ⊎ ((dirs : List ℕ) × (bytes ≡ 47 ∷ (dirs ++ 47 ∷ [])))
+StandsAlone o InnerDirs bytes = (bytes ≡ 47 ∷ [])
+    ⊎ ((dirs : List ℕ) × (bytes ≡ 47 ∷ (dirs ++ 47 ∷ [])))
 StandsAlone o Below bytes = (rest : List ℕ) × (bytes ≡ 47 ∷ rest)
 StandsAlone o Everything bytes = Unit {0}
 
@@ -69,8 +70,8 @@ mutual
     no_more : Alternatives
     either : Sequence → Alternatives → Alternatives
 
--- what stands from a place on, up to the end of its group, and then for each group that is open there,
--- from the inside: the alternatives that are still to come, and what follows the group
+-- what stands from a place on, up to the end of its group, and then for each group that is open
+-- there, from the inside: the alternatives that are still to come, and what follows the group
 pub record Reading : Type 0 where
   pub here : Sequence
   pub outer : List (Alternatives × Sequence)
@@ -118,8 +119,10 @@ pub record GlobSpec : Type 0 where
 
 -- the glob's text reads as tokens that stand for the bytes
 abbrev pub IsMatch : GlobSpec → List ℕ → Type 0
-IsMatch g bytes = (ts : List Token) × (tokens_of g.text ≡ Ok ts) × Stands g.options (reading_of ts).here bytes
+IsMatch g bytes = (ts : List Token) × (tokens_of g.text ≡ Ok ts)
+    × Stands g.options (reading_of ts).here bytes
 
 -- the bytes match, or a front of them that a slash follows
 abbrev pub IsPrefixMatch : GlobSpec → List ℕ → Type 0
-IsPrefixMatch g bytes = IsMatch g bytes ⊎ ((front rest : List ℕ) × (bytes ≡ front ++ 47 ∷ rest) × IsMatch g front)
+IsPrefixMatch g bytes = IsMatch g bytes ⊎ ((front rest : List ℕ) × (bytes ≡ front ++ 47 ∷ rest)
+    × IsMatch g front)

@@ -57,7 +57,8 @@ by_step o P (Jump further) k bs = P (k + 1 + further) bs
 -- P tells what each place accepts
 pub record Solves (o : Options) (below : Bool) (steps : List Step) (P : ℕ → Test) : Type 0 where
   pub at_end : (bs : List ℕ) → P (length steps) bs ≡ end_test below bs
-  pub at_step : (k : ℕ) (s : Step) → slice_get steps k ≡ Some s → (bs : List ℕ) → P k bs ≡ by_step o P s k bs
+  pub at_step : (k : ℕ) (s : Step) → slice_get steps k ≡ Some s → (bs : List ℕ)
+      → P k bs ≡ by_step o P s k bs
 
 -- a live place accepts the bytes
 abbrev pub AnyLive : (ℕ → Test) → List ℕ → List ℕ → Type 0
@@ -71,4 +72,5 @@ further_of s = 0
 
 -- no step leads past the end
 abbrev pub StaysInside : List Step → Type 0
-StaysInside steps = (k : ℕ) (s : Step) → slice_get steps k ≡ Some s → k + 1 + further_of s ≤ length steps
+StaysInside steps = (k : ℕ) (s : Step) → slice_get steps k ≡ Some s
+    → k + 1 + further_of s ≤ length steps

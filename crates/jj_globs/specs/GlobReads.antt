@@ -16,7 +16,8 @@ IsClassRead found (negated, ranges) rest = found ≡ class negated ranges ∷ wo
 
 -- behind any tokens, the words read as one part and what follows it
 abbrev pub IsPartRead : List Word → Part → List ℕ → Type 0
-IsPartRead found next rest = (n : ℕ) (e : Bool) (ts : List Token) → read n e ts found ≡ read n false (part next ∷ ts) (words (map sign_of rest))
+IsPartRead found next rest = (n : ℕ) (e : Bool) (ts : List Token)
+    → read n e ts found ≡ read n false (part next ∷ ts) (words (map sign_of rest))
 
 -- the words are a fault, or memory ran out, of which nothing is claimed
 abbrev pub IsFault : GlobError → List Word → Type 0

@@ -94,9 +94,11 @@ unfoldable mutual
   items negated before r [] = fault UnclosedClass ∷ []
   items negated before r (CloseBracket ∷ s) = class negated (before ++ r ∷ []) ∷ words s
   items negated before r (Dash ∷ []) = fault UnclosedClass ∷ []
-  items negated before r (Dash ∷ CloseBracket ∷ s) = class negated (before ++ r ∷ single Dash ∷ []) ∷ words s
+  items negated before r (Dash ∷ CloseBracket ∷ s) =
+      class negated (before ++ r ∷ single Dash ∷ []) ∷ words s
   items negated before r (Dash ∷ c ∷ s) =
-      range_fault r.first (byte_of c) (items negated before (record { first = r.first; last = byte_of c }) s)
+      range_fault r.first (byte_of c) (items negated before
+      (record { first = r.first; last = byte_of c }) s)
   items negated before r (c ∷ s) = items negated (before ++ r ∷ []) (single c) s
 
 -- 3. The whole text.
@@ -120,12 +122,14 @@ place_behind (part InnerDirs ∷ ts) = InnerRun
 place_behind (part (Byte b) ∷ ts) = if b == 47 then AfterSlash else Elsewhere
 place_behind ts = Elsewhere
 
--- the place behind a group that left no token: a slash before it does not stand right before what follows
+-- the place behind a group that left no token: a slash before it does not stand right before what
+-- follows
 abbrev pub place_behind_group : Place → Place
 place_behind_group Start = Start
 place_behind_group place = Elsewhere
 
--- where a `**` stands in its sequence, by whether a group that left no token is right before it, and the tokens
+-- where a `**` stands in its sequence, by whether a group that left no token is right before it,
+-- and the tokens
 abbrev pub place_of : Bool → List Token → Place
 place_of true ts = place_behind_group (place_behind ts)
 place_of false ts = place_behind ts
@@ -177,7 +181,8 @@ abbrev pub closes_nothing : List Token → Bool
 closes_nothing (Open ∷ ts) = true
 closes_nothing ts = false
 
--- from the number of open groups, whether a group that left no token is right before, and the tokens so far
+-- from the number of open groups, whether a group that left no token is right before, and the
+-- tokens so far
 unfoldable pub read : ℕ → Bool → List Token → List Word → Result (List Token) GlobError
 read zero e ts [] = Ok (reverse ts)
 read (suc n) e ts [] = Err UnclosedAlternates
@@ -198,4 +203,5 @@ read n e ts (fault g ∷ ws) = Err g
 
 -- what a text reads as: its tokens, or its first fault
 unfoldable pub tokens_of : List ℕ → Result (List Token) GlobError
-tokens_of text = if only_dirs (map sign_of text) then Ok (part Everything ∷ []) else read zero false [] (words (map sign_of text))
+tokens_of text = if only_dirs (map sign_of text) then Ok (part Everything ∷ []) else read zero false
+    [] (words (map sign_of text))

@@ -6,7 +6,8 @@ ghost use Rattle.jj_globs.specs.GlobMeaning.{in_class, in_range, any_range, lowe
 use crate::glob::live::put;
 use crate::glob::token::{ByteRange, Class, Options};
 
-/// A set of bytes, or with `negated` all bytes but those: the byte b is the bit b % 64 of the word b / 64.
+/// A set of bytes, or with `negated` all bytes but those: the byte b is the bit b % 64 of the word
+/// b / 64.
 #[derive(Clone, Copy, Drop)]
 pub struct ByteSet {
     pub words: [u64; 4],
@@ -22,7 +23,8 @@ impl ByteSet {
         if self.negated { !found } else { found }
     }
 
-    /// The bytes that the ranges hold, with `icase` a letter in either case, or with `negated` all others.
+    /// The bytes that the ranges hold, with `icase` a letter in either case, or with `negated` all
+    /// others.
     pub(crate) fn of_ranges(ranges: &[ByteRange], options: Options, negated: bool) -> ByteSet
         ensures { (b : ℕ) → in_set result b ≡ in_class options (negated, ranges.now) b }
     {

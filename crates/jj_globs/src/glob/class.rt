@@ -77,7 +77,8 @@ fn read_items<'a>(
 // The range between two bytes of a class.
 fn ranged(first: u8, last: u8) -> Result<ByteRange, GlobError>
     ensures { MatchResult result
-        (λ range. (range ≡ record { first = first; last = last }) × ((good : _) → range_fault first last good ≡ good))
+        (λ range. (range ≡ record { first = first; last = last })
+        × ((good : _) → range_fault first last good ≡ good))
         (λ error. (good : _) → IsFault error (range_fault first last good)) }
 {
     if first >= 128 || last >= 128 {

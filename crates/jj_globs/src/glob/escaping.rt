@@ -15,7 +15,8 @@ pub fn is_special(byte: u8) -> bool
 
 // Writes the character as it stands for itself.
 fn push_escaped(glob: &mut String, c: char) -> Result<(), AllocError>
-    ensures { OnOk result (string_bytes glob.new ≡ string_bytes glob.old ++ flat_map escaped_byte (encode_utf8 c)) }
+    ensures { OnOk result (string_bytes glob.new ≡ string_bytes glob.old
+        ++ flat_map escaped_byte (encode_utf8 c)) }
 {
     match c {
         '?' => glob.push_str("[?]"),

@@ -8,8 +8,10 @@ use std::alloc::AllocError;
 
 /// A `,`, which stands for itself where no group is open.
 pub(crate) fn put_comma(tokens: &mut Vec<Token>, open_groups: usize) -> Result<(), AllocError>
-    ensures plain { OnOk result (open_groups ≡ 0 → reverse tokens.new.items ≡ Token.Part (Part.Byte 44) ∷ reverse tokens.old.items) }
-    ensures group { OnOk result (0 < open_groups → reverse tokens.new.items ≡ with_or (reverse tokens.old.items)) }
+    ensures plain { OnOk result (open_groups ≡ 0
+        → reverse tokens.new.items ≡ Token.Part (Part.Byte 44) ∷ reverse tokens.old.items) }
+    ensures group { OnOk result (0 < open_groups
+        → reverse tokens.new.items ≡ with_or (reverse tokens.old.items)) }
 {
     if open_groups > 0 {
         return put_or(tokens);
@@ -34,10 +36,11 @@ fn put_or(tokens: &mut Vec<Token>) -> Result<(), AllocError>
     Ok(())
 }
 
-/// The `}` of a group: an alternative without tokens is dropped, and so is a group without alternatives. Tells whether
-/// the group was dropped.
+/// The `}` of a group: an alternative without tokens is dropped, and so is a group without
+/// alternatives. Tells whether the group was dropped.
 pub(crate) fn put_close(tokens: &mut Vec<Token>) -> Result<bool, AllocError>
-    ensures tokens { OnOk result (reverse tokens.new.items ≡ with_close (reverse tokens.old.items)) }
+    ensures tokens { OnOk result (reverse tokens.new.items
+        ≡ with_close (reverse tokens.old.items)) }
     ensures dropped { IfOk result (λ dropped. dropped ≡ closes_nothing (reverse tokens.old.items)) }
 {
     match tokens.pop() {
@@ -71,7 +74,8 @@ pub(crate) fn put_dirs(tokens: &mut Vec<Token>, place: Place) -> Result<(), Allo
 
 /// A `**` at a place where its sequence ends.
 pub(crate) fn put_last_dirs(tokens: &mut Vec<Token>, place: Place) -> Result<(), AllocError>
-    ensures { OnOk result (reverse tokens.new.items ≡ with_last_dirs place (reverse tokens.old.items)) }
+    ensures { OnOk result (reverse tokens.new.items
+        ≡ with_last_dirs place (reverse tokens.old.items)) }
 {
     match place {
         Place::Start => put_two_stars(tokens)?,

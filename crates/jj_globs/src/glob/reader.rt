@@ -13,7 +13,8 @@ use std::alloc::{AllocError, Global};
 
 /// The tokens that a text reads as, or its first fault.
 pub(crate) fn read_tokens(alloc: Global, text: &[u8]) -> Result<Vec<Token>, GlobError>
-    ensures { MatchResult result (λ tokens. tokens_of text.now ≡ Ok tokens.items) (λ error. IsReadingFault error (tokens_of text.now)) }
+    ensures { MatchResult result (λ tokens. tokens_of text.now ≡ Ok tokens.items)
+        (λ error. IsReadingFault error (tokens_of text.now)) }
 {
     // Each open group is a byte of the text, so their number fits.
     let _len = text.len();
@@ -76,7 +77,8 @@ fn is_only_dirs(text: &[u8]) -> bool
     false
 }
 
-// What the other signs begin, from behind the sign on: a class, an escaped byte, any byte, or a byte that stands for itself.
+// What the other signs begin, from behind the sign on: a class, an escaped byte, any byte, or a
+// byte that stands for itself.
 fn read_part<'a>(alloc: Global, sign: Sign, text: &'a [u8]) -> Result<(Part, &'a [u8]), GlobError>
     requires no_star { sign ≢ Sign.Asterisk }
     requires no_open { sign ≢ Sign.OpenBrace }
@@ -103,7 +105,8 @@ fn read_part<'a>(alloc: Global, sign: Sign, text: &'a [u8]) -> Result<(Part, &'a
 
 // What follows a star: whether the text goes on with another one, and what follows that.
 fn behind_star(text: &[u8]) -> Option<&[u8]>
-    ensures { MatchOption result ((rest : List Sign) → map sign_of text.now ≡ Sign.Asterisk ∷ rest → ⊥) (λ rest. map sign_of text.now ≡ Sign.Asterisk ∷ map sign_of rest.now) }
+    ensures { MatchOption result ((rest : List Sign) → map sign_of text.now ≡ Sign.Asterisk ∷ rest
+        → ⊥) (λ rest. map sign_of text.now ≡ Sign.Asterisk ∷ map sign_of rest.now) }
 {
     let (sign, rest) = next_sign(text)?;
     match sign {
@@ -125,7 +128,8 @@ fn behind_two_stars(text: &[u8]) -> Option<&[u8]>
 
 // What follows a slash.
 fn behind_slash(text: &[u8]) -> Option<&[u8]>
-    ensures { MatchOption result ((rest : List Sign) → map sign_of text.now ≡ Sign.Slash ∷ rest → ⊥) (λ rest. map sign_of text.now ≡ Sign.Slash ∷ map sign_of rest.now) }
+    ensures { MatchOption result ((rest : List Sign) → map sign_of text.now ≡ Sign.Slash ∷ rest → ⊥)
+        (λ rest. map sign_of text.now ≡ Sign.Slash ∷ map sign_of rest.now) }
 {
     let (sign, rest) = next_sign(text)?;
     match sign {
@@ -155,7 +159,8 @@ fn read_stars<'a>(
     is_behind_group: bool,
     text: &'a [u8],
 ) -> Result<&'a [u8], AllocError>
-    ensures read { IfOk result (λ rest. read open_groups is_behind_group (reverse tokens.old.items) (words (Sign.Asterisk ∷ map sign_of text.now))
+    ensures read { IfOk result (λ rest. read open_groups is_behind_group (reverse tokens.old.items)
+        (words (Sign.Asterisk ∷ map sign_of text.now))
         ≡ read open_groups false (reverse tokens.new.items) (words (map sign_of rest.now))) }
     ensures shorter { IfOk result (λ rest. length rest.now ≤ length text.now) }
 {

@@ -1,4 +1,5 @@
-//! The text of a regular expression over bytes that matches as a glob does. That it does so is shown by tests.
+//! The text of a regular expression over bytes that matches as a glob does. That it does so is
+//! shown by tests.
 use crate::glob::token::{ByteRange, Class, Options, Part, Token};
 use std::alloc::{AllocError, Global};
 

@@ -76,7 +76,8 @@ impl Sign {
 
 /// What the first byte means, and the bytes behind it.
 pub(crate) fn next_sign(text: &[u8]) -> Option<(Sign, &[u8])>
-    ensures { MatchOption result (text.now ≡ []) (λ next. map sign_of text.now ≡ next.0 ∷ map sign_of next.1.now) }
+    ensures { MatchOption result (text.now ≡ [])
+        (λ next. map sign_of text.now ≡ next.0 ∷ map sign_of next.1.now) }
 {
     let (first, rest) = text.split_first()?;
     Some((Sign::of(*first), rest))

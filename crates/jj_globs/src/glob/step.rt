@@ -1,7 +1,8 @@
 //! The steps of a glob: its tokens without the brackets of groups.
 use crate::glob::byte_set::ByteSet;
 
-/// A step takes a byte, or leads on to places behind it. A place is a step's index, and the number of steps is the end.
+/// A step takes a byte, or leads on to places behind it. A place is a step's index, and the number
+/// of steps is the end.
 #[derive(Clone, Copy, Drop)]
 pub enum Step {
     /// This byte.

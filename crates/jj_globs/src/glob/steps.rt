@@ -9,7 +9,8 @@ use crate::glob::step::Step;
 use crate::glob::token::{Options, Part, Token};
 use std::alloc::{AllocError, Global};
 
-/// A group whose `}` was read and whose `{` was not. A place is named by the number of steps behind it.
+/// A group whose `}` was read and whose `{` was not. A place is named by the number of steps behind
+/// it.
 #[derive(Clone, Copy, Drop)]
 pub struct OpenGroup {
     /// Where the alternatives that were read begin, if one was.
@@ -44,7 +45,8 @@ fn put_token(
     token: &Token,
     options: Options,
 ) -> Result<(), AllocError>
-    ensures { OnOk result (AddsToken options token.now (reverse steps.old.items) (reverse groups.old.items)
+    ensures { OnOk result (AddsToken options token.now (reverse steps.old.items)
+        (reverse groups.old.items)
         (reverse steps.new.items) (reverse groups.new.items)) }
 {
     match token {
@@ -84,7 +86,8 @@ fn put_fork(steps: &mut Vec<Step>, others: Option<usize>) -> Result<(), AllocErr
 
 // Adds the steps of a part.
 fn put_part(steps: &mut Vec<Step>, part: &Part, options: Options) -> Result<(), AllocError>
-    ensures { OnOk result (AddsPart options part.now (reverse steps.old.items) (reverse steps.new.items)) }
+    ensures { OnOk result (AddsPart options part.now (reverse steps.old.items)
+        (reverse steps.new.items)) }
 {
     match part {
         Part::Byte(byte) => steps.push(Step::Byte(*byte))?,
@@ -107,7 +110,8 @@ fn put_part(steps: &mut Vec<Step>, part: &Part, options: Options) -> Result<(), 
 
 // Adds the steps of nothing, or of any bytes that end in a slash.
 fn put_dirs(steps: &mut Vec<Step>) -> Result<(), AllocError>
-    ensures { OnOk result (reverse steps.new.items ≡ Step.Fork 2 ∷ Step.Everything ∷ Step.Byte 47 ∷ reverse steps.old.items) }
+    ensures { OnOk result (reverse steps.new.items
+        ≡ Step.Fork 2 ∷ Step.Everything ∷ Step.Byte 47 ∷ reverse steps.old.items) }
 {
     steps.push(Step::Byte(b'/'))?;
     steps.push(Step::Everything)?;

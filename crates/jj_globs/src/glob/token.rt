@@ -4,7 +4,8 @@ ghost use Rattle.std.specs.Prelude.{◌≡◌, Bool, List, ℕ};
 use crate::glob::byte_set::ByteSet;
 use std::marker::Model;
 
-/// How a glob matches: whether `/` stops `?` and `*`, and whether ASCII letters match in either case.
+/// How a glob matches: whether `/` stops `?` and `*`, and whether ASCII letters match in either
+/// case.
 #[derive(Clone, Copy, Debug, PartialEq, Eq)]
 pub struct Options {
     pub separator: bool,
