@@ -22,3 +22,4 @@ pub mod GlobFields
 pub mod SetVisits
 pub mod SetCounts
 pub mod Dashes
+pub mod Said

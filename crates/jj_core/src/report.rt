@@ -15,8 +15,8 @@ fn say<E: Sink>(errors: &mut E, texts: &[&str])
     ensures { Says (E.contents errors.old) (E.contents errors.new) (E.has_failed errors.new)
         (flat_map (λ text. text.now) texts.now) }
 {
-    for text in texts {
-        if write_all(errors, text.as_bytes()).is_err() {
+    for place in 0..texts.len() {
+        if write_all(errors, texts[place].as_bytes()).is_err() {
             return;
         }
     }

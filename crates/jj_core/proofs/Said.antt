@@ -1,0 +1,48 @@
+-- A line said in parts.
+use Rattle.std.proofs.Common.{◌≡◌, ◌∙◌, ◌+◌, ◌<◌, ℕ, suc, List, [], ◌∷◌, ◌++◌, length, take, drop, get_or, flat_map, Option, Result, Ok, Err, OnOk, is_err, true, false, sym, ap, subst, append_assoc, append-nil, take-append-drop, arith}
+use Rattle.std.proofs.Math.Seq.{take-suc}
+use Rattle.std.proofs.lemmas.Grind.{flat_map-append}
+use Rattle.std.specs.Io.KnownBytes.{Appends}
+use Rattle.std.proofs.KnownBytes.{Appends-trans}
+use Rattle.jj_paths.specs.Streams.{AppendsFrontOf}
+use denote.Ref.{Bor}
+
+abbrev pub said : List (Bor (List ℕ)) → List ℕ
+said texts = flat_map (λ text. text.now) texts
+
+next_place : (n : ℕ) → suc n ≡ n + 1
+next_place n = omega arith
+
+-- one text more
+pub said_more : (texts : List (Bor (List ℕ))) (place : ℕ) (d : Bor (List ℕ)) → place < length texts
+    → said (take (place + 1) texts) ≡ said (take place texts) ++ (get_or texts place d).now
+said_more texts place d within =
+    ap (λ n. said (take n texts)) (sym (next_place place)) ∙ ap said (take-suc texts place d within)
+    ∙ flat_map-append (λ text. text.now) (take place texts) (get_or texts place d ∷ [])
+    ∙ ap (λ l. said (take place texts) ++ l) (append-nil (get_or texts place d).now)
+
+-- a beginning of a text is a beginning of all texts from those before it on
+pub said_front : (texts : List (Bor (List ℕ))) (place : ℕ) (d : Bor (List ℕ)) (text : List ℕ) → text ≡ (get_or texts place d).now → place < length texts
+    → (old middle new : Option (List ℕ)) → Appends old middle (said (take place texts)) → AppendsFrontOf middle new text → AppendsFrontOf old new (said texts)
+said_front texts place d text is within old middle new before (written, rest, appended, unmarked) =
+    let split = unmarked ∙ is in
+    let front = said (take place texts) in
+    let back = said (drop (place + 1) texts) in
+    let whole = ap said (sym (take-append-drop (place + 1) texts)) ∙ flat_map-append (λ text. text.now) (take (place + 1) texts) (drop (place + 1) texts)
+    ∙ ap (λ l. l ++ back) (said_more texts place d within) in (
+      front ++ written,
+      rest ++ back,
+      Appends-trans _ _ _ _ _ before appended,
+      append_assoc front written (rest ++ back) ∙ ap (λ l. front ++ l) (sym (append_assoc written rest back) ∙ ap (λ l. l ++ back) split)
+          ∙ sym (append_assoc front (get_or texts place d).now back) ∙ sym whole,
+    )
+
+-- the texts so far and the next one were said
+pub said_next : (texts : List (Bor (List ℕ))) (place : ℕ) (d : Bor (List ℕ)) (text : List ℕ) → text ≡ (get_or texts place d).now → place < length texts
+    → (old middle new : Option (List ℕ)) → Appends old middle (said (take place texts)) → Appends middle new text → Appends old new (said (take (place + 1) texts))
+said_next texts place d text is within old middle new before appended =
+    subst (λ l. Appends old new l) (ap (λ l. said (take place texts) ++ l) is ∙ sym (said_more texts place d within)) (Appends-trans _ _ _ _ _ before appended)
+
+pub ok_given : {A E : Type 0} (r : Result A E) (P : Type 0) → OnOk r P → false ≡ is_err r → P
+ok_given (Ok x) P h e = h
+ok_given (Err x) P h e = let g : false ≡ true = e in cc g
