@@ -53,4 +53,5 @@ common_length (x ∷ xs) (y ∷ ys) = if x == y then 1 + common_length xs ys els
 
 -- a text of whole bytes: digits in either case, even in number
 abbrev pub is_text_of : List ℕ → List ℕ → Bool
-is_text_of digits text = (length text % 2 == 0) && list_all (λ c. is_some (digit_value digits c)) text
+is_text_of digits text = (length text % 2 == 0)
+    && list_all (λ c. is_some (digit_value digits c)) text

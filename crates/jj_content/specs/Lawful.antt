@@ -27,15 +27,19 @@ unfolding u32_content
 after_u32 m n s t e = ap (drop 4) e
 
 -- numbers whose bytes begin alike are equal
-pub same_u64 : (m n : ℕ) (s t : List ℕ) → m < 2 ^ 64 → n < 2 ^ 64 → u64_content m ++ s ≡ u64_content n ++ t → m ≡ n
+pub same_u64 : (m n : ℕ) (s t : List ℕ) → m < 2 ^ 64 → n < 2 ^ 64
+    → u64_content m ++ s ≡ u64_content n ++ t → m ≡ n
 unfolding u64_content
 same_u64 m n s t p q e =
-    sym (from_le_bytes-to_le_bytes_8 m p) ∙ ap (λ (xs : List ℕ). from_le_bytes w64 (take 8 xs)) e ∙ from_le_bytes-to_le_bytes_8 n q
+    sym (from_le_bytes-to_le_bytes_8 m p) ∙ ap (λ (xs : List ℕ). from_le_bytes w64 (take 8 xs)) e
+    ∙ from_le_bytes-to_le_bytes_8 n q
 
-pub same_u32 : (m n : ℕ) (s t : List ℕ) → m < 2 ^ 32 → n < 2 ^ 32 → u32_content m ++ s ≡ u32_content n ++ t → m ≡ n
+pub same_u32 : (m n : ℕ) (s t : List ℕ) → m < 2 ^ 32 → n < 2 ^ 32
+    → u32_content m ++ s ≡ u32_content n ++ t → m ≡ n
 unfolding u32_content
 same_u32 m n s t p q e =
-    sym (from_le_bytes-to_le_bytes_4 m p) ∙ ap (λ (xs : List ℕ). from_le_bytes w32 (take 4 xs)) e ∙ from_le_bytes-to_le_bytes_4 n q
+    sym (from_le_bytes-to_le_bytes_4 m p) ∙ ap (λ (xs : List ℕ). from_le_bytes w32 (take 4 xs)) e
+    ∙ from_le_bytes-to_le_bytes_4 n q
 
 pub unit_lawful : IsLawful {X = Unit {0}} (λ _. ⊤) (λ _ _. true) (λ _. [])
 unit_lawful = record { same = λ _ _ _ _ _. refl; decides = λ _ _ _ _ _ _ _. refl }
@@ -76,15 +80,19 @@ both_lawful {X} {v} {w} {e} {f} {c} {d} l m = record {
       let second = m.same x y p.1 q.1 parts.1 in
       λ i. first i ++ second i;
   decides = λ x y s t p q h.
-      let h' : c x ++ (d x ++ s) ≡ c y ++ (d y ++ t) = sym (append_assoc (c x) (d x) s) ∙ h ∙ append_assoc (c y) (d y) t in
+      let h' : c x ++ (d x ++ s) ≡ c y ++ (d y ++ t) = sym (append_assoc (c x) (d x) s) ∙ h
+      ∙ append_assoc (c y) (d y) t in
       let first = l.decides x y (d x ++ s) (d y ++ t) p.0 q.0 h' in
       let here = l.same x y p.0 q.0 first in
-      let rest : d x ++ s ≡ d y ++ t = append_cancel_left (c x) (d x ++ s) (d y ++ t) (h' ∙ ap (λ (z : List ℕ). z ++ (d y ++ t)) (sym here)) in
+      let rest : d x ++ s ≡ d y ++ t = append_cancel_left (c x) (d x ++ s) (d y ++ t)
+      (h' ∙ ap (λ (z : List ℕ). z ++ (d y ++ t)) (sym here)) in
       and_from (e x y) (f x y) first (m.decides x y s t p.1 q.1 rest);
 }
 
-module _ {X : Type 0} {v : X → Type 0} {e : X → X → Bool} {c : X → List ℕ} (l : IsLawful v e c) where
-  items_same : (xs ys : List X) → AllByRecursion v xs → AllByRecursion v ys → pointwise e xs ys ≡ true → flat_map c xs ≡ flat_map c ys
+module _ {X : Type 0} {v : X → Type 0} {e : X → X → Bool} {c : X → List ℕ}
+    (l : IsLawful v e c) where
+  items_same : (xs ys : List X) → AllByRecursion v xs → AllByRecursion v ys
+      → pointwise e xs ys ≡ true → flat_map c xs ≡ flat_map c ys
   items_same [] [] p q h = refl
   items_same [] (y ∷ ys) p q h = cc
   items_same (x ∷ xs) [] p q h = cc
@@ -94,17 +102,20 @@ module _ {X : Type 0} {v : X → Type 0} {e : X → X → Bool} {c : X → List 
       let others = items_same xs ys p.1 q.1 parts.1 in
       λ i. first i ++ others i
 
-  items_decide : (xs ys : List X) (s t : List ℕ) → AllByRecursion v xs → AllByRecursion v ys → length xs ≡ length ys
+  items_decide : (xs ys : List X) (s t : List ℕ) → AllByRecursion v xs → AllByRecursion v ys
+      → length xs ≡ length ys
       → flat_map c xs ++ s ≡ flat_map c ys ++ t → pointwise e xs ys ≡ true
   items_decide [] [] s t p q len h = refl
   items_decide [] (y ∷ ys) s t p q len h = absurd (omega arith)
   items_decide (x ∷ xs) [] s t p q len h = absurd (omega arith)
   items_decide (x ∷ xs) (y ∷ ys) s t p q len h =
-      let h' : c x ++ (flat_map c xs ++ s) ≡ c y ++ (flat_map c ys ++ t) = sym (append_assoc (c x) (flat_map c xs) s) ∙ h ∙ append_assoc (c y) (flat_map c ys) t in
+      let h' : c x ++ (flat_map c xs ++ s) ≡ c y ++ (flat_map c ys ++ t) =
+      sym (append_assoc (c x) (flat_map c xs) s) ∙ h ∙ append_assoc (c y) (flat_map c ys) t in
       let first = l.decides x y _ _ p.0 q.0 h' in
       let here = l.same x y p.0 q.0 first in
       let rest : flat_map c xs ++ s ≡ flat_map c ys ++ t =
-      append_cancel_left (c x) _ _ (h' ∙ ap (λ (z : List ℕ). z ++ (flat_map c ys ++ t)) (sym here)) in
+      append_cancel_left (c x) _ _ (h' ∙ ap (λ (z : List ℕ). z ++ (flat_map c ys ++ t))
+      (sym here)) in
       and_from (e x y) (pointwise e xs ys) first (items_decide xs ys s t p.1 q.1 (omega arith) rest)
 
   pub list_lawful : IsLawful (AreValues v) (pointwise e) (list_content c)
@@ -112,16 +123,21 @@ module _ {X : Type 0} {v : X → Type 0} {e : X → X → Bool} {c : X → List 
   list_lawful = record {
     same = λ xs ys p q h.
         let len = as_long e xs ys h in
-        let items = items_same xs ys (recursion_from_All v xs p.1) (recursion_from_All v ys q.1) h in
+        let items = items_same xs ys (recursion_from_All v xs p.1)
+        (recursion_from_All v ys q.1) h in
         λ i. u64_content (len i) ++ items i;
     decides = λ xs ys s t p q h.
-        let h' : u64_content (length xs) ++ (flat_map c xs ++ s) ≡ u64_content (length ys) ++ (flat_map c ys ++ t) =
-        sym (append_assoc (u64_content (length xs)) (flat_map c xs) s) ∙ h ∙ append_assoc (u64_content (length ys)) (flat_map c ys) t in
+        let h' : u64_content (length xs) ++ (flat_map c xs ++ s) ≡ u64_content (length ys)
+        ++ (flat_map c ys ++ t) =
+        sym (append_assoc (u64_content (length xs)) (flat_map c xs) s) ∙ h
+        ∙ append_assoc (u64_content (length ys)) (flat_map c ys) t in
         let len = same_u64 (length xs) (length ys) _ _ p.0 q.0 h' in
-        items_decide xs ys s t (recursion_from_All v xs p.1) (recursion_from_All v ys q.1) len (after_u64 _ _ _ _ h');
+        items_decide xs ys s t (recursion_from_All v xs p.1) (recursion_from_All v ys q.1) len
+        (after_u64 _ _ _ _ h');
   }
 
-  option_same : (x y : Option X) → IsOptionOf v x → IsOptionOf v y → option_eq e x y ≡ true → option_content c x ≡ option_content c y
+  option_same : (x y : Option X) → IsOptionOf v x → IsOptionOf v y → option_eq e x y ≡ true
+      → option_content c x ≡ option_content c y
   unfolding option_content
   option_same None None p q h = refl
   option_same None (Some y) p q h = cc
@@ -146,11 +162,13 @@ text_lawful = record {
   same = λ xs ys _ _ h. ap text_content (same_text xs ys (sym h));
   decides = λ xs ys s t p q h.
       let h' : u64_content (length xs) ++ (xs ++ s) ≡ u64_content (length ys) ++ (ys ++ t) =
-      sym (append_assoc (u64_content (length xs)) xs s) ∙ h ∙ append_assoc (u64_content (length ys)) ys t in
+      sym (append_assoc (u64_content (length xs)) xs s) ∙ h
+      ∙ append_assoc (u64_content (length ys)) ys t in
       let len = same_u64 (length xs) (length ys) _ _ p q h' in
       let rest : xs ++ s ≡ ys ++ t = after_u64 _ _ _ _ h' in
       let same : xs ≡ ys =
-      sym (take-append_seam xs s) ∙ ap (take (length xs)) rest ∙ ap (λ (k : ℕ). take k (ys ++ t)) len ∙ take-append_seam ys t in
+      sym (take-append_seam xs s) ∙ ap (take (length xs)) rest
+      ∙ ap (λ (k : ℕ). take k (ys ++ t)) len ∙ take-append_seam ys t in
       ap (pointwise nat_eq xs) (sym same) ∙ nat_list_eq_equiv.refl xs;
 }
 
@@ -160,7 +178,8 @@ bool_same true false _ _ h = cc
 bool_same false true _ _ h = cc
 bool_same false false _ _ h = refl
 
-bool_decides : (x y : Bool) (s t : List ℕ) → ⊤ → ⊤ → bool_content x ++ s ≡ bool_content y ++ t → beq x y ≡ true
+bool_decides : (x y : Bool) (s t : List ℕ) → ⊤ → ⊤ → bool_content x ++ s ≡ bool_content y ++ t
+    → beq x y ≡ true
 unfolding bool_content
 bool_decides true true s t _ _ h = refl
 bool_decides true false s t _ _ h = cc
@@ -171,7 +190,8 @@ pub bool_lawful : IsLawful (λ _. ⊤) beq bool_content
 bool_lawful = record { same = bool_same; decides = bool_decides }
 
 -- a signed number's bits give it back
-same_signed : (w : Width) (m n : ℤ) → FitsSigned w m → FitsSigned w n → cast_unsigned w m ≡ cast_unsigned w n → m ≡ n
+same_signed : (w : Width) (m n : ℤ) → FitsSigned w m → FitsSigned w n
+    → cast_unsigned w m ≡ cast_unsigned w n → m ≡ n
 same_signed w m n p q e = sym (to_z-of_z w m p) ∙ ap (cast_signed w) e ∙ to_z-of_z w n q
 
 pub i32_lawful : IsLawful (FitsSigned w32) int_eq i32_content
@@ -195,14 +215,18 @@ i64_lawful = record {
 }
 
 -- the variant's number, and then its fields
-pub enum_lawful : {X : Type 0} {v : X → Type 0} {e : X → X → Bool} (variant : X → ℕ) (fields : X → List ℕ) → ((x : X) → variant x < 2 ^ 32)
+pub enum_lawful : {X : Type 0} {v : X → Type 0} {e : X → X → Bool} (variant : X → ℕ)
+    (fields : X → List ℕ) → ((x : X) → variant x < 2 ^ 32)
     → ((x y : X) → v x → v y → e x y ≡ true → (variant x ≡ variant y) × (fields x ≡ fields y))
-    → ((x y : X) (s t : List ℕ) → v x → v y → variant x ≡ variant y → fields x ++ s ≡ fields y ++ t → e x y ≡ true)
+    → ((x y : X) (s t : List ℕ) → v x → v y → variant x ≡ variant y → fields x ++ s ≡ fields y ++ t
+    → e x y ≡ true)
     → IsLawful v e (λ x. u32_content (variant x) ++ fields x)
 enum_lawful variant fields small alike told = record {
   same = λ x y p q h. let a = alike x y p q h in λ i. u32_content (a.0 i) ++ a.1 i;
   decides = λ x y s t p q h.
-      let h' : u32_content (variant x) ++ (fields x ++ s) ≡ u32_content (variant y) ++ (fields y ++ t) =
-      sym (append_assoc (u32_content (variant x)) (fields x) s) ∙ h ∙ append_assoc (u32_content (variant y)) (fields y) t in
+      let h' : u32_content (variant x) ++ (fields x ++ s) ≡ u32_content (variant y)
+      ++ (fields y ++ t) =
+      sym (append_assoc (u32_content (variant x)) (fields x) s) ∙ h
+      ∙ append_assoc (u32_content (variant y)) (fields y) t in
       told x y s t p q (same_u32 _ _ _ _ (small x) (small y) h') (after_u32 _ _ _ _ h');
 }

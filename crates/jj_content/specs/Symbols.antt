@@ -1,4 +1,5 @@
--- Quoted texts: how a character prints between double quotes, and which character an escape stands for.
+-- Quoted texts: how a character prints between double quotes, and which character an escape stands
+-- for.
 use Rattle.std.specs.Prelude.{◌≡◌, ℕ, ◌<◌, List, [], ◌∷◌, ◌++◌, ◌==◌, codes, if◌then◌else◌, Option, Some, find, ◌⊎◌}
 use Rattle.std.specs.Option.{option_map, option_map_or}
 use Rattle.std.specs.List.{flat_map}
@@ -15,7 +16,8 @@ lettered = (34, 34) ∷ (92, 92) ∷ (9, 116) ∷ (13, 114) ∷ (10, 110) ∷ (0
 abbrev pub hex_escape : ℕ → List ℕ
 hex_escape byte = codes "\\x" ++ digit_pair hex_digits byte
 
--- a byte of a text as it prints: by its letter, an ASCII control that has none by its hex digits, all else as it is
+-- a byte of a text as it prints: by its letter, an ASCII control that has none by its hex digits,
+-- all else as it is
 abbrev pub escaped_byte : ℕ → List ℕ
 escaped_byte byte =
     option_map_or (λ e. 92 ∷ e.1 ∷ []) (find (λ e. e.0 == byte) lettered)
@@ -38,4 +40,6 @@ letter_char letter = option_map (λ e. e.0) (find (λ e. e.1 == letter) (lettere
 abbrev pub IsEscapeOf : List ℕ → ℕ → Type 0
 IsEscapeOf text c =
     ((letter : ℕ) × (text ≡ 92 ∷ letter ∷ []) × (letter_char letter ≡ Some c))
-    ⊎ ((digits : List ℕ) × (text ≡ codes "\\x" ++ digits) × IsNumeral 16 (without_leading_plus digits) × (digits_value 16 (without_leading_plus digits) ≡ c) × (c < 256))
+    ⊎ ((digits : List ℕ) × (text ≡ codes "\\x" ++ digits)
+    × IsNumeral 16 (without_leading_plus digits)
+    × (digits_value 16 (without_leading_plus digits) ≡ c) × (c < 256))

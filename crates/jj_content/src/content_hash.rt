@@ -23,7 +23,8 @@ pub trait DigestUpdate {
     /// The state stands for these bytes.
     ghost stands_for: { Self → List ℕ → Type 0 };
 
-    /// Takes in a piece: a state that stood for a list of bytes then stands for that list followed by the piece.
+    /// Takes in a piece: a state that stood for a list of bytes then stands for that list followed
+    /// by the piece.
     fn update(&mut self, bytes: &[u8])
         ensures { Takes stands_for self.old self.new bytes.now };
 }
@@ -36,14 +37,16 @@ pub trait ContentHash: Eq {
     /// The content bytes of a value.
     ghost content: { Self → List ℕ };
 
-    /// Appends the content bytes to what the state stands for. Where memory is refused, a beginning of them was
-    /// appended.
+    /// Appends the content bytes to what the state stands for. Where memory is refused, a beginning
+    /// of them was appended.
     fn hash<D: DigestUpdate>(&self, alloc: Global, state: &mut D) -> Result<(), AllocError>
         ensures ok { OnOk result (Takes D.stands_for state.old state.new (content self.now)) }
         ensures value { OnOk result (is_value self.now) }
-        ensures err { OnErr result (TakesFront D.stands_for state.old state.new (content self.now)) };
+        ensures err { OnErr result (TakesFront D.stands_for state.old state.new
+            (content self.now)) };
 
-    /// Equal values have the same content, and no value's content is a beginning of an unequal one's.
+    /// Equal values have the same content, and no value's content is a beginning of an unequal
+    /// one's.
     ghost lawful: { IsLawful is_value Self.eq content };
 }
 
@@ -158,9 +161,11 @@ fn hash_items<T: ContentHash, D: DigestUpdate>(
     items: &[T],
     state: &mut D,
 ) -> Result<(), AllocError>
-    ensures ok { OnOk result (Takes D.stands_for state.old state.new (list_content T.content items.now)) }
+    ensures ok { OnOk result (Takes D.stands_for state.old state.new
+        (list_content T.content items.now)) }
     ensures value { OnOk result (AreValues T.is_value items.now) }
-    ensures err { OnErr result (TakesFront D.stands_for state.old state.new (list_content T.content items.now)) }
+    ensures err { OnErr result (TakesFront D.stands_for state.old state.new
+        (list_content T.content items.now)) }
 {
     state.update(&(items.len() as u64).to_le_bytes());
     for item in items {
@@ -249,9 +254,11 @@ fn hash_entry<K: ContentHash, V: ContentHash, D: DigestUpdate>(
     value: &V,
     state: &mut D,
 ) -> Result<(), AllocError>
-    ensures ok { OnOk result (Takes D.stands_for state.old state.new (entry_content K.content V.content (key.now, value.now))) }
+    ensures ok { OnOk result (Takes D.stands_for state.old state.new
+        (entry_content K.content V.content (key.now, value.now))) }
     ensures value { OnOk result (K.is_value key.now × V.is_value value.now) }
-    ensures err { OnErr result (TakesFront D.stands_for state.old state.new (entry_content K.content V.content (key.now, value.now))) }
+    ensures err { OnErr result (TakesFront D.stands_for state.old state.new
+        (entry_content K.content V.content (key.now, value.now))) }
 {
     key.hash(alloc, state)?;
     value.hash(alloc, state)
@@ -262,7 +269,9 @@ impl<K: ContentHash + Ord, V: ContentHash> ContentHash for BTreeMap<K, V> {
 
     ghost content = { λ m. list_content (entry_content K.content V.content) m.entries };
 
-    ghost lawful = { on_lawful (λ m. m.entries) (list_lawful (both_lawful (on_lawful (λ e. e.0) K.lawful) (on_lawful (λ e. e.1) V.lawful))) };
+    ghost lawful = { on_lawful (λ m. m.entries)
+        (list_lawful (both_lawful (on_lawful (λ e. e.0) K.lawful)
+        (on_lawful (λ e. e.1) V.lawful))) };
 
     #[tactic(auto, unfolding(crate::specs::Content::list_content, crate::specs::Content::u64_content))]
     fn hash<D: DigestUpdate>(&self, alloc: Global, state: &mut D) -> Result<(), AllocError> {
@@ -290,7 +299,8 @@ fn sorted_pairs<K: Ord + std::hash::Hash, V>(
     alloc: Global,
     map: &HashMap<K, V>,
 ) -> Result<Vec<(&K, &V)>, AllocError>
-    ensures pairs { IfOk result (λ pairs. map_of deref_pair pairs.items ≡ in_order (on (λ e. e.0) K.cmp) map.now.entries) }
+    ensures pairs { IfOk result (λ pairs. map_of deref_pair pairs.items
+        ≡ in_order (on (λ e. e.0) K.cmp) map.now.entries) }
     ensures unique { IsUnique K.eq map.now }
 {
     let mut pairs = pairs_of(alloc, map)?;
@@ -305,9 +315,12 @@ fn hash_pairs<K: ContentHash, V: ContentHash, D: DigestUpdate>(
     pairs: &[(&K, &V)],
     state: &mut D,
 ) -> Result<(), AllocError>
-    ensures ok { OnOk result (Takes D.stands_for state.old state.new (list_content (entry_content K.content V.content) (map_of deref_pair pairs.now))) }
-    ensures value { OnOk result (AreValues (λ e. K.is_value e.0 × V.is_value e.1) (map_of deref_pair pairs.now)) }
-    ensures err { OnErr result (TakesFront D.stands_for state.old state.new (list_content (entry_content K.content V.content) (map_of deref_pair pairs.now))) }
+    ensures ok { OnOk result (Takes D.stands_for state.old state.new
+        (list_content (entry_content K.content V.content) (map_of deref_pair pairs.now))) }
+    ensures value { OnOk result (AreValues (λ e. K.is_value e.0 × V.is_value e.1)
+        (map_of deref_pair pairs.now)) }
+    ensures err { OnErr result (TakesFront D.stands_for state.old state.new
+        (list_content (entry_content K.content V.content) (map_of deref_pair pairs.now))) }
 {
     state.update(&(pairs.len() as u64).to_le_bytes());
     for pair in pairs {
@@ -318,7 +331,8 @@ fn hash_pairs<K: ContentHash, V: ContentHash, D: DigestUpdate>(
 
 /// A map is written in key order, whatever the order in which it is walked.
 impl<K: ContentHash + Ord + std::hash::Hash, V: ContentHash> ContentHash for HashMap<K, V> {
-    ghost is_value = { λ m. IsUnique K.eq m × AreValues (λ e. K.is_value e.0 × V.is_value e.1) m.entries };
+    ghost is_value = { λ m. IsUnique K.eq m
+        × AreValues (λ e. K.is_value e.0 × V.is_value e.1) m.entries };
 
     ghost content = { λ m. map_content K.cmp K.content V.content m.entries };
 
@@ -346,7 +360,8 @@ fn sorted_members<K: Ord + std::hash::Hash>(
     alloc: Global,
     set: &HashSet<K>,
 ) -> Result<Vec<&K>, AllocError>
-    ensures members { IfOk result (λ members. map_of deref members.items ≡ in_order K.cmp set.now.keys) }
+    ensures members { IfOk result (λ members. map_of deref members.items
+        ≡ in_order K.cmp set.now.keys) }
     ensures unique { HasUniqueKeys K.eq set.now }
 {
     let mut members = members_of(alloc, set)?;
@@ -361,9 +376,11 @@ fn hash_members<K: ContentHash, D: DigestUpdate>(
     members: &[&K],
     state: &mut D,
 ) -> Result<(), AllocError>
-    ensures ok { OnOk result (Takes D.stands_for state.old state.new (list_content K.content (map_of deref members.now))) }
+    ensures ok { OnOk result (Takes D.stands_for state.old state.new
+        (list_content K.content (map_of deref members.now))) }
     ensures value { OnOk result (AreValues K.is_value (map_of deref members.now)) }
-    ensures err { OnErr result (TakesFront D.stands_for state.old state.new (list_content K.content (map_of deref members.now))) }
+    ensures err { OnErr result (TakesFront D.stands_for state.old state.new
+        (list_content K.content (map_of deref members.now))) }
 {
     state.update(&(members.len() as u64).to_le_bytes());
     for member in members {
@@ -417,7 +434,8 @@ impl<A: ContentHash, B: ContentHash, C: ContentHash> ContentHash for (A, B, C) {
 
     ghost content = { λ p. A.content p.0 ++ B.content p.1 ++ C.content p.2 };
 
-    ghost lawful = { both_lawful (both_lawful (on_lawful (λ p. p.0) A.lawful) (on_lawful (λ p. p.1) B.lawful)) (on_lawful (λ p. p.2) C.lawful) };
+    ghost lawful = { both_lawful (both_lawful (on_lawful (λ p. p.0) A.lawful)
+        (on_lawful (λ p. p.1) B.lawful)) (on_lawful (λ p. p.2) C.lawful) };
 
     #[tactic(auto, using(crate::proofs::Fronts::fronts))]
     fn hash<D: DigestUpdate>(&self, alloc: Global, state: &mut D) -> Result<(), AllocError> {
@@ -433,7 +451,9 @@ impl<A: ContentHash, B: ContentHash, C: ContentHash, D: ContentHash> ContentHash
 
     ghost content = { λ p. A.content p.0 ++ B.content p.1 ++ C.content p.2 ++ D.content p.3 };
 
-    ghost lawful = { both_lawful (both_lawful (both_lawful (on_lawful (λ p. p.0) A.lawful) (on_lawful (λ p. p.1) B.lawful)) (on_lawful (λ p. p.2) C.lawful)) (on_lawful (λ p. p.3) D.lawful) };
+    ghost lawful = { both_lawful (both_lawful
+        (both_lawful (on_lawful (λ p. p.0) A.lawful) (on_lawful (λ p. p.1) B.lawful))
+        (on_lawful (λ p. p.2) C.lawful)) (on_lawful (λ p. p.3) D.lawful) };
 
     #[tactic(auto, using(crate::proofs::Fronts::fronts))]
     fn hash<S: DigestUpdate>(&self, alloc: Global, state: &mut S) -> Result<(), AllocError> {
@@ -464,5 +484,6 @@ pub fn blake2b_hash<T: ContentHash>(alloc: Global, x: &T) -> Result<[u8; 64], Al
 
 /// Two values of one type have the same content exactly where they are equal.
 pub fn content_decides<T: ContentHash>()
-    ensures { (x y : T) → T.is_value x → T.is_value y → (T.content x ≡ T.content y) ↔ (T.eq x y ≡ true) }
+    ensures { (x y : T) → T.is_value x → T.is_value y → (T.content x ≡ T.content y)
+        ↔ (T.eq x y ≡ true) }
 {}

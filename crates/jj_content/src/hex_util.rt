@@ -157,7 +157,8 @@ pub fn decode_reverse_hex_prefix<H: AsSlice<u8> + Drop>(
 ) -> Result<Option<(Vec<u8>, bool)>, AllocError>
     ensures { IfOk result (λ answer. MatchOption answer
         (ReadsAsNothing reverse_hex_digits (evened reverse_hex_digits (H.items reverse_hex)))
-        (λ prefix. ReadsAs reverse_hex_digits (evened reverse_hex_digits (H.items reverse_hex)) prefix.0.items
+        (λ prefix. ReadsAs reverse_hex_digits (evened reverse_hex_digits
+        (H.items reverse_hex)) prefix.0.items
         × (prefix.1 ≡ (length (H.items reverse_hex) % 2 == 1)))) }
 {
     decode_hex_prefix_inner(alloc, reverse_hex.as_slice(), Digits::Reverse)
@@ -215,18 +216,24 @@ pub fn common_hex_len(bytes_a: &[u8], bytes_b: &[u8]) -> usize
 
 /// Decoding undoes encoding: the text of some bytes reads as them, in both kinds of hex.
 pub fn decoding_undoes_encoding()
-    ensures forward { (bytes : List ℕ) → All (λ byte. byte < 256) bytes → ReadsAs hex_digits (hex bytes) bytes }
-    ensures reverse { (bytes : List ℕ) → All (λ byte. byte < 256) bytes → ReadsAs reverse_hex_digits (reverse_hex bytes) bytes }
+    ensures forward { (bytes : List ℕ) → All (λ byte. byte < 256) bytes
+        → ReadsAs hex_digits (hex bytes) bytes }
+    ensures reverse { (bytes : List ℕ) → All (λ byte. byte < 256) bytes
+        → ReadsAs reverse_hex_digits (reverse_hex bytes) bytes }
 {}
 
 /// A text reads as one list of bytes at most, in both kinds of hex.
 pub fn reading_is_unique()
-    ensures forward { (text xs ys : List ℕ) → ReadsAs hex_digits text xs → ReadsAs hex_digits text ys → xs ≡ ys }
-    ensures reverse { (text xs ys : List ℕ) → ReadsAs reverse_hex_digits text xs → ReadsAs reverse_hex_digits text ys → xs ≡ ys }
+    ensures forward { (text xs ys : List ℕ) → ReadsAs hex_digits text xs
+        → ReadsAs hex_digits text ys → xs ≡ ys }
+    ensures reverse { (text xs ys : List ℕ) → ReadsAs reverse_hex_digits text xs
+        → ReadsAs reverse_hex_digits text ys → xs ≡ ys }
 {}
 
 /// Encoding what was decoded gives the text in lower case, in both kinds of hex.
 pub fn encoding_gives_lower_case()
-    ensures forward { (text bytes : List ℕ) → ReadsAs hex_digits text bytes → hex bytes ≡ str_to_ascii_lowercase text }
-    ensures reverse { (text bytes : List ℕ) → ReadsAs reverse_hex_digits text bytes → reverse_hex bytes ≡ str_to_ascii_lowercase text }
+    ensures forward { (text bytes : List ℕ) → ReadsAs hex_digits text bytes
+        → hex bytes ≡ str_to_ascii_lowercase text }
+    ensures reverse { (text bytes : List ℕ) → ReadsAs reverse_hex_digits text bytes
+        → reverse_hex bytes ≡ str_to_ascii_lowercase text }
 {}

@@ -11,7 +11,8 @@ use std::fmt;
 
 // Writes the character as it prints between quotes.
 fn push_escaped(escaped: &mut String, c: char) -> Result<(), AllocError>
-    ensures { OnOk result (string_bytes escaped.new ≡ string_bytes escaped.old ++ flat_map escaped_byte (encode_utf8 c)) }
+    ensures { OnOk result (string_bytes escaped.new ≡ string_bytes escaped.old
+        ++ flat_map escaped_byte (encode_utf8 c)) }
 {
     match c {
         '"' => escaped.push_str("\\\""),
@@ -31,7 +32,8 @@ fn push_escaped(escaped: &mut String, c: char) -> Result<(), AllocError>
 }
 
 fn escape_string_to_buf(escaped: &mut String, unescaped: &str) -> Result<(), AllocError>
-    ensures { OnOk result (string_bytes escaped.new ≡ string_bytes escaped.old ++ escaped_text unescaped.now) }
+    ensures { OnOk result (string_bytes escaped.new ≡ string_bytes escaped.old
+        ++ escaped_text unescaped.now) }
 {
     for c in unescaped.chars() {
         push_escaped(escaped, c)?;
@@ -62,7 +64,8 @@ pub fn format_string(alloc: Global, unescaped: &str) -> Result<String, AllocErro
 
 // Writes the character as it prints between quotes.
 fn write_escaped<W: fmt::Write>(writer: &mut W, c: char) -> fmt::Result
-    ensures { OnOk result (WritesInCalls W.write_str_gives writer.old (flat_map escaped_byte (encode_utf8 c)) writer.new) }
+    ensures { OnOk result (WritesInCalls W.write_str_gives writer.old
+        (flat_map escaped_byte (encode_utf8 c)) writer.new) }
 {
     match c {
         '"' => writer.write_str("\\\"")?,
@@ -84,7 +87,8 @@ fn write_escaped<W: fmt::Write>(writer: &mut W, c: char) -> fmt::Result
 
 /// Writes a text in double quotes, as `format_string` gives it, piece by piece.
 pub fn write_quoted<W: fmt::Write>(writer: &mut W, text: &str) -> fmt::Result
-    ensures { OnOk result (WritesInCalls W.write_str_gives writer.old (quoted_text text.now) writer.new) }
+    ensures { OnOk result (WritesInCalls W.write_str_gives writer.old
+        (quoted_text text.now) writer.new) }
 {
     writer.write_char('"')?;
     for c in text.chars() {
@@ -113,7 +117,8 @@ fn char_of_letter(letter: u8) -> Option<char>
 /// The character that an escape stands for: one of those that `escape_string` writes, `\e`, or `\x`
 /// with one or more hex digits of value at most 255 and perhaps a `+` before them.
 pub fn unescape_char(escaped: &str) -> Option<char>
-    ensures { MatchOption result ((c : ℕ) → ¬ (IsEscapeOf escaped.now c)) (λ c. IsEscapeOf escaped.now c) }
+    ensures { MatchOption result ((c : ℕ) → ¬ (IsEscapeOf escaped.now c))
+        (λ c. IsEscapeOf escaped.now c) }
 {
     match escaped.as_bytes() {
         [b'\\', letter] => char_of_letter(*letter),

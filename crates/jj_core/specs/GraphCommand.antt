@@ -1,5 +1,5 @@
--- The command `graph`: lines that list the neighbours of nodes, and lines that ask for the order, the heads or the closest common nodes of
--- some.
+-- The command `graph`: lines that list the neighbours of nodes, and lines that ask for the order,
+-- the heads or the closest common nodes of some.
 use Rattle.std.specs.Prelude.{◌≡◌, ◌⊎◌, ℕ, ◌==◌, Bool, List, [], ◌∷◌, ◌++◌, cond, codes, map, Option, Some, None, is_some, unwrap_or, Result, Ok, Err}
 use Rattle.std.specs.Str.{bytes_eq}
 use Rattle.std.specs.Str.Parse.{digits_value}
@@ -36,15 +36,22 @@ number_at text = cond (is_number text) (Ok (digits_value 10 text)) (Err BadNumbe
 
 -- the numbers of these texts, where all are numbers
 abbrev pub numbers_of : List (List ℕ) → Result (List ℕ) LineFault
-numbers_of texts = cond (list_all is_number texts) (Ok (map (digits_value 10) texts)) (Err BadNumber)
+numbers_of texts = cond (list_all is_number texts) (Ok (map (digits_value 10) texts))
+    (Err BadNumber)
 
 -- the state with the neighbours of one more node
 abbrev pub listed_more : GraphState → ℕ → List ℕ → GraphState
-listed_more state id neighbors = record { listed = λ other. cond (id == other) (Some neighbors) (state.listed other); requests = state.requests }
+listed_more state id neighbors = record {
+  listed = λ other.
+      cond (id == other) (Some neighbors) (state.listed other);
+  requests = state.requests;
+}
 
 -- the same, where the node has no line yet
-abbrev pub with_node : GraphState → Result ℕ LineFault → Result (List ℕ) LineFault → Result GraphState LineFault
-with_node state (Ok id) (Ok neighbors) = cond (is_some (state.listed id)) (Err RepeatedNode) (Ok (listed_more state id neighbors))
+abbrev pub with_node : GraphState → Result ℕ LineFault → Result (List ℕ) LineFault
+    → Result GraphState LineFault
+with_node state (Ok id) (Ok neighbors) = cond (is_some (state.listed id)) (Err RepeatedNode)
+    (Ok (listed_more state id neighbors))
 with_node state (Ok id) (Err kind) = Err kind
 with_node state (Err kind) neighbors = Err kind
 
@@ -54,8 +61,10 @@ node_step state [] = Err BadFieldCount
 node_step state (id ∷ neighbors) = with_node state (number_at id) (numbers_of neighbors)
 
 -- the state with one more request
-abbrev pub with_request : GraphState → (List ℕ → GraphRequest) → Result (List ℕ) LineFault → Result GraphState LineFault
-with_request state request (Ok ids) = Ok (record { listed = state.listed; requests = state.requests ++ request ids ∷ [] })
+abbrev pub with_request : GraphState → (List ℕ → GraphRequest) → Result (List ℕ) LineFault
+    → Result GraphState LineFault
+with_request state request (Ok ids) = Ok (record
+    { listed = state.listed; requests = state.requests ++ request ids ∷ [] })
 with_request state request (Err kind) = Err kind
 
 -- a field that parts two sets
@@ -63,14 +72,18 @@ abbrev pub is_dash : List ℕ → Bool
 is_dash field = bytes_eq field (codes "-")
 
 -- the state with one more request for the closest common nodes of two sets
-abbrev pub with_common : GraphState → Result (List ℕ) LineFault → Result (List ℕ) LineFault → Result GraphState LineFault
-with_common state (Ok set1) (Ok set2) = Ok (record { listed = state.listed; requests = state.requests ++ Common set1 set2 ∷ [] })
+abbrev pub with_common : GraphState → Result (List ℕ) LineFault → Result (List ℕ) LineFault
+    → Result GraphState LineFault
+with_common state (Ok set1) (Ok set2) = Ok
+    (record { listed = state.listed; requests = state.requests ++ Common set1 set2 ∷ [] })
 with_common state (Ok set1) (Err kind) = Err kind
 with_common state (Err kind) set2 = Err kind
 
 -- the sets are the fields before and after a dash, of which there is one
 abbrev pub common_step : GraphState → List (List ℕ) → Result GraphState LineFault
-common_step state fields = cond (count_by is_dash fields == 1) (with_common state (numbers_of (before_first is_dash fields)) (numbers_of (after_first is_dash fields))) (Err BadFieldCount)
+common_step state fields = cond (count_by is_dash fields == 1)
+    (with_common state (numbers_of (before_first is_dash fields))
+    (numbers_of (after_first is_dash fields))) (Err BadFieldCount)
 
 -- what a line's fields make of the state, or what is wrong with them
 abbrev pub graph_step : GraphState → List (List ℕ) → Result GraphState LineFault
@@ -100,15 +113,22 @@ numbers_line name ids = line_text name (map decimal ids)
 
 -- the answer to a request where the graph has no cycle
 abbrev pub AnswersRequest : Graph → GraphRequest → List ℕ → Type 0
-AnswersRequest graph (Order ids) answer = (order : List ℕ) × IsGreatestChildFirst graph ids order × (answer ≡ numbers_line (codes "order") order)
-AnswersRequest graph (Heads ids) answer = (heads : List ℕ) × IsMaximalIn graph ids heads × IsStrictlyIncreasing heads × (answer ≡ numbers_line (codes "heads") heads)
-AnswersRequest graph (Common set1 set2) answer = (common : List ℕ) × AreClosestCommon graph set1 set2 common × IsStrictlyIncreasing common × (answer ≡ numbers_line (codes "common") common)
+AnswersRequest graph (Order ids) answer = (order : List ℕ) × IsGreatestChildFirst graph ids order
+    × (answer ≡ numbers_line (codes "order") order)
+AnswersRequest graph (Heads ids) answer = (heads : List ℕ) × IsMaximalIn graph ids heads
+    × IsStrictlyIncreasing heads × (answer ≡ numbers_line (codes "heads") heads)
+AnswersRequest graph (Common set1 set2) answer = (common : List ℕ)
+    × AreClosestCommon graph set1 set2 common × IsStrictlyIncreasing common
+    × (answer ≡ numbers_line (codes "common") common)
 
 -- the answer to a request: `cycle` where the graph has one anywhere
 abbrev pub IsGraphAnswer : Graph → GraphRequest → List ℕ → Type 0
-IsGraphAnswer graph request answer = (HasCycle graph × (answer ≡ line_text (codes "cycle") [])) ⊎ ((HasCycle graph → ⊥) × AnswersRequest graph request answer)
+IsGraphAnswer graph request answer = (HasCycle graph × (answer ≡ line_text (codes "cycle") []))
+    ⊎ ((HasCycle graph → ⊥) × AnswersRequest graph request answer)
 
--- the output for a text answers each of its requests by all of its nodes, or the text has this fault
+-- the output for a text answers each of its requests by all of its nodes, or the text has this
+-- fault
 abbrev pub GivesGraph : List ℕ → Result (List ℕ) Fault → Type 0
-GivesGraph text (Ok output) = (state : GraphState) × (graph_state text ≡ Ok state) × AnswersEach (IsGraphAnswer (graph_of state.listed)) state.requests output
+GivesGraph text (Ok output) = (state : GraphState) × (graph_state text ≡ Ok state)
+    × AnswersEach (IsGraphAnswer (graph_of state.listed)) state.requests output
 GivesGraph text (Err fault) = graph_state text ≡ Err fault

@@ -1,4 +1,5 @@
--- The command `hash`: each line names bytes, by their hex text or as the content of texts, and is answered by their digest.
+-- The command `hash`: each line names bytes, by their hex text or as the content of texts, and is
+-- answered by their digest.
 use Rattle.std.specs.Prelude.{◌≡◌, ◌==◌, ◌%◌, ℕ, ◌+◌, ◌*◌, List, [], ◌∷◌, ◌++◌, cond, codes, length, Option, None, Some, Result, Ok, Err}
 use Rattle.std.specs.Str.{bytes_eq}
 use Rattle.jj_content.specs.Blake2b.{blake2b}
@@ -29,12 +30,14 @@ or_bad_hex (Some bytes) = Ok bytes
 or_bad_hex None = Err BadHex
 
 -- what one field names, where there is one alone
-abbrev pub of_one_field : (List ℕ → Result (List ℕ) LineFault) → List (List ℕ) → Result (List ℕ) LineFault
+abbrev pub of_one_field : (List ℕ → Result (List ℕ) LineFault) → List (List ℕ)
+    → Result (List ℕ) LineFault
 of_one_field named [] = Err BadFieldCount
 of_one_field named (field ∷ []) = named field
 of_one_field named (field ∷ other ∷ fields) = Err BadFieldCount
 
--- the bytes of one hex text, the content of one text, and that of a merge of texts, which are odd in number
+-- the bytes of one hex text, the content of one text, and that of a merge of texts, which are odd
+-- in number
 abbrev pub raw_bytes : List (List ℕ) → Result (List ℕ) LineFault
 raw_bytes fields = of_one_field (λ text. or_bad_hex (bytes_of_hex text)) fields
 

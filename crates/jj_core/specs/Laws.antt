@@ -6,4 +6,5 @@ use Rattle.jj_core.specs.Program.{Gives}
 
 -- two answers that a command gives for an input are the same
 abbrev pub GivesOneAnswer : Type 0
-GivesOneAnswer = (command : Command) (input : List ℕ) (first second : Result (List ℕ) Fault) → Gives command input first → Gives command input second → first ≡ second
+GivesOneAnswer = (command : Command) (input : List ℕ) (first second : Result (List ℕ) Fault)
+    → Gives command input first → Gives command input second → first ≡ second

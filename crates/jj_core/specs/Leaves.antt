@@ -47,4 +47,5 @@ leaf_names (Globs patterns) = names_of (pattern_dirs patterns)
 pub record StandsFor (matcher : LeafMatcher) (set : FileSet) : Type 0 where
   pub accepts : (path : Path) → leaf_accepts path matcher ≡ named_accepts path set
   pub answers : (dir : Path) → leaf_answer dir matcher ≡ named_answer dir set
-  pub names : (test : Name → Bool) → list_any test (leaf_names matcher) ≡ list_any test (named_names set)
+  pub names : (test : Name → Bool) → list_any test (leaf_names matcher)
+      ≡ list_any test (named_names set)

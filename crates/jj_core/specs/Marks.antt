@@ -3,12 +3,15 @@ use Rattle.std.specs.Prelude.{◌≡◌, ◌↔◌, ◌⊎◌, Bool, true, List,
 use Rattle.jj_paths.specs.Paths.{Path}
 use Rattle.jj_paths.specs.Tree.{Tree, get, value_at, is_ordered}
 
--- the tree in path order whose nodes are the root and each beginning of a mark, and where exactly the marks are marked
+-- the tree in path order whose nodes are the root and each beginning of a mark, and where exactly
+-- the marks are marked
 pub record IsMarkedTree (marks : List Path) (tree : Tree Bool) : Type 0 where
   pub ordered : is_ordered tree.1 ≡ true
   pub marked : (path : Path) → (value_at tree path ≡ Some true) ↔ Contains marks path
-  pub nodes : (path : Path) → IsSome (get tree path) ↔ ((path ≡ []) ⊎ ((rest : Path) × Contains marks (path ++ rest)))
+  pub nodes : (path : Path) → IsSome (get tree path)
+      ↔ ((path ≡ []) ⊎ ((rest : Path) × Contains marks (path ++ rest)))
 
 -- the tree of any marks before becomes that of those marks and these
 abbrev pub AddsMarks : List Path → Tree Bool → Tree Bool → Type 0
-AddsMarks marks old new = (before : List Path) → IsMarkedTree before old → IsMarkedTree (before ++ marks) new
+AddsMarks marks old new = (before : List Path) → IsMarkedTree before old
+    → IsMarkedTree (before ++ marks) new

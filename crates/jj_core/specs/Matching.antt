@@ -22,7 +22,8 @@ top_set (set ∷ stack) = set
 abbrev pub made_by : List (Part LeafMatcher) → SetTree LeafMatcher
 made_by parts = top_set (sets_of parts)
 
--- the paths that a set accepts, the directories that it may open, its answers and the names from which they choose
+-- the paths that a set accepts, the directories that it may open, its answers and the names from
+-- which they choose
 abbrev pub set_accepts : SetTree LeafMatcher → Path → Bool
 set_accepts set path = passes (leaf_accepts path) set
 
@@ -37,7 +38,8 @@ set_names set = names_by leaf_names set
 
 -- one pass over the parts tells whether the set passes a test
 abbrev pub IsTold : List (Part LeafMatcher) → Type 0
-IsTold parts = (test : LeafMatcher → Bool) → (pass_over test parts (pass_at 0 false)).is_in ≡ passes test (made_by parts)
+IsTold parts = (test : LeafMatcher → Bool)
+    → (pass_over test parts (pass_at 0 false)).is_in ≡ passes test (made_by parts)
 
 -- an answer for a directory is a set's, and promises what a matcher's has to
 pub record IsAnswerOf (dir : Path) (set : SetTree LeafMatcher) (answer : Answer) : Type 0 where
@@ -50,7 +52,8 @@ abbrev pub AnswerAll : Path → List (SetTree LeafMatcher) → List Visit → Ty
 AnswerAll dir [] [] = Unit {0}
 AnswerAll dir [] (visit ∷ visits) = ⊥
 AnswerAll dir (set ∷ sets) [] = ⊥
-AnswerAll dir (set ∷ sets) (visit ∷ visits) = IsAnswerOf dir set (answer_of visit) × AnswerAll dir sets visits
+AnswerAll dir (set ∷ sets) (visit ∷ visits) = IsAnswerOf dir set (answer_of visit)
+    × AnswerAll dir sets visits
 
 -- a part with a matcher in place of its set
 abbrev pub StandsForPart : Part LeafMatcher → Part FileSet → Type 0

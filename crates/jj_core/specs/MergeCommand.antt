@@ -27,9 +27,11 @@ question_named name =
     None))
 
 -- the requests with one more, where its terms are odd in number
-abbrev pub asked : List MergeRequest → Option Question → List (List ℕ) → Result (List MergeRequest) LineFault
+abbrev pub asked : List MergeRequest → Option Question → List (List ℕ)
+    → Result (List MergeRequest) LineFault
 asked requests None terms = Err UnknownCommand
-asked requests (Some question) terms = cond (length terms % 2 == 1) (Ok (requests ++ record { question = question; terms = terms } ∷ [])) (Err BadFieldCount)
+asked requests (Some question) terms = cond (length terms % 2 == 1)
+    (Ok (requests ++ record { question = question; terms = terms } ∷ [])) (Err BadFieldCount)
 
 -- what a line's fields make of the requests so far, or what is wrong with them
 abbrev pub merge_step : List MergeRequest → List (List ℕ) → Result (List MergeRequest) LineFault
@@ -42,7 +44,8 @@ merge_requests text = after_lines merge_step 1 [] (lines_of text)
 
 -- the one term that decides the merge, if there is one
 abbrev pub IsOutcome : SameChange → List (List ℕ) → Option (List ℕ) → Type 0
-IsOutcome same_change terms (Some term) = Contains terms term × IsDecided bytes_eq same_change terms term
+IsOutcome same_change terms (Some term) = Contains terms term
+    × IsDecided bytes_eq same_change terms term
 IsOutcome same_change terms None = (term : List ℕ) → IsDecided bytes_eq same_change terms term → ⊥
 
 -- the line of an outcome
@@ -52,13 +55,16 @@ outcome_line None = line_text (codes "conflict") []
 
 -- the answer to a question on these terms
 abbrev pub AnswersQuestion : Question → List (List ℕ) → List ℕ → Type 0
-AnswersQuestion Simplify terms answer = answer ≡ line_text (codes "terms") (at_places terms (kept_places bytes_eq terms))
-AnswersQuestion (Resolve same_change) terms answer = (outcome : Option (List ℕ)) × IsOutcome same_change terms outcome × (answer ≡ outcome_line outcome)
+AnswersQuestion Simplify terms answer = answer
+    ≡ line_text (codes "terms") (at_places terms (kept_places bytes_eq terms))
+AnswersQuestion (Resolve same_change) terms answer = (outcome : Option (List ℕ))
+    × IsOutcome same_change terms outcome × (answer ≡ outcome_line outcome)
 
 abbrev pub IsMergeAnswer : MergeRequest → List ℕ → Type 0
 IsMergeAnswer request answer = AnswersQuestion request.question request.terms answer
 
 -- the output for a text answers each of its requests, or the text has this fault
 abbrev pub GivesMerge : List ℕ → Result (List ℕ) Fault → Type 0
-GivesMerge text (Ok output) = (requests : List MergeRequest) × (merge_requests text ≡ Ok requests) × AnswersEach IsMergeAnswer requests output
+GivesMerge text (Ok output) = (requests : List MergeRequest) × (merge_requests text ≡ Ok requests)
+    × AnswersEach IsMergeAnswer requests output
 GivesMerge text (Err fault) = merge_requests text ≡ Err fault

@@ -6,7 +6,10 @@ use Rattle.jj_core.specs.MergeCommand.{MergeRequest}
 
 -- the request that a value stands for
 abbrev pub merge_request_of : MergeRequestValue → MergeRequest
-merge_request_of request = record { question = request.question; terms = map (λ term. term.now) request.terms }
+merge_request_of request = record {
+  question = request.question;
+  terms = map (λ term. term.now) request.terms;
+}
 
 -- the requests that have been read
 abbrev pub merge_requests_of : MergeReading → List MergeRequest

@@ -37,7 +37,8 @@ GivesText Hash text = GivesHash text
 
 -- what a command gives for an input: that of its text, if it is UTF-8
 abbrev pub Gives : Command → List ℕ → Result (List ℕ) Fault → Type 0
-Gives command input answer = MatchBool (is_utf8 input) (GivesText command input answer) (answer ≡ Err NotUtf8)
+Gives command input answer = MatchBool (is_utf8 input) (GivesText command input answer)
+    (answer ≡ Err NotUtf8)
 
 -- a read failed
 abbrev pub is_read_failure : Fault → Bool

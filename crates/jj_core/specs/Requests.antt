@@ -4,4 +4,5 @@ use Rattle.std.specs.Prelude.{◌≡◌, ℕ, List, [], ◌∷◌, ◌++◌}
 -- the output is an answer to each request, in order
 abbrev pub AnswersEach : {Q : Type 0} → (Q → List ℕ → Type 0) → List Q → List ℕ → Type 0
 AnswersEach IsAnswer [] output = output ≡ []
-AnswersEach IsAnswer (request ∷ requests) output = (answer rest : List ℕ) × IsAnswer request answer × AnswersEach IsAnswer requests rest × (output ≡ answer ++ rest)
+AnswersEach IsAnswer (request ∷ requests) output = (answer rest : List ℕ) × IsAnswer request answer
+    × AnswersEach IsAnswer requests rest × (output ≡ answer ++ rest)

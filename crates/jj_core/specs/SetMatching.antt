@@ -5,7 +5,8 @@ use Rattle.jj_matchers.specs.Answers.{Answer}
 use Rattle.jj_core.specs.declared.matching.SetMatcher.{SetMatcher}
 use Rattle.jj_core.specs.Matching.{made_by, set_accepts, set_opens, set_answer, set_names}
 
--- the paths that it accepts, the directories that it may open, its answers and the names from which they choose
+-- the paths that it accepts, the directories that it may open, its answers and the names from which
+-- they choose
 abbrev pub accepts_of : SetMatcher → Path → Bool
 accepts_of matcher path = set_accepts (made_by matcher.parts.items) path
 

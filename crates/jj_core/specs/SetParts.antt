@@ -1,4 +1,5 @@
--- A set as parts, over which one pass tells whether it passes a test. The parts stand backwards: the pass begins with the last.
+-- A set as parts, over which one pass tells whether it passes a test. The parts stand backwards:
+-- the pass begins with the last.
 use Rattle.std.specs.Prelude.{ℕ, zero, suc, Bool, not, List, [], ◌∷◌, ◌++◌, if◌then◌else◌}
 use Rattle.jj_core.specs.declared.file_set.Combination.{Combination}
 use Rattle.jj_core.specs.declared.file_set.Combination.TheVariants.{Union, Difference, Intersection}
@@ -12,14 +13,18 @@ use Rattle.jj_core.specs.SetTrees.{SetTree, one, both, joined}
 -- the parts of a set
 abbrev pub parts_of : {A : Type 0} → SetTree A → List (Part A)
 parts_of (one set) = Leaf set ∷ []
-parts_of (both combination first second) = Combined combination ∷ (parts_of second ++ Second combination ∷ parts_of first)
+parts_of (both combination first second) = Combined combination ∷ (parts_of second
+    ++ Second combination ∷ parts_of first)
 
--- the parts that steps make, the last step first, where these combinations still want their second set
+-- the parts that steps make, the last step first, where these combinations still want their second
+-- set
 abbrev pub parts_along : {A : Type 0} → List Combination → List (SetStep A) → List (Part A)
 parts_along wanting [] = []
-parts_along wanting (Combine combination ∷ earlier) = Combined combination ∷ parts_along (combination ∷ wanting) earlier
+parts_along wanting (Combine combination ∷ earlier) =
+    Combined combination ∷ parts_along (combination ∷ wanting) earlier
 parts_along [] (Push set ∷ earlier) = Leaf set ∷ parts_along [] earlier
-parts_along (combination ∷ wanting) (Push set ∷ earlier) = Leaf set ∷ Second combination ∷ parts_along wanting earlier
+parts_along (combination ∷ wanting) (Push set ∷ earlier) =
+    Leaf set ∷ Second combination ∷ parts_along wanting earlier
 
 -- the stack of the sets that parts make
 abbrev pub sets_of : {A : Type 0} → List (Part A) → List (SetTree A)
@@ -28,7 +33,8 @@ sets_of (Leaf set ∷ earlier) = one set ∷ sets_of earlier
 sets_of (Second combination ∷ earlier) = sets_of earlier
 sets_of (Combined combination ∷ earlier) = joined combination (sets_of earlier)
 
--- whether the answer for the first set is that for the combination, and else the answer that the second set makes
+-- whether the answer for the first set is that for the combination, and else the answer that the
+-- second set makes
 abbrev pub is_decided_by : Combination → Bool → Bool
 is_decided_by Union first = first
 is_decided_by Difference first = not first
@@ -39,7 +45,8 @@ with_second Union second = second
 with_second Difference second = not second
 with_second Intersection second = second
 
--- a pass: of how many combinations the second set is not asked, and the answer for the set that was passed last
+-- a pass: of how many combinations the second set is not asked, and the answer for the set that was
+-- passed last
 abbrev pub pass_at : ℕ → Bool → Pass
 pass_at decided is_in = record { decided = decided; is_in = is_in }
 
@@ -49,7 +56,8 @@ behind_leaf answer zero is_in = pass_at zero answer
 behind_leaf answer (suc decided) is_in = pass_at (suc decided) is_in
 
 abbrev pub at_second_set : Combination → ℕ → Bool → Pass
-at_second_set combination zero is_in = if is_decided_by combination is_in then pass_at 1 is_in else pass_at zero is_in
+at_second_set combination zero is_in =
+    if is_decided_by combination is_in then pass_at 1 is_in else pass_at zero is_in
 at_second_set combination (suc decided) is_in = pass_at (suc (suc decided)) is_in
 
 abbrev pub behind_both : Combination → ℕ → Bool → Pass

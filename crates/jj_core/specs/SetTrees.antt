@@ -1,4 +1,5 @@
--- Sets that are combined of sets: the steps that build them on a stack, and what holds of them by their leaves.
+-- Sets that are combined of sets: the steps that build them on a stack, and what holds of them by
+-- their leaves.
 use Rattle.std.specs.Prelude.{Bool, not, ◌&&◌, ◌||◌, List, [], ◌∷◌, ◌++◌}
 use Rattle.jj_paths.specs.Paths.{Name}
 use Rattle.jj_matchers.specs.Answers.{Answer}
@@ -47,7 +48,8 @@ combined_test Intersection first second = first && second
 -- whether a set passes a test, by which of its leaves pass it
 abbrev pub passes : {A : Type 0} → (A → Bool) → SetTree A → Bool
 passes test (one set) = test set
-passes test (both combination first second) = combined_test combination (passes test first) (passes test second)
+passes test (both combination first second) =
+    combined_test combination (passes test first) (passes test second)
 
 -- the same, where nothing of the second set of a difference counts
 abbrev pub open_test : Combination → Bool → Bool → Bool
@@ -57,7 +59,8 @@ open_test Intersection first second = first && second
 
 abbrev pub is_open : {A : Type 0} → (A → Bool) → SetTree A → Bool
 is_open test (one set) = test set
-is_open test (both combination first second) = open_test combination (is_open test first) (is_open test second)
+is_open test (both combination first second) =
+    open_test combination (is_open test first) (is_open test second)
 
 -- the names from which the answers of a set choose, by those of its leaves
 abbrev pub joined_names : Combination → List Name → List Name → List Name
@@ -67,7 +70,8 @@ joined_names Intersection first second = first ++ second
 
 abbrev pub names_by : {A : Type 0} → (A → List Name) → SetTree A → List Name
 names_by names (one set) = names set
-names_by names (both combination first second) = joined_names combination (names_by names first) (names_by names second)
+names_by names (both combination first second) =
+    joined_names combination (names_by names first) (names_by names second)
 
 -- the answer of a set, by those of its leaves
 abbrev pub joined_answer : Combination → List Name → Answer → Answer → Answer
@@ -78,4 +82,5 @@ joined_answer Intersection names first second = intersection_answer names first 
 abbrev pub answer_by : {A : Type 0} → (A → List Name) → (A → Answer) → SetTree A → Answer
 answer_by names answer (one set) = answer set
 answer_by names answer (both combination first second) =
-    joined_answer combination (names_by names first ++ names_by names second) (answer_by names answer first) (answer_by names answer second)
+    joined_answer combination (names_by names first ++ names_by names second)
+    (answer_by names answer first) (answer_by names answer second)

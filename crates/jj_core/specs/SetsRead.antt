@@ -17,7 +17,8 @@ set_of Everything' = Everything
 set_of Nothing' = Nothing
 set_of (Files' paths) = Files (map path_of paths.items)
 set_of (Prefix' paths) = Prefix (map path_of paths.items)
-set_of (Globs' prefix_paths dirs globs) = Globs (record { prefix_paths = prefix_paths; patterns = zip (map path_of dirs.items) globs.items })
+set_of (Globs' prefix_paths dirs globs) = Globs
+    (record { prefix_paths = prefix_paths; patterns = zip (map path_of dirs.items) globs.items })
 
 abbrev pub step_of : SetStep FileSetValue → SetStep FileSet
 step_of (Push set) = Push (set_of set)

@@ -1,4 +1,5 @@
--- The command `walk`: lines that mark paths, and lines that put file sets on a stack, of which one has to be left.
+-- The command `walk`: lines that mark paths, and lines that put file sets on a stack, of which one
+-- has to be left.
 use Rattle.std.specs.Prelude.{ℕ, Bool, true, false, List, [], ◌∷◌, ◌++◌, cond, codes, length, map, is_ok, Result, Ok, Err}
 use Rattle.std.specs.Str.{bytes_eq}
 use Rattle.std.specs.List.{list_all, zip}
@@ -51,7 +52,8 @@ abbrev pub paths_of : List (List ℕ) → Result (List Path) LineFault
 paths_of texts = cond (list_all is_path_text texts) (Ok (map components texts)) (Err BadPath)
 
 -- the state with a set of the paths of these texts on the stack
-abbrev pub pushed_paths : WalkState → (List Path → FileSet) → Result (List Path) LineFault → Result WalkState LineFault
+abbrev pub pushed_paths : WalkState → (List Path → FileSet) → Result (List Path) LineFault
+    → Result WalkState LineFault
 pushed_paths state set (Ok paths) = Ok (pushed state (set paths))
 pushed_paths state set (Err kind) = Err kind
 
@@ -75,28 +77,36 @@ abbrev pub globs_of : List (List ℕ) → Result (List GlobSpec) LineFault
 globs_of texts = cond (list_all is_glob_text texts) (Ok (map glob_of texts)) (Err BadGlob)
 
 -- the state with a set of globs in directories on the stack; a bad path comes before a bad glob
-abbrev pub pushed_globs : WalkState → Bool → Result (List Path) LineFault → Result (List GlobSpec) LineFault → Result WalkState LineFault
-pushed_globs state prefix_paths (Ok dirs) (Ok globs) = Ok (pushed state (Globs (record { prefix_paths = prefix_paths; patterns = zip dirs globs })))
+abbrev pub pushed_globs : WalkState → Bool → Result (List Path) LineFault
+    → Result (List GlobSpec) LineFault → Result WalkState LineFault
+pushed_globs state prefix_paths (Ok dirs) (Ok globs) =
+    Ok (pushed state (Globs (record { prefix_paths = prefix_paths; patterns = zip dirs globs })))
 pushed_globs state prefix_paths (Ok dirs) (Err kind) = Err kind
 pushed_globs state prefix_paths (Err kind) globs = Err kind
 
 -- the directories and the globs of fields that are one and the other in turn
 abbrev pub paired_fields : List (List ℕ) → Result (List (List ℕ) × List (List ℕ)) LineFault
-paired_fields fields = cond (is_paired fields) (Ok (firsts fields, seconds fields)) (Err BadFieldCount)
+paired_fields fields = cond (is_paired fields) (Ok (firsts fields, seconds fields))
+    (Err BadFieldCount)
 
 -- the state with the set of such fields on the stack
-abbrev pub pushed_pairs : WalkState → Bool → Result (List (List ℕ) × List (List ℕ)) LineFault → Result WalkState LineFault
-pushed_pairs state prefix_paths (Ok pairs) = pushed_globs state prefix_paths (paths_of pairs.0) (globs_of pairs.1)
+abbrev pub pushed_pairs : WalkState → Bool → Result (List (List ℕ) × List (List ℕ)) LineFault
+    → Result WalkState LineFault
+pushed_pairs state prefix_paths (Ok pairs) =
+    pushed_globs state prefix_paths (paths_of pairs.0) (globs_of pairs.1)
 pushed_pairs state prefix_paths (Err kind) = Err kind
 
 abbrev pub globs_step : WalkState → Bool → List (List ℕ) → Result WalkState LineFault
 globs_step state prefix_paths fields = pushed_pairs state prefix_paths (paired_fields fields)
 
--- the state with the two sets on top of the stack combined, of which the one that was pushed first is the first
-abbrev pub with_combined : List Path → Combination → List (SetTree FileSet) → Result WalkState LineFault
+-- the state with the two sets on top of the stack combined, of which the one that was pushed first
+-- is the first
+abbrev pub with_combined : List Path → Combination → List (SetTree FileSet)
+    → Result WalkState LineFault
 with_combined marks combination [] = Err EmptyStack
 with_combined marks combination (alone ∷ []) = Err EmptyStack
-with_combined marks combination (second ∷ first ∷ stack) = Ok (record { marks = marks; stack = both combination first second ∷ stack })
+with_combined marks combination (second ∷ first ∷ stack) =
+    Ok (record { marks = marks; stack = both combination first second ∷ stack })
 
 -- the same, where no field is left
 abbrev pub combined_step : WalkState → Combination → List (List ℕ) → Result WalkState LineFault

@@ -51,9 +51,13 @@ path_lines name paths = flat_map (λ path. line_text name (path_text path ∷ []
 
 -- the lines of what is found in a tree of marks
 abbrev pub walk_lines : SetTree FileSet → Tree Bool → List ℕ
-walk_lines set tree = path_lines (codes "file") (files_of (accepted_by set) tree) ++ path_lines (codes "enter") (entered_by (answered_by set) tree)
+walk_lines set tree = path_lines (codes "file") (files_of (accepted_by set) tree)
+    ++ path_lines (codes "enter") (entered_by (answered_by set) tree)
 
--- the output for a text is the lines of what is found in the tree of its marks, or the text has this fault
+-- the output for a text is the lines of what is found in the tree of its marks, or the text has
+-- this fault
 abbrev pub GivesWalk : List ℕ → Result (List ℕ) Fault → Type 0
-GivesWalk text (Ok output) = (request : WalkRequest) × (walk_request text ≡ Ok request) × ((tree : Tree Bool) × IsMarkedTree request.marks tree × (output ≡ walk_lines request.set tree))
+GivesWalk text (Ok output) = (request : WalkRequest) × (walk_request text ≡ Ok request)
+    × ((tree : Tree Bool) × IsMarkedTree request.marks tree
+    × (output ≡ walk_lines request.set tree))
 GivesWalk text (Err fault) = walk_request text ≡ Err fault

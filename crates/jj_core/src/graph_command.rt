@@ -1,4 +1,5 @@
-//! The command `graph`: lines list the neighbours of nodes, or ask for the order, the heads or the closest common nodes of some.
+//! The command `graph`: lines list the neighbours of nodes, or ask for the order, the heads or the
+//! closest common nodes of some.
 ghost use Rattle.std.specs.Prelude.{◌≡◌, ◌==◌, ◌<◌, ◌++◌, ℕ, List, length, map, true, false, Ok, MatchOption, MatchResult, IfOk, IfErr, OnOk, string_bytes};
 ghost use Rattle.std.specs.List.{after_first, before_first, count_by, position_or_len};
 ghost use Rattle.std.specs.Str.Parse.{digits_value};
@@ -48,7 +49,8 @@ fn number_field(number: usize, text: &str) -> Result<u64, Fault>
 fn numbers(alloc: Global, number: usize, fields: &[&str]) -> Result<Vec<u64>, Fault>
     ensures { MatchResult result
         (λ ids. at_line number (numbers_of (map (λ field. field.now) fields.now)) ≡ Ok ids.items)
-        (λ fault. IsFaultOf fault (at_line number (numbers_of (map (λ field. field.now) fields.now)))) }
+        (λ fault. IsFaultOf fault (at_line number
+        (numbers_of (map (λ field. field.now) fields.now)))) }
 {
     let mut ids = Vec::new(alloc);
     for field in fields {
@@ -82,7 +84,8 @@ fn dash_count(fields: &[&str]) -> usize
 /// The place of the first field `-`, or the number of fields.
 fn dash_place(fields: &[&str]) -> usize
     ensures place { result ≡ position_or_len is_dash (map (λ field. field.now) fields.now) }
-    ensures within { count_by is_dash (map (λ field. field.now) fields.now) ≡ 1 → result < length fields.now }
+    ensures within { count_by is_dash (map (λ field. field.now) fields.now) ≡ 1
+        → result < length fields.now }
 {
     let mut place = 0;
     for field in fields {
@@ -96,10 +99,13 @@ fn dash_place(fields: &[&str]) -> usize
 
 /// The fields before the field `-`, and those after it, where there is one.
 fn split_sets<'a, 't>(fields: &'a [&'t str]) -> Option<(&'a [&'t str], &'a [&'t str])>
-    ensures { MatchOption result ((count_by is_dash (map (λ field. field.now) fields.now) == 1) ≡ false)
+    ensures { MatchOption result ((count_by is_dash (map (λ field. field.now) fields.now) == 1)
+        ≡ false)
         (λ sets. ((count_by is_dash (map (λ field. field.now) fields.now) == 1) ≡ true)
-        × (map (λ field. field.now) sets.0.now ≡ before_first is_dash (map (λ field. field.now) fields.now))
-        × (map (λ field. field.now) sets.1.now ≡ after_first is_dash (map (λ field. field.now) fields.now))) }
+        × (map (λ field. field.now) sets.0.now
+        ≡ before_first is_dash (map (λ field. field.now) fields.now))
+        × (map (λ field. field.now) sets.1.now
+        ≡ after_first is_dash (map (λ field. field.now) fields.now))) }
 {
     if dash_count(fields) != 1 {
         return None;
@@ -112,8 +118,10 @@ impl GraphReading {
     /// Lists the neighbours of the node of the first field.
     fn list(&mut self, alloc: Global, number: usize, fields: &[&str]) -> Result<(), Fault>
         ensures { MatchResult result
-            (λ _. at_line number (node_step (graph_state_of self.old) (map (λ field. field.now) fields.now)) ≡ Ok (graph_state_of self.new))
-            (λ fault. IsFaultOf fault (at_line number (node_step (graph_state_of self.old) (map (λ field. field.now) fields.now)))) }
+            (λ _. at_line number (node_step (graph_state_of self.old)
+            (map (λ field. field.now) fields.now)) ≡ Ok (graph_state_of self.new))
+            (λ fault. IsFaultOf fault (at_line number
+            (node_step (graph_state_of self.old) (map (λ field. field.now) fields.now)))) }
     {
         let [id, neighbors @ ..] = fields else {
             return Err(Fault::Line {
@@ -142,8 +150,11 @@ impl GraphReading {
     /// Takes a request for the order of the ids of the fields.
     fn ask_order(&mut self, alloc: Global, number: usize, fields: &[&str]) -> Result<(), Fault>
         ensures { MatchResult result
-            (λ _. at_line number (with_request (graph_state_of self.old) Order (numbers_of (map (λ field. field.now) fields.now))) ≡ Ok (graph_state_of self.new))
-            (λ fault. IsFaultOf fault (at_line number (with_request (graph_state_of self.old) Order (numbers_of (map (λ field. field.now) fields.now))))) }
+            (λ _. at_line number (with_request (graph_state_of self.old) Order
+            (numbers_of (map (λ field. field.now) fields.now))) ≡ Ok (graph_state_of self.new))
+            (λ fault. IsFaultOf fault (at_line number
+            (with_request (graph_state_of self.old) Order
+            (numbers_of (map (λ field. field.now) fields.now))))) }
     {
         match numbers(alloc, number, fields) {
             Ok(ids) => Ok(self.requests.push(GraphRequest::Order(ids))?),
@@ -154,8 +165,11 @@ impl GraphReading {
     /// Takes a request for the heads of the ids of the fields.
     fn ask_heads(&mut self, alloc: Global, number: usize, fields: &[&str]) -> Result<(), Fault>
         ensures { MatchResult result
-            (λ _. at_line number (with_request (graph_state_of self.old) Heads (numbers_of (map (λ field. field.now) fields.now))) ≡ Ok (graph_state_of self.new))
-            (λ fault. IsFaultOf fault (at_line number (with_request (graph_state_of self.old) Heads (numbers_of (map (λ field. field.now) fields.now))))) }
+            (λ _. at_line number (with_request (graph_state_of self.old) Heads
+            (numbers_of (map (λ field. field.now) fields.now))) ≡ Ok (graph_state_of self.new))
+            (λ fault. IsFaultOf fault (at_line number
+            (with_request (graph_state_of self.old) Heads
+            (numbers_of (map (λ field. field.now) fields.now))))) }
     {
         match numbers(alloc, number, fields) {
             Ok(ids) => Ok(self.requests.push(GraphRequest::Heads(ids))?),
@@ -165,11 +179,14 @@ impl GraphReading {
 }
 
 impl GraphReading {
-    /// Takes a request for the closest common nodes of the ids before the field `-` and those after it.
+    /// Takes a request for the closest common nodes of the ids before the field `-` and those after
+    /// it.
     fn ask_common(&mut self, alloc: Global, number: usize, fields: &[&str]) -> Result<(), Fault>
         ensures { MatchResult result
-            (λ _. at_line number (common_step (graph_state_of self.old) (map (λ field. field.now) fields.now)) ≡ Ok (graph_state_of self.new))
-            (λ fault. IsFaultOf fault (at_line number (common_step (graph_state_of self.old) (map (λ field. field.now) fields.now)))) }
+            (λ _. at_line number (common_step (graph_state_of self.old)
+            (map (λ field. field.now) fields.now)) ≡ Ok (graph_state_of self.new))
+            (λ fault. IsFaultOf fault (at_line number
+            (common_step (graph_state_of self.old) (map (λ field. field.now) fields.now)))) }
     {
         let Some((first, second)) = split_sets(fields) else {
             return Err(Fault::Line {
@@ -251,7 +268,9 @@ fn push_answer(
     request: &GraphRequest,
 ) -> Result<(), AllocError>
     requires { ¬ (HasCycle (graph_of (listed_in neighbors.now))) }
-    ensures { OnOk result ((answer : List ℕ) × AnswersRequest (graph_of (listed_in neighbors.now)) (graph_request_of request.now) answer × (string_bytes output.new ≡ string_bytes output.old ++ answer)) }
+    ensures { OnOk result ((answer : List ℕ)
+        × AnswersRequest (graph_of (listed_in neighbors.now)) (graph_request_of request.now) answer
+        × (string_bytes output.new ≡ string_bytes output.old ++ answer)) }
 {
     match request {
         GraphRequest::Order(ids) => {
@@ -271,7 +290,8 @@ fn push_answer(
 
 /// Adds a line to the output: its first field, and each number after a TAB.
 fn push_numbers(output: &mut String, name: &str, numbers: &[u64]) -> Result<(), AllocError>
-    ensures { OnOk result (string_bytes output.new ≡ string_bytes output.old ++ numbers_line name.now numbers.now) }
+    ensures { OnOk result (string_bytes output.new ≡ string_bytes output.old
+        ++ numbers_line name.now numbers.now) }
 {
     output.push_str(name)?;
     for number in numbers {

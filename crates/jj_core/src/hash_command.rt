@@ -54,7 +54,8 @@ pub(crate) fn hash_lines(alloc: Global, text: &str) -> Result<Vec<u8>, Fault>
 
 /// The digest of the bytes that a line's fields name.
 fn line_digest(alloc: Global, fields: &[&str]) -> Result<LineDigest, AllocError>
-    ensures { IfOk result (λ answer. IsDigestOf (named_bytes (map (λ field. field.now) fields.now)) answer) }
+    ensures { IfOk result (λ answer. IsDigestOf
+        (named_bytes (map (λ field. field.now) fields.now)) answer) }
 {
     let [name, fields @ ..] = fields else {
         return Ok(Err(LineFault::UnknownCommand));
@@ -70,7 +71,8 @@ fn line_digest(alloc: Global, fields: &[&str]) -> Result<LineDigest, AllocError>
 
 /// The digest of the bytes of one field's hex text.
 fn raw_digest(alloc: Global, fields: &[&str]) -> Result<LineDigest, AllocError>
-    ensures { IfOk result (λ answer. IsDigestOf (raw_bytes (map (λ field. field.now) fields.now)) answer) }
+    ensures { IfOk result (λ answer. IsDigestOf
+        (raw_bytes (map (λ field. field.now) fields.now)) answer) }
 {
     let [text] = fields else {
         return Ok(Err(LineFault::BadFieldCount));
@@ -85,7 +87,8 @@ fn raw_digest(alloc: Global, fields: &[&str]) -> Result<LineDigest, AllocError>
 
 /// The digest of the content of one field.
 fn text_digest(alloc: Global, fields: &[&str]) -> Result<LineDigest, AllocError>
-    ensures { IfOk result (λ answer. IsDigestOf (content_of_one (map (λ field. field.now) fields.now)) answer) }
+    ensures { IfOk result (λ answer. IsDigestOf
+        (content_of_one (map (λ field. field.now) fields.now)) answer) }
 {
     let [text] = fields else {
         return Ok(Err(LineFault::BadFieldCount));
@@ -95,7 +98,8 @@ fn text_digest(alloc: Global, fields: &[&str]) -> Result<LineDigest, AllocError>
 
 /// The digest of the content of the merge of the fields.
 fn merge_digest(alloc: Global, fields: &[&str]) -> Result<LineDigest, AllocError>
-    ensures { IfOk result (λ answer. IsDigestOf (content_of_merge (map (λ field. field.now) fields.now)) answer) }
+    ensures { IfOk result (λ answer. IsDigestOf
+        (content_of_merge (map (λ field. field.now) fields.now)) answer) }
 {
     if fields.len() % 2 != 1 {
         return Ok(Err(LineFault::BadFieldCount));

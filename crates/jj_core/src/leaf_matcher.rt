@@ -83,7 +83,8 @@ fn globs_matcher(
     dirs: &[RepoPath<'_>],
     globs: &[PathGlobPattern],
 ) -> Result<GlobsMatcher, AllocError>
-    ensures { IfOk result (λ matcher. HasSamePatterns matcher (record { prefix_paths = prefix_paths; patterns = zip (map path_of dirs.now) globs.now })) }
+    ensures { IfOk result (λ matcher. HasSamePatterns matcher
+        (record { prefix_paths = prefix_paths; patterns = zip (map path_of dirs.now) globs.now })) }
 {
     let mut builder = GlobsMatcher::builder(alloc).prefix_paths(prefix_paths);
     for (dir, glob) in dirs.iter().zip(globs) {

@@ -1,4 +1,5 @@
-//! The core of a version-control system: the modules of the crates below, and the engine of the program.
+//! The core of a version-control system: the modules of the crates below, and the engine of the
+//! program.
 #![tactic(auto)]
 
 mod fault;

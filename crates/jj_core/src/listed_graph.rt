@@ -30,14 +30,16 @@ fn sound_neighbors_of(
     listed: &HashMap<u64, Vec<u64>>,
     id: u64,
 ) -> Result<Copied<slice::Iter<'_, u64>>, u64>
-    ensures { IsOkAnd result (λ list. iter_rest (copied_source list) ≡ graph_of (listed_in listed.now) id) }
+    ensures { IsOkAnd result (λ list. iter_rest (copied_source list)
+        ≡ graph_of (listed_in listed.now) id) }
 {
     Ok(neighbors_of(listed, id).iter().copied())
 }
 
 /// Whether the graph has a cycle anywhere.
 pub(crate) fn has_cycle(alloc: Global, listed: &HashMap<u64, Vec<u64>>) -> Result<bool, AllocError>
-    ensures { IfOk result (λ cyclic. MatchBool cyclic (HasCycle (graph_of (listed_in listed.now))) (¬ (HasCycle (graph_of (listed_in listed.now))))) }
+    ensures { IfOk result (λ cyclic. MatchBool cyclic (HasCycle (graph_of (listed_in listed.now)))
+        (¬ (HasCycle (graph_of (listed_in listed.now))))) }
 {
     let order = topo_order_forward(
         alloc,
@@ -62,7 +64,8 @@ pub(crate) fn greatest_order(
     ids: &[u64],
 ) -> Result<Vec<u64>, AllocError>
     requires { ¬ (HasCycle (graph_of (listed_in listed.now))) }
-    ensures { IfOk result (λ order. IsGreatestChildFirst (graph_of (listed_in listed.now)) ids.now order.items) }
+    ensures { IfOk result (λ order. IsGreatestChildFirst
+        (graph_of (listed_in listed.now)) ids.now order.items) }
 {
     let order = topo_order_reverse_ord(
         alloc,
@@ -88,7 +91,8 @@ pub(crate) fn ascending_heads(
     ids: &[u64],
 ) -> Result<Vec<u64>, AllocError>
     requires { ¬ (HasCycle (graph_of (listed_in listed.now))) }
-    ensures maximal { IfOk result (λ heads. IsMaximalIn (graph_of (listed_in listed.now)) ids.now heads.items) }
+    ensures maximal { IfOk result (λ heads.
+        IsMaximalIn (graph_of (listed_in listed.now)) ids.now heads.items) }
     ensures ascending { IfOk result (λ heads. IsStrictlyIncreasing heads.items) }
 {
     let found = heads(
@@ -110,7 +114,8 @@ pub(crate) fn ascending_common(
     set2: &[u64],
 ) -> Result<Vec<u64>, AllocError>
     requires { ¬ (HasCycle (graph_of (listed_in listed.now))) }
-    ensures closest { IfOk result (λ common. AreClosestCommon (graph_of (listed_in listed.now)) set1.now set2.now common.items) }
+    ensures closest { IfOk result (λ common.
+        AreClosestCommon (graph_of (listed_in listed.now)) set1.now set2.now common.items) }
     ensures ascending { IfOk result (λ common. IsStrictlyIncreasing common.items) }
 {
     let found = closest_common_nodes(

@@ -18,15 +18,17 @@ struct KeyedMark<'t> {
 /// Lists of at most this many marks are sorted by comparing whole texts.
 const FEW: usize = 32;
 
-/// How many parts of eight bytes are compared as numbers; marks that agree in all of them are compared as texts.
+/// How many parts of eight bytes are compared as numbers; marks that agree in all of them are
+/// compared as texts.
 const PARTS: usize = 8;
 
 /// The bytes of a part.
 const PART_LEN: usize = 8;
 
-/// The tree of the marks, which may come in any order. They are sorted by their texts first, which brings the marks of a
-/// directory together and mostly puts a new name behind the last one. The order of paths differs from that only where a
-/// name goes on with a byte below the slash, and takes longer to compare.
+/// The tree of the marks, which may come in any order. They are sorted by their texts first, which
+/// brings the marks of a directory together and mostly puts a new name behind the last one. The
+/// order of paths differs from that only where a name goes on with a byte below the slash, and
+/// takes longer to compare.
 pub(crate) fn marked_tree(
     alloc: Global,
     marks: Vec<RepoPath<'_>>,
@@ -53,8 +55,9 @@ fn keyed<'t>(alloc: Global, marks: &[RepoPath<'t>]) -> Result<Vec<KeyedMark<'t>>
     Ok(keyed)
 }
 
-/// Adds marks whose texts agree in the parts before this one. They are sorted by this part as a number, which is read
-/// from the text once, and those that agree in it too are added next: so their texts are at hand.
+/// Adds marks whose texts agree in the parts before this one. They are sorted by this part as a
+/// number, which is read from the text once, and those that agree in it too are added next: so
+/// their texts are at hand.
 fn add_marks(
     tree: &mut RepoPathTree<bool>,
     marks: &mut [KeyedMark<'_>],

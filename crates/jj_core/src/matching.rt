@@ -55,7 +55,8 @@ impl Matcher for SetMatcher {
 
 /// Whether the file is in the set that these parts make.
 fn parts_match(parts: &[Part<LeafMatcher>], file: RepoPath<'_>) -> bool
-    ensures { result ≡ (pass_over (leaf_accepts (path_of file.entry)) parts.now (pass_at 0 false)).is_in }
+    ensures { result ≡ (pass_over (leaf_accepts (path_of file.entry)) parts.now
+        (pass_at 0 false)).is_in }
 {
     let mut pass = Pass::new();
     let mut left = parts.len();
@@ -72,7 +73,8 @@ fn visit_parts(
     parts: &[Part<LeafMatcher>],
     dir: RepoPath<'_>,
 ) -> Result<Visit, AllocError>
-    ensures { IfOk result (λ visit. IsAnswerOf (path_of dir.entry) (made_by parts.now) (answer_of visit)) }
+    ensures { IfOk result (λ visit. IsAnswerOf (path_of dir.entry) (made_by parts.now)
+        (answer_of visit)) }
 {
     let mut visits = Vec::new(alloc);
     let mut left = parts.len();
@@ -111,7 +113,9 @@ fn visit_part(
     part: &Part<LeafMatcher>,
     dir: RepoPath<'_>,
 ) -> Result<(), AllocError>
-    ensures { IfOk result (λ done. (earlier : List (Part LeafMatcher)) → AnswerAll (path_of dir.entry) (sets_of earlier) (reverse visits.old.items) → AnswerAll (path_of dir.entry) (sets_of (part.now ∷ earlier)) (reverse visits.new.items)) }
+    ensures { IfOk result (λ done. (earlier : List (Part LeafMatcher))
+        → AnswerAll (path_of dir.entry) (sets_of earlier) (reverse visits.old.items)
+        → AnswerAll (path_of dir.entry) (sets_of (part.now ∷ earlier)) (reverse visits.new.items)) }
 {
     match part {
         Part::Leaf(matcher) => {
@@ -126,7 +130,9 @@ fn visit_part(
 
 /// Puts in place of the two answers on top what they combine to.
 fn combine_top(visits: &mut Vec<Visit>, combination: Combination) -> Result<(), AllocError>
-    ensures { IfOk result (λ done. (dir : Path) (stack : List (SetTree LeafMatcher)) → AnswerAll dir stack (reverse visits.old.items) → AnswerAll dir (joined combination stack) (reverse visits.new.items)) }
+    ensures { IfOk result (λ done. (dir : Path) (stack : List (SetTree LeafMatcher))
+        → AnswerAll dir stack (reverse visits.old.items)
+        → AnswerAll dir (joined combination stack) (reverse visits.new.items)) }
 {
     if let Some(second) = visits.pop() {
         if let Some(first) = visits.pop() {
@@ -142,7 +148,9 @@ fn combined_visit(
     first: Visit,
     second: Visit,
 ) -> Result<Visit, AllocError>
-    ensures { IfOk result (λ visit. (names : List Name) → ChoosesFrom names (answer_of first) → ChoosesFrom names (answer_of second) → answer_of visit ≡ joined_answer combination names (answer_of first) (answer_of second)) }
+    ensures { IfOk result (λ visit. (names : List Name) → ChoosesFrom names (answer_of first)
+        → ChoosesFrom names (answer_of second)
+        → answer_of visit ≡ joined_answer combination names (answer_of first) (answer_of second)) }
 {
     match combination {
         Combination::Union => union_visit(first, second),
@@ -158,8 +166,12 @@ impl SetMatcher {
     /// The matcher of the one set of a stack.
     fn new(alloc: Global, sets: SetStack<'_>) -> Result<SetMatcher, AllocError>
         requires { length (sets_in sets) ≡ 1 }
-        ensures accepts { IfOk result (λ matcher. (set : SetTree NamedSet) → sets_in sets.entry ≡ set ∷ [] → (path : Path) → accepts_of matcher path ≡ accepted_by set path) }
-        ensures answers { IfOk result (λ matcher. (set : SetTree NamedSet) → sets_in sets.entry ≡ set ∷ [] → (dir : Path) → answers_of matcher dir ≡ answered_by set dir) }
+        ensures accepts { IfOk result (λ matcher. (set : SetTree NamedSet)
+            → sets_in sets.entry ≡ set ∷ [] → (path : Path)
+            → accepts_of matcher path ≡ accepted_by set path) }
+        ensures answers { IfOk result (λ matcher. (set : SetTree NamedSet)
+            → sets_in sets.entry ≡ set ∷ [] → (dir : Path)
+            → answers_of matcher dir ≡ answered_by set dir) }
     {
         let parts = parts(alloc, sets.into_steps())?;
         Ok(SetMatcher {
@@ -203,8 +215,12 @@ pub(crate) fn walk_set(
     sets: SetStack<'_>,
 ) -> Result<Walk, AllocError>
     requires { length (sets_by sets.steps.items) ≡ 1 }
-    ensures files { IfOk result (λ walk. (set : SetTree NamedSet) → sets_by sets.entry.steps.items ≡ set ∷ [] → walk.files.items ≡ files_of (accepted_by set) tree.now) }
-    ensures entered { IfOk result (λ walk. (set : SetTree NamedSet) → sets_by sets.entry.steps.items ≡ set ∷ [] → walk.entered.items ≡ entered_by (answered_by set) tree.now) }
+    ensures files { IfOk result (λ walk. (set : SetTree NamedSet)
+        → sets_by sets.entry.steps.items ≡ set ∷ []
+        → walk.files.items ≡ files_of (accepted_by set) tree.now) }
+    ensures entered { IfOk result (λ walk. (set : SetTree NamedSet)
+        → sets_by sets.entry.steps.items ≡ set ∷ []
+        → walk.entered.items ≡ entered_by (answered_by set) tree.now) }
 {
     let matcher = SetMatcher::new(alloc, sets)?;
     walk_matching(alloc, tree, &matcher)

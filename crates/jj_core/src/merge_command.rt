@@ -110,7 +110,8 @@ fn push_answer(
     output: &mut Vec<u8>,
     request: &MergeRequest<'_>,
 ) -> Result<(), AllocError>
-    ensures { OnOk result ((answer : List ℕ) × IsMergeAnswer (merge_request_of request.now) answer × (output.new.items ≡ output.old.items ++ answer)) }
+    ensures { OnOk result ((answer : List ℕ) × IsMergeAnswer (merge_request_of request.now) answer
+        × (output.new.items ≡ output.old.items ++ answer)) }
 {
     match request.question {
         Question::Simplify => {

@@ -47,7 +47,8 @@ const READ_BUFFER: usize = 65536;
 /// Reads a source to its end.
 fn read_input<R: Source>(alloc: Global, reader: &mut R) -> Result<Vec<u8>, Fault>
     requires { R.has_failed reader.old ≡ false }
-    ensures all { IfOk result (λ input. Consumes (R.remaining reader.old) (R.remaining reader.new) input.items) }
+    ensures all { IfOk result (λ input. Consumes (R.remaining reader.old)
+        (R.remaining reader.new) input.items) }
     ensures end { OnOk result (IsAtEnd (R.remaining reader.new)) }
     ensures failure { R.has_failed reader.new ≡ is_read_fault result }
     ensures others { is_write_fault result ≡ false }
@@ -84,7 +85,8 @@ fn output(alloc: Global, command: Command, input: &[u8]) -> Result<Vec<u8>, Faul
     }
 }
 
-/// Reads a source to its end, and writes what the command gives for its bytes. For faulty input nothing is written.
+/// Reads a source to its end, and writes what the command gives for its bytes. For faulty input
+/// nothing is written.
 pub fn run<R: Source, W: Sink>(
     alloc: Global,
     command: Command,

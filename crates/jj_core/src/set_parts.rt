@@ -1,4 +1,5 @@
-//! A set as a list of parts, over which one pass, that goes from the last to the first, tells whether a file is in the set.
+//! A set as a list of parts, over which one pass, that goes from the last to the first, tells
+//! whether a file is in the set.
 ghost use Rattle.std.specs.Prelude.{◌≡◌, ◌+◌, ◌<◌, ◌^◌, List, [], ◌∷◌, ◌++◌, false, reverse, IfOk};
 ghost use Rattle.jj_core.specs.declared.file_set.SetStep.{SetStep};
 ghost use Rattle.jj_core.specs.SetParts.{parts_along, is_decided_by, with_second, pass_at, behind_leaf, at_second_set, behind_both};
@@ -6,8 +7,8 @@ ghost use Rattle.jj_core.specs.SetParts.{parts_along, is_decided_by, with_second
 use crate::file_set::{Combination, SetStep};
 use std::alloc::{AllocError, Global};
 
-/// A part of a set: a leaf, the place between the two operands of a combination, or the place behind both. The list has them
-/// backwards.
+/// A part of a set: a leaf, the place between the two operands of a combination, or the place
+/// behind both. The list has them backwards.
 #[derive(Drop)]
 pub(crate) enum Part<S> {
     Leaf(S),
@@ -37,7 +38,9 @@ fn add_parts<S: Drop>(
     parts: &mut Vec<Part<S>>,
     wanting: &mut Vec<Combination>,
 ) -> Result<(), AllocError>
-    ensures { IfOk result (λ done. (earlier : List (SetStep S)) → parts.new.items ++ parts_along (reverse wanting.new.items) earlier ≡ parts.old.items ++ parts_along (reverse wanting.old.items) (step ∷ earlier)) }
+    ensures { IfOk result (λ done. (earlier : List (SetStep S))
+        → parts.new.items ++ parts_along (reverse wanting.new.items) earlier ≡ parts.old.items
+        ++ parts_along (reverse wanting.old.items) (step ∷ earlier)) }
 {
     match step {
         SetStep::Combine(combination) => {
@@ -55,8 +58,8 @@ fn add_parts<S: Drop>(
     }
 }
 
-/// How far a pass has come: whether the file is in the set that was passed last, and of how many combinations around here the
-/// second operand need not be asked.
+/// How far a pass has come: whether the file is in the set that was passed last, and of how many
+/// combinations around here the second operand need not be asked.
 #[derive(Clone, Copy, Debug, PartialEq, Eq)]
 pub(crate) struct Pass {
     pub(crate) decided: usize,

@@ -6,7 +6,8 @@ ghost use Rattle.jj_core.specs.SetsRead.{are_whole, set_of, sets_by};
 use crate::file_set::{Combination, FileSet, SetStep};
 use std::alloc::{AllocError, Global};
 
-/// A stack of sets, kept as the steps that made it. Its height is counted, and no set is ever moved.
+/// A stack of sets, kept as the steps that made it. Its height is counted, and no set is ever
+/// moved.
 #[derive(Drop)]
 pub(crate) struct SetStack<'t> {
     steps: Vec<SetStep<FileSet<'t>>>,
@@ -37,7 +38,9 @@ impl<'t> SetStack<'t> {
 
     /// Puts a set on the stack.
     pub(crate) fn push(&mut self, set: FileSet<'t>) -> Result<(), AllocError>
-        ensures { MatchResult result (λ done. sets_in self.new ≡ one (set_of set.entry) ∷ sets_in self.old) (λ e. sets_in self.new ≡ sets_in self.old) }
+        ensures { MatchResult result (λ done. sets_in self.new
+            ≡ one (set_of set.entry) ∷ sets_in self.old)
+            (λ e. sets_in self.new ≡ sets_in self.old) }
     {
         self.steps.push(SetStep::Push(set))?;
         self.height += 1;
@@ -47,7 +50,8 @@ impl<'t> SetStack<'t> {
     /// Puts in place of the two sets on top what they combine to.
     pub(crate) fn combine(&mut self, combination: Combination) -> Result<(), AllocError>
         requires { 2 ≤ length (sets_in self.old) }
-        ensures { MatchResult result (λ done. sets_in self.new ≡ joined combination (sets_in self.old)) (λ e. sets_in self.new ≡ sets_in self.old) }
+        ensures { MatchResult result (λ done. sets_in self.new
+            ≡ joined combination (sets_in self.old)) (λ e. sets_in self.new ≡ sets_in self.old) }
     {
         self.steps.push(SetStep::Combine(combination))?;
         self.height -= 1;

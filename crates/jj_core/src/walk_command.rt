@@ -1,4 +1,5 @@
-//! The command `walk`: it marks paths, builds one set of files, and writes what a walk by the set finds.
+//! The command `walk`: it marks paths, builds one set of files, and writes what a walk by the set
+//! finds.
 ghost use Rattle.std.specs.Prelude.{◌≡◌, ◌++◌, ℕ, List, [], ◌∷◌, length, map, Bool, Ok, MatchResult, IfOk, IfErr, OnOk};
 ghost use Rattle.jj_paths.specs.Names.{path_of};
 ghost use Rattle.jj_globs.specs.GlobText.{tokens_of};
@@ -50,8 +51,10 @@ fn path_field<'t>(alloc: Global, number: usize, text: &'t str) -> Result<RepoPat
 /// The paths of the fields of a line.
 fn paths<'t>(alloc: Global, number: usize, fields: &[&'t str]) -> Result<Vec<RepoPath<'t>>, Fault>
     ensures { MatchResult result
-        (λ paths. at_line number (paths_of (map (λ field. field.now) fields.now)) ≡ Ok (map path_of paths.items))
-        (λ fault. IsFaultOf fault (at_line number (paths_of (map (λ field. field.now) fields.now)))) }
+        (λ paths. at_line number (paths_of (map (λ field. field.now) fields.now))
+        ≡ Ok (map path_of paths.items))
+        (λ fault. IsFaultOf fault (at_line number
+        (paths_of (map (λ field. field.now) fields.now)))) }
 {
     let mut paths = Vec::new(alloc);
     for field in fields {
@@ -70,8 +73,10 @@ fn pairs<'t>(
     fields: &[&'t str],
 ) -> Result<(Vec<&'t str>, Vec<&'t str>), Fault>
     ensures { MatchResult result
-        (λ pairs. at_line number (paired_fields (map (λ field. field.now) fields.now)) ≡ Ok (map (λ dir. dir.now) pairs.0.items, map (λ glob. glob.now) pairs.1.items))
-        (λ fault. IsFaultOf fault (at_line number (paired_fields (map (λ field. field.now) fields.now)))) }
+        (λ pairs. at_line number (paired_fields (map (λ field. field.now) fields.now))
+        ≡ Ok (map (λ dir. dir.now) pairs.0.items, map (λ glob. glob.now) pairs.1.items))
+        (λ fault. IsFaultOf fault (at_line number
+        (paired_fields (map (λ field. field.now) fields.now)))) }
 {
     let mut dirs = Vec::new(alloc);
     let mut globs = Vec::new(alloc);
@@ -104,7 +109,8 @@ fn glob_field(alloc: Global, number: usize, text: &str) -> Result<PathGlobPatter
 
 /// The fault of a field that is no glob.
 fn glob_fault(number: usize, error: GlobError) -> Fault
-    ensures { (text : List ℕ) → IsReadingFault error (tokens_of text) → IsFaultOf result (at_line number (glob_at text)) }
+    ensures { (text : List ℕ) → IsReadingFault error (tokens_of text)
+        → IsFaultOf result (at_line number (glob_at text)) }
 {
     match error {
         GlobError::Memory => Fault::Memory,
@@ -119,7 +125,8 @@ fn glob_fault(number: usize, error: GlobError) -> Fault
 fn path_globs(alloc: Global, number: usize, fields: &[&str]) -> Result<Vec<PathGlobPattern>, Fault>
     ensures { MatchResult result
         (λ globs. at_line number (globs_of (map (λ field. field.now) fields.now)) ≡ Ok globs.items)
-        (λ fault. IsFaultOf fault (at_line number (globs_of (map (λ field. field.now) fields.now)))) }
+        (λ fault. IsFaultOf fault (at_line number
+        (globs_of (map (λ field. field.now) fields.now)))) }
 {
     let mut globs = Vec::new(alloc);
     for field in fields {
@@ -135,8 +142,10 @@ impl<'t> WalkReading<'t> {
     /// Marks the path of the one field.
     fn mark(&mut self, alloc: Global, number: usize, fields: &[&'t str]) -> Result<(), Fault>
         ensures { MatchResult result
-            (λ _. at_line number (mark_step (state_of self.old) (map (λ field. field.now) fields.now)) ≡ Ok (state_of self.new))
-            (λ fault. IsFaultOf fault (at_line number (mark_step (state_of self.old) (map (λ field. field.now) fields.now)))) }
+            (λ _. at_line number (mark_step (state_of self.old)
+            (map (λ field. field.now) fields.now)) ≡ Ok (state_of self.new))
+            (λ fault. IsFaultOf fault (at_line number
+            (mark_step (state_of self.old) (map (λ field. field.now) fields.now)))) }
     {
         let [text] = fields else {
             return Err(Fault::Line {
@@ -158,8 +167,11 @@ impl<'t> WalkReading<'t> {
         set: FileSet<'t>,
     ) -> Result<(), Fault>
         ensures { MatchResult result
-            (λ _. at_line number (pushed_alone (state_of self.old) (set_of set.entry) (map (λ field. field.now) fields.now)) ≡ Ok (state_of self.new))
-            (λ fault. IsFaultOf fault (at_line number (pushed_alone (state_of self.old) (set_of set.entry) (map (λ field. field.now) fields.now)))) }
+            (λ _. at_line number (pushed_alone (state_of self.old) (set_of set.entry)
+            (map (λ field. field.now) fields.now)) ≡ Ok (state_of self.new))
+            (λ fault. IsFaultOf fault (at_line number
+            (pushed_alone (state_of self.old) (set_of set.entry)
+            (map (λ field. field.now) fields.now)))) }
     {
         if !fields.is_empty() {
             return Err(Fault::Line {
@@ -174,8 +186,11 @@ impl<'t> WalkReading<'t> {
     /// Puts the set of these files on the stack.
     fn push_files(&mut self, alloc: Global, number: usize, fields: &[&'t str]) -> Result<(), Fault>
         ensures { MatchResult result
-            (λ _. at_line number (pushed_paths (state_of self.old) Files (paths_of (map (λ field. field.now) fields.now))) ≡ Ok (state_of self.new))
-            (λ fault. IsFaultOf fault (at_line number (pushed_paths (state_of self.old) Files (paths_of (map (λ field. field.now) fields.now))))) }
+            (λ _. at_line number (pushed_paths (state_of self.old) Files
+            (paths_of (map (λ field. field.now) fields.now))) ≡ Ok (state_of self.new))
+            (λ fault. IsFaultOf fault (at_line number
+            (pushed_paths (state_of self.old) Files
+            (paths_of (map (λ field. field.now) fields.now))))) }
     {
         match paths(alloc, number, fields) {
             Ok(paths) => Ok(self.sets.push(FileSet::Files(paths))?),
@@ -186,8 +201,11 @@ impl<'t> WalkReading<'t> {
     /// Puts the set of what is at and below these paths on the stack.
     fn push_prefix(&mut self, alloc: Global, number: usize, fields: &[&'t str]) -> Result<(), Fault>
         ensures { MatchResult result
-            (λ _. at_line number (pushed_paths (state_of self.old) Prefix (paths_of (map (λ field. field.now) fields.now))) ≡ Ok (state_of self.new))
-            (λ fault. IsFaultOf fault (at_line number (pushed_paths (state_of self.old) Prefix (paths_of (map (λ field. field.now) fields.now))))) }
+            (λ _. at_line number (pushed_paths (state_of self.old) Prefix
+            (paths_of (map (λ field. field.now) fields.now))) ≡ Ok (state_of self.new))
+            (λ fault. IsFaultOf fault (at_line number
+            (pushed_paths (state_of self.old) Prefix
+            (paths_of (map (λ field. field.now) fields.now))))) }
     {
         match paths(alloc, number, fields) {
             Ok(paths) => Ok(self.sets.push(FileSet::Prefix(paths))?),
@@ -204,8 +222,10 @@ impl<'t> WalkReading<'t> {
         prefix_paths: bool,
     ) -> Result<(), Fault>
         ensures { MatchResult result
-            (λ _. at_line number (globs_step (state_of self.old) prefix_paths (map (λ field. field.now) fields.now)) ≡ Ok (state_of self.new))
-            (λ fault. IsFaultOf fault (at_line number (globs_step (state_of self.old) prefix_paths (map (λ field. field.now) fields.now)))) }
+            (λ _. at_line number (globs_step (state_of self.old) prefix_paths
+            (map (λ field. field.now) fields.now)) ≡ Ok (state_of self.new))
+            (λ fault. IsFaultOf fault (at_line number
+            (globs_step (state_of self.old) prefix_paths (map (λ field. field.now) fields.now)))) }
     {
         let (dirs, globs) = match pairs(alloc, number, fields) {
             Ok(pairs) => pairs,
@@ -235,8 +255,11 @@ impl<'t> WalkReading<'t> {
         combination: Combination,
     ) -> Result<(), Fault>
         ensures { MatchResult result
-            (λ _. at_line number (combined_step (state_of self.old) combination (map (λ field. field.now) fields.now)) ≡ Ok (state_of self.new))
-            (λ fault. IsFaultOf fault (at_line number (combined_step (state_of self.old) combination (map (λ field. field.now) fields.now)))) }
+            (λ _. at_line number (combined_step (state_of self.old) combination
+            (map (λ field. field.now) fields.now)) ≡ Ok (state_of self.new))
+            (λ fault. IsFaultOf fault (at_line number
+            (combined_step (state_of self.old) combination
+            (map (λ field. field.now) fields.now)))) }
     {
         if !fields.is_empty() {
             return Err(Fault::Line {
@@ -314,7 +337,9 @@ fn found_lines(
     sets: SetStack<'_>,
 ) -> Result<Vec<u8>, AllocError>
     requires { length (sets_in sets) ≡ 1 }
-    ensures { IfOk result (λ output. (set : SetTree NamedSet) → sets_in sets.entry ≡ set ∷ [] → (tree : Tree Bool) × IsMarkedTree (map path_of marks.entry.items) tree × (output.items ≡ walk_lines set tree)) }
+    ensures { IfOk result (λ output. (set : SetTree NamedSet) → sets_in sets.entry ≡ set ∷ []
+        → (tree : Tree Bool) × IsMarkedTree (map path_of marks.entry.items) tree
+        × (output.items ≡ walk_lines set tree)) }
 {
     let tree = marked_tree(alloc, marks)?;
     let found = walk_set(alloc, &tree, sets)?;

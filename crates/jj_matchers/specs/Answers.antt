@@ -9,15 +9,19 @@ pub data Answer : Type 0 where
   specific : (Name → Bool) → (Name → Bool) → Answer
   nothing : Answer
 
--- the promise of an answer that has names: each accepted child is among the files, the first name of
--- each accepted deeper path is among the directories, and each of these may be opened
-pub record NamesAll (accepts opens : Path → Bool) (dir : Path) (dirs files : Name → Bool) : Type 0 where
+-- the promise of an answer that has names: each accepted child is among the files, the first name
+-- of each accepted deeper path is among the directories, and each of these may be opened
+pub record NamesAll (accepts opens : Path → Bool) (dir : Path)
+    (dirs files : Name → Bool) : Type 0 where
   pub files_named : (name : Name) → accepts (dir ++ name ∷ []) ≡ true → files name ≡ true
-  pub dirs_named : (name next : Name) (rest : Path) → accepts (dir ++ name ∷ next ∷ rest) ≡ true → dirs name ≡ true
+  pub dirs_named : (name next : Name) (rest : Path) → accepts (dir ++ name ∷ next ∷ rest) ≡ true
+      → dirs name ≡ true
   pub dirs_open : (name : Name) → dirs name ≡ true → opens (dir ++ name ∷ []) ≡ true
 
 -- what an answer for a directory promises of the paths strictly below it
 abbrev pub IsSound : (Path → Bool) → (Path → Bool) → Path → Answer → Type 0
-IsSound accepts opens dir all_recursively = (name : Name) (rest : Path) → (accepts (dir ++ name ∷ rest) ≡ true) × (opens (dir ++ name ∷ rest) ≡ true)
+IsSound accepts opens dir all_recursively = (name : Name) (rest : Path)
+    → (accepts (dir ++ name ∷ rest) ≡ true) × (opens (dir ++ name ∷ rest) ≡ true)
 IsSound accepts opens dir (specific dirs files) = NamesAll accepts opens dir dirs files
-IsSound accepts opens dir nothing = (name : Name) (rest : Path) → accepts (dir ++ name ∷ rest) ≡ false
+IsSound accepts opens dir nothing = (name : Name) (rest : Path)
+    → accepts (dir ++ name ∷ rest) ≡ false

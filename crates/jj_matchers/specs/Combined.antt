@@ -10,19 +10,23 @@ union_answer all_recursively b = all_recursively
 union_answer nothing b = b
 union_answer (specific dirs files) all_recursively = all_recursively
 union_answer (specific dirs files) nothing = specific dirs files
-union_answer (specific dirs files) (specific more_dirs more_files) = specific (λ name. dirs name || more_dirs name) (λ name. files name || more_files name)
+union_answer (specific dirs files) (specific more_dirs more_files) =
+    specific (λ name. dirs name || more_dirs name) (λ name. files name || more_files name)
 
--- the wanted answer, unless everything is unwanted; where only some may be unwanted, not everything is wanted for sure
+-- the wanted answer, unless everything is unwanted; where only some may be unwanted, not everything
+-- is wanted for sure
 abbrev pub difference_answer : Answer → Answer → Answer
 difference_answer wanted all_recursively = nothing
 difference_answer wanted nothing = wanted
 difference_answer all_recursively (specific dirs files) = specific (λ name. true) (λ name. true)
-difference_answer (specific wanted_dirs wanted_files) (specific dirs files) = specific wanted_dirs wanted_files
+difference_answer (specific wanted_dirs wanted_files) (specific dirs files) =
+    specific wanted_dirs wanted_files
 difference_answer nothing (specific dirs files) = nothing
 
 -- the answer that names these, or nothing where no name passes either test
 abbrev pub named_answer : List Name → (Name → Bool) → (Name → Bool) → Answer
-named_answer names dirs files = if any_passes names dirs || any_passes names files then specific dirs files else nothing
+named_answer names dirs files = if any_passes names dirs
+    || any_passes names files then specific dirs files else nothing
 
 -- what both answers name, where they choose from a list
 abbrev pub intersection_answer : List Name → Answer → Answer → Answer
@@ -30,4 +34,6 @@ intersection_answer names all_recursively b = b
 intersection_answer names nothing b = nothing
 intersection_answer names (specific dirs files) all_recursively = specific dirs files
 intersection_answer names (specific dirs files) nothing = nothing
-intersection_answer names (specific dirs files) (specific other_dirs other_files) = named_answer names (λ name. dirs name && other_dirs name) (λ name. files name && other_files name)
+intersection_answer names (specific dirs files) (specific other_dirs other_files) =
+    named_answer names (λ name. dirs name && other_dirs name)
+    (λ name. files name && other_files name)

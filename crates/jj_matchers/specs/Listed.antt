@@ -7,7 +7,8 @@ use Rattle.jj_matchers.specs.Visits.{is_among}
 
 -- a test that every name passes, or that only names of a list pass
 abbrev pub IsAllOrAmong : List Name → (Name → Bool) → Type 0
-IsAllOrAmong names test = ((name : Name) → test name ≡ true) ⊎ ((name : Name) → test name ≡ true → is_among names name ≡ true)
+IsAllOrAmong names test = ((name : Name) → test name ≡ true)
+    ⊎ ((name : Name) → test name ≡ true → is_among names name ≡ true)
 
 -- an answer that takes its names from a list, where it does not name every child
 abbrev pub ChoosesFrom : List Name → Answer → Type 0
@@ -15,7 +16,8 @@ ChoosesFrom names all_recursively = Unit {0}
 ChoosesFrom names (specific dirs files) = IsAllOrAmong names dirs × IsAllOrAmong names files
 ChoosesFrom names nothing = Unit {0}
 
--- whether any name passes such a test; the empty name, which no child has, stands for those that the list lacks
+-- whether any name passes such a test; the empty name, which no child has, stands for those that
+-- the list lacks
 abbrev pub any_passes : List Name → (Name → Bool) → Bool
 any_passes names test = test [] || list_any test names
 

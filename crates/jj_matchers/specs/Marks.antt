@@ -20,7 +20,8 @@ marked_paths tree = filter (is_marked tree) (map (λ node. node.0) (all_nodes tr
 
 -- each node but the root that has no mark has a child, and so leads to a mark
 abbrev pub LeadsToMarks : Tree Bool → Type 0
-LeadsToMarks tree = (above : Path) (name : Name) → value_at tree (above ++ name ∷ []) ≡ Some false → ((next : Name) → value_at tree (above ++ name ∷ next ∷ []) ≡ None) → ⊥
+LeadsToMarks tree = (above : Path) (name : Name) → value_at tree (above ++ name ∷ []) ≡ Some false
+    → ((next : Name) → value_at tree (above ++ name ∷ next ∷ []) ≡ None) → ⊥
 
 -- whether the node of a name passes a test, and whether any node does
 abbrev pub passes : (Tree Bool → Bool) → Option (Tree Bool) → Bool
@@ -33,9 +34,12 @@ named_by test branches name = passes test (child branches name)
 abbrev pub any_child : (Tree Bool → Bool) → Branches Bool → Bool
 any_child test branches = list_any (λ child. test child.1) (children branches)
 
--- the answer that names the children that pass a test as directories, and those that pass another as files
+-- the answer that names the children that pass a test as directories, and those that pass another
+-- as files
 abbrev pub children_answer : (Tree Bool → Bool) → (Tree Bool → Bool) → Branches Bool → Answer
-children_answer dirs files branches = if any_child dirs branches || any_child files branches then specific (named_by dirs branches) (named_by files branches) else nothing
+children_answer dirs files branches = if any_child dirs branches
+    || any_child files branches then specific (named_by dirs branches)
+    (named_by files branches) else nothing
 
 abbrev pub has_children : Tree Bool → Bool
 has_children node = has_branches node.1

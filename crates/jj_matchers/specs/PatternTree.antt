@@ -14,7 +14,8 @@ has_globs (glob ∷ globs) = true
 -- the tree of marks at the directories that have globs
 abbrev pub marked_branches : Branches (List GlobSpec) → Branches Bool
 marked_branches none = none
-marked_branches (branch name globs below after) = branch name (has_globs globs) (marked_branches below) (marked_branches after)
+marked_branches (branch name globs below after) =
+    branch name (has_globs globs) (marked_branches below) (marked_branches after)
 
 abbrev pub marks_of : Tree (List GlobSpec) → Tree Bool
 marks_of tree = (has_globs tree.0, marked_branches tree.1)
@@ -42,7 +43,8 @@ abbrev pub LeadsToGlobs : Tree (List GlobSpec) → Type 0
 LeadsToGlobs tree = LeadsToMarks (marks_of tree)
 
 -- one more glob in a directory, and no others
-pub record AddsGlob (old : Tree (List GlobSpec)) (dir : Path) (glob : GlobSpec) (new : Tree (List GlobSpec)) : Type 0 where
+pub record AddsGlob (old : Tree (List GlobSpec)) (dir : Path) (glob : GlobSpec)
+    (new : Tree (List GlobSpec)) : Type 0 where
   pub here : globs_at new dir ≡ globs_at old dir ++ glob ∷ []
   pub others : (path : Path) → path ≢ dir → globs_at new path ≡ globs_at old path
   pub leads : LeadsToGlobs old → LeadsToGlobs new

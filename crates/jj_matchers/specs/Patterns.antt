@@ -22,7 +22,8 @@ is_match glob bytes = is_yes (matches glob.options glob.text bytes)
 -- whether, behind some bytes, a front that a slash follows passes a test
 abbrev pub passes_before_slash : (List ℕ → Bool) → List ℕ → List ℕ → Bool
 passes_before_slash test before [] = false
-passes_before_slash test before (b ∷ bytes) = ((b == 47) && test before) || passes_before_slash test (before ++ b ∷ []) bytes
+passes_before_slash test before (b ∷ bytes) = ((b == 47) && test before)
+    || passes_before_slash test (before ++ b ∷ []) bytes
 
 -- whether the glob stands for the bytes, or for a front of them that a slash follows
 unfoldable pub is_prefix_match : GlobSpec → List ℕ → Bool
@@ -41,7 +42,8 @@ accepts_tail prefix_paths glob [] = false
 accepts_tail false glob (name ∷ rest) = is_match glob (path_text (name ∷ rest))
 accepts_tail true glob (name ∷ rest) = is_prefix_match glob (path_text (name ∷ rest))
 
--- whether the glob, where it accepts what lies below a match too, is known to accept everything below a tail
+-- whether the glob, where it accepts what lies below a match too, is known to accept everything
+-- below a tail
 abbrev pub covers_tail : GlobSpec → Path → Bool
 covers_tail glob [] = is_stars glob.text
 covers_tail glob (name ∷ rest) = is_prefix_match glob (path_text (name ∷ rest))
@@ -54,7 +56,8 @@ tail_passes (name ∷ dir) test (first ∷ path) = bytes_eq name first && tail_p
 
 -- 3. Sets of patterns.
 
--- each pattern is a directory and a glob; the flag says that what lies below a match is accepted too
+-- each pattern is a directory and a glob; the flag says that what lies below a match is accepted
+-- too
 pub record Patterns : Type 0 where
   pub prefix_paths : Bool
   pub patterns : List (Path × GlobSpec)
@@ -62,30 +65,35 @@ pub record Patterns : Type 0 where
 -- two sets have the same patterns, in any order and however often
 pub record HasSamePatterns (set other : Patterns) : Type 0 where
   pub mode : set.prefix_paths ≡ other.prefix_paths
-  pub members : (test : Path × GlobSpec → Bool) → list_any test set.patterns ≡ list_any test other.patterns
+  pub members : (test : Path × GlobSpec → Bool)
+      → list_any test set.patterns ≡ list_any test other.patterns
 
 abbrev pub pattern_dirs : Patterns → List Path
 pattern_dirs set = map (λ pattern. pattern.0) set.patterns
 
 -- whether a pattern accepts the path
 abbrev pub is_accepted : Patterns → Path → Bool
-is_accepted set path = list_any (λ pattern. tail_passes pattern.0 (accepts_tail set.prefix_paths pattern.1) path) set.patterns
+is_accepted set path = list_any (λ pattern.
+    tail_passes pattern.0 (accepts_tail set.prefix_paths pattern.1) path) set.patterns
 
 -- whether a pattern covers everything below a directory
 abbrev pub is_covered : Patterns → Path → Bool
-is_covered set dir = set.prefix_paths && list_any (λ pattern. tail_passes pattern.0 (covers_tail pattern.1) dir) set.patterns
+is_covered set dir = set.prefix_paths && list_any
+    (λ pattern. tail_passes pattern.0 (covers_tail pattern.1) dir) set.patterns
 
 -- the directories that a walk may open: those at, above or below a pattern's
 abbrev pub opens_to_patterns : Patterns → Path → Bool
-opens_to_patterns set dir = has_prefix (pattern_dirs set) dir || leads_to_prefix (pattern_dirs set) dir
+opens_to_patterns set dir = has_prefix (pattern_dirs set) dir
+    || leads_to_prefix (pattern_dirs set) dir
 
--- the answer: everything where a pattern covers it, else all names at or below a pattern's directory, else the children on the way
--- to patterns' directories, as directories alone
+-- the answer: everything where a pattern covers it, else all names at or below a pattern's
+-- directory, else the children on the way to patterns' directories, as directories alone
 abbrev pub patterns_answer : Patterns → Path → Answer
 patterns_answer set dir =
     if is_covered set dir then all_recursively
     else (if has_prefix (pattern_dirs set) dir then specific (λ name. true) (λ name. true)
-    else (if leads_to_wanted (pattern_dirs set) dir then specific (λ name. leads_to_prefix (pattern_dirs set) (dir ++ name ∷ [])) (λ name. false) else nothing))
+    else (if leads_to_wanted (pattern_dirs set) dir then specific
+    (λ name. leads_to_prefix (pattern_dirs set) (dir ++ name ∷ [])) (λ name. false) else nothing))
 
 -- 4. The meaning of a set.
 
@@ -96,4 +104,6 @@ AcceptsText true glob text = IsPrefixMatch glob text
 
 -- the path lies strictly below the directory of a pattern whose glob accepts the text of the tail
 abbrev pub IsAccepted : Patterns → Path → Type 0
-IsAccepted set path = Any (λ pattern. (name : Name) × (rest : Path) × (path ≡ pattern.0 ++ name ∷ rest) × AcceptsText set.prefix_paths pattern.1 (path_text (name ∷ rest))) set.patterns
+IsAccepted set path = Any (λ pattern. (name : Name) × (rest : Path)
+    × (path ≡ pattern.0 ++ name ∷ rest) × AcceptsText set.prefix_paths pattern.1
+    (path_text (name ∷ rest))) set.patterns

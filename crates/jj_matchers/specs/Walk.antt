@@ -24,13 +24,15 @@ is_entered all_recursively = true
 is_entered (specific dirs files) = true
 is_entered nothing = false
 
--- whether a walk goes on below a directory to the child of a name, where it may go on from that child
+-- whether a walk goes on below a directory to the child of a name, where it may go on from that
+-- child
 abbrev pub leads_to : Answer → Name → Bool → Bool
 leads_to all_recursively name on = true
 leads_to (specific dirs files) name on = dirs name && on
 leads_to nothing name on = false
 
--- whether a walk that has come to a directory, and asks for its answer, enters the one at the rest of a path
+-- whether a walk that has come to a directory, and asks for its answer, enters the one at the rest
+-- of a path
 abbrev pub enters : (Path → Answer) → Path → Path → Bool
 enters answer dir [] = is_entered (answer dir)
 enters answer dir (name ∷ rest) = leads_to (answer dir) name (enters answer (dir ++ name ∷ []) rest)

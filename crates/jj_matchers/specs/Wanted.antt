@@ -1,4 +1,5 @@
--- Sets of paths that are given by a list: the paths of the list, and the paths at or below one of them.
+-- Sets of paths that are given by a list: the paths of the list, and the paths at or below one of
+-- them.
 use Rattle.std.specs.Prelude.{◌≡◌, Bool, true, false, ◌&&◌, List, [], ◌∷◌, ◌++◌, if◌then◌else◌}
 use Rattle.std.specs.List.{list_any}
 use Rattle.std.specs.Str.{bytes_eq}
@@ -31,10 +32,12 @@ HasSamePaths paths others = (test : Path → Bool) → list_any test paths ≡ l
 abbrev pub leads_to_wanted : List Path → Path → Bool
 leads_to_wanted wanted dir = list_any (is_below dir) wanted
 
--- the answer of a list of files: the children of the directory on the way to one, and those that are one
+-- the answer of a list of files: the children of the directory on the way to one, and those that
+-- are one
 abbrev pub files_answer : List Path → Path → Answer
 files_answer wanted dir =
-    if leads_to_wanted wanted dir then specific (λ name. leads_to_wanted wanted (dir ++ name ∷ [])) (λ name. is_wanted wanted (dir ++ name ∷ [])) else nothing
+    if leads_to_wanted wanted dir then specific (λ name. leads_to_wanted wanted (dir ++ name ∷ []))
+    (λ name. is_wanted wanted (dir ++ name ∷ [])) else nothing
 
 -- whether a path is a prefix of the list, or lies below one
 abbrev pub has_prefix : List Path → Path → Bool
@@ -44,9 +47,11 @@ has_prefix prefixes path = list_any (λ prefix. is_at_or_below prefix path) pref
 abbrev pub leads_to_prefix : List Path → Path → Bool
 leads_to_prefix prefixes path = list_any (is_at_or_below path) prefixes
 
--- the answer of a list of prefixes: everything at one or below, else the children of the directory at one or on the way to one, and
--- those that are one
+-- the answer of a list of prefixes: everything at one or below, else the children of the directory
+-- at one or on the way to one, and those that are one
 abbrev pub prefix_answer : List Path → Path → Answer
 prefix_answer prefixes dir =
     if has_prefix prefixes dir then all_recursively
-    else (if leads_to_wanted prefixes dir then specific (λ name. leads_to_prefix prefixes (dir ++ name ∷ [])) (λ name. is_wanted prefixes (dir ++ name ∷ [])) else nothing)
+    else (if leads_to_wanted prefixes dir then specific
+    (λ name. leads_to_prefix prefixes (dir ++ name ∷ []))
+    (λ name. is_wanted prefixes (dir ++ name ∷ [])) else nothing)

@@ -51,9 +51,12 @@ pub trait Matcher: Drop {
 
     /// Where to look for paths of the set strictly below a directory.
     fn visit(&self, alloc: Global, dir: RepoPath<'_>) -> Result<Visit, AllocError>
-        ensures answer { IfOk result (λ visit. answer_of visit ≡ answers self.now (path_of dir.entry)) }
-        ensures sound { IfOk result (λ visit. IsSound (accepts self.now) (opens self.now) (path_of dir.entry) (answer_of visit)) }
-        ensures chosen { IfOk result (λ visit. ChoosesFrom (candidates self.now (path_of dir.entry)) (answer_of visit)) };
+        ensures answer { IfOk result (λ visit. answer_of visit
+            ≡ answers self.now (path_of dir.entry)) }
+        ensures sound { IfOk result (λ visit.
+            IsSound (accepts self.now) (opens self.now) (path_of dir.entry) (answer_of visit)) }
+        ensures chosen { IfOk result (λ visit.
+            ChoosesFrom (candidates self.now (path_of dir.entry)) (answer_of visit)) };
 }
 
 impl<T: Matcher> Matcher for &T {

@@ -13,5 +13,6 @@ diff_terms [] = []
 diff_terms (d ∷ ds) = d.before ∷ d.after ∷ diff_terms ds
 
 -- what comes of a source, to its end, are these items
-abbrev pub Gives : {U S A : Type 0} → (U → S → Type 0) → (S → Option A → S → Type 0) → U → List A → Type 0
+abbrev pub Gives : {U S A : Type 0} → (U → S → Type 0) → (S → Option A → S → Type 0) → U → List A
+    → Type 0
 Gives {U} {S} {A} becomes steps source xs = (it : S) × becomes source it × Drains steps it xs

@@ -19,7 +19,8 @@ use std::fmt;
 use std::hash::{Hash, Hasher};
 use std::marker::Model;
 
-/// The labels of a conflict's terms, or none. Labels that are all empty, or of a resolved merge, are dropped.
+/// The labels of a conflict's terms, or none. Labels that are all empty, or of a resolved merge,
+/// are dropped.
 #[derive(Drop)]
 pub struct ConflictLabels {
     labels: Merge<String>,
@@ -150,8 +151,10 @@ impl ConflictLabels {
     ) -> Result<(Self, Merge<T>), AllocError>
         requires sides { (self.now ≡ []) ⊎ (length self.now ≡ length merge.now) }
         requires clones { (x y : T) → T.is_clone x y → IsTrue (T.eq x y) }
-        ensures labels { IfOk result (λ p. p.0 ≡ labels_of (at_places self.now (kept_places T.eq merge.now))) }
-        ensures merge { IfOk result (λ p. AllZip T.is_clone (at_places merge.now (kept_places T.eq merge.now)) p.1) }
+        ensures labels { IfOk result (λ p. p.0
+            ≡ labels_of (at_places self.now (kept_places T.eq merge.now))) }
+        ensures merge { IfOk result (λ p. AllZip T.is_clone
+            (at_places merge.now (kept_places T.eq merge.now)) p.1) }
     {
         if !self.has_labels() {
             return Ok((ConflictLabels::unlabeled(alloc), merge.simplify(alloc)?));
@@ -166,7 +169,8 @@ impl ConflictLabels {
 
 /// The text of a label that is there and not empty.
 fn shown(label: Option<&String>) -> Option<&str>
-    ensures { option_copied result ≡ nonempty (option_map string_bytes (option_copied label.entry)) }
+    ensures { option_copied result ≡ nonempty
+        (option_map string_bytes (option_copied label.entry)) }
 {
     match label {
         Some(text) if !text.is_empty() => Some(text.as_str()),

@@ -40,7 +40,8 @@ use std::slice;
 use storage::{Terms, only_of};
 pub use trivial::trivial_merge;
 
-/// What becomes of sides that made the same change: `Keep` leaves them as a conflict, `Accept` takes the change.
+/// What becomes of sides that made the same change: `Keep` leaves them as a conflict, `Accept`
+/// takes the change.
 #[derive(Copy, Clone, Debug, PartialEq, Eq, Drop)]
 pub enum SameChange {
     Keep,

@@ -7,7 +7,8 @@ use Rattle.jj_content.specs.Lawful.{text_lawful}
 use Rattle.jj_paths.specs.Paths.{Path, path_text, components}
 use Rattle.jj_paths.specs.Orders.{path_eq, path_eq-Decides}
 
--- a path whose text gives it back, as each list of names does, and is no longer than a count can say
+-- a path whose text gives it back, as each list of names does, and is no longer than a count can
+-- say
 abbrev pub IsShortPath : Path → Type 0
 IsShortPath path = (components (path_text path) ≡ path) × (length (path_text path) < 2 ^ 64)
 
@@ -19,7 +20,8 @@ path_lawful = record {
   same = λ x y p q h. ap path_content ((path_eq-Decides x y).0 h);
   decides = λ x y s t p q h.
       let texts : path_text x ≡ path_text y =
-      same_text (path_text x) (path_text y) (sym (text_lawful.decides (path_text x) (path_text y) s t p.1 q.1 h)) in
+      same_text (path_text x) (path_text y) (sym
+      (text_lawful.decides (path_text x) (path_text y) s t p.1 q.1 h)) in
       let same : x ≡ y = sym p.0 ∙ ap components texts ∙ q.0 in
       (path_eq-Decides x y).1 same;
 }

@@ -25,7 +25,8 @@ abbrev pub CreatesOrReuses : {D : Type 0} → (D → List ℕ → Bool) → MayE
 CreatesOrReuses is_directory may_create path old result new =
     (created : Result (Unit {0}) Error) × may_create old path created new
     × MatchResult created (λ done. result ≡ Ok tt)
-    (λ error. MatchBool (is_directory new path) (result ≡ Ok tt) (IsErrAnd result (IsAtPath path error)))
+    (λ error. MatchBool (is_directory new path) (result ≡ Ok tt)
+    (IsErrAnd result (IsAtPath path error)))
 
 -- each of these entries of a directory was removed, in this order
 abbrev pub RemovesEach : {D : Type 0} → MayEnd D → List ℕ → List (List ℕ) → D → D → Type 0
@@ -36,7 +37,8 @@ RemovesEach {D} may_remove dir (name ∷ names) old new =
 
 -- why the entries of a directory were not all removed: listing them failed, or, once a front of
 -- them was removed, removing the next one did, or memory ran out
-abbrev pub IsRemovalFault : {D : Type 0} → MayList D → MayEnd D → List ℕ → D → PathError → D → Type 0
+abbrev pub IsRemovalFault : {D : Type 0} → MayList D → MayEnd D → List ℕ → D → PathError → D
+    → Type 0
 IsRemovalFault {D} may_list may_remove dir old fault new =
     (may_list old dir (Err fault) × (new ≡ old))
     ⊎ ((removed rest : List (List ℕ)) × (name : List ℕ) × (error : Error) × (between : D)

@@ -13,7 +13,9 @@ module _ {V : Type 0} (eq : V → V → Bool) where
   branches_eq none none = true
   branches_eq none (branch name value below after) = false
   branches_eq (branch name value below after) none = false
-  branches_eq (branch name value below after) (branch name' value' below' after') = bytes_eq name name' && (eq value value' && (branches_eq below below' && branches_eq after after'))
+  branches_eq (branch name value below after) (branch name' value' below' after') =
+      bytes_eq name name' && (eq value value'
+      && (branches_eq below below' && branches_eq after after'))
 
   abbrev pub tree_eq : Tree V → Tree V → Bool
   tree_eq tree other = eq tree.0 other.0 && branches_eq tree.1 other.1
@@ -30,7 +32,8 @@ module _ {V : Type 0} {eq : V → V → Bool} where
         let names = nat_list_eq_equiv in
         λ i. names.symm n m i && (values.symm v w i && (p i && q i))
 
-    branches_trans : (b c d : Branches V) → branches_eq eq b c ≡ true → branches_eq eq c d ≡ true → branches_eq eq b d ≡ true
+    branches_trans : (b c d : Branches V) → branches_eq eq b c ≡ true → branches_eq eq c d ≡ true
+        → branches_eq eq b d ≡ true
     branches_trans none none d h k = k
     branches_trans none (branch m w c d) x h k = absurd (false≢true h)
     branches_trans (branch n v a b) none x h k = absurd (false≢true h)
@@ -44,7 +47,8 @@ module _ {V : Type 0} {eq : V → V → Bool} where
         let h2 = and_parts (branches_eq eq a c) _ h1.1 in
         let k2 = and_parts (branches_eq eq c e) _ k1.1 in
         and_from _ _ (names.trans n m l h0.0 k0.0)
-        (and_from _ _ (values.trans v w u h1.0 k1.0) (and_from _ _ (branches_trans a c e h2.0 k2.0) (branches_trans b d f h2.1 k2.1)))
+        (and_from _ _ (values.trans v w u h1.0 k1.0)
+        (and_from _ _ (branches_trans a c e h2.0 k2.0) (branches_trans b d f h2.1 k2.1)))
 
     pub tree_per : IsPartialEquivalence (tree_eq eq)
     tree_per = record {
@@ -56,8 +60,10 @@ module _ {V : Type 0} {eq : V → V → Bool} where
     }
 
   pub tree_equiv : IsEquivalence eq → IsEquivalence (tree_eq eq)
-  tree_equiv values = equiv (tree_per (partial_equiv_from_equiv values)) (λ t. and_from _ _ (values.refl t.0) (itself t.1))
+  tree_equiv values = equiv (tree_per (partial_equiv_from_equiv values))
+      (λ t. and_from _ _ (values.refl t.0) (itself t.1))
     where
       itself : (b : Branches V) → branches_eq eq b b ≡ true
       itself none = refl
-      itself (branch n v a b) = let names = nat_list_eq_equiv in and_from _ _ (names.refl n) (and_from _ _ (values.refl v) (and_from _ _ (itself a) (itself b)))
+      itself (branch n v a b) = let names = nat_list_eq_equiv in and_from _ _ (names.refl n)
+          (and_from _ _ (values.refl v) (and_from _ _ (itself a) (itself b)))

@@ -1,5 +1,5 @@
--- What holds of all paths and of all trees: a text and its path give each other back, a last name is one name, and a
--- tree holds its root and every front of a path that it holds.
+-- What holds of all paths and of all trees: a text and its path give each other back, a last name
+-- is one name, and a tree holds its root and every front of a path that it holds.
 use Rattle.std.specs.Prelude.{◌≡◌, IsSome, Some, true, ℕ, List, [], ◌∷◌, ◌++◌}
 use Rattle.std.specs.List.{list_all}
 use Rattle.jj_paths.specs.Paths.{Name, Path, components, path_text, is_name, is_path_text}
@@ -9,13 +9,16 @@ abbrev pub TextsGiveBack : Type 0
 TextsGiveBack = (text : List ℕ) → path_text (components text) ≡ text
 
 abbrev pub PathsGiveBack : Type 0
-PathsGiveBack = (path : Path) → list_all is_name path ≡ true → (components (path_text path) ≡ path) × (is_path_text (path_text path) ≡ true)
+PathsGiveBack = (path : Path) → list_all is_name path ≡ true → (components (path_text path) ≡ path)
+    × (is_path_text (path_text path) ≡ true)
 
 abbrev pub LastNamesAreOne : Type 0
-LastNamesAreOne = (above other : Path) (name last : Name) → above ++ name ∷ [] ≡ other ++ last ∷ [] → (above ≡ other) × (name ≡ last)
+LastNamesAreOne = (above other : Path) (name last : Name) → above ++ name ∷ [] ≡ other ++ last ∷ []
+    → (above ≡ other) × (name ≡ last)
 
 abbrev pub HoldsRoot : Type 0 → Type 0
 HoldsRoot V = (tree : Tree V) → get tree [] ≡ Some tree
 
 abbrev pub HoldsFronts : Type 0 → Type 0
-HoldsFronts V = (tree : Tree V) (front rest : Path) → IsSome (get tree (front ++ rest)) → IsSome (get tree front)
+HoldsFronts V = (tree : Tree V) (front rest : Path) → IsSome (get tree (front ++ rest))
+    → IsSome (get tree front)

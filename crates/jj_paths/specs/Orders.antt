@@ -1,4 +1,5 @@
--- The equality and the order of paths, name by name, with their laws, and what a path gives to a hash.
+-- The equality and the order of paths, name by name, with their laws, and what a path gives to a
+-- hash.
 use Rattle.std.specs.Prelude.{◌≡◌, ◌==◌, ℕ, Bool, true, Some, if◌then◌else◌}
 use Rattle.std.proofs.Common.{ap}
 use Rattle.std.specs.Str.{bytes_eq}
@@ -40,4 +41,5 @@ path_hash-respects_eq a b same = ap path_hash ((path_eq-Decides a b).0 same)
 
 -- bytes in their order, but a slash (byte 47) first
 abbrev pub slash_cmp : ℕ → ℕ → Ordering
-slash_cmp x y = if x == 47 then (if y == 47 then Equal else Less) else (if y == 47 then Greater else nat_cmp x y)
+slash_cmp x y = if x == 47 then (if y == 47 then Equal else Less) else
+    (if y == 47 then Greater else nat_cmp x y)

@@ -52,4 +52,5 @@ relative_text to (first ∷ front) from_left to_left = fs_text [] (way_between f
 -- the text leads from the one path to the other
 abbrev pub IsRelativeTo : List ℕ → List ℕ → List ℕ → Type 0
 IsRelativeTo from to text = (front from_left to_left : List (List ℕ))
-    × SharesFront from to front from_left to_left × (text ≡ relative_text to front from_left to_left)
+    × SharesFront from to front from_left to_left
+    × (text ≡ relative_text to front from_left to_left)

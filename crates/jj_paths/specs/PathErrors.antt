@@ -12,4 +12,5 @@ IsAtPath path error Memory = ⊤
 -- the outcome with the path added to an error
 abbrev pub AddsPath : {T : Type 0} → List ℕ → Result T Error → Result T PathError → Type 0
 AddsPath path outcome result =
-    MatchResult outcome (λ value. result ≡ Ok value) (λ error. IsErrAnd result (IsAtPath path error))
+    MatchResult outcome (λ value. result ≡ Ok value)
+    (λ error. IsErrAnd result (IsAtPath path error))

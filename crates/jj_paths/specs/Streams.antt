@@ -15,15 +15,19 @@ usize_saturate n = min n (2 ^ 64 - 1)
 
 -- known bytes grew by a beginning of `whole`
 abbrev pub AppendsFrontOf : Option (List ℕ) → Option (List ℕ) → List ℕ → Type 0
-AppendsFrontOf old new whole = (written rest : List ℕ) × Appends old new written × (written ++ rest ≡ whole)
+AppendsFrontOf old new whole = (written rest : List ℕ) × Appends old new written
+    × (written ++ rest ≡ whole)
 
 -- the source's bytes were all read, and written to the sink, and the answer is their number
-abbrev pub CopiesAll : Option (List ℕ) → Option (List ℕ) → Option (List ℕ) → Option (List ℕ) → ℕ → Type 0
+abbrev pub CopiesAll : Option (List ℕ) → Option (List ℕ) → Option (List ℕ) → Option (List ℕ) → ℕ
+    → Type 0
 CopiesAll source source' sink sink' n =
-    (bytes : List ℕ) × Consumes source source' bytes × IsAtEnd source' × Appends sink sink' bytes × (n ≡ usize_saturate (length bytes))
+    (bytes : List ℕ) × Consumes source source' bytes × IsAtEnd source' × Appends sink sink' bytes
+    × (n ≡ usize_saturate (length bytes))
 
 -- what was written is a beginning of what was read
-abbrev pub CopiesFront : Option (List ℕ) → Option (List ℕ) → Option (List ℕ) → Option (List ℕ) → Type 0
+abbrev pub CopiesFront : Option (List ℕ) → Option (List ℕ) → Option (List ℕ) → Option (List ℕ)
+    → Type 0
 CopiesFront source source' sink sink' =
     (written lost : List ℕ) × Consumes source source' (written ++ lost) × Appends sink sink' written
 
@@ -31,7 +35,8 @@ CopiesFront source source' sink sink' =
 abbrev pub TakesSome : {E : Type 0} → Result ℕ E → List ℕ → Type 0
 TakesSome r piece = IfOk r (λ n. 0 < length piece → 0 < n)
 
--- the answer of a write stands, but that none was taken of a piece with bytes is a failure of its own kind
+-- the answer of a write stands, but that none was taken of a piece with bytes is a failure of its
+-- own kind
 abbrev pub SettlesWrite : Result ℕ Error → ℕ → Result ℕ Error → Type 0
 SettlesWrite (Err e) offered result = result ≡ Err e
 SettlesWrite (Ok taken) offered result =

@@ -40,22 +40,26 @@ module _ {V : Type 0} where
   -- the names ascend at every node
   abbrev pub is_ordered : Branches V → Bool
   is_ordered none = true
-  is_ordered (branch name value below after) = below_all name_cmp name (children after) && (is_ordered below && is_ordered after)
+  is_ordered (branch name value below after) = below_all name_cmp name (children after)
+      && (is_ordered below && is_ordered after)
 
   -- the node of the first branch with that name
   abbrev pub child : Branches V → Name → Option (Tree V)
   child none name = None
-  child (branch n value below after) name = if bytes_eq n name then Some (value, below) else child after name
+  child (branch n value below after) name = if bytes_eq n name then Some
+      (value, below) else child after name
 
   -- the node at a path below a node
   abbrev pub get : Tree V → Path → Option (Tree V)
   get tree [] = Some tree
   get tree (name ∷ rest) = option_and_then (λ sub. get sub rest) (child tree.1 name)
 
-  -- the nodes on the way to a path, as far as they go, each with what of the path is below it: all, and those below a node
+  -- the nodes on the way to a path, as far as they go, each with what of the path is below it: all,
+  -- and those below a node
   abbrev pub nodes_on : Tree V → Path → List (Tree V × Path)
   nodes_on tree [] = (tree, []) ∷ []
-  nodes_on tree (name ∷ rest) = (tree, name ∷ rest) ∷ elim (child tree.1 name) [ None ↦ [] | Some sub ↦ nodes_on sub rest ]
+  nodes_on tree (name ∷ rest) = (tree, name ∷ rest) ∷ elim (child tree.1 name)
+      [ None ↦ [] | Some sub ↦ nodes_on sub rest ]
 
   abbrev pub nodes_from : Option (Tree V × Path) → List (Tree V × Path)
   nodes_from None = []
@@ -67,13 +71,15 @@ module _ {V : Type 0} where
 
   -- a node with what of the path is below it: the path leads to the node by what is above it
   abbrev pub IsPartOf : Tree V → Path → Tree V × Path → Type 0
-  IsPartOf tree path step = (front : Path) × (path ≡ front ++ step.1) × (get tree front ≡ Some step.0)
+  IsPartOf tree path step = (front : Path) × (path ≡ front ++ step.1)
+      × (get tree front ≡ Some step.0)
 
   -- the branches with the first node of that name changed
   abbrev pub update_child : Branches V → Name → (Tree V → Tree V) → Branches V
   update_child none name f = none
   update_child (branch n value below after) name f =
-      if bytes_eq n name then branch n (f (value, below)).0 (f (value, below)).1 after else branch n value below (update_child after name f)
+      if bytes_eq n name then branch n (f (value, below)).0
+      (f (value, below)).1 after else branch n value below (update_child after name f)
 
   -- the tree with another node at a path
   abbrev pub put : Tree V → Path → Tree V → Tree V
@@ -88,19 +94,26 @@ module _ {V : Type 0} where
   -- the tree with another value at a path
   abbrev pub put_value : Tree V → Path → V → Tree V
   put_value tree [] value = (value, tree.1)
-  put_value tree (name ∷ rest) value = (tree.0, update_child tree.1 name (λ sub. put_value sub rest value))
+  put_value tree (name ∷ rest) value = (
+    tree.0,
+    update_child tree.1 name (λ sub. put_value sub rest value),
+  )
 
-  -- a node has the child of that name, which is a new one where it had none, and its other children are as they were
-  pub record IsGrown (is_new : V → Type 0) (old : Tree V) (name : Name) (node : Tree V) : Type 0 where
+  -- a node has the child of that name, which is a new one where it had none, and its other children
+  -- are as they were
+  pub record IsGrown (is_new : V → Type 0) (old : Tree V) (name : Name)
+      (node : Tree V) : Type 0 where
     pub value : node.0 ≡ old.0
     pub there : IsSome (child node.1 name)
     pub others : (n : Name) → n ≢ name → child node.1 n ≡ child old.1 n
     pub keeps : (sub : Tree V) → child old.1 name ≡ Some sub → child node.1 name ≡ Some sub
-    pub makes : (sub : Tree V) → child old.1 name ≡ None → child node.1 name ≡ Some sub → is_new sub.0 × (sub.1 ≡ none)
+    pub makes : (sub : Tree V) → child old.1 name ≡ None → child node.1 name ≡ Some sub
+        → is_new sub.0 × (sub.1 ≡ none)
     pub ordered : is_ordered old.1 ≡ true → is_ordered node.1 ≡ true
 
   -- the child of a node that was grown becomes another, and so the old node becomes the new one
-  pub record IsChildEdited (is_new : V → Type 0) (old : Tree V) (name : Name) (sub changed new : Tree V) : Type 0 where
+  pub record IsChildEdited (is_new : V → Type 0) (old : Tree V) (name : Name)
+      (sub changed new : Tree V) : Type 0 where
     pub tree : Tree V
     pub grown : IsGrown is_new old name tree
     pub at_name : child tree.1 name ≡ Some sub
@@ -110,16 +123,20 @@ module _ {V : Type 0} where
   abbrev pub value_at : Tree V → Path → Option V
   value_at tree path = option_map (λ node. node.0) (get tree path)
 
-  -- a tree keeps the values of another, and has at most new ones on the fronts of a path, which the test passes; names
-  -- that ascended at every node still do
-  pub record IsExtended (is_new : V → Type 0) (old : Tree V) (path : Path) (tree : Tree V) : Type 0 where
+  -- a tree keeps the values of another, and has at most new ones on the fronts of a path, which the
+  -- test passes; names that ascended at every node still do
+  pub record IsExtended (is_new : V → Type 0) (old : Tree V) (path : Path)
+      (tree : Tree V) : Type 0 where
     pub keeps : (q : Path) (value : V) → value_at old q ≡ Some value → value_at tree q ≡ Some value
-    pub makes : (q : Path) (value : V) → value_at old q ≡ None → value_at tree q ≡ Some value → is_new value × ((rest : Path) × (path ≡ q ++ rest))
+    pub makes : (q : Path) (value : V) → value_at old q ≡ None → value_at tree q ≡ Some value
+        → is_new value × ((rest : Path) × (path ≡ q ++ rest))
     pub ordered : is_ordered old.1 ≡ true → is_ordered tree.1 ≡ true
 
-  -- the node at the path of a tree that was extended becomes another, and so the old tree becomes the new one:
-  -- what is at or below the path is the other node's, and every other value is as it was
-  pub record IsEdited (is_new : V → Type 0) (old : Tree V) (path : Path) (node changed new : Tree V) : Type 0 where
+  -- the node at the path of a tree that was extended becomes another, and so the old tree becomes
+  -- the new one: what is at or below the path is the other node's, and every other value is as it
+  -- was
+  pub record IsEdited (is_new : V → Type 0) (old : Tree V) (path : Path)
+      (node changed new : Tree V) : Type 0 where
     pub tree : Tree V
     pub extended : IsExtended is_new old path tree
     pub at_path : get tree path ≡ Some node
@@ -127,20 +144,26 @@ module _ {V : Type 0} where
     pub within : (rest : Path) → get new (path ++ rest) ≡ get changed rest
     pub others : (q : Path) → ((rest : Path) → q ≢ path ++ rest) → value_at new q ≡ value_at tree q
 
-  -- the value at the path is the given one, every other value is kept, and further values are at most new ones on the
-  -- fronts of the path, which the test passes; names that ascended at every node still do
-  pub record IsSet (is_new : V → Type 0) (old : Tree V) (path : Path) (value : V) (new : Tree V) : Type 0 where
+  -- the value at the path is the given one, every other value is kept, and further values are at
+  -- most new ones on the fronts of the path, which the test passes; names that ascended at every
+  -- node still do
+  pub record IsSet (is_new : V → Type 0) (old : Tree V) (path : Path) (value : V)
+      (new : Tree V) : Type 0 where
     pub here : value_at new path ≡ Some value
     pub keeps : (q : Path) (v : V) → q ≢ path → value_at old q ≡ Some v → value_at new q ≡ Some v
-    pub makes : (q : Path) (v : V) → q ≢ path → value_at old q ≡ None → value_at new q ≡ Some v → is_new v × ((rest : Path) × (path ≡ q ++ rest))
+    pub makes : (q : Path) (v : V) → q ≢ path → value_at old q ≡ None → value_at new q ≡ Some v
+        → is_new v × ((rest : Path) × (path ≡ q ++ rest))
     pub ordered : is_ordered old.1 ≡ true → is_ordered new.1 ≡ true
 
-  -- branches of the same names, whose values are clones of the others', each at its place; and a node's
+  -- branches of the same names, whose values are clones of the others', each at its place; and a
+  -- node's
   abbrev pub AreClones : (V → V → Type 0) → Branches V → Branches V → Type 0
   AreClones is_clone none none = Unit {0}
   AreClones is_clone none (branch name value below after) = ⊥
   AreClones is_clone (branch name value below after) none = ⊥
-  AreClones is_clone (branch name value below after) (branch name' value' below' after') = (name ≡ name') × is_clone value value' × AreClones is_clone below below' × AreClones is_clone after after'
+  AreClones is_clone (branch name value below after) (branch name' value' below' after') =
+      (name ≡ name') × is_clone value value' × AreClones is_clone below below'
+      × AreClones is_clone after after'
 
   abbrev pub IsTreeClone : (V → V → Type 0) → Tree V → Tree V → Type 0
   IsTreeClone is_clone tree copy = is_clone tree.0 copy.0 × AreClones is_clone tree.1 copy.1
@@ -153,8 +176,10 @@ module _ {V : Type 0} where
   -- the name would go at place i: smaller names before it, and greater ones from it on
   pub record IsGapFor (entries : List (Name × Tree V)) (name : Name) (i : ℕ) : Type 0 where
     pub in_range : i ≤ length entries
-    pub smaller_before : (j : ℕ) (d : Name × Tree V) → j < i → name_cmp (slice_index_or entries j d).0 name ≡ Less
-    pub greater_after : (j : ℕ) (d : Name × Tree V) → i ≤ j → j < length entries → name_cmp (slice_index_or entries j d).0 name ≡ Greater
+    pub smaller_before : (j : ℕ) (d : Name × Tree V) → j < i
+        → name_cmp (slice_index_or entries j d).0 name ≡ Less
+    pub greater_after : (j : ℕ) (d : Name × Tree V) → i ≤ j → j < length entries
+        → name_cmp (slice_index_or entries j d).0 name ≡ Greater
 
   -- how many nodes the branches lead to
   abbrev pub branch_count : Branches V → ℕ
@@ -162,12 +187,16 @@ module _ {V : Type 0} where
   branch_count (branch name value below after) = 1 + branch_count below + branch_count after
 
   -- the size falls from a node to its children, as Rattle counts it
-  pub most_le-branch_count : (μ : Name × Tree V → ℕ) → ((x : Name × Tree V) → μ x ≤ 2 * branch_count x.1.1 + 2) → (items : List (Name × Tree V)) → max (most μ items) 0 ≤ 2 * branch_count (branches_of items)
+  pub most_le-branch_count : (μ : Name × Tree V → ℕ)
+      → ((x : Name × Tree V) → μ x ≤ 2 * branch_count x.1.1 + 2) → (items : List (Name × Tree V))
+      → max (most μ items) 0 ≤ 2 * branch_count (branches_of items)
   most_le-branch_count μ h [] = omega arith
   most_le-branch_count μ h (x ∷ xs) = omega (arith, h x, most_le-branch_count μ h xs)
 
-  -- what a pair adds to the size of the branches that it stands in, as the size of a node is counted
-  pub weight_le-pair : (x : Name × Tree V) → max 0 (max (2 * branch_count x.1.1 + 1 + 1) 0) ≤ 2 * branch_count x.1.1 + 2
+  -- what a pair adds to the size of the branches that it stands in, as the size of a node is
+  -- counted
+  pub weight_le-pair : (x : Name × Tree V)
+      → max 0 (max (2 * branch_count x.1.1 + 1 + 1) 0) ≤ 2 * branch_count x.1.1 + 2
   weight_le-pair x = omega arith
 
   -- a code: the branches in postorder
@@ -183,10 +212,13 @@ module _ {V : Type 0} where
   read_tokens (Some x ∷ ts) (after ∷ []) = none
   read_tokens (Some x ∷ ts) (after ∷ below ∷ bs) = read_tokens ts (branch x.0 x.1 below after ∷ bs)
 
-  pub read_tokens-tokens : (b : Branches V) (ts : List (Option (Name × V))) (bs : List (Branches V)) → read_tokens (tokens b ++ ts) bs ≡ read_tokens ts (b ∷ bs)
+  pub read_tokens-tokens : (b : Branches V) (ts : List (Option (Name × V))) (bs : List (Branches V))
+      → read_tokens (tokens b ++ ts) bs ≡ read_tokens ts (b ∷ bs)
   read_tokens-tokens none ts bs = refl
   read_tokens-tokens (branch name value below after) ts bs =
-      ap (λ l. read_tokens l bs) (append_assoc (tokens below) (tokens after ++ Some (name, value) ∷ []) ts ∙ ap (λ l. tokens below ++ l) (append_assoc (tokens after) (Some (name, value) ∷ []) ts))
+      ap (λ l. read_tokens l bs) (append_assoc (tokens below)
+      (tokens after ++ Some (name, value) ∷ []) ts
+      ∙ ap (λ l. tokens below ++ l) (append_assoc (tokens after) (Some (name, value) ∷ []) ts))
       ∙ read_tokens-tokens below (tokens after ++ (Some (name, value) ∷ ts)) bs
       ∙ read_tokens-tokens after (Some (name, value) ∷ ts) (below ∷ bs)
 
@@ -194,10 +226,13 @@ module _ {V : Type 0} where
   from_tokens ts = read_tokens ts []
 
   pub from_tokens-tokens : (b : Branches V) → from_tokens (tokens b) ≡ b
-  from_tokens-tokens b = ap (λ l. read_tokens l []) (sym (append-nil (tokens b))) ∙ read_tokens-tokens b [] []
+  from_tokens-tokens b = ap (λ l. read_tokens l []) (sym (append-nil (tokens b)))
+      ∙ read_tokens-tokens b [] []
 
   abbrev pub branches_code : Coded V → Coded (Branches V)
-  branches_code v = code_by (List (Option (Name × V))) (coded_list (coded_option (coded× (coded_list coded_ℕ) v))) tokens from_tokens from_tokens-tokens
+  branches_code v = code_by (List (Option (Name × V)))
+      (coded_list
+      (coded_option (coded× (coded_list coded_ℕ) v))) tokens from_tokens from_tokens-tokens
 
   abbrev pub tree_code : Coded V → Coded (Tree V)
   tree_code v = coded× v (branches_code v)

@@ -30,7 +30,8 @@ pub trait Source {
     /// How many more reads can succeed.
     ghost reads_left: { Self → ℕ };
 
-    /// Reads some of the bytes that are left into the front of `buf`: none only at the end, or where `buf` is empty.
+    /// Reads some of the bytes that are left into the front of `buf`: none only at the end, or
+    /// where `buf` is empty.
     fn read(&mut self, buf: &mut [u8]) -> io::Result<usize>
         ensures bound { ReadsAtMost result buf.new }
         ensures bytes { ReadConsumes (remaining self.old) (remaining self.new) result buf.new }
@@ -164,12 +165,15 @@ pub fn write_all<W: Sink>(writer: &mut W, piece: &[u8]) -> io::Result<()>
     Ok(())
 }
 
-/// Reads a source to its end and writes the bytes to a sink. The count stops at the greatest `usize`.
+/// Reads a source to its end and writes the bytes to a sink. The count stops at the greatest
+/// `usize`.
 pub fn copy<R: Source, W: Sink>(reader: &mut R, writer: &mut W) -> io::Result<usize>
     requires reader_works { R.has_failed reader.old ≡ false }
     requires writer_works { W.has_failed writer.old ≡ false }
-    ensures all { IfOk result (CopiesAll (R.remaining reader.old) (R.remaining reader.new) (W.contents writer.old) (W.contents writer.new)) }
-    ensures front { CopiesFront (R.remaining reader.old) (R.remaining reader.new) (W.contents writer.old) (W.contents writer.new) }
+    ensures all { IfOk result (CopiesAll (R.remaining reader.old) (R.remaining reader.new)
+        (W.contents writer.old) (W.contents writer.new)) }
+    ensures front { CopiesFront (R.remaining reader.old) (R.remaining reader.new)
+        (W.contents writer.old) (W.contents writer.new) }
     ensures failure { is_err result ≡ (R.has_failed reader.new || W.has_failed writer.new) }
 {
     let mut buf = [0u8; COPY_BUFFER];

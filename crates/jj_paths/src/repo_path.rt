@@ -70,7 +70,8 @@ impl RepoPathComponentBuf {
     pub fn new(value: String) -> Result<RepoPathComponentBuf, InvalidNewRepoPathError>
         ensures ok { IfOk result (λ name. name ≡ string_bytes value) }
         ensures valid { IsTrue (is_name (string_bytes value)) → IsOk result }
-        ensures refused { IfErr result (IsRefusal (is_name (string_bytes value)) (string_bytes value)) }
+        ensures refused { IfErr result (IsRefusal (is_name (string_bytes value))
+            (string_bytes value)) }
     {
         if is_valid_repo_path_component_str(value.as_str()) {
             Ok(RepoPathComponentBuf { value })
@@ -146,7 +147,8 @@ impl<'a> RepoPath<'a> {
         RepoPath { value: "" }
     }
 
-    /// A path of this text: the empty text, or names joined by slashes. Any other text is `Invalid`.
+    /// A path of this text: the empty text, or names joined by slashes. Any other text is
+    /// `Invalid`.
     pub fn from_internal_string(
         alloc: Global,
         value: &'a str,
@@ -202,7 +204,8 @@ impl<'a> RepoPath<'a> {
 
     /// The first name, and the path below it.
     pub fn split_first(self) -> Option<(RepoPathComponent<'a>, RepoPath<'a>)>
-        ensures { MatchOption result (path_of self.entry ≡ []) (λ pair. path_of self.entry ≡ name_of pair.0 ∷ path_of pair.1) }
+        ensures { MatchOption result (path_of self.entry ≡ [])
+            (λ pair. path_of self.entry ≡ name_of pair.0 ∷ path_of pair.1) }
     {
         if self.value.is_empty() {
             return None;
@@ -228,7 +231,9 @@ impl<'a> RepoPath<'a> {
 
     /// The path from a base on, where it is the base or stands below it.
     pub fn strip_prefix(self, base: RepoPath<'_>) -> Option<RepoPath<'a>>
-        ensures { MatchOption result ((rest : Path) → path_of self.entry ≢ path_of base.entry ++ rest) (λ rest. path_of self.entry ≡ path_of base.entry ++ path_of rest) }
+        ensures { MatchOption result ((rest : Path)
+            → path_of self.entry ≢ path_of base.entry ++ rest)
+            (λ rest. path_of self.entry ≡ path_of base.entry ++ path_of rest) }
     {
         if base.value.is_empty() {
             return Some(self);
@@ -245,7 +250,8 @@ impl<'a> RepoPath<'a> {
 
     /// The path above the last name, and that name.
     pub fn split(self) -> Option<(RepoPath<'a>, RepoPathComponent<'a>)>
-        ensures { MatchOption result (path_of self.entry ≡ []) (λ pair. path_of self.entry ≡ path_of pair.0 ++ name_of pair.1 ∷ []) }
+        ensures { MatchOption result (path_of self.entry ≡ [])
+            (λ pair. path_of self.entry ≡ path_of pair.0 ++ name_of pair.1 ∷ []) }
     {
         if self.value.is_empty() {
             return None;
@@ -264,7 +270,8 @@ impl<'a> RepoPath<'a> {
 
     /// The path above the last name.
     pub fn parent(self) -> Option<RepoPath<'a>>
-        ensures { MatchOption result (path_of self.entry ≡ []) (λ above. (name : Name) × (path_of self.entry ≡ path_of above ++ name ∷ [])) }
+        ensures { MatchOption result (path_of self.entry ≡ [])
+            (λ above. (name : Name) × (path_of self.entry ≡ path_of above ++ name ∷ [])) }
     {
         match self.split() {
             None => None,
@@ -272,11 +279,13 @@ impl<'a> RepoPath<'a> {
         }
     }
 
-    /// The longest path that this one and the other begin with, and what comes after it in this one.
+    /// The longest path that this one and the other begin with, and what comes after it in this
+    /// one.
     pub fn split_common_prefix(self, other: RepoPath<'_>) -> (RepoPath<'a>, RepoPath<'a>)
         ensures whole { path_of self.entry ≡ path_of result.0 ++ path_of result.1 }
         ensures common { IsBelow (path_of other.entry) (path_of result.0) }
-        ensures longest { (front : Path) → IsBelow (path_of self.entry) front → IsBelow (path_of other.entry) front → IsBelow (path_of result.0) front }
+        ensures longest { (front : Path) → IsBelow (path_of self.entry) front
+            → IsBelow (path_of other.entry) front → IsBelow (path_of result.0) front }
     {
         let rest = self.after_common(other);
         (self.before(rest), rest)
@@ -364,11 +373,13 @@ impl RepoPathBuf {
         }
     }
 
-    /// A path of this text: the empty text, or names joined by slashes. Any other text is `Invalid`, and is handed back.
+    /// A path of this text: the empty text, or names joined by slashes. Any other text is
+    /// `Invalid`, and is handed back.
     pub fn from_internal_string(value: String) -> Result<RepoPathBuf, InvalidNewRepoPathError>
         ensures ok { IfOk result (λ path. path ≡ components (string_bytes value)) }
         ensures valid { IsTrue (is_path_text (string_bytes value)) → IsOk result }
-        ensures refused { IfErr result (IsRefusal (is_path_text (string_bytes value)) (string_bytes value)) }
+        ensures refused { IfErr result (IsRefusal (is_path_text (string_bytes value))
+            (string_bytes value)) }
     {
         if is_valid_repo_path_str(value.as_str()) {
             Ok(RepoPathBuf { value })

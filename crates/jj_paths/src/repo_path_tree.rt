@@ -1,4 +1,5 @@
-//! A tree of values at paths: a finite map from paths that holds the root and every front of each key.
+//! A tree of values at paths: a finite map from paths that holds the root and every front of each
+//! key.
 ghost use Rattle.std.specs.Prelude.{◌≡◌, ◌≢◌, Some, IsSome, [], ◌∷◌, IsTrue, IfOk, IfErr, MatchResult};
 ghost use Rattle.std.specs.Borrow.{sem, Lends};
 ghost use denote.Struct.Tuple.{Tuple};
@@ -65,8 +66,9 @@ impl<V> Model for RepoPathNode<V> {
     ghost size_decreases = { λ t h. most_le-branch_count _ weight_le-pair t.entries.items };
 }
 
-/// Goes down and up again without a recursion, so that a deep tree takes no more stack than a flat one. On the way down
-/// the place that a child leaves in its parent's list keeps the way back up: it holds the list above the parent.
+/// Goes down and up again without a recursion, so that a deep tree takes no more stack than a flat
+/// one. On the way down the place that a child leaves in its parent's list keeps the way back up:
+/// it holds the list above the parent.
 impl<V: Drop> Drop for RepoPathNode<V> {
     fn drop(self) {
         let mut current = self.into_entries();
@@ -208,7 +210,8 @@ impl<V> RepoPathNode<V> {
 
     /// The value at the node, to write to.
     pub fn value_mut(&mut self) -> &mut V
-        ensures* writes_back { sem 𝓛 (Lends (the_row V.row) V.row self.entry result (λ w. (w, self.old.1))) }
+        ensures* writes_back { sem 𝓛 (Lends (the_row V.row) V.row self.entry result
+            (λ w. (w, self.old.1))) }
         ensures value { result.now ≡ self.old.0 }
     {
         &mut self.value
@@ -221,8 +224,14 @@ impl<V> RepoPathNode<V> {
     ) -> Result<&mut RepoPathTree<V>, AllocError>
     where
         V: Default + Drop,
-        ensures* writes_back { sem 𝓛 (LendsSoOk (the_row V.row) (tree.the_row V.row) self.entry result (λ new changed. IfOk result (λ sub. IsChildEdited V.is_default self.old (name_of name.entry) sub.now changed new)) (λ new. new ≡ self.old)) }
-        ensures value { IfOk result (λ sub. (t : Tree V) × IsGrown V.is_default self.old (name_of name.entry) t × (child t.1 (name_of name.entry) ≡ Some sub.now)) }
+        ensures* writes_back { sem 𝓛 (LendsSoOk (the_row V.row)
+            (tree.the_row V.row) self.entry result
+            (λ new changed. IfOk result (λ sub.
+            IsChildEdited V.is_default self.old (name_of name.entry) sub.now changed new))
+            (λ new. new ≡ self.old)) }
+        ensures value { IfOk result (λ sub. (t : Tree V)
+            × IsGrown V.is_default self.old (name_of name.entry) t
+            × (child t.1 (name_of name.entry) ≡ Some sub.now)) }
     {
         match place(&self.entries, name) {
             Ok(at) => Ok(second(&mut self.entries[at])),
@@ -242,8 +251,14 @@ impl<V> RepoPathNode<V> {
     where
         V: Default + Drop,
         requires { path_of path ≢ [] }
-        ensures* writes_back { sem 𝓛 (LendsSoOk (the_row V.row) (tree.the_row V.row) self.entry result (λ new changed. IfOk result (λ sub. IsChildEdited V.is_default self.old (first_of (path_of path.entry)) sub.now changed new)) (λ new. new ≡ self.old)) }
-        ensures value { IfOk result (λ sub. (t : Tree V) × IsGrown V.is_default self.old (first_of (path_of path.entry)) t × (child t.1 (first_of (path_of path.entry)) ≡ Some sub.now)) }
+        ensures* writes_back { sem 𝓛 (LendsSoOk (the_row V.row)
+            (tree.the_row V.row) self.entry result
+            (λ new changed. IfOk result (λ sub.
+            IsChildEdited V.is_default self.old (first_of
+            (path_of path.entry)) sub.now changed new)) (λ new. new ≡ self.old)) }
+        ensures value { IfOk result (λ sub. (t : Tree V)
+            × IsGrown V.is_default self.old (first_of (path_of path.entry)) t
+            × (child t.1 (first_of (path_of path.entry)) ≡ Some sub.now)) }
     {
         match path.split_first() {
             None => unreachable!(),
@@ -254,7 +269,8 @@ impl<V> RepoPathNode<V> {
     // the tree below, at a name
     fn child_mut(&mut self, name: RepoPathComponent<'_>) -> &mut RepoPathTree<V>
         requires { IsSome (child self.old.1 (name_of name)) }
-        ensures* writes_back { sem 𝓛 (Lends (the_row V.row) (tree.the_row V.row) self.entry result (λ w. (self.old.0, update_child self.old.1 (name_of name.entry) (λ sub. w)))) }
+        ensures* writes_back { sem 𝓛 (Lends (the_row V.row) (tree.the_row V.row) self.entry result
+            (λ w. (self.old.0, update_child self.old.1 (name_of name.entry) (λ sub. w)))) }
         ensures value { child self.old.1 (name_of name.entry) ≡ Some result.now }
     {
         match place(&self.entries, name) {
@@ -273,8 +289,13 @@ impl<V> RepoPathNode<V> {
     // the tree below, at the first name of a path that the node has
     fn step_mut(&mut self, path: RepoPath<'_>) -> &mut RepoPathTree<V>
         requires { IsSome (get self.old (path_of path)) × (path_of path ≢ []) }
-        ensures* writes_back { sem 𝓛 (Lends (the_row V.row) (tree.the_row V.row) self.entry result (put_below self.old (path_of path.entry))) }
-        ensures value { (get self.old (path_of path.entry) ≡ get result.now (rest_of (path_of path.entry))) × ((w : Tree V) → put_below self.old (path_of path.entry) (put result.now (rest_of (path_of path.entry)) w) ≡ put self.old (path_of path.entry) w) }
+        ensures* writes_back { sem 𝓛 (Lends (the_row V.row) (tree.the_row V.row) self.entry result
+            (put_below self.old (path_of path.entry))) }
+        ensures value { (get self.old (path_of path.entry)
+            ≡ get result.now (rest_of (path_of path.entry)))
+            × ((w : Tree V) → put_below self.old (path_of path.entry)
+            (put result.now (rest_of (path_of path.entry)) w)
+            ≡ put self.old (path_of path.entry) w) }
     {
         match path.split_first() {
             None => unreachable!(),
@@ -328,7 +349,8 @@ impl<V> RepoPathTree<V> {
 
     /// The value at the root, to write to.
     pub fn value_mut(&mut self) -> &mut V
-        ensures* writes_back { sem 𝓛 (Lends (the_row V.row) V.row self.entry result (λ w. (w, self.old.1))) }
+        ensures* writes_back { sem 𝓛 (Lends (the_row V.row) V.row self.entry result
+            (λ w. (w, self.old.1))) }
         ensures value { result.now ≡ self.old.0 }
     {
         self.own_node().value_mut()
@@ -388,13 +410,15 @@ impl<V> RepoPathTree<V> {
 
     // the child that a path leads through, with what of the path is below it
     fn step<'b>(&self, path: RepoPath<'b>) -> Option<(&RepoPathTree<V>, RepoPath<'b>)>
-        ensures { nodes_from (option_map (λ step. (step.0.now, path_of step.1)) result) ≡ nodes_below self.now (path_of path.entry) }
+        ensures { nodes_from (option_map (λ step. (step.0.now, path_of step.1)) result)
+            ≡ nodes_below self.now (path_of path.entry) }
     {
         let (name, rest) = path.split_first()?;
         Some((self.child(name)?, rest))
     }
 
-    /// The trees on the way to a path, as far as they go, from this one on: each with what of the path is below it.
+    /// The trees on the way to a path, as far as they go, from this one on: each with what of the
+    /// path is below it.
     pub fn walk_to<'a, 'b>(&'a self, path: RepoPath<'b>) -> RepoPathTreeWalk<'a, 'b, V>
         ensures on_the_way { walk_left result ≡ nodes_on self.now (path_of path.entry) }
         ensures parts { All (IsPartOf self.now (path_of path.entry)) (walk_left result) }
@@ -406,7 +430,8 @@ impl<V> RepoPathTree<V> {
 
     // the root's node, to write to
     fn own_node(&mut self) -> &mut RepoPathNode<V>
-        ensures* writes_back { sem 𝓛 (Lends (the_row V.row) (node.the_row V.row) self.entry result (λ w. w)) }
+        ensures* writes_back { sem 𝓛 (Lends (the_row V.row) (node.the_row V.row) self.entry result
+            (λ w. w)) }
         ensures value { result.now ≡ self.old }
     {
         &mut self.node
@@ -415,7 +440,8 @@ impl<V> RepoPathTree<V> {
     // the node at a path that the tree has
     fn node_mut(&mut self, path: RepoPath<'_>) -> &mut RepoPathNode<V>
         requires { IsSome (get self.old (path_of path)) }
-        ensures* writes_back { sem 𝓛 (Lends (the_row V.row) (node.the_row V.row) self.entry result (put self.old (path_of path.entry))) }
+        ensures* writes_back { sem 𝓛 (Lends (the_row V.row) (node.the_row V.row) self.entry result
+            (put self.old (path_of path.entry))) }
         ensures value { get self.old (path_of path.entry) ≡ Some result.now }
     {
         let node = self.own_node();
@@ -438,24 +464,37 @@ impl<V> RepoPathTree<V> {
         self.node.first_or_new(path)?.extend(path.rest())
     }
 
-    /// The node at a path. Where the tree lacks it, it is made with a default value, and so are the nodes on the way.
-    /// Refused for want of memory, every value is kept, and new nodes may stand on the way.
+    /// The node at a path. Where the tree lacks it, it is made with a default value, and so are the
+    /// nodes on the way. Refused for want of memory, every value is kept, and new nodes may stand
+    /// on the way.
     pub fn add(&mut self, path: RepoPath<'_>) -> Result<&mut RepoPathNode<V>, AllocError>
     where
         V: Default + Drop,
-        ensures* writes_back { sem 𝓛 (LendsSoOk (the_row V.row) (node.the_row V.row) self.entry result (λ new changed. IfOk result (λ node. IsEdited V.is_default self.old (path_of path.entry) node.now changed new)) (λ new. IsExtended V.is_default self.old (path_of path.entry) new)) }
-        ensures value { IfOk result (λ node. (t : Tree V) × IsExtended V.is_default self.old (path_of path.entry) t × (get t (path_of path.entry) ≡ Some node.now)) }
+        ensures* writes_back { sem 𝓛 (LendsSoOk (the_row V.row)
+            (node.the_row V.row) self.entry result
+            (λ new changed. IfOk result (λ node.
+            IsEdited V.is_default self.old (path_of path.entry) node.now changed new))
+            (λ new. IsExtended V.is_default self.old (path_of path.entry) new)) }
+        ensures value { IfOk result (λ node. (t : Tree V)
+            × IsExtended V.is_default self.old (path_of path.entry) t
+            × (get t (path_of path.entry) ≡ Some node.now)) }
     {
         self.extend(path)?;
         Ok(self.node_mut(path))
     }
 
-    /// Sets the value at a path, with the nodes that `add` makes. Refused, it leaves what `add` leaves.
+    /// Sets the value at a path, with the nodes that `add` makes. Refused, it leaves what `add`
+    /// leaves.
     pub fn set(&mut self, path: RepoPath<'_>, value: V) -> Result<(), AllocError>
     where
         V: Default + Drop,
-        ensures as_map { IfOk result (λ done. IsSet V.is_default self.old (path_of path.entry) value self.new) }
-        ensures edited { MatchResult result (λ done. (t : Tree V) × IsExtended V.is_default self.old (path_of path.entry) t × IsSome (get t (path_of path.entry)) × (self.new ≡ put_value t (path_of path.entry) value)) (λ e. IsExtended V.is_default self.old (path_of path.entry) self.new) }
+        ensures as_map { IfOk result (λ done.
+            IsSet V.is_default self.old (path_of path.entry) value self.new) }
+        ensures edited { MatchResult result (λ done. (t : Tree V)
+            × IsExtended V.is_default self.old (path_of path.entry) t
+            × IsSome (get t (path_of path.entry))
+            × (self.new ≡ put_value t (path_of path.entry) value))
+            (λ e. IsExtended V.is_default self.old (path_of path.entry) self.new) }
     {
         if path.is_root() {
             self.set_value(value);
@@ -470,7 +509,8 @@ impl<V: Clone + Drop> RepoPathTree<V> {
     #[cycle(copies)]
     pub fn clone(&self) -> Result<RepoPathTree<V>, AllocError>
         ensures clones { IfOk result (IsTreeClone V.is_clone self.now) }
-        ensures equal { IfOk result (λ copy. ((value copied : V) → V.is_clone value copied → copied ≡ value) → copy ≡ self.now) }
+        ensures equal { IfOk result (λ copy. ((value copied : V) → V.is_clone value copied
+            → copied ≡ value) → copy ≡ self.now) }
     {
         Ok(RepoPathTree {
             node: self.node.clone()?,
@@ -483,7 +523,8 @@ impl<V: Clone + Drop> RepoPathNode<V> {
     #[cycle(copies)]
     pub fn clone(&self) -> Result<RepoPathNode<V>, AllocError>
         ensures clones { IfOk result (IsTreeClone V.is_clone self.now) }
-        ensures equal { IfOk result (λ copy. ((value copied : V) → V.is_clone value copied → copied ≡ value) → copy ≡ self.now) }
+        ensures equal { IfOk result (λ copy. ((value copied : V) → V.is_clone value copied
+            → copied ≡ value) → copy ≡ self.now) }
     {
         let value = self.value.clone()?;
         let mut entries = Vec::with_capacity(*self.entries.allocator(), self.entries.len())?;
@@ -575,7 +616,8 @@ pub struct RepoPathTreeChildren<'a, V> {
 impl<'a, V> Iterator for RepoPathTreeChildren<'a, V> {
     type Item = (RepoPathComponent<'a>, &'a RepoPathTree<V>);
 
-    ghost next_gives = { YieldsFirstBy (λ child. (name_of child.0, child.1.now)) (λ left. left.entries.now) };
+    ghost next_gives = { YieldsFirstBy (λ child. (name_of child.0, child.1.now))
+        (λ left. left.entries.now) };
 
     ghost remaining = { item_count (λ left. left.entries.now) };
 
@@ -586,7 +628,8 @@ impl<'a, V> Iterator for RepoPathTreeChildren<'a, V> {
     }
 }
 
-/// The trees on the way to a path that have not been given yet, each with what of the path is below it.
+/// The trees on the way to a path that have not been given yet, each with what of the path is below
+/// it.
 #[derive(Drop)]
 pub struct RepoPathTreeWalk<'a, 'b, V> {
     next: Option<(&'a RepoPathTree<V>, RepoPath<'b>)>,
@@ -610,13 +653,15 @@ impl<'a, 'b, V> Iterator for RepoPathTreeWalk<'a, 'b, V> {
 
 // the second part of a pair, to write to
 fn second<A, B>(pair: &mut (A, B)) -> &mut B
-    ensures* writes_back { sem 𝓛 (Lends (Tuple (A.row ∷ B.row ∷ [])) B.row pair.entry result (λ w. (pair.old.0, w))) }
+    ensures* writes_back { sem 𝓛 (Lends (Tuple (A.row ∷ B.row ∷ [])) B.row pair.entry result
+        (λ w. (pair.old.0, w))) }
     ensures value { result.now ≡ pair.old.1 }
 {
     &mut pair.1
 }
 
-// where the branch with that name is, or would go; names that come in their order are looked for at the last branch alone
+// where the branch with that name is, or would go; names that come in their order are looked for at
+// the last branch alone
 fn place<V>(
     entries: &[(RepoPathComponentBuf, RepoPathTree<V>)],
     name: RepoPathComponent<'_>,

@@ -5,9 +5,11 @@ use Rattle.jj_strings.specs.declared.str_util.filter_btree_map.FilterBTreeMap.{F
 use Rattle.jj_strings.specs.EntriesLeft.{entries_left}
 
 -- the matcher whose set is looked for
-abbrev pub filter_matcher : {K V : Type 0} {F : _} {W : _} {m : _} → FilterBTreeMap K V F W m → StringMatcher F W m
+abbrev pub filter_matcher : {K V : Type 0} {F : _} {W : _} {m : _} → FilterBTreeMap K V F W m
+    → StringMatcher F W m
 filter_matcher s = s.matcher.now
 
 -- the entries that are left
-abbrev pub filter_entries : {K V : Type 0} {F : _} {W : _} {m : _} → FilterBTreeMap K V F W m → List (K × V)
+abbrev pub filter_entries : {K V : Type 0} {F : _} {W : _} {m : _} → FilterBTreeMap K V F W m
+    → List (K × V)
 filter_entries s = entries_left s.entries

@@ -15,7 +15,8 @@ glob_text (substring text) = Some (part_glob text)
 glob_text (glob g) = Some g.text
 glob_text pattern = None
 
--- whether the glob of the pattern takes ASCII letters in either case, which no pattern does that `StringPattern::glob` made
+-- whether the glob of the pattern takes ASCII letters in either case, which no pattern does that
+-- `StringPattern::glob` made
 abbrev pub glob_icase : Pattern → Bool
 glob_icase (glob g) = g.icase
 glob_icase pattern = false

@@ -23,17 +23,20 @@ abbrev pub first_len : List ℕ → ℕ
 first_len [] = 0
 first_len (b ∷ bs) = if b == 10 then 1 else suc (first_len bs)
 
--- One step over a list, where `view` reads an item: the items of which P does not hold are passed over, and the first of
--- which it holds is given. At the end no item is left, nor after an error, which comes only where CanFail holds.
+-- One step over a list, where `view` reads an item: the items of which P does not hold are passed
+-- over, and the first of which it holds is given. At the end no item is left, nor after an error,
+-- which comes only where CanFail holds.
 abbrev pub GivesNext : {R X : Type 0} → (R → X) → (X → Type 0) → Type 0 → List X
     → Option (Result R AllocError) → List X → Type 0
 GivesNext view P CanFail old None left = All (λ x. P x → ⊥) old × (left ≡ [])
 GivesNext {X = X} view P CanFail old (Some (Ok item)) left =
-    (passed : List X) × All (λ x. P x → ⊥) passed × P (view item) × (old ≡ passed ++ view item ∷ left)
+    (passed : List X) × All (λ x. P x → ⊥) passed × P (view item)
+    × (old ≡ passed ++ view item ∷ left)
 GivesNext view P CanFail old (Some (Err e)) left = CanFail × (left ≡ [])
 
 -- one step over the lines of a text
 abbrev pub GivesNextLine : (List ℕ → Type 0) → Type 0 → List ℕ
     → Option (Result (Bor (List ℕ)) AllocError) → List ℕ → Type 0
 GivesNextLine InSet CanFail old r left =
-    GivesNext (λ (line : Bor (List ℕ)). line.now) (λ line. InSet (without_feed line)) CanFail (lines old) r (lines left)
+    GivesNext (λ (line : Bor (List ℕ)). line.now) (λ line. InSet (without_feed line)) CanFail
+    (lines old) r (lines left)

@@ -24,7 +24,8 @@ abbrev pub text_or_pattern : Option (List ℕ) → Pattern → Form
 text_or_pattern (Some text) p = one_text text
 text_or_pattern None p = an_expression (of_pattern p)
 
--- the form of a pattern: every string where that is seen at once, else its one text where it is exact
+-- the form of a pattern: every string where that is seen at once, else its one text where it is
+-- exact
 abbrev pub pattern_form : Pattern → Form
 pattern_form p = if is_all p then every_string else text_or_pattern (exact_text p) p
 

@@ -24,20 +24,26 @@ kind_named name =
     if bytes_eq name (codes "regex") then Some Regex else
     if bytes_eq name (codes "regex-i") then Some RegexI else None
 
--- the options of a regular expression over bytes, with ASCII and other letters in either case or not
+-- the options of a regular expression over bytes, with ASCII and other letters in either case or
+-- not
 abbrev pub bytes_config : Config
 bytes_config = record default_config { utf8 = false }
 
 abbrev pub bytes_config_i : Config
-bytes_config_i = record bytes_config { flags = record bytes_config.flags { case_insensitive = true } }
+bytes_config_i = record bytes_config {
+  flags = record bytes_config.flags
+      { case_insensitive = true };
+}
 
 -- the pattern is the regular expression that the grammar reads in the text, under the options
 abbrev pub IsRegexOf : Config → List ℕ → Pattern → Type 0
-IsRegexOf config text (regex r) = (regex_source r ≡ text) × (regex_config r ≡ config) × IsReadFromSource r
+IsRegexOf config text (regex r) = (regex_source r ≡ text) × (regex_config r ≡ config)
+    × IsReadFromSource r
 IsRegexOf config text pattern = ⊥
 
 abbrev pub IsRegexIOf : Config → List ℕ → Pattern → Type 0
-IsRegexIOf config text (regex_i r) = (regex_source r ≡ text) × (regex_config r ≡ config) × IsReadFromSource r
+IsRegexIOf config text (regex_i r) = (regex_source r ≡ text) × (regex_config r ≡ config)
+    × IsReadFromSource r
 IsRegexIOf config text pattern = ⊥
 
 -- the pattern is the text as one of the kind
@@ -60,7 +66,8 @@ IsFaultOfKind RegexI text error = IsRegexFault bytes_config_i text error
 IsFaultOfKind kind text error = IsMemory error
 
 -- the text read as a pattern of the kind
-abbrev pub ReadsAsKind : PatternKind → List ℕ → Result StringPattern StringPatternParseError → Type 0
+abbrev pub ReadsAsKind : PatternKind → List ℕ → Result StringPattern StringPatternParseError
+    → Type 0
 ReadsAsKind kind text (Ok pattern) = IsOfKind kind text (pattern_of pattern)
 ReadsAsKind kind text (Err error) = IsFaultOfKind kind text error
 

@@ -23,7 +23,8 @@ MayAllocate _ = ⊥
 
 -- a regular expression that was made of its text, with letters in either case or not
 abbrev pub IsFromText : compiled.Regex → Type 0
-IsFromText r = IsReadFromSource r × ((regex_config r ≡ bytes_config) ⊎ (regex_config r ≡ bytes_config_i))
+IsFromText r = IsReadFromSource r × ((regex_config r ≡ bytes_config)
+    ⊎ (regex_config r ≡ bytes_config_i))
 
 -- the regular expression of a pattern was made of its text
 abbrev pub IsPatternFromText : Pattern → Type 0

@@ -1,4 +1,5 @@
--- Patterns and expressions of strings: what they say, and the sets of byte lists that they stand for.
+-- Patterns and expressions of strings: what they say, and the sets of byte lists that they stand
+-- for.
 use Rattle.std.specs.Prelude.{◌≡◌, ℕ, ◌/◌, ◌<◌, ◌⊎◌, Bool, true, false, ◌==◌, if◌then◌else◌, List, [], ◌∷◌, ◌++◌, length, Option, None, Some, IsSome}
 use Rattle.std.specs.Option.{option_to_list}
 use Rattle.std.specs.List.{list_any}
@@ -56,7 +57,8 @@ abbrev pub is_one_star : List ℕ → Bool
 is_one_star (b ∷ []) = b == 42
 is_one_star text = false
 
--- the pattern is seen at once to hold every string: the empty part, the empty regular expression, the glob `*`
+-- the pattern is seen at once to hold every string: the empty part, the empty regular expression,
+-- the glob `*`
 abbrev pub is_all : Pattern → Bool
 is_all (exact text) = false
 is_all (exact_i text) = false
@@ -126,5 +128,6 @@ HasRegex (intersection a b) = HasRegex a ⊎ HasRegex b
 pub data IsUnionOf : List Expression → Expression → Type 0 where
   of_none : IsUnionOf [] nothing
   of_one : (e : Expression) → IsUnionOf (e ∷ []) e
-  of_halves : (es front back : List Expression) (a b : Expression) → es ≡ front ++ back → length front ≡ length es / 2 → 1 < length es
+  of_halves : (es front back : List Expression) (a b : Expression) → es ≡ front ++ back
+      → length front ≡ length es / 2 → 1 < length es
       → IsUnionOf front a → IsUnionOf back b → IsUnionOf es (union a b)

@@ -1,4 +1,5 @@
-//! Sets of strings: patterns, expressions of patterns, and what looks for the strings of a set in lines and maps.
+//! Sets of strings: patterns, expressions of patterns, and what looks for the strings of a set in
+//! lines and maps.
 mod error;
 mod expression;
 mod filter_btree_map;

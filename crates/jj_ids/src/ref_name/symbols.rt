@@ -47,7 +47,8 @@ pub trait AtRemote: Ord + Hash {
         (slice_cmp nat_cmp (name_text a) (name_text b))
         (slice_cmp nat_cmp (remote_text a) (remote_text b)) };
 
-    ghost hashed: { (a : Self) → Self.hash_input a ≡ fed.str (name_text a) ++ fed.str (remote_text a) };
+    ghost hashed: { (a : Self) → Self.hash_input a ≡ fed.str (name_text a)
+        ++ fed.str (remote_text a) };
 }
 
 impl<'a> AtRemote for RemoteRefSymbol<'a> {
@@ -135,7 +136,8 @@ fn is_safe_identifier(symbol: &str) -> bool
 
 // Writes a text as a symbol.
 fn write_symbol<W: Write>(writer: &mut W, text: &str) -> fmt::Result
-    ensures { OnOk result (WritesInCalls W.write_str_gives writer.old (symbol_text text.now) writer.new) }
+    ensures { OnOk result (WritesInCalls W.write_str_gives writer.old
+        (symbol_text text.now) writer.new) }
 {
     if is_safe_identifier(text) {
         writer.write_str(text)?;
@@ -147,7 +149,8 @@ fn write_symbol<W: Write>(writer: &mut W, text: &str) -> fmt::Result
 
 // Writes a name as a symbol, at the remote if there is one.
 fn write_printed<W: Write>(writer: &mut W, name: &str, remote: Option<&str>) -> fmt::Result
-    ensures { OnOk result (WritesInCalls W.write_str_gives writer.old (printed_text name.now (option_copied remote.entry)) writer.new) }
+    ensures { OnOk result (WritesInCalls W.write_str_gives writer.old
+        (printed_text name.now (option_copied remote.entry)) writer.new) }
 {
     write_symbol(writer, name)?;
     let Some(remote) = remote else {
@@ -209,7 +212,8 @@ fn write_fill<W: Write>(f: &mut fmt::Formatter<W>, count: usize) -> fmt::Result 
     Ok(())
 }
 
-// Displays what `write_printed` writes, cut to the formatter's precision and filled up to its width.
+// Displays what `write_printed` writes, cut to the formatter's precision and filled up to its
+// width.
 fn pad_printed<W: Write>(
     f: &mut fmt::Formatter<W>,
     name: &str,
@@ -234,7 +238,8 @@ fn display_printed<W: Write>(
     name: &str,
     remote: Option<&str>,
 ) -> fmt::Result
-    ensures { WritesOnOk W.write_str_gives f.old result (printed_text name.now (option_copied remote.entry)) f.new }
+    ensures { WritesOnOk W.write_str_gives f.old result
+        (printed_text name.now (option_copied remote.entry)) f.new }
 {
     if f.width().is_some() {
         return pad_printed(f, name, remote);
@@ -260,7 +265,8 @@ impl<'a> fmt::Debug for RefSymbol<'a> {
 }
 
 impl<'a> fmt::Display for RemoteRefSymbol<'a> {
-    ghost output = { λ symbol. Some (remote_symbol_text (name_of symbol.name) (name_of symbol.remote)) };
+    ghost output = { λ symbol. Some (remote_symbol_text (name_of symbol.name)
+        (name_of symbol.remote)) };
 
     fn fmt<W: Write>(&self, f: &mut fmt::Formatter<W>) -> fmt::Result {
         display_printed(f, self.name.as_str(), Some(self.remote.as_str()))
@@ -278,6 +284,9 @@ impl fmt::Display for RemoteRefSymbolBuf {
 
 /// Names at remotes print equal exactly where they are equal.
 pub fn remote_symbols_print_apart()
-    ensures apart { (name remote other other_remote : List ℕ) → remote_symbol_text name remote ≡ remote_symbol_text other other_remote → (name ≡ other) × (remote ≡ other_remote) }
-    ensures same { (name remote other other_remote : List ℕ) → name ≡ other → remote ≡ other_remote → remote_symbol_text name remote ≡ remote_symbol_text other other_remote }
+    ensures apart { (name remote other other_remote : List ℕ)
+        → remote_symbol_text name remote ≡ remote_symbol_text other other_remote → (name ≡ other)
+        × (remote ≡ other_remote) }
+    ensures same { (name remote other other_remote : List ℕ) → name ≡ other → remote ≡ other_remote
+        → remote_symbol_text name remote ≡ remote_symbol_text other other_remote }
 {}

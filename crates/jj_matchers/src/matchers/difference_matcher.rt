@@ -30,7 +30,8 @@ impl<M1: Matcher, M2: Matcher> Matcher for DifferenceMatcher<M1, M2> {
 
     ghost opens = { λ m path. M1.opens m.wanted path };
 
-    ghost answers = { λ m dir. difference_answer (M1.answers m.wanted dir) (M2.answers m.unwanted dir) };
+    ghost answers = { λ m dir. difference_answer (M1.answers m.wanted dir)
+        (M2.answers m.unwanted dir) };
 
     ghost candidates = { λ m dir. M1.candidates m.wanted dir };
 
@@ -48,7 +49,8 @@ impl<M1: Matcher, M2: Matcher> Matcher for DifferenceMatcher<M1, M2> {
     }
 }
 
-/// The wanted answer, where something is left of it. What is unwanted below a directory need not be all of it.
+/// The wanted answer, where something is left of it. What is unwanted below a directory need not be
+/// all of it.
 pub fn difference_visit(wanted: Visit, unwanted: Visit) -> Visit
     ensures { answer_of result ≡ difference_answer (answer_of wanted) (answer_of unwanted) }
 {

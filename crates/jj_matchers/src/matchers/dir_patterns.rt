@@ -38,7 +38,8 @@ impl DirPatterns {
 
     /// Adds a pattern. Refused for want of memory, the patterns are as they were.
     pub fn push(&mut self, alloc: Global, pattern: PathGlobPattern) -> Result<(), AllocError>
-        ensures { MatchResult result (λ done. self.new ≡ self.old ++ pattern ∷ []) (λ e. self.new ≡ self.old) }
+        ensures { MatchResult result (λ done. self.new ≡ self.old ++ pattern ∷ [])
+            (λ e. self.new ≡ self.old) }
     {
         match &mut self.patterns {
             Some(patterns) => {
@@ -60,9 +61,11 @@ impl DirPatterns {
         !self.as_slice().is_empty()
     }
 
-    /// Whether a pattern accepts the path at this tail below the directory; with `prefix_paths` also by a front of it.
+    /// Whether a pattern accepts the path at this tail below the directory; with `prefix_paths`
+    /// also by a front of it.
     pub fn accept(&self, prefix_paths: bool, tail: RepoPath<'_>) -> bool
-        ensures { result ≡ list_any (λ glob. accepts_tail prefix_paths glob (path_of tail.entry)) self.now }
+        ensures { result ≡ list_any (λ glob. accepts_tail prefix_paths glob
+            (path_of tail.entry)) self.now }
     {
         if tail.is_root() {
             return false;

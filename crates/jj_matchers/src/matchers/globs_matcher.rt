@@ -16,8 +16,9 @@ use std::alloc::{AllocError, Global};
 use std::collections::HashSet;
 use std::marker::Model;
 
-/// The paths strictly below a directory whose tail, the text of what is left of the path below it, fits a pattern of the
-/// directory. A contract sees the patterns as a list of directories and globs, in no order.
+/// The paths strictly below a directory whose tail, the text of what is left of the path below it,
+/// fits a pattern of the directory. A contract sees the patterns as a list of directories and
+/// globs, in no order.
 #[derive(Drop)]
 pub struct GlobsMatcher {
     tree: RepoPathTree<DirPatterns>,
@@ -30,7 +31,10 @@ impl Model for GlobsMatcher {
 
     ghost Value = { Patterns };
 
-    ghost view = { λ m. record { prefix_paths = m.matches_prefix_paths; patterns = patterns_of m.tree } };
+    ghost view = { λ m. record {
+      prefix_paths = m.matches_prefix_paths;
+      patterns = patterns_of m.tree;
+    } };
 
     ghost invariant = { λ m. LeadsToGlobs m.tree };
 }
@@ -108,7 +112,8 @@ impl Matcher for GlobsMatcher {
 
 // The answer that names all children as directories.
 fn visit_directories(alloc: Global, tree: &RepoPathTree<DirPatterns>) -> Result<Visit, AllocError>
-    ensures { IfOk result (λ visit. answer_of visit ≡ children_answer any_node no_node (marked_branches tree.now.1)) }
+    ensures { IfOk result (λ visit. answer_of visit
+        ≡ children_answer any_node no_node (marked_branches tree.now.1)) }
 {
     let mut dirs = HashSet::new(alloc);
     for (name, _) in tree.children() {
@@ -131,7 +136,10 @@ impl<'a> Model for GlobsMatcherBuilder<'a> {
 
     ghost Value = { Patterns };
 
-    ghost view = { λ b. record { prefix_paths = b.matches_prefix_paths; patterns = map (λ pattern. (path_of pattern.0, pattern.1.now)) b.dir_patterns.items } };
+    ghost view = { λ b. record {
+      prefix_paths = b.matches_prefix_paths;
+      patterns = map (λ pattern. (path_of pattern.0, pattern.1.now)) b.dir_patterns.items;
+    } };
 }
 
 impl<'a> GlobsMatcherBuilder<'a> {
@@ -150,9 +158,15 @@ impl<'a> GlobsMatcherBuilder<'a> {
         self.dir_patterns.is_empty()
     }
 
-    /// Adds a pattern for the paths below a directory. Refused for want of memory, the patterns are as they were.
+    /// Adds a pattern for the paths below a directory. Refused for want of memory, the patterns are
+    /// as they were.
     pub fn add(&mut self, dir: RepoPath<'a>, pattern: &'a PathGlobPattern) -> Result<(), AllocError>
-        ensures { MatchResult result (λ done. self.new ≡ record { prefix_paths = self.old.prefix_paths; patterns = self.old.patterns ++ (path_of dir.entry, pattern.now) ∷ [] }) (λ e. self.new ≡ self.old) }
+        ensures { MatchResult result (λ done. self.new
+            ≡ record {
+              prefix_paths = self.old.prefix_paths;
+              patterns = self.old.patterns ++ (path_of dir.entry, pattern.now) ∷ [];
+            })
+            (λ e. self.new ≡ self.old) }
     {
         self.dir_patterns.push((dir, pattern))?;
         Ok(())

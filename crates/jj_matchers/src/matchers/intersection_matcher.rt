@@ -32,7 +32,9 @@ impl<M1: Matcher, M2: Matcher> Matcher for IntersectionMatcher<M1, M2> {
 
     ghost opens = { λ m path. M1.opens m.input1 path && M2.opens m.input2 path };
 
-    ghost answers = { λ m dir. intersection_answer (M1.candidates m.input1 dir ++ M2.candidates m.input2 dir) (M1.answers m.input1 dir) (M2.answers m.input2 dir) };
+    ghost answers = { λ m dir. intersection_answer
+        (M1.candidates m.input1 dir ++ M2.candidates m.input2 dir) (M1.answers m.input1 dir)
+        (M2.answers m.input2 dir) };
 
     ghost candidates = { λ m dir. M1.candidates m.input1 dir ++ M2.candidates m.input2 dir };
 
@@ -50,9 +52,12 @@ impl<M1: Matcher, M2: Matcher> Matcher for IntersectionMatcher<M1, M2> {
     }
 }
 
-/// What both of two answers name, where both choose from one list of names. What the list is makes no difference.
+/// What both of two answers name, where both choose from one list of names. What the list is makes
+/// no difference.
 pub fn intersection_visit(first: Visit, second: Visit) -> Visit
-    ensures { (names : List Name) → ChoosesFrom names (answer_of first) → ChoosesFrom names (answer_of second) → answer_of result ≡ intersection_answer names (answer_of first) (answer_of second) }
+    ensures { (names : List Name) → ChoosesFrom names (answer_of first)
+        → ChoosesFrom names (answer_of second)
+        → answer_of result ≡ intersection_answer names (answer_of first) (answer_of second) }
 {
     match first {
         Visit::AllRecursively => second,
@@ -73,7 +78,9 @@ pub fn intersection_visit(first: Visit, second: Visit) -> Visit
 
 // The answer that names these; `Nothing` where both are empty sets.
 fn named(dirs: VisitDirs, files: VisitFiles) -> Visit
-    ensures { (names : List Name) → IsAllOrAmong names (dir_names dirs) → IsAllOrAmong names (file_names files) → answer_of result ≡ named_answer names (dir_names dirs) (file_names files) }
+    ensures { (names : List Name) → IsAllOrAmong names (dir_names dirs)
+        → IsAllOrAmong names (file_names files)
+        → answer_of result ≡ named_answer names (dir_names dirs) (file_names files) }
 {
     match dirs {
         VisitDirs::All => Visit::Specific {
@@ -91,7 +98,8 @@ fn named(dirs: VisitDirs, files: VisitFiles) -> Visit
 }
 
 fn intersection_dirs(first: VisitDirs, second: VisitDirs) -> VisitDirs
-    ensures { (name : Name) → dir_names result name ≡ (dir_names first name && dir_names second name) }
+    ensures { (name : Name) → dir_names result name
+        ≡ (dir_names first name && dir_names second name) }
 {
     match first {
         VisitDirs::All => second,
@@ -103,7 +111,8 @@ fn intersection_dirs(first: VisitDirs, second: VisitDirs) -> VisitDirs
 }
 
 fn intersection_files(first: VisitFiles, second: VisitFiles) -> VisitFiles
-    ensures { (name : Name) → file_names result name ≡ (file_names first name && file_names second name) }
+    ensures { (name : Name) → file_names result name
+        ≡ (file_names first name && file_names second name) }
 {
     match first {
         VisitFiles::All => second,
@@ -119,7 +128,8 @@ fn intersection_names(
     first: HashSet<RepoPathComponentBuf>,
     second: HashSet<RepoPathComponentBuf>,
 ) -> HashSet<RepoPathComponentBuf>
-    ensures { (name : Name) → is_among result.keys name ≡ (is_among first.keys name && is_among second.keys name) }
+    ensures { (name : Name) → is_among result.keys name
+        ≡ (is_among first.keys name && is_among second.keys name) }
 {
     if second.len() < first.len() {
         common_names(second, &first)
@@ -132,7 +142,8 @@ fn common_names(
     names: HashSet<RepoPathComponentBuf>,
     others: &HashSet<RepoPathComponentBuf>,
 ) -> HashSet<RepoPathComponentBuf>
-    ensures { (name : Name) → is_among result.keys name ≡ (is_among names.keys name && is_among others.now.keys name) }
+    ensures { (name : Name) → is_among result.keys name
+        ≡ (is_among names.keys name && is_among others.now.keys name) }
 {
     let mut common = names;
     common.retain(|name| others.contains(name));

@@ -14,7 +14,8 @@ use std::collections::HashSet;
 
 /// The tree with `true` at these paths, and `false` at the other nodes on the way to them.
 pub fn marked_tree(alloc: Global, paths: &[RepoPath<'_>]) -> Result<RepoPathTree<bool>, AllocError>
-    ensures marks { IfOk result (λ tree. (path : Path) → is_marked tree path ≡ is_wanted (map path_of paths.now) path) }
+    ensures marks { IfOk result (λ tree. (path : Path)
+        → is_marked tree path ≡ is_wanted (map path_of paths.now) path) }
     ensures leads { IfOk result LeadsToMarks }
 {
     let mut sorted = paths.to_vec(alloc)?;
@@ -28,7 +29,8 @@ pub fn marked_tree(alloc: Global, paths: &[RepoPath<'_>]) -> Result<RepoPathTree
 
 /// The answer that names the children with children as directories, and the marked ones as files.
 pub fn visit_files(alloc: Global, tree: &RepoPathTree<bool>) -> Result<Visit, AllocError>
-    ensures { IfOk result (λ visit. answer_of visit ≡ children_answer has_children has_mark tree.now.1) }
+    ensures { IfOk result (λ visit. answer_of visit
+        ≡ children_answer has_children has_mark tree.now.1) }
 {
     let mut dirs = HashSet::new(alloc);
     let mut files = HashSet::new(alloc);
@@ -45,7 +47,8 @@ pub fn visit_files(alloc: Global, tree: &RepoPathTree<bool>) -> Result<Visit, Al
 
 /// The answer that names all children as directories, and the marked ones as files.
 pub fn visit_prefixes(alloc: Global, tree: &RepoPathTree<bool>) -> Result<Visit, AllocError>
-    ensures { IfOk result (λ visit. answer_of visit ≡ children_answer any_node has_mark tree.now.1) }
+    ensures { IfOk result (λ visit. answer_of visit
+        ≡ children_answer any_node has_mark tree.now.1) }
 {
     let mut dirs = HashSet::new(alloc);
     let mut files = HashSet::new(alloc);

@@ -28,7 +28,10 @@ impl PathGlobPattern {
     /// The pattern that the text is, by the syntax of `Glob`.
     pub fn parse(alloc: Global, input: &str) -> Result<PathGlobPattern, GlobError>
         ensures pattern { MatchResult result
-            (λ pattern. pattern ≡ record { text = input.now; options = record { separator = true; icase = false } })
+            (λ pattern. pattern ≡ record {
+              text = input.now;
+              options = record { separator = true; icase = false };
+            })
             (λ error. IsReadingFault error (tokens_of input.now)) }
         ensures reads { OnOk result (IsOk (tokens_of input.now)) }
     {
@@ -38,7 +41,10 @@ impl PathGlobPattern {
     /// The same pattern, in which ASCII letters match in either case.
     pub fn parse_i(alloc: Global, input: &str) -> Result<PathGlobPattern, GlobError>
         ensures pattern { MatchResult result
-            (λ pattern. pattern ≡ record { text = input.now; options = record { separator = true; icase = true } })
+            (λ pattern. pattern ≡ record {
+              text = input.now;
+              options = record { separator = true; icase = true };
+            })
             (λ error. IsReadingFault error (tokens_of input.now)) }
         ensures reads { OnOk result (IsOk (tokens_of input.now)) }
     {
@@ -47,7 +53,10 @@ impl PathGlobPattern {
 
     fn parse_inner(alloc: Global, input: &str, icase: bool) -> Result<PathGlobPattern, GlobError>
         ensures pattern { MatchResult result
-            (λ pattern. pattern ≡ record { text = input.now; options = record { separator = true; icase = icase } })
+            (λ pattern. pattern ≡ record {
+              text = input.now;
+              options = record { separator = true; icase = icase };
+            })
             (λ error. IsReadingFault error (tokens_of input.now)) }
         ensures reads { OnOk result (IsOk (tokens_of input.now)) }
     {
@@ -67,7 +76,8 @@ impl PathGlobPattern {
         self.glob.as_str()
     }
 
-    /// The text of the regular expression over bytes that matches as the pattern does, where `.` matches a line feed too.
+    /// The text of the regular expression over bytes that matches as the pattern does, where `.`
+    /// matches a line feed too.
     pub fn as_regex(&self, alloc: Global) -> Result<String, AllocError> {
         self.glob.regex_text(alloc)
     }

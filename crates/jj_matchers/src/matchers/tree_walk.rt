@@ -24,7 +24,8 @@ pub struct Walk {
     pub entered: Vec<RepoPathBuf>,
 }
 
-/// A directory that a walk has entered, with its answer and the children that the walk has not come to yet.
+/// A directory that a walk has entered, with its answer and the children that the walk has not come
+/// to yet.
 #[derive(Drop)]
 struct Entered<'t> {
     dir: RepoPathBuf,
@@ -32,17 +33,22 @@ struct Entered<'t> {
     left: &'t [(RepoPathComponentBuf, RepoPathTree<bool>)],
 }
 
-/// The marked paths below the root that the matcher accepts, and the directories that were opened to find them. The
-/// directories on the way down are kept in a list, so that a deep tree takes no more stack than a flat one.
+/// The marked paths below the root that the matcher accepts, and the directories that were opened
+/// to find them. The directories on the way down are kept in a list, so that a deep tree takes no
+/// more stack than a flat one.
 pub fn walk_matching<M: Matcher>(
     alloc: Global,
     tree: &RepoPathTree<bool>,
     matcher: &M,
 ) -> Result<Walk, AllocError>
-    ensures files { IfOk result (λ walk. walk.files.items ≡ files_of (M.accepts matcher.now) tree.now) }
-    ensures entered { IfOk result (λ walk. walk.entered.items ≡ entered_by (M.answers matcher.now) tree.now) }
-    ensures ordered { IfOk result (λ walk. IsStrictlySortedBy path_cmp walk.files.items × IsStrictlySortedBy path_cmp walk.entered.items) }
-    ensures only_open { IfOk result (λ walk. All (λ dir. (dir ≡ []) ⊎ (M.opens matcher.now dir ≡ true)) walk.entered.items) }
+    ensures files { IfOk result (λ walk. walk.files.items
+        ≡ files_of (M.accepts matcher.now) tree.now) }
+    ensures entered { IfOk result (λ walk. walk.entered.items
+        ≡ entered_by (M.answers matcher.now) tree.now) }
+    ensures ordered { IfOk result (λ walk. IsStrictlySortedBy path_cmp walk.files.items
+        × IsStrictlySortedBy path_cmp walk.entered.items) }
+    ensures only_open { IfOk result (λ walk.
+        All (λ dir. (dir ≡ []) ⊎ (M.opens matcher.now dir ≡ true)) walk.entered.items) }
 {
     let mut walk = Walk {
         files: Vec::new(alloc),
@@ -63,7 +69,9 @@ fn enter_root<'t, M: Matcher>(
     walk: &mut Walk,
 ) -> Result<Vec<Entered<'t>>, AllocError>
     requires { (walk.old.files.items ≡ []) × (walk.old.entered.items ≡ []) }
-    ensures { IfOk result (λ unfinished. IsOnTheWay (M.accepts matcher.now) (M.opens matcher.now) (M.answers matcher.now) tree.now walk.new.files.items walk.new.entered.items unfinished.items) }
+    ensures { IfOk result (λ unfinished. IsOnTheWay (M.accepts matcher.now) (M.opens matcher.now)
+        (M.answers matcher.now) tree.now walk.new.files.items walk.new.entered.items
+        unfinished.items) }
 {
     let mut unfinished = Vec::new(alloc);
     if !tree.has_children() {
@@ -83,11 +91,17 @@ fn go_on<'t, M: Matcher>(
     walk: &mut Walk,
     unfinished: &mut Vec<Entered<'t>>,
 ) -> Result<(), AllocError>
-    requires { IsUnderWay (M.accepts matcher.now) (M.opens matcher.now) (M.answers matcher.now) directory }
+    requires { IsUnderWay (M.accepts matcher.now) (M.opens matcher.now)
+        (M.answers matcher.now) directory }
     ensures on_the_way { OnOk result ((tree : Tree Bool) →
-        IsOnTheWay (M.accepts matcher.now) (M.opens matcher.now) (M.answers matcher.now) tree walk.old.files.items walk.old.entered.items (unfinished.old.items ++ directory.entry ∷ []) →
-        IsOnTheWay (M.accepts matcher.now) (M.opens matcher.now) (M.answers matcher.now) tree walk.new.files.items walk.new.entered.items unfinished.new.items) }
-    ensures less_left { OnOk result (work_left unfinished.new.items < work_left (unfinished.old.items ++ directory.entry ∷ [])) }
+        IsOnTheWay (M.accepts matcher.now) (M.opens matcher.now)
+        (M.answers matcher.now) tree walk.old.files.items walk.old.entered.items
+        (unfinished.old.items ++ directory.entry ∷ []) →
+        IsOnTheWay (M.accepts matcher.now) (M.opens matcher.now)
+        (M.answers matcher.now) tree walk.new.files.items walk.new.entered.items
+        unfinished.new.items) }
+    ensures less_left { OnOk result (work_left unfinished.new.items < work_left
+        (unfinished.old.items ++ directory.entry ∷ [])) }
 {
     let Entered { dir, answer, left } = directory;
     let Some((child, left)) = left.split_first() else {
@@ -118,7 +132,9 @@ fn enter<'t>(
     unfinished: &mut Vec<Entered<'t>>,
 ) -> Result<(), AllocError>
     ensures files { OnOk result (walk.new.files.items ≡ walk.old.files.items) }
-    ensures entered { OnOk result (Enters dir (answer_of answer) tree.now walk.old.entered.items walk.new.entered.items unfinished.old.items unfinished.new.items) }
+    ensures entered { OnOk result (Enters dir
+        (answer_of answer) tree.now walk.old.entered.items walk.new.entered.items
+        unfinished.old.items unfinished.new.items) }
 {
     if answer.is_nothing() {
         return Ok(());
@@ -141,7 +157,8 @@ fn is_accepted<M: Matcher>(
     matcher: &M,
 ) -> bool
     requires at { path_of path ≡ dir.now ++ name.now ∷ [] }
-    requires sound { IsSound (M.accepts matcher.now) (M.opens matcher.now) dir.now (answer_of answer.now) }
+    requires sound { IsSound (M.accepts matcher.now) (M.opens matcher.now) dir.now
+        (answer_of answer.now) }
     ensures { result ≡ M.accepts matcher.now (path_of path.entry) }
 {
     match answer {
@@ -161,9 +178,12 @@ fn answer_below<M: Matcher>(
     matcher: &M,
 ) -> Result<Visit, AllocError>
     requires at { path_of path ≡ dir.now ++ name.now ∷ [] }
-    requires above { GoesOnBy (M.accepts matcher.now) (M.opens matcher.now) (M.answers matcher.now) dir.now (answer_of answer.now) }
-    ensures below { IfOk result (λ visit. GoesOnBy (M.accepts matcher.now) (M.opens matcher.now) (M.answers matcher.now) (path_of path.entry) (answer_of visit)) }
-    ensures open { IfOk result (λ visit. is_entered (answer_of visit) ≡ true → M.opens matcher.now (path_of path.entry) ≡ true) }
+    requires above { GoesOnBy (M.accepts matcher.now) (M.opens matcher.now)
+        (M.answers matcher.now) dir.now (answer_of answer.now) }
+    ensures below { IfOk result (λ visit. GoesOnBy (M.accepts matcher.now) (M.opens matcher.now)
+        (M.answers matcher.now) (path_of path.entry) (answer_of visit)) }
+    ensures open { IfOk result (λ visit. is_entered (answer_of visit) ≡ true
+        → M.opens matcher.now (path_of path.entry) ≡ true) }
 {
     match answer {
         Visit::AllRecursively => Ok(Visit::AllRecursively),

@@ -50,9 +50,11 @@ impl<M1: Matcher, M2: Matcher> Matcher for UnionMatcher<M1, M2> {
     }
 }
 
-/// What either of two answers names, from which a union of more matchers than two can be answered without nesting.
+/// What either of two answers names, from which a union of more matchers than two can be answered
+/// without nesting.
 pub fn union_visit(first: Visit, second: Visit) -> Result<Visit, AllocError>
-    ensures { IfOk result (λ visit. answer_of visit ≡ union_answer (answer_of first) (answer_of second)) }
+    ensures { IfOk result (λ visit. answer_of visit
+        ≡ union_answer (answer_of first) (answer_of second)) }
 {
     match first {
         Visit::AllRecursively => Ok(Visit::AllRecursively),
@@ -72,7 +74,8 @@ pub fn union_visit(first: Visit, second: Visit) -> Result<Visit, AllocError>
 }
 
 fn union_dirs(first: VisitDirs, second: VisitDirs) -> Result<VisitDirs, AllocError>
-    ensures { IfOk result (λ dirs. (name : Name) → dir_names dirs name ≡ (dir_names first name || dir_names second name)) }
+    ensures { IfOk result (λ dirs. (name : Name)
+        → dir_names dirs name ≡ (dir_names first name || dir_names second name)) }
 {
     match first {
         VisitDirs::All => Ok(VisitDirs::All),
@@ -84,7 +87,8 @@ fn union_dirs(first: VisitDirs, second: VisitDirs) -> Result<VisitDirs, AllocErr
 }
 
 fn union_files(first: VisitFiles, second: VisitFiles) -> Result<VisitFiles, AllocError>
-    ensures { IfOk result (λ files. (name : Name) → file_names files name ≡ (file_names first name || file_names second name)) }
+    ensures { IfOk result (λ files. (name : Name)
+        → file_names files name ≡ (file_names first name || file_names second name)) }
 {
     match first {
         VisitFiles::All => Ok(VisitFiles::All),
@@ -100,7 +104,8 @@ fn union_names(
     first: HashSet<RepoPathComponentBuf>,
     second: HashSet<RepoPathComponentBuf>,
 ) -> Result<HashSet<RepoPathComponentBuf>, AllocError>
-    ensures { IfOk result (λ names. (name : Name) → is_among names.keys name ≡ (is_among first.keys name || is_among second.keys name)) }
+    ensures { IfOk result (λ names. (name : Name)
+        → is_among names.keys name ≡ (is_among first.keys name || is_among second.keys name)) }
 {
     if first.len() < second.len() {
         let names = with_names(second, first)?;
@@ -115,7 +120,8 @@ fn with_names(
     names: HashSet<RepoPathComponentBuf>,
     more: HashSet<RepoPathComponentBuf>,
 ) -> Result<HashSet<RepoPathComponentBuf>, AllocError>
-    ensures { IfOk result (λ all. (name : Name) → is_among all.keys name ≡ (is_among names.keys name || is_among more.keys name)) }
+    ensures { IfOk result (λ all. (name : Name)
+        → is_among all.keys name ≡ (is_among names.keys name || is_among more.keys name)) }
 {
     let mut all = names;
     for name in more {

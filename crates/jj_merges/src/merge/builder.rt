@@ -51,8 +51,10 @@ impl<T: Drop> MergeBuilder<T> {
         alloc: Global,
         iter: U,
     ) -> Result<(), AllocError>
-        requires { (it : U.IntoIter) → U.into_iter_gives iter it → U.IntoIter.can_next it × IsFinite (U.IntoIter.remaining it) }
-        ensures { ExtendsWithItems U.into_iter_gives U.IntoIter.next_gives Appends iter self.old self.new result }
+        requires { (it : U.IntoIter) → U.into_iter_gives iter it → U.IntoIter.can_next it
+            × IsFinite (U.IntoIter.remaining it) }
+        ensures { ExtendsWithItems U.into_iter_gives U.IntoIter.next_gives Appends iter self.old
+            self.new result }
     {
         for term in iter {
             self.terms.push(alloc, term)?;
@@ -110,11 +112,16 @@ impl<T: Drop> Merge<T> {
         removes: R,
         adds: A,
     ) -> Result<Self, AllocError>
-        requires removes_end { (it : R.IntoIter) → R.into_iter_gives removes it → R.IntoIter.can_next it × IsFinite (R.IntoIter.remaining it) }
-        requires adds_end { (it : A.IntoIter) → A.into_iter_gives adds it → A.IntoIter.can_next it × IsFinite (A.IntoIter.remaining it) }
-        requires one_more { (xs ys : List T) → Gives R.into_iter_gives R.IntoIter.next_gives removes xs → Gives A.into_iter_gives A.IntoIter.next_gives adds ys → length ys ≡ length xs + 1 }
-        ensures removes { IfOk result (λ m. Gives R.into_iter_gives R.IntoIter.next_gives removes (merge.removes m)) }
-        ensures adds { IfOk result (λ m. Gives A.into_iter_gives A.IntoIter.next_gives adds (merge.adds m)) }
+        requires removes_end { (it : R.IntoIter) → R.into_iter_gives removes it
+            → R.IntoIter.can_next it × IsFinite (R.IntoIter.remaining it) }
+        requires adds_end { (it : A.IntoIter) → A.into_iter_gives adds it → A.IntoIter.can_next it
+            × IsFinite (A.IntoIter.remaining it) }
+        requires one_more { (xs ys : List T) → Gives R.into_iter_gives R.IntoIter.next_gives removes xs
+            → Gives A.into_iter_gives A.IntoIter.next_gives adds ys → length ys ≡ length xs + 1 }
+        ensures removes { IfOk result (λ m. Gives R.into_iter_gives R.IntoIter.next_gives removes
+            (merge.removes m)) }
+        ensures adds { IfOk result (λ m. Gives A.into_iter_gives A.IntoIter.next_gives adds
+            (merge.adds m)) }
     {
         let removes = removes.into_iter();
         let mut adds = adds.into_iter();
@@ -136,14 +143,18 @@ impl<T: Drop> Merge<T> {
         Ok(Merge { terms })
     }
 
-    /// A first side, and then for each diff its value before as a remove and the one after as an add.
+    /// A first side, and then for each diff its value before as a remove and the one after as an
+    /// add.
     pub fn from_diffs<U: IntoIterator<Item = Diff<T>>>(
         alloc: Global,
         first_side: T,
         diffs: U,
     ) -> Result<Self, AllocError>
-        requires { (it : U.IntoIter) → U.into_iter_gives diffs it → U.IntoIter.can_next it × IsFinite (U.IntoIter.remaining it) }
-        ensures { IfOk result (λ m. (it : U.IntoIter) × (ds : List (Diff T)) × U.into_iter_gives diffs it × Drains U.IntoIter.next_gives it ds × (m ≡ first_side ∷ diff_terms ds)) }
+        requires { (it : U.IntoIter) → U.into_iter_gives diffs it → U.IntoIter.can_next it
+            × IsFinite (U.IntoIter.remaining it) }
+        ensures { IfOk result (λ m. (it : U.IntoIter) × (ds : List (Diff T))
+            × U.into_iter_gives diffs it × Drains U.IntoIter.next_gives it ds
+            × (m ≡ first_side ∷ diff_terms ds)) }
     {
         let mut terms = Terms::one(first_side);
         for diff in diffs {

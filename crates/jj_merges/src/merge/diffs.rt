@@ -22,7 +22,8 @@ impl<T> Diff<T> {
     /// What `f` gives of both values, the one before first.
     pub fn map<U, F: FnMut(T) -> U + Drop>(self, f: F) -> Diff<U>
         requires { F.IsAlwaysCallable f }
-        ensures { (next : F) × (last : F) × F.step f self.before result.before next × F.step next self.after result.after last }
+        ensures { (next : F) × (last : F) × F.step f self.before result.before next
+            × F.step next self.after result.after last }
     {
         let mut f = f;
         let before = f(self.before);
@@ -68,7 +69,8 @@ impl<T> Diff<T> {
         T: AsDeref<'a>,
         ensures before { T.as_deref_gives self.now.before result.before }
         ensures after { T.as_deref_gives self.now.after result.after }
-        ensures views { (T.output_view result.before ≡ T.view self.now.before) × (T.output_view result.after ≡ T.view self.now.after) }
+        ensures views { (T.output_view result.before ≡ T.view self.now.before)
+            × (T.output_view result.after ≡ T.view self.now.after) }
     {
         Diff {
             before: self.before.shown(),

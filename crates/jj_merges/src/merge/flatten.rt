@@ -9,11 +9,13 @@ use super::storage::Terms;
 use std::alloc::{AllocError, Global};
 
 impl<T: Drop> Merge<Merge<T>> {
-    /// The terms of all the merges, those of added ones as they are. A removed merge of the terms `a0, r1, a1, .., rn, an`
-    /// takes away its adds and gives back its removes: its terms are appended as `a1, r1, .., an, rn, a0`.
+    /// The terms of all the merges, those of added ones as they are. A removed merge of the terms
+    /// `a0, r1, a1, .., rn, an` takes away its adds and gives back its removes: its terms are
+    /// appended as `a1, r1, .., an, rn, a0`.
     pub fn flatten(self, alloc: Global) -> Result<Merge<T>, AllocError>
         ensures terms { IfOk result (λ m. m ≡ flattened self) }
-        ensures counts { IfOk result (λ m. (eq : T → T → Bool) (v : T) → signed_count eq m v ≡ outer_count eq self v) }
+        ensures counts { IfOk result (λ m. (eq : T → T → Bool) (v : T)
+            → signed_count eq m v ≡ outer_count eq self v) }
     {
         let len = self.as_slice().len();
         let mut merges = self.into_iter();

@@ -22,7 +22,8 @@ impl<T> Merge<T> {
         f: F,
     ) -> Result<Merge<U>, AllocError>
         requires { F.IsAlwaysCallable f }
-        ensures images { IfOk result (λ m. (last : F) × MapsTo (CalledAt F.FnMut) f self.now m last) }
+        ensures images { IfOk result (λ m. (last : F)
+            × MapsTo (CalledAt F.FnMut) f self.now m last) }
     {
         let values = self.as_slice();
         let mut f = f;
@@ -40,9 +41,13 @@ impl<T> Merge<T> {
         f: F,
     ) -> Result<Merge<U>, E>
         requires { F.IsAlwaysCallable f }
-        ensures images { IfOk result (λ m. (last : F) × MapsTo (λ f x y next. CalledAt F.FnMut f x (Ok y) next) f self.now m last) }
+        ensures images { IfOk result (λ m. (last : F)
+            × MapsTo (λ f x y next. CalledAt F.FnMut f x (Ok y) next) f self.now m last) }
         // An error is the closure's at the first term where it fails, or want of memory.
-        ensures failed { IfErr result (λ e. FailsAmong (λ f x y next. CalledAt F.FnMut f x (Ok y) next) (λ f x. (last : F) × CalledAt F.FnMut f x (Err e) last) f self.now ⊎ E.from_gives alloc_error e) }
+        ensures failed { IfErr result (λ e. FailsAmong
+            (λ f x y next. CalledAt F.FnMut f x (Ok y) next)
+            (λ f x. (last : F) × CalledAt F.FnMut f x (Err e) last) f self.now
+            ⊎ E.from_gives alloc_error e) }
     {
         let values = self.as_slice();
         let mut f = f;
@@ -177,7 +182,8 @@ fn clone_of<T: Clone>(term: &Option<&T>) -> Result<Option<T>, AllocError>
 impl<T: Clone> Merge<Option<&T>> {
     /// The terms by value, each a clone.
     pub fn cloned(&self, alloc: Global) -> Result<Merge<Option<T>>, AllocError>
-        ensures { IfOk result (λ m. AllZip (IsOptionClone T.is_clone) (map option_copied self.now) m) }
+        ensures { IfOk result (λ m. AllZip (IsOptionClone T.is_clone)
+            (map option_copied self.now) m) }
     {
         let values = self.as_slice();
         let mut terms = Terms::with_room(alloc, values.len())?;

@@ -72,7 +72,8 @@ impl<T: Drop> IntoIterator for Merge<T> {
 
     type IntoIter = IntoIter<T>;
 
-    ghost into_iter_gives = { λ m it. (it ≡ m) × YieldsInOrder (YieldsFirst {A = T} (λ rest. rest)) (λ rest. rest)
+    ghost into_iter_gives = { λ m it. (it ≡ m)
+        × YieldsInOrder (YieldsFirst {A = T} (λ rest. rest)) (λ rest. rest)
         × YieldsInReverse (YieldsLast {A = T} (λ rest. rest)) (λ rest. rest) };
 
     fn into_iter(self) -> IntoIter<T> {

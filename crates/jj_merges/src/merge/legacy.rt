@@ -12,18 +12,22 @@ use super::storage::Terms;
 use std::alloc::{AllocError, Global};
 
 impl<T: Drop> Merge<Option<T>> {
-    /// The first of the adds, and then the removes and the other adds by turns. The shorter list is filled up with
+    /// The first of the adds, and then the removes and the other adds by turns. The shorter list is
+    /// filled up with
     /// `None`.
     pub fn from_legacy_form<R: IntoIterator<Item = T>, A: IntoIterator<Item = T>>(
         alloc: Global,
         removes: R,
         adds: A,
     ) -> Result<Self, AllocError>
-        requires removes_end { (it : R.IntoIter) → R.into_iter_gives removes it → R.IntoIter.can_next it × IsFinite (R.IntoIter.remaining it) }
-        requires adds_end { (it : A.IntoIter) → A.into_iter_gives adds it → A.IntoIter.can_next it × IsFinite (A.IntoIter.remaining it) }
+        requires removes_end { (it : R.IntoIter) → R.into_iter_gives removes it
+            → R.IntoIter.can_next it × IsFinite (R.IntoIter.remaining it) }
+        requires adds_end { (it : A.IntoIter) → A.into_iter_gives adds it → A.IntoIter.can_next it
+            × IsFinite (A.IntoIter.remaining it) }
 
         // The values that are there are those of both lists, as `into_legacy_form` gives them back.
-        ensures { IfOk result (λ m. (xs : List T) × (ys : List T) × Gives R.into_iter_gives R.IntoIter.next_gives removes xs
+        ensures { IfOk result (λ m. (xs : List T) × (ys : List T)
+            × Gives R.into_iter_gives R.IntoIter.next_gives removes xs
             × Gives A.into_iter_gives A.IntoIter.next_gives adds ys × (m ≡ legacy_terms xs ys)
             × (present (merge.removes m) ≡ xs) × (present (merge.adds m) ≡ ys)) }
     {

@@ -64,13 +64,17 @@ impl<'a, T> IntoIterator for &'a mut Merge<T> {
 
     type IntoIter = slice::IterMut<'a, T>;
 
-    ghost into_iter_gives = { λ m it. (iter_mut_rest it ≡ m.now) × (length (iter_mut_rest it) < 2 ^ 64)
-        × EveryRun (iter_mut_steps {A = T}) (λ p. ItemsMapTo p (λ x. x.now) (iter_mut_rest p.from)) };
+    ghost into_iter_gives = { λ m it. (iter_mut_rest it ≡ m.now)
+        × (length (iter_mut_rest it) < 2 ^ 64)
+        × EveryRun (iter_mut_steps {A = T}) (λ p.
+        ItemsMapTo p (λ x. x.now) (iter_mut_rest p.from)) };
 
     fn into_iter(self) -> slice::IterMut<'a, T>
         ensures* writes_back { sem 𝓛 (lends_iter T.row self.entry result) }
-        ensures into_iter_gives { (iter_mut_rest result ≡ self.old) × (length (iter_mut_rest result) < 2 ^ 64)
-            × EveryRun (iter_mut_steps {A = T}) (λ p. ItemsMapTo p (λ x. x.now) (iter_mut_rest p.from)) }
+        ensures into_iter_gives { (iter_mut_rest result ≡ self.old)
+            × (length (iter_mut_rest result) < 2 ^ 64)
+            × EveryRun (iter_mut_steps {A = T}) (λ p.
+            ItemsMapTo p (λ x. x.now) (iter_mut_rest p.from)) }
     {
         self.as_mut_slice().iter_mut()
     }

@@ -51,8 +51,10 @@ fn three_way<'a, T: Eq>(
     same_change: SameChange,
 ) -> Option<&'a T>
     ensures member { IfSome result (λ v. (v.now ≡ first.now) ⊎ (v.now ≡ last.now)) }
-    ensures decided { IfSome result (λ v. IsDecided T.eq same_change (first.now ∷ remove.now ∷ last.now ∷ []) v.now) }
-    ensures undecided { IfNone result ((v : T) → IsDecided T.eq same_change (first.now ∷ remove.now ∷ last.now ∷ []) v → ⊥) }
+    ensures decided { IfSome result (λ v. IsDecided T.eq same_change
+        (first.now ∷ remove.now ∷ last.now ∷ []) v.now) }
+    ensures undecided { IfNone result ((v : T)
+        → IsDecided T.eq same_change (first.now ∷ remove.now ∷ last.now ∷ []) v → ⊥) }
 {
     if same_change == SameChange::Accept && first == last {
         return Some(first);
@@ -66,8 +68,9 @@ fn three_way<'a, T: Eq>(
     None
 }
 
-/// The value that is added, where the counts of all values decide it. Each value is counted once, at the first place where it
-/// stands, so that the comparisons are at most four times the terms times the distinct values.
+/// The value that is added, where the counts of all values decide it. Each value is counted once,
+/// at the first place where it stands, so that the comparisons are at most four times the terms
+/// times the distinct values.
 fn add_left<T: Eq>(values: &[T], same_change: SameChange) -> Option<&T>
     ensures member { IfSome result (λ v. Contains values.now v.now) }
     ensures decided { IfSome result (λ v. IsDecided T.eq same_change values.now v.now) }

@@ -14,8 +14,11 @@ impl RepoPathBuf {
         &mut self,
         names: I,
     ) -> Result<(), AllocError>
-        requires { (it : I.IntoIter) → I.into_iter_gives names it → I.IntoIter.can_next it × IsFinite (I.IntoIter.remaining it) }
-        ensures extended { IfOk result (λ done. (it : I.IntoIter) × (added : List RepoPathComponent) × I.into_iter_gives names it × Drains I.IntoIter.next_gives it added × (self.new ≡ self.old ++ map name_of added)) }
+        requires { (it : I.IntoIter) → I.into_iter_gives names it → I.IntoIter.can_next it
+            × IsFinite (I.IntoIter.remaining it) }
+        ensures extended { IfOk result (λ done. (it : I.IntoIter) × (added : List RepoPathComponent)
+            × I.into_iter_gives names it × Drains I.IntoIter.next_gives it added
+            × (self.new ≡ self.old ++ map name_of added)) }
         ensures refused { IfErr result (λ e. self.new ≡ self.old) }
     {
         let len = self.value.len();
@@ -34,8 +37,11 @@ fn push_names<'n, I: IntoIterator<Item = RepoPathComponent<'n>>>(
     text: &mut String,
     names: I,
 ) -> Result<(), AllocError>
-    requires { (it : I.IntoIter) → I.into_iter_gives names it → I.IntoIter.can_next it × IsFinite (I.IntoIter.remaining it) }
-    ensures pushed { IfOk result (λ done. (it : I.IntoIter) × (added : List RepoPathComponent) × I.into_iter_gives names it × Drains I.IntoIter.next_gives it added × (string_bytes text.new ≡ with_names (string_bytes text.old) (map name_of added))) }
+    requires { (it : I.IntoIter) → I.into_iter_gives names it → I.IntoIter.can_next it
+        × IsFinite (I.IntoIter.remaining it) }
+    ensures pushed { IfOk result (λ done. (it : I.IntoIter) × (added : List RepoPathComponent)
+        × I.into_iter_gives names it × Drains I.IntoIter.next_gives it added
+        × (string_bytes text.new ≡ with_names (string_bytes text.old) (map name_of added))) }
     ensures refused { IfErr result (λ e. IsLonger (string_bytes text.old) (string_bytes text.new)) }
 {
     for name in names {
@@ -46,7 +52,8 @@ fn push_names<'n, I: IntoIterator<Item = RepoPathComponent<'n>>>(
 
 // adds a name to a path's text; refused, it may have added a slash
 fn push_name(text: &mut String, name: RepoPathComponent<'_>) -> Result<(), AllocError>
-    ensures pushed { IfOk result (λ done. string_bytes text.new ≡ with_name (string_bytes text.old) (name_of name.entry)) }
+    ensures pushed { IfOk result (λ done. string_bytes text.new
+        ≡ with_name (string_bytes text.old) (name_of name.entry)) }
     ensures refused { IfErr result (λ e. IsLonger (string_bytes text.old) (string_bytes text.new)) }
 {
     if !text.is_empty() {

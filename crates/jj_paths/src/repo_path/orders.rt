@@ -1,5 +1,5 @@
-//! Equality, order, hashes and copies of names and paths: names by their bytes, paths name by name. A borrowed name or
-//! path has the order and the hash of the owned one.
+//! Equality, order, hashes and copies of names and paths: names by their bytes, paths name by name.
+//! A borrowed name or path has the order and the hash of the owned one.
 ghost use Rattle.std.specs.Prelude.{◌≡◌, ◌≢◌, Some, refl};
 ghost use Rattle.std.specs.Str.{bytes_eq};
 ghost use Rattle.std.specs.Cmp;
@@ -92,7 +92,8 @@ impl<'a> Eq for RepoPathComponent<'a> {
 impl<'a> PartialOrd for RepoPathComponent<'a> {
     ghost partial_cmp = { λ a b. Some (name_cmp (name_of a) (name_of b)) };
 
-    ghost laws = { po (on_total name_of nat_list_cmp_total) (λ a b. texts_ties (name_of a) (name_of b)) };
+    ghost laws = { po (on_total name_of nat_list_cmp_total)
+        (λ a b. texts_ties (name_of a) (name_of b)) };
 
     fn partial_cmp(&self, other: &RepoPathComponent<'a>) -> Option<Ordering> {
         Some(self.cmp(other))
@@ -198,7 +199,8 @@ impl<'a> Eq for RepoPath<'a> {
 impl<'a> PartialOrd for RepoPath<'a> {
     ghost partial_cmp = { λ a b. Some (path_cmp (path_of a) (path_of b)) };
 
-    ghost laws = { po (on_total path_of path_cmp_total) (λ a b. path_ties (path_of a) (path_of b)) };
+    ghost laws = { po (on_total path_of path_cmp_total)
+        (λ a b. path_ties (path_of a) (path_of b)) };
 
     fn partial_cmp(&self, other: &RepoPath<'a>) -> Option<Ordering> {
         Some(self.cmp(other))
@@ -229,8 +231,8 @@ impl<'a> Hash for RepoPath<'a> {
     }
 }
 
-// Texts by their bytes, where a slash comes before all others: so a name that goes on comes behind one that has ended, and
-// the order is that of the lists of names.
+// Texts by their bytes, where a slash comes before all others: so a name that goes on comes behind
+// one that has ended, and the order is that of the lists of names.
 fn slash_first(mine: &[u8], theirs: &[u8]) -> Ordering
     ensures { result ≡ slice_cmp slash_cmp mine.now theirs.now }
 {

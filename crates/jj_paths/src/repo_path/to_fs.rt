@@ -85,7 +85,8 @@ impl<'a> RepoPath<'a> {
     /// The path below a directory of the file system. A path with a name `.` or `..` is `Invalid`,
     /// with the first such name.
     pub fn to_fs_path(self, alloc: Global, base: &str) -> Result<String, InvalidRepoPathError>
-        ensures ok { IfOk result (λ text. (string_bytes text ≡ fs_text base.now (path_of self.entry))
+        ensures ok { IfOk result (λ text. (string_bytes text
+            ≡ fs_text base.now (path_of self.entry))
             × (find is_dots (path_of self.entry) ≡ None)) }
         ensures refused { IfErr result (IsRefusedPath (path_of self.entry)) }
     {

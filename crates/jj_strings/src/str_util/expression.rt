@@ -68,17 +68,19 @@ impl StringExpression {
 
     /// The strings of either.
     pub fn union(self, alloc: Global, other: Self) -> Result<Self, AllocError>
-        ensures { IfOk result (λ e. expression_of e ≡ union (expression_of self) (expression_of other)) }
+        ensures { IfOk result (λ e. expression_of e
+            ≡ union (expression_of self) (expression_of other)) }
     {
         let left = Box::new(alloc, self)?;
         let right = Box::new(alloc, other)?;
         Ok(StringExpression::Union(left, right))
     }
 
-    /// The strings of any of them: no expression is `none`, one is itself, more are the union of both halves, so that the depth
-    /// grows with the logarithm of their number.
+    /// The strings of any of them: no expression is `none`, one is itself, more are the union of
+    /// both halves, so that the depth grows with the logarithm of their number.
     pub fn union_all(alloc: Global, expressions: Vec<Self>) -> Result<Self, AllocError>
-        ensures { IfOk result (λ e. IsUnionOf (map expression_of expressions.items) (expression_of e)) }
+        ensures { IfOk result (λ e. IsUnionOf (map expression_of expressions.items)
+            (expression_of e)) }
     {
         let mut left = expressions;
         if left.len() < 2 {
@@ -95,7 +97,8 @@ impl StringExpression {
 
     /// The strings of both.
     pub fn intersection(self, alloc: Global, other: Self) -> Result<Self, AllocError>
-        ensures { IfOk result (λ e. expression_of e ≡ intersection (expression_of self) (expression_of other)) }
+        ensures { IfOk result (λ e. expression_of e
+            ≡ intersection (expression_of self) (expression_of other)) }
     {
         let left = Box::new(alloc, self)?;
         let right = Box::new(alloc, other)?;
@@ -104,7 +107,8 @@ impl StringExpression {
 
     /// The texts of the exact patterns, from left to right, those below a complement too.
     pub fn exact_strings(&self, alloc: Global) -> Result<IntoIter<&str>, AllocError>
-        ensures { IfOk result (λ texts. map (λ text. text.now) (into_iter_items texts) ≡ exact_texts (expression_of self.now)) }
+        ensures { IfOk result (λ texts. map (λ text. text.now) (into_iter_items texts)
+            ≡ exact_texts (expression_of self.now)) }
     {
         let mut texts = Vec::new(alloc);
         self.push_exact_strings(&mut texts)?;
@@ -156,7 +160,8 @@ impl StringExpression {
 
     // Whether the expression's set holds the bytes.
     pub(crate) fn holds(&self, alloc: Global, bytes: &[u8]) -> Result<bool, AllocError>
-        ensures answer { IfOk result (λ yes. IsTrue yes ↔ InExpression (expression_of self.now) bytes.now) }
+        ensures answer { IfOk result (λ yes. IsTrue yes
+            ↔ InExpression (expression_of self.now) bytes.now) }
         ensures memory { IsErr result → HasRegex (expression_of self.now) }
     {
         match self {

@@ -14,7 +14,8 @@ use std::option::IntoIter;
 /// Entries of a map that are still to be looked at: all of them, or the one of a key.
 type Entries<'a, K, V> = Either<Iter<'a, K, V>, IntoIter<(&'a K, &'a V)>>;
 
-/// The entries, in order. An error comes only where a regular expression is inside; after it there are no more.
+/// The entries, in order. An error comes only where a regular expression is inside; after it there
+/// are no more.
 #[derive(Drop)]
 pub struct FilterBTreeMap<'a, 'm, K: TextKey, V> {
     matcher: &'m StringMatcher,
@@ -26,16 +27,17 @@ impl StringMatcher {
     ghost use Rattle.jj_strings.specs.StringMatchers.{InMatcher};
     ghost use Rattle.jj_strings.specs.FilterViews.{filter_matcher, filter_entries};
 
-    /// The entries whose keys' texts the set holds, in order. The entry of an exact text is looked up by a key made of the
-    /// text; where there is no memory for that key, all entries are looked at. A match takes memory only where a regular
-    /// expression is inside.
+    /// The entries whose keys' texts the set holds, in order. The entry of an exact text is looked
+    /// up by a key made of the text; where there is no memory for that key, all entries are looked
+    /// at. A match takes memory only where a regular expression is inside.
     pub fn filter_btree_map<'a, 'm, K: TextKey, V>(
         &'m self,
         alloc: Global,
         map: &'a BTreeMap<K, V>,
     ) -> FilterBTreeMap<'a, 'm, K, V>
         ensures matcher { filter_matcher result ≡ self.now }
-        ensures entries { HoldsAllOf (λ e. InMatcher self.now (K.key_text e.0)) map.now.entries (filter_entries result) }
+        ensures entries { HoldsAllOf (λ e. InMatcher self.now (K.key_text e.0)) map.now.entries
+            (filter_entries result) }
     {
         FilterBTreeMap {
             matcher: self,
@@ -51,19 +53,21 @@ impl StringMatcher {
         map: &'a BTreeMap<K, V>,
     ) -> FilterBTreeMap<'a, 'm, K, V>
         ensures matcher { filter_matcher result ≡ self.now }
-        ensures entries { HoldsAllOf (λ e. InMatcher self.now (K.key_text e.0)) map.now.entries (filter_entries result) }
+        ensures entries { HoldsAllOf (λ e. InMatcher self.now (K.key_text e.0)) map.now.entries
+            (filter_entries result) }
     {
         self.filter_btree_map(alloc, map)
     }
 
-    // The entries that have to be looked at: that of the text for an exact matcher, else all. Where there is no memory for the
-    // key of the text, all are looked at.
+    // The entries that have to be looked at: that of the text for an exact matcher, else all. Where
+    // there is no memory for the key of the text, all are looked at.
     fn candidates<'a, K: TextKey, V>(
         &self,
         alloc: Global,
         map: &'a BTreeMap<K, V>,
     ) -> Entries<'a, K, V>
-        ensures { HoldsAllOf (λ e. InMatcher self.now (K.key_text e.0)) map.now.entries (entries_left result) }
+        ensures { HoldsAllOf (λ e. InMatcher self.now (K.key_text e.0)) map.now.entries
+            (entries_left result) }
     {
         let entries = map.iter();
         let StringMatcher::Exact(text) = self else {
@@ -84,7 +88,8 @@ impl<'a, 'm, K: TextKey, V> Iterator for FilterBTreeMap<'a, 'm, K, V> {
 
     type Item = Result<(&'a K, &'a V), AllocError>;
 
-    ghost next_gives = { λ s r t. GivesNext deref_pair (λ e. InMatcher s.matcher.now (K.key_text e.0)) (MayAllocate s.matcher.now)
+    ghost next_gives = { λ s r t. GivesNext deref_pair
+        (λ e. InMatcher s.matcher.now (K.key_text e.0)) (MayAllocate s.matcher.now)
         (entries_left s.entries) r (entries_left t.entries) × (t.matcher ≡ s.matcher) };
 
     ghost remaining = { λ s. at_most (length (entries_left s.entries)) };

@@ -10,7 +10,8 @@ use std::fmt;
 use std::marker::Model;
 use std::rc::Rc;
 
-/// A glob without separator, seen as its text and whether ASCII letters match in either case. A clone shares the glob.
+/// A glob without separator, seen as its text and whether ASCII letters match in either case. A
+/// clone shares the glob.
 #[derive(Drop)]
 pub struct GlobPattern {
     parsed: Rc<Glob>,
@@ -22,7 +23,10 @@ impl Model for GlobPattern {
 
     ghost Value = { StringGlob };
 
-    ghost view = { λ p. record { text = p.parsed.value.text; icase = p.parsed.value.options.icase } };
+    ghost view = { λ p. record {
+      text = p.parsed.value.text;
+      icase = p.parsed.value.options.icase;
+    } };
 
     ghost invariant = { λ p. p.parsed.value.options.separator ≡ false };
 }

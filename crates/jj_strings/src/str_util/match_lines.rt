@@ -5,8 +5,8 @@ ghost use Rattle.jj_strings.specs.Lines.{lines, without_feed, first_len};
 use crate::str_util::matcher::StringMatcher;
 use std::alloc::{AllocError, Global};
 
-/// The lines, with their line feeds, in order. An error comes only where a regular expression is inside; after it there
-/// are no more.
+/// The lines, with their line feeds, in order. An error comes only where a regular expression is
+/// inside; after it there are no more.
 #[derive(Drop)]
 pub struct MatchLines<'a, 'm> {
     matcher: &'m StringMatcher,
@@ -17,8 +17,8 @@ pub struct MatchLines<'a, 'm> {
 impl StringMatcher {
     ghost use Rattle.jj_strings.specs.LinesLeft.{matcher_of, rest_of};
 
-    /// The lines of the text that the set holds without their line feeds. Memory is taken only where a regular expression is
-    /// inside.
+    /// The lines of the text that the set holds without their line feeds. Memory is taken only
+    /// where a regular expression is inside.
     pub fn match_lines<'a, 'm>(&'m self, alloc: Global, text: &'a [u8]) -> MatchLines<'a, 'm>
         ensures matcher { matcher_of result ≡ self.now }
         ensures rest { rest_of result ≡ text.now }
@@ -38,7 +38,8 @@ impl<'a, 'm> Iterator for MatchLines<'a, 'm> {
 
     type Item = Result<&'a [u8], AllocError>;
 
-    ghost next_gives = { λ s r t. GivesNextLine (InMatcher s.matcher.now) (MayAllocate s.matcher.now)
+    ghost next_gives = { λ s r t. GivesNextLine (InMatcher s.matcher.now)
+        (MayAllocate s.matcher.now)
         s.rest.now r t.rest.now × (t.matcher ≡ s.matcher) };
 
     ghost remaining = { λ s. at_most (length s.rest.now) };

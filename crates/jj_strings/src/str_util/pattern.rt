@@ -74,7 +74,8 @@ impl StringPattern {
 
     /// Every string for which the glob stands. A glob without any of `? * [ ] { } \` is exact.
     pub fn glob(alloc: Global, text: &str) -> Result<Self, StringPatternParseError>
-        ensures { MatchResult result (λ pattern. pattern_of pattern ≡ glob_or_exact text.now) (IsGlobFault text.now) }
+        ensures { MatchResult result (λ pattern. pattern_of pattern ≡ glob_or_exact text.now)
+            (IsGlobFault text.now) }
     {
         if !has_special(text) {
             return Ok(StringPattern::exact(String::from_str(alloc, text)?));
@@ -85,7 +86,8 @@ impl StringPattern {
 
     /// Every string for which the glob stands, with ASCII letters in either case.
     pub fn glob_i(alloc: Global, text: &str) -> Result<Self, StringPatternParseError>
-        ensures { MatchResult result (λ pattern. pattern_of pattern ≡ glob_i (string_glob text.now true)) (IsGlobFault text.now) }
+        ensures { MatchResult result (λ pattern. pattern_of pattern
+            ≡ glob_i (string_glob text.now true)) (IsGlobFault text.now) }
     {
         let pattern = GlobPattern::parse(alloc, text, true)?;
         Ok(StringPattern::GlobI(Box::new(alloc, pattern)?))
@@ -93,7 +95,9 @@ impl StringPattern {
 
     /// Every string in which the regular expression has a match.
     pub fn regex(alloc: Global, text: &str) -> Result<Self, StringPatternParseError>
-        ensures { MatchResult result (λ pattern. IsRegexOf bytes_config text.now (pattern_of pattern)) (IsRegexFault bytes_config text.now) }
+        ensures { MatchResult result (λ pattern.
+            IsRegexOf bytes_config text.now (pattern_of pattern))
+            (IsRegexFault bytes_config text.now) }
     {
         let pattern = Regex::new(alloc, text)?;
         Ok(StringPattern::Regex(Rc::new(alloc, pattern)?))
@@ -101,7 +105,9 @@ impl StringPattern {
 
     /// Every string in which the regular expression has a match, with letters in either case.
     pub fn regex_i(alloc: Global, text: &str) -> Result<Self, StringPatternParseError>
-        ensures { MatchResult result (λ pattern. IsRegexIOf bytes_config_i text.now (pattern_of pattern)) (IsRegexFault bytes_config_i text.now) }
+        ensures { MatchResult result (λ pattern.
+            IsRegexIOf bytes_config_i text.now (pattern_of pattern))
+            (IsRegexFault bytes_config_i text.now) }
     {
         let pattern = RegexBuilder::new(text)
             .case_insensitive(true)
@@ -109,13 +115,15 @@ impl StringPattern {
         Ok(StringPattern::RegexI(Rc::new(alloc, pattern)?))
     }
 
-    /// The pattern that the text is as one of the kind: `exact`, `substring`, `glob`, `regex`, each also with `-i`.
+    /// The pattern that the text is as one of the kind: `exact`, `substring`, `glob`, `regex`, each
+    /// also with `-i`.
     pub fn from_str_kind(
         alloc: Global,
         text: &str,
         kind: &str,
     ) -> Result<Self, StringPatternParseError>
-        ensures { MatchOption (kind_named kind.now) (IsUnknownKind kind.now result) (λ k. ReadsAsKind k text.now result) }
+        ensures { MatchOption (kind_named kind.now) (IsUnknownKind kind.now result)
+            (λ k. ReadsAsKind k text.now result) }
     {
         let Some(kind) = PatternKind::from_name(kind) else {
             let kind = String::from_str(alloc, kind)?;
@@ -135,7 +143,8 @@ impl StringPattern {
         }
     }
 
-    /// Whether the pattern is seen at once to hold every string: an empty part, an empty regular expression, the glob `*`.
+    /// Whether the pattern is seen at once to hold every string: an empty part, an empty regular
+    /// expression, the glob `*`.
     pub fn is_all(&self) -> bool
         ensures { result ≡ is_all (pattern_of self.now) }
     {
@@ -186,7 +195,8 @@ impl StringPattern {
 
     // Whether the pattern's set holds the bytes.
     pub(crate) fn holds(&self, alloc: Global, bytes: &[u8]) -> Result<bool, AllocError>
-        ensures answer { IfOk result (λ yes. IsTrue yes ↔ InPattern (pattern_of self.now) bytes.now) }
+        ensures answer { IfOk result (λ yes. IsTrue yes
+            ↔ InPattern (pattern_of self.now) bytes.now) }
         ensures memory { IsErr result → IsRegex (pattern_of self.now) }
     {
         match self {

@@ -9,7 +9,8 @@ pub type ByteTest = Box<dyn Fn(&[u8]) -> bool>;
 pub struct BytePredicate {
     test: ByteTest,
     ghost callable: { ByteTest.IsAlwaysCallable test },
-    ghost one_answer: { (x y : _) (r s : Bool) → x.now ≡ y.now → ByteTest.post test x r → ByteTest.post test y s → r ≡ s },
+    ghost one_answer: { (x y : _) (r s : Bool) → x.now ≡ y.now → ByteTest.post test x r
+        → ByteTest.post test y s → r ≡ s },
 }
 
 impl BytePredicate {
@@ -19,8 +20,10 @@ impl BytePredicate {
     /// The predicate of this test.
     pub fn new(test: ByteTest) -> BytePredicate
         requires callable { ByteTest.IsAlwaysCallable test }
-        requires one_answer { (x y : _) (r s : Bool) → x.now ≡ y.now → ByteTest.post test x r → ByteTest.post test y s → r ≡ s }
-        ensures { (bytes : List ℕ) → Accepts result bytes ↔ ((x : _) × (x.now ≡ bytes) × ByteTest.post test x true) }
+        requires one_answer { (x y : _) (r s : Bool) → x.now ≡ y.now → ByteTest.post test x r
+            → ByteTest.post test y s → r ≡ s }
+        ensures { (bytes : List ℕ) → Accepts result bytes
+            ↔ ((x : _) × (x.now ≡ bytes) × ByteTest.post test x true) }
     {
         BytePredicate { test }
     }

@@ -20,7 +20,8 @@ pub trait TextKey: Ord + Drop {
         ensures { IfOk result (λ key. key_text key ≡ text.now) };
 
     /// Keys are ordered as their texts.
-    ghost ordered_as_text: { (a b : Self) → Self.cmp a b ≡ slice_cmp nat_cmp (key_text a) (key_text b) };
+    ghost ordered_as_text: { (a b : Self) → Self.cmp a b
+        ≡ slice_cmp nat_cmp (key_text a) (key_text b) };
 }
 
 impl TextKey for String {

@@ -14,11 +14,14 @@ impl StringPattern {
     ghost use Rattle.jj_strings.specs.StringSets.{InPattern, string_glob};
     ghost use Rattle.jj_strings.specs.PatternViews.{pattern_of};
 
-    /// The text of a glob that stands for the same strings, for patterns that are exact, a part or a glob.
+    /// The text of a glob that stands for the same strings, for patterns that are exact, a part or
+    /// a glob.
     pub fn to_glob(&self, alloc: Global) -> Result<Option<CowStr<'_>>, AllocError>
-        ensures text { IfOk result (λ glob. option_map cow_str_bytes glob ≡ glob_text (pattern_of self.now)) }
+        ensures text { IfOk result (λ glob. option_map cow_str_bytes glob
+            ≡ glob_text (pattern_of self.now)) }
         ensures set { IfOk result (λ glob. IfSome glob (λ text. (bytes : List ℕ)
-            → IsMatch (as_glob (string_glob (cow_str_bytes text) (glob_icase (pattern_of self.now)))) bytes
+            → IsMatch (as_glob (string_glob (cow_str_bytes text)
+            (glob_icase (pattern_of self.now)))) bytes
             ↔ InPattern (pattern_of self.now) bytes)) }
     {
         self.as_glob_text(alloc)
@@ -26,7 +29,8 @@ impl StringPattern {
 
     // The text of the glob, by cases.
     fn as_glob_text(&self, alloc: Global) -> Result<Option<CowStr<'_>>, AllocError>
-        ensures { IfOk result (λ glob. option_map cow_str_bytes glob ≡ glob_text (pattern_of self.now)) }
+        ensures { IfOk result (λ glob. option_map cow_str_bytes glob
+            ≡ glob_text (pattern_of self.now)) }
     {
         match self {
             StringPattern::Exact(text) => {

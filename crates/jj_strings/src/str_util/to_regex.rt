@@ -18,8 +18,8 @@ impl GlobPattern {
 }
 
 impl StringPattern {
-    /// The regular expression that matches as the pattern does, but that a pattern without regard to the case of ASCII
-    /// letters becomes one without regard to the case of any letter.
+    /// The regular expression that matches as the pattern does, but that a pattern without regard
+    /// to the case of ASCII letters becomes one without regard to the case of any letter.
     pub fn to_regex(&self, alloc: Global) -> Result<Rc<Regex>, Error> {
         match self {
             StringPattern::Exact(text) => whole(alloc, text.as_str(), false),
