@@ -11,7 +11,7 @@ use Rattle.std.proofs.lemmas.List.Elements.{Contains-append_right}
 use denote.Ref.{Bor}
 use Rattle.jj_walks.specs.Graph.{Graph, Postorder, IsPostorder, StandsBefore, ReachedFrom, HasEdge, IsMaximalIn}
 use Rattle.jj_walks.specs.CommonNodes.{AreClosestCommon}
-use Rattle.jj_walks.specs.Failing.{sound_items}
+use Rattle.jj_walks.specs.Failing.{Fault, sound_items}
 use Rattle.jj_walks.specs.Walk.{Numbered, AreNodes}
 use Rattle.jj_walks.proofs.Collecting.{are_nodes}
 use Rattle.jj_walks.proofs.Heads.{Contains-from_map, Contains-map}
@@ -220,9 +220,9 @@ module _ (commits : List Commit) where
       (ids_are xs (λ x h. node_has x (are_nodes {E = ℕ} walk_of (λ a. []) set1 walk_closed nodes (node x) ((m.all (node x)).0 (Contains-map node xs x h)).0.0))) m
 
   -- the parents of a commit, as a list that does not fail
-  abbrev pub items_of : ℕ → List (Result ℕ ℕ)
+  abbrev pub items_of : ℕ → List (Result ℕ (Fault ℕ))
   items_of a = map (λ b. Ok b) (parent_graph commits a)
 
-  pub items_sound : (ns : List ℕ) → ns ≡ sound_items (map {B = Result ℕ ℕ} (λ b. Ok b) ns)
+  pub items_sound : (ns : List ℕ) → ns ≡ sound_items (map {B = Result ℕ (Fault ℕ)} (λ b. Ok b) ns)
   items_sound [] = refl
   items_sound (n ∷ ns) = ap (λ l. n ∷ l) (items_sound ns)
