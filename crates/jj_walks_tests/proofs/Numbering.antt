@@ -89,7 +89,7 @@ module _ (commits : List Commit) where
   pub found_has : (c : Commit) → commit_with commits c.id ≡ Some c → has_commit commits c ≡ true
   found_has c e = ap (λ o. elim o [ None ↦ false | Some d ↦ is_same d c ]) e ∙ same_self c
 
-  has_found : (c : Commit) → has_commit commits c ≡ true → (d : Commit) × (commit_with commits c.id ≡ Some d) × Fields d c
+  pub has_found : (c : Commit) → has_commit commits c ≡ true → (d : Commit) × (commit_with commits c.id ≡ Some d) × Fields d c
   has_found c h =
       let P : Option Commit → Type 0 = λ o. commit_with commits c.id ≡ o → elim o [ None ↦ false | Some d ↦ is_same d c ] ≡ true
       → (d : Commit) × (commit_with commits c.id ≡ Some d) × Fields d c in
@@ -195,7 +195,7 @@ module _ (commits : List Commit) where
       )
 
   -- values of nodes have their ids for their numbers
-  ids_are : (ys : List (Bor Commit)) → ((x : Bor Commit) → Contains ys x → has_commit commits x.now ≡ true) → map node ys ≡ map (λ x. x.now.id) ys
+  pub ids_are : (ys : List (Bor Commit)) → ((x : Bor Commit) → Contains ys x → has_commit commits x.now ≡ true) → map node ys ≡ map (λ x. x.now.id) ys
   ids_are [] h = refl
   ids_are (y ∷ ys) h = ap (λ n. n ∷ map node ys) (node_id y (h y (0, omega arith, refl))) ∙ ap (λ l. y.now.id ∷ l) (ids_are ys (λ x k. h x (Contains-append_right (y ∷ []) ys x k)))
 

@@ -6,6 +6,7 @@ pub mod callers;
 #[cfg(test)]
 mod closest_common_tests;
 pub mod commits;
+pub mod failing_callers;
 #[cfg(test)]
 mod hostile;
 #[cfg(test)]
