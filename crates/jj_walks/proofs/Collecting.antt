@@ -24,7 +24,7 @@ no_failure f (x ∷ xs) e (suc k, lt, q) = no_failure f xs e (k, omega arith, q)
 
 -- ---- places
 
-at_place : (ns : List ℕ) (a : ℕ) (j : ℕ) → j < length ns → get_or ns j 0 ≡ a → Contains ns a
+pub at_place : (ns : List ℕ) (a : ℕ) (j : ℕ) → j < length ns → get_or ns j 0 ≡ a → Contains ns a
 at_place ns a j lt e = subst (λ (n : ℕ). Contains ns n) e (Contains-get_or ns j 0 lt)
 
 pub IsInjective-push : (ns : List ℕ) (a : ℕ) → IsInjective ns → (Contains ns a → ⊥) → IsInjective (ns ++ a ∷ [])

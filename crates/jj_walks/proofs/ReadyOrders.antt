@@ -42,12 +42,12 @@ not_again : (x : ℕ) (xs : List ℕ) → IsDistinct eqb (x ∷ xs) → Contains
 unfolding IsDistinct
 not_again x xs d h = true≢false (sym ((Decides-eqb x x).1 refl) ∙ All-contains (λ y. eqb x y ≡ false) xs x (All-from_recursion (λ y. eqb x y ≡ false) xs d.0) h)
 
-tail_distinct : (x : ℕ) (xs : List ℕ) → IsDistinct eqb (x ∷ xs) → IsDistinct eqb xs
+pub tail_distinct : (x : ℕ) (xs : List ℕ) → IsDistinct eqb (x ∷ xs) → IsDistinct eqb xs
 unfolding IsDistinct
 tail_distinct x xs d = d.1
 
 -- no element comes again
-twice : (xs front back : List ℕ) (a : ℕ) → IsDistinct eqb xs → xs ≡ front ++ a ∷ back → Contains back a → ⊥
+pub twice : (xs front back : List ℕ) (a : ℕ) → IsDistinct eqb xs → xs ≡ front ++ a ∷ back → Contains back a → ⊥
 twice [] [] back a d e h = absurd cc
 twice [] (y ∷ front) back a d e h = absurd cc
 twice (x ∷ xs) [] back a d e h =

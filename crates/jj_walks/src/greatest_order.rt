@@ -87,10 +87,10 @@ fn make_ready<T: Ord + Drop>(
 
 /// The nodes that the starts reach, in the order in which they were visited.
 #[derive(Drop)]
-struct Collected<T, ID: Hash + Eq> {
-    nodes: Vec<Option<T>>,
-    neighbor_ids: Vec<Vec<ID>>,
-    index_of: HashMap<ID, usize>,
+pub struct Collected<T, ID: Hash + Eq> {
+    pub nodes: Vec<Option<T>>,
+    pub neighbor_ids: Vec<Vec<ID>>,
+    pub index_of: HashMap<ID, usize>,
 }
 
 /// Visits all nodes that the starts reach, the last start and the last neighbour first.
@@ -160,7 +160,7 @@ where
 }
 
 /// The places of the neighbours of each node, and how many edges lead to each place.
-fn link<ID: Hash + Eq + Drop>(
+pub fn link<ID: Hash + Eq + Drop>(
     alloc: Global,
     index_of: &HashMap<ID, usize>,
     neighbor_ids: &[Vec<ID>],
@@ -192,7 +192,7 @@ fn link<ID: Hash + Eq + Drop>(
 
 /// Takes the greatest node without a child that was not taken, as long as there is one. Beside the nodes taken stands one
 /// of those left, which all are on or below a cycle.
-fn take_greatest_first<T: Ord + Drop>(
+pub fn take_greatest_first<T: Ord + Drop>(
     alloc: Global,
     mut waiting: Vec<Option<T>>,
     targets: &[Vec<usize>],
