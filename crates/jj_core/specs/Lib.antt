@@ -24,3 +24,4 @@ pub mod HashCommand
 pub mod Program
 pub mod Reports
 pub mod Laws
+pub mod SoundIds

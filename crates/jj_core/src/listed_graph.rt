@@ -1,5 +1,6 @@
 //! Graphs whose edges a map lists, by the walks over them.
 ghost use Rattle.std.specs.Prelude.{◌≡◌, IfOk, IsOkAnd, MatchBool};
+ghost use Rattle.std.specs.Iterator.{YieldsFirst, item_count};
 ghost use Rattle.std.specs.Iterator.Adapters.{copied_source};
 ghost use Rattle.std.specs.List.Sorted.{IsStrictlyIncreasing};
 ghost use Rattle.std.specs.Slice.Iter.{iter_rest};
@@ -36,6 +37,37 @@ fn sound_neighbors_of(
     Ok(neighbors_of(listed, id).iter().copied())
 }
 
+/// Ids as items that may fail in the eyes of a walk. None does.
+#[derive(Drop)]
+struct SoundIds<'a> {
+    ids: &'a [u64],
+}
+
+impl<'a> Iterator for SoundIds<'a> {
+    type Item = Result<u64, u64>;
+
+    ghost use Rattle.jj_core.specs.SoundIds.{sound_left};
+
+    ghost next_gives = { YieldsFirst sound_left };
+
+    ghost remaining = { item_count sound_left };
+
+    fn next(&mut self) -> Option<Result<u64, u64>> {
+        let (id, others) = self.ids.split_first()?;
+        self.ids = others;
+        Some(Ok(*id))
+    }
+}
+
+/// The neighbours that the map lists, as such items.
+fn sound_items_of(listed: &HashMap<u64, Vec<u64>>, id: u64) -> SoundIds<'_>
+    ensures { result.ids.now ≡ graph_of (listed_in listed.now) id }
+{
+    SoundIds {
+        ids: neighbors_of(listed, id),
+    }
+}
+
 /// Whether the graph has a cycle anywhere.
 pub(crate) fn has_cycle(alloc: Global, listed: &HashMap<u64, Vec<u64>>) -> Result<bool, AllocError>
     ensures { IfOk result (λ cyclic. MatchBool cyclic (HasCycle (graph_of (listed_in listed.now)))
@@ -69,9 +101,9 @@ pub(crate) fn greatest_order(
 {
     let order = topo_order_reverse_ord(
         alloc,
-        ids.iter().copied(),
+        SoundIds { ids },
         |id: &u64| *id,
-        |id: &u64| sound_neighbors_of(listed, *id),
+        |id: &u64| sound_items_of(listed, *id),
         |id: u64| id,
     );
     match order {

@@ -1,7 +1,7 @@
 -- What the map and the heap of a search for the closest common nodes hold.
-use Rattle.std.proofs.Common.{◌≡◌, ℕ, zero, suc, ◌==◌, Bool, true, false, not, cond, ◌&&◌, ◌||◌, List, [], ◌∷◌, ◌++◌, map, length, refl, sym, ◌∙◌, ap, subst, arith, inl, inr, ◌⊎◌, ⊎_elim, true≢false, eqb}
-use Rattle.std.specs.Prelude.{◌↔◌, IsTrue}
-use Rattle.std.specs.Bool.{MatchBool, Decides, one_answer}
+use Rattle.std.proofs.Common.{◌≡◌, ℕ, zero, suc, ◌==◌, Bool, true, false, not, cond, ◌&&◌, ◌||◌, List, [], ◌∷◌, ◌++◌, map, refl, sym, ◌∙◌, ap, subst, arith, inl, inr, ◌⊎◌, ⊎_elim, true≢false, eqb}
+use Rattle.std.specs.Prelude.{IsTrue}
+use Rattle.std.specs.Bool.{MatchBool, one_answer}
 use Rattle.std.specs.Cmp.{nat_eq_equiv}
 use Rattle.std.specs.List.{Contains, IsDistinct, AllByRecursion, filter}
 use Rattle.std.specs.List.Sorted.{IsPermutation}
@@ -12,13 +12,12 @@ use Rattle.std.proofs.lemmas.List.Sorted.{IsPermutation-sym, IsPermutation-trans
 use Rattle.std.proofs.lemmas.Map.Keys.{IsDistinct-push, IsDistinct-head, IsDistinct-tail, IsDistinct-cons, IsDistinct-IsPermutation}
 use Rattle.jj_walks.specs.declared.closest_common.Reach.{Reach}
 use Rattle.jj_walks.specs.declared.closest_common.Mark.{Mark}
-use Rattle.jj_walks.specs.CommonNodes.{IsCommon, HasNoCommonCycle, AreClosestCommon}
-use Rattle.jj_walks.specs.Graph.{HasEdge, Reaches, ReachedFrom, IsMaximal}
+use Rattle.jj_walks.specs.CommonNodes.{HasNoCommonCycle, AreClosestCommon}
+use Rattle.jj_walks.specs.Graph.{HasEdge, ReachedFrom}
 use Rattle.jj_walks.specs.Marks.{unmarked, joined, grows, handed_on, marked, starts_waiting, asked, closest_of}
 use Rattle.jj_walks.specs.Walk.{Numbered, AreNodes}
 use Rattle.jj_walks.proofs.Collecting.{are_nodes}
 use Rattle.jj_walks.proofs.CommonMarks.{IsBoth, Passes, IsMarking, IsAtEnd, at_mark, marks_more, marking_more, marking_asked, passes_marked, passes_kept, is_common, and_both, end_common, end_maximal, maximal_ends}
-use Rattle.jj_walks.proofs.Heads.{Contains-from_map, Contains-map}
 use Rattle.jj_walks.proofs.Reaching.{ReachedFrom-edge}
 use Rattle.jj_walks.proofs.Walking.{has, has-push, has-from_Contains, Contains-from_has, Decides-has, eqb-flip}
 

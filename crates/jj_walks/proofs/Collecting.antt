@@ -1,14 +1,14 @@
 -- What is known while the nodes that some starts reach are collected, each with the ids of its neighbours.
-use Rattle.std.proofs.Common.{◌≡◌, ◌≢◌, ℕ, zero, suc, ◌+◌, ◌<◌, ◌≤◌, Bool, true, false, cond, ◌||◌, Option, None, Some, is_some, Result, Ok, Err, MatchOption, MatchResult, List, [], ◌∷◌, ◌++◌, length, map, get_or, refl, sym, ◌∙◌, ap, subst, arith, ◌==◌, eqb, inl, inr, ◌⊎◌, ⊎_elim, true≢false, append_assoc, append-nil, length-append}
+use Rattle.std.proofs.Common.{◌≡◌, ℕ, zero, suc, ◌+◌, ◌<◌, Bool, true, false, cond, Option, None, Some, is_some, Result, Ok, Err, MatchOption, List, [], ◌∷◌, ◌++◌, length, map, get_or, refl, sym, ◌∙◌, ap, subst, arith, ◌==◌, inl, inr, ◌⊎◌, ⊎_elim, true≢false, length-append}
 use Rattle.std.specs.List.{Contains, filter_map}
 use Rattle.std.specs.Result.{result_ok}
 use Rattle.std.proofs.lemmas.Bool.{cases_eq}
 use Rattle.std.proofs.lemmas.Bool.Decides.{Decides-eqb}
-use Rattle.std.proofs.lemmas.List.{map-append, map_push, length-map, get_or_append_left, get_or_push, get_or_default}
+use Rattle.std.proofs.lemmas.List.{map-append, map_push, length-map, get_or_append_left, get_or_push}
 use Rattle.std.proofs.lemmas.List.Elements.{Contains-append_left, Contains-append_right, Contains-append_cases, Contains-push, Contains-push_cases, Contains-get_or}
-use Rattle.jj_walks.specs.Graph.{Graph, HasEdge, Path, ReachedFrom}
+use Rattle.jj_walks.specs.Graph.{HasEdge, Path, ReachedFrom}
 use Rattle.jj_walks.specs.Failing.{FailingGraph, sound}
-use Rattle.jj_walks.specs.Collecting.{IsInjective, Finds, IsCollecting}
+use Rattle.jj_walks.specs.Collecting.{IsInjective, IsCollecting}
 use Rattle.jj_walks.specs.Walk.{Numbered, AreNodes}
 use Rattle.jj_walks.proofs.Reaching.{ReachedFrom-edge}
 
@@ -24,7 +24,7 @@ no_failure f (x ∷ xs) e (suc k, lt, q) = no_failure f xs e (k, omega arith, q)
 
 -- ---- places
 
-at_place : (ns : List ℕ) (a : ℕ) (j : ℕ) → j < length ns → get_or ns j 0 ≡ a → Contains ns a
+pub at_place : (ns : List ℕ) (a : ℕ) (j : ℕ) → j < length ns → get_or ns j 0 ≡ a → Contains ns a
 at_place ns a j lt e = subst (λ (n : ℕ). Contains ns n) e (Contains-get_or ns j 0 lt)
 
 pub IsInjective-push : (ns : List ℕ) (a : ℕ) → IsInjective ns → (Contains ns a → ⊥) → IsInjective (ns ++ a ∷ [])

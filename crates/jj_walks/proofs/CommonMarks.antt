@@ -1,18 +1,16 @@
 -- The search for the closest common nodes of two sets, on numbers: what the marks of the nodes say while some are open, and
 -- what they say at the end.
-use Rattle.std.proofs.Common.{◌≡◌, ℕ, zero, suc, ◌==◌, Bool, true, false, not, cond, ◌&&◌, ◌||◌, List, [], ◌∷◌, ◌++◌, refl, sym, ◌∙◌, ap, subst, arith, inl, inr, ◌⊎◌, ⊎_elim, true≢false, eqb}
-use Rattle.std.specs.Prelude.{◌↔◌, ◌≢◌}
+use Rattle.std.proofs.Common.{◌≡◌, ℕ, zero, suc, ◌==◌, Bool, true, false, not, cond, ◌&&◌, ◌||◌, List, [], ◌∷◌, refl, sym, ◌∙◌, subst, arith, inl, inr, ◌⊎◌, ⊎_elim, true≢false, eqb}
+use Rattle.std.specs.Prelude.{◌↔◌}
 use Rattle.std.specs.List.{Contains, IsDistinct}
-use Rattle.std.specs.Cmp.{nat_eq_equiv}
 use Rattle.std.proofs.lemmas.Bool.Decides.{Decides-eqb}
-use Rattle.std.proofs.lemmas.List.Elements.{Contains-append_left, Contains-append_right, Contains-push, Contains-push_cases}
-use Rattle.std.proofs.lemmas.Map.Keys.{IsDistinct-push}
+use Rattle.std.proofs.lemmas.List.Elements.{Contains-append_right}
 use Rattle.jj_walks.specs.Graph.{Graph, HasEdge, Path, Reaches, StrictlyReaches, ReachedFrom, IsMaximal}
 use Rattle.jj_walks.specs.CommonNodes.{IsCommon, HasNoCommonCycle}
 use Rattle.jj_walks.specs.declared.closest_common.Reach.{Reach}
 use Rattle.jj_walks.specs.Marks.{joined, grows, handed_on}
 use Rattle.jj_walks.proofs.Walking.{has, has-from_Contains, Contains-from_has}
-use Rattle.jj_walks.proofs.Reaching.{Reaches-trans, Reaches-then_strictly, Reaches-then_edge, edge_then_Reaches, ReachedFrom-edge}
+use Rattle.jj_walks.proofs.Reaching.{Reaches-trans, Reaches-then_strictly, edge_then_Reaches, ReachedFrom-edge}
 
 -- ---- tests
 

@@ -1,69 +1,60 @@
 -- What orders over items that may fail know of the failed ones.
 use Rattle.std.proofs.Common.{◌≡◌, ℕ, zero, suc, Bool, true, false, List, [], ◌∷◌, ◌++◌, map, reverse, refl, sym, ◌∙◌, ap, subst, arith, ⊎_elim, append-nil, Option, Result, Ok, Err, Some}
 use Rattle.std.proofs.lemmas.List.{map-append}
-use Rattle.std.proofs.lemmas.List.Elements.{Contains-append_left, Contains-append_right, Contains-push, Contains-push_cases}
+use Rattle.std.proofs.lemmas.List.Elements.{Contains-append_right, Contains-push_cases}
 use Rattle.std.specs.Iterator.{Yields}
 use Rattle.std.specs.List.{Contains}
 use Rattle.jj_walks.specs.Graph.{Graph, Path, ReachedFrom, IsPostorder}
-use Rattle.jj_walks.specs.Failing.{FailingGraph, HasNoFailure, sound, sound_items, number_item}
+use Rattle.jj_walks.specs.Failing.{FailingGraph, Fault, IsFault, HasNoFailure, sound, sound_items}
 use Rattle.jj_walks.proofs.Reaching.{Contains-postorder}
 use Rattle.jj_walks.proofs.Unwinding.{visited_above, visited_above-waits, waits}
 
 -- none of these nodes has a failed item
-abbrev pub NoneFails : {E : Type 0} → FailingGraph E → List ℕ → Type 0
-NoneFails {E} items xs = (a : ℕ) → Contains xs a → (e : E) → Contains (items a) (Err e) → ⊥
+abbrev pub NoneFails : {K : Type 0} → FailingGraph K → List ℕ → Type 0
+NoneFails {K} items xs = (a : ℕ) → Contains xs a → (fault : K) → Contains (items a) (Err fault) → ⊥
 
-pub none_fails_yet : {E : Type 0} (items : FailingGraph E) → NoneFails items []
+pub none_fails_yet : {K : Type 0} (items : FailingGraph K) → NoneFails items []
 none_fails_yet items a (k, lt, e) = absurd (omega arith)
 
-pub none_fails_below : {E : Type 0} (items : FailingGraph E) (a : ℕ) (f : Bool) (top : List (ℕ × Bool)) → NoneFails items (visited_above ((a, f) ∷ top)) → NoneFails items (visited_above top)
+pub none_fails_below : {K : Type 0} (items : FailingGraph K) (a : ℕ) (f : Bool) (top : List (ℕ × Bool)) → NoneFails items (visited_above ((a, f) ∷ top)) → NoneFails items (visited_above top)
 none_fails_below items a true top k = λ b h. k b (Contains-append_right (a ∷ []) (visited_above top) b h)
 none_fails_below items a false top k = k
 
-pub none_fails_finished : {E : Type 0} (items : FailingGraph E) (a : ℕ) (top : List (ℕ × Bool)) (given : List ℕ) → NoneFails items given → NoneFails items (visited_above ((a, true) ∷ top)) → NoneFails items (given ++ a ∷ [])
+pub none_fails_finished : {K : Type 0} (items : FailingGraph K) (a : ℕ) (top : List (ℕ × Bool)) (given : List ℕ) → NoneFails items given → NoneFails items (visited_above ((a, true) ∷ top)) → NoneFails items (given ++ a ∷ [])
 none_fails_finished items a top given k l = λ b h. ⊎_elim (λ old. k b old) (λ same. l b (0, omega arith, same)) (Contains-push_cases given a b h)
 
-pub none_fails_entered : {E : Type 0} (items : FailingGraph E) (a : ℕ) (top : List (ℕ × Bool)) (below : List ℕ) → ((e : E) → Contains (items a) (Err e) → ⊥) → NoneFails items (visited_above top)
+pub none_fails_entered : {K : Type 0} (items : FailingGraph K) (a : ℕ) (top : List (ℕ × Bool)) (below : List ℕ) → ((fault : K) → Contains (items a) (Err fault) → ⊥) → NoneFails items (visited_above top)
     → NoneFails items (visited_above (waits below ++ (a, true) ∷ top))
-none_fails_entered {E} items a top below here k =
+none_fails_entered {K} items a top below here k =
     let now : NoneFails items (a ∷ visited_above top) = λ b h. first b h in
     subst (λ (l : List ℕ). NoneFails items l) (sym (visited_above-waits below ((a, true) ∷ top))) now
   where
-    first : (b : ℕ) → Contains (a ∷ visited_above top) b → (e : E) → Contains (items b) (Err e) → ⊥
-    first b (zero, lt, same) = subst (λ (n : ℕ). (e : E) → Contains (items n) (Err e) → ⊥) same here
+    first : (b : ℕ) → Contains (a ∷ visited_above top) b → (fault : K) → Contains (items b) (Err fault) → ⊥
+    first b (zero, lt, same) = subst (λ (n : ℕ). (fault : K) → Contains (items n) (Err fault) → ⊥) same here
     first b (suc n, lt, same) = k b (n, omega arith, same)
 
-pub none_fails_starts : {E : Type 0} (items : FailingGraph E) (starts : List ℕ) → NoneFails items (visited_above (waits (reverse starts)))
-none_fails_starts {E} items starts =
+pub none_fails_starts : {K : Type 0} (items : FailingGraph K) (starts : List ℕ) → NoneFails items (visited_above (waits (reverse starts)))
+none_fails_starts {K} items starts =
     let none : visited_above (waits (reverse starts)) ≡ [] = ap visited_above (sym (append-nil (waits (reverse starts)))) ∙ visited_above-waits (reverse starts) [] in
     subst (λ (l : List ℕ). NoneFails items l) (sym none) (none_fails_yet items)
 
 -- ---- a list of sound items
 
-pub sound_items-ok : {T : Type 0} (E : Type 0) (node : T → ℕ) (xs : List T) → sound_items {E = E} (map (number_item node) (map (λ x. Ok x) xs)) ≡ map node xs
-sound_items-ok E node [] = refl
-sound_items-ok E node (x ∷ xs) = ap (λ l. node x ∷ l) (sound_items-ok E node xs)
+pub sound_items-nodes : {T : Type 0} (K : Type 0) (node : T → ℕ) (xs : List T) → sound_items {K = K} (map (λ x. Ok (node x)) xs) ≡ map node xs
+sound_items-nodes K node [] = refl
+sound_items-nodes K node (x ∷ xs) = ap (λ l. node x ∷ l) (sound_items-nodes K node xs)
 
-pub sound_items-nodes : {T : Type 0} (E : Type 0) (node : T → ℕ) (xs : List T) → sound_items {E = E} (map (λ x. Ok (node x)) xs) ≡ map node xs
-sound_items-nodes E node [] = refl
-sound_items-nodes E node (x ∷ xs) = ap (λ l. node x ∷ l) (sound_items-nodes E node xs)
+pub none_of_nodes : {T K : Type 0} (node : T → ℕ) (xs : List T) (fault : K) → Contains {X = Result ℕ K} (map (λ x. Ok (node x)) xs) (Err fault) → ⊥
+none_of_nodes node [] fault (k, lt, same) = absurd (omega arith)
+none_of_nodes node (x ∷ xs) fault (zero, lt, same) = cc
+none_of_nodes node (x ∷ xs) fault (suc k, lt, same) = none_of_nodes node xs fault (k, omega arith, same)
 
-pub failed_list : {E : Type 0} (items : List (Result ℕ E)) (e : E) → items ≡ Err e ∷ [] → Contains items (Err e)
-failed_list {E} items e same =
-    let one : Contains {X = Result ℕ E} (Err e ∷ []) (Err e) = (0, omega arith, refl) in
-    subst (λ (l : List (Result ℕ E)). Contains l (Err e)) (sym same) one
-
-pub none_of_ok : {T E : Type 0} (node : T → ℕ) (xs : List T) (e : E) → Contains (map (number_item node) (map (λ x. Ok x) xs)) (Err e) → ⊥
-none_of_ok node [] e (k, lt, same) = absurd (omega arith)
-none_of_ok node (x ∷ xs) e (zero, lt, same) = cc
-none_of_ok node (x ∷ xs) e (suc k, lt, same) = none_of_ok node xs e (k, omega arith, same)
-
--- an error that came first is one of the items
-pub failed_first : {T E : Type 0} (items : List (Result ℕ E)) (node : T → ℕ) (xs : List (Result T E)) (e : E) (rest : List (Result ℕ E)) → items ≡ map (number_item node) (xs ++ Err e ∷ []) ++ rest → Contains items (Err e)
-failed_first {T} {E} items node xs e rest same =
-    let P : List (Result ℕ E) → Type 0 = λ l. Contains l (Err e) in
-    let begins : map (number_item node) (xs ++ Err e ∷ []) ≡ map (number_item node) xs ++ Err e ∷ [] = map-append (number_item node) xs (Err e ∷ []) in
-    subst P (sym same) (Contains-append_left (map (number_item node) (xs ++ Err e ∷ [])) rest (Err e) (subst P (sym begins) (Contains-push (map (number_item node) xs) (Err e))))
+-- the error of a list is that of the one failed item
+pub failed_list : {E : Type 0} (items : List (Result ℕ (Fault E))) (e : E) → (fault : Fault E) × (items ≡ Err fault ∷ []) × IsFault fault e
+    → (fault : Fault E) × Contains items (Err fault) × IsFault fault e
+failed_list {E} items e (fault, same, is) =
+    let one : Contains {X = Result ℕ (Fault E)} (Err fault ∷ []) (Err fault) = (0, omega arith, refl) in
+    (fault, subst (λ (l : List (Result ℕ (Fault E))). Contains l (Err fault)) (sym same) one, is)
 
 -- ---- one graph for another
 
@@ -75,10 +66,10 @@ ReachedFrom-same g h same starts b (a, at, (n, p)) = (a, at, (n, path n a p))
     path (suc n) a (c, e, p) = (c, subst (λ (l : List ℕ). Contains l c) (same a) e, path n c p)
 
 -- where a postorder of sound nodes was given, nothing that the starts reach has a failed item
-pub HasNoFailure-from_postorder : {E : Type 0} (items : FailingGraph E) (g : Graph) → ((a : ℕ) → g a ≡ sound items a) → (starts out : List ℕ) → IsPostorder g starts out → NoneFails items out
+pub HasNoFailure-from_postorder : {K : Type 0} (items : FailingGraph K) (g : Graph) → ((a : ℕ) → g a ≡ sound items a) → (starts out : List ℕ) → IsPostorder g starts out → NoneFails items out
     → HasNoFailure items starts
-HasNoFailure-from_postorder items g same starts out p none e (a, reached, at) =
-    none a (Contains-postorder g starts out p a (ReachedFrom-same (sound items) g (λ b. sym (same b)) starts a reached)) e at
+HasNoFailure-from_postorder items g same starts out p none a fault reached at =
+    none a (Contains-postorder g starts out p a (ReachedFrom-same (sound items) g (λ b. sym (same b)) starts a reached)) fault at
 
 -- ---- one more item
 

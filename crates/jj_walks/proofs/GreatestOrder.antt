@@ -1,5 +1,5 @@
 -- The order of the places that were taken is the greatest child-first order of the nodes that were collected there.
-use Rattle.std.proofs.Common.{◌≡◌, ◌↔◌, ℕ, zero, suc, ◌+◌, ◌<◌, ◌≤◌, Bool, true, false, Option, None, Some, is_some, IsSome, Result, Err, MatchOption, List, [], ◌∷◌, ◌++◌, length, map, get_or, refl, sym, ◌∙◌, ap, subst, arith, inl, inr, ◌⊎◌, ⊎_elim, true≢false}
+use Rattle.std.proofs.Common.{◌≡◌, ◌↔◌, ℕ, zero, suc, ◌<◌, ◌≤◌, true, false, Option, None, Some, IsSome, MatchOption, List, [], ◌∷◌, length, map, get_or, refl, sym, ◌∙◌, ap, subst, arith, inl, inr, ◌⊎◌, ⊎_elim}
 use Rattle.std.specs.List.{Contains, filter_map, cons_option}
 use Rattle.std.proofs.lemmas.List.Elements.{Contains-append_cases, Contains-get_or}
 use Rattle.jj_walks.proofs.TakingReady.{only_one}
@@ -8,8 +8,8 @@ use Rattle.std.specs.Ordering.{is_lt, nat_cmp}
 use Rattle.std.proofs.lemmas.Bool.{cases_eq}
 use Rattle.std.proofs.lemmas.Bool.Decides.{nat_tests}
 use Rattle.std.proofs.lemmas.List.{length-map, get_or-map, get_or_past, get_or_default}
-use Rattle.jj_walks.specs.Graph.{Graph, HasEdge, ReachedFrom, HasNoCycle, ReachesCycle, IsChildFirst, IsGreatestChildFirst}
-use Rattle.jj_walks.specs.Failing.{FailingGraph, HasNoFailure, ReachesFailure, sound}
+use Rattle.jj_walks.specs.Graph.{HasEdge, ReachedFrom, HasNoCycle, ReachesCycle, IsChildFirst, IsGreatestChildFirst}
+use Rattle.jj_walks.specs.Failing.{FailingGraph, HasNoFailure, sound}
 use Rattle.jj_walks.specs.Walk.{Numbered, AreNodes, IsOrderedLike}
 use Rattle.jj_walks.specs.Collecting.{IsCollecting}
 use Rattle.jj_walks.specs.ReadyNodes.{TakesGreatestReady, IsStuck, IsNotBelow, places_graph}
@@ -138,8 +138,8 @@ module _ {T ID E : Type 0} (w : Numbered T ID) (items : FailingGraph E) (cmp : T
     within a b h = rw (length-map given w.node) (linked_within find ids ts (length given) linked places a b h)
 
     pub nothing_failed : HasNoFailure items starts
-    nothing_failed e (a, reached, bad) =
-        collected.none_failed a e ((are_reached a).1 (ReachedFrom-same (sound items) w.graph (λ b. sym (sound_graph b)) starts a reached)) bad
+    nothing_failed a fault reached bad =
+        collected.none_failed a fault ((are_reached a).1 (ReachedFrom-same (sound items) w.graph (λ b. sym (sound_graph b)) starts a reached)) bad
 
     module _ (order : List ℕ) (takes : TakesGreatestReady (places_graph ts) (λ k. k < length (map (λ x. Some x) given)) (IsNotBelow cmp (map (λ x. Some x) given)) order) where
       numbers_taken : TakesGreatestReady w.graph (Contains ns) (AtPlaces w.graph ns ts collected.injective edges_stand within (IsNotBelow cmp (map (λ x. Some x) given))) (map (λ k. get_or ns k 0) order)

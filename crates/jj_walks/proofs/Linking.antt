@@ -1,5 +1,5 @@
 -- The counts of edges to each place, while lists of neighbours become lists of places.
-use Rattle.std.proofs.Common.{◌≡◌, ◌≢◌, ℕ, ◌+◌, ◌<◌, cond, Option, None, Some, List, [], ◌∷◌, ◌++◌, length, map, get_or, set, take, refl, sym, ◌∙◌, ap, arith, eqb, inl, inr, append-nil, get_or-set_same, get_or-set_other}
+use Rattle.std.proofs.Common.{◌≡◌, ℕ, ◌+◌, ◌<◌, cond, Option, None, Some, List, [], ◌∷◌, ◌++◌, length, map, get_or, set, take, refl, ◌∙◌, ap, arith, eqb, inl, inr, append-nil, get_or-set_same, get_or-set_other}
 use Rattle.std.specs.List.{count_by, filter_map}
 use Rattle.std.proofs.lemmas.Bool.{cases_eq}
 use Rattle.std.proofs.lemmas.List.{map_push, take_more}

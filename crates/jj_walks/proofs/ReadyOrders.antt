@@ -1,13 +1,12 @@
 -- A list that takes the greatest ready node until all are taken is the greatest child-first list; where it gets stuck there is a cycle.
-use Rattle.std.proofs.Common.{◌≡◌, ◌≢◌, ◌↔◌, ℕ, zero, suc, ◌+◌, ◌<◌, ◌≤◌, Bool, true, false, List, [], ◌∷◌, ◌++◌, length, map, refl, sym, ◌∙◌, ap, subst, arith, eqb, inl, inr, ◌⊎◌, ⊎_elim, true≢false, append_assoc, length-append}
+use Rattle.std.proofs.Common.{◌≡◌, ◌↔◌, ℕ, zero, suc, ◌+◌, ◌≤◌, true, false, List, [], ◌∷◌, ◌++◌, length, refl, sym, ◌∙◌, ap, subst, arith, eqb, inl, inr, ◌⊎◌, ⊎_elim, true≢false, append_assoc, length-append}
 use Rattle.std.specs.List.{Contains, IsDistinct, AllByRecursion}
-use Rattle.std.proofs.lemmas.Bool.{cases_eq}
 use Rattle.std.proofs.lemmas.Bool.Decides.{Decides-eqb}
 use Rattle.std.proofs.lemmas.List.Elements.{Contains-append_left, Contains-append_right, Contains-append_cases, All-contains, All-from_recursion}
-use Rattle.jj_walks.specs.Graph.{Graph, HasEdge, Path, Reaches, StrictlyReaches, ReachedFrom, HasNoCycle, ReachesCycle, OnCycleFrom, StandsBefore, IsChildFirst, IsAbove, IsGreatestChildFirst}
+use Rattle.jj_walks.specs.Graph.{Graph, HasEdge, Path, Reaches, StrictlyReaches, ReachedFrom, HasNoCycle, IsChildFirst, IsAbove}
 use Rattle.jj_walks.specs.ReadyNodes.{IsReady, TakesGreatestReady, IsStuck}
 use Rattle.jj_walks.proofs.TakingReady.{only_one}
-use Rattle.jj_walks.proofs.Reaching.{Contains-split, ReachedFrom-edge, Reaches-then_edge, edge_then_Reaches}
+use Rattle.jj_walks.proofs.Reaching.{Contains-split, ReachedFrom-edge, edge_then_Reaches}
 
 -- ---- lists without repeats
 
@@ -43,12 +42,12 @@ not_again : (x : ℕ) (xs : List ℕ) → IsDistinct eqb (x ∷ xs) → Contains
 unfolding IsDistinct
 not_again x xs d h = true≢false (sym ((Decides-eqb x x).1 refl) ∙ All-contains (λ y. eqb x y ≡ false) xs x (All-from_recursion (λ y. eqb x y ≡ false) xs d.0) h)
 
-tail_distinct : (x : ℕ) (xs : List ℕ) → IsDistinct eqb (x ∷ xs) → IsDistinct eqb xs
+pub tail_distinct : (x : ℕ) (xs : List ℕ) → IsDistinct eqb (x ∷ xs) → IsDistinct eqb xs
 unfolding IsDistinct
 tail_distinct x xs d = d.1
 
 -- no element comes again
-twice : (xs front back : List ℕ) (a : ℕ) → IsDistinct eqb xs → xs ≡ front ++ a ∷ back → Contains back a → ⊥
+pub twice : (xs front back : List ℕ) (a : ℕ) → IsDistinct eqb xs → xs ≡ front ++ a ∷ back → Contains back a → ⊥
 twice [] [] back a d e h = absurd cc
 twice [] (y ∷ front) back a d e h = absurd cc
 twice (x ∷ xs) [] back a d e h =

@@ -1,13 +1,13 @@
 -- An order of places read as an order of the numbers that stand there.
-use Rattle.std.proofs.Common.{◌≡◌, ◌≢◌, ◌↔◌, ℕ, zero, suc, ◌+◌, ◌<◌, ◌≤◌, Bool, true, false, Option, None, Some, List, [], ◌∷◌, ◌++◌, length, map, get_or, refl, sym, ◌∙◌, ap, subst, arith, eqb, inl, inr, ◌⊎◌, ⊎_elim, true≢false}
-use Rattle.std.specs.List.{Contains, filter_map}
-use Rattle.std.proofs.lemmas.List.{length-map, get_or-map, get_or_default}
-use Rattle.std.proofs.lemmas.List.Elements.{Contains-append_left, Contains-append_right, Contains-get_or}
+use Rattle.std.proofs.Common.{◌≡◌, ℕ, zero, suc, ◌<◌, List, [], ◌∷◌, ◌++◌, length, map, get_or, refl, sym, ◌∙◌, ap, subst, arith}
+use Rattle.std.specs.List.{Contains}
+use Rattle.std.proofs.lemmas.List.{get_or_default}
+use Rattle.std.proofs.lemmas.List.Elements.{Contains-append_left, Contains-get_or}
 use Rattle.jj_walks.specs.Graph.{Graph, HasEdge, Path, StrictlyReaches}
 use Rattle.jj_walks.specs.Collecting.{IsInjective}
-use Rattle.jj_walks.specs.ReadyNodes.{IsReady, TakesGreatestReady, IsStuck, places_graph}
+use Rattle.jj_walks.specs.ReadyNodes.{IsReady, TakesGreatestReady, places_graph}
 use Rattle.jj_walks.proofs.Reaching.{Contains-split}
-use Rattle.jj_walks.proofs.ReadyOrders.{here, later, at_split}
+use Rattle.jj_walks.proofs.ReadyOrders.{here, later}
 
 pub Contains-map : {X Y : Type 0} (f : X → Y) (xs : List X) (x : X) → Contains xs x → Contains (map f xs) (f x)
 Contains-map f [] x (k, lt, e) = absurd (omega arith)

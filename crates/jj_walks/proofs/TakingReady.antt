@@ -1,5 +1,5 @@
 -- What is kept while the greatest ready node is taken again and again, by counts of the edges from nodes not yet taken.
-use Rattle.std.proofs.Common.{◌≡◌, ◌≢◌, ℕ, zero, suc, ◌+◌, ◌*◌, ◌-◌, ◌<◌, ◌≤◌, Bool, true, false, cond, ◌||◌, Option, None, Some, List, [], ◌∷◌, ◌++◌, length, map, get_or, set, drop, refl, sym, ◌∙◌, ap, subst, arith, ◌==◌, eqb, inl, inr, ◌⊎◌, ⊎_elim, true≢false, length-append, length-set, get_or-set_same, get_or-set_other, All, IsSome, is_some, MatchOption}
+use Rattle.std.proofs.Common.{◌≡◌, ◌≢◌, ℕ, zero, suc, ◌+◌, ◌*◌, ◌-◌, ◌<◌, ◌≤◌, Bool, true, false, cond, ◌||◌, Option, None, Some, List, [], ◌∷◌, ◌++◌, length, map, get_or, set, drop, refl, sym, ◌∙◌, ap, subst, arith, eqb, inl, inr, ◌⊎◌, ⊎_elim, true≢false, length-set, get_or-set_same, get_or-set_other, IsSome, is_some, MatchOption}
 use Rattle.std.specs.List.{Contains, count_by, sum_by}
 use Rattle.std.specs.List.Sorted.{IsPermutation}
 use Rattle.std.specs.declared.cmp.Ordering.{Ordering}
@@ -8,11 +8,11 @@ use Rattle.std.specs.Ordering.{is_lt, nat_cmp, ordering_then}
 use Rattle.std.specs.BinaryHeap.{IsUpperBound}
 use Rattle.std.proofs.lemmas.Bool.{cases_eq}
 use Rattle.std.proofs.lemmas.List.{map_push, get_or_default, drop_more}
-use Rattle.std.proofs.lemmas.Bool.Decides.{Decides-eqb, nat_tests}
+use Rattle.std.proofs.lemmas.Bool.Decides.{Decides-eqb}
 use Rattle.std.proofs.lemmas.List.Sums.{sum_by-cons, sum_by_push, sum_by-set, get_or-le-sum_by, sum_by-le}
 use Rattle.std.proofs.lemmas.List.Sorted.{IsPermutation-sym, Contains-permutation, sum_by_pushed, sum_by_popped}
-use Rattle.std.proofs.lemmas.List.Elements.{All-from_get_or, All-from_recursion, Contains-append_left, Contains-append_right, Contains-push, Contains-push_cases, Contains-append_cases, All-contains}
-use Rattle.jj_walks.specs.Graph.{Graph, HasEdge}
+use Rattle.std.proofs.lemmas.List.Elements.{All-from_get_or, All-from_recursion, Contains-append_right, Contains-append_cases, All-contains}
+use Rattle.jj_walks.specs.Graph.{HasEdge}
 use Rattle.jj_walks.specs.ReadyNodes.{IsReady, TakesGreatestReady, IsStuck, places_graph, edges_to, IsNotBelow}
 use Rattle.jj_walks.proofs.Walking.{has, has-push, has-from_Contains, Contains-from_has}
 

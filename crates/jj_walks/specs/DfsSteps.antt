@@ -1,5 +1,5 @@
 -- What the iterator `DepthFirst` does from a state.
-use Rattle.std.specs.Prelude.{◌≡◌, ℕ, ◌+◌, ◌-◌, ◌^◌, Bool, List, [], ◌∷◌, ◌++◌, map, Option, Result, MatchOption, MatchResult}
+use Rattle.std.specs.Prelude.{◌≡◌, ℕ, ◌+◌, ◌-◌, ◌^◌, Bool, List, [], ◌∷◌, ◌++◌, map, Option, Result, MatchOption, MatchResult, IfErr, IsNone}
 use Rattle.std.specs.Iterator.{Count, IsFiniteIterable}
 use Rattle.std.specs.Fn.{Shared, Mut, AlwaysReturns}
 use Rattle.std.specs.HashSet.{contains, hash_set_len}
@@ -13,6 +13,10 @@ use Rattle.jj_walks.specs.Walk.{Numbered, IsShownBy, IsWalking}
 -- more items cannot come: an error ends the walk, and each other item puts one more id into a set of fewer than 2^63
 abbrev pub items_left : {T ID F N : Type 0} → DepthFirst T ID F N → ℕ
 items_left s = elim s.work.items [ [] ↦ 0 | x ∷ xs ↦ 1 + (2 ^ 63 - hash_set_len s.visited) ]
+
+-- nothing is left to do
+abbrev pub HasEnded : {T ID F N : Type 0} → DepthFirst T ID F N → Type 0
+HasEnded s = s.work.items ≡ []
 
 module _ {T ID F N U S : Type 0} (ids : Shared F (Bor T × Unit {0}) ID) (lists : Mut N (Bor T × Unit {0}) U) where
   -- the closures may always be called, and what `neighbors_fn` gives ends
@@ -32,3 +36,12 @@ module _ {T ID F N U S : Type 0} (ids : Shared F (Bor T × Unit {0}) ID) (lists 
       (w : Numbered T ID) (starts : List ℕ) (given : List T) → IsLeftOf w eq becomes steps starts given s →
       MatchOption r (IsPreorder w.graph starts (map w.node given) × (t.work.items ≡ []))
       (λ x. MatchResult x (λ node. IsLeftOf w eq becomes steps starts (given ++ node ∷ []) t) (λ _. t.work.items ≡ []))
+
+  -- One call from s, which gave r and left t: the walk goes on, `next` may be called again whatever it gave, `None` and an error
+  -- end the walk, and a walk that has ended gives `None` and stays so.
+  pub record Steps (eq : ID → ID → Bool) (becomes : U → S → Type 0) (steps : S → Option T → S → Type 0) (can : S → Type 0) (left : S → Count)
+      (s : DepthFirst T ID F N) (r : Option (Result T AllocError)) (t : DepthFirst T ID F N) : Type 0 where
+    pub walks : WalksOn eq becomes steps s r t
+    pub again : CanWalk becomes can left t
+    pub ends : MatchOption r (HasEnded t) (λ x. IfErr x (λ _. HasEnded t))
+    pub ended : HasEnded s → IsNone r × HasEnded t

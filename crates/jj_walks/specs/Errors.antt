@@ -6,3 +6,8 @@ use Rattle.jj_walks.specs.declared.walk_error.WalkError.TheVariants.{Memory, Nod
 abbrev pub IfNode : {E : Type 0} → WalkError E → (E → Type 0) → Type 0
 IfNode Memory P = Unit {0}
 IfNode (Node e) P = P e
+
+-- P, if the error is want of memory
+abbrev pub IfMemory : {E : Type 0} → WalkError E → Type 0 → Type 0
+IfMemory Memory P = P
+IfMemory (Node e) P = Unit {0}

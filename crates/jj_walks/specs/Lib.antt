@@ -9,3 +9,5 @@ pub mod Collecting
 pub mod Reversed
 pub mod CommonNodes
 pub mod Marks
+pub mod LookingAhead
+pub mod Chunks

@@ -1,5 +1,5 @@
 -- What a search for common nodes keeps of each node that it has met.
-use Rattle.std.specs.Prelude.{ℕ, ◌+◌, Bool, true, false, not, ◌&&◌, ◌||◌, cond, List, map, filter, Option, None, Some}
+use Rattle.std.specs.Prelude.{ℕ, ◌+◌, Bool, false, not, ◌&&◌, ◌||◌, cond, List, map, filter, Option, None, Some}
 use Rattle.std.specs.HashMap.{HashMap, get, values}
 use Rattle.std.specs.List.{sum_by}
 use Rattle.jj_walks.specs.declared.closest_common.Reach.{Reach}

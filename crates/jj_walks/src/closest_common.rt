@@ -6,7 +6,7 @@ ghost use Rattle.std.specs.Iterator.{IsFiniteIterable};
 ghost use Rattle.std.specs.List.Sorted.{IsPermutation};
 ghost use Rattle.jj_walks.specs.CommonNodes.{HasNoCommonCycle, AreClosestCommon};
 ghost use Rattle.jj_walks.specs.Errors.{IfNode};
-ghost use Rattle.jj_walks.specs.Failing.{FailingGraph, ReachesFailure, ShowsLists};
+ghost use Rattle.jj_walks.specs.Failing.{Fault, FailingGraph, ReachesFailure, ShowsLists};
 ghost use Rattle.jj_walks.specs.Marks.{unmarked, mark_at, joined, grows, marked, starts_waiting, asked, handed_on, sides_met, closest_of};
 ghost use Rattle.jj_walks.specs.Walk.{Numbered, AreNodes, DrainsTo};
 
@@ -207,11 +207,11 @@ where
     requires set1 { IsFiniteIterable II1.into_iter_gives II1.IntoIter.can_next II1.IntoIter.remaining set1 }
     requires set2 { IsFiniteIterable II2.into_iter_gives II2.IntoIter.can_next II2.IntoIter.remaining set2 }
     ensures closest { IfOk result (λ v. (xs ys : List T) × DrainsTo II1.into_iter_gives II1.IntoIter.next_gives set1 xs × DrainsTo II2.into_iter_gives II2.IntoIter.next_gives set2 ys
-        × ((walk : Numbered T ID) (items : FailingGraph E) → ShowsLists walk items ID.eq F.Fn N.FnMut NI.into_iter_gives NI.IntoIter.next_gives id_fn neighbors_fn
+        × ((walk : Numbered T ID) (items : FailingGraph (Fault E)) → ShowsLists walk items ID.eq F.Fn N.FnMut NI.into_iter_gives NI.IntoIter.next_gives id_fn neighbors_fn
         → AreNodes walk (map walk.node xs) → AreNodes walk (map walk.node ys) → HasNoCommonCycle walk.graph (map walk.node xs) (map walk.node ys)
         → AreClosestCommon walk.graph (map walk.node xs) (map walk.node ys) (map walk.node v.items))) }
     ensures refused { IfErr result (λ e. IfNode e (λ error. (xs ys : List T) × DrainsTo II1.into_iter_gives II1.IntoIter.next_gives set1 xs × DrainsTo II2.into_iter_gives II2.IntoIter.next_gives set2 ys
-        × ((walk : Numbered T ID) (items : FailingGraph E) → ShowsLists walk items ID.eq F.Fn N.FnMut NI.into_iter_gives NI.IntoIter.next_gives id_fn neighbors_fn
+        × ((walk : Numbered T ID) (items : FailingGraph (Fault E)) → ShowsLists walk items ID.eq F.Fn N.FnMut NI.into_iter_gives NI.IntoIter.next_gives id_fn neighbors_fn
         → AreNodes walk (map walk.node xs) → AreNodes walk (map walk.node ys) → ReachesFailure items (map walk.node xs ++ map walk.node ys) error))) }
 {
     let met = common_nodes(alloc, set1, set2, id_fn, neighbors_fn)?;
@@ -244,11 +244,11 @@ where
     requires set1 { IsFiniteIterable II1.into_iter_gives II1.IntoIter.can_next II1.IntoIter.remaining set1 }
     requires set2 { IsFiniteIterable II2.into_iter_gives II2.IntoIter.can_next II2.IntoIter.remaining set2 }
     ensures closest { IfOk result (λ met. (xs ys : List T) × DrainsTo II1.into_iter_gives II1.IntoIter.next_gives set1 xs × DrainsTo II2.into_iter_gives II2.IntoIter.next_gives set2 ys
-        × ((walk : Numbered T ID) (items : FailingGraph E) → ShowsLists walk items ID.eq F.Fn N.FnMut NI.into_iter_gives NI.IntoIter.next_gives id_fn neighbors_fn
+        × ((walk : Numbered T ID) (items : FailingGraph (Fault E)) → ShowsLists walk items ID.eq F.Fn N.FnMut NI.into_iter_gives NI.IntoIter.next_gives id_fn neighbors_fn
         → AreNodes walk (map walk.node xs) → AreNodes walk (map walk.node ys) → HasNoCommonCycle walk.graph (map walk.node xs) (map walk.node ys)
         → AreClosestCommon walk.graph (map walk.node xs) (map walk.node ys) (map walk.node (closest_of (mark_at ID.eq met.known) met.common.items)))) }
     ensures refused { IfErr result (λ e. IfNode e (λ error. (xs ys : List T) × DrainsTo II1.into_iter_gives II1.IntoIter.next_gives set1 xs × DrainsTo II2.into_iter_gives II2.IntoIter.next_gives set2 ys
-        × ((walk : Numbered T ID) (items : FailingGraph E) → ShowsLists walk items ID.eq F.Fn N.FnMut NI.into_iter_gives NI.IntoIter.next_gives id_fn neighbors_fn
+        × ((walk : Numbered T ID) (items : FailingGraph (Fault E)) → ShowsLists walk items ID.eq F.Fn N.FnMut NI.into_iter_gives NI.IntoIter.next_gives id_fn neighbors_fn
         → AreNodes walk (map walk.node xs) → AreNodes walk (map walk.node ys) → ReachesFailure items (map walk.node xs ++ map walk.node ys) error))) }
 {
     let mut known = HashMap::new(alloc);

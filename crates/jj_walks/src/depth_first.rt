@@ -28,11 +28,11 @@ where
 {
     type Item = Result<T, AllocError>;
 
-    ghost use Rattle.jj_walks.specs.DfsSteps.{CanWalk, WalksOn, items_left};
+    ghost use Rattle.jj_walks.specs.DfsSteps.{CanWalk, Steps, items_left};
 
     ghost can_next = { λ s. CanWalk F.Fn N.FnMut NI.into_iter_gives NI.IntoIter.can_next NI.IntoIter.remaining s };
 
-    ghost next_gives = { λ s r t. WalksOn F.Fn N.FnMut ID.eq NI.into_iter_gives NI.IntoIter.next_gives s r t };
+    ghost next_gives = { λ s r t. Steps F.Fn N.FnMut ID.eq NI.into_iter_gives NI.IntoIter.next_gives NI.IntoIter.can_next NI.IntoIter.remaining s r t };
 
     ghost remaining = { λ s. at_most (items_left s) };
 

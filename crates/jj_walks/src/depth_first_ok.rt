@@ -1,10 +1,10 @@
 //! The depth-first walk over items that may fail, as an iterator.
-ghost use Rattle.std.specs.Prelude.{◌≡◌, ◌+◌, ◌++◌, List, [], map, Result, IfOk, true, false, ◌<◌, ◌^◌};
+ghost use Rattle.std.specs.Prelude.{◌≡◌, ℕ, ◌+◌, ◌++◌, List, [], Result, IfOk, true, false, ◌<◌, ◌^◌};
 ghost use Rattle.std.specs.Fn.{AlwaysReturns, CalledAt};
 ghost use Rattle.std.specs.HashSet.{contains, Updates, hash_set_len};
 ghost use Rattle.std.specs.Iterator.{IsFiniteIterable, at_most};
 ghost use Rattle.jj_walks.specs.DfsOkSteps.{CanWalk, IsLeftOf};
-ghost use Rattle.jj_walks.specs.Failing.{FailingGraph, ShowsItems, AreSoundNodes, number_item};
+ghost use Rattle.jj_walks.specs.Failing.{FailingGraph, Fault, ShowsItems, AreItems, AreSoundNodes};
 ghost use Rattle.jj_walks.specs.Walk.{Numbered, DrainsTo};
 
 use crate::walk_error::WalkError;
@@ -30,11 +30,11 @@ where
 {
     type Item = Result<T, WalkError<E>>;
 
-    ghost use Rattle.jj_walks.specs.DfsOkSteps.{CanWalk, WalksOn, items_left};
+    ghost use Rattle.jj_walks.specs.DfsOkSteps.{CanWalk, Steps, items_left};
 
     ghost can_next = { λ s. CanWalk F.Fn N.FnMut NI.into_iter_gives NI.IntoIter.can_next NI.IntoIter.remaining s };
 
-    ghost next_gives = { λ s r t. WalksOn F.Fn N.FnMut ID.eq NI.into_iter_gives NI.IntoIter.next_gives s r t };
+    ghost next_gives = { λ s r t. Steps F.Fn N.FnMut ID.eq NI.into_iter_gives NI.IntoIter.next_gives NI.IntoIter.can_next NI.IntoIter.remaining s r t };
 
     ghost remaining = { λ s. at_most (items_left s) };
 
@@ -112,9 +112,10 @@ where
     requires start { IsFiniteIterable II.into_iter_gives II.IntoIter.can_next II.IntoIter.remaining start }
     ensures can_walk { IfOk result (CanWalk F.Fn N.FnMut NI.into_iter_gives NI.IntoIter.can_next NI.IntoIter.remaining) }
     ensures left { IfOk result (λ it. (xs : List (Result T E)) × DrainsTo II.into_iter_gives II.IntoIter.next_gives start xs
-        × ((walk : Numbered T ID) (items : FailingGraph E) → ShowsItems walk items ID.eq F.Fn N.FnMut NI.into_iter_gives NI.IntoIter.next_gives id_fn neighbors_fn
-        → AreSoundNodes walk items (map (number_item walk.node) xs)
-        → IsLeftOf F.Fn N.FnMut walk items ID.eq NI.into_iter_gives NI.IntoIter.next_gives (map (number_item walk.node) xs) [] it)) }
+        × ((walk : Numbered T ID) (items : FailingGraph (Fault E)) (starts : List (Result ℕ (Fault E)))
+        → ShowsItems walk items ID.eq F.Fn N.FnMut NI.into_iter_gives NI.IntoIter.next_gives id_fn neighbors_fn
+        → AreItems walk.node xs starts → AreSoundNodes walk items starts
+        → IsLeftOf F.Fn N.FnMut walk items ID.eq NI.into_iter_gives NI.IntoIter.next_gives starts [] it)) }
 {
     let mut work = Vec::new(alloc);
     for item in start {

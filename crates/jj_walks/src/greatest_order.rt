@@ -1,5 +1,5 @@
 //! The greatest of the orders in which each node stands before its neighbours.
-ghost use Rattle.std.specs.Prelude.{◌≡◌, ℕ, ◌+◌, ◌<◌, ◌≤◌, ◌∷◌, [], List, map, length, slice_index, slice_index_or, slice_set, IfOk, IfErr, IsSome, OnOk, MatchOption, eqb, ◌⊎◌};
+ghost use Rattle.std.specs.Prelude.{◌≡◌, ℕ, ◌+◌, ◌<◌, ◌≤◌, ◌∷◌, ◌++◌, [], List, map, length, slice_index, slice_index_or, slice_set, IfOk, IfErr, IsSome, OnOk, MatchOption, eqb, ◌⊎◌};
 ghost use Rattle.std.specs.HashMap.{get};
 ghost use Rattle.std.specs.List.{All, Contains, filter_map};
 ghost use Rattle.std.specs.List.Sorted.{IsPermutation};
@@ -8,7 +8,7 @@ ghost use Rattle.std.specs.Ordering.{nat_cmp, ordering_then};
 ghost use Rattle.std.specs.Fn.{AlwaysReturns};
 ghost use Rattle.std.specs.Iterator.{IsFiniteIterable};
 ghost use Rattle.jj_walks.specs.Errors.{IfNode};
-ghost use Rattle.jj_walks.specs.Failing.{FailingGraph, HasNoFailure, ReachesFailure, ShowsLists};
+ghost use Rattle.jj_walks.specs.Failing.{BeginsWith, Fault, FailingGraph, HasNoFailure, ReachesFailure, ShowsItems};
 ghost use Rattle.jj_walks.specs.Collecting.{IsCollecting};
 ghost use Rattle.jj_walks.specs.Graph.{HasNoCycle, IsChildFirst, IsGreatestChildFirst, ReachedFrom, ReachesCycle};
 ghost use Rattle.jj_walks.specs.Walk.{Numbered, AreNodes, DrainsTo, IsOrderedLike};
@@ -21,8 +21,8 @@ use std::hash::Hash;
 use std::mem;
 
 /// The nodes that the starts reach, each before its neighbours: at each place the greatest node whose children stand
-/// before it. A failed list of neighbours gives its error, and where a cycle is reached `cycle_fn` makes the error of a
-/// node that the starts reach.
+/// before it. A failed start or neighbour that is met is `Node` of its error; where a cycle is reached, `cycle_fn` makes the
+/// error of a node that the starts reach.
 pub fn topo_order_reverse_ord<T, ID, E, II, NI, F, N, C>(
     alloc: Global,
     start: II,
@@ -32,29 +32,32 @@ pub fn topo_order_reverse_ord<T, ID, E, II, NI, F, N, C>(
 ) -> Result<Vec<T>, WalkError<E>>
 where
     T: Ord + Drop,
+    E: Drop,
     ID: Hash + Eq + Drop,
-    II: IntoIterator<Item = T>,
+    II: IntoIterator<Item = Result<T, E>>,
     II::IntoIter: Drop,
-    NI: IntoIterator<Item = T>,
+    NI: IntoIterator<Item = Result<T, E>>,
     NI::IntoIter: Drop,
     F: Fn(&T) -> ID + Drop,
-    N: FnMut(&T) -> Result<NI, E> + Drop,
+    N: FnMut(&T) -> NI + Drop,
     C: FnOnce(T) -> E + Drop,
     requires id_fn { F.IsAlwaysCallable id_fn }
     requires neighbors_fn { N.IsAlwaysCallable neighbors_fn }
     requires cycle_fn { C.IsAlwaysCallable cycle_fn }
-    requires lists { AlwaysReturns N.FnMut (λ a r. IfOk r (IsFiniteIterable NI.into_iter_gives NI.IntoIter.can_next NI.IntoIter.remaining)) neighbors_fn }
+    requires lists { AlwaysReturns N.FnMut (λ a r. IsFiniteIterable NI.into_iter_gives NI.IntoIter.can_next NI.IntoIter.remaining r) neighbors_fn }
     requires start { IsFiniteIterable II.into_iter_gives II.IntoIter.can_next II.IntoIter.remaining start }
-    ensures order { IfOk result (λ v. (xs : List T) × DrainsTo II.into_iter_gives II.IntoIter.next_gives start xs
-        × ((walk : Numbered T ID) (items : FailingGraph E) → ShowsLists walk items ID.eq F.Fn N.FnMut NI.into_iter_gives NI.IntoIter.next_gives id_fn neighbors_fn → AreNodes walk (map walk.node xs)
+    ensures order { IfOk result (λ v. (xs : List T) × DrainsTo II.into_iter_gives II.IntoIter.next_gives start (map Ok xs)
+        × ((walk : Numbered T ID) (items : FailingGraph (Fault E)) → ShowsItems walk items ID.eq F.Fn N.FnMut NI.into_iter_gives NI.IntoIter.next_gives id_fn neighbors_fn → AreNodes walk (map walk.node xs)
         → IsChildFirst walk.graph (map walk.node xs) (map walk.node v.items) × HasNoCycle walk.graph (map walk.node xs) × HasNoFailure items (map walk.node xs)
         × (IsOrderedLike walk T.cmp → IsGreatestChildFirst walk.graph (map walk.node xs) (map walk.node v.items)))) }
-    ensures node { IfErr result (λ e. IfNode e (λ error. (xs : List T) × DrainsTo II.into_iter_gives II.IntoIter.next_gives start xs
-        × (((walk : Numbered T ID) (items : FailingGraph E) → ShowsLists walk items ID.eq F.Fn N.FnMut NI.into_iter_gives NI.IntoIter.next_gives id_fn neighbors_fn → AreNodes walk (map walk.node xs)
-        → ReachesFailure items (map walk.node xs) error)
-        ⊎ ((x : T) × C.post cycle_fn x error
-        × ((walk : Numbered T ID) (items : FailingGraph E) → ShowsLists walk items ID.eq F.Fn N.FnMut NI.into_iter_gives NI.IntoIter.next_gives id_fn neighbors_fn → AreNodes walk (map walk.node xs)
-        → ReachedFrom walk.graph (map walk.node xs) (walk.node x) × ReachesCycle walk.graph (map walk.node xs)))))) }
+    ensures node { IfErr result (λ e. IfNode e (λ error.
+        ((xs : List T) × BeginsWith II.into_iter_gives II.IntoIter.next_gives start (map Ok xs ++ Err error ∷ []))
+        ⊎ ((xs : List T) × DrainsTo II.into_iter_gives II.IntoIter.next_gives start (map Ok xs)
+        × ((walk : Numbered T ID) (items : FailingGraph (Fault E)) → ShowsItems walk items ID.eq F.Fn N.FnMut NI.into_iter_gives NI.IntoIter.next_gives id_fn neighbors_fn → AreNodes walk (map walk.node xs)
+        → ReachesFailure items (map walk.node xs) error))
+        ⊎ ((x : T) × (xs : List T) × C.post cycle_fn x error × DrainsTo II.into_iter_gives II.IntoIter.next_gives start (map Ok xs)
+        × ((walk : Numbered T ID) (items : FailingGraph (Fault E)) → ShowsItems walk items ID.eq F.Fn N.FnMut NI.into_iter_gives NI.IntoIter.next_gives id_fn neighbors_fn → AreNodes walk (map walk.node xs)
+        → ReachedFrom walk.graph (map walk.node xs) (walk.node x) × ReachesCycle walk.graph (map walk.node xs))))) }
 {
     let found = collect_nodes(alloc, start, id_fn, neighbors_fn)?;
     let (targets, indegrees) = link(alloc, &found.index_of, &found.neighbor_ids)?;
@@ -84,10 +87,10 @@ fn make_ready<T: Ord + Drop>(
 
 /// The nodes that the starts reach, in the order in which they were visited.
 #[derive(Drop)]
-struct Collected<T, ID: Hash + Eq> {
-    nodes: Vec<Option<T>>,
-    neighbor_ids: Vec<Vec<ID>>,
-    index_of: HashMap<ID, usize>,
+pub struct Collected<T, ID: Hash + Eq> {
+    pub nodes: Vec<Option<T>>,
+    pub neighbor_ids: Vec<Vec<ID>>,
+    pub index_of: HashMap<ID, usize>,
 }
 
 /// Visits all nodes that the starts reach, the last start and the last neighbour first.
@@ -99,28 +102,34 @@ fn collect_nodes<T, ID, E, II, NI, F, N>(
 ) -> Result<Collected<T, ID>, WalkError<E>>
 where
     T: Drop,
+    E: Drop,
     ID: Hash + Eq + Drop,
-    II: IntoIterator<Item = T>,
+    II: IntoIterator<Item = Result<T, E>>,
     II::IntoIter: Drop,
-    NI: IntoIterator<Item = T>,
+    NI: IntoIterator<Item = Result<T, E>>,
     NI::IntoIter: Drop,
     F: Fn(&T) -> ID + Drop,
-    N: FnMut(&T) -> Result<NI, E> + Drop,
+    N: FnMut(&T) -> NI + Drop,
     requires id_fn { F.IsAlwaysCallable id_fn }
     requires neighbors_fn { N.IsAlwaysCallable neighbors_fn }
-    requires lists { AlwaysReturns N.FnMut (λ a r. IfOk r (IsFiniteIterable NI.into_iter_gives NI.IntoIter.can_next NI.IntoIter.remaining)) neighbors_fn }
+    requires lists { AlwaysReturns N.FnMut (λ a r. IsFiniteIterable NI.into_iter_gives NI.IntoIter.can_next NI.IntoIter.remaining r) neighbors_fn }
     requires start { IsFiniteIterable II.into_iter_gives II.IntoIter.can_next II.IntoIter.remaining start }
-    ensures collected { IfOk result (λ found. (xs given : List T) × DrainsTo II.into_iter_gives II.IntoIter.next_gives start xs × (found.nodes.items ≡ map (λ x. Some x) given)
+    ensures collected { IfOk result (λ found. (xs given : List T) × DrainsTo II.into_iter_gives II.IntoIter.next_gives start (map Ok xs) × (found.nodes.items ≡ map (λ x. Some x) given)
         × (length found.neighbor_ids.items ≡ length given) × ((i : ID) (k : ℕ) → get ID.eq found.index_of i ≡ Some k → k < length given)
-        × ((walk : Numbered T ID) (items : FailingGraph E) → ShowsLists walk items ID.eq F.Fn N.FnMut NI.into_iter_gives NI.IntoIter.next_gives id_fn neighbors_fn → AreNodes walk (map walk.node xs)
+        × ((walk : Numbered T ID) (items : FailingGraph (Fault E)) → ShowsItems walk items ID.eq F.Fn N.FnMut NI.into_iter_gives NI.IntoIter.next_gives id_fn neighbors_fn → AreNodes walk (map walk.node xs)
         → IsCollecting walk items (map walk.node xs) (get ID.eq found.index_of) [] given (map (λ v. v.items) found.neighbor_ids.items))) }
-    ensures failed { IfErr result (λ e. IfNode e (λ error. (xs : List T) × DrainsTo II.into_iter_gives II.IntoIter.next_gives start xs
-        × ((walk : Numbered T ID) (items : FailingGraph E) → ShowsLists walk items ID.eq F.Fn N.FnMut NI.into_iter_gives NI.IntoIter.next_gives id_fn neighbors_fn → AreNodes walk (map walk.node xs)
-        → ReachesFailure items (map walk.node xs) error))) }
+    ensures failed { IfErr result (λ e. IfNode e (λ error.
+        ((xs : List T) × BeginsWith II.into_iter_gives II.IntoIter.next_gives start (map Ok xs ++ Err error ∷ []))
+        ⊎ ((xs : List T) × DrainsTo II.into_iter_gives II.IntoIter.next_gives start (map Ok xs)
+        × ((walk : Numbered T ID) (items : FailingGraph (Fault E)) → ShowsItems walk items ID.eq F.Fn N.FnMut NI.into_iter_gives NI.IntoIter.next_gives id_fn neighbors_fn → AreNodes walk (map walk.node xs)
+        → ReachesFailure items (map walk.node xs) error)))) }
 {
     let mut stack = Vec::new(alloc);
-    for node in start {
-        stack.push(node)?;
+    for item in start {
+        match item {
+            Ok(node) => stack.push(node)?,
+            Err(error) => return Err(WalkError::Node(error)),
+        }
     }
     let mut nodes = Vec::new(alloc);
     let mut neighbor_ids = Vec::new(alloc);
@@ -130,12 +139,12 @@ where
         if index_of.contains_key(&id) {
             continue;
         }
-        let neighbors = match neighbors_fn(&node) {
-            Ok(neighbors) => neighbors.into_iter(),
-            Err(error) => return Err(WalkError::Node(error)),
-        };
         let mut ids = Vec::new(alloc);
-        for neighbor in neighbors {
+        for neighbor in neighbors_fn(&node) {
+            let neighbor = match neighbor {
+                Ok(neighbor) => neighbor,
+                Err(error) => return Err(WalkError::Node(error)),
+            };
             ids.push(id_fn(&neighbor))?;
             stack.push(neighbor)?;
         }
@@ -151,7 +160,7 @@ where
 }
 
 /// The places of the neighbours of each node, and how many edges lead to each place.
-fn link<ID: Hash + Eq + Drop>(
+pub fn link<ID: Hash + Eq + Drop>(
     alloc: Global,
     index_of: &HashMap<ID, usize>,
     neighbor_ids: &[Vec<ID>],
@@ -183,7 +192,7 @@ fn link<ID: Hash + Eq + Drop>(
 
 /// Takes the greatest node without a child that was not taken, as long as there is one. Beside the nodes taken stands one
 /// of those left, which all are on or below a cycle.
-fn take_greatest_first<T: Ord + Drop>(
+pub fn take_greatest_first<T: Ord + Drop>(
     alloc: Global,
     mut waiting: Vec<Option<T>>,
     targets: &[Vec<usize>],

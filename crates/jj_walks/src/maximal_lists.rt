@@ -3,7 +3,7 @@ ghost use Rattle.std.specs.Prelude.{IfOk, IfErr, IsTrue, List, map};
 ghost use Rattle.std.specs.Fn.{AlwaysReturns};
 ghost use Rattle.std.specs.Iterator.{IsFiniteIterable};
 ghost use Rattle.jj_walks.specs.Graph.{HasNoCycle, IsMaximalIn};
-ghost use Rattle.jj_walks.specs.Failing.{FailingGraph, ShowsLists, ReachesFailure};
+ghost use Rattle.jj_walks.specs.Failing.{Fault, FailingGraph, ShowsLists, ReachesFailure};
 ghost use Rattle.jj_walks.specs.Walk.{Numbered, AreNodes, DrainsTo, StandsForNodes};
 ghost use Rattle.jj_walks.specs.Errors.{IfNode};
 
@@ -36,11 +36,11 @@ where
     requires start { IsFiniteIterable II.into_iter_gives II.IntoIter.can_next II.IntoIter.remaining start }
     requires clones { (x y : T) → T.is_clone x y → IsTrue (T.eq x y) }
     ensures heads { IfOk result (λ s. (xs : List T) × DrainsTo II.into_iter_gives II.IntoIter.next_gives start xs
-        × ((walk : Numbered T ID) (items : FailingGraph E) → ShowsLists walk items ID.eq F.Fn N.FnMut NI.into_iter_gives NI.IntoIter.next_gives id_fn neighbors_fn → AreNodes walk (map walk.node xs)
+        × ((walk : Numbered T ID) (items : FailingGraph (Fault E)) → ShowsLists walk items ID.eq F.Fn N.FnMut NI.into_iter_gives NI.IntoIter.next_gives id_fn neighbors_fn → AreNodes walk (map walk.node xs)
         → HasNoCycle walk.graph (map walk.node xs) → StandsForNodes walk T.eq
         → IsMaximalIn walk.graph (map walk.node xs) (map walk.node s.keys))) }
     ensures refused { IfErr result (λ e. IfNode e (λ error. (xs : List T) × DrainsTo II.into_iter_gives II.IntoIter.next_gives start xs
-        × ((walk : Numbered T ID) (items : FailingGraph E) → ShowsLists walk items ID.eq F.Fn N.FnMut NI.into_iter_gives NI.IntoIter.next_gives id_fn neighbors_fn → AreNodes walk (map walk.node xs)
+        × ((walk : Numbered T ID) (items : FailingGraph (Fault E)) → ShowsLists walk items ID.eq F.Fn N.FnMut NI.into_iter_gives NI.IntoIter.next_gives id_fn neighbors_fn → AreNodes walk (map walk.node xs)
         → ReachesFailure items (map walk.node xs) error))) }
 {
     let mut heads = HashSet::new(alloc);

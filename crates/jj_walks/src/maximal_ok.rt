@@ -3,7 +3,7 @@ ghost use Rattle.std.specs.Prelude.{◌⊎◌, ◌++◌, ◌∷◌, [], IfOk, If
 ghost use Rattle.std.specs.Fn.{AlwaysReturns};
 ghost use Rattle.std.specs.Iterator.{IsFiniteIterable};
 ghost use Rattle.jj_walks.specs.Graph.{HasNoCycle, IsMaximalIn};
-ghost use Rattle.jj_walks.specs.Failing.{FailingGraph, ShowsItems, ReachesFailure, BeginsWith};
+ghost use Rattle.jj_walks.specs.Failing.{Fault, FailingGraph, ShowsItems, ReachesFailure, BeginsWith};
 ghost use Rattle.jj_walks.specs.Walk.{Numbered, AreNodes, DrainsTo, StandsForNodes};
 ghost use Rattle.jj_walks.specs.Errors.{IfNode};
 
@@ -37,13 +37,13 @@ where
     requires start { IsFiniteIterable II.into_iter_gives II.IntoIter.can_next II.IntoIter.remaining start }
     requires clones { (x y : T) → T.is_clone x y → IsTrue (T.eq x y) }
     ensures heads { IfOk result (λ s. (xs : List T) × DrainsTo II.into_iter_gives II.IntoIter.next_gives start (map Ok xs)
-        × ((walk : Numbered T ID) (items : FailingGraph E) → ShowsItems walk items ID.eq F.Fn N.FnMut NI.into_iter_gives NI.IntoIter.next_gives id_fn neighbors_fn → AreNodes walk (map walk.node xs)
+        × ((walk : Numbered T ID) (items : FailingGraph (Fault E)) → ShowsItems walk items ID.eq F.Fn N.FnMut NI.into_iter_gives NI.IntoIter.next_gives id_fn neighbors_fn → AreNodes walk (map walk.node xs)
         → HasNoCycle walk.graph (map walk.node xs) → StandsForNodes walk T.eq
         → IsMaximalIn walk.graph (map walk.node xs) (map walk.node s.keys))) }
     ensures refused { IfErr result (λ e. IfNode e (λ error.
         ((xs : List T) × BeginsWith II.into_iter_gives II.IntoIter.next_gives start (map Ok xs ++ Err error ∷ []))
         ⊎ ((xs : List T) × DrainsTo II.into_iter_gives II.IntoIter.next_gives start (map Ok xs)
-        × ((walk : Numbered T ID) (items : FailingGraph E) → ShowsItems walk items ID.eq F.Fn N.FnMut NI.into_iter_gives NI.IntoIter.next_gives id_fn neighbors_fn → AreNodes walk (map walk.node xs)
+        × ((walk : Numbered T ID) (items : FailingGraph (Fault E)) → ShowsItems walk items ID.eq F.Fn N.FnMut NI.into_iter_gives NI.IntoIter.next_gives id_fn neighbors_fn → AreNodes walk (map walk.node xs)
         → ReachesFailure items (map walk.node xs) error)))) }
 {
     let mut heads = HashSet::new(alloc);

@@ -11,7 +11,7 @@ use Rattle.std.proofs.lemmas.List.Elements.{Contains-append_right}
 use denote.Ref.{Bor}
 use Rattle.jj_walks.specs.Graph.{Graph, Postorder, IsPostorder, StandsBefore, ReachedFrom, HasEdge, IsMaximalIn}
 use Rattle.jj_walks.specs.CommonNodes.{AreClosestCommon}
-use Rattle.jj_walks.specs.Failing.{sound_items}
+use Rattle.jj_walks.specs.Failing.{Fault, sound_items}
 use Rattle.jj_walks.specs.Walk.{Numbered, AreNodes}
 use Rattle.jj_walks.proofs.Collecting.{are_nodes}
 use Rattle.jj_walks.proofs.Heads.{Contains-from_map, Contains-map}
@@ -89,7 +89,7 @@ module _ (commits : List Commit) where
   pub found_has : (c : Commit) → commit_with commits c.id ≡ Some c → has_commit commits c ≡ true
   found_has c e = ap (λ o. elim o [ None ↦ false | Some d ↦ is_same d c ]) e ∙ same_self c
 
-  has_found : (c : Commit) → has_commit commits c ≡ true → (d : Commit) × (commit_with commits c.id ≡ Some d) × Fields d c
+  pub has_found : (c : Commit) → has_commit commits c ≡ true → (d : Commit) × (commit_with commits c.id ≡ Some d) × Fields d c
   has_found c h =
       let P : Option Commit → Type 0 = λ o. commit_with commits c.id ≡ o → elim o [ None ↦ false | Some d ↦ is_same d c ] ≡ true
       → (d : Commit) × (commit_with commits c.id ≡ Some d) × Fields d c in
@@ -195,7 +195,7 @@ module _ (commits : List Commit) where
       )
 
   -- values of nodes have their ids for their numbers
-  ids_are : (ys : List (Bor Commit)) → ((x : Bor Commit) → Contains ys x → has_commit commits x.now ≡ true) → map node ys ≡ map (λ x. x.now.id) ys
+  pub ids_are : (ys : List (Bor Commit)) → ((x : Bor Commit) → Contains ys x → has_commit commits x.now ≡ true) → map node ys ≡ map (λ x. x.now.id) ys
   ids_are [] h = refl
   ids_are (y ∷ ys) h = ap (λ n. n ∷ map node ys) (node_id y (h y (0, omega arith, refl))) ∙ ap (λ l. y.now.id ∷ l) (ids_are ys (λ x k. h x (Contains-append_right (y ∷ []) ys x k)))
 
@@ -220,9 +220,9 @@ module _ (commits : List Commit) where
       (ids_are xs (λ x h. node_has x (are_nodes {E = ℕ} walk_of (λ a. []) set1 walk_closed nodes (node x) ((m.all (node x)).0 (Contains-map node xs x h)).0.0))) m
 
   -- the parents of a commit, as a list that does not fail
-  abbrev pub items_of : ℕ → List (Result ℕ ℕ)
+  abbrev pub items_of : ℕ → List (Result ℕ (Fault ℕ))
   items_of a = map (λ b. Ok b) (parent_graph commits a)
 
-  pub items_sound : (ns : List ℕ) → ns ≡ sound_items (map {B = Result ℕ ℕ} (λ b. Ok b) ns)
+  pub items_sound : (ns : List ℕ) → ns ≡ sound_items (map {B = Result ℕ (Fault ℕ)} (λ b. Ok b) ns)
   items_sound [] = refl
   items_sound (n ∷ ns) = ap (λ l. n ∷ l) (items_sound ns)

@@ -1,3 +1,4 @@
 pub mod Listed
 pub mod Commits
 pub mod Parents
+pub mod Gaps

@@ -4,8 +4,11 @@
 pub mod ancestry;
 pub mod callers;
 #[cfg(test)]
+mod chunks;
+#[cfg(test)]
 mod closest_common_tests;
 pub mod commits;
+pub mod failing_callers;
 #[cfg(test)]
 mod hostile;
 #[cfg(test)]

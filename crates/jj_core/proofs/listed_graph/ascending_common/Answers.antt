@@ -4,7 +4,7 @@ use Rattle.std.proofs.lemmas.Iterator.{YieldsList-from_slice}
 use Rattle.std.proofs.lemmas.Iterator.Consumers.{YieldsList-from_copied}
 use Rattle.std.proofs.lemmas.List.{map-id}
 use Rattle.jj_walks.specs.CommonNodes.{AreClosestCommon}
-use Rattle.jj_walks.specs.Failing.{FailingGraph}
+use Rattle.jj_walks.specs.Failing.{Fault, FailingGraph}
 use Rattle.jj_walks.specs.Walk.{Numbered}
 use Rattle.jj_walks.proofs.Walking.{drained_are}
 use Rattle.jj_walks.proofs.Errors.{node_says}
@@ -20,30 +20,30 @@ pub unreachable-requires : goal.unreachable-requires
 unreachable-requires c =
     let graph = graph_of (listed_in c.args.listed.now) in
     let walk : Numbered ℕ ℕ = record { graph = graph; is_node = λ a. true; node = λ x. x; id = λ i. i } in
-    let items : FailingGraph ℕ = λ a. map (λ b. Ok b) (graph a) in
+    let items : FailingGraph (Fault ℕ) = λ a. map (λ b. Ok b) (graph a) in
     let (xs, ys, drains, drains', shown) = node_says _ c.in-Err.error c.in-Node.field-0 c.in-Node.is c.in-Err.ensures.refused in
-    let (a, reached, here) = shown walk items
+    let (a, fault, reached, here, is) = shown walk items
     (record {
-      sound_graph = λ a. sound_neighbors ℕ (graph a);
+      sound_graph = λ a. sound_neighbors (Fault ℕ) (graph a);
       closed = λ a s b h. refl;
       apart = λ i j a b. refl;
       ids_stand = λ x i is h. search (rules, h.says.met, h.shows);
       neighbors = always_returns_same _ _ _ (λ a r f h. (λ here. lists_neighbors r (graph a.0.now) (search (rules, of_calls, h)), search (rules, of_calls, h)));
     })
     (λ a h. refl) (λ a h. refl) in
-    none_failed ℕ (graph a) c.in-Node.field-0 here
+    none_failed (Fault ℕ) (graph a) fault here
 
 pub returns-in-Ok-clause-closest : goal.returns-in-Ok-clause-closest
 returns-in-Ok-clause-closest c =
     let graph = graph_of (listed_in c.args.listed.now) in
     let walk : Numbered ℕ ℕ = record { graph = graph; is_node = λ a. true; node = λ x. x; id = λ i. i } in
-    let items : FailingGraph ℕ = λ a. map (λ b. Ok b) (graph a) in
+    let items : FailingGraph (Fault ℕ) = λ a. map (λ b. Ok b) (graph a) in
     let p = c.in-Ok.ensures.closest in
     let first : map (λ x. x) p.0 ≡ c.args.set1.now = drained_are (λ s r. r ≡ s) _ c.copied.result p.0 (λ x. x) c.args.set1.now (λ it b. YieldsList-from_copied (YieldsList-from_slice _ (search (rules, c.copied.ensures, c.iter.ensures, b)))) p.2 in
     let second : map (λ x. x) p.1 ≡ c.args.set2.now = drained_are (λ s r. r ≡ s) _ c.copied-2.result p.1 (λ x. x) c.args.set2.now (λ it b. YieldsList-from_copied (YieldsList-from_slice _ (search (rules, c.copied-2.ensures, c.iter-2.ensures, b)))) p.3 in
     let k = p.4 walk items
     (record {
-      sound_graph = λ a. sound_neighbors ℕ (graph a);
+      sound_graph = λ a. sound_neighbors (Fault ℕ) (graph a);
       closed = λ a s b h. refl;
       apart = λ i j a b. refl;
       ids_stand = λ x i is h. search (rules, h.says.met, h.shows);

@@ -1,66 +1,65 @@
 use Rattle.std.proofs.Common.{rules, of_calls, ◌≡◌, ℕ, true, refl, subst, map, Ok, ⊎_elim}
 use Rattle.std.proofs.lemmas.Fn.{always_returns_same}
-use Rattle.std.proofs.lemmas.Iterator.{YieldsList-from_slice}
-use Rattle.std.proofs.lemmas.Iterator.Consumers.{YieldsList-from_copied}
 use Rattle.std.proofs.lemmas.List.{map-id}
 use Rattle.jj_walks.specs.Graph.{IsGreatestChildFirst}
-use Rattle.jj_walks.specs.Failing.{FailingGraph}
+use Rattle.jj_walks.specs.Failing.{Fault, FailingGraph}
 use Rattle.jj_walks.specs.Walk.{Numbered}
-use Rattle.jj_walks.proofs.Walking.{drained_are}
 use Rattle.jj_walks.proofs.Errors.{node_says}
 use Rattle.jj_core.specs.Neighbors.{listed_in}
 use Rattle.jj_core.specs.GraphCommand.{graph_of}
-use Rattle.jj_core.proofs.ListedGraphs.{sound_neighbors, none_failed, lists_neighbors}
+use Rattle.jj_core.proofs.ListedGraphs.{sound_neighbors, none_failed, items_neighbors, no_beginning, given_ids}
 use Rattle.jj_core.proofs.listed_graph.greatest_order.Goals as goal
 
 pub topo_order_reverse_ord-order-requires-clause-lists : goal.topo_order_reverse_ord-order-requires-clause-lists
-topo_order_reverse_ord-order-requires-clause-lists c = always_returns_same _ _ _ (λ a r f h. (first_of (search rules, search (rules, of_calls, h)), search (rules, of_calls, h)))
+topo_order_reverse_ord-order-requires-clause-lists c = always_returns_same _ _ _ (λ a r f h. (λ it b. (search rules, search rules), search (rules, of_calls, h)))
 
 pub unreachable-requires : goal.unreachable-requires
 unreachable-requires c =
     let graph = graph_of (listed_in c.args.listed.now) in
     let walk : Numbered ℕ ℕ = record { graph = graph; is_node = λ a. true; node = λ x. x; id = λ i. i } in
-    let items : FailingGraph ℕ = λ a. map (λ b. Ok b) (graph a) in
-    let (xs, drains, why) = node_says _ c.in-Err.error c.in-Node.field-0 c.in-Node.is c.in-Err.ensures.node in
+    let items : FailingGraph (Fault ℕ) = λ a. map (λ b. Ok b) (graph a) in
     ⊎_elim
+    (λ begun. no_beginning _ (map (λ x. Ok x) begun.0) c.in-Node.field-0 begun.1)
+    (λ others. ⊎_elim
     (λ failed.
-    let (a, reached, here) = failed walk items
+    let (a, fault, reached, here, is) = failed.2 walk items
     (record {
-      sound_graph = λ a. sound_neighbors ℕ (graph a);
+      sound_graph = λ a. sound_neighbors (Fault ℕ) (graph a);
       closed = λ a s b h. refl;
       apart = λ i j a b. refl;
       ids_stand = λ x i is h. search (rules, h.says.met, h.shows);
-      neighbors = always_returns_same _ _ _ (λ a r f h. (λ here. lists_neighbors r (graph a.0.now) (search (rules, of_calls, h)), search (rules, of_calls, h)));
+      neighbors = always_returns_same _ _ _ (λ a r f h. (λ here. items_neighbors r (graph a.0.now) (search (rules, of_calls, h)), search (rules, of_calls, h)));
     })
     (λ a h. refl) in
-    none_failed ℕ (graph a) c.in-Node.field-0 here)
+    none_failed (Fault ℕ) (graph a) fault here)
     (λ found.
-    let (reached, (a, (from, cycle))) = found.2 walk items
+    let (reached, (a, (from, cycle))) = found.4 walk items
     (record {
-      sound_graph = λ a. sound_neighbors ℕ (graph a);
+      sound_graph = λ a. sound_neighbors (Fault ℕ) (graph a);
       closed = λ a s b h. refl;
       apart = λ i j a b. refl;
       ids_stand = λ x i is h. search (rules, h.says.met, h.shows);
-      neighbors = always_returns_same _ _ _ (λ a r f h. (λ here. lists_neighbors r (graph a.0.now) (search (rules, of_calls, h)), search (rules, of_calls, h)));
+      neighbors = always_returns_same _ _ _ (λ a r f h. (λ here. items_neighbors r (graph a.0.now) (search (rules, of_calls, h)), search (rules, of_calls, h)));
     })
     (λ a h. refl) in
     c.requires (a, cycle))
-    why
+    others)
+    (node_says _ c.in-Err.error c.in-Node.field-0 c.in-Node.is c.in-Err.ensures.node)
 
 pub returns-in-Ok : goal.returns-in-Ok
 returns-in-Ok c =
     let graph = graph_of (listed_in c.args.listed.now) in
     let walk : Numbered ℕ ℕ = record { graph = graph; is_node = λ a. true; node = λ x. x; id = λ i. i } in
-    let items : FailingGraph ℕ = λ a. map (λ b. Ok b) (graph a) in
+    let items : FailingGraph (Fault ℕ) = λ a. map (λ b. Ok b) (graph a) in
     let p = c.in-Ok.ensures.order in
-    let starts : map (λ x. x) p.0 ≡ c.args.ids.now = drained_are (λ s r. r ≡ s) _ c.copied.result p.0 (λ x. x) c.args.ids.now (λ it b. YieldsList-from_copied (YieldsList-from_slice _ (search (rules, c.copied.ensures, c.iter.ensures, b)))) p.1 in
+    let starts : map (λ x. x) p.0 ≡ c.args.ids.now = given_ids _ p.0 p.1 in
     let k = p.2 walk items
     (record {
-      sound_graph = λ a. sound_neighbors ℕ (graph a);
+      sound_graph = λ a. sound_neighbors (Fault ℕ) (graph a);
       closed = λ a s b h. refl;
       apart = λ i j a b. refl;
       ids_stand = λ x i is h. search (rules, h.says.met, h.shows);
-      neighbors = always_returns_same _ _ _ (λ a r f h. (λ here. lists_neighbors r (graph a.0.now) (search (rules, of_calls, h)), search (rules, of_calls, h)));
+      neighbors = always_returns_same _ _ _ (λ a r f h. (λ here. items_neighbors r (graph a.0.now) (search (rules, of_calls, h)), search (rules, of_calls, h)));
     })
     (λ a h. refl) in
     let greatest = k.3 (λ x y a b. refl) in

@@ -1,7 +1,7 @@
-use Rattle.std.proofs.Common.{◌≡◌, ◌+◌, ap, ◌∙◌, sym, arith, Some}
+use Rattle.std.proofs.Common.{ap, ◌∙◌, sym, arith, Some}
 use Rattle.std.specs.Option.{option_copied_mut}
 use Rattle.std.proofs.lemmas.Map.Entries.{sum_by_puts_entry}
-use Rattle.jj_walks.specs.Marks.{asked, sides, sides_met}
+use Rattle.jj_walks.specs.Marks.{asked, sides}
 use Rattle.jj_walks.proofs.closest_common.ask.Goals as goal
 
 pub returns-in-Some-clause-sides : goal.returns-in-Some-clause-sides

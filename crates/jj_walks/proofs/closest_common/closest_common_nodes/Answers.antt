@@ -1,4 +1,4 @@
-use Rattle.std.proofs.Common.{◌≡◌, map}
+use Rattle.std.proofs.Common.{◌≡◌}
 use Rattle.jj_walks.specs.Marks.{mark_at, closest_of}
 use Rattle.jj_walks.proofs.closest_common.closest_common_nodes.Goals as goal
 

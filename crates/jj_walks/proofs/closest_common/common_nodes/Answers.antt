@@ -1,13 +1,13 @@
-use Rattle.std.proofs.Common.{rules, of_calls, arith, append-nil, append_assoc, ◌≡◌, ℕ, ◌<◌, ◌^◌, true, false, ◌++◌, ◌∷◌, ◌||◌, List, [], map, length, refl, sym, ◌∙◌, ap, subst, true≢false, Ok, Err, lit<}
+use Rattle.std.proofs.Common.{rules, of_calls, arith, append-nil, append_assoc, ◌≡◌, ℕ, ◌++◌, ◌∷◌, ◌||◌, List, [], map, length, refl, sym, ◌∙◌, ap, subst, true≢false, Ok, Err, lit<}
 use Rattle.std.specs.BinaryHeap.{heap_items, heap_len}
-use Rattle.std.specs.List.{Contains, sum_by}
+use Rattle.std.specs.List.{Contains}
 use Rattle.std.specs.List.Sorted.{IsPermutation}
 use Rattle.std.proofs.lemmas.List.{nil_from_length}
 use Rattle.std.proofs.lemmas.List.Elements.{Contains-append_left, Contains-append_right, Contains-push}
 use Rattle.std.proofs.lemmas.List.Sorted.{IsPermutation-sym, Contains-permutation}
-use Rattle.jj_walks.specs.Failing.{ShowsLists, sound_items, sound as sound_graph}
+use Rattle.jj_walks.specs.Failing.{Fault, ShowsLists, sound_items, sound as sound_graph}
 use Rattle.jj_walks.specs.Graph.{HasEdge}
-use Rattle.jj_walks.specs.Marks.{handed_on, mark_at, mark_of, sides, sides_met}
+use Rattle.jj_walks.specs.Marks.{handed_on, mark_at}
 use Rattle.jj_walks.specs.Walk.{DrainsTo}
 use Rattle.jj_walks.proofs.ClosestCommon.{HandsOn, HoldsMarks, both_nodes, starting_none, starting_left, starting_right, started, started_holds, hands_none, hands_more, hands_common, hands_side, ends, ends_early, closest_at_end, ids_more}
 use Rattle.jj_walks.proofs.Collecting.{are_nodes}
@@ -185,7 +185,7 @@ loop-node-3-preserved g c =
             record { sound_graph = shown.sound_graph; closed = shown.closed; apart = shown.apart; ids_stand = shown.ids_stand; neighbors = turn.1 } in
             let whole = (rw ok at (turn.0 here)) c.loop-neighbor.yielded drained in
             let listed : map walk.node c.loop-neighbor.yielded ≡ walk.graph (walk.node node) =
-            sym (shown.sound_graph (walk.node node) ∙ ap sound_items whole ∙ sound_items-nodes g.row.E.Denot walk.node c.loop-neighbor.yielded) in
+            sym (shown.sound_graph (walk.node node) ∙ ap sound_items whole ∙ sound_items-nodes (Fault g.row.E.Denot) walk.node c.loop-neighbor.yielded) in
             let inner = c.loop-neighbor.invariant.walking walk items c.neighbors_fn.new.self set1 set2 [] known.1.0 c.loop-node-3.root_met (walk.node node) after here on (append-nil (map walk.node c.loop-neighbor.yielded) ∙ listed) in (
               after,
               (
@@ -236,7 +236,7 @@ loop-node-3-preserved-in-Continue-branch-5 g c =
             record { sound_graph = shown.sound_graph; closed = shown.closed; apart = shown.apart; ids_stand = shown.ids_stand; neighbors = turn.1 } in
             let whole = (rw ok at (turn.0 here)) c.loop-neighbor.yielded drained in
             let listed : map walk.node c.loop-neighbor.yielded ≡ walk.graph (walk.node node) =
-            sym (shown.sound_graph (walk.node node) ∙ ap sound_items whole ∙ sound_items-nodes g.row.E.Denot walk.node c.loop-neighbor.yielded) in
+            sym (shown.sound_graph (walk.node node) ∙ ap sound_items whole ∙ sound_items-nodes (Fault g.row.E.Denot) walk.node c.loop-neighbor.yielded) in
             let inner = c.loop-neighbor.invariant.walking walk items c.neighbors_fn.new.self set1 set2 [] known.1.0 c.loop-node-3.root_met (walk.node node) after here on (append-nil (map walk.node c.loop-neighbor.yielded) ∙ listed) in (
               after,
               (
@@ -269,10 +269,13 @@ returns-in-Err-clause-refused g c =
           let waited = Contains-map walk.node (heap_items c.loop-node-3.waiting) node (Contains-permutation (node ∷ heap_items c.pop.new.self) (heap_items c.loop-node-3.waiting) node (IsPermutation-sym (heap_items c.loop-node-3.waiting) (node ∷ heap_items c.pop.new.self) popped) (0, omega arith, refl)) in
           let reached = known.1.1.reached (walk.node node) waited in
           let here = are_nodes walk items (set1 ++ set2) shown.closed (both_nodes walk set1 set2 first second) (walk.node node) reached in
-          let turn = AlwaysReturns-call g.N.FnMut _ known.0.neighbors c.neighbors_fn.ensures in (
+          let turn = AlwaysReturns-call g.N.FnMut _ known.0.neighbors c.neighbors_fn.ensures in
+          let one = failed_list (items (walk.node node)) c.in-Err.error (rw failed at (turn.0 here)) in (
             walk.node node,
+            one.0,
             ReachedFrom-same walk.graph (sound_graph items) shown.sound_graph (set1 ++ set2) (walk.node node) reached,
-            failed_list (items (walk.node node)) c.in-Err.error (rw failed at (turn.0 here)),
+            one.1,
+            one.2,
           ),
     )
 

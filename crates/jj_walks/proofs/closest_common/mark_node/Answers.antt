@@ -1,10 +1,9 @@
-use Rattle.std.proofs.Common.{◌≡◌, ℕ, ◌+◌, ◌*◌, ◌≤◌, ◌<◌, ap, ◌∙◌, sym, rules, arith, length}
+use Rattle.std.proofs.Common.{◌≡◌, ap, ◌∙◌, sym, arith, length}
 use Rattle.std.specs.Prelude.{unwrap_or}
 use Rattle.std.specs.Option.{option_map}
 use Rattle.std.specs.HashMap.{values, get, hash_map_len}
-use Rattle.std.specs.List.{sum_by}
 use Rattle.std.proofs.lemmas.Map.Entries.{sum_by_puts_entry, length-values_of}
-use Rattle.jj_walks.specs.Marks.{mark_at, marked, starts_waiting, sides, sides_met}
+use Rattle.jj_walks.specs.Marks.{mark_at, marked, starts_waiting, sides}
 use Rattle.jj_walks.proofs.MarkSums.{sides_of, sides_more, sides_start, sides_small}
 use Rattle.jj_walks.proofs.closest_common.mark_node.Goals as goal
 

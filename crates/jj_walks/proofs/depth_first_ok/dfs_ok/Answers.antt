@@ -8,5 +8,15 @@ pub returns-clause-left : goal.returns-clause-left
 returns-clause-left g c =
     let drained : DrainsTo g.II.IntoIterator.into_iter_gives g.II.IntoIter.Iterator.next_gives c.args.start c.loop-item.yielded =
     (c.into_iter-item-iterator.result, c.into_iter-item-iterator.ensures.into_iter_gives, (c.next.new.self, (c.loop-item.item-iterator, c.loop-item.yielded_by, c.in-None.ensures.steps))) in
-    let empty : c.new.result.keys ≡ [] = c.new.ensures.empty in
-    (c.loop-item.yielded, drained, λ walk items shown nodes. record { shown = shown; walking = walking_items_start walk items c.loop-item.yielded c.loop-item.work.items [] nodes c.loop-item.invariant.work refl (λ i. rw empty) })
+    let empty : c.new.result.keys ≡ [] = c.new.ensures.empty in (
+      c.loop-item.yielded,
+      drained,
+      λ walk items starts shown are nodes. record {
+        shown = shown;
+        work_items = starts;
+        given_items = [];
+        work = rw c.loop-item.invariant.work are;
+        given_before = tt;
+        walking = walking_items_start walk items starts nodes (λ i. rw empty refl);
+      },
+    )

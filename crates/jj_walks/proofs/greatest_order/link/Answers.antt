@@ -1,4 +1,4 @@
-use Rattle.std.proofs.Common.{◌≡◌, ℕ, ◌+◌, ◌<◌, map, length, get_or, refl, sym, ◌∙◌, ap, arith, None, Some, Option, length-set}
+use Rattle.std.proofs.Common.{◌≡◌, ◌<◌, map, length, sym, ◌∙◌, arith, None, Some, length-set}
 use Rattle.std.specs.HashMap.{get}
 use Rattle.jj_walks.proofs.Linking.{counts_edge, filter_map_found, filter_map_missed}
 use Rattle.jj_walks.proofs.greatest_order.link.Goals as goal

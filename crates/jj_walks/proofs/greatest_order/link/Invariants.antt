@@ -1,4 +1,4 @@
-use Rattle.std.proofs.Common.{◌≡◌, ℕ, [], map, length, take}
+use Rattle.std.proofs.Common.{◌≡◌, [], map, length, take}
 use Rattle.std.specs.HashMap.{get}
 use Rattle.std.specs.List.{filter_map}
 use Rattle.jj_walks.proofs.Linking.{AreCounts}

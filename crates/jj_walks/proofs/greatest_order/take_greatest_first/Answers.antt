@@ -1,10 +1,7 @@
-use Rattle.std.proofs.Common.{rules, ◌≡◌, ℕ, ◌+◌, ◌<◌, ◌≤◌, ◌∷◌, List, map, length, slice_index, slice_index_or, slice_set, IfOk, IsSome, OnOk, MatchOption, eqb, ◌-◌, ◌*◌, ◌/◌, ◌%◌, Bool, true, false, nat_lt, [], ◌++◌, bit_and, bit_or, Fits, w8, w32, w64, Bor, MutBor, arith, refl, sym, ◌∙◌, ap, None, Some, get_or, set, drop, ◌≢◌, inl, inr}
-use Rattle.std.specs.List.{All, Contains}
-use Rattle.std.specs.List.Sorted.{IsPermutation}
-use Rattle.std.specs.BinaryHeap.{heap_items, KeepsHeap, HeapUnchanged}
-use Rattle.std.specs.Ordering.{nat_cmp, ordering_then}
-use Rattle.jj_walks.specs.ReadyNodes.{IsStuck, IsNotBelow, TakesGreatestReady, edges_to, places_graph}
-use Rattle.jj_walks.proofs.TakingReady.{sorting_starts, sorting_kept, sorting_taken, taking_starts, taking_popped, taking_kept, taking_taken, popped_place, popped_above, picked_push, read_is, edge_counts, edge_kept, edge_readied, left_is, taken_all, none_is}
+use Rattle.std.proofs.Common.{◌≡◌, ℕ, ◌<◌, ◌∷◌, List, map, length, IsSome, [], ◌++◌, arith, refl, sym, ◌∙◌, ap, None, get_or, set, ◌≢◌, inl, inr}
+use Rattle.std.specs.List.{Contains}
+use Rattle.std.specs.BinaryHeap.{heap_items}
+use Rattle.jj_walks.proofs.TakingReady.{sorting_kept, sorting_taken, taking_starts, taking_popped, popped_place, popped_above, picked_push, read_is, edge_counts, edge_kept, edge_readied, left_is, taken_all, none_is}
 use Rattle.std.proofs.lemmas.List.{length-map, get_or-map, nil_from_length, get_or_default}
 use Rattle.std.proofs.lemmas.Bool.{cases_eq}
 use Rattle.std.proofs.lemmas.List.Elements.{Contains-get_or}

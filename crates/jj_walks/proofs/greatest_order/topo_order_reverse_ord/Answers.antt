@@ -1,8 +1,7 @@
-use Rattle.std.proofs.Common.{◌≡◌, ℕ, ◌<◌, List, [], map, length, get_or, refl, sym, ◌∙◌, ap, inl, inr, Some, None, arith}
+use Rattle.std.proofs.Common.{◌≡◌, map, length, sym, ◌∙◌, ap, inr, Some, arith}
 use Rattle.std.specs.HashMap.{get}
-use Rattle.std.specs.List.{Contains, filter_map}
+use Rattle.std.specs.List.{filter_map}
 use Rattle.std.proofs.lemmas.List.{length-map}
-use Rattle.jj_walks.specs.ReadyNodes.{places_graph, TakesGreatestReady, IsNotBelow, IsStuck}
 use Rattle.jj_walks.proofs.GreatestOrder.{linked_within, slots_present, map_twice, order_is, nothing_failed, cycle_is, place_reached}
 use Rattle.jj_walks.proofs.greatest_order.topo_order_reverse_ord.Goals as goal
 
@@ -48,19 +47,18 @@ returns-in-Some-clause-node g c =
     let linked : map (λ v. v.items) c.deref-2.result.now ≡ map (λ is. filter_map find is) ids =
     ap (map (λ v. v.items)) c.deref-2.ensures.value ∙ c.in_ok-targets.ensures.targets ∙ ap (map (λ v. filter_map find v.items)) c.deref.ensures.value ∙ sym (map_twice (λ is. filter_map find is) (λ v. v.items) c.in_ok-found.found.neighbor_ids.items) in
     let sizes : length ids ≡ length p.1 = length-map c.in_ok-found.found.neighbor_ids.items (λ v. v.items) ∙ p.4 in
-    let left = rw (c.in-Some.is, p.3) at q.3 in (
+    let left = rw (c.in-Some.is, p.3) at q.3 in
+    inr (inr (
+      c.in-Some.node,
       p.0,
+      c.cycle_fn.ensures,
       p.2,
-      inr (
-        c.in-Some.node,
-        c.cycle_fn.ensures,
-        λ walk items shown nodes.
-            let collected = p.6 walk items shown nodes in (
-              place_reached walk items g.T.Ord.cmp (map walk.node p.0) find p.1 ids (map (λ v. v.items) c.deref-2.result.now) shown.sound_graph shown.closed nodes collected sizes linked p.5 left.0 c.in-Some.node left.2 left.1,
-              cycle_is walk items g.T.Ord.cmp (map walk.node p.0) find p.1 ids (map (λ v. v.items) c.deref-2.result.now) shown.sound_graph shown.closed nodes collected sizes linked p.5 q.0 left.0 left.1 left.3 left.4,
-            ),
-      ),
-    )
+      λ walk items shown nodes.
+          let collected = p.6 walk items shown nodes in (
+            place_reached walk items g.T.Ord.cmp (map walk.node p.0) find p.1 ids (map (λ v. v.items) c.deref-2.result.now) shown.sound_graph shown.closed nodes collected sizes linked p.5 left.0 c.in-Some.node left.2 left.1,
+            cycle_is walk items g.T.Ord.cmp (map walk.node p.0) find p.1 ids (map (λ v. v.items) c.deref-2.result.now) shown.sound_graph shown.closed nodes collected sizes linked p.5 q.0 left.0 left.1 left.3 left.4,
+          ),
+    ))
 
 pub returns-in-None-clause-order : goal.returns-in-None-clause-order
 returns-in-None-clause-order g c =

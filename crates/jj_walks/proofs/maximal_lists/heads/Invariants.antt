@@ -4,7 +4,7 @@ use Rattle.std.specs.HashSet.{contains, hash_set_len, IsUnique}
 use Rattle.std.specs.Iterator.{IsFiniteIterable}
 use Rattle.std.specs.List.{Contains}
 use Rattle.jj_walks.specs.Walk.{Numbered, AreNodes, DrainsTo, StandsForNodes}
-use Rattle.jj_walks.specs.Failing.{FailingGraph, ShowsLists}
+use Rattle.jj_walks.specs.Failing.{Fault, FailingGraph, ShowsLists}
 use Rattle.jj_walks.specs.Graph.{ReachedFrom}
 use Rattle.jj_walks.proofs.Walking.{numbers}
 use Rattle.jj_walks.proofs.Heads.{IsStarted, HoldsSearch}
@@ -16,7 +16,7 @@ invariant-loop-node g l = record {
   finite : (goal.iterator-loop-node g).is_finite l.node-iterator;
   unique : IsUnique g.T.PartialEq.eq l.heads;
   waits : (b : g.row.T.Denot) → Contains l.waiting.items b → Contains l.yielded b;
-  started : (walk : Numbered g.row.T.Denot g.row.ID.Denot) (items : FailingGraph g.row.E.Denot)
+  started : (walk : Numbered g.row.T.Denot g.row.ID.Denot) (items : FailingGraph (Fault g.row.E.Denot))
       → ShowsLists walk items g.ID.PartialEq.eq g.F.Fn g.N.FnMut g.NI.IntoIterator.into_iter_gives g.NI.IntoIter.Iterator.next_gives l.fn.id_fn l.fn.neighbors_fn
       → StandsForNodes walk g.T.PartialEq.eq → AreNodes walk (numbers walk l.yielded)
       → IsStarted walk (numbers walk l.yielded) l.heads.keys (contains g.T.PartialEq.eq l.heads) (contains g.ID.PartialEq.eq l.visited) (numbers walk l.waiting.items);
@@ -31,7 +31,7 @@ invariant-loop-neighbor g l = record {
   grows : length l.initial.waiting.items ≤ length l.waiting.items;
   adds : (b : g.row.T.Denot) → Contains l.waiting.items b → Contains l.initial.waiting.items b ⊎ Contains l.yielded b;
   asked : l.is_root ≡ false → (y : g.row.T.Denot) × Contains l.yielded y;
-  walking : (walk : Numbered g.row.T.Denot g.row.ID.Denot) (items : FailingGraph g.row.E.Denot) (f : g.row.N.Denot) (starts met zs : List ℕ) (rooted : Bool) (a : ℕ)
+  walking : (walk : Numbered g.row.T.Denot g.row.ID.Denot) (items : FailingGraph (Fault g.row.E.Denot)) (f : g.row.N.Denot) (starts met zs : List ℕ) (rooted : Bool) (a : ℕ)
       → ShowsLists walk items g.ID.PartialEq.eq g.F.Fn g.N.FnMut g.NI.IntoIterator.into_iter_gives g.NI.IntoIter.Iterator.next_gives l.fn.id_fn f
       → StandsForNodes walk g.T.PartialEq.eq
       → HoldsSearch walk starts met (a ∷ numbers walk l.initial.waiting.items) rooted l.initial.heads.keys (contains g.T.PartialEq.eq l.initial.heads) (contains g.ID.PartialEq.eq l.initial.visited)
@@ -46,7 +46,7 @@ invariant-loop-node-2 g l = record {
   lists : AlwaysReturns g.N.FnMut (λ a r. IfOk r (IsFiniteIterable g.NI.IntoIterator.into_iter_gives g.NI.IntoIter.Iterator.can_next g.NI.IntoIter.Iterator.remaining)) l.neighbors_fn;
   unique : IsUnique g.T.PartialEq.eq l.heads;
   walking : (xs : List g.row.T.Denot) × DrainsTo g.II.IntoIterator.into_iter_gives g.II.IntoIter.Iterator.next_gives l.fn.start xs
-      × ((walk : Numbered g.row.T.Denot g.row.ID.Denot) (items : FailingGraph g.row.E.Denot)
+      × ((walk : Numbered g.row.T.Denot g.row.ID.Denot) (items : FailingGraph (Fault g.row.E.Denot))
       → ShowsLists walk items g.ID.PartialEq.eq g.F.Fn g.N.FnMut g.NI.IntoIterator.into_iter_gives g.NI.IntoIter.Iterator.next_gives l.fn.id_fn l.fn.neighbors_fn
       → AreNodes walk (numbers walk xs)
       → ShowsLists walk items g.ID.PartialEq.eq g.F.Fn g.N.FnMut g.NI.IntoIterator.into_iter_gives g.NI.IntoIter.Iterator.next_gives l.fn.id_fn l.neighbors_fn

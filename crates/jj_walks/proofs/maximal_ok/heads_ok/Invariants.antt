@@ -4,7 +4,7 @@ use Rattle.std.specs.HashSet.{contains, hash_set_len, IsUnique}
 use Rattle.std.specs.Iterator.{IsFiniteIterable}
 use Rattle.std.specs.List.{Contains}
 use Rattle.jj_walks.specs.Walk.{Numbered, AreNodes, DrainsTo, StandsForNodes}
-use Rattle.jj_walks.specs.Failing.{FailingGraph, ShowsItems}
+use Rattle.jj_walks.specs.Failing.{Fault, FailingGraph, ShowsItems}
 use Rattle.jj_walks.specs.Graph.{ReachedFrom}
 use Rattle.jj_walks.proofs.Walking.{numbers}
 use Rattle.jj_walks.proofs.Heads.{IsStarted, HoldsSearch}
@@ -16,7 +16,7 @@ invariant-loop-item g l = record {
   finite : (goal.iterator-loop-item g).is_finite l.item-iterator;
   unique : IsUnique g.T.PartialEq.eq l.heads;
   sound : (xs : List g.row.T.Denot) × (l.yielded ≡ map (λ x. Ok x) xs) × ((b : g.row.T.Denot) → Contains l.waiting.items b → Contains xs b)
-      × ((walk : Numbered g.row.T.Denot g.row.ID.Denot) (items : FailingGraph g.row.E.Denot)
+      × ((walk : Numbered g.row.T.Denot g.row.ID.Denot) (items : FailingGraph (Fault g.row.E.Denot))
       → ShowsItems walk items g.ID.PartialEq.eq g.F.Fn g.N.FnMut g.NI.IntoIterator.into_iter_gives g.NI.IntoIter.Iterator.next_gives l.fn.id_fn l.fn.neighbors_fn
       → StandsForNodes walk g.T.PartialEq.eq → AreNodes walk (numbers walk xs)
       → IsStarted walk (numbers walk xs) l.heads.keys (contains g.T.PartialEq.eq l.heads) (contains g.ID.PartialEq.eq l.visited) (numbers walk l.waiting.items));
@@ -32,7 +32,7 @@ invariant-loop-neighbor g l = record {
   sound : (ys : List g.row.T.Denot) × (l.yielded ≡ map (λ x. Ok x) ys)
       × ((b : g.row.T.Denot) → Contains l.waiting.items b → Contains l.initial.waiting.items b ⊎ Contains ys b)
       × (l.is_root ≡ false → (y : g.row.T.Denot) × Contains ys y)
-      × ((walk : Numbered g.row.T.Denot g.row.ID.Denot) (items : FailingGraph g.row.E.Denot) (f : g.row.N.Denot) (starts met zs : List ℕ) (rooted : Bool) (a : ℕ)
+      × ((walk : Numbered g.row.T.Denot g.row.ID.Denot) (items : FailingGraph (Fault g.row.E.Denot)) (f : g.row.N.Denot) (starts met zs : List ℕ) (rooted : Bool) (a : ℕ)
       → ShowsItems walk items g.ID.PartialEq.eq g.F.Fn g.N.FnMut g.NI.IntoIterator.into_iter_gives g.NI.IntoIter.Iterator.next_gives l.fn.id_fn f
       → StandsForNodes walk g.T.PartialEq.eq
       → HoldsSearch walk starts met (a ∷ numbers walk l.initial.waiting.items) rooted l.initial.heads.keys (contains g.T.PartialEq.eq l.initial.heads) (contains g.ID.PartialEq.eq l.initial.visited)
@@ -47,7 +47,7 @@ invariant-loop-node g l = record {
   lists : AlwaysReturns g.N.FnMut (λ a r. IsFiniteIterable g.NI.IntoIterator.into_iter_gives g.NI.IntoIter.Iterator.can_next g.NI.IntoIter.Iterator.remaining r) l.neighbors_fn;
   unique : IsUnique g.T.PartialEq.eq l.heads;
   walking : (xs : List g.row.T.Denot) × DrainsTo g.II.IntoIterator.into_iter_gives g.II.IntoIter.Iterator.next_gives l.fn.start (map (λ x. Ok x) xs)
-      × ((walk : Numbered g.row.T.Denot g.row.ID.Denot) (items : FailingGraph g.row.E.Denot)
+      × ((walk : Numbered g.row.T.Denot g.row.ID.Denot) (items : FailingGraph (Fault g.row.E.Denot))
       → ShowsItems walk items g.ID.PartialEq.eq g.F.Fn g.N.FnMut g.NI.IntoIterator.into_iter_gives g.NI.IntoIter.Iterator.next_gives l.fn.id_fn l.fn.neighbors_fn
       → AreNodes walk (numbers walk xs)
       → ShowsItems walk items g.ID.PartialEq.eq g.F.Fn g.N.FnMut g.NI.IntoIterator.into_iter_gives g.NI.IntoIter.Iterator.next_gives l.fn.id_fn l.neighbors_fn

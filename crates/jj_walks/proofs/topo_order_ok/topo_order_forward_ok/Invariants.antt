@@ -1,6 +1,6 @@
 use Rattle.std.proofs.Common.{◌≡◌, ◌+◌, ◌-◌, ◌*◌, ◌^◌, ◌++◌, length, map, List, false, Ok}
 use Rattle.jj_walks.specs.Walk.{Numbered, AreNodes, DrainsTo}
-use Rattle.jj_walks.specs.Failing.{FailingGraph, ShowsItems}
+use Rattle.jj_walks.specs.Failing.{Fault, FailingGraph, ShowsItems}
 use Rattle.jj_walks.proofs.Walking.{numbers}
 use Rattle.jj_walks.proofs.Unwinding.{IsUnwinding, from_top, visited_above}
 use Rattle.jj_walks.proofs.FailingOrders.{NoneFails}
@@ -28,7 +28,7 @@ invariant-loop-node g l = record {
   callable : goal.N-IsAlwaysCallable g l.neighbors_fn;
   lists : AlwaysReturns g.N.FnMut (λ a r. IsFiniteIterable g.NI.IntoIterator.into_iter_gives g.NI.IntoIter.Iterator.can_next g.NI.IntoIter.Iterator.remaining r) l.neighbors_fn;
   walking : (xs : List g.row.T.Denot) × DrainsTo g.II.IntoIterator.into_iter_gives g.II.IntoIter.Iterator.next_gives l.fn.start (map (λ x. Ok x) xs)
-      × ((walk : Numbered g.row.T.Denot g.row.ID.Denot) (items : FailingGraph g.row.E.Denot)
+      × ((walk : Numbered g.row.T.Denot g.row.ID.Denot) (items : FailingGraph (Fault g.row.E.Denot))
       → ShowsItems walk items g.ID.PartialEq.eq g.F.Fn g.N.FnMut g.NI.IntoIterator.into_iter_gives g.NI.IntoIter.Iterator.next_gives l.id_fn l.fn.neighbors_fn → AreNodes walk (numbers walk xs)
       → ShowsItems walk items g.ID.PartialEq.eq g.F.Fn g.N.FnMut g.NI.IntoIterator.into_iter_gives g.NI.IntoIter.Iterator.next_gives l.id_fn l.neighbors_fn
       × IsUnwinding walk (numbers walk xs) (contains g.ID.PartialEq.eq l.visiting) (contains g.ID.PartialEq.eq l.emitted) (from_top walk l.stack.items) (numbers walk l.result.items)

@@ -1,5 +1,5 @@
 use Rattle.std.proofs.Common.{rules, of_calls, ◌≡◌, ℕ, List, [], ◌∷◌, Result, Ok, Err, is_some, refl, sym, ◌∙◌, ap, subst, map, true}
-use Rattle.std.specs.Prelude.{IsOkAnd, MatchResult}
+use Rattle.std.specs.Prelude.{IsOkAnd}
 use Rattle.std.specs.Iterator.{YieldsFirstRef}
 use Rattle.std.specs.List.{filter_map}
 use Rattle.std.proofs.lemmas.Fn.{always_returns_same}
@@ -8,6 +8,7 @@ use Rattle.std.proofs.lemmas.Iterator.Consumers.{YieldsList-from_first}
 use Rattle.std.proofs.lemmas.Result.{IfOk-weaker}
 use denote.Ref.{Bor}
 use Rattle.jj_walks.specs.Walk.{DrainsTo}
+use Rattle.jj_walks.specs.Failing.{Fault, AnswersItems}
 use Rattle.jj_walks.proofs.Walking.{drained_are}
 use Rattle.jj_walks_tests.specs.declared.commits.Commit.{Commit}
 use Rattle.jj_walks_tests.specs.declared.commits.Parents.{Parents}
@@ -16,19 +17,18 @@ use Rattle.jj_walks_tests.specs.Parents.{parents_left}
 use Rattle.jj_walks_tests.proofs.Numbering.{walk_of, walk_closed, walk_neighbors, set_starts, set_are_nodes, closest_ids, items_of, items_sound, node, node_stands}
 use Rattle.jj_walks_tests.proofs.ancestry.merge_bases.Goals as goal
 
-all_ok : {T : Type 0} (f : T → ℕ) (xs : List T) → map {B = Result ℕ ℕ} (λ n. Ok n) (map f xs) ≡ map (λ x. Ok (f x)) xs
+all_ok : {T : Type 0} (f : T → ℕ) (xs : List T) → map {B = Result ℕ (Fault ℕ)} (λ n. Ok n) (map f xs) ≡ map (λ x. Ok (f x)) xs
 all_ok f [] = refl
 all_ok f (x ∷ xs) = ap (λ l. Ok (f x) ∷ l) (all_ok f xs)
 
 -- what the parents of a node drain to
 lists_parents : (commits : List Commit) (x : Bor Commit) (r : Result Parents ℕ) → is_some (commit_with commits (node commits x)) ≡ true
     → IsOkAnd r (λ parents. (parents.commits.now ≡ commits) × (parents.ids.now ≡ x.now.parents.items))
-    → MatchResult r (λ list. (xs : List (Bor Commit)) → DrainsTo (λ s t. t ≡ s) (YieldsFirstRef parents_left) list xs → items_of commits (node commits x) ≡ map (λ y. Ok (node commits y)) xs)
-    (λ e. items_of commits (node commits x) ≡ Err e ∷ [])
+    → AnswersItems (node commits) (λ s t. t ≡ s) (YieldsFirstRef parents_left) r (items_of commits (node commits x))
 lists_parents commits x (Ok list) here (same, ids) = λ xs d.
     let left : parents_left list ≡ parents_in commits x.now = ap (λ cs. filter_map (commit_with cs) list.ids.now) same ∙ ap (filter_map (commit_with commits)) ids in
     let given = drained_are (λ s t. t ≡ s) (YieldsFirstRef parents_left) list xs (λ y. y.now) (parents_in commits x.now) (λ it b. YieldsList-from_first (λ y. y.now) parents_left _ (ap parents_left b ∙ left)) d in
-    ap (map {B = Result ℕ ℕ} (λ n. Ok n)) (sym (walk_neighbors commits x xs here given)) ∙ all_ok (node commits) xs
+    ap (map {B = Result ℕ (Fault ℕ)} (λ n. Ok n)) (sym (walk_neighbors commits x xs here given)) ∙ all_ok (node commits) xs
 lists_parents commits x (Err e) here none = absurd none
 
 pub closest_common_nodes-requires-clause-lists : goal.closest_common_nodes-requires-clause-lists

@@ -3,4 +3,4 @@ use Rattle.std.proofs.lemmas.Fn.{always_returns_same}
 use Rattle.jj_walks_tests.proofs.topo_order_reverse_ord_tests.greatest.Goals as goal
 
 pub topo_order_reverse_ord-requires-clause-lists : goal.topo_order_reverse_ord-requires-clause-lists
-topo_order_reverse_ord-requires-clause-lists c = always_returns_same _ _ _ (λ a r f h. (first_of (search rules, search (rules, of_calls, h)), search (rules, of_calls, h)))
+topo_order_reverse_ord-requires-clause-lists c = always_returns_same _ _ _ (λ a r f h. (λ it b. (search rules, search rules), search (rules, of_calls, h)))

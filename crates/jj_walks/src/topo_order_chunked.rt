@@ -1,0 +1,85 @@
+//! A child-first order, a chunk at a time.
+ghost use Rattle.std.specs.Prelude.{◌≡◌, ◌⊎◌, List, [], map, IfOk, IfErr, OnErr};
+ghost use Rattle.std.specs.Fn.{AlwaysReturns};
+ghost use Rattle.std.specs.Iterator.{IsFiniteIterable};
+ghost use Rattle.jj_walks.specs.Chunks.{IsNextChunk};
+ghost use Rattle.jj_walks.specs.Errors.{IfNode};
+ghost use Rattle.jj_walks.specs.Failing.{Fault, FailingGraph, ReachesFailure, ShowsItems};
+ghost use Rattle.jj_walks.specs.Graph.{ReachedFrom, ReachesCycle};
+ghost use Rattle.jj_walks.specs.Walk.{Numbered, AreNodes};
+
+use crate::look_ahead::{Chunk, Shown};
+use crate::walk_error::WalkError;
+use smallvec::SmallVec;
+use std::alloc::Global;
+use std::default::MadeWith;
+use std::hash::Hash;
+use std::mem;
+
+/// The next chunk of a child-first order of what the starts reach. It leaves in `start` the starts of what is left: none
+/// where all was given, at most one after a chunk of several starts, and the neighbours of the node after a chunk of one.
+/// Several starts are explored from the greatest node on, until one node waits that all explored nodes reach. A failed item
+/// that is met is `Node` of its error; where a cycle is met, `cycle_fn` makes the error of a node that the starts reach.
+/// Refused, `start` is empty.
+pub fn topo_order_reverse_chunked<T, ID, E, NI, F, N, C>(
+    alloc: Global,
+    start: &mut Vec<T>,
+    id_fn: F,
+    neighbors_fn: N,
+    cycle_fn: C,
+) -> Result<SmallVec<T, 1>, WalkError<E>>
+where
+    T: Ord + MadeWith<Global> + Drop,
+    ID: Hash + Eq + Drop,
+    E: Drop,
+    NI: IntoIterator<Item = Result<T, E>>,
+    NI::IntoIter: Drop,
+    F: Fn(&T) -> ID + Drop,
+    N: FnMut(&T) -> NI + Drop,
+    C: FnOnce(T) -> E + Drop,
+    requires id_fn { F.IsAlwaysCallable id_fn }
+    requires neighbors_fn { N.IsAlwaysCallable neighbors_fn }
+    requires cycle_fn { C.IsAlwaysCallable cycle_fn }
+    requires lists { AlwaysReturns N.FnMut (λ a r. IsFiniteIterable NI.into_iter_gives NI.IntoIter.can_next NI.IntoIter.remaining r) neighbors_fn }
+    ensures chunk { IfOk result (λ chunk. (walk : Numbered T ID) (items : FailingGraph (Fault E))
+        → ShowsItems walk items ID.eq F.Fn N.FnMut NI.into_iter_gives NI.IntoIter.next_gives id_fn neighbors_fn → AreNodes walk (map walk.node start.old.items)
+        → IsNextChunk walk.graph (map walk.node start.old.items) (map walk.node chunk.items) (map walk.node start.new.items)) }
+    ensures refused_start { OnErr result (start.new.items ≡ []) }
+    ensures node { IfErr result (λ e. IfNode e (λ error.
+        ((walk : Numbered T ID) (items : FailingGraph (Fault E))
+        → ShowsItems walk items ID.eq F.Fn N.FnMut NI.into_iter_gives NI.IntoIter.next_gives id_fn neighbors_fn → AreNodes walk (map walk.node start.old.items)
+        → ReachesFailure items (map walk.node start.old.items) error)
+        ⊎ ((x : T) × C.post cycle_fn x error × ((walk : Numbered T ID) (items : FailingGraph (Fault E))
+        → ShowsItems walk items ID.eq F.Fn N.FnMut NI.into_iter_gives NI.IntoIter.next_gives id_fn neighbors_fn → AreNodes walk (map walk.node start.old.items)
+        → ReachedFrom walk.graph (map walk.node start.old.items) (walk.node x) × ReachesCycle walk.graph (map walk.node start.old.items))))) }
+{
+    let mut graph = Shown {
+        id_fn,
+        neighbors_fn,
+    };
+    let mut taken = mem::replace(start, Vec::new(alloc));
+    if taken.len() > 1 {
+        let Chunk { nodes, left, stuck } = match graph.chunk(alloc, taken) {
+            Ok(chunk) => chunk,
+            Err(refused) => return Err(refused),
+        };
+        return match stuck {
+            Some(node) => Err(WalkError::Node(cycle_fn(node))),
+            None => {
+                *start = left;
+                Ok(SmallVec::from_vec(nodes))
+            }
+        };
+    }
+    let Some(node) = taken.pop() else {
+        return Ok(SmallVec::new(alloc));
+    };
+    let neighbors = match graph.neighbors(alloc, &node) {
+        Ok(neighbors) => neighbors,
+        Err(refused) => return Err(refused),
+    };
+    let mut chunk = SmallVec::new(alloc);
+    chunk.push(node)?;
+    *start = neighbors;
+    Ok(chunk)
+}

@@ -1,0 +1,30 @@
+-- A list of commits that may lack parents of its commits, and what an error tells of one that does.
+use Rattle.std.specs.Prelude.{◌≡◌, ◌&&◌, ℕ, Bool, true, false, cond, List, [], ◌∷◌, None, Some, is_some}
+use Rattle.std.specs.String.{string_bytes, string_eq}
+use Rattle.jj_walks_tests.specs.declared.commits.Commit.{Commit}
+use Rattle.jj_walks_tests.specs.declared.failing_callers.Gap.{Gap}
+use Rattle.jj_walks_tests.specs.declared.failing_callers.Gap.TheVariants.{Memory, Text}
+use Rattle.jj_walks.specs.Graph.{Graph}
+use Rattle.jj_walks_tests.specs.Commits.{ids_of, commit_with, parents_in, has_commit}
+
+-- the list has a commit of each of these ids
+abbrev pub has_ids : List Commit → List ℕ → Bool
+has_ids commits [] = true
+has_ids commits (id ∷ ids) = is_some (commit_with commits id) && has_ids commits ids
+
+-- the graph of the commits whose parents the list has all; any other has no neighbour
+abbrev pub whole_graph : List Commit → Graph
+whole_graph commits id = elim (commit_with commits id) [ None ↦ [] | Some c ↦ cond (has_ids commits c.parents.items) (ids_of (parents_in commits c)) [] ]
+
+-- the error's text, where there was memory for one, is that of the commit
+abbrev pub tells_gap : Commit → Gap → Bool
+tells_gap c Memory = true
+tells_gap c (Text text) = string_eq text c.text
+
+abbrev pub HasTextOf : Commit → Gap → Type 0
+HasTextOf c Memory = Unit {0}
+HasTextOf c (Text text) = string_bytes text ≡ string_bytes c.text
+
+-- the error is that of a commit of the list which names a parent that the list lacks
+abbrev pub IsGapIn : List Commit → Gap → Type 0
+IsGapIn commits gap = (c : Commit) × (has_commit commits c ≡ true) × (has_ids commits c.parents.items ≡ false) × HasTextOf c gap

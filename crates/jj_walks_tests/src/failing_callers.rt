@@ -1,0 +1,122 @@
+//! A caller whose lists of neighbours fail with errors that own a text: at each call another value, with the same words.
+ghost use Rattle.std.specs.Prelude.{◌≡◌, true, false, IfOk, IfErr, eqb, map};
+ghost use Rattle.std.specs.List.{IsDistinct};
+ghost use Rattle.jj_walks.specs.Errors.{IfNode};
+ghost use Rattle.jj_walks.specs.Graph.{HasNoCycle, IsMaximalIn};
+ghost use Rattle.jj_walks_tests.specs.Commits.{ids_of};
+ghost use Rattle.jj_walks_tests.specs.Gaps.{has_ids, tells_gap, whole_graph, IsGapIn};
+
+use crate::commits::{Commit, Parents, commit_of, parents_of};
+use jj_walks::dag_walk::WalkError;
+use jj_walks::dag_walk_async::heads;
+use std::alloc::Global;
+use std::collections::HashSet;
+
+/// Why the parents of a commit are not listed.
+#[derive(Debug, Drop)]
+pub enum Gap {
+    Memory,
+    /// The text of a commit that names a parent which the list does not have.
+    Text(String),
+}
+
+/// Whether the list has a commit of each of these ids.
+fn has_all(commits: &[Commit], ids: &[u64]) -> bool
+    ensures { result ≡ has_ids commits.now ids.now }
+{
+    for id in ids {
+        if commit_of(commits, *id).is_none() {
+            return false;
+        }
+    }
+    true
+}
+
+/// The parents of a commit, if the list has them all.
+fn whole_parents_of<'a>(
+    alloc: Global,
+    commits: &'a [Commit],
+    commit: &'a Commit,
+) -> Result<Parents<'a>, Gap>
+    ensures whole { IfOk result (λ parents. has_ids commits.now commit.now.parents.items ≡ true) }
+    ensures parents { IfOk result (λ parents. (parents.commits.now ≡ commits.now) × (parents.ids.now ≡ commit.now.parents.items)) }
+    ensures gap { IfErr result (λ gap. (has_ids commits.now commit.now.parents.items ≡ false) × (tells_gap commit.now gap ≡ true)) }
+{
+    if !has_all(commits, &commit.parents) {
+        return match String::from_str(alloc, commit.text.as_str()) {
+            Ok(text) => Err(Gap::Text(text)),
+            Err(_refused) => Err(Gap::Memory),
+        };
+    }
+    Ok(parents_of(commits, commit))
+}
+
+/// The commits of the list that no other of them has for an ancestor, by commits whose parents the list has all. Where the
+/// walk meets a commit with a parent that is not in the list, the error holds that commit's text.
+pub fn whole_tips<'a>(
+    alloc: Global,
+    commits: &'a [Commit],
+) -> Result<HashSet<&'a Commit>, WalkError<Gap>>
+    requires once { IsDistinct eqb (ids_of commits.now) }
+    requires acyclic { HasNoCycle (whole_graph commits.now) (ids_of commits.now) }
+    ensures tips { IfOk result (λ found. IsMaximalIn (whole_graph commits.now) (ids_of commits.now)
+        (map (λ commit. commit.now.id) found.keys)) }
+    ensures gap { IfErr result (λ e. IfNode e (IsGapIn commits.now)) }
+{
+    heads(
+        alloc,
+        commits.iter(),
+        |commit: &&Commit| commit.id,
+        |commit: &&Commit| whole_parents_of(alloc, commits, *commit),
+    )
+}
+
+#[cfg(test)]
+mod tests {
+    use super::*;
+    use std::alloc::AllocError;
+    use std::process::Abort;
+    use std::test::Fail;
+
+    fn commit(alloc: Global, id: u64, parents: &[u64], text: &str) -> Result<Commit, AllocError> {
+        Ok(Commit {
+            time: id,
+            id,
+            parents: parents.to_vec(alloc)?,
+            text: String::from_str(alloc, text)?,
+        })
+    }
+
+    fn tips_and_gaps<R: Abort>(rt: &R, alloc: Global) -> Result<(), AllocError> {
+        let mut commits = Vec::new(alloc);
+        commits.push(commit(alloc, 1, &[], "root")?)?;
+        commits.push(commit(alloc, 2, &[1], "left")?)?;
+        commits.push(commit(alloc, 3, &[1], "right")?)?;
+        let tips = match whole_tips(alloc, &commits) {
+            Ok(tips) => tips.len(),
+            Err(WalkError::Memory) => return Err(AllocError),
+            Err(WalkError::Node(_gap)) => 0,
+        };
+        assert_eq!(rt; tips, 2);
+        commits.push(commit(alloc, 4, &[2, 9], "merge of what is not there")?)?;
+        match whole_tips(alloc, &commits) {
+            Ok(_tips) => assert!(rt; false, "commit 4 lacks a parent"),
+            Err(WalkError::Memory) => return Err(AllocError),
+            Err(WalkError::Node(Gap::Memory)) => return Err(AllocError),
+            Err(WalkError::Node(Gap::Text(text))) => {
+                assert!(rt; text.as_str() == "merge of what is not there");
+            }
+        }
+        Ok(())
+    }
+
+    #[test]
+    fn errors_own_texts(rt: HostRuntime) -> Result<(), Fail> {
+        let alloc = rt.alloc();
+        let first = tips_and_gaps(&rt, alloc);
+        if first.is_err() {
+            tips_and_gaps(&rt, alloc)?;
+        }
+        Ok(())
+    }
+}
