@@ -9,3 +9,7 @@ pub mod Collecting
 pub mod Reversed
 pub mod CommonNodes
 pub mod Marks
+pub mod Grouped
+pub mod Candidates
+pub mod HeldNodes
+pub mod GroupedSteps

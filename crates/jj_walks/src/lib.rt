@@ -1,6 +1,7 @@
 //! Walks over directed graphs, and the edges of graphs that are shown to users.
 #![tactic(auto)]
 
+mod candidates;
 mod closest_common;
 pub mod dag_walk;
 pub mod dag_walk_async;
@@ -8,6 +9,8 @@ mod depth_first;
 mod depth_first_ok;
 pub mod graph;
 mod greatest_order;
+mod grouped;
+mod held_nodes;
 mod maximal;
 mod maximal_lists;
 mod maximal_ok;

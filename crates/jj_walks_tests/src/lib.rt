@@ -7,6 +7,8 @@ pub mod callers;
 mod closest_common_tests;
 pub mod commits;
 #[cfg(test)]
+mod grouped;
+#[cfg(test)]
 mod hostile;
 #[cfg(test)]
 mod maximal;
