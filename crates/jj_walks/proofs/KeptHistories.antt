@@ -98,7 +98,7 @@ module _ {ID : Type 0} where
       blocked = all-more (λ i. is_positive (counts i)) (λ i. is_positive (more i)) k.passed positive k.blocked;
     }
 
-    leads-none : (q : ID) (edges : List (GraphEdge ID)) → list_any (leads_to eq q) edges ≡ true → 0 < count_by (leads_to eq q) edges
+    pub leads-none : (q : ID) (edges : List (GraphEdge ID)) → list_any (leads_to eq q) edges ≡ true → 0 < count_by (leads_to eq q) edges
     leads-none q [] e = absurd (true≢false (sym e))
     leads-none q (x ∷ edges) e = go (leads-none q edges) (leads_to eq q x) refl e
       where

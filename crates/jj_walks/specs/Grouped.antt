@@ -1,6 +1,6 @@
 -- The order of a grouped graph, told by its history: which ids were prioritised, and which nodes read and given.
 use Rattle.std.specs.Prelude.{◌≡◌, ℕ, ◌==◌, Bool, true, false, not, ◌&&◌, ◌||◌, count_by, List, [], ◌∷◌, map, filter, reverse, find, is_some, Option, None, Some, MatchOption, ⊤}
-use Rattle.std.specs.List.{list_any, sum_by}
+use Rattle.std.specs.List.{Contains, list_any, sum_by}
 use Rattle.jj_walks.specs.declared.graph.GraphEdge.{GraphEdge}
 use Rattle.jj_walks.specs.declared.graph.GraphEdgeType.{GraphEdgeType}
 use Rattle.jj_walks.specs.declared.graph.GraphEdgeType.TheVariants.{Missing, Direct, Indirect}
@@ -39,6 +39,27 @@ last_edges (Gave e ∷ h) = e.edges
 -- whether the edge is not missing and leads to i
 abbrev pub leads_to : {ID : Type 0} → (ID → ID → Bool) → ID → GraphEdge ID → Bool
 leads_to eq i edge = is_shown edge.edge_type && eq edge.target i
+
+-- the nodes that were read, and those that were given, the newest first
+abbrev pub read_nodes : {N ID : Type 0} → History N ID → List (Entry N ID)
+read_nodes [] = []
+read_nodes (Prioritized i ∷ h) = read_nodes h
+read_nodes (Read e ∷ h) = e ∷ read_nodes h
+read_nodes (Gave e ∷ h) = read_nodes h
+
+abbrev pub given_nodes : {N ID : Type 0} → History N ID → List (Entry N ID)
+given_nodes [] = []
+given_nodes (Prioritized i ∷ h) = given_nodes h
+given_nodes (Read e ∷ h) = given_nodes h
+given_nodes (Gave e ∷ h) = e ∷ given_nodes h
+
+-- each node was given after those that had been read and have an edge to it
+abbrev pub GivesChildrenFirst : {N ID : Type 0} → (ID → ID → Bool) → History N ID → Type 0
+GivesChildrenFirst eq [] = ⊤
+GivesChildrenFirst eq (Prioritized i ∷ h) = GivesChildrenFirst eq h
+GivesChildrenFirst eq (Read e ∷ h) = GivesChildrenFirst eq h
+GivesChildrenFirst {N} {ID} eq (Gave e ∷ h) = ((c : Entry N ID) → Contains (read_nodes h) c → list_any (leads_to eq e.id) c.edges ≡ true → Contains (given_nodes h) c)
+    × GivesChildrenFirst eq h
 
 module _ {N ID : Type 0} (eq : ID → ID → Bool) where
   -- the nodes that were read and not given since

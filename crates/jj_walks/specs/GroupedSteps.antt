@@ -1,5 +1,5 @@
 -- What the iterator over a grouped graph does from a state.
-use Rattle.std.specs.Prelude.{◌≡◌, ℕ, ◌+◌, Bool, true, cond, is_some, List, [], ◌∷◌, map, Option, None, Some, Result, Ok, Err, MatchBool}
+use Rattle.std.specs.Prelude.{◌≡◌, ℕ, ◌+◌, Bool, true, false, cond, is_some, List, [], ◌∷◌, map, Option, None, Some, Result, Ok, Err, MatchBool}
 use Rattle.std.specs.Iterator.{Count, IsFinite, Yields, size}
 use Rattle.std.specs.Fn.{Shared, FnReturnsAt}
 use Rattle.std.specs.List.{AllZip}
@@ -26,6 +26,12 @@ abbrev pub answer_of : {A E : Type 0} → Result (Option A) E → Option (Result
 answer_of (Ok None) = None
 answer_of (Ok (Some x)) = Some (Ok x)
 answer_of (Err e) = Some (Err e)
+
+-- nothing comes after `None` or an error
+abbrev pub is_last : {A E : Type 0} → Option (Result A E) → Bool
+is_last None = true
+is_last (Some (Ok x)) = false
+is_last (Some (Err e)) = true
 
 -- a node and its edges, as the input gives them
 abbrev pub Item : Type 0 → Type 0 → Type 0
@@ -75,4 +81,4 @@ module _ {N ID F : Type 0} (ids : Shared F (Bor N × Unit {0}) (Bor ID)) (eq : I
 
       -- from a state that keeps a history; once it has ended, it answers `None` and stays as it is
       abbrev pub GivesOn : GroupedNodes N ID S F → Option (Result (Item N ID) (GroupedGraphError E)) → GroupedNodes N ID S F → Type 0
-      GivesOn s r t = MatchBool s.has_ended ((r ≡ None) × (t ≡ s)) ((h : History N ID) → Keeps eq h s.graph.held → GivesNext h s.graph r t.graph)
+      GivesOn s r t = MatchBool s.has_ended ((r ≡ None) × (t ≡ s)) ((t.has_ended ≡ is_last r) × ((h : History N ID) → Keeps eq h s.graph.held → GivesNext h s.graph r t.graph))
