@@ -11,3 +11,7 @@ pub mod CommonNodes
 pub mod Marks
 pub mod LookingAhead
 pub mod Chunks
+pub mod Grouped
+pub mod Candidates
+pub mod HeldNodes
+pub mod GroupedSteps

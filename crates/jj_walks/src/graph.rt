@@ -1,6 +1,7 @@
 //! The edges of graphs that are shown to users.
 ghost use Rattle.std.specs.Prelude.{◌≡◌, ◌↔◌, IsTrue};
 
+pub use crate::grouped::{GroupedGraphError, GroupedNodes, TopoGroupedGraph};
 pub use crate::reversed::reverse_graph;
 
 /// A node and its edges to ids.

@@ -1,6 +1,7 @@
 //! Walks over directed graphs, and the edges of graphs that are shown to users.
 #![tactic(auto)]
 
+mod candidates;
 mod closest_common;
 pub mod dag_walk;
 pub mod dag_walk_async;
@@ -9,6 +10,8 @@ mod depth_first_ok;
 pub mod graph;
 mod greatest_order;
 mod look_ahead;
+mod grouped;
+mod held_nodes;
 mod maximal;
 mod maximal_lists;
 mod maximal_ok;

@@ -10,6 +10,8 @@ mod closest_common_tests;
 pub mod commits;
 pub mod failing_callers;
 #[cfg(test)]
+mod grouped;
+#[cfg(test)]
 mod hostile;
 #[cfg(test)]
 mod maximal;

@@ -1,0 +1,16 @@
+use Rattle.std.proofs.Common.{◌≡◌, true, List}
+use Rattle.std.specs.HashMap.{get}
+use Rattle.std.specs.VecDeque.{deque_items}
+use Rattle.jj_walks.specs.Candidates.{AreToFollow, is_listed, is_zero, turns_left}
+use Rattle.jj_walks.proofs.candidates.Candidates.take.Given as goal
+
+abbrev pub invariant-turns : goal.invariant-turns
+invariant-turns g l = record {
+  listed : (i : g.row.ID.Denot) → is_zero (get g.ID.PartialEq.eq l.fn.counts i) ≡ true → is_listed g.ID.PartialEq.eq l.initial.self.ids.items (deque_items l.initial.self.heads) i ≡ true
+      → is_listed g.ID.PartialEq.eq l.self.ids.items (deque_items l.self.heads) i ≡ true;
+  follows : (targets : List g.row.ID.Denot) → AreToFollow g.ID.PartialEq.eq (get g.ID.PartialEq.eq l.fn.counts) targets l.initial.self.ids.items
+      → AreToFollow g.ID.PartialEq.eq (get g.ID.PartialEq.eq l.fn.counts) targets l.self.ids.items;
+}
+
+abbrev pub decreases-turns : goal.decreases-turns
+decreases-turns g l = turns_left l.self

@@ -1,0 +1,109 @@
+-- The order of a grouped graph, told by its history: which ids were prioritised, and which nodes read and given.
+use Rattle.std.specs.Prelude.{◌≡◌, ℕ, ◌==◌, Bool, true, false, not, ◌&&◌, ◌||◌, count_by, List, [], ◌∷◌, map, filter, reverse, find, is_some, Option, None, Some, MatchOption, ⊤}
+use Rattle.std.specs.List.{Contains, list_any, sum_by}
+use Rattle.jj_walks.specs.declared.graph.GraphEdge.{GraphEdge}
+use Rattle.jj_walks.specs.declared.graph.GraphEdgeType.{GraphEdgeType}
+use Rattle.jj_walks.specs.declared.graph.GraphEdgeType.TheVariants.{Missing, Direct, Indirect}
+
+-- a node of the input, with its id
+pub record Entry (N ID : Type 0) : Type 0 where
+  pub id : ID
+  pub node : N
+  pub edges : List (GraphEdge ID)
+
+pub data Event (N ID : Type 0) : Type 0 where
+  Prioritized : ID → Event N ID
+  Read : Entry N ID → Event N ID
+  Gave : Entry N ID → Event N ID
+
+-- what happened, the newest first
+abbrev pub History : Type 0 → Type 0 → Type 0
+History N ID = List (Event N ID)
+
+abbrev pub is_shown : GraphEdgeType → Bool
+is_shown Missing = false
+is_shown Direct = true
+is_shown Indirect = true
+
+-- the targets of the edges that are not missing
+abbrev pub targets_of : {ID : Type 0} → List (GraphEdge ID) → List ID
+targets_of edges = map (λ edge. edge.target) (filter (λ edge. is_shown edge.edge_type) edges)
+
+-- the edges of the node that was given last
+abbrev pub last_edges : {N ID : Type 0} → History N ID → List (GraphEdge ID)
+last_edges [] = []
+last_edges (Prioritized i ∷ h) = last_edges h
+last_edges (Read e ∷ h) = last_edges h
+last_edges (Gave e ∷ h) = e.edges
+
+-- whether the edge is not missing and leads to i
+abbrev pub leads_to : {ID : Type 0} → (ID → ID → Bool) → ID → GraphEdge ID → Bool
+leads_to eq i edge = is_shown edge.edge_type && eq edge.target i
+
+-- the nodes that were read, and those that were given, the newest first
+abbrev pub read_nodes : {N ID : Type 0} → History N ID → List (Entry N ID)
+read_nodes [] = []
+read_nodes (Prioritized i ∷ h) = read_nodes h
+read_nodes (Read e ∷ h) = e ∷ read_nodes h
+read_nodes (Gave e ∷ h) = read_nodes h
+
+abbrev pub given_nodes : {N ID : Type 0} → History N ID → List (Entry N ID)
+given_nodes [] = []
+given_nodes (Prioritized i ∷ h) = given_nodes h
+given_nodes (Read e ∷ h) = given_nodes h
+given_nodes (Gave e ∷ h) = e ∷ given_nodes h
+
+-- each node was given after those that had been read and have an edge to it
+abbrev pub GivesChildrenFirst : {N ID : Type 0} → (ID → ID → Bool) → History N ID → Type 0
+GivesChildrenFirst eq [] = ⊤
+GivesChildrenFirst eq (Prioritized i ∷ h) = GivesChildrenFirst eq h
+GivesChildrenFirst eq (Read e ∷ h) = GivesChildrenFirst eq h
+GivesChildrenFirst {N} {ID} eq (Gave e ∷ h) = ((c : Entry N ID) → Contains (read_nodes h) c → list_any (leads_to eq e.id) c.edges ≡ true → Contains (given_nodes h) c)
+    × GivesChildrenFirst eq h
+
+module _ {N ID : Type 0} (eq : ID → ID → Bool) where
+  -- the nodes that were read and not given since
+  abbrev pub held : History N ID → List (Entry N ID)
+  held [] = []
+  held (Prioritized j ∷ h) = held h
+  held (Read e ∷ h) = e ∷ held h
+  held (Gave e ∷ h) = filter (λ f. not (eq e.id f.id)) (held h)
+
+  -- the one of this id
+  abbrev pub held_at : History N ID → ID → Option (Entry N ID)
+  held_at h i = find (λ e. eq e.id i) (held h)
+
+  -- whether the id was prioritised, or an edge to it was read, and its node was not given since
+  abbrev pub is_wanted : History N ID → ID → Bool
+  is_wanted [] i = false
+  is_wanted (Prioritized j ∷ h) i = eq j i || is_wanted h i
+  is_wanted (Read e ∷ h) i = list_any (leads_to eq i) e.edges || is_wanted h i
+  is_wanted (Gave e ∷ h) i = not (eq e.id i) && is_wanted h i
+
+  abbrev pub is_known : History N ID → ID → Bool
+  is_known h i = is_wanted h i || is_some (held_at h i)
+
+  -- how many edges of held nodes lead to the id
+  abbrev pub edges_to : History N ID → ID → ℕ
+  edges_to h i = sum_by (λ e. count_by (leads_to eq i) e.edges) (held h)
+
+  -- whether the id is held or wanted, and no held node has an edge to it
+  abbrev pub is_free : History N ID → ID → Bool
+  is_free h i = is_known h i && (edges_to h i == 0)
+
+  -- the last target of the node given last that is free
+  abbrev pub last_free : History N ID → Option ID
+  last_free h = find (is_free h) (reverse (targets_of (last_edges h)))
+
+  -- the node may be given next: it is held, no held node has an edge to it, and it is the last free target, if one is free
+  pub record IsNext (h : History N ID) (e : Entry N ID) : Type 0 where
+    pub held : held_at h e.id ≡ Some e
+    pub childless : edges_to h e.id ≡ 0
+    pub follows : MatchOption (last_free h) ⊤ (λ i. eq i e.id ≡ true)
+
+  -- no node was read while one of its id was held, and each that was given was the next
+  abbrev pub IsHistory : History N ID → Type 0
+  IsHistory [] = ⊤
+  IsHistory (Prioritized i ∷ h) = IsHistory h
+  IsHistory (Read e ∷ h) = (held_at h e.id ≡ None) × IsHistory h
+  IsHistory (Gave e ∷ h) = IsNext h e × IsHistory h

@@ -1,0 +1,132 @@
+//! The ids of a grouped graph that may be given next.
+ghost use Rattle.std.specs.Prelude.{◌≡◌, ◌<◌, ◌++◌, ◌∷◌, [], List, IfOk, OnOk, OnErr, MatchOption, IsTrue, true, false, option_to_list};
+ghost use Rattle.std.specs.HashMap.{get};
+ghost use Rattle.std.specs.VecDeque.{deque_items};
+ghost use Rattle.jj_walks.specs.Candidates.{AreSameIds, AreToFollow, has_id, is_listed, is_zero, turns_left};
+ghost use Rattle.jj_walks.specs.Grouped.{targets_of};
+
+use crate::graph::GraphEdge;
+use std::alloc::{AllocError, Global};
+use std::collections::{HashMap, VecDeque};
+use std::hash::Hash;
+
+/// Ids to be given, and the children that are to be given before them.
+#[derive(Drop)]
+pub struct Candidates<ID: Hash + Eq> {
+    /// The last of them is the first to be given, if it has no held child.
+    ids: Vec<ID>,
+    /// Candidates that had a held child.
+    blocked: Vec<ID>,
+    /// The children of each id, in the order of the input, until they were made candidates.
+    children: HashMap<ID, Vec<ID>>,
+    /// The prioritised ids, and those of nodes that no node had an edge to when they were read.
+    heads: VecDeque<ID>,
+}
+
+impl<ID: Hash + Eq + Clone + Drop> Candidates<ID> {
+    pub fn new(alloc: Global) -> Self
+        ensures ids { result.ids.items ≡ [] }
+        ensures heads { deque_items result.heads ≡ [] }
+    {
+        Candidates {
+            ids: Vec::new(alloc),
+            blocked: Vec::new(alloc),
+            children: HashMap::new(alloc),
+            heads: VecDeque::new(alloc),
+        }
+    }
+
+    pub fn push(&mut self, id: ID) -> Result<(), AllocError>
+        ensures ids { OnOk result (self.new.ids.items ≡ self.old.ids.items ++ id ∷ []) }
+        ensures heads { self.new.heads ≡ self.old.heads }
+    {
+        self.ids.push(id)?;
+        Ok(())
+    }
+
+    pub fn push_head(&mut self, id: ID) -> Result<(), AllocError>
+        ensures ids { self.new.ids ≡ self.old.ids }
+        ensures heads { OnOk result (deque_items self.new.heads ≡ deque_items self.old.heads ++ id ∷ []) }
+        ensures refused { OnErr result (deque_items self.new.heads ≡ deque_items self.old.heads) }
+    {
+        self.heads.push_back(id)?;
+        Ok(())
+    }
+
+    /// Makes the targets of a node that is given candidates.
+    pub fn push_targets(&mut self, edges: &[GraphEdge<ID>]) -> Result<(), AllocError>
+        requires clones { (i j : ID) → ID.is_clone i j → IsTrue (ID.eq i j) }
+        ensures ids { OnOk result ((more : List ID) × (self.new.ids.items ≡ self.old.ids.items ++ more) × AreSameIds ID.eq (targets_of edges.now) more) }
+        ensures heads { self.new.heads ≡ self.old.heads }
+    {
+        for edge in edges {
+            if !edge.is_missing() {
+                self.ids.push(edge.target.clone()?)?;
+            }
+        }
+        Ok(())
+    }
+
+    /// Remembers the node as a child of the targets of its edges.
+    pub fn remember(&mut self, id: &ID, edges: &[GraphEdge<ID>]) -> Result<(), AllocError>
+        ensures ids { self.new.ids ≡ self.old.ids }
+        ensures heads { self.new.heads ≡ self.old.heads }
+    {
+        for edge in edges {
+            if !edge.is_missing() {
+                let child = id.clone()?;
+                self.children
+                    .entry(edge.target.clone()?)?
+                    .or_default()
+                    .push(child)?;
+            }
+        }
+        Ok(())
+    }
+
+    /// Takes out the last candidate that is counted as one without a held child. Ids that are not counted are dropped.
+    pub fn take(&mut self, counts: &HashMap<ID, usize>) -> Result<Option<ID>, AllocError>
+        ensures taken { IfOk result (λ o. MatchOption o ((self.new.ids.items ≡ []) × (deque_items self.new.heads ≡ [])) (λ i. is_zero (get ID.eq counts.now i) ≡ true)) }
+        ensures listed { IfOk result (λ o. (i : ID) → is_zero (get ID.eq counts.now i) ≡ true → is_listed ID.eq self.old.ids.items (deque_items self.old.heads) i ≡ true
+            → is_listed ID.eq (self.new.ids.items ++ option_to_list o) (deque_items self.new.heads) i ≡ true) }
+        ensures follows { IfOk result (λ o. (targets : List ID) → AreToFollow ID.eq (get ID.eq counts.now) targets self.old.ids.items
+            → AreToFollow ID.eq (get ID.eq counts.now) targets (self.new.ids.items ++ option_to_list o)) }
+    {
+        'turns: loop {
+            let Some(id) = self.ids.pop() else {
+                if !self.refill()? {
+                    return Ok(None);
+                }
+                continue;
+            };
+            match counts.get(&id) {
+                None => {}
+                Some(0) => return Ok(Some(id)),
+                Some(_) => self.blocked.push(id)?,
+            }
+        }
+    }
+
+    /// Makes the children of the blocked id that came last candidates, or else the first head. Answers `false` where
+    /// there is neither.
+    fn refill(&mut self) -> Result<bool, AllocError>
+        requires { self.old.ids.items ≡ [] }
+        ensures listed { IfOk result (λ _. (i : ID) → has_id ID.eq (deque_items self.old.heads) i ≡ true → is_listed ID.eq self.new.ids.items (deque_items self.new.heads) i ≡ true) }
+        ensures falls { IfOk result (λ more. more ≡ true → turns_left self.new < turns_left self.old) }
+        ensures none { IfOk result (λ more. more ≡ false → (self.new.ids.items ≡ []) × (deque_items self.new.heads ≡ [])) }
+    {
+        if let Some(id) = self.blocked.pop() {
+            if let Some(mut children) = self.children.remove(&id) {
+                while let Some(child) = children.pop() {
+                    self.ids.push(child)?;
+                }
+            }
+            return Ok(true);
+        }
+        let Some(id) = self.heads.pop_front() else {
+            return Ok(false);
+        };
+        self.ids.push(id)?;
+        Ok(true)
+    }
+}

@@ -1,0 +1,184 @@
+//! The order of a shown graph in which each branch stands together.
+ghost use Rattle.std.specs.Prelude.{◌≡◌, ◌+◌, ◌<◌, ◌∷◌, [], None, Some, Ok, IfOk, IfErr, IsSome, IsTrue, OnOk, OnErr, true, false};
+ghost use Rattle.std.specs.HashMap.{hash_map_len};
+ghost use Rattle.std.specs.Iterator.{at_most, size};
+ghost use Rattle.jj_walks.specs.Grouped.{Entry, History, Prioritized, Read};
+ghost use Rattle.jj_walks.specs.GroupedSteps.{CanRead, GivesNext, IsCause, IsEntryOf, Item, answer_of};
+ghost use Rattle.jj_walks.specs.HeldNodes.{Keeps};
+
+use crate::graph::GraphNode;
+use crate::held_nodes::{HeldNodes, Ready};
+use std::alloc::{AllocError, AllocFailed, Global};
+use std::hash::Hash;
+
+/// Why a grouped graph ended before its last node. A node is held from when it was read until it is given, and an id is
+/// wanted from when it was prioritised, or an edge to it that is not missing was read, until its node is given.
+#[derive(Debug, Drop)]
+pub enum GroupedGraphError<E> {
+    /// An error of the input.
+    Input(E),
+    /// The input gave an id while its node was held.
+    DuplicateId,
+    /// The input has ended, and the node of a wanted id is not held.
+    MissingNode,
+    /// Nodes are held, and each has a held child.
+    NotChildFirst,
+    Memory,
+}
+
+/// The nodes of an input in which each node stands before its parents, in an order that keeps branches together.
+#[derive(Drop)]
+pub struct TopoGroupedGraph<N, ID: Hash + Eq, S, F> {
+    input: S,
+    as_id: F,
+    held: HeldNodes<N, ID>,
+}
+
+/// The nodes of a grouped graph, each before its parents. It ends after its first error.
+#[derive(Drop)]
+pub struct GroupedNodes<N, ID: Hash + Eq, S, F> {
+    graph: TopoGroupedGraph<N, ID, S, F>,
+    has_ended: bool,
+}
+
+impl<N: Drop, ID: Hash + Eq + Clone + Drop, E: Drop, S, F> TopoGroupedGraph<N, ID, S, F>
+where
+    S: Iterator<Item = Result<GraphNode<N, ID>, E>> + Drop,
+    F: Fn(&N) -> &ID + Drop,
+{
+    pub fn new(alloc: Global, input: S, as_id: F) -> Self
+        ensures input { result.input ≡ input }
+        ensures as_id { result.as_id ≡ as_id }
+        ensures held { Keeps ID.eq [] result.held }
+    {
+        TopoGroupedGraph {
+            input,
+            as_id,
+            held: HeldNodes::new(alloc),
+        }
+    }
+
+    /// Gives the branch that leads to this id first, or after those that were prioritised before.
+    pub fn prioritize_branch(&mut self, id: ID) -> Result<(), AllocError>
+        requires clones { (i j : ID) → ID.is_clone i j → IsTrue (ID.eq i j) }
+        ensures prioritized { OnOk result ((h : History N ID) → Keeps ID.eq h self.old.held → Keeps ID.eq (Prioritized id ∷ h) self.new.held) }
+        ensures refused { OnErr result ((h : History N ID) → Keeps ID.eq h self.old.held → Keeps ID.eq h self.new.held) }
+        ensures input { self.new.input ≡ self.old.input }
+        ensures as_id { self.new.as_id ≡ self.old.as_id }
+    {
+        self.held.prioritize(id)
+    }
+
+    /// The nodes, as they are asked for.
+    pub fn stream(self) -> GroupedNodes<N, ID, S, F>
+        ensures graph { result.graph ≡ self }
+        ensures has_ended { result.has_ended ≡ false }
+    {
+        GroupedNodes {
+            graph: self,
+            has_ended: false,
+        }
+    }
+
+    fn next_node(&mut self) -> Result<Option<GraphNode<N, ID>>, GroupedGraphError<E>>
+        requires { CanRead F.Fn ID.eq ID.is_clone S.can_next S.remaining self.old }
+        ensures can_read { IfOk result (λ o. IsSome o → CanRead F.Fn ID.eq ID.is_clone S.can_next S.remaining self.new) }
+        ensures left { IfOk result (λ o. IsSome o → size (S.remaining self.new.input) + hash_map_len self.new.held.nodes < size (S.remaining self.old.input) + hash_map_len self.old.held.nodes) }
+        ensures gives { (h : History N ID) → Keeps ID.eq h self.old.held → GivesNext F.Fn ID.eq S.next_gives h self.old (answer_of result) self.new }
+    {
+        'reading: loop {
+            let is_unread = match self.held.take_ready()? {
+                Ready::Node(node) => return Ok(Some(node)),
+                Ready::Unread => true,
+                Ready::Nothing => false,
+            };
+            match self.read_next() {
+                Ok(true) => {}
+                Ok(false) if is_unread => return Err(GroupedGraphError::MissingNode),
+                Ok(false) if self.held.is_empty() => return Ok(None),
+                Ok(false) => return Err(GroupedGraphError::NotChildFirst),
+                Err(error) => return Err(error),
+            }
+        }
+    }
+
+    /// Reads one node more: whether there was one.
+    fn read_next(&mut self) -> Result<bool, GroupedGraphError<E>>
+        requires { CanRead F.Fn ID.eq ID.is_clone S.can_next S.remaining self.old }
+        ensures as_id { self.new.as_id ≡ self.old.as_id }
+        ensures can_read { IfOk result (λ more. more ≡ true → CanRead F.Fn ID.eq ID.is_clone S.can_next S.remaining self.new) }
+        ensures left { IfOk result (λ more. more ≡ true → (size (S.remaining self.new.input) < size (S.remaining self.old.input)) × (hash_map_len self.new.held.nodes ≡ hash_map_len self.old.held.nodes + 1)) }
+        ensures read { IfOk result (λ more. more ≡ true → (item : Item N ID) × (e : Entry N ID) × S.next_gives self.old.input (Some (Ok item)) self.new.input
+            × IsEntryOf F.Fn ID.eq self.old.as_id item e × ((h : History N ID) → Keeps ID.eq h self.old.held → Keeps ID.eq (Read e ∷ h) self.new.held)) }
+        ensures ended { IfOk result (λ more. more ≡ false → S.next_gives self.old.input None self.new.input × (self.new.held ≡ self.old.held)) }
+        ensures refused { IfErr result (λ error. ((h : History N ID) → Keeps ID.eq h self.old.held → IsCause F.Fn ID.eq S.next_gives self.old.as_id h self.old.input error self.new.input)) }
+    {
+        let (node, edges) = match self.input.next() {
+            Some(Ok(item)) => item,
+            Some(Err(error)) => return Err(GroupedGraphError::Input(error)),
+            None => return Ok(false),
+        };
+        let id = (self.as_id)(&node).clone()?;
+        if self.held.is_held(&id) {
+            return Err(GroupedGraphError::DuplicateId);
+        }
+        self.held.hold(id, node, edges)?;
+        Ok(true)
+    }
+}
+
+impl<N: Drop, ID: Hash + Eq + Clone + Drop, E: Drop, S, F> Iterator for GroupedNodes<N, ID, S, F>
+where
+    S: Iterator<Item = Result<GraphNode<N, ID>, E>> + Drop,
+    F: Fn(&N) -> &ID + Drop,
+{
+    type Item = Result<GraphNode<N, ID>, GroupedGraphError<E>>;
+
+    ghost use Rattle.std.specs.Prelude.{◌≡◌, false};
+    ghost use Rattle.jj_walks.specs.GroupedSteps.{CanRead, GivesOn, nodes_left};
+
+    ghost can_next = { λ s. s.has_ended ≡ false → CanRead F.Fn ID.eq ID.is_clone S.can_next S.remaining s.graph };
+
+    ghost next_gives = { λ s r t. GivesOn F.Fn ID.eq S.next_gives s r t };
+
+    ghost remaining = { λ s. at_most (nodes_left S.remaining s) };
+
+    fn next(&mut self) -> Option<Result<GraphNode<N, ID>, GroupedGraphError<E>>> {
+        if self.has_ended {
+            return None;
+        }
+        match self.graph.next_node() {
+            Ok(Some(node)) => Some(Ok(node)),
+            Ok(None) => {
+                self.has_ended = true;
+                None
+            }
+            Err(error) => {
+                self.has_ended = true;
+                Some(Err(error))
+            }
+        }
+    }
+}
+
+impl<E> From<AllocError> for GroupedGraphError<E> {
+    ghost use Rattle.std.specs.Prelude.{◌≡◌};
+    ghost use Rattle.jj_walks.specs.declared.grouped.GroupedGraphError.TheVariants.{Memory};
+
+    ghost from_gives = { λ x y. y ≡ Memory };
+
+    fn from(_refused: AllocError) -> Self {
+        GroupedGraphError::Memory
+    }
+}
+
+impl<T: Drop, E> From<AllocFailed<T>> for GroupedGraphError<E> {
+    ghost use Rattle.std.specs.Prelude.{◌≡◌};
+    ghost use Rattle.jj_walks.specs.declared.grouped.GroupedGraphError.TheVariants.{Memory};
+
+    ghost from_gives = { λ x y. y ≡ Memory };
+
+    fn from(_refused: AllocFailed<T>) -> Self {
+        GroupedGraphError::Memory
+    }
+}
