@@ -1,7 +1,7 @@
 -- Where refs point to, here and at remotes, and their content bytes.
 use Rattle.std.specs.Prelude.{ℕ, List, [], ◌∷◌, ◌++◌, Option, Some, None}
-use Rattle.jj_content.specs.Content.{AreValues, IsOptionOf, u32_content, list_content, option_content, entry_content}
-use Rattle.jj_backend.specs.Contents.{AreBytes, bytes_content, IsText}
+use Rattle.jj_content.specs.Content.{AreValues, IsOptionOf, u32_content, list_content, option_content}
+use Rattle.jj_backend.specs.Contents.{AreBytes, bytes_content}
 use Rattle.jj_stores.specs.declared.op_store.ref_target.RemoteRef.{RemoteRef}
 use Rattle.jj_stores.specs.declared.op_store.ref_target.RemoteRefState.{RemoteRefState}
 use Rattle.jj_stores.specs.declared.op_store.ref_target.RemoteRefState.TheVariants.{New, Tracked}
@@ -45,8 +45,3 @@ IsRemoteRef remote = IsTarget remote.target × Unit {0}
 
 abbrev pub remote_ref_content : RemoteRef → List ℕ
 remote_ref_content remote = target_content remote.target ++ state_content remote.state
-
--- values by names, in the order of the names
-module _ {V : Type 0} where
-  abbrev pub AreNamed : (V → Type 0) → List (List ℕ × V) → Type 0
-  AreNamed is_value = AreValues (λ e. IsText e.0 × is_value e.1)

@@ -103,11 +103,11 @@ pub trait RefTargetOptionExt {
     type Value;
 
     /// What it is without the option.
-    ghost flattens: { Self → Value → Type 0 };
+    ghost flattens: { Self → Self.Value → Type 0 };
 
     /// The value, or what is absent.
     fn flatten(self, alloc: Global) -> Self::Value
-        ensures { flattens self.entry result };
+        ensures { flattens self result };
 }
 
 impl RefTargetOptionExt for Option<RefTarget> {
