@@ -18,6 +18,12 @@ module _ {X Y : Type 0} (f : X → Y) where
     removes-map [] = refl
     removes-map (x ∷ xs) = adds-map xs
 
+-- a merge of tree values themselves is its own list of values
+pub values-same : (values : Values) → map (option_map (λ (value : TreeValue). value)) values ≡ values
+values-same [] = refl
+values-same (None ∷ values) = ap (λ rest. None ∷ rest) (values-same values)
+values-same (Some value ∷ values) = ap (λ rest. Some value ∷ rest) (values-same values)
+
 -- ---- a conflict
 
 pub unresolved : (values : Values) → 1 < length values → list_all is_tree_or_absent values ≡ are_trees values

@@ -5,6 +5,7 @@ mod descriptions;
 mod errors;
 mod file_parts;
 mod interface;
+mod json;
 mod merged_parts;
 mod merged_tree_value;
 mod signature;
