@@ -1,6 +1,7 @@
 //! Views of a repository and operations on it, and the interface of stores that keep them.
 mod errors;
 mod interface;
+mod json;
 mod operation;
 mod ref_target;
 mod view;
