@@ -1,2 +1,3 @@
 pub mod MergedParts
+pub mod MergedTreeValues
 pub mod Searched

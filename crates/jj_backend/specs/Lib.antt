@@ -4,6 +4,7 @@ pub mod Contents
 pub mod RecordLaws
 pub mod TreeValues
 pub mod TreeValueLaws
+pub mod MergedTreeValues
 pub mod Trees
 pub mod TreeLaws
 pub mod Errors

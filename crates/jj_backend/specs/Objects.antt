@@ -1,5 +1,5 @@
 -- What a backend keeps, by ids, and what reads and writes of it answer.
-use Rattle.std.specs.Prelude.{◌≡◌, ℕ, List, [], Option, Some, None, if◌then◌else◌, ◌⊎◌, Result, Ok, MatchResult}
+use Rattle.std.specs.Prelude.{◌≡◌, ℕ, List, Option, Some, None, if◌then◌else◌, ◌⊎◌, Result, Ok, MatchResult}
 use Rattle.std.specs.Bool.{MatchBool}
 use Rattle.std.specs.Str.{bytes_eq}
 use Rattle.jj_backend.specs.Contents.{commit_content}

@@ -1,7 +1,8 @@
--- Offsets of moments.
+-- Offsets and dates of moments.
 use Rattle.std.specs.Prelude.{◌≡◌, ℤ, pos, negsuc, ◌*ℤ◌, ◌&&◌, if◌then◌else◌, int_le}
-use Rattle.jiff.specs.Words.{plain_zoned, fixed_zone}
+use Rattle.jiff.specs.Words.{plain_zoned, fixed_zone, IsTimestampNanos}
 use Rattle.jiff.specs.declared.zoned.Zoned.{Zoned}
+use Rattle.jj_backend.specs.declared.backend.timestamp.Timestamp.{Timestamp}
 
 -- the seconds of an offset in minutes, of which a day or more counts as none
 abbrev pub offset_seconds : ℤ → ℤ
@@ -11,3 +12,7 @@ offset_seconds minutes =
 -- the date is told in a zone whose clock is always this many seconds ahead of UTC
 abbrev pub HasOffset : Zoned → ℤ → Type 0
 HasOffset date seconds = (o : _) × ((plain_zoned date).time_zone ≡ fixed_zone o) × (o.seconds ≡ seconds)
+
+-- the moment is within the range of dates
+abbrev pub IsDate : Timestamp → Type 0
+IsDate time = IsTimestampNanos (time.timestamp.0 *ℤ pos 1_000_000)

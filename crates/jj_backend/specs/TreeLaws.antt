@@ -1,5 +1,5 @@
 -- Equality and content of trees, entry by entry.
-use Rattle.std.specs.Prelude.{◌≡◌, ℕ, List, ◌++◌, Bool}
+use Rattle.std.specs.Prelude.{ℕ, List, ◌++◌, Bool}
 use Rattle.std.specs.Cmp.{IsEquivalence, and_equiv, on_equiv}
 use Rattle.std.specs.Cmp.Lexicographic.{pointwise, nat_list_eq_equiv, lists_equiv}
 use Rattle.std.specs.Ordering.{eq_of_both, on}

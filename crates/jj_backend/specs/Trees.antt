@@ -1,8 +1,6 @@
 -- Trees of one directory: what stands at its names, and what is left of walks over it.
-use Rattle.std.specs.Prelude.{◌≡◌, ℕ, ◌<◌, List, map, length, Option, Some, Bool, slice_index_or, if◌then◌else◌}
-use Rattle.std.specs.Cmp.Lexicographic.{pointwise}
+use Rattle.std.specs.Prelude.{◌≡◌, ℕ, ◌<◌, List, map, length, Option, Some, slice_index_or}
 use Rattle.std.specs.Map.{lookup}
-use Rattle.std.specs.Ordering.{eq_of_both, on}
 use Rattle.std.specs.Str.{bytes_eq}
 use Rattle.jj_paths.specs.Names.{name_of}
 use Rattle.jj_paths.specs.Paths.{Name}

@@ -1,9 +1,13 @@
 //! Commits, trees and what else a backend keeps, and the interface of backends.
 mod commit;
 mod copies;
+mod descriptions;
 mod errors;
+mod file_parts;
 mod interface;
+mod json;
 mod merged_parts;
+mod merged_tree_value;
 mod signature;
 mod timestamp;
 mod tree;
@@ -14,6 +18,9 @@ pub use copies::{CopyHistory, CopyRecord, RelatedCopy};
 pub use errors::{BackendError, BackendInitError, BackendLoadError, BackendResult};
 pub use interface::{Backend, SigningFn};
 pub use jj_ids::object_id::{ChangeId, CommitId, CopyId, FileId, SymlinkId, TreeId};
+pub use merged_tree_value::{
+    AsTreeValue, MergedTreeVal, MergedTreeValue, MergedTreeValueExt, borrow_tree_value,
+};
 pub use signature::{SecureSig, Signature};
 pub use timestamp::{MillisSinceEpoch, Timestamp, TimestampOutOfRange};
 pub use tree::{Tree, TreeEntriesNonRecursiveIterator, TreeEntry, TreeNames};

@@ -1,3 +1,9 @@
 pub mod Verdict
 pub mod Asked
 pub mod Signer
+pub mod RefTargets
+pub mod RefTargetLaws
+pub mod Views
+pub mod ViewLaws
+pub mod Operations
+pub mod OperationLaws

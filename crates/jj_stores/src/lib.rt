@@ -1,4 +1,5 @@
-//! Signatures of commits, and who makes and verifies them.
+//! Views of a repository and operations on it, and signatures of commits.
 #![tactic(auto)]
 
+pub mod op_store;
 pub mod signing;

@@ -1,7 +1,9 @@
 //! Who did something and when, and signatures of data.
 ghost use Rattle.std.specs.Prelude.{◌≡◌, ◌++◌, OnOk, OnErr, string_bytes};
 ghost use Rattle.std.specs.Cmp;
+ghost use Rattle.std.specs.Cmp.Rules.{hashing};
 ghost use Rattle.std.specs.Hash as fed;
+ghost use Rattle.std.proofs.Common.{rules};
 ghost use Rattle.jj_content.specs.Content.{Takes, TakesFront, IsLawful};
 ghost use Rattle.jj_backend.specs.Contents.{IsSignature, signature_content, IsSecureSig, secure_sig_content};
 ghost use Rattle.jj_backend.specs.RecordLaws.{signature_equiv, secure_sig_equiv, signature_lawful, secure_sig_lawful};
@@ -10,6 +12,7 @@ ghost use Rattle.jj_backend.specs.Records.{SignatureValue, SecureSigValue, signa
 use super::Timestamp;
 use jj_content::content_hash::{ContentHash, DigestUpdate};
 use std::alloc::{AllocError, Global};
+use std::hash::{Hash, Hasher};
 use std::marker::Model;
 
 /// Who did something, and when.
@@ -54,6 +57,19 @@ impl PartialEq for Signature {
 
 impl Eq for Signature {
     ghost laws = { signature_equiv };
+}
+
+impl Hash for Signature {
+    ghost hash_input = { λ s. fed.str s.name ++ fed.str s.email
+        ++ (fed.i64 s.timestamp.timestamp.0 ++ fed.i32 s.timestamp.tz_offset) };
+
+    ghost respects_eq = { Prim.search (hashing, rules) };
+
+    fn hash<H: Hasher>(&self, state: &mut H) {
+        Hash::hash(&self.name, state);
+        Hash::hash(&self.email, state);
+        Hash::hash(&self.timestamp, state);
+    }
 }
 
 impl ContentHash for Signature {

@@ -1,0 +1,128 @@
+-- Merges of what stands at a path in several trees: whether they are trees or files, the parts of the files, and how
+-- a conflict is told.
+use Rattle.std.specs.Prelude.{ℕ, Bool, true, false, not, List, [], ◌∷◌, ◌++◌, Option, Some, None, ⊤, codes}
+use Rattle.std.specs.List.{list_all}
+use Rattle.std.specs.Option.{option_map, option_and_then}
+use Rattle.jj_content.specs.Hex.{hex}
+use Rattle.jj_merges.specs.Labels.{merge_of}
+use Rattle.jj_merges.specs.Merge.{adds, removes}
+use Rattle.jj_backend.specs.declared.backend.tree_value.TreeValue.{TreeValue}
+use Rattle.jj_backend.specs.declared.backend.tree_value.TreeValue.TheVariants.{File, Symlink, Tree, GitSubmodule}
+
+-- the terms of a merge of what stands at a path
+abbrev pub Values : Type 0
+Values = List (Option TreeValue)
+
+-- ---- trees and files
+
+abbrev pub is_tree_value : TreeValue → Bool
+is_tree_value (File id executable copy) = false
+is_tree_value (Symlink id) = false
+is_tree_value (Tree id) = true
+is_tree_value (GitSubmodule id) = false
+
+abbrev pub is_tree_or_absent : Option TreeValue → Bool
+is_tree_or_absent None = true
+is_tree_or_absent (Some value) = is_tree_value value
+
+-- resolved to a tree, or unresolved with no present term but trees
+abbrev pub are_trees : Values → Bool
+are_trees [] = true
+are_trees (None ∷ []) = false
+are_trees (Some value ∷ []) = is_tree_value value
+are_trees (first ∷ second ∷ values) = list_all is_tree_or_absent (first ∷ second ∷ values)
+
+-- resolved to something else than a tree, or unresolved with a present term that is none
+abbrev pub are_file_like : Values → Bool
+are_file_like (None ∷ []) = false
+are_file_like values = not (are_trees values)
+
+-- ---- the parts of files
+
+abbrev pub file_id_of : TreeValue → Option (List ℕ)
+file_id_of (File id executable copy) = Some id
+file_id_of (Symlink id) = None
+file_id_of (Tree id) = None
+file_id_of (GitSubmodule id) = None
+
+abbrev pub executable_of : TreeValue → Option Bool
+executable_of (File id executable copy) = Some executable
+executable_of (Symlink id) = None
+executable_of (Tree id) = None
+executable_of (GitSubmodule id) = None
+
+-- the part of a term, absent where the term is; none where it is present and has no such part
+abbrev pub part_at : {A : Type 0} → (TreeValue → Option A) → Option TreeValue → Option (Option A)
+part_at part None = Some None
+part_at part (Some value) = option_map Some (part value)
+
+-- the parts place by place, if each term has one
+abbrev pub parts : {A : Type 0} → (TreeValue → Option A) → Values → Option (List (Option A))
+parts part [] = Some []
+parts part (value ∷ values) =
+    option_and_then (λ x. option_map (λ rest. x ∷ rest) (parts part values)) (part_at part value)
+
+-- ---- new ids of files
+
+-- a file takes an id, and what is absent an id or none
+abbrev pub CanTakeId : Option TreeValue → Option (List ℕ) → Type 0
+CanTakeId None id = ⊤
+CanTakeId (Some value) None = ⊥
+CanTakeId (Some (File old executable copy)) (Some id) = ⊤
+CanTakeId (Some (Symlink old)) (Some id) = ⊥
+CanTakeId (Some (Tree old)) (Some id) = ⊥
+CanTakeId (Some (GitSubmodule old)) (Some id) = ⊥
+
+-- the file with that id; what was absent becomes a file that is not executable and no copy
+abbrev pub with_file_id : Option TreeValue → Option (List ℕ) → Option TreeValue
+with_file_id value None = None
+with_file_id None (Some id) = Some (File id false [])
+with_file_id (Some (File old executable copy)) (Some id) = Some (File id executable copy)
+with_file_id (Some value) (Some id) = Some value
+
+abbrev pub with_file_ids : Values → List (Option (List ℕ)) → Values
+with_file_ids [] ids = []
+with_file_ids (value ∷ values) [] = []
+with_file_ids (value ∷ values) (id ∷ ids) = with_file_id value id ∷ with_file_ids values ids
+
+-- ---- conflicts in words
+
+abbrev pub newline : List ℕ
+newline = 10 ∷ []
+
+abbrev pub with_id : List ℕ → List ℕ → List ℕ
+with_id kind id = kind ++ (codes " with id " ++ hex id)
+
+abbrev pub file_kind : Bool → List ℕ
+file_kind true = codes "executable file"
+file_kind false = codes "file"
+
+-- what stands there
+abbrev pub value_text : TreeValue → List ℕ
+value_text (File id executable copy) = with_id (file_kind executable) id
+value_text (Symlink id) = with_id (codes "symlink") id
+value_text (Tree id) = with_id (codes "tree") id
+value_text (GitSubmodule id) = with_id (codes "Git submodule") id
+
+-- a label in parentheses, if it is not empty
+abbrev pub label_text : List ℕ → List ℕ
+label_text [] = []
+label_text (c ∷ label) = codes " (" ++ ((c ∷ label) ++ codes ")")
+
+-- the line of a term: what is done, with what, and its label; an absent term has none
+abbrev pub line : List ℕ → Option TreeValue → List ℕ → List ℕ
+line done None label = []
+line done (Some value) label = done ++ (value_text value ++ (label_text label ++ newline))
+
+-- the lines of the terms, each with the label at its place
+abbrev pub lines : List ℕ → Values → List (List ℕ) → List ℕ
+lines done [] labels = []
+lines done (value ∷ values) [] = line done value [] ++ lines done values []
+lines done (value ∷ values) (label ∷ labels) = line done value label ++ lines done values labels
+
+-- the removed terms, and then the added ones
+abbrev pub description : Values → List (List ℕ) → List ℕ
+description values labels =
+    codes "Conflict:" ++ (newline
+    ++ (lines (codes "  Removing ") (removes values) (removes (merge_of labels))
+    ++ lines (codes "  Adding ") (adds values) (adds (merge_of labels))))

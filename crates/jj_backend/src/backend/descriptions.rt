@@ -1,0 +1,105 @@
+//! Conflicts in words: a line for each term that is there.
+ghost use Rattle.std.specs.Prelude.{◌≡◌, ◌++◌, map, OnOk, string_bytes};
+ghost use Rattle.std.specs.Option.{option_copied, option_map};
+ghost use Rattle.jj_backend.specs.MergedTreeValues.{file_kind, with_id, value_text, label_text, newline, line, lines};
+
+use super::TreeValue;
+use super::merged_tree_value::{AsTreeValue, value_at};
+use jj_ids::object_id::{Id, IdKind, ObjectId};
+use jj_merges::merge::EverySecond;
+use std::alloc::{AllocError, Global};
+
+// Appends a kind of object and the id.
+fn push_id<K: IdKind>(
+    alloc: Global,
+    text: &mut String,
+    kind: &str,
+    id: &Id<K>,
+) -> Result<(), AllocError>
+    ensures { OnOk result (string_bytes text.new ≡ string_bytes text.old ++ with_id kind.now id.now) }
+{
+    let hex = id.hex(alloc)?;
+    text.push_str(kind)?;
+    text.push_str(" with id ")?;
+    text.push_str(hex.as_str())
+}
+
+fn file_kind(executable: bool) -> &'static str
+    ensures { result.now ≡ file_kind executable }
+{
+    if executable {
+        "executable file"
+    } else {
+        "file"
+    }
+}
+
+// Appends what stands there.
+fn push_value(alloc: Global, text: &mut String, value: &TreeValue) -> Result<(), AllocError>
+    ensures { OnOk result (string_bytes text.new ≡ string_bytes text.old ++ value_text value.now) }
+{
+    match value {
+        TreeValue::File { id, executable, .. } => {
+            push_id(alloc, text, file_kind(*executable), id)
+        }
+        TreeValue::Symlink(id) => push_id(alloc, text, "symlink", id),
+        TreeValue::Tree(id) => push_id(alloc, text, "tree", id),
+        TreeValue::GitSubmodule(id) => push_id(alloc, text, "Git submodule", id),
+    }
+}
+
+// Appends a label in parentheses, if it is not empty.
+fn push_label(text: &mut String, label: &str) -> Result<(), AllocError>
+    ensures { OnOk result (string_bytes text.new ≡ string_bytes text.old ++ label_text label.now) }
+{
+    if label.is_empty() {
+        return Ok(());
+    }
+    text.push_str(" (")?;
+    text.push_str(label)?;
+    text.push_str(")")
+}
+
+// Appends the line of a term.
+fn push_line(
+    alloc: Global,
+    text: &mut String,
+    done: &str,
+    value: Option<&TreeValue>,
+    label: &str,
+) -> Result<(), AllocError>
+    ensures { OnOk result (string_bytes text.new
+        ≡ string_bytes text.old ++ line done.now (option_copied value.entry) label.now) }
+{
+    match value {
+        Some(value) => {
+            text.push_str(done)?;
+            push_value(alloc, text, value)?;
+            push_label(text, label)?;
+            text.push_str("\n")
+        }
+        None => Ok(()),
+    }
+}
+
+// Appends the lines of the terms, each with the label at its place.
+pub(super) fn push_lines<T: AsTreeValue>(
+    alloc: Global,
+    text: &mut String,
+    done: &str,
+    terms: EverySecond<'_, Option<T>>,
+    labels: EverySecond<'_, String>,
+) -> Result<(), AllocError>
+    ensures { OnOk result (string_bytes text.new ≡ string_bytes text.old
+        ++ lines done.now (map (option_map T.value_of) terms.entry) (map string_bytes labels.entry)) }
+{
+    let mut labels = labels;
+    for term in terms {
+        let label = match labels.next() {
+            Some(label) => label.as_str(),
+            None => "",
+        };
+        push_line(alloc, text, done, value_at(term), label)?;
+    }
+    Ok(())
+}

@@ -1,0 +1,100 @@
+-- The content bytes of operations, part by part, and the operation that all others descend from.
+use Rattle.std.specs.Prelude.{◌≡◌, ℕ, pos, Bool, false, List, [], ◌∷◌, ◌++◌, None, IsSomeAnd, string_bytes}
+use Rattle.std.specs.BTreeMap.{BTreeMap}
+use Rattle.std.specs.declared.string.String.{String}
+use Rattle.std.specs.declared.vec.Vec.{Vec}
+use Rattle.jj_content.specs.Content.{AreValues, IsOptionOf, bool_content, list_content, text_content, option_content, entry_content}
+use Rattle.jj_backend.specs.Contents.{AreBytes, bytes_content, IsText, IsTimestamp, timestamp_content}
+use Rattle.jj_backend.specs.declared.backend.timestamp.Timestamp.{Timestamp}
+use Rattle.jj_stores.specs.declared.op_store.operation.Operation.{Operation}
+use Rattle.jj_stores.specs.declared.op_store.operation.OperationMetadata.{OperationMetadata}
+use Rattle.jj_stores.specs.declared.op_store.operation.TimestampRange.{TimestampRange}
+
+-- ---- times
+
+abbrev pub IsRange : TimestampRange → Type 0
+IsRange range = IsTimestamp range.start × IsTimestamp range.end
+
+abbrev pub range_content : TimestampRange → List ℕ
+range_content range = timestamp_content range.start ++ timestamp_content range.end
+
+-- ---- how an operation was done: what and when; where and by whom; in which workspace, and what else is said
+
+abbrev pub IsAct : OperationMetadata → Type 0
+IsAct m = IsRange m.time × IsText (string_bytes m.description)
+
+abbrev pub act_content : OperationMetadata → List ℕ
+act_content m = range_content m.time ++ text_content (string_bytes m.description)
+
+abbrev pub IsActor : OperationMetadata → Type 0
+IsActor m = IsText (string_bytes m.hostname) × IsText (string_bytes m.username)
+
+abbrev pub actor_content : OperationMetadata → List ℕ
+actor_content m = text_content (string_bytes m.hostname) ++ text_content (string_bytes m.username)
+
+-- `A` is the allocator of the texts and lists
+module _ {A : Type 0} where
+  abbrev pub AreAttributes : List (String A × String A) → Type 0
+  AreAttributes = AreValues (λ e. IsText (string_bytes e.0) × IsText (string_bytes e.1))
+
+  abbrev pub attributes_content : List (String A × String A) → List ℕ
+  attributes_content = list_content (entry_content (λ s. text_content (string_bytes s)) (λ s. text_content (string_bytes s)))
+
+abbrev pub IsSetting : OperationMetadata → Type 0
+IsSetting m = Unit {0} × (IsOptionOf IsText m.workspace_name × AreAttributes m.attributes.entries)
+
+abbrev pub setting_content : OperationMetadata → List ℕ
+setting_content m = bool_content m.is_snapshot ++ (option_content text_content m.workspace_name ++ attributes_content m.attributes.entries)
+
+abbrev pub IsMetadata : OperationMetadata → Type 0
+IsMetadata m = IsAct m × (IsActor m × IsSetting m)
+
+abbrev pub metadata_content : OperationMetadata → List ℕ
+metadata_content m = act_content m ++ (actor_content m ++ setting_content m)
+
+-- ---- operations
+
+-- the predecessors of commits, by the commits' ids
+module _ {A : Type 0} where
+  abbrev pub ArePredecessors : BTreeMap (List ℕ) (Vec (List ℕ) A) → Type 0
+  ArePredecessors m = AreValues (λ e. AreBytes e.0 × AreValues AreBytes e.1.items) m.entries
+
+  abbrev pub predecessors_content : BTreeMap (List ℕ) (Vec (List ℕ) A) → List ℕ
+  predecessors_content m = list_content (entry_content bytes_content (λ ids. list_content bytes_content ids.items)) m.entries
+
+-- the view and the parents, and what else there is
+abbrev pub AreLinks : Operation → Type 0
+AreLinks o = AreBytes o.view_id × AreValues AreBytes o.parents.items
+
+abbrev pub links_content : Operation → List ℕ
+links_content o = bytes_content o.view_id ++ list_content bytes_content o.parents.items
+
+abbrev pub IsAccount : Operation → Type 0
+IsAccount o = IsMetadata o.metadata × IsOptionOf ArePredecessors o.commit_predecessors
+
+abbrev pub account_content : Operation → List ℕ
+account_content o = metadata_content o.metadata ++ option_content predecessors_content o.commit_predecessors
+
+abbrev pub IsOperation : Operation → Type 0
+IsOperation o = AreLinks o × IsAccount o
+
+abbrev pub operation_content : Operation → List ℕ
+operation_content o = links_content o ++ account_content o
+
+-- ---- the root operation: of that view, without parents, at the beginning of time, and with no commits
+
+abbrev pub beginning : Timestamp
+beginning = record { timestamp = record { 0 = pos 0 }; tz_offset = pos 0 }
+
+pub record IsRootOperation (view_id : List ℕ) (o : Operation) : Type 0 where
+  pub view : o.view_id ≡ view_id
+  pub parents : o.parents.items ≡ []
+  pub start : o.metadata.time.start ≡ beginning
+  pub end : o.metadata.time.end ≡ beginning
+  pub description : string_bytes o.metadata.description ≡ []
+  pub hostname : string_bytes o.metadata.hostname ≡ []
+  pub username : string_bytes o.metadata.username ≡ []
+  pub is_snapshot : o.metadata.is_snapshot ≡ false
+  pub workspace_name : o.metadata.workspace_name ≡ None
+  pub attributes : o.metadata.attributes.entries ≡ []
+  pub predecessors : IsSomeAnd o.commit_predecessors (λ m. m.entries ≡ [])

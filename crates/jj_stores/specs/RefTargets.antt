@@ -1,0 +1,47 @@
+-- Where refs point to, here and at remotes, and their content bytes.
+use Rattle.std.specs.Prelude.{ℕ, List, [], ◌∷◌, ◌++◌, Option, Some, None}
+use Rattle.jj_content.specs.Content.{AreValues, IsOptionOf, u32_content, list_content, option_content}
+use Rattle.jj_backend.specs.Contents.{AreBytes, bytes_content}
+use Rattle.jj_stores.specs.declared.op_store.ref_target.RemoteRef.{RemoteRef}
+use Rattle.jj_stores.specs.declared.op_store.ref_target.RemoteRefState.{RemoteRefState}
+use Rattle.jj_stores.specs.declared.op_store.ref_target.RemoteRefState.TheVariants.{New, Tracked}
+
+-- the commits that a ref points to, by their bytes, added and removed by turns
+abbrev pub Target : Type 0
+Target = List (Option (List ℕ))
+
+-- no such ref
+abbrev pub absent_target : Target
+absent_target = None ∷ []
+
+abbrev pub absent_ref : RemoteRef
+absent_ref = record { target = absent_target; state = New }
+
+-- the target of a ref that is tracked
+abbrev pub tracked_of : RemoteRefState → Target → Option Target
+tracked_of New target = None
+tracked_of Tracked target = Some target
+
+abbrev pub tracked_target : RemoteRef → Option Target
+tracked_target remote = tracked_of remote.state remote.target
+
+-- ---- content
+
+abbrev pub IsTarget : Target → Type 0
+IsTarget = AreValues (IsOptionOf AreBytes)
+
+abbrev pub target_content : Target → List ℕ
+target_content = list_content (option_content bytes_content)
+
+abbrev pub state_number : RemoteRefState → ℕ
+state_number New = 0
+state_number Tracked = 1
+
+abbrev pub state_content : RemoteRefState → List ℕ
+state_content state = u32_content (state_number state)
+
+abbrev pub IsRemoteRef : RemoteRef → Type 0
+IsRemoteRef remote = IsTarget remote.target × Unit {0}
+
+abbrev pub remote_ref_content : RemoteRef → List ℕ
+remote_ref_content remote = target_content remote.target ++ state_content remote.state

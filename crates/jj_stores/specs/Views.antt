@@ -1,0 +1,68 @@
+-- The content bytes of views, part by part, and the view of a repository that has only its root commit.
+use Rattle.std.specs.Prelude.{◌≡◌, ℕ, List, [], ◌∷◌, ◌++◌}
+use Rattle.std.specs.HashSet as set
+use Rattle.std.specs.Ordering.{nat_cmp}
+use Rattle.std.specs.Cmp.Lexicographic.{slice_cmp}
+use Rattle.std.specs.Str.{bytes_eq}
+use Rattle.jj_content.specs.Content.{AreValues, list_content, text_content, set_content, entry_content}
+use Rattle.jj_backend.specs.Contents.{AreBytes, bytes_content, IsText}
+use Rattle.jj_stores.specs.RefTargets.{IsTarget, target_content, IsRemoteRef, remote_ref_content}
+use Rattle.jj_stores.specs.declared.op_store.view.RemoteView.{RemoteView}
+use Rattle.jj_stores.specs.declared.op_store.view.View.{View}
+
+-- values by names, in the order of the names
+module _ {V : Type 0} where
+  abbrev pub AreNamed : (V → Type 0) → List (List ℕ × V) → Type 0
+  AreNamed is_value = AreValues (λ e. IsText e.0 × is_value e.1)
+
+  abbrev pub named_content : (V → List ℕ) → List (List ℕ × V) → List ℕ
+  named_content value = list_content (entry_content text_content value)
+
+-- ---- remote views
+
+abbrev pub IsRemoteView : RemoteView → Type 0
+IsRemoteView view = AreNamed IsRemoteRef view.bookmarks.entries × AreNamed IsRemoteRef view.tags.entries
+
+abbrev pub remote_view_content : RemoteView → List ℕ
+remote_view_content view = named_content remote_ref_content view.bookmarks.entries ++ named_content remote_ref_content view.tags.entries
+
+-- ---- views: heads and local refs; refs of remotes and of Git; workspaces
+
+abbrev pub IsLocal : View → Type 0
+IsLocal view =
+    (set.IsUnique bytes_eq view.head_ids × AreValues AreBytes view.head_ids.keys)
+    × (AreNamed IsTarget view.local_bookmarks.entries × AreNamed IsTarget view.local_tags.entries)
+
+abbrev pub local_content : View → List ℕ
+local_content view =
+    set_content (slice_cmp nat_cmp) bytes_content view.head_ids.keys
+    ++ (named_content target_content view.local_bookmarks.entries ++ named_content target_content view.local_tags.entries)
+
+abbrev pub IsElsewhere : View → Type 0
+IsElsewhere view = AreNamed IsRemoteView view.remote_views.entries × AreNamed IsTarget view.git_refs.entries
+
+abbrev pub elsewhere_content : View → List ℕ
+elsewhere_content view = named_content remote_view_content view.remote_views.entries ++ named_content target_content view.git_refs.entries
+
+abbrev pub AreWorkspaces : View → Type 0
+AreWorkspaces view = AreNamed IsTarget view.git_heads.entries × AreNamed AreBytes view.wc_commit_ids.entries
+
+abbrev pub workspaces_content : View → List ℕ
+workspaces_content view = named_content target_content view.git_heads.entries ++ named_content bytes_content view.wc_commit_ids.entries
+
+abbrev pub IsView : View → Type 0
+IsView view = IsLocal view × (IsElsewhere view × AreWorkspaces view)
+
+abbrev pub view_content : View → List ℕ
+view_content view = local_content view ++ (elsewhere_content view ++ workspaces_content view)
+
+-- ---- the root view: its one head is that commit, and it has no refs and no workspaces
+
+pub record IsRootView (root : List ℕ) (view : View) : Type 0 where
+  pub heads : view.head_ids.keys ≡ root ∷ []
+  pub local_bookmarks : view.local_bookmarks.entries ≡ []
+  pub local_tags : view.local_tags.entries ≡ []
+  pub remote_views : view.remote_views.entries ≡ []
+  pub git_refs : view.git_refs.entries ≡ []
+  pub git_heads : view.git_heads.entries ≡ []
+  pub wc_commit_ids : view.wc_commit_ids.entries ≡ []

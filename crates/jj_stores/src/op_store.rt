@@ -1,0 +1,14 @@
+//! Views of a repository and operations on it, and the interface of stores that keep them.
+mod errors;
+mod interface;
+mod json;
+mod operation;
+mod ref_target;
+mod view;
+
+pub use errors::{OpStoreError, OpStoreResult};
+pub use interface::OpStore;
+pub use jj_ids::object_id::{OperationId, ViewId};
+pub use operation::{Operation, OperationMetadata, RootOperationData, TimestampRange};
+pub use ref_target::{RefTarget, RefTargetOptionExt, RemoteRef, RemoteRefState};
+pub use view::{RemoteView, View};

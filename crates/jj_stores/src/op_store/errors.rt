@@ -1,0 +1,56 @@
+//! Why a view or an operation could not be read or written.
+use jj_paths::file_util::SourceError;
+use std::alloc::{AllocError, AllocFailed};
+use thiserror::Error;
+
+/// Why a view or an operation could not be read or written. Types of objects are named as ids name
+/// them, and hashes are hex texts.
+#[derive(Debug, Drop, Error)]
+pub enum OpStoreError {
+    #[error("Object {hash} of type {object_type} not found")]
+    ObjectNotFound {
+        object_type: String,
+        hash: String,
+        source: Option<SourceError>,
+    },
+    #[error("Error when reading object {hash} of type {object_type}")]
+    ReadObject {
+        object_type: String,
+        hash: String,
+        source: SourceError,
+    },
+    #[error("Could not write object of type {object_type}")]
+    WriteObject {
+        object_type: &'static str,
+        source: SourceError,
+    },
+    #[error(transparent)]
+    Other(SourceError),
+    #[error("out of memory")]
+    Memory,
+}
+
+impl From<AllocError> for OpStoreError {
+    ghost use Rattle.std.specs.Prelude.{◌≡◌};
+    ghost use Rattle.jj_stores.specs.declared.op_store.errors.OpStoreError.TheVariants.{Memory};
+
+    ghost from_gives = { λ _ e. e ≡ Memory };
+
+    fn from(_error: AllocError) -> OpStoreError {
+        OpStoreError::Memory
+    }
+}
+
+impl<T: Drop> From<AllocFailed<T>> for OpStoreError {
+    ghost use Rattle.std.specs.Prelude.{◌≡◌};
+    ghost use Rattle.jj_stores.specs.declared.op_store.errors.OpStoreError.TheVariants.{Memory};
+
+    ghost from_gives = { λ _ e. e ≡ Memory };
+
+    fn from(_error: AllocFailed<T>) -> OpStoreError {
+        OpStoreError::Memory
+    }
+}
+
+/// What a call of a store of operations answers.
+pub type OpStoreResult<T> = Result<T, OpStoreError>;

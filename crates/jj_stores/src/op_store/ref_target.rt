@@ -1,0 +1,167 @@
+//! Where refs point to, here and at remotes.
+ghost use Rattle.std.specs.Prelude.{◌≡◌, ◌↔◌, ◌∷◌, [], IsTrue, None, OnOk, OnErr};
+ghost use Rattle.std.specs.Cmp;
+ghost use Rattle.std.specs.Option.{option_copied};
+ghost use Rattle.jj_content.specs.Content.{Takes, TakesFront, IsLawful};
+ghost use Rattle.jj_stores.specs.RefTargets.{absent_target, absent_ref, tracked_target, state_content, IsRemoteRef, remote_ref_content};
+ghost use Rattle.jj_stores.specs.RefTargetLaws.{state_lawful, remote_ref_lawful};
+
+use jj_backend::backend::CommitId;
+use jj_content::content_hash::{ContentHash, DigestUpdate};
+use jj_merges::merge::Merge;
+use std::alloc::{AllocError, Global};
+
+/// The commit that a ref points to, or a conflict of several; absent, where there is no such ref.
+pub type RefTarget = Merge<Option<CommitId>>;
+
+/// Whether what a remote says of a ref is followed here.
+#[derive(Clone, Copy, Debug, PartialEq, Eq, Hash)]
+pub enum RemoteRefState {
+    New,
+    Tracked,
+}
+
+/// Where a ref points to at a remote.
+#[derive(Debug, PartialEq, Eq, Hash, Drop)]
+pub struct RemoteRef {
+    pub target: RefTarget,
+    pub state: RemoteRefState,
+}
+
+impl RemoteRef {
+    /// A ref that is not there.
+    pub fn absent(alloc: Global) -> Self
+        ensures { result ≡ absent_ref }
+    {
+        RemoteRef {
+            target: Merge::absent(alloc),
+            state: RemoteRefState::New,
+        }
+    }
+
+    pub fn is_absent(&self) -> bool
+        ensures { IsTrue result ↔ (self.now.target ≡ absent_target) }
+    {
+        self.target.is_absent()
+    }
+
+    pub fn is_present(&self) -> bool
+        ensures { IsTrue result ↔ (self.now.target ≡ absent_target → ⊥) }
+    {
+        self.target.is_present()
+    }
+
+    pub fn is_tracked(&self) -> bool
+        ensures { IsTrue result ↔ (self.now.state ≡ RemoteRefState.Tracked) }
+    {
+        matches!(self.state, RemoteRefState::Tracked)
+    }
+
+    /// The target of a tracked ref. `None` is the absent target.
+    pub fn tracked_target(&self) -> Option<&RefTarget>
+        ensures { option_copied result ≡ tracked_target self.now }
+    {
+        match self.state {
+            RemoteRefState::Tracked => Some(&self.target),
+            RemoteRefState::New => None,
+        }
+    }
+}
+
+impl ContentHash for RemoteRefState {
+    ghost is_value = { λ _. Unit {0} };
+
+    ghost content = { state_content };
+
+    ghost lawful = { state_lawful };
+
+    fn hash<D: DigestUpdate>(&self, alloc: Global, state: &mut D) -> Result<(), AllocError> {
+        match self {
+            RemoteRefState::New => ContentHash::hash(&0u32, alloc, state),
+            RemoteRefState::Tracked => ContentHash::hash(&1u32, alloc, state),
+        }
+    }
+}
+
+impl ContentHash for RemoteRef {
+    ghost is_value = { IsRemoteRef };
+
+    ghost content = { remote_ref_content };
+
+    ghost lawful = { remote_ref_lawful };
+
+    #[tactic(auto, using(jj_content::proofs::Fronts::fronts))]
+    fn hash<D: DigestUpdate>(&self, alloc: Global, state: &mut D) -> Result<(), AllocError> {
+        ContentHash::hash(&self.target, alloc, state)?;
+        ContentHash::hash(&self.state, alloc, state)
+    }
+}
+
+/// An option of what may be absent, without the option. A borrowed option stays as it is: `None`
+/// is what is absent.
+pub trait RefTargetOptionExt {
+    type Value;
+
+    /// What it is without the option.
+    ghost flattens: { Self → Self.Value → Type 0 };
+
+    /// The value, or what is absent.
+    fn flatten(self, alloc: Global) -> Self::Value
+        ensures { flattens self result };
+}
+
+impl RefTargetOptionExt for Option<RefTarget> {
+    ghost use Rattle.std.specs.Prelude.{◌≡◌, unwrap_or};
+    ghost use Rattle.jj_stores.specs.RefTargets.{absent_target};
+
+    type Value = RefTarget;
+
+    ghost flattens = { λ target flat. flat ≡ unwrap_or target absent_target };
+
+    fn flatten(self, alloc: Global) -> RefTarget {
+        match self {
+            Some(target) => target,
+            None => Merge::absent(alloc),
+        }
+    }
+}
+
+impl<'a> RefTargetOptionExt for Option<&'a RefTarget> {
+    ghost use Rattle.std.specs.Prelude.{◌≡◌};
+
+    type Value = Option<&'a RefTarget>;
+
+    ghost flattens = { λ target flat. flat ≡ target };
+
+    fn flatten(self, _alloc: Global) -> Option<&'a RefTarget> {
+        self
+    }
+}
+
+impl RefTargetOptionExt for Option<RemoteRef> {
+    ghost use Rattle.std.specs.Prelude.{◌≡◌, unwrap_or};
+    ghost use Rattle.jj_stores.specs.RefTargets.{absent_ref};
+
+    type Value = RemoteRef;
+
+    ghost flattens = { λ remote flat. flat ≡ unwrap_or remote absent_ref };
+
+    fn flatten(self, alloc: Global) -> RemoteRef {
+        match self {
+            Some(remote) => remote,
+            None => RemoteRef::absent(alloc),
+        }
+    }
+}
+
+impl<'a> RefTargetOptionExt for Option<&'a RemoteRef> {
+    ghost use Rattle.std.specs.Prelude.{◌≡◌};
+
+    type Value = Option<&'a RemoteRef>;
+
+    ghost flattens = { λ remote flat. flat ≡ remote };
+
+    fn flatten(self, _alloc: Global) -> Option<&'a RemoteRef> {
+        self
+    }
+}
