@@ -7,3 +7,5 @@ pub mod Refusing
 pub mod Rounds
 pub mod Conflicting
 pub mod Roots
+mod KeptLemmas
+mod SameRecords

@@ -255,7 +255,7 @@ module _ (eq : Option TreeValue → Option TreeValue → Bool) (same : (v w : Op
       refused_below may_fail name upto e is entered (inr (inr (inr t))) = inr (inr (inr (t.0, (name ∷ t.1.0, (entered, t.1.1), (let l = t.1.2 in omega arith)))))
 
 -- the equality of values tells them apart
-same_value : (v w : TreeValue) → tree_values.eq-value.it v w ≡ true → v ≡ w
+pub same_value : (v w : TreeValue) → tree_values.eq-value.it v w ≡ true → v ≡ w
 same_value (Symlink a) (Symlink b) h = ap Symlink ((bytes_decides a b).0 h)
 same_value (Tree a) (Tree b) h = ap Tree ((bytes_decides a b).0 h)
 same_value (GitSubmodule a) (GitSubmodule b) h = ap GitSubmodule ((bytes_decides a b).0 h)

@@ -1,3 +1,5 @@
 pub mod TreeMerges
 pub mod Steps
 pub mod Rows
+pub mod Kept
+pub mod Signing

@@ -1,0 +1,66 @@
+-- What a backend in memory keeps, and under which ids.
+use Rattle.std.specs.Prelude.{◌≡◌, ◌≢◌, ℕ, List, [], ◌∷◌, take, replicate, Some}
+use Rattle.std.specs.Map.{lookup}
+use Rattle.std.specs.Str.{bytes_eq}
+use Rattle.jj_content.specs.Blake2b.{blake2b}
+use Rattle.jj_backend.specs.Objects.{ById, Objects}
+use Rattle.jj_backend.specs.Records.{CopyHistoryValue, CommitValue, root_commit}
+use Rattle.jj_backend.specs.TreeLaws.{tree_content}
+use Rattle.jj_backend.specs.Trees.{Entries}
+
+-- values with their ids
+abbrev pub Kept : Type 0 → Type 0
+Kept V = List (List ℕ × V)
+
+module _ {V : Type 0} where
+  -- what the ids stand for
+  unfoldable pub by_id : Kept V → ById V
+  by_id kept = λ id. lookup (bytes_eq id) kept
+
+  -- the id stands for another value
+  abbrev pub StandsForOther : Kept V → List ℕ → V → Type 0
+  StandsForOther kept id value = (other : V) × (by_id kept id ≡ Some other) × (other ≢ value)
+
+-- a backend in memory: how long ids are, those that it has from the start, and what it keeps
+pub record MemoryBackendValue : Type 0 where
+  pub id_length : ℕ
+  pub root_commit_id : List ℕ
+  pub root_change_id : List ℕ
+  pub empty_tree_id : List ℕ
+  pub files : Kept (List ℕ)
+  pub symlinks : Kept (List ℕ)
+  pub copies : Kept CopyHistoryValue
+  pub trees : Kept Entries
+  pub commits : Kept CommitValue
+
+-- the objects of a backend, by their ids
+abbrev pub objects_of : MemoryBackendValue → Objects
+objects_of backend = record {
+  files = by_id backend.files;
+  symlinks = by_id backend.symlinks;
+  copies = by_id backend.copies;
+  trees = by_id backend.trees;
+  commits = by_id backend.commits;
+}
+
+-- the id of an object with this content: the front of the digest
+abbrev pub object_id : ℕ → List ℕ → List ℕ
+object_id id_length content = take id_length (blake2b content)
+
+-- a backend that nobody has written to: it keeps the root commit and the tree without entries
+abbrev pub new_backend : ℕ → MemoryBackendValue
+new_backend id_length =
+    let root_commit_id = replicate id_length 0 in
+    let root_change_id = replicate 16 0 in
+    let empty_tree_id = object_id id_length (tree_content []) in
+    record {
+      id_length = id_length;
+      root_commit_id = root_commit_id;
+      root_change_id = root_change_id;
+      empty_tree_id = empty_tree_id;
+      files = [];
+      symlinks = [];
+      copies = [];
+      trees = (empty_tree_id, []) ∷ [];
+      commits = (root_commit_id, root_commit root_change_id empty_tree_id) ∷ [];
+    }

@@ -1,0 +1,31 @@
+-- What comes of a failure to sign a commit.
+use Rattle.std.specs.Prelude.{◌≡◌, ℕ, List, Option, Some, None, Result, Err}
+use Rattle.jj_paths.specs.Causes.{Cause}
+use Rattle.jj_paths.specs.declared.file_util.errors.SourceKind.TheVariants.{Data}
+use Rattle.jj_backend.specs.Contents.{commit_content}
+use Rattle.jj_backend.specs.Objects.{unsigned_content}
+use Rattle.jj_backend.specs.Records.{CommitValue}
+use Rattle.jj_backend.specs.declared.backend.errors.BackendError.{BackendError}
+use Rattle.jj_backend.specs.declared.backend.errors.BackendError.TheVariants.{Other, Memory as NoMemory}
+use Rattle.jj_backend.specs.declared.signing.SignError.{SignError}
+use Rattle.jj_backend.specs.declared.signing.SignError.TheVariants.{InvalidSignatureFormat, Backend, Memory}
+use Rattle.jj_trees.specs.Kept.{MemoryBackendValue, object_id, StandsForOther}
+
+-- the backend's error says why nothing was signed
+abbrev pub IsHandedOn : SignError → BackendError → Type 0
+IsHandedOn (Backend source) e = e ≡ Other source
+IsHandedOn InvalidSignatureFormat e = (source : Cause) × (e ≡ Other source) × (source.kind ≡ Data)
+IsHandedOn Memory e = e ≡ NoMemory
+
+-- there is something to sign the commit with, and it has failed
+abbrev pub FailsToSign : {S : Type 0} → (S → List ℕ → Result (List ℕ) SignError → Type 0) → Option S
+    → CommitValue → BackendError → Type 0
+FailsToSign may_sign None commit e = ⊥
+FailsToSign may_sign (Some signer) commit e =
+    (why : SignError) × may_sign signer (unsigned_content commit) (Err why) × IsHandedOn why e
+
+-- the commit as it is kept has an id that stands for another commit
+abbrev pub StandsForOtherCommit : MemoryBackendValue → (CommitValue → Type 0) → Type 0
+StandsForOtherCommit backend IsKept =
+    (kept : CommitValue) × IsKept kept
+    × StandsForOther backend.commits (object_id backend.id_length (commit_content kept)) kept

@@ -1,0 +1,355 @@
+//! A backend in memory, whose ids are digests of what they stand for.
+ghost use Rattle.std.specs.Prelude.{◌≡◌, ◌≢◌, ◌≤◌, ◌⊎◌, [], true, codes, replicate, Some};
+ghost use Rattle.std.specs.Prelude.{IfOk, IfErr, OnOk, OnErr, IsErrAnd};
+ghost use Rattle.std.specs.Option.{option_map};
+ghost use Rattle.jj_content.specs.Content.{text_content};
+ghost use Rattle.jj_backend.specs.Contents.{bytes_content, copy_history_content, commit_content};
+ghost use Rattle.jj_backend.specs.Errors.{is_other, is_unsupported};
+ghost use Rattle.jj_backend.specs.Objects.{AddsFile, AddsSymlink, AddsCopy, AddsTree};
+ghost use Rattle.jj_backend.specs.Objects.{AddsCommit, IsSigned};
+ghost use Rattle.jj_backend.specs.Records.{root_commit};
+ghost use Rattle.jj_backend.specs.TreeLaws.{tree_content};
+ghost use Rattle.jj_trees.specs.Kept.{new_backend, object_id, objects_of, StandsForOther};
+ghost use Rattle.jj_trees.specs.Signing.{FailsToSign, StandsForOtherCommit};
+
+mod contents;
+mod shelf;
+mod signing;
+
+use contents::{FileContent, LinkTarget};
+use jj_backend::backend::{
+    Backend, BackendError, BackendResult, ChangeId, Commit, CommitId, CopyHistory, CopyId,
+    CopyRecord, FileId, RelatedCopy, SigningFn, SymlinkId, Tree, TreeId, make_root_commit,
+};
+use jj_ids::object_id::{Id, IdKind};
+use jj_paths::repo_path::{RepoPath, RepoPathBuf};
+use shelf::{id_of, keep, keep_copied, object_of, one_object, other_error};
+use signing::kept_commit;
+use std::alloc::{AllocError, Global};
+use std::collections::BTreeMap;
+use std::marker::Model;
+
+// How many bytes the ids of changes have.
+const CHANGE_ID_LENGTH: usize = 16;
+
+// The id of that many zeros.
+fn zeros<K: IdKind>(alloc: Global, length: usize) -> Result<Id<K>, AllocError>
+    ensures { IfOk result (λ id. id ≡ replicate length 0) }
+{
+    Ok(Id::new(Vec::from_elem(alloc, 0, length)?))
+}
+
+// The error of what this backend does not do.
+fn unsupported_error(alloc: Global, message: &str) -> BackendError
+    ensures { (result ≡ BackendError.Memory) ⊎ (is_unsupported result ≡ true) }
+{
+    match String::from_str(alloc, message) {
+        Ok(message) => BackendError::Unsupported(message),
+        Err(_) => BackendError::Memory,
+    }
+}
+
+/// Objects of each type, by ids that are digests of what they stand for, or fronts of digests.
+/// Paths are not looked at.
+#[derive(Drop)]
+pub struct MemoryBackend {
+    id_length: usize,
+    root_commit_id: CommitId,
+    root_change_id: ChangeId,
+    empty_tree_id: TreeId,
+    files: BTreeMap<FileId, FileContent>,
+    symlinks: BTreeMap<SymlinkId, LinkTarget>,
+    copies: BTreeMap<CopyId, CopyHistory>,
+    trees: BTreeMap<TreeId, Tree>,
+    commits: BTreeMap<CommitId, Commit>,
+}
+
+impl Model for MemoryBackend {
+    ghost use Rattle.std.specs.Prelude.{◌≡◌, ◌≤◌, [], Some};
+    ghost use Rattle.jj_backend.specs.Records.{root_commit};
+    ghost use Rattle.jj_trees.specs.Kept.{MemoryBackendValue, by_id};
+
+    ghost Value = { MemoryBackendValue };
+
+    ghost view = { λ b. record {
+      id_length = b.id_length;
+      root_commit_id = b.root_commit_id;
+      root_change_id = b.root_change_id;
+      empty_tree_id = b.empty_tree_id;
+      files = b.files.entries;
+      symlinks = b.symlinks.entries;
+      copies = b.copies.entries;
+      trees = b.trees.entries;
+      commits = b.commits.entries;
+    } };
+
+    ghost invariant = { λ b. (b.id_length ≤ 64)
+        × (by_id b.trees.entries b.empty_tree_id ≡ Some [])
+        × (by_id b.commits.entries b.root_commit_id
+        ≡ Some (root_commit b.root_change_id b.empty_tree_id)) };
+}
+
+impl MemoryBackend {
+    /// A backend with whole digests, of 64 bytes, as ids.
+    pub fn new(alloc: Global) -> Result<Self, AllocError>
+        ensures { IfOk result (λ backend. backend ≡ new_backend 64) }
+    {
+        MemoryBackend::with_id_length(alloc, 64)
+    }
+
+    /// A backend with ids of that many bytes. The ids of changes have 16.
+    pub fn with_id_length(alloc: Global, id_length: usize) -> Result<Self, AllocError>
+        requires least { 1 ≤ id_length }
+        requires greatest { id_length ≤ 64 }
+        ensures { IfOk result (λ backend. backend ≡ new_backend id_length) }
+    {
+        let root_commit_id: CommitId = zeros(alloc, id_length)?;
+        let root_change_id: ChangeId = zeros(alloc, CHANGE_ID_LENGTH)?;
+        let empty_tree = Tree::default(alloc);
+        let empty_tree_id: TreeId = id_of(alloc, id_length, &empty_tree)?;
+        let commit = make_root_commit(alloc, root_change_id.clone()?, empty_tree_id.clone()?);
+        let trees = one_object(alloc, empty_tree_id.clone()?, empty_tree)?;
+        let commits = one_object(alloc, root_commit_id.clone()?, commit)?;
+        Ok(MemoryBackend {
+            id_length,
+            root_commit_id,
+            root_change_id,
+            empty_tree_id,
+            files: BTreeMap::new(alloc),
+            symlinks: BTreeMap::new(alloc),
+            copies: BTreeMap::new(alloc),
+            trees,
+            commits,
+        })
+    }
+
+    // Keeps a commit as it is, and answers it with its id.
+    fn keep_commit(&mut self, alloc: Global, commit: Commit) -> BackendResult<(CommitId, Commit)>
+        ensures ok { IfOk result (λ kept.
+            AddsCommit (objects_of self.old) (objects_of self.new) kept.0 kept.1) }
+        ensures commit { IfOk result (λ kept. kept.1 ≡ commit) }
+        ensures id { IfOk result (λ kept.
+            kept.0 ≡ object_id self.old.id_length (commit_content commit)) }
+        ensures same { self.new ≡ record self.old { commits = self.new.commits } }
+        ensures kept { OnErr result (self.new ≡ self.old) }
+        ensures refused { IfErr result (λ e. (e ≡ BackendError.Memory)
+            ⊎ ((is_other e ≡ true) × StandsForOther self.old.commits
+            (object_id self.old.id_length (commit_content commit)) commit)) }
+    {
+        let id = id_of(alloc, self.id_length, &commit)?;
+        keep_copied(alloc, &mut self.commits, id, commit)
+    }
+}
+
+impl Backend for MemoryBackend {
+    ghost use Rattle.std.specs.Prelude.{◌≡◌};
+    ghost use Rattle.jj_backend.specs.declared.backend.errors.BackendError.TheVariants.{Memory};
+    ghost use Rattle.jj_trees.specs.Kept.{objects_of};
+
+    ghost objects = { objects_of };
+
+    ghost may_fail = { λ _ e. e ≡ Memory };
+
+    fn name(&self) -> &str
+        ensures { result.now ≡ codes "memory" }
+    {
+        "memory"
+    }
+
+    fn commit_id_length(&self) -> usize
+        ensures { result ≡ self.now.id_length }
+    {
+        self.id_length
+    }
+
+    fn change_id_length(&self) -> usize
+        ensures { result ≡ 16 }
+    {
+        CHANGE_ID_LENGTH
+    }
+
+    fn root_commit_id(&self) -> &CommitId
+        ensures id { result.now ≡ self.now.root_commit_id }
+        ensures commit { (objects_of self.now).commits result.now
+            ≡ Some (root_commit self.now.root_change_id self.now.empty_tree_id) }
+    {
+        &self.root_commit_id
+    }
+
+    fn root_change_id(&self) -> &ChangeId
+        ensures { result.now ≡ self.now.root_change_id }
+    {
+        &self.root_change_id
+    }
+
+    fn empty_tree_id(&self) -> &TreeId
+        ensures id { result.now ≡ self.now.empty_tree_id }
+        ensures tree { (objects_of self.now).trees result.now ≡ Some [] }
+    {
+        &self.empty_tree_id
+    }
+
+    fn concurrency(&self) -> usize
+        ensures { result ≡ 1 }
+    {
+        1
+    }
+
+    fn read_file(&self, alloc: Global, _path: RepoPath<'_>, id: &FileId) -> BackendResult<Vec<u8>> {
+        Ok(object_of(alloc, &self.files, id)?.bytes)
+    }
+
+    fn write_file(
+        &mut self,
+        alloc: Global,
+        _path: RepoPath<'_>,
+        contents: &[u8],
+    ) -> BackendResult<FileId>
+        ensures ok { IfOk result (λ id.
+            AddsFile (objects_of self.old) (objects_of self.new) id contents.now) }
+        ensures id { IfOk result (λ id.
+            id ≡ object_id self.old.id_length (bytes_content contents.now)) }
+        ensures same { self.new ≡ record self.old { files = self.new.files } }
+        ensures kept { OnErr result (self.new ≡ self.old) }
+        ensures refused { IfErr result (λ e. (e ≡ BackendError.Memory)
+            ⊎ ((is_other e ≡ true) × StandsForOther self.old.files
+            (object_id self.old.id_length (bytes_content contents.now)) contents.now)) }
+    {
+        let bytes = Vec::from_slice(alloc, contents)?;
+        let id = id_of(alloc, self.id_length, &bytes)?;
+        keep(alloc, &mut self.files, id, FileContent { bytes })
+    }
+
+    fn read_symlink(
+        &self,
+        alloc: Global,
+        _path: RepoPath<'_>,
+        id: &SymlinkId,
+    ) -> BackendResult<String> {
+        Ok(object_of(alloc, &self.symlinks, id)?.text)
+    }
+
+    fn write_symlink(
+        &mut self,
+        alloc: Global,
+        _path: RepoPath<'_>,
+        target: &str,
+    ) -> BackendResult<SymlinkId>
+        ensures ok { IfOk result (λ id.
+            AddsSymlink (objects_of self.old) (objects_of self.new) id target.now) }
+        ensures id { IfOk result (λ id.
+            id ≡ object_id self.old.id_length (text_content target.now)) }
+        ensures same { self.new ≡ record self.old { symlinks = self.new.symlinks } }
+        ensures kept { OnErr result (self.new ≡ self.old) }
+        ensures refused { IfErr result (λ e. (e ≡ BackendError.Memory)
+            ⊎ ((is_other e ≡ true) × StandsForOther self.old.symlinks
+            (object_id self.old.id_length (text_content target.now)) target.now)) }
+    {
+        let text = String::from_str(alloc, target)?;
+        let id = id_of(alloc, self.id_length, &text)?;
+        keep(alloc, &mut self.symlinks, id, LinkTarget { text })
+    }
+
+    fn read_copy(&self, alloc: Global, id: &CopyId) -> BackendResult<CopyHistory> {
+        object_of(alloc, &self.copies, id)
+    }
+
+    fn write_copy(&mut self, alloc: Global, copy: &CopyHistory) -> BackendResult<CopyId>
+        ensures ok { IfOk result (λ id.
+            AddsCopy (objects_of self.old) (objects_of self.new) id copy.now) }
+        ensures id { IfOk result (λ id.
+            id ≡ object_id self.old.id_length (copy_history_content copy.now)) }
+        ensures same { self.new ≡ record self.old { copies = self.new.copies } }
+        ensures kept { OnErr result (self.new ≡ self.old) }
+        ensures refused { IfErr result (λ e. (e ≡ BackendError.Memory)
+            ⊎ ((is_other e ≡ true) × StandsForOther self.old.copies
+            (object_id self.old.id_length (copy_history_content copy.now)) copy.now)) }
+    {
+        let id = id_of(alloc, self.id_length, copy)?;
+        let copy = copy.clone()?;
+        keep(alloc, &mut self.copies, id, copy)
+    }
+
+    /// Not supported here.
+    fn get_related_copies(
+        &self,
+        alloc: Global,
+        _copy_id: &CopyId,
+    ) -> BackendResult<Vec<RelatedCopy>>
+        ensures { IsErrAnd result (λ e. (e ≡ BackendError.Memory) ⊎ (is_unsupported e ≡ true)) }
+    {
+        Err(unsupported_error(alloc, "related copies are not kept"))
+    }
+
+    fn read_tree(&self, alloc: Global, _path: RepoPath<'_>, id: &TreeId) -> BackendResult<Tree> {
+        object_of(alloc, &self.trees, id)
+    }
+
+    fn write_tree(
+        &mut self,
+        alloc: Global,
+        _path: RepoPath<'_>,
+        contents: &Tree,
+    ) -> BackendResult<TreeId>
+        ensures ok { IfOk result (λ id.
+            AddsTree (objects_of self.old) (objects_of self.new) id contents.now) }
+        ensures id { IfOk result (λ id.
+            id ≡ object_id self.old.id_length (tree_content contents.now)) }
+        ensures same { self.new ≡ record self.old { trees = self.new.trees } }
+        ensures kept { OnErr result (self.new ≡ self.old) }
+        ensures refused { IfErr result (λ e. (e ≡ BackendError.Memory)
+            ⊎ ((is_other e ≡ true) × StandsForOther self.old.trees
+            (object_id self.old.id_length (tree_content contents.now)) contents.now)) }
+    {
+        let id = id_of(alloc, self.id_length, contents)?;
+        let tree = contents.clone()?;
+        keep(alloc, &mut self.trees, id, tree)
+    }
+
+    fn read_commit(&self, alloc: Global, id: &CommitId) -> BackendResult<Commit> {
+        object_of(alloc, &self.commits, id)
+    }
+
+    /// A commit without parents is refused before it is signed.
+    fn write_commit<S: SigningFn>(
+        &mut self,
+        alloc: Global,
+        contents: Commit,
+        sign_with: Option<&mut S>,
+    ) -> BackendResult<(CommitId, Commit)>
+        ensures ok { IfOk result (λ kept.
+            AddsCommit (objects_of self.old) (objects_of self.new) kept.0 kept.1) }
+        ensures signed { IfOk result (λ kept.
+            IsSigned S.may_sign (option_map (λ f. f.now) sign_with.entry) contents kept.1) }
+        ensures parents { OnOk result (contents.parents ≢ []) }
+        ensures id { IfOk result (λ kept.
+            kept.0 ≡ object_id self.old.id_length (commit_content kept.1)) }
+        ensures same { self.new ≡ record self.old { commits = self.new.commits } }
+        ensures kept { OnErr result (self.new ≡ self.old) }
+        ensures refused { IfErr result (λ e. (e ≡ BackendError.Memory)
+            ⊎ ((is_other e ≡ true) × (contents.parents ≡ []))
+            ⊎ ((contents.parents ≢ [])
+            × FailsToSign S.may_sign (option_map (λ f. f.now) sign_with.entry) contents e)
+            ⊎ ((is_other e ≡ true) × StandsForOtherCommit self.old
+            (IsSigned S.may_sign (option_map (λ f. f.now) sign_with.entry) contents))) }
+    {
+        if contents.parents.is_empty() {
+            return Err(other_error(alloc, "a commit needs a parent"));
+        }
+        let commit = kept_commit(alloc, contents, sign_with)?;
+        self.keep_commit(alloc, commit)
+    }
+
+    /// Not supported here.
+    fn get_copy_records(
+        &self,
+        alloc: Global,
+        _paths: Option<&[RepoPathBuf]>,
+        _root: &CommitId,
+        _head: &CommitId,
+    ) -> BackendResult<Vec<CopyRecord>>
+        ensures { IsErrAnd result (λ e. (e ≡ BackendError.Memory) ⊎ (is_unsupported e ≡ true)) }
+    {
+        Err(unsupported_error(alloc, "copies are not found between commits"))
+    }
+}

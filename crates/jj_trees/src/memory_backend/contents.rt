@@ -1,0 +1,107 @@
+//! Contents of files and targets of links as they are kept, and content bytes in a list.
+ghost use Rattle.std.specs.Prelude.{◌≡◌, ℕ, List, IfOk, IsTrue, string_bytes};
+ghost use Rattle.std.specs.Cmp;
+ghost use Rattle.std.specs.Cmp.Lexicographic.{nat_list_eq_equiv};
+ghost use Rattle.std.specs.Str.{bytes_eq};
+ghost use Rattle.jj_content.specs.Content.{Takes};
+
+use jj_content::content_hash::{ContentHash, DigestUpdate};
+use std::alloc::{AllocError, Global};
+use std::marker::Model;
+
+/// The content of a file.
+#[derive(Drop)]
+pub(super) struct FileContent {
+    pub(super) bytes: Vec<u8>,
+}
+
+impl Model for FileContent {
+    ghost Value = { List ℕ };
+
+    ghost view = { λ content. content.bytes.items };
+}
+
+impl Clone for FileContent {
+    ghost is_clone = { λ content c. c ≡ content };
+
+    fn clone(&self) -> Result<Self, AllocError> {
+        Ok(FileContent {
+            bytes: self.bytes.clone()?,
+        })
+    }
+}
+
+impl PartialEq for FileContent {
+    ghost eq = { bytes_eq };
+
+    ghost laws = { Cmp.partial_equiv_from_equiv nat_list_eq_equiv };
+
+    fn eq(&self, other: &FileContent) -> bool {
+        self.bytes == other.bytes
+    }
+}
+
+/// What a symbolic link points to.
+#[derive(Drop)]
+pub(super) struct LinkTarget {
+    pub(super) text: String,
+}
+
+impl Model for LinkTarget {
+    ghost Value = { List ℕ };
+
+    ghost view = { λ target. string_bytes target.text };
+}
+
+impl Clone for LinkTarget {
+    ghost is_clone = { λ target c. c ≡ target };
+
+    fn clone(&self) -> Result<Self, AllocError> {
+        Ok(LinkTarget {
+            text: self.text.clone()?,
+        })
+    }
+}
+
+impl PartialEq for LinkTarget {
+    ghost eq = { bytes_eq };
+
+    ghost laws = { Cmp.partial_equiv_from_equiv nat_list_eq_equiv };
+
+    fn eq(&self, other: &LinkTarget) -> bool {
+        self.text == other.text
+    }
+}
+
+/// Content bytes that were taken in, while there was room for all of them.
+#[derive(Drop)]
+struct TakenBytes {
+    bytes: Vec<u8>,
+    is_whole: bool,
+}
+
+impl DigestUpdate for TakenBytes {
+    ghost stands_for = { λ taken bytes. IsTrue taken.is_whole → taken.bytes.items ≡ bytes };
+
+    fn update(&mut self, bytes: &[u8]) {
+        if self.is_whole && self.bytes.extend_from_slice(bytes).is_err() {
+            self.is_whole = false;
+        }
+    }
+}
+
+/// The content bytes of a value.
+pub(super) fn content_of<T: ContentHash>(alloc: Global, value: &T) -> Result<Vec<u8>, AllocError>
+    ensures { IfOk result (λ bytes. bytes.items ≡ T.content value.now) }
+{
+    let mut taken = TakenBytes {
+        bytes: Vec::new(alloc),
+        is_whole: true,
+    };
+    value.hash(alloc, &mut taken)?;
+    if taken.is_whole {
+        Ok(taken.bytes)
+    } else {
+        Err(AllocError)
+    }
+}

@@ -1,0 +1,141 @@
+//! Objects of one type, kept by their ids.
+ghost use Rattle.std.specs.Prelude.{◌≡◌, ◌≤◌, ◌⊎◌, [], ◌∷◌, true, IfOk, IfErr, OnOk, OnErr};
+ghost use Rattle.std.specs.Bool.{Decides};
+ghost use Rattle.jj_backend.specs.Errors.{is_not_found, is_other};
+ghost use Rattle.jj_backend.specs.Objects.{IsRead, IsFree, put};
+ghost use Rattle.jj_trees.specs.Kept.{by_id, object_id, StandsForOther};
+
+use jj_backend::backend::{BackendError, BackendResult};
+use jj_content::content_hash::{ContentHash, blake2b_hash};
+use jj_ids::object_id::{Id, IdKind, ObjectId};
+use jj_paths::file_util::{SourceError, SourceKind};
+use std::alloc::{AllocError, Global};
+use std::collections::BTreeMap;
+
+// The name of an id's type of object, and its hex text.
+fn texts_of<K: IdKind>(alloc: Global, id: &Id<K>) -> Result<(String, String), AllocError> {
+    Ok((id.object_type(alloc)?, id.hex(alloc)?))
+}
+
+// The error that an id stands for nothing.
+fn not_found<K: IdKind>(alloc: Global, id: &Id<K>) -> BackendError
+    ensures { (is_not_found result ≡ true) ⊎ (result ≡ BackendError.Memory) }
+{
+    match texts_of(alloc, id) {
+        Ok((object_type, hash)) => BackendError::ObjectNotFound {
+            object_type,
+            hash,
+            source: None,
+        },
+        Err(_) => BackendError::Memory,
+    }
+}
+
+// The error `Other` with this message.
+pub(super) fn other_error(alloc: Global, message: &str) -> BackendError
+    ensures { (is_other result ≡ true) ⊎ (result ≡ BackendError.Memory) }
+{
+    match String::from_str(alloc, message) {
+        Ok(message) => BackendError::Other(SourceError {
+            kind: SourceKind::Other,
+            message,
+        }),
+        Err(_) => BackendError::Memory,
+    }
+}
+
+// The id of a value, of that many bytes.
+pub(super) fn id_of<K, T: ContentHash>(
+    alloc: Global,
+    id_length: usize,
+    value: &T,
+) -> Result<Id<K>, AllocError>
+    requires { id_length ≤ 64 }
+    ensures { IfOk result (λ id. id ≡ object_id id_length (T.content value.now)) }
+{
+    let digest = blake2b_hash(alloc, value)?;
+    Id::from_bytes(alloc, &digest[..id_length])
+}
+
+// One object, kept by its id.
+pub(super) fn one_object<K: IdKind, V: Drop>(
+    alloc: Global,
+    id: Id<K>,
+    value: V,
+) -> Result<BTreeMap<Id<K>, V>, AllocError>
+    ensures { IfOk result (λ kept. kept.entries ≡ (id, value) ∷ []) }
+{
+    let mut kept = BTreeMap::new(alloc);
+    kept.insert(id, value)?;
+    Ok(kept)
+}
+
+// What an id stands for.
+pub(super) fn object_of<K: IdKind, V: Clone>(
+    alloc: Global,
+    kept: &BTreeMap<Id<K>, V>,
+    id: &Id<K>,
+) -> BackendResult<V>
+    requires { (v w : V) → V.is_clone v w → w ≡ v }
+    ensures { IsRead (λ e. e ≡ BackendError.Memory) (by_id kept.now.entries id.now) (λ v. v) result }
+{
+    match kept.get(id) {
+        Some(value) => Ok(value.clone()?),
+        None => Err(not_found(alloc, id)),
+    }
+}
+
+// Keeps a value under an id, and answers the id; an id that stands for another value is refused.
+pub(super) fn keep<K: IdKind, V: PartialEq + Drop>(
+    alloc: Global,
+    kept: &mut BTreeMap<Id<K>, V>,
+    id: Id<K>,
+    value: V,
+) -> BackendResult<Id<K>>
+    requires { (v w : V) → Decides (V.eq v w) (v ≡ w) }
+    ensures id { IfOk result (λ answer. answer ≡ id) }
+    ensures free { OnOk result (IsFree (by_id kept.old.entries) id value) }
+    ensures added { OnOk result (by_id kept.new.entries ≡ put (by_id kept.old.entries) id value) }
+    ensures kept { OnErr result (kept.new.entries ≡ kept.old.entries) }
+    ensures refused { IfErr result (λ e. (e ≡ BackendError.Memory)
+        ⊎ ((is_other e ≡ true) × StandsForOther kept.old.entries id value)) }
+{
+    match kept.get(&id) {
+        Some(other) => {
+            if *other == value {
+                Ok(id)
+            } else {
+                Err(other_error(alloc, "the id stands for another object"))
+            }
+        }
+        None => {
+            let key = id.clone()?;
+            kept.insert(key, value)?;
+            Ok(id)
+        }
+    }
+}
+
+// As `keep`, and answers the value too.
+pub(super) fn keep_copied<K: IdKind, V: Clone + PartialEq + Drop>(
+    alloc: Global,
+    kept: &mut BTreeMap<Id<K>, V>,
+    id: Id<K>,
+    value: V,
+) -> BackendResult<(Id<K>, V)>
+    requires clones { (v w : V) → V.is_clone v w → w ≡ v }
+    requires decides { (v w : V) → Decides (V.eq v w) (v ≡ w) }
+    ensures id { IfOk result (λ answer. answer.0 ≡ id) }
+    ensures value { IfOk result (λ answer. answer.1 ≡ value) }
+    ensures free { OnOk result (IsFree (by_id kept.old.entries) id value) }
+    ensures added { OnOk result (by_id kept.new.entries ≡ put (by_id kept.old.entries) id value) }
+    ensures kept { OnErr result (kept.new.entries ≡ kept.old.entries) }
+    ensures refused { IfErr result (λ e. (e ≡ BackendError.Memory)
+        ⊎ ((is_other e ≡ true) × StandsForOther kept.old.entries id value)) }
+{
+    let answer = value.clone()?;
+    match keep(alloc, kept, id, value) {
+        Ok(id) => Ok((id, answer)),
+        Err(error) => Err(error),
+    }
+}
