@@ -8,7 +8,8 @@ ghost use Rattle.jj_stores.specs.Verdict.{Verdict};
 use jj_ids::object_id::CommitId;
 use jj_stores::signing::{SignError, Signer, Verification};
 
-/// Verifies a commit that is remembered: the answer is what is remembered, whatever the data and the signature are.
+/// Verifies a commit that is remembered: the answer is what is remembered, whatever the data and
+/// the signature are.
 pub fn verify_again(
     signer: &mut Signer,
     commit_id: &CommitId,

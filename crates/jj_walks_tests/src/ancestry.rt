@@ -1,4 +1,5 @@
-//! Callers over a list of commits: each states what a walk gives in the words of commits, and is proved by the walk's contract.
+//! Callers over a list of commits: each states what a walk gives in the words of commits, and is
+//! proved by the walk's contract.
 ghost use Rattle.std.specs.Prelude.{◌≡◌, true, IfOk, IfErr, eqb, map};
 ghost use Rattle.std.specs.List.{Contains, IsDistinct};
 ghost use Rattle.jj_walks.specs.CommonNodes.{AreClosestCommon};
@@ -13,13 +14,15 @@ use jj_walks::dag_walk_async::closest_common_nodes;
 use std::alloc::{AllocError, Global};
 use std::collections::HashSet;
 
-/// The commits of the list, each after its parents that are in the list; the id of a commit on a cycle is an error.
+/// The commits of the list, each after its parents that are in the list; the id of a commit on a
+/// cycle is an error.
 pub fn parents_first<'a>(
     alloc: Global,
     commits: &'a [Commit],
 ) -> Result<Vec<&'a Commit>, WalkError<u64>>
     requires { IsDistinct eqb (ids_of commits.now) }
-    ensures order { IfOk result (λ order. IsParentsFirst commits.now (map (λ commit. commit.now) order.items)) }
+    ensures order { IfOk result (λ order. IsParentsFirst commits.now
+        (map (λ commit. commit.now) order.items)) }
     ensures cycle { IfErr result (λ e. IfNode e (IsOnCycle commits.now)) }
 {
     topo_order_forward(
@@ -35,7 +38,8 @@ pub fn parents_first<'a>(
 pub fn tips<'a>(alloc: Global, commits: &'a [Commit]) -> Result<HashSet<&'a Commit>, AllocError>
     requires once { IsDistinct eqb (ids_of commits.now) }
     requires acyclic { HasNoCycle (parent_graph commits.now) (ids_of commits.now) }
-    ensures { IfOk result (λ found. IsMaximalIn (parent_graph commits.now) (ids_of commits.now) (map (λ commit. commit.now.id) found.keys)) }
+    ensures { IfOk result (λ found. IsMaximalIn (parent_graph commits.now) (ids_of commits.now)
+        (map (λ commit. commit.now.id) found.keys)) }
 {
     heads(
         alloc,
@@ -45,7 +49,8 @@ pub fn tips<'a>(alloc: Global, commits: &'a [Commit]) -> Result<HashSet<&'a Comm
     )
 }
 
-/// The commits from which two sets of commits of the list both come, and which no other such commit has for an ancestor.
+/// The commits from which two sets of commits of the list both come, and which no other such commit
+/// has for an ancestor.
 pub fn merge_bases<'a>(
     alloc: Global,
     commits: &'a [Commit],
@@ -55,7 +60,8 @@ pub fn merge_bases<'a>(
     requires first { (c : Commit) → Contains set1.now c → has_commit commits.now c ≡ true }
     requires second { (c : Commit) → Contains set2.now c → has_commit commits.now c ≡ true }
     requires acyclic { HasNoCycle (parent_graph commits.now) (ids_of set1.now) }
-    ensures { IfOk result (λ bases. AreClosestCommon (parent_graph commits.now) (ids_of set1.now) (ids_of set2.now) (map (λ commit. commit.now.id) bases.items)) }
+    ensures { IfOk result (λ bases. AreClosestCommon (parent_graph commits.now) (ids_of set1.now)
+        (ids_of set2.now) (map (λ commit. commit.now.id) bases.items)) }
 {
     closest_common_nodes(
         alloc,
