@@ -483,8 +483,8 @@ impl<V> RepoPathTree<V> {
         Ok(self.node_mut(path))
     }
 
-    /// Sets the value at a path, with the nodes that `add` makes. Refused, it leaves what `add`
-    /// leaves.
+    /// Sets the value at a path, with the nodes that `add` makes. Where memory is refused, the tree
+    /// is as `add` leaves it.
     pub fn set(&mut self, path: RepoPath<'_>, value: V) -> Result<(), AllocError>
     where
         V: Default + Drop,

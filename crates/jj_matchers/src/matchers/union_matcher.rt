@@ -50,8 +50,8 @@ impl<M1: Matcher, M2: Matcher> Matcher for UnionMatcher<M1, M2> {
     }
 }
 
-/// What either of two answers names, from which a union of more matchers than two can be answered
-/// without nesting.
+/// What either of two answers names. A union of many matchers is answered by it step by step, with
+/// no recursion.
 pub fn union_visit(first: Visit, second: Visit) -> Result<Visit, AllocError>
     ensures { IfOk result (λ visit. answer_of visit
         ≡ union_answer (answer_of first) (answer_of second)) }
