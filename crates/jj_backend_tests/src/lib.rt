@@ -1,0 +1,14 @@
+//! Tests of jj_backend over its public calls, and proved callers of it.
+//
+// In a run in which one request for memory is refused, a call answers that, and is then made once more, when there is memory.
+#![tactic(auto)]
+
+pub mod callers;
+#[cfg(test)]
+mod error_tests;
+#[cfg(test)]
+mod json_tests;
+#[cfg(test)]
+mod records;
+#[cfg(test)]
+mod tree_value_tests;

@@ -1,0 +1,149 @@
+//! Merges of what stands at a path: whether they are trees, the parts of files, and conflicts in words.
+use crate::records::file;
+use jj_backend::backend::{
+    FileId, MergedTreeVal, MergedTreeValue, MergedTreeValueExt, SymlinkId, TreeId, TreeValue,
+    borrow_tree_value,
+};
+use jj_merges::conflict_labels::ConflictLabels;
+use jj_merges::merge::Merge;
+use smallvec::SmallVec;
+use std::alloc::{AllocError, Global};
+use std::process::Abort;
+use std::test::Fail;
+
+type Term = Option<TreeValue>;
+
+fn merge<R: Abort>(
+    rt: &R,
+    alloc: Global,
+    first: Term,
+    base: Term,
+    second: Term,
+) -> Result<MergedTreeValue, AllocError> {
+    let terms = vec![in alloc; first, base, second]?;
+    assert!(rt; terms.len() == 3);
+    Ok(Merge::from_vec(SmallVec::from_vec(terms)))
+}
+
+fn link(alloc: Global) -> Result<Term, AllocError> {
+    Ok(Some(TreeValue::Symlink(SymlinkId::from_bytes(alloc, &[2])?)))
+}
+
+fn directory(alloc: Global) -> Result<Term, AllocError> {
+    Ok(Some(TreeValue::Tree(TreeId::from_bytes(alloc, &[3])?)))
+}
+
+// A file, and a symbolic link that was made in its place.
+fn conflict<R: Abort>(rt: &R, alloc: Global) -> Result<MergedTreeValue, AllocError> {
+    merge(rt, alloc, Some(file(alloc, 1, false)?), None, link(alloc)?)
+}
+
+fn labels<R: Abort>(rt: &R, alloc: Global) -> Result<ConflictLabels, AllocError> {
+    let mut texts = Vec::new(alloc);
+    for text in ["left", "", "right"] {
+        texts.push(String::from_str(alloc, text)?)?;
+    }
+    assert!(rt; texts.len() == 3);
+    Ok(ConflictLabels::from_vec(SmallVec::from_vec(texts)))
+}
+
+fn told<R: Abort>(rt: &R, alloc: Global) -> Result<String, AllocError> {
+    conflict(rt, alloc)?.describe(alloc, &labels(rt, alloc)?)
+}
+
+#[test]
+fn a_conflict_in_words(rt: HostRuntime) -> Result<(), Fail> {
+    let text = told(&rt, rt.alloc()).or_else(|_| told(&rt, rt.alloc()))?;
+    assert_eq!(rt;
+        text.as_str(),
+        "Conflict:\n  Adding file with id 01 (left)\n  Adding symlink with id 02 (right)\n"
+    );
+    Ok(())
+}
+
+fn told_of_removed<R: Abort>(rt: &R, alloc: Global) -> Result<String, AllocError> {
+    let removed = Some(file(alloc, 1, true)?);
+    let conflict = merge(rt, alloc, directory(alloc)?, removed, None)?;
+    conflict.describe(alloc, &ConflictLabels::unlabeled(alloc))
+}
+
+#[test]
+fn removed_terms_come_first(rt: HostRuntime) -> Result<(), Fail> {
+    let alloc = rt.alloc();
+    let text = told_of_removed(&rt, alloc).or_else(|_| told_of_removed(&rt, alloc))?;
+    assert_eq!(rt;
+        text.as_str(),
+        "Conflict:\n  Removing executable file with id 01\n  Adding tree with id 03\n"
+    );
+    Ok(())
+}
+
+fn kinds(merge: &MergedTreeValue) -> (bool, bool) {
+    (merge.is_tree(), merge.is_file_like())
+}
+
+fn kinds_of_conflicts<R: Abort>(rt: &R, alloc: Global) -> Result<bool, AllocError> {
+    let trees = merge(rt, alloc, directory(alloc)?, None, directory(alloc)?)?;
+    let nothing = merge(rt, alloc, None, None, None)?;
+    let other = conflict(rt, alloc)?;
+    Ok(
+        kinds(&trees) == (true, false)
+            && kinds(&nothing) == (true, false)
+            && kinds(&other) == (false, true),
+    )
+}
+
+#[test]
+fn trees_and_files(rt: HostRuntime) -> Result<(), Fail> {
+    let alloc = rt.alloc();
+    assert!(rt; kinds_of_conflicts(&rt, alloc).or_else(|_| kinds_of_conflicts(&rt, alloc))?);
+    assert!(rt; kinds(&MergedTreeValue::absent(alloc)) == (false, false));
+    Ok(())
+}
+
+fn ids_of_files<R: Abort>(rt: &R, alloc: Global) -> Result<bool, AllocError> {
+    let one = Some(file(alloc, 1, true)?);
+    let files = merge(rt, alloc, one, None, Some(file(alloc, 2, false)?))?;
+    let Some(ids) = files.to_file_merge(alloc)? else {
+        return Ok(false);
+    };
+    let first = FileId::from_bytes(alloc, &[1])?;
+    let second = FileId::from_bytes(alloc, &[2])?;
+    Ok(ids.as_slice() == [Some(first), None, Some(second)].as_slice())
+}
+
+#[test]
+fn ids_place_by_place(rt: HostRuntime) -> Result<(), Fail> {
+    let alloc = rt.alloc();
+    assert!(rt; ids_of_files(&rt, alloc).or_else(|_| ids_of_files(&rt, alloc))?);
+    Ok(())
+}
+
+fn has_no_parts<R: Abort>(rt: &R, alloc: Global) -> Result<bool, AllocError> {
+    let conflict = conflict(rt, alloc)?;
+    let ids = conflict.to_file_merge(alloc)?;
+    let executable = conflict.to_executable_merge(alloc)?;
+    let copies = conflict.to_copy_id_merge(alloc)?;
+    Ok(ids.is_none() && executable.is_none() && copies.is_none())
+}
+
+#[test]
+fn a_symlink_has_no_parts_of_a_file(rt: HostRuntime) -> Result<(), Fail> {
+    let alloc = rt.alloc();
+    assert!(rt; has_no_parts(&rt, alloc).or_else(|_| has_no_parts(&rt, alloc))?);
+    Ok(())
+}
+
+fn borrowed_file(alloc: Global) -> Result<bool, AllocError> {
+    let file = file(alloc, 1, false)?;
+    let merge: MergedTreeVal<'_> = Merge::normal(alloc, &file);
+    let borrowed = borrow_tree_value(Some(&file)) == Some(&file);
+    Ok(borrowed && !merge.is_tree() && merge.is_file_like())
+}
+
+#[test]
+fn borrowed_values(rt: HostRuntime) -> Result<(), Fail> {
+    let alloc = rt.alloc();
+    assert!(rt; borrowed_file(alloc).or_else(|_| borrowed_file(alloc))?);
+    Ok(())
+}
