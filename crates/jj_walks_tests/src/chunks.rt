@@ -18,7 +18,11 @@ const SQUARE: FailingTable<'static> = &[
 const JOINED: FailingTable<'static> = &[('2', &[Ok('1')]), ('3', &[Ok('1')]), ('1', &[Ok('0')])];
 
 /// Two chains, of which one has its root above the end of the other.
-const GREAT_ROOT: FailingTable<'static> = &[('b', &[Ok('a')]), ('B', &[Ok('A')]), ('A', &[Ok('b')])];
+const GREAT_ROOT: FailingTable<'static> = &[
+    ('b', &[Ok('a')]),
+    ('B', &[Ok('A')]),
+    ('A', &[Ok('b')]),
+];
 
 /// Each is its own neighbour.
 const ROUND: FailingTable<'static> = &[('a', &[Ok('a')]), ('x', &[Ok('x')])];
@@ -79,7 +83,13 @@ fn chunks<R: Abort>(rt: &R, alloc: Global) -> Result<(), AllocError> {
     // The greater start is the lesser one's root, so all is explored.
     start.push('B')?;
     start.push('a')?;
-    gives(rt, alloc, GREAT_ROOT, &mut start, (&['B', 'A', 'b', 'a'], &[]))?;
+    gives(
+        rt,
+        alloc,
+        GREAT_ROOT,
+        &mut start,
+        (&['B', 'A', 'b', 'a'], &[]),
+    )?;
     // A start that comes twice is given once.
     start.push('A')?;
     start.push('A')?;

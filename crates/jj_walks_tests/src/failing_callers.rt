@@ -87,19 +87,31 @@ mod tests {
         })
     }
 
+    fn found_tips<'a>(
+        alloc: Global,
+        commits: &'a [Commit],
+    ) -> Result<HashSet<&'a Commit>, WalkError<Gap>> {
+        heads(
+            alloc,
+            commits.iter(),
+            |commit: &&Commit| commit.id,
+            |commit: &&Commit| whole_parents_of(alloc, commits, *commit),
+        )
+    }
+
     fn tips_and_gaps<R: Abort>(rt: &R, alloc: Global) -> Result<(), AllocError> {
         let mut commits = Vec::new(alloc);
         commits.push(commit(alloc, 1, &[], "root")?)?;
         commits.push(commit(alloc, 2, &[1], "left")?)?;
         commits.push(commit(alloc, 3, &[1], "right")?)?;
-        let tips = match whole_tips(alloc, &commits) {
+        let tips = match found_tips(alloc, &commits) {
             Ok(tips) => tips.len(),
             Err(WalkError::Memory) => return Err(AllocError),
             Err(WalkError::Node(_gap)) => 0,
         };
         assert_eq!(rt; tips, 2);
         commits.push(commit(alloc, 4, &[2, 9], "merge of what is not there")?)?;
-        match whole_tips(alloc, &commits) {
+        match found_tips(alloc, &commits) {
             Ok(_tips) => assert!(rt; false, "commit 4 lacks a parent"),
             Err(WalkError::Memory) => return Err(AllocError),
             Err(WalkError::Node(Gap::Memory)) => return Err(AllocError),
