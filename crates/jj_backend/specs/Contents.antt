@@ -1,5 +1,5 @@
--- The content bytes of records: those of the parts, in order; and the values whose lists and texts are no longer
--- than a count can say.
+-- The content bytes of records: those of the parts, in order; and the values whose lists and texts
+-- are no longer than a count can say.
 use Rattle.std.specs.Prelude.{ℕ, ◌<◌, ◌^◌, [], ◌∷◌, List, length, ◌++◌, FitsSigned}
 use Rattle.std.specs.Int.{w32, w64}
 use Rattle.jj_content.specs.Content.{i32_content, i64_content, text_content, list_content, option_content, AreValues, IsOptionOf}
@@ -56,10 +56,12 @@ abbrev pub copy_history_content : CopyHistoryValue → List ℕ
 copy_history_content h =
     path_content h.current_path ++ (list_content bytes_content h.parents ++ bytes_content h.salt)
 
--- ---- commits: parents, predecessors, tree; labels, change, description; author, committer, signature
+-- ---- commits: parents, predecessors, tree; labels, change, description; author, committer,
+-- signature
 
 abbrev pub IsOrigin : CommitValue → Type 0
-IsOrigin c = AreValues AreBytes c.parents × (AreValues AreBytes c.predecessors × AreValues AreBytes c.root_tree)
+IsOrigin c = AreValues AreBytes c.parents
+    × (AreValues AreBytes c.predecessors × AreValues AreBytes c.root_tree)
 
 abbrev pub origin_content : CommitValue → List ℕ
 origin_content c =
@@ -71,10 +73,12 @@ IsMessage c = AreValues IsText c.conflict_labels × (AreBytes c.change_id × IsT
 
 abbrev pub message_content : CommitValue → List ℕ
 message_content c =
-    list_content text_content c.conflict_labels ++ (bytes_content c.change_id ++ text_content c.description)
+    list_content text_content c.conflict_labels
+    ++ (bytes_content c.change_id ++ text_content c.description)
 
 abbrev pub AreSigners : CommitValue → Type 0
-AreSigners c = IsSignature c.author × (IsSignature c.committer × IsOptionOf IsSecureSig c.secure_sig)
+AreSigners c = IsSignature c.author × (IsSignature c.committer
+    × IsOptionOf IsSecureSig c.secure_sig)
 
 abbrev pub signers_content : CommitValue → List ℕ
 signers_content c =

@@ -1,5 +1,5 @@
--- Merges of what stands at a path in several trees: whether they are trees or files, the parts of the files, and how
--- a conflict is told.
+-- Merges of what stands at a path in several trees: whether they are trees or files, the parts of
+-- the files, and how a conflict is told.
 use Rattle.std.specs.Prelude.{ℕ, Bool, true, false, not, List, [], ◌∷◌, ◌++◌, Option, Some, None, ⊤, codes}
 use Rattle.std.specs.List.{list_all}
 use Rattle.std.specs.Option.{option_map, option_and_then}

@@ -36,30 +36,42 @@ pub record Objects : Type 0 where
 
 -- A read of what an id stands for answers that value, or that there is none exactly where there
 -- is none; else the backend has failed.
-abbrev pub IsRead : {V R : Type 0} → (BackendError → Type 0) → Option V → (R → V) → Result R BackendError → Type 0
+abbrev pub IsRead : {V R : Type 0} → (BackendError → Type 0) → Option V → (R → V)
+    → Result R BackendError → Type 0
 IsRead may_fail found value result =
-    MatchResult result (λ r. found ≡ Some (value r)) (λ e. MatchBool (is_not_found e) (found ≡ None) (may_fail e))
+    MatchResult result (λ r. found ≡ Some (value r))
+    (λ e. MatchBool (is_not_found e) (found ≡ None) (may_fail e))
 
 -- the new objects are the old ones and this one
 
 abbrev pub AddsFile : Objects → Objects → List ℕ → List ℕ → Type 0
-AddsFile old new id contents = IsFree old.files id contents × (new ≡ record old { files = put old.files id contents })
+AddsFile old new id contents = IsFree old.files id contents
+    × (new ≡ record old { files = put old.files id contents })
 
 abbrev pub AddsSymlink : Objects → Objects → List ℕ → List ℕ → Type 0
-AddsSymlink old new id target = IsFree old.symlinks id target × (new ≡ record old { symlinks = put old.symlinks id target })
+AddsSymlink old new id target = IsFree old.symlinks id target
+    × (new ≡ record old { symlinks = put old.symlinks id target })
 
 abbrev pub AddsCopy : Objects → Objects → List ℕ → CopyHistoryValue → Type 0
-AddsCopy old new id copy = IsFree old.copies id copy × (new ≡ record old { copies = put old.copies id copy })
+AddsCopy old new id copy = IsFree old.copies id copy
+    × (new ≡ record old { copies = put old.copies id copy })
 
 abbrev pub AddsTree : Objects → Objects → List ℕ → Entries → Type 0
-AddsTree old new id entries = IsFree old.trees id entries × (new ≡ record old { trees = put old.trees id entries })
+AddsTree old new id entries = IsFree old.trees id entries
+    × (new ≡ record old { trees = put old.trees id entries })
 
 abbrev pub AddsCommit : Objects → Objects → List ℕ → CommitValue → Type 0
-AddsCommit old new id commit = IsFree old.commits id commit × (new ≡ record old { commits = put old.commits id commit })
+AddsCommit old new id commit = IsFree old.commits id commit
+    × (new ≡ record old { commits = put old.commits id commit })
 
--- the commit as it is kept: itself where nothing signs it, else with its content and a signature of that
-abbrev pub IsSigned : {S : Type 0} → (S → List ℕ → Result (List ℕ) SignError → Type 0) → Option S → CommitValue → CommitValue → Type 0
+-- the commit as it is kept: itself where nothing signs it, else with its content and a signature of
+-- that
+abbrev pub IsSigned : {S : Type 0} → (S → List ℕ → Result (List ℕ) SignError → Type 0) → Option S
+    → CommitValue → CommitValue → Type 0
 IsSigned may_sign None commit kept = kept ≡ commit
 IsSigned may_sign (Some signer) commit kept =
     (sig : List ℕ) × may_sign signer (unsigned_content commit) (Ok sig)
-    × (kept ≡ record commit { secure_sig = Some (record { signed_data = unsigned_content commit; sig = sig }) })
+    × (kept ≡ record commit {
+      secure_sig = Some
+          (record { signed_data = unsigned_content commit; sig = sig });
+    })

@@ -1,4 +1,5 @@
--- That records are equal by parts, and that content tells them apart, each from the laws of its parts.
+-- That records are equal by parts, and that content tells them apart, each from the laws of its
+-- parts.
 use Rattle.std.specs.Cmp.{IsEquivalence, and_equiv, on_equiv, int_eq_equiv}
 use Rattle.std.specs.Cmp.Lexicographic.{nat_list_eq_equiv, lists_equiv, options_equiv}
 use Rattle.jj_content.specs.Content.{IsLawful}
@@ -10,35 +11,42 @@ use Rattle.jj_backend.specs.Contents.{AreBytes, bytes_content, IsTimestamp, time
 use Rattle.std.specs.Str.{bytes_eq}
 
 pub timestamp_equiv : IsEquivalence timestamp_eq
-timestamp_equiv = and_equiv (on_equiv (λ time. time.timestamp.0) int_eq_equiv) (on_equiv (λ time. time.tz_offset) int_eq_equiv)
+timestamp_equiv = and_equiv (on_equiv (λ time. time.timestamp.0) int_eq_equiv)
+    (on_equiv (λ time. time.tz_offset) int_eq_equiv)
 
 pub signature_equiv : IsEquivalence signature_eq
 signature_equiv =
     and_equiv (on_equiv (λ s. s.name) nat_list_eq_equiv)
-    (and_equiv (on_equiv (λ s. s.email) nat_list_eq_equiv) (on_equiv (λ s. s.timestamp) timestamp_equiv))
+    (and_equiv (on_equiv (λ s. s.email) nat_list_eq_equiv)
+    (on_equiv (λ s. s.timestamp) timestamp_equiv))
 
 pub secure_sig_equiv : IsEquivalence secure_sig_eq
-secure_sig_equiv = and_equiv (on_equiv (λ s. s.signed_data) nat_list_eq_equiv) (on_equiv (λ s. s.sig) nat_list_eq_equiv)
+secure_sig_equiv = and_equiv (on_equiv (λ s. s.signed_data) nat_list_eq_equiv)
+    (on_equiv (λ s. s.sig) nat_list_eq_equiv)
 
 pub copy_history_equiv : IsEquivalence copy_history_eq
 copy_history_equiv =
     and_equiv (on_equiv (λ h. h.current_path) path_eq_equiv)
-    (and_equiv (on_equiv (λ h. h.parents) (lists_equiv nat_list_eq_equiv)) (on_equiv (λ h. h.salt) nat_list_eq_equiv))
+    (and_equiv (on_equiv (λ h. h.parents) (lists_equiv nat_list_eq_equiv))
+    (on_equiv (λ h. h.salt) nat_list_eq_equiv))
 
 origin_equiv : IsEquivalence origin_eq
 origin_equiv =
     and_equiv (on_equiv (λ c. c.parents) (lists_equiv nat_list_eq_equiv))
-    (and_equiv (on_equiv (λ c. c.predecessors) (lists_equiv nat_list_eq_equiv)) (on_equiv (λ c. c.root_tree) (lists_equiv nat_list_eq_equiv)))
+    (and_equiv (on_equiv (λ c. c.predecessors) (lists_equiv nat_list_eq_equiv))
+    (on_equiv (λ c. c.root_tree) (lists_equiv nat_list_eq_equiv)))
 
 message_equiv : IsEquivalence message_eq
 message_equiv =
     and_equiv (on_equiv (λ c. c.conflict_labels) (lists_equiv nat_list_eq_equiv))
-    (and_equiv (on_equiv (λ c. c.change_id) nat_list_eq_equiv) (on_equiv (λ c. c.description) nat_list_eq_equiv))
+    (and_equiv (on_equiv (λ c. c.change_id) nat_list_eq_equiv)
+    (on_equiv (λ c. c.description) nat_list_eq_equiv))
 
 signers_equiv : IsEquivalence signers_eq
 signers_equiv =
     and_equiv (on_equiv (λ c. c.author) signature_equiv)
-    (and_equiv (on_equiv (λ c. c.committer) signature_equiv) (on_equiv (λ c. c.secure_sig) (options_equiv secure_sig_equiv)))
+    (and_equiv (on_equiv (λ c. c.committer) signature_equiv)
+    (on_equiv (λ c. c.secure_sig) (options_equiv secure_sig_equiv)))
 
 pub commit_equiv : IsEquivalence commit_eq
 commit_equiv = and_equiv origin_equiv (and_equiv message_equiv signers_equiv)
@@ -49,35 +57,42 @@ pub bytes_lawful : IsLawful AreBytes bytes_eq bytes_content
 bytes_lawful = list_lawful u8_lawful
 
 pub timestamp_lawful : IsLawful IsTimestamp timestamp_eq timestamp_content
-timestamp_lawful = both_lawful (on_lawful (λ time. time.timestamp.0) i64_lawful) (on_lawful (λ time. time.tz_offset) i32_lawful)
+timestamp_lawful = both_lawful (on_lawful (λ time. time.timestamp.0) i64_lawful)
+    (on_lawful (λ time. time.tz_offset) i32_lawful)
 
 pub signature_lawful : IsLawful IsSignature signature_eq signature_content
 signature_lawful =
     both_lawful (on_lawful (λ s. s.name) text_lawful)
-    (both_lawful (on_lawful (λ s. s.email) text_lawful) (on_lawful (λ s. s.timestamp) timestamp_lawful))
+    (both_lawful (on_lawful (λ s. s.email) text_lawful)
+    (on_lawful (λ s. s.timestamp) timestamp_lawful))
 
 pub secure_sig_lawful : IsLawful IsSecureSig secure_sig_eq secure_sig_content
-secure_sig_lawful = both_lawful (on_lawful (λ s. s.signed_data) bytes_lawful) (on_lawful (λ s. s.sig) bytes_lawful)
+secure_sig_lawful = both_lawful (on_lawful (λ s. s.signed_data) bytes_lawful)
+    (on_lawful (λ s. s.sig) bytes_lawful)
 
 pub copy_history_lawful : IsLawful IsCopyHistory copy_history_eq copy_history_content
 copy_history_lawful =
     both_lawful (on_lawful (λ h. h.current_path) path_lawful)
-    (both_lawful (on_lawful (λ h. h.parents) (list_lawful bytes_lawful)) (on_lawful (λ h. h.salt) bytes_lawful))
+    (both_lawful (on_lawful (λ h. h.parents) (list_lawful bytes_lawful))
+    (on_lawful (λ h. h.salt) bytes_lawful))
 
 origin_lawful : IsLawful IsOrigin origin_eq origin_content
 origin_lawful =
     both_lawful (on_lawful (λ c. c.parents) (list_lawful bytes_lawful))
-    (both_lawful (on_lawful (λ c. c.predecessors) (list_lawful bytes_lawful)) (on_lawful (λ c. c.root_tree) (list_lawful bytes_lawful)))
+    (both_lawful (on_lawful (λ c. c.predecessors) (list_lawful bytes_lawful))
+    (on_lawful (λ c. c.root_tree) (list_lawful bytes_lawful)))
 
 message_lawful : IsLawful IsMessage message_eq message_content
 message_lawful =
     both_lawful (on_lawful (λ c. c.conflict_labels) (list_lawful text_lawful))
-    (both_lawful (on_lawful (λ c. c.change_id) bytes_lawful) (on_lawful (λ c. c.description) text_lawful))
+    (both_lawful (on_lawful (λ c. c.change_id) bytes_lawful)
+    (on_lawful (λ c. c.description) text_lawful))
 
 signers_lawful : IsLawful AreSigners signers_eq signers_content
 signers_lawful =
     both_lawful (on_lawful (λ c. c.author) signature_lawful)
-    (both_lawful (on_lawful (λ c. c.committer) signature_lawful) (on_lawful (λ c. c.secure_sig) (option_lawful secure_sig_lawful)))
+    (both_lawful (on_lawful (λ c. c.committer) signature_lawful)
+    (on_lawful (λ c. c.secure_sig) (option_lawful secure_sig_lawful)))
 
 pub commit_lawful : IsLawful IsCommit commit_eq commit_content
 commit_lawful = both_lawful origin_lawful (both_lawful message_lawful signers_lawful)

@@ -1,4 +1,5 @@
--- What contracts see of records: their parts, with texts and ids by their bytes and paths by their names.
+-- What contracts see of records: their parts, with texts and ids by their bytes and paths by their
+-- names.
 use Rattle.std.specs.Prelude.{ℕ, pos, List, [], ◌∷◌, Option, None, Bool}
 use Rattle.std.specs.Str.{bytes_eq}
 use Rattle.std.specs.Cmp.Lexicographic.{pointwise}
@@ -64,7 +65,8 @@ root_commit change_id tree_id = record {
 -- ---- equality, part by part
 
 abbrev pub timestamp_eq : Timestamp → Timestamp → Bool
-timestamp_eq = eq_of_both (on (λ time. time.timestamp.0) int_eq) (on (λ time. time.tz_offset) int_eq)
+timestamp_eq = eq_of_both (on (λ time. time.timestamp.0) int_eq)
+    (on (λ time. time.tz_offset) int_eq)
 
 abbrev pub signature_eq : SignatureValue → SignatureValue → Bool
 signature_eq =
@@ -83,7 +85,8 @@ copy_history_eq =
 abbrev pub origin_eq : CommitValue → CommitValue → Bool
 origin_eq =
     eq_of_both (on (λ c. c.parents) (pointwise bytes_eq))
-    (eq_of_both (on (λ c. c.predecessors) (pointwise bytes_eq)) (on (λ c. c.root_tree) (pointwise bytes_eq)))
+    (eq_of_both (on (λ c. c.predecessors) (pointwise bytes_eq))
+    (on (λ c. c.root_tree) (pointwise bytes_eq)))
 
 abbrev pub message_eq : CommitValue → CommitValue → Bool
 message_eq =
@@ -93,7 +96,8 @@ message_eq =
 abbrev pub signers_eq : CommitValue → CommitValue → Bool
 signers_eq =
     eq_of_both (on (λ c. c.author) signature_eq)
-    (eq_of_both (on (λ c. c.committer) signature_eq) (on (λ c. c.secure_sig) (option_eq secure_sig_eq)))
+    (eq_of_both (on (λ c. c.committer) signature_eq)
+    (on (λ c. c.secure_sig) (option_eq secure_sig_eq)))
 
 abbrev pub commit_eq : CommitValue → CommitValue → Bool
 commit_eq = eq_of_both origin_eq (eq_of_both message_eq signers_eq)

@@ -11,7 +11,8 @@ offset_seconds minutes =
 
 -- the date is told in a zone whose clock is always this many seconds ahead of UTC
 abbrev pub HasOffset : Zoned → ℤ → Type 0
-HasOffset date seconds = (o : _) × ((plain_zoned date).time_zone ≡ fixed_zone o) × (o.seconds ≡ seconds)
+HasOffset date seconds = (o : _) × ((plain_zoned date).time_zone ≡ fixed_zone o)
+    × (o.seconds ≡ seconds)
 
 -- the moment is within the range of dates
 abbrev pub IsDate : Timestamp → Type 0

@@ -23,7 +23,8 @@ abbrev pub tree_eq : Entries → Entries → Bool
 tree_eq = pointwise entry_eq
 
 pub tree_equiv : IsEquivalence tree_eq
-tree_equiv = lists_equiv (and_equiv (on_equiv (λ e. e.0) nat_list_eq_equiv) (on_equiv (λ e. e.1) laws-law))
+tree_equiv = lists_equiv (and_equiv (on_equiv (λ e. e.0) nat_list_eq_equiv)
+    (on_equiv (λ e. e.1) laws-law))
 
 -- ---- content: the list of the entries, each the name and then what stands there
 
@@ -40,4 +41,5 @@ abbrev pub tree_content : Entries → List ℕ
 tree_content = list_content entry_content
 
 pub tree_lawful : IsLawful IsTree tree_eq tree_content
-tree_lawful = list_lawful (both_lawful (on_lawful (λ e. e.0) text_lawful) (on_lawful (λ e. e.1) tree_value_lawful))
+tree_lawful = list_lawful (both_lawful (on_lawful (λ e. e.0) text_lawful)
+    (on_lawful (λ e. e.1) tree_value_lawful))

@@ -14,18 +14,25 @@ variant_small (Symlink a) = omega arith
 variant_small (Tree a) = omega arith
 variant_small (GitSubmodule a) = omega arith
 
-alike : (x y : TreeValue) → IsTreeValue x → IsTreeValue y → ghosts.eq x y ≡ true → (variant_of x ≡ variant_of y) × (fields_content x ≡ fields_content y)
+alike : (x y : TreeValue) → IsTreeValue x → IsTreeValue y → ghosts.eq x y ≡ true
+    → (variant_of x ≡ variant_of y) × (fields_content x ≡ fields_content y)
 alike (File a b c) (File d e f) p q h =
-    let file = both_lawful (on_lawful (λ (v : List ℕ × Bool × List ℕ). v.0) bytes_lawful) (both_lawful (on_lawful (λ (v : List ℕ × Bool × List ℕ). v.1) bool_lawful) (on_lawful (λ (v : List ℕ × Bool × List ℕ). v.2) bytes_lawful)) in
+    let file = both_lawful (on_lawful (λ (v : List ℕ × Bool × List ℕ). v.0) bytes_lawful)
+    (both_lawful (on_lawful (λ (v : List ℕ × Bool × List ℕ). v.1) bool_lawful)
+    (on_lawful (λ (v : List ℕ × Bool × List ℕ). v.2) bytes_lawful)) in
     (refl, file.same (a, b, c) (d, e, f) p q h)
 alike (Symlink a) (Symlink b) p q h = (refl, bytes_lawful.same a b p q h)
 alike (Tree a) (Tree b) p q h = (refl, bytes_lawful.same a b p q h)
 alike (GitSubmodule a) (GitSubmodule b) p q h = (refl, bytes_lawful.same a b p q h)
 alike x y p q h = cc
 
-told : (x y : TreeValue) (s t : List ℕ) → IsTreeValue x → IsTreeValue y → variant_of x ≡ variant_of y → fields_content x ++ s ≡ fields_content y ++ t → ghosts.eq x y ≡ true
+told : (x y : TreeValue) (s t : List ℕ) → IsTreeValue x → IsTreeValue y
+    → variant_of x ≡ variant_of y → fields_content x ++ s ≡ fields_content y ++ t
+    → ghosts.eq x y ≡ true
 told (File a b c) (File d e f) s t p q n h =
-    let file = both_lawful (on_lawful (λ (v : List ℕ × Bool × List ℕ). v.0) bytes_lawful) (both_lawful (on_lawful (λ (v : List ℕ × Bool × List ℕ). v.1) bool_lawful) (on_lawful (λ (v : List ℕ × Bool × List ℕ). v.2) bytes_lawful)) in
+    let file = both_lawful (on_lawful (λ (v : List ℕ × Bool × List ℕ). v.0) bytes_lawful)
+    (both_lawful (on_lawful (λ (v : List ℕ × Bool × List ℕ). v.1) bool_lawful)
+    (on_lawful (λ (v : List ℕ × Bool × List ℕ). v.2) bytes_lawful)) in
     file.decides (a, b, c) (d, e, f) s t p q h
 told (Symlink a) (Symlink b) s t p q n h = bytes_lawful.decides a b s t p q h
 told (Tree a) (Tree b) s t p q n h = bytes_lawful.decides a b s t p q h

@@ -21,7 +21,8 @@ variant_of (Tree id) = 2
 variant_of (GitSubmodule id) = 3
 
 abbrev pub file_content : List ℕ → Bool → List ℕ → List ℕ
-file_content id executable copy = bytes_content id ++ (bool_content executable ++ bytes_content copy)
+file_content id executable copy = bytes_content id
+    ++ (bool_content executable ++ bytes_content copy)
 
 abbrev pub fields_content : TreeValue → List ℕ
 fields_content (File id executable copy) = file_content id executable copy

@@ -21,7 +21,8 @@ value_at entries name = lookup (bytes_eq name) entries
 pub record IsEntryAt (entries : Entries) (name : Name) (place : ℕ) : Type 0 where
   pub in_range : place < length entries
   pub has_name : (d : Name × TreeValue) → (slice_index_or entries place d).0 ≡ name
-  pub has_value : (d : Name × TreeValue) → value_at entries name ≡ Some (slice_index_or entries place d).1
+  pub has_value : (d : Name × TreeValue) → value_at entries name
+      ≡ Some (slice_index_or entries place d).1
 
 -- a borrowed entry
 abbrev pub entry_of : TreeEntry → Name × TreeValue

@@ -1,6 +1,7 @@
 //! Tests of jj_backend over its public calls, and proved callers of it.
 //
-// In a run in which one request for memory is refused, a call answers that, and is then made once more, when there is memory.
+// In a run in which one request for memory is refused, a call answers that, and is then made once
+// more, when there is memory.
 #![tactic(auto)]
 
 pub mod callers;

@@ -1,4 +1,5 @@
-//! Merges of what stands at a path: whether they are trees, the parts of files, and conflicts in words.
+//! Merges of what stands at a path: whether they are trees, the parts of files, and conflicts in
+//! words.
 use crate::records::file;
 use jj_backend::backend::{
     FileId, MergedTreeVal, MergedTreeValue, MergedTreeValueExt, SymlinkId, TreeId, TreeValue,

@@ -13,17 +13,21 @@ kind_small (File a b) = omega arith
 kind_small (Symlink a) = omega arith
 kind_small Absent = omega arith
 
-kind_alike : (x y : Kind) → IsKind x → IsKind y → ghosts.eq x y ≡ true → (kind_variant x ≡ kind_variant y) × (kind_fields x ≡ kind_fields y)
+kind_alike : (x y : Kind) → IsKind x → IsKind y → ghosts.eq x y ≡ true
+    → (kind_variant x ≡ kind_variant y) × (kind_fields x ≡ kind_fields y)
 kind_alike (File a b) (File c d) p q h =
-    let file = both_lawful (on_lawful (λ (f : Vec ℕ Global × Bool). f.0.items) (list_lawful u8_lawful)) (on_lawful (λ (f : Vec ℕ Global × Bool). f.1) bool_lawful) in
+    let file = both_lawful (on_lawful (λ (f : Vec ℕ Global × Bool). f.0.items)
+    (list_lawful u8_lawful)) (on_lawful (λ (f : Vec ℕ Global × Bool). f.1) bool_lawful) in
     (refl, file.same (a, b) (c, d) p q h)
 kind_alike (Symlink a) (Symlink b) p q h = (refl, u64_lawful.same a b p q h)
 kind_alike Absent Absent p q h = (refl, refl)
 kind_alike x y p q h = cc
 
-kind_told : (x y : Kind) (s t : List ℕ) → IsKind x → IsKind y → kind_variant x ≡ kind_variant y → kind_fields x ++ s ≡ kind_fields y ++ t → ghosts.eq x y ≡ true
+kind_told : (x y : Kind) (s t : List ℕ) → IsKind x → IsKind y → kind_variant x ≡ kind_variant y
+    → kind_fields x ++ s ≡ kind_fields y ++ t → ghosts.eq x y ≡ true
 kind_told (File a b) (File c d) s t p q n h =
-    let file = both_lawful (on_lawful (λ (f : Vec ℕ Global × Bool). f.0.items) (list_lawful u8_lawful)) (on_lawful (λ (f : Vec ℕ Global × Bool). f.1) bool_lawful) in
+    let file = both_lawful (on_lawful (λ (f : Vec ℕ Global × Bool). f.0.items)
+    (list_lawful u8_lawful)) (on_lawful (λ (f : Vec ℕ Global × Bool). f.1) bool_lawful) in
     file.decides (a, b) (c, d) s t p q h
 kind_told (Symlink a) (Symlink b) s t p q n h = u64_lawful.decides a b s t p q h
 kind_told Absent Absent s t p q n h = refl

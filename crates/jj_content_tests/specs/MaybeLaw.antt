@@ -11,12 +11,15 @@ maybe_small : (x : Maybe) → maybe_variant x < 2 ^ 32
 maybe_small Nothing = omega arith
 maybe_small (Just a) = omega arith
 
-maybe_alike : (x y : Maybe) → IsMaybe x → IsMaybe y → ghosts.eq x y ≡ true → (maybe_variant x ≡ maybe_variant y) × (maybe_fields x ≡ maybe_fields y)
+maybe_alike : (x y : Maybe) → IsMaybe x → IsMaybe y → ghosts.eq x y ≡ true
+    → (maybe_variant x ≡ maybe_variant y) × (maybe_fields x ≡ maybe_fields y)
 maybe_alike Nothing Nothing p q h = (refl, refl)
 maybe_alike (Just a) (Just b) p q h = (refl, i32_lawful.same a b p q h)
 maybe_alike x y p q h = cc
 
-maybe_told : (x y : Maybe) (s t : List ℕ) → IsMaybe x → IsMaybe y → maybe_variant x ≡ maybe_variant y → maybe_fields x ++ s ≡ maybe_fields y ++ t → ghosts.eq x y ≡ true
+maybe_told : (x y : Maybe) (s t : List ℕ) → IsMaybe x → IsMaybe y
+    → maybe_variant x ≡ maybe_variant y → maybe_fields x ++ s ≡ maybe_fields y ++ t
+    → ghosts.eq x y ≡ true
 maybe_told Nothing Nothing s t p q n h = refl
 maybe_told (Just a) (Just b) s t p q n h = i32_lawful.decides a b s t p q h
 maybe_told x y s t p q n h = absurd (omega arith)

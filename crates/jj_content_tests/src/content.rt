@@ -1,7 +1,7 @@
 //! Content bytes and digests of values, type by type.
 //
-// In a run in which one request for memory is refused, a call answers that or the right value, and is
-// then made once more, when there is memory.
+// In a run in which one request for memory is refused, a call answers that or the right value, and
+// is then made once more, when there is memory.
 use crate::known_answers::OF_RECORD;
 use crate::recorder::{assert_content, digest_of};
 use crate::records::{Foo, GenericFoo, Kind, Maybe, Quadruple, Single, Triple};

@@ -1,4 +1,5 @@
-//! Hex text of bytes, and bytes of hex text. A refused call is made once more, when there is memory.
+//! Hex text of bytes, and bytes of hex text. A refused call is made once more, when there is
+//! memory.
 use jj_content::hex_util::{
     common_hex_len, decode_hex, decode_hex_prefix, decode_reverse_hex, decode_reverse_hex_prefix,
     encode_hex, encode_reverse_hex,

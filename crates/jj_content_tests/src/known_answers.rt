@@ -1,9 +1,11 @@
 //! Digests of BLAKE2b-512 by another implementation.
-// The message of n bytes has the byte (7 * i + 3) % 256 at place i. The digests were made by Python 3:
+// The message of n bytes has the byte (7 * i + 3) % 256 at place i. The digests were made by Python
+// 3:
 //     hashlib.blake2b(bytes((7 * i + 3) % 256 for i in range(n))).digest()
 // and those of the texts by the same call; `b2sum` gives the same.
 
-/// The first eight bytes of the digest of the message of n bytes, the first byte high, for n from 0 to 300.
+/// The first eight bytes of the digest of the message of n bytes, the first byte high, for n from 0
+/// to 300.
 pub const BEGINNINGS: [u64; 301] = [
     0x786a02f742015903,
     0x4fe4da61bcc75607,

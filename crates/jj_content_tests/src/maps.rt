@@ -1,7 +1,7 @@
 //! Content bytes of maps and sets, filled in different orders.
 //
-// In a run in which one request for memory is refused, a call answers that or the right value, and is
-// then made once more, when there is memory.
+// In a run in which one request for memory is refused, a call answers that or the right value, and
+// is then made once more, when there is memory.
 use crate::recorder::{assert_content, digest_of};
 use std::alloc::{AllocError, Global};
 use std::collections::{BTreeMap, HashMap, HashSet};

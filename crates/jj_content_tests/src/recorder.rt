@@ -26,7 +26,8 @@ impl DigestUpdate for Recorder {
     }
 }
 
-/// Asserts that these are a value's content bytes, and that a refused call has appended a beginning of them.
+/// Asserts that these are a value's content bytes, and that a refused call has appended a beginning
+/// of them.
 pub fn assert_content<T: ContentHash, R: Abort>(rt: &R, alloc: Global, value: &T, content: &[u8]) {
     let blank = Recorder {
         bytes: [0; 64],

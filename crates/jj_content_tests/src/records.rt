@@ -14,11 +14,14 @@ pub struct Foo {
 }
 
 impl ContentHash for Foo {
-    ghost is_value = { λ r. ⟦<Vec<Option<i32>> as ContentHash>⟧.is_value r.x × ⟦<i64 as ContentHash>⟧.is_value r.y };
+    ghost is_value = { λ r. ⟦<Vec<Option<i32>> as ContentHash>⟧.is_value r.x
+        × ⟦<i64 as ContentHash>⟧.is_value r.y };
 
-    ghost content = { λ r. ⟦<Vec<Option<i32>> as ContentHash>⟧.content r.x ++ ⟦<i64 as ContentHash>⟧.content r.y };
+    ghost content = { λ r. ⟦<Vec<Option<i32>> as ContentHash>⟧.content r.x
+        ++ ⟦<i64 as ContentHash>⟧.content r.y };
 
-    ghost lawful = { both_lawful (on_lawful (λ r. r.x.items) (list_lawful (option_lawful i32_lawful))) (on_lawful (λ r. r.y) i64_lawful) };
+    ghost lawful = { both_lawful (on_lawful (λ r. r.x.items)
+        (list_lawful (option_lawful i32_lawful))) (on_lawful (λ r. r.y) i64_lawful) };
 
     #[tactic(auto, using(jj_content::proofs::Fronts::fronts))]
     fn hash<D: DigestUpdate>(&self, alloc: Global, state: &mut D) -> Result<(), AllocError> {
@@ -69,11 +72,14 @@ impl ContentHash for Single {
 pub struct Triple(pub i32, pub i32, pub i32);
 
 impl ContentHash for Triple {
-    ghost is_value = { λ r. ⟦<i32 as ContentHash>⟧.is_value r.0 × (⟦<i32 as ContentHash>⟧.is_value r.1 × ⟦<i32 as ContentHash>⟧.is_value r.2) };
+    ghost is_value = { λ r. ⟦<i32 as ContentHash>⟧.is_value r.0
+        × (⟦<i32 as ContentHash>⟧.is_value r.1 × ⟦<i32 as ContentHash>⟧.is_value r.2) };
 
-    ghost content = { λ r. ⟦<i32 as ContentHash>⟧.content r.0 ++ (⟦<i32 as ContentHash>⟧.content r.1 ++ ⟦<i32 as ContentHash>⟧.content r.2) };
+    ghost content = { λ r. ⟦<i32 as ContentHash>⟧.content r.0
+        ++ (⟦<i32 as ContentHash>⟧.content r.1 ++ ⟦<i32 as ContentHash>⟧.content r.2) };
 
-    ghost lawful = { both_lawful (on_lawful (λ r. r.0) i32_lawful) (both_lawful (on_lawful (λ r. r.1) i32_lawful) (on_lawful (λ r. r.2) i32_lawful)) };
+    ghost lawful = { both_lawful (on_lawful (λ r. r.0) i32_lawful)
+        (both_lawful (on_lawful (λ r. r.1) i32_lawful) (on_lawful (λ r. r.2) i32_lawful)) };
 
     #[tactic(auto, using(jj_content::proofs::Fronts::fronts))]
     fn hash<D: DigestUpdate>(&self, alloc: Global, state: &mut D) -> Result<(), AllocError> {
@@ -89,11 +95,17 @@ impl ContentHash for Triple {
 pub struct Quadruple(pub i32, pub i32, pub i32, pub i32);
 
 impl ContentHash for Quadruple {
-    ghost is_value = { λ r. ⟦<i32 as ContentHash>⟧.is_value r.0 × (⟦<i32 as ContentHash>⟧.is_value r.1 × (⟦<i32 as ContentHash>⟧.is_value r.2 × ⟦<i32 as ContentHash>⟧.is_value r.3)) };
+    ghost is_value = { λ r. ⟦<i32 as ContentHash>⟧.is_value r.0
+        × (⟦<i32 as ContentHash>⟧.is_value r.1
+        × (⟦<i32 as ContentHash>⟧.is_value r.2 × ⟦<i32 as ContentHash>⟧.is_value r.3)) };
 
-    ghost content = { λ r. ⟦<i32 as ContentHash>⟧.content r.0 ++ (⟦<i32 as ContentHash>⟧.content r.1 ++ (⟦<i32 as ContentHash>⟧.content r.2 ++ ⟦<i32 as ContentHash>⟧.content r.3)) };
+    ghost content = { λ r. ⟦<i32 as ContentHash>⟧.content r.0
+        ++ (⟦<i32 as ContentHash>⟧.content r.1
+        ++ (⟦<i32 as ContentHash>⟧.content r.2 ++ ⟦<i32 as ContentHash>⟧.content r.3)) };
 
-    ghost lawful = { both_lawful (on_lawful (λ r. r.0) i32_lawful) (both_lawful (on_lawful (λ r. r.1) i32_lawful) (both_lawful (on_lawful (λ r. r.2) i32_lawful) (on_lawful (λ r. r.3) i32_lawful))) };
+    ghost lawful = { both_lawful (on_lawful (λ r. r.0) i32_lawful)
+        (both_lawful (on_lawful (λ r. r.1) i32_lawful)
+        (both_lawful (on_lawful (λ r. r.2) i32_lawful) (on_lawful (λ r. r.3) i32_lawful))) };
 
     #[tactic(auto, using(jj_content::proofs::Fronts::fronts))]
     fn hash<D: DigestUpdate>(&self, alloc: Global, state: &mut D) -> Result<(), AllocError> {

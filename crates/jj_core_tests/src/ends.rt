@@ -4,7 +4,8 @@ ghost use Rattle.std.specs.Prelude.{◌≤◌};
 use std::io;
 use std::io::{ErrorKind, Read, Write};
 
-/// A reader of a text that gives at most `most` bytes at a time, and fails once `left` reads are made.
+/// A reader of a text that gives at most `most` bytes at a time, and fails once `left` reads are
+/// made.
 #[derive(Drop)]
 pub struct Cut<'a> {
     pub rest: &'a [u8],
@@ -28,7 +29,8 @@ impl Read for Cut<'_> {
 /// The bytes that a test's writer has room for.
 const ROOM: usize = 512;
 
-/// A writer that keeps what it takes, at most `most` bytes at a time, and fails once `left` writes are made.
+/// A writer that keeps what it takes, at most `most` bytes at a time, and fails once `left` writes
+/// are made.
 #[derive(Drop)]
 pub struct Kept {
     bytes: [u8; ROOM],

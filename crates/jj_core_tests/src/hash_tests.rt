@@ -1,4 +1,5 @@
-//! Tests of the command `hash`. The digests were computed by another program from the bytes of each value.
+//! Tests of the command `hash`. The digests were computed by another program from the bytes of each
+//! value.
 
 #[cfg(test)]
 mod tests {

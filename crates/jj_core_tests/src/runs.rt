@@ -5,7 +5,8 @@ use jj_core::program::{Command, Fault, LineFault, run};
 use std::alloc::Global;
 use std::process::Abort;
 
-/// What a run answers and writes where reads and writes are cut to `most` bytes, and fail after so many.
+/// What a run answers and writes where reads and writes are cut to `most` bytes, and fail after so
+/// many.
 pub fn outcome(
     alloc: Global,
     command: Command,

@@ -12,7 +12,8 @@ mod tests {
 
     const OUT_OF_MEMORY: &str = "jj-core: out of memory\n";
 
-    /// The status, what was written and what was said, where standard error fails after so many writes.
+    /// The status, what was written and what was said, where standard error fails after so many
+    /// writes.
     fn outcome(alloc: Global, words: &[String], input: &[u8], says: u32) -> (u8, Kept, Kept) {
         let mut reader = Watched::new(Cut {
             rest: input,

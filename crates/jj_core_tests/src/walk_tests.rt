@@ -19,7 +19,8 @@ mod tests {
             ),
             ("mark\ta\nfiles\n", ""),
             ("mark\ta\nnothing\n", ""),
-            // Path order, in which a directory's files come before a longer name of the same beginning.
+            // Path order, in which a directory's files come before a longer name of the same
+            // beginning.
             (
                 "mark\tdir#\nmark\tdir/sub\nmark\tdir\neverything\n",
                 "file\tdir\nfile\tdir/sub\nfile\tdir#\nenter\t\nenter\tdir\n",
@@ -27,7 +28,8 @@ mod tests {
             // The root is never a file, and a root without children is not entered.
             ("mark\t\nfiles\t\n", ""),
             ("everything\n", ""),
-            // Marks come in any order and more than once, also behind the set; empty lines are skipped.
+            // Marks come in any order and more than once, also behind the set; empty lines are
+            // skipped.
             (
                 "\nmark\tc\nprefix\tb\t\n\nmark\ta\nmark\tb\nmark\ta\n\n",
                 "file\ta\nfile\tb\nfile\tc\nenter\t\n",
@@ -61,7 +63,8 @@ mod tests {
     #[test]
     fn globs_stand_in_directories(rt: HostRuntime) {
         for (input, output) in [
-            // The empty glob stands for no file, yet in prefix mode the directory is one of a pattern, and is entered.
+            // The empty glob stands for no file, yet in prefix mode the directory is one of a
+            // pattern, and is entered.
             ("mark\td/x\nprefix-globs\td\t\n", "enter\t\nenter\td\n"),
             (
                 "mark\td/x\nprefix-globs\td\t*\n",

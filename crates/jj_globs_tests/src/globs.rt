@@ -1,5 +1,5 @@
-//! Which texts are globs, and which bytes they stand for. The expected answers are those of globset's documented syntax, as
-//! the specification narrows it.
+//! Which texts are globs, and which bytes they stand for. The expected answers are those of
+//! globset's documented syntax, as the specification narrows it.
 use jj_globs::glob::{Glob, GlobError, escape, is_special};
 use std::alloc::{AllocError, Global};
 use std::process::Abort;
@@ -146,7 +146,8 @@ fn groups<R: Abort>(rt: &R, alloc: Global) -> Result<(), AllocError> {
     )
 }
 
-// Any bytes only where the whole text is a run of `**` joined by `/`: beside a group that leaves nothing it is not.
+// Any bytes only where the whole text is a run of `**` joined by `/`: beside a group that leaves
+// nothing it is not.
 fn runs_beside_empty_groups<R: Abort>(rt: &R, alloc: Global) -> Result<(), AllocError> {
     matches(
         rt,
@@ -201,7 +202,8 @@ fn escapes<R: Abort>(rt: &R, alloc: Global) -> Result<(), AllocError> {
     Ok(())
 }
 
-// Letters past ASCII are bytes: they match in their own case alone, and the bytes of one may stand apart.
+// Letters past ASCII are bytes: they match in their own case alone, and the bytes of one may stand
+// apart.
 fn options<R: Abort>(rt: &R, alloc: Global) -> Result<(), AllocError> {
     matches(
         rt,
@@ -254,7 +256,8 @@ fn prefixes<R: Abort>(rt: &R, alloc: Global) -> Result<(), AllocError> {
     Ok(())
 }
 
-// The texts are those that globset's translation gives, with each byte past ASCII and each sign of a class written out.
+// The texts are those that globset's translation gives, with each byte past ASCII and each sign of
+// a class written out.
 fn regex_texts<R: Abort>(rt: &R, alloc: Global) -> Result<(), AllocError> {
     for (text, separator, icase, regex) in [
         ("", true, false, "(?-u)^$"),
@@ -326,7 +329,8 @@ fn repeated<R: Abort>(
     glob(rt, alloc, whole.as_str(), true, false)
 }
 
-// Where stars or groups would make a search that goes back try each way, the answer still comes at once.
+// Where stars or groups would make a search that goes back try each way, the answer still comes at
+// once.
 fn hostile<R: Abort>(rt: &R, alloc: Global) -> Result<(), AllocError> {
     let many = [b'a'; 200];
     let stars = repeated(rt, alloc, "*a", 40, "b")?;

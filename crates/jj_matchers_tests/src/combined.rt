@@ -1,4 +1,5 @@
-//! Unions, differences and intersections of matchers: which paths they accept, and their answers for directories.
+//! Unions, differences and intersections of matchers: which paths they accept, and their answers
+//! for directories.
 use crate::fixtures::{answers, files, globs, prefix};
 use jj_matchers::matchers::{
     DifferenceMatcher, EverythingMatcher, IntersectionMatcher, NothingMatcher, UnionMatcher,

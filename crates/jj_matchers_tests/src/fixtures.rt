@@ -1,8 +1,8 @@
 //! Paths, patterns and trees of marks of literal texts, and what each test asks of a matcher.
 //
-// A row of expected answers is a directory, the children that are worth a look as directories, and those that are worth a look
-// as files. The names of children are joined by `/`; `*` stands for every child, `**` for everything below, and two empty texts
-// for nothing.
+// A row of expected answers is a directory, the children that are worth a look as directories, and
+// those that are worth a look as files. The names of children are joined by `/`; `*` stands for
+// every child, `**` for everything below, and two empty texts for nothing.
 use jj_globs::glob::GlobError;
 use jj_matchers::matchers::{
     FilesMatcher, GlobsMatcher, Matcher, PathGlobPattern, PrefixMatcher, Visit, VisitDirs,
@@ -144,7 +144,8 @@ pub fn globs<R: Abort>(
     builder.build()
 }
 
-/// Checks which files a walk of a tree with marks at these paths finds, and which directories it enters, both in this order.
+/// Checks which files a walk of a tree with marks at these paths finds, and which directories it
+/// enters, both in this order.
 pub fn walks<R: Abort, M: Matcher>(
     rt: &R,
     alloc: Global,

@@ -7,7 +7,8 @@ use std::process::Abort;
 // The directories and the files of an answer, as in a row of answers.
 type Named = (&'static str, &'static str);
 
-// Two answers, and those of their union, of the first without the second, and of their intersection.
+// Two answers, and those of their union, of the first without the second, and of their
+// intersection.
 const ROWS: [(Named, Named, Named, Named, Named); 7] = [
     (("**", ""), ("", ""), ("**", ""), ("**", ""), ("", "")),
     (("", ""), ("**", ""), ("**", ""), ("", ""), ("", "")),

@@ -160,7 +160,8 @@ impl<M: Matcher> Matcher for Boxed<M> {
     }
 }
 
-// A box with a matcher gives what the matcher itself gives, in a union, around one, and both at once.
+// A box with a matcher gives what the matcher itself gives, in a union, around one, and both at
+// once.
 fn walks_boxed<R: Abort>(rt: &R, alloc: Global) -> Result<(), AllocError> {
     let rest = DifferenceMatcher::new(EverythingMatcher, prefix(rt, alloc, &["a"])?);
     let inner: Box<dyn Matcher> = Box::new(alloc, rest)?;

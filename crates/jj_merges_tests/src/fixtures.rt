@@ -1,7 +1,7 @@
 //! Merges of digits, written as texts.
 //
-// In a run in which one request for memory is refused, a call answers that or the right value, and is then made
-// once more, when there is memory.
+// In a run in which one request for memory is refused, a call answers that or the right value, and
+// is then made once more, when there is memory.
 use jj_merges::merge::Merge;
 use smallvec::SmallVec;
 use std::alloc::{AllocError, Global};

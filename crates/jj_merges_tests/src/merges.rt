@@ -46,7 +46,8 @@ fn sides(rt: HostRuntime) -> Result<(), Fail> {
     Ok(())
 }
 
-/// A resolved merge lies in the value, so all of this is done with every request for memory refused.
+/// A resolved merge lies in the value, so all of this is done with every request for memory
+/// refused.
 #[test]
 fn resolved_takes_no_memory(rt: HostRuntime) {
     let alloc = rt.alloc();

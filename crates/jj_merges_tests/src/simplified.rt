@@ -108,7 +108,8 @@ fn simplify_keeps_outcomes(rt: HostRuntime) -> Result<(), Fail> {
     Ok(())
 }
 
-/// The places that `simplify_by` keeps, where each term is paired with its place and the key is the term.
+/// The places that `simplify_by` keeps, where each term is paired with its place and the key is the
+/// term.
 fn kept_places<R: Abort>(rt: &R, alloc: Global, terms: &str) -> Result<Vec<u32>, AllocError> {
     let mut pairs = Vec::new(alloc);
     let mut place = 0u32;

@@ -1,4 +1,5 @@
-//! Repo paths below directories of the file system, and relative paths of the file system as repo paths.
+//! Repo paths below directories of the file system, and relative paths of the file system as repo
+//! paths.
 use crate::fixtures::path;
 use jj_paths::repo_path::{
     InvalidRepoPathComponentError, InvalidRepoPathError, RelativePathParseError, RepoPathBuf,
@@ -19,7 +20,8 @@ const BELOW: [[&str; 3]; 5] = [
     ["dir/file", "", "dir/file"],
 ];
 
-// a repo path with a name that no file has, that name, and the path below `base` if it is not checked
+// a repo path with a name that no file has, that name, and the path below `base` if it is not
+// checked
 const WITH_DOTS: [[&str; 3]; 7] = [
     [".", ".", "base/."],
     ["..", "..", "base/.."],

@@ -1,6 +1,7 @@
 //! Tests of paths and of trees of values at paths, over the public calls.
 //
-// In a run in which one request for memory is refused, a test answers that, and is then run once more, when there is memory.
+// In a run in which one request for memory is refused, a test answers that, and is then run once
+// more, when there is memory.
 #![tactic(auto)]
 
 #[cfg(test)]

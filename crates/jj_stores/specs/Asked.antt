@@ -39,7 +39,8 @@ remembered n id verdict pairs = take n ((id, verdict) ∷ remove_entry (bytes_eq
 
 -- what a verification that was not remembered has found, and what is remembered after it: a
 -- decisive verdict, and that nothing is known where no backend can read the signature
-abbrev pub IsVerified : {B : Type 0} → (B → Bool) → (B → Answer → Type 0) → List B → List ℕ → ℕ → Verdict
+abbrev pub IsVerified : {B : Type 0} → (B → Bool) → (B → Answer → Type 0) → List B → List ℕ → ℕ
+    → Verdict
     → List (List ℕ × Verdict) → List (List ℕ × Verdict) → Type 0
 IsVerified reads may_answer bs id n verdict old new =
     (Decide reads may_answer bs (Some (Ok verdict)) × (new ≡ remembered n id verdict old))

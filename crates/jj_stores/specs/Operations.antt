@@ -18,7 +18,8 @@ IsRange range = IsTimestamp range.start × IsTimestamp range.end
 abbrev pub range_content : TimestampRange → List ℕ
 range_content range = timestamp_content range.start ++ timestamp_content range.end
 
--- ---- how an operation was done: what and when; where and by whom; in which workspace, and what else is said
+-- ---- how an operation was done: what and when; where and by whom; in which workspace, and what
+-- else is said
 
 abbrev pub IsAct : OperationMetadata → Type 0
 IsAct m = IsRange m.time × IsText (string_bytes m.description)
@@ -38,13 +39,15 @@ module _ {A : Type 0} where
   AreAttributes = AreValues (λ e. IsText (string_bytes e.0) × IsText (string_bytes e.1))
 
   abbrev pub attributes_content : List (String A × String A) → List ℕ
-  attributes_content = list_content (entry_content (λ s. text_content (string_bytes s)) (λ s. text_content (string_bytes s)))
+  attributes_content = list_content (entry_content (λ s. text_content (string_bytes s))
+      (λ s. text_content (string_bytes s)))
 
 abbrev pub IsSetting : OperationMetadata → Type 0
 IsSetting m = Unit {0} × (IsOptionOf IsText m.workspace_name × AreAttributes m.attributes.entries)
 
 abbrev pub setting_content : OperationMetadata → List ℕ
-setting_content m = bool_content m.is_snapshot ++ (option_content text_content m.workspace_name ++ attributes_content m.attributes.entries)
+setting_content m = bool_content m.is_snapshot
+    ++ (option_content text_content m.workspace_name ++ attributes_content m.attributes.entries)
 
 abbrev pub IsMetadata : OperationMetadata → Type 0
 IsMetadata m = IsAct m × (IsActor m × IsSetting m)
@@ -60,7 +63,8 @@ module _ {A : Type 0} where
   ArePredecessors m = AreValues (λ e. AreBytes e.0 × AreValues AreBytes e.1.items) m.entries
 
   abbrev pub predecessors_content : BTreeMap (List ℕ) (Vec (List ℕ) A) → List ℕ
-  predecessors_content m = list_content (entry_content bytes_content (λ ids. list_content bytes_content ids.items)) m.entries
+  predecessors_content m = list_content (entry_content bytes_content
+      (λ ids. list_content bytes_content ids.items)) m.entries
 
 -- the view and the parents, and what else there is
 abbrev pub AreLinks : Operation → Type 0
@@ -73,7 +77,8 @@ abbrev pub IsAccount : Operation → Type 0
 IsAccount o = IsMetadata o.metadata × IsOptionOf ArePredecessors o.commit_predecessors
 
 abbrev pub account_content : Operation → List ℕ
-account_content o = metadata_content o.metadata ++ option_content predecessors_content o.commit_predecessors
+account_content o = metadata_content o.metadata
+    ++ option_content predecessors_content o.commit_predecessors
 
 abbrev pub IsOperation : Operation → Type 0
 IsOperation o = AreLinks o × IsAccount o
@@ -81,7 +86,8 @@ IsOperation o = AreLinks o × IsAccount o
 abbrev pub operation_content : Operation → List ℕ
 operation_content o = links_content o ++ account_content o
 
--- ---- the root operation: of that view, without parents, at the beginning of time, and with no commits
+-- ---- the root operation: of that view, without parents, at the beginning of time, and with no
+-- commits
 
 abbrev pub beginning : Timestamp
 beginning = record { timestamp = record { 0 = pos 0 }; tz_offset = pos 0 }

@@ -22,10 +22,13 @@ module _ {V : Type 0} where
   named_eq eq = pointwise (eq_of_both (on (λ e. e.0) bytes_eq) (on (λ e. e.1) eq))
 
   pub named_equiv : {eq : V → V → Bool} → IsEquivalence eq → IsEquivalence (named_eq eq)
-  named_equiv laws = lists_equiv (and_equiv (on_equiv (λ e. e.0) nat_list_eq_equiv) (on_equiv (λ e. e.1) laws))
+  named_equiv laws = lists_equiv (and_equiv (on_equiv (λ e. e.0) nat_list_eq_equiv)
+      (on_equiv (λ e. e.1) laws))
 
-  pub named_lawful : {v : V → Type 0} {eq : V → V → Bool} {c : V → List ℕ} → IsLawful v eq c → IsLawful (AreNamed v) (named_eq eq) (named_content c)
-  named_lawful laws = list_lawful (both_lawful (on_lawful (λ e. e.0) text_lawful) (on_lawful (λ e. e.1) laws))
+  pub named_lawful : {v : V → Type 0} {eq : V → V → Bool} {c : V → List ℕ} → IsLawful v eq c
+      → IsLawful (AreNamed v) (named_eq eq) (named_content c)
+  named_lawful laws = list_lawful (both_lawful (on_lawful (λ e. e.0) text_lawful)
+      (on_lawful (λ e. e.1) laws))
 
 target_equiv : IsEquivalence target_eq
 target_equiv = lists_equiv (options_equiv nat_list_eq_equiv)
@@ -33,26 +36,33 @@ target_equiv = lists_equiv (options_equiv nat_list_eq_equiv)
 -- ---- remote views
 
 abbrev pub remote_view_eq : RemoteView → RemoteView → Bool
-remote_view_eq = eq_of_both (on (λ v. v.bookmarks.entries) (named_eq remote_ref_eq)) (on (λ v. v.tags.entries) (named_eq remote_ref_eq))
+remote_view_eq = eq_of_both (on (λ v. v.bookmarks.entries) (named_eq remote_ref_eq))
+    (on (λ v. v.tags.entries) (named_eq remote_ref_eq))
 
 pub remote_view_equiv : IsEquivalence remote_view_eq
-remote_view_equiv = and_equiv (on_equiv (λ v. v.bookmarks.entries) (named_equiv remote_ref_equiv)) (on_equiv (λ v. v.tags.entries) (named_equiv remote_ref_equiv))
+remote_view_equiv = and_equiv (on_equiv (λ v. v.bookmarks.entries) (named_equiv remote_ref_equiv))
+    (on_equiv (λ v. v.tags.entries) (named_equiv remote_ref_equiv))
 
 pub remote_view_lawful : IsLawful IsRemoteView remote_view_eq remote_view_content
-remote_view_lawful = both_lawful (on_lawful (λ v. v.bookmarks.entries) (named_lawful remote_ref_lawful)) (on_lawful (λ v. v.tags.entries) (named_lawful remote_ref_lawful))
+remote_view_lawful = both_lawful (on_lawful (λ v. v.bookmarks.entries)
+    (named_lawful remote_ref_lawful)) (on_lawful (λ v. v.tags.entries)
+    (named_lawful remote_ref_lawful))
 
 -- ---- views
 
 abbrev pub local_eq : View → View → Bool
 local_eq =
     eq_of_both (on (λ v. v.head_ids) (hash_set_eq bytes_eq))
-    (eq_of_both (on (λ v. v.local_bookmarks.entries) (named_eq target_eq)) (on (λ v. v.local_tags.entries) (named_eq target_eq)))
+    (eq_of_both (on (λ v. v.local_bookmarks.entries) (named_eq target_eq))
+    (on (λ v. v.local_tags.entries) (named_eq target_eq)))
 
 abbrev pub elsewhere_eq : View → View → Bool
-elsewhere_eq = eq_of_both (on (λ v. v.remote_views.entries) (named_eq remote_view_eq)) (on (λ v. v.git_refs.entries) (named_eq target_eq))
+elsewhere_eq = eq_of_both (on (λ v. v.remote_views.entries) (named_eq remote_view_eq))
+    (on (λ v. v.git_refs.entries) (named_eq target_eq))
 
 abbrev pub workspaces_eq : View → View → Bool
-workspaces_eq = eq_of_both (on (λ v. v.git_heads.entries) (named_eq target_eq)) (on (λ v. v.wc_commit_ids.entries) (named_eq bytes_eq))
+workspaces_eq = eq_of_both (on (λ v. v.git_heads.entries) (named_eq target_eq))
+    (on (λ v. v.wc_commit_ids.entries) (named_eq bytes_eq))
 
 abbrev pub view_eq : View → View → Bool
 view_eq = eq_of_both local_eq (eq_of_both elsewhere_eq workspaces_eq)
@@ -60,27 +70,35 @@ view_eq = eq_of_both local_eq (eq_of_both elsewhere_eq workspaces_eq)
 local_equiv : IsEquivalence local_eq
 local_equiv =
     and_equiv (on_equiv (λ v. v.head_ids) (hash_set_eq_equiv nat_list_eq_equiv))
-    (and_equiv (on_equiv (λ v. v.local_bookmarks.entries) (named_equiv target_equiv)) (on_equiv (λ v. v.local_tags.entries) (named_equiv target_equiv)))
+    (and_equiv (on_equiv (λ v. v.local_bookmarks.entries) (named_equiv target_equiv))
+    (on_equiv (λ v. v.local_tags.entries) (named_equiv target_equiv)))
 
 elsewhere_equiv : IsEquivalence elsewhere_eq
-elsewhere_equiv = and_equiv (on_equiv (λ v. v.remote_views.entries) (named_equiv remote_view_equiv)) (on_equiv (λ v. v.git_refs.entries) (named_equiv target_equiv))
+elsewhere_equiv = and_equiv (on_equiv (λ v. v.remote_views.entries) (named_equiv remote_view_equiv))
+    (on_equiv (λ v. v.git_refs.entries) (named_equiv target_equiv))
 
 workspaces_equiv : IsEquivalence workspaces_eq
-workspaces_equiv = and_equiv (on_equiv (λ v. v.git_heads.entries) (named_equiv target_equiv)) (on_equiv (λ v. v.wc_commit_ids.entries) (named_equiv nat_list_eq_equiv))
+workspaces_equiv = and_equiv (on_equiv (λ v. v.git_heads.entries) (named_equiv target_equiv))
+    (on_equiv (λ v. v.wc_commit_ids.entries) (named_equiv nat_list_eq_equiv))
 
 pub view_equiv : IsEquivalence view_eq
 view_equiv = and_equiv local_equiv (and_equiv elsewhere_equiv workspaces_equiv)
 
 local_lawful : IsLawful IsLocal local_eq local_content
 local_lawful =
-    both_lawful (on_lawful (λ v. v.head_ids) (hash_set_lawful nat_list_cmp_total nat_list_eq_equiv texts_ties bytes_lawful))
-    (both_lawful (on_lawful (λ v. v.local_bookmarks.entries) (named_lawful target_lawful)) (on_lawful (λ v. v.local_tags.entries) (named_lawful target_lawful)))
+    both_lawful (on_lawful (λ v. v.head_ids)
+    (hash_set_lawful nat_list_cmp_total nat_list_eq_equiv texts_ties bytes_lawful))
+    (both_lawful (on_lawful (λ v. v.local_bookmarks.entries) (named_lawful target_lawful))
+    (on_lawful (λ v. v.local_tags.entries) (named_lawful target_lawful)))
 
 elsewhere_lawful : IsLawful IsElsewhere elsewhere_eq elsewhere_content
-elsewhere_lawful = both_lawful (on_lawful (λ v. v.remote_views.entries) (named_lawful remote_view_lawful)) (on_lawful (λ v. v.git_refs.entries) (named_lawful target_lawful))
+elsewhere_lawful = both_lawful (on_lawful (λ v. v.remote_views.entries)
+    (named_lawful remote_view_lawful)) (on_lawful (λ v. v.git_refs.entries)
+    (named_lawful target_lawful))
 
 workspaces_lawful : IsLawful AreWorkspaces workspaces_eq workspaces_content
-workspaces_lawful = both_lawful (on_lawful (λ v. v.git_heads.entries) (named_lawful target_lawful)) (on_lawful (λ v. v.wc_commit_ids.entries) (named_lawful bytes_lawful))
+workspaces_lawful = both_lawful (on_lawful (λ v. v.git_heads.entries) (named_lawful target_lawful))
+    (on_lawful (λ v. v.wc_commit_ids.entries) (named_lawful bytes_lawful))
 
 pub view_lawful : IsLawful IsView view_eq view_content
 view_lawful = both_lawful local_lawful (both_lawful elsewhere_lawful workspaces_lawful)

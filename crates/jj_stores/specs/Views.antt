@@ -1,4 +1,5 @@
--- The content bytes of views, part by part, and the view of a repository that has only its root commit.
+-- The content bytes of views, part by part, and the view of a repository that has only its root
+-- commit.
 use Rattle.std.specs.Prelude.{◌≡◌, ℕ, List, [], ◌∷◌, ◌++◌}
 use Rattle.std.specs.HashSet as set
 use Rattle.std.specs.Ordering.{nat_cmp}
@@ -21,10 +22,12 @@ module _ {V : Type 0} where
 -- ---- remote views
 
 abbrev pub IsRemoteView : RemoteView → Type 0
-IsRemoteView view = AreNamed IsRemoteRef view.bookmarks.entries × AreNamed IsRemoteRef view.tags.entries
+IsRemoteView view = AreNamed IsRemoteRef view.bookmarks.entries
+    × AreNamed IsRemoteRef view.tags.entries
 
 abbrev pub remote_view_content : RemoteView → List ℕ
-remote_view_content view = named_content remote_ref_content view.bookmarks.entries ++ named_content remote_ref_content view.tags.entries
+remote_view_content view = named_content remote_ref_content view.bookmarks.entries
+    ++ named_content remote_ref_content view.tags.entries
 
 -- ---- views: heads and local refs; refs of remotes and of Git; workspaces
 
@@ -36,19 +39,24 @@ IsLocal view =
 abbrev pub local_content : View → List ℕ
 local_content view =
     set_content (slice_cmp nat_cmp) bytes_content view.head_ids.keys
-    ++ (named_content target_content view.local_bookmarks.entries ++ named_content target_content view.local_tags.entries)
+    ++ (named_content target_content view.local_bookmarks.entries
+    ++ named_content target_content view.local_tags.entries)
 
 abbrev pub IsElsewhere : View → Type 0
-IsElsewhere view = AreNamed IsRemoteView view.remote_views.entries × AreNamed IsTarget view.git_refs.entries
+IsElsewhere view = AreNamed IsRemoteView view.remote_views.entries
+    × AreNamed IsTarget view.git_refs.entries
 
 abbrev pub elsewhere_content : View → List ℕ
-elsewhere_content view = named_content remote_view_content view.remote_views.entries ++ named_content target_content view.git_refs.entries
+elsewhere_content view = named_content remote_view_content view.remote_views.entries
+    ++ named_content target_content view.git_refs.entries
 
 abbrev pub AreWorkspaces : View → Type 0
-AreWorkspaces view = AreNamed IsTarget view.git_heads.entries × AreNamed AreBytes view.wc_commit_ids.entries
+AreWorkspaces view = AreNamed IsTarget view.git_heads.entries
+    × AreNamed AreBytes view.wc_commit_ids.entries
 
 abbrev pub workspaces_content : View → List ℕ
-workspaces_content view = named_content target_content view.git_heads.entries ++ named_content bytes_content view.wc_commit_ids.entries
+workspaces_content view = named_content target_content view.git_heads.entries
+    ++ named_content bytes_content view.wc_commit_ids.entries
 
 abbrev pub IsView : View → Type 0
 IsView view = IsLocal view × (IsElsewhere view × AreWorkspaces view)

@@ -1,6 +1,7 @@
 //! Tests of `jj_stores` over its public calls, and a caller that is proved by its contracts.
 //
-// In a run in which one request for memory is refused, a test answers that, and is then run once more, when there is memory.
+// In a run in which one request for memory is refused, a test answers that, and is then run once
+// more, when there is memory.
 #![tactic(auto)]
 
 pub mod callers;

@@ -1,6 +1,7 @@
 //! Tests of sets of strings, over the public calls. Most are rows, over which one function loops.
 //
-// In a run in which one request for memory is refused, a test answers that, and is then run once more, when there is memory.
+// In a run in which one request for memory is refused, a test answers that, and is then run once
+// more, when there is memory.
 #![tactic(auto)]
 
 #[cfg(test)]

@@ -1,4 +1,5 @@
-//! The entries of a map that a matcher finds, by keys of each type, and predicates that a caller brings.
+//! The entries of a map that a matcher finds, by keys of each type, and predicates that a caller
+//! brings.
 use crate::fixtures::{items, matcher, shows};
 use jj_ids::ref_name::{GitRefNameBuf, RefNameBuf, RemoteNameBuf, WorkspaceNameBuf};
 use jj_strings::str_util::{BytePredicate, ByteTest, StringMatcher, TextKey};

@@ -4,7 +4,8 @@ use jj_strings::str_util::{StringPattern, StringPatternParseError};
 use std::alloc::{AllocError, Global};
 use std::process::Abort;
 
-// Kind, text, the debug form of the pattern, whether its set is seen to be everything, and the one text of an exact pattern.
+// Kind, text, the debug form of the pattern, whether its set is seen to be everything, and the one
+// text of an exact pattern.
 const KINDS: [(&str, &str, &str, bool, Option<&str>); 24] = [
     ("exact", "", "Exact(\"\")", false, Some("")),
     ("exact", "foo", "Exact(\"foo\")", false, Some("foo")),

@@ -35,8 +35,8 @@ module _ {ID : Type 0} (eq : ID → ID → Bool) where
   abbrev pub AreSameIds : List ID → List ID → Type 0
   AreSameIds is js = AllZip (λ i j. eq i j ≡ true) is js
 
-  -- The last candidates are these targets, but for some at the end that all have a held child. `counts` says of the known
-  -- ids how many edges of held nodes lead to each.
+  -- The last candidates are these targets, but for some at the end that all have a held child.
+  -- `counts` says of the known ids how many edges of held nodes lead to each.
   pub record AreToFollow (counts : ID → Option ℕ) (wanted found : List ID) : Type 0 where
     pub older : List ID
     pub pending : List ID
@@ -48,4 +48,6 @@ module _ {ID : Type 0} (eq : ID → ID → Bool) where
 
 -- more turns cannot come before a candidate is found
 abbrev pub turns_left : {ID : Type 0} → Candidates ID → ℕ
-turns_left s = (hash_map_len s.children + deque_len s.heads) * 2 ^ 66 + 2 * length s.ids.items + length s.blocked.items
+turns_left s =
+    (hash_map_len s.children + deque_len s.heads) * 2 ^ 66 + 2 * length s.ids.items + length
+    s.blocked.items

@@ -8,20 +8,27 @@ use Rattle.jj_walks.specs.Walk.{Numbered}
 
 -- distinct numbers stand at distinct places
 abbrev pub IsInjective : List ℕ → Type 0
-IsInjective ns = (i j : ℕ) → i < length ns → j < length ns → slice_index ns i ≡ slice_index ns j → i ≡ j
+IsInjective ns = (i j : ℕ) → i < length ns → j < length ns → slice_index ns i ≡ slice_index ns j
+    → i ≡ j
 
 module _ {T ID E : Type 0} (w : Numbered T ID) (items : FailingGraph E) where
   -- a look-up of an id gives the place of its node
   abbrev pub Finds : (ID → Option ℕ) → List ℕ → Type 0
-  Finds find ns = (i : ID) → w.is_node (w.id i) ≡ true → MatchOption (find i) (Contains ns (w.id i) → ⊥) (λ k. (k < length ns) × (slice_index ns k ≡ w.id i))
+  Finds find ns = (i : ID) → w.is_node (w.id i) ≡ true
+      → MatchOption (find i) (Contains ns (w.id i) → ⊥)
+      (λ k. (k < length ns) × (slice_index ns k ≡ w.id i))
 
   -- `work` waits, `given` was visited, and `ids` has the ids of the neighbours of each of these
-  pub record IsCollecting (starts : List ℕ) (find : ID → Option ℕ) (work given : List T) (ids : List (List ID)) : Type 0 where
+  pub record IsCollecting (starts : List ℕ) (find : ID → Option ℕ) (work given : List T)
+      (ids : List (List ID)) : Type 0 where
     pub waiting_reached : (a : ℕ) → Contains (map w.node work) a → ReachedFrom w.graph starts a
     pub given_reached : (a : ℕ) → Contains (map w.node given) a → ReachedFrom w.graph starts a
-    pub starts_met : (a : ℕ) → Contains starts a → Contains (map w.node given) a ⊎ Contains (map w.node work) a
-    pub closed : (a b : ℕ) → Contains (map w.node given) a → HasEdge w.graph a b → Contains (map w.node given) b ⊎ Contains (map w.node work) b
+    pub starts_met : (a : ℕ) → Contains starts a → Contains (map w.node given) a
+        ⊎ Contains (map w.node work) a
+    pub closed : (a b : ℕ) → Contains (map w.node given) a → HasEdge w.graph a b
+        → Contains (map w.node given) b ⊎ Contains (map w.node work) b
     pub injective : IsInjective (map w.node given)
     pub finds : Finds find (map w.node given)
     pub lists : map (λ is. map w.id is) ids ≡ map w.graph (map w.node given)
-    pub none_failed : (a : ℕ) (e : E) → Contains (map w.node given) a → Contains (items a) (Err e) → ⊥
+    pub none_failed : (a : ℕ) (e : E) → Contains (map w.node given) a → Contains (items a) (Err e)
+        → ⊥

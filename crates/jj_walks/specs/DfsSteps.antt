@@ -10,7 +10,8 @@ use Rattle.jj_walks.specs.declared.depth_first.DepthFirst.{DepthFirst}
 use Rattle.jj_walks.specs.Graph.{IsPreorder}
 use Rattle.jj_walks.specs.Walk.{Numbered, IsShownBy, IsWalking}
 
--- more items cannot come: an error ends the walk, and each other item puts one more id into a set of fewer than 2^63
+-- more items cannot come: an error ends the walk, and each other item puts one more id into a set
+-- of fewer than 2^63
 abbrev pub items_left : {T ID F N : Type 0} → DepthFirst T ID F N → ℕ
 items_left s = elim s.work.items [ [] ↦ 0 | x ∷ xs ↦ 1 + (2 ^ 63 - hash_set_len s.visited) ]
 
@@ -18,29 +19,39 @@ items_left s = elim s.work.items [ [] ↦ 0 | x ∷ xs ↦ 1 + (2 ^ 63 - hash_se
 abbrev pub HasEnded : {T ID F N : Type 0} → DepthFirst T ID F N → Type 0
 HasEnded s = s.work.items ≡ []
 
-module _ {T ID F N U S : Type 0} (ids : Shared F (Bor T × Unit {0}) ID) (lists : Mut N (Bor T × Unit {0}) U) where
+module _ {T ID F N U S : Type 0} (ids : Shared F (Bor T × Unit {0}) ID)
+    (lists : Mut N (Bor T × Unit {0}) U) where
   -- the closures may always be called, and what `neighbors_fn` gives ends
-  pub record CanWalk (becomes : U → S → Type 0) (can : S → Type 0) (left : S → Count) (s : DepthFirst T ID F N) : Type 0 where
+  pub record CanWalk (becomes : U → S → Type 0) (can : S → Type 0) (left : S → Count)
+      (s : DepthFirst T ID F N) : Type 0 where
     pub id_fn : always_fn ids s.id_fn
     pub neighbors_fn : always_mut lists s.neighbors_fn
     pub ends : AlwaysReturns lists (λ a r. IsFiniteIterable becomes can left r) s.neighbors_fn
 
   -- s is what is left of a depth-first walk from these starts that has given these nodes
-  pub record IsLeftOf (w : Numbered T ID) (eq : ID → ID → Bool) (becomes : U → S → Type 0) (steps : S → Option T → S → Type 0) (starts : List ℕ) (given : List T) (s : DepthFirst T ID F N) : Type 0 where
+  pub record IsLeftOf (w : Numbered T ID) (eq : ID → ID → Bool) (becomes : U → S → Type 0)
+      (steps : S → Option T → S → Type 0) (starts : List ℕ) (given : List T)
+      (s : DepthFirst T ID F N) : Type 0 where
     pub shown : IsShownBy w eq ids lists becomes steps s.id_fn s.neighbors_fn
     pub walking : IsWalking w starts (contains eq s.visited) s.work.items given
 
-  -- the walk gives one node more, or ends as the preorder of its starts, or is refused memory and ends
-  abbrev pub WalksOn : (ID → ID → Bool) → (U → S → Type 0) → (S → Option T → S → Type 0) → DepthFirst T ID F N → Option (Result T AllocError) → DepthFirst T ID F N → Type 0
+  -- the walk gives one node more, or ends as the preorder of its starts, or is refused memory and
+  -- ends
+  abbrev pub WalksOn : (ID → ID → Bool) → (U → S → Type 0) → (S → Option T → S → Type 0)
+      → DepthFirst T ID F N → Option (Result T AllocError) → DepthFirst T ID F N → Type 0
   WalksOn eq becomes steps s r t =
-      (w : Numbered T ID) (starts : List ℕ) (given : List T) → IsLeftOf w eq becomes steps starts given s →
+      (w : Numbered T ID) (starts : List ℕ) (given : List T)
+      → IsLeftOf w eq becomes steps starts given s →
       MatchOption r (IsPreorder w.graph starts (map w.node given) × (t.work.items ≡ []))
-      (λ x. MatchResult x (λ node. IsLeftOf w eq becomes steps starts (given ++ node ∷ []) t) (λ _. t.work.items ≡ []))
+      (λ x. MatchResult x (λ node. IsLeftOf w eq becomes steps starts (given ++ node ∷ []) t)
+      (λ _. t.work.items ≡ []))
 
-  -- One call from s, which gave r and left t: the walk goes on, `next` may be called again whatever it gave, `None` and an error
-  -- end the walk, and a walk that has ended gives `None` and stays so.
-  pub record Steps (eq : ID → ID → Bool) (becomes : U → S → Type 0) (steps : S → Option T → S → Type 0) (can : S → Type 0) (left : S → Count)
-      (s : DepthFirst T ID F N) (r : Option (Result T AllocError)) (t : DepthFirst T ID F N) : Type 0 where
+  -- One call from s, which gave r and left t: the walk goes on, `next` may be called again whatever
+  -- it gave, `None` and an error end the walk, and a walk that has ended gives `None` and stays so.
+  pub record Steps (eq : ID → ID → Bool) (becomes : U → S → Type 0)
+      (steps : S → Option T → S → Type 0) (can : S → Type 0) (left : S → Count)
+      (s : DepthFirst T ID F N) (r : Option (Result T AllocError))
+      (t : DepthFirst T ID F N) : Type 0 where
     pub walks : WalksOn eq becomes steps s r t
     pub again : CanWalk becomes can left t
     pub ends : MatchOption r (HasEnded t) (λ x. IfErr x (λ _. HasEnded t))

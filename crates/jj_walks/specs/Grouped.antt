@@ -1,4 +1,5 @@
--- The order of a grouped graph, told by its history: which ids were prioritised, and which nodes read and given.
+-- The order of a grouped graph, told by its history: which ids were prioritised, and which nodes
+-- read and given.
 use Rattle.std.specs.Prelude.{◌≡◌, ℕ, ◌==◌, Bool, true, false, not, ◌&&◌, ◌||◌, count_by, List, [], ◌∷◌, map, filter, reverse, find, is_some, Option, None, Some, MatchOption, ⊤}
 use Rattle.std.specs.List.{Contains, list_any, sum_by}
 use Rattle.jj_walks.specs.declared.graph.GraphEdge.{GraphEdge}
@@ -58,7 +59,9 @@ abbrev pub GivesChildrenFirst : {N ID : Type 0} → (ID → ID → Bool) → His
 GivesChildrenFirst eq [] = ⊤
 GivesChildrenFirst eq (Prioritized i ∷ h) = GivesChildrenFirst eq h
 GivesChildrenFirst eq (Read e ∷ h) = GivesChildrenFirst eq h
-GivesChildrenFirst {N} {ID} eq (Gave e ∷ h) = ((c : Entry N ID) → Contains (read_nodes h) c → list_any (leads_to eq e.id) c.edges ≡ true → Contains (given_nodes h) c)
+GivesChildrenFirst {N} {ID} eq (Gave e ∷ h) =
+    ((c : Entry N ID) → Contains (read_nodes h) c → list_any (leads_to eq e.id) c.edges ≡ true
+    → Contains (given_nodes h) c)
     × GivesChildrenFirst eq h
 
 module _ {N ID : Type 0} (eq : ID → ID → Bool) where
@@ -95,7 +98,8 @@ module _ {N ID : Type 0} (eq : ID → ID → Bool) where
   abbrev pub last_free : History N ID → Option ID
   last_free h = find (is_free h) (reverse (targets_of (last_edges h)))
 
-  -- the node may be given next: it is held, no held node has an edge to it, and it is the last free target, if one is free
+  -- the node may be given next: it is held, no held node has an edge to it, and it is the last free
+  -- target, if one is free
   pub record IsNext (h : History N ID) (e : Entry N ID) : Type 0 where
     pub held : held_at h e.id ≡ Some e
     pub childless : edges_to h e.id ≡ 0

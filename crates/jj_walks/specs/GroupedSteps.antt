@@ -39,7 +39,8 @@ Item N ID = N × Vec (GraphEdge ID) Global
 
 -- more items cannot come: one for each node that is held or read, and an error
 abbrev pub nodes_left : {N ID S F : Type 0} → (S → Count) → GroupedNodes N ID S F → ℕ
-nodes_left left s = cond s.has_ended 0 (size (left s.graph.input) + hash_map_len s.graph.held.nodes + 1)
+nodes_left left s = cond s.has_ended 0 (size
+    (left s.graph.input) + hash_map_len s.graph.held.nodes + 1)
 
 module _ {N ID F : Type 0} (ids : Shared F (Bor N × Unit {0}) (Bor ID)) (eq : ID → ID → Bool) where
   -- the entry of an item, with an id that is equal to the one that the closure gives
@@ -49,7 +50,8 @@ module _ {N ID F : Type 0} (ids : Shared F (Bor N × Unit {0}) (Bor ID)) (eq : I
 
   module _ {S : Type 0} where
     -- the closure may always be called, clones are equal, and the input may be read and ends
-    pub record CanRead (clone : ID → ID → Type 0) (can : S → Type 0) (left : S → Count) (s : TopoGroupedGraph N ID S F) : Type 0 where
+    pub record CanRead (clone : ID → ID → Type 0) (can : S → Type 0) (left : S → Count)
+        (s : TopoGroupedGraph N ID S F) : Type 0 where
       pub as_id : always_fn ids s.as_id
       pub clones : (i j : ID) → clone i j → eq i j ≡ true
       pub input : can s.input
@@ -57,28 +59,40 @@ module _ {N ID F : Type 0} (ids : Shared F (Bor N × Unit {0}) (Bor ID)) (eq : I
 
     module _ {E : Type 0} (steps : S → Option (Result (Item N ID) E) → S → Type 0) where
       -- the input gave these items and is at t
-      pub record ReadsTo (as_id : F) (s : S) (items : List (Item N ID)) (reads : List (Entry N ID)) (t : S) : Type 0 where
+      pub record ReadsTo (as_id : F) (s : S) (items : List (Item N ID)) (reads : List (Entry N ID))
+          (t : S) : Type 0 where
         pub given : Yields steps s (map Ok items) t
         pub entries : AllZip (IsEntryOf as_id) items reads
 
       -- what an error tells, where the history was h once the input was at s
       abbrev pub IsCause : F → History N ID → S → GroupedGraphError E → S → Type 0
       IsCause as_id h s (Input e) t = steps s (Some (Err e)) t
-      IsCause as_id h s DuplicateId t = (item : Item N ID) × (e : Entry N ID) × steps s (Some (Ok item)) t × IsEntryOf as_id item e × (is_some (held_at eq h e.id) ≡ true)
-      IsCause as_id h s MissingNode t = (i : ID) × steps s None t × (is_wanted eq h i ≡ true) × (held_at eq h i ≡ None)
-      IsCause as_id h s NotChildFirst t = steps s None t × (held eq h ≡ [] → ⊥) × ((i : ID) → is_some (held_at eq h i) ≡ true → edges_to eq h i ≡ 0 → ⊥)
+      IsCause as_id h s DuplicateId t = (item : Item N ID) × (e : Entry N ID)
+          × steps s (Some (Ok item)) t × IsEntryOf as_id item e
+          × (is_some (held_at eq h e.id) ≡ true)
+      IsCause as_id h s MissingNode t = (i : ID) × steps s None t × (is_wanted eq h i ≡ true)
+          × (held_at eq h i ≡ None)
+      IsCause as_id h s NotChildFirst t = steps s None t × (held eq h ≡ [] → ⊥)
+          × ((i : ID) → is_some (held_at eq h i) ≡ true → edges_to eq h i ≡ 0 → ⊥)
       IsCause as_id h s Memory t = Unit {0}
 
-      -- after the history h some nodes are read, and then: the input has ended and all nodes were given; or a node is given that
-      -- may come next; or an error tells its cause
-      abbrev pub GivesNext : History N ID → TopoGroupedGraph N ID S F → Option (Result (Item N ID) (GroupedGraphError E)) → TopoGroupedGraph N ID S F → Type 0
-      GivesNext h s None t = (items : List (Item N ID)) × (reads : List (Entry N ID)) × (u : S) × ReadsTo s.as_id s.input items reads u
+      -- after the history h some nodes are read, and then: the input has ended and all nodes were
+      -- given; or a node is given that may come next; or an error tells its cause
+      abbrev pub GivesNext : History N ID → TopoGroupedGraph N ID S F
+          → Option (Result (Item N ID) (GroupedGraphError E)) → TopoGroupedGraph N ID S F → Type 0
+      GivesNext h s None t = (items : List (Item N ID)) × (reads : List (Entry N ID)) × (u : S)
+          × ReadsTo s.as_id s.input items reads u
           × steps u None t.input × IsHistory eq (read_on reads h) × (held eq (read_on reads h) ≡ [])
-      GivesNext h s (Some (Ok x)) t = (items : List (Item N ID)) × (reads : List (Entry N ID)) × (e : Entry N ID) × ReadsTo s.as_id s.input items reads t.input
+      GivesNext h s (Some (Ok x)) t = (items : List (Item N ID)) × (reads : List (Entry N ID))
+          × (e : Entry N ID) × ReadsTo s.as_id s.input items reads t.input
           × (item_of e ≡ listed_item x) × Keeps eq (Gave e ∷ read_on reads h) t.held
-      GivesNext h s (Some (Err error)) t = (items : List (Item N ID)) × (reads : List (Entry N ID)) × (u : S) × ReadsTo s.as_id s.input items reads u
+      GivesNext h s (Some (Err error)) t = (items : List (Item N ID)) × (reads : List (Entry N ID))
+          × (u : S) × ReadsTo s.as_id s.input items reads u
           × IsHistory eq (read_on reads h) × IsCause s.as_id (read_on reads h) u error t.input
 
       -- from a state that keeps a history; once it has ended, it answers `None` and stays as it is
-      abbrev pub GivesOn : GroupedNodes N ID S F → Option (Result (Item N ID) (GroupedGraphError E)) → GroupedNodes N ID S F → Type 0
-      GivesOn s r t = MatchBool s.has_ended ((r ≡ None) × (t ≡ s)) ((t.has_ended ≡ is_last r) × ((h : History N ID) → Keeps eq h s.graph.held → GivesNext h s.graph r t.graph))
+      abbrev pub GivesOn : GroupedNodes N ID S F → Option (Result (Item N ID) (GroupedGraphError E))
+          → GroupedNodes N ID S F → Type 0
+      GivesOn s r t = MatchBool s.has_ended ((r ≡ None) × (t ≡ s))
+          ((t.has_ended ≡ is_last r) × ((h : History N ID) → Keeps eq h s.graph.held
+          → GivesNext h s.graph r t.graph))

@@ -21,9 +21,11 @@ module _ {N ID : Type 0} where
   listed_item x = (x.0, x.1.items)
 
   module _ (eq : ID → ID → Bool) where
-    -- Maps and lists that keep a history: the node of each id that is held, of each known id how many edges of held nodes
-    -- lead to it, and the lists on which each known id without a held child stands.
-    pub record KeepsHistory (h : History N ID) (node_at : ID → Option (N × List (GraphEdge ID))) (count : ID → Option ℕ) (candidates heads : List ID) : Type 0 where
+    -- Maps and lists that keep a history: the node of each id that is held, of each known id how
+    -- many edges of held nodes lead to it, and the lists on which each known id without a held
+    -- child stands.
+    pub record KeepsHistory (h : History N ID) (node_at : ID → Option (N × List (GraphEdge ID)))
+        (count : ID → Option ℕ) (candidates heads : List ID) : Type 0 where
       pub told : IsHistory eq h
       pub nodes : (i : ID) → node_at i ≡ option_map item_of (held_at eq h i)
       pub known : (i : ID) → is_some (count i) ≡ is_known eq h i
@@ -32,13 +34,16 @@ module _ {N ID : Type 0} where
       pub follows : AreToFollow eq count (targets_of (last_edges h)) candidates
 
     abbrev pub Keeps : History N ID → HeldNodes N ID → Type 0
-    Keeps h s = KeepsHistory h (λ i. option_map listed_item (get eq s.nodes i)) (get eq s.counts) s.candidates.ids.items (deque_items s.candidates.heads)
+    Keeps h s = KeepsHistory h (λ i. option_map listed_item (get eq s.nodes i))
+        (get eq s.counts) s.candidates.ids.items (deque_items s.candidates.heads)
 
     -- what is taken next: the node, or what is known where none can be
     abbrev pub TakesNext : History N ID → Ready N ID → HeldNodes N ID → Type 0
     TakesNext h (Node x) t = (e : Entry N ID) × (item_of e ≡ listed_item x) × Keeps (Gave e ∷ h) t
-    TakesNext h Unread t = Keeps h t × ((i : ID) × (is_wanted eq h i ≡ true) × (held_at eq h i ≡ None))
-    TakesNext h Nothing t = Keeps h t × ((i : ID) → is_known eq h i ≡ true → edges_to eq h i ≡ 0 → ⊥)
+    TakesNext h Unread t = Keeps h t × ((i : ID) × (is_wanted eq h i ≡ true)
+        × (held_at eq h i ≡ None))
+    TakesNext h Nothing t = Keeps h t × ((i : ID) → is_known eq h i ≡ true → edges_to eq h i ≡ 0
+        → ⊥)
 
 -- one node less is held
 abbrev pub len_after : {N ID : Type 0} → Ready N ID → ℕ → ℕ

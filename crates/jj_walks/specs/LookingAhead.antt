@@ -11,14 +11,21 @@ abbrev pub copies : {T : Type 0} → (T → ℕ) → List T → ℕ → ℕ
 copies node xs a = sum_by (λ x. cond (node x == a) 1 0) xs
 
 module _ {T ID K : Type 0} (w : Numbered T ID) (items : FailingGraph K) where
-  -- `work` waits and `given` was explored; a start that is a neighbour of an explored node, and was not explored, waits twice
-  pub record IsLooking (starts : List ℕ) (find : ID → Option ℕ) (root_met : Bool) (work given : List T) (ids : List (List ID)) : Type 0 where
+  -- `work` waits and `given` was explored; a start that is a neighbour of an explored node, and was
+  -- not explored, waits twice
+  pub record IsLooking (starts : List ℕ) (find : ID → Option ℕ) (root_met : Bool)
+      (work given : List T) (ids : List (List ID)) : Type 0 where
     pub collecting : IsCollecting w items starts find work given ids
-    pub twice : (a b : ℕ) → Contains starts a → (Contains (map w.node given) a → ⊥) → Contains (map w.node given) b → HasEdge w.graph b a → 2 ≤ copies w.node work a
-    pub rootless : root_met ≡ false → (b : ℕ) → Contains (map w.node given) b → (c : ℕ) × HasEdge w.graph b c
+    pub twice : (a b : ℕ) → Contains starts a → (Contains (map w.node given) a → ⊥)
+        → Contains (map w.node given) b → HasEdge w.graph b a → 2 ≤ copies w.node work a
+    pub rootless : root_met ≡ false → (b : ℕ) → Contains (map w.node given) b → (c : ℕ)
+        × HasEdge w.graph b c
 
   -- the same where no more is explored: where nodes wait, each explored node has a neighbour
-  pub record HasLooked (starts : List ℕ) (find : ID → Option ℕ) (work given : List T) (ids : List (List ID)) : Type 0 where
+  pub record HasLooked (starts : List ℕ) (find : ID → Option ℕ) (work given : List T)
+      (ids : List (List ID)) : Type 0 where
     pub collecting : IsCollecting w items starts find work given ids
-    pub twice : (a b : ℕ) → Contains starts a → (Contains (map w.node given) a → ⊥) → Contains (map w.node given) b → HasEdge w.graph b a → 2 ≤ copies w.node work a
-    pub rootless : (work ≡ [] → ⊥) → (b : ℕ) → Contains (map w.node given) b → (c : ℕ) × HasEdge w.graph b c
+    pub twice : (a b : ℕ) → Contains starts a → (Contains (map w.node given) a → ⊥)
+        → Contains (map w.node given) b → HasEdge w.graph b a → 2 ≤ copies w.node work a
+    pub rootless : (work ≡ [] → ⊥) → (b : ℕ) → Contains (map w.node given) b → (c : ℕ)
+        × HasEdge w.graph b c

@@ -19,7 +19,11 @@ mark_at eq known id = mark_of (get eq known id)
 
 -- what is known by both
 abbrev pub joined : Reach → Reach → Reach
-joined known added = record { left = known.left || added.left; right = known.right || added.right; below = known.below || added.below }
+joined known added = record {
+  left = known.left || added.left;
+  right = known.right || added.right;
+  below = known.below || added.below;
+}
 
 -- a set more reaches the node
 abbrev pub grows : Reach → Reach → Bool
@@ -27,11 +31,18 @@ grows known added = (added.left && not known.left) || (added.right && not known.
 
 -- what a node tells of its neighbours
 abbrev pub handed_on : Reach → Reach
-handed_on known = record { left = known.left; right = known.right; below = known.left && known.right }
+handed_on known = record {
+  left = known.left;
+  right = known.right;
+  below = known.left && known.right;
+}
 
 -- the mark with more known, by which the node waits if a set more reaches it
 abbrev pub marked : Mark → Reach → Mark
-marked mark added = record { reach = joined mark.reach added; waits = mark.waits || grows mark.reach added }
+marked mark added = record {
+  reach = joined mark.reach added;
+  waits = mark.waits || grows mark.reach added;
+}
 
 -- by this the node joins those that wait
 abbrev pub starts_waiting : Mark → Reach → Bool
@@ -51,4 +62,5 @@ sides_met known = sum_by sides (values known)
 
 -- the nodes that no common node is known to be above
 abbrev pub closest_of : {T ID : Type 0} → (ID → Mark) → List (T × ID) → List T
-closest_of find common = map (λ entry. entry.0) (filter (λ entry. not (find entry.1).reach.below) common)
+closest_of find common = map (λ entry. entry.0)
+    (filter (λ entry. not (find entry.1).reach.below) common)

@@ -1,4 +1,5 @@
--- The reverse of a shown graph: its nodes from the last to the first, each with the edges that lead to it.
+-- The reverse of a shown graph: its nodes from the last to the first, each with the edges that lead
+-- to it.
 use Rattle.std.specs.Prelude.{◌≡◌, Bool, List, [], ◌∷◌, ◌++◌, map, filter, reverse, Option, None, Some, if◌then◌else◌}
 use Rattle.std.specs.List.{AllZip, list_any}
 use Rattle.std.specs.HashMap.{HashMap, get}
@@ -12,7 +13,8 @@ ShownGraph N ID = List (N × List (GraphEdge ID))
 
 -- the graph that these nodes show
 abbrev pub shown_graph : {N ID : Type 0} → List (N × Vec (GraphEdge ID) Global) → ShownGraph N ID
-shown_graph {N} {ID} nodes = map {B = N × List (GraphEdge ID)} (λ entry. (entry.0, entry.1.items)) nodes
+shown_graph {N} {ID} nodes = map {B = N × List (GraphEdge ID)}
+    (λ entry. (entry.0, entry.1.items)) nodes
 
 -- the edge of the same type to this node
 abbrev pub edge_to : {N ID : Type 0} → N → GraphEdge ID → GraphEdge N
@@ -29,11 +31,15 @@ module _ {N ID : Type 0} (eq : ID → ID → Bool) where
   incoming_edges i (entry ∷ graph) = turned_edges i entry.0 entry.1 ++ incoming_edges i graph
 
   module _ (id : N → ID) where
-    -- each of the nodes with the edges that lead to it, which a node has only where no later one has its id
+    -- each of the nodes with the edges that lead to it, which a node has only where no later one
+    -- has its id
     abbrev pub with_incoming : ShownGraph N ID → List N → ShownGraph N N
     with_incoming graph [] = []
-    with_incoming graph (node ∷ later) =
-        (node, if list_any (λ other. eq (id other) (id node)) later then [] else incoming_edges (id node) graph) ∷ with_incoming graph later
+    with_incoming graph (node ∷ later) = (
+      node,
+      if list_any (λ other. eq (id other) (id node)) later then [] else incoming_edges
+          (id node) graph,
+    ) ∷ with_incoming graph later
 
     -- the nodes from the last to the first
     abbrev pub reversed_graph : ShownGraph N ID → ShownGraph N N
@@ -46,12 +52,14 @@ module _ {N ID : Type 0} (clone : ID → ID → Type 0) (id : N → ID) where
 
   -- the same nodes, with such edges in the place of those to nodes
   abbrev pub ShowsById : ShownGraph N N → ShownGraph N ID → Type 0
-  ShowsById graph given = AllZip (λ want got. (got.0 ≡ want.0) × AllZip LeadsToId want.1 got.1) graph given
+  ShowsById graph given = AllZip (λ want got. (got.0 ≡ want.0)
+      × AllZip LeadsToId want.1 got.1) graph given
 
 -- the edges that a map has for an id
 abbrev pub edges_of : {ID : Type 0} → Option (Vec (GraphEdge ID) Global) → List (GraphEdge ID)
 edges_of None = []
 edges_of (Some edges) = edges.items
 
-abbrev pub edges_at : {ID S : Type 0} → (ID → ID → Bool) → HashMap ID (Vec (GraphEdge ID) Global) S → ID → List (GraphEdge ID)
+abbrev pub edges_at : {ID S : Type 0} → (ID → ID → Bool) → HashMap ID (Vec (GraphEdge ID) Global) S
+    → ID → List (GraphEdge ID)
 edges_at eq map id = edges_of (get eq map id)

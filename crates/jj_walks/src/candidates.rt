@@ -46,7 +46,8 @@ impl<ID: Hash + Eq + Clone + Drop> Candidates<ID> {
 
     pub fn push_head(&mut self, id: ID) -> Result<(), AllocError>
         ensures ids { self.new.ids ≡ self.old.ids }
-        ensures heads { OnOk result (deque_items self.new.heads ≡ deque_items self.old.heads ++ id ∷ []) }
+        ensures heads { OnOk result (deque_items self.new.heads ≡ deque_items self.old.heads
+            ++ id ∷ []) }
         ensures refused { OnErr result (deque_items self.new.heads ≡ deque_items self.old.heads) }
     {
         self.heads.push_back(id)?;
@@ -56,7 +57,9 @@ impl<ID: Hash + Eq + Clone + Drop> Candidates<ID> {
     /// Makes the targets of a node that is given candidates.
     pub fn push_targets(&mut self, edges: &[GraphEdge<ID>]) -> Result<(), AllocError>
         requires clones { (i j : ID) → ID.is_clone i j → IsTrue (ID.eq i j) }
-        ensures ids { OnOk result ((more : List ID) × (self.new.ids.items ≡ self.old.ids.items ++ more) × AreSameIds ID.eq (targets_of edges.now) more) }
+        ensures ids { OnOk result ((more : List ID)
+            × (self.new.ids.items ≡ self.old.ids.items ++ more)
+            × AreSameIds ID.eq (targets_of edges.now) more) }
         ensures heads { self.new.heads ≡ self.old.heads }
     {
         for edge in edges {
@@ -84,13 +87,20 @@ impl<ID: Hash + Eq + Clone + Drop> Candidates<ID> {
         Ok(())
     }
 
-    /// Takes out the last candidate that is counted as one without a held child. Ids that are not counted are dropped.
+    /// Takes out the last candidate that is counted as one without a held child. Ids that are not
+    /// counted are dropped.
     pub fn take(&mut self, counts: &HashMap<ID, usize>) -> Result<Option<ID>, AllocError>
-        ensures taken { IfOk result (λ o. MatchOption o ((self.new.ids.items ≡ []) × (deque_items self.new.heads ≡ [])) (λ i. is_zero (get ID.eq counts.now i) ≡ true)) }
-        ensures listed { IfOk result (λ o. (i : ID) → is_zero (get ID.eq counts.now i) ≡ true → is_listed ID.eq self.old.ids.items (deque_items self.old.heads) i ≡ true
-            → is_listed ID.eq (self.new.ids.items ++ option_to_list o) (deque_items self.new.heads) i ≡ true) }
-        ensures follows { IfOk result (λ o. (targets : List ID) → AreToFollow ID.eq (get ID.eq counts.now) targets self.old.ids.items
-            → AreToFollow ID.eq (get ID.eq counts.now) targets (self.new.ids.items ++ option_to_list o)) }
+        ensures taken { IfOk result (λ o. MatchOption o
+            ((self.new.ids.items ≡ []) × (deque_items self.new.heads ≡ []))
+            (λ i. is_zero (get ID.eq counts.now i) ≡ true)) }
+        ensures listed { IfOk result (λ o. (i : ID) → is_zero (get ID.eq counts.now i) ≡ true
+            → is_listed ID.eq self.old.ids.items (deque_items self.old.heads) i ≡ true
+            → is_listed ID.eq (self.new.ids.items ++ option_to_list o)
+            (deque_items self.new.heads) i ≡ true) }
+        ensures follows { IfOk result (λ o. (targets : List ID)
+            → AreToFollow ID.eq (get ID.eq counts.now) targets self.old.ids.items
+            → AreToFollow ID.eq (get ID.eq counts.now) targets
+            (self.new.ids.items ++ option_to_list o)) }
     {
         'turns: loop {
             let Some(id) = self.ids.pop() else {
@@ -107,13 +117,17 @@ impl<ID: Hash + Eq + Clone + Drop> Candidates<ID> {
         }
     }
 
-    /// Makes the children of the blocked id that came last candidates, or else the first head. Answers `false` where
-    /// there is neither.
+    /// Makes the children of the blocked id that came last candidates, or else the first head.
+    /// Answers `false` where there is neither.
     fn refill(&mut self) -> Result<bool, AllocError>
         requires { self.old.ids.items ≡ [] }
-        ensures listed { IfOk result (λ _. (i : ID) → has_id ID.eq (deque_items self.old.heads) i ≡ true → is_listed ID.eq self.new.ids.items (deque_items self.new.heads) i ≡ true) }
-        ensures falls { IfOk result (λ more. more ≡ true → turns_left self.new < turns_left self.old) }
-        ensures none { IfOk result (λ more. more ≡ false → (self.new.ids.items ≡ []) × (deque_items self.new.heads ≡ [])) }
+        ensures listed { IfOk result (λ _. (i : ID)
+            → has_id ID.eq (deque_items self.old.heads) i ≡ true
+            → is_listed ID.eq self.new.ids.items (deque_items self.new.heads) i ≡ true) }
+        ensures falls { IfOk result (λ more. more ≡ true
+            → turns_left self.new < turns_left self.old) }
+        ensures none { IfOk result (λ more. more ≡ false → (self.new.ids.items ≡ [])
+            × (deque_items self.new.heads ≡ [])) }
     {
         if let Some(id) = self.blocked.pop() {
             if let Some(mut children) = self.children.remove(&id) {

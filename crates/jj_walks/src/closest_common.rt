@@ -15,7 +15,8 @@ use std::alloc::{AllocError, Global};
 use std::collections::{BinaryHeap, HashMap};
 use std::hash::Hash;
 
-/// What is known to reach a node: the first set, the second, and a common node that is strictly above it.
+/// What is known to reach a node: the first set, the second, and a common node that is strictly
+/// above it.
 #[derive(Clone, Copy)]
 struct Reach {
     left: bool,
@@ -121,9 +122,14 @@ fn mark_node<T: Ord + Drop, ID: Hash + Eq + Drop>(
     id: ID,
     reach: Reach,
 ) -> Result<(), AllocError>
-    ensures known { OnOk result ((i : ID) → mark_at ID.eq known.new i ≡ cond (ID.eq id i) (marked (mark_at ID.eq known.old id) reach) (mark_at ID.eq known.old i)) }
-    ensures waiting { OnOk result (MatchBool (starts_waiting (mark_at ID.eq known.old id) reach) (IsPermutation (node ∷ heap_items waiting.old) (heap_items waiting.new)) (heap_items waiting.new ≡ heap_items waiting.old)) }
-    ensures balance { OnOk result (sides_met known.old + heap_len waiting.new ≤ sides_met known.new + heap_len waiting.old) }
+    ensures known { OnOk result ((i : ID) → mark_at ID.eq known.new i
+        ≡ cond (ID.eq id i) (marked (mark_at ID.eq known.old id) reach)
+        (mark_at ID.eq known.old i)) }
+    ensures waiting { OnOk result (MatchBool (starts_waiting (mark_at ID.eq known.old id) reach)
+        (IsPermutation (node ∷ heap_items waiting.old) (heap_items waiting.new))
+        (heap_items waiting.new ≡ heap_items waiting.old)) }
+    ensures balance { OnOk result (sides_met known.old + heap_len waiting.new
+        ≤ sides_met known.new + heap_len waiting.old) }
     ensures small { OnOk result (sides_met known.new < 2 ^ 64) }
 {
     let mark = mark_of(known, &id);
@@ -139,7 +145,9 @@ fn mark_node<T: Ord + Drop, ID: Hash + Eq + Drop>(
 /// What is known of a waiting node, which waits no longer.
 fn ask<ID: Hash + Eq>(known: &mut HashMap<ID, Mark>, id: &ID) -> Reach
     ensures reach { result ≡ (mark_at ID.eq known.old id.now).reach }
-    ensures known { IsTrue (mark_at ID.eq known.old id.now).waits → (i : ID) → mark_at ID.eq known.new i ≡ cond (ID.eq id.now i) (asked (mark_at ID.eq known.old id.now)) (mark_at ID.eq known.old i) }
+    ensures known { IsTrue (mark_at ID.eq known.old id.now).waits → (i : ID)
+        → mark_at ID.eq known.new i ≡ cond (ID.eq id.now i) (asked (mark_at ID.eq known.old id.now))
+        (mark_at ID.eq known.old i) }
     ensures sides { sides_met known.new ≡ sides_met known.old }
 {
     match known.get_mut(id) {
@@ -179,9 +187,9 @@ fn closest<T: Drop, ID: Hash + Eq + Drop>(
     Ok(closest)
 }
 
-/// The nodes that both sets reach and no other such node reaches, each once. The greatest of the nodes that wait is asked for
-/// its neighbours, once for one set and once for both; the search ends early where one node waits, both sets reach it, and no
-/// root, a node without neighbours, was met.
+/// The nodes that both sets reach and no other such node reaches, each once. The greatest of the
+/// nodes that wait is asked for its neighbours, once for one set and once for both; the search ends
+/// early where one node waits, both sets reach it, and no root, a node without neighbours, was met.
 pub fn closest_common_nodes<T, ID, E, II1, II2, NI, F, N>(
     alloc: Global,
     set1: II1,
@@ -203,16 +211,29 @@ where
     N: FnMut(&T) -> Result<NI, E> + Drop,
     requires id_fn { F.IsAlwaysCallable id_fn }
     requires neighbors_fn { N.IsAlwaysCallable neighbors_fn }
-    requires lists { AlwaysReturns N.FnMut (λ a r. IfOk r (IsFiniteIterable NI.into_iter_gives NI.IntoIter.can_next NI.IntoIter.remaining)) neighbors_fn }
+    requires lists { AlwaysReturns N.FnMut (λ a r.
+        IfOk r (IsFiniteIterable NI.into_iter_gives NI.IntoIter.can_next NI.IntoIter.remaining))
+        neighbors_fn }
     requires set1 { IsFiniteIterable II1.into_iter_gives II1.IntoIter.can_next II1.IntoIter.remaining set1 }
     requires set2 { IsFiniteIterable II2.into_iter_gives II2.IntoIter.can_next II2.IntoIter.remaining set2 }
-    ensures closest { IfOk result (λ v. (xs ys : List T) × DrainsTo II1.into_iter_gives II1.IntoIter.next_gives set1 xs × DrainsTo II2.into_iter_gives II2.IntoIter.next_gives set2 ys
-        × ((walk : Numbered T ID) (items : FailingGraph (Fault E)) → ShowsLists walk items ID.eq F.Fn N.FnMut NI.into_iter_gives NI.IntoIter.next_gives id_fn neighbors_fn
-        → AreNodes walk (map walk.node xs) → AreNodes walk (map walk.node ys) → HasNoCommonCycle walk.graph (map walk.node xs) (map walk.node ys)
-        → AreClosestCommon walk.graph (map walk.node xs) (map walk.node ys) (map walk.node v.items))) }
-    ensures refused { IfErr result (λ e. IfNode e (λ error. (xs ys : List T) × DrainsTo II1.into_iter_gives II1.IntoIter.next_gives set1 xs × DrainsTo II2.into_iter_gives II2.IntoIter.next_gives set2 ys
-        × ((walk : Numbered T ID) (items : FailingGraph (Fault E)) → ShowsLists walk items ID.eq F.Fn N.FnMut NI.into_iter_gives NI.IntoIter.next_gives id_fn neighbors_fn
-        → AreNodes walk (map walk.node xs) → AreNodes walk (map walk.node ys) → ReachesFailure items (map walk.node xs ++ map walk.node ys) error))) }
+    ensures closest { IfOk result (λ v. (xs ys : List T)
+        × DrainsTo II1.into_iter_gives II1.IntoIter.next_gives set1 xs
+        × DrainsTo II2.into_iter_gives II2.IntoIter.next_gives set2 ys
+        × ((walk : Numbered T ID) (items : FailingGraph (Fault E))
+        → ShowsLists walk items ID.eq F.Fn N.FnMut NI.into_iter_gives NI.IntoIter.next_gives id_fn
+        neighbors_fn
+        → AreNodes walk (map walk.node xs) → AreNodes walk (map walk.node ys)
+        → HasNoCommonCycle walk.graph (map walk.node xs) (map walk.node ys)
+        → AreClosestCommon walk.graph (map walk.node xs) (map walk.node ys)
+        (map walk.node v.items))) }
+    ensures refused { IfErr result (λ e. IfNode e
+        (λ error. (xs ys : List T) × DrainsTo II1.into_iter_gives II1.IntoIter.next_gives set1 xs
+        × DrainsTo II2.into_iter_gives II2.IntoIter.next_gives set2 ys
+        × ((walk : Numbered T ID) (items : FailingGraph (Fault E))
+        → ShowsLists walk items ID.eq F.Fn N.FnMut NI.into_iter_gives NI.IntoIter.next_gives id_fn
+        neighbors_fn
+        → AreNodes walk (map walk.node xs) → AreNodes walk (map walk.node ys)
+        → ReachesFailure items (map walk.node xs ++ map walk.node ys) error))) }
 {
     let met = common_nodes(alloc, set1, set2, id_fn, neighbors_fn)?;
     Ok(closest(alloc, met)?)
@@ -240,16 +261,29 @@ where
     N: FnMut(&T) -> Result<NI, E> + Drop,
     requires id_fn { F.IsAlwaysCallable id_fn }
     requires neighbors_fn { N.IsAlwaysCallable neighbors_fn }
-    requires lists { AlwaysReturns N.FnMut (λ a r. IfOk r (IsFiniteIterable NI.into_iter_gives NI.IntoIter.can_next NI.IntoIter.remaining)) neighbors_fn }
+    requires lists { AlwaysReturns N.FnMut (λ a r.
+        IfOk r (IsFiniteIterable NI.into_iter_gives NI.IntoIter.can_next NI.IntoIter.remaining))
+        neighbors_fn }
     requires set1 { IsFiniteIterable II1.into_iter_gives II1.IntoIter.can_next II1.IntoIter.remaining set1 }
     requires set2 { IsFiniteIterable II2.into_iter_gives II2.IntoIter.can_next II2.IntoIter.remaining set2 }
-    ensures closest { IfOk result (λ met. (xs ys : List T) × DrainsTo II1.into_iter_gives II1.IntoIter.next_gives set1 xs × DrainsTo II2.into_iter_gives II2.IntoIter.next_gives set2 ys
-        × ((walk : Numbered T ID) (items : FailingGraph (Fault E)) → ShowsLists walk items ID.eq F.Fn N.FnMut NI.into_iter_gives NI.IntoIter.next_gives id_fn neighbors_fn
-        → AreNodes walk (map walk.node xs) → AreNodes walk (map walk.node ys) → HasNoCommonCycle walk.graph (map walk.node xs) (map walk.node ys)
-        → AreClosestCommon walk.graph (map walk.node xs) (map walk.node ys) (map walk.node (closest_of (mark_at ID.eq met.known) met.common.items)))) }
-    ensures refused { IfErr result (λ e. IfNode e (λ error. (xs ys : List T) × DrainsTo II1.into_iter_gives II1.IntoIter.next_gives set1 xs × DrainsTo II2.into_iter_gives II2.IntoIter.next_gives set2 ys
-        × ((walk : Numbered T ID) (items : FailingGraph (Fault E)) → ShowsLists walk items ID.eq F.Fn N.FnMut NI.into_iter_gives NI.IntoIter.next_gives id_fn neighbors_fn
-        → AreNodes walk (map walk.node xs) → AreNodes walk (map walk.node ys) → ReachesFailure items (map walk.node xs ++ map walk.node ys) error))) }
+    ensures closest { IfOk result (λ met. (xs ys : List T)
+        × DrainsTo II1.into_iter_gives II1.IntoIter.next_gives set1 xs
+        × DrainsTo II2.into_iter_gives II2.IntoIter.next_gives set2 ys
+        × ((walk : Numbered T ID) (items : FailingGraph (Fault E))
+        → ShowsLists walk items ID.eq F.Fn N.FnMut NI.into_iter_gives NI.IntoIter.next_gives id_fn
+        neighbors_fn
+        → AreNodes walk (map walk.node xs) → AreNodes walk (map walk.node ys)
+        → HasNoCommonCycle walk.graph (map walk.node xs) (map walk.node ys)
+        → AreClosestCommon walk.graph (map walk.node xs) (map walk.node ys)
+        (map walk.node (closest_of (mark_at ID.eq met.known) met.common.items)))) }
+    ensures refused { IfErr result (λ e. IfNode e
+        (λ error. (xs ys : List T) × DrainsTo II1.into_iter_gives II1.IntoIter.next_gives set1 xs
+        × DrainsTo II2.into_iter_gives II2.IntoIter.next_gives set2 ys
+        × ((walk : Numbered T ID) (items : FailingGraph (Fault E))
+        → ShowsLists walk items ID.eq F.Fn N.FnMut NI.into_iter_gives NI.IntoIter.next_gives id_fn
+        neighbors_fn
+        → AreNodes walk (map walk.node xs) → AreNodes walk (map walk.node ys)
+        → ReachesFailure items (map walk.node xs ++ map walk.node ys) error))) }
 {
     let mut known = HashMap::new(alloc);
     let mut waiting = BinaryHeap::new(alloc);

@@ -1,4 +1,5 @@
-//! Walks over items that may fail, under the names that callers of asynchronous graphs know. They are plain functions.
+//! Walks over items that may fail, under the names that callers of asynchronous graphs know. They
+//! are plain functions.
 pub use crate::closest_common::closest_common_nodes;
 pub use crate::depth_first_ok::{DepthFirstOk, dfs_ok as dfs};
 pub use crate::greatest_order::topo_order_reverse_ord;

@@ -32,7 +32,9 @@ where
 
     ghost can_next = { λ s. CanWalk F.Fn N.FnMut NI.into_iter_gives NI.IntoIter.can_next NI.IntoIter.remaining s };
 
-    ghost next_gives = { λ s r t. Steps F.Fn N.FnMut ID.eq NI.into_iter_gives NI.IntoIter.next_gives NI.IntoIter.can_next NI.IntoIter.remaining s r t };
+    ghost next_gives = { λ s r t.
+        Steps F.Fn N.FnMut ID.eq NI.into_iter_gives NI.IntoIter.next_gives NI.IntoIter.can_next
+        NI.IntoIter.remaining s r t };
 
     ghost remaining = { λ s. at_most (items_left s) };
 
@@ -62,14 +64,21 @@ where
 {
     fn enter(&mut self, node: &T, id: ID) -> Result<(), AllocError>
         requires neighbors_fn { N.IsAlwaysCallable self.old.neighbors_fn }
-        requires ends { AlwaysReturns N.FnMut (λ a r. IsFiniteIterable NI.into_iter_gives NI.IntoIter.can_next NI.IntoIter.remaining r) self.old.neighbors_fn }
+        requires ends { AlwaysReturns N.FnMut (λ a r.
+            IsFiniteIterable NI.into_iter_gives NI.IntoIter.can_next NI.IntoIter.remaining r)
+            self.old.neighbors_fn }
         ensures neighbors_fn { N.IsAlwaysCallable self.new.neighbors_fn }
-        ensures ends { AlwaysReturns N.FnMut (λ a r. IsFiniteIterable NI.into_iter_gives NI.IntoIter.can_next NI.IntoIter.remaining r) self.new.neighbors_fn }
+        ensures ends { AlwaysReturns N.FnMut (λ a r.
+            IsFiniteIterable NI.into_iter_gives NI.IntoIter.can_next NI.IntoIter.remaining r)
+            self.new.neighbors_fn }
         ensures id_fn { self.new.id_fn ≡ self.old.id_fn }
-        ensures neighbors { IfOk result (λ _. (r : NI) × (xs : List T) × CalledAt N.FnMut self.old.neighbors_fn node.now r self.new.neighbors_fn
-            × DrainsTo NI.into_iter_gives NI.IntoIter.next_gives r xs × (self.new.work.items ≡ self.old.work.items ++ xs)) }
+        ensures neighbors { IfOk result (λ _. (r : NI) × (xs : List T)
+            × CalledAt N.FnMut self.old.neighbors_fn node.now r self.new.neighbors_fn
+            × DrainsTo NI.into_iter_gives NI.IntoIter.next_gives r xs
+            × (self.new.work.items ≡ self.old.work.items ++ xs)) }
         ensures visited { IfOk result (λ _. Updates ID.eq self.old.visited self.new.visited id true) }
-        ensures count { IfOk result (λ _. contains ID.eq self.old.visited id ≡ false → hash_set_len self.new.visited ≡ hash_set_len self.old.visited + 1) }
+        ensures count { IfOk result (λ _. contains ID.eq self.old.visited id ≡ false
+            → hash_set_len self.new.visited ≡ hash_set_len self.old.visited + 1) }
         ensures small { hash_set_len self.old.visited < 2 ^ 63 }
     {
         // A set never holds 2^63 ids, so the walk ends.
@@ -100,12 +109,19 @@ where
     N: FnMut(&T) -> NI + Drop,
     requires id_fn { F.IsAlwaysCallable id_fn }
     requires neighbors_fn { N.IsAlwaysCallable neighbors_fn }
-    requires lists { AlwaysReturns N.FnMut (λ a r. IsFiniteIterable NI.into_iter_gives NI.IntoIter.can_next NI.IntoIter.remaining r) neighbors_fn }
+    requires lists { AlwaysReturns N.FnMut (λ a r.
+        IsFiniteIterable NI.into_iter_gives NI.IntoIter.can_next NI.IntoIter.remaining r)
+        neighbors_fn }
     requires start { IsFiniteIterable II.into_iter_gives II.IntoIter.can_next II.IntoIter.remaining start }
-    ensures can_walk { IfOk result (CanWalk F.Fn N.FnMut NI.into_iter_gives NI.IntoIter.can_next NI.IntoIter.remaining) }
-    ensures left { IfOk result (λ it. (xs : List T) × DrainsTo II.into_iter_gives II.IntoIter.next_gives start xs
-        × ((walk : Numbered T ID) → IsShownBy walk ID.eq F.Fn N.FnMut NI.into_iter_gives NI.IntoIter.next_gives id_fn neighbors_fn → AreNodes walk (map walk.node xs)
-        → IsLeftOf F.Fn N.FnMut walk ID.eq NI.into_iter_gives NI.IntoIter.next_gives (map walk.node xs) [] it)) }
+    ensures can_walk { IfOk result
+        (CanWalk F.Fn N.FnMut NI.into_iter_gives NI.IntoIter.can_next NI.IntoIter.remaining) }
+    ensures left { IfOk result (λ it. (xs : List T)
+        × DrainsTo II.into_iter_gives II.IntoIter.next_gives start xs
+        × ((walk : Numbered T ID)
+        → IsShownBy walk ID.eq F.Fn N.FnMut NI.into_iter_gives NI.IntoIter.next_gives id_fn
+        neighbors_fn → AreNodes walk (map walk.node xs)
+        → IsLeftOf F.Fn N.FnMut walk ID.eq NI.into_iter_gives NI.IntoIter.next_gives
+        (map walk.node xs) [] it)) }
 {
     let mut work = Vec::new(alloc);
     for node in start {

@@ -34,7 +34,9 @@ where
 
     ghost can_next = { λ s. CanWalk F.Fn N.FnMut NI.into_iter_gives NI.IntoIter.can_next NI.IntoIter.remaining s };
 
-    ghost next_gives = { λ s r t. Steps F.Fn N.FnMut ID.eq NI.into_iter_gives NI.IntoIter.next_gives NI.IntoIter.can_next NI.IntoIter.remaining s r t };
+    ghost next_gives = { λ s r t.
+        Steps F.Fn N.FnMut ID.eq NI.into_iter_gives NI.IntoIter.next_gives NI.IntoIter.can_next
+        NI.IntoIter.remaining s r t };
 
     ghost remaining = { λ s. at_most (items_left s) };
 
@@ -68,14 +70,21 @@ where
 {
     fn enter(&mut self, node: &T, id: ID) -> Result<(), AllocError>
         requires neighbors_fn { N.IsAlwaysCallable self.old.neighbors_fn }
-        requires ends { AlwaysReturns N.FnMut (λ a r. IsFiniteIterable NI.into_iter_gives NI.IntoIter.can_next NI.IntoIter.remaining r) self.old.neighbors_fn }
+        requires ends { AlwaysReturns N.FnMut (λ a r.
+            IsFiniteIterable NI.into_iter_gives NI.IntoIter.can_next NI.IntoIter.remaining r)
+            self.old.neighbors_fn }
         ensures neighbors_fn { N.IsAlwaysCallable self.new.neighbors_fn }
-        ensures ends { AlwaysReturns N.FnMut (λ a r. IsFiniteIterable NI.into_iter_gives NI.IntoIter.can_next NI.IntoIter.remaining r) self.new.neighbors_fn }
+        ensures ends { AlwaysReturns N.FnMut (λ a r.
+            IsFiniteIterable NI.into_iter_gives NI.IntoIter.can_next NI.IntoIter.remaining r)
+            self.new.neighbors_fn }
         ensures id_fn { self.new.id_fn ≡ self.old.id_fn }
-        ensures neighbors { IfOk result (λ _. (r : NI) × (xs : List (Result T E)) × CalledAt N.FnMut self.old.neighbors_fn node.now r self.new.neighbors_fn
-            × DrainsTo NI.into_iter_gives NI.IntoIter.next_gives r xs × (self.new.work.items ≡ self.old.work.items ++ xs)) }
+        ensures neighbors { IfOk result (λ _. (r : NI) × (xs : List (Result T E))
+            × CalledAt N.FnMut self.old.neighbors_fn node.now r self.new.neighbors_fn
+            × DrainsTo NI.into_iter_gives NI.IntoIter.next_gives r xs
+            × (self.new.work.items ≡ self.old.work.items ++ xs)) }
         ensures visited { IfOk result (λ _. Updates ID.eq self.old.visited self.new.visited id true) }
-        ensures count { IfOk result (λ _. contains ID.eq self.old.visited id ≡ false → hash_set_len self.new.visited ≡ hash_set_len self.old.visited + 1) }
+        ensures count { IfOk result (λ _. contains ID.eq self.old.visited id ≡ false
+            → hash_set_len self.new.visited ≡ hash_set_len self.old.visited + 1) }
         ensures small { hash_set_len self.old.visited < 2 ^ 63 }
     {
         // A set never holds 2^63 ids, so the walk ends.
@@ -88,8 +97,8 @@ where
     }
 }
 
-/// A depth-first walk from these starts, the last of them first. A failed item is given in its place as `Node`, and the
-/// walk goes on; after `Memory` it has ended.
+/// A depth-first walk from these starts, the last of them first. A failed item is given in its
+/// place as `Node`, and the walk goes on; after `Memory` it has ended.
 pub fn dfs_ok<T, ID, E, II, NI, F, N>(
     alloc: Global,
     start: II,
@@ -108,14 +117,21 @@ where
     N: FnMut(&T) -> NI + Drop,
     requires id_fn { F.IsAlwaysCallable id_fn }
     requires neighbors_fn { N.IsAlwaysCallable neighbors_fn }
-    requires lists { AlwaysReturns N.FnMut (λ a r. IsFiniteIterable NI.into_iter_gives NI.IntoIter.can_next NI.IntoIter.remaining r) neighbors_fn }
+    requires lists { AlwaysReturns N.FnMut (λ a r.
+        IsFiniteIterable NI.into_iter_gives NI.IntoIter.can_next NI.IntoIter.remaining r)
+        neighbors_fn }
     requires start { IsFiniteIterable II.into_iter_gives II.IntoIter.can_next II.IntoIter.remaining start }
-    ensures can_walk { IfOk result (CanWalk F.Fn N.FnMut NI.into_iter_gives NI.IntoIter.can_next NI.IntoIter.remaining) }
-    ensures left { IfOk result (λ it. (xs : List (Result T E)) × DrainsTo II.into_iter_gives II.IntoIter.next_gives start xs
-        × ((walk : Numbered T ID) (items : FailingGraph (Fault E)) (starts : List (Result ℕ (Fault E)))
-        → ShowsItems walk items ID.eq F.Fn N.FnMut NI.into_iter_gives NI.IntoIter.next_gives id_fn neighbors_fn
+    ensures can_walk { IfOk result
+        (CanWalk F.Fn N.FnMut NI.into_iter_gives NI.IntoIter.can_next NI.IntoIter.remaining) }
+    ensures left { IfOk result (λ it. (xs : List (Result T E))
+        × DrainsTo II.into_iter_gives II.IntoIter.next_gives start xs
+        × ((walk : Numbered T ID) (items : FailingGraph (Fault E))
+        (starts : List (Result ℕ (Fault E)))
+        → ShowsItems walk items ID.eq F.Fn N.FnMut NI.into_iter_gives NI.IntoIter.next_gives id_fn
+        neighbors_fn
         → AreItems walk.node xs starts → AreSoundNodes walk items starts
-        → IsLeftOf F.Fn N.FnMut walk items ID.eq NI.into_iter_gives NI.IntoIter.next_gives starts [] it)) }
+        → IsLeftOf F.Fn N.FnMut walk items ID.eq NI.into_iter_gives NI.IntoIter.next_gives starts
+        [] it)) }
 {
     let mut work = Vec::new(alloc);
     for item in start {

@@ -20,9 +20,9 @@ use std::collections::{BinaryHeap, HashMap};
 use std::hash::Hash;
 use std::mem;
 
-/// The nodes that the starts reach, each before its neighbours: at each place the greatest node whose children stand
-/// before it. A failed start or neighbour that is met is `Node` of its error; where a cycle is reached, `cycle_fn` makes the
-/// error of a node that the starts reach.
+/// The nodes that the starts reach, each before its neighbours: at each place the greatest node
+/// whose children stand before it. A failed start or neighbour that is met is `Node` of its error;
+/// where a cycle is reached, `cycle_fn` makes the error of a node that the starts reach.
 pub fn topo_order_reverse_ord<T, ID, E, II, NI, F, N, C>(
     alloc: Global,
     start: II,
@@ -44,20 +44,34 @@ where
     requires id_fn { F.IsAlwaysCallable id_fn }
     requires neighbors_fn { N.IsAlwaysCallable neighbors_fn }
     requires cycle_fn { C.IsAlwaysCallable cycle_fn }
-    requires lists { AlwaysReturns N.FnMut (λ a r. IsFiniteIterable NI.into_iter_gives NI.IntoIter.can_next NI.IntoIter.remaining r) neighbors_fn }
+    requires lists { AlwaysReturns N.FnMut (λ a r.
+        IsFiniteIterable NI.into_iter_gives NI.IntoIter.can_next NI.IntoIter.remaining r)
+        neighbors_fn }
     requires start { IsFiniteIterable II.into_iter_gives II.IntoIter.can_next II.IntoIter.remaining start }
-    ensures order { IfOk result (λ v. (xs : List T) × DrainsTo II.into_iter_gives II.IntoIter.next_gives start (map Ok xs)
-        × ((walk : Numbered T ID) (items : FailingGraph (Fault E)) → ShowsItems walk items ID.eq F.Fn N.FnMut NI.into_iter_gives NI.IntoIter.next_gives id_fn neighbors_fn → AreNodes walk (map walk.node xs)
-        → IsChildFirst walk.graph (map walk.node xs) (map walk.node v.items) × HasNoCycle walk.graph (map walk.node xs) × HasNoFailure items (map walk.node xs)
-        × (IsOrderedLike walk T.cmp → IsGreatestChildFirst walk.graph (map walk.node xs) (map walk.node v.items)))) }
+    ensures order { IfOk result (λ v. (xs : List T)
+        × DrainsTo II.into_iter_gives II.IntoIter.next_gives start (map Ok xs)
+        × ((walk : Numbered T ID) (items : FailingGraph (Fault E))
+        → ShowsItems walk items ID.eq F.Fn N.FnMut NI.into_iter_gives NI.IntoIter.next_gives id_fn
+        neighbors_fn → AreNodes walk (map walk.node xs)
+        → IsChildFirst walk.graph (map walk.node xs) (map walk.node v.items)
+        × HasNoCycle walk.graph (map walk.node xs) × HasNoFailure items (map walk.node xs)
+        × (IsOrderedLike walk T.cmp → IsGreatestChildFirst walk.graph (map walk.node xs)
+        (map walk.node v.items)))) }
     ensures node { IfErr result (λ e. IfNode e (λ error.
-        ((xs : List T) × BeginsWith II.into_iter_gives II.IntoIter.next_gives start (map Ok xs ++ Err error ∷ []))
+        ((xs : List T) × BeginsWith II.into_iter_gives II.IntoIter.next_gives start
+        (map Ok xs ++ Err error ∷ []))
         ⊎ ((xs : List T) × DrainsTo II.into_iter_gives II.IntoIter.next_gives start (map Ok xs)
-        × ((walk : Numbered T ID) (items : FailingGraph (Fault E)) → ShowsItems walk items ID.eq F.Fn N.FnMut NI.into_iter_gives NI.IntoIter.next_gives id_fn neighbors_fn → AreNodes walk (map walk.node xs)
+        × ((walk : Numbered T ID) (items : FailingGraph (Fault E))
+        → ShowsItems walk items ID.eq F.Fn N.FnMut NI.into_iter_gives NI.IntoIter.next_gives id_fn
+        neighbors_fn → AreNodes walk (map walk.node xs)
         → ReachesFailure items (map walk.node xs) error))
-        ⊎ ((x : T) × (xs : List T) × C.post cycle_fn x error × DrainsTo II.into_iter_gives II.IntoIter.next_gives start (map Ok xs)
-        × ((walk : Numbered T ID) (items : FailingGraph (Fault E)) → ShowsItems walk items ID.eq F.Fn N.FnMut NI.into_iter_gives NI.IntoIter.next_gives id_fn neighbors_fn → AreNodes walk (map walk.node xs)
-        → ReachedFrom walk.graph (map walk.node xs) (walk.node x) × ReachesCycle walk.graph (map walk.node xs))))) }
+        ⊎ ((x : T) × (xs : List T) × C.post cycle_fn x error
+        × DrainsTo II.into_iter_gives II.IntoIter.next_gives start (map Ok xs)
+        × ((walk : Numbered T ID) (items : FailingGraph (Fault E))
+        → ShowsItems walk items ID.eq F.Fn N.FnMut NI.into_iter_gives NI.IntoIter.next_gives id_fn
+        neighbors_fn → AreNodes walk (map walk.node xs)
+        → ReachedFrom walk.graph (map walk.node xs) (walk.node x)
+        × ReachesCycle walk.graph (map walk.node xs))))) }
 {
     let found = collect_nodes(alloc, start, id_fn, neighbors_fn)?;
     let (targets, indegrees) = link(alloc, &found.index_of, &found.neighbor_ids)?;
@@ -76,8 +90,12 @@ fn make_ready<T: Ord + Drop>(
 ) -> Result<(), AllocError>
     requires { index < length waiting.old.items }
     ensures waiting { OnOk result (waiting.new.items ≡ slice_set waiting.old.items index None) }
-    ensures ready { OnOk result (MatchOption (slice_index_or waiting.old.items index None) (heap_items ready.new ≡ heap_items ready.old) (λ x. IsPermutation ((x, index) ∷ heap_items ready.old) (heap_items ready.new))) }
-    ensures heap_order { OnOk result (KeepsHeap (λ x y. ordering_then (T.cmp x.0 y.0) (nat_cmp x.1 y.1)) (heap_items ready.old) (heap_items ready.new)) }
+    ensures ready { OnOk result (MatchOption (slice_index_or waiting.old.items index None)
+        (heap_items ready.new ≡ heap_items ready.old)
+        (λ x. IsPermutation ((x, index) ∷ heap_items ready.old) (heap_items ready.new))) }
+    ensures heap_order { OnOk result (KeepsHeap
+        (λ x y. ordering_then (T.cmp x.0 y.0) (nat_cmp x.1 y.1)) (heap_items ready.old)
+        (heap_items ready.new)) }
 {
     if let Some(node) = mem::replace(&mut waiting[index], None) {
         ready.push((node, index))?;
@@ -112,16 +130,27 @@ where
     N: FnMut(&T) -> NI + Drop,
     requires id_fn { F.IsAlwaysCallable id_fn }
     requires neighbors_fn { N.IsAlwaysCallable neighbors_fn }
-    requires lists { AlwaysReturns N.FnMut (λ a r. IsFiniteIterable NI.into_iter_gives NI.IntoIter.can_next NI.IntoIter.remaining r) neighbors_fn }
+    requires lists { AlwaysReturns N.FnMut (λ a r.
+        IsFiniteIterable NI.into_iter_gives NI.IntoIter.can_next NI.IntoIter.remaining r)
+        neighbors_fn }
     requires start { IsFiniteIterable II.into_iter_gives II.IntoIter.can_next II.IntoIter.remaining start }
-    ensures collected { IfOk result (λ found. (xs given : List T) × DrainsTo II.into_iter_gives II.IntoIter.next_gives start (map Ok xs) × (found.nodes.items ≡ map (λ x. Some x) given)
-        × (length found.neighbor_ids.items ≡ length given) × ((i : ID) (k : ℕ) → get ID.eq found.index_of i ≡ Some k → k < length given)
-        × ((walk : Numbered T ID) (items : FailingGraph (Fault E)) → ShowsItems walk items ID.eq F.Fn N.FnMut NI.into_iter_gives NI.IntoIter.next_gives id_fn neighbors_fn → AreNodes walk (map walk.node xs)
-        → IsCollecting walk items (map walk.node xs) (get ID.eq found.index_of) [] given (map (λ v. v.items) found.neighbor_ids.items))) }
+    ensures collected { IfOk result (λ found. (xs given : List T)
+        × DrainsTo II.into_iter_gives II.IntoIter.next_gives start (map Ok xs)
+        × (found.nodes.items ≡ map (λ x. Some x) given)
+        × (length found.neighbor_ids.items ≡ length given)
+        × ((i : ID) (k : ℕ) → get ID.eq found.index_of i ≡ Some k → k < length given)
+        × ((walk : Numbered T ID) (items : FailingGraph (Fault E))
+        → ShowsItems walk items ID.eq F.Fn N.FnMut NI.into_iter_gives NI.IntoIter.next_gives id_fn
+        neighbors_fn → AreNodes walk (map walk.node xs)
+        → IsCollecting walk items (map walk.node xs) (get ID.eq found.index_of) [] given
+        (map (λ v. v.items) found.neighbor_ids.items))) }
     ensures failed { IfErr result (λ e. IfNode e (λ error.
-        ((xs : List T) × BeginsWith II.into_iter_gives II.IntoIter.next_gives start (map Ok xs ++ Err error ∷ []))
+        ((xs : List T) × BeginsWith II.into_iter_gives II.IntoIter.next_gives start
+        (map Ok xs ++ Err error ∷ []))
         ⊎ ((xs : List T) × DrainsTo II.into_iter_gives II.IntoIter.next_gives start (map Ok xs)
-        × ((walk : Numbered T ID) (items : FailingGraph (Fault E)) → ShowsItems walk items ID.eq F.Fn N.FnMut NI.into_iter_gives NI.IntoIter.next_gives id_fn neighbors_fn → AreNodes walk (map walk.node xs)
+        × ((walk : Numbered T ID) (items : FailingGraph (Fault E))
+        → ShowsItems walk items ID.eq F.Fn N.FnMut NI.into_iter_gives NI.IntoIter.next_gives id_fn
+        neighbors_fn → AreNodes walk (map walk.node xs)
         → ReachesFailure items (map walk.node xs) error)))) }
 {
     let mut stack = Vec::new(alloc);
@@ -166,9 +195,11 @@ pub fn link<ID: Hash + Eq + Drop>(
     neighbor_ids: &[Vec<ID>],
 ) -> Result<(Vec<Vec<usize>>, Vec<usize>), AllocError>
     requires { (i : ID) (k : ℕ) → get ID.eq index_of.now i ≡ Some k → k < length neighbor_ids.now }
-    ensures targets { IfOk result (λ r. map (λ v. v.items) r.0.items ≡ map (λ v. filter_map (get ID.eq index_of.now) v.items) neighbor_ids.now) }
+    ensures targets { IfOk result (λ r. map (λ v. v.items) r.0.items
+        ≡ map (λ v. filter_map (get ID.eq index_of.now) v.items) neighbor_ids.now) }
     ensures counts { IfOk result (λ r. length r.1.items ≡ length neighbor_ids.now) }
-    ensures indegrees { IfOk result (λ r. (k : ℕ) → k < length neighbor_ids.now → slice_index r.1.items k ≡ edges_to (map (λ v. v.items) r.0.items) k) }
+    ensures indegrees { IfOk result (λ r. (k : ℕ) → k < length neighbor_ids.now
+        → slice_index r.1.items k ≡ edges_to (map (λ v. v.items) r.0.items) k) }
 {
     let mut indegrees: Vec<usize> = vec![in alloc; 0; neighbor_ids.len()]?;
     let mut targets = Vec::new(alloc);
@@ -190,23 +221,30 @@ pub fn link<ID: Hash + Eq + Drop>(
     Ok((targets, indegrees))
 }
 
-/// Takes the greatest node without a child that was not taken, as long as there is one. Beside the nodes taken stands one
-/// of those left, which all are on or below a cycle.
+/// Takes the greatest node without a child that was not taken, as long as there is one. Beside the
+/// nodes taken stands one of those left, which all are on or below a cycle.
 pub fn take_greatest_first<T: Ord + Drop>(
     alloc: Global,
     mut waiting: Vec<Option<T>>,
     targets: &[Vec<usize>],
     mut indegrees: Vec<usize>,
 ) -> Result<(Vec<T>, Option<T>), AllocError>
-    requires present { (k : ℕ) → k < length waiting.items → IsSome (slice_index_or waiting.items k None) }
+    requires present { (k : ℕ) → k < length waiting.items
+        → IsSome (slice_index_or waiting.items k None) }
     requires lists { length targets.now ≡ length waiting.items }
     requires counts { length indegrees.items ≡ length waiting.items }
-    requires within { (a b : ℕ) → Contains (places_graph (map (λ ts. ts.items) targets.now) a) b → b < length waiting.items }
-    requires indegrees { (k : ℕ) → k < length waiting.items → slice_index indegrees.items k ≡ edges_to (map (λ ts. ts.items) targets.now) k }
-    ensures { IfOk result (λ r. (order : List ℕ) × (map (λ x. Some x) r.0.items ≡ map (λ k. slice_index_or waiting.items k None) order)
-        × TakesGreatestReady (places_graph (map (λ ts. ts.items) targets.now)) (λ k. k < length waiting.items) (IsNotBelow T.cmp waiting.items) order
+    requires within { (a b : ℕ) → Contains (places_graph (map (λ ts. ts.items) targets.now) a) b
+        → b < length waiting.items }
+    requires indegrees { (k : ℕ) → k < length waiting.items
+        → slice_index indegrees.items k ≡ edges_to (map (λ ts. ts.items) targets.now) k }
+    ensures { IfOk result (λ r. (order : List ℕ)
+        × (map (λ x. Some x) r.0.items ≡ map (λ k. slice_index_or waiting.items k None) order)
+        × TakesGreatestReady (places_graph (map (λ ts. ts.items) targets.now))
+        (λ k. k < length waiting.items) (IsNotBelow T.cmp waiting.items) order
         × MatchOption r.1 ((k : ℕ) → k < length waiting.items → Contains order k)
-        (λ x. (k : ℕ) × (k < length waiting.items) × (slice_index_or waiting.items k None ≡ Some x) × (Contains order k → ⊥) × IsStuck (places_graph (map (λ ts. ts.items) targets.now)) (λ k. k < length waiting.items) order)) }
+        (λ x. (k : ℕ) × (k < length waiting.items) × (slice_index_or waiting.items k None ≡ Some x)
+        × (Contains order k → ⊥) × IsStuck (places_graph (map (λ ts. ts.items) targets.now))
+        (λ k. k < length waiting.items) order)) }
 {
     let mut ready = BinaryHeap::new(alloc);
     for index in 0..indegrees.len() {

@@ -11,8 +11,9 @@ use crate::held_nodes::{HeldNodes, Ready};
 use std::alloc::{AllocError, AllocFailed, Global};
 use std::hash::Hash;
 
-/// Why a grouped graph ended before its last node. A node is held from when it was read until it is given, and an id is
-/// wanted from when it was prioritised, or an edge to it that is not missing was read, until its node is given.
+/// Why a grouped graph ended before its last node. A node is held from when it was read until it is
+/// given, and an id is wanted from when it was prioritised, or an edge to it that is not missing
+/// was read, until its node is given.
 #[derive(Debug, Drop)]
 pub enum GroupedGraphError<E> {
     /// An error of the input.
@@ -26,7 +27,8 @@ pub enum GroupedGraphError<E> {
     Memory,
 }
 
-/// The nodes of an input in which each node stands before its parents, in an order that keeps branches together.
+/// The nodes of an input in which each node stands before its parents, in an order that keeps
+/// branches together.
 #[derive(Drop)]
 pub struct TopoGroupedGraph<N, ID: Hash + Eq, S, F> {
     input: S,
@@ -61,8 +63,10 @@ where
     /// Gives the branch that leads to this id first, or after those that were prioritised before.
     pub fn prioritize_branch(&mut self, id: ID) -> Result<(), AllocError>
         requires clones { (i j : ID) → ID.is_clone i j → IsTrue (ID.eq i j) }
-        ensures prioritized { OnOk result ((h : History N ID) → Keeps ID.eq h self.old.held → Keeps ID.eq (Prioritized id ∷ h) self.new.held) }
-        ensures refused { OnErr result ((h : History N ID) → Keeps ID.eq h self.old.held → Keeps ID.eq h self.new.held) }
+        ensures prioritized { OnOk result ((h : History N ID) → Keeps ID.eq h self.old.held
+            → Keeps ID.eq (Prioritized id ∷ h) self.new.held) }
+        ensures refused { OnErr result ((h : History N ID) → Keeps ID.eq h self.old.held
+            → Keeps ID.eq h self.new.held) }
         ensures input { self.new.input ≡ self.old.input }
         ensures as_id { self.new.as_id ≡ self.old.as_id }
     {
@@ -82,9 +86,13 @@ where
 
     fn next_node(&mut self) -> Result<Option<GraphNode<N, ID>>, GroupedGraphError<E>>
         requires { CanRead F.Fn ID.eq ID.is_clone S.can_next S.remaining self.old }
-        ensures can_read { IfOk result (λ o. IsSome o → CanRead F.Fn ID.eq ID.is_clone S.can_next S.remaining self.new) }
-        ensures left { IfOk result (λ o. IsSome o → size (S.remaining self.new.input) + hash_map_len self.new.held.nodes < size (S.remaining self.old.input) + hash_map_len self.old.held.nodes) }
-        ensures gives { (h : History N ID) → Keeps ID.eq h self.old.held → GivesNext F.Fn ID.eq S.next_gives h self.old (answer_of result) self.new }
+        ensures can_read { IfOk result (λ o. IsSome o
+            → CanRead F.Fn ID.eq ID.is_clone S.can_next S.remaining self.new) }
+        ensures left { IfOk result (λ o. IsSome o
+            → size (S.remaining self.new.input) + hash_map_len self.new.held.nodes < size
+            (S.remaining self.old.input) + hash_map_len self.old.held.nodes) }
+        ensures gives { (h : History N ID) → Keeps ID.eq h self.old.held
+            → GivesNext F.Fn ID.eq S.next_gives h self.old (answer_of result) self.new }
     {
         'reading: loop {
             let is_unread = match self.held.take_ready()? {
@@ -106,12 +114,21 @@ where
     fn read_next(&mut self) -> Result<bool, GroupedGraphError<E>>
         requires { CanRead F.Fn ID.eq ID.is_clone S.can_next S.remaining self.old }
         ensures as_id { self.new.as_id ≡ self.old.as_id }
-        ensures can_read { IfOk result (λ more. more ≡ true → CanRead F.Fn ID.eq ID.is_clone S.can_next S.remaining self.new) }
-        ensures left { IfOk result (λ more. more ≡ true → (size (S.remaining self.new.input) < size (S.remaining self.old.input)) × (hash_map_len self.new.held.nodes ≡ hash_map_len self.old.held.nodes + 1)) }
-        ensures read { IfOk result (λ more. more ≡ true → (item : Item N ID) × (e : Entry N ID) × S.next_gives self.old.input (Some (Ok item)) self.new.input
-            × IsEntryOf F.Fn ID.eq self.old.as_id item e × ((h : History N ID) → Keeps ID.eq h self.old.held → Keeps ID.eq (Read e ∷ h) self.new.held)) }
-        ensures ended { IfOk result (λ more. more ≡ false → S.next_gives self.old.input None self.new.input × (self.new.held ≡ self.old.held)) }
-        ensures refused { IfErr result (λ error. ((h : History N ID) → Keeps ID.eq h self.old.held → IsCause F.Fn ID.eq S.next_gives self.old.as_id h self.old.input error self.new.input)) }
+        ensures can_read { IfOk result (λ more. more ≡ true
+            → CanRead F.Fn ID.eq ID.is_clone S.can_next S.remaining self.new) }
+        ensures left { IfOk result (λ more. more ≡ true
+            → (size (S.remaining self.new.input) < size (S.remaining self.old.input))
+            × (hash_map_len self.new.held.nodes ≡ hash_map_len self.old.held.nodes + 1)) }
+        ensures read { IfOk result (λ more. more ≡ true → (item : Item N ID) × (e : Entry N ID)
+            × S.next_gives self.old.input (Some (Ok item)) self.new.input
+            × IsEntryOf F.Fn ID.eq self.old.as_id item e
+            × ((h : History N ID) → Keeps ID.eq h self.old.held
+            → Keeps ID.eq (Read e ∷ h) self.new.held)) }
+        ensures ended { IfOk result (λ more. more ≡ false
+            → S.next_gives self.old.input None self.new.input × (self.new.held ≡ self.old.held)) }
+        ensures refused { IfErr result (λ error.
+            ((h : History N ID) → Keeps ID.eq h self.old.held
+            → IsCause F.Fn ID.eq S.next_gives self.old.as_id h self.old.input error self.new.input)) }
     {
         let (node, edges) = match self.input.next() {
             Some(Ok(item)) => item,
@@ -137,7 +154,8 @@ where
     ghost use Rattle.std.specs.Prelude.{◌≡◌, false};
     ghost use Rattle.jj_walks.specs.GroupedSteps.{CanRead, GivesOn, nodes_left};
 
-    ghost can_next = { λ s. s.has_ended ≡ false → CanRead F.Fn ID.eq ID.is_clone S.can_next S.remaining s.graph };
+    ghost can_next = { λ s. s.has_ended ≡ false
+        → CanRead F.Fn ID.eq ID.is_clone S.can_next S.remaining s.graph };
 
     ghost next_gives = { λ s r t. GivesOn F.Fn ID.eq S.next_gives s r t };
 

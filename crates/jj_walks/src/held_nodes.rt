@@ -44,7 +44,8 @@ impl<N: Drop, ID: Hash + Eq + Clone + Drop> HeldNodes<N, ID> {
     }
 
     pub fn is_empty(&self) -> bool
-        ensures { (h : History N ID) → Keeps ID.eq h self.now → IsTrue result ↔ (held ID.eq h ≡ []) }
+        ensures { (h : History N ID) → Keeps ID.eq h self.now → IsTrue result
+            ↔ (held ID.eq h ≡ []) }
     {
         self.nodes.is_empty()
     }
@@ -58,8 +59,10 @@ impl<N: Drop, ID: Hash + Eq + Clone + Drop> HeldNodes<N, ID> {
     /// Makes the id a wanted one.
     pub fn prioritize(&mut self, id: ID) -> Result<(), AllocError>
         requires clones { (i j : ID) → ID.is_clone i j → IsTrue (ID.eq i j) }
-        ensures prioritized { OnOk result ((h : History N ID) → Keeps ID.eq h self.old → Keeps ID.eq (Prioritized id ∷ h) self.new) }
-        ensures refused { OnErr result ((h : History N ID) → Keeps ID.eq h self.old → Keeps ID.eq h self.new) }
+        ensures prioritized { OnOk result ((h : History N ID) → Keeps ID.eq h self.old
+            → Keeps ID.eq (Prioritized id ∷ h) self.new) }
+        ensures refused { OnErr result ((h : History N ID) → Keeps ID.eq h self.old
+            → Keeps ID.eq h self.new) }
         ensures nodes { self.new.nodes ≡ self.old.nodes }
     {
         self.candidates.push_head(id.clone()?)?;
@@ -71,7 +74,12 @@ impl<N: Drop, ID: Hash + Eq + Clone + Drop> HeldNodes<N, ID> {
     pub fn hold(&mut self, id: ID, node: N, edges: Vec<GraphEdge<ID>>) -> Result<(), AllocError>
         requires clones { (i j : ID) → ID.is_clone i j → IsTrue (ID.eq i j) }
         requires absent { get ID.eq self.old.nodes id ≡ None }
-        ensures held { OnOk result ((h : History N ID) → Keeps ID.eq h self.old → Keeps ID.eq (Read (record { id = id; node = node; edges = edges.items }) ∷ h) self.new) }
+        ensures held { OnOk result ((h : History N ID) → Keeps ID.eq h self.old
+            → Keeps ID.eq (Read (record {
+              id = id;
+              node = node;
+              edges = edges.items;
+            }) ∷ h) self.new) }
         ensures len { OnOk result (hash_map_len self.new.nodes ≡ hash_map_len self.old.nodes + 1) }
     {
         count_edges(&mut self.counts, &edges)?;
@@ -84,8 +92,10 @@ impl<N: Drop, ID: Hash + Eq + Clone + Drop> HeldNodes<N, ID> {
     /// Takes out the node that is to be given next.
     pub fn take_ready(&mut self) -> Result<Ready<N, ID>, AllocError>
         requires clones { (i j : ID) → ID.is_clone i j → IsTrue (ID.eq i j) }
-        ensures taken { IfOk result (λ ready. (h : History N ID) → Keeps ID.eq h self.old → TakesNext ID.eq h ready self.new) }
-        ensures len { IfOk result (λ ready. hash_map_len self.old.nodes ≡ len_after ready (hash_map_len self.new.nodes)) }
+        ensures taken { IfOk result (λ ready. (h : History N ID) → Keeps ID.eq h self.old
+            → TakesNext ID.eq h ready self.new) }
+        ensures len { IfOk result (λ ready. hash_map_len self.old.nodes
+            ≡ len_after ready (hash_map_len self.new.nodes)) }
     {
         let Some(id) = self.candidates.take(&self.counts)? else {
             return Ok(Ready::Nothing);
@@ -108,11 +118,16 @@ fn list_head<ID: Hash + Eq + Clone + Drop>(
     id: &ID,
 ) -> Result<(), AllocError>
     requires clones { (i j : ID) → ID.is_clone i j → IsTrue (ID.eq i j) }
-    ensures counts { OnOk result ((i : ID) → count_at ID.eq counts.new i ≡ count_at ID.eq counts.old i) }
-    ensures known { OnOk result ((i : ID) → is_some (get ID.eq counts.new i) ≡ (ID.eq id.now i || is_some (get ID.eq counts.old i))) }
+    ensures counts { OnOk result ((i : ID) → count_at ID.eq counts.new i
+        ≡ count_at ID.eq counts.old i) }
+    ensures known { OnOk result ((i : ID) → is_some (get ID.eq counts.new i)
+        ≡ (ID.eq id.now i || is_some (get ID.eq counts.old i))) }
     ensures ids { candidates.new.ids ≡ candidates.old.ids }
-    ensures kept { OnOk result ((i : ID) → has_id ID.eq (deque_items candidates.old.heads) i ≡ true → has_id ID.eq (deque_items candidates.new.heads) i ≡ true) }
-    ensures head { OnOk result ((i : ID) → ID.eq id.now i ≡ true → (is_some (get ID.eq counts.old i) || has_id ID.eq (deque_items candidates.new.heads) i) ≡ true) }
+    ensures kept { OnOk result ((i : ID) → has_id ID.eq (deque_items candidates.old.heads) i ≡ true
+        → has_id ID.eq (deque_items candidates.new.heads) i ≡ true) }
+    ensures head { OnOk result ((i : ID) → ID.eq id.now i ≡ true
+        → (is_some (get ID.eq counts.old i) || has_id ID.eq (deque_items candidates.new.heads) i)
+        ≡ true) }
 {
     if counts.contains_key(id) {
         return Ok(());
@@ -127,8 +142,10 @@ fn count_none<ID: Hash + Eq + Drop>(
     counts: &mut HashMap<ID, usize>,
     id: ID,
 ) -> Result<(), AllocError>
-    ensures counts { OnOk result ((i : ID) → count_at ID.eq counts.new i ≡ count_at ID.eq counts.old i) }
-    ensures known { OnOk result ((i : ID) → is_some (get ID.eq counts.new i) ≡ (ID.eq id i || is_some (get ID.eq counts.old i))) }
+    ensures counts { OnOk result ((i : ID) → count_at ID.eq counts.new i
+        ≡ count_at ID.eq counts.old i) }
+    ensures known { OnOk result ((i : ID) → is_some (get ID.eq counts.new i)
+        ≡ (ID.eq id i || is_some (get ID.eq counts.old i))) }
     ensures refused { OnErr result ((i : ID) → get ID.eq counts.new i ≡ get ID.eq counts.old i) }
 {
     if counts.contains_key(&id) {
@@ -144,8 +161,10 @@ fn count_edges<ID: Hash + Eq + Clone + Drop>(
     edges: &[GraphEdge<ID>],
 ) -> Result<(), AllocError>
     requires clones { (i j : ID) → ID.is_clone i j → IsTrue (ID.eq i j) }
-    ensures counts { OnOk result ((i : ID) → count_at ID.eq counts.new i ≡ count_at ID.eq counts.old i + count_by (leads_to ID.eq i) edges.now) }
-    ensures known { OnOk result ((i : ID) → is_some (get ID.eq counts.new i) ≡ (list_any (leads_to ID.eq i) edges.now || is_some (get ID.eq counts.old i))) }
+    ensures counts { OnOk result ((i : ID) → count_at ID.eq counts.new i
+        ≡ count_at ID.eq counts.old i + count_by (leads_to ID.eq i) edges.now) }
+    ensures known { OnOk result ((i : ID) → is_some (get ID.eq counts.new i)
+        ≡ (list_any (leads_to ID.eq i) edges.now || is_some (get ID.eq counts.old i))) }
 {
     for edge in edges {
         if !edge.is_missing() {
@@ -157,7 +176,8 @@ fn count_edges<ID: Hash + Eq + Clone + Drop>(
 
 /// Counts one edge less to the target of each edge.
 fn uncount_edges<ID: Hash + Eq + Drop>(counts: &mut HashMap<ID, usize>, edges: &[GraphEdge<ID>])
-    ensures counts { (i : ID) → count_at ID.eq counts.new i ≡ count_at ID.eq counts.old i - count_by (leads_to ID.eq i) edges.now }
+    ensures counts { (i : ID) → count_at ID.eq counts.new i
+        ≡ count_at ID.eq counts.old i - count_by (leads_to ID.eq i) edges.now }
     ensures known { (i : ID) → is_some (get ID.eq counts.new i) ≡ is_some (get ID.eq counts.old i) }
 {
     for edge in edges {
@@ -169,8 +189,10 @@ fn uncount_edges<ID: Hash + Eq + Drop>(counts: &mut HashMap<ID, usize>, edges: &
 
 /// Counts one edge more to the id.
 fn count_up<ID: Hash + Eq + Drop>(counts: &mut HashMap<ID, usize>, id: ID) -> Result<(), AllocError>
-    ensures counts { OnOk result ((i : ID) → count_at ID.eq counts.new i ≡ count_at ID.eq counts.old i + (if ID.eq id i then 1 else 0)) }
-    ensures known { OnOk result ((i : ID) → is_some (get ID.eq counts.new i) ≡ (ID.eq id i || is_some (get ID.eq counts.old i))) }
+    ensures counts { OnOk result ((i : ID) → count_at ID.eq counts.new i
+        ≡ count_at ID.eq counts.old i + (if ID.eq id i then 1 else 0)) }
+    ensures known { OnOk result ((i : ID) → is_some (get ID.eq counts.new i)
+        ≡ (ID.eq id i || is_some (get ID.eq counts.old i))) }
 {
     let count = match counts.get(&id) {
         Some(count) => *count,
@@ -186,7 +208,8 @@ fn count_up<ID: Hash + Eq + Drop>(counts: &mut HashMap<ID, usize>, id: ID) -> Re
 
 /// Counts one edge less to the id.
 fn count_down<ID: Hash + Eq + Drop>(counts: &mut HashMap<ID, usize>, id: &ID)
-    ensures counts { (i : ID) → count_at ID.eq counts.new i ≡ count_at ID.eq counts.old i - (if ID.eq id.now i then 1 else 0) }
+    ensures counts { (i : ID) → count_at ID.eq counts.new i
+        ≡ count_at ID.eq counts.old i - (if ID.eq id.now i then 1 else 0) }
     ensures known { (i : ID) → is_some (get ID.eq counts.new i) ≡ is_some (get ID.eq counts.old i) }
 {
     if let Some(count) = counts.get_mut(id) {

@@ -1,4 +1,5 @@
-//! Looking ahead from several starts, as far as one node that all explored nodes reach, or to the roots.
+//! Looking ahead from several starts, as far as one node that all explored nodes reach, or to the
+//! roots.
 ghost use Rattle.std.specs.Prelude.{◌≡◌, ℕ, ◌<◌, ◌≤◌, ◌∷◌, List, [], map, length, true, IfOk, IfErr, IfSome, IfNone, MatchOption};
 ghost use Rattle.std.specs.HashMap.{get};
 ghost use Rattle.std.specs.List.Sorted.{IsPermutation};
@@ -18,14 +19,15 @@ use std::alloc::Global;
 use std::collections::{BinaryHeap, HashMap};
 use std::hash::Hash;
 
-/// The next node to explore: there is none where no node waits, or where one waits after some were explored and no root, a
-/// node without neighbours, was met.
+/// The next node to explore: there is none where no node waits, or where one waits after some were
+/// explored and no root, a node without neighbours, was met.
 fn next_to_explore<T: Ord>(
     waiting: &mut BinaryHeap<T>,
     explored: usize,
     root_met: bool,
 ) -> Option<T>
-    ensures taken { IfSome result (λ node. IsPermutation (heap_items waiting.old) (node ∷ heap_items waiting.new)) }
+    ensures taken { IfSome result (λ node.
+        IsPermutation (heap_items waiting.old) (node ∷ heap_items waiting.new)) }
     ensures same { IfNone result (heap_items waiting.new ≡ heap_items waiting.old) }
     ensures few { IfNone result (length (heap_items waiting.old) ≤ 1) }
     ensures rootless { IfNone result (root_met ≡ true → heap_items waiting.old ≡ []) }
@@ -37,8 +39,8 @@ fn next_to_explore<T: Ord>(
     None
 }
 
-/// Some of the nodes that the starts of a chunk reach, the nodes from which the walk goes on, and a node that is below a
-/// cycle, or on it, if there is one.
+/// Some of the nodes that the starts of a chunk reach, the nodes from which the walk goes on, and a
+/// node that is below a cycle, or on it, if there is one.
 #[derive(Drop)]
 pub struct Chunk<T> {
     pub nodes: Vec<T>,
@@ -69,16 +71,24 @@ impl<F, N> Shown<F, N> {
         F: Fn(&T) -> ID,
         N: FnMut(&T) -> NI,
         requires neighbors_fn { N.IsAlwaysCallable self.old.neighbors_fn }
-        requires lists { AlwaysReturns N.FnMut (λ a r. IsFiniteIterable NI.into_iter_gives NI.IntoIter.can_next NI.IntoIter.remaining r) self.old.neighbors_fn }
+        requires lists { AlwaysReturns N.FnMut
+            (λ a r. IsFiniteIterable NI.into_iter_gives NI.IntoIter.can_next NI.IntoIter.remaining
+            r) self.old.neighbors_fn }
         ensures id_fn { self.new.id_fn ≡ self.old.id_fn }
         ensures neighbors_fn { N.IsAlwaysCallable self.new.neighbors_fn }
-        ensures lists { AlwaysReturns N.FnMut (λ a r. IsFiniteIterable NI.into_iter_gives NI.IntoIter.can_next NI.IntoIter.remaining r) self.new.neighbors_fn }
+        ensures lists { AlwaysReturns N.FnMut (λ a r.
+            IsFiniteIterable NI.into_iter_gives NI.IntoIter.can_next NI.IntoIter.remaining r)
+            self.new.neighbors_fn }
         ensures listed { IfOk result (λ v. (walk : Numbered T ID) (items : FailingGraph (Fault E))
-            → ShowsItems walk items ID.eq F.Fn N.FnMut NI.into_iter_gives NI.IntoIter.next_gives self.old.id_fn self.old.neighbors_fn → walk.is_node (walk.node node.now) ≡ true
-            → ShowsItems walk items ID.eq F.Fn N.FnMut NI.into_iter_gives NI.IntoIter.next_gives self.old.id_fn self.new.neighbors_fn
+            → ShowsItems walk items ID.eq F.Fn N.FnMut NI.into_iter_gives NI.IntoIter.next_gives
+            self.old.id_fn self.old.neighbors_fn → walk.is_node (walk.node node.now) ≡ true
+            → ShowsItems walk items ID.eq F.Fn N.FnMut NI.into_iter_gives NI.IntoIter.next_gives
+            self.old.id_fn self.new.neighbors_fn
             × (map walk.node v.items ≡ walk.graph (walk.node node.now))) }
-        ensures failed { IfErr result (λ e. IfNode e (λ error. (walk : Numbered T ID) (items : FailingGraph (Fault E))
-            → ShowsItems walk items ID.eq F.Fn N.FnMut NI.into_iter_gives NI.IntoIter.next_gives self.old.id_fn self.old.neighbors_fn → walk.is_node (walk.node node.now) ≡ true
+        ensures failed { IfErr result (λ e. IfNode e
+            (λ error. (walk : Numbered T ID) (items : FailingGraph (Fault E))
+            → ShowsItems walk items ID.eq F.Fn N.FnMut NI.into_iter_gives NI.IntoIter.next_gives
+            self.old.id_fn self.old.neighbors_fn → walk.is_node (walk.node node.now) ≡ true
             → ReachesFailure items (walk.node node.now ∷ []) error)) }
     {
         let mut list = Vec::new(alloc);
@@ -107,20 +117,33 @@ impl<F, N> Shown<F, N> {
         N: FnMut(&T) -> NI,
         requires id_fn { F.IsAlwaysCallable self.old.id_fn }
         requires neighbors_fn { N.IsAlwaysCallable self.old.neighbors_fn }
-        requires lists { AlwaysReturns N.FnMut (λ a r. IsFiniteIterable NI.into_iter_gives NI.IntoIter.can_next NI.IntoIter.remaining r) self.old.neighbors_fn }
+        requires lists { AlwaysReturns N.FnMut
+            (λ a r. IsFiniteIterable NI.into_iter_gives NI.IntoIter.can_next NI.IntoIter.remaining
+            r) self.old.neighbors_fn }
         ensures id_fn { self.new.id_fn ≡ self.old.id_fn }
         ensures neighbors_fn { N.IsAlwaysCallable self.new.neighbors_fn }
-        ensures lists { AlwaysReturns N.FnMut (λ a r. IsFiniteIterable NI.into_iter_gives NI.IntoIter.can_next NI.IntoIter.remaining r) self.new.neighbors_fn }
-        ensures explored { IfOk result (λ r. (given : List T) × (r.0.nodes.items ≡ map (λ x. Some x) given) × (length r.0.neighbor_ids.items ≡ length given)
+        ensures lists { AlwaysReturns N.FnMut (λ a r.
+            IsFiniteIterable NI.into_iter_gives NI.IntoIter.can_next NI.IntoIter.remaining r)
+            self.new.neighbors_fn }
+        ensures explored { IfOk result (λ r. (given : List T)
+            × (r.0.nodes.items ≡ map (λ x. Some x) given)
+            × (length r.0.neighbor_ids.items ≡ length given)
             × ((i : ID) (k : ℕ) → get ID.eq r.0.index_of i ≡ Some k → k < length given)
             × (given ≡ [] → r.1.items ≡ []) × (length r.1.items ≤ 1)
-            × ((walk : Numbered T ID) (items : FailingGraph (Fault E)) → ShowsItems walk items ID.eq F.Fn N.FnMut NI.into_iter_gives NI.IntoIter.next_gives self.old.id_fn self.old.neighbors_fn
+            × ((walk : Numbered T ID) (items : FailingGraph (Fault E))
+            → ShowsItems walk items ID.eq F.Fn N.FnMut NI.into_iter_gives NI.IntoIter.next_gives
+            self.old.id_fn self.old.neighbors_fn
             → AreNodes walk (map walk.node start.items)
-            → ShowsItems walk items ID.eq F.Fn N.FnMut NI.into_iter_gives NI.IntoIter.next_gives self.old.id_fn self.new.neighbors_fn
-            × HasLooked walk items (map walk.node start.items) (get ID.eq r.0.index_of) r.1.items given (map (λ v. v.items) r.0.neighbor_ids.items))) }
+            → ShowsItems walk items ID.eq F.Fn N.FnMut NI.into_iter_gives NI.IntoIter.next_gives
+            self.old.id_fn self.new.neighbors_fn
+            × HasLooked walk items (map walk.node start.items)
+            (get ID.eq r.0.index_of) r.1.items given (map (λ v. v.items) r.0.neighbor_ids.items))) }
         ensures failed { IfErr result (λ e. IfNode e (λ error.
-            (walk : Numbered T ID) (items : FailingGraph (Fault E)) → ShowsItems walk items ID.eq F.Fn N.FnMut NI.into_iter_gives NI.IntoIter.next_gives self.old.id_fn self.old.neighbors_fn
-            → AreNodes walk (map walk.node start.items) → ReachesFailure items (map walk.node start.items) error)) }
+            (walk : Numbered T ID) (items : FailingGraph (Fault E))
+            → ShowsItems walk items ID.eq F.Fn N.FnMut NI.into_iter_gives NI.IntoIter.next_gives
+            self.old.id_fn self.old.neighbors_fn
+            → AreNodes walk (map walk.node start.items)
+            → ReachesFailure items (map walk.node start.items) error)) }
     {
         let mut waiting = BinaryHeap::from(start);
         let mut nodes = Vec::new(alloc);
@@ -153,7 +176,8 @@ impl<F, N> Shown<F, N> {
         };
         Ok((found, waiting.into_vec()))
     }
-    /// Some of what several starts reach: all starts, and every node that is explored before one node waits that they all reach.
+    /// Some of what several starts reach: all starts, and every node that is explored before one
+    /// node waits that they all reach.
     pub fn chunk<T, ID, E, NI>(
         &mut self,
         alloc: Global,
@@ -169,19 +193,31 @@ impl<F, N> Shown<F, N> {
         N: FnMut(&T) -> NI,
         requires id_fn { F.IsAlwaysCallable self.old.id_fn }
         requires neighbors_fn { N.IsAlwaysCallable self.old.neighbors_fn }
-        requires lists { AlwaysReturns N.FnMut (λ a r. IsFiniteIterable NI.into_iter_gives NI.IntoIter.can_next NI.IntoIter.remaining r) self.old.neighbors_fn }
+        requires lists { AlwaysReturns N.FnMut
+            (λ a r. IsFiniteIterable NI.into_iter_gives NI.IntoIter.can_next NI.IntoIter.remaining
+            r) self.old.neighbors_fn }
         ensures id_fn { self.new.id_fn ≡ self.old.id_fn }
         ensures neighbors_fn { N.IsAlwaysCallable self.new.neighbors_fn }
-        ensures lists { AlwaysReturns N.FnMut (λ a r. IsFiniteIterable NI.into_iter_gives NI.IntoIter.can_next NI.IntoIter.remaining r) self.new.neighbors_fn }
-        ensures chunk { IfOk result (λ chunk. (walk : Numbered T ID) (items : FailingGraph (Fault E))
-            → ShowsItems walk items ID.eq F.Fn N.FnMut NI.into_iter_gives NI.IntoIter.next_gives self.old.id_fn self.old.neighbors_fn
+        ensures lists { AlwaysReturns N.FnMut (λ a r.
+            IsFiniteIterable NI.into_iter_gives NI.IntoIter.can_next NI.IntoIter.remaining r)
+            self.new.neighbors_fn }
+        ensures chunk { IfOk result (λ chunk.
+            (walk : Numbered T ID) (items : FailingGraph (Fault E))
+            → ShowsItems walk items ID.eq F.Fn N.FnMut NI.into_iter_gives NI.IntoIter.next_gives
+            self.old.id_fn self.old.neighbors_fn
             → AreNodes walk (map walk.node start.items)
-            → ShowsItems walk items ID.eq F.Fn N.FnMut NI.into_iter_gives NI.IntoIter.next_gives self.old.id_fn self.new.neighbors_fn
-            × MatchOption chunk.stuck (IsChunkOfMany walk.graph (map walk.node start.items) (map walk.node chunk.nodes.items) (map walk.node chunk.left.items))
-            (λ x. ReachedFrom walk.graph (map walk.node start.items) (walk.node x) × ReachesCycle walk.graph (map walk.node start.items))) }
+            → ShowsItems walk items ID.eq F.Fn N.FnMut NI.into_iter_gives NI.IntoIter.next_gives
+            self.old.id_fn self.new.neighbors_fn
+            × MatchOption chunk.stuck (IsChunkOfMany walk.graph (map walk.node start.items)
+            (map walk.node chunk.nodes.items) (map walk.node chunk.left.items))
+            (λ x. ReachedFrom walk.graph (map walk.node start.items) (walk.node x)
+            × ReachesCycle walk.graph (map walk.node start.items))) }
         ensures failed { IfErr result (λ e. IfNode e (λ error.
-            (walk : Numbered T ID) (items : FailingGraph (Fault E)) → ShowsItems walk items ID.eq F.Fn N.FnMut NI.into_iter_gives NI.IntoIter.next_gives self.old.id_fn self.old.neighbors_fn
-            → AreNodes walk (map walk.node start.items) → ReachesFailure items (map walk.node start.items) error)) }
+            (walk : Numbered T ID) (items : FailingGraph (Fault E))
+            → ShowsItems walk items ID.eq F.Fn N.FnMut NI.into_iter_gives NI.IntoIter.next_gives
+            self.old.id_fn self.old.neighbors_fn
+            → AreNodes walk (map walk.node start.items)
+            → ReachesFailure items (map walk.node start.items) error)) }
     {
         let (found, left) = self.explore(alloc, start)?;
         let (targets, indegrees) = link(alloc, &found.index_of, &found.neighbor_ids)?;

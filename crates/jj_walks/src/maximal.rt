@@ -23,10 +23,13 @@ pub fn meet<T: Hash + Eq + Drop, ID: Hash + Eq + Drop>(
     ensures keys { (x : T) → Contains heads.new.keys x → Contains heads.old.keys x }
     ensures unique { IsUnique T.eq heads.new }
     ensures visited { OnOk result (Updates ID.eq visited.old visited.new id true) }
-    ensures known { OnOk result (contains ID.eq visited.old id ≡ true → waiting.new.items ≡ waiting.old.items) }
-    ensures new { OnOk result (contains ID.eq visited.old id ≡ false → waiting.new.items ≡ waiting.old.items ++ neighbor ∷ []) }
+    ensures known { OnOk result (contains ID.eq visited.old id ≡ true
+        → waiting.new.items ≡ waiting.old.items) }
+    ensures new { OnOk result (contains ID.eq visited.old id ≡ false
+        → waiting.new.items ≡ waiting.old.items ++ neighbor ∷ []) }
     ensures grows { OnOk result (length waiting.old.items ≤ length waiting.new.items) }
-    ensures balance { OnOk result (hash_set_len visited.new + length waiting.old.items ≡ hash_set_len visited.old + length waiting.new.items) }
+    ensures balance { OnOk result (hash_set_len visited.new + length waiting.old.items
+        ≡ hash_set_len visited.old + length waiting.new.items) }
 {
     heads.remove(&neighbor);
     if visited.insert(id)? {
@@ -35,8 +38,8 @@ pub fn meet<T: Hash + Eq + Drop, ID: Hash + Eq + Drop>(
     Ok(())
 }
 
-/// The next node to ask for its neighbours. Within a level there is one; after a level there is none where no node waits, or
-/// where one waits and no root was met.
+/// The next node to ask for its neighbours. Within a level there is one; after a level there is
+/// none where no node waits, or where one waits and no root was met.
 pub fn next_to_ask<T>(waiting: &mut VecDeque<T>, level: &mut usize, root_met: bool) -> Option<T>
     ensures first { IfSome result (λ node. waiting.old.items ≡ node ∷ waiting.new.items) }
     ensures few { IfNone result (length waiting.old.items ≤ 1) }
@@ -53,8 +56,8 @@ pub fn next_to_ask<T>(waiting: &mut VecDeque<T>, level: &mut usize, root_met: bo
     Some(node)
 }
 
-/// The nodes of `start` that no other of them reaches. A walk by levels ends early where one node waits and no root, a node
-/// without neighbours, was met.
+/// The nodes of `start` that no other of them reaches. A walk by levels ends early where one node
+/// waits and no root, a node without neighbours, was met.
 pub fn heads<T, ID, II, NI, F, N>(
     alloc: Global,
     start: II,
@@ -72,11 +75,16 @@ where
     N: FnMut(&T) -> NI + Drop,
     requires id_fn { F.IsAlwaysCallable id_fn }
     requires neighbors_fn { N.IsAlwaysCallable neighbors_fn }
-    requires lists { AlwaysReturns N.FnMut (λ a r. IsFiniteIterable NI.into_iter_gives NI.IntoIter.can_next NI.IntoIter.remaining r) neighbors_fn }
+    requires lists { AlwaysReturns N.FnMut (λ a r.
+        IsFiniteIterable NI.into_iter_gives NI.IntoIter.can_next NI.IntoIter.remaining r)
+        neighbors_fn }
     requires start { IsFiniteIterable II.into_iter_gives II.IntoIter.can_next II.IntoIter.remaining start }
     requires clones { (x y : T) → T.is_clone x y → IsTrue (T.eq x y) }
-    ensures heads { IfOk result (λ s. (xs : List T) × DrainsTo II.into_iter_gives II.IntoIter.next_gives start xs
-        × ((walk : Numbered T ID) → IsShownBy walk ID.eq F.Fn N.FnMut NI.into_iter_gives NI.IntoIter.next_gives id_fn neighbors_fn → AreNodes walk (map walk.node xs)
+    ensures heads { IfOk result (λ s. (xs : List T)
+        × DrainsTo II.into_iter_gives II.IntoIter.next_gives start xs
+        × ((walk : Numbered T ID)
+        → IsShownBy walk ID.eq F.Fn N.FnMut NI.into_iter_gives NI.IntoIter.next_gives id_fn
+        neighbors_fn → AreNodes walk (map walk.node xs)
         → HasNoCycle walk.graph (map walk.node xs) → StandsForNodes walk T.eq
         → IsMaximalIn walk.graph (map walk.node xs) (map walk.node s.keys))) }
 {

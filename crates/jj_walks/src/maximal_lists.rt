@@ -32,15 +32,23 @@ where
     N: FnMut(&T) -> Result<NI, E> + Drop,
     requires id_fn { F.IsAlwaysCallable id_fn }
     requires neighbors_fn { N.IsAlwaysCallable neighbors_fn }
-    requires lists { AlwaysReturns N.FnMut (λ a r. IfOk r (IsFiniteIterable NI.into_iter_gives NI.IntoIter.can_next NI.IntoIter.remaining)) neighbors_fn }
+    requires lists { AlwaysReturns N.FnMut (λ a r.
+        IfOk r (IsFiniteIterable NI.into_iter_gives NI.IntoIter.can_next NI.IntoIter.remaining))
+        neighbors_fn }
     requires start { IsFiniteIterable II.into_iter_gives II.IntoIter.can_next II.IntoIter.remaining start }
     requires clones { (x y : T) → T.is_clone x y → IsTrue (T.eq x y) }
-    ensures heads { IfOk result (λ s. (xs : List T) × DrainsTo II.into_iter_gives II.IntoIter.next_gives start xs
-        × ((walk : Numbered T ID) (items : FailingGraph (Fault E)) → ShowsLists walk items ID.eq F.Fn N.FnMut NI.into_iter_gives NI.IntoIter.next_gives id_fn neighbors_fn → AreNodes walk (map walk.node xs)
+    ensures heads { IfOk result (λ s. (xs : List T)
+        × DrainsTo II.into_iter_gives II.IntoIter.next_gives start xs
+        × ((walk : Numbered T ID) (items : FailingGraph (Fault E))
+        → ShowsLists walk items ID.eq F.Fn N.FnMut NI.into_iter_gives NI.IntoIter.next_gives id_fn
+        neighbors_fn → AreNodes walk (map walk.node xs)
         → HasNoCycle walk.graph (map walk.node xs) → StandsForNodes walk T.eq
         → IsMaximalIn walk.graph (map walk.node xs) (map walk.node s.keys))) }
-    ensures refused { IfErr result (λ e. IfNode e (λ error. (xs : List T) × DrainsTo II.into_iter_gives II.IntoIter.next_gives start xs
-        × ((walk : Numbered T ID) (items : FailingGraph (Fault E)) → ShowsLists walk items ID.eq F.Fn N.FnMut NI.into_iter_gives NI.IntoIter.next_gives id_fn neighbors_fn → AreNodes walk (map walk.node xs)
+    ensures refused { IfErr result (λ e. IfNode e
+        (λ error. (xs : List T) × DrainsTo II.into_iter_gives II.IntoIter.next_gives start xs
+        × ((walk : Numbered T ID) (items : FailingGraph (Fault E))
+        → ShowsLists walk items ID.eq F.Fn N.FnMut NI.into_iter_gives NI.IntoIter.next_gives id_fn
+        neighbors_fn → AreNodes walk (map walk.node xs)
         → ReachesFailure items (map walk.node xs) error))) }
 {
     let mut heads = HashSet::new(alloc);

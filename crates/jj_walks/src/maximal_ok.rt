@@ -13,8 +13,8 @@ use std::alloc::Global;
 use std::collections::{HashSet, VecDeque};
 use std::hash::Hash;
 
-/// `heads` over items that may fail: `Node` of the first failed item that is met. Failed items below the place where the
-/// walk ends early are not met.
+/// `heads` over items that may fail: `Node` of the first failed item that is met. Failed items
+/// below the place where the walk ends early are not met.
 pub fn heads_ok<T, ID, E, II, NI, F, N>(
     alloc: Global,
     start: II,
@@ -33,17 +33,25 @@ where
     N: FnMut(&T) -> NI + Drop,
     requires id_fn { F.IsAlwaysCallable id_fn }
     requires neighbors_fn { N.IsAlwaysCallable neighbors_fn }
-    requires lists { AlwaysReturns N.FnMut (λ a r. IsFiniteIterable NI.into_iter_gives NI.IntoIter.can_next NI.IntoIter.remaining r) neighbors_fn }
+    requires lists { AlwaysReturns N.FnMut (λ a r.
+        IsFiniteIterable NI.into_iter_gives NI.IntoIter.can_next NI.IntoIter.remaining r)
+        neighbors_fn }
     requires start { IsFiniteIterable II.into_iter_gives II.IntoIter.can_next II.IntoIter.remaining start }
     requires clones { (x y : T) → T.is_clone x y → IsTrue (T.eq x y) }
-    ensures heads { IfOk result (λ s. (xs : List T) × DrainsTo II.into_iter_gives II.IntoIter.next_gives start (map Ok xs)
-        × ((walk : Numbered T ID) (items : FailingGraph (Fault E)) → ShowsItems walk items ID.eq F.Fn N.FnMut NI.into_iter_gives NI.IntoIter.next_gives id_fn neighbors_fn → AreNodes walk (map walk.node xs)
+    ensures heads { IfOk result (λ s. (xs : List T)
+        × DrainsTo II.into_iter_gives II.IntoIter.next_gives start (map Ok xs)
+        × ((walk : Numbered T ID) (items : FailingGraph (Fault E))
+        → ShowsItems walk items ID.eq F.Fn N.FnMut NI.into_iter_gives NI.IntoIter.next_gives id_fn
+        neighbors_fn → AreNodes walk (map walk.node xs)
         → HasNoCycle walk.graph (map walk.node xs) → StandsForNodes walk T.eq
         → IsMaximalIn walk.graph (map walk.node xs) (map walk.node s.keys))) }
     ensures refused { IfErr result (λ e. IfNode e (λ error.
-        ((xs : List T) × BeginsWith II.into_iter_gives II.IntoIter.next_gives start (map Ok xs ++ Err error ∷ []))
+        ((xs : List T) × BeginsWith II.into_iter_gives II.IntoIter.next_gives start
+        (map Ok xs ++ Err error ∷ []))
         ⊎ ((xs : List T) × DrainsTo II.into_iter_gives II.IntoIter.next_gives start (map Ok xs)
-        × ((walk : Numbered T ID) (items : FailingGraph (Fault E)) → ShowsItems walk items ID.eq F.Fn N.FnMut NI.into_iter_gives NI.IntoIter.next_gives id_fn neighbors_fn → AreNodes walk (map walk.node xs)
+        × ((walk : Numbered T ID) (items : FailingGraph (Fault E))
+        → ShowsItems walk items ID.eq F.Fn N.FnMut NI.into_iter_gives NI.IntoIter.next_gives id_fn
+        neighbors_fn → AreNodes walk (map walk.node xs)
         → ReachesFailure items (map walk.node xs) error)))) }
 {
     let mut heads = HashSet::new(alloc);

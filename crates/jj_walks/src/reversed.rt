@@ -17,9 +17,9 @@ use std::hash::Hash;
 /// The edges that lead to each id.
 type Incoming<ID> = HashMap<ID, Vec<GraphEdge<ID>>>;
 
-/// The nodes from the last to the first, each with the edges that lead to it: to the id of each node that has an edge to
-/// it, in the order of the input. Edges to ids that no node has are left out, and of nodes with one id the last has all
-/// edges.
+/// The nodes from the last to the first, each with the edges that lead to it: to the id of each
+/// node that has an edge to it, in the order of the input. Edges to ids that no node has are left
+/// out, and of nodes with one id the last has all edges.
 pub fn reverse_graph<N, ID, E, I, F>(
     alloc: Global,
     input: I,
@@ -34,10 +34,14 @@ where
     requires as_id { F.IsAlwaysCallable as_id }
     requires callable { I.can_next input }
     requires finite { IsFinite (I.remaining input) }
-    ensures reversed { IfOk result (λ v. (nodes : List (N × vec (GraphEdge ID) global)) × Drains I.next_gives input (map Ok nodes)
+    ensures reversed { IfOk result (λ v. (nodes : List (N × vec (GraphEdge ID) global))
+        × Drains I.next_gives input (map Ok nodes)
         × ((id : N → ID) → ((x : N) (r : Bor ID) → FnReturnsAt F.Fn as_id x r → r.now ≡ id x)
-        → ShowsById ID.is_clone id (reversed_graph ID.eq id (shown_graph nodes)) (shown_graph v.items))) }
-    ensures refused { IfErr result (λ e. IfNode e (λ error. (nodes : List (N × vec (GraphEdge ID) global)) × (t : I) × Yields I.next_gives input (map Ok nodes ++ Err error ∷ []) t)) }
+        → ShowsById ID.is_clone id (reversed_graph ID.eq id (shown_graph nodes))
+        (shown_graph v.items))) }
+    ensures refused { IfErr result (λ e. IfNode e
+        (λ error. (nodes : List (N × vec (GraphEdge ID) global)) × (t : I)
+        × Yields I.next_gives input (map Ok nodes ++ Err error ∷ []) t)) }
 {
     let mut nodes = Vec::new(alloc);
     let mut incoming = HashMap::new(alloc);
@@ -71,7 +75,9 @@ fn add_edge<ID: Hash + Eq + Drop>(
     id: ID,
     edge: GraphEdge<ID>,
 ) -> Result<(), AllocError>
-    ensures { OnOk result ((q : ID) → edges_at ID.eq incoming.new q ≡ (if ID.eq id q then edges_at ID.eq incoming.old q ++ edge ∷ [] else edges_at ID.eq incoming.old q)) }
+    ensures { OnOk result ((q : ID) → edges_at ID.eq incoming.new q
+        ≡ (if ID.eq id q then edges_at ID.eq incoming.old q
+        ++ edge ∷ [] else edges_at ID.eq incoming.old q)) }
 {
     incoming.entry(id)?.or_default().push(edge)?;
     Ok(())
@@ -84,7 +90,8 @@ fn take_edges<ID: Hash + Eq + Drop>(
     id: &ID,
 ) -> Vec<GraphEdge<ID>>
     ensures taken { result.items ≡ edges_at ID.eq incoming.old id.now }
-    ensures left { (q : ID) → edges_at ID.eq incoming.new q ≡ (if ID.eq id.now q then [] else edges_at ID.eq incoming.old q) }
+    ensures left { (q : ID) → edges_at ID.eq incoming.new q
+        ≡ (if ID.eq id.now q then [] else edges_at ID.eq incoming.old q) }
 {
     match incoming.remove(id) {
         Some(edges) => edges,

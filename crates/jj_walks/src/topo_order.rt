@@ -11,8 +11,8 @@ use std::alloc::Global;
 use std::collections::HashSet;
 use std::hash::Hash;
 
-/// The nodes that the starts reach, each once and after its neighbours; later starts and later neighbours come first.
-/// A cycle is `Node(cycle_fn(node))` of some node on it.
+/// The nodes that the starts reach, each once and after its neighbours; later starts and later
+/// neighbours come first. A cycle is `Node(cycle_fn(node))` of some node on it.
 pub fn topo_order_forward<T, ID, E, II, NI, F, N, C>(
     alloc: Global,
     start: II,
@@ -33,14 +33,24 @@ where
     requires id_fn { F.IsAlwaysCallable id_fn }
     requires neighbors_fn { N.IsAlwaysCallable neighbors_fn }
     requires cycle_fn { C.IsAlwaysCallable cycle_fn }
-    requires lists { AlwaysReturns N.FnMut (λ a r. IsFiniteIterable NI.into_iter_gives NI.IntoIter.can_next NI.IntoIter.remaining r) neighbors_fn }
+    requires lists { AlwaysReturns N.FnMut (λ a r.
+        IsFiniteIterable NI.into_iter_gives NI.IntoIter.can_next NI.IntoIter.remaining r)
+        neighbors_fn }
     requires start { IsFiniteIterable II.into_iter_gives II.IntoIter.can_next II.IntoIter.remaining start }
     requires clones { (i j : ID) → ID.is_clone i j → IsTrue (ID.eq i j) }
-    ensures order { IfOk result (λ v. (xs : List T) × DrainsTo II.into_iter_gives II.IntoIter.next_gives start xs
-        × ((walk : Numbered T ID) → IsShownBy walk ID.eq F.Fn N.FnMut NI.into_iter_gives NI.IntoIter.next_gives id_fn neighbors_fn → AreNodes walk (map walk.node xs)
-        → IsPostorder walk.graph (map walk.node xs) (map walk.node v.items) × HasNoCycle walk.graph (map walk.node xs))) }
-    ensures cycle { IfErr result (λ e. IfNode e (λ error. (x : T) × (xs : List T) × C.post cycle_fn x error × DrainsTo II.into_iter_gives II.IntoIter.next_gives start xs
-        × ((walk : Numbered T ID) → IsShownBy walk ID.eq F.Fn N.FnMut NI.into_iter_gives NI.IntoIter.next_gives id_fn neighbors_fn → AreNodes walk (map walk.node xs)
+    ensures order { IfOk result (λ v. (xs : List T)
+        × DrainsTo II.into_iter_gives II.IntoIter.next_gives start xs
+        × ((walk : Numbered T ID)
+        → IsShownBy walk ID.eq F.Fn N.FnMut NI.into_iter_gives NI.IntoIter.next_gives id_fn
+        neighbors_fn → AreNodes walk (map walk.node xs)
+        → IsPostorder walk.graph (map walk.node xs) (map walk.node v.items)
+        × HasNoCycle walk.graph (map walk.node xs))) }
+    ensures cycle { IfErr result (λ e. IfNode e
+        (λ error. (x : T) × (xs : List T) × C.post cycle_fn x error
+        × DrainsTo II.into_iter_gives II.IntoIter.next_gives start xs
+        × ((walk : Numbered T ID)
+        → IsShownBy walk ID.eq F.Fn N.FnMut NI.into_iter_gives NI.IntoIter.next_gives id_fn
+        neighbors_fn → AreNodes walk (map walk.node xs)
         → OnCycleFrom walk.graph (map walk.node xs) (walk.node x)))) }
 {
     let mut stack: Vec<(T, bool)> = Vec::new(alloc);
@@ -75,8 +85,8 @@ where
     Ok(result)
 }
 
-/// The nodes that the starts reach, each once and before its neighbours: `topo_order_forward`'s list from its end.
-/// A cycle is `Node(cycle_fn(node))` of some node on it.
+/// The nodes that the starts reach, each once and before its neighbours: `topo_order_forward`'s
+/// list from its end. A cycle is `Node(cycle_fn(node))` of some node on it.
 pub fn topo_order_reverse<T, ID, E, II, NI, F, N, C>(
     alloc: Global,
     start: II,
@@ -97,14 +107,24 @@ where
     requires id_fn { F.IsAlwaysCallable id_fn }
     requires neighbors_fn { N.IsAlwaysCallable neighbors_fn }
     requires cycle_fn { C.IsAlwaysCallable cycle_fn }
-    requires lists { AlwaysReturns N.FnMut (λ a r. IsFiniteIterable NI.into_iter_gives NI.IntoIter.can_next NI.IntoIter.remaining r) neighbors_fn }
+    requires lists { AlwaysReturns N.FnMut (λ a r.
+        IsFiniteIterable NI.into_iter_gives NI.IntoIter.can_next NI.IntoIter.remaining r)
+        neighbors_fn }
     requires start { IsFiniteIterable II.into_iter_gives II.IntoIter.can_next II.IntoIter.remaining start }
     requires clones { (i j : ID) → ID.is_clone i j → IsTrue (ID.eq i j) }
-    ensures order { IfOk result (λ v. (xs : List T) × DrainsTo II.into_iter_gives II.IntoIter.next_gives start xs
-        × ((walk : Numbered T ID) → IsShownBy walk ID.eq F.Fn N.FnMut NI.into_iter_gives NI.IntoIter.next_gives id_fn neighbors_fn → AreNodes walk (map walk.node xs)
-        → IsPostorder walk.graph (map walk.node xs) (reverse (map walk.node v.items)) × HasNoCycle walk.graph (map walk.node xs))) }
-    ensures cycle { IfErr result (λ e. IfNode e (λ error. (x : T) × (xs : List T) × C.post cycle_fn x error × DrainsTo II.into_iter_gives II.IntoIter.next_gives start xs
-        × ((walk : Numbered T ID) → IsShownBy walk ID.eq F.Fn N.FnMut NI.into_iter_gives NI.IntoIter.next_gives id_fn neighbors_fn → AreNodes walk (map walk.node xs)
+    ensures order { IfOk result (λ v. (xs : List T)
+        × DrainsTo II.into_iter_gives II.IntoIter.next_gives start xs
+        × ((walk : Numbered T ID)
+        → IsShownBy walk ID.eq F.Fn N.FnMut NI.into_iter_gives NI.IntoIter.next_gives id_fn
+        neighbors_fn → AreNodes walk (map walk.node xs)
+        → IsPostorder walk.graph (map walk.node xs) (reverse (map walk.node v.items))
+        × HasNoCycle walk.graph (map walk.node xs))) }
+    ensures cycle { IfErr result (λ e. IfNode e
+        (λ error. (x : T) × (xs : List T) × C.post cycle_fn x error
+        × DrainsTo II.into_iter_gives II.IntoIter.next_gives start xs
+        × ((walk : Numbered T ID)
+        → IsShownBy walk ID.eq F.Fn N.FnMut NI.into_iter_gives NI.IntoIter.next_gives id_fn
+        neighbors_fn → AreNodes walk (map walk.node xs)
         → OnCycleFrom walk.graph (map walk.node xs) (walk.node x)))) }
 {
     let mut order = topo_order_forward(alloc, start, id_fn, neighbors_fn, cycle_fn)?;

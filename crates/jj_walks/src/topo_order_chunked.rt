@@ -16,10 +16,11 @@ use std::default::MadeWith;
 use std::hash::Hash;
 use std::mem;
 
-/// The next chunk of a child-first order of what the starts reach. It leaves in `start` the starts of what is left: none
-/// where all was given, at most one after a chunk of several starts, and the neighbours of the node after a chunk of one.
-/// Several starts are explored from the greatest node on, until one node waits that all explored nodes reach. A failed item
-/// that is met is `Node` of its error; where a cycle is met, `cycle_fn` makes the error of a node that the starts reach.
+/// The next chunk of a child-first order of what the starts reach. It leaves in `start` the starts
+/// of what is left: none where all was given, at most one after a chunk of several starts, and the
+/// neighbours of the node after a chunk of one. Several starts are explored from the greatest node
+/// on, until one node waits that all explored nodes reach. A failed item that is met is `Node` of
+/// its error; where a cycle is met, `cycle_fn` makes the error of a node that the starts reach.
 /// Refused, `start` is empty.
 pub fn topo_order_reverse_chunked<T, ID, E, NI, F, N, C>(
     alloc: Global,
@@ -40,18 +41,26 @@ where
     requires id_fn { F.IsAlwaysCallable id_fn }
     requires neighbors_fn { N.IsAlwaysCallable neighbors_fn }
     requires cycle_fn { C.IsAlwaysCallable cycle_fn }
-    requires lists { AlwaysReturns N.FnMut (λ a r. IsFiniteIterable NI.into_iter_gives NI.IntoIter.can_next NI.IntoIter.remaining r) neighbors_fn }
+    requires lists { AlwaysReturns N.FnMut (λ a r.
+        IsFiniteIterable NI.into_iter_gives NI.IntoIter.can_next NI.IntoIter.remaining r)
+        neighbors_fn }
     ensures chunk { IfOk result (λ chunk. (walk : Numbered T ID) (items : FailingGraph (Fault E))
-        → ShowsItems walk items ID.eq F.Fn N.FnMut NI.into_iter_gives NI.IntoIter.next_gives id_fn neighbors_fn → AreNodes walk (map walk.node start.old.items)
-        → IsNextChunk walk.graph (map walk.node start.old.items) (map walk.node chunk.items) (map walk.node start.new.items)) }
+        → ShowsItems walk items ID.eq F.Fn N.FnMut NI.into_iter_gives NI.IntoIter.next_gives id_fn
+        neighbors_fn → AreNodes walk (map walk.node start.old.items)
+        → IsNextChunk walk.graph (map walk.node start.old.items) (map walk.node chunk.items)
+        (map walk.node start.new.items)) }
     ensures refused_start { OnErr result (start.new.items ≡ []) }
     ensures node { IfErr result (λ e. IfNode e (λ error.
         ((walk : Numbered T ID) (items : FailingGraph (Fault E))
-        → ShowsItems walk items ID.eq F.Fn N.FnMut NI.into_iter_gives NI.IntoIter.next_gives id_fn neighbors_fn → AreNodes walk (map walk.node start.old.items)
+        → ShowsItems walk items ID.eq F.Fn N.FnMut NI.into_iter_gives NI.IntoIter.next_gives id_fn
+        neighbors_fn → AreNodes walk (map walk.node start.old.items)
         → ReachesFailure items (map walk.node start.old.items) error)
-        ⊎ ((x : T) × C.post cycle_fn x error × ((walk : Numbered T ID) (items : FailingGraph (Fault E))
-        → ShowsItems walk items ID.eq F.Fn N.FnMut NI.into_iter_gives NI.IntoIter.next_gives id_fn neighbors_fn → AreNodes walk (map walk.node start.old.items)
-        → ReachedFrom walk.graph (map walk.node start.old.items) (walk.node x) × ReachesCycle walk.graph (map walk.node start.old.items))))) }
+        ⊎ ((x : T) × C.post cycle_fn x error × ((walk : Numbered T ID)
+        (items : FailingGraph (Fault E))
+        → ShowsItems walk items ID.eq F.Fn N.FnMut NI.into_iter_gives NI.IntoIter.next_gives id_fn
+        neighbors_fn → AreNodes walk (map walk.node start.old.items)
+        → ReachedFrom walk.graph (map walk.node start.old.items) (walk.node x)
+        × ReachesCycle walk.graph (map walk.node start.old.items))))) }
 {
     let mut graph = Shown {
         id_fn,

@@ -12,8 +12,9 @@ use std::alloc::Global;
 use std::collections::HashSet;
 use std::hash::Hash;
 
-/// The nodes that the starts reach, each once and after its neighbours; later starts and later neighbours come first.
-/// A failed item that is met is `Node` of its error, and a cycle is `Node(cycle_fn(node))` of some node on it.
+/// The nodes that the starts reach, each once and after its neighbours; later starts and later
+/// neighbours come first. A failed item that is met is `Node` of its error, and a cycle is
+/// `Node(cycle_fn(node))` of some node on it.
 pub fn topo_order_forward_ok<T, ID, E, II, NI, F, N, C>(
     alloc: Global,
     start: II,
@@ -35,19 +36,31 @@ where
     requires id_fn { F.IsAlwaysCallable id_fn }
     requires neighbors_fn { N.IsAlwaysCallable neighbors_fn }
     requires cycle_fn { C.IsAlwaysCallable cycle_fn }
-    requires lists { AlwaysReturns N.FnMut (λ a r. IsFiniteIterable NI.into_iter_gives NI.IntoIter.can_next NI.IntoIter.remaining r) neighbors_fn }
+    requires lists { AlwaysReturns N.FnMut (λ a r.
+        IsFiniteIterable NI.into_iter_gives NI.IntoIter.can_next NI.IntoIter.remaining r)
+        neighbors_fn }
     requires start { IsFiniteIterable II.into_iter_gives II.IntoIter.can_next II.IntoIter.remaining start }
     requires clones { (i j : ID) → ID.is_clone i j → IsTrue (ID.eq i j) }
-    ensures order { IfOk result (λ v. (xs : List T) × DrainsTo II.into_iter_gives II.IntoIter.next_gives start (map Ok xs)
-        × ((walk : Numbered T ID) (items : FailingGraph (Fault E)) → ShowsItems walk items ID.eq F.Fn N.FnMut NI.into_iter_gives NI.IntoIter.next_gives id_fn neighbors_fn → AreNodes walk (map walk.node xs)
-        → IsPostorder walk.graph (map walk.node xs) (map walk.node v.items) × HasNoCycle walk.graph (map walk.node xs) × HasNoFailure items (map walk.node xs))) }
+    ensures order { IfOk result (λ v. (xs : List T)
+        × DrainsTo II.into_iter_gives II.IntoIter.next_gives start (map Ok xs)
+        × ((walk : Numbered T ID) (items : FailingGraph (Fault E))
+        → ShowsItems walk items ID.eq F.Fn N.FnMut NI.into_iter_gives NI.IntoIter.next_gives id_fn
+        neighbors_fn → AreNodes walk (map walk.node xs)
+        → IsPostorder walk.graph (map walk.node xs) (map walk.node v.items)
+        × HasNoCycle walk.graph (map walk.node xs) × HasNoFailure items (map walk.node xs))) }
     ensures refused { IfErr result (λ e. IfNode e (λ error.
-        ((xs : List T) × BeginsWith II.into_iter_gives II.IntoIter.next_gives start (map Ok xs ++ Err error ∷ []))
+        ((xs : List T) × BeginsWith II.into_iter_gives II.IntoIter.next_gives start
+        (map Ok xs ++ Err error ∷ []))
         ⊎ ((xs : List T) × DrainsTo II.into_iter_gives II.IntoIter.next_gives start (map Ok xs)
-        × ((walk : Numbered T ID) (items : FailingGraph (Fault E)) → ShowsItems walk items ID.eq F.Fn N.FnMut NI.into_iter_gives NI.IntoIter.next_gives id_fn neighbors_fn → AreNodes walk (map walk.node xs)
+        × ((walk : Numbered T ID) (items : FailingGraph (Fault E))
+        → ShowsItems walk items ID.eq F.Fn N.FnMut NI.into_iter_gives NI.IntoIter.next_gives id_fn
+        neighbors_fn → AreNodes walk (map walk.node xs)
         → ReachesFailure items (map walk.node xs) error))
-        ⊎ ((x : T) × (xs : List T) × C.post cycle_fn x error × DrainsTo II.into_iter_gives II.IntoIter.next_gives start (map Ok xs)
-        × ((walk : Numbered T ID) (items : FailingGraph (Fault E)) → ShowsItems walk items ID.eq F.Fn N.FnMut NI.into_iter_gives NI.IntoIter.next_gives id_fn neighbors_fn → AreNodes walk (map walk.node xs)
+        ⊎ ((x : T) × (xs : List T) × C.post cycle_fn x error
+        × DrainsTo II.into_iter_gives II.IntoIter.next_gives start (map Ok xs)
+        × ((walk : Numbered T ID) (items : FailingGraph (Fault E))
+        → ShowsItems walk items ID.eq F.Fn N.FnMut NI.into_iter_gives NI.IntoIter.next_gives id_fn
+        neighbors_fn → AreNodes walk (map walk.node xs)
         → OnCycleFrom walk.graph (map walk.node xs) (walk.node x))))) }
 {
     let mut stack: Vec<(T, bool)> = Vec::new(alloc);
@@ -88,8 +101,9 @@ where
     Ok(result)
 }
 
-/// The nodes that the starts reach, each once and before its neighbours: `topo_order_forward_ok`'s list from its end.
-/// A failed item that is met is `Node` of its error, and a cycle is `Node(cycle_fn(node))` of some node on it.
+/// The nodes that the starts reach, each once and before its neighbours: `topo_order_forward_ok`'s
+/// list from its end. A failed item that is met is `Node` of its error, and a cycle is
+/// `Node(cycle_fn(node))` of some node on it.
 pub fn topo_order_reverse_ok<T, ID, E, II, NI, F, N, C>(
     alloc: Global,
     start: II,
@@ -111,19 +125,31 @@ where
     requires id_fn { F.IsAlwaysCallable id_fn }
     requires neighbors_fn { N.IsAlwaysCallable neighbors_fn }
     requires cycle_fn { C.IsAlwaysCallable cycle_fn }
-    requires lists { AlwaysReturns N.FnMut (λ a r. IsFiniteIterable NI.into_iter_gives NI.IntoIter.can_next NI.IntoIter.remaining r) neighbors_fn }
+    requires lists { AlwaysReturns N.FnMut (λ a r.
+        IsFiniteIterable NI.into_iter_gives NI.IntoIter.can_next NI.IntoIter.remaining r)
+        neighbors_fn }
     requires start { IsFiniteIterable II.into_iter_gives II.IntoIter.can_next II.IntoIter.remaining start }
     requires clones { (i j : ID) → ID.is_clone i j → IsTrue (ID.eq i j) }
-    ensures order { IfOk result (λ v. (xs : List T) × DrainsTo II.into_iter_gives II.IntoIter.next_gives start (map Ok xs)
-        × ((walk : Numbered T ID) (items : FailingGraph (Fault E)) → ShowsItems walk items ID.eq F.Fn N.FnMut NI.into_iter_gives NI.IntoIter.next_gives id_fn neighbors_fn → AreNodes walk (map walk.node xs)
-        → IsPostorder walk.graph (map walk.node xs) (reverse (map walk.node v.items)) × HasNoCycle walk.graph (map walk.node xs) × HasNoFailure items (map walk.node xs))) }
+    ensures order { IfOk result (λ v. (xs : List T)
+        × DrainsTo II.into_iter_gives II.IntoIter.next_gives start (map Ok xs)
+        × ((walk : Numbered T ID) (items : FailingGraph (Fault E))
+        → ShowsItems walk items ID.eq F.Fn N.FnMut NI.into_iter_gives NI.IntoIter.next_gives id_fn
+        neighbors_fn → AreNodes walk (map walk.node xs)
+        → IsPostorder walk.graph (map walk.node xs) (reverse (map walk.node v.items))
+        × HasNoCycle walk.graph (map walk.node xs) × HasNoFailure items (map walk.node xs))) }
     ensures refused { IfErr result (λ e. IfNode e (λ error.
-        ((xs : List T) × BeginsWith II.into_iter_gives II.IntoIter.next_gives start (map Ok xs ++ Err error ∷ []))
+        ((xs : List T) × BeginsWith II.into_iter_gives II.IntoIter.next_gives start
+        (map Ok xs ++ Err error ∷ []))
         ⊎ ((xs : List T) × DrainsTo II.into_iter_gives II.IntoIter.next_gives start (map Ok xs)
-        × ((walk : Numbered T ID) (items : FailingGraph (Fault E)) → ShowsItems walk items ID.eq F.Fn N.FnMut NI.into_iter_gives NI.IntoIter.next_gives id_fn neighbors_fn → AreNodes walk (map walk.node xs)
+        × ((walk : Numbered T ID) (items : FailingGraph (Fault E))
+        → ShowsItems walk items ID.eq F.Fn N.FnMut NI.into_iter_gives NI.IntoIter.next_gives id_fn
+        neighbors_fn → AreNodes walk (map walk.node xs)
         → ReachesFailure items (map walk.node xs) error))
-        ⊎ ((x : T) × (xs : List T) × C.post cycle_fn x error × DrainsTo II.into_iter_gives II.IntoIter.next_gives start (map Ok xs)
-        × ((walk : Numbered T ID) (items : FailingGraph (Fault E)) → ShowsItems walk items ID.eq F.Fn N.FnMut NI.into_iter_gives NI.IntoIter.next_gives id_fn neighbors_fn → AreNodes walk (map walk.node xs)
+        ⊎ ((x : T) × (xs : List T) × C.post cycle_fn x error
+        × DrainsTo II.into_iter_gives II.IntoIter.next_gives start (map Ok xs)
+        × ((walk : Numbered T ID) (items : FailingGraph (Fault E))
+        → ShowsItems walk items ID.eq F.Fn N.FnMut NI.into_iter_gives NI.IntoIter.next_gives id_fn
+        neighbors_fn → AreNodes walk (map walk.node xs)
         → OnCycleFrom walk.graph (map walk.node xs) (walk.node x))))) }
 {
     let mut order = topo_order_forward_ok(alloc, start, id_fn, neighbors_fn, cycle_fn)?;

@@ -20,11 +20,13 @@ parents_in commits c = filter_map (commit_with commits) c.parents.items
 
 -- the graph of the ids: a commit's neighbours are its parents in the list
 abbrev pub parent_graph : List Commit → Graph
-parent_graph commits id = elim (commit_with commits id) [ None ↦ [] | Some c ↦ ids_of (parents_in commits c) ]
+parent_graph commits id = elim (commit_with commits id)
+    [ None ↦ [] | Some c ↦ ids_of (parents_in commits c) ]
 
 -- the two commits have one time, one id, the same parents and the same text
 abbrev pub is_same : Commit → Commit → Bool
-is_same c d = (c.time == d.time) && ((c.id == d.id) && (pointwise eqb c.parents.items d.parents.items && string_eq c.text d.text))
+is_same c d = (c.time == d.time) && ((c.id == d.id)
+    && (pointwise eqb c.parents.items d.parents.items && string_eq c.text d.text))
 
 -- the list has this commit
 abbrev pub has_commit : List Commit → Commit → Bool
@@ -35,7 +37,8 @@ pub record IsParentsFirst (commits order : List Commit) : Type 0 where
   pub among : (c : Commit) → Contains order c → has_commit commits c ≡ true
   pub all : (c : Commit) → Contains commits c → Contains (ids_of order) c.id
   pub once : IsDistinct eqb (ids_of order)
-  pub before : (c p : Commit) → Contains commits c → Contains (parents_in commits c) p → StandsBefore (ids_of order) p.id c.id
+  pub before : (c p : Commit) → Contains commits c → Contains (parents_in commits c) p
+      → StandsBefore (ids_of order) p.id c.id
 
 -- the commit with this id is its own ancestor
 abbrev pub IsOnCycle : List Commit → ℕ → Type 0

@@ -14,7 +14,11 @@ has_ids commits (id ∷ ids) = is_some (commit_with commits id) && has_ids commi
 
 -- the graph of the commits whose parents the list has all; any other has no neighbour
 abbrev pub whole_graph : List Commit → Graph
-whole_graph commits id = elim (commit_with commits id) [ None ↦ [] | Some c ↦ cond (has_ids commits c.parents.items) (ids_of (parents_in commits c)) [] ]
+whole_graph commits id = elim (commit_with commits id) [
+  | None ↦ []
+  | Some c ↦ cond (has_ids commits c.parents.items) (ids_of (parents_in commits c))
+      []
+]
 
 -- the error's text, where there was memory for one, is that of the commit
 abbrev pub tells_gap : Commit → Gap → Bool
@@ -27,4 +31,5 @@ HasTextOf c (Text text) = string_bytes text ≡ string_bytes c.text
 
 -- the error is that of a commit of the list which names a parent that the list lacks
 abbrev pub IsGapIn : List Commit → Gap → Type 0
-IsGapIn commits gap = (c : Commit) × (has_commit commits c ≡ true) × (has_ids commits c.parents.items ≡ false) × HasTextOf c gap
+IsGapIn commits gap = (c : Commit) × (has_commit commits c ≡ true)
+    × (has_ids commits c.parents.items ≡ false) × HasTextOf c gap

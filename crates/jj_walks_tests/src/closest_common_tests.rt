@@ -1,4 +1,5 @@
-//! The closest common nodes of two sets, in small graphs, on cycles, and in graphs whose calls are counted.
+//! The closest common nodes of two sets, in small graphs, on cycles, and in graphs whose calls are
+//! counted.
 use crate::tables::{Table, closest, found, met};
 use jj_walks::dag_walk::WalkError;
 use jj_walks::dag_walk_async::closest_common_nodes;
@@ -31,7 +32,8 @@ const ROUNDS: Table<'static> = &[
     ('E', &['D']),
 ];
 
-/// X and Y each lead to the other through the lesser of two common nodes, which is above the greater.
+/// X and Y each lead to the other through the lesser of two common nodes, which is above the
+/// greater.
 const STEEP: Table<'static> = &[
     ('X', &['P', 'B']),
     ('Y', &['P', 'B']),

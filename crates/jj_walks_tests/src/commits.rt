@@ -14,7 +14,8 @@ pub struct Commit {
 
 /// The first commit of the list that has this id.
 pub fn commit_of(commits: &[Commit], id: u64) -> Option<&Commit>
-    ensures { MatchOption result (commit_with commits.now id ≡ None) (λ commit. commit_with commits.now id ≡ Some commit.now) }
+    ensures { MatchOption result (commit_with commits.now id ≡ None)
+        (λ commit. commit_with commits.now id ≡ Some commit.now) }
 {
     for commit in commits {
         if commit.id == id {
@@ -64,7 +65,8 @@ pub fn parents_of<'a>(commits: &'a [Commit], commit: &'a Commit) -> Parents<'a>
 
 /// The same, as a list that may fail in the eyes of a walk. It never does.
 pub fn sound_parents_of<'a>(commits: &'a [Commit], commit: &'a Commit) -> Result<Parents<'a>, u64>
-    ensures { IsOkAnd result (λ parents. (parents.commits.now ≡ commits.now) × (parents.ids.now ≡ commit.now.parents.items)) }
+    ensures { IsOkAnd result (λ parents. (parents.commits.now ≡ commits.now)
+        × (parents.ids.now ≡ commit.now.parents.items)) }
 {
     Ok(parents_of(commits, commit))
 }

@@ -1,4 +1,5 @@
-//! A caller whose lists of neighbours fail with errors that own a text: at each call another value, with the same words.
+//! A caller whose lists of neighbours fail with errors that own a text: at each call another value,
+//! with the same words.
 ghost use Rattle.std.specs.Prelude.{◌≡◌, true, false, IfOk, IfErr, eqb, map};
 ghost use Rattle.std.specs.List.{IsDistinct};
 ghost use Rattle.jj_walks.specs.Errors.{IfNode};
@@ -39,8 +40,10 @@ fn whole_parents_of<'a>(
     commit: &'a Commit,
 ) -> Result<Parents<'a>, Gap>
     ensures whole { IfOk result (λ parents. has_ids commits.now commit.now.parents.items ≡ true) }
-    ensures parents { IfOk result (λ parents. (parents.commits.now ≡ commits.now) × (parents.ids.now ≡ commit.now.parents.items)) }
-    ensures gap { IfErr result (λ gap. (has_ids commits.now commit.now.parents.items ≡ false) × (tells_gap commit.now gap ≡ true)) }
+    ensures parents { IfOk result (λ parents. (parents.commits.now ≡ commits.now)
+        × (parents.ids.now ≡ commit.now.parents.items)) }
+    ensures gap { IfErr result (λ gap. (has_ids commits.now commit.now.parents.items ≡ false)
+        × (tells_gap commit.now gap ≡ true)) }
 {
     if !has_all(commits, &commit.parents) {
         return match String::from_str(alloc, commit.text.as_str()) {
@@ -51,8 +54,9 @@ fn whole_parents_of<'a>(
     Ok(parents_of(commits, commit))
 }
 
-/// The commits of the list that no other of them has for an ancestor, by commits whose parents the list has all. Where the
-/// walk meets a commit with a parent that is not in the list, the error holds that commit's text.
+/// The commits of the list that no other of them has for an ancestor, by commits whose parents the
+/// list has all. Where the walk meets a commit with a parent that is not in the list, the error
+/// holds that commit's text.
 pub fn whole_tips<'a>(
     alloc: Global,
     commits: &'a [Commit],

@@ -19,7 +19,8 @@ const TURNED: &[(Rows<'static>, Rows<'static>)] = &[
         &[(('B', 0), &[(GraphEdgeType::Direct, 'A')]), (('A', 0), &[])],
         &[(('A', 0), &[(GraphEdgeType::Direct, 'B')]), (('B', 0), &[])],
     ),
-    // Edges keep their types and come in the order of the input; one to an id that no node has is left out.
+    // Edges keep their types and come in the order of the input; one to an id that no node has is
+    // left out.
     (
         &[
             (

@@ -1,6 +1,7 @@
 //! Graphs written as tables of letters, and the walks over them.
 //
-// In a run in which one request for memory is refused, a test answers that, and is then run once more, when there is memory.
+// In a run in which one request for memory is refused, a test answers that, and is then run once
+// more, when there is memory.
 use jj_walks::dag_walk::{
     WalkError, dfs, dfs_ok, heads, heads_ok, topo_order_forward, topo_order_forward_ok,
     topo_order_reverse, topo_order_reverse_ok,

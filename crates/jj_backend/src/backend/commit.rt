@@ -72,9 +72,11 @@ impl Commit {
 
     #[tactic(auto, using(jj_content::proofs::Fronts::fronts))]
     fn hash_origin<D: DigestUpdate>(&self, alloc: Global, state: &mut D) -> Result<(), AllocError>
-        ensures ok { OnOk result (Takes D.stands_for state.old state.new (origin_content self.now)) }
+        ensures ok { OnOk result (Takes D.stands_for state.old state.new
+            (origin_content self.now)) }
         ensures value { OnOk result (IsOrigin self.now) }
-        ensures err { OnErr result (TakesFront D.stands_for state.old state.new (origin_content self.now)) }
+        ensures err { OnErr result (TakesFront D.stands_for state.old state.new
+            (origin_content self.now)) }
     {
         ContentHash::hash(&self.parents, alloc, state)?;
         ContentHash::hash(&self.predecessors, alloc, state)?;
@@ -84,9 +86,11 @@ impl Commit {
 
     #[tactic(auto, using(jj_content::proofs::Fronts::fronts))]
     fn hash_message<D: DigestUpdate>(&self, alloc: Global, state: &mut D) -> Result<(), AllocError>
-        ensures ok { OnOk result (Takes D.stands_for state.old state.new (message_content self.now)) }
+        ensures ok { OnOk result (Takes D.stands_for state.old state.new
+            (message_content self.now)) }
         ensures value { OnOk result (IsMessage self.now) }
-        ensures err { OnErr result (TakesFront D.stands_for state.old state.new (message_content self.now)) }
+        ensures err { OnErr result (TakesFront D.stands_for state.old state.new
+            (message_content self.now)) }
     {
         hash_texts(alloc, state, &self.conflict_labels)?;
         ContentHash::hash(&self.change_id, alloc, state)?;
@@ -96,9 +100,11 @@ impl Commit {
 
     #[tactic(auto, using(jj_content::proofs::Fronts::fronts))]
     fn hash_signers<D: DigestUpdate>(&self, alloc: Global, state: &mut D) -> Result<(), AllocError>
-        ensures ok { OnOk result (Takes D.stands_for state.old state.new (signers_content self.now)) }
+        ensures ok { OnOk result (Takes D.stands_for state.old state.new
+            (signers_content self.now)) }
         ensures value { OnOk result (AreSigners self.now) }
-        ensures err { OnErr result (TakesFront D.stands_for state.old state.new (signers_content self.now)) }
+        ensures err { OnErr result (TakesFront D.stands_for state.old state.new
+            (signers_content self.now)) }
     {
         ContentHash::hash(&self.author, alloc, state)?;
         ContentHash::hash(&self.committer, alloc, state)?;

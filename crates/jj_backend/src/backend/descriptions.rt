@@ -16,7 +16,8 @@ fn push_id<K: IdKind>(
     kind: &str,
     id: &Id<K>,
 ) -> Result<(), AllocError>
-    ensures { OnOk result (string_bytes text.new ≡ string_bytes text.old ++ with_id kind.now id.now) }
+    ensures { OnOk result (string_bytes text.new ≡ string_bytes text.old
+        ++ with_id kind.now id.now) }
 {
     let hex = id.hex(alloc)?;
     text.push_str(kind)?;
@@ -91,7 +92,8 @@ pub(super) fn push_lines<T: AsTreeValue>(
     labels: EverySecond<'_, String>,
 ) -> Result<(), AllocError>
     ensures { OnOk result (string_bytes text.new ≡ string_bytes text.old
-        ++ lines done.now (map (option_map T.value_of) terms.entry) (map string_bytes labels.entry)) }
+        ++ lines done.now (map (option_map T.value_of) terms.entry)
+        (map string_bytes labels.entry)) }
 {
     let mut labels = labels;
     for term in terms {

@@ -60,7 +60,8 @@ pub trait Backend {
     fn concurrency(&self) -> usize;
 
     fn read_file(&self, alloc: Global, path: RepoPath<'_>, id: &FileId) -> BackendResult<Vec<u8>>
-        ensures { IsRead (may_fail self.now) ((objects self.now).files id.now) (λ v. v.items) result };
+        ensures { IsRead (may_fail self.now) ((objects self.now).files id.now)
+            (λ v. v.items) result };
 
     fn write_file(
         &mut self,
@@ -68,7 +69,8 @@ pub trait Backend {
         path: RepoPath<'_>,
         contents: &[u8],
     ) -> BackendResult<FileId>
-        ensures ok { IfOk result (λ id. AddsFile (objects self.old) (objects self.new) id contents.now) }
+        ensures ok { IfOk result (λ id. AddsFile (objects self.old)
+            (objects self.new) id contents.now) }
         ensures kept { OnErr result (objects self.new ≡ objects self.old) };
 
     fn read_symlink(
@@ -77,7 +79,8 @@ pub trait Backend {
         path: RepoPath<'_>,
         id: &SymlinkId,
     ) -> BackendResult<String>
-        ensures { IsRead (may_fail self.now) ((objects self.now).symlinks id.now) string_bytes result };
+        ensures { IsRead (may_fail self.now)
+            ((objects self.now).symlinks id.now) string_bytes result };
 
     fn write_symlink(
         &mut self,
@@ -85,14 +88,16 @@ pub trait Backend {
         path: RepoPath<'_>,
         target: &str,
     ) -> BackendResult<SymlinkId>
-        ensures ok { IfOk result (λ id. AddsSymlink (objects self.old) (objects self.new) id target.now) }
+        ensures ok { IfOk result (λ id. AddsSymlink (objects self.old)
+            (objects self.new) id target.now) }
         ensures kept { OnErr result (objects self.new ≡ objects self.old) };
 
     fn read_copy(&self, alloc: Global, id: &CopyId) -> BackendResult<CopyHistory>
         ensures { IsRead (may_fail self.now) ((objects self.now).copies id.now) (λ c. c) result };
 
     fn write_copy(&mut self, alloc: Global, copy: &CopyHistory) -> BackendResult<CopyId>
-        ensures ok { IfOk result (λ id. AddsCopy (objects self.old) (objects self.new) id copy.now) }
+        ensures ok { IfOk result (λ id. AddsCopy (objects self.old)
+            (objects self.new) id copy.now) }
         ensures kept { OnErr result (objects self.new ≡ objects self.old) };
 
     /// The copies that a copy is related to.
@@ -111,7 +116,8 @@ pub trait Backend {
         path: RepoPath<'_>,
         contents: &Tree,
     ) -> BackendResult<TreeId>
-        ensures ok { IfOk result (λ id. AddsTree (objects self.old) (objects self.new) id contents.now) }
+        ensures ok { IfOk result (λ id. AddsTree (objects self.old)
+            (objects self.new) id contents.now) }
         ensures kept { OnErr result (objects self.new ≡ objects self.old) };
 
     fn read_commit(&self, alloc: Global, id: &CommitId) -> BackendResult<Commit>
@@ -125,8 +131,10 @@ pub trait Backend {
         contents: Commit,
         sign_with: Option<&mut S>,
     ) -> BackendResult<(CommitId, Commit)>
-        ensures ok { IfOk result (λ kept. AddsCommit (objects self.old) (objects self.new) kept.0 kept.1) }
-        ensures signed { IfOk result (λ kept. IsSigned S.may_sign (option_map (λ f. f.now) sign_with.entry) contents kept.1) }
+        ensures ok { IfOk result (λ kept. AddsCommit (objects self.old)
+            (objects self.new) kept.0 kept.1) }
+        ensures signed { IfOk result (λ kept.
+            IsSigned S.may_sign (option_map (λ f. f.now) sign_with.entry) contents kept.1) }
         ensures kept { OnErr result (objects self.new ≡ objects self.old) };
 
     /// The copies that were found between two commits, of these paths or of all.

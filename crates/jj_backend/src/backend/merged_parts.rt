@@ -1,4 +1,5 @@
-//! Equality, copies and content of merges of texts and of trees, as the records that hold them need.
+//! Equality, copies and content of merges of texts and of trees, as the records that hold them
+//! need.
 ghost use Rattle.std.specs.Prelude.{◌≡◌, map, string_bytes, IfOk, OnOk, OnErr};
 ghost use Rattle.std.specs.Cmp.Lexicographic.{pointwise};
 ghost use Rattle.std.specs.Str.{bytes_eq};

@@ -98,7 +98,8 @@ fn file_with_id(
     id: &FileId,
 ) -> Result<TreeValue, AllocError>
     requires { CanTakeId (option_copied value) (Some id.now) }
-    ensures { IfOk result (λ file. Some file ≡ with_file_id (option_copied value.entry) (Some id.now)) }
+    ensures { IfOk result (λ file. Some file
+        ≡ with_file_id (option_copied value.entry) (Some id.now)) }
 {
     match value {
         None => Ok(TreeValue::File {
@@ -155,11 +156,22 @@ fn with_ids<T: AsTreeValue>(
     Ok(Merge::from_vec(files))
 }
 
-/// What is asked of merges of what stands at a path. A `Result` is an error only for want of memory.
+/// What is asked of merges of what stands at a path. A `Result` is an error only for want of
+/// memory.
 pub trait MergedTreeValueExt {
     ghost use Rattle.std.specs.Prelude.{◌≡◌, List, IfOk, string_bytes};
     ghost use Rattle.std.specs.List.{AllZip};
-    ghost use Rattle.jj_backend.specs.MergedTreeValues.{Values, are_trees, are_file_like, file_id_of, executable_of, parts, CanTakeId, with_file_ids, description};
+    ghost use Rattle.jj_backend.specs.MergedTreeValues.{
+      Values,
+      are_trees,
+      are_file_like,
+      file_id_of,
+      executable_of,
+      parts,
+      CanTakeId,
+      with_file_ids,
+      description,
+    };
     ghost use Rattle.jj_backend.specs.TreeValues.{copy_id_of};
 
     /// The terms.
@@ -196,7 +208,8 @@ pub trait MergedTreeValueExt {
 
     /// The conflict in words: a line for each term that is there, the removed ones first.
     fn describe(&self, alloc: Global, labels: &ConflictLabels) -> Result<String, AllocError>
-        ensures { IfOk result (λ text. string_bytes text ≡ description (values self.now) labels.now) };
+        ensures { IfOk result (λ text. string_bytes text
+            ≡ description (values self.now) labels.now) };
 }
 
 impl<T: AsTreeValue> MergedTreeValueExt for Merge<Option<T>> {

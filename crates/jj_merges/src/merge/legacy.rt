@@ -13,8 +13,7 @@ use std::alloc::{AllocError, Global};
 
 impl<T: Drop> Merge<Option<T>> {
     /// The first of the adds, and then the removes and the other adds by turns. The shorter list is
-    /// filled up with
-    /// `None`.
+    /// filled up with `None`.
     pub fn from_legacy_form<R: IntoIterator<Item = T>, A: IntoIterator<Item = T>>(
         alloc: Global,
         removes: R,

@@ -73,7 +73,8 @@ impl OperationMetadata {
     fn hash_act<D: DigestUpdate>(&self, alloc: Global, state: &mut D) -> Result<(), AllocError>
         ensures ok { OnOk result (Takes D.stands_for state.old state.new (act_content self.now)) }
         ensures value { OnOk result (IsAct self.now) }
-        ensures err { OnErr result (TakesFront D.stands_for state.old state.new (act_content self.now)) }
+        ensures err { OnErr result (TakesFront D.stands_for state.old state.new
+            (act_content self.now)) }
     {
         ContentHash::hash(&self.time, alloc, state)?;
         ContentHash::hash(&self.description, alloc, state)
@@ -83,7 +84,8 @@ impl OperationMetadata {
     fn hash_actor<D: DigestUpdate>(&self, alloc: Global, state: &mut D) -> Result<(), AllocError>
         ensures ok { OnOk result (Takes D.stands_for state.old state.new (actor_content self.now)) }
         ensures value { OnOk result (IsActor self.now) }
-        ensures err { OnErr result (TakesFront D.stands_for state.old state.new (actor_content self.now)) }
+        ensures err { OnErr result (TakesFront D.stands_for state.old state.new
+            (actor_content self.now)) }
     {
         ContentHash::hash(&self.hostname, alloc, state)?;
         ContentHash::hash(&self.username, alloc, state)
@@ -91,9 +93,11 @@ impl OperationMetadata {
 
     #[tactic(auto, using(jj_content::proofs::Fronts::fronts))]
     fn hash_setting<D: DigestUpdate>(&self, alloc: Global, state: &mut D) -> Result<(), AllocError>
-        ensures ok { OnOk result (Takes D.stands_for state.old state.new (setting_content self.now)) }
+        ensures ok { OnOk result (Takes D.stands_for state.old state.new
+            (setting_content self.now)) }
         ensures value { OnOk result (IsSetting self.now) }
-        ensures err { OnErr result (TakesFront D.stands_for state.old state.new (setting_content self.now)) }
+        ensures err { OnErr result (TakesFront D.stands_for state.old state.new
+            (setting_content self.now)) }
     {
         ContentHash::hash(&self.is_snapshot, alloc, state)?;
         ContentHash::hash(&self.workspace_name, alloc, state)?;
@@ -217,7 +221,8 @@ impl Operation {
     fn hash_links<D: DigestUpdate>(&self, alloc: Global, state: &mut D) -> Result<(), AllocError>
         ensures ok { OnOk result (Takes D.stands_for state.old state.new (links_content self.now)) }
         ensures value { OnOk result (AreLinks self.now) }
-        ensures err { OnErr result (TakesFront D.stands_for state.old state.new (links_content self.now)) }
+        ensures err { OnErr result (TakesFront D.stands_for state.old state.new
+            (links_content self.now)) }
     {
         ContentHash::hash(&self.view_id, alloc, state)?;
         ContentHash::hash(&self.parents, alloc, state)
@@ -225,9 +230,11 @@ impl Operation {
 
     #[tactic(auto, using(jj_content::proofs::Fronts::fronts))]
     fn hash_account<D: DigestUpdate>(&self, alloc: Global, state: &mut D) -> Result<(), AllocError>
-        ensures ok { OnOk result (Takes D.stands_for state.old state.new (account_content self.now)) }
+        ensures ok { OnOk result (Takes D.stands_for state.old state.new
+            (account_content self.now)) }
         ensures value { OnOk result (IsAccount self.now) }
-        ensures err { OnErr result (TakesFront D.stands_for state.old state.new (account_content self.now)) }
+        ensures err { OnErr result (TakesFront D.stands_for state.old state.new
+            (account_content self.now)) }
     {
         ContentHash::hash(&self.metadata, alloc, state)?;
         ContentHash::hash(&self.commit_predecessors, alloc, state)

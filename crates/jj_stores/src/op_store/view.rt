@@ -118,7 +118,8 @@ impl View {
     fn hash_local<D: DigestUpdate>(&self, alloc: Global, state: &mut D) -> Result<(), AllocError>
         ensures ok { OnOk result (Takes D.stands_for state.old state.new (local_content self.now)) }
         ensures value { OnOk result (IsLocal self.now) }
-        ensures err { OnErr result (TakesFront D.stands_for state.old state.new (local_content self.now)) }
+        ensures err { OnErr result (TakesFront D.stands_for state.old state.new
+            (local_content self.now)) }
     {
         ContentHash::hash(&self.head_ids, alloc, state)?;
         ContentHash::hash(&self.local_bookmarks, alloc, state)?;
@@ -132,9 +133,11 @@ impl View {
         alloc: Global,
         state: &mut D,
     ) -> Result<(), AllocError>
-        ensures ok { OnOk result (Takes D.stands_for state.old state.new (elsewhere_content self.now)) }
+        ensures ok { OnOk result (Takes D.stands_for state.old state.new
+            (elsewhere_content self.now)) }
         ensures value { OnOk result (IsElsewhere self.now) }
-        ensures err { OnErr result (TakesFront D.stands_for state.old state.new (elsewhere_content self.now)) }
+        ensures err { OnErr result (TakesFront D.stands_for state.old state.new
+            (elsewhere_content self.now)) }
     {
         ContentHash::hash(&self.remote_views, alloc, state)?;
         ContentHash::hash(&self.git_refs, alloc, state)
@@ -146,9 +149,11 @@ impl View {
         alloc: Global,
         state: &mut D,
     ) -> Result<(), AllocError>
-        ensures ok { OnOk result (Takes D.stands_for state.old state.new (workspaces_content self.now)) }
+        ensures ok { OnOk result (Takes D.stands_for state.old state.new
+            (workspaces_content self.now)) }
         ensures value { OnOk result (AreWorkspaces self.now) }
-        ensures err { OnErr result (TakesFront D.stands_for state.old state.new (workspaces_content self.now)) }
+        ensures err { OnErr result (TakesFront D.stands_for state.old state.new
+            (workspaces_content self.now)) }
     {
         ContentHash::hash(&self.git_heads, alloc, state)?;
         ContentHash::hash(&self.wc_commit_ids, alloc, state)
