@@ -1,15 +1,20 @@
-//! Callers of merges of whole trees, proved from what these promise.
-ghost use Rattle.std.specs.Prelude.{◌↔◌, [], Contains, IfOk};
+//! Callers of the backend in memory and of merges of whole trees, proved from what these promise.
+ghost use Rattle.std.specs.Prelude.{◌≡◌, ◌↔◌, ◌⊎◌, [], true, length, Contains, IfOk, IfErr, string_bytes};
 ghost use Rattle.jj_merges.specs.declared.merge.SameChange.TheVariants.{Accept};
+ghost use Rattle.jj_backend.specs.Errors.{is_other};
 ghost use Rattle.jj_backend.specs.declared.backend.tree_value.TreeValue.{TreeValue};
 ghost use Rattle.jj_paths.specs.Paths.{Path};
-ghost use Rattle.jj_trees.specs.TreeMerges.{IsResolved, root_values};
+ghost use Rattle.jj_trees.specs.Kept.{objects_of};
+ghost use Rattle.jj_trees.specs.TreeMerges.{IsResolved, IsMerge, root_values, conflict_entries};
 
-use jj_backend::backend::{Backend, BackendResult, TreeId, TreeValue};
+use jj_backend::backend::{
+    Backend, BackendError, BackendResult, Commit, CopyHistory, SigningFn, Tree, TreeId, TreeValue,
+};
 use jj_merges::conflict_labels::ConflictLabels;
 use jj_merges::merge::{Merge, SameChange};
-use jj_paths::repo_path::RepoPathBuf;
-use jj_trees::tree_merge::merge_trees;
+use jj_paths::repo_path::{RepoPath, RepoPathBuf};
+use jj_trees::memory_backend::MemoryBackend;
+use jj_trees::tree_merge::{TreeMerge, merge_trees};
 use std::alloc::Global;
 
 /// What trees resolve to: each path that has one present outcome, with it, and no other.
@@ -26,4 +31,80 @@ pub fn resolved<B: Backend>(
     let labels = ConflictLabels::unlabeled(alloc);
     let merged = merge_trees(alloc, backend, trees, &labels, SameChange::Accept)?;
     Ok(merged.resolved)
+}
+
+/// A file that was written is read back.
+pub fn written_file(
+    alloc: Global,
+    backend: &mut MemoryBackend,
+    contents: &[u8],
+) -> BackendResult<Vec<u8>>
+    ensures read { IfOk result (λ read. read.items ≡ contents.now) }
+    ensures refused { IfErr result (λ e. (e ≡ BackendError.Memory) ⊎ (is_other e ≡ true)) }
+{
+    let id = backend.write_file(alloc, RepoPath::root(), contents)?;
+    backend.read_file(alloc, RepoPath::root(), &id)
+}
+
+/// The target of a link that was written is read back.
+pub fn written_symlink(
+    alloc: Global,
+    backend: &mut MemoryBackend,
+    target: &str,
+) -> BackendResult<String>
+    ensures { IfOk result (λ read. string_bytes read ≡ target.now) }
+{
+    let id = backend.write_symlink(alloc, RepoPath::root(), target)?;
+    backend.read_symlink(alloc, RepoPath::root(), &id)
+}
+
+/// A copy history that was written is read back.
+pub fn written_copy(
+    alloc: Global,
+    backend: &mut MemoryBackend,
+    copy: &CopyHistory,
+) -> BackendResult<CopyHistory>
+    ensures { IfOk result (λ read. read ≡ copy.now) }
+{
+    let id = backend.write_copy(alloc, copy)?;
+    backend.read_copy(alloc, &id)
+}
+
+/// A tree that was written is read back.
+pub fn written_tree(alloc: Global, backend: &mut MemoryBackend, tree: &Tree) -> BackendResult<Tree>
+    ensures { IfOk result (λ read. read ≡ tree.now) }
+{
+    let id = backend.write_tree(alloc, RepoPath::root(), tree)?;
+    backend.read_tree(alloc, RepoPath::root(), &id)
+}
+
+/// A commit that was written is read back as it was acknowledged.
+pub fn written_commit<S: SigningFn>(
+    alloc: Global,
+    backend: &mut MemoryBackend,
+    commit: Commit,
+    sign_with: Option<&mut S>,
+) -> BackendResult<(Commit, Commit)>
+    ensures { IfOk result (λ both. both.1 ≡ both.0) }
+{
+    let (id, kept) = backend.write_commit(alloc, commit, sign_with)?;
+    let read = backend.read_commit(alloc, &id)?;
+    Ok((kept, read))
+}
+
+/// The merge of the trees of a backend in memory is what the definition says of the trees that it
+/// keeps.
+pub fn merge_in_memory(
+    alloc: Global,
+    backend: &MemoryBackend,
+    trees: &Merge<TreeId>,
+    labels: &ConflictLabels,
+    same_change: SameChange,
+) -> BackendResult<TreeMerge>
+    requires { (labels.now ≡ []) ⊎ (length labels.now ≡ length trees.now) }
+    ensures { IfOk result (λ m. IsMerge (objects_of backend.now).trees
+        ⟦<Option<TreeValue> as PartialEq>⟧.eq same_change (root_values trees.now) labels.now
+        m.resolved.items (conflict_entries m.conflicts.items)) }
+{
+    merge_trees(alloc, backend, trees, labels, same_change)
 }
