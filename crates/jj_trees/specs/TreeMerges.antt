@@ -43,7 +43,8 @@ abbrev pub conflict_entries : List (Path × Values × List (List ℕ)) → List 
 conflict_entries = map (λ c. (c.0, record { terms = c.1; labels = c.2 }))
 
 -- the entries are in the order of their paths, and are exactly those for which this holds
-pub record IsListOf {E : Type 0} (Holds : Path → E → Type 0) (entries : List (Path × E)) : Type 0 where
+pub record IsListOf {E : Type 0} (Holds : Path → E → Type 0)
+    (entries : List (Path × E)) : Type 0 where
   pub in_order : AllPairs (λ a b. path_cmp a.0 b.0 ≡ Less) entries
   pub exactly : (path : Path) (e : E) → Contains entries (path, e) ↔ Holds path e
 
@@ -52,7 +53,8 @@ module _ (eq : Option TreeValue → Option TreeValue → Bool) (same_change : Sa
   abbrev pub IsUndecided : Values → Type 0
   IsUndecided values = (v : Option TreeValue) → IsDecided eq same_change values v → ⊥
 
-  -- the values are merged entry by entry: they are undecided, and those that are present are all trees
+  -- the values are merged entry by entry: they are undecided, and those that are present are all
+  -- trees
   abbrev pub IsEntered : Values → Type 0
   IsEntered values = IsUndecided values × All (λ v. is_tree_or_absent v ≡ true) values
 
@@ -64,7 +66,8 @@ module _ (eq : Option TreeValue → Option TreeValue → Bool) (same_change : Sa
 
   -- what comes of values at one path that are not entered: the decided value, or nothing where that
   -- is absent, or the conflict
-  abbrev pub IsHere : Values → List (List ℕ) → Path → (old_resolved new_resolved : List (Path × TreeValue))
+  abbrev pub IsHere : Values → List (List ℕ) → Path
+      → (old_resolved new_resolved : List (Path × TreeValue))
       → (old_conflicts new_conflicts : List (Path × Conflict)) → Type 0
   IsHere values labels path old_resolved new_resolved old_conflicts new_conflicts =
       (IsEntered values → ⊥)
@@ -76,10 +79,12 @@ module _ (eq : Option TreeValue → Option TreeValue → Bool) (same_change : Sa
       × (new_resolved ≡ old_resolved) × (new_conflicts ≡ old_conflicts ++ (path, conflict) ∷ [])))
 
 module _ (trees : ById (List (Name × TreeValue))) where
-  -- what stands at a name below a value: in a tree what the tree has there, below anything else nothing
+  -- what stands at a name below a value: in a tree what the tree has there, below anything else
+  -- nothing
   abbrev pub child : Name → Option TreeValue → Option TreeValue
   child name None = None
-  child name (Some (Tree id)) = option_and_then (λ entries. lookup (bytes_eq name) entries) (trees id)
+  child name (Some (Tree id)) = option_and_then (λ entries. lookup (bytes_eq name) entries)
+      (trees id)
   child name (Some (File id executable copy_id)) = None
   child name (Some (Symlink id)) = None
   child name (Some (GitSubmodule id)) = None
@@ -135,8 +140,10 @@ module _ (trees : ById (List (Name × TreeValue))) where
     IsConflict values labels path conflict =
         HasOutcome values path × IsConflictOf eq same_change (values_at values path) labels conflict
 
-    -- the values merge to these: what is resolved and the conflicts, each in the order of their paths
-    pub record IsMerge (values : Values) (labels : List (List ℕ)) (resolved : List (Path × TreeValue))
+    -- the values merge to these: what is resolved and the conflicts, each in the order of their
+    -- paths
+    pub record IsMerge (values : Values) (labels : List (List ℕ))
+        (resolved : List (Path × TreeValue))
         (conflicts : List (Path × Conflict)) : Type 0 where
       pub resolves : IsListOf (IsResolved values) resolved
       pub conflicted : IsListOf (IsConflict values labels) conflicts
@@ -156,8 +163,8 @@ module _ (trees : ById (List (Name × TreeValue))) where
       pub there : (path : Path) → IsOpen values path → All IsThere (values_at values path)
       pub not_deeper : (path : Path) → IsOpen values path → length path < levels
 
-    -- why there is no merge: for want of memory, by a failure of the backend, since a tree that is met
-    -- isn't there, or since one is too deep
+    -- why there is no merge: for want of memory, by a failure of the backend, since a tree that is
+    -- met isn't there, or since one is too deep
     abbrev pub IsRefused : (BackendError → Type 0) → Values → ℕ → BackendError → Type 0
     IsRefused may_fail values levels e =
         (e ≡ Memory) ⊎ may_fail e

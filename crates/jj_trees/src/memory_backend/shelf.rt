@@ -77,7 +77,8 @@ pub(super) fn object_of<K: IdKind, V: Clone>(
     id: &Id<K>,
 ) -> BackendResult<V>
     requires { (v w : V) → V.is_clone v w → w ≡ v }
-    ensures { IsRead (λ e. e ≡ BackendError.Memory) (by_id kept.now.entries id.now) (λ v. v) result }
+    ensures { IsRead (λ e. e ≡ BackendError.Memory) (by_id kept.now.entries id.now)
+        (λ v. v) result }
 {
     match kept.get(id) {
         Some(value) => Ok(value.clone()?),
