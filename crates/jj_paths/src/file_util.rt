@@ -64,6 +64,7 @@ pub struct Watched<T> {
 }
 
 impl<T> Watched<T> {
+    /// The reader or writer, of which nothing was asked yet.
     pub fn new(inner: T) -> Watched<T>
         ensures inner { watched result ≡ inner }
         ensures sound { watched_failed result ≡ false }

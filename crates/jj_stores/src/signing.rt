@@ -62,6 +62,7 @@ impl Verification {
         }
     }
 
+    /// The answer of this status, with the key and the name that are shown, if they are known.
     pub fn new(status: SigStatus, key: Option<String>, display: Option<String>) -> Self
         ensures { result ≡ record {
           status = status;
@@ -233,6 +234,7 @@ pub struct Signer {
 impl Signer {
     ghost use Rattle.jj_stores.specs.Signer.{cached, capacity_of};
 
+    /// A signer that remembers this many verified commits; `new` remembers 100.
     pub fn with_capacity(
         alloc: Global,
         main: Option<Box<dyn SigningBackend>>,
@@ -267,6 +269,7 @@ impl Signer {
         }
     }
 
+    /// Whether there is a main backend, which signs.
     pub fn can_sign(&self) -> bool
         ensures { result ≡ is_some self.now.main }
     {

@@ -26,6 +26,7 @@ pub enum GraphEdgeType {
 }
 
 impl<N> GraphEdge<N> {
+    /// An edge to a node that is not in the graph.
     pub fn missing(target: N) -> Self
         ensures target { result.target ≡ target }
         ensures edge_type { result.edge_type ≡ GraphEdgeType.Missing }
@@ -36,6 +37,7 @@ impl<N> GraphEdge<N> {
         }
     }
 
+    /// An edge to a parent that is in the graph.
     pub fn direct(target: N) -> Self
         ensures target { result.target ≡ target }
         ensures edge_type { result.edge_type ≡ GraphEdgeType.Direct }
@@ -46,6 +48,7 @@ impl<N> GraphEdge<N> {
         }
     }
 
+    /// An edge to an ancestor that is in the graph, over nodes that are not.
     pub fn indirect(target: N) -> Self
         ensures target { result.target ≡ target }
         ensures edge_type { result.edge_type ≡ GraphEdgeType.Indirect }
@@ -69,18 +72,21 @@ impl<N> GraphEdge<N> {
         }
     }
 
+    /// Whether the target is not in the graph.
     pub fn is_missing(&self) -> bool
         ensures { IsTrue result ↔ (self.now.edge_type ≡ GraphEdgeType.Missing) }
     {
         self.edge_type == GraphEdgeType::Missing
     }
 
+    /// Whether the target is a parent.
     pub fn is_direct(&self) -> bool
         ensures { IsTrue result ↔ (self.now.edge_type ≡ GraphEdgeType.Direct) }
     {
         self.edge_type == GraphEdgeType::Direct
     }
 
+    /// Whether the target is an ancestor over nodes that are not in the graph.
     pub fn is_indirect(&self) -> bool
         ensures { IsTrue result ↔ (self.now.edge_type ≡ GraphEdgeType.Indirect) }
     {

@@ -48,6 +48,7 @@ where
     S: Iterator<Item = Result<GraphNode<N, ID>, E>> + Drop,
     F: Fn(&N) -> &ID + Drop,
 {
+    /// A graph over this input, of which nothing was read or prioritised. `as_id` lends a node's id.
     pub fn new(alloc: Global, input: S, as_id: F) -> Self
         ensures input { result.input ≡ input }
         ensures as_id { result.as_id ≡ as_id }

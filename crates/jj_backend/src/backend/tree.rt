@@ -121,6 +121,7 @@ impl Tree {
         Tree { entries }
     }
 
+    /// Whether the tree has no entry.
     pub fn is_empty(&self) -> bool
         ensures { IsTrue result ↔ (self.now ≡ []) }
     {

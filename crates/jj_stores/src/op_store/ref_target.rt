@@ -39,18 +39,21 @@ impl RemoteRef {
         }
     }
 
+    /// Whether the remote has no such ref.
     pub fn is_absent(&self) -> bool
         ensures { IsTrue result ↔ (self.now.target ≡ absent_target) }
     {
         self.target.is_absent()
     }
 
+    /// Whether the remote has such a ref.
     pub fn is_present(&self) -> bool
         ensures { IsTrue result ↔ (self.now.target ≡ absent_target → ⊥) }
     {
         self.target.is_present()
     }
 
+    /// Whether the ref is merged into the local one.
     pub fn is_tracked(&self) -> bool
         ensures { IsTrue result ↔ (self.now.state ≡ RemoteRefState.Tracked) }
     {
