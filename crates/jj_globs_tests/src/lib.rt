@@ -6,3 +6,5 @@
 
 #[cfg(test)]
 mod globs;
+#[cfg(test)]
+mod random_globs;
