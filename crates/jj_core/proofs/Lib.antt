@@ -8,7 +8,11 @@ pub mod Inputs
 pub mod SamePaths
 pub mod OneTree
 pub mod Numbers
+pub mod AskedIds
 pub mod ListedGraphs
+pub mod ListedNeighbors
+pub mod Numberings
+pub mod NumberedWalks
 pub mod OneGraph
 pub mod HexBytes
 pub mod HashContent

@@ -12,41 +12,29 @@ use Rattle.std.specs.Option.{option_map}
 use Rattle.std.specs.List.{Contains}
 use Rattle.std.specs.List.Sorted.{IsPermutation, IsSorted, IsStrictlyIncreasing}
 use Rattle.std.specs.Ordering.{nat_cmp}
-use Rattle.std.specs.HashMap.{HashMap, get, keys}
+use Rattle.std.specs.BTreeMap.{BTreeMap, is_at}
 use Rattle.std.specs.Global.{Global}
 use Rattle.std.specs.Map.{lookup}
 use Rattle.std.proofs.lemmas.List.{get_or-map, length-map, map-id}
 use Rattle.std.specs.declared.vec.Vec.{Vec}
 use Rattle.std.proofs.lemmas.Bool.Decides.{Decides-eqb}
-use Rattle.std.proofs.lemmas.Cmp.{nat_eq_equiv}
 use Rattle.std.proofs.lemmas.List.Sorted.{Contains-permutation, IsPermutation-sym, IsNonDecreasingBy-from_sort}
 use Rattle.std.proofs.lemmas.Map.Keys.{IsDistinct-IsPermutation, IsStrictlyIncreasing-from_distinct}
-use Rattle.std.proofs.lemmas.Map.Views.{hash_map_contains_key_iff}
 use Rattle.jj_walks.specs.CommonNodes.{AreClosestCommon}
 use Rattle.jj_walks.specs.Graph.{Graph, StrictlyReaches, HasNoCycle, IsMaximalIn}
 use Rattle.jj_walks.specs.Failing.{Fault, AreItems, AnswersItems, BeginsWith, ListsItems, sound_items}
 use Rattle.jj_walks.proofs.FailingWalks.{begun_are}
-use Rattle.jj_core.specs.declared.listed_graph.SoundIds.{SoundIds}
+use Rattle.jj_core.specs.declared.graph_walks.SoundIds.{SoundIds}
 use Rattle.jj_core.specs.SoundIds.{sound_left}
 use Rattle.jj_walks.specs.Walk.{DrainsTo}
-use Rattle.jj_walks.proofs.Walking.{drained_are, eqb-flip}
-use Rattle.jj_core.specs.Neighbors.{listed_in}
-use Rattle.jj_core.specs.GraphCommand.{graph_of, HasCycle}
+use Rattle.jj_walks.proofs.Walking.{drained_are, eqb-flip, Contains-from_has}
+use Rattle.jj_core.specs.Neighbors.{listed_in, HoldsNeighbors}
+use Rattle.jj_core.specs.GraphCommand.{HasCycle}
 
--- a node with a neighbour has an entry
-node_listed : {S : Type 0} (m : HashMap ℕ (Vec ℕ Global) S) (id neighbor : ℕ) (o : Option (Vec ℕ Global)) → get eqb m id ≡ o
-    → Contains (unwrap_or (option_map (λ v. v.items) o) []) neighbor → IsSome (get eqb m id)
-node_listed m id neighbor None is (k, within, e) = absurd (omega arith)
-node_listed m id neighbor (Some v) is h = rw is refl
-
--- so a node on a cycle is one of the keys
-pub cycle_listed : {S : Type 0} (m : HashMap ℕ (Vec ℕ Global) S) (id : ℕ) → StrictlyReaches (graph_of (listed_in m)) id id → Contains (keys m) id
-cycle_listed m id (steps, way) =
-    (hash_map_contains_key_iff nat_eq_equiv (λ x y. (Decides-eqb x y).0) m id).0 (node_listed m id way.0 (get eqb m id) refl way.1)
-
--- where the keys reach no cycle, there is none
-pub none_listed : {S : Type 0} (m : HashMap ℕ (Vec ℕ Global) S) → HasNoCycle (graph_of (listed_in m)) (keys m) → HasCycle (graph_of (listed_in m)) → ⊥
-none_listed m none (id, cycle) = none id (id, cycle_listed m id cycle, (0, refl)) cycle
+-- where none of the ids reaches a cycle, there is none
+pub none_listed : (graph : Graph) (ids : List ℕ) → HoldsNeighbors graph ids → HasNoCycle graph ids → HasCycle graph → ⊥
+none_listed graph ids held none (id, (steps, (next, edge, way))) =
+    none id (next, Contains-from_has ids next (held id next edge), (steps, way)) (steps, (next, edge, way))
 
 -- where there is no cycle, no nodes reach one
 pub none_reached : (graph : Graph) (starts : List ℕ) → (HasCycle graph → ⊥) → HasNoCycle graph starts
@@ -119,8 +107,8 @@ given_ids value xs d = same xs value.ids.now (drained_are (λ s t. t ≡ s) (Yie
         ap (λ n. n ∷ map (λ x. x) ys) first ∙ ap (λ l. id ∷ l) (same ys ids rest)
 
 -- an empty map lists nothing
-pub listed_in-empty : {S : Type 0} (m : HashMap ℕ (Vec ℕ Global) S) → m.entries ≡ [] → listed_in m ≡ (λ id. None)
-listed_in-empty m empty = λ i id. option_map (λ v. v.items) (lookup (eqb id) (empty i))
+pub listed_in-empty : (m : BTreeMap ℕ (Vec ℕ Global)) → m.entries ≡ [] → listed_in m ≡ (λ id. None)
+listed_in-empty m empty = λ i id. option_map (λ v. v.items) (lookup (is_at (nat_cmp id)) (empty i))
 
 -- the maximal nodes in another order
 pub maximal_permuted : (graph : Graph) (ids found sorted : List ℕ) → IsPermutation found sorted → IsMaximalIn graph ids found → IsMaximalIn graph ids sorted

@@ -21,6 +21,12 @@ pub data GraphRequest : Type 0 where
   Heads : List ℕ → GraphRequest
   Common : List ℕ → List ℕ → GraphRequest
 
+-- the ids that a request names
+abbrev pub ids_of : GraphRequest → List ℕ
+ids_of (Order ids) = ids
+ids_of (Heads ids) = ids
+ids_of (Common set1 set2) = set1 ++ set2
+
 -- the neighbours of each node that has a line so far, and what the lines ask
 pub record GraphState : Type 0 where
   pub listed : ℕ → Option (List ℕ)

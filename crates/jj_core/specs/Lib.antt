@@ -19,6 +19,8 @@ pub mod MergeRead
 pub mod Numbers
 pub mod GraphCommand
 pub mod Neighbors
+pub mod Numbering
+pub mod ListedGraphs
 pub mod GraphRead
 pub mod HashCommand
 pub mod Program

@@ -1,10 +1,19 @@
--- A map from ids to the lists of their neighbours, seen as a function.
-use Rattle.std.specs.Prelude.{ℕ, List, eqb, Option}
+-- A map from ids to the lists of their neighbours, seen as a function, and the ids that a graph
+-- names.
+use Rattle.std.specs.Prelude.{◌≡◌, ◌==◌, true, ℕ, List, Option}
 use Rattle.std.specs.Option.{option_map}
-use Rattle.std.specs.HashMap.{HashMap, get}
+use Rattle.std.specs.Ordering.{nat_cmp}
+use Rattle.std.specs.BTreeMap.{BTreeMap, get}
 use Rattle.std.specs.Global.{Global}
+use Rattle.std.specs.List.{Contains, list_any}
 use Rattle.std.specs.declared.vec.Vec.{Vec}
+use Rattle.jj_walks.specs.Graph.{Graph}
 
 -- the neighbours of an id, if the map has them
-abbrev pub listed_in : {S : Type 0} → HashMap ℕ (Vec ℕ Global) S → ℕ → Option (List ℕ)
-listed_in map id = option_map (λ neighbors. neighbors.items) (get eqb map id)
+abbrev pub listed_in : BTreeMap ℕ (Vec ℕ Global) → ℕ → Option (List ℕ)
+listed_in map id = option_map (λ neighbors. neighbors.items) (get nat_cmp map id)
+
+-- each neighbour of a node is one of these ids
+abbrev pub HoldsNeighbors : Graph → List ℕ → Type 0
+HoldsNeighbors graph ids = (a b : ℕ) → Contains (graph a) b
+    → list_any (λ id. b == id) ids ≡ true

@@ -1,19 +1,20 @@
 //! The command `graph`: lines list the neighbours of nodes, or ask for the order, the heads or the
 //! closest common nodes of some.
-ghost use Rattle.std.specs.Prelude.{◌≡◌, ◌==◌, ◌<◌, ◌++◌, ℕ, List, length, map, true, false, Ok, MatchOption, MatchResult, IfOk, IfErr, OnOk, string_bytes};
-ghost use Rattle.std.specs.List.{after_first, before_first, count_by, position_or_len};
+ghost use Rattle.std.specs.Prelude.{◌≡◌, ◌==◌, ◌<◌, ◌++◌, ℕ, All, List, length, map, true, false, Ok, MatchOption, MatchResult, IfOk, IfErr, OnOk, string_bytes};
+ghost use Rattle.std.specs.List.{Contains, after_first, before_first, count_by, position_or_len};
 ghost use Rattle.std.specs.Str.Parse.{digits_value};
 ghost use Rattle.jj_core.specs.Lines.{at_line, IsFaultOf};
-ghost use Rattle.jj_core.specs.Neighbors.{listed_in};
-ghost use Rattle.jj_core.specs.GraphCommand.{GraphState, Order, Heads, HasCycle, AnswersRequest, GivesGraph, graph_of, graph_state, graph_step, common_step, is_dash, node_step, number_at, numbers_of, numbers_line, with_request};
+ghost use Rattle.jj_core.specs.ListedGraphs.{named_by, shown_by};
+ghost use Rattle.jj_core.specs.GraphCommand.{GraphState, Order, Heads, HasCycle, AnswersRequest, GivesGraph, graph_state, ids_of, graph_step, common_step, is_dash, node_step, number_at, numbers_of, numbers_line, with_request};
 ghost use Rattle.jj_core.specs.GraphRead.{graph_request_of, graph_state_of};
 
 use crate::fault::{Fault, LineFault};
-use crate::listed_graph::{ascending_common, ascending_heads, greatest_order, has_cycle};
+use crate::graph_walks::{ascending_common, ascending_heads, greatest_order, has_cycle};
+use crate::listed_graph::ListedGraph;
 use crate::number::parse_number;
 use crate::reading::{Reading, take_lines};
 use std::alloc::{AllocError, Global};
-use std::collections::HashMap;
+use std::collections::BTreeMap;
 
 /// What a line asks.
 #[derive(Drop)]
@@ -26,7 +27,7 @@ pub(crate) enum GraphRequest {
 /// The neighbours of each node that has a line so far, and what the lines ask.
 #[derive(Drop)]
 pub(crate) struct GraphReading {
-    neighbors: HashMap<u64, Vec<u64>>,
+    neighbors: BTreeMap<u64, Vec<u64>>,
     requests: Vec<GraphRequest>,
 }
 
@@ -238,7 +239,7 @@ pub(crate) fn graph_output(alloc: Global, text: &str) -> Result<Vec<u8>, Fault>
     ensures fault { IfErr result (λ fault. IsFaultOf fault (graph_state text.now)) }
 {
     let mut reading = GraphReading {
-        neighbors: HashMap::new(alloc),
+        neighbors: BTreeMap::new(alloc),
         requests: Vec::new(alloc),
     };
     if let Err(fault) = take_lines(alloc, &mut reading, text) {
@@ -248,41 +249,70 @@ pub(crate) fn graph_output(alloc: Global, text: &str) -> Result<Vec<u8>, Fault>
         neighbors,
         requests,
     } = reading;
-    let cyclic = has_cycle(alloc, &neighbors)?;
+    let graph = ListedGraph::new(neighbors, asked_ids(alloc, &requests)?)?;
+    let cyclic = has_cycle(alloc, &graph)?;
     let mut output = String::new(alloc);
     for request in &requests {
         if cyclic {
             output.push_str("cycle\n")?;
         } else {
-            push_answer(alloc, &mut output, &neighbors, request)?;
+            push_answer(alloc, &mut output, &graph, request)?;
         }
     }
     Ok(output.into_bytes())
+}
+
+/// The ids that requests name.
+fn asked_ids(alloc: Global, requests: &[GraphRequest]) -> Result<Vec<u64>, AllocError>
+    ensures { IfOk result (λ ids. All
+        (λ request. All (Contains ids.items) (ids_of (graph_request_of request))) requests.now) }
+{
+    let mut ids = Vec::new(alloc);
+    for request in requests {
+        push_asked(&mut ids, request)?;
+    }
+    Ok(ids)
+}
+
+/// Adds the ids that a request names.
+fn push_asked(ids: &mut Vec<u64>, request: &GraphRequest) -> Result<(), AllocError>
+    ensures { OnOk result (ids.new.items
+        ≡ ids.old.items ++ ids_of (graph_request_of request.now)) }
+{
+    match request {
+        GraphRequest::Order(asked) => ids.extend_from_slice(asked.as_slice()),
+        GraphRequest::Heads(asked) => ids.extend_from_slice(asked.as_slice()),
+        GraphRequest::Common(set1, set2) => {
+            ids.extend_from_slice(set1.as_slice())?;
+            ids.extend_from_slice(set2.as_slice())
+        }
+    }
 }
 
 /// Adds the answer to a request to the output, where the graph has no cycle.
 fn push_answer(
     alloc: Global,
     output: &mut String,
-    neighbors: &HashMap<u64, Vec<u64>>,
+    graph: &ListedGraph,
     request: &GraphRequest,
 ) -> Result<(), AllocError>
-    requires { ¬ (HasCycle (graph_of (listed_in neighbors.now))) }
+    requires acyclic { ¬ (HasCycle (shown_by graph.now)) }
+    requires named { All (Contains (named_by graph.now)) (ids_of (graph_request_of request.now)) }
     ensures { OnOk result ((answer : List ℕ)
-        × AnswersRequest (graph_of (listed_in neighbors.now)) (graph_request_of request.now) answer
+        × AnswersRequest (shown_by graph.now) (graph_request_of request.now) answer
         × (string_bytes output.new ≡ string_bytes output.old ++ answer)) }
 {
     match request {
         GraphRequest::Order(ids) => {
-            let order = greatest_order(alloc, neighbors, ids)?;
+            let order = greatest_order(alloc, graph, ids)?;
             push_numbers(output, "order", &order)
         }
         GraphRequest::Heads(ids) => {
-            let heads = ascending_heads(alloc, neighbors, ids)?;
+            let heads = ascending_heads(alloc, graph, ids)?;
             push_numbers(output, "heads", &heads)
         }
         GraphRequest::Common(set1, set2) => {
-            let common = ascending_common(alloc, neighbors, set1, set2)?;
+            let common = ascending_common(alloc, graph, set1, set2)?;
             push_numbers(output, "common", &common)
         }
     }

@@ -5,6 +5,7 @@
 mod fault;
 mod file_set;
 mod graph_command;
+mod graph_walks;
 mod hash_command;
 pub mod laws;
 mod leaf_matcher;
@@ -13,6 +14,7 @@ mod marks;
 mod matching;
 mod merge_command;
 mod number;
+mod numbering;
 pub mod program;
 mod reading;
 mod report;

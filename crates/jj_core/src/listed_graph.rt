@@ -1,171 +1,66 @@
-//! Graphs whose edges a map lists, by the walks over them.
-ghost use Rattle.std.specs.Prelude.{◌≡◌, IfOk, IsOkAnd, MatchBool};
-ghost use Rattle.std.specs.Iterator.{YieldsFirst, item_count};
-ghost use Rattle.std.specs.Iterator.Adapters.{copied_source};
-ghost use Rattle.std.specs.List.Sorted.{IsStrictlyIncreasing};
-ghost use Rattle.std.specs.Slice.Iter.{iter_rest};
-ghost use Rattle.jj_walks.specs.CommonNodes.{AreClosestCommon};
-ghost use Rattle.jj_walks.specs.Graph.{IsGreatestChildFirst, IsMaximalIn};
-ghost use Rattle.jj_core.specs.Neighbors.{listed_in};
-ghost use Rattle.jj_core.specs.GraphCommand.{graph_of, HasCycle};
+//! Graphs whose edges a map lists, and numbers for their nodes. A walk keeps the numbers in hashed
+//! maps, so no input chooses what is hashed.
+ghost use Rattle.std.specs.Prelude.{◌≡◌, All, IfOk};
+ghost use Rattle.std.specs.List.{Contains};
+ghost use Rattle.jj_core.specs.Neighbors.{listed_in, HoldsNeighbors};
+ghost use Rattle.jj_core.specs.GraphCommand.{graph_of};
 
-use jj_walks::dag_walk::{WalkError, heads, topo_order_forward};
-use jj_walks::dag_walk_async::{closest_common_nodes, topo_order_reverse_ord};
-use std::alloc::{AllocError, Global};
-use std::collections::HashMap;
-use std::iter::Copied;
-use std::slice;
+use crate::numbering::Numbering;
+use std::alloc::AllocError;
+use std::collections::BTreeMap;
 
-/// The neighbours that the map lists, none where it has no entry.
-fn neighbors_of(listed: &HashMap<u64, Vec<u64>>, id: u64) -> &[u64]
-    ensures { result.now ≡ graph_of (listed_in listed.now) id }
-{
-    match listed.get(&id) {
-        Some(neighbors) => neighbors.as_slice(),
-        None => &[],
-    }
-}
-
-/// The same, as a list that may fail in the eyes of a walk. It never does.
-fn sound_neighbors_of(
-    listed: &HashMap<u64, Vec<u64>>,
-    id: u64,
-) -> Result<Copied<slice::Iter<'_, u64>>, u64>
-    ensures { IsOkAnd result (λ list. iter_rest (copied_source list)
-        ≡ graph_of (listed_in listed.now) id) }
-{
-    Ok(neighbors_of(listed, id).iter().copied())
-}
-
-/// Ids as items that may fail in the eyes of a walk. None does.
+/// A graph by the neighbours of its nodes, and the numbers by which walks know them. Each id that
+/// a list names is numbered.
 #[derive(Drop)]
-struct SoundIds<'a> {
-    ids: &'a [u64],
+pub(crate) struct ListedGraph {
+    neighbors: BTreeMap<u64, Vec<u64>>,
+    numbering: Numbering,
+    ghost named: { HoldsNeighbors (graph_of (listed_in neighbors)) numbering.ids.items },
 }
 
-impl<'a> Iterator for SoundIds<'a> {
-    type Item = Result<u64, u64>;
+impl ListedGraph {
+    ghost use Rattle.jj_core.specs.ListedGraphs.{named_by, shown_by};
+    ghost use Rattle.jj_core.specs.Numbering.{IsNumberOf};
 
-    ghost use Rattle.jj_core.specs.SoundIds.{sound_left};
-
-    ghost next_gives = { YieldsFirst sound_left };
-
-    ghost remaining = { item_count sound_left };
-
-    fn next(&mut self) -> Option<Result<u64, u64>> {
-        let (id, others) = self.ids.split_first()?;
-        self.ids = others;
-        Some(Ok(*id))
-    }
-}
-
-/// The neighbours that the map lists, as such items.
-fn sound_items_of(listed: &HashMap<u64, Vec<u64>>, id: u64) -> SoundIds<'_>
-    ensures { result.ids.now ≡ graph_of (listed_in listed.now) id }
-{
-    SoundIds {
-        ids: neighbors_of(listed, id),
-    }
-}
-
-/// Whether the graph has a cycle anywhere.
-pub(crate) fn has_cycle(alloc: Global, listed: &HashMap<u64, Vec<u64>>) -> Result<bool, AllocError>
-    ensures { IfOk result (λ cyclic. MatchBool cyclic (HasCycle (graph_of (listed_in listed.now)))
-        (¬ (HasCycle (graph_of (listed_in listed.now))))) }
-{
-    let order = topo_order_forward(
-        alloc,
-        listed.keys().copied(),
-        |id: &u64| *id,
-        |id: &u64| neighbors_of(listed, *id).iter().copied(),
-        |id: u64| id,
-    );
-    match order {
-        Ok(_order) => Ok(false),
-        Err(error) => match error {
-            WalkError::Node(_) => Ok(true),
-            WalkError::Memory => Err(AllocError),
-        },
-    }
-}
-
-/// The greatest child-first order of what these ids reach.
-pub(crate) fn greatest_order(
-    alloc: Global,
-    listed: &HashMap<u64, Vec<u64>>,
-    ids: &[u64],
-) -> Result<Vec<u64>, AllocError>
-    requires { ¬ (HasCycle (graph_of (listed_in listed.now))) }
-    ensures { IfOk result (λ order. IsGreatestChildFirst
-        (graph_of (listed_in listed.now)) ids.now order.items) }
-{
-    let order = topo_order_reverse_ord(
-        alloc,
-        SoundIds { ids },
-        |id: &u64| *id,
-        |id: &u64| sound_items_of(listed, *id),
-        |id: u64| id,
-    );
-    match order {
-        Ok(order) => Ok(order),
-        Err(error) => match error {
-            WalkError::Memory => Err(AllocError),
-            // Only a cycle would be refused.
-            WalkError::Node(_) => unreachable!(),
-        },
-    }
-}
-
-/// The ids that no other of them reaches, in ascending order.
-pub(crate) fn ascending_heads(
-    alloc: Global,
-    listed: &HashMap<u64, Vec<u64>>,
-    ids: &[u64],
-) -> Result<Vec<u64>, AllocError>
-    requires { ¬ (HasCycle (graph_of (listed_in listed.now))) }
-    ensures maximal { IfOk result (λ heads.
-        IsMaximalIn (graph_of (listed_in listed.now)) ids.now heads.items) }
-    ensures ascending { IfOk result (λ heads. IsStrictlyIncreasing heads.items) }
-{
-    let found = heads(
-        alloc,
-        ids.iter().copied(),
-        |id: &u64| *id,
-        |id: &u64| neighbors_of(listed, *id).iter().copied(),
-    )?;
-    let mut ascending: Vec<u64> = found.iter().copied().collect(alloc)?;
-    ascending.sort_unstable();
-    Ok(ascending)
-}
-
-/// The closest common nodes of two sets of ids, in ascending order.
-pub(crate) fn ascending_common(
-    alloc: Global,
-    listed: &HashMap<u64, Vec<u64>>,
-    set1: &[u64],
-    set2: &[u64],
-) -> Result<Vec<u64>, AllocError>
-    requires { ¬ (HasCycle (graph_of (listed_in listed.now))) }
-    ensures closest { IfOk result (λ common.
-        AreClosestCommon (graph_of (listed_in listed.now)) set1.now set2.now common.items) }
-    ensures ascending { IfOk result (λ common. IsStrictlyIncreasing common.items) }
-{
-    let found = closest_common_nodes(
-        alloc,
-        set1.iter().copied(),
-        set2.iter().copied(),
-        |id: &u64| *id,
-        |id: &u64| sound_neighbors_of(listed, *id),
-    );
-    match found {
-        Ok(mut common) => {
-            common.sort_unstable();
-            Ok(common)
+    /// The graph of these lists, which numbers the ids asked for too.
+    pub(crate) fn new(
+        neighbors: BTreeMap<u64, Vec<u64>>,
+        asked: Vec<u64>,
+    ) -> Result<ListedGraph, AllocError>
+        ensures graph { IfOk result (λ graph. shown_by graph ≡ graph_of (listed_in neighbors)) }
+        ensures asked { IfOk result (λ graph. All (Contains (named_by graph)) asked.items) }
+    {
+        let mut ids = asked;
+        for list in neighbors.values() {
+            ids.extend_from_slice(list.as_slice())?;
         }
-        Err(error) => match error {
-            WalkError::Memory => Err(AllocError),
-            // No list of neighbours fails.
-            WalkError::Node(_) => unreachable!(),
-        },
+        Ok(ListedGraph {
+            neighbors,
+            numbering: Numbering::new(ids),
+        })
+    }
+
+    /// The ids that are numbered: each that a list names, and those asked for.
+    pub(crate) fn ids(&self) -> &[u64]
+        ensures { result.now ≡ named_by self.now }
+    {
+        self.numbering.ids()
+    }
+
+    /// The number of an id, which no other of the graph has.
+    pub(crate) fn number(&self, id: u64) -> usize
+        ensures { Contains (named_by self.now) id → IsNumberOf (named_by self.now) id result }
+    {
+        self.numbering.number(id)
+    }
+
+    /// The neighbours of a node, none where it has no list.
+    pub(crate) fn neighbors_of(&self, id: u64) -> &[u64]
+        ensures { result.now ≡ shown_by self.now id }
+    {
+        match self.neighbors.get(&id) {
+            Some(neighbors) => neighbors.as_slice(),
+            None => &[],
+        }
     }
 }

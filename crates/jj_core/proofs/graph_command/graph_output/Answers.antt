@@ -1,10 +1,12 @@
 use Rattle.std.proofs.Common.{◌≡◌, ◌∙◌, ◌++◌, ◌<◌, ℕ, List, [], map, take, length, ap, subst, sym, refl, arith, inl, inr}
-use Rattle.std.specs.Prelude.{codes, string_bytes}
+use Rattle.std.specs.Prelude.{All, codes, string_bytes}
+use Rattle.std.specs.List.{Contains}
+use Rattle.std.proofs.lemmas.List.Elements.{All-contains, All-weaker}
 use Rattle.std.proofs.lemmas.List.{take_all}
 use Rattle.jj_core.specs.Lines.{after_lines, line_text, lines_of}
 use Rattle.jj_core.specs.Requests.{AnswersEach}
-use Rattle.jj_core.specs.Neighbors.{listed_in}
-use Rattle.jj_core.specs.GraphCommand.{GraphState, IsGraphAnswer, graph_of, graph_start, graph_step}
+use Rattle.jj_core.specs.ListedGraphs.{named_by, shown_by}
+use Rattle.jj_core.specs.GraphCommand.{GraphState, IsGraphAnswer, graph_of, graph_start, graph_step, ids_of}
 use Rattle.jj_core.specs.GraphRead.{graph_request_of, graph_state_of}
 use Rattle.jj_core.proofs.ListedGraphs.{listed_in-empty}
 use Rattle.jj_core.proofs.Requests.{AnswersEach-more}
@@ -13,7 +15,7 @@ use Rattle.jj_core.proofs.graph_command.graph_output.Goals.{then-cyclic+in_ok-pu
 
 pub loop-request-preserved : goal.loop-request-preserved
 loop-request-preserved c =
-    let graph = graph_of (listed_in c.take_lines.new.reading.neighbors) in
+    let graph = shown_by c.in_ok-graph.graph in
     let items = c.deref-request-items.result.now in
     let i = c.loop-request.request-index in
     let within : i < length items = omega arith in
@@ -28,6 +30,18 @@ loop-request-preserved c =
           more (string_bytes c.if-cyclic.output) answer (inr ((rw w.if-cyclic.false at c.in_ok-cyclic.ensures), is)) (ap string_bytes w.output-is ∙ written)
     ]
 
+pub push_answer-requires-clause-named : goal.push_answer-requires-clause-named
+push_answer-requires-clause-named c =
+    let asked = c.in_ok-asked_ids.field-0.items in
+    let ids = named_by c.in_ok-graph.graph in
+    let request = c.request-item.result in
+    let requests = c.deref-request-items.result.now in
+    let same : c.deref.result.now ≡ requests = c.deref.ensures.value ∙ sym c.deref-request-items.ensures.value in
+    let here : Contains requests request = (c.loop-request.request-index, omega arith, sym c.request-item.is) in
+    let held : All (Contains asked) (ids_of (graph_request_of request)) =
+    All-contains (λ other. All (Contains asked) (ids_of (graph_request_of other))) requests request (subst (All (λ other. All (Contains asked) (ids_of (graph_request_of other)))) same c.in_ok-asked_ids.ensures) here in
+    All-weaker (Contains asked) (Contains ids) (λ id among. All-contains (Contains ids) asked id c.in_ok-graph.ensures.asked among) (ids_of (graph_request_of request)) held
+
 pub returns-clause-done : goal.returns-clause-done
 returns-clause-done c =
     let reading = c.take_lines.new.reading in
@@ -37,6 +51,9 @@ returns-clause-done c =
     let read = ap (λ s. after_lines graph_step 1 s (lines_of c.args.text.now)) (sym start) ∙ c.in_default.ensures in
     let items = c.deref-request-items.result.now in
     let whole : take c.loop-request.request-index items ≡ reading.requests.items = take_all c.loop-request.request-index items (omega arith) ∙ c.deref-request-items.ensures.value in
+    let shown : shown_by c.in_ok-graph.graph ≡ graph_of state.listed = c.in_ok-graph.ensures.graph in
+    let so_far : AnswersEach (IsGraphAnswer (shown_by c.in_ok-graph.graph)) (map graph_request_of (take c.loop-request.request-index items)) (string_bytes c.loop-request.output) = c.loop-request.invariant in
     let answered : AnswersEach (IsGraphAnswer (graph_of state.listed)) state.requests (string_bytes c.loop-request.output) =
-    subst (λ requests. AnswersEach (IsGraphAnswer (graph_of state.listed)) (map graph_request_of requests) (string_bytes c.loop-request.output)) whole c.loop-request.invariant in
+    subst (λ requests. AnswersEach (IsGraphAnswer (graph_of state.listed)) (map graph_request_of requests) (string_bytes c.loop-request.output)) whole
+    (subst (λ graph. AnswersEach (IsGraphAnswer graph) (map graph_request_of (take c.loop-request.request-index items)) (string_bytes c.loop-request.output)) shown so_far) in
     (state, read, subst (AnswersEach (IsGraphAnswer (graph_of state.listed)) state.requests) (sym (ap (λ v. v.items) c.into_bytes.ensures.value)) answered)

@@ -1,17 +1,41 @@
 use Rattle.std.proofs.Common.{◌≡◌, ◌∙◌, ◌++◌, ℕ, List, ap, refl, sym, subst}
-use Rattle.std.specs.Prelude.{codes, string_bytes}
+use Rattle.std.specs.Prelude.{All, codes, string_bytes}
+use Rattle.std.specs.List.{Contains}
 use Rattle.std.specs.List.Sorted.{IsStrictlyIncreasing}
 use Rattle.std.proofs.lemmas.Result.{IfOk-weaker}
 use Rattle.jj_walks.specs.CommonNodes.{AreClosestCommon}
 use Rattle.jj_walks.specs.Graph.{IsGreatestChildFirst, IsMaximalIn}
-use Rattle.jj_core.specs.Neighbors.{listed_in}
-use Rattle.jj_core.specs.GraphCommand.{AnswersRequest, graph_of, numbers_line}
+use Rattle.jj_core.specs.ListedGraphs.{named_by, shown_by}
+use Rattle.jj_core.specs.GraphCommand.{AnswersRequest, ids_of, numbers_line}
 use Rattle.jj_core.specs.GraphRead.{graph_request_of}
+use Rattle.jj_core.proofs.AskedIds.{back_held, front_held}
 use Rattle.jj_core.proofs.graph_command.push_answer.Goals as goal
+
+pub greatest_order-requires-clause-named : goal.greatest_order-requires-clause-named
+greatest_order-requires-clause-named c =
+    let named : ids_of (graph_request_of c.args.request.now) ≡ c.deref.result.now = ap (λ request. ids_of (graph_request_of request)) c.in-Order.is ∙ sym c.deref.ensures.value in
+    subst (All (Contains (named_by c.args.graph.now))) named c.requires.named
+
+pub ascending_heads-requires-clause-named : goal.ascending_heads-requires-clause-named
+ascending_heads-requires-clause-named c =
+    let named : ids_of (graph_request_of c.args.request.now) ≡ c.deref-in-Heads.result.now = ap (λ request. ids_of (graph_request_of request)) c.in-Heads.is ∙ sym c.deref-in-Heads.ensures.value in
+    subst (All (Contains (named_by c.args.graph.now))) named c.requires.named
+
+pub ascending_common-requires-clause-named : goal.ascending_common-requires-clause-named
+ascending_common-requires-clause-named c =
+    let ids = named_by c.args.graph.now in
+    let named = subst (All (Contains ids)) (ap (λ request. ids_of (graph_request_of request)) c.in-Common.is) c.requires.named in
+    subst (All (Contains ids)) (sym c.deref-in-Common.ensures.value) (front_held ids c.in-Common.set1.items c.in-Common.set2.items named)
+
+pub ascending_common-requires-clause-named_second : goal.ascending_common-requires-clause-named_second
+ascending_common-requires-clause-named_second c =
+    let ids = named_by c.args.graph.now in
+    let named = subst (All (Contains ids)) (ap (λ request. ids_of (graph_request_of request)) c.in-Common.is) c.requires.named in
+    subst (All (Contains ids)) (sym c.deref-in-Common-2.ensures.value) (back_held ids c.in-Common.set1.items c.in-Common.set2.items named)
 
 pub returns-in_ok-order-in-Order : goal.returns-in_ok-order-in-Order
 returns-in_ok-order-in-Order c =
-    let graph = graph_of (listed_in c.args.neighbors.now) in
+    let graph = shown_by c.args.graph.now in
     let old = string_bytes c.args.output.now in
     let order = c.in_ok-order-in-Order.order.items in
     let line = numbers_line (codes "order") order in
@@ -23,7 +47,7 @@ returns-in_ok-order-in-Order c =
 
 pub returns-in_ok-heads-in-Heads : goal.returns-in_ok-heads-in-Heads
 returns-in_ok-heads-in-Heads c =
-    let graph = graph_of (listed_in c.args.neighbors.now) in
+    let graph = shown_by c.args.graph.now in
     let old = string_bytes c.args.output.now in
     let heads = c.in_ok-heads-in-Heads.heads.items in
     let line = numbers_line (codes "heads") heads in
@@ -36,7 +60,7 @@ returns-in_ok-heads-in-Heads c =
 
 pub returns-in_ok-common-in-Common : goal.returns-in_ok-common-in-Common
 returns-in_ok-common-in-Common c =
-    let graph = graph_of (listed_in c.args.neighbors.now) in
+    let graph = shown_by c.args.graph.now in
     let old = string_bytes c.args.output.now in
     let common = c.in_ok-common-in-Common.common.items in
     let line = numbers_line (codes "common") common in
