@@ -3,7 +3,7 @@ use Rattle.std.proofs.Common.{◌≡◌, ℕ, zero, suc, ◌<◌, ◌≤◌, Boo
 use Rattle.std.specs.List.{Contains, IsDistinct, filter, filter_map, cons_option}
 use Rattle.std.specs.Result.{result_ok}
 use Rattle.std.proofs.lemmas.List.{length-map}
-use Rattle.jj_walks.specs.Chunks.{IsChunkOfMany, IsNextChunk}
+use Rattle.jj_walks.specs.Chunks.{IsChunkOfMany, IsNextChunk, IsStretch, NoneFailed}
 use Rattle.jj_walks.specs.Collecting.{IsCollecting}
 use Rattle.jj_walks.specs.Failing.{FailingGraph, sound}
 use Rattle.jj_walks.specs.Graph.{Graph, HasEdge, Path, Reaches, StrictlyReaches, ReachedFrom, ReachesCycle, HasNoCycle, IsChildFirst}
@@ -325,6 +325,20 @@ module _ {T ID K : Type 0} (w : Numbered T ID) (items : FailingGraph K) (starts 
       has_starts = λ a s. in_order a (starts_in a s);
       few = few_rest;
     }
+
+    pub many_stretch : IsStretch w.graph starts order rest
+    many_stretch = record {
+      once = first.once;
+      has_starts = λ a s. in_order a (starts_in a s);
+      reached = λ a h. ⊎_elim (λ l. looked.collecting.given_reached a (from_order a l)) (λ r. looked.collecting.waiting_reached a r) h;
+      forward = λ front back a b e edge.
+          ⊎_elim (λ l. inl (behind front back a b e l edge)) (λ r. inr r)
+          (goes a b (from_order a (subst (λ (l : List ℕ). Contains l a) (sym e) (at_split front a back))) edge);
+      above = λ a b h r. leads b r order [] refl a h;
+    }
+
+    pub many_sound : NoneFailed items order
+    many_sound a h fault = looked.collecting.none_failed a fault (from_order a h)
 
 -- ---- the next chunk of any starts
 

@@ -1,8 +1,10 @@
 -- Chunks of a child-first order: some of the nodes that the starts reach, and the starts of a walk
 -- over the others.
-use Rattle.std.specs.Prelude.{◌≡◌, ◌↔◌, ◌⊎◌, ℕ, ◌≤◌, List, [], ◌∷◌, length, eqb}
+use Rattle.std.specs.Prelude.{◌≡◌, ◌↔◌, ◌⊎◌, ℕ, ◌≤◌, List, [], ◌∷◌, ◌++◌, length, eqb}
+use Rattle.std.specs.declared.result.Result.TheVariants.{Err}
 use Rattle.std.specs.List.{Contains, IsDistinct}
-use Rattle.jj_walks.specs.Graph.{Graph, ReachedFrom, HasNoCycle, StrictlyReaches, StandsBefore}
+use Rattle.jj_walks.specs.Failing.{FailingGraph}
+use Rattle.jj_walks.specs.Graph.{Graph, HasEdge, ReachedFrom, HasNoCycle, StrictlyReaches, StandsBefore}
 
 -- The chunk has no node twice, and what the starts reach is the chunk and what is reached from what
 -- is left. Where the starts reach no cycle, the chunk is child-first, and nothing of it is reached
@@ -28,3 +30,40 @@ pub record IsNextChunk (g : Graph) (starts chunk left : List ℕ) : Type 0 where
   pub of_one : (a : ℕ) → starts ≡ a ∷ [] → (chunk ≡ a ∷ []) × (left ≡ g a)
   pub of_many : 2 ≤ length starts → ((a : ℕ) → Contains starts a → Contains chunk a)
       × (length left ≤ 1)
+
+-- each edge of a node of the list leads to one that stands behind the node, or to one that is left
+abbrev pub LeadsForward : Graph → List ℕ → List ℕ → Type 0
+LeadsForward g order left = (front back : List ℕ) (a b : ℕ) → order ≡ front ++ a ∷ back
+    → HasEdge g a b → Contains back b ⊎ Contains left b
+
+-- each node of the list strictly reaches each one that is left
+abbrev pub AreAbove : Graph → List ℕ → List ℕ → Type 0
+AreAbove g order left = (a b : ℕ) → Contains order a → Contains left b → StrictlyReaches g a b
+
+-- what is true of a chunk on any graph, also where the starts reach a cycle: it has the starts, no
+-- node twice, and what the starts reach alone; its edges lead forward, and it is above what is left
+pub record IsStretch (g : Graph) (starts chunk left : List ℕ) : Type 0 where
+  pub once : IsDistinct eqb chunk
+  pub has_starts : (a : ℕ) → Contains starts a → Contains chunk a
+  pub reached : (a : ℕ) → Contains chunk a ⊎ Contains left a → ReachedFrom g starts a
+  pub forward : LeadsForward g chunk left
+  pub above : AreAbove g chunk left
+
+-- none of these nodes has a failed item
+abbrev pub NoneFailed : {K : Type 0} → FailingGraph K → List ℕ → Type 0
+NoneFailed {K} items ns = (a : ℕ) → Contains ns a → (fault : K) → Contains (items a) (Err fault)
+    → ⊥
+
+-- the nodes that were ordered so far are reached from the starts, and one that stands there twice
+-- strictly reaches itself
+pub record IsBegun (g : Graph) (starts order : List ℕ) : Type 0 where
+  pub reached : (a : ℕ) → Contains order a → ReachedFrom g starts a
+  pub repeated : (front back : List ℕ) (a : ℕ) → order ≡ front ++ a ∷ back → Contains front a
+      → StrictlyReaches g a a
+
+-- the order goes on from what is left
+pub record LeadsOn (g : Graph) (starts order left : List ℕ) : Type 0 where
+  pub starts_met : (a : ℕ) → Contains starts a → Contains order a ⊎ Contains left a
+  pub left_reached : (a : ℕ) → Contains left a → ReachedFrom g starts a
+  pub forward : LeadsForward g order left
+  pub above : AreAbove g order left

@@ -9,6 +9,7 @@ pub mod Collecting
 pub mod Reversed
 pub mod CommonNodes
 pub mod Marks
+pub mod LazySteps
 pub mod LookingAhead
 pub mod Chunks
 pub mod Grouped

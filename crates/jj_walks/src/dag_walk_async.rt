@@ -5,6 +5,7 @@ pub use crate::depth_first_ok::{DepthFirstOk, dfs_ok as dfs};
 pub use crate::greatest_order::topo_order_reverse_ord;
 pub use crate::maximal_lists::heads;
 pub use crate::topo_order_chunked::topo_order_reverse_chunked;
+pub use crate::topo_order_lazy::{TopoOrderReverseLazy, topo_order_reverse_lazy};
 pub use crate::topo_order_ok::{
     topo_order_forward_ok as topo_order_forward, topo_order_reverse_ok as topo_order_reverse,
 };

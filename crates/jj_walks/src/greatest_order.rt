@@ -82,7 +82,7 @@ where
     }
 }
 
-/// Moves the waiting node at the index to those without a child that was not taken.
+/// Moves the node at this index, if it still waits, to the nodes that are ready.
 fn make_ready<T: Ord + Drop>(
     waiting: &mut Vec<Option<T>>,
     ready: &mut BinaryHeap<(T, usize)>,

@@ -1,12 +1,12 @@
 //! Looking ahead from several starts, as far as one node that all explored nodes reach, or to the
 //! roots.
-ghost use Rattle.std.specs.Prelude.{◌≡◌, ℕ, ◌<◌, ◌≤◌, ◌∷◌, List, [], map, length, true, IfOk, IfErr, IfSome, IfNone, MatchOption};
+ghost use Rattle.std.specs.Prelude.{◌≡◌, ℕ, ◌<◌, ◌≤◌, ◌∷◌, List, [], map, length, true, IfOk, IfErr, IfSome, IfNone, MatchOption, Ok};
 ghost use Rattle.std.specs.HashMap.{get};
 ghost use Rattle.std.specs.List.Sorted.{IsPermutation};
 ghost use Rattle.std.specs.BinaryHeap.{heap_items};
 ghost use Rattle.std.specs.Fn.{AlwaysReturns};
 ghost use Rattle.std.specs.Iterator.{IsFiniteIterable};
-ghost use Rattle.jj_walks.specs.Chunks.{IsChunkOfMany};
+ghost use Rattle.jj_walks.specs.Chunks.{IsChunkOfMany, IsStretch, NoneFailed};
 ghost use Rattle.jj_walks.specs.Errors.{IfNode};
 ghost use Rattle.jj_walks.specs.Graph.{ReachedFrom, ReachesCycle};
 ghost use Rattle.jj_walks.specs.Failing.{Fault, FailingGraph, ReachesFailure, ShowsItems};
@@ -79,12 +79,16 @@ impl<F, N> Shown<F, N> {
         ensures lists { AlwaysReturns N.FnMut (λ a r.
             IsFiniteIterable NI.into_iter_gives NI.IntoIter.can_next NI.IntoIter.remaining r)
             self.new.neighbors_fn }
+        ensures shown { (walk : Numbered T ID) (items : FailingGraph (Fault E))
+            → ShowsItems walk items ID.eq F.Fn N.FnMut NI.into_iter_gives NI.IntoIter.next_gives
+            self.old.id_fn self.old.neighbors_fn
+            → ShowsItems walk items ID.eq F.Fn N.FnMut NI.into_iter_gives NI.IntoIter.next_gives
+            self.old.id_fn self.new.neighbors_fn }
         ensures listed { IfOk result (λ v. (walk : Numbered T ID) (items : FailingGraph (Fault E))
             → ShowsItems walk items ID.eq F.Fn N.FnMut NI.into_iter_gives NI.IntoIter.next_gives
             self.old.id_fn self.old.neighbors_fn → walk.is_node (walk.node node.now) ≡ true
-            → ShowsItems walk items ID.eq F.Fn N.FnMut NI.into_iter_gives NI.IntoIter.next_gives
-            self.old.id_fn self.new.neighbors_fn
-            × (map walk.node v.items ≡ walk.graph (walk.node node.now))) }
+            → (map walk.node v.items ≡ walk.graph (walk.node node.now))
+            × (items (walk.node node.now) ≡ map (λ x. Ok (walk.node x)) v.items)) }
         ensures failed { IfErr result (λ e. IfNode e
             (λ error. (walk : Numbered T ID) (items : FailingGraph (Fault E))
             → ShowsItems walk items ID.eq F.Fn N.FnMut NI.into_iter_gives NI.IntoIter.next_gives
@@ -209,7 +213,9 @@ impl<F, N> Shown<F, N> {
             → ShowsItems walk items ID.eq F.Fn N.FnMut NI.into_iter_gives NI.IntoIter.next_gives
             self.old.id_fn self.new.neighbors_fn
             × MatchOption chunk.stuck (IsChunkOfMany walk.graph (map walk.node start.items)
-            (map walk.node chunk.nodes.items) (map walk.node chunk.left.items))
+            (map walk.node chunk.nodes.items) (map walk.node chunk.left.items)
+            × IsStretch walk.graph (map walk.node start.items) (map walk.node chunk.nodes.items)
+            (map walk.node chunk.left.items) × NoneFailed items (map walk.node chunk.nodes.items))
             (λ x. ReachedFrom walk.graph (map walk.node start.items) (walk.node x)
             × ReachesCycle walk.graph (map walk.node start.items))) }
         ensures failed { IfErr result (λ e. IfNode e (λ error.

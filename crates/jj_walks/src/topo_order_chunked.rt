@@ -21,7 +21,7 @@ use std::mem;
 /// neighbours of the node after a chunk of one. Several starts are explored from the greatest node
 /// on, until one node waits that all explored nodes reach. A failed item that is met is `Node` of
 /// its error; where a cycle is met, `cycle_fn` makes the error of a node that the starts reach.
-/// Refused, `start` is empty.
+/// After an error `start` is empty.
 pub fn topo_order_reverse_chunked<T, ID, E, NI, F, N, C>(
     alloc: Global,
     start: &mut Vec<T>,

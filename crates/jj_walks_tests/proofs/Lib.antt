@@ -1,3 +1,5 @@
 pub mod Numbering
 pub mod Ordered
 pub mod Gaps
+pub mod Preorders
+pub mod Sound

@@ -105,7 +105,7 @@ module _ (commits : List Commit) where
   abbrev pub walk_of : Numbered (Bor Commit) ℕ
   walk_of = record { graph = parent_graph commits; is_node = λ n. is_some (commit_with commits n); node = node; id = λ i. i }
 
-  node_id : (x : Bor Commit) → has_commit commits x.now ≡ true → node x ≡ x.now.id
+  pub node_id : (x : Bor Commit) → has_commit commits x.now ≡ true → node x ≡ x.now.id
   node_id x h = ap (λ b. cond b x.now.id (unused_id commits)) h
 
   pub node_has : (x : Bor Commit) → is_some (commit_with commits (node x)) ≡ true → has_commit commits x.now ≡ true
@@ -125,7 +125,7 @@ module _ (commits : List Commit) where
   first_had p d rest c e others (zero, lt, q) = subst (λ x. has_commit commits x ≡ true) q (found_has d (ap (commit_with commits) (found_id commits p d e) ∙ e))
   first_had p d rest c e others (suc k, lt, q) = others (k, omega arith, q)
 
-  parents_had : (ps : List ℕ) (c : Commit) → Contains (filter_map (commit_with commits) ps) c → has_commit commits c ≡ true
+  pub parents_had : (ps : List ℕ) (c : Commit) → Contains (filter_map (commit_with commits) ps) c → has_commit commits c ≡ true
   parents_had [] c (k, lt, e) = absurd (omega arith)
   parents_had (p ∷ ps) c h =
       let rest = filter_map (commit_with commits) ps in

@@ -18,6 +18,10 @@ commit_with (c ∷ commits) id = cond (c.id == id) (Some c) (commit_with commits
 abbrev pub parents_in : List Commit → Commit → List Commit
 parents_in commits c = filter_map (commit_with commits) c.parents.items
 
+-- the ids of the commits of the list that have one of these ids
+abbrev pub known_ids : List Commit → List ℕ → List ℕ
+known_ids commits ids = ids_of (filter_map (commit_with commits) ids)
+
 -- the graph of the ids: a commit's neighbours are its parents in the list
 abbrev pub parent_graph : List Commit → Graph
 parent_graph commits id = elim (commit_with commits id)

@@ -4,12 +4,12 @@ ghost use Rattle.std.specs.Prelude.{◌≡◌, true, IfOk, IfErr, eqb, map};
 ghost use Rattle.std.specs.List.{Contains, IsDistinct};
 ghost use Rattle.jj_walks.specs.CommonNodes.{AreClosestCommon};
 ghost use Rattle.jj_walks.specs.Errors.{IfNode};
-ghost use Rattle.jj_walks.specs.Graph.{HasNoCycle, IsMaximalIn};
+ghost use Rattle.jj_walks.specs.Graph.{HasNoCycle, IsMaximalIn, IsPreorder};
 ghost use Rattle.jj_walks_tests.specs.declared.commits.Commit.{Commit};
-ghost use Rattle.jj_walks_tests.specs.Commits.{has_commit, ids_of, parent_graph, IsParentsFirst, IsOnCycle};
+ghost use Rattle.jj_walks_tests.specs.Commits.{has_commit, ids_of, known_ids, parent_graph, IsParentsFirst, IsOnCycle};
 
-use crate::commits::{Commit, parents_of, sound_parents_of};
-use jj_walks::dag_walk::{WalkError, heads, topo_order_forward};
+use crate::commits::{Commit, commits_of, parents_of, sound_parents_of};
+use jj_walks::dag_walk::{WalkError, dfs, heads, topo_order_forward};
 use jj_walks::dag_walk_async::closest_common_nodes;
 use std::alloc::{AllocError, Global};
 use std::collections::HashSet;
@@ -70,4 +70,26 @@ pub fn merge_bases<'a>(
         |commit: &&Commit| commit.id,
         |commit: &&Commit| sound_parents_of(commits, *commit),
     )
+}
+
+/// The commits with these ids and their ancestors, as a depth-first walk meets them.
+pub fn ancestors<'a>(
+    alloc: Global,
+    commits: &'a [Commit],
+    ids: &'a [u64],
+) -> Result<Vec<&'a Commit>, AllocError>
+    ensures { IfOk result (λ found. IsPreorder (parent_graph commits.now)
+        (known_ids commits.now ids.now) (map (λ commit. commit.now.id) found.items)) }
+{
+    let walk = dfs(
+        alloc,
+        commits_of(commits, ids),
+        |commit: &&Commit| commit.id,
+        |commit: &&Commit| parents_of(commits, *commit),
+    )?;
+    let mut found = Vec::new(alloc);
+    for commit in walk {
+        found.push(commit?)?;
+    }
+    Ok(found)
 }

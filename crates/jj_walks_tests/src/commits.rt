@@ -1,7 +1,8 @@
 //! A list of commits: the type of the nodes, and the parents of one.
-ghost use Rattle.std.specs.Prelude.{◌≡◌, IsOkAnd, MatchOption, None, Some};
+ghost use Rattle.std.specs.Prelude.{◌≡◌, IsOkAnd, MatchOption, None, Ok, Some, map};
 ghost use Rattle.std.specs.Iterator.{YieldsFirstRef, item_count};
-ghost use Rattle.jj_walks_tests.specs.Commits.{commit_with};
+ghost use Rattle.jj_walks_tests.specs.Commits.{commit_with, parent_graph};
+ghost use Rattle.jj_walks_tests.specs.Parents.{ids_left};
 
 /// A commit. Commits are ordered by time, and by id where two have one time.
 #[derive(PartialEq, Eq, PartialOrd, Ord, Hash, Drop)]
@@ -69,4 +70,93 @@ pub fn sound_parents_of<'a>(commits: &'a [Commit], commit: &'a Commit) -> Result
         × (parents.ids.now ≡ commit.now.parents.items)) }
 {
     Ok(parents_of(commits, commit))
+}
+
+/// Commits of the list, as items that may fail in the eyes of a walk. They never do.
+#[derive(Drop)]
+pub struct SoundCommits<'a> {
+    found: Parents<'a>,
+}
+
+impl<'a> Iterator for SoundCommits<'a> {
+    type Item = Result<&'a Commit, u64>;
+
+    ghost use Rattle.std.specs.Iterator.{YieldsFirstBy, item_count};
+    ghost use Rattle.jj_walks_tests.specs.Parents.{shown_item, items_left};
+
+    ghost next_gives = { YieldsFirstBy shown_item items_left };
+
+    ghost remaining = { item_count items_left };
+
+    fn next(&mut self) -> Option<Result<&'a Commit, u64>> {
+        match self.found.next() {
+            Some(commit) => Some(Ok(commit)),
+            None => None,
+        }
+    }
+}
+
+/// The commits of the list that have these ids, in the order of the ids.
+pub fn sound_commits<'a>(commits: &'a [Commit], ids: &'a [u64]) -> SoundCommits<'a>
+    ensures commits { result.found.commits.now ≡ commits.now }
+    ensures ids { result.found.ids.now ≡ ids.now }
+{
+    SoundCommits {
+        found: Parents { commits, ids },
+    }
+}
+
+/// The parents of a commit that are in the list, as such items.
+pub fn failing_parents_of<'a>(commits: &'a [Commit], commit: &'a Commit) -> SoundCommits<'a>
+    ensures commits { result.found.commits.now ≡ commits.now }
+    ensures ids { result.found.ids.now ≡ commit.now.parents.items }
+{
+    sound_commits(commits, &commit.parents)
+}
+
+/// The ids of commits of the list, as such items.
+#[derive(Drop)]
+pub struct SoundIds<'a> {
+    found: Parents<'a>,
+}
+
+impl<'a> Iterator for SoundIds<'a> {
+    type Item = Result<u64, u64>;
+
+    ghost use Rattle.std.specs.Iterator.{YieldsFirst, item_count};
+    ghost use Rattle.jj_walks_tests.specs.Parents.{ids_left};
+
+    ghost next_gives = { YieldsFirst ids_left };
+
+    ghost remaining = { item_count ids_left };
+
+    fn next(&mut self) -> Option<Result<u64, u64>> {
+        match self.found.next() {
+            Some(commit) => Some(Ok(commit.id)),
+            None => None,
+        }
+    }
+}
+
+/// The ids of the parents, in the list, of the commit with this id; none where there is no such
+/// commit.
+pub fn sound_parent_ids<'a>(commits: &'a [Commit], id: u64) -> SoundIds<'a>
+    ensures { ids_left result ≡ map (λ n. Ok n) (parent_graph commits.now id) }
+{
+    match commit_of(commits, id) {
+        Some(commit) => SoundIds {
+            found: parents_of(commits, commit),
+        },
+        None => SoundIds {
+            found: Parents { commits, ids: &[] },
+        },
+    }
+}
+
+/// The commits of the list that have these ids, in the order of the ids.
+pub fn commits_of<'a>(commits: &'a [Commit], ids: &'a [u64]) -> Parents<'a>
+    ensures commits { result.commits.now ≡ commits.now }
+    ensures ids { result.ids.now ≡ ids.now }
+{
+    Parents { commits, ids }
 }

@@ -3,6 +3,7 @@
 
 pub mod ancestry;
 pub mod callers;
+pub mod children_first;
 #[cfg(test)]
 mod chunks;
 #[cfg(test)]
@@ -13,6 +14,9 @@ pub mod failing_callers;
 mod grouped;
 #[cfg(test)]
 mod hostile;
+pub mod large;
+#[cfg(test)]
+mod lazy;
 #[cfg(test)]
 mod maximal;
 #[cfg(test)]

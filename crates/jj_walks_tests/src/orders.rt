@@ -1,8 +1,9 @@
 //! Orders and depth-first walks of small graphs.
 use crate::tables::{
-    Table, forward, forward_ok, found, met, neighbors, preorder, preorder_ok, reverse, reverse_ok,
+    Table, forward, forward_ok, found, items, met, neighbors, preorder, preorder_ok, reverse,
+    reverse_ok,
 };
-use jj_walks::dag_walk::dfs;
+use jj_walks::dag_walk::{WalkError, dfs, dfs_ok};
 use std::alloc::{AllocError, Global};
 use std::process::Abort;
 use std::test::Fail;
@@ -217,6 +218,40 @@ fn ended_walks_answer_none(rt: HostRuntime) -> Result<(), Fail> {
     let first = asks_after_the_end(&rt, alloc);
     if first.is_err() {
         asks_after_the_end(&rt, alloc)?;
+    }
+    Ok(())
+}
+
+fn is_memory(item: &Option<Result<char, WalkError<char>>>) -> bool {
+    matches!(item, Some(Err(WalkError::Memory)))
+}
+
+/// A failed start, which does not end the walk, and a node without neighbours.
+fn asks_a_failing_walk<R: Abort>(rt: &R, alloc: Global) -> Result<(), AllocError> {
+    let mut walk = dfs_ok(
+        alloc,
+        [Ok('A'), Err('X')].iter().copied(),
+        |node: &char| *node,
+        |node: &char| items(BROKEN, *node).iter().copied(),
+    )?;
+    let first = walk.next();
+    let second = walk.next();
+    assert!(rt; walk.next().is_none());
+    assert!(rt; walk.next().is_none());
+    if is_memory(&first) || is_memory(&second) {
+        return Err(AllocError);
+    }
+    assert!(rt; matches!(first, Some(Err(WalkError::Node('X')))));
+    assert!(rt; matches!(second, Some(Ok('A'))));
+    Ok(())
+}
+
+#[test]
+fn ended_failing_walks_answer_none(rt: HostRuntime) -> Result<(), Fail> {
+    let alloc = rt.alloc();
+    let first = asks_a_failing_walk(&rt, alloc);
+    if first.is_err() {
+        asks_a_failing_walk(&rt, alloc)?;
     }
     Ok(())
 }

@@ -31,7 +31,7 @@ returns-in-None-clause-chunk g c =
     let starts = map walk.node c.args.start.now.items in
     let size : length starts ≡ length c.replace-taken.result.items = length-map c.args.start.now.items walk.node ∙ sym (ap length taken) in
     let two : 2 ≤ length starts = omega arith in
-    rw (c.from_vec.ensures.items) (many_next walk.graph starts _ _ two (rw (c.in-None.is, taken) at (c.in-Ok.ensures.chunk walk items shown (rw taken nodes)).1))
+    rw (c.from_vec.ensures.items) (many_next walk.graph starts _ _ two (rw (c.in-None.is, taken) at (c.in-Ok.ensures.chunk walk items shown (rw taken nodes)).1).0)
 
 pub returns-in_default-clause-chunk : goal.returns-in_default-clause-chunk
 returns-in_default-clause-chunk g c =
@@ -52,5 +52,5 @@ returns-clause-chunk g c =
     let pushed : c.push.new.self.items ≡ node ∷ [] = c.in_ok-push.ensures.ok ∙ ap (λ l. l ++ node ∷ []) c.new-chunk.ensures.items in
     λ walk items shown nodes.
     let is_node : walk.is_node (walk.node node) ≡ true = nodes (walk.node node) (rw start (0, omega arith, refl)) in
-    let told = (c.in-Ok-neighbors.ensures.listed walk items shown is_node).1 in
+    let told = (c.in-Ok-neighbors.ensures.listed walk items shown is_node).0 in
     rw (start, pushed, told) (one_next walk.graph (walk.node node))

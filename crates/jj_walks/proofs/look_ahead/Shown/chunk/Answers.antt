@@ -4,9 +4,9 @@ use Rattle.std.specs.List.{Contains, filter, filter_map}
 use Rattle.std.specs.Option.{MatchOption}
 use Rattle.std.proofs.lemmas.List.{length-map}
 use Rattle.jj_walks.specs.Graph.{ReachedFrom, ReachesCycle}
-use Rattle.jj_walks.specs.Chunks.{IsChunkOfMany}
+use Rattle.jj_walks.specs.Chunks.{IsChunkOfMany, IsStretch, NoneFailed}
 use Rattle.jj_walks.specs.ReadyNodes.{places_graph, IsStuck}
-use Rattle.jj_walks.proofs.Chunks.{walk_inner, inner_items, inner_ids, explored, explored_nodes, inner_sound, inner_nodes_closed, inner_collected, inner_linked, inner_reached, inner_cycle, many_chunk}
+use Rattle.jj_walks.proofs.Chunks.{walk_inner, inner_items, inner_ids, explored, explored_nodes, inner_sound, inner_nodes_closed, inner_collected, inner_linked, inner_reached, inner_cycle, many_chunk, many_stretch, many_sound}
 use Rattle.jj_walks.proofs.GreatestOrder.{linked_within, slots_present, map_twice, order_is, cycle_is, place_reached}
 use Rattle.jj_walks.proofs.look_ahead.Shown.chunk.Goals as goal
 
@@ -76,10 +76,12 @@ returns-clause-chunk g c =
       known.0,
       elim c.in_ok-nodes.stuck as (λ o. MatchOption o ((k : ℕ) → k < length c.in_ok-found.found.nodes.items → Contains q.0 k)
           (λ x. (k : ℕ) × (k < length c.in_ok-found.found.nodes.items) × (get_or c.in_ok-found.found.nodes.items k None ≡ Some x) × (Contains q.0 k → ⊥) × IsStuck (places_graph ts) (λ k. k < length c.in_ok-found.found.nodes.items) q.0)
-          → MatchOption o (IsChunkOfMany walk.graph starts (map walk.node vs) (map walk.node left)) (λ x. ReachedFrom walk.graph starts (walk.node x) × ReachesCycle walk.graph starts)) [
+          → MatchOption o (IsChunkOfMany walk.graph starts (map walk.node vs) (map walk.node left) × IsStretch walk.graph starts (map walk.node vs) (map walk.node left) × NoneFailed items (map walk.node vs)) (λ x. ReachedFrom walk.graph starts (walk.node x) × ReachesCycle walk.graph starts)) [
             | None ↦ λ all.
                 let o = order_is inner_walk items_inside g.T.Ord.cmp seen find p.0 ids_inside ts sound closed seen_nodes collected sizes_inside linked_inside p.3 q.0 (rw (p.1) at q.2) vs (rw (p.1) at q.1) (rw (p.1) at all) in
-                many_chunk walk items starts find left p.0 ids known.1 shown.closed nodes p.5 p.4 (map walk.node vs) o.0
+                let begun = many_chunk walk items starts find left p.0 ids known.1 shown.closed nodes p.5 p.4 (map walk.node vs) o.0 in
+                let stretch = many_stretch walk items starts find left p.0 ids known.1 shown.closed nodes p.5 p.4 (map walk.node vs) o.0 in
+                (begun, stretch, many_sound walk items starts find left p.0 ids known.1 shown.closed nodes p.5 p.4 (map walk.node vs) o.0)
             | Some x ↦ λ stuck.
                 let s = rw (p.1) at stuck in (
                   inner_reached walk items starts find left p.0 ids known.1 shown.closed nodes _ (place_reached inner_walk items_inside g.T.Ord.cmp seen find p.0 ids_inside ts sound closed seen_nodes collected sizes_inside linked_inside p.3 s.0 x s.2 s.1),

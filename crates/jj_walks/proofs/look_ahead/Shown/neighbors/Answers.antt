@@ -55,7 +55,32 @@ returns-clause-listed g c =
     λ walk items shown is_node.
     let turn = AlwaysReturns-call g.N.FnMut _ shown.neighbors c.neighbors_fn-neighbor-items.ensures in
     let a = walk.node c.args.node.now in
-    let listed = AreItems-nodes walk.node c.loop-neighbor.list.items (items a) ((turn.0 is_node).whole (map (λ x. Ok x) c.loop-neighbor.list.items) drained) in (
-      record { sound_graph = shown.sound_graph; closed = shown.closed; apart = shown.apart; ids_stand = shown.ids_stand; neighbors = turn.1 },
-      sym (shown.sound_graph a ∙ ap (filter_map result_ok) listed ∙ sound_items (Fault g.row.E.Denot) walk.node c.loop-neighbor.list.items),
-    )
+    let listed = AreItems-nodes walk.node c.loop-neighbor.list.items (items a) ((turn.0 is_node).whole (map (λ x. Ok x) c.loop-neighbor.list.items) drained) in
+    (sym (shown.sound_graph a ∙ ap (filter_map result_ok) listed ∙ sound_items (Fault g.row.E.Denot) walk.node c.loop-neighbor.list.items), listed)
+
+pub returns-in-Err-clause-shown : goal.returns-in-Err-clause-shown
+returns-in-Err-clause-shown g c = λ walk items shown. record {
+  sound_graph = shown.sound_graph;
+  closed = shown.closed;
+  apart = shown.apart;
+  ids_stand = shown.ids_stand;
+  neighbors = (AlwaysReturns-call g.N.FnMut _ shown.neighbors c.neighbors_fn-neighbor-items.ensures).1;
+}
+
+pub returns-in_err-push-in-Ok-clause-shown : goal.returns-in_err-push-in-Ok-clause-shown
+returns-in_err-push-in-Ok-clause-shown g c = λ walk items shown. record {
+  sound_graph = shown.sound_graph;
+  closed = shown.closed;
+  apart = shown.apart;
+  ids_stand = shown.ids_stand;
+  neighbors = (AlwaysReturns-call g.N.FnMut _ shown.neighbors c.neighbors_fn-neighbor-items.ensures).1;
+}
+
+pub returns-clause-shown : goal.returns-clause-shown
+returns-clause-shown g c = λ walk items shown. record {
+  sound_graph = shown.sound_graph;
+  closed = shown.closed;
+  apart = shown.apart;
+  ids_stand = shown.ids_stand;
+  neighbors = (AlwaysReturns-call g.N.FnMut _ shown.neighbors c.neighbors_fn-neighbor-items.ensures).1;
+}

@@ -1,0 +1,136 @@
+//! A child-first order whose nodes come as they are asked for.
+ghost use Rattle.std.specs.Prelude.{◌≡◌, ◌++◌, ◌∷◌, ◌⊎◌, List, [], Ok, Err, map, IfOk, false};
+ghost use Rattle.std.specs.Fn.{AlwaysReturns};
+ghost use Rattle.std.specs.Iterator.{IsFiniteIterable, at_most};
+ghost use Rattle.jj_walks.specs.Failing.{BeginsWith, Fault, FailingGraph, ShowsItems};
+ghost use Rattle.jj_walks.specs.LazySteps.{CanGo, FailsNext, IsPlanOf};
+ghost use Rattle.jj_walks.specs.Walk.{Numbered, AreNodes, DrainsTo};
+
+use crate::lazy_plan::Plan;
+use crate::look_ahead::Shown;
+use crate::walk_error::WalkError;
+use std::alloc::{AllocError, Global};
+use std::collections::HashSet;
+use std::hash::Hash;
+
+/// The nodes of a child-first order, as they are asked for. It ends after its first error.
+#[derive(Drop)]
+pub struct TopoOrderReverseLazy<T, ID: Hash + Eq, E, F, N, C> {
+    plan: Plan<T, ID, E, F, N, C>,
+    has_ended: bool,
+}
+
+impl<T, ID, E, NI, F, N, C> Iterator for TopoOrderReverseLazy<T, ID, E, F, N, C>
+where
+    T: Ord + Drop,
+    ID: Hash + Eq + Drop,
+    E: Drop,
+    NI: IntoIterator<Item = Result<T, E>>,
+    NI::IntoIter: Drop,
+    F: Fn(&T) -> ID,
+    N: FnMut(&T) -> NI,
+    C: FnMut(T) -> E,
+{
+    type Item = Result<T, WalkError<E>>;
+
+    ghost use Rattle.std.specs.Prelude.{◌≡◌, false};
+    ghost use Rattle.jj_walks.specs.LazySteps.{CanGo, Steps, items_left};
+
+    ghost can_next = { λ s. s.has_ended ≡ false → CanGo F.Fn N.FnMut C.FnMut NI.into_iter_gives
+        NI.IntoIter.can_next NI.IntoIter.remaining s.plan };
+
+    ghost next_gives = { λ s r t. Steps F.Fn N.FnMut C.FnMut ID.eq NI.into_iter_gives
+        NI.IntoIter.next_gives NI.IntoIter.can_next NI.IntoIter.remaining s r t };
+
+    ghost remaining = { λ s. at_most (items_left s) };
+
+    fn next(&mut self) -> Option<Result<T, WalkError<E>>> {
+        if self.has_ended {
+            return None;
+        }
+        match self.plan.next_node() {
+            Ok(Some(node)) => Some(Ok(node)),
+            Ok(None) => {
+                self.has_ended = true;
+                None
+            }
+            Err(error) => {
+                self.has_ended = true;
+                Some(Err(error))
+            }
+        }
+    }
+}
+
+/// The nodes that the starts reach, each before its neighbours, as they are asked for. Where
+/// several starts are left, they are explored from the greatest node on, until one node waits that
+/// all explored nodes reach. A failed start or neighbour that is met is `Node` of its error; where
+/// a cycle is met, `cycle_fn` makes the error of a node that the starts reach.
+pub fn topo_order_reverse_lazy<T, ID, E, II, NI, F, N, C>(
+    alloc: Global,
+    start: II,
+    id_fn: F,
+    neighbors_fn: N,
+    cycle_fn: C,
+) -> Result<TopoOrderReverseLazy<T, ID, E, F, N, C>, AllocError>
+where
+    T: Ord + Drop,
+    ID: Hash + Eq + Drop,
+    E: Drop,
+    II: IntoIterator<Item = Result<T, E>>,
+    II::IntoIter: Drop,
+    NI: IntoIterator<Item = Result<T, E>>,
+    NI::IntoIter: Drop,
+    F: Fn(&T) -> ID + Drop,
+    N: FnMut(&T) -> NI + Drop,
+    C: FnMut(T) -> E + Drop,
+    requires id_fn { F.IsAlwaysCallable id_fn }
+    requires neighbors_fn { N.IsAlwaysCallable neighbors_fn }
+    requires cycle_fn { C.IsAlwaysCallable cycle_fn }
+    requires lists { AlwaysReturns N.FnMut (λ a r.
+        IsFiniteIterable NI.into_iter_gives NI.IntoIter.can_next NI.IntoIter.remaining r)
+        neighbors_fn }
+    requires start { IsFiniteIterable II.into_iter_gives II.IntoIter.can_next II.IntoIter.remaining
+        start }
+    ensures can_go { IfOk result (λ it. CanGo F.Fn N.FnMut C.FnMut NI.into_iter_gives
+        NI.IntoIter.can_next NI.IntoIter.remaining it.plan) }
+    ensures has_ended { IfOk result (λ it. it.has_ended ≡ false) }
+    ensures left { IfOk result (λ it. ((xs : List T)
+        × DrainsTo II.into_iter_gives II.IntoIter.next_gives start (map Ok xs)
+        × ((walk : Numbered T ID) (items : FailingGraph (Fault E))
+        → ShowsItems walk items ID.eq F.Fn N.FnMut NI.into_iter_gives NI.IntoIter.next_gives id_fn
+        neighbors_fn → AreNodes walk (map walk.node xs)
+        → IsPlanOf F.Fn N.FnMut walk items ID.eq NI.into_iter_gives NI.IntoIter.next_gives cycle_fn
+        (map walk.node xs) [] it.plan))
+        ⊎ ((xs : List T) × (error : E) × BeginsWith II.into_iter_gives II.IntoIter.next_gives start
+        (map Ok xs ++ Err error ∷ []) × FailsNext error it.plan)) }
+{
+    let mut nodes = Vec::new(alloc);
+    let mut failed = None;
+    for item in start {
+        match item {
+            Ok(node) => nodes.push(node)?,
+            Err(error) => {
+                nodes.clear();
+                failed = Some(error);
+                break;
+            }
+        }
+    }
+    let plan = Plan {
+        alloc,
+        graph: Shown {
+            id_fn,
+            neighbors_fn,
+        },
+        cycle_fn,
+        ready: Vec::new(alloc),
+        start: nodes,
+        emitted: HashSet::new(alloc),
+        failed,
+    };
+    Ok(TopoOrderReverseLazy {
+        plan,
+        has_ended: false,
+    })
+}

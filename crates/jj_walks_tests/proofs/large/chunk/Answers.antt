@@ -1,0 +1,16 @@
+use Rattle.std.proofs.Common.{rules, of_calls, arith}
+use Rattle.std.proofs.lemmas.Grind.{common_steps}
+use Rattle.std.proofs.lemmas.Fn.{always_returns_same}
+use Rattle.jj_walks_tests.proofs.large.chunk.Goals as goal
+
+pub topo_order_reverse_chunked-requires : goal.topo_order_reverse_chunked-requires
+topo_order_reverse_chunked-requires c = (
+  search rules,
+  (
+    search rules,
+    (
+      first_of (search (rules, of_calls), search of_calls, grind (arith, common_steps)),
+      (search rules, always_returns_same _ _ _ (λ a r f h. (λ it b. (first_of (search rules, search (rules, of_calls, h, b)), first_of (search rules, search (rules, of_calls, h, b))), search (rules, of_calls, h)))),
+    ),
+  ),
+)

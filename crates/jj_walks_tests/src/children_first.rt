@@ -1,0 +1,84 @@
+//! Callers over a list of commits that put each commit before its parents.
+ghost use Rattle.std.specs.Prelude.{◌≡◌, IfOk, IfErr, map};
+ghost use Rattle.jj_walks.specs.Chunks.{IsNextChunk};
+ghost use Rattle.jj_walks.specs.Errors.{IfNode};
+ghost use Rattle.jj_walks.specs.Graph.{IsChildFirst, ReachesCycle};
+ghost use Rattle.jj_walks_tests.specs.Commits.{known_ids, parent_graph};
+
+use crate::commits::{Commit, failing_parents_of, sound_commits, sound_parent_ids};
+use jj_walks::dag_walk::WalkError;
+use jj_walks::dag_walk_async::{
+    topo_order_reverse_chunked, topo_order_reverse_lazy, topo_order_reverse_ord,
+};
+use smallvec::SmallVec;
+use std::alloc::Global;
+
+/// The commits with these ids and their ancestors, each before its parents, one after the other as
+/// they are asked for. An error other than want of memory means that one of them is its own
+/// ancestor.
+pub fn children_first<'a>(
+    alloc: Global,
+    commits: &'a [Commit],
+    ids: &'a [u64],
+) -> Result<Vec<&'a Commit>, WalkError<u64>>
+    ensures order { IfOk result (λ order. IsChildFirst (parent_graph commits.now)
+        (known_ids commits.now ids.now) (map (λ commit. commit.now.id) order.items)) }
+    ensures cycle { IfErr result (λ e. IfNode e (λ _. ReachesCycle (parent_graph commits.now)
+        (known_ids commits.now ids.now))) }
+{
+    let walk = topo_order_reverse_lazy(
+        alloc,
+        sound_commits(commits, ids),
+        |commit: &&Commit| commit.id,
+        |commit: &&Commit| failing_parents_of(commits, *commit),
+        |commit: &Commit| commit.id,
+    )?;
+    let mut order = Vec::new(alloc);
+    for commit in walk {
+        match commit {
+            Ok(commit) => order.push(commit)?,
+            Err(refused) => return Err(refused),
+        }
+    }
+    Ok(order)
+}
+
+/// The same list in one call: at each place the greatest commit whose children stand before it.
+pub fn newest_first<'a>(
+    alloc: Global,
+    commits: &'a [Commit],
+    ids: &'a [u64],
+) -> Result<Vec<&'a Commit>, WalkError<u64>>
+    ensures order { IfOk result (λ order. IsChildFirst (parent_graph commits.now)
+        (known_ids commits.now ids.now) (map (λ commit. commit.now.id) order.items)) }
+    ensures cycle { IfErr result (λ e. IfNode e (λ _. ReachesCycle (parent_graph commits.now)
+        (known_ids commits.now ids.now))) }
+{
+    topo_order_reverse_ord(
+        alloc,
+        sound_commits(commits, ids),
+        |commit: &&Commit| commit.id,
+        |commit: &&Commit| failing_parents_of(commits, *commit),
+        |commit: &Commit| commit.id,
+    )
+}
+
+/// The next chunk of the ids of such a list. It leaves the ids from which the list goes on.
+pub fn next_ids(
+    alloc: Global,
+    commits: &[Commit],
+    start: &mut Vec<u64>,
+) -> Result<SmallVec<u64, 1>, WalkError<u64>>
+    ensures chunk { IfOk result (λ chunk. IsNextChunk (parent_graph commits.now) start.old.items
+        chunk.items start.new.items) }
+    ensures cycle { IfErr result (λ e. IfNode e (λ _. ReachesCycle (parent_graph commits.now)
+        start.old.items)) }
+{
+    topo_order_reverse_chunked(
+        alloc,
+        start,
+        |id: &u64| *id,
+        |id: &u64| sound_parent_ids(commits, *id),
+        |id: u64| id,
+    )
+}

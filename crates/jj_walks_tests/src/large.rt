@@ -1,0 +1,205 @@
+//! Walks over graphs of many nodes: a chain, a fan, and a history full of merges. The head of a
+//! graph is its greatest node, which reaches all others.
+use jj_walks::dag_walk::WalkError;
+use jj_walks::dag_walk_async::{
+    closest_common_nodes, topo_order_reverse_chunked, topo_order_reverse_lazy,
+};
+use jj_walks::graph::{GraphEdge, GraphNode, GroupedGraphError, TopoGroupedGraph};
+use std::alloc::{AllocError, Global};
+use std::ops::Range;
+
+/// How the nodes below the head hang together.
+#[derive(Clone, Copy)]
+pub enum Shape {
+    /// Each node over the next lesser one.
+    Chain,
+    /// The head over all others.
+    Fan,
+    /// Each node over the three next lesser ones.
+    Merges,
+}
+
+/// The neighbours of a node.
+fn below(shape: Shape, head: u64, node: u64) -> Range<u64> {
+    match shape {
+        Shape::Chain => node.saturating_sub(1)..node,
+        Shape::Fan if node == head => 0..node,
+        Shape::Fan => 0..0,
+        Shape::Merges => node.saturating_sub(3)..node,
+    }
+}
+
+/// The lazy order of what the head reaches.
+pub fn lazy(alloc: Global, shape: Shape, head: u64) -> Result<Vec<u64>, WalkError<u64>> {
+    let nodes = topo_order_reverse_lazy(
+        alloc,
+        [Ok(head)].iter().copied(),
+        |node: &u64| *node,
+        |node: &u64| below(shape, head, *node).map(|other: u64| -> Result<u64, u64> { Ok(other) }),
+        |node: u64| node,
+    )?;
+    let mut order = Vec::new(alloc);
+    for node in nodes {
+        match node {
+            Ok(node) => order.push(node)?,
+            Err(refused) => return Err(refused),
+        }
+    }
+    Ok(order)
+}
+
+/// Puts the next chunk at the end of the order, and says whether there was one.
+fn chunk(
+    alloc: Global,
+    shape: Shape,
+    head: u64,
+    start: &mut Vec<u64>,
+    order: &mut Vec<u64>,
+) -> Result<bool, WalkError<u64>> {
+    let nodes = topo_order_reverse_chunked(
+        alloc,
+        start,
+        |node: &u64| *node,
+        |node: &u64| below(shape, head, *node).map(|other: u64| -> Result<u64, u64> { Ok(other) }),
+        |node: u64| node,
+    )?;
+    for node in nodes.iter() {
+        order.push(*node)?;
+    }
+    Ok(!nodes.is_empty())
+}
+
+/// The order of what the head reaches, chunk by chunk.
+pub fn chunked(alloc: Global, shape: Shape, head: u64) -> Result<Vec<u64>, WalkError<u64>> {
+    let mut start = Vec::new(alloc);
+    start.push(head)?;
+    let mut order = Vec::new(alloc);
+    for _turn in 0..=head {
+        if !chunk(alloc, shape, head, &mut start, &mut order)? {
+            break;
+        }
+    }
+    Ok(order)
+}
+
+/// The nodes as a graph to be shown, the greatest first.
+pub fn input_of(
+    alloc: Global,
+    shape: Shape,
+    head: u64,
+) -> Result<Vec<Result<GraphNode<u64, u64>, u64>>, AllocError> {
+    let mut input = Vec::new(alloc);
+    for node in (0..=head).rev() {
+        let mut edges = Vec::new(alloc);
+        for other in below(shape, head, node) {
+            edges.push(GraphEdge::direct(other))?;
+        }
+        input.push(Ok((node, edges)))?;
+    }
+    Ok(input)
+}
+
+fn number(node: &u64) -> &u64 {
+    node
+}
+
+/// The grouped order of an input.
+pub fn grouped(
+    alloc: Global,
+    input: Vec<Result<GraphNode<u64, u64>, u64>>,
+) -> Result<Vec<u64>, GroupedGraphError<u64>> {
+    let graph = TopoGroupedGraph::new(alloc, input.into_iter(), number);
+    let mut order = Vec::new(alloc);
+    for item in graph.stream() {
+        match item {
+            Ok((node, _edges)) => order.push(node)?,
+            Err(error) => return Err(error),
+        }
+    }
+    Ok(order)
+}
+
+/// The closest common nodes of two nodes.
+pub fn closest(
+    alloc: Global,
+    shape: Shape,
+    head: u64,
+    nodes: (u64, u64),
+) -> Result<Vec<u64>, WalkError<u64>> {
+    let (first, second) = nodes;
+    closest_common_nodes(
+        alloc,
+        first..first.saturating_add(1),
+        second..second.saturating_add(1),
+        |node: &u64| *node,
+        |node: &u64| -> Result<Range<u64>, u64> { Ok(below(shape, head, *node)) },
+    )
+}
+
+#[cfg(test)]
+mod tests {
+    use super::*;
+    use crate::tables::found;
+    use std::process::Abort;
+    use std::test::Fail;
+
+    const HEAD: u64 = 100_000;
+
+    const SHAPES: &[Shape] = &[Shape::Chain, Shape::Fan, Shape::Merges];
+
+    /// Asserts that an order has all nodes and, but for the fan, each before the next lesser one.
+    fn is_whole<R: Abort>(rt: &R, shape: Shape, order: &[u64]) {
+        assert_eq!(rt; order.len(), 100_001);
+        let mut wanted = HEAD;
+        for node in order {
+            if matches!(shape, Shape::Fan) {
+                assert!(rt; *node <= HEAD);
+            } else {
+                assert_eq!(rt; *node, wanted);
+                wanted = wanted.saturating_sub(1);
+            }
+        }
+    }
+
+    #[test]
+    fn long_lazy_orders(rt: HostRuntime) -> Result<(), Fail> {
+        for shape in SHAPES {
+            let order = found(&rt, lazy(rt.alloc(), *shape, HEAD))?;
+            is_whole(&rt, *shape, &order);
+        }
+        Ok(())
+    }
+
+    #[test]
+    fn long_chunked_orders(rt: HostRuntime) -> Result<(), Fail> {
+        for shape in SHAPES {
+            let order = found(&rt, chunked(rt.alloc(), *shape, HEAD))?;
+            is_whole(&rt, *shape, &order);
+        }
+        Ok(())
+    }
+
+    #[test]
+    fn long_grouped_orders(rt: HostRuntime) -> Result<(), Fail> {
+        for shape in SHAPES {
+            let input = input_of(rt.alloc(), *shape, HEAD)?;
+            match grouped(rt.alloc(), input) {
+                Ok(order) => is_whole(&rt, *shape, &order),
+                Err(GroupedGraphError::Memory) => return Err(AllocError.into()),
+                Err(_error) => assert!(rt; false, "the input is in order"),
+            }
+        }
+        Ok(())
+    }
+
+    #[test]
+    fn long_ways_to_common_nodes(rt: HostRuntime) -> Result<(), Fail> {
+        for shape in SHAPES {
+            for lesser in [0, 1, HEAD - 1] {
+                let nodes = found(&rt, closest(rt.alloc(), *shape, HEAD, (HEAD, lesser)))?;
+                assert_eq!(rt; nodes.as_slice(), [lesser].as_slice());
+            }
+        }
+        Ok(())
+    }
+}
