@@ -7,7 +7,7 @@ use Rattle.std.specs.Option.{option_map, MatchOption, IsSome, IfSome}
 use Rattle.std.specs.Ordering.{is_gt}
 use Rattle.std.specs.Str.{bytes_eq}
 use Rattle.std.proofs.lemmas.List.Elements.{All-nil, All-more, All-weaker}
-use Rattle.jj_stores.specs.ViewJoins.{Named, IsLeast, joined, joined_at, remotes_with, IsFirstName}
+use Rattle.jj_stores.specs.ViewJoins.{Named, IsLeast, joined, joined_at, remotes_with, IsFirstName, IsFirstOfRemotes}
 use Rattle.jj_stores.proofs.NamesLeft.{cmp, least_lower}
 
 -- ---- where a name stands, the join has a row
@@ -15,7 +15,7 @@ use Rattle.jj_stores.proofs.NamesLeft.{cmp, least_lower}
 abbrev pub IsMore : {X : Type 0} → List X → Type 0
 IsMore {X} xs = (x : X) × (others : List X) × (xs ≡ x ∷ others)
 
-cons_more : {X : Type 0} (first : Option X) (others : List X) → IsSome first ⊎ IsMore others
+pub cons_more : {X : Type 0} (first : Option X) (others : List X) → IsSome first ⊎ IsMore others
     → IsMore (cons_option first others)
 cons_more (Some x) others h = (x, others, refl)
 cons_more None others (inl h) = cc
@@ -30,6 +30,11 @@ module _ {T R : Type 0} where
   joined_more (Some t) refs more = refl
   joined_more None [] more = cc (more.2)
   joined_more None (r ∷ rs) more = refl
+
+  pub some_joined : (local : Option T) (refs : Named R) → IsSome (joined local refs) → IsSome local ⊎ IsMore refs
+  some_joined (Some t) refs h = inl refl
+  some_joined None [] h = cc
+  some_joined None (r ∷ rs) h = inr (r, rs, refl)
 
   pub joined_local : (local : Option T) (refs : Named R) → IsSome local → IsSome (joined local refs)
   joined_local (Some t) refs h = refl
@@ -125,3 +130,43 @@ module _ {T R : Type 0} (locals : Named T) (remotes : Named (Named R)) where
   pub first_of_all : (i : ℕ) (first : Option (List ℕ)) → take i remotes ≡ remotes
       → IsFirstSoFar (take i remotes) first → IsFirstName locals remotes first
   first_of_all i first whole h = subst (λ seen. IsFirstSoFar seen first) whole h
+
+-- ---- the first name of all remotes, and the first local one
+
+module _ {T R : Type 0} (locals : Named T) (remotes : Named (Named R)) where
+  stands_at_remote : (name : List ℕ) → IsFirstOfRemotes remotes (Some name) → IsSome (joined_at locals remotes name)
+  stands_at_remote name first = ⊎_elim
+      (λ none. let no : IsSome (joined_at locals remotes name) = cc in no)
+      (λ more. joined_more (lookup (bytes_eq name) locals) _ more) (some_joined {T = Unit {0}} None (remotes_with remotes name) first.0)
+
+  no_names : (name : List ℕ) (refs : Named R) → refs ≡ [] → IsLeast name refs
+  no_names name refs e = subst (IsLeast name) (sym e) (All-nil (λ q. is_gt (cmp name q) ≡ false))
+
+  pub no_remote_name : (local : Option (List ℕ)) → local ≡ slice_get (keys_of locals) 0 → IfSome local (λ name. IsLeast name locals)
+      → IsFirstOfRemotes remotes None → IsFirstName locals remotes local
+  no_remote_name None at least none = (none_left locals at, none.1)
+  no_remote_name (Some name) at least none = (
+    joined_local _ _ (at_first name locals at),
+    least,
+    All-weaker (λ r. r.1 ≡ []) (λ r. IsLeast name r.1) (λ r e. no_names name r.1 e) remotes none.1,
+  )
+
+  pub no_local_name : (name : List ℕ) → None ≡ slice_get (keys_of locals) 0 → IsFirstOfRemotes remotes (Some name)
+      → IsFirstName locals remotes (Some name)
+  no_local_name name none first = (
+    stands_at_remote name first,
+    subst (IsLeast name) (sym (none_left locals none)) (All-nil (λ q. is_gt (cmp name q) ≡ false)),
+    first.2,
+  )
+
+  pub lesser_name : (local name lesser : List ℕ) → Some local ≡ slice_get (keys_of locals) 0 → IsLeast local locals
+      → IsFirstOfRemotes remotes (Some name) → (lesser ≡ local) ⊎ (lesser ≡ name)
+      → is_gt (cmp lesser local) ≡ false → is_gt (cmp lesser name) ≡ false → IsFirstName locals remotes (Some lesser)
+  lesser_name local name lesser at least first one below_local below_name =
+      let P : List ℕ → Type 0 = λ n. IsSome (joined_at locals remotes n) in (
+        ⊎_elim (λ e. subst P (sym e) (joined_local _ _ (at_first local locals at)))
+            (λ e. subst P (sym e) (stands_at_remote name first)) one,
+        least_lower lesser local locals below_local least,
+        All-weaker (λ r. IsLeast name r.1) (λ r. IsLeast lesser r.1)
+            (λ r k. least_lower lesser name r.1 below_name k) remotes first.2,
+      )

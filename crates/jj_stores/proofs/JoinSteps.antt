@@ -1,5 +1,5 @@
 -- A row of a join is what its first name has, and the others are the join of what is left.
-use Rattle.std.proofs.Common.{◌≡◌, ◌⊎◌, inl, inr, ◌+◌, ◌<◌, ℕ, List, [], ◌∷◌, Bool, true, false, cond, Option, Some, None, length, sym, refl, ap, ap₂, length-append, subst, ◌∙◌, ⊎_elim, arith}
+use Rattle.std.proofs.Common.{◌≡◌, ◌+◌, ◌<◌, ℕ, List, [], ◌∷◌, Bool, true, false, cond, Option, Some, None, length, sym, refl, ap, ap₂, length-append, subst, ◌∙◌, ⊎_elim, arith}
 use Rattle.std.specs.Cmp.Lexicographic.{nat_list_eq_equiv}
 use Rattle.std.specs.List.{All, AllZip, AllByRecursion, cons_option, sum_by}
 use Rattle.std.specs.List.Sorted.{IsStrictlySortedBy}
@@ -15,7 +15,7 @@ use Rattle.std.proofs.lemmas.Map.Views.{All-keys_from_lookup}
 use Rattle.std.proofs.lemmas.Slice.Eq.{bytes_eq-Decides}
 use Rattle.jj_stores.specs.ViewJoins.{Named, IsAscending, IsLeast, TakesAt, LosesAt, remotes_with, joined, joined_at, IsViewJoin, IsFirstName}
 use Rattle.jj_stores.proofs.NamesLeft.{cmp, Above, below}
-use Rattle.jj_stores.proofs.FirstNames.{IsMore}
+use Rattle.jj_stores.proofs.FirstNames.{IsMore, some_joined}
 
 -- ---- what is left of the refs of one place, when those of its least name were taken
 
@@ -88,7 +88,7 @@ module _ {R : Type 0} (name : List ℕ) where
       (remotes_above os ns (All-tail Q o os least) lost.1 other) more
 
 -- where no name is left, neither is a row
-no_remotes : {R : Type 0} (remotes : Named (Named R)) (q : List ℕ) → All (λ r. r.1 ≡ []) remotes → remotes_with remotes q ≡ []
+pub no_remotes : {R : Type 0} (remotes : Named (Named R)) (q : List ℕ) → All (λ r. r.1 ≡ []) remotes → remotes_with remotes q ≡ []
 no_remotes [] q none = refl
 no_remotes {R} (r ∷ rs) q none =
     let P : List ℕ × Named R → Type 0 = λ r. r.1 ≡ [] in
@@ -98,11 +98,6 @@ no_remotes {R} (r ∷ rs) q none =
 -- ---- the join
 
 module _ {T R : Type 0} where
-  pub some_joined : (local : Option T) (refs : Named R) → IsSome (joined local refs) → IsSome local ⊎ IsMore refs
-  some_joined (Some t) refs h = inl refl
-  some_joined None [] h = cc
-  some_joined None (r ∷ rs) h = inr (r, rs, refl)
-
   pub joined_is : (local : Option T) (refs : Named R) → IsSome (joined local refs) → Some (local, refs) ≡ joined local refs
   joined_is (Some t) refs h = refl
   joined_is None [] h = cc

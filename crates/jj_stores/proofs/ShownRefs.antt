@@ -12,7 +12,7 @@ use denote.Param.Members.{Mut}
 module _ {F : Type 0} (closure : Mut F (Bor RemoteView × Unit {0}) (Bor (BTreeMap (List ℕ) RemoteRef)))
     (refs_of : RemoteView → Named RemoteRef)
     (shows : (f : F) (view : RemoteView) (refs : Bor (BTreeMap (List ℕ) RemoteRef)) (next : F)
-        → CalledAt closure f view refs next → refs.now.entries ≡ refs_of view) where
+    → CalledAt closure f view refs next → refs.now.entries ≡ refs_of view) where
   pub remotes_shown : (f : F) (views : Named RemoteView) (remotes : Named (Named RemoteRef)) (last : F)
       → MapsTo (ShowsRefs closure) f views remotes last
       → remotes ≡ map (λ view. (view.0, refs_of view.1)) views

@@ -13,8 +13,10 @@ module _ {K : Type 0} where
   -- a name, the local target, and the remotes with their refs
   abbrev pub row_of : Name K × LocalRemoteRefTarget
       → List ℕ × (Option Target × Named RemoteRef)
-  row_of row = (name_of row.0,
-      (option_copied row.1.local_target, map ref_of row.1.remote_refs.items))
+  row_of row = (
+    name_of row.0,
+    (option_copied row.1.local_target, map ref_of row.1.remote_refs.items),
+  )
 
   -- the first of the rows that are left is given, and the others are left; or there is none; or
   -- there is one that is refused, and then none is left

@@ -10,3 +10,4 @@ pub mod OperationLaws
 pub mod ViewJoins
 pub mod JoinRows
 pub mod JoinSteps
+pub mod FlatRefs

@@ -62,3 +62,7 @@ module _ {T R : Type 0} where
       ((locals ≡ []) × All (λ remote. remote.1 ≡ []) remotes)
       (λ name. IsSome (joined_at locals remotes name) × IsLeast name locals
       × All (λ remote. IsLeast name remote.1) remotes)
+
+-- the first name that remotes have, if they have any
+abbrev pub IsFirstOfRemotes : {R : Type 0} → Named (Named R) → Option (List ℕ) → Type 0
+IsFirstOfRemotes remotes first = IsFirstName {T = Unit {0}} [] remotes first

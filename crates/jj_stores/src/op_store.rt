@@ -14,4 +14,7 @@ pub use jj_ids::object_id::{OperationId, ViewId};
 pub use operation::{Operation, OperationMetadata, RootOperationData, TimestampRange};
 pub use ref_target::{RefTarget, RefTargetOptionExt, RemoteRef, RemoteRefState};
 pub use view::{RemoteView, View};
-pub use view_joins::{LocalRemoteRefTarget, MergeJoinRefViews, merge_join_ref_views};
+pub use view_joins::{
+    FlattenRemoteRefs, LocalRemoteRefTarget, MergeJoinRefViews, flatten_remote_refs,
+    merge_join_ref_views,
+};

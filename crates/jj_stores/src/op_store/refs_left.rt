@@ -1,5 +1,5 @@
 //! Refs by name that are left to be joined, here and at remotes.
-ghost use Rattle.std.specs.Prelude.{◌≡◌, ◌⊎◌, map, false, option_map, IfOk, OnOk, IfSome};
+ghost use Rattle.std.specs.Prelude.{◌≡◌, ◌⊎◌, map, false, option_map, [], IfOk, OnOk, IfSome, MatchOption};
 ghost use Rattle.std.specs.Cmp.Lexicographic.{slice_cmp};
 ghost use Rattle.std.specs.List.{slice_get, All, AllZip};
 ghost use Rattle.std.specs.Option.{option_copied};
@@ -7,7 +7,8 @@ ghost use Rattle.std.specs.Ordering.{nat_cmp, is_gt};
 ghost use Rattle.std.specs.Map.{keys_of, lookup};
 ghost use Rattle.std.specs.Str.{bytes_eq};
 ghost use Rattle.jj_merges.specs.Maps.{MapsTo};
-ghost use Rattle.jj_stores.specs.ViewJoins.{IsAscending, IsLeast, TakesAt, LosesAt, remotes_with, IsFirstName};
+ghost use Rattle.jj_stores.specs.ViewJoins.{IsAscending, IsLeast, TakesAt, LosesAt, remotes_with, IsFirstName, IsFirstOfRemotes};
+ghost use Rattle.jj_stores.specs.FlatRefs.{TakesRef};
 ghost use Rattle.jj_stores.specs.JoinRows.{ref_of, ShowsRefs};
 
 use super::{RefTarget, RemoteRef, RemoteView};
@@ -121,14 +122,11 @@ fn lesser<'a>(name: &'a RefNameBuf, other: &'a RefNameBuf) -> &'a RefNameBuf
     if other < name { other } else { name }
 }
 
-// The first name that has a ref here or at a remote.
-pub(super) fn first_name<'a>(
-    locals: &RefsLeft<'a, RefTarget>,
-    remotes: &[RemoteLeft<'a>],
-) -> Option<&'a RefNameBuf>
-    ensures { IsFirstName locals.now remotes.now (option_copied result) }
+// The first name that has a ref at a remote.
+pub(super) fn first_of_remotes<'a>(remotes: &[RemoteLeft<'a>]) -> Option<&'a RefNameBuf>
+    ensures { IsFirstOfRemotes remotes.now (option_copied result) }
 {
-    let mut first = locals.first_name();
+    let mut first = None;
     for remote in remotes {
         if let Some(name) = remote.first_name() {
             first = match first {
@@ -138,6 +136,23 @@ pub(super) fn first_name<'a>(
         }
     }
     first
+}
+
+// The first name that has a ref here or at a remote.
+pub(super) fn first_name<'a>(
+    locals: &RefsLeft<'a, RefTarget>,
+    remotes: &[RemoteLeft<'a>],
+) -> Option<&'a RefNameBuf>
+    ensures { IsFirstName locals.now remotes.now (option_copied result) }
+{
+    let local = locals.first_name();
+    let Some(remote) = first_of_remotes(remotes) else {
+        return local;
+    };
+    match local {
+        Some(local) => Some(lesser(local, remote)),
+        None => Some(remote),
+    }
 }
 
 // Takes the refs of this name from all remotes, in their order.
@@ -158,6 +173,23 @@ pub(super) fn take_refs<'a>(
         }
     }
     Ok(refs)
+}
+
+// Takes the ref of this name from the first remote that has it.
+pub(super) fn take_ref<'a>(
+    remotes: &mut [RemoteLeft<'a>],
+    name: &RefNameBuf,
+) -> Option<(RemoteName<'a>, &'a RemoteRef)>
+    requires { All (λ remote. IsLeast name.now remote.1) remotes.old }
+    ensures { MatchOption result (remotes_with remotes.old name.now ≡ [])
+        (λ found. TakesRef name.now remotes.old (ref_of found) remotes.new) }
+{
+    for remote in remotes.iter_mut() {
+        if let Some(found) = remote.take_at(name) {
+            return Some(found);
+        }
+    }
+    None
 }
 
 // What remotes have of the refs that `get_remote_refs` shows, in the order of their names.

@@ -3,9 +3,11 @@ ghost use Rattle.std.specs.Prelude.{◌≡◌, IfOk};
 ghost use Rattle.jj_merges.specs.Maps.{MapsTo};
 ghost use Rattle.jj_stores.specs.JoinRows.{ShowsRefs};
 
-use super::refs_left::{RefsLeft, RemoteLeft, first_name, remotes_left, take_refs};
+use super::refs_left::{
+    RefsLeft, RemoteLeft, first_name, first_of_remotes, remotes_left, take_ref, take_refs,
+};
 use super::{RefTarget, RemoteRef, RemoteView};
-use jj_ids::ref_name::{RefName, RefNameBuf, RemoteName, RemoteNameBuf};
+use jj_ids::ref_name::{RefName, RefNameBuf, RemoteName, RemoteNameBuf, RemoteRefSymbol};
 use std::alloc::{AllocError, Global};
 use std::collections::BTreeMap;
 use std::marker::Model;
@@ -91,4 +93,55 @@ where
         remotes,
         is_ended: false,
     })
+}
+
+/// The refs of all remotes, by name, and those of one name by remote.
+#[derive(Drop)]
+pub struct FlattenRemoteRefs<'a> {
+    remotes: Vec<RemoteLeft<'a>>,
+}
+
+impl<'a> Model for FlattenRemoteRefs<'a> {
+    ghost use Rattle.jj_stores.specs.ViewJoins.{Named};
+    ghost use Rattle.jj_stores.specs.declared.op_store.ref_target.RemoteRef.{RemoteRef as Ref};
+
+    ghost Value = { Named (Named Ref) };
+
+    ghost view = { λ refs. refs.remotes.items };
+}
+
+impl<'a> Iterator for FlattenRemoteRefs<'a> {
+    ghost use Rattle.std.specs.Prelude.{length};
+    ghost use Rattle.std.specs.Iterator.{at_most};
+    ghost use Rattle.std.specs.List.{sum_by};
+    ghost use Rattle.jj_stores.specs.FlatRefs.{GivesRef};
+
+    type Item = (RemoteRefSymbol<'a>, &'a RemoteRef);
+
+    ghost next_gives = { GivesRef };
+
+    ghost remaining = { λ remotes. at_most (sum_by (λ r. length r.1) remotes) };
+
+    fn next(&mut self) -> Option<(RemoteRefSymbol<'a>, &'a RemoteRef)> {
+        let name = first_of_remotes(self.remotes.as_slice())?;
+        let (remote, target) = take_ref(self.remotes.as_mut_slice(), name)?;
+        Some((name.as_name().to_remote_symbol(remote), target))
+    }
+}
+
+/// The refs of all remotes, by name, and those of one name by remote. `get_remote_refs` is called
+/// once for each remote, in the order of their names, and shows which of its refs are meant.
+pub fn flatten_remote_refs<'a, F>(
+    alloc: Global,
+    remote_views: &'a BTreeMap<RemoteNameBuf, RemoteView>,
+    get_remote_refs: F,
+) -> Result<FlattenRemoteRefs<'a>, AllocError>
+where
+    F: FnMut(&'a RemoteView) -> &'a BTreeMap<RefNameBuf, RemoteRef>,
+    requires { F.IsAlwaysCallable get_remote_refs }
+    ensures { IfOk result (λ refs. (last : F) × MapsTo (ShowsRefs F.FnMut) get_remote_refs
+        remote_views.now.entries refs last) }
+{
+    let remotes = remotes_left(alloc, remote_views, get_remote_refs)?;
+    Ok(FlattenRemoteRefs { remotes })
 }
