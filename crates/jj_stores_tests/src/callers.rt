@@ -2,14 +2,17 @@
 ghost use Rattle.std.specs.Prelude.{◌≡◌, Some, OnOk, IfOk, map};
 ghost use Rattle.std.specs.Map.{lookup};
 ghost use Rattle.std.specs.Str.{bytes_eq};
+ghost use Rattle.jj_stores.specs.FlatRefs.{AreFlat, symbol_ref_of};
 ghost use Rattle.jj_stores.specs.JoinSteps.{row_of};
 ghost use Rattle.jj_stores.specs.Signer.{cached};
 ghost use Rattle.jj_stores.specs.Verdict.{Verdict};
 ghost use Rattle.jj_stores.specs.ViewJoins.{IsViewJoin};
 
 use jj_ids::object_id::CommitId;
-use jj_ids::ref_name::RefName;
-use jj_stores::op_store::{LocalRemoteRefTarget, View, merge_join_ref_views};
+use jj_ids::ref_name::{RefName, RemoteRefSymbol};
+use jj_stores::op_store::{
+    LocalRemoteRefTarget, RemoteRef, View, flatten_remote_refs, merge_join_ref_views,
+};
 use jj_stores::signing::{SignError, Signer, Verification};
 use std::alloc::{AllocError, Global};
 
@@ -42,4 +45,20 @@ pub fn joined_bookmarks<'a>(
         rows.push(row?)?;
     }
     Ok(rows)
+}
+
+/// The tags of all remotes of a view: by name, and those of one name by remote.
+pub fn remote_tags<'a>(
+    alloc: Global,
+    view: &'a View,
+) -> Result<Vec<(RemoteRefSymbol<'a>, &'a RemoteRef)>, AllocError>
+    ensures { IfOk result (λ tags. AreFlat
+        (map (λ remote. (remote.0, remote.1.tags.entries)) view.now.remote_views.entries)
+        (map symbol_ref_of tags.items)) }
+{
+    let mut tags = Vec::new(alloc);
+    for tag in flatten_remote_refs(alloc, &view.remote_views, |v| &v.tags)? {
+        tags.push(tag)?;
+    }
+    Ok(tags)
 }

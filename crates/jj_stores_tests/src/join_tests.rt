@@ -6,7 +6,7 @@ use jj_ids::ref_name::{RefName, RefNameBuf, RemoteNameBuf};
 use jj_merges::merge::Merge;
 use jj_stores::op_store::{
     LocalRemoteRefTarget, RefTarget, RemoteRef, RemoteRefState, RemoteView, View,
-    merge_join_ref_views,
+    flatten_remote_refs, merge_join_ref_views,
 };
 use std::alloc::{AllocError, Global};
 use std::process::Abort;
@@ -151,5 +151,33 @@ fn views_without_refs_have_no_rows(rt: HostRuntime) -> Result<(), Fail> {
     let view = empty_view(alloc).or_else(|_| empty_view(alloc))?;
     let text = joined(alloc, &view).or_else(|_| joined(alloc, &view))?;
     assert!(rt; text.is_empty());
+    Ok(())
+}
+
+fn flat(alloc: Global, view: &View) -> Result<String, AllocError> {
+    let mut text = String::new(alloc);
+    for (symbol, remote_ref) in flatten_remote_refs(alloc, &view.remote_views, |v| &v.bookmarks)? {
+        text.push_str(symbol.name.as_str())?;
+        text.push_str("@")?;
+        text.push_str(symbol.remote.as_str())?;
+        text.push_str("=")?;
+        push_target(alloc, &mut text, &remote_ref.target)?;
+        text.push_str(";")?;
+    }
+    Ok(text)
+}
+
+fn flat_bookmarks(alloc: Global) -> Result<String, AllocError> {
+    let mut view = empty_view(alloc)?;
+    add_local(alloc, &mut view, "c", 9)?;
+    add_remote(alloc, &mut view, "y", &[("a", 2), ("d", 4)])?;
+    add_remote(alloc, &mut view, "x", &[("b", 3), ("a", 1)])?;
+    flat(alloc, &view)
+}
+
+#[test]
+fn refs_of_all_remotes_go_by_name(rt: HostRuntime) -> Result<(), Fail> {
+    let text = flat_bookmarks(rt.alloc()).or_else(|_| flat_bookmarks(rt.alloc()))?;
+    assert_eq!(rt; text.as_str(), "a@x=01;a@y=02;b@x=03;d@y=04;");
     Ok(())
 }

@@ -8,4 +8,6 @@ pub mod callers;
 #[cfg(test)]
 mod join_tests;
 #[cfg(test)]
+mod op_store_tests;
+#[cfg(test)]
 mod signers;
