@@ -14,7 +14,7 @@ use std::marker::Model;
 
 /// A local ref and the refs of remotes that have one name. No local target is that there is no
 /// such ref here.
-#[derive(Debug, PartialEq, Eq, Drop)]
+#[derive(Clone, Debug, PartialEq, Eq, Drop)]
 pub struct LocalRemoteRefTarget<'a> {
     pub local_target: Option<&'a RefTarget>,
     pub remote_refs: Vec<(RemoteName<'a>, &'a RemoteRef)>,
