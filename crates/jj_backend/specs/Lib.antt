@@ -9,3 +9,4 @@ pub mod Trees
 pub mod TreeLaws
 pub mod Errors
 pub mod Objects
+pub mod CopyHistoryOrder

@@ -1,15 +1,17 @@
 //! Callers of jj_backend, with what they promise of its answers.
-ghost use Rattle.std.specs.Prelude.{◌≡◌, ◌∷◌, [], ◌*ℤ◌, pos, false, Some, IfOk, is_some, ◌↔◌};
+ghost use Rattle.std.specs.Prelude.{◌≡◌, ◌∷◌, [], ◌*ℤ◌, pos, false, Some, IfOk, IsTrue, is_some, ◌↔◌};
+ghost use Rattle.std.specs.declared.cmp.Ordering.TheVariants.{Less};
 ghost use Rattle.jj_backend.specs.declared.backend.tree_value.TreeValue.TheVariants.{File};
 ghost use Rattle.jiff.specs.Words.{IsTimestampNanos};
 ghost use Rattle.jj_paths.specs.Names.{name_of};
+ghost use Rattle.jj_paths.specs.Paths.{path_cmp};
 ghost use Rattle.jj_backend.specs.MergedTreeValues.{are_trees};
 ghost use Rattle.jj_backend.specs.Records.{commit_eq};
 ghost use Rattle.jj_backend.specs.Trees.{value_at};
 
 use jj_backend::backend::{
-    ChangeId, Commit, FileId, MergedTreeValue, MergedTreeValueExt, MillisSinceEpoch, Timestamp,
-    Tree, TreeId, make_root_commit,
+    ChangeId, Commit, CopyHistory, FileId, MergedTreeValue, MergedTreeValueExt, MillisSinceEpoch,
+    Timestamp, Tree, TreeId, make_root_commit,
 };
 use jj_merges::merge::Merge;
 use jj_paths::repo_path::RepoPathComponent;
@@ -34,6 +36,13 @@ pub fn are_equal(a: &Commit, b: &Commit) -> bool
     ensures { result ≡ commit_eq a.now b.now }
 {
     a == b
+}
+
+/// Whether a copy history comes before another, as that of an earlier path does.
+pub fn is_earlier(a: &CopyHistory, b: &CopyHistory) -> bool
+    ensures { path_cmp a.now.current_path b.now.current_path ≡ Less → IsTrue result }
+{
+    a < b
 }
 
 /// The change of the root commit is the one that it was made with.

@@ -6,6 +6,8 @@
 
 pub mod callers;
 #[cfg(test)]
+mod content_tests;
+#[cfg(test)]
 mod error_tests;
 #[cfg(test)]
 mod json_tests;

@@ -7,3 +7,7 @@ pub mod Views
 pub mod ViewLaws
 pub mod Operations
 pub mod OperationLaws
+pub mod ViewJoins
+pub mod JoinRows
+pub mod JoinSteps
+pub mod FlatRefs

@@ -4,7 +4,9 @@ mod interface;
 mod json;
 mod operation;
 mod ref_target;
+mod refs_left;
 mod view;
+mod view_joins;
 
 pub use errors::{OpStoreError, OpStoreResult};
 pub use interface::OpStore;
@@ -12,3 +14,7 @@ pub use jj_ids::object_id::{OperationId, ViewId};
 pub use operation::{Operation, OperationMetadata, RootOperationData, TimestampRange};
 pub use ref_target::{RefTarget, RefTargetOptionExt, RemoteRef, RemoteRefState};
 pub use view::{RemoteView, View};
+pub use view_joins::{
+    FlattenRemoteRefs, LocalRemoteRefTarget, MergeJoinRefViews, flatten_remote_refs,
+    merge_join_ref_views,
+};

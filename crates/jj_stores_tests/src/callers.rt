@@ -1,12 +1,20 @@
-//! What a user of signers relies on.
-ghost use Rattle.std.specs.Prelude.{◌≡◌, Some, OnOk, IfOk};
+//! What users of signers and of joins rely on.
+ghost use Rattle.std.specs.Prelude.{◌≡◌, Some, OnOk, IfOk, map};
 ghost use Rattle.std.specs.Map.{lookup};
 ghost use Rattle.std.specs.Str.{bytes_eq};
+ghost use Rattle.jj_stores.specs.FlatRefs.{AreFlat, symbol_ref_of};
+ghost use Rattle.jj_stores.specs.JoinSteps.{row_of};
 ghost use Rattle.jj_stores.specs.Signer.{cached};
 ghost use Rattle.jj_stores.specs.Verdict.{Verdict};
+ghost use Rattle.jj_stores.specs.ViewJoins.{IsViewJoin};
 
 use jj_ids::object_id::CommitId;
+use jj_ids::ref_name::{RefName, RemoteRefSymbol};
+use jj_stores::op_store::{
+    LocalRemoteRefTarget, RemoteRef, View, flatten_remote_refs, merge_join_ref_views,
+};
 use jj_stores::signing::{SignError, Signer, Verification};
+use std::alloc::{AllocError, Global};
 
 /// Verifies a commit that is remembered: the answer is what is remembered, whatever the data and
 /// the signature are.
@@ -19,4 +27,38 @@ pub fn verify_again(
     ensures { IfOk result (λ found. found ≡ known.now) }
 {
     signer.verify(commit_id, b"", b"")
+}
+
+/// All bookmarks of a view, here and at remotes: those of one name stand together, in the order of
+/// names, and the remotes of a name in the order of theirs.
+pub fn joined_bookmarks<'a>(
+    alloc: Global,
+    view: &'a View,
+) -> Result<Vec<(RefName<'a>, LocalRemoteRefTarget<'a>)>, AllocError>
+    ensures { IfOk result (λ rows. IsViewJoin view.now.local_bookmarks.entries
+        (map (λ remote. (remote.0, remote.1.bookmarks.entries)) view.now.remote_views.entries)
+        (map row_of rows.items)) }
+{
+    let mut rows = Vec::new(alloc);
+    let remotes = &view.remote_views;
+    for row in merge_join_ref_views(alloc, &view.local_bookmarks, remotes, |v| &v.bookmarks)? {
+        rows.push(row?)?;
+    }
+    Ok(rows)
+}
+
+/// The tags of all remotes of a view: by name, and those of one name by remote.
+pub fn remote_tags<'a>(
+    alloc: Global,
+    view: &'a View,
+) -> Result<Vec<(RemoteRefSymbol<'a>, &'a RemoteRef)>, AllocError>
+    ensures { IfOk result (λ tags. AreFlat
+        (map (λ remote. (remote.0, remote.1.tags.entries)) view.now.remote_views.entries)
+        (map symbol_ref_of tags.items)) }
+{
+    let mut tags = Vec::new(alloc);
+    for tag in flatten_remote_refs(alloc, &view.remote_views, |v| &v.tags)? {
+        tags.push(tag)?;
+    }
+    Ok(tags)
 }

@@ -1,8 +1,9 @@
 //! What is known of copies of files.
-ghost use Rattle.std.specs.Prelude.{◌≡◌, ◌++◌, OnOk, OnErr};
+ghost use Rattle.std.specs.Prelude.{◌≡◌, ◌++◌, OnOk, OnErr, Some, refl};
 ghost use Rattle.std.specs.Cmp;
 ghost use Rattle.jj_content.specs.Content.{Takes, TakesFront, IsLawful};
 ghost use Rattle.jj_backend.specs.Contents.{IsCopyHistory, copy_history_content};
+ghost use Rattle.jj_backend.specs.CopyHistoryOrder.{copy_history_cmp, copy_history_cmp_total, copy_history_ties, copy_history_po, copy_history_hash, copy_history_hash-respects_eq};
 ghost use Rattle.jj_backend.specs.RecordLaws.{copy_history_equiv, copy_history_lawful};
 ghost use Rattle.jj_backend.specs.Records.{CopyHistoryValue, copy_history_eq};
 
@@ -10,6 +11,8 @@ use jj_content::content_hash::{ContentHash, DigestUpdate};
 use jj_ids::object_id::{CommitId, CopyId, FileId};
 use jj_paths::repo_path::RepoPathBuf;
 use std::alloc::{AllocError, Global};
+use std::cmp::Ordering;
+use std::hash::{Hash, Hasher};
 use std::marker::Model;
 
 /// A copy that was found between two commits: the file `target` of `target_commit` came from
@@ -81,6 +84,46 @@ impl PartialEq for CopyHistory {
 
 impl Eq for CopyHistory {
     ghost laws = { copy_history_equiv };
+}
+
+impl PartialOrd for CopyHistory {
+    ghost partial_cmp = { λ a b. Some (copy_history_cmp a b) };
+
+    ghost laws = { copy_history_po };
+
+    fn partial_cmp(&self, other: &CopyHistory) -> Option<Ordering> {
+        Some(self.cmp(other))
+    }
+}
+
+/// By the path, then by the parents, then by the salt.
+impl Ord for CopyHistory {
+    ghost cmp = { copy_history_cmp };
+
+    ghost total = { copy_history_cmp_total };
+
+    ghost matches_partial_cmp = { λ a b. refl };
+
+    ghost matches_eq = { copy_history_ties };
+
+    fn cmp(&self, other: &CopyHistory) -> Ordering {
+        self.current_path
+            .cmp(&other.current_path)
+            .then_with(|| self.parents.cmp(&other.parents))
+            .then_with(|| self.salt.cmp(&other.salt))
+    }
+}
+
+impl Hash for CopyHistory {
+    ghost hash_input = { copy_history_hash };
+
+    ghost respects_eq = { copy_history_hash-respects_eq };
+
+    fn hash<H: Hasher>(&self, state: &mut H) {
+        Hash::hash(&self.current_path, state);
+        Hash::hash(&self.parents, state);
+        Hash::hash(&self.salt, state);
+    }
 }
 
 impl ContentHash for CopyHistory {

@@ -1,5 +1,5 @@
 //! Where refs point to, here and at remotes.
-ghost use Rattle.std.specs.Prelude.{◌≡◌, ◌↔◌, ◌∷◌, [], IsTrue, None, OnOk, OnErr};
+ghost use Rattle.std.specs.Prelude.{◌≡◌, ◌↔◌, ◌∷◌, [], IsTrue, None, IfOk, OnOk, OnErr};
 ghost use Rattle.std.specs.Cmp;
 ghost use Rattle.std.specs.Option.{option_copied};
 ghost use Rattle.jj_content.specs.Content.{Takes, TakesFront, IsLawful};
@@ -37,6 +37,17 @@ impl RemoteRef {
             target: Merge::absent(alloc),
             state: RemoteRefState::New,
         }
+    }
+
+    /// A copy of the ref.
+    pub fn clone(&self, alloc: Global) -> Result<Self, AllocError>
+        ensures { IfOk result (λ copy. copy ≡ self.now) }
+    {
+        let target = self.target.clone(alloc)?;
+        Ok(RemoteRef {
+            target,
+            state: self.state,
+        })
     }
 
     /// Whether the remote has no such ref.

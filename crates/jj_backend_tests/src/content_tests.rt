@@ -1,0 +1,161 @@
+//! Content bytes of records, as hex texts.
+use crate::records::{commit, file, signature};
+use jj_backend::backend::{
+    CommitId, CopyHistory, CopyId, MillisSinceEpoch, SecureSig, SymlinkId, Timestamp, TreeId,
+    TreeValue,
+};
+use jj_content::content_hash::{ContentHash, DigestUpdate};
+use jj_content::hex_util::encode_hex;
+use jj_paths::repo_path::RepoPathBuf;
+use std::alloc::{AllocError, Global};
+use std::process::Abort;
+use std::test::Fail;
+
+// The content bytes that were taken in, while there was room for all of them.
+#[derive(Drop)]
+struct TakenBytes {
+    bytes: Vec<u8>,
+    is_whole: bool,
+}
+
+impl DigestUpdate for TakenBytes {
+    ghost use Rattle.std.specs.Prelude.{⊤};
+
+    ghost stands_for = { λ _ _. ⊤ };
+
+    fn update(&mut self, bytes: &[u8]) {
+        if self.is_whole && self.bytes.extend_from_slice(bytes).is_err() {
+            self.is_whole = false;
+        }
+    }
+}
+
+// The content of a value, as a hex text.
+fn content<T: ContentHash>(alloc: Global, value: &T) -> Result<String, AllocError> {
+    let mut taken = TakenBytes {
+        bytes: Vec::new(alloc),
+        is_whole: true,
+    };
+    value.hash(alloc, &mut taken)?;
+    if !taken.is_whole {
+        return Err(AllocError);
+    }
+    encode_hex(alloc, taken.bytes.as_slice())
+}
+
+fn time_content(alloc: Global) -> Result<String, AllocError> {
+    let time = Timestamp {
+        timestamp: MillisSinceEpoch(-2),
+        tz_offset: -60,
+    };
+    content(alloc, &signature(alloc, "a", "bc", time)?)
+}
+
+#[test]
+fn a_signature_is_its_texts_and_its_moment(rt: HostRuntime) -> Result<(), Fail> {
+    let text = time_content(rt.alloc()).or_else(|_| time_content(rt.alloc()))?;
+    assert_eq!(rt;
+        text.as_str(),
+        "01000000000000006102000000000000006263feffffffffffffffc4ffffff"
+    );
+    Ok(())
+}
+
+fn sig_content(alloc: Global) -> Result<String, AllocError> {
+    let sig = SecureSig {
+        signed_data: [1, 2].to_vec(alloc)?,
+        sig: [3].to_vec(alloc)?,
+    };
+    content(alloc, &sig)
+}
+
+#[test]
+fn a_signature_of_data_is_both(rt: HostRuntime) -> Result<(), Fail> {
+    let text = sig_content(rt.alloc()).or_else(|_| sig_content(rt.alloc()))?;
+    assert_eq!(rt; text.as_str(), "02000000000000000102010000000000000003");
+    Ok(())
+}
+
+fn file_content(alloc: Global) -> Result<String, AllocError> {
+    content(alloc, &file(alloc, 1, true)?)
+}
+
+fn link_content(alloc: Global) -> Result<String, AllocError> {
+    let link = TreeValue::Symlink(SymlinkId::from_bytes(alloc, &[2])?);
+    content(alloc, &link)
+}
+
+#[test]
+fn files_and_links(rt: HostRuntime) -> Result<(), Fail> {
+    let text = file_content(rt.alloc()).or_else(|_| file_content(rt.alloc()))?;
+    assert_eq!(rt;
+        text.as_str(),
+        "00000000010000000000000001010000000000000000"
+    );
+    let text = link_content(rt.alloc()).or_else(|_| link_content(rt.alloc()))?;
+    assert_eq!(rt; text.as_str(), "01000000010000000000000002");
+    Ok(())
+}
+
+fn tree_content(alloc: Global) -> Result<String, AllocError> {
+    let tree = TreeValue::Tree(TreeId::from_bytes(alloc, &[3])?);
+    content(alloc, &tree)
+}
+
+fn submodule_content(alloc: Global) -> Result<String, AllocError> {
+    let submodule = TreeValue::GitSubmodule(CommitId::from_bytes(alloc, &[4])?);
+    content(alloc, &submodule)
+}
+
+#[test]
+fn trees_and_submodules(rt: HostRuntime) -> Result<(), Fail> {
+    let text = tree_content(rt.alloc()).or_else(|_| tree_content(rt.alloc()))?;
+    assert_eq!(rt; text.as_str(), "02000000010000000000000003");
+    let text = submodule_content(rt.alloc()).or_else(|_| submodule_content(rt.alloc()))?;
+    assert_eq!(rt; text.as_str(), "03000000010000000000000004");
+    Ok(())
+}
+
+fn history_content(alloc: Global) -> Result<String, AllocError> {
+    let mut parents = Vec::new(alloc);
+    parents.push(CopyId::from_bytes(alloc, &[9])?)?;
+    let history = CopyHistory {
+        current_path: RepoPathBuf::root(alloc),
+        parents,
+        salt: [7].to_vec(alloc)?,
+    };
+    content(alloc, &history)
+}
+
+#[test]
+fn a_copy_history_is_its_parts(rt: HostRuntime) -> Result<(), Fail> {
+    let text = history_content(rt.alloc()).or_else(|_| history_content(rt.alloc()))?;
+    assert_eq!(rt;
+        text.as_str(),
+        "00000000000000000100000000000000010000000000000009010000000000000007"
+    );
+    Ok(())
+}
+
+fn commit_content(alloc: Global) -> Result<String, AllocError> {
+    content(alloc, &commit(alloc)?)
+}
+
+// Parents, predecessors, tree, label; change, description; author, committer; no signature.
+#[test]
+fn a_commit_is_its_parts(rt: HostRuntime) -> Result<(), Fail> {
+    let text = commit_content(rt.alloc()).or_else(|_| commit_content(rt.alloc()))?;
+    assert_eq!(rt;
+        text.as_str(),
+        "010000000000000001000000000000000a\
+         010000000000000001000000000000000b\
+         010000000000000001000000000000000c\
+         01000000000000000000000000000000\
+         01000000000000000d\
+         010000000000000064\
+         0100000000000000610000000000000000000000000000000000000000\
+         0100000000000000620000000000000000000000000000000000000000\
+         00000000"
+    );
+    Ok(())
+}

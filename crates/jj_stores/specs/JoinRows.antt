@@ -1,0 +1,42 @@
+-- What contracts see of the joins: what is left of them, and the rows that they give.
+use Rattle.std.specs.Prelude.{◌≡◌, ◌+◌, ℕ, List, [], length, Bool, true, false, Option}
+use Rattle.std.specs.Borrow.{Bor}
+use Rattle.std.specs.List.{sum_by}
+use Rattle.jj_ids.specs.Names.{name_of}
+use Rattle.jj_ids.specs.declared.ref_name.names.Name.{Name}
+use Rattle.jj_stores.specs.RefTargets.{Target}
+use Rattle.jj_stores.specs.ViewJoins.{Named, IsViewJoin}
+use Rattle.jj_stores.specs.declared.op_store.ref_target.RemoteRef.{RemoteRef}
+use Rattle.jj_stores.specs.declared.op_store.view.RemoteView.{RemoteView}
+use Rattle.std.specs.BTreeMap.{BTreeMap}
+use Rattle.std.specs.Fn.{CalledAt}
+use denote.Param.Members.{Mut}
+
+-- the name of a remote and its ref
+abbrev pub ref_of : {K : Type 0} → Name K × Bor RemoteRef → List ℕ × RemoteRef
+ref_of r = (name_of r.0, r.1.now)
+
+-- the local refs and the refs of remotes that are left of a join
+pub record JoinLeft : Type 0 where
+  pub locals : Named Target
+  pub remotes : Named (Named RemoteRef)
+
+-- what is left of a join that may have ended
+abbrev pub left_unless : Bool → Named Target → Named (Named RemoteRef) → JoinLeft
+left_unless true locals remotes = record { locals = []; remotes = [] }
+left_unless false locals remotes = record { locals = locals; remotes = remotes }
+
+-- these rows are left of a join
+abbrev pub AreLeft : JoinLeft → Named (Option Target × Named RemoteRef) → Type 0
+AreLeft left rows = IsViewJoin left.locals left.remotes rows
+
+-- how many refs are left
+abbrev pub refs_left : JoinLeft → ℕ
+refs_left left = length left.locals + sum_by (λ remote. length remote.1) left.remotes
+
+-- a closure is called for the view of a remote, and shows these refs of it
+abbrev pub ShowsRefs : {F : Type 0}
+    → Mut F (Bor RemoteView × Unit {0}) (Bor (BTreeMap (List ℕ) RemoteRef)) → F
+    → List ℕ × RemoteView → List ℕ × Named RemoteRef → F → Type 0
+ShowsRefs closure f view remote next = (refs : Bor (BTreeMap (List ℕ) RemoteRef))
+    × CalledAt closure f view.1 refs next × (remote ≡ (view.0, refs.now.entries))

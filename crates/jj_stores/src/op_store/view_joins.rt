@@ -1,0 +1,147 @@
+//! Refs here and at remotes, joined by name.
+ghost use Rattle.std.specs.Prelude.{◌≡◌, IfOk};
+ghost use Rattle.jj_merges.specs.Maps.{MapsTo};
+ghost use Rattle.jj_stores.specs.JoinRows.{ShowsRefs};
+
+use super::refs_left::{
+    RefsLeft, RemoteLeft, first_name, first_of_remotes, remotes_left, take_ref, take_refs,
+};
+use super::{RefTarget, RemoteRef, RemoteView};
+use jj_ids::ref_name::{RefName, RefNameBuf, RemoteName, RemoteNameBuf, RemoteRefSymbol};
+use std::alloc::{AllocError, Global};
+use std::collections::BTreeMap;
+use std::marker::Model;
+
+/// A local ref and the refs of remotes that have one name. No local target is that there is no
+/// such ref here.
+#[derive(Clone, Debug, PartialEq, Eq, Drop)]
+pub struct LocalRemoteRefTarget<'a> {
+    pub local_target: Option<&'a RefTarget>,
+    pub remote_refs: Vec<(RemoteName<'a>, &'a RemoteRef)>,
+}
+
+/// The join of local refs with those of remotes, name by name. An error comes only where there is
+/// no memory for a row; after it there are no more rows.
+#[derive(Drop)]
+pub struct MergeJoinRefViews<'a> {
+    alloc: Global,
+    locals: RefsLeft<'a, RefTarget>,
+    remotes: Vec<RemoteLeft<'a>>,
+    is_ended: bool,
+}
+
+impl<'a> Model for MergeJoinRefViews<'a> {
+    ghost use Rattle.jj_stores.specs.JoinRows.{JoinLeft, left_unless};
+
+    ghost Value = { JoinLeft };
+
+    ghost view = { λ join. left_unless join.is_ended join.locals join.remotes.items };
+}
+
+impl<'a> Iterator for MergeJoinRefViews<'a> {
+    ghost use Rattle.std.specs.Iterator.{at_most};
+    ghost use Rattle.jj_stores.specs.JoinRows.{refs_left};
+    ghost use Rattle.jj_stores.specs.JoinSteps.{GivesRow};
+
+    type Item = Result<(RefName<'a>, LocalRemoteRefTarget<'a>), AllocError>;
+
+    ghost next_gives = { GivesRow };
+
+    ghost remaining = { λ join. at_most (refs_left join) };
+
+    fn next(&mut self) -> Option<Result<(RefName<'a>, LocalRemoteRefTarget<'a>), AllocError>> {
+        if self.is_ended {
+            return None;
+        }
+        let name = first_name(&self.locals, self.remotes.as_slice())?;
+        let local_target = self.locals.take_at(name);
+        match take_refs(self.alloc, self.remotes.as_mut_slice(), name) {
+            Ok(remote_refs) => {
+                let target = LocalRemoteRefTarget {
+                    local_target,
+                    remote_refs,
+                };
+                Some(Ok((name.as_name(), target)))
+            }
+            Err(error) => {
+                self.is_ended = true;
+                Some(Err(error))
+            }
+        }
+    }
+}
+
+/// Joins local refs with those of remotes by name. `get_remote_refs` is called once for each
+/// remote, in the order of their names, and shows which of its refs are joined.
+pub fn merge_join_ref_views<'a, F>(
+    alloc: Global,
+    local_refs: &'a BTreeMap<RefNameBuf, RefTarget>,
+    remote_views: &'a BTreeMap<RemoteNameBuf, RemoteView>,
+    get_remote_refs: F,
+) -> Result<MergeJoinRefViews<'a>, AllocError>
+where
+    F: FnMut(&'a RemoteView) -> &'a BTreeMap<RefNameBuf, RemoteRef>,
+    requires { F.IsAlwaysCallable get_remote_refs }
+    ensures locals { IfOk result (λ join. join.locals ≡ local_refs.now.entries) }
+    ensures remotes { IfOk result (λ join. (last : F) × MapsTo (ShowsRefs F.FnMut) get_remote_refs
+        remote_views.now.entries join.remotes last) }
+{
+    let remotes = remotes_left(alloc, remote_views, get_remote_refs)?;
+    Ok(MergeJoinRefViews {
+        alloc,
+        locals: RefsLeft::new(local_refs),
+        remotes,
+        is_ended: false,
+    })
+}
+
+/// The refs of all remotes, by name, and those of one name by remote.
+#[derive(Drop)]
+pub struct FlattenRemoteRefs<'a> {
+    remotes: Vec<RemoteLeft<'a>>,
+}
+
+impl<'a> Model for FlattenRemoteRefs<'a> {
+    ghost use Rattle.jj_stores.specs.ViewJoins.{Named};
+    ghost use Rattle.jj_stores.specs.declared.op_store.ref_target.RemoteRef.{RemoteRef as Ref};
+
+    ghost Value = { Named (Named Ref) };
+
+    ghost view = { λ refs. refs.remotes.items };
+}
+
+impl<'a> Iterator for FlattenRemoteRefs<'a> {
+    ghost use Rattle.std.specs.Prelude.{length};
+    ghost use Rattle.std.specs.Iterator.{at_most};
+    ghost use Rattle.std.specs.List.{sum_by};
+    ghost use Rattle.jj_stores.specs.FlatRefs.{GivesRef};
+
+    type Item = (RemoteRefSymbol<'a>, &'a RemoteRef);
+
+    ghost next_gives = { GivesRef };
+
+    ghost remaining = { λ remotes. at_most (sum_by (λ r. length r.1) remotes) };
+
+    fn next(&mut self) -> Option<(RemoteRefSymbol<'a>, &'a RemoteRef)> {
+        let name = first_of_remotes(self.remotes.as_slice())?;
+        let (remote, target) = take_ref(self.remotes.as_mut_slice(), name)?;
+        Some((name.as_name().to_remote_symbol(remote), target))
+    }
+}
+
+/// The refs of all remotes, by name, and those of one name by remote. `get_remote_refs` is called
+/// once for each remote, in the order of their names, and shows which of its refs are meant.
+pub fn flatten_remote_refs<'a, F>(
+    alloc: Global,
+    remote_views: &'a BTreeMap<RemoteNameBuf, RemoteView>,
+    get_remote_refs: F,
+) -> Result<FlattenRemoteRefs<'a>, AllocError>
+where
+    F: FnMut(&'a RemoteView) -> &'a BTreeMap<RefNameBuf, RemoteRef>,
+    requires { F.IsAlwaysCallable get_remote_refs }
+    ensures { IfOk result (λ refs. (last : F) × MapsTo (ShowsRefs F.FnMut) get_remote_refs
+        remote_views.now.entries refs last) }
+{
+    let remotes = remotes_left(alloc, remote_views, get_remote_refs)?;
+    Ok(FlattenRemoteRefs { remotes })
+}

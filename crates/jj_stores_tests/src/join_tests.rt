@@ -1,0 +1,183 @@
+//! Joins of local refs with those of remotes, as texts: a row for each name, with the commit that it
+//! has here, and with the remotes that have it and theirs.
+use jj_backend::backend::CommitId;
+use jj_ids::object_id::ObjectId;
+use jj_ids::ref_name::{RefName, RefNameBuf, RemoteNameBuf};
+use jj_merges::merge::Merge;
+use jj_stores::op_store::{
+    LocalRemoteRefTarget, RefTarget, RemoteRef, RemoteRefState, RemoteView, View,
+    flatten_remote_refs, merge_join_ref_views,
+};
+use std::alloc::{AllocError, Global};
+use std::process::Abort;
+use std::test::Fail;
+
+fn target(alloc: Global, byte: u8) -> Result<RefTarget, AllocError> {
+    Ok(Merge::normal(alloc, CommitId::from_bytes(alloc, &[byte])?))
+}
+
+fn empty_view(alloc: Global) -> Result<View, AllocError> {
+    View::make_root(alloc, CommitId::from_bytes(alloc, &[0])?)
+}
+
+fn add_local(alloc: Global, view: &mut View, name: &str, byte: u8) -> Result<(), AllocError> {
+    let name = RefNameBuf::from_text(alloc, name)?;
+    view.local_bookmarks.insert(name, target(alloc, byte)?)?;
+    Ok(())
+}
+
+// The refs of a remote, a commit's byte for each name.
+fn remote(alloc: Global, refs: &[(&str, u8)]) -> Result<RemoteView, AllocError> {
+    let mut remote = RemoteView::default(alloc);
+    for (name, byte) in refs {
+        let tracked = RemoteRef {
+            target: target(alloc, *byte)?,
+            state: RemoteRefState::Tracked,
+        };
+        remote
+            .bookmarks
+            .insert(RefNameBuf::from_text(alloc, name)?, tracked)?;
+    }
+    Ok(remote)
+}
+
+fn add_remote(
+    alloc: Global,
+    view: &mut View,
+    name: &str,
+    refs: &[(&str, u8)],
+) -> Result<(), AllocError> {
+    let name = RemoteNameBuf::from_text(alloc, name)?;
+    view.remote_views.insert(name, remote(alloc, refs)?)?;
+    Ok(())
+}
+
+// Adds the hex text of a target's commit.
+fn push_target(alloc: Global, text: &mut String, target: &RefTarget) -> Result<(), AllocError> {
+    if let Some(commit) = target.as_normal() {
+        text.push_str(commit.hex(alloc)?.as_str())?;
+    }
+    Ok(())
+}
+
+fn push_row(
+    alloc: Global,
+    text: &mut String,
+    name: RefName<'_>,
+    row: &LocalRemoteRefTarget<'_>,
+) -> Result<(), AllocError> {
+    text.push_str(name.as_str())?;
+    text.push_str(":")?;
+    if let Some(target) = row.local_target {
+        push_target(alloc, text, target)?;
+    }
+    for (remote, remote_ref) in &row.remote_refs {
+        text.push_str(" ")?;
+        text.push_str(remote.as_str())?;
+        text.push_str("=")?;
+        push_target(alloc, text, &remote_ref.target)?;
+    }
+    text.push_str(";")
+}
+
+fn joined(alloc: Global, view: &View) -> Result<String, AllocError> {
+    let mut text = String::new(alloc);
+    let remotes = &view.remote_views;
+    for row in merge_join_ref_views(alloc, &view.local_bookmarks, remotes, |v| &v.bookmarks)? {
+        let (name, row) = row?;
+        push_row(alloc, &mut text, name, &row)?;
+    }
+    Ok(text)
+}
+
+fn remote_alone(alloc: Global) -> Result<String, AllocError> {
+    let mut view = empty_view(alloc)?;
+    add_remote(alloc, &mut view, "remote1", &[("bookmark1", 1)])?;
+    joined(alloc, &view)
+}
+
+#[test]
+fn a_remote_ref_without_a_local_one(rt: HostRuntime) -> Result<(), Fail> {
+    let text = remote_alone(rt.alloc()).or_else(|_| remote_alone(rt.alloc()))?;
+    assert_eq!(rt; text.as_str(), "bookmark1: remote1=01;");
+    Ok(())
+}
+
+fn two_bookmarks(alloc: Global) -> Result<String, AllocError> {
+    let mut view = empty_view(alloc)?;
+    add_local(alloc, &mut view, "bookmark1", 0x11)?;
+    add_local(alloc, &mut view, "bookmark2", 0x22)?;
+    add_remote(alloc, &mut view, "remote2", &[("bookmark2", 0x66)])?;
+    add_remote(
+        alloc,
+        &mut view,
+        "git",
+        &[("bookmark1", 0x33), ("bookmark2", 0x44)],
+    )?;
+    add_remote(alloc, &mut view, "remote1", &[("bookmark1", 0x55)])?;
+    joined(alloc, &view)
+}
+
+#[test]
+fn refs_of_one_name_go_by_remote(rt: HostRuntime) -> Result<(), Fail> {
+    let text = two_bookmarks(rt.alloc()).or_else(|_| two_bookmarks(rt.alloc()))?;
+    assert_eq!(rt;
+        text.as_str(),
+        "bookmark1:11 git=33 remote1=55;bookmark2:22 git=44 remote2=66;"
+    );
+    Ok(())
+}
+
+fn scattered(alloc: Global) -> Result<String, AllocError> {
+    let mut view = empty_view(alloc)?;
+    add_local(alloc, &mut view, "b", 2)?;
+    add_local(alloc, &mut view, "d", 4)?;
+    add_remote(alloc, &mut view, "none", &[])?;
+    add_remote(alloc, &mut view, "x", &[("a", 1), ("d", 5)])?;
+    add_remote(alloc, &mut view, "y", &[("c", 3), ("e", 6)])?;
+    joined(alloc, &view)
+}
+
+#[test]
+fn names_ascend_over_all_maps(rt: HostRuntime) -> Result<(), Fail> {
+    let text = scattered(rt.alloc()).or_else(|_| scattered(rt.alloc()))?;
+    assert_eq!(rt; text.as_str(), "a: x=01;b:02;c: y=03;d:04 x=05;e: y=06;");
+    Ok(())
+}
+
+#[test]
+fn views_without_refs_have_no_rows(rt: HostRuntime) -> Result<(), Fail> {
+    let alloc = rt.alloc();
+    let view = empty_view(alloc).or_else(|_| empty_view(alloc))?;
+    let text = joined(alloc, &view).or_else(|_| joined(alloc, &view))?;
+    assert!(rt; text.is_empty());
+    Ok(())
+}
+
+fn flat(alloc: Global, view: &View) -> Result<String, AllocError> {
+    let mut text = String::new(alloc);
+    for (symbol, remote_ref) in flatten_remote_refs(alloc, &view.remote_views, |v| &v.bookmarks)? {
+        text.push_str(symbol.name.as_str())?;
+        text.push_str("@")?;
+        text.push_str(symbol.remote.as_str())?;
+        text.push_str("=")?;
+        push_target(alloc, &mut text, &remote_ref.target)?;
+        text.push_str(";")?;
+    }
+    Ok(text)
+}
+
+fn flat_bookmarks(alloc: Global) -> Result<String, AllocError> {
+    let mut view = empty_view(alloc)?;
+    add_local(alloc, &mut view, "c", 9)?;
+    add_remote(alloc, &mut view, "y", &[("a", 2), ("d", 4)])?;
+    add_remote(alloc, &mut view, "x", &[("b", 3), ("a", 1)])?;
+    flat(alloc, &view)
+}
+
+#[test]
+fn refs_of_all_remotes_go_by_name(rt: HostRuntime) -> Result<(), Fail> {
+    let text = flat_bookmarks(rt.alloc()).or_else(|_| flat_bookmarks(rt.alloc()))?;
+    assert_eq!(rt; text.as_str(), "a@x=01;a@y=02;b@x=03;d@y=04;");
+    Ok(())
+}

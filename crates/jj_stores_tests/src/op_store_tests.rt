@@ -1,0 +1,228 @@
+//! Views and operations: root records, tracked refs, equality, and content bytes as hex texts.
+use jj_backend::backend::CommitId;
+use jj_content::content_hash::{ContentHash, DigestUpdate};
+use jj_content::hex_util::encode_hex;
+use jj_ids::object_id::ObjectId;
+use jj_ids::ref_name::RefNameBuf;
+use jj_merges::merge::Merge;
+use jj_stores::op_store::{
+    Operation, OperationId, RefTarget, RefTargetOptionExt, RemoteRef, RemoteRefState, RemoteView,
+    View, ViewId,
+};
+use std::alloc::{AllocError, Global};
+use std::process::Abort;
+use std::test::Fail;
+
+// The content bytes that were taken in, while there was room for all of them.
+#[derive(Drop)]
+struct TakenBytes {
+    bytes: Vec<u8>,
+    is_whole: bool,
+}
+
+impl DigestUpdate for TakenBytes {
+    ghost use Rattle.std.specs.Prelude.{⊤};
+
+    ghost stands_for = { λ _ _. ⊤ };
+
+    fn update(&mut self, bytes: &[u8]) {
+        if self.is_whole && self.bytes.extend_from_slice(bytes).is_err() {
+            self.is_whole = false;
+        }
+    }
+}
+
+// The content of a value, as a hex text.
+fn content<T: ContentHash>(alloc: Global, value: &T) -> Result<String, AllocError> {
+    let mut taken = TakenBytes {
+        bytes: Vec::new(alloc),
+        is_whole: true,
+    };
+    value.hash(alloc, &mut taken)?;
+    if !taken.is_whole {
+        return Err(AllocError);
+    }
+    encode_hex(alloc, taken.bytes.as_slice())
+}
+
+fn commit(alloc: Global, byte: u8) -> Result<CommitId, AllocError> {
+    CommitId::from_bytes(alloc, &[byte])
+}
+
+fn target(alloc: Global, byte: u8) -> Result<RefTarget, AllocError> {
+    Ok(Merge::normal(alloc, commit(alloc, byte)?))
+}
+
+fn tracked(alloc: Global, byte: u8) -> Result<RemoteRef, AllocError> {
+    Ok(RemoteRef {
+        target: target(alloc, byte)?,
+        state: RemoteRefState::Tracked,
+    })
+}
+
+#[test]
+fn absent_refs(rt: HostRuntime) {
+    let absent = RemoteRef::absent(rt.alloc());
+    assert!(rt; absent.is_absent() && !absent.is_present());
+    assert!(rt; !absent.is_tracked());
+    assert!(rt; absent.tracked_target().is_none());
+}
+
+fn tracked_targets(alloc: Global) -> Result<bool, AllocError> {
+    let tracked = tracked(alloc, 1)?;
+    let expected = target(alloc, 1)?;
+    Ok(tracked.is_present() && tracked.tracked_target() == Some(&expected))
+}
+
+#[test]
+fn tracked_refs(rt: HostRuntime) -> Result<(), Fail> {
+    let alloc = rt.alloc();
+    assert!(rt; tracked_targets(alloc).or_else(|_| tracked_targets(alloc))?);
+    Ok(())
+}
+
+#[test]
+fn options_without_the_option(rt: HostRuntime) {
+    let alloc = rt.alloc();
+    let none: Option<RefTarget> = None;
+    assert!(rt; RefTargetOptionExt::flatten(none, alloc).is_absent());
+    let none: Option<RemoteRef> = None;
+    assert!(rt; RefTargetOptionExt::flatten(none, alloc).is_absent());
+    let borrowed: Option<&RefTarget> = None;
+    assert!(rt; RefTargetOptionExt::flatten(borrowed, alloc).is_none());
+}
+
+fn ref_content(alloc: Global) -> Result<String, AllocError> {
+    content(alloc, &tracked(alloc, 5)?)
+}
+
+#[test]
+fn content_of_a_remote_ref(rt: HostRuntime) -> Result<(), Fail> {
+    let text = ref_content(rt.alloc()).or_else(|_| ref_content(rt.alloc()))?;
+    assert_eq!(rt;
+        text.as_str(),
+        "01000000000000000100000001000000000000000501000000"
+    );
+    Ok(())
+}
+
+fn bookmark(alloc: Global, view: &mut RemoteView) -> Result<(), AllocError> {
+    let name = RefNameBuf::from_text(alloc, "a")?;
+    view.bookmarks.insert(name, RemoteRef::absent(alloc))?;
+    Ok(())
+}
+
+fn view_content(alloc: Global) -> Result<String, AllocError> {
+    let mut view = RemoteView::default(alloc);
+    bookmark(alloc, &mut view)?;
+    content(alloc, &view)
+}
+
+#[test]
+fn content_of_a_remote_view(rt: HostRuntime) -> Result<(), Fail> {
+    let text = view_content(rt.alloc()).or_else(|_| view_content(rt.alloc()))?;
+    assert_eq!(rt;
+        text.as_str(),
+        "0100000000000000010000000000000061010000000000000000000000000000000000000000000000"
+    );
+    Ok(())
+}
+
+fn root_view(alloc: Global) -> Result<View, AllocError> {
+    View::make_root(alloc, commit(alloc, 7)?)
+}
+
+fn root_content(alloc: Global) -> Result<String, AllocError> {
+    content(alloc, &root_view(alloc)?)
+}
+
+// One head of one byte, and six empty maps.
+#[test]
+fn content_of_the_root_view(rt: HostRuntime) -> Result<(), Fail> {
+    let text = root_content(rt.alloc()).or_else(|_| root_content(rt.alloc()))?;
+    let head = "0100000000000000010000000000000007";
+    assert!(rt; text.as_str().starts_with(head));
+    assert_eq!(rt; text.len(), 34 + 6 * 16);
+    Ok(())
+}
+
+fn views_differ(alloc: Global) -> Result<bool, AllocError> {
+    let root = root_view(alloc)?;
+    let mut other = root_view(alloc)?;
+    let same = root == other;
+    let name = RefNameBuf::from_text(alloc, "a")?;
+    other.local_tags.insert(name, target(alloc, 1)?)?;
+    Ok(same && root != other)
+}
+
+#[test]
+fn views_are_equal_in_all_parts(rt: HostRuntime) -> Result<(), Fail> {
+    let alloc = rt.alloc();
+    assert!(rt; views_differ(alloc).or_else(|_| views_differ(alloc))?);
+    Ok(())
+}
+
+fn root(alloc: Global) -> Result<Operation, AllocError> {
+    Ok(Operation::make_root(alloc, ViewId::from_bytes(alloc, &[3])?))
+}
+
+fn has_root_parts(operation: &Operation) -> bool {
+    let metadata = &operation.metadata;
+    operation.parents.is_empty()
+        && operation.view_id.as_bytes() == [3].as_slice()
+        && metadata.description.is_empty()
+        && metadata.workspace_name.is_none()
+        && !metadata.is_snapshot
+}
+
+#[test]
+fn the_root_operation_is_empty(rt: HostRuntime) -> Result<(), Fail> {
+    let operation = root(rt.alloc()).or_else(|_| root(rt.alloc()))?;
+    assert!(rt; has_root_parts(&operation));
+    match &operation.commit_predecessors {
+        Some(predecessors) => assert!(rt; predecessors.is_empty()),
+        None => assert!(rt; false),
+    }
+    Ok(())
+}
+
+fn child(alloc: Global) -> Result<Operation, AllocError> {
+    let mut operation = root(alloc)?;
+    operation
+        .parents
+        .push(OperationId::from_bytes(alloc, &[9])?)?;
+    operation.metadata.is_snapshot = true;
+    operation.metadata.hostname = String::from_str(alloc, "h")?;
+    operation.commit_predecessors = None;
+    Ok(operation)
+}
+
+fn child_content(alloc: Global) -> Result<String, AllocError> {
+    content(alloc, &child(alloc)?)
+}
+
+// View, parents; start, end; description, host, user; snapshot, workspace, attributes; predecessors.
+#[test]
+fn content_of_an_operation(rt: HostRuntime) -> Result<(), Fail> {
+    let text = child_content(rt.alloc()).or_else(|_| child_content(rt.alloc()))?;
+    let ids = "01000000000000000301000000000000000100000000000000\
+               09";
+    assert!(rt; text.as_str().starts_with(ids));
+    let end = "01000000000000006800000000000000000100000000000000000000000000000000";
+    assert!(rt; text.as_str().ends_with(end));
+    assert_eq!(rt; text.len(), 52 + 48 + 16 + 68);
+    Ok(())
+}
+
+fn operations_differ(alloc: Global) -> Result<bool, AllocError> {
+    let operation = root(alloc)?;
+    let child = child(alloc)?;
+    Ok(operation == root(alloc)? && operation != child && child == self::child(alloc)?)
+}
+
+#[test]
+fn operations_are_equal_in_all_parts(rt: HostRuntime) -> Result<(), Fail> {
+    let alloc = rt.alloc();
+    assert!(rt; operations_differ(alloc).or_else(|_| operations_differ(alloc))?);
+    Ok(())
+}
