@@ -3,3 +3,4 @@
 
 pub mod building;
 pub mod callers;
+pub mod three_sides;
