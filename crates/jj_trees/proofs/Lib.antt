@@ -2,7 +2,7 @@ pub mod Children
 pub mod Joining
 pub mod Merging
 pub mod Passing
-pub mod MadeRows
+pub mod PassedNames
 pub mod Refusing
 pub mod Rounds
 pub mod Conflicting

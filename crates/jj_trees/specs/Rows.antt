@@ -1,8 +1,6 @@
 -- The names of a directory's trees, with what stands there, tree by tree.
-use Rattle.std.specs.Prelude.{◌≡◌, ◌⊎◌, Bool, List, Option, None, map, All, Any, AllPairs}
-use Rattle.std.specs.List.{list_any}
+use Rattle.std.specs.Prelude.{◌≡◌, ◌⊎◌, List, Option, None, map, All, Any, AllPairs}
 use Rattle.std.specs.Map.{lookup}
-use Rattle.std.specs.Ordering.{is_eq}
 use Rattle.std.specs.Str.{bytes_eq}
 use Rattle.std.specs.declared.cmp.Ordering.TheVariants.{Less}
 use Rattle.jj_paths.specs.Paths.{Name, name_cmp}
@@ -11,10 +9,6 @@ use Rattle.jj_backend.specs.declared.backend.tree_value.TreeValue.{TreeValue}
 -- what the trees have at a name
 abbrev pub at_name : List (List (Name × TreeValue)) → Name → List (Option TreeValue)
 at_name trees name = map (λ entries. lookup (bytes_eq name) entries) trees
-
--- whether an entry has the name
-abbrev pub has_name : Name → List (Name × TreeValue) → Bool
-has_name name entries = list_any (λ key. is_eq (name_cmp key name)) (map (λ entry. entry.0) entries)
 
 -- the rows are those of the names that any of the trees has, ascending
 pub record AreRows (trees : List (List (Name × TreeValue)))

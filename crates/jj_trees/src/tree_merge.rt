@@ -1,28 +1,24 @@
 //! Merges of whole trees, name by name and all the way down.
-ghost use Rattle.std.specs.Prelude.{◌≡◌, ◌↔◌, ◌⊎◌, ◌||◌, [], map, length, Option, IsTrue, true};
+ghost use Rattle.std.specs.Prelude.{◌≡◌, ◌↔◌, ◌⊎◌, [], map, length, Option, IsTrue, true};
 ghost use Rattle.std.specs.Prelude.{All, Any, IfOk, IfErr, IfSome, IsNone, OnOk};
-ghost use Rattle.std.specs.BTreeSet.{contains};
-ghost use Rattle.std.specs.List.{list_any};
-ghost use Rattle.std.specs.Map.{lookup};
 ghost use Rattle.std.specs.NonZero.{non_zero_usize_get};
-ghost use Rattle.std.specs.Str.{bytes_eq};
 ghost use Rattle.jj_merges.specs.Odd.{IsOdd};
-ghost use Rattle.jj_paths.specs.Names.{path_of, name_of};
-ghost use Rattle.jj_paths.specs.Paths.{Name, name_cmp};
+ghost use Rattle.jj_paths.specs.Names.{path_of};
 ghost use Rattle.jj_backend.specs.Errors.{is_not_found, is_unsupported};
-ghost use Rattle.jj_trees.specs.Rows.{AreRows, has_name};
 ghost use Rattle.jj_trees.specs.Steps.{IsStep};
 ghost use Rattle.jj_trees.specs.TreeMerges.{entries_of, root_values, conflict_entries};
 ghost use Rattle.jj_trees.specs.TreeMerges.{is_tree_or_absent, IsThere, IsEntered, IsHere};
 ghost use Rattle.jj_trees.specs.TreeMerges.{IsMerge, IsAppended, IsWithin, IsRefused};
 
+mod rows;
+
 use jj_backend::backend::{Backend, BackendError, BackendResult, Tree, TreeId, TreeValue};
 use jj_merges::conflict_labels::ConflictLabels;
 use jj_merges::merge::{Merge, SameChange, trivial_merge};
-use jj_paths::repo_path::{RepoPath, RepoPathBuf, RepoPathComponent, RepoPathComponentBuf};
+use jj_paths::repo_path::{RepoPath, RepoPathBuf};
+use rows::rows_of;
 use smallvec::SmallVec;
 use std::alloc::{AllocError, Global};
-use std::collections::BTreeSet;
 use std::num::NonZeroUsize;
 
 /// What becomes of one name.
@@ -31,13 +27,6 @@ enum Step<'a> {
     Absent,
     Entered,
     Conflict,
-}
-
-/// A name of a directory, and what each term has there.
-#[derive(Drop)]
-struct Row {
-    name: RepoPathComponentBuf,
-    values: Vec<Option<TreeValue>>,
 }
 
 /// A directory whose entries are to be merged, and what each term has at its path.
@@ -80,69 +69,6 @@ fn step_of(values: &[Option<TreeValue>], same_change: SameChange) -> Step<'_>
             }
         }
     }
-}
-
-/// Adds the names of a tree.
-fn add_names(
-    alloc: Global,
-    names: &mut BTreeSet<RepoPathComponentBuf>,
-    tree: &Tree,
-) -> Result<(), AllocError>
-    ensures { OnOk result ((name : Name) → contains name_cmp names.new name
-        ≡ (contains name_cmp names.old name || has_name name tree.now)) }
-{
-    for name in tree.names() {
-        names.insert(name.to_owned(alloc)?)?;
-    }
-    Ok(())
-}
-
-/// The names that stand in any of the trees, ascending.
-fn names_of(alloc: Global, trees: &[Tree]) -> Result<BTreeSet<RepoPathComponentBuf>, AllocError>
-    ensures { IfOk result (λ names. (name : Name) → contains name_cmp names name
-        ≡ list_any (has_name name) trees.now) }
-{
-    let mut names = BTreeSet::new(alloc);
-    for tree in trees {
-        add_names(alloc, &mut names, tree)?;
-    }
-    Ok(names)
-}
-
-/// What stands at a name, tree by tree.
-fn values_below(
-    alloc: Global,
-    trees: &[Tree],
-    name: RepoPathComponent<'_>,
-) -> Result<Vec<Option<TreeValue>>, AllocError>
-    ensures { IfOk result (λ values. values.items
-        ≡ map (λ tree. lookup (bytes_eq (name_of name.entry)) tree) trees.now) }
-{
-    let mut values = Vec::new(alloc);
-    for tree in trees {
-        values.push(match tree.value(name) {
-            Some(value) => Some(value.clone()?),
-            None => None,
-        })?;
-    }
-    Ok(values)
-}
-
-/// The names that stand in any of the trees, ascending, each with what stands there, tree by tree.
-fn rows_of(alloc: Global, trees: &[Tree]) -> Result<Vec<Row>, AllocError>
-    ensures { IfOk result (λ rows.
-        AreRows trees.now (map (λ row. (row.name, row.values.items)) rows.items)) }
-{
-    let names = names_of(alloc, trees)?;
-    let mut rows = Vec::new(alloc);
-    for name in names.iter() {
-        let values = values_below(alloc, trees, name.as_component())?;
-        rows.push(Row {
-            name: name.clone()?,
-            values,
-        })?;
-    }
-    Ok(rows)
 }
 
 /// The tree that a value is; an empty one where it is none.

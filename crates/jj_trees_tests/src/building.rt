@@ -34,8 +34,8 @@ pub fn tree_of_entries(entries: Vec<(RepoPathComponentBuf, TreeValue)>) -> Optio
     }
 }
 
-// The error of data that are not as they should be.
-fn bad_data(alloc: Global, message: &str) -> BackendError {
+/// The error of data that are not as they should be.
+pub fn bad_data(alloc: Global, message: &str) -> BackendError {
     match String::from_str(alloc, message) {
         Ok(message) => BackendError::Other(SourceError {
             kind: SourceKind::Data,

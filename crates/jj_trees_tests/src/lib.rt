@@ -1,5 +1,19 @@
-//! Callers of the backend in memory and of merges of whole trees, proved from what these promise.
+//! Tests of jj_trees over its public calls, and proved callers of it.
+//
+// In a run in which one request for memory is refused, a call answers that, and is then made once
+// more, when there is memory.
 #![tactic(auto)]
 
 pub mod building;
 pub mod callers;
+#[cfg(test)]
+mod kept;
+#[cfg(test)]
+mod levels_tests;
+#[cfg(test)]
+mod memory;
+#[cfg(test)]
+mod one_byte_tests;
+pub mod three_sides;
+#[cfg(test)]
+mod tree_merge_tests;

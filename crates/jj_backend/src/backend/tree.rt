@@ -139,7 +139,8 @@ impl Tree {
 
     /// The entries, in the order of their names.
     pub fn entries(&self) -> TreeEntriesNonRecursiveIterator<'_>
-        ensures { entries_left result ≡ self.now }
+        ensures entries { entries_left result ≡ self.now }
+        ensures ascending { IsTrue (is_sorted name_cmp self.now) }
     {
         TreeEntriesNonRecursiveIterator {
             rest: self.entries.as_slice(),

@@ -5,7 +5,7 @@ use Rattle.std.specs.Vec.Iter.{into_iter_items}
 use Rattle.jj_paths.specs.Names.{path_of}
 use Rattle.jj_paths.specs.Paths.{Name}
 use Rattle.std.specs.Option.{option_eq}
-use Rattle.jj_trees.specs.declared.tree_merge.Row.{Row}
+use Rattle.jj_trees.specs.declared.tree_merge.rows.Row.{Row}
 use Rattle.jj_trees.specs.TreeMerges.{Values, conflict_entries}
 use Rattle.jj_backend.specs.contracts.backend.tree_value.TreeValuePartialEq.TheImpl as tree_values
 use Rattle.jj_trees.proofs.Merging.{same_values, passed_none}

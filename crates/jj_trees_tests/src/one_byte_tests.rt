@@ -1,0 +1,67 @@
+//! More files than there are ids of one byte.
+use crate::memory::{ids_of_one_byte, read_file, write_file};
+use jj_backend::backend::{BackendError, BackendResult, FileId};
+use jj_trees::memory_backend::MemoryBackend;
+use std::alloc::{AllocError, Global};
+use std::process::Abort;
+use std::test::Fail;
+
+/// A file that was acknowledged, and its number.
+type Acknowledged = Vec<(FileId, u16)>;
+
+// Remembers a file.
+fn remember(files: &mut Acknowledged, id: FileId, number: u16) -> Result<(), AllocError> {
+    if files.try_reserve(1).is_err() {
+        files.try_reserve(1)?;
+    }
+    files.push((id, number))?;
+    Ok(())
+}
+
+// Whether each file reads as it was written: as its number.
+fn all_read(alloc: Global, backend: &MemoryBackend, files: &Acknowledged) -> BackendResult<bool> {
+    for (id, number) in files {
+        if read_file(alloc, backend, id)?.as_slice() != number.to_le_bytes().as_slice() {
+            return Ok(false);
+        }
+    }
+    Ok(true)
+}
+
+// Writes the file of a number; whether it was refused since its id stands for another.
+fn is_refused(
+    alloc: Global,
+    backend: &mut MemoryBackend,
+    files: &mut Acknowledged,
+    number: u16,
+) -> BackendResult<bool> {
+    match write_file(alloc, backend, number.to_le_bytes().as_slice()) {
+        Ok(id) => {
+            remember(files, id, number)?;
+            Ok(false)
+        }
+        Err(BackendError::Other(_)) => Ok(true),
+        Err(error) => Err(error),
+    }
+}
+
+// Writes so many files, and looks at all that were acknowledged after each write. Answers how many
+// were refused.
+fn count_refused<R: Abort>(rt: &R, alloc: Global, count: u16) -> BackendResult<u16> {
+    let mut backend = ids_of_one_byte(alloc)?;
+    let mut files = Vec::new(alloc);
+    let mut refused = 0u16;
+    for number in 0..count {
+        if is_refused(alloc, &mut backend, &mut files, number)? {
+            refused = refused.saturating_add(1);
+        }
+        assert!(rt; all_read(alloc, &backend, &files)?);
+    }
+    Ok(refused)
+}
+
+#[test]
+fn some_of_257_files_are_refused(rt: HostRuntime) -> Result<(), Fail> {
+    assert!(rt; count_refused(&rt, rt.alloc(), 257)? > 0);
+    Ok(())
+}

@@ -1,0 +1,189 @@
+//! Three sides of a directory of files, merged: what is resolved, the conflicts in words, and the
+//! merge written back.
+ghost use Rattle.std.specs.Prelude.{IfOk};
+ghost use Rattle.jj_merges.specs.declared.merge.SameChange.TheVariants.{Accept};
+ghost use Rattle.jj_backend.specs.declared.backend.tree_value.TreeValue.{TreeValue};
+ghost use Rattle.jj_trees.specs.Kept.{objects_of};
+ghost use Rattle.jj_trees.specs.TreeMerges.{IsMerge, root_values, conflict_entries};
+
+use crate::building::{ascending_tree, bad_data, component, plain_file, tree_merge_of};
+use crate::callers::merge_in_memory;
+use jj_backend::backend::{
+    Backend, BackendResult, MergedTreeValue, MergedTreeValueExt, TreeId, TreeValue,
+};
+use jj_merges::conflict_labels::ConflictLabels;
+use jj_merges::merge::{Merge, SameChange};
+use jj_paths::repo_path::{RepoPath, RepoPathBuf, RepoPathComponentBuf};
+use jj_trees::memory_backend::MemoryBackend;
+use jj_trees::tree_merge::TreeMerge;
+use std::alloc::{AllocError, Global};
+
+/// Two sides and their base.
+pub fn sides_of(
+    alloc: Global,
+    left: TreeId,
+    base: TreeId,
+    right: TreeId,
+) -> BackendResult<Merge<TreeId>> {
+    let mut changes = Vec::new(alloc);
+    changes.push((base, right))?;
+    tree_merge_of(alloc, left, changes)
+}
+
+/// Writes a file, and gives the entry that stands for it.
+pub fn write_entry(
+    alloc: Global,
+    backend: &mut MemoryBackend,
+    name: &str,
+    contents: &str,
+) -> BackendResult<(RepoPathComponentBuf, TreeValue)> {
+    let name = component(alloc, name)?;
+    let id = backend.write_file(alloc, RepoPath::root(), contents.as_bytes())?;
+    Ok((name, plain_file(alloc, id)))
+}
+
+/// Writes a directory of files, whose names ascend.
+pub fn write_files(
+    alloc: Global,
+    backend: &mut MemoryBackend,
+    files: &[(&str, &str)],
+) -> BackendResult<TreeId> {
+    let mut entries = Vec::new(alloc);
+    for (name, contents) in files {
+        entries.push(write_entry(alloc, backend, *name, *contents)?)?;
+    }
+    let tree = ascending_tree(alloc, entries)?;
+    backend.write_tree(alloc, RepoPath::root(), &tree)
+}
+
+/// The merge of these sides, each with its label.
+pub fn merge_labelled(
+    alloc: Global,
+    backend: &MemoryBackend,
+    sides: &Merge<TreeId>,
+    labels: &ConflictLabels,
+) -> BackendResult<TreeMerge>
+    ensures { IfOk result (λ m. IsMerge (objects_of backend.now).trees
+        ⟦<Option<TreeValue> as PartialEq>⟧.eq Accept (root_values sides.now) labels.now
+        m.resolved.items (conflict_entries m.conflicts.items)) }
+{
+    if labels.as_slice().len() != sides.as_slice().len() {
+        return Err(bad_data(alloc, "a side has no label"));
+    }
+    merge_in_memory(alloc, backend, sides, labels, SameChange::Accept)
+}
+
+// Appends a line for each path that is resolved.
+fn tell_resolved(
+    resolved: &[(RepoPathBuf, TreeValue)],
+    text: &mut String,
+) -> Result<(), AllocError> {
+    for (path, _) in resolved {
+        text.push_str(path.as_path().as_internal_file_string())?;
+        text.push('\n')?;
+    }
+    Ok(())
+}
+
+// Appends a conflict in words.
+fn tell_conflict(
+    alloc: Global,
+    path: &RepoPathBuf,
+    terms: &MergedTreeValue,
+    labels: &ConflictLabels,
+    text: &mut String,
+) -> Result<(), AllocError> {
+    text.push_str(path.as_path().as_internal_file_string())?;
+    text.push_str(": ")?;
+    text.push_str(terms.describe(alloc, labels)?.as_str())
+}
+
+/// The paths that are resolved, and the conflicts in words.
+pub fn told(alloc: Global, merge: &TreeMerge) -> Result<String, AllocError> {
+    let mut text = String::new(alloc);
+    tell_resolved(&merge.resolved, &mut text)?;
+    for (path, terms, labels) in merge.conflicts.iter() {
+        tell_conflict(alloc, path, terms, labels, &mut text)?;
+    }
+    Ok(text)
+}
+
+// The entry of a path of one name.
+fn entry_at(
+    alloc: Global,
+    path: &RepoPathBuf,
+    value: &TreeValue,
+) -> BackendResult<(RepoPathComponentBuf, TreeValue)> {
+    match path.as_path().components().next() {
+        Some(name) => Ok((name.to_owned(alloc)?, value.clone()?)),
+        None => Err(bad_data(alloc, "the root has no name")),
+    }
+}
+
+type Entries = Vec<(RepoPathComponentBuf, TreeValue)>;
+
+// Adds what is resolved.
+fn add_resolved(
+    alloc: Global,
+    resolved: &[(RepoPathBuf, TreeValue)],
+    entries: &mut Entries,
+) -> BackendResult<()> {
+    for (path, value) in resolved {
+        entries.push(entry_at(alloc, path, value)?)?;
+    }
+    Ok(())
+}
+
+// Adds the term of one side, where it is there.
+fn add_term(
+    alloc: Global,
+    path: &RepoPathBuf,
+    terms: &[Option<TreeValue>],
+    side: usize,
+    entries: &mut Entries,
+) -> BackendResult<()> {
+    if let Some(Some(value)) = terms.get(side) {
+        entries.push(entry_at(alloc, path, value)?)?;
+    }
+    Ok(())
+}
+
+// The entries in the order of their names.
+fn sorted(mut entries: Entries) -> Result<Entries, AllocError> {
+    entries.sort_by(|a, b| a.0.cmp(&b.0))?;
+    Ok(entries)
+}
+
+// What stands at the names of one side: what is resolved, and its term of each conflict.
+fn side_entries(alloc: Global, merge: &TreeMerge, side: usize) -> BackendResult<Entries> {
+    let mut entries = Vec::new(alloc);
+    add_resolved(alloc, &merge.resolved, &mut entries)?;
+    for (path, terms, _) in merge.conflicts.iter() {
+        add_term(alloc, path, terms.as_slice(), side, &mut entries)?;
+    }
+    Ok(sorted(entries)?)
+}
+
+/// Writes the directory of one side of a merge.
+pub fn write_side(
+    alloc: Global,
+    backend: &mut MemoryBackend,
+    merge: &TreeMerge,
+    side: usize,
+) -> BackendResult<TreeId> {
+    let entries = side_entries(alloc, merge, side)?;
+    let tree = ascending_tree(alloc, entries)?;
+    backend.write_tree(alloc, RepoPath::root(), &tree)
+}
+
+/// Writes a merge of three terms back: three directories, which merge to the same.
+pub fn write_back(
+    alloc: Global,
+    backend: &mut MemoryBackend,
+    merge: &TreeMerge,
+) -> BackendResult<Merge<TreeId>> {
+    let left = write_side(alloc, backend, merge, 0)?;
+    let base = write_side(alloc, backend, merge, 1)?;
+    let right = write_side(alloc, backend, merge, 2)?;
+    sides_of(alloc, left, base, right)
+}
