@@ -163,8 +163,10 @@ mod tests {
 
     #[test]
     fn long_lazy_orders(rt: HostRuntime) -> Result<(), Fail> {
+        let alloc = rt.alloc();
         for shape in SHAPES {
-            let order = found(&rt, lazy(rt.alloc(), *shape, HEAD))?;
+            let order = lazy(alloc, *shape, HEAD).or_else(|_| lazy(alloc, *shape, HEAD));
+            let order = found(&rt, order)?;
             is_whole(&rt, *shape, &order);
         }
         Ok(())
@@ -172,18 +174,25 @@ mod tests {
 
     #[test]
     fn long_chunked_orders(rt: HostRuntime) -> Result<(), Fail> {
+        let alloc = rt.alloc();
         for shape in SHAPES {
-            let order = found(&rt, chunked(rt.alloc(), *shape, HEAD))?;
+            let order = chunked(alloc, *shape, HEAD).or_else(|_| chunked(alloc, *shape, HEAD));
+            let order = found(&rt, order)?;
             is_whole(&rt, *shape, &order);
         }
         Ok(())
     }
 
+    /// The grouped order of the nodes.
+    fn shown(alloc: Global, shape: Shape) -> Result<Vec<u64>, GroupedGraphError<u64>> {
+        grouped(alloc, input_of(alloc, shape, HEAD)?)
+    }
+
     #[test]
     fn long_grouped_orders(rt: HostRuntime) -> Result<(), Fail> {
+        let alloc = rt.alloc();
         for shape in SHAPES {
-            let input = input_of(rt.alloc(), *shape, HEAD)?;
-            match grouped(rt.alloc(), input) {
+            match shown(alloc, *shape).or_else(|_| shown(alloc, *shape)) {
                 Ok(order) => is_whole(&rt, *shape, &order),
                 Err(GroupedGraphError::Memory) => return Err(AllocError.into()),
                 Err(_error) => assert!(rt; false, "the input is in order"),
@@ -194,9 +203,16 @@ mod tests {
 
     #[test]
     fn long_ways_to_common_nodes(rt: HostRuntime) -> Result<(), Fail> {
+        let alloc = rt.alloc();
         for shape in SHAPES {
             for lesser in [0, 1, HEAD - 1] {
-                let nodes = found(&rt, closest(rt.alloc(), *shape, HEAD, (HEAD, lesser)))?;
+                let nodes = closest(alloc, *shape, HEAD, (HEAD, lesser)).or_else(|_| closest(
+                    alloc,
+                    *shape,
+                    HEAD,
+                    (HEAD, lesser),
+                ));
+                let nodes = found(&rt, nodes)?;
                 assert_eq!(rt; nodes.as_slice(), [lesser].as_slice());
             }
         }
