@@ -6,8 +6,10 @@ pub mod PatternFaults
 pub mod PatternKinds
 pub mod GlobsOfPatterns
 pub mod ExpressionViews
+pub mod Searches
 pub mod Predicates
 pub mod StringMatchers
+pub mod Searchers
 pub mod MatcherForms
 pub mod Lines
 pub mod LinesLeft

@@ -3,6 +3,7 @@
 use Rattle.std.specs.Prelude.{◌≡◌, ℕ, ◌/◌, ◌<◌, ◌⊎◌, Bool, true, false, ◌==◌, if◌then◌else◌, List, [], ◌∷◌, ◌++◌, length, Option, None, Some, IsSome}
 use Rattle.std.specs.Option.{option_to_list}
 use Rattle.std.specs.List.{list_any}
+use Rattle.std.specs.Borrow.{Bor}
 use Rattle.bstr.specs.Text.{Contains}
 use Rattle.regex.specs.Patterns.{find}
 use Rattle.regex.specs.Bytes.{regex_pattern, regex_source}
@@ -79,6 +80,13 @@ abbrev pub IsRegex : Pattern → Type 0
 IsRegex (regex r) = Unit {0}
 IsRegex (regex_i r) = Unit {0}
 IsRegex pattern = ⊥
+
+-- the regular expression of a pattern, or none where the pattern is no regular expression
+abbrev pub IsRegexIn : Option (Bor Regex) → Pattern → Type 0
+IsRegexIn (Some r) (regex s) = r.now ≡ s
+IsRegexIn (Some r) (regex_i s) = r.now ≡ s
+IsRegexIn (Some r) p = ⊥
+IsRegexIn None p = IsRegex p → ⊥
 
 -- the glob of this text
 abbrev pub string_glob : List ℕ → Bool → StringGlob

@@ -2,6 +2,8 @@
 //! lines and maps.
 mod error;
 mod expression;
+mod expression_search;
+mod expression_searcher;
 mod filter_btree_map;
 mod folding;
 mod glob_pattern;
@@ -10,6 +12,7 @@ mod match_lines;
 mod matcher;
 mod pattern;
 mod predicate;
+mod searcher;
 mod text_key;
 mod to_glob;
 mod to_matcher;
@@ -23,4 +26,5 @@ pub use match_lines::MatchLines;
 pub use matcher::StringMatcher;
 pub use pattern::StringPattern;
 pub use predicate::{BytePredicate, ByteTest};
+pub use searcher::StringSearcher;
 pub use text_key::TextKey;

@@ -18,3 +18,5 @@ mod lookup;
 mod maps;
 #[cfg(test)]
 mod patterns;
+#[cfg(test)]
+mod searchers;

@@ -4,6 +4,7 @@ ghost use Rattle.std.specs.Map.Iter.{TakesFirst, deref_pair};
 ghost use Rattle.jj_strings.specs.EntriesLeft.{entries_left, HoldsAllOf};
 
 use crate::str_util::matcher::StringMatcher;
+use crate::str_util::searcher::StringSearcher;
 use crate::str_util::text_key::TextKey;
 use either::{Either, Left, Right};
 use std::alloc::{AllocError, Global};
@@ -18,8 +19,7 @@ type Entries<'a, K, V> = Either<Iter<'a, K, V>, IntoIter<(&'a K, &'a V)>>;
 /// are no more.
 #[derive(Drop)]
 pub struct FilterBTreeMap<'a, 'm, K: TextKey, V> {
-    matcher: &'m StringMatcher,
-    alloc: Global,
+    searcher: StringSearcher<'m>,
     entries: Entries<'a, K, V>,
 }
 
@@ -40,8 +40,7 @@ impl StringMatcher {
             (filter_entries result) }
     {
         FilterBTreeMap {
-            matcher: self,
-            alloc,
+            searcher: self.searcher(alloc),
             entries: self.candidates(alloc, map),
         }
     }
@@ -85,18 +84,20 @@ impl<'a, 'm, K: TextKey, V> Iterator for FilterBTreeMap<'a, 'm, K, V> {
     ghost use Rattle.std.specs.Map.Iter.{deref_pair};
     ghost use Rattle.jj_strings.specs.Lines.{GivesNext};
     ghost use Rattle.jj_strings.specs.StringMatchers.{InMatcher, MayAllocate};
+    ghost use Rattle.jj_strings.specs.Searchers.{searched};
 
     type Item = Result<(&'a K, &'a V), AllocError>;
 
     ghost next_gives = { λ s r t. GivesNext deref_pair
-        (λ e. InMatcher s.matcher.now (K.key_text e.0)) (MayAllocate s.matcher.now)
-        (entries_left s.entries) r (entries_left t.entries) × (t.matcher ≡ s.matcher) };
+        (λ e. InMatcher (searched s.searcher) (K.key_text e.0))
+        (MayAllocate (searched s.searcher)) (entries_left s.entries) r (entries_left t.entries)
+        × (searched t.searcher ≡ searched s.searcher) };
 
     ghost remaining = { λ s. at_most (length (entries_left s.entries)) };
 
     fn next(&mut self) -> Option<Result<(&'a K, &'a V), AllocError>> {
         while let Some(entry) = next_entry(&mut self.entries) {
-            match self.matcher.is_match(self.alloc, entry.0.as_text()) {
+            match self.searcher.is_match(entry.0.as_text()) {
                 Ok(true) => return Some(Ok(entry)),
                 Ok(false) => {}
                 Err(error) => {

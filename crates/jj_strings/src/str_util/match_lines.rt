@@ -3,14 +3,14 @@ ghost use Rattle.std.specs.Prelude.{◌≡◌, ◌<◌, ◌∷◌, length};
 ghost use Rattle.jj_strings.specs.Lines.{lines, without_feed, first_len};
 
 use crate::str_util::matcher::StringMatcher;
+use crate::str_util::searcher::StringSearcher;
 use std::alloc::{AllocError, Global};
 
 /// The lines, with their line feeds, in order. An error comes only where a regular expression is
 /// inside; after it there are no more.
 #[derive(Drop)]
 pub struct MatchLines<'a, 'm> {
-    matcher: &'m StringMatcher,
-    alloc: Global,
+    searcher: StringSearcher<'m>,
     rest: &'a [u8],
 }
 
@@ -24,8 +24,7 @@ impl StringMatcher {
         ensures rest { rest_of result ≡ text.now }
     {
         MatchLines {
-            matcher: self,
-            alloc,
+            searcher: self.searcher(alloc),
             rest: text,
         }
     }
@@ -35,12 +34,13 @@ impl<'a, 'm> Iterator for MatchLines<'a, 'm> {
     ghost use Rattle.std.specs.Iterator.{at_most};
     ghost use Rattle.jj_strings.specs.StringMatchers.{InMatcher, MayAllocate};
     ghost use Rattle.jj_strings.specs.Lines.{GivesNextLine};
+    ghost use Rattle.jj_strings.specs.Searchers.{searched};
 
     type Item = Result<&'a [u8], AllocError>;
 
-    ghost next_gives = { λ s r t. GivesNextLine (InMatcher s.matcher.now)
-        (MayAllocate s.matcher.now)
-        s.rest.now r t.rest.now × (t.matcher ≡ s.matcher) };
+    ghost next_gives = { λ s r t. GivesNextLine (InMatcher (searched s.searcher))
+        (MayAllocate (searched s.searcher)) s.rest.now r t.rest.now
+        × (searched t.searcher ≡ searched s.searcher) };
 
     ghost remaining = { λ s. at_most (length s.rest.now) };
 
@@ -48,7 +48,7 @@ impl<'a, 'm> Iterator for MatchLines<'a, 'm> {
         while !self.rest.is_empty() {
             let (line, rest) = cut_line(self.rest);
             self.rest = rest;
-            match self.matcher.is_match_bytes(self.alloc, strip_feed(line)) {
+            match self.searcher.is_match_bytes(strip_feed(line)) {
                 Ok(true) => return Some(Ok(line)),
                 Ok(false) => {}
                 Err(error) => {

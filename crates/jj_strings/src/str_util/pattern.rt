@@ -32,7 +32,7 @@ pub enum StringPattern {
 }
 
 impl StringPattern {
-    ghost use Rattle.jj_strings.specs.StringSets.{InPattern, IsRegex, exact, exact_i, substring, substring_i, glob_i, glob_or_exact, string_glob, text_of, is_all, exact_text};
+    ghost use Rattle.jj_strings.specs.StringSets.{InPattern, IsRegex, IsRegexIn, exact, exact_i, substring, substring_i, glob_i, glob_or_exact, string_glob, text_of, is_all, exact_text};
     ghost use Rattle.jj_strings.specs.PatternViews.{pattern_of};
     ghost use Rattle.jj_strings.specs.PatternFaults.{IsGlobFault, IsRegexFault};
     ghost use Rattle.jj_strings.specs.PatternKinds.{kind_named, ReadsAsKind, IsUnknownKind, IsRegexOf, IsRegexIOf, bytes_config, bytes_config_i};
@@ -199,15 +199,37 @@ impl StringPattern {
             ↔ InPattern (pattern_of self.now) bytes.now) }
         ensures memory { IsErr result → IsRegex (pattern_of self.now) }
     {
+        match self.as_regex() {
+            Some(regex) => Ok(regex.matcher(alloc)?.is_match(bytes)),
+            None => Ok(self.holds_without_regex(bytes)),
+        }
+    }
+
+    // The regular expression of a pattern that is one.
+    pub(crate) fn as_regex(&self) -> Option<&Regex>
+        ensures { IsRegexIn result (pattern_of self.now) }
+    {
         match self {
-            StringPattern::Exact(text) => Ok(bytes == text.as_bytes()),
-            StringPattern::ExactI(text) => Ok(bytes.eq_ignore_ascii_case(text.as_bytes())),
-            StringPattern::Substring(text) => Ok(bytes.contains_str(text.as_bytes())),
-            StringPattern::SubstringI(text) => Ok(contains_folded(bytes, text.as_bytes())),
-            StringPattern::Glob(pattern) => Ok(pattern.holds(bytes)),
-            StringPattern::GlobI(pattern) => Ok(pattern.holds(bytes)),
-            StringPattern::Regex(pattern) => Ok(pattern.matcher(alloc)?.is_match(bytes)),
-            StringPattern::RegexI(pattern) => Ok(pattern.matcher(alloc)?.is_match(bytes)),
+            StringPattern::Regex(regex) => Some(&**regex),
+            StringPattern::RegexI(regex) => Some(&**regex),
+            _ => None,
+        }
+    }
+
+    // Whether the set of a pattern that is no regular expression holds the bytes.
+    pub(crate) fn holds_without_regex(&self, bytes: &[u8]) -> bool
+        ensures { (IsRegex (pattern_of self.now) → ⊥) → IsTrue result
+            ↔ InPattern (pattern_of self.now) bytes.now }
+    {
+        match self {
+            StringPattern::Exact(text) => bytes == text.as_bytes(),
+            StringPattern::ExactI(text) => bytes.eq_ignore_ascii_case(text.as_bytes()),
+            StringPattern::Substring(text) => bytes.contains_str(text.as_bytes()),
+            StringPattern::SubstringI(text) => contains_folded(bytes, text.as_bytes()),
+            StringPattern::Glob(pattern) => pattern.holds(bytes),
+            StringPattern::GlobI(pattern) => pattern.holds(bytes),
+            StringPattern::Regex(_) => false,
+            StringPattern::RegexI(_) => false,
         }
     }
 }

@@ -1,0 +1,15 @@
+-- What a searcher looks for.
+use Rattle.jj_strings.specs.declared.str_util.matcher.StringMatcher.{StringMatcher}
+use Rattle.jj_strings.specs.declared.str_util.matcher.StringMatcher.TheVariants.{Expr}
+use Rattle.jj_strings.specs.declared.str_util.searcher.Searched.{Searched}
+use Rattle.jj_strings.specs.declared.str_util.searcher.Searched.TheVariants.{Expression, Matcher}
+use Rattle.jj_strings.specs.declared.str_util.searcher.StringSearcher.{StringSearcher}
+
+-- the matcher of an expression whose searches are kept, or another one
+abbrev pub matcher_asked : {F : _} {V : _} {m : _} → Searched F V m → StringMatcher F V m
+matcher_asked (Expression e) = Expr e
+matcher_asked (Matcher matcher) = matcher.now
+
+-- the matcher whose set is looked for
+abbrev pub searched : {F : _} {V : _} {m : _} → StringSearcher F V m → StringMatcher F V m
+searched s = matcher_asked s.searched

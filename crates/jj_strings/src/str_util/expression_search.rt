@@ -1,0 +1,84 @@
+//! Expressions that are asked string after string: each regular expression keeps its search.
+ghost use Rattle.std.specs.Prelude.{◌≡◌, ◌↔◌, IsTrue, IsErr, IfOk};
+
+use crate::str_util::expression::StringExpression;
+use crate::str_util::pattern::StringPattern;
+use regex::bytes::Matcher;
+use std::alloc::{AllocError, Global};
+
+// An expression with a search for each of its regular expressions.
+#[derive(Drop)]
+pub(crate) enum ExpressionSearch<'m> {
+    // The strings of a pattern that is no regular expression.
+    Text(&'m StringPattern),
+    // The strings in which a regular expression has a match.
+    Regex(Matcher<'m>),
+    // All other strings.
+    NotIn(Box<ExpressionSearch<'m>>),
+    // The strings of either.
+    Union(Box<(ExpressionSearch<'m>, ExpressionSearch<'m>)>),
+    // The strings of both.
+    Intersection(Box<(ExpressionSearch<'m>, ExpressionSearch<'m>)>),
+}
+
+impl StringExpression {
+    ghost use Rattle.jj_strings.specs.ExpressionViews.{expression_of};
+    ghost use Rattle.jj_strings.specs.StringSets.{HasRegex};
+    ghost use Rattle.jj_strings.specs.Searches.{IsSearchOf};
+
+    // Whether a regular expression is inside.
+    pub(crate) fn has_regex(&self) -> bool
+        ensures { IsTrue result ↔ HasRegex (expression_of self.now) }
+    {
+        match self {
+            StringExpression::Pattern(pattern) => pattern.as_regex().is_some(),
+            StringExpression::NotIn(inner) => inner.has_regex(),
+            StringExpression::Union(left, right) => left.has_regex() || right.has_regex(),
+            StringExpression::Intersection(left, right) => left.has_regex() || right.has_regex(),
+        }
+    }
+
+    // The expression with a search for each of its regular expressions.
+    pub(crate) fn search(&self, alloc: Global) -> Result<ExpressionSearch<'_>, AllocError>
+        ensures { IfOk result (λ search. IsSearchOf search (expression_of self.now)) }
+    {
+        match self {
+            StringExpression::Pattern(pattern) => match pattern.as_regex() {
+                Some(regex) => Ok(ExpressionSearch::Regex(regex.matcher(alloc)?)),
+                None => Ok(ExpressionSearch::Text(&**pattern)),
+            },
+            StringExpression::NotIn(inner) => {
+                let inner = Box::new(alloc, inner.search(alloc)?)?;
+                Ok(ExpressionSearch::NotIn(inner))
+            }
+            StringExpression::Union(left, right) => {
+                let sides = (left.search(alloc)?, right.search(alloc)?);
+                Ok(ExpressionSearch::Union(Box::new(alloc, sides)?))
+            }
+            StringExpression::Intersection(left, right) => {
+                let sides = (left.search(alloc)?, right.search(alloc)?);
+                Ok(ExpressionSearch::Intersection(Box::new(alloc, sides)?))
+            }
+        }
+    }
+}
+
+impl<'m> ExpressionSearch<'m> {
+    ghost use Rattle.jj_strings.specs.StringSets.{InExpression, Expression};
+    ghost use Rattle.jj_strings.specs.Searches.{IsSearchOf};
+
+    // Whether the expression's set holds the bytes.
+    pub(crate) fn holds(&mut self, bytes: &[u8]) -> bool
+        ensures answer { (e : Expression) → IsSearchOf self.old e → IsTrue result
+            ↔ InExpression e bytes.now }
+        ensures same { (e : Expression) → IsSearchOf self.old e → IsSearchOf self.new e }
+    {
+        match self {
+            ExpressionSearch::Text(pattern) => pattern.holds_without_regex(bytes),
+            ExpressionSearch::Regex(matcher) => matcher.is_match(bytes),
+            ExpressionSearch::NotIn(inner) => !inner.holds(bytes),
+            ExpressionSearch::Union(sides) => sides.0.holds(bytes) || sides.1.holds(bytes),
+            ExpressionSearch::Intersection(sides) => sides.0.holds(bytes) && sides.1.holds(bytes),
+        }
+    }
+}

@@ -1,0 +1,65 @@
+//! Matchers that are asked string after string.
+ghost use Rattle.std.specs.Prelude.{◌≡◌, ◌↔◌, IsTrue, IsErr, IfOk};
+
+use crate::str_util::expression_searcher::ExpressionSearcher;
+use crate::str_util::matcher::StringMatcher;
+use std::alloc::{AllocError, Global};
+
+// An expression whose searches are kept, or another matcher.
+#[derive(Drop)]
+pub(crate) enum Searched<'m> {
+    Expression(ExpressionSearcher<'m>),
+    Matcher(&'m StringMatcher),
+}
+
+/// A matcher's set, asked string after string. What its regular expressions search with is made at
+/// the first string and kept for the next ones; `StringMatcher::is_match` makes it anew each time.
+#[derive(Drop)]
+pub struct StringSearcher<'m> {
+    searched: Searched<'m>,
+    alloc: Global,
+}
+
+impl StringMatcher {
+    ghost use Rattle.jj_strings.specs.Searchers.{searched};
+
+    /// The set, to be asked string after string. Memory is taken at the first string, and only
+    /// where a regular expression is inside.
+    pub fn searcher(&self, alloc: Global) -> StringSearcher<'_>
+        ensures { searched result ≡ self.now }
+    {
+        let searched = match self {
+            StringMatcher::Expr(expression) => Searched::Expression(expression.searcher()),
+            _ => Searched::Matcher(self),
+        };
+        StringSearcher { searched, alloc }
+    }
+}
+
+impl<'m> StringSearcher<'m> {
+    ghost use Rattle.jj_strings.specs.StringMatchers.{InMatcher, MayAllocate};
+    ghost use Rattle.jj_strings.specs.Searchers.{searched};
+
+    /// Whether the set holds the text. Refused for want of memory, it can be asked again.
+    pub fn is_match(&mut self, haystack: &str) -> Result<bool, AllocError>
+        ensures answer { IfOk result (λ yes. IsTrue yes
+            ↔ InMatcher (searched self.old) haystack.now) }
+        ensures memory { IsErr result → MayAllocate (searched self.old) }
+        ensures same { searched self.new ≡ searched self.old }
+    {
+        self.is_match_bytes(haystack.as_bytes())
+    }
+
+    /// Whether the set holds the bytes. Refused for want of memory, it can be asked again.
+    pub fn is_match_bytes(&mut self, haystack: &[u8]) -> Result<bool, AllocError>
+        ensures answer { IfOk result (λ yes. IsTrue yes
+            ↔ InMatcher (searched self.old) haystack.now) }
+        ensures memory { IsErr result → MayAllocate (searched self.old) }
+        ensures same { searched self.new ≡ searched self.old }
+    {
+        match &mut self.searched {
+            Searched::Expression(expression) => expression.is_match(self.alloc, haystack),
+            Searched::Matcher(matcher) => matcher.is_match_bytes(self.alloc, haystack),
+        }
+    }
+}
