@@ -12,7 +12,7 @@ use Rattle.jj_matchers.specs.Answers.{Answer, all_recursively, specific, nothing
 use Rattle.jj_globs.specs.GlobMeaning.{GlobSpec}
 use Rattle.jj_matchers.specs.Listed.{ChoosesFrom, names_of}
 use Rattle.jj_matchers.specs.Wanted.{is_at_or_below, has_prefix, leads_to_wanted, leads_to_prefix}
-use Rattle.jj_matchers.specs.Patterns.{Patterns, is_prefix_match, accepts_tail, covers_tail, tail_passes, pattern_dirs, is_accepted, is_covered, opens_to_patterns, patterns_answer, AcceptsText, IsAccepted}
+use Rattle.jj_matchers.specs.Patterns.{Patterns, is_prefix_match, accepts_tail, covers_tail, tail_passes, pattern_dirs, is_accepted, is_covered, opens_to_patterns, patterns_answer, AcceptsText, IsAccepted, TellsAccepted}
 use Rattle.jj_matchers.proofs.PatternTexts.{Tells-is_match, Tells-is_prefix_match, prefix_match_below, stars_fit}
 use Rattle.jj_matchers.proofs.Listed.{leads_among}
 use Rattle.jj_matchers.proofs.Wanted.{or_left, false_if, both_true, any_implies, list_any-map, is_at_or_below-append, at_or_below_more, prefix_below, prefix_deeper}
@@ -179,3 +179,16 @@ module _ (set : Patterns) where
     (λ h. let found = Any-from_list_any (test_of path) set.patterns h in (found.0, found.1, found.2, found.3, says path found.1 found.4)),
     (λ found. list_any-from_Any (test_of path) set.patterns (found.0, found.1, found.2, found.3, said path found.1 found.4)),
   )
+
+  -- a sound answer tells of the paths that the globs accept
+  pub tells_accepted : (dir : Path) (answer : Answer)
+      → IsSound (is_accepted set) (opens_to_patterns set) dir answer → TellsAccepted set dir answer
+  tells_accepted dir all_recursively sound = λ name rest.
+      (Decides-is_accepted (dir ++ name ∷ rest)).0 (sound name rest).0
+  tells_accepted dir (specific dirs files) sound = (
+    (λ name h. sound.files_named name ((Decides-is_accepted (dir ++ name ∷ [])).1 h)),
+    (λ name next rest h. sound.dirs_named name next rest
+    ((Decides-is_accepted (dir ++ name ∷ next ∷ rest)).1 h)),
+  )
+  tells_accepted dir nothing sound = λ name rest h.
+      false≢true (sym (sound name rest) ∙ (Decides-is_accepted (dir ++ name ∷ rest)).1 h)

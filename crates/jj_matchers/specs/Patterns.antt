@@ -107,3 +107,16 @@ abbrev pub IsAccepted : Patterns → Path → Type 0
 IsAccepted set path = Any (λ pattern. (name : Name) × (rest : Path)
     × (path ≡ pattern.0 ++ name ∷ rest) × AcceptsText set.prefix_paths pattern.1
     (path_text (name ∷ rest))) set.patterns
+
+-- what an answer for a directory tells of the paths strictly below it: all are accepted; or the
+-- accepted children are among the files, and the first names of the accepted deeper paths among the
+-- directories; or none is accepted
+abbrev pub TellsAccepted : Patterns → Path → Answer → Type 0
+TellsAccepted set dir all_recursively = (name : Name) (rest : Path)
+    → IsAccepted set (dir ++ name ∷ rest)
+TellsAccepted set dir (specific dirs files) =
+    ((name : Name) → IsAccepted set (dir ++ name ∷ []) → files name ≡ true)
+    × ((name next : Name) (rest : Path) → IsAccepted set (dir ++ name ∷ next ∷ rest)
+    → dirs name ≡ true)
+TellsAccepted set dir nothing = (name : Name) (rest : Path)
+    → IsAccepted set (dir ++ name ∷ rest) → ⊥

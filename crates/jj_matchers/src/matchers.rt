@@ -97,7 +97,7 @@ impl Matcher for Box<dyn Matcher> {
 }
 
 /// No path.
-#[derive(Drop)]
+#[derive(Debug, PartialEq, Eq, Drop)]
 pub struct NothingMatcher;
 
 impl Matcher for NothingMatcher {
@@ -119,7 +119,7 @@ impl Matcher for NothingMatcher {
 }
 
 /// Every path.
-#[derive(Drop)]
+#[derive(Debug, PartialEq, Eq, Drop)]
 pub struct EverythingMatcher;
 
 impl Matcher for EverythingMatcher {

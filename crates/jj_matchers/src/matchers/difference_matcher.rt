@@ -9,7 +9,7 @@ use jj_paths::repo_path::RepoPath;
 use std::alloc::{AllocError, Global};
 
 /// The paths of one set that are not in the other.
-#[derive(Drop)]
+#[derive(Clone, Debug, Drop)]
 pub struct DifferenceMatcher<M1, M2> {
     wanted: M1,
     unwanted: M2,

@@ -1,11 +1,12 @@
 //! The matcher of globs in directories, and its builder.
 ghost use Rattle.std.specs.Prelude.{◌≡◌, ◌↔◌, false, [], ◌∷◌, ◌++◌, IsTrue, IfOk, MatchResult};
 ghost use Rattle.jj_paths.specs.Names.{path_of};
+ghost use Rattle.jj_matchers.specs.Answers.{IsSound};
 ghost use Rattle.jj_matchers.specs.Visits.{answer_of};
-ghost use Rattle.jj_matchers.specs.Listed.{names_of};
+ghost use Rattle.jj_matchers.specs.Listed.{ChoosesFrom, names_of};
 ghost use Rattle.jj_matchers.specs.Marks.{children_answer, any_node};
 ghost use Rattle.jj_matchers.specs.Wanted.{has_prefix};
-ghost use Rattle.jj_matchers.specs.Patterns.{HasSamePatterns, IsAccepted, is_accepted, is_covered, opens_to_patterns, pattern_dirs, patterns_answer};
+ghost use Rattle.jj_matchers.specs.Patterns.{HasSamePatterns, IsAccepted, TellsAccepted, is_accepted, is_covered, opens_to_patterns, pattern_dirs, patterns_answer};
 ghost use Rattle.jj_matchers.specs.PatternTree.{AddsGlob, marked_branches, no_node};
 
 use crate::matchers::dir_patterns::DirPatterns;
@@ -69,6 +70,29 @@ impl GlobsMatcher {
             .walk_to(dir)
             .any(|(node, _)| node.value().has_patterns())
     }
+
+    // The answer for a directory.
+    fn answer(&self, alloc: Global, dir: RepoPath<'_>) -> Result<Visit, AllocError>
+        ensures { IfOk result (λ visit. answer_of visit
+            ≡ patterns_answer self.now (path_of dir.entry)) }
+    {
+        if self.covers(dir) {
+            return Ok(Visit::AllRecursively);
+        }
+        if self.has_patterns_above(dir) {
+            return Ok(Visit::Specific {
+                dirs: VisitDirs::All,
+                files: VisitFiles::All,
+            });
+        }
+        match self.tree.get(dir) {
+            Some(node) => {
+                let visit = visit_directories(alloc, node)?;
+                Ok(visit)
+            }
+            None => Ok(Visit::Nothing),
+        }
+    }
 }
 
 impl Matcher for GlobsMatcher {
@@ -90,23 +114,18 @@ impl Matcher for GlobsMatcher {
             .any(|(node, tail)| node.value().accept(prefix_paths, tail))
     }
 
-    fn visit(&self, alloc: Global, dir: RepoPath<'_>) -> Result<Visit, AllocError> {
-        if self.covers(dir) {
-            return Ok(Visit::AllRecursively);
-        }
-        if self.has_patterns_above(dir) {
-            return Ok(Visit::Specific {
-                dirs: VisitDirs::All,
-                files: VisitFiles::All,
-            });
-        }
-        match self.tree.get(dir) {
-            Some(node) => {
-                let visit = visit_directories(alloc, node)?;
-                Ok(visit)
-            }
-            None => Ok(Visit::Nothing),
-        }
+    fn visit(&self, alloc: Global, dir: RepoPath<'_>) -> Result<Visit, AllocError>
+        ensures answer { IfOk result (λ visit. answer_of visit
+            ≡ patterns_answer self.now (path_of dir.entry)) }
+        ensures sound { IfOk result (λ visit. IsSound (is_accepted self.now)
+            (opens_to_patterns self.now) (path_of dir.entry) (answer_of visit)) }
+        ensures chosen { IfOk result (λ visit.
+            ChoosesFrom (names_of (pattern_dirs self.now)) (answer_of visit)) }
+        ensures meaning { IfOk result (λ visit.
+            TellsAccepted self.now (path_of dir.entry) (answer_of visit)) }
+    {
+        let visit = self.answer(alloc, dir)?;
+        Ok(visit)
     }
 }
 

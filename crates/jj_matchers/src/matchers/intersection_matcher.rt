@@ -11,7 +11,7 @@ use std::alloc::{AllocError, Global};
 use std::collections::HashSet;
 
 /// The paths of both sets.
-#[derive(Drop)]
+#[derive(Clone, Debug, Drop)]
 pub struct IntersectionMatcher<M1, M2> {
     input1: M1,
     input2: M2,

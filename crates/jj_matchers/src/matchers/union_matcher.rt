@@ -10,7 +10,7 @@ use std::alloc::{AllocError, Global};
 use std::collections::HashSet;
 
 /// The paths of either set.
-#[derive(Drop)]
+#[derive(Clone, Debug, Drop)]
 pub struct UnionMatcher<M1, M2> {
     input1: M1,
     input2: M2,
