@@ -3,7 +3,10 @@ pub mod AddedMarks
 pub mod Steps
 pub mod Requests
 pub mod Fields
+pub mod DecidedTerms
 pub mod TextMerges
+pub mod PairCounts
+pub mod TextOutcomes
 pub mod Inputs
 pub mod SamePaths
 pub mod OneTree

@@ -16,22 +16,13 @@ use Rattle.jj_merges.specs.Simplify.{both_equal, same_term, simplified_from, all
 use Rattle.jj_core.specs.declared.merge_command.Question.{Question}
 use Rattle.jj_core.specs.declared.merge_command.Question.TheVariants.{Simplify, Resolve}
 use Rattle.jj_core.specs.Lines.{line_text}
-use Rattle.jj_core.specs.MergeCommand.{AnswersQuestion}
-
-abbrev pub Text : Type 0
-Text = Bor (List ℕ)
-
--- the bytes of texts
-abbrev pub bytes_of : List Text → List (List ℕ)
-bytes_of texts = map (λ text. text.now) texts
+use Rattle.jj_core.proofs.DecidedTerms.{decided_stands}
+use Rattle.jj_core.specs.MergeCommand.{AnswersQuestion, outcome_line}
+use Rattle.jj_core.specs.TextMerges.{Text, bytes_of, text_eq, IsTextOutcome}
 
 -- a text of these bytes
 abbrev text_of : List ℕ → Text
 text_of bytes = record { ref_ptr = (0, 0); now = bytes }
-
--- whether two texts have the same bytes
-abbrev pub text_eq : Text → Text → Bool
-text_eq x y = bytes_eq x.now y.now
 
 mutual
   adds-bytes : (m : List Text) → adds (bytes_of m) ≡ bytes_of (adds m)
@@ -118,8 +109,10 @@ left_bytes m left h =
     ∙ sym (at_places-bytes m (kept_places text_eq m))
     ∙ ap (at_places (bytes_of m)) (sym (kept_places-bytes m))
 
-member_bytes : (m : List Text) (v : Text) → Contains m v → Contains (bytes_of m) v.now
-member_bytes m v (k, within, is) = (k, omega (arith, length-map m (λ text. text.now)), get_or-map (λ (text : Text). text.now) m k v v.now within ∙ ap (λ (text : Text). text.now) is)
+member_bytes : (same_change : SameChange) (m : List Text) (v : Text)
+    → IsDecided text_eq same_change m v → Contains (bytes_of m) v.now
+member_bytes same_change m v decided =
+    decided_stands same_change (bytes_of m) v.now (decided_bytes same_change m v decided)
 
 -- what is left answers a request to simplify
 pub answers_simplify : (question : Question) (m left : List Text) → question ≡ Simplify → AllZip (λ x y. y ≡ x) (at_places m (kept_places text_eq m)) left
@@ -127,14 +120,13 @@ pub answers_simplify : (question : Question) (m left : List Text) → question �
 answers_simplify question m left asked kept =
     subst (λ q. AnswersQuestion q (bytes_of m) (line_text (codes "terms") (bytes_of left))) (sym asked) (ap (line_text (codes "terms")) (left_bytes m left kept))
 
--- a term that decides answers a request for the outcome
-pub answers_decided : (question : Question) (same_change : SameChange) (m : List Text) (v : Text) → question ≡ Resolve same_change → Contains m v → IsDecided text_eq same_change m v
-    → AnswersQuestion question (bytes_of m) (line_text (codes "resolved") (v.now ∷ []))
-answers_decided question same_change m v asked member decided =
-    subst (λ q. AnswersQuestion q (bytes_of m) (line_text (codes "resolved") (v.now ∷ []))) (sym asked) (Some v.now, (member_bytes m v member, decided_bytes same_change m v decided), refl)
-
--- and so does a conflict, where none decides
-pub answers_undecided : (question : Question) (same_change : SameChange) (m : List Text) → question ≡ Resolve same_change → ((v : Text) → IsDecided text_eq same_change m v → ⊥)
-    → AnswersQuestion question (bytes_of m) (line_text (codes "conflict") [])
-answers_undecided question same_change m asked none =
-    subst (λ q. AnswersQuestion q (bytes_of m) (line_text (codes "conflict") [])) (sym asked) (None, none_decided same_change m none, refl)
+-- the text that the counts decide, or none, answers a request for the outcome
+pub answers_outcome : (question : Question) (same_change : SameChange) (m : List Text)
+    (o : Option Text) → question ≡ Resolve same_change → IsTextOutcome same_change m o
+    → AnswersQuestion question (bytes_of m) (outcome_line (option_map (λ text. text.now) o))
+answers_outcome question same_change m (Some v) asked decided =
+    subst (λ q. AnswersQuestion q (bytes_of m) (outcome_line (Some v.now))) (sym asked)
+    (Some v.now, (member_bytes same_change m v decided, decided_bytes same_change m v decided), refl)
+answers_outcome question same_change m None asked none =
+    subst (λ q. AnswersQuestion q (bytes_of m) (outcome_line None)) (sym asked)
+    (None, none_decided same_change m none, refl)

@@ -16,6 +16,7 @@ pub mod Matching
 pub mod SetMatching
 pub mod MergeCommand
 pub mod MergeRead
+pub mod TextMerges
 pub mod Numbers
 pub mod GraphCommand
 pub mod Neighbors

@@ -13,6 +13,7 @@ mod listed_graph;
 mod marks;
 mod matching;
 mod merge_command;
+mod merge_outcome;
 mod number;
 mod numbering;
 pub mod program;

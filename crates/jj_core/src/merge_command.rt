@@ -6,6 +6,7 @@ ghost use Rattle.jj_core.specs.MergeCommand.{MergeRequest, question_named, merge
 ghost use Rattle.jj_core.specs.MergeRead.{merge_request_of, merge_requests_of};
 
 use crate::fault::{Fault, LineFault};
+use crate::merge_outcome::outcome;
 use crate::reading::{Reading, push_line, take_lines};
 use jj_merges::merge::{Merge, MergeBuilder, SameChange};
 use std::alloc::{AllocError, Global};
@@ -118,9 +119,12 @@ fn push_answer(
             let left = request.terms.simplify(alloc)?;
             push_line(output, "terms", left.as_slice())
         }
-        Question::Resolve(same_change) => match request.terms.resolve_trivial(same_change) {
-            Some(term) => push_line(output, "resolved", &[*term]),
-            None => push_line(output, "conflict", &[]),
-        },
+        Question::Resolve(same_change) => {
+            let found = outcome(alloc, &request.terms, same_change)?;
+            match found {
+                Some(term) => push_line(output, "resolved", &[term]),
+                None => push_line(output, "conflict", &[]),
+            }
+        }
     }
 }

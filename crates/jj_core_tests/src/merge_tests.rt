@@ -4,6 +4,7 @@
 mod tests {
     use crate::runs::{at, fails, reads_fail, writes, writes_fail};
     use jj_core::program::{Command, Fault, LineFault};
+    use std::alloc::{AllocError, Global};
 
     #[test]
     fn merges_are_simplified(rt: HostRuntime) {
@@ -38,6 +39,34 @@ mod tests {
                 if input.push_str(terms).is_err() {
                     return;
                 }
+                writes(&rt, Command::Merge, input.as_str(), output);
+            }
+        }
+    }
+
+    // A line of a hundred numbers as adds, the same as removes in another order, and further terms.
+    fn long_line(alloc: Global, name: &str, further: &str) -> Result<String, AllocError> {
+        let mut line = String::from_str(alloc, name)?;
+        for number in 0..100u32 {
+            let other = number * 37 % 100;
+            line.push_str(format!(in alloc; "\t{number}\t{other}")?.as_str())?;
+        }
+        line.push_str(further)?;
+        Ok(line)
+    }
+
+    #[test]
+    fn long_merges_are_decided(rt: HostRuntime) {
+        for (further, accepted, kept) in [
+            ("\tz\n", "resolved\tz\n", "resolved\tz\n"),
+            ("\tz\ty\tz\n", "resolved\tz\n", "conflict\n"),
+            ("\tz\tx\tw\n", "conflict\n", "conflict\n"),
+            ("\t7\n", "resolved\t7\n", "resolved\t7\n"),
+        ] {
+            for (name, output) in [("accept", accepted), ("keep", kept)] {
+                let Ok(input) = long_line(rt.alloc(), name, further) else {
+                    return;
+                };
                 writes(&rt, Command::Merge, input.as_str(), output);
             }
         }

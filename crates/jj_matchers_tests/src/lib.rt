@@ -9,6 +9,8 @@ mod answers;
 #[cfg(test)]
 mod combined;
 #[cfg(test)]
+mod copies;
+#[cfg(test)]
 mod fixtures;
 #[cfg(test)]
 mod globs;

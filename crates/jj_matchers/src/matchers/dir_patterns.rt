@@ -10,7 +10,7 @@ use std::alloc::{AllocError, Global};
 use std::marker::Model;
 
 /// The patterns of one directory, seen as a list of globs. Without patterns it takes no memory.
-#[derive(Drop)]
+#[derive(Debug, Drop)]
 pub struct DirPatterns {
     patterns: Option<Vec<PathGlobPattern>>,
 }
@@ -30,6 +30,16 @@ impl Default for DirPatterns {
 
     fn default() -> DirPatterns {
         DirPatterns { patterns: None }
+    }
+}
+
+impl Clone for DirPatterns {
+    ghost is_clone = { λ patterns copy. copy ≡ patterns };
+
+    fn clone(&self) -> Result<DirPatterns, AllocError> {
+        Ok(DirPatterns {
+            patterns: self.patterns.clone()?,
+        })
     }
 }
 

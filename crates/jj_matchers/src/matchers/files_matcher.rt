@@ -13,7 +13,7 @@ use std::alloc::{AllocError, Global};
 use std::marker::Model;
 
 /// The wanted files. A contract sees them as a list of paths, in no order.
-#[derive(Drop)]
+#[derive(Debug, Drop)]
 pub struct FilesMatcher {
     tree: RepoPathTree<bool>,
 }

@@ -20,7 +20,7 @@ use std::marker::Model;
 /// The paths strictly below a directory whose tail, the text of what is left of the path below it,
 /// fits a pattern of the directory. A contract sees the patterns as a list of directories and
 /// globs, in no order.
-#[derive(Drop)]
+#[derive(Debug, Drop)]
 pub struct GlobsMatcher {
     tree: RepoPathTree<DirPatterns>,
     matches_prefix_paths: bool,
@@ -95,6 +95,17 @@ impl GlobsMatcher {
     }
 }
 
+impl Clone for GlobsMatcher {
+    ghost is_clone = { λ matcher copy. copy ≡ matcher };
+
+    fn clone(&self) -> Result<GlobsMatcher, AllocError> {
+        Ok(GlobsMatcher {
+            tree: self.tree.clone()?,
+            matches_prefix_paths: self.matches_prefix_paths,
+        })
+    }
+}
+
 impl Matcher for GlobsMatcher {
     ghost accepts = { is_accepted };
 
@@ -142,7 +153,7 @@ fn visit_directories(alloc: Global, tree: &RepoPathTree<DirPatterns>) -> Result<
 }
 
 /// Directories and patterns in them, of which a matcher is made.
-#[derive(Drop)]
+#[derive(Debug, Drop)]
 pub struct GlobsMatcherBuilder<'a> {
     dir_patterns: Vec<(RepoPath<'a>, &'a PathGlobPattern)>,
     matches_prefix_paths: bool,
@@ -204,6 +215,17 @@ impl<'a> GlobsMatcherBuilder<'a> {
         }
         Ok(GlobsMatcher {
             tree,
+            matches_prefix_paths: self.matches_prefix_paths,
+        })
+    }
+}
+
+impl<'a> Clone for GlobsMatcherBuilder<'a> {
+    ghost is_clone = { λ builder copy. copy ≡ builder };
+
+    fn clone(&self) -> Result<GlobsMatcherBuilder<'a>, AllocError> {
+        Ok(GlobsMatcherBuilder {
+            dir_patterns: self.dir_patterns.clone()?,
             matches_prefix_paths: self.matches_prefix_paths,
         })
     }

@@ -7,6 +7,7 @@ ghost use Rattle.jj_matchers.specs.Patterns.{is_match, is_prefix_match, is_stars
 
 use jj_globs::glob::{Glob, GlobError};
 use std::alloc::{AllocError, Global};
+use std::fmt;
 use std::marker::Model;
 use std::rc::Rc;
 
@@ -112,6 +113,15 @@ impl Clone for PathGlobPattern {
         Ok(PathGlobPattern {
             glob: self.glob.clone()?,
         })
+    }
+}
+
+/// The text that was parsed; the rest is not shown.
+impl fmt::Debug for PathGlobPattern {
+    fn fmt<W: fmt::Write>(&self, f: &mut fmt::Formatter<W>) -> fmt::Result {
+        f.debug_struct("PathGlobPattern")
+            .field("glob", &self.as_str())
+            .finish_non_exhaustive()
     }
 }
 

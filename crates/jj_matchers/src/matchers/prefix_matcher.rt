@@ -13,7 +13,7 @@ use std::alloc::{AllocError, Global};
 use std::marker::Model;
 
 /// The paths at or below a prefix. A contract sees the prefixes as a list of paths, in no order.
-#[derive(Drop)]
+#[derive(Debug, Drop)]
 pub struct PrefixMatcher {
     tree: RepoPathTree<bool>,
 }

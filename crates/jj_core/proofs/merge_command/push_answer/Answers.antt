@@ -1,10 +1,11 @@
-use Rattle.std.proofs.Common.{◌≡◌, ◌∙◌, ◌++◌, ◌∷◌, [], ℕ, List, ap}
+use Rattle.std.proofs.Common.{◌≡◌, ◌∙◌, ◌++◌, ◌∷◌, [], ℕ, List, Some, None, ap, subst}
 use Rattle.std.specs.Prelude.{codes}
 use Rattle.std.proofs.lemmas.Result.{IfOk-weaker}
 use Rattle.jj_core.specs.Lines.{line_text}
-use Rattle.jj_core.specs.MergeCommand.{IsMergeAnswer}
+use Rattle.jj_core.specs.MergeCommand.{IsMergeAnswer, outcome_line}
+use Rattle.jj_core.specs.TextMerges.{bytes_of, IsTextOutcome}
 use Rattle.jj_core.specs.MergeRead.{merge_request_of}
-use Rattle.jj_core.proofs.TextMerges.{bytes_of, answers_simplify, answers_decided, answers_undecided}
+use Rattle.jj_core.proofs.TextMerges.{answers_simplify, answers_outcome}
 use Rattle.jj_core.proofs.merge_command.push_answer.Goals as goal
 
 pub returns-in_ok-left-in-Simplify : goal.returns-in_ok-left-in-Simplify
@@ -19,17 +20,23 @@ returns-in_ok-left-in-Simplify c =
 pub returns-in-Some : goal.returns-in-Some
 returns-in-Some c =
     let old = c.args.output.now.items in
-    let line = line_text (codes "resolved") (c.in-Some.term.now.now ∷ []) in
-    let answered = answers_decided c.args.request.now.question c.in-Resolve.same_change c.args.request.now.terms c.in-Some.term.now c.in-Resolve.is c.in-Some.ensures.member c.in-Some.ensures.decided in
+    let request = c.args.request.now in
+    let line = outcome_line (Some c.in-Some.term.now) in
+    let answered = answers_outcome request.question c.in-Resolve.same_change request.terms
+    (Some c.in-Some.term) c.in-Resolve.is
+    (subst (IsTextOutcome c.in-Resolve.same_change request.terms) c.in-Some.is c.in_ok-found-in-Resolve.ensures) in
     IfOk-weaker c.push_line-in-Some.result (λ _. c.push_line-in-Some.new.output.items ≡ old ++ line)
-    (λ _. (answer : List ℕ) × IsMergeAnswer (merge_request_of c.args.request.now) answer × (c.push_line-in-Some.new.output.items ≡ old ++ answer))
+    (λ _. (answer : List ℕ) × IsMergeAnswer (merge_request_of request) answer × (c.push_line-in-Some.new.output.items ≡ old ++ answer))
     (λ done written. (line, answered, written)) c.push_line-in-Some.ensures
 
 pub returns-in-None : goal.returns-in-None
 returns-in-None c =
     let old = c.args.output.now.items in
-    let line = line_text (codes "conflict") [] in
-    let answered = answers_undecided c.args.request.now.question c.in-Resolve.same_change c.args.request.now.terms c.in-Resolve.is c.in-None.ensures.undecided in
+    let request = c.args.request.now in
+    let line = outcome_line None in
+    let answered = answers_outcome request.question c.in-Resolve.same_change request.terms None
+    c.in-Resolve.is
+    (subst (IsTextOutcome c.in-Resolve.same_change request.terms) c.in-None.is c.in_ok-found-in-Resolve.ensures) in
     IfOk-weaker c.push_line-in-None.result (λ _. c.push_line-in-None.new.output.items ≡ old ++ line)
-    (λ _. (answer : List ℕ) × IsMergeAnswer (merge_request_of c.args.request.now) answer × (c.push_line-in-None.new.output.items ≡ old ++ answer))
+    (λ _. (answer : List ℕ) × IsMergeAnswer (merge_request_of request) answer × (c.push_line-in-None.new.output.items ≡ old ++ answer))
     (λ done written. (line, answered, written)) c.push_line-in-None.ensures

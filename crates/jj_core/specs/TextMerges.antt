@@ -1,0 +1,28 @@
+-- Merges of borrowed texts, which are equal where their bytes are.
+use Rattle.std.specs.Prelude.{◌≡◌, ◌+◌, ℕ, Bool, List, Option, Some, None, map, count_by}
+use Rattle.std.specs.Borrow.{Bor}
+use Rattle.std.specs.Str.{bytes_eq}
+use Rattle.jj_merges.specs.declared.merge.SameChange.{SameChange}
+use Rattle.jj_merges.specs.Decided.{IsDecided}
+
+abbrev pub Text : Type 0
+Text = Bor (List ℕ)
+
+-- the bytes of texts
+abbrev pub bytes_of : List Text → List (List ℕ)
+bytes_of texts = map (λ text. text.now) texts
+
+-- whether two texts have the same bytes
+abbrev pub text_eq : Text → Text → Bool
+text_eq x y = bytes_eq x.now y.now
+
+-- each text stands as often more among the adds than among the removes as it does in the others
+abbrev pub HaveCountsOf : List Text → List Text → List Text → List Text → Type 0
+HaveCountsOf adds removes other_adds other_removes = (v : Text) →
+    count_by (text_eq v) adds + count_by (text_eq v) other_removes
+    ≡ count_by (text_eq v) other_adds + count_by (text_eq v) removes
+
+-- the text that the counts of the terms decide, or none where they decide none
+abbrev pub IsTextOutcome : SameChange → List Text → Option Text → Type 0
+IsTextOutcome same_change terms (Some v) = IsDecided text_eq same_change terms v
+IsTextOutcome same_change terms None = (v : Text) → IsDecided text_eq same_change terms v → ⊥
