@@ -1,11 +1,11 @@
 -- A hex text has one reading: its bytes are those that a decoder finds.
-use Rattle.std.proofs.Common.{◌≡◌, ◌∙◌, ℕ, ◌+◌, ◌*◌, ◌/◌, ◌%◌, ◌<◌, List, [], ◌∷◌, length, get_or, Option, Some, None, Result, Ok, Err, refl, sym, ap, subst, arith}
+use Rattle.std.proofs.Common.{◌≡◌, ◌∙◌, ℕ, ◌+◌, ◌*◌, ◌/◌, ◌%◌, ◌<◌, List, [], ◌∷◌, get_or, Option, Some, None, refl, sym, subst, arith}
 use Rattle.std.specs.Str.{str_to_ascii_lowercase}
 use Rattle.std.specs.Char.{to_ascii_lowercase}
 use Rattle.std.proofs.lemmas.List.Elements.{All-head, All-tail}
 use Rattle.std.proofs.lemmas.Option.{none-some, same_Some}
 use Rattle.jj_content.specs.Hex.{hex_digits, digit_value, text_with, ReadsAs, ReadsAsNothing}
-use Rattle.jj_content.proofs.HexTexts.{IsByte, are_hex_digits, digit_value-same, text_with-nil, text_with-cons, ReadsAs-nil, ReadsAs-cons, ReadsAs-length}
+use Rattle.jj_content.proofs.HexTexts.{IsByte, are_hex_digits, digit_value-same, text_with-cons, ReadsAs-nil, ReadsAs-cons, ReadsAs-length}
 use Rattle.jj_core.specs.HashCommand.{bytes_of_hex, with_byte}
 
 abbrev Reads : List ℕ → List ℕ → Type 0

@@ -1,6 +1,6 @@
 -- Graphs whose edges a map lists: where their cycles lie, and their maximal nodes in ascending order.
-use Rattle.std.proofs.Common.{◌≡◌, ◌∙◌, Iter, ℕ, ◌<◌, List, [], ◌∷◌, length, get_or, Result, Ok, Err, Option, Some, None, IsSome, ap, refl, sym, subst, arith, eqb, map}
-use Rattle.std.specs.Prelude.{unwrap_or, IsOkAnd, ◌++◌}
+use Rattle.std.proofs.Common.{◌≡◌, ◌∙◌, Iter, ℕ, ◌<◌, List, [], ◌∷◌, length, get_or, Result, Ok, Err, None, ap, refl, sym, arith, eqb, map}
+use Rattle.std.specs.Prelude.{IsOkAnd, ◌++◌}
 use Rattle.std.specs.Iterator.{YieldsFirst}
 use Rattle.std.specs.declared.iter.Copied.{Copied}
 use Rattle.std.specs.Iterator.Adapters.{copied_source}
@@ -17,11 +17,10 @@ use Rattle.std.specs.Global.{Global}
 use Rattle.std.specs.Map.{lookup}
 use Rattle.std.proofs.lemmas.List.{get_or-map, length-map, map-id}
 use Rattle.std.specs.declared.vec.Vec.{Vec}
-use Rattle.std.proofs.lemmas.Bool.Decides.{Decides-eqb}
 use Rattle.std.proofs.lemmas.List.Sorted.{Contains-permutation, IsPermutation-sym, IsNonDecreasingBy-from_sort}
 use Rattle.std.proofs.lemmas.Map.Keys.{IsDistinct-IsPermutation, IsStrictlyIncreasing-from_distinct}
 use Rattle.jj_walks.specs.CommonNodes.{AreClosestCommon}
-use Rattle.jj_walks.specs.Graph.{Graph, StrictlyReaches, HasNoCycle, IsMaximalIn}
+use Rattle.jj_walks.specs.Graph.{Graph, HasNoCycle, IsMaximalIn}
 use Rattle.jj_walks.specs.Failing.{Fault, AreItems, AnswersItems, BeginsWith, ListsItems, sound_items}
 use Rattle.jj_walks.proofs.FailingWalks.{begun_are}
 use Rattle.jj_core.specs.declared.graph_walks.SoundIds.{SoundIds}

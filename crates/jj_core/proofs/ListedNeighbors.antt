@@ -1,5 +1,5 @@
 -- The neighbours that a map lists are among the ids of its lists.
-use Rattle.std.proofs.Common.{◌≡◌, ◌==◌, ◌<◌, ℕ, Bool, true, false, List, [], ◌∷◌, Option, Some, None, ap, refl, sym, subst, arith}
+use Rattle.std.proofs.Common.{◌≡◌, ◌==◌, ℕ, Bool, true, false, List, [], ◌∷◌, Option, Some, None, refl, arith}
 use Rattle.std.specs.Prelude.{All, cond, unwrap_or}
 use Rattle.std.specs.BTreeMap.{BTreeMap, get, is_at, values}
 use Rattle.std.specs.Global.{Global}

@@ -1,17 +1,16 @@
 -- Walks over a graph whose nodes are numbered by their places among its ids.
-use Rattle.std.proofs.Common.{◌≡◌, ◌∙◌, ◌+◌, ◌<◌, ◌≤◌, ◌==◌, ℕ, suc, Bool, true, false, List, length, map, get_or, nat_lt, ap, refl, sym, subst, arith, rules, ⊎_elim}
+use Rattle.std.proofs.Common.{◌≡◌, ◌∙◌, ◌+◌, ◌<◌, ◌≤◌, ◌==◌, ℕ, suc, true, false, List, length, get_or, nat_lt, ap, sym, subst, arith, rules, ⊎_elim}
 use Rattle.std.specs.Prelude.{All, cond}
 use Rattle.std.specs.Bool.{one_answer}
 use Rattle.std.specs.List.{Contains, sum_by}
 use Rattle.std.specs.List.Sorted.{IsStrictlyIncreasing}
-use Rattle.std.proofs.lemmas.Bool.{cases_lt, cases_eq}
+use Rattle.std.proofs.lemmas.Bool.{cases_lt}
 use Rattle.std.proofs.lemmas.Bool.Decides.{Decides-eqb}
-use Rattle.std.proofs.lemmas.Grind.{get_or_default_zero}
 use Rattle.std.proofs.lemmas.List.Elements.{All-contains}
 use Rattle.std.proofs.lemmas.List.Kept.{AllPairs-from_increasing}
 use Rattle.std.proofs.lemmas.List.Sums.{get_or-le-sum_by}
 use Rattle.jj_walks.specs.Graph.{Graph}
-use Rattle.jj_walks.specs.Walk.{Numbered, AreNodes}
+use Rattle.jj_walks.specs.Walk.{Numbered}
 use Rattle.jj_walks.proofs.Walking.{has, has-from_Contains, Contains-from_has}
 use Rattle.jj_core.specs.Numbering.{IsNumberOf}
 

@@ -1,5 +1,5 @@
 -- What holds of a merge of borrowed texts, which are equal where their bytes are, holds of the bytes.
-use Rattle.std.proofs.Common.{◌≡◌, ◌∙◌, ℕ, ◌+◌, Bool, List, [], ◌∷◌, Option, Some, None, cond, map, length, arith, refl, sym, ap, subst, Bor}
+use Rattle.std.proofs.Common.{◌≡◌, ◌∙◌, ℕ, ◌+◌, Bool, List, [], ◌∷◌, Option, Some, None, cond, length, refl, sym, ap, subst}
 use Rattle.std.specs.Prelude.{pos, ◌-ℤ◌, ◌<ℤ◌, codes, count_by, slice_get}
 use Rattle.std.specs.Str.{bytes_eq}
 use Rattle.std.specs.List.{AllZip, Contains, cons_option}
@@ -7,7 +7,6 @@ use Rattle.std.specs.Option.{option_map}
 use Rattle.std.proofs.lemmas.List.Folds.{fold-map}
 use Rattle.std.proofs.lemmas.Option.{slice_get-map}
 use Rattle.std.proofs.Math.ListN.{length-map}
-use Rattle.std.proofs.lemmas.List.{get_or-map}
 use Rattle.jj_merges.specs.declared.merge.SameChange.{SameChange}
 use Rattle.jj_merges.specs.declared.merge.SameChange.TheVariants.{Keep, Accept}
 use Rattle.jj_merges.specs.Merge.{adds, removes, by_turns, signed_count}

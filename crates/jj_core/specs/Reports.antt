@@ -1,5 +1,5 @@
 -- What is said on standard error.
-use Rattle.std.specs.Prelude.{◌≡◌, ℕ, List, [], ◌∷◌, ◌++◌, ◌⊎◌, Bool, false, codes, Option}
+use Rattle.std.specs.Prelude.{◌≡◌, ℕ, List, [], ◌∷◌, ◌++◌, Bool, false, codes, Option}
 use Rattle.std.specs.Io.KnownBytes.{Appends}
 use Rattle.jj_paths.specs.Streams.{AppendsFrontOf}
 use Rattle.jj_core.specs.declared.fault.Fault.{Fault}

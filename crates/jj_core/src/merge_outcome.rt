@@ -52,10 +52,7 @@ fn cancelled<'t>(alloc: Global, terms: &Merge<&'t str>) -> Result<Merge<&'t str>
 }
 
 /// The texts in ascending order.
-fn sorted<'t>(
-    alloc: Global,
-    texts: EverySecond<'_, &'t str>,
-) -> Result<Vec<&'t str>, AllocError>
+fn sorted<'t>(alloc: Global, texts: EverySecond<'_, &'t str>) -> Result<Vec<&'t str>, AllocError>
     ensures { IfOk result (λ sorted. IsPermutation texts.entry sorted.items) }
 {
     let mut sorted = Vec::with_capacity(alloc, texts.len())?;

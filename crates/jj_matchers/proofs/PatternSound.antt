@@ -188,7 +188,7 @@ module _ (set : Patterns) where
   tells_accepted dir (specific dirs files) sound = (
     (λ name h. sound.files_named name ((Decides-is_accepted (dir ++ name ∷ [])).1 h)),
     (λ name next rest h. sound.dirs_named name next rest
-    ((Decides-is_accepted (dir ++ name ∷ next ∷ rest)).1 h)),
+        ((Decides-is_accepted (dir ++ name ∷ next ∷ rest)).1 h)),
   )
   tells_accepted dir nothing sound = λ name rest h.
       false≢true (sym (sound name rest) ∙ (Decides-is_accepted (dir ++ name ∷ rest)).1 h)

@@ -1,4 +1,4 @@
-use Rattle.std.proofs.Common.{◌≡◌, ◌+◌, ◌<◌, length, true, false, sym, ◌∙◌, arith}
+use Rattle.std.proofs.Common.{◌<◌, length, true, false, sym, ◌∙◌, arith}
 use Rattle.jj_core.proofs.Dashes.{counted_more}
 use Rattle.jj_core.proofs.graph_command.dash_count.Goals as goal
 use Rattle.jj_core.proofs.graph_command.dash_count.Goals.{then-is_dash, else-is_dash}

@@ -1,5 +1,5 @@
-use Rattle.std.proofs.Common.{◌≡◌, ◌+◌, ◌<◌, ℕ, length, map, [], true, false, sym, ◌∙◌, ap, subst, arith}
-use Rattle.std.specs.List.{position_or_len, count_by}
+use Rattle.std.proofs.Common.{◌≡◌, ◌<◌, length, map, [], true, false, sym, ◌∙◌, arith}
+use Rattle.std.specs.List.{position_or_len}
 use Rattle.std.proofs.lemmas.List.{length-map}
 use Rattle.std.proofs.lemmas.List.Sums.{position_or_len_is}
 use borrow.Author.Count.{below_more}

@@ -1,5 +1,5 @@
 -- No field so far is a dash.
-use Rattle.std.proofs.Common.{◌≡◌, ◌<◌, ℕ, List, [], map, false, get_or}
+use Rattle.std.proofs.Common.{◌≡◌, ◌<◌, ℕ, [], map, false, get_or}
 use Rattle.jj_core.specs.GraphCommand.{is_dash}
 use Rattle.jj_core.proofs.graph_command.dash_place.Given as goal
 

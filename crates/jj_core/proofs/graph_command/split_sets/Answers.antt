@@ -1,4 +1,4 @@
-use Rattle.std.proofs.Common.{◌≡◌, ◌+◌, ◌-◌, ◌==◌, ℕ, map, take, drop, length, sym, ◌∙◌, ap, true, eqb, Bor, List, arith, length-drop}
+use Rattle.std.proofs.Common.{◌≡◌, ◌+◌, ◌-◌, ℕ, map, take, drop, length, sym, ◌∙◌, ap, Bor, List, arith, length-drop}
 use Rattle.std.specs.List.{count_by, position_or_len}
 use Rattle.std.proofs.lemmas.Bool.Decides.{Decides-eqb}
 use Rattle.std.proofs.lemmas.List.{take-map, drop-map, take_all}

@@ -1,4 +1,4 @@
-use Rattle.std.proofs.Common.{◌≡◌, ℕ, ap, subst, arith, length, cond, IsPermutation}
+use Rattle.std.proofs.Common.{◌≡◌, ℕ, ap, subst, arith, cond, IsPermutation}
 use Rattle.std.specs.Prelude.{count_by}
 use Rattle.std.proofs.lemmas.List.Sorted.{length_permutation, sum_by-IsPermutation}
 use Rattle.jj_merges.specs.Merge.{adds, removes}

@@ -1,4 +1,4 @@
-use Rattle.std.proofs.Common.{◌≡◌, ◌∙◌, ◌+◌, length, ap, arith, rules}
+use Rattle.std.proofs.Common.{◌∙◌, length, ap, arith, rules}
 use Rattle.std.proofs.IntoIterSteps.{All-taken}
 use Rattle.jj_core.proofs.merge_outcome.merge_of_sides.Goals as goal
 
@@ -10,9 +10,12 @@ from_removes_adds-requires c = (
     (
       (λ it made. (tt, tt)),
       (λ xs ys removes adds.
-          omega (arith, c.requires,
-          ap length (All-taken removes.0 xs removes.2 ∙ removes.1.0),
-          ap length (All-taken adds.0 ys adds.2 ∙ adds.1.0))),
+          omega (
+            arith,
+            c.requires,
+            ap length (All-taken removes.0 xs removes.2 ∙ removes.1.0),
+            ap length (All-taken adds.0 ys adds.2 ∙ adds.1.0),
+          )),
     ),
   ),
 )

@@ -1,4 +1,4 @@
-use Rattle.std.proofs.Common.{◌≡◌, ◌∙◌, ◌∷◌, [], ap, sym, arith, get_or, take, length, List, ℕ, eqb}
+use Rattle.std.proofs.Common.{◌≡◌, ◌∙◌, [], ap, sym, arith, get_or, take, length}
 use Rattle.std.specs.Prelude.{count_by}
 use Rattle.std.specs.Str.{bytes_eq}
 use Rattle.std.proofs.lemmas.List.{length_push}
@@ -32,8 +32,11 @@ loop-i-preserved-then-lt c =
     record {
       counts = λ v. one_kept (text_eq v) c.loop-i.left_adds.items _ c.args.adds.now c.loop-i.i no_text
           _ _ c.loop-i-test.true items (c.loop-i.invariant.counts v);
-      lengths = omega (arith, ap length items ∙ length_push c.loop-i.left_adds.items _,
-      c.loop-i.invariant.lengths);
+      lengths = omega (
+        arith,
+        ap length items ∙ length_push c.loop-i.left_adds.items _,
+        c.loop-i.invariant.lengths,
+      );
       adds = omega arith;
       removes = c.loop-i.invariant.removes;
     }
@@ -47,8 +50,11 @@ loop-i-preserved c =
           no_text (count_by (text_eq v) (take c.loop-i.i c.args.adds.now))
           (count_by (text_eq v) c.loop-i.left_adds.items) c.if-j-removes.true items
           (omega (arith, c.loop-i.invariant.counts v)) in omega (arith, kept);
-      lengths = omega (arith, ap length items ∙ length_push c.loop-i.left_removes.items _,
-      c.loop-i.invariant.lengths);
+      lengths = omega (
+        arith,
+        ap length items ∙ length_push c.loop-i.left_removes.items _,
+        c.loop-i.invariant.lengths,
+      );
       adds = c.loop-i.invariant.adds;
       removes = omega arith;
     }

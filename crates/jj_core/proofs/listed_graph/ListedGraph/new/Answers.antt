@@ -1,4 +1,4 @@
-use Rattle.std.proofs.Common.{◌≡◌, ◌∙◌, ◌++◌, ℕ, zero, suc, List, [], ◌∷◌, ◌⊎◌, inl, inr, ⊎_elim, ap, sym, subst, arith, get_or}
+use Rattle.std.proofs.Common.{◌≡◌, ◌∙◌, ◌++◌, ℕ, zero, suc, [], ◌∷◌, inl, inr, ⊎_elim, ap, sym, subst, arith, get_or}
 use Rattle.std.specs.BTreeMap.{values}
 use Rattle.std.specs.Prelude.{All}
 use Rattle.std.specs.Global.{Global}
