@@ -1,5 +1,6 @@
 -- What comes of a failure to sign a commit.
-use Rattle.std.specs.Prelude.{◌≡◌, ℕ, List, Option, Some, None, Result, Err}
+use Rattle.std.specs.Prelude.{◌≡◌, ◌⊎◌, ℕ, List, Option, Some, None, Result, Err}
+use Rattle.std.proofs.Common.{inl, inr}
 use Rattle.jj_paths.specs.Causes.{Cause}
 use Rattle.jj_paths.specs.declared.file_util.errors.SourceKind.TheVariants.{Data}
 use Rattle.jj_backend.specs.Contents.{commit_content}
@@ -29,3 +30,10 @@ abbrev pub StandsForOtherCommit : MemoryBackendValue → (CommitValue → Type 0
 StandsForOtherCommit backend IsKept =
     (kept : CommitValue) × IsKept kept
     × StandsForOther backend.commits (object_id backend.id_length (commit_content kept)) kept
+
+-- what a call has left of the signer that it was lent, if there was one; what is known of that at
+-- the return is a sum of the option's variants
+abbrev pub signer_left : {S A B C : Type 0} → (B → S) → A ⊎ (B ⊎ C) → Option S
+signer_left signer_of (inl none) = None
+signer_left signer_of (inr (inl some)) = Some (signer_of some)
+signer_left signer_of (inr (inr other)) = None

@@ -10,7 +10,7 @@ ghost use Rattle.jj_backend.specs.Objects.{AddsCommit, IsSigned};
 ghost use Rattle.jj_backend.specs.Records.{root_commit};
 ghost use Rattle.jj_backend.specs.TreeLaws.{tree_content};
 ghost use Rattle.jj_trees.specs.Kept.{new_backend, object_id, objects_of, StandsForOther};
-ghost use Rattle.jj_trees.specs.Signing.{FailsToSign, StandsForOtherCommit};
+ghost use Rattle.jj_trees.specs.Signing.{FailsToSign, StandsForOtherCommit, signer_left};
 
 mod contents;
 mod shelf;
@@ -23,8 +23,8 @@ use jj_backend::backend::{
 };
 use jj_ids::object_id::{Id, IdKind};
 use jj_paths::repo_path::{RepoPath, RepoPathBuf};
-use shelf::{id_of, keep, keep_copied, object_of, one_object, other_error};
-use signing::kept_commit;
+use shelf::{id_of, keep, keep_copied, object_of, one_object};
+use signing::{rootless_error, sign_commit};
 use std::alloc::{AllocError, Global};
 use std::collections::BTreeMap;
 use std::marker::Model;
@@ -310,7 +310,7 @@ impl Backend for MemoryBackend {
         object_of(alloc, &self.commits, id)
     }
 
-    /// A commit without parents is refused before it is signed.
+    /// A commit without parents is refused, and the signer not asked.
     fn write_commit<S: SigningFn>(
         &mut self,
         alloc: Global,
@@ -322,6 +322,8 @@ impl Backend for MemoryBackend {
         ensures signed { IfOk result (λ kept.
             IsSigned S.may_sign (option_map (λ f. f.now) sign_with.entry) contents kept.1) }
         ensures parents { OnOk result (contents.parents ≢ []) }
+        ensures unasked { contents.parents ≡ []
+            → signer_left (λ f. f.0.now) sign_with.exit ≡ option_map (λ f. f.now) sign_with.entry }
         ensures id { IfOk result (λ kept.
             kept.0 ≡ object_id self.old.id_length (commit_content kept.1)) }
         ensures same { self.new ≡ record self.old { commits = self.new.commits } }
@@ -333,11 +335,18 @@ impl Backend for MemoryBackend {
             ⊎ ((is_other e ≡ true) × StandsForOtherCommit self.old
             (IsSigned S.may_sign (option_map (λ f. f.now) sign_with.entry) contents))) }
     {
-        if contents.parents.is_empty() {
-            return Err(other_error(alloc, "a commit needs a parent"));
+        match sign_with {
+            None => {
+                if contents.parents.is_empty() {
+                    return Err(rootless_error(alloc));
+                }
+                self.keep_commit(alloc, contents)
+            }
+            Some(signer) => {
+                let commit = sign_commit(alloc, contents, signer)?;
+                self.keep_commit(alloc, commit)
+            }
         }
-        let commit = kept_commit(alloc, contents, sign_with)?;
-        self.keep_commit(alloc, commit)
     }
 
     /// Not supported here.

@@ -1,14 +1,14 @@
 //! Callers of the backend in memory and of merges of whole trees, proved from what these promise.
-ghost use Rattle.std.specs.Prelude.{◌≡◌, ◌↔◌, ◌⊎◌, [], true, length, Contains, IfOk, IfErr, string_bytes};
+ghost use Rattle.std.specs.Prelude.{◌≡◌, ◌↔◌, ◌⊎◌, [], length, Contains, IfOk, IfErr, string_bytes};
 ghost use Rattle.jj_merges.specs.declared.merge.SameChange.TheVariants.{Accept};
-ghost use Rattle.jj_backend.specs.Errors.{is_other};
 ghost use Rattle.jj_backend.specs.declared.backend.tree_value.TreeValue.{TreeValue};
 ghost use Rattle.jj_paths.specs.Paths.{Path};
 ghost use Rattle.jj_trees.specs.Kept.{objects_of};
 ghost use Rattle.jj_trees.specs.TreeMerges.{IsResolved, IsMerge, root_values, conflict_entries};
+ghost use Rattle.jj_trees_tests.specs.Writes.{IsNotKept};
 
 use jj_backend::backend::{
-    Backend, BackendError, BackendResult, Commit, CopyHistory, SigningFn, Tree, TreeId, TreeValue,
+    Backend, BackendResult, Commit, CopyHistory, SigningFn, Tree, TreeId, TreeValue,
 };
 use jj_merges::conflict_labels::ConflictLabels;
 use jj_merges::merge::{Merge, SameChange};
@@ -40,7 +40,7 @@ pub fn written_file(
     contents: &[u8],
 ) -> BackendResult<Vec<u8>>
     ensures read { IfOk result (λ read. read.items ≡ contents.now) }
-    ensures refused { IfErr result (λ e. (e ≡ BackendError.Memory) ⊎ (is_other e ≡ true)) }
+    ensures refused { IfErr result IsNotKept }
 {
     let id = backend.write_file(alloc, RepoPath::root(), contents)?;
     backend.read_file(alloc, RepoPath::root(), &id)
@@ -52,7 +52,8 @@ pub fn written_symlink(
     backend: &mut MemoryBackend,
     target: &str,
 ) -> BackendResult<String>
-    ensures { IfOk result (λ read. string_bytes read ≡ target.now) }
+    ensures read { IfOk result (λ read. string_bytes read ≡ target.now) }
+    ensures refused { IfErr result IsNotKept }
 {
     let id = backend.write_symlink(alloc, RepoPath::root(), target)?;
     backend.read_symlink(alloc, RepoPath::root(), &id)
@@ -64,7 +65,8 @@ pub fn written_copy(
     backend: &mut MemoryBackend,
     copy: &CopyHistory,
 ) -> BackendResult<CopyHistory>
-    ensures { IfOk result (λ read. read ≡ copy.now) }
+    ensures read { IfOk result (λ read. read ≡ copy.now) }
+    ensures refused { IfErr result IsNotKept }
 {
     let id = backend.write_copy(alloc, copy)?;
     backend.read_copy(alloc, &id)
@@ -72,7 +74,8 @@ pub fn written_copy(
 
 /// A tree that was written is read back.
 pub fn written_tree(alloc: Global, backend: &mut MemoryBackend, tree: &Tree) -> BackendResult<Tree>
-    ensures { IfOk result (λ read. read ≡ tree.now) }
+    ensures read { IfOk result (λ read. read ≡ tree.now) }
+    ensures refused { IfErr result IsNotKept }
 {
     let id = backend.write_tree(alloc, RepoPath::root(), tree)?;
     backend.read_tree(alloc, RepoPath::root(), &id)
@@ -85,7 +88,8 @@ pub fn written_commit<S: SigningFn>(
     commit: Commit,
     sign_with: Option<&mut S>,
 ) -> BackendResult<(Commit, Commit)>
-    ensures { IfOk result (λ both. both.1 ≡ both.0) }
+    ensures read { IfOk result (λ both. both.1 ≡ both.0) }
+    ensures refused { IfErr result IsNotKept }
 {
     let (id, kept) = backend.write_commit(alloc, commit, sign_with)?;
     let read = backend.read_commit(alloc, &id)?;

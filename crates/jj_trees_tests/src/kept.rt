@@ -266,8 +266,8 @@ pub struct Row {
     pub outcome: &'static str,
 }
 
-// The labels of a text as `left base right`; none where it is empty.
-fn labels_of(alloc: Global, text: &str) -> BackendResult<ConflictLabels> {
+/// The labels of a text as `left base right`; none where it is empty.
+pub fn labels_of(alloc: Global, text: &str) -> BackendResult<ConflictLabels> {
     let mut labels = Vec::new(alloc);
     for label in text.split(' ') {
         labels.push(String::from_str(alloc, label)?)?;

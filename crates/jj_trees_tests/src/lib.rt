@@ -7,13 +7,23 @@
 pub mod building;
 pub mod callers;
 #[cfg(test)]
+mod commit_tests;
+#[cfg(test)]
 mod kept;
 #[cfg(test)]
 mod levels_tests;
 #[cfg(test)]
 mod memory;
 #[cfg(test)]
+mod memory_backend_tests;
+#[cfg(test)]
+mod once_more;
+#[cfg(test)]
 mod one_byte_tests;
+#[cfg(test)]
+mod signers;
 pub mod three_sides;
+#[cfg(test)]
+mod three_sides_tests;
 #[cfg(test)]
 mod tree_merge_tests;

@@ -1,10 +1,11 @@
 //! Commits as they are kept, signed or not.
-ghost use Rattle.std.specs.Prelude.{◌≡◌, ◌⊎◌, Some, IfOk, IfErr};
-ghost use Rattle.std.specs.Option.{option_map};
+ghost use Rattle.std.specs.Prelude.{◌≡◌, ◌≢◌, ◌⊎◌, [], true, Some, IfOk, IfErr, OnOk};
+ghost use Rattle.jj_backend.specs.Errors.{is_other};
 ghost use Rattle.jj_backend.specs.Objects.{IsSigned};
 ghost use Rattle.jj_trees.specs.Signing.{IsHandedOn, FailsToSign};
 
 use super::contents::content_of;
+use super::shelf::other_error;
 use jj_backend::backend::{BackendError, BackendResult, Commit, SecureSig, SigningFn};
 use jj_backend::signing::SignError;
 use jj_paths::file_util::{SourceError, SourceKind};
@@ -27,16 +28,30 @@ fn handed_on_error(alloc: Global, error: SignError) -> BackendError
     }
 }
 
-// A commit with a signature of what it says, in place of one that it had.
-fn sign_commit<S: SigningFn>(
+// The error that a commit has no parents.
+pub(super) fn rootless_error(alloc: Global) -> BackendError
+    ensures { (is_other result ≡ true) ⊎ (result ≡ BackendError.Memory) }
+{
+    other_error(alloc, "a commit needs a parent")
+}
+
+/// A commit with a signature of what it says, in place of one that it had. Without parents it is
+/// refused, and the signer not asked.
+pub(super) fn sign_commit<S: SigningFn>(
     alloc: Global,
     mut commit: Commit,
     signer: &mut S,
 ) -> BackendResult<Commit>
     ensures signed { IfOk result (IsSigned S.may_sign (Some signer.old) commit) }
+    ensures parents { OnOk result (commit.parents ≢ []) }
+    ensures unasked { commit.parents ≡ [] → signer.new ≡ signer.old }
     ensures refused { IfErr result (λ e. (e ≡ BackendError.Memory)
-        ⊎ FailsToSign S.may_sign (Some signer.old) commit e) }
+        ⊎ ((is_other e ≡ true) × (commit.parents ≡ []))
+        ⊎ ((commit.parents ≢ []) × FailsToSign S.may_sign (Some signer.old) commit e)) }
 {
+    if commit.parents.is_empty() {
+        return Err(rootless_error(alloc));
+    }
     commit.secure_sig = None;
     let signed_data = content_of(alloc, &commit)?;
     match signer.sign(alloc, &signed_data) {
@@ -45,22 +60,5 @@ fn sign_commit<S: SigningFn>(
             Ok(commit)
         }
         Err(error) => Err(handed_on_error(alloc, error)),
-    }
-}
-
-/// The commit as it is kept: signed, if there is something to sign it with.
-pub(super) fn kept_commit<S: SigningFn>(
-    alloc: Global,
-    commit: Commit,
-    sign_with: Option<&mut S>,
-) -> BackendResult<Commit>
-    ensures signed { IfOk result
-        (IsSigned S.may_sign (option_map (λ f. f.now) sign_with.entry) commit) }
-    ensures refused { IfErr result (λ e. (e ≡ BackendError.Memory)
-        ⊎ FailsToSign S.may_sign (option_map (λ f. f.now) sign_with.entry) commit e) }
-{
-    match sign_with {
-        None => Ok(commit),
-        Some(signer) => sign_commit(alloc, commit, signer),
     }
 }

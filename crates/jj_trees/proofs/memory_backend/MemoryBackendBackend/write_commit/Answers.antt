@@ -1,0 +1,7 @@
+use Rattle.std.proofs.Common.{ap, Some}
+use Rattle.jj_trees.proofs.memory_backend.MemoryBackendBackend.write_commit.Goals as goal
+
+pub returns-in_err-commit-in-Some-clause-unasked :
+    goal.returns-in_err-commit-in-Some-clause-unasked
+returns-in_err-commit-in-Some-clause-unasked g c =
+    rw c.in-Some.is (λ rootless. ap Some (c.sign_commit.ensures.unasked rootless))

@@ -1,0 +1,75 @@
+//! The example of three sides as a whole: what it tells, and that the merge that is written back
+//! tells the same.
+use crate::kept::labels_of;
+use crate::once_more::holds;
+use crate::three_sides::{merge_labelled, sides_of, told, write_back, write_files};
+use jj_backend::backend::{BackendResult, TreeId};
+use jj_merges::conflict_labels::ConflictLabels;
+use jj_merges::merge::Merge;
+use jj_trees::memory_backend::MemoryBackend;
+use std::alloc::Global;
+use std::process::Abort;
+use std::test::Fail;
+
+/// The left side changes the first two files.
+const LEFT: &[(&str, &str)] = &[("README", "two\n"), ("main", "b\n"), ("old", "x\n")];
+
+const BASE: &[(&str, &str)] = &[("README", "one\n"), ("main", "a\n"), ("old", "x\n")];
+
+/// The right side changes the second, and removes the third.
+const RIGHT: &[(&str, &str)] = &[("README", "one\n"), ("main", "c\n")];
+
+/// What the merge tells. The ids are fronts of digests that another program gives.
+const TOLD: &str = "\
+README
+main: Conflict:
+  Removing file with id 8145f73c (base)
+  Adding file with id f82eeca4 (left)
+  Adding file with id 5d73c854 (right)
+";
+
+fn write_sides(alloc: Global, backend: &mut MemoryBackend) -> BackendResult<Merge<TreeId>> {
+    let left = write_files(alloc, backend, LEFT)?;
+    let base = write_files(alloc, backend, BASE)?;
+    let right = write_files(alloc, backend, RIGHT)?;
+    sides_of(alloc, left, base, right)
+}
+
+// The merge of these sides, written back; none where it tells something else.
+fn merged_back(
+    alloc: Global,
+    backend: &mut MemoryBackend,
+    sides: &Merge<TreeId>,
+    labels: &ConflictLabels,
+) -> BackendResult<Option<Merge<TreeId>>> {
+    let merge = merge_labelled(alloc, backend, sides, labels)?;
+    if told(alloc, &merge)?.as_str() != TOLD {
+        return Ok(None);
+    }
+    Ok(Some(write_back(alloc, backend, &merge)?))
+}
+
+// Whether the merge tells that, and once more where it was written back.
+fn tells_twice(
+    alloc: Global,
+    backend: &mut MemoryBackend,
+    labels: &ConflictLabels,
+) -> BackendResult<bool> {
+    let sides = write_sides(alloc, backend)?;
+    match merged_back(alloc, backend, &sides, labels)? {
+        Some(kept) => Ok(merged_back(alloc, backend, &kept, labels)?.is_some()),
+        None => Ok(false),
+    }
+}
+
+fn example_tells_twice(alloc: Global) -> BackendResult<bool> {
+    let labels = labels_of(alloc, "left base right")?;
+    let mut backend = MemoryBackend::with_id_length(alloc, 4)?;
+    tells_twice(alloc, &mut backend, &labels)
+}
+
+#[test]
+fn three_sides(rt: HostRuntime) -> Result<(), Fail> {
+    assert!(rt; holds!(example_tells_twice, rt.alloc()));
+    Ok(())
+}
