@@ -4,51 +4,18 @@ use jj_backend::backend::{
     CommitId, CopyHistory, CopyId, MillisSinceEpoch, SecureSig, SymlinkId, Timestamp, TreeId,
     TreeValue,
 };
-use jj_content::content_hash::{ContentHash, DigestUpdate};
-use jj_content::hex_util::encode_hex;
+use jj_content_tests::content_texts::content_text;
 use jj_paths::repo_path::RepoPathBuf;
 use std::alloc::{AllocError, Global};
 use std::process::Abort;
 use std::test::Fail;
-
-// The content bytes that were taken in, while there was room for all of them.
-#[derive(Drop)]
-struct TakenBytes {
-    bytes: Vec<u8>,
-    is_whole: bool,
-}
-
-impl DigestUpdate for TakenBytes {
-    ghost use Rattle.std.specs.Prelude.{⊤};
-
-    ghost stands_for = { λ _ _. ⊤ };
-
-    fn update(&mut self, bytes: &[u8]) {
-        if self.is_whole && self.bytes.extend_from_slice(bytes).is_err() {
-            self.is_whole = false;
-        }
-    }
-}
-
-// The content of a value, as a hex text.
-fn content<T: ContentHash>(alloc: Global, value: &T) -> Result<String, AllocError> {
-    let mut taken = TakenBytes {
-        bytes: Vec::new(alloc),
-        is_whole: true,
-    };
-    value.hash(alloc, &mut taken)?;
-    if !taken.is_whole {
-        return Err(AllocError);
-    }
-    encode_hex(alloc, taken.bytes.as_slice())
-}
 
 fn time_content(alloc: Global) -> Result<String, AllocError> {
     let time = Timestamp {
         timestamp: MillisSinceEpoch(-2),
         tz_offset: -60,
     };
-    content(alloc, &signature(alloc, "a", "bc", time)?)
+    content_text(alloc, &signature(alloc, "a", "bc", time)?)
 }
 
 #[test]
@@ -66,7 +33,7 @@ fn sig_content(alloc: Global) -> Result<String, AllocError> {
         signed_data: [1, 2].to_vec(alloc)?,
         sig: [3].to_vec(alloc)?,
     };
-    content(alloc, &sig)
+    content_text(alloc, &sig)
 }
 
 #[test]
@@ -77,12 +44,12 @@ fn a_signature_of_data_is_both(rt: HostRuntime) -> Result<(), Fail> {
 }
 
 fn file_content(alloc: Global) -> Result<String, AllocError> {
-    content(alloc, &file(alloc, 1, true)?)
+    content_text(alloc, &file(alloc, 1, true)?)
 }
 
 fn link_content(alloc: Global) -> Result<String, AllocError> {
     let link = TreeValue::Symlink(SymlinkId::from_bytes(alloc, &[2])?);
-    content(alloc, &link)
+    content_text(alloc, &link)
 }
 
 #[test]
@@ -99,12 +66,12 @@ fn files_and_links(rt: HostRuntime) -> Result<(), Fail> {
 
 fn tree_content(alloc: Global) -> Result<String, AllocError> {
     let tree = TreeValue::Tree(TreeId::from_bytes(alloc, &[3])?);
-    content(alloc, &tree)
+    content_text(alloc, &tree)
 }
 
 fn submodule_content(alloc: Global) -> Result<String, AllocError> {
     let submodule = TreeValue::GitSubmodule(CommitId::from_bytes(alloc, &[4])?);
-    content(alloc, &submodule)
+    content_text(alloc, &submodule)
 }
 
 #[test]
@@ -124,7 +91,7 @@ fn history_content(alloc: Global) -> Result<String, AllocError> {
         parents,
         salt: [7].to_vec(alloc)?,
     };
-    content(alloc, &history)
+    content_text(alloc, &history)
 }
 
 #[test]
@@ -138,7 +105,7 @@ fn a_copy_history_is_its_parts(rt: HostRuntime) -> Result<(), Fail> {
 }
 
 fn commit_content(alloc: Global) -> Result<String, AllocError> {
-    content(alloc, &commit(alloc)?)
+    content_text(alloc, &commit(alloc)?)
 }
 
 // Parents, predecessors, tree, label; change, description; author, committer; no signature.

@@ -6,6 +6,8 @@
 
 pub mod callers;
 #[cfg(test)]
+mod commit_tests;
+#[cfg(test)]
 mod content_tests;
 #[cfg(test)]
 mod error_tests;
@@ -13,5 +15,9 @@ mod error_tests;
 mod json_tests;
 #[cfg(test)]
 mod records;
+#[cfg(test)]
+mod timestamp_tests;
+#[cfg(test)]
+mod tree_tests;
 #[cfg(test)]
 mod tree_value_tests;

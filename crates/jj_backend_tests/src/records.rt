@@ -6,7 +6,8 @@ use jj_backend::backend::{
 use jj_merges::merge::Merge;
 use std::alloc::{AllocError, Global};
 
-const BEGINNING: Timestamp = Timestamp {
+/// The beginning of time, in UTC.
+pub const BEGINNING: Timestamp = Timestamp {
     timestamp: MillisSinceEpoch(0),
     tz_offset: 0,
 };

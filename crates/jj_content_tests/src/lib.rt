@@ -5,6 +5,7 @@
 mod blake2b;
 #[cfg(test)]
 mod content;
+pub mod content_texts;
 #[cfg(test)]
 mod hex_util_tests;
 #[cfg(test)]

@@ -24,7 +24,7 @@ use Rattle.jj_stores.specs.declared.op_store.operation.TimestampRange.{Timestamp
 abbrev pub range_eq : TimestampRange → TimestampRange → Bool
 range_eq = eq_of_both (on (λ r. r.start) timestamp_eq) (on (λ r. r.end) timestamp_eq)
 
-range_equiv : IsEquivalence range_eq
+pub range_equiv : IsEquivalence range_eq
 range_equiv = and_equiv (on_equiv (λ r. r.start) timestamp_equiv)
     (on_equiv (λ r. r.end) timestamp_equiv)
 

@@ -103,6 +103,19 @@ fn a_remote_ref_without_a_local_one(rt: HostRuntime) -> Result<(), Fail> {
     Ok(())
 }
 
+fn local_alone(alloc: Global) -> Result<String, AllocError> {
+    let mut view = empty_view(alloc)?;
+    add_local(alloc, &mut view, "bookmark1", 0x11)?;
+    joined(alloc, &view)
+}
+
+#[test]
+fn a_local_ref_without_remotes(rt: HostRuntime) -> Result<(), Fail> {
+    let text = local_alone(rt.alloc()).or_else(|_| local_alone(rt.alloc()))?;
+    assert_eq!(rt; text.as_str(), "bookmark1:11;");
+    Ok(())
+}
+
 fn two_bookmarks(alloc: Global) -> Result<String, AllocError> {
     let mut view = empty_view(alloc)?;
     add_local(alloc, &mut view, "bookmark1", 0x11)?;

@@ -8,6 +8,10 @@ pub mod callers;
 #[cfg(test)]
 mod join_tests;
 #[cfg(test)]
+mod json_tests;
+#[cfg(test)]
 mod op_store_tests;
 #[cfg(test)]
 mod signers;
+#[cfg(test)]
+mod view_tests;

@@ -1,7 +1,6 @@
 //! Views and operations: root records, tracked refs, equality, and content bytes as hex texts.
 use jj_backend::backend::CommitId;
-use jj_content::content_hash::{ContentHash, DigestUpdate};
-use jj_content::hex_util::encode_hex;
+use jj_content_tests::content_texts::content_text;
 use jj_ids::object_id::ObjectId;
 use jj_ids::ref_name::RefNameBuf;
 use jj_merges::merge::Merge;
@@ -12,38 +11,6 @@ use jj_stores::op_store::{
 use std::alloc::{AllocError, Global};
 use std::process::Abort;
 use std::test::Fail;
-
-// The content bytes that were taken in, while there was room for all of them.
-#[derive(Drop)]
-struct TakenBytes {
-    bytes: Vec<u8>,
-    is_whole: bool,
-}
-
-impl DigestUpdate for TakenBytes {
-    ghost use Rattle.std.specs.Prelude.{⊤};
-
-    ghost stands_for = { λ _ _. ⊤ };
-
-    fn update(&mut self, bytes: &[u8]) {
-        if self.is_whole && self.bytes.extend_from_slice(bytes).is_err() {
-            self.is_whole = false;
-        }
-    }
-}
-
-// The content of a value, as a hex text.
-fn content<T: ContentHash>(alloc: Global, value: &T) -> Result<String, AllocError> {
-    let mut taken = TakenBytes {
-        bytes: Vec::new(alloc),
-        is_whole: true,
-    };
-    value.hash(alloc, &mut taken)?;
-    if !taken.is_whole {
-        return Err(AllocError);
-    }
-    encode_hex(alloc, taken.bytes.as_slice())
-}
 
 fn commit(alloc: Global, byte: u8) -> Result<CommitId, AllocError> {
     CommitId::from_bytes(alloc, &[byte])
@@ -93,7 +60,7 @@ fn options_without_the_option(rt: HostRuntime) {
 }
 
 fn ref_content(alloc: Global) -> Result<String, AllocError> {
-    content(alloc, &tracked(alloc, 5)?)
+    content_text(alloc, &tracked(alloc, 5)?)
 }
 
 #[test]
@@ -115,7 +82,7 @@ fn bookmark(alloc: Global, view: &mut RemoteView) -> Result<(), AllocError> {
 fn view_content(alloc: Global) -> Result<String, AllocError> {
     let mut view = RemoteView::default(alloc);
     bookmark(alloc, &mut view)?;
-    content(alloc, &view)
+    content_text(alloc, &view)
 }
 
 #[test]
@@ -133,7 +100,7 @@ fn root_view(alloc: Global) -> Result<View, AllocError> {
 }
 
 fn root_content(alloc: Global) -> Result<String, AllocError> {
-    content(alloc, &root_view(alloc)?)
+    content_text(alloc, &root_view(alloc)?)
 }
 
 // One head of one byte, and six empty maps.
@@ -198,19 +165,22 @@ fn child(alloc: Global) -> Result<Operation, AllocError> {
 }
 
 fn child_content(alloc: Global) -> Result<String, AllocError> {
-    content(alloc, &child(alloc)?)
+    content_text(alloc, &child(alloc)?)
 }
 
 // View, parents; start, end; description, host, user; snapshot, workspace, attributes; predecessors.
 #[test]
 fn content_of_an_operation(rt: HostRuntime) -> Result<(), Fail> {
     let text = child_content(rt.alloc()).or_else(|_| child_content(rt.alloc()))?;
-    let ids = "01000000000000000301000000000000000100000000000000\
-               09";
-    assert!(rt; text.as_str().starts_with(ids));
-    let end = "01000000000000006800000000000000000100000000000000000000000000000000";
-    assert!(rt; text.as_str().ends_with(end));
-    assert_eq!(rt; text.len(), 52 + 48 + 16 + 68);
+    assert_eq!(rt;
+        text.as_str(),
+        "010000000000000003\
+         0100000000000000010000000000000009\
+         000000000000000000000000000000000000000000000000\
+         0000000000000000010000000000000068000000000000000001\
+         000000000000000000000000\
+         00000000"
+    );
     Ok(())
 }
 
@@ -224,5 +194,20 @@ fn operations_differ(alloc: Global) -> Result<bool, AllocError> {
 fn operations_are_equal_in_all_parts(rt: HostRuntime) -> Result<(), Fail> {
     let alloc = rt.alloc();
     assert!(rt; operations_differ(alloc).or_else(|_| operations_differ(alloc))?);
+    Ok(())
+}
+
+fn is_copied(alloc: Global) -> Result<bool, AllocError> {
+    let child = child(alloc)?;
+    let mut copy = child.clone()?;
+    let is_same = copy == child;
+    copy.metadata.username = String::from_str(alloc, "u")?;
+    Ok(is_same && copy != child)
+}
+
+#[test]
+fn a_copy_of_an_operation_is_equal(rt: HostRuntime) -> Result<(), Fail> {
+    let alloc = rt.alloc();
+    assert!(rt; is_copied(alloc).or_else(|_| is_copied(alloc))?);
     Ok(())
 }

@@ -1,5 +1,5 @@
 //! Operations on a repository, and what is known of how they were done.
-ghost use Rattle.std.specs.Prelude.{◌≡◌, ◌++◌, ◌∷◌, [], IfOk, OnOk, OnErr};
+ghost use Rattle.std.specs.Prelude.{◌≡◌, ◌++◌, ◌∷◌, [], true, IfOk, OnOk, OnErr};
 ghost use Rattle.std.specs.Cmp;
 ghost use Rattle.jj_content.specs.Content.{Takes, TakesFront, IsLawful};
 ghost use Rattle.jj_stores.specs.Operations.{IsRange, range_content, IsAct, act_content, IsActor, actor_content, IsSetting, setting_content, IsMetadata, metadata_content, AreLinks, links_content, IsAccount, account_content, IsOperation, operation_content, IsRootOperation};
@@ -106,6 +106,23 @@ impl OperationMetadata {
     }
 }
 
+/// A copy equals its source.
+impl Clone for OperationMetadata {
+    ghost is_clone = { λ metadata c. metadata_eq c metadata ≡ true };
+
+    fn clone(&self) -> Result<Self, AllocError> {
+        Ok(OperationMetadata {
+            time: self.time,
+            description: self.description.clone()?,
+            hostname: self.hostname.clone()?,
+            username: self.username.clone()?,
+            is_snapshot: self.is_snapshot,
+            workspace_name: self.workspace_name.clone()?,
+            attributes: self.attributes.clone()?,
+        })
+    }
+}
+
 impl PartialEq for OperationMetadata {
     ghost eq = { metadata_eq };
 
@@ -144,6 +161,20 @@ pub struct Operation {
     pub parents: Vec<OperationId>,
     pub metadata: OperationMetadata,
     pub commit_predecessors: Option<BTreeMap<CommitId, Vec<CommitId>>>,
+}
+
+/// A copy equals its source.
+impl Clone for Operation {
+    ghost is_clone = { λ operation c. operation_eq c operation ≡ true };
+
+    fn clone(&self) -> Result<Self, AllocError> {
+        Ok(Operation {
+            view_id: self.view_id.clone()?,
+            parents: self.parents.clone()?,
+            metadata: self.metadata.clone()?,
+            commit_predecessors: self.commit_predecessors.clone()?,
+        })
+    }
 }
 
 impl PartialEq for Operation {

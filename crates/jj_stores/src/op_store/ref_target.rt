@@ -6,6 +6,7 @@ ghost use Rattle.jj_content.specs.Content.{Takes, TakesFront, IsLawful};
 ghost use Rattle.jj_stores.specs.RefTargets.{absent_target, absent_ref, tracked_target, state_content, IsRemoteRef, remote_ref_content};
 ghost use Rattle.jj_stores.specs.RefTargetLaws.{state_lawful, remote_ref_lawful};
 
+use super::copies::CloneIn;
 use jj_backend::backend::CommitId;
 use jj_content::content_hash::{ContentHash, DigestUpdate};
 use jj_merges::merge::Merge;
@@ -13,6 +14,19 @@ use std::alloc::{AllocError, Global};
 
 /// The commit that a ref points to, or a conflict of several; absent, where there is no such ref.
 pub type RefTarget = Merge<Option<CommitId>>;
+
+// A copy of a target.
+fn copied_target(alloc: Global, target: &RefTarget) -> Result<RefTarget, AllocError>
+    ensures { IfOk result (λ copy. copy ≡ target.now) }
+{
+    target.clone(alloc)
+}
+
+impl CloneIn for RefTarget {
+    fn clone_in(&self, alloc: Global) -> Result<Self, AllocError> {
+        copied_target(alloc, self)
+    }
+}
 
 /// Whether what a remote says of a ref is followed here.
 #[derive(Clone, Copy, Debug, PartialEq, Eq, Hash)]
@@ -43,9 +57,8 @@ impl RemoteRef {
     pub fn clone(&self, alloc: Global) -> Result<Self, AllocError>
         ensures { IfOk result (λ copy. copy ≡ self.now) }
     {
-        let target = self.target.clone(alloc)?;
         Ok(RemoteRef {
-            target,
+            target: copied_target(alloc, &self.target)?,
             state: self.state,
         })
     }
@@ -79,6 +92,12 @@ impl RemoteRef {
             RemoteRefState::Tracked => Some(&self.target),
             RemoteRefState::New => None,
         }
+    }
+}
+
+impl CloneIn for RemoteRef {
+    fn clone_in(&self, alloc: Global) -> Result<Self, AllocError> {
+        RemoteRef::clone(self, alloc)
     }
 }
 

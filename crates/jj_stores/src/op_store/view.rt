@@ -1,10 +1,11 @@
 //! Views of a repository: where its refs point to, here and at remotes.
-ghost use Rattle.std.specs.Prelude.{◌≡◌, ◌++◌, ◌∷◌, [], IfOk, OnOk, OnErr};
+ghost use Rattle.std.specs.Prelude.{◌≡◌, ◌++◌, ◌∷◌, [], true, IfOk, OnOk, OnErr};
 ghost use Rattle.std.specs.Cmp;
 ghost use Rattle.jj_content.specs.Content.{Takes, TakesFront, IsLawful};
 ghost use Rattle.jj_stores.specs.Views.{IsRemoteView, remote_view_content, IsLocal, local_content, IsElsewhere, elsewhere_content, AreWorkspaces, workspaces_content, IsView, view_content, IsRootView};
 ghost use Rattle.jj_stores.specs.ViewLaws.{remote_view_eq, remote_view_equiv, remote_view_lawful, local_eq, elsewhere_eq, workspaces_eq, view_eq, view_equiv, view_lawful};
 
+use super::copies::{CloneIn, copied_map};
 use super::{RefTarget, RemoteRef};
 use jj_backend::backend::CommitId;
 use jj_content::content_hash::{ContentHash, DigestUpdate};
@@ -29,6 +30,22 @@ impl RemoteView {
             bookmarks: BTreeMap::new(alloc),
             tags: BTreeMap::new(alloc),
         }
+    }
+
+    /// A copy of the view.
+    pub fn clone(&self, alloc: Global) -> Result<Self, AllocError>
+        ensures { IfOk result (λ copy. remote_view_eq copy self.now ≡ true) }
+    {
+        Ok(RemoteView {
+            bookmarks: copied_map(alloc, &self.bookmarks)?,
+            tags: copied_map(alloc, &self.tags)?,
+        })
+    }
+}
+
+impl CloneIn for RemoteView {
+    fn clone_in(&self, alloc: Global) -> Result<Self, AllocError> {
+        RemoteView::clone(self, alloc)
     }
 }
 
@@ -88,6 +105,21 @@ impl View {
             git_refs: BTreeMap::new(alloc),
             git_heads: BTreeMap::new(alloc),
             wc_commit_ids: BTreeMap::new(alloc),
+        })
+    }
+
+    /// A copy of the view.
+    pub fn clone(&self, alloc: Global) -> Result<Self, AllocError>
+        ensures { IfOk result (λ copy. view_eq copy self.now ≡ true) }
+    {
+        Ok(View {
+            head_ids: self.head_ids.clone()?,
+            local_bookmarks: copied_map(alloc, &self.local_bookmarks)?,
+            local_tags: copied_map(alloc, &self.local_tags)?,
+            remote_views: copied_map(alloc, &self.remote_views)?,
+            git_refs: copied_map(alloc, &self.git_refs)?,
+            git_heads: copied_map(alloc, &self.git_heads)?,
+            wc_commit_ids: self.wc_commit_ids.clone()?,
         })
     }
 

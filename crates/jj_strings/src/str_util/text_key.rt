@@ -3,7 +3,7 @@ ghost use Rattle.std.specs.Prelude.{◌≡◌, ℕ, List, IfOk, refl, string_byt
 ghost use Rattle.std.specs.Ordering.{nat_cmp};
 ghost use Rattle.std.specs.Cmp.Lexicographic.{slice_cmp};
 
-use jj_ids::ref_name::{GitRefNameBuf, RefNameBuf, RemoteNameBuf, WorkspaceNameBuf};
+use jj_ids::ref_name::NameBuf;
 use std::alloc::{AllocError, Global};
 
 /// A key that is a text, and is ordered as that text.
@@ -38,7 +38,7 @@ impl TextKey for String {
     }
 }
 
-impl TextKey for GitRefNameBuf {
+impl<K: Drop> TextKey for NameBuf<K> {
     ghost key_text = { λ key. key };
 
     ghost ordered_as_text = { λ a b. refl };
@@ -48,48 +48,6 @@ impl TextKey for GitRefNameBuf {
     }
 
     fn from_text(alloc: Global, text: &str) -> Result<Self, AllocError> {
-        GitRefNameBuf::from_text(alloc, text)
-    }
-}
-
-impl TextKey for RefNameBuf {
-    ghost key_text = { λ key. key };
-
-    ghost ordered_as_text = { λ a b. refl };
-
-    fn as_text(&self) -> &str {
-        self.as_name().as_str()
-    }
-
-    fn from_text(alloc: Global, text: &str) -> Result<Self, AllocError> {
-        RefNameBuf::from_text(alloc, text)
-    }
-}
-
-impl TextKey for RemoteNameBuf {
-    ghost key_text = { λ key. key };
-
-    ghost ordered_as_text = { λ a b. refl };
-
-    fn as_text(&self) -> &str {
-        self.as_name().as_str()
-    }
-
-    fn from_text(alloc: Global, text: &str) -> Result<Self, AllocError> {
-        RemoteNameBuf::from_text(alloc, text)
-    }
-}
-
-impl TextKey for WorkspaceNameBuf {
-    ghost key_text = { λ key. key };
-
-    ghost ordered_as_text = { λ a b. refl };
-
-    fn as_text(&self) -> &str {
-        self.as_name().as_str()
-    }
-
-    fn from_text(alloc: Global, text: &str) -> Result<Self, AllocError> {
-        WorkspaceNameBuf::from_text(alloc, text)
+        NameBuf::from_text(alloc, text)
     }
 }

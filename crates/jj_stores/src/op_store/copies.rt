@@ -1,0 +1,29 @@
+//! Copies of sorted maps whose values take an allocator to be copied.
+ghost use Rattle.std.specs.Prelude.{◌≡◌, true, IfOk};
+ghost use Rattle.jj_stores.specs.ViewLaws.{named_eq};
+
+use jj_ids::ref_name::NameBuf;
+use std::alloc::{AllocError, Global};
+use std::collections::BTreeMap;
+
+/// A value that takes an allocator to be copied.
+pub(super) trait CloneIn: PartialEq + Drop {
+    /// A copy of the value.
+    fn clone_in(&self, alloc: Global) -> Result<Self, AllocError>
+        ensures { IfOk result (λ copy. Self.eq copy self.now ≡ true) };
+}
+
+/// A copy of a map by names, entry by entry.
+pub(super) fn copied_map<K, V: CloneIn>(
+    alloc: Global,
+    map: &BTreeMap<NameBuf<K>, V>,
+) -> Result<BTreeMap<NameBuf<K>, V>, AllocError>
+    ensures { IfOk result (λ copy. named_eq V.eq copy.entries map.now.entries ≡ true) }
+{
+    let mut copy = BTreeMap::new(alloc);
+    for (name, value) in map {
+        let name = name.clone()?;
+        drop(copy.insert(name, value.clone_in(alloc)?)?);
+    }
+    Ok(copy)
+}
