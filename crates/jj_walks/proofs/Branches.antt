@@ -36,6 +36,9 @@ module _ {ID : Type 0} {eq : ID → ID → Bool} (laws : IsEquivalence eq) where
   way-more edge more grows from to zero w = w
   way-more edge more grows from to (suc steps) w = (w.0, grows from w.0 w.1, way-more edge more grows w.0 to steps w.2)
 
+  pub reaches-more : (edge more : ID → ID → Bool) → ((i j : ID) → edge i j ≡ true → more i j ≡ true) → (from to : ID) → Reaches eq edge from to → Reaches eq more from to
+  reaches-more edge more grows from to r = (r.0, way-more edge more grows from to r.0 r.1)
+
   has-last : (ids : List ID) (x i : ID) → has_id eq (ids ++ x ∷ []) i ≡ (has_id eq ids i || (eq x i || false))
   has-last ids x i = has_id-append eq ids (x ∷ []) i
 

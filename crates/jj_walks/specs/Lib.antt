@@ -18,3 +18,4 @@ pub mod Candidates
 pub mod Branches
 pub mod HeldNodes
 pub mod GroupedSteps
+pub mod GroupedOrders

@@ -1,0 +1,88 @@
+//! A caller over a list of commits that keeps branches together, the wanted one first.
+ghost use Rattle.std.specs.Prelude.{◌≡◌, ◌⊎◌, List, IfOk, IfErr, Ok, Some, eqb, map, true};
+ghost use denote.Ref.{Bor};
+ghost use Rattle.jj_walks.specs.declared.grouped.GroupedGraphError.TheVariants.{Memory};
+ghost use Rattle.jj_walks.specs.GroupedOrders.{IsGroupedOrder, IsWhole, has_node};
+ghost use Rattle.jj_walks_tests.specs.declared.commits.Commit.{Commit as commit};
+ghost use Rattle.jj_walks_tests.specs.Branches.{ShowsCommits, nodes_of, parent_edge, parent_edges};
+
+use crate::commits::{Commit, commit_of};
+use jj_walks::graph::{GraphEdge, GraphNode, GroupedGraphError, TopoGroupedGraph};
+use std::alloc::{AllocError, Global};
+
+/// The edge to a parent, missing where the list has no such commit.
+fn parent_edge(commits: &[Commit], id: u64) -> GraphEdge<u64>
+    ensures { result ≡ parent_edge commits.now id }
+{
+    match commit_of(commits, id) {
+        Some(_) => GraphEdge::direct(id),
+        None => GraphEdge::missing(id),
+    }
+}
+
+fn parent_edges(
+    alloc: Global,
+    commits: &[Commit],
+    commit: &Commit,
+) -> Result<Vec<GraphEdge<u64>>, AllocError>
+    ensures { IfOk result (λ edges. edges.items ≡ parent_edges commits.now commit.now) }
+{
+    let mut edges = Vec::new(alloc);
+    for parent in &commit.parents {
+        edges.push(parent_edge(commits, *parent))?;
+    }
+    Ok(edges)
+}
+
+/// The commits with their edges, as an input that never fails.
+fn shown_commits<'a>(
+    alloc: Global,
+    commits: &'a [Commit],
+) -> Result<Vec<Result<GraphNode<&'a Commit, u64>, u64>>, AllocError>
+    ensures { IfOk result (λ items. (shown : List (Bor commit))
+        × (map (λ c. c.now) shown ≡ commits.now)
+        × ShowsCommits commits.now shown items.items) }
+{
+    let mut items = Vec::new(alloc);
+    for commit in commits {
+        let edges = parent_edges(alloc, commits, commit)?;
+        items.push(Ok((commit, edges)))?;
+    }
+    Ok(items)
+}
+
+fn commit_id<'a, 'b>(commit: &'b &'a Commit) -> &'b u64
+    ensures { result.now ≡ commit.now.now.id }
+{
+    &commit.id
+}
+
+/// The commits, each after all that have it as a parent, and branches together: after a commit
+/// comes the last of its parents that is ready, if one is. The first reaches the wanted one. Where
+/// each commit stands before its parents in the list, and the wanted one is in it, there is no
+/// error but want of memory.
+pub fn grouped_commits<'a>(
+    alloc: Global,
+    commits: &'a [Commit],
+    wanted: u64,
+) -> Result<Vec<&'a Commit>, GroupedGraphError<u64>>
+    ensures order { IfOk result (λ order. (shown : List (Bor commit))
+        × (map (λ c. c.now) shown ≡ commits.now)
+        × (IsWhole eqb (nodes_of commits.now shown) → IsGroupedOrder eqb
+        (nodes_of commits.now shown) (Some wanted) (nodes_of commits.now order.items))) }
+    ensures refused { IfErr result (λ error. (error ≡ Memory) ⊎ ((shown : List (Bor commit))
+        × (map (λ c. c.now) shown ≡ commits.now) × (IsWhole eqb (nodes_of commits.now shown)
+        → has_node eqb (nodes_of commits.now shown) wanted ≡ true → ⊥))) }
+{
+    let input = shown_commits(alloc, commits)?;
+    let mut graph = TopoGroupedGraph::new(alloc, input.into_iter(), commit_id);
+    graph.prioritize_branch(wanted)?;
+    let mut order = Vec::new(alloc);
+    for item in graph.stream() {
+        match item {
+            Ok((commit, _edges)) => order.push(commit)?,
+            Err(error) => return Err(error),
+        }
+    }
+    Ok(order)
+}
