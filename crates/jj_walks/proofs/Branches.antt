@@ -1,14 +1,13 @@
 -- The candidates of a grouped graph, before a node was given, keep the branch that leads to an id.
-use Rattle.std.proofs.Common.{arith, ◌≡◌, ℕ, zero, suc, ◌+◌, ◌<◌, Bool, true, false, not, cond, ◌||◌, ◌&&◌, ◌⊎◌, inl, inr, Option, None, Some, is_some, List, [], ◌∷◌, ◌++◌, find, count_by, refl, sym, ◌∙◌, ap, subst, true≢false, ⊎_elim, append_assoc}
+use Rattle.std.proofs.Common.{arith, ◌≡◌, ℕ, zero, suc, ◌+◌, ◌<◌, Bool, true, false, not, cond, ◌||◌, ◌&&◌, ◌⊎◌, inl, inr, Option, Some, is_some, List, [], ◌∷◌, ◌++◌, find, count_by, refl, sym, ◌∙◌, ap, subst, true≢false, ⊎_elim}
 use Rattle.std.specs.Cmp.{IsEquivalence}
-use Rattle.std.specs.HashMap.{get}
 use Rattle.std.specs.HashMap.Eq.{lookup_congr}
 use Rattle.std.specs.List.{Contains, list_any, sum_by}
 use Rattle.std.specs.VecDeque.{deque_items}
 use Rattle.std.proofs.lemmas.List.Sums.{sum_by-cons}
 use Rattle.jj_walks.specs.declared.graph.GraphEdge.{GraphEdge}
 use Rattle.jj_walks.specs.declared.candidates.Candidates.{Candidates}
-use Rattle.jj_walks.specs.Candidates.{count_of, has_id, is_listed, is_positive}
+use Rattle.jj_walks.specs.Candidates.{count_of, has_id, is_listed}
 use Rattle.jj_walks.specs.Branches.{AreCounts, Climbs, IsFirstBranch, IsUntaken, KeepsBranch, TakesHead, Unblocks, has_child}
 use Rattle.jj_walks.specs.Listed.{items_of}
 use Rattle.jj_walks.specs.Grouped.{AreReadChildFirst, Entry, Gave, History, IsWay, Prioritized, Reaches, Read, first_wanted, given_nodes, has_edge, held, held_at, is_wanted, leads_to, read_nodes}

@@ -1,10 +1,10 @@
 -- What a history of a grouped graph says of the order in which nodes were given.
-use Rattle.std.proofs.Common.{arith, ◌≡◌, ℕ, ◌+◌, ◌≤◌, ◌<◌, Bool, true, false, not, cond, ◌⊎◌, inl, inr, Option, None, Some, List, [], ◌∷◌, ◌++◌, filter, find, count_by, refl, sym, ◌∙◌, ap, subst, true≢false, ⊎_elim}
+use Rattle.std.proofs.Common.{arith, ◌≡◌, ◌<◌, Bool, true, false, not, cond, ◌⊎◌, inl, inr, None, Some, List, [], ◌∷◌, filter, find, count_by, refl, sym, ◌∙◌, ap, subst, ⊎_elim}
 use Rattle.std.specs.Cmp.{IsEquivalence}
 use Rattle.std.specs.List.{Contains, list_any, sum_by}
-use Rattle.std.proofs.lemmas.List.Elements.{Contains-append_left, Contains-append_right, Contains-append_cases, Contains-push_cases}
+use Rattle.std.proofs.lemmas.List.Elements.{Contains-append_right, Contains-append_cases, Contains-push_cases}
 use Rattle.std.proofs.lemmas.List.Sums.{sum_by-cons}
-use Rattle.jj_walks.specs.Grouped.{Entry, History, Prioritized, Read, Gave, IsHistory, edges_to, held, leads_to, read_nodes, given_nodes, GivesChildrenFirst}
+use Rattle.jj_walks.specs.Grouped.{Entry, History, Prioritized, Read, Gave, IsHistory, held, leads_to, read_nodes, given_nodes, GivesChildrenFirst}
 use Rattle.jj_walks.proofs.HistoryLists.{AreUnique, held-unique, find-congr}
 use Rattle.jj_walks.proofs.KeptHistories.{leads-none}
 

@@ -1,14 +1,9 @@
 -- The lists of edges by id, while a shown graph is turned round.
-use Rattle.std.proofs.Common.{◌≡◌, Bool, true, false, cond, ◌||◌, Option, None, Some, List, [], ◌∷◌, ◌++◌, map, reverse, refl, sym, ◌∙◌, ap, subst, append-nil, append_assoc}
+use Rattle.std.proofs.Common.{◌≡◌, Bool, true, false, cond, ◌||◌, List, [], ◌∷◌, ◌++◌, map, reverse, refl, sym, ◌∙◌, ap, subst, append-nil, append_assoc}
 use Rattle.std.proofs.lemmas.List.{map-append, reverse-append}
 use Rattle.std.proofs.lemmas.List.Elements.{filter-append}
-use Rattle.std.specs.Cmp.{IsEquivalence}
-use Rattle.std.specs.HashMap.{HashMap, get}
-use Rattle.std.specs.HashMap.Eq.{lookup_congr}
 use Rattle.std.specs.List.{AllZip, list_any}
-use Rattle.std.specs.Option.{UnwrapsOrElse}
 use Rattle.std.specs.Global.{Global}
-use Rattle.std.specs.Vec.{vec_len}
 use Rattle.std.specs.declared.vec.Vec.{Vec}
 use Rattle.jj_walks.specs.declared.graph.GraphEdge.{GraphEdge}
 use Rattle.jj_walks.specs.Reversed.{ShownGraph, shown_graph, edge_to, turned_edges, incoming_edges, with_incoming, reversed_graph, LeadsToId, ShowsById}

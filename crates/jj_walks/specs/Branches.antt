@@ -1,5 +1,5 @@
 -- What the candidates of a grouped graph keep of the branch that leads to an id.
-use Rattle.std.specs.Prelude.{◌≡◌, ◌⊎◌, Bool, true, false, not, ◌&&◌, ◌||◌, is_some, List, [], ◌∷◌, ◌++◌, Option, None, Some, ℕ}
+use Rattle.std.specs.Prelude.{◌≡◌, ◌⊎◌, Bool, true, false, not, ◌&&◌, ◌||◌, is_some, List, [], ◌∷◌, ◌++◌, Option, Some, ℕ}
 use Rattle.std.specs.HashMap.{HashMap}
 use Rattle.std.specs.Global.{Global}
 use Rattle.std.specs.VecDeque.{deque_items}
@@ -7,7 +7,7 @@ use Rattle.std.specs.declared.vec.Vec.{Vec}
 use Rattle.jj_walks.specs.declared.candidates.Candidates.{Candidates}
 use Rattle.jj_walks.specs.Candidates.{has_id, is_listed, is_positive}
 use Rattle.jj_walks.specs.Listed.{items_at}
-use Rattle.jj_walks.specs.Grouped.{Entry, History, AreReadChildFirst, Reaches, first_wanted, given_nodes, has_edge, read_nodes}
+use Rattle.jj_walks.specs.Grouped.{History, AreReadChildFirst, Reaches, first_wanted, given_nodes, has_edge, read_nodes}
 
 module _ {ID : Type 0} where
   module _ (eq : ID → ID → Bool) where
@@ -40,8 +40,9 @@ module _ {ID : Type 0} where
         pub heads : deque_items s.heads ≡ listed
         pub children : (j i : ID) → has_child s.children j i ≡ edge i j
 
-      -- The candidates, free and blocked, reach the wanted id. Some were replaced by their children:
-      -- each child is listed, a candidate or replaced too, as one at least of a replaced id is.
+      -- The candidates, free and blocked, reach the wanted id. Some were replaced by their
+      -- children: each child is listed, a candidate or replaced too, and a replaced id has one
+      -- that is a candidate or replaced.
       pub record Climbs (wanted : ID) (free blocked : List ID) (lists : ID → ID → Bool) : Type 0
           where
         pub replaced : ID → Bool

@@ -57,8 +57,9 @@ module _ {N ID : Type 0} (eq : ID → ID → Bool) where
     pub node : Contains nodes e
     pub new : has_node given e.id ≡ false
     pub ready : is_ready nodes given e.id ≡ true
-    pub follows : MatchOption (find (is_ready nodes given) (reverse (targets_of (newest_edges given))))
-        ⊤ (λ i. eq i e.id ≡ true)
+    pub follows : MatchOption
+        (find (is_ready nodes given) (reverse (targets_of (newest_edges given)))) ⊤
+        (λ i. eq i e.id ≡ true)
 
   abbrev pub AreGrouped : (nodes given : List (Entry N ID)) → Type 0
   AreGrouped nodes [] = ⊤

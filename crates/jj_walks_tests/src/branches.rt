@@ -86,3 +86,55 @@ pub fn grouped_commits<'a>(
     }
     Ok(order)
 }
+
+#[cfg(test)]
+mod tests {
+    use super::grouped_commits;
+    use crate::commits::Commit;
+    use jj_walks::graph::GroupedGraphError;
+    use std::alloc::{AllocError, Global};
+    use std::process::Abort;
+    use std::test::Fail;
+
+    fn commit(alloc: Global, id: u64, parents: &[u64]) -> Result<Commit, AllocError> {
+        Ok(Commit {
+            time: 0,
+            id,
+            parents: parents.to_vec(alloc)?,
+            text: String::new(alloc),
+        })
+    }
+
+    /// 4 over 2, 3 over 1, 2 over 1: the branch of 3 comes first, where 3 is wanted.
+    fn wanted_first<R: Abort>(rt: &R, alloc: Global) -> Result<(), AllocError> {
+        let mut commits = Vec::new(alloc);
+        commits.push(commit(alloc, 4, &[2])?)?;
+        commits.push(commit(alloc, 3, &[1])?)?;
+        commits.push(commit(alloc, 2, &[1])?)?;
+        commits.push(commit(alloc, 1, &[])?)?;
+        let order = match grouped_commits(alloc, &commits, 3) {
+            Ok(order) => order,
+            Err(GroupedGraphError::Memory) => return Err(AllocError),
+            Err(_) => {
+                assert!(rt; false, "an error of a graph without fault");
+                return Ok(());
+            }
+        };
+        let mut ids = Vec::new(alloc);
+        for commit in &order {
+            ids.push(commit.id)?;
+        }
+        assert_eq!(rt; ids.as_slice(), [3, 4, 2, 1].as_slice());
+        Ok(())
+    }
+
+    #[test]
+    fn the_wanted_branch_comes_first(rt: HostRuntime) -> Result<(), Fail> {
+        let alloc = rt.alloc();
+        let first = wanted_first(&rt, alloc);
+        if first.is_err() {
+            wanted_first(&rt, alloc)?;
+        }
+        Ok(())
+    }
+}

@@ -1,4 +1,4 @@
-use Rattle.std.proofs.Common.{◌≡◌, List, true, false, true≢false, sym, ◌∙◌, ap}
+use Rattle.std.proofs.Common.{◌≡◌, true, false, true≢false, sym, ◌∙◌, ap}
 use Rattle.jj_walks.specs.Branches.{has_child}
 use Rattle.jj_walks.specs.Grouped.{is_shown}
 use Rattle.jj_walks.specs.Listed.{items_at}

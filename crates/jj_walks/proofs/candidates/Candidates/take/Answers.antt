@@ -1,9 +1,9 @@
-use Rattle.std.proofs.Common.{rules, ◌≡◌, ◌++◌, ◌∷◌, [], List, Bool, Some, None, is_some, not, ◌==◌, true, false, true≢false, inr, refl, sym, ◌∙◌, ap, subst, append-nil}
+use Rattle.std.proofs.Common.{rules, ◌≡◌, ◌++◌, ◌∷◌, [], List, Some, None, is_some, not, ◌==◌, true, false, true≢false, inr, refl, sym, ◌∙◌, ap, subst, append-nil}
 use Rattle.std.specs.HashMap.{get}
 use Rattle.std.specs.HashMap.Eq.{lookup_congr}
 use Rattle.std.specs.VecDeque.{deque_items}
 use Rattle.jj_walks.specs.declared.candidates.Candidates.{Candidates}
-use Rattle.jj_walks.specs.Branches.{IsFirstBranch, IsUntaken}
+use Rattle.jj_walks.specs.Branches.{IsFirstBranch}
 use Rattle.jj_walks.specs.Candidates.{AreToFollow, is_listed, is_positive, is_zero}
 use Rattle.jj_walks.proofs.Branches.{branch-blocked, branch-candidate, branch-counted, branch-ended, branch-heads, branch-refilled, untaken-none, untaken-refilled}
 use Rattle.jj_walks.proofs.CandidateLists.{follows-passed, follows-none, listed-passed}

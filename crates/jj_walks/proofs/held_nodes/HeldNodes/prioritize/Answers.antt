@@ -1,4 +1,4 @@
-use Rattle.std.proofs.Common.{◌≡◌, true, sym, ◌∙◌, ap}
+use Rattle.std.proofs.Common.{◌≡◌, true, ◌∙◌}
 use Rattle.jj_walks.proofs.Branches.{branch-prioritized}
 use Rattle.jj_walks.proofs.KeptHistories.{keeps-prioritized}
 use Rattle.jj_walks.proofs.held_nodes.HeldNodes.prioritize.Goals as goal

@@ -1,12 +1,11 @@
-use Rattle.std.proofs.Common.{◌≡◌, ◌-◌, ◌++◌, ◌∷◌, [], List, Bool, true, false, true≢false, Some, None, is_some, inr, cond, count_by, refl, sym, ◌∙◌, ap, subst, append-nil}
+use Rattle.std.proofs.Common.{◌≡◌, ◌-◌, ◌++◌, ◌∷◌, [], List, true, true≢false, Some, None, is_some, inr, cond, count_by, sym, ◌∙◌, ap, subst, append-nil}
 use Rattle.std.specs.HashMap.{get}
 use Rattle.std.specs.HashMap.Eq.{lookup_congr}
 use Rattle.std.specs.Option.{option_map}
 use Rattle.std.specs.VecDeque.{deque_items}
-use Rattle.jj_walks.specs.Branches.{AreCounts, IsFirstBranch, KeepsBranch}
-use Rattle.jj_walks.specs.Candidates.{AreSameIds, AreToFollow, count_of, is_listed, is_zero}
-use Rattle.jj_walks.specs.Grouped.{AreReadChildFirst, History, IsOfFirstBranch, first_wanted, given_nodes, has_edge, leads_to, read_nodes, targets_of}
-use Rattle.jj_walks.specs.HeldNodes.{KeepsHistory, item_of, listed_item}
+use Rattle.jj_walks.specs.Candidates.{AreSameIds, count_of, is_zero}
+use Rattle.jj_walks.specs.Grouped.{IsOfFirstBranch, given_nodes, has_edge, leads_to, read_nodes, targets_of}
+use Rattle.jj_walks.specs.HeldNodes.{item_of, listed_item}
 use Rattle.jj_walks.proofs.Branches.{branch-gave, climbs-reaches, counts-are, reaches-alike}
 use Rattle.jj_walks.proofs.HistoryLists.{find-passes}
 use Rattle.jj_walks.proofs.KeptHistories.{keeps-gave, keeps-taken, mapped-out, none-free, some-mapped, unread-wanted}
