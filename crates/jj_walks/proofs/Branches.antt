@@ -176,12 +176,17 @@ module _ {ID : Type 0} {eq : ID → ID → Bool} (laws : IsEquivalence eq) where
 
     -- more heads change nothing
     pub branch-heads : (s t : Candidates ID) (more : List ID) → t.ids.items ≡ s.ids.items → t.blocked ≡ s.blocked → t.children ≡ s.children → deque_items t.heads ≡ deque_items s.heads ++ more → IsFirstBranch eq edge wanted s → IsFirstBranch eq edge wanted t
-    branch-heads s t more ids blocked children heads (inl (head, rest, e, u)) = inl (head, rest ++ more, e, record {
-      ids = ids ∙ u.ids;
-      blocked = ap (λ v. v.items) blocked ∙ u.blocked;
-      heads = heads ∙ ap (λ l. l ++ more) u.heads;
-      children = λ j i. ap (λ m. has_child eq m j i) children ∙ u.children j i;
-    })
+    branch-heads s t more ids blocked children heads (inl (head, rest, e, u)) = inl (
+      head,
+      rest ++ more,
+      e,
+      record {
+        ids = ids ∙ u.ids;
+        blocked = ap (λ v. v.items) blocked ∙ u.blocked;
+        heads = heads ∙ ap (λ l. l ++ more) u.heads;
+        children = λ j i. ap (λ m. has_child eq m j i) children ∙ u.children j i;
+      },
+    )
     branch-heads s t more ids blocked children heads (inr k) = inr (rw (ids, blocked, children) k)
 
     -- the last candidate has a child, and is blocked
@@ -194,12 +199,17 @@ module _ {ID : Type 0} {eq : ID → ID → Bool} (laws : IsEquivalence eq) where
   pub branch-grown : (edge grown : ID → ID → Bool) (wanted : ID) (s t : Candidates ID) (more : List ID) (from : ID) (leads : ID → Bool)
       → ((i j : ID) → grown i j ≡ ((eq from i && leads j) || edge i j)) → ((j i : ID) → has_child eq t.children j i ≡ (has_child eq s.children j i || (leads j && eq from i)))
       → t.ids ≡ s.ids → t.blocked ≡ s.blocked → deque_items t.heads ≡ deque_items s.heads ++ more → IsFirstBranch eq edge wanted s → IsFirstBranch eq grown wanted t
-  branch-grown edge grown wanted s t more from leads grows children ids blocked heads (inl (head, rest, e, u)) = inl (head, rest ++ more, e, record {
-    ids = ap (λ v. v.items) ids ∙ u.ids;
-    blocked = ap (λ v. v.items) blocked ∙ u.blocked;
-    heads = heads ∙ ap (λ l. l ++ more) u.heads;
-    children = λ j i. children j i ∙ ap (λ b. b || (leads j && eq from i)) (u.children j i) ∙ turn (edge i j) (leads j) (eq from i) ∙ sym (grows i j);
-  })
+  branch-grown edge grown wanted s t more from leads grows children ids blocked heads (inl (head, rest, e, u)) = inl (
+    head,
+    rest ++ more,
+    e,
+    record {
+      ids = ap (λ v. v.items) ids ∙ u.ids;
+      blocked = ap (λ v. v.items) blocked ∙ u.blocked;
+      heads = heads ∙ ap (λ l. l ++ more) u.heads;
+      children = λ j i. children j i ∙ ap (λ b. b || (leads j && eq from i)) (u.children j i) ∙ turn (edge i j) (leads j) (eq from i) ∙ sym (grows i j);
+    },
+  )
     where
       turn : (a b d : Bool) → (a || (b && d)) ≡ ((d && b) || a)
       turn true true true = refl
@@ -340,12 +350,17 @@ module _ {N ID : Type 0} {eq : ID → ID → Bool} (laws : IsEquivalence eq) whe
     first = λ none order wanted first.
         let w : i ≡ wanted = cc in
         let u = k.begun refl in
-        inl (copy, [], ap (λ x. eq copy x) (sym w) ∙ same, record {
-          ids = ap (λ v. v.items) ids ∙ u.ids;
-          blocked = ap (λ v. v.items) blocked ∙ u.blocked;
-          heads = heads ∙ ap (λ l. l ++ copy ∷ []) u.heads;
-          children = λ j q. ap (λ m. has_child eq m j q) children ∙ u.children j q;
-        });
+        inl (
+          copy,
+          [],
+          ap (λ x. eq copy x) (sym w) ∙ same,
+          record {
+            ids = ap (λ v. v.items) ids ∙ u.ids;
+            blocked = ap (λ v. v.items) blocked ∙ u.blocked;
+            heads = heads ∙ ap (λ l. l ++ copy ∷ []) u.heads;
+            children = λ j q. ap (λ m. has_child eq m j q) children ∙ u.children j q;
+          },
+        );
   }
   branch-prioritized (event ∷ h) s t i copy same ids blocked children heads k = record {
     begun = λ e. cc;

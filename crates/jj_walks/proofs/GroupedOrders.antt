@@ -219,11 +219,11 @@ module _ {N ID : Type 0} {eq : ID → ID → Bool} (laws : IsEquivalence eq) whe
         wanted (a ∷ older) same g m =
             let leads : list_any (leads_to eq t) a.edges ≡ true = target-leads laws a.edges t m in
             let was : Contains (read_nodes h) a = given-read h a k (subst (λ (l : List (Entry N ID)). Contains l a) (sym same) (cons-first older a a refl)) in
-            read-wanted h a t was leads (λ f n. false-from (eq f.id t) (λ e. 
-                let to_f : list_any (leads_to eq f.id) a.edges ≡ true = leads-alike laws f.id t a.edges e ∙ leads in
-                ⊎_elim (λ s. true≢false (sym (ap (λ x. list_any (leads_to eq x.id) a.edges) s ∙ to_f) ∙ no-loop nodes a order (in-nodes a was)))
-                (λ l. true≢false (sym (grouped-children nodes older f a g.1 l (in-nodes a was) to_f) ∙ g.0.new))
-                (cons-cases older a f (subst (λ (l : List (Entry N ID)). Contains l f) same n))))
+            read-wanted h a t was leads (λ f n. false-from (eq f.id t) (λ e.
+            let to_f : list_any (leads_to eq f.id) a.edges ≡ true = leads-alike laws f.id t a.edges e ∙ leads in
+            ⊎_elim (λ s. true≢false (sym (ap (λ x. list_any (leads_to eq x.id) a.edges) s ∙ to_f) ∙ no-loop nodes a order (in-nodes a was)))
+            (λ l. true≢false (sym (grouped-children nodes older f a g.1 l (in-nodes a was) to_f) ∙ g.0.new))
+            (cons-cases older a f (subst (λ (l : List (Entry N ID)). Contains l f) same n))))
 
         childless : edges_to eq h t ≡ 0
         childless = go (edges_to eq h t) refl
@@ -253,14 +253,16 @@ module _ {N ID : Type 0} {eq : ID → ID → Bool} (laws : IsEquivalence eq) whe
         let at : Contains (held eq h) e = found-in (λ g. eq g.id e.id) (held eq h) e k.0.held in
         let was : Contains (read_nodes h) e = held-read h e at in
         let read_apart = apart-rest newer (read_nodes h) (subst (λ (l : List (Entry N ID)). AreApart eq l) all apart) in
-        let ready = grouped-ready h newer e.id e all k.1 was (laws.refl e.id) k.0.childless in
-        (record {
-          node = subst (λ (l : List (Entry N ID)). Contains l e) (sym all) (append-later newer (read_nodes h) e was);
-          new = false-from (has_node eq (given_nodes h) e.id) (λ y. let d = any-from (λ x. eq x.id e.id) (given_nodes h) y in
-              found-node (held eq h) e d.0.id at (laws.symm e.id d.0.id ∙ d.2) (given-gone h d.0 read_apart k.1 d.1));
-          ready = ready;
-          follows = follows before ready;
-        }, before)
+        let ready = grouped-ready h newer e.id e all k.1 was (laws.refl e.id) k.0.childless in (
+          record {
+            node = subst (λ (l : List (Entry N ID)). Contains l e) (sym all) (append-later newer (read_nodes h) e was);
+            new = false-from (has_node eq (given_nodes h) e.id) (λ y. let d = any-from (λ x. eq x.id e.id) (given_nodes h) y in
+                found-node (held eq h) e d.0.id at (laws.symm e.id d.0.id ∙ d.2) (given-gone h d.0 read_apart k.1 d.1));
+            ready = ready;
+            follows = follows before ready;
+          },
+          before,
+        )
       where
         turned : List ID
         turned = reverse (targets_of (newest_edges (given_nodes h)))

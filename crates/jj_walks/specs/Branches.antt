@@ -44,17 +44,17 @@ module _ {ID : Type 0} where
       -- children: each child is listed, a candidate or replaced too, and a replaced id has one
       -- that is a candidate or replaced.
       pub record Climbs (wanted : ID) (free blocked : List ID) (lists : ID → ID → Bool) : Type 0
-          where
-        pub replaced : ID → Bool
-        pub alike : (i j : ID) → eq i j ≡ true → replaced i ≡ replaced j
-        pub reaches : (i : ID) → is_listed eq free blocked i ≡ true → Reaches eq edge i wanted
-        pub has_child : (j : ID) → has_id eq blocked j ≡ true → (i : ID) × (edge i j ≡ true)
-        pub sound : (j i : ID) → lists j i ≡ true → edge i j ≡ true
-        pub whole : (j i : ID) → edge i j ≡ true
-            → (lists j i || (is_listed eq free blocked i || replaced i)) ≡ true
-        pub wanted_is : (is_listed eq free blocked wanted || replaced wanted) ≡ true
-        pub next : (j : ID) → replaced j ≡ true
-            → (i : ID) × (edge i j ≡ true) × ((is_listed eq free blocked i || replaced i) ≡ true)
+        where
+          pub replaced : ID → Bool
+          pub alike : (i j : ID) → eq i j ≡ true → replaced i ≡ replaced j
+          pub reaches : (i : ID) → is_listed eq free blocked i ≡ true → Reaches eq edge i wanted
+          pub has_child : (j : ID) → has_id eq blocked j ≡ true → (i : ID) × (edge i j ≡ true)
+          pub sound : (j i : ID) → lists j i ≡ true → edge i j ≡ true
+          pub whole : (j i : ID) → edge i j ≡ true
+              → (lists j i || (is_listed eq free blocked i || replaced i)) ≡ true
+          pub wanted_is : (is_listed eq free blocked wanted || replaced wanted) ≡ true
+          pub next : (j : ID) → replaced j ≡ true
+              → (i : ID) × (edge i j ≡ true) × ((is_listed eq free blocked i || replaced i) ≡ true)
 
       -- the branch that is given first leads to the wanted id
       abbrev pub IsFirstBranch : ID → Candidates ID → Type 0

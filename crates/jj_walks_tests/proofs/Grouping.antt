@@ -129,9 +129,12 @@ module _ (commits : List Commit) (wanted : ℕ) where
 
   run-missing : (h : History (Bor Commit) ℕ) (order : List (Bor Commit)) (i : ℕ) → IsRun commits wanted h [] order → IsHistory eqb h → is_wanted eqb h i ≡ true → held_at eqb h i ≡ None → Fails
   run-missing h order i k told want none =
-      let all = all-read h order k in
-      (k.done, all.1, λ whole has. none-missing nat_eq_equiv h i told k.before (rw (← all.0) at whole)
-      (λ j m. among j (subst (λ (l : List ℕ). Contains l j) k.ids m) (rw (← all.0) at has)) want none)
+      let all = all-read h order k in (
+        k.done,
+        all.1,
+        λ whole has. none-missing nat_eq_equiv h i told k.before (rw (← all.0) at whole)
+            (λ j m. among j (subst (λ (l : List ℕ). Contains l j) k.ids m) (rw (← all.0) at has)) want none,
+      )
     where
       among : (j : ℕ) → Contains (wanted ∷ []) j → has_node eqb (read_nodes h) wanted ≡ true → has_node eqb (read_nodes h) j ≡ true
       among j m e = ⊎_elim (λ s. ap (has_node eqb (read_nodes h)) (sym s) ∙ e) (λ n. absurd (nothing n)) (cons-cases [] wanted j m)
@@ -151,11 +154,14 @@ module _ (commits : List Commit) (wanted : ℕ) where
       let item_is : item ≡ n.2 = cc in
       let id_is : e.id ≡ n.0.now.id = id ∙ ap (λ p. p.0.now.id) item_is ∙ ap (λ p. p.now.id) n.5 in
       let parts : nodes_of commits (k.done ++ k.rest) ≡ (reverse (map (node_of commits) n.1) ++ node_of commits n.0 ∷ []) ++ read_nodes h =
-      whole-done h (Ok item ∷ input) order k ∙ ap (λ l. nodes_of commits l ++ read_nodes h) n.3 ∙ ap (λ l. l ++ read_nodes h) (reverse-append (node_of commits n.0 ∷ []) (map (node_of commits) n.1)) in
-      (k.done ++ k.rest, k.all, λ whole has.
-      let apart = apart-rest nat_eq_equiv (reverse (map (node_of commits) n.1)) (node_of commits n.0 ∷ read_nodes h)
-      (subst (λ (l : List (Entry (Bor Commit) ℕ)). AreApart eqb l) (parts ∙ append_assoc (reverse (map (node_of commits) n.1)) (node_of commits n.0 ∷ []) (read_nodes h)) whole.apart) in
-      none-twice nat_eq_equiv h e (ap (has_node eqb (read_nodes h)) id_is ∙ apart.0) some)
+      whole-done h (Ok item ∷ input) order k ∙ ap (λ l. nodes_of commits l ++ read_nodes h) n.3 ∙ ap (λ l. l ++ read_nodes h) (reverse-append (node_of commits n.0 ∷ []) (map (node_of commits) n.1)) in (
+        k.done ++ k.rest,
+        k.all,
+        λ whole has.
+            let apart = apart-rest nat_eq_equiv (reverse (map (node_of commits) n.1)) (node_of commits n.0 ∷ read_nodes h)
+            (subst (λ (l : List (Entry (Bor Commit) ℕ)). AreApart eqb l) (parts ∙ append_assoc (reverse (map (node_of commits) n.1)) (node_of commits n.0 ∷ []) (read_nodes h)) whole.apart) in
+            none-twice nat_eq_equiv h e (ap (has_node eqb (read_nodes h)) id_is ∙ apart.0) some,
+      )
 
   -- nothing was read yet
   pub run-begins : (shown : List (Bor Commit)) (input : List (Result Node ℕ)) (order : List (Bor Commit)) → map (λ c. c.now) shown ≡ commits → ShowsCommits commits shown input → order ≡ [] → IsRun commits wanted (Prioritized wanted ∷ []) input order

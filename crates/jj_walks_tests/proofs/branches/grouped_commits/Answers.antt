@@ -32,8 +32,8 @@ loop-item-preserved c =
     let step = rw (before.goes_on, c.in-Ok.is) at c.in-Some.ensures.steps in
     let gives = step.1 before.run.0 before.run.1 in
     let run = run-gave c.args.commits.now c.args.wanted gives.3 into_iter_items (λ s. into_iter_len s ≡ length (into_iter_items s))
-        (λ s t x good step. (step.0, left-some _ _ _ _ _ good step.0 step.1)) (λ s t good step. left-none _ _ good step.0) (λ x i h. search (rules, h.says.met, h.shows))
-        before.good before.run.0 c.loop-item.order.items before.run.2 gives.2 c.in-Ok.commit (ap (λ p. p.0) gives.4) gives.5.history.told in
+    (λ s t x good step. (step.0, left-some _ _ _ _ _ good step.0 step.1)) (λ s t good step. left-none _ _ good step.0) (λ x i h. search (rules, h.says.met, h.shows))
+    before.good before.run.0 c.loop-item.order.items before.run.2 gives.2 c.in-Ok.commit (ap (λ p. p.0) gives.4) gives.5.history.told in
     let pushed : c.push.new.self.items ≡ c.loop-item.order.items ++ c.in-Ok.commit ∷ [] = c.in_ok-push-in-Ok.ensures.items in
     record {
       can = first_of (search rules, search (rules, of_calls), grind (arith, common_steps));

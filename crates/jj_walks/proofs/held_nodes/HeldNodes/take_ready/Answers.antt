@@ -23,7 +23,7 @@ returns-in_default-clause-taken g c = λ h k.
     let branch = rw is at c.in_ok-id.ensures.branch in
     let alike = λ (x : g.row.ID.Denot) (y : g.row.ID.Denot). lookup_congr eq g.met.ID.Eq.laws.congr old.counts.entries x y in
     let history = keeps-taken eq h (λ i. option_map listed_item (get eq old.nodes i)) (get eq old.counts) old.candidates.ids.items new.ids.items (deque_items old.candidates.heads)
-        (deque_items new.heads) listed follows k.history in (
+    (deque_items new.heads) listed follows k.history in (
       record {
         history = history;
         branch = record {
@@ -54,9 +54,9 @@ returns-in_default-remove-clause-taken g c = λ h k.
     let unchanged : c.remove.new.self.entries ≡ old.nodes.entries = (rw c.in_default-remove.is at c.remove.ensures.unchanged) in
     let alike = λ (x : g.row.ID.Denot) (y : g.row.ID.Denot). lookup_congr eq g.met.ID.Eq.laws.congr old.counts.entries x y in
     let history = keeps-taken eq h (λ i. option_map listed_item (get eq old.nodes i)) (get eq old.counts) old.candidates.ids.items (c.take.new.self.ids.items ++ id ∷ []) (deque_items old.candidates.heads)
-        (deque_items c.take.new.self.heads) listed follows k.history in
+    (deque_items c.take.new.self.heads) listed follows k.history in
     let wanted = unread-wanted eq h (λ i. option_map listed_item (get eq old.nodes i)) (get eq old.counts) old.candidates.ids.items (deque_items old.candidates.heads) id zero_count
-        (ap (option_map listed_item) absent) k.history in (
+    (ap (option_map listed_item) absent) k.history in (
       record {
         history = rw (unchanged, pushed, heads) history;
         branch = record {
@@ -79,7 +79,7 @@ returns-clause-taken g c = λ h k.
     let follows = rw is at c.in_ok-id.ensures.follows in
     let zero_count : is_zero (get eq old.counts id) ≡ true = rw is at c.in_ok-id.ensures.taken in
     let taken = keeps-taken eq h (λ i. option_map listed_item (get eq old.nodes i)) (get eq old.counts) old.candidates.ids.items (c.take.new.self.ids.items ++ id ∷ []) (deque_items old.candidates.heads)
-        (deque_items c.take.new.self.heads) listed follows k.history in
+    (deque_items c.take.new.self.heads) listed follows k.history in
     let alike = λ (x : g.row.ID.Denot) (y : g.row.ID.Denot). lookup_congr eq g.met.ID.Eq.laws.congr old.counts.entries x y in
     let removed : get eq old.nodes id ≡ Some (c.in-Some-remove.node, c.in-Some-remove.edges) = sym c.remove.ensures.value ∙ c.in-Some-remove.is in
     let found = some-mapped item_of _ _ (sym (ap (option_map listed_item) removed) ∙ k.history.nodes id) in
@@ -91,20 +91,20 @@ returns-clause-taken g c = λ h k.
     let branch = rw is at c.in_ok-id.ensures.branch in
     let its_id : eq e.id id ≡ true = find-passes eq (λ f. eq f.id id) _ e found.1 in
     let first : given_nodes h ≡ [] → IsOfFirstBranch eq h e = λ none order wanted first.
-        let counts = counts-are g.met.ID.Eq.laws h _ (get eq old.counts) _ _ wanted alike none order first k.history in
-        let climbs = branch (has_edge eq (read_nodes h)) wanted counts (k.branch.first none order wanted first) in
-        reaches-alike g.met.ID.Eq.laws (read_nodes h) e.id id wanted its_id (climbs-reaches g.met.ID.Eq.laws (has_edge eq (read_nodes h)) wanted c.take.new.self.ids.items c.take.new.self.blocked.items id _ climbs.1) in (
+    let counts = counts-are g.met.ID.Eq.laws h _ (get eq old.counts) _ _ wanted alike none order first k.history in
+    let climbs = branch (has_edge eq (read_nodes h)) wanted counts (k.branch.first none order wanted first) in
+    reaches-alike g.met.ID.Eq.laws (read_nodes h) e.id id wanted its_id (climbs-reaches g.met.ID.Eq.laws (has_edge eq (read_nodes h)) wanted c.take.new.self.ids.items c.take.new.self.blocked.items id _ climbs.1) in (
       e,
       sym found.2,
       record {
         history = rw (pushed.1, heads) (keeps-gave g.met.ID.Eq.laws h (λ i. option_map listed_item (get eq old.nodes i)) (λ i. option_map listed_item (get eq c.remove.new.self i))
-          (get eq old.counts) (get eq c.uncount_edges.new.counts) c.take.new.self.ids.items pushed.0 (deque_items c.take.new.self.heads) id e
-          alike found.1 zero_count
-          (λ q. mapped-out listed_item (eq id q) (get eq c.remove.new.self q) (get eq old.nodes q) (c.remove.ensures.updates.0 q))
-          (λ q. c.uncount_edges.ensures.known q ∙ ap is_some (c.remove-2.ensures.updates.0 q))
-          (λ q. c.uncount_edges.ensures.counts q ∙ ap (λ o. count_of o - count_by (leads_to eq q) c.deref.result.now) (c.remove-2.ensures.updates.0 q) ∙ ap (λ l. count_of (cond (eq id q) None (get eq old.counts q)) - count_by (leads_to eq q) l) edges)
-          (subst (λ (l : List _). AreSameIds eq (targets_of l) pushed.0) edges2 pushed.2)
-          first taken);
+            (get eq old.counts) (get eq c.uncount_edges.new.counts) c.take.new.self.ids.items pushed.0 (deque_items c.take.new.self.heads) id e
+            alike found.1 zero_count
+            (λ q. mapped-out listed_item (eq id q) (get eq c.remove.new.self q) (get eq old.nodes q) (c.remove.ensures.updates.0 q))
+            (λ q. c.uncount_edges.ensures.known q ∙ ap is_some (c.remove-2.ensures.updates.0 q))
+            (λ q. c.uncount_edges.ensures.counts q ∙ ap (λ o. count_of o - count_by (leads_to eq q) c.deref.result.now) (c.remove-2.ensures.updates.0 q) ∙ ap (λ l. count_of (cond (eq id q) None (get eq old.counts q)) - count_by (leads_to eq q) l) edges)
+            (subst (λ (l : List _). AreSameIds eq (targets_of l) pushed.0) edges2 pushed.2)
+            first taken);
         branch = branch-gave g.met.ID.Eq.laws h c.push_targets.new.self e;
       },
     )
