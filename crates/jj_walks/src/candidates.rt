@@ -1,5 +1,5 @@
 //! The ids of a grouped graph that may be given next.
-ghost use Rattle.std.specs.Prelude.{◌≡◌, ◌⊎◌, ◌<◌, ◌++◌, ◌∷◌, ◌&&◌, ◌||◌, ℕ, Bool, [], List, Option, None, IfOk, IsSome, OnOk, OnErr, MatchOption, IsTrue, true, false, option_to_list};
+ghost use Rattle.std.specs.Prelude.{◌≡◌, ◌⊎◌, ◌<◌, ◌++◌, ◌∷◌, ◌&&◌, ◌||◌, Bool, [], List, Option, None, IfOk, IsSome, OnOk, OnErr, MatchOption, IsTrue, true, false, option_to_list};
 ghost use Rattle.std.specs.List.{list_any};
 ghost use Rattle.std.specs.HashMap.{get};
 ghost use Rattle.std.specs.VecDeque.{deque_items};

@@ -12,7 +12,7 @@ ghost use denote.Ref.{Bor};
 use crate::graph::{GraphEdge, GraphNode};
 use crate::lists::push_at;
 use crate::walk_error::WalkError;
-use std::alloc::{AllocError, Global};
+use std::alloc::Global;
 use std::collections::HashMap;
 use std::hash::Hash;
 

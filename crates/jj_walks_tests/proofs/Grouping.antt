@@ -1,5 +1,5 @@
 -- A grouped run over a list of commits.
-use Rattle.std.proofs.Common.{arith, ◌≡◌, ℕ, ◌+◌, ◌==◌, Bool, true, false, ◌⊎◌, inl, inr, Option, None, Some, is_some, Result, Ok, Err, List, [], ◌∷◌, ◌++◌, map, reverse, eqb, refl, sym, ◌∙◌, ap, subst, true≢false, ⊎_elim, append_assoc, append-nil, length, take, get_or, ◌<◌, IsOkAnd}
+use Rattle.std.proofs.Common.{arith, ◌≡◌, ℕ, ◌+◌, true, ◌⊎◌, inl, inr, Option, None, Some, is_some, Result, Ok, Err, List, [], ◌∷◌, ◌++◌, map, reverse, eqb, refl, sym, ◌∙◌, ap, subst, ⊎_elim, append_assoc, append-nil, length, take, get_or, ◌<◌, IsOkAnd}
 use borrow.Author.Tests.{eqb-true}
 use Rattle.std.specs.Cmp.{nat_eq_equiv}
 use Rattle.std.specs.Fn.{Shared, FnReturnsAt}

@@ -1,10 +1,8 @@
-use Rattle.std.proofs.Common.{rules, of_calls, arith, ◌≡◌, ◌++◌, ◌∷◌, [], ℕ, length, refl, sym, ◌∙◌, ap, subst}
+use Rattle.std.proofs.Common.{rules, of_calls, arith, ◌≡◌, ◌++◌, ◌∷◌, [], length, sym, ◌∙◌, ap}
 use Rattle.std.proofs.lemmas.Grind.{common_steps}
 use Rattle.std.specs.Vec.Iter.{into_iter_items, into_iter_len}
 use Rattle.jj_walks.specs.Grouped.{Prioritized}
-use Rattle.jj_walks.specs.HeldNodes.{Keeps}
-use Rattle.jj_walks_tests.specs.Branches.{ShowsCommits}
-use Rattle.jj_walks_tests.proofs.Grouping.{IsRun, left-none, left-some, run-begins, run-done, run-failed, run-gave}
+use Rattle.jj_walks_tests.proofs.Grouping.{left-none, left-some, run-begins, run-done, run-failed, run-gave}
 use Rattle.jj_walks_tests.proofs.branches.grouped_commits.Goals as goal
 
 pub loop-item-init : goal.loop-item-init
