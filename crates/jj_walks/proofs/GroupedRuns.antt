@@ -9,7 +9,7 @@ use Rattle.jj_walks.specs.Grouped.{Entry, History, Read}
 use Rattle.jj_walks.specs.GroupedSteps.{IsEntryOf, Item, ReadsTo, read_on}
 use Rattle.jj_walks.proofs.FailingOrders.{Yields-push}
 
-zip-push : {A B : Type 0} (R : A → B → Type 0) (xs : List A) (ys : List B) (x : A) (y : B) → AllZip R xs ys → R x y → AllZip R (xs ++ x ∷ []) (ys ++ y ∷ [])
+pub zip-push : {A B : Type 0} (R : A → B → Type 0) (xs : List A) (ys : List B) (x : A) (y : B) → AllZip R xs ys → R x y → AllZip R (xs ++ x ∷ []) (ys ++ y ∷ [])
 zip-push R [] [] x y k r = (r, tt)
 zip-push R [] (b ∷ ys) x y k r = absurd k
 zip-push R (a ∷ xs) [] x y k r = absurd k

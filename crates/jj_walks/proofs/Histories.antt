@@ -1,27 +1,27 @@
 -- What a history of a grouped graph says of the order in which nodes were given.
-use Rattle.std.proofs.Common.{arith, ◌≡◌, ℕ, ◌+◌, ◌≤◌, ◌<◌, Bool, true, false, not, cond, ◌⊎◌, inl, inr, Option, None, Some, List, [], ◌∷◌, ◌++◌, filter, find, count_by, refl, sym, ◌∙◌, ap, subst, true≢false, ⊎_elim}
+use Rattle.std.proofs.Common.{arith, ◌≡◌, ◌<◌, Bool, true, false, not, cond, ◌⊎◌, inl, inr, None, Some, List, [], ◌∷◌, filter, find, count_by, refl, sym, ◌∙◌, ap, subst, ⊎_elim}
 use Rattle.std.specs.Cmp.{IsEquivalence}
 use Rattle.std.specs.List.{Contains, list_any, sum_by}
-use Rattle.std.proofs.lemmas.List.Elements.{Contains-append_left, Contains-append_right, Contains-append_cases, Contains-push_cases}
+use Rattle.std.proofs.lemmas.List.Elements.{Contains-append_right, Contains-append_cases, Contains-push_cases}
 use Rattle.std.proofs.lemmas.List.Sums.{sum_by-cons}
-use Rattle.jj_walks.specs.Grouped.{Entry, History, Prioritized, Read, Gave, IsHistory, edges_to, held, leads_to, read_nodes, given_nodes, GivesChildrenFirst}
+use Rattle.jj_walks.specs.Grouped.{Entry, History, Prioritized, Read, Gave, IsHistory, held, leads_to, read_nodes, given_nodes, GivesChildrenFirst}
 use Rattle.jj_walks.proofs.HistoryLists.{AreUnique, held-unique, find-congr}
 use Rattle.jj_walks.proofs.KeptHistories.{leads-none}
 
-cons-cases : {X : Type 0} (xs : List X) (y x : X) → Contains (y ∷ xs) x → (y ≡ x) ⊎ Contains xs x
+pub cons-cases : {X : Type 0} (xs : List X) (y x : X) → Contains (y ∷ xs) x → (y ≡ x) ⊎ Contains xs x
 cons-cases xs y x k = ⊎_elim (λ a. ⊎_elim (λ n. absurd (nothing n)) (λ e. inl e) (Contains-push_cases [] y x a)) (λ a. inr a) (Contains-append_cases (y ∷ []) xs x k)
   where
     nothing : Contains [] x → ⊥
     nothing (i, less, e) = absurd (omega arith)
 
-cons-first : {X : Type 0} (xs : List X) (y x : X) → y ≡ x → Contains (y ∷ xs) x
+pub cons-first : {X : Type 0} (xs : List X) (y x : X) → y ≡ x → Contains (y ∷ xs) x
 cons-first xs y x e = (0, omega arith, e)
 
-cons-later : {X : Type 0} (xs : List X) (y x : X) → Contains xs x → Contains (y ∷ xs) x
+pub cons-later : {X : Type 0} (xs : List X) (y x : X) → Contains xs x → Contains (y ∷ xs) x
 cons-later xs y x k = Contains-append_right (y ∷ []) xs x k
 
 module _ {N ID : Type 0} {eq : ID → ID → Bool} (laws : IsEquivalence eq) where
-  none-found : (i : ID) (es : List (Entry N ID)) (c : Entry N ID) → find (λ f. eq f.id i) es ≡ None → Contains es c → eq c.id i ≡ false
+  pub none-found : (i : ID) (es : List (Entry N ID)) (c : Entry N ID) → find (λ f. eq f.id i) es ≡ None → Contains es c → eq c.id i ≡ false
   none-found i [] c h (k, less, e) = absurd (omega arith)
   none-found i (f ∷ es) c h k = go (none-found i es c) (eq f.id i) refl h
     where
@@ -68,7 +68,7 @@ module _ {N ID : Type 0} {eq : ID → ID → Bool} (laws : IsEquivalence eq) whe
       (λ a. ⊎_elim (λ same. inl (cons-first (given_nodes h) e c same)) (λ l. inr l) (stays-held e.id (held eq h) e c (held-unique eq laws h k) next.held a))
       (read-given_or_held h k c m)
 
-  edge-counts : (i : ID) (es : List (Entry N ID)) (c : Entry N ID) → Contains es c → list_any (leads_to eq i) c.edges ≡ true → 0 < sum_by (λ e. count_by (leads_to eq i) e.edges) es
+  pub edge-counts : (i : ID) (es : List (Entry N ID)) (c : Entry N ID) → Contains es c → list_any (leads_to eq i) c.edges ≡ true → 0 < sum_by (λ e. count_by (leads_to eq i) e.edges) es
   edge-counts i [] c (k, less, e) any = absurd (omega arith)
   edge-counts i (f ∷ es) c k any =
       let whole = sum_by-cons (λ e. count_by (leads_to eq i) e.edges) f es in

@@ -12,7 +12,7 @@ use Rattle.std.proofs.lemmas.List.Sums.{sum_by-cons}
 use Rattle.std.proofs.lemmas.List.Folds.{list_any-append}
 use Rattle.jj_walks.specs.declared.graph.GraphEdge.{GraphEdge}
 use Rattle.jj_walks.specs.Candidates.{AreSameIds, AreToFollow, count_of, has_id, is_listed, is_positive, is_zero}
-use Rattle.jj_walks.specs.Grouped.{Entry, History, Prioritized, Read, Gave, edges_to, held, held_at, is_free, is_shown, is_wanted, last_edges, last_free, leads_to, targets_of}
+use Rattle.jj_walks.specs.Grouped.{Entry, History, Prioritized, Read, Gave, IsOfFirstBranch, edges_to, given_nodes, held, held_at, is_free, is_known, is_shown, is_wanted, last_edges, last_free, leads_to, targets_of}
 use Rattle.std.specs.HashMap.{hash_map_len}
 use Rattle.std.specs.Map.{lookup}
 use Rattle.std.specs.Global.{Global}
@@ -30,28 +30,28 @@ positive-is : (c : Option ℕ) → is_positive c ≡ not (count_of c == 0)
 positive-is None = refl
 positive-is (Some n) = refl
 
-or_true : (a : Bool) → (a || true) ≡ true
+pub or_true : (a : Bool) → (a || true) ≡ true
 or_true true = refl
 or_true false = refl
 
-or_cases : (a b : Bool) → (a || b) ≡ true → (a ≡ true) ⊎ (b ≡ true)
+pub or_cases : (a b : Bool) → (a || b) ≡ true → (a ≡ true) ⊎ (b ≡ true)
 or_cases true b e = inl refl
 or_cases false b e = inr e
 
-or_left : (a b : Bool) → a ≡ true → (a || b) ≡ true
+pub or_left : (a b : Bool) → a ≡ true → (a || b) ≡ true
 or_left a b e = ap (λ x. x || b) e
 
-or_right : (a b : Bool) → b ≡ true → (a || b) ≡ true
+pub or_right : (a b : Bool) → b ≡ true → (a || b) ≡ true
 or_right a b e = ap (λ x. a || x) e ∙ or_true a
 
 abbrev count_one : Bool → ℕ
 count_one b = cond b 1 0
 
-none-mapped : {A B : Type 0} (f : A → B) (o : Option A) → option_map f o ≡ None → o ≡ None
+pub none-mapped : {A B : Type 0} (f : A → B) (o : Option A) → option_map f o ≡ None → o ≡ None
 none-mapped f None e = refl
 none-mapped f (Some x) e = cc
 
-zero-from : (c : Option ℕ) → is_some c ≡ true → count_of c ≡ 0 → is_zero c ≡ true
+pub zero-from : (c : Option ℕ) → is_some c ≡ true → count_of c ≡ 0 → is_zero c ≡ true
 zero-from None s z = absurd (true≢false (sym s))
 zero-from (Some n) s z = eq-eqb n 0 z
 
@@ -67,7 +67,7 @@ counted-some : (c : Option ℕ) → 0 < count_of c → is_some c ≡ true
 counted-some None h = absurd (omega arith)
 counted-some (Some n) h = refl
 
-positive-count : (c : Option ℕ) → is_positive c ≡ true → 0 < count_of c
+pub positive-count : (c : Option ℕ) → is_positive c ≡ true → 0 < count_of c
 positive-count None e = absurd (true≢false (sym e))
 positive-count (Some n) e = grind (arith, nat_tests)
 
@@ -82,7 +82,7 @@ module _ {ID : Type 0} where
       ap (λ b. b && list_all q xs) (k x (and_left (p x) (list_all p xs) e)) ∙ all-more p q xs k (and_right (p x) (list_all p xs) e)
 
   module _ (eq : ID → ID → Bool) where
-    has_id-append : (xs ys : List ID) (i : ID) → has_id eq (xs ++ ys) i ≡ (has_id eq xs i || has_id eq ys i)
+    pub has_id-append : (xs ys : List ID) (i : ID) → has_id eq (xs ++ ys) i ≡ (has_id eq xs i || has_id eq ys i)
     has_id-append xs ys i = list_any-append (λ j. eq j i) xs ys
 
     -- more is known, and what has a held child keeps one
@@ -312,9 +312,9 @@ module _ {N ID : Type 0} {eq : ID → ID → Bool} (laws : IsEquivalence eq) whe
       → ((q : ID) → is_some (more q) ≡ is_some (cond (eq i q) None (count q)))
       → ((q : ID) → count_of (more q) ≡ count_of (cond (eq i q) None (count q)) - count_by (leads_to eq q) e.edges)
       → AreSameIds eq (targets_of e.edges) added
-      → KeepsHistory eq h node_at count (rest ++ i ∷ []) heads → KeepsHistory eq (Gave e ∷ h) nodes2 more (rest ++ added) heads
-  keeps-gave h node_at nodes2 count more rest added heads i e alike at zero nodes known counts pushed k = record {
-    told = (record { held = here; childless = sym (k.counts e.id) ∙ ap count_of (alike e.id i same) ∙ zero-count (count i) zero; follows = next }, k.told);
+      → (given_nodes h ≡ [] → IsOfFirstBranch eq h e) → KeepsHistory eq h node_at count (rest ++ i ∷ []) heads → KeepsHistory eq (Gave e ∷ h) nodes2 more (rest ++ added) heads
+  keeps-gave h node_at nodes2 count more rest added heads i e alike at zero nodes known counts pushed first k = record {
+    told = (record { held = here; childless = sym (k.counts e.id) ∙ ap count_of (alike e.id i same) ∙ zero-count (count i) zero; follows = next; first = first }, k.told);
     nodes = λ q. nodes q ∙ ap (cond (eq i q) None) (k.nodes q) ∙ node (eq i q) (held_at eq h q) ∙ ap (option_map item_of) (sym (after q));
     known = λ q. known q ∙ test (eq i q) (count q) (is_wanted eq h q) (held_at eq h q) (k.known q) ∙ ap (λ b. (not b && is_wanted eq h q) || is_some (cond (eq i q) None (held_at eq h q))) (sym (other q)) ∙ ap (λ o. (not (eq e.id q) && is_wanted eq h q) || is_some o) (sym (after q));
     counts = λ q. counts q ∙ left q (eq i q) refl;
@@ -410,6 +410,32 @@ module _ {N ID : Type 0} {eq : ID → ID → Bool} (laws : IsEquivalence eq) whe
       some_alike : (x y : ID) → eq x y ≡ true → is_some (more x) ≡ is_some (more y)
       some_alike x y e = known x ∙ ap (λ b. is_some (cond b None (count x))) (congr-right laws x y i e) ∙ ap (λ o. is_some (cond (eq i y) None o)) (alike x y e) ∙ sym (known y)
 
+-- candidates were passed
+pub keeps-taken : {N ID : Type 0} (eq : ID → ID → Bool) (h : History N ID) (node_at : ID → Option (N × List (GraphEdge ID))) (count : ID → Option ℕ) (ids ids2 heads heads2 : List ID)
+    → ((i : ID) → is_zero (count i) ≡ true → is_listed eq ids heads i ≡ true → is_listed eq ids2 heads2 i ≡ true) → ((targets : List ID) → AreToFollow eq count targets ids → AreToFollow eq count targets ids2)
+    → KeepsHistory eq h node_at count ids heads → KeepsHistory eq h node_at count ids2 heads2
+keeps-taken eq h node_at count ids ids2 heads heads2 listed follows k = record {
+  told = k.told;
+  nodes = k.nodes;
+  known = k.known;
+  counts = k.counts;
+  listed = λ i zero. listed i zero (k.listed i zero);
+  follows = follows (targets_of (last_edges h)) k.follows;
+}
+
+-- where no candidate and no head is left, no id is free
+pub none-free : {N ID : Type 0} (eq : ID → ID → Bool) (h : History N ID) (node_at : ID → Option (N × List (GraphEdge ID))) (count : ID → Option ℕ) (ids heads : List ID)
+    → ids ≡ [] → heads ≡ [] → KeepsHistory eq h node_at count ids heads → (i : ID) → is_known eq h i ≡ true → edges_to eq h i ≡ 0 → ⊥
+none-free eq h node_at count ids heads no_ids no_heads k i known zero =
+    true≢false (sym (k.listed i (zero-from (count i) (k.known i ∙ known) (k.counts i ∙ zero))) ∙ ap (λ l. is_listed eq l heads i) no_ids ∙ ap (λ l. is_listed eq [] l i) no_heads)
+
+-- an id that is counted and not held is wanted
+pub unread-wanted : {N ID : Type 0} (eq : ID → ID → Bool) (h : History N ID) (node_at : ID → Option (N × List (GraphEdge ID))) (count : ID → Option ℕ) (ids heads : List ID) (i : ID)
+    → is_zero (count i) ≡ true → node_at i ≡ None → KeepsHistory eq h node_at count ids heads → (is_wanted eq h i ≡ true) × (held_at eq h i ≡ None)
+unread-wanted eq h node_at count ids heads i zero absent k =
+    let none : held_at eq h i ≡ None = none-mapped item_of (held_at eq h i) (sym (k.nodes i) ∙ absent) in
+    (⊎_elim (λ a. a) (λ a. absurd (true≢false (sym a ∙ ap is_some none))) (or_cases (is_wanted eq h i) (is_some (held_at eq h i)) (sym (k.known i) ∙ zero-some (count i) zero)), none)
+
 -- a list of heads grows, and with it what is listed
 pub listed-more : {ID : Type 0} (eq : ID → ID → Bool) (ids heads more : List ID) (i : ID) → (has_id eq heads i ≡ true → has_id eq more i ≡ true) → is_listed eq ids heads i ≡ true → is_listed eq ids more i ≡ true
 listed-more eq ids heads more i kept k =
@@ -439,7 +465,7 @@ no-entries (x ∷ es) e = cc
 module _ {N ID : Type 0} {eq : ID → ID → Bool} (laws : IsEquivalence eq) (h : History N ID) (s : HeldNodes N ID) (k : Keeps eq h s) where
   -- where the map is empty, nothing is held
   pub nothing-held : hash_map_len s.nodes ≡ 0 → held eq h ≡ []
-  nothing-held none = go (held eq h) (λ i. none-mapped item_of (find (λ e. eq e.id i) (held eq h)) (sym (k.nodes i) ∙ ap (λ es. option_map listed_item (lookup (eq i) es)) (no-entries s.nodes.entries none)))
+  nothing-held none = go (held eq h) (λ i. none-mapped item_of (find (λ e. eq e.id i) (held eq h)) (sym (k.history.nodes i) ∙ ap (λ es. option_map listed_item (lookup (eq i) es)) (no-entries s.nodes.entries none)))
     where
       go : (es : List (Entry N ID)) → ((i : ID) → find (λ e. eq e.id i) es ≡ None) → es ≡ []
       go [] f = refl
@@ -450,7 +476,7 @@ module _ {N ID : Type 0} {eq : ID → ID → Bool} (laws : IsEquivalence eq) (h 
 
   -- where nothing is held, the map is empty
   pub nothing-kept : held eq h ≡ [] → hash_map_len s.nodes ≡ 0
-  nothing-kept none = go s.nodes.entries (λ i. none-mapped listed_item (lookup (eq i) s.nodes.entries) (k.nodes i ∙ ap (λ (es : List (Entry N ID)). option_map item_of (find (λ e. eq e.id i) es)) none))
+  nothing-kept none = go s.nodes.entries (λ i. none-mapped listed_item (lookup (eq i) s.nodes.entries) (k.history.nodes i ∙ ap (λ (es : List (Entry N ID)). option_map item_of (find (λ e. eq e.id i) es)) none))
     where
       go : (es : List (ID × (N × Vec (GraphEdge ID) Global))) → ((i : ID) → lookup (eq i) es ≡ None) → length es ≡ 0
       go [] f = refl

@@ -4,7 +4,7 @@ use Rattle.std.specs.List.{Contains, IsDistinct}
 use Rattle.std.proofs.lemmas.List.Elements.{Contains-append_left, Contains-append_right, Contains-append_cases}
 use Rattle.jj_walks.specs.Chunks.{IsStretch, IsBegun, LeadsOn, LeadsForward, NoneFailed}
 use Rattle.jj_walks.specs.Failing.{FailingGraph, HasNoFailure, sound}
-use Rattle.jj_walks.specs.Graph.{Graph, HasEdge, Path, Reaches, StrictlyReaches, ReachedFrom, ReachesCycle, HasNoCycle, IsChildFirst, StandsBefore}
+use Rattle.jj_walks.specs.Graph.{Graph, HasEdge, Path, Reaches, StrictlyReaches, ReachedFrom, ReachesCycle, HasNoCycle, IsChildFirst}
 use Rattle.jj_walks.proofs.FailingOrders.{ReachedFrom-same}
 use Rattle.jj_walks.proofs.Reaching.{Contains-split, Contains-reached, Reaches-trans, edge_then_Reaches}
 use Rattle.jj_walks.proofs.ReadyOrders.{here, at_split, twice}

@@ -1,8 +1,8 @@
 -- What is left of a lazy order, step by step.
-use Rattle.std.proofs.Common.{◌≡◌, ℕ, zero, suc, ◌==◌, ◌||◌, ◌<◌, length, not, true≢false, Bool, true, false, cond, List, [], ◌∷◌, ◌++◌, map, reverse, refl, sym, ◌∙◌, ap, subst, arith, inl, inr, ◌⊎◌, ⊎_elim, append_assoc, append-nil, eqb, Option, Some, None, Result, Ok, Err, MatchOption}
+use Rattle.std.proofs.Common.{◌≡◌, ℕ, zero, suc, ◌==◌, ◌||◌, ◌<◌, length, not, true≢false, Bool, true, false, cond, List, [], ◌∷◌, ◌++◌, map, reverse, refl, sym, ◌∙◌, ap, subst, arith, inl, append_assoc, append-nil, eqb, Option, Some, None, Result, Ok, Err, MatchOption}
 use Rattle.std.specs.Fn.{Shared, Mut}
 use Rattle.std.specs.HashSet.{contains}
-use Rattle.std.specs.List.{Contains, IsDistinct, list_any}
+use Rattle.std.specs.List.{Contains, IsDistinct}
 use Rattle.std.specs.Cmp.{nat_eq_equiv}
 use Rattle.std.specs.Prelude.{OnOk}
 use Rattle.std.proofs.lemmas.List.{map-append, reverse-append, reverse-reverse}

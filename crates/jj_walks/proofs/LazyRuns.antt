@@ -1,5 +1,5 @@
 -- What a whole run of the iterator `TopoOrderReverseLazy` gave.
-use Rattle.std.proofs.Common.{◌≡◌, ℕ, Bool, false, Option, None, Some, Result, Ok, Err, List, [], ◌∷◌, ◌++◌, map, ◌∙◌, ap, subst, append_assoc, append-nil}
+use Rattle.std.proofs.Common.{◌≡◌, ℕ, Bool, false, Option, Some, Result, Ok, Err, List, [], ◌∷◌, ◌++◌, map, subst, append_assoc, append-nil}
 use Rattle.std.specs.Fn.{Shared, Mut}
 use Rattle.std.specs.Iterator.{Count, Drains, Yields}
 use denote.Ref.{Bor}

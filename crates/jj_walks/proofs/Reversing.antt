@@ -1,35 +1,12 @@
 -- The lists of edges by id, while a shown graph is turned round.
-use Rattle.std.proofs.Common.{◌≡◌, Bool, true, false, cond, ◌||◌, Option, None, Some, List, [], ◌∷◌, ◌++◌, map, reverse, refl, sym, ◌∙◌, ap, subst, append-nil, append_assoc}
+use Rattle.std.proofs.Common.{◌≡◌, Bool, true, false, cond, ◌||◌, List, [], ◌∷◌, ◌++◌, map, reverse, refl, sym, ◌∙◌, ap, subst, append-nil, append_assoc}
 use Rattle.std.proofs.lemmas.List.{map-append, reverse-append}
 use Rattle.std.proofs.lemmas.List.Elements.{filter-append}
-use Rattle.std.specs.Cmp.{IsEquivalence}
-use Rattle.std.specs.HashMap.{HashMap, get}
-use Rattle.std.specs.HashMap.Eq.{lookup_congr}
 use Rattle.std.specs.List.{AllZip, list_any}
-use Rattle.std.specs.Option.{UnwrapsOrElse}
 use Rattle.std.specs.Global.{Global}
-use Rattle.std.specs.Vec.{vec_len}
 use Rattle.std.specs.declared.vec.Vec.{Vec}
 use Rattle.jj_walks.specs.declared.graph.GraphEdge.{GraphEdge}
-use Rattle.jj_walks.specs.Reversed.{ShownGraph, shown_graph, edge_to, turned_edges, incoming_edges, with_incoming, reversed_graph, LeadsToId, ShowsById, edges_of, edges_at}
-
--- the list that an entry lends
-pub edges_of-lent : {ID : Type 0} (found : Option (Vec (GraphEdge ID) Global)) (lent : Vec (GraphEdge ID) Global)
-    → UnwrapsOrElse found (λ made. (made.items ≡ []) × (vec_len made ≡ 0)) lent → lent.items ≡ edges_of found
-edges_of-lent None lent empty = empty.0
-edges_of-lent (Some edges) lent same = ap (λ v. v.items) same
-
-module _ {ID S : Type 0} {eq : ID → ID → Bool} (laws : IsEquivalence eq) (old : HashMap ID (Vec (GraphEdge ID) Global) S) where
-  -- what an id has where one more edge was put at an id
-  pub edges_of-put : (id q : ID) (got : Option (Vec (GraphEdge ID) Global)) (edges : Vec (GraphEdge ID) Global) (edge : GraphEdge ID)
-      → got ≡ cond (eq id q) (Some edges) (get eq old q) → edges.items ≡ edges_at eq old id ++ edge ∷ []
-      → edges_of got ≡ cond (eq id q) (edges_at eq old q ++ edge ∷ []) (edges_at eq old q)
-  edges_of-put id q got edges edge puts more =
-      let P : Bool → Type 0 = λ b. eq id q ≡ b → edges_of (cond b (Some edges) (get eq old q)) ≡ cond b (edges_at eq old q ++ edge ∷ []) (edges_at eq old q) in
-      ap edges_of puts ∙ elim (eq id q) as P [
-        | true ↦ λ same. more ∙ ap (λ o. edges_of o ++ edge ∷ []) (lookup_congr eq laws.congr old.entries id q same)
-        | false ↦ λ other. refl
-      ] refl
+use Rattle.jj_walks.specs.Reversed.{ShownGraph, shown_graph, edge_to, turned_edges, incoming_edges, with_incoming, reversed_graph, LeadsToId, ShowsById}
 
 AllZip-append : {A B : Type 0} (R : A → B → Type 0) (xs more : List A) (ys last : List B) → AllZip R xs ys → AllZip R more last → AllZip R (xs ++ more) (ys ++ last)
 AllZip-append R [] more [] last k h = h

@@ -1,6 +1,6 @@
 -- The order of a grouped graph, told by its history: which ids were prioritised, and which nodes
 -- read and given.
-use Rattle.std.specs.Prelude.{◌≡◌, ℕ, ◌==◌, Bool, true, false, not, ◌&&◌, ◌||◌, count_by, List, [], ◌∷◌, map, filter, reverse, find, is_some, Option, None, Some, MatchOption, ⊤}
+use Rattle.std.specs.Prelude.{◌≡◌, ℕ, zero, suc, ◌==◌, Bool, true, false, not, ◌&&◌, ◌||◌, count_by, List, [], ◌∷◌, map, filter, reverse, find, is_some, Option, None, Some, MatchOption, ⊤}
 use Rattle.std.specs.List.{Contains, list_any, sum_by}
 use Rattle.jj_walks.specs.declared.graph.GraphEdge.{GraphEdge}
 use Rattle.jj_walks.specs.declared.graph.GraphEdgeType.{GraphEdgeType}
@@ -54,6 +54,14 @@ given_nodes (Prioritized i ∷ h) = given_nodes h
 given_nodes (Read e ∷ h) = given_nodes h
 given_nodes (Gave e ∷ h) = e ∷ given_nodes h
 
+-- the id that was prioritised before all else
+abbrev pub first_wanted : {N ID : Type 0} → History N ID → Option ID
+first_wanted [] = None
+first_wanted (Prioritized i ∷ []) = Some i
+first_wanted (Prioritized i ∷ event ∷ h) = first_wanted (event ∷ h)
+first_wanted (Read e ∷ h) = first_wanted h
+first_wanted (Gave e ∷ h) = first_wanted h
+
 -- each node was given after those that had been read and have an edge to it
 abbrev pub GivesChildrenFirst : {N ID : Type 0} → (ID → ID → Bool) → History N ID → Type 0
 GivesChildrenFirst eq [] = ⊤
@@ -64,7 +72,27 @@ GivesChildrenFirst {N} {ID} eq (Gave e ∷ h) =
     → Contains (given_nodes h) c)
     × GivesChildrenFirst eq h
 
+-- by that many of these edges
+abbrev pub IsWay : {ID : Type 0} → (eq edge : ID → ID → Bool) → (from to : ID) → ℕ → Type 0
+IsWay eq edge from to zero = eq from to ≡ true
+IsWay {ID} eq edge from to (suc steps) = (i : ID) × (edge from i ≡ true) × IsWay eq edge i to steps
+
+-- by zero or more of them
+abbrev pub Reaches : {ID : Type 0} → (eq edge : ID → ID → Bool) → (from to : ID) → Type 0
+Reaches eq edge from to = (steps : ℕ) × IsWay eq edge from to steps
+
 module _ {N ID : Type 0} (eq : ID → ID → Bool) where
+  -- whether one of the nodes has the first id, and an edge to the second that is not missing
+  abbrev pub has_edge : List (Entry N ID) → ID → ID → Bool
+  has_edge nodes i j = list_any (λ e. eq e.id i && list_any (leads_to eq j) e.edges) nodes
+
+  -- of nodes that were read, the newest first: none has an edge to itself, or to one read before
+  abbrev pub AreReadChildFirst : List (Entry N ID) → Type 0
+  AreReadChildFirst [] = ⊤
+  AreReadChildFirst (e ∷ older) =
+      ((f : Entry N ID) → Contains (e ∷ older) f → list_any (leads_to eq f.id) e.edges ≡ false)
+      × AreReadChildFirst older
+
   -- the nodes that were read and not given since
   abbrev pub held : History N ID → List (Entry N ID)
   held [] = []
@@ -98,12 +126,19 @@ module _ {N ID : Type 0} (eq : ID → ID → Bool) where
   abbrev pub last_free : History N ID → Option ID
   last_free h = find (is_free h) (reverse (targets_of (last_edges h)))
 
-  -- the node may be given next: it is held, no held node has an edge to it, and it is the last free
-  -- target, if one is free
+  -- the node may be given first: where nodes were read child-first, and an id was prioritised
+  -- before all else, it reaches this id
+  abbrev pub IsOfFirstBranch : History N ID → Entry N ID → Type 0
+  IsOfFirstBranch h e = AreReadChildFirst (read_nodes h) → (wanted : ID)
+      → first_wanted h ≡ Some wanted → Reaches eq (has_edge (read_nodes h)) e.id wanted
+
+  -- the node may be given next: it is held, no held node has an edge to it, it is the last free
+  -- target, if one is free, and may be given first, if it is the first
   pub record IsNext (h : History N ID) (e : Entry N ID) : Type 0 where
     pub held : held_at h e.id ≡ Some e
     pub childless : edges_to h e.id ≡ 0
     pub follows : MatchOption (last_free h) ⊤ (λ i. eq i e.id ≡ true)
+    pub first : given_nodes h ≡ [] → IsOfFirstBranch h e
 
   -- no node was read while one of its id was held, and each that was given was the next
   abbrev pub IsHistory : History N ID → Type 0

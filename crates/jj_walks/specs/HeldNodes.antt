@@ -10,6 +10,7 @@ use Rattle.jj_walks.specs.declared.held_nodes.HeldNodes.{HeldNodes}
 use Rattle.jj_walks.specs.declared.held_nodes.Ready.{Ready}
 use Rattle.jj_walks.specs.declared.held_nodes.Ready.TheVariants.{Node, Unread, Nothing}
 use Rattle.jj_walks.specs.Candidates.{AreToFollow, count_of, is_listed, is_zero}
+use Rattle.jj_walks.specs.Branches.{KeepsBranch}
 use Rattle.jj_walks.specs.Grouped.{Entry, History, Gave, IsHistory, edges_to, held_at, is_known, is_wanted, last_edges, targets_of}
 
 module _ {N ID : Type 0} where
@@ -33,9 +34,10 @@ module _ {N ID : Type 0} where
       pub listed : (i : ID) → is_zero (count i) ≡ true → is_listed eq candidates heads i ≡ true
       pub follows : AreToFollow eq count (targets_of (last_edges h)) candidates
 
-    abbrev pub Keeps : History N ID → HeldNodes N ID → Type 0
-    Keeps h s = KeepsHistory h (λ i. option_map listed_item (get eq s.nodes i))
-        (get eq s.counts) s.candidates.ids.items (deque_items s.candidates.heads)
+    pub record Keeps (h : History N ID) (s : HeldNodes N ID) : Type 0 where
+      pub history : KeepsHistory h (λ i. option_map listed_item (get eq s.nodes i))
+          (get eq s.counts) s.candidates.ids.items (deque_items s.candidates.heads)
+      pub branch : KeepsBranch eq h s.candidates
 
     -- what is taken next: the node, or what is known where none can be
     abbrev pub TakesNext : History N ID → Ready N ID → HeldNodes N ID → Type 0

@@ -6,6 +6,7 @@ pub mod Errors
 pub mod DfsOkSteps
 pub mod ReadyNodes
 pub mod Collecting
+pub mod Listed
 pub mod Reversed
 pub mod CommonNodes
 pub mod Marks
@@ -14,5 +15,7 @@ pub mod LookingAhead
 pub mod Chunks
 pub mod Grouped
 pub mod Candidates
+pub mod Branches
 pub mod HeldNodes
 pub mod GroupedSteps
+pub mod GroupedOrders

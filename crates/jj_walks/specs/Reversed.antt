@@ -1,8 +1,7 @@
 -- The reverse of a shown graph: its nodes from the last to the first, each with the edges that lead
 -- to it.
-use Rattle.std.specs.Prelude.{◌≡◌, Bool, List, [], ◌∷◌, ◌++◌, map, filter, reverse, Option, None, Some, if◌then◌else◌}
+use Rattle.std.specs.Prelude.{◌≡◌, Bool, List, [], ◌∷◌, ◌++◌, map, filter, reverse, if◌then◌else◌}
 use Rattle.std.specs.List.{AllZip, list_any}
-use Rattle.std.specs.HashMap.{HashMap, get}
 use Rattle.std.specs.Global.{Global}
 use Rattle.std.specs.declared.vec.Vec.{Vec}
 use Rattle.jj_walks.specs.declared.graph.GraphEdge.{GraphEdge}
@@ -54,12 +53,3 @@ module _ {N ID : Type 0} (clone : ID → ID → Type 0) (id : N → ID) where
   abbrev pub ShowsById : ShownGraph N N → ShownGraph N ID → Type 0
   ShowsById graph given = AllZip (λ want got. (got.0 ≡ want.0)
       × AllZip LeadsToId want.1 got.1) graph given
-
--- the edges that a map has for an id
-abbrev pub edges_of : {ID : Type 0} → Option (Vec (GraphEdge ID) Global) → List (GraphEdge ID)
-edges_of None = []
-edges_of (Some edges) = edges.items
-
-abbrev pub edges_at : {ID S : Type 0} → (ID → ID → Bool) → HashMap ID (Vec (GraphEdge ID) Global) S
-    → ID → List (GraphEdge ID)
-edges_at eq map id = edges_of (get eq map id)

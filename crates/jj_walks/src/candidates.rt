@@ -1,11 +1,14 @@
 //! The ids of a grouped graph that may be given next.
-ghost use Rattle.std.specs.Prelude.{◌≡◌, ◌<◌, ◌++◌, ◌∷◌, [], List, IfOk, OnOk, OnErr, MatchOption, IsTrue, true, false, option_to_list};
+ghost use Rattle.std.specs.Prelude.{◌≡◌, ◌⊎◌, ◌<◌, ◌++◌, ◌∷◌, ◌&&◌, ◌||◌, Bool, [], List, Option, None, IfOk, IsSome, OnOk, OnErr, MatchOption, IsTrue, true, false, option_to_list};
+ghost use Rattle.std.specs.List.{list_any};
 ghost use Rattle.std.specs.HashMap.{get};
 ghost use Rattle.std.specs.VecDeque.{deque_items};
+ghost use Rattle.jj_walks.specs.Branches.{AreCounts, Climbs, IsFirstBranch, IsUntaken, TakesHead, Unblocks, has_child};
 ghost use Rattle.jj_walks.specs.Candidates.{AreSameIds, AreToFollow, has_id, is_listed, is_zero, turns_left};
-ghost use Rattle.jj_walks.specs.Grouped.{targets_of};
+ghost use Rattle.jj_walks.specs.Grouped.{leads_to, targets_of};
 
 use crate::graph::GraphEdge;
+use crate::lists::push_at;
 use std::alloc::{AllocError, Global};
 use std::collections::{HashMap, VecDeque};
 use std::hash::Hash;
@@ -27,6 +30,7 @@ impl<ID: Hash + Eq + Clone + Drop> Candidates<ID> {
     pub fn new(alloc: Global) -> Self
         ensures ids { result.ids.items ≡ [] }
         ensures heads { deque_items result.heads ≡ [] }
+        ensures untaken { IsUntaken ID.eq (λ _ _. false) [] result }
     {
         Candidates {
             ids: Vec::new(alloc),
@@ -39,6 +43,8 @@ impl<ID: Hash + Eq + Clone + Drop> Candidates<ID> {
     pub fn push(&mut self, id: ID) -> Result<(), AllocError>
         ensures ids { OnOk result (self.new.ids.items ≡ self.old.ids.items ++ id ∷ []) }
         ensures heads { self.new.heads ≡ self.old.heads }
+        ensures blocked { self.new.blocked ≡ self.old.blocked }
+        ensures children { self.new.children ≡ self.old.children }
     {
         self.ids.push(id)?;
         Ok(())
@@ -49,9 +55,22 @@ impl<ID: Hash + Eq + Clone + Drop> Candidates<ID> {
         ensures heads { OnOk result (deque_items self.new.heads ≡ deque_items self.old.heads
             ++ id ∷ []) }
         ensures refused { OnErr result (deque_items self.new.heads ≡ deque_items self.old.heads) }
+        ensures blocked { self.new.blocked ≡ self.old.blocked }
+        ensures children { self.new.children ≡ self.old.children }
     {
         self.heads.push_back(id)?;
         Ok(())
+    }
+
+    /// Drops the head that was pushed last.
+    pub fn drop_head(&mut self)
+        ensures ids { self.new.ids ≡ self.old.ids }
+        ensures heads { (heads : List ID) (id : ID) → deque_items self.old.heads ≡ heads ++ id ∷ []
+            → deque_items self.new.heads ≡ heads }
+        ensures blocked { self.new.blocked ≡ self.old.blocked }
+        ensures children { self.new.children ≡ self.old.children }
+    {
+        self.heads.pop_back();
     }
 
     /// Makes the targets of a node that is given candidates.
@@ -72,16 +91,17 @@ impl<ID: Hash + Eq + Clone + Drop> Candidates<ID> {
 
     /// Remembers the node as a child of the targets of its edges.
     pub fn remember(&mut self, id: &ID, edges: &[GraphEdge<ID>]) -> Result<(), AllocError>
+        requires clones { (i j : ID) → ID.is_clone i j → IsTrue (ID.eq i j) }
         ensures ids { self.new.ids ≡ self.old.ids }
         ensures heads { self.new.heads ≡ self.old.heads }
+        ensures blocked { self.new.blocked ≡ self.old.blocked }
+        ensures children { OnOk result ((j i : ID) → has_child ID.eq self.new.children j i
+            ≡ (has_child ID.eq self.old.children j i
+            || (list_any (leads_to ID.eq j) edges.now && ID.eq id.now i))) }
     {
         for edge in edges {
             if !edge.is_missing() {
-                let child = id.clone()?;
-                self.children
-                    .entry(edge.target.clone()?)?
-                    .or_default()
-                    .push(child)?;
+                push_at(&mut self.children, edge.target.clone()?, id.clone()?)?;
             }
         }
         Ok(())
@@ -101,6 +121,13 @@ impl<ID: Hash + Eq + Clone + Drop> Candidates<ID> {
             → AreToFollow ID.eq (get ID.eq counts.now) targets self.old.ids.items
             → AreToFollow ID.eq (get ID.eq counts.now) targets
             (self.new.ids.items ++ option_to_list o)) }
+        ensures begun { IfOk result (λ o. IsUntaken ID.eq (λ _ _. false) [] self.old
+            → (o ≡ None) × IsUntaken ID.eq (λ _ _. false) [] self.new) }
+        ensures branch { IfOk result (λ o. (edge : ID → ID → Bool) (wanted : ID)
+            → AreCounts ID.eq edge (get ID.eq counts.now) wanted
+            → IsFirstBranch ID.eq edge wanted self.old
+            → IsSome o × Climbs ID.eq edge wanted (self.new.ids.items ++ option_to_list o)
+            self.new.blocked.items (has_child ID.eq self.new.children)) }
     {
         'turns: loop {
             let Some(id) = self.ids.pop() else {
@@ -126,8 +153,12 @@ impl<ID: Hash + Eq + Clone + Drop> Candidates<ID> {
             → is_listed ID.eq self.new.ids.items (deque_items self.new.heads) i ≡ true) }
         ensures falls { IfOk result (λ more. more ≡ true
             → turns_left self.new < turns_left self.old) }
+        ensures more { IfOk result (λ more. more ≡ true
+            → Unblocks ID.eq self.old self.new ⊎ TakesHead ID.eq self.old self.new) }
         ensures none { IfOk result (λ more. more ≡ false → (self.new.ids.items ≡ [])
-            × (deque_items self.new.heads ≡ [])) }
+            × (self.old.blocked.items ≡ []) × (self.new.blocked.items ≡ [])
+            × (deque_items self.old.heads ≡ []) × (deque_items self.new.heads ≡ [])
+            × (self.new.children ≡ self.old.children)) }
     {
         if let Some(id) = self.blocked.pop() {
             if let Some(mut children) = self.children.remove(&id) {

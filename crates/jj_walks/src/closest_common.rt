@@ -214,8 +214,10 @@ where
     requires lists { AlwaysReturns N.FnMut (λ a r.
         IfOk r (IsFiniteIterable NI.into_iter_gives NI.IntoIter.can_next NI.IntoIter.remaining))
         neighbors_fn }
-    requires set1 { IsFiniteIterable II1.into_iter_gives II1.IntoIter.can_next II1.IntoIter.remaining set1 }
-    requires set2 { IsFiniteIterable II2.into_iter_gives II2.IntoIter.can_next II2.IntoIter.remaining set2 }
+    requires set1 { IsFiniteIterable II1.into_iter_gives
+        II1.IntoIter.can_next II1.IntoIter.remaining set1 }
+    requires set2 { IsFiniteIterable II2.into_iter_gives
+        II2.IntoIter.can_next II2.IntoIter.remaining set2 }
     ensures closest { IfOk result (λ v. (xs ys : List T)
         × DrainsTo II1.into_iter_gives II1.IntoIter.next_gives set1 xs
         × DrainsTo II2.into_iter_gives II2.IntoIter.next_gives set2 ys
@@ -264,8 +266,10 @@ where
     requires lists { AlwaysReturns N.FnMut (λ a r.
         IfOk r (IsFiniteIterable NI.into_iter_gives NI.IntoIter.can_next NI.IntoIter.remaining))
         neighbors_fn }
-    requires set1 { IsFiniteIterable II1.into_iter_gives II1.IntoIter.can_next II1.IntoIter.remaining set1 }
-    requires set2 { IsFiniteIterable II2.into_iter_gives II2.IntoIter.can_next II2.IntoIter.remaining set2 }
+    requires set1 { IsFiniteIterable II1.into_iter_gives
+        II1.IntoIter.can_next II1.IntoIter.remaining set1 }
+    requires set2 { IsFiniteIterable II2.into_iter_gives
+        II2.IntoIter.can_next II2.IntoIter.remaining set2 }
     ensures closest { IfOk result (λ met. (xs ys : List T)
         × DrainsTo II1.into_iter_gives II1.IntoIter.next_gives set1 xs
         × DrainsTo II2.into_iter_gives II2.IntoIter.next_gives set2 ys

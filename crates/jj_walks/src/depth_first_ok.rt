@@ -32,7 +32,8 @@ where
 
     ghost use Rattle.jj_walks.specs.DfsOkSteps.{CanWalk, Steps, items_left};
 
-    ghost can_next = { λ s. CanWalk F.Fn N.FnMut NI.into_iter_gives NI.IntoIter.can_next NI.IntoIter.remaining s };
+    ghost can_next = { λ s. CanWalk F.Fn N.FnMut NI.into_iter_gives
+        NI.IntoIter.can_next NI.IntoIter.remaining s };
 
     ghost next_gives = { λ s r t.
         Steps F.Fn N.FnMut ID.eq NI.into_iter_gives NI.IntoIter.next_gives NI.IntoIter.can_next
@@ -82,7 +83,8 @@ where
             × CalledAt N.FnMut self.old.neighbors_fn node.now r self.new.neighbors_fn
             × DrainsTo NI.into_iter_gives NI.IntoIter.next_gives r xs
             × (self.new.work.items ≡ self.old.work.items ++ xs)) }
-        ensures visited { IfOk result (λ _. Updates ID.eq self.old.visited self.new.visited id true) }
+        ensures visited { IfOk result (λ _. Updates ID.eq self.old.visited
+            self.new.visited id true) }
         ensures count { IfOk result (λ _. contains ID.eq self.old.visited id ≡ false
             → hash_set_len self.new.visited ≡ hash_set_len self.old.visited + 1) }
         ensures small { hash_set_len self.old.visited < 2 ^ 63 }
@@ -120,7 +122,8 @@ where
     requires lists { AlwaysReturns N.FnMut (λ a r.
         IsFiniteIterable NI.into_iter_gives NI.IntoIter.can_next NI.IntoIter.remaining r)
         neighbors_fn }
-    requires start { IsFiniteIterable II.into_iter_gives II.IntoIter.can_next II.IntoIter.remaining start }
+    requires start { IsFiniteIterable II.into_iter_gives
+        II.IntoIter.can_next II.IntoIter.remaining start }
     ensures can_walk { IfOk result
         (CanWalk F.Fn N.FnMut NI.into_iter_gives NI.IntoIter.can_next NI.IntoIter.remaining) }
     ensures left { IfOk result (λ it. (xs : List (Result T E))

@@ -47,7 +47,8 @@ where
     requires lists { AlwaysReturns N.FnMut (λ a r.
         IsFiniteIterable NI.into_iter_gives NI.IntoIter.can_next NI.IntoIter.remaining r)
         neighbors_fn }
-    requires start { IsFiniteIterable II.into_iter_gives II.IntoIter.can_next II.IntoIter.remaining start }
+    requires start { IsFiniteIterable II.into_iter_gives
+        II.IntoIter.can_next II.IntoIter.remaining start }
     ensures order { IfOk result (λ v. (xs : List T)
         × DrainsTo II.into_iter_gives II.IntoIter.next_gives start (map Ok xs)
         × ((walk : Numbered T ID) (items : FailingGraph (Fault E))
@@ -133,7 +134,8 @@ where
     requires lists { AlwaysReturns N.FnMut (λ a r.
         IsFiniteIterable NI.into_iter_gives NI.IntoIter.can_next NI.IntoIter.remaining r)
         neighbors_fn }
-    requires start { IsFiniteIterable II.into_iter_gives II.IntoIter.can_next II.IntoIter.remaining start }
+    requires start { IsFiniteIterable II.into_iter_gives
+        II.IntoIter.can_next II.IntoIter.remaining start }
     ensures collected { IfOk result (λ found. (xs given : List T)
         × DrainsTo II.into_iter_gives II.IntoIter.next_gives start (map Ok xs)
         × (found.nodes.items ≡ map (λ x. Some x) given)

@@ -48,7 +48,8 @@ where
     S: Iterator<Item = Result<GraphNode<N, ID>, E>> + Drop,
     F: Fn(&N) -> &ID + Drop,
 {
-    /// A graph over this input, of which nothing was read or prioritised. `as_id` lends a node's id.
+    /// A graph over this input, of which nothing was read or prioritised. `as_id` lends a
+    /// node's id.
     pub fn new(alloc: Global, input: S, as_id: F) -> Self
         ensures input { result.input ≡ input }
         ensures as_id { result.as_id ≡ as_id }
@@ -129,7 +130,8 @@ where
             → S.next_gives self.old.input None self.new.input × (self.new.held ≡ self.old.held)) }
         ensures refused { IfErr result (λ error.
             ((h : History N ID) → Keeps ID.eq h self.old.held
-            → IsCause F.Fn ID.eq S.next_gives self.old.as_id h self.old.input error self.new.input)) }
+            → IsCause F.Fn ID.eq S.next_gives self.old.as_id h self.old.input error
+            self.new.input)) }
     {
         let (node, edges) = match self.input.next() {
             Some(Ok(item)) => item,

@@ -1,5 +1,5 @@
 //! The nodes of a grouped graph that were read and not yet given.
-ghost use Rattle.std.specs.Prelude.{◌≡◌, ◌↔◌, ◌+◌, ◌-◌, ◌||◌, ◌∷◌, [], IfOk, OnOk, OnErr, IsTrue, None, true, is_some, count_by, if◌then◌else◌};
+ghost use Rattle.std.specs.Prelude.{◌≡◌, ◌↔◌, ◌+◌, ◌-◌, ◌||◌, ◌∷◌, ◌++◌, [], List, IfOk, OnOk, OnErr, IsTrue, None, true, is_some, count_by, if◌then◌else◌};
 ghost use Rattle.std.specs.HashMap.{get, hash_map_len};
 ghost use Rattle.std.specs.List.{list_any};
 ghost use Rattle.std.specs.VecDeque.{deque_items};
@@ -66,7 +66,10 @@ impl<N: Drop, ID: Hash + Eq + Clone + Drop> HeldNodes<N, ID> {
         ensures nodes { self.new.nodes ≡ self.old.nodes }
     {
         self.candidates.push_head(id.clone()?)?;
-        count_none(&mut self.counts, id)?;
+        if let Err(refused) = count_none(&mut self.counts, id) {
+            self.candidates.drop_head();
+            return Err(refused);
+        }
         Ok(())
     }
 
@@ -123,6 +126,10 @@ fn list_head<ID: Hash + Eq + Clone + Drop>(
     ensures known { OnOk result ((i : ID) → is_some (get ID.eq counts.new i)
         ≡ (ID.eq id.now i || is_some (get ID.eq counts.old i))) }
     ensures ids { candidates.new.ids ≡ candidates.old.ids }
+    ensures blocked { candidates.new.blocked ≡ candidates.old.blocked }
+    ensures children { candidates.new.children ≡ candidates.old.children }
+    ensures heads { OnOk result ((more : List ID)
+        × (deque_items candidates.new.heads ≡ deque_items candidates.old.heads ++ more)) }
     ensures kept { OnOk result ((i : ID) → has_id ID.eq (deque_items candidates.old.heads) i ≡ true
         → has_id ID.eq (deque_items candidates.new.heads) i ≡ true) }
     ensures head { OnOk result ((i : ID) → ID.eq id.now i ≡ true

@@ -12,6 +12,7 @@ mod greatest_order;
 mod grouped;
 mod held_nodes;
 mod lazy_plan;
+mod lists;
 mod look_ahead;
 mod maximal;
 mod maximal_lists;

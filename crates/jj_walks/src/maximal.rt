@@ -78,7 +78,8 @@ where
     requires lists { AlwaysReturns N.FnMut (λ a r.
         IsFiniteIterable NI.into_iter_gives NI.IntoIter.can_next NI.IntoIter.remaining r)
         neighbors_fn }
-    requires start { IsFiniteIterable II.into_iter_gives II.IntoIter.can_next II.IntoIter.remaining start }
+    requires start { IsFiniteIterable II.into_iter_gives
+        II.IntoIter.can_next II.IntoIter.remaining start }
     requires clones { (x y : T) → T.is_clone x y → IsTrue (T.eq x y) }
     ensures heads { IfOk result (λ s. (xs : List T)
         × DrainsTo II.into_iter_gives II.IntoIter.next_gives start xs

@@ -1,16 +1,18 @@
 //! The reverse of a shown graph.
-ghost use Rattle.std.specs.Prelude.{◌≡◌, ◌++◌, ◌∷◌, [], IfOk, IfErr, List, OnOk, map, if◌then◌else◌};
+ghost use Rattle.std.specs.Prelude.{◌≡◌, ◌++◌, ◌∷◌, [], IfOk, IfErr, List, map, if◌then◌else◌};
 ghost use Rattle.std.specs.Fn.{FnReturnsAt};
 ghost use Rattle.std.specs.Global.{Global as global};
 ghost use Rattle.std.specs.Iterator.{Drains, IsFinite, Yields};
 ghost use Rattle.std.specs.declared.vec.Vec.{Vec as vec};
 ghost use Rattle.jj_walks.specs.Errors.{IfNode};
-ghost use Rattle.jj_walks.specs.Reversed.{ShowsById, edges_at, reversed_graph, shown_graph};
+ghost use Rattle.jj_walks.specs.Listed.{items_at};
+ghost use Rattle.jj_walks.specs.Reversed.{ShowsById, reversed_graph, shown_graph};
 ghost use denote.Ref.{Bor};
 
 use crate::graph::{GraphEdge, GraphNode};
+use crate::lists::push_at;
 use crate::walk_error::WalkError;
-use std::alloc::{AllocError, Global};
+use std::alloc::Global;
 use std::collections::HashMap;
 use std::hash::Hash;
 
@@ -57,7 +59,7 @@ where
                 target: source,
                 edge_type,
             };
-            add_edge(&mut incoming, target, back)?;
+            push_at(&mut incoming, target, back)?;
         }
         nodes.push(node)?;
     }
@@ -69,29 +71,15 @@ where
     Ok(reversed)
 }
 
-/// Puts an edge behind those that lead to the id.
-fn add_edge<ID: Hash + Eq + Drop>(
-    incoming: &mut Incoming<ID>,
-    id: ID,
-    edge: GraphEdge<ID>,
-) -> Result<(), AllocError>
-    ensures { OnOk result ((q : ID) → edges_at ID.eq incoming.new q
-        ≡ (if ID.eq id q then edges_at ID.eq incoming.old q
-        ++ edge ∷ [] else edges_at ID.eq incoming.old q)) }
-{
-    incoming.entry(id)?.or_default().push(edge)?;
-    Ok(())
-}
-
 /// Takes out the edges that lead to the id.
 fn take_edges<ID: Hash + Eq + Drop>(
     alloc: Global,
     incoming: &mut Incoming<ID>,
     id: &ID,
 ) -> Vec<GraphEdge<ID>>
-    ensures taken { result.items ≡ edges_at ID.eq incoming.old id.now }
-    ensures left { (q : ID) → edges_at ID.eq incoming.new q
-        ≡ (if ID.eq id.now q then [] else edges_at ID.eq incoming.old q) }
+    ensures taken { result.items ≡ items_at ID.eq incoming.old id.now }
+    ensures left { (q : ID) → items_at ID.eq incoming.new q
+        ≡ (if ID.eq id.now q then [] else items_at ID.eq incoming.old q) }
 {
     match incoming.remove(id) {
         Some(edges) => edges,

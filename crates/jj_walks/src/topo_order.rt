@@ -36,7 +36,8 @@ where
     requires lists { AlwaysReturns N.FnMut (λ a r.
         IsFiniteIterable NI.into_iter_gives NI.IntoIter.can_next NI.IntoIter.remaining r)
         neighbors_fn }
-    requires start { IsFiniteIterable II.into_iter_gives II.IntoIter.can_next II.IntoIter.remaining start }
+    requires start { IsFiniteIterable II.into_iter_gives
+        II.IntoIter.can_next II.IntoIter.remaining start }
     requires clones { (i j : ID) → ID.is_clone i j → IsTrue (ID.eq i j) }
     ensures order { IfOk result (λ v. (xs : List T)
         × DrainsTo II.into_iter_gives II.IntoIter.next_gives start xs
@@ -110,7 +111,8 @@ where
     requires lists { AlwaysReturns N.FnMut (λ a r.
         IsFiniteIterable NI.into_iter_gives NI.IntoIter.can_next NI.IntoIter.remaining r)
         neighbors_fn }
-    requires start { IsFiniteIterable II.into_iter_gives II.IntoIter.can_next II.IntoIter.remaining start }
+    requires start { IsFiniteIterable II.into_iter_gives
+        II.IntoIter.can_next II.IntoIter.remaining start }
     requires clones { (i j : ID) → ID.is_clone i j → IsTrue (ID.eq i j) }
     ensures order { IfOk result (λ v. (xs : List T)
         × DrainsTo II.into_iter_gives II.IntoIter.next_gives start xs

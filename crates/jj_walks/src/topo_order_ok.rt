@@ -39,7 +39,8 @@ where
     requires lists { AlwaysReturns N.FnMut (λ a r.
         IsFiniteIterable NI.into_iter_gives NI.IntoIter.can_next NI.IntoIter.remaining r)
         neighbors_fn }
-    requires start { IsFiniteIterable II.into_iter_gives II.IntoIter.can_next II.IntoIter.remaining start }
+    requires start { IsFiniteIterable II.into_iter_gives
+        II.IntoIter.can_next II.IntoIter.remaining start }
     requires clones { (i j : ID) → ID.is_clone i j → IsTrue (ID.eq i j) }
     ensures order { IfOk result (λ v. (xs : List T)
         × DrainsTo II.into_iter_gives II.IntoIter.next_gives start (map Ok xs)
@@ -128,7 +129,8 @@ where
     requires lists { AlwaysReturns N.FnMut (λ a r.
         IsFiniteIterable NI.into_iter_gives NI.IntoIter.can_next NI.IntoIter.remaining r)
         neighbors_fn }
-    requires start { IsFiniteIterable II.into_iter_gives II.IntoIter.can_next II.IntoIter.remaining start }
+    requires start { IsFiniteIterable II.into_iter_gives
+        II.IntoIter.can_next II.IntoIter.remaining start }
     requires clones { (i j : ID) → ID.is_clone i j → IsTrue (ID.eq i j) }
     ensures order { IfOk result (λ v. (xs : List T)
         × DrainsTo II.into_iter_gives II.IntoIter.next_gives start (map Ok xs)

@@ -3,3 +3,4 @@ pub mod Ordered
 pub mod Gaps
 pub mod Preorders
 pub mod Sound
+pub mod Grouping

@@ -1,4 +1,5 @@
 pub mod Listed
 pub mod Commits
+pub mod Branches
 pub mod Parents
 pub mod Gaps

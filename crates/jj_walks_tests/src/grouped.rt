@@ -196,3 +196,30 @@ fn grouped_orders(rt: HostRuntime) -> Result<(), Fail> {
     }
     Ok(())
 }
+
+/// A run that ends with an error, and is asked again.
+fn asks_after_the_end<R: Abort>(rt: &R, alloc: Global) -> Result<(), AllocError> {
+    let input = input_of(alloc, &[Node('A', &['A'])])?;
+    let mut nodes = TopoGroupedGraph::new(alloc, input.into_iter(), letter).stream();
+    let first = nodes.next();
+    assert!(rt; nodes.next().is_none());
+    assert!(rt; nodes.next().is_none());
+    match first {
+        Some(Err(GroupedGraphError::Memory)) => Err(AllocError),
+        Some(Err(GroupedGraphError::NotChildFirst)) => Ok(()),
+        _ => {
+            assert!(rt; false, "no error of a node that is its own child");
+            Ok(())
+        }
+    }
+}
+
+#[test]
+fn an_ended_run_answers_none(rt: HostRuntime) -> Result<(), Fail> {
+    let alloc = rt.alloc();
+    let first = asks_after_the_end(&rt, alloc);
+    if first.is_err() {
+        asks_after_the_end(&rt, alloc)?;
+    }
+    Ok(())
+}

@@ -67,6 +67,35 @@ const TWO_HEADS: FailingTable<'static> = &[
 const TWO_ROOTS: FailingTable<'static> = &[('B', &[Ok('A')]), ('D', &[Ok('C'), Ok('B')])];
 
 /// The nodes that an order gives, and the error with which it ends.
+/// The root is greater than its children.
+const GREATER_ROOT: FailingTable<'static> = &[
+    ('B', &[Ok('a')]),
+    ('C', &[Ok('B')]),
+    ('D', &[Ok('a')]),
+    ('E', &[Ok('D'), Ok('C')]),
+];
+
+/// Two ways from G to C, and one from there.
+const FORK: FailingTable<'static> = &[
+    ('B', &[Ok('A')]),
+    ('C', &[Ok('B')]),
+    ('D', &[Ok('C')]),
+    ('E', &[Ok('C')]),
+    ('F', &[Ok('D')]),
+    ('G', &[Ok('E'), Ok('F')]),
+];
+
+/// The same with a fork that is greater than its children, and a merge that is less than its
+/// parents.
+const TURNED_FORK: FailingTable<'static> = &[
+    ('B', &[Ok('A')]),
+    ('c', &[Ok('B')]),
+    ('d', &[Ok('c')]),
+    ('e', &[Ok('c')]),
+    ('f', &[Ok('e')]),
+    ('G', &[Ok('f'), Ok('d')]),
+];
+
 fn ordered(
     alloc: Global,
     table: FailingTable<'_>,
@@ -133,6 +162,9 @@ fn whole_orders<R: Abort>(rt: &R, alloc: Global) -> Result<(), AllocError> {
     orders_all(rt, alloc, NESTED, &[Ok('I')], 9)?;
     orders_all(rt, alloc, TWO_HEADS, &[Ok('F'), Ok('C')], 6)?;
     orders_all(rt, alloc, TWO_ROOTS, &[Ok('D')], 4)?;
+    orders_all(rt, alloc, GREATER_ROOT, &[Ok('E')], 5)?;
+    orders_all(rt, alloc, FORK, &[Ok('G')], 7)?;
+    orders_all(rt, alloc, TURNED_FORK, &[Ok('G')], 7)?;
     orders_all(rt, alloc, TWO_ROOTS, &[], 0)
 }
 

@@ -2,6 +2,7 @@
 #![tactic(auto)]
 
 pub mod ancestry;
+pub mod branches;
 pub mod callers;
 pub mod children_first;
 #[cfg(test)]

@@ -3,7 +3,8 @@ use Rattle.std.proofs.lemmas.Grind.{common_steps}
 use Rattle.std.proofs.lemmas.Iterator.{items_from_drains}
 use Rattle.std.proofs.lemmas.Iterator.Adapters.{YieldsList-from_vec}
 use Rattle.std.proofs.lemmas.List.{map-append, map-id}
-use Rattle.jj_walks.specs.Reversed.{edges_at, incoming_edges, shown_graph}
+use Rattle.jj_walks.specs.Listed.{items_at}
+use Rattle.jj_walks.specs.Reversed.{incoming_edges, shown_graph}
 use Rattle.jj_walks.proofs.FailingOrders.{ok-push, Yields-push}
 use Rattle.jj_walks.proofs.Reversing.{leads_turned, leads_nothing, leads_entered, leads_left, shows_more, shows_all}
 use Rattle.jj_walks.proofs.Walking.{returned}
@@ -35,7 +36,7 @@ loop-item-preserved g c =
         ap (λ x. c.loop-item.yielded ++ x ∷ []) c.in-Ok.is ∙ ok-push c.loop-item.yielded before.0 c.in-Ok.item before.1,
         pushed ∙ ap (λ l. l ++ c.in-Ok.item.0 ∷ []) before.2 ∙ sym (map-append (λ x. x.0) before.0 (c.in-Ok.item ∷ [])),
         λ id shows q.
-            leads_entered g.ID.PartialEq.eq g.ID.Clone.is_clone id before.0 c.in-Ok.item c.loop-edge.yielded (edges_at g.ID.PartialEq.eq c.loop-edge.incoming q) q all
+            leads_entered g.ID.PartialEq.eq g.ID.Clone.is_clone id before.0 c.in-Ok.item c.loop-edge.yielded (items_at g.ID.PartialEq.eq c.loop-edge.incoming q) q all
             (c.loop-edge.invariant.turned id shows (incoming_edges g.ID.PartialEq.eq q (shown_graph before.0)) q (before.3 id shows q)),
       );
     }
@@ -44,7 +45,7 @@ pub loop-edge-init : goal.loop-edge-init
 loop-edge-init g c = record {
   can = tt;
   finite = tt;
-  turned = λ id shows before q k. leads_nothing g.ID.PartialEq.eq g.ID.Clone.is_clone id before (edges_at g.ID.PartialEq.eq c.loop-item.incoming q) k;
+  turned = λ id shows before q k. leads_nothing g.ID.PartialEq.eq g.ID.Clone.is_clone id before (items_at g.ID.PartialEq.eq c.loop-item.incoming q) k;
 }
 
 pub loop-edge-preserved : goal.loop-edge-preserved
@@ -54,9 +55,9 @@ loop-edge-preserved g c = record {
   turned = λ id shows before q k.
       let its_id : c.as_id.result.now ≡ id c.in-Ok.item.0 = shows c.in-Ok.item.0 c.as_id.result (returned g.F.Fn c.as_id.ensures) in
       leads_turned g.ID.PartialEq.eq g.ID.Clone.is_clone id before c.loop-edge.yielded c.in-Some-edge.edge c.in-Ok.item.0 c.in_ok-source.source q
-      (edges_at g.ID.PartialEq.eq c.loop-edge.incoming q) (edges_at g.ID.PartialEq.eq c.add_edge.new.incoming q)
+      (items_at g.ID.PartialEq.eq c.loop-edge.incoming q) (items_at g.ID.PartialEq.eq c.push_at.new.lists q)
       (subst (λ i. g.ID.Clone.is_clone i c.in_ok-source.source) its_id c.in_ok-source.ensures.cases)
-      (c.in_ok-add_edge.ensures q) (c.loop-edge.invariant.turned id shows before q k);
+      (c.in_ok-push_at.ensures q) (c.loop-edge.invariant.turned id shows before q k);
 }
 
 pub returns-in-Err-clause-refused : goal.returns-in-Err-clause-refused
@@ -93,10 +94,10 @@ loop-node-preserved g c =
       λ id shows.
           let known = before.4 id shows in
           let its_id : c.as_id-in-Some-pop.result.now ≡ id c.in-Some-pop.node = shows c.in-Some-pop.node c.as_id-in-Some-pop.result (returned g.F.Fn c.as_id-in-Some-pop.ensures) in
-          let taken : c.take_edges-edges.result.items ≡ edges_at g.ID.PartialEq.eq c.loop-node.incoming (id c.in-Some-pop.node) =
-          c.take_edges-edges.ensures.taken ∙ ap (edges_at g.ID.PartialEq.eq c.loop-node.incoming) its_id in (
+          let taken : c.take_edges-edges.result.items ≡ items_at g.ID.PartialEq.eq c.loop-node.incoming (id c.in-Some-pop.node) =
+          c.take_edges-edges.ensures.taken ∙ ap (items_at g.ID.PartialEq.eq c.loop-node.incoming) its_id in (
             λ q. leads_left g.ID.PartialEq.eq g.ID.Clone.is_clone id c.in-Some-pop.node before.1 (incoming_edges g.ID.PartialEq.eq q (shown_graph before.0)) c.as_id-in-Some-pop.result.now q
-                (edges_at g.ID.PartialEq.eq c.loop-node.incoming q) (edges_at g.ID.PartialEq.eq c.take_edges-edges.new.incoming q) its_id (c.take_edges-edges.ensures.left q) (known.0 q),
+                (items_at g.ID.PartialEq.eq c.loop-node.incoming q) (items_at g.ID.PartialEq.eq c.take_edges-edges.new.incoming q) its_id (c.take_edges-edges.ensures.left q) (known.0 q),
             shows_more g.ID.PartialEq.eq g.ID.Clone.is_clone id (shown_graph before.0) before.1 c.in-Some-pop.node c.take_edges-edges.result c.loop-node.reversed.items c.push-in-Some-pop.new.self.items pushed
                 (rw taken (known.0 (id c.in-Some-pop.node))) known.1,
           ),

@@ -1,4 +1,4 @@
-use Rattle.std.proofs.Common.{◌≡◌, ◌++◌, ◌∷◌, [], Ok, Err, Some, None, map, refl, sym, ◌∙◌, ap, inl, inr}
+use Rattle.std.proofs.Common.{◌≡◌, ◌++◌, ◌∷◌, [], Ok, Err, map, refl, ◌∙◌, ap, inl, inr}
 use Rattle.jj_walks.specs.Walk.{DrainsTo}
 use Rattle.jj_walks.proofs.FailingOrders.{Yields-push}
 use Rattle.jj_walks.proofs.LazyPlans.{plan_starts}

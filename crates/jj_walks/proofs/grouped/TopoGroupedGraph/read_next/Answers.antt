@@ -15,7 +15,7 @@ returns-then-is_held-clause-refused g c = λ h k.
     record { same = refl; id = (c.as_id.result, returned g.F.Fn c.as_id.ensures, c.requires.clones c.as_id.result.now c.in_ok-id.id c.in_ok-id.ensures.cases) } in
     let has : is_some (get g.ID.PartialEq.eq c.args.self.now.held.nodes c.in_ok-id.id) ≡ true = sym c.is_held.ensures ∙ c.if-is_held.true in
     let held : is_some (held_at g.ID.PartialEq.eq h c.in_ok-id.id) ≡ true =
-    sym (is_some-mapped item_of (held_at g.ID.PartialEq.eq h c.in_ok-id.id)) ∙ ap is_some (sym (k.nodes c.in_ok-id.id)) ∙ is_some-mapped listed_item (get g.ID.PartialEq.eq c.args.self.now.held.nodes c.in_ok-id.id) ∙ has in
+    sym (is_some-mapped item_of (held_at g.ID.PartialEq.eq h c.in_ok-id.id)) ∙ ap is_some (sym (k.history.nodes c.in_ok-id.id)) ∙ is_some-mapped listed_item (get g.ID.PartialEq.eq c.args.self.now.held.nodes c.in_ok-id.id) ∙ has in
     let step = rw c.in-Some-Ok.field-0-is at c.in-Some-Ok.ensures.steps in
     (item, e, step, entry, held)
 

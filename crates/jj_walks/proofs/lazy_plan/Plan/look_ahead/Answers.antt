@@ -1,4 +1,4 @@
-use Rattle.std.proofs.Common.{rules, arith, ◌≡◌, ◌<◌, ℕ, List, [], ◌∷◌, map, reverse, length, sym, ◌∙◌, ap, subst, refl, inl, inr}
+use Rattle.std.proofs.Common.{◌≡◌, map, reverse, ◌∙◌, ap, subst, refl, inl, inr}
 use Rattle.std.specs.Fn.{Called}
 use Rattle.std.proofs.lemmas.List.{reverse-reverse}
 use Rattle.jj_walks.proofs.Errors.{node_weaker}

@@ -1,4 +1,4 @@
-use Rattle.std.proofs.Common.{rules, arith, ◌≡◌, ◌++◌, ℕ, List, [], ◌∷◌, true, false, Some, None, map, sym, ◌∙◌, ap, subst, refl, inl, inr}
+use Rattle.std.proofs.Common.{rules, arith, ◌≡◌, [], true, false, sym, ◌∙◌, subst, refl, inr}
 use Rattle.std.specs.Fn.{Called}
 use Rattle.std.specs.HashSet.{contains}
 use Rattle.std.proofs.lemmas.Grind.{common_steps}

@@ -1,4 +1,4 @@
-use Rattle.std.proofs.Common.{rules, arith, ◌≡◌, ◌≤◌, ◌+◌, ◌++◌, ℕ, List, [], ◌∷◌, true, Some, None, map, suc, length, length-append, sym, ◌∙◌, ap, subst, refl, inl, inr}
+use Rattle.std.proofs.Common.{rules, arith, ◌≡◌, ◌≤◌, ◌+◌, ◌++◌, List, [], ◌∷◌, true, None, suc, length, length-append, sym, ◌∙◌, ap, refl}
 use Rattle.std.proofs.lemmas.Grind.{common_steps}
 use Rattle.jj_walks.proofs.LazyPlans.{left_nodes, plan_same, plan_one, plan_failed, ok_weaker}
 use Rattle.jj_walks.proofs.lazy_plan.Plan.refill.Goals as goal

@@ -1,4 +1,4 @@
-use Rattle.std.proofs.Common.{rules, ◌≡◌, ◌∙◌, sym, refl, true, false, true≢false, Some, None, Ok, Err}
+use Rattle.std.proofs.Common.{◌∙◌, sym, refl, true≢false}
 use Rattle.jj_walks.proofs.topo_order_lazy.TopoOrderReverseLazyIterator.next.Goals as goal
 
 pub returns-in-Ok-Some-clause-steps : goal.returns-in-Ok-Some-clause-steps

@@ -1,0 +1,140 @@
+//! A caller over a list of commits that keeps branches together, the wanted one first.
+ghost use Rattle.std.specs.Prelude.{◌≡◌, ◌⊎◌, List, IfOk, IfErr, Ok, Some, eqb, map, true};
+ghost use denote.Ref.{Bor};
+ghost use Rattle.jj_walks.specs.declared.grouped.GroupedGraphError.TheVariants.{Memory};
+ghost use Rattle.jj_walks.specs.GroupedOrders.{IsGroupedOrder, IsWhole, has_node};
+ghost use Rattle.jj_walks_tests.specs.declared.commits.Commit.{Commit as commit};
+ghost use Rattle.jj_walks_tests.specs.Branches.{ShowsCommits, nodes_of, parent_edge, parent_edges};
+
+use crate::commits::{Commit, commit_of};
+use jj_walks::graph::{GraphEdge, GraphNode, GroupedGraphError, TopoGroupedGraph};
+use std::alloc::{AllocError, Global};
+
+/// The edge to a parent, missing where the list has no such commit.
+fn parent_edge(commits: &[Commit], id: u64) -> GraphEdge<u64>
+    ensures { result ≡ parent_edge commits.now id }
+{
+    match commit_of(commits, id) {
+        Some(_) => GraphEdge::direct(id),
+        None => GraphEdge::missing(id),
+    }
+}
+
+fn parent_edges(
+    alloc: Global,
+    commits: &[Commit],
+    commit: &Commit,
+) -> Result<Vec<GraphEdge<u64>>, AllocError>
+    ensures { IfOk result (λ edges. edges.items ≡ parent_edges commits.now commit.now) }
+{
+    let mut edges = Vec::new(alloc);
+    for parent in &commit.parents {
+        edges.push(parent_edge(commits, *parent))?;
+    }
+    Ok(edges)
+}
+
+/// The commits with their edges, as an input that never fails.
+fn shown_commits<'a>(
+    alloc: Global,
+    commits: &'a [Commit],
+) -> Result<Vec<Result<GraphNode<&'a Commit, u64>, u64>>, AllocError>
+    ensures { IfOk result (λ items. (shown : List (Bor commit))
+        × (map (λ c. c.now) shown ≡ commits.now)
+        × ShowsCommits commits.now shown items.items) }
+{
+    let mut items = Vec::new(alloc);
+    for commit in commits {
+        let edges = parent_edges(alloc, commits, commit)?;
+        items.push(Ok((commit, edges)))?;
+    }
+    Ok(items)
+}
+
+fn commit_id<'a, 'b>(commit: &'b &'a Commit) -> &'b u64
+    ensures { result.now ≡ commit.now.now.id }
+{
+    &commit.id
+}
+
+/// The commits, each after all that have it as a parent, and branches together: after a commit
+/// comes the last of its parents that is ready, if one is. The first reaches the wanted one. Where
+/// each commit stands before its parents in the list, and the wanted one is in it, there is no
+/// error but want of memory.
+pub fn grouped_commits<'a>(
+    alloc: Global,
+    commits: &'a [Commit],
+    wanted: u64,
+) -> Result<Vec<&'a Commit>, GroupedGraphError<u64>>
+    ensures order { IfOk result (λ order. (shown : List (Bor commit))
+        × (map (λ c. c.now) shown ≡ commits.now)
+        × (IsWhole eqb (nodes_of commits.now shown) → IsGroupedOrder eqb
+        (nodes_of commits.now shown) (Some wanted) (nodes_of commits.now order.items))) }
+    ensures refused { IfErr result (λ error. (error ≡ Memory) ⊎ ((shown : List (Bor commit))
+        × (map (λ c. c.now) shown ≡ commits.now) × (IsWhole eqb (nodes_of commits.now shown)
+        → has_node eqb (nodes_of commits.now shown) wanted ≡ true → ⊥))) }
+{
+    let input = shown_commits(alloc, commits)?;
+    let mut graph = TopoGroupedGraph::new(alloc, input.into_iter(), commit_id);
+    graph.prioritize_branch(wanted)?;
+    let mut order = Vec::new(alloc);
+    for item in graph.stream() {
+        match item {
+            Ok((commit, _edges)) => order.push(commit)?,
+            Err(error) => return Err(error),
+        }
+    }
+    Ok(order)
+}
+
+#[cfg(test)]
+mod tests {
+    use super::grouped_commits;
+    use crate::commits::Commit;
+    use jj_walks::graph::GroupedGraphError;
+    use std::alloc::{AllocError, Global};
+    use std::process::Abort;
+    use std::test::Fail;
+
+    fn commit(alloc: Global, id: u64, parents: &[u64]) -> Result<Commit, AllocError> {
+        Ok(Commit {
+            time: 0,
+            id,
+            parents: parents.to_vec(alloc)?,
+            text: String::new(alloc),
+        })
+    }
+
+    /// 4 over 2, 3 over 1, 2 over 1: the branch of 3 comes first, where 3 is wanted.
+    fn wanted_first<R: Abort>(rt: &R, alloc: Global) -> Result<(), AllocError> {
+        let mut commits = Vec::new(alloc);
+        commits.push(commit(alloc, 4, &[2])?)?;
+        commits.push(commit(alloc, 3, &[1])?)?;
+        commits.push(commit(alloc, 2, &[1])?)?;
+        commits.push(commit(alloc, 1, &[])?)?;
+        let order = match grouped_commits(alloc, &commits, 3) {
+            Ok(order) => order,
+            Err(GroupedGraphError::Memory) => return Err(AllocError),
+            Err(_) => {
+                assert!(rt; false, "an error of a graph without fault");
+                return Ok(());
+            }
+        };
+        let mut ids = Vec::new(alloc);
+        for commit in &order {
+            ids.push(commit.id)?;
+        }
+        assert_eq!(rt; ids.as_slice(), [3, 4, 2, 1].as_slice());
+        Ok(())
+    }
+
+    #[test]
+    fn the_wanted_branch_comes_first(rt: HostRuntime) -> Result<(), Fail> {
+        let alloc = rt.alloc();
+        let first = wanted_first(&rt, alloc);
+        if first.is_err() {
+            wanted_first(&rt, alloc)?;
+        }
+        Ok(())
+    }
+}
