@@ -1,4 +1,5 @@
 pub mod Occurrences
+pub mod Windows
 pub mod RegexSearches
 pub mod FirstLines
 pub mod EmptyRegex

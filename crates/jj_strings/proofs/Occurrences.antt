@@ -27,3 +27,25 @@ occurs_to xs ys n at e o =
 
 pub folded-window : (xs : List ℕ) (n at : ℕ) → take n (drop at (folded xs)) ≡ folded (take n (drop at xs))
 folded-window xs n at = grind (arith, take-map, drop-map)
+
+-- what stands in a window stands in the whole
+pub occurs_outside : (xs ys : List ℕ) (n from j : ℕ) → from + n ≤ length xs
+    → OccursAt (take n (drop from xs)) ys j → OccursAt xs ys (from + j)
+occurs_outside xs ys n from j h o = record {
+  fits = omega (arith, o.fits, length-window xs n from h);
+  reads = λ i low.
+      let within : j + i < n = omega (arith, o.fits, length-window xs n from h) in
+      let at : from + j + i ≡ from + (j + i) = omega arith in
+      ap (λ (m : ℕ). get_or xs m 0) at ∙ sym (get_or-window xs n from (j + i) within) ∙ o.reads i low;
+}
+
+-- and the other way round, where the window holds all of it
+pub occurs_inside : (xs ys : List ℕ) (n from j : ℕ) → from + n ≤ length xs → j + length ys ≤ n
+    → OccursAt xs ys (from + j) → OccursAt (take n (drop from xs)) ys j
+occurs_inside xs ys n from j h holds o = record {
+  fits = omega (arith, holds, length-window xs n from h);
+  reads = λ i low.
+      let within : j + i < n = omega arith in
+      let at : from + (j + i) ≡ from + j + i = omega arith in
+      get_or-window xs n from (j + i) within ∙ ap (λ (m : ℕ). get_or xs m 0) at ∙ o.reads i low;
+}

@@ -17,6 +17,8 @@ mod lookup;
 #[cfg(test)]
 mod maps;
 #[cfg(test)]
+mod parts;
+#[cfg(test)]
 mod patterns;
 #[cfg(test)]
 mod searchers;

@@ -1,11 +1,82 @@
 //! Parts of bytes without regard to the case of ASCII letters.
-ghost use Rattle.std.specs.Prelude.{◌↔◌, ◌+◌, ◌≤◌, ℕ, IsTrue, length};
+ghost use Rattle.std.specs.Prelude.{◌≡◌, ◌↔◌, ◌+◌, ◌<◌, ◌≤◌, IsTrue, length, take};
 ghost use Rattle.bstr.specs.Find.{OccursAt};
 ghost use Rattle.bstr.specs.Text.{Contains};
 ghost use Rattle.jj_strings.specs.Folded.{folded};
 
-// Whether the bytes hold the text as a part, with ASCII letters in either case.
+use bstr::ByteSlice;
+
+/// The longest text that is looked for in windows of a few hundred bytes.
+const SHORT: usize = 256;
+
+const SHORT_WINDOW: usize = 512;
+
+/// The longest text that is looked for in windows at all; a longer one is compared place by place.
+const LONG: usize = 65_536;
+
+const LONG_WINDOW: usize = 131_072;
+
+// Whether the bytes hold the text as a part, with ASCII letters in either case. It takes time that
+// grows with the bytes alone where the text has no more than `LONG` bytes.
 pub(crate) fn contains_folded(bytes: &[u8], text: &[u8]) -> bool
+    ensures { IsTrue result ↔ Contains (folded bytes.now) (folded text.now) }
+{
+    if text.len() <= SHORT {
+        stands_in_arrays::<SHORT, SHORT_WINDOW>(bytes, text)
+    } else if text.len() <= LONG {
+        stands_in_arrays::<LONG, LONG_WINDOW>(bytes, text)
+    } else {
+        stands_at_a_place(bytes, text)
+    }
+}
+
+// Whether the bytes hold the text, with room on the stack for a text and a window of these lengths.
+#[inline(never)]
+fn stands_in_arrays<const TEXT: usize, const WINDOW: usize>(bytes: &[u8], text: &[u8]) -> bool
+    requires text { length text.now ≤ TEXT }
+    requires window { TEXT < WINDOW }
+    requires limit { WINDOW ≤ 131072 }
+    ensures { IsTrue result ↔ Contains (folded bytes.now) (folded text.now) }
+{
+    let mut lower = [0; TEXT];
+    let mut window = [0; WINDOW];
+    stands_in_windows(bytes, text, &mut lower, &mut window)
+}
+
+// Whether the bytes hold the text, looked for in windows of them that are written in lower case.
+fn stands_in_windows(bytes: &[u8], text: &[u8], lower: &mut [u8], window: &mut [u8]) -> bool
+    requires lower { length text.now ≤ length lower.old }
+    requires window { length text.now < length window.old }
+    ensures { IsTrue result ↔ Contains (folded bytes.now) (folded text.now) }
+{
+    fold_into(text, lower);
+    let lower = &lower[..text.len()];
+    let mut from = 0;
+    while from <= bytes.len() && text.len() <= bytes.len() - from {
+        let len = window.len().min(bytes.len() - from);
+        fold_into(&bytes[from..from + len], window);
+        let here = &window[..len];
+        if here.contains_str(lower) {
+            return true;
+        }
+        from += len - text.len() + 1;
+    }
+    false
+}
+
+// Writes the bytes in lower case to the front of others.
+fn fold_into(bytes: &[u8], folds: &mut [u8])
+    requires { length bytes.now ≤ length folds.old }
+    ensures front { take (length bytes.now) folds.new ≡ folded bytes.now }
+    ensures len { length folds.new ≡ length folds.old }
+{
+    for (at, byte) in bytes.iter().enumerate() {
+        folds[at] = byte.to_ascii_lowercase();
+    }
+}
+
+// Whether the bytes hold the text, compared at each place.
+fn stands_at_a_place(bytes: &[u8], text: &[u8]) -> bool
     ensures { IsTrue result ↔ Contains (folded bytes.now) (folded text.now) }
 {
     if text.len() > bytes.len() {

@@ -1,6 +1,6 @@
 use Rattle.std.proofs.Common.{ℕ, arith, below_more}
 use Rattle.std.proofs.lemmas.List.{length-map}
-use Rattle.jj_strings.proofs.str_util.folding.contains_folded.Goals as goal
+use Rattle.jj_strings.proofs.str_util.folding.stands_at_a_place.Goals as goal
 
 pub returns : goal.returns
 returns c = ((λ e. cc), (λ w. absurd (c.loop-at.invariant w.0 (omega (arith, w.1.fits, length-map {A = ℕ} {B = ℕ})) w.1)))

@@ -1,0 +1,52 @@
+-- A text that is looked for in windows of bytes, where both are written without case.
+use Rattle.std.proofs.Common.{◌≡◌, ◌∙◌, ℕ, ◌+◌, ◌-◌, ◌<◌, ◌≤◌, ◌⊎◌, inl, inr, List, length, take, drop, sym, ap, subst, arith}
+use Rattle.std.proofs.lemmas.List.{length-map}
+use Rattle.std.proofs.lemmas.Bool.{cases_lt}
+use Rattle.bstr.specs.Find.{OccursAt}
+use Rattle.bstr.specs.Text.{Contains}
+use Rattle.jj_strings.specs.Folded.{folded}
+use Rattle.jj_strings.proofs.Occurrences.{length-window, folded-window, occurs_outside, occurs_inside}
+
+-- the front of a window that holds so many bytes in lower case
+pub window_is : (bytes window : List ℕ) (n m from : ℕ) → m ≡ n → from + n ≤ length bytes
+    → take (length (take m (drop from bytes))) window ≡ folded (take m (drop from bytes))
+    → take n window ≡ take n (drop from (folded bytes))
+window_is bytes window n m from same h front =
+    let len : length (take m (drop from bytes)) ≡ n =
+    length-window bytes m from (omega arith) ∙ same in
+    ap (λ (k : ℕ). take k window) (sym len) ∙ front ∙ sym (folded-window bytes m from)
+    ∙ ap (λ (k : ℕ). take k (drop from (folded bytes))) same
+
+module _ (bytes text here lower : List ℕ) (n from : ℕ) (within : from + n ≤ length bytes)
+    (is_here : here ≡ take n (drop from (folded bytes))) (is_lower : lower ≡ folded text) where
+  whole : from + n ≤ length (folded bytes)
+  whole = omega (arith, within, length-map {A = ℕ} {B = ℕ})
+
+  -- what is found in the window stands in the bytes
+  pub found_in_window : Contains here lower → Contains (folded bytes) (folded text)
+  found_in_window found =
+      let at = subst (λ l. OccursAt here l found.0) is_lower found.1 in (
+        from + found.0,
+        occurs_outside (folded bytes) (folded text) n from found.0 whole
+            (subst (λ l. OccursAt l (folded text) found.0) is_here at),
+      )
+
+  -- where nothing is found, the text stands at no place from which it lies in the window
+  pub none_in_window : (Contains here lower → ⊥) → length text ≤ n
+      → ((k : ℕ) → k < from → OccursAt (folded bytes) (folded text) k → ⊥)
+      → (k : ℕ) → k < from + (n - length text + 1) → OccursAt (folded bytes) (folded text) k → ⊥
+  none_in_window none shorter before k low o = by_place (cases_lt k from)
+    where
+      by_place : (k < from) ⊎ (from ≤ k) → ⊥
+      by_place (inl earlier) = before k earlier o
+      by_place (inr later) =
+          let j : ℕ = k - from in
+          let k_is : k ≡ from + j = omega arith in
+          let fits : j + length (folded text) ≤ n = omega (arith, length-map {A = ℕ} {B = ℕ}) in
+          let inside = occurs_inside (folded bytes) (folded text) n from j whole fits
+          (subst (OccursAt (folded bytes) (folded text)) k_is o) in
+          none (
+            j,
+            subst (λ l. OccursAt here l j) (sym is_lower)
+                (subst (λ l. OccursAt l (folded text) j) (sym is_here) inside),
+          )
