@@ -4,6 +4,7 @@
 // more, when there is memory.
 #![tactic(auto)]
 
+pub mod callers;
 #[cfg(test)]
 mod expressions;
 #[cfg(test)]

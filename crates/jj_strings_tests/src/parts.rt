@@ -40,6 +40,10 @@ fn long_parts<R: Abort>(rt: &R, alloc: Global) -> Result<(), AllocError> {
     for length in LENGTHS {
         let text = letters(alloc, "a", length, "b")?;
         let part = matcher(rt, alloc, "substring-i", text.as_str())?;
+        let found = letters(alloc, "A", length.saturating_add(40), "B")?;
+        assert!(rt; part.is_match(alloc, found.as_str())?, "{length}");
+        let missed = letters(alloc, "A", length.saturating_add(40), "C")?;
+        assert!(rt; !part.is_match(alloc, missed.as_str())?, "{length}");
         let found = letters(alloc, "A", length, "AB")?;
         assert!(rt; part.is_match(alloc, found.as_str())?, "{length}");
         let missed = letters(alloc, "A", length, "AC")?;

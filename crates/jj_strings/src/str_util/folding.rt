@@ -6,6 +6,9 @@ ghost use Rattle.jj_strings.specs.Folded.{folded};
 
 use bstr::ByteSlice;
 
+/// Where a text can stand at fewer places than this, it is compared at each.
+const FEW: usize = 16;
+
 /// The longest text that is looked for in windows of a few hundred bytes.
 const SHORT: usize = 256;
 
@@ -21,12 +24,12 @@ const LONG_WINDOW: usize = 131_072;
 pub(crate) fn contains_folded(bytes: &[u8], text: &[u8]) -> bool
     ensures { IsTrue result ↔ Contains (folded bytes.now) (folded text.now) }
 {
-    if text.len() <= SHORT {
-        stands_in_arrays::<SHORT, SHORT_WINDOW>(bytes, text)
-    } else if text.len() <= LONG {
-        stands_in_arrays::<LONG, LONG_WINDOW>(bytes, text)
-    } else {
+    if bytes.len().saturating_sub(text.len()) < FEW || LONG < text.len() {
         stands_at_a_place(bytes, text)
+    } else if text.len() <= SHORT {
+        stands_in_arrays::<SHORT, SHORT_WINDOW>(bytes, text)
+    } else {
+        stands_in_arrays::<LONG, LONG_WINDOW>(bytes, text)
     }
 }
 
