@@ -95,7 +95,7 @@ module _ {T : Type 0} where
     count = count_by (eq v)
 
     -- what follows an odd number of terms changes sides
-    signed_count-append : (m xs : List T) → length m % 2 ≡ 1 → signed_count eq (m ++ xs) v ≡ signed_count eq m v -ℤ signed_count eq xs v
+    pub signed_count-append : (m xs : List T) → length m % 2 ≡ 1 → signed_count eq (m ++ xs) v ≡ signed_count eq m v -ℤ signed_count eq xs v
     signed_count-append m xs odd =
         let f : T → ℕ = λ x. cond (eq v x) 1 0 in
         let a : count_by (eq v) (adds (m ++ xs)) ≡ count_by (eq v) (adds m) + count_by (eq v) (removes xs) = ap (count_by (eq v)) (adds-append_odd m xs odd) ∙ sum_by-append f (adds m) (removes xs) in

@@ -37,14 +37,14 @@ impl Model for ConflictLabels {
     ghost invariant = { λ l. AreNormal (map string_bytes l.labels) };
 }
 
-/// Whether there is one label alone, or each is empty.
+// Whether there is one label alone, or each is empty.
 fn say_nothing(labels: &[String]) -> bool
     ensures { result ≡ say_nothing (map string_bytes labels.now) }
 {
     labels.len() < 2 || are_empty(labels)
 }
 
-/// Whether each label is empty.
+// Whether each label is empty.
 fn are_empty(labels: &[String]) -> bool
     ensures { result ≡ list_all (λ text. nat_lt (length text) 1) (map string_bytes labels.now) }
 {
@@ -66,6 +66,7 @@ impl ConflictLabels {
         }
     }
 
+    /// The labels of a merge; none where they are all empty, or there is one term alone.
     pub fn from_merge(labels: Merge<String>) -> Self
         ensures { result ≡ labels_of (map string_bytes labels) }
     {
@@ -87,6 +88,7 @@ impl ConflictLabels {
         ConflictLabels::from_merge(Merge::from_vec(labels))
     }
 
+    /// Whether there are labels.
     pub fn has_labels(&self) -> bool
         ensures { IsTrue result ↔ (0 < length self.now) }
     {
@@ -119,6 +121,7 @@ impl ConflictLabels {
         labels
     }
 
+    /// The labels of the terms in order; an empty slice where there are none.
     pub fn as_slice(&self) -> &[String]
         ensures { map string_bytes result.now ≡ self.now }
     {
@@ -167,7 +170,7 @@ impl ConflictLabels {
     }
 }
 
-/// The text of a label that is there and not empty.
+// The text of a label that is there and not empty.
 fn shown(label: Option<&String>) -> Option<&str>
     ensures { option_copied result ≡ nonempty
         (option_map string_bytes (option_copied label.entry)) }

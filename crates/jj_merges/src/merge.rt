@@ -110,7 +110,7 @@ impl<T> Merge<T> {
         self.as_slice().iter()
     }
 
-    /// The terms, for writing.
+    // The terms, for writing.
     fn as_mut_slice(&mut self) -> &mut [T]
         ensures* writes_back { sem 𝓛 (lends_slice T.row self.entry result) }
         ensures terms { result.now ≡ self.old }

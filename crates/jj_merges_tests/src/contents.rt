@@ -6,7 +6,7 @@ use std::alloc::{AllocError, Global};
 use std::process::Abort;
 use std::test::Fail;
 
-/// A merge of these texts, which commas part.
+// A merge of these texts, which commas part.
 fn texts<R: Abort>(rt: &R, alloc: Global, text: &str) -> Result<Merge<String>, AllocError> {
     let mut terms = Vec::new(alloc);
     for term in text.split(',') {
@@ -16,7 +16,7 @@ fn texts<R: Abort>(rt: &R, alloc: Global, text: &str) -> Result<Merge<String>, A
     Ok(Merge::from_vec(SmallVec::from_vec(terms)))
 }
 
-/// Whether a merge has the digest of the list of its terms.
+// Whether a merge has the digest of the list of its terms.
 fn is_hashed_as_list<R: Abort>(rt: &R, alloc: Global, text: &str) -> Result<bool, AllocError> {
     let whole = texts(rt, alloc, text)?;
     Ok(blake2b_hash(alloc, &whole)? == blake2b_hash(alloc, &whole.as_slice())?)
@@ -34,7 +34,7 @@ fn content_is_the_list(rt: HostRuntime) -> Result<(), Fail> {
     Ok(())
 }
 
-/// The compact text of a merge's JSON.
+// The compact text of a merge's JSON.
 fn json<R: Abort>(rt: &R, alloc: Global, text: &str) -> Result<String, ToJsonError> {
     Ok(texts(rt, alloc, text)?.to_json(alloc)?.to_string(alloc)?)
 }

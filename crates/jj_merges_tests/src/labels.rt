@@ -6,7 +6,7 @@ use std::alloc::{AllocError, Global};
 use std::process::Abort;
 use std::test::Fail;
 
-/// The parts of a text, which commas part.
+// The parts of a text, which commas part.
 fn parts(alloc: Global, texts: &str) -> Result<Vec<String>, AllocError> {
     let mut labels = Vec::new(alloc);
     for text in texts.split(',') {
@@ -15,14 +15,14 @@ fn parts(alloc: Global, texts: &str) -> Result<Vec<String>, AllocError> {
     Ok(labels)
 }
 
-/// Labels of these texts, which commas part.
+// Labels of these texts, which commas part.
 fn labels_of<R: Abort>(rt: &R, alloc: Global, texts: &str) -> Result<ConflictLabels, AllocError> {
     let labels = parts(alloc, texts)?;
     assert!(rt; labels.len() % 2 == 1);
     Ok(ConflictLabels::from_vec(SmallVec::from_vec(labels)))
 }
 
-/// The same by way of a merge.
+// The same by way of a merge.
 fn merged<R: Abort>(rt: &R, alloc: Global, texts: &str) -> Result<ConflictLabels, AllocError> {
     let labels = parts(alloc, texts)?;
     assert!(rt; labels.len() % 2 == 1);
@@ -30,7 +30,7 @@ fn merged<R: Abort>(rt: &R, alloc: Global, texts: &str) -> Result<ConflictLabels
     Ok(ConflictLabels::from_merge(labels))
 }
 
-/// Whether labels of a vector are those of a merge, their own clone, and of these texts.
+// Whether labels of a vector are those of a merge, their own clone, and of these texts.
 fn agree<R: Abort>(rt: &R, alloc: Global, texts: &str) -> Result<bool, AllocError> {
     let labels = labels_of(rt, alloc, texts)?;
     let shown = labels.as_slice() == parts(alloc, texts)?.as_slice();

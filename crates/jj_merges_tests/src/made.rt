@@ -5,7 +5,7 @@ use std::alloc::{AllocError, Global};
 use std::process::Abort;
 use std::test::Fail;
 
-/// A merge of these removes and one more add than removes.
+// A merge of these removes and one more add than removes.
 fn of_sides<R: Abort>(
     rt: &R,
     alloc: Global,
@@ -17,7 +17,7 @@ fn of_sides<R: Abort>(
     Merge::from_removes_adds(alloc, removes, adds)
 }
 
-/// The digits of a text, or none for `-`.
+// The digits of a text, or none for `-`.
 fn options(alloc: Global, text: &str) -> Result<Vec<Option<u32>>, AllocError> {
     let mut terms = Vec::new(alloc);
     for byte in text.as_bytes() {
@@ -27,7 +27,7 @@ fn options(alloc: Global, text: &str) -> Result<Vec<Option<u32>>, AllocError> {
     Ok(terms)
 }
 
-/// Removes, adds, and the terms that they make. A `-` is no value.
+// Removes, adds, and the terms that they make. A `-` is no value.
 const SIDES: [&str; 8] = [
     "/0/0",
     "0/01/001",
@@ -68,7 +68,7 @@ fn trivial_sides<R: Abort>(rt: &R, alloc: Global) -> Result<Merge<Option<u32>>, 
     of_sides(rt, alloc, options(alloc, "0")?, options(alloc, "01")?)
 }
 
-/// A merge with a trivial outcome is not resolved.
+// A merge with a trivial outcome is not resolved.
 #[test]
 fn as_resolved(rt: HostRuntime) -> Result<(), Fail> {
     let alloc = rt.alloc();
@@ -78,7 +78,7 @@ fn as_resolved(rt: HostRuntime) -> Result<(), Fail> {
     Ok(())
 }
 
-/// Removed values, added values, and their legacy form.
+// Removed values, added values, and their legacy form.
 const LEGACY: [&str; 8] = [
     "/0/0",
     "0/12/102",
@@ -90,7 +90,7 @@ const LEGACY: [&str; 8] = [
     "//-",
 ];
 
-/// Whether these lists make these terms, and the terms make these lists.
+// Whether these lists make these terms, and the terms make these lists.
 fn is_legacy_form(
     alloc: Global,
     removes: &str,
@@ -117,7 +117,7 @@ fn legacy_form(rt: HostRuntime) -> Result<(), Fail> {
     Ok(())
 }
 
-/// A merge of a first side and of diffs of these values.
+// A merge of a first side and of diffs of these values.
 fn of_diffs(alloc: Global, first: u32, pairs: &[(u32, u32)]) -> Result<Merge<u32>, AllocError> {
     let mut diffs = Vec::new(alloc);
     for (before, after) in pairs {
@@ -161,7 +161,7 @@ fn builder(rt: HostRuntime) -> Result<(), Fail> {
     Ok(())
 }
 
-/// A builder that holds these terms, beside a clone.
+// A builder that holds these terms, beside a clone.
 fn twins(alloc: Global, text: &str) -> Result<(MergeBuilder<u32>, MergeBuilder<u32>), AllocError> {
     let mut builder = MergeBuilder::default(alloc);
     builder.extend(alloc, digits(alloc, text)?)?;

@@ -46,8 +46,8 @@ fn sides(rt: HostRuntime) -> Result<(), Fail> {
     Ok(())
 }
 
-/// A resolved merge lies in the value, so all of this is done with every request for memory
-/// refused.
+// A resolved merge lies in the value, so all of this is done with every request for memory
+// refused.
 #[test]
 fn resolved_takes_no_memory(rt: HostRuntime) {
     let alloc = rt.alloc();
@@ -117,7 +117,7 @@ fn swap_remove(rt: HostRuntime) -> Result<(), Fail> {
     Ok(())
 }
 
-/// The images of a merge by each way to make them, as one text.
+// The images of a merge by each way to make them, as one text.
 fn images<R: Abort>(rt: &R, alloc: Global, text: &str) -> Result<String, AllocError> {
     let whole = merge(rt, alloc, text)?;
     let twice = whole.map(alloc, |x| x.wrapping_mul(2))?;

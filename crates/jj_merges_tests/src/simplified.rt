@@ -6,7 +6,7 @@ use std::alloc::{AllocError, Global};
 use std::process::Abort;
 use std::test::Fail;
 
-/// Terms, and those that are left.
+// Terms, and those that are left.
 const SIMPLIFIED: [&str; 7] = [
     "0 0,000 0,001 1,100 1,101 101,102 102,00000 0,00001 1,00010 010,00011 0,00012 012,00100 1",
     "00101 101,00102 102,00110 0,00111 1,00112 2,00210 210,00211 2,00212 212,00213 213,01000 010",
@@ -17,7 +17,7 @@ const SIMPLIFIED: [&str; 7] = [
     "0123451 03452,0031324 31324,00120 120,00121 121,00122 1,00123 123",
 ];
 
-/// Terms, and the places that are kept.
+// Terms, and the places that are kept.
 const KEPT: [&str; 7] = [
     "0 0,000 2,001 2,010 012,011 0,012 012,00000 4,00001 4,00010 234,00011 2,00012 234,00100 2",
     "00101 234,00102 234,00110 4,00111 4,00112 4,00210 234,00211 2,00212 234,00213 234,01000 412",
@@ -46,7 +46,7 @@ fn simplify(rt: HostRuntime) -> Result<(), Fail> {
     Ok(())
 }
 
-/// Terms, those of an update, and the terms with the update.
+// Terms, those of an update, and the terms with the update.
 const UPDATED: [&str; 2] = [
     "0 1 1,000 1 001,100 2 200,102 213 213,00000 1 00001,00010 231 00231,01000 231 03102",
     "20314 31425 31425,01223 987 98227,0031324 81924 0081924",
@@ -108,8 +108,8 @@ fn simplify_keeps_outcomes(rt: HostRuntime) -> Result<(), Fail> {
     Ok(())
 }
 
-/// The places that `simplify_by` keeps, where each term is paired with its place and the key is the
-/// term.
+// The places that `simplify_by` keeps, where each term is paired with its place and the key is the
+// term.
 fn kept_places<R: Abort>(rt: &R, alloc: Global, terms: &str) -> Result<Vec<u32>, AllocError> {
     let mut pairs = Vec::new(alloc);
     let mut place = 0u32;
@@ -137,7 +137,7 @@ fn simplify_by_keys(rt: HostRuntime) -> Result<(), Fail> {
     Ok(())
 }
 
-/// `count` numbers from 0 on, each twice, and then `count`.
+// `count` numbers from 0 on, each twice, and then `count`.
 fn doubled(alloc: Global, count: u32) -> Result<Vec<u32>, AllocError> {
     let mut terms = Vec::new(alloc);
     for number in 0..count {

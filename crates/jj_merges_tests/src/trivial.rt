@@ -4,7 +4,7 @@ use jj_merges::merge::{SameChange, trivial_merge};
 use std::process::Abort;
 use std::test::Fail;
 
-/// Terms, and the outcome where equal changes are kept and where they are accepted; `-` is none.
+// Terms, and the outcome where equal changes are kept and where they are accepted; `-` is none.
 const OUTCOMES: [&str; 7] = [
     "0 0 0,000 0 0,001 1 1,010 - 0,011 0 0,012 - -,00000 0 0,00001 1 1,00010 - 0,00011 0 0",
     "00012 - -,00100 1 1,00101 - 1,00102 - -,00110 0 0,00111 1 1,00112 2 2,00120 - -,00121 - 1",
@@ -15,7 +15,7 @@ const OUTCOMES: [&str; 7] = [
     "01232 - -,01233 - -,01234 - -,56565 - 5,11223 3 3,12312 3 3,56575 - -,01020 - -,1 1 1",
 ];
 
-/// The number of a digit, or none for `-`.
+// The number of a digit, or none for `-`.
 fn outcome(text: &str) -> Option<u32> {
     match text.as_bytes() {
         [digit] if *digit != b'-' => Some(u32::from(digit.saturating_sub(b'0'))),
@@ -47,7 +47,7 @@ fn outcomes(rt: HostRuntime) -> Result<(), Fail> {
     Ok(())
 }
 
-/// These terms are in the test's own memory, so every request for memory may be refused.
+// These terms are in the test's own memory, so every request for memory may be refused.
 #[test]
 fn outcomes_take_no_memory(rt: HostRuntime) {
     assert_outcome(&rt, &[5, 6, 5, 6, 5], SameChange::Accept, Some(5));
@@ -58,7 +58,7 @@ fn outcomes_take_no_memory(rt: HostRuntime) {
     assert_outcome(&rt, &[0, 1, 0], SameChange::Keep, None);
 }
 
-/// `count` adds of one number by turns with one remove fewer of another, the last remove apart.
+// `count` adds of one number by turns with one remove fewer of another, the last remove apart.
 fn long<const N: usize>(add: u32, remove: u32, last: u32) -> [u32; N] {
     let mut terms = [add; N];
     for place in 0..N {
@@ -72,7 +72,7 @@ fn long<const N: usize>(add: u32, remove: u32, last: u32) -> [u32; N] {
     terms
 }
 
-/// These terms too are in the test's own memory.
+// These terms too are in the test's own memory.
 #[test]
 fn long_merges(rt: HostRuntime) {
     let terms: [u32; 2001] = long(5, 6, 6);
@@ -89,7 +89,7 @@ fn long_merges(rt: HostRuntime) {
     assert_outcome(&rt, &terms, SameChange::Keep, Some(1000));
 }
 
-/// The numbers from 0 on, each twice, and 1000 once.
+// The numbers from 0 on, each twice, and 1000 once.
 fn doubled() -> [u32; 2001] {
     let mut terms = [0u32; 2001];
     let mut number = 0u32;

@@ -1,11 +1,12 @@
 //! Merges made of the items of iterators.
-ghost use Rattle.std.specs.Prelude.{◌≡◌, ◌+◌, ◌++◌, [], ◌∷◌, List, length, IfOk};
+ghost use Rattle.std.specs.Prelude.{◌≡◌, ◌+◌, ◌++◌, [], ◌∷◌, List, length, IfOk, OnOk, OnErr};
 ghost use Rattle.std.specs.Cmp.Lexicographic.{pointwise, lists_per, lists_equiv};
-ghost use Rattle.std.specs.Iterator.{Drains, ExtendsWithItems, IsFinite};
+ghost use Rattle.std.specs.Iterator.{Drains, IsFinite};
 ghost use Rattle.std.specs.List.{AllZip};
+ghost use Rattle.jj_merges.specs.Counts.{HaveCountsOfDiffs};
 ghost use Rattle.jj_merges.specs.Odd.{IsOdd};
 ghost use Rattle.jj_merges.specs.Terms.{items};
-ghost use Rattle.jj_merges.specs.Made.{Appends, Gives, diff_terms};
+ghost use Rattle.jj_merges.specs.Made.{Gives, diff_terms};
 ghost use Rattle.jj_merges.specs.Merge as merge;
 
 use super::storage::Terms;
@@ -45,7 +46,7 @@ impl<T: Drop> MergeBuilder<T> {
         }
     }
 
-    /// Appends the items. Where memory runs out, those that came before stay appended.
+    /// Appends the items. Where memory runs out, the builder is as it was.
     pub fn extend<U: IntoIterator<Item = T>>(
         &mut self,
         alloc: Global,
@@ -53,11 +54,16 @@ impl<T: Drop> MergeBuilder<T> {
     ) -> Result<(), AllocError>
         requires { (it : U.IntoIter) → U.into_iter_gives iter it → U.IntoIter.can_next it
             × IsFinite (U.IntoIter.remaining it) }
-        ensures { ExtendsWithItems U.into_iter_gives U.IntoIter.next_gives Appends iter self.old
-            self.new result }
+        ensures ok { OnOk result ((xs : List T)
+            × Gives U.into_iter_gives U.IntoIter.next_gives iter xs × (self.new ≡ self.old ++ xs)) }
+        ensures err { OnErr result (self.new ≡ self.old) }
     {
+        let len = self.terms.as_slice().len();
         for term in iter {
-            self.terms.push(alloc, term)?;
+            if let Err(error) = self.terms.push(alloc, term) {
+                self.terms.truncate(alloc, len);
+                return Err(error);
+            }
         }
         Ok(())
     }
@@ -116,7 +122,8 @@ impl<T: Drop> Merge<T> {
             → R.IntoIter.can_next it × IsFinite (R.IntoIter.remaining it) }
         requires adds_end { (it : A.IntoIter) → A.into_iter_gives adds it → A.IntoIter.can_next it
             × IsFinite (A.IntoIter.remaining it) }
-        requires one_more { (xs ys : List T) → Gives R.into_iter_gives R.IntoIter.next_gives removes xs
+        requires one_more { (xs ys : List T)
+            → Gives R.into_iter_gives R.IntoIter.next_gives removes xs
             → Gives A.into_iter_gives A.IntoIter.next_gives adds ys → length ys ≡ length xs + 1 }
         ensures removes { IfOk result (λ m. Gives R.into_iter_gives R.IntoIter.next_gives removes
             (merge.removes m)) }
@@ -154,7 +161,7 @@ impl<T: Drop> Merge<T> {
             × IsFinite (U.IntoIter.remaining it) }
         ensures { IfOk result (λ m. (it : U.IntoIter) × (ds : List (Diff T))
             × U.into_iter_gives diffs it × Drains U.IntoIter.next_gives it ds
-            × (m ≡ first_side ∷ diff_terms ds)) }
+            × (m ≡ first_side ∷ diff_terms ds) × HaveCountsOfDiffs first_side ds m) }
     {
         let mut terms = Terms::one(first_side);
         for diff in diffs {

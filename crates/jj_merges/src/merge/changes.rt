@@ -1,7 +1,8 @@
 //! Merges that grow and shrink, and merges of one value.
-ghost use Rattle.std.specs.Prelude.{◌≡◌, ℕ, ◌+◌, ◌-◌, ◌*◌, ◌/◌, ◌^◌, ◌<◌, ◌≤◌, length, max, slice_get, IfOk, OnOk, OnErr, Some};
+ghost use Rattle.std.specs.Prelude.{◌≡◌, ℕ, ◌+◌, ◌-◌, ◌*◌, ◌/◌, ◌^◌, ◌<◌, ◌≤◌, length, max, slice_get, IfOk, OnOk, OnErr, Some, ◌+ℤ◌, ◌-ℤ◌, [], ◌∷◌, Bool};
 ghost use Rattle.std.specs.List.{AllClonesOf, AppendsClonesOf, swap_remove};
-ghost use Rattle.jj_merges.specs.Merge.{adds, removes};
+ghost use Rattle.jj_merges.specs.Counts.{HaveCountsOfClones, count_of_one};
+ghost use Rattle.jj_merges.specs.Merge.{adds, removes, signed_count};
 
 use super::Merge;
 use super::storage::Terms;
@@ -19,6 +20,9 @@ impl<T> Merge<T> {
         ensures added { slice_get (adds self.old) add_index ≡ Some result.1 }
         ensures removes { removes self.new ≡ swap_remove (removes self.old) remove_index result.0 }
         ensures adds { adds self.new ≡ swap_remove (adds self.old) add_index result.1 }
+        ensures counts { (eq : T → T → Bool) (v : T) → signed_count eq self.new v
+            ≡ (signed_count eq self.old v -ℤ count_of_one eq result.1 v)
+            +ℤ count_of_one eq result.0 v }
     {
         let len = self.as_slice().len();
         let add = self.terms.swap_remove(add_index * 2);
@@ -34,6 +38,7 @@ impl<T: Clone> Merge<T> {
         requires limit { num_sides ≤ (2 ^ 64 - 1) / 2 }
         ensures terms { IfOk result (AllClonesOf T.is_clone value) }
         ensures len { IfOk result (λ m. length m + 1 ≡ 2 * num_sides) }
+        ensures counts { IfOk result (HaveCountsOfClones T.is_clone (value ∷ [])) }
     {
         if num_sides == 1 {
             return Ok(Merge::resolved(alloc, value));
@@ -50,6 +55,7 @@ impl<T: Clone> Merge<T> {
         requires { num_sides ≤ (2 ^ 64 - 1) / 2 }
         ensures terms { OnOk result (AppendsClonesOf T.is_clone self.old self.new value.now) }
         ensures len { OnOk result (length self.new ≡ max (length self.old) (2 * num_sides - 1)) }
+        ensures counts { OnOk result (HaveCountsOfClones T.is_clone self.old self.new) }
         ensures err { OnErr result (self.new ≡ self.old) }
     {
         if num_sides <= self.num_sides() {

@@ -12,6 +12,7 @@ pub struct Diff<T> {
 }
 
 impl<T> Diff<T> {
+    /// A change from one value to another.
     pub fn new(before: T, after: T) -> Self
         ensures before { result.before ≡ before }
         ensures after { result.after ≡ after }
@@ -53,6 +54,7 @@ impl<T> Diff<T> {
         }
     }
 
+    /// The values by reference.
     pub fn as_ref(&self) -> Diff<&T>
         ensures before { result.before.now ≡ self.now.before }
         ensures after { result.after.now ≡ self.now.after }

@@ -36,7 +36,7 @@ impl<T: Drop> Merge<Merge<T>> {
     }
 }
 
-/// Appends the terms of an added merge.
+// Appends the terms of an added merge.
 fn append<T: Drop>(terms: &mut Terms<T>, alloc: Global, add: Merge<T>) -> Result<(), AllocError>
     requires { HoldsOne terms.old }
     ensures ok { OnOk result (items terms.new ≡ items terms.old ++ add) }
@@ -50,7 +50,7 @@ fn append<T: Drop>(terms: &mut Terms<T>, alloc: Global, add: Merge<T>) -> Result
     Ok(())
 }
 
-/// Appends the terms of a removed merge.
+// Appends the terms of a removed merge.
 fn append_turned<T: Drop>(
     terms: &mut Terms<T>,
     alloc: Global,

@@ -5,6 +5,7 @@ ghost use Rattle.std.specs.List.{AllZip};
 ghost use Rattle.std.specs.Option.{option_copied};
 ghost use Rattle.std.specs.Vec.Iter.{into_iter_items};
 ghost use Rattle.jj_merges.specs.Merge.{adds, removes};
+ghost use Rattle.jj_merges.specs.Counts.{HaveCountsOfClones, HaveCountsOfImages};
 ghost use Rattle.jj_merges.specs.Maps.{MapsTo, FailsAmong};
 ghost use Rattle.jj_merges.specs.Options.{IsOptionClone};
 
@@ -24,6 +25,7 @@ impl<T> Merge<T> {
         requires { F.IsAlwaysCallable f }
         ensures images { IfOk result (λ m. (last : F)
             × MapsTo (CalledAt F.FnMut) f self.now m last) }
+        ensures counts { IfOk result (HaveCountsOfImages (CalledAt F.FnMut) self.now) }
     {
         let values = self.as_slice();
         let mut f = f;
@@ -43,6 +45,8 @@ impl<T> Merge<T> {
         requires { F.IsAlwaysCallable f }
         ensures images { IfOk result (λ m. (last : F)
             × MapsTo (λ f x y next. CalledAt F.FnMut f x (Ok y) next) f self.now m last) }
+        ensures counts { IfOk result
+            (HaveCountsOfImages (λ f x y next. CalledAt F.FnMut f x (Ok y) next) self.now) }
         // An error is the closure's at the first term where it fails, or want of memory.
         ensures failed { IfErr result (λ e. FailsAmong
             (λ f x y next. CalledAt F.FnMut f x (Ok y) next)
@@ -83,6 +87,7 @@ impl<T: Drop> Merge<T> {
     ) -> Result<Merge<U>, AllocError>
         requires { F.IsAlwaysCallable f }
         ensures images { IfOk result (λ m. (last : F) × MapsTo F.step f self m last) }
+        ensures counts { IfOk result (HaveCountsOfImages F.step self) }
     {
         let len = self.as_slice().len();
         let mut f = f;
@@ -158,7 +163,9 @@ impl<T: Drop, U: Drop> Merge<(T, U)> {
 impl<T: Clone> Merge<&T> {
     /// The terms by value, each a clone.
     pub fn cloned(&self, alloc: Global) -> Result<Merge<T>, AllocError>
-        ensures { IfOk result (λ m. AllZip T.is_clone (map (λ x. x.now) self.now) m) }
+        ensures terms { IfOk result (AllZip T.is_clone (map (λ x. x.now) self.now)) }
+        ensures counts { IfOk result
+            (HaveCountsOfClones T.is_clone (map (λ x. x.now) self.now)) }
     {
         let values = self.as_slice();
         let mut terms = Terms::with_room(alloc, values.len())?;
@@ -169,7 +176,7 @@ impl<T: Clone> Merge<&T> {
     }
 }
 
-/// A clone of the value, if there is one.
+// A clone of the value, if there is one.
 fn clone_of<T: Clone>(term: &Option<&T>) -> Result<Option<T>, AllocError>
     ensures { IfOk result (λ x. IsOptionClone T.is_clone (option_copied term.now) x) }
 {
@@ -182,8 +189,10 @@ fn clone_of<T: Clone>(term: &Option<&T>) -> Result<Option<T>, AllocError>
 impl<T: Clone> Merge<Option<&T>> {
     /// The terms by value, each a clone.
     pub fn cloned(&self, alloc: Global) -> Result<Merge<Option<T>>, AllocError>
-        ensures { IfOk result (λ m. AllZip (IsOptionClone T.is_clone)
-            (map option_copied self.now) m) }
+        ensures terms { IfOk result (AllZip (IsOptionClone T.is_clone)
+            (map option_copied self.now)) }
+        ensures counts { IfOk result (HaveCountsOfClones (IsOptionClone T.is_clone)
+            (map option_copied self.now)) }
     {
         let values = self.as_slice();
         let mut terms = Terms::with_room(alloc, values.len())?;
@@ -197,7 +206,8 @@ impl<T: Clone> Merge<Option<&T>> {
 impl<T: Clone> Merge<T> {
     /// The same terms, each a clone.
     pub fn clone(&self, alloc: Global) -> Result<Merge<T>, AllocError>
-        ensures { IfOk result (λ m. AllZip T.is_clone self.now m) }
+        ensures terms { IfOk result (AllZip T.is_clone self.now) }
+        ensures counts { IfOk result (HaveCountsOfClones T.is_clone self.now) }
     {
         let terms = Terms::clones_of(alloc, self.as_slice())?;
         Ok(Merge { terms })

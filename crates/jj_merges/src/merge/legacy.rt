@@ -2,6 +2,7 @@
 ghost use Rattle.std.specs.Prelude.{◌≡◌, ◌++◌, List, IfOk, OnOk};
 ghost use Rattle.std.specs.Iterator.{Drains, IsFinite};
 ghost use Rattle.std.specs.Option.{option_to_list};
+ghost use Rattle.jj_merges.specs.Counts.{HaveCountsOfPresent};
 ghost use Rattle.jj_merges.specs.Flatten.{legacy_terms};
 ghost use Rattle.jj_merges.specs.Made.{Gives};
 ghost use Rattle.jj_merges.specs.Merge as merge;
@@ -25,10 +26,11 @@ impl<T: Drop> Merge<Option<T>> {
             × IsFinite (A.IntoIter.remaining it) }
 
         // The values that are there are those of both lists, as `into_legacy_form` gives them back.
-        ensures { IfOk result (λ m. (xs : List T) × (ys : List T)
+        ensures terms { IfOk result (λ m. (xs : List T) × (ys : List T)
             × Gives R.into_iter_gives R.IntoIter.next_gives removes xs
             × Gives A.into_iter_gives A.IntoIter.next_gives adds ys × (m ≡ legacy_terms xs ys)
             × (present (merge.removes m) ≡ xs) × (present (merge.adds m) ≡ ys)) }
+        ensures counts { IfOk result HaveCountsOfPresent }
     {
         let removes = removes.into_iter();
         let mut adds = adds.into_iter();
@@ -74,7 +76,7 @@ impl<T: Drop> Merge<Option<T>> {
     }
 }
 
-/// Appends a value that is there.
+// Appends a value that is there.
 fn push_present<T: Drop>(values: &mut Vec<T>, term: Option<T>) -> Result<(), AllocError>
     ensures { OnOk result (values.new.items ≡ values.old.items ++ option_to_list term) }
 {

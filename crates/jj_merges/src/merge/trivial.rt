@@ -8,7 +8,7 @@ ghost use Rattle.jj_merges.specs.declared.merge.SameChange.{SameChange};
 
 use super::{Merge, SameChange};
 
-/// How many adds equal `value`.
+// How many adds equal `value`.
 #[tactic(auto, using(crate::proofs::Counts::count_more))]
 fn count_adds<T: Eq>(values: &[T], value: &T) -> usize
     ensures { result ≡ count_by (T.eq value.now) (adds values.now) }
@@ -22,7 +22,7 @@ fn count_adds<T: Eq>(values: &[T], value: &T) -> usize
     count
 }
 
-/// How many removes equal `value`.
+// How many removes equal `value`.
 #[tactic(auto, using(crate::proofs::Counts::count_more))]
 fn count_removes<T: Eq>(values: &[T], value: &T) -> usize
     ensures { result ≡ count_by (T.eq value.now) (removes values.now) }
@@ -36,14 +36,14 @@ fn count_removes<T: Eq>(values: &[T], value: &T) -> usize
     count
 }
 
-/// Whether one of the values equals this one.
+// Whether one of the values equals this one.
 fn stands_in<T: Eq>(values: &[T], value: &T) -> bool
     ensures { result ≡ list_any (T.eq value.now) values.now }
 {
     values.iter().any(|other| value == other)
 }
 
-/// The outcome of two adds over a remove, where their counts decide it.
+// The outcome of two adds over a remove, where their counts decide it.
 fn three_way<'a, T: Eq>(
     first: &'a T,
     remove: &'a T,
@@ -68,9 +68,9 @@ fn three_way<'a, T: Eq>(
     None
 }
 
-/// The value that is added, where the counts of all values decide it. Each value is counted once,
-/// at the first place where it stands, so that the comparisons are at most four times the terms
-/// times the distinct values.
+// The value that is added, where the counts of all values decide it. Each value is counted once,
+// at the first place where it stands, so that the comparisons are at most four times the terms
+// times the distinct values.
 fn add_left<T: Eq>(values: &[T], same_change: SameChange) -> Option<&T>
     ensures member { IfSome result (λ v. Contains values.now v.now) }
     ensures decided { IfSome result (λ v. IsDecided T.eq same_change values.now v.now) }
@@ -99,7 +99,7 @@ fn add_left<T: Eq>(values: &[T], same_change: SameChange) -> Option<&T>
     added
 }
 
-/// Whether equal changes are kept, and this one is made more than once.
+// Whether equal changes are kept, and this one is made more than once.
 fn is_repeated(same_change: SameChange, adds: usize, removes: usize) -> bool
     requires { removes < adds }
     ensures { IsTrue result ↔ ((same_change ≡ SameChange.Keep) × (adds ≢ removes + 1)) }

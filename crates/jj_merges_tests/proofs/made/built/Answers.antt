@@ -4,10 +4,10 @@ use Rattle.jj_merges_tests.proofs.made.built.Goals as goal
 
 pub build-requires : goal.build-requires
 build-requires g c =
-    let ran = c.in_ok-extend.ensures in (
+    let ran = c.in_ok-extend.ensures.ok in (
       search rules,
       (
         search rules,
-        omega (arith, ap length ran.3, length-append c.default-builder.result ran.1, ap length c.default-builder.ensures, ap length (All-taken ran.0 ran.1 ran.4 ∙ ran.2.0)),
+        omega (arith, ap length ran.2, length-append c.default-builder.result ran.0, ap length c.default-builder.ensures, ap length (All-taken ran.1.0 ran.0 ran.1.2 ∙ ran.1.1.0)),
       ),
     )

@@ -6,10 +6,10 @@ use Rattle.jj_merges.proofs.conflict_labels.ConflictLabelsClone.clone.Goals as g
 
 pub invariant_of-result : goal.invariant_of-result
 invariant_of-result c h =
-    let same = map-clones string_bytes c.self.inside.labels c.in_ok-labels.labels c.in_ok-labels.ensures in
+    let same = map-clones string_bytes c.self.inside.labels c.in_ok-labels.labels c.in_ok-labels.ensures.terms in
     same ∙ c.self.invariant (ap say_nothing (sym same) ∙ h)
 
 pub returns : goal.returns
 returns c =
-    let same = map-clones string_bytes c.self.inside.labels c.in_ok-labels.labels c.in_ok-labels.ensures in
+    let same = map-clones string_bytes c.self.inside.labels c.in_ok-labels.labels c.in_ok-labels.ensures.terms in
     record { cases = ap labels_of same ∙ c.self.view_is }

@@ -1,6 +1,9 @@
-use Rattle.std.proofs.Common.{◌≡◌, ◌∙◌, ◌∷◌, ◌++◌, [], ap, sym, arith, length, length-append}
+use Rattle.std.proofs.Common.{rules, ◌≡◌, ◌∙◌, ◌∷◌, ◌++◌, [], ap, sym, arith, length, length-append}
 use Rattle.jj_merges.specs.Terms.{items}
 use Rattle.jj_merges.proofs.MadeLaws.{diff_terms_push}
+use Rattle.jj_merges.specs.Made.{diff_terms}
+use Rattle.jj_merges.specs.Merge.{signed_count}
+use Rattle.jj_merges.proofs.MadeCounts.{diffs_counts}
 use Rattle.jj_merges.proofs.merge.Merge.from_diffs.Goals as goal
 
 pub loop-diff-preserved : goal.loop-diff-preserved
@@ -12,4 +15,16 @@ loop-diff-preserved g c =
       c.in_ok-push-2.ensures.holds_one,
       omega (arith, ap length both, length-append (items c.loop-diff.terms ++ d.before ∷ []) (d.after ∷ []), length-append (items c.loop-diff.terms) (d.before ∷ []), now.1),
       both ∙ (ap (λ xs. (xs ++ d.before ∷ []) ++ d.after ∷ []) now.2 ∙ sym (ap (λ xs. c.args.first_side ∷ xs) (diff_terms_push c.loop-diff.yielded d))),
+    )
+
+pub returns : goal.returns
+returns g c =
+    let ds = c.loop-diff.yielded in
+    let all : items c.loop-diff.terms ≡ c.args.first_side ∷ diff_terms ds = c.loop-diff.invariant.2 in (
+      c.into_iter-diff-iterator.result,
+      ds,
+      c.into_iter-diff-iterator.ensures.into_iter_gives,
+      search rules,
+      all,
+      λ eq v. ap (λ m. signed_count eq m v) all ∙ diffs_counts c.args.first_side ds eq v,
     )

@@ -5,6 +5,7 @@ use Rattle.jj_merges.specs.Maps.{FailsAmong}
 use Rattle.jj_merges.specs.Terms.{items}
 use Rattle.jj_merges.proofs.MapsLemmas.{MapsTo-push, length-MapsTo, FailsAmong-at, split_at}
 use Rattle.jj_merges.proofs.Sound.{sound}
+use Rattle.jj_merges.proofs.CountLaws.{have_counts}
 use Rattle.jj_merges.proofs.merge.Merge.try_map.Goals as goal
 
 pub loop-term-preserved : goal.loop-term-preserved
@@ -38,3 +39,9 @@ pub returns-clause-images : goal.returns-clause-images
 returns-clause-images g c =
     let all = take_all c.loop-term.term-index c.as_slice-values.result.now (omega arith) in
     (c.loop-term.f, rw (← c.as_slice-values.ensures.terms, ← all) c.loop-term.invariant.2)
+
+pub returns-clause-counts : goal.returns-clause-counts
+returns-clause-counts g c =
+    let all = take_all c.loop-term.term-index c.as_slice-values.result.now (omega arith) in
+    rw (← c.as_slice-values.ensures.terms, ← all)
+    (have_counts (λ f x y next. CalledAt g.F.FnMut f x (Ok y) next) c.args.f c.loop-term.f _ (items c.loop-term.images) c.loop-term.invariant.2)

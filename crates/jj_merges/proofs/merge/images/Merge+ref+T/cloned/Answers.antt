@@ -3,6 +3,7 @@ use Rattle.std.proofs.lemmas.List.{take_more, take_all, map-append, length-map}
 use Rattle.std.proofs.lemmas.List.Elements.{AllZip-push, length_all_zip}
 use Rattle.jj_merges.specs.Terms.{items}
 use Rattle.jj_merges.proofs.Sound.{sound}
+use Rattle.jj_merges.proofs.MadeCounts.{clones_counts}
 use Rattle.jj_merges.proofs.merge.images.Merge+ref+T.cloned.Goals as goal
 
 pub loop-term-preserved : goal.loop-term-preserved
@@ -21,3 +22,9 @@ invariant_of-result g c =
     let images = length-map (take c.loop-term.term-index c.as_slice-values.result.now) (λ x. x.now) in
     sound c.loop-term.terms c.loop-term.invariant.0
     (omega (arith, n, images, all, ap length c.as_slice-values.ensures.terms, c.as_slice-values.ensures.odd))
+
+pub returns-clause-counts : goal.returns-clause-counts
+returns-clause-counts g c =
+    let all = take_all c.loop-term.term-index c.as_slice-values.result.now (omega arith) in
+    rw (← c.as_slice-values.ensures.terms, ← all)
+    (clones_counts g.T.Clone.is_clone _ (items c.loop-term.terms) c.loop-term.invariant.1)

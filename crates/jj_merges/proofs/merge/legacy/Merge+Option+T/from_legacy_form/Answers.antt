@@ -8,6 +8,7 @@ use Rattle.jj_merges.proofs.Sound.{sound}
 use Rattle.jj_merges.proofs.SourceRuns.{Goes-start}
 use Rattle.jj_merges.proofs.LegacyLaws.{legacy_rest-push, odd_legacy_terms, restored}
 use Rattle.jj_merges.proofs.LegacyRuns.{HoldsNext-start, HoldsNext-more, HoldsNext-ended, HoldsNext-short, HoldsNext-long}
+use Rattle.jj_merges.proofs.MadeCounts.{legacy_counts}
 use Rattle.jj_merges.proofs.merge.legacy.Merge+Option+T.from_legacy_form.Goals as goal
 
 pub loop-remove-init : goal.loop-remove-init
@@ -46,7 +47,10 @@ returns-then-not-has_more g c =
     (c.into_iter-removes.result, c.into_iter-removes.ensures.into_iter_gives, (c.next.new.self, (c.loop-remove.remove-iterator, subst (λ (s : g.row.R-IntoIter.Denot). Yields g.R.IntoIter.Iterator.next_gives s c.loop-remove.yielded c.loop-remove.remove-iterator) c.into_iter-remove-iterator.ensures.into_iter_gives c.loop-remove.yielded_by, c.in-None.ensures.steps))) in
     let short = HoldsNext-short g.A.IntoIterator.into_iter_gives g.A.IntoIter.Iterator.next_gives g.A.IntoIter.Iterator.can_next g.A.IntoIter.Iterator.remaining c.args.adds c.loop-remove.adds c.loop-remove.add c.loop-remove.yielded (items c.loop-remove.terms) (items c.push-2.new.self) (sym c.is_some-has_more-2.ensures ∙ c.if-not-has_more.true) c.loop-remove.invariant.1 c.in_ok-push-3.ensures.ok in
     let both = restored c.loop-remove.yielded short.0 (items c.push-2.new.self) short.2 in
-    (c.loop-remove.yielded, short.0, all, short.1, short.2, both.0, both.1)
+    record {
+      terms = (c.loop-remove.yielded, short.0, all, short.1, short.2, both.0, both.1);
+      counts = legacy_counts (items c.push-2.new.self);
+    }
 
 pub loop-add-preserved : goal.loop-add-preserved
 loop-add-preserved g c = (
@@ -72,4 +76,7 @@ returns g c =
     (c.next-in-loop-add.new.self, (c.loop-add.add-iterator, subst (λ (s : g.row.A-IntoIter.Denot). Yields g.A.IntoIter.Iterator.next_gives s c.loop-add.yielded c.loop-add.add-iterator) c.into_iter-add-iterator.ensures.into_iter_gives c.loop-add.yielded_by, c.in-None-add.ensures.steps)) in
     let long = HoldsNext-long g.A.IntoIterator.into_iter_gives g.A.IntoIter.Iterator.next_gives g.A.IntoIter.Iterator.can_next g.A.IntoIter.Iterator.remaining c.args.adds c.loop-remove.adds c.loop-remove.add c.loop-remove.yielded (items c.loop-remove.terms) (items c.push-2.new.self) c.loop-add.yielded (items c.loop-add.terms) (sym c.is_some-has_more-2.ensures ∙ c.if-not-has_more.false) c.loop-remove.invariant.1 c.in_ok-push-3.ensures.ok rest c.loop-add.invariant.1 in
     let both = restored c.loop-remove.yielded long.0 (items c.loop-add.terms) long.2 in
-    (c.loop-remove.yielded, long.0, all, long.1, long.2, both.0, both.1)
+    record {
+      terms = (c.loop-remove.yielded, long.0, all, long.1, long.2, both.0, both.1);
+      counts = legacy_counts (items c.loop-add.terms);
+    }
