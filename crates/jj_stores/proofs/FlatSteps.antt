@@ -57,7 +57,7 @@ module _ {R : Type 0} where
 
   module _ (name : List ℕ) (old : Named (Named R)) (found : List ℕ × R) (new : Named (Named R)) (taken : TakesRef name old found new) where
     -- the remotes that have the name: one more, at the front
-    one_more : remotes_with old name ≡ found ∷ remotes_with new name
+    pub one_more : remotes_with old name ≡ found ∷ remotes_with new name
     one_more =
         let old_with = ap (λ v. remotes_with v name) taken.old_is
         ∙ with_append taken.before ((found.0, (name, found.1) ∷ taken.others) ∷ taken.after) name

@@ -1,17 +1,15 @@
 -- The first remote that has a name loses its ref.
-use Rattle.std.proofs.Common.{◌≡◌, ◌+◌, ◌<◌, ℕ, suc, List, [], ◌∷◌, ◌++◌, Option, Some, None, length, take, drop, get_or, set, sym, ap, ap₂, subst, ◌∙◌, arith}
-use Rattle.std.specs.List.{cons_option, filter_map}
+use Rattle.std.proofs.Common.{◌≡◌, ◌<◌, ℕ, suc, List, [], ◌∷◌, ◌++◌, Option, Some, None, length, take, drop, get_or, set, sym, ap, subst, ◌∙◌, arith}
 use Rattle.std.specs.Map.{lookup}
 use Rattle.std.specs.Option.{option_map, option_to_list}
 use Rattle.std.specs.Str.{bytes_eq}
 use Rattle.std.proofs.Math.Seq.{split_at}
-use Rattle.std.proofs.lemmas.List.{take_more, take-set, drop-set-lt, get_or-set_same, set-get_or, length-set}
-use Rattle.std.proofs.lemmas.List.Elements.{filter_map-append}
+use Rattle.std.proofs.lemmas.List.{take-set, drop-set-lt, get_or-set_same, length-set}
 use Rattle.std.proofs.lemmas.Option.{same_Some}
 use Rattle.jj_stores.specs.ViewJoins.{Named, IsAscending, LosesAt, remotes_with}
 use Rattle.jj_stores.specs.FlatRefs.{TakesRef}
 
-abbrev at_remote : {R : Type 0} → List ℕ → R → List ℕ × R
+abbrev pub at_remote : {R : Type 0} → List ℕ → R → List ℕ × R
 at_remote remote ref = (remote, ref)
 
 module _ {R : Type 0} where
@@ -31,11 +29,6 @@ module _ {R : Type 0} where
   new_first remote new found refs named is =
       let pair : List ℕ → List ℕ × Named R = λ n. (n, new.1) in
       ap pair (named ∙ ap (λ r. r.0) is)
-
-  missed_here : (name : List ℕ) (remote : List ℕ × Named R) (refs : Named R) (o : Option R) → None ≡ option_map (λ (r : R). at_remote remote.0 r) o
-      → remote.1 ≡ option_to_list (option_map (λ v. (name, v)) o) ++ refs → remote.1 ≡ refs
-  missed_here name remote refs None is cut = cut
-  missed_here name remote refs (Some v) is cut = cc
 
   module _ (name : List ℕ) (old now : Named (Named R)) (i : ℕ) (d : List ℕ × Named R) (new : List ℕ × Named R)
       (below : i < length old) (same : now ≡ old) (none : remotes_with (take i old) name ≡ [])
@@ -65,17 +58,3 @@ module _ {R : Type 0} where
           none_before = none;
           ascending = subst (λ r. IsAscending r.1) here lost.ascending;
         }
-
-    -- the remote lacks the name, and stays as it is
-    pub none_taken : None ≡ option_map (λ (r : R). at_remote (get_or now i d).0 r) (lookup (bytes_eq name) (get_or now i d).1)
-        → (remotes_with (take (i + 1) old) name ≡ []) × (set now i new ≡ old)
-    none_taken is =
-        let remote : List ℕ × Named R = get_or now i d in
-        let at : List ℕ × Named R → Option (List ℕ × R) = λ r. option_map (λ v. (r.0, v)) (lookup (bytes_eq name) r.1) in
-        let unchanged : new ≡ remote = ap₂ (λ (n : List ℕ) (refs : Named R). (n, refs)) lost.remote (sym (missed_here name remote new.1 _ is lost.refs.1)) in (
-          ap (filter_map at) (take_more old i d below) ∙ filter_map-append at (take i old) (get_or old i d ∷ [])
-              ∙ ap (λ l. l ++ cons_option (at (get_or old i d)) []) none
-              ∙ ap (λ v. cons_option (at (get_or v i d)) []) (sym same)
-              ∙ ap (λ o. cons_option o []) (sym is),
-          ap (set now i) unchanged ∙ set-get_or now i d ∙ same,
-        )

@@ -21,43 +21,32 @@ module _ (is_ended : Bool) (locals : Named Target) (remotes : Named (Named Remot
   whole : left_unless false locals remotes ≡ left
   whole = ap (λ b. left_unless b locals remotes) (sym going) ∙ same
 
-  pub gives_none : (seen : Named (Named RemoteRef)) → seen ≡ remotes → IsFirstName locals seen None → AreLeft left []
-  gives_none seen all first = subst (λ l. AreLeft l []) whole
-      (no_rows locals remotes (subst (λ r. IsFirstName locals r None) all first))
+  pub gives_none : IsFirstName locals remotes None → AreLeft left []
+  gives_none first = subst (λ l. AreLeft l []) whole (no_rows locals remotes first)
 
-  module _ (seen : Named (Named RemoteRef)) (all : seen ≡ remotes) (name : List ℕ) (first : IsFirstName locals seen (Some name)) where
-    first_of : IsFirstName locals remotes (Some name)
-    first_of = subst (λ r. IsFirstName locals r (Some name)) all first
-
+  module _ (name : List ℕ) (first : IsFirstName locals remotes (Some name)) where
     pub refuses_row : AreLeft left [] → ⊥
-    refuses_row none = some_row locals remotes name first_of (subst (λ l. AreLeft l []) (sym whole) none)
+    refuses_row none = some_row locals remotes name first (subst (λ l. AreLeft l []) (sym whole) none)
 
     pub none_is_fewer : 0 < refs_left left
-    none_is_fewer = subst (λ l. 0 < refs_left l) whole (some_left locals remotes name first_of.0)
+    none_is_fewer = subst (λ l. 0 < refs_left l) whole (some_left locals remotes name first.0)
 
-    module _ (locals' : Named Target) (remotes' kept : Named (Named RemoteRef)) (is_kept : kept ≡ remotes') (local : Option Target)
+    module _ (locals' : Named Target) (remotes' : Named (Named RemoteRef)) (local : Option Target)
         (up : IsAscending locals) (taken : TakesAt name locals local locals')
-        (lent : Named (Named RemoteRef)) (all_lent : lent ≡ remotes) (lost : AllZip (LosesAt name) lent remotes') where
-      lost_of : AllZip (LosesAt name) remotes remotes'
-      lost_of = subst (λ r. AllZip (LosesAt name) r remotes') all_lent lost
-
-      pub gives_row : (shown : List ℕ) (refs : Named RemoteRef) → shown ≡ name → refs ≡ remotes_with lent name
-          → (rows : Named (Option Target × Named RemoteRef)) → AreLeft (left_unless is_ended locals' kept) rows
+        (lost : AllZip (LosesAt name) remotes remotes') where
+      pub gives_row : (shown : List ℕ) (refs : Named RemoteRef) → shown ≡ name → refs ≡ remotes_with remotes name
+          → (rows : Named (Option Target × Named RemoteRef)) → AreLeft (left_unless is_ended locals' remotes') rows
           → AreLeft left ((shown, (local, refs)) ∷ rows)
       gives_row shown refs named at rows join =
           let row : List ℕ → Named RemoteRef → List ℕ × (Option Target × Named RemoteRef) = λ n rs. (n, (local, rs)) in
-          let is : (name, (local, remotes_with remotes name)) ≡ (shown, (local, refs)) =
-          sym (ap₂ row named (at ∙ ap (λ r. remotes_with r name) all_lent)) in
+          let is : (name, (local, remotes_with remotes name)) ≡ (shown, (local, refs)) = sym (ap₂ row named at) in
           subst (λ l. AreLeft l ((shown, (local, refs)) ∷ rows)) whole
           (subst (λ r. IsViewJoin locals remotes (r ∷ rows)) is
-          (row_first locals locals' remotes remotes' name local first_of up taken lost_of rows
-          (subst (λ r. IsViewJoin locals' r rows) is_kept
-          (subst (λ b. AreLeft (left_unless b locals' kept) rows) going join))))
+          (row_first locals locals' remotes remotes' name local first up taken lost rows
+          (subst (λ b. AreLeft (left_unless b locals' remotes') rows) going join)))
 
-      pub fewer : refs_left (left_unless is_ended locals' kept) < refs_left left
+      pub fewer : refs_left (left_unless is_ended locals' remotes') < refs_left left
       fewer =
-          let less = fewer_left locals locals' remotes remotes' name local first_of.0 taken lost_of in
-          let P : Bool → Type 0 = λ b. refs_left (left_unless b locals' kept) < refs_left left in
-          let Q : Named (Named RemoteRef) → Type 0 = λ r. refs_left (left_unless false locals' r) < refs_left left in
-          subst P (sym going) (subst Q (sym is_kept)
-          (subst (λ l. refs_left (left_unless false locals' remotes') < refs_left l) whole less))
+          let less = fewer_left locals locals' remotes remotes' name local first.0 taken lost in
+          let P : Bool → Type 0 = λ b. refs_left (left_unless b locals' remotes') < refs_left left in
+          subst P (sym going) (subst (λ l. refs_left (left_unless false locals' remotes') < refs_left l) whole less)

@@ -46,7 +46,8 @@ module _ {R : Type 0} where
   symbol_ref_of item = ((name_of item.0.name, name_of item.0.remote), item.1.now)
 
   -- the first of the refs that are left is given, and the others are left; or there is none
-  abbrev pub GivesRef : Named (Named R) → Option (RemoteRefSymbol × Bor R) → Named (Named R) → Type 0
+  abbrev pub GivesRef : Named (Named R) → Option (RemoteRefSymbol × Bor R)
+      → Named (Named R) → Type 0
   GivesRef old None new = AreFlat old [] × AreFlat new []
   GivesRef old (Some item) new = (refs : AtRemotes R) → AreFlat new refs
       → AreFlat old (symbol_ref_of item ∷ refs)

@@ -11,3 +11,4 @@ pub mod ViewJoins
 pub mod JoinRows
 pub mod JoinSteps
 pub mod FlatRefs
+pub mod Firsts

@@ -6,6 +6,7 @@ mod json;
 mod operation;
 mod ref_target;
 mod refs_left;
+mod remotes_left;
 mod view;
 mod view_joins;
 

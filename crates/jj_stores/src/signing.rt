@@ -77,6 +77,7 @@ impl Verification {
         }
     }
 
+    /// What is known of the signature.
     pub fn status(&self) -> SigStatus
         ensures { result ≡ self.now.status }
     {
@@ -112,15 +113,19 @@ pub trait SigningBackend: Drop {
     /// That it may answer so, asked to sign data by a key.
     ghost may_sign: { Self → List ℕ → Option (List ℕ) → Result (List ℕ) SignError → Type 0 };
 
+    /// The name of the kind of backend.
     fn name(&self) -> &str;
 
+    /// Whether the signature is of the kind that it reads.
     fn can_read(&self, signature: &[u8]) -> bool
         ensures { result ≡ reads self.now signature.now };
 
+    /// The signature of the data by a key, or by the default one.
     fn sign(&self, alloc: Global, data: &[u8], key: Option<&str>) -> SignResult<Vec<u8>>
         ensures { may_sign self.now «data».now (option_map (λ k. k.now) key.entry)
             (result_map_both (λ v. v.items) (λ e. e) result) };
 
+    /// What is known of the signature of these data.
     fn verify(&self, alloc: Global, data: &[u8], signature: &[u8]) -> SignResult<Verification>
         ensures { may_verify self.now «data».now signature.now result };
 }
@@ -162,7 +167,7 @@ impl SigningBackend for Box<dyn SigningBackend> {
     }
 }
 
-/// The first decisive answer of those that can read the signature.
+// The first decisive answer of those that can read the signature.
 fn ask<B: SigningBackend>(
     alloc: Global,
     backends: &[B],
@@ -183,7 +188,7 @@ fn ask<B: SigningBackend>(
     None
 }
 
-/// The same of a first backend, if there is one, and then the others.
+// The same of a first backend, if there is one, and then the others.
 fn ask_first<B: SigningBackend>(
     alloc: Global,
     first: &Option<B>,
@@ -220,7 +225,7 @@ fn can_any_read<B: SigningBackend>(first: &Option<B>, others: &[B], signature: &
     }
 }
 
-/// How many verifications a signer remembers if it is not told.
+// How many verifications a signer remembers if it is not told.
 const COMMIT_CACHE_CAPACITY: usize = 100;
 
 /// Signs commits, and verifies their signatures by the first backend that can.

@@ -1,5 +1,6 @@
 //! Joins of local refs with those of remotes, as texts: a row for each name, with the commit that it
 //! has here, and with the remotes that have it and theirs.
+use crate::callers::joined_bookmarks;
 use jj_backend::backend::CommitId;
 use jj_ids::object_id::ObjectId;
 use jj_ids::ref_name::{RefName, RefNameBuf, RemoteNameBuf};
@@ -164,6 +165,26 @@ fn views_without_refs_have_no_rows(rt: HostRuntime) -> Result<(), Fail> {
     let view = empty_view(alloc).or_else(|_| empty_view(alloc))?;
     let text = joined(alloc, &view).or_else(|_| joined(alloc, &view))?;
     assert!(rt; text.is_empty());
+    Ok(())
+}
+
+fn rows_are_copied(alloc: Global) -> Result<bool, AllocError> {
+    let mut view = empty_view(alloc)?;
+    add_local(alloc, &mut view, "a", 1)?;
+    add_remote(alloc, &mut view, "x", &[("a", 1), ("b", 2)])?;
+    let rows = joined_bookmarks(alloc, &view)?;
+    for (_, row) in &rows {
+        if row.clone()? != *row {
+            return Ok(false);
+        }
+    }
+    Ok(rows.len() == 2)
+}
+
+#[test]
+fn a_copy_of_a_row_is_equal(rt: HostRuntime) -> Result<(), Fail> {
+    let alloc = rt.alloc();
+    assert!(rt; rows_are_copied(alloc).or_else(|_| rows_are_copied(alloc))?);
     Ok(())
 }
 

@@ -6,7 +6,7 @@ use jj_ids::ref_name::RefNameBuf;
 use jj_merges::merge::Merge;
 use jj_stores::op_store::{
     Operation, OperationId, RefTarget, RefTargetOptionExt, RemoteRef, RemoteRefState, RemoteView,
-    View, ViewId,
+    RootOperationData, View, ViewId,
 };
 use std::alloc::{AllocError, Global};
 use std::process::Abort;
@@ -209,5 +209,19 @@ fn is_copied(alloc: Global) -> Result<bool, AllocError> {
 fn a_copy_of_an_operation_is_equal(rt: HostRuntime) -> Result<(), Fail> {
     let alloc = rt.alloc();
     assert!(rt; is_copied(alloc).or_else(|_| is_copied(alloc))?);
+    Ok(())
+}
+
+fn root_data_is_copied(alloc: Global) -> Result<bool, AllocError> {
+    let data = RootOperationData {
+        root_commit_id: commit(alloc, 1)?,
+    };
+    Ok(data.clone()?.root_commit_id == data.root_commit_id)
+}
+
+#[test]
+fn a_copy_of_root_data_is_equal(rt: HostRuntime) -> Result<(), Fail> {
+    let alloc = rt.alloc();
+    assert!(rt; root_data_is_copied(alloc).or_else(|_| root_data_is_copied(alloc))?);
     Ok(())
 }

@@ -9,7 +9,7 @@ use std::num::NonZeroUsize;
 use std::process::Abort;
 use std::rc::Rc;
 
-/// What a backend in memory does with a signature.
+// What a backend in memory does with a signature.
 #[derive(Clone, Copy)]
 enum Does {
     CannotRead,
@@ -18,7 +18,7 @@ enum Does {
     Fails,
 }
 
-/// A backend that does one thing, and counts how often it is asked to verify.
+// A backend that does one thing, and counts how often it is asked to verify.
 #[derive(Drop)]
 struct Fake {
     reads: bool,

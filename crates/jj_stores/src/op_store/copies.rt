@@ -6,14 +6,14 @@ use jj_ids::ref_name::NameBuf;
 use std::alloc::{AllocError, Global};
 use std::collections::BTreeMap;
 
-/// A value that takes an allocator to be copied.
+// A value that takes an allocator to be copied.
 pub(super) trait CloneIn: PartialEq + Drop {
-    /// A copy of the value.
+    // A copy of the value.
     fn clone_in(&self, alloc: Global) -> Result<Self, AllocError>
         ensures { IfOk result (λ copy. Self.eq copy self.now ≡ true) };
 }
 
-/// A copy of a map by names, entry by entry.
+// A copy of a map by names, entry by entry.
 pub(super) fn copied_map<K, V: CloneIn>(
     alloc: Global,
     map: &BTreeMap<NameBuf<K>, V>,

@@ -12,12 +12,16 @@ pub trait OpStore {
     /// The id of the operation that all others descend from.
     fn root_operation_id(&self) -> &OperationId;
 
+    /// The view of an id.
     fn read_view(&self, alloc: Global, id: &ViewId) -> OpStoreResult<View>;
 
+    /// Keeps a view, and answers its id.
     fn write_view(&mut self, alloc: Global, contents: &View) -> OpStoreResult<ViewId>;
 
+    /// The operation of an id.
     fn read_operation(&self, alloc: Global, id: &OperationId) -> OpStoreResult<Operation>;
 
+    /// Keeps an operation, and answers its id.
     fn write_operation(
         &mut self,
         alloc: Global,

@@ -133,6 +133,7 @@ impl ContentHash for RemoteRef {
 /// An option of what may be absent, without the option. A borrowed option stays as it is: `None`
 /// is what is absent.
 pub trait RefTargetOptionExt {
+    /// What it is without the option.
     type Value;
 
     /// What it is without the option.

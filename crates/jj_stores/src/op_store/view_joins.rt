@@ -3,9 +3,8 @@ ghost use Rattle.std.specs.Prelude.{◌≡◌, IfOk};
 ghost use Rattle.jj_merges.specs.Maps.{MapsTo};
 ghost use Rattle.jj_stores.specs.JoinRows.{ShowsRefs};
 
-use super::refs_left::{
-    RefsLeft, RemoteLeft, first_name, first_of_remotes, remotes_left, take_ref, take_refs,
-};
+use super::refs_left::RefsLeft;
+use super::remotes_left::{RemotesLeft, first_name, remotes_left};
 use super::{RefTarget, RemoteRef, RemoteView};
 use jj_ids::ref_name::{RefName, RefNameBuf, RemoteName, RemoteNameBuf, RemoteRefSymbol};
 use std::alloc::{AllocError, Global};
@@ -26,7 +25,7 @@ pub struct LocalRemoteRefTarget<'a> {
 pub struct MergeJoinRefViews<'a> {
     alloc: Global,
     locals: RefsLeft<'a, RefTarget>,
-    remotes: Vec<RemoteLeft<'a>>,
+    remotes: RemotesLeft<'a>,
     is_ended: bool,
 }
 
@@ -35,7 +34,7 @@ impl<'a> Model for MergeJoinRefViews<'a> {
 
     ghost Value = { JoinLeft };
 
-    ghost view = { λ join. left_unless join.is_ended join.locals join.remotes.items };
+    ghost view = { λ join. left_unless join.is_ended join.locals join.remotes };
 }
 
 impl<'a> Iterator for MergeJoinRefViews<'a> {
@@ -53,9 +52,9 @@ impl<'a> Iterator for MergeJoinRefViews<'a> {
         if self.is_ended {
             return None;
         }
-        let name = first_name(&self.locals, self.remotes.as_slice())?;
+        let name = first_name(&self.locals, &self.remotes)?;
         let local_target = self.locals.take_at(name);
-        match take_refs(self.alloc, self.remotes.as_mut_slice(), name) {
+        match self.remotes.take_refs(self.alloc, name) {
             Ok(remote_refs) => {
                 let target = LocalRemoteRefTarget {
                     local_target,
@@ -98,7 +97,7 @@ where
 /// The refs of all remotes, by name, and those of one name by remote.
 #[derive(Drop)]
 pub struct FlattenRemoteRefs<'a> {
-    remotes: Vec<RemoteLeft<'a>>,
+    remotes: RemotesLeft<'a>,
 }
 
 impl<'a> Model for FlattenRemoteRefs<'a> {
@@ -107,7 +106,7 @@ impl<'a> Model for FlattenRemoteRefs<'a> {
 
     ghost Value = { Named (Named Ref) };
 
-    ghost view = { λ refs. refs.remotes.items };
+    ghost view = { λ refs. refs.remotes };
 }
 
 impl<'a> Iterator for FlattenRemoteRefs<'a> {
@@ -123,8 +122,8 @@ impl<'a> Iterator for FlattenRemoteRefs<'a> {
     ghost remaining = { λ remotes. at_most (sum_by (λ r. length r.1) remotes) };
 
     fn next(&mut self) -> Option<(RemoteRefSymbol<'a>, &'a RemoteRef)> {
-        let name = first_of_remotes(self.remotes.as_slice())?;
-        let (remote, target) = take_ref(self.remotes.as_mut_slice(), name)?;
+        let name = self.remotes.first_name()?;
+        let (remote, target) = self.remotes.take_ref(name)?;
         Some((name.as_name().to_remote_symbol(remote), target))
     }
 }

@@ -14,4 +14,4 @@ same_option R same lost made None None k = refl
 
 pub returns : goal.returns
 returns c = IfOk-weaker c.clone.result _ _ (λ copy clones. same_from_all_zip _ _ copy clones
-    (same_option _ (λ x y k. search rules) (λ x k. search rules) (λ y k. search rules))) c.clone.ensures
+    (same_option _ (λ x y k. search rules) (λ x k. search rules) (λ y k. search rules))) c.clone.ensures.terms

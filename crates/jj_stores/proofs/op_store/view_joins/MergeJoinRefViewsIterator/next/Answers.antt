@@ -1,6 +1,5 @@
-use Rattle.std.proofs.Common.{◌∙◌, sym, subst}
+use Rattle.std.proofs.Common.{sym, subst}
 use Rattle.std.specs.Option.{option_copied}
-use Rattle.std.proofs.lemmas.List.{with_items_is}
 use Rattle.jj_stores.specs.ViewJoins.{IsFirstName}
 use Rattle.jj_stores.specs.JoinSteps.{GivesRow}
 use Rattle.jj_stores.proofs.JoinGives.{none_empty, ended, gives_none, refuses_row, none_is_fewer, gives_row, fewer}
@@ -8,56 +7,47 @@ use Rattle.jj_stores.proofs.op_store.view_joins.MergeJoinRefViewsIterator.next.G
 
 pub returns-then-self-clause-steps : goal.returns-then-self-clause-steps
 returns-then-self-clause-steps c =
-    let none = ended c.self.inside.is_ended c.self.inside.locals c.self.inside.remotes.items c.args.self.now
-    c.if-self.true c.self.view_is in
+    let inside = c.self.inside in
+    let none = ended inside.is_ended inside.locals inside.remotes c.args.self.now c.if-self.true c.self.view_is in
     (none, none)
 
 pub returns-in_err-name-clause-steps : goal.returns-in_err-name-clause-steps
 returns-in_err-name-clause-steps c =
     let inside = c.self.inside in
     let left = c.args.self.now in
-    let first = subst (λ f. IsFirstName inside.locals c.as_slice.result.now (option_copied f)) c.in_err-name.was c.first_name.ensures in
-    let none = gives_none inside.is_ended inside.locals inside.remotes.items left c.if-self.false c.self.view_is
-    c.as_slice.result.now c.as_slice.ensures.value first in
+    let first = subst (λ f. IsFirstName inside.locals inside.remotes (option_copied f)) c.in_err-name.was c.first_name.ensures in
+    let none = gives_none inside.is_ended inside.locals inside.remotes left c.if-self.false c.self.view_is first in
     subst (λ r. GivesRow left r left) (sym c.from_residual.ensures) (none, none)
 
 pub returns-in-Ok-clause-steps : goal.returns-in-Ok-clause-steps
 returns-in-Ok-clause-steps c =
     let inside = c.self.inside in
-    let first = subst (λ f. IsFirstName inside.locals c.as_slice.result.now (option_copied f)) c.in_ok-name.was c.first_name.ensures in
-    gives_row inside.is_ended inside.locals inside.remotes.items c.args.self.now c.if-self.false c.self.view_is
-    c.as_slice.result.now c.as_slice.ensures.value c.in_ok-name.name.now first
-    c.take_at-local_target.new.self c.take_refs.new.remotes _
-    (with_items_is inside.remotes c.take_refs.new.remotes (c.take_refs.auto.remotes ∙ c.as_mut_slice.ensures.len)) (option_copied c.take_at-local_target.result)
-    c.take_at-local_target.ensures.ascending c.take_at-local_target.ensures.taken
-    c.as_mut_slice.result.now c.as_mut_slice.ensures.value c.in-Ok.ensures.left
+    let first = subst (λ f. IsFirstName inside.locals inside.remotes (option_copied f)) c.in_ok-name.was c.first_name.ensures in
+    gives_row inside.is_ended inside.locals inside.remotes c.args.self.now c.if-self.false c.self.view_is
+    c.in_ok-name.name.now first c.take_at-local_target.new.self c.take_refs.new.self (option_copied c.take_at-local_target.result)
+    c.take_at-local_target.ensures.ascending c.take_at-local_target.ensures.taken c.in-Ok.ensures.left
     _ _ c.as_name.ensures c.in-Ok.ensures.refs
 
 pub returns-in-Ok-clause-goes : goal.returns-in-Ok-clause-goes
 returns-in-Ok-clause-goes c =
     let inside = c.self.inside in
-    let first = subst (λ f. IsFirstName inside.locals c.as_slice.result.now (option_copied f)) c.in_ok-name.was c.first_name.ensures in
-    let less = fewer inside.is_ended inside.locals inside.remotes.items c.args.self.now c.if-self.false c.self.view_is
-    c.as_slice.result.now c.as_slice.ensures.value c.in_ok-name.name.now first
-    c.take_at-local_target.new.self c.take_refs.new.remotes _
-    (with_items_is inside.remotes c.take_refs.new.remotes (c.take_refs.auto.remotes ∙ c.as_mut_slice.ensures.len)) (option_copied c.take_at-local_target.result)
-    c.take_at-local_target.ensures.ascending c.take_at-local_target.ensures.taken
-    c.as_mut_slice.result.now c.as_mut_slice.ensures.value c.in-Ok.ensures.left in
+    let first = subst (λ f. IsFirstName inside.locals inside.remotes (option_copied f)) c.in_ok-name.was c.first_name.ensures in
+    let less = fewer inside.is_ended inside.locals inside.remotes c.args.self.now c.if-self.false c.self.view_is
+    c.in_ok-name.name.now first c.take_at-local_target.new.self c.take_refs.new.self (option_copied c.take_at-local_target.result)
+    c.take_at-local_target.ensures.ascending c.take_at-local_target.ensures.taken c.in-Ok.ensures.left in
     record { on = λ _. (tt, tt, less); keeps = tt; rests = λ _. tt }
 
 pub returns-in-Err-clause-steps : goal.returns-in-Err-clause-steps
 returns-in-Err-clause-steps c =
     let inside = c.self.inside in
-    let first = subst (λ f. IsFirstName inside.locals c.as_slice.result.now (option_copied f)) c.in_ok-name.was c.first_name.ensures in (
-      refuses_row inside.is_ended inside.locals inside.remotes.items c.args.self.now c.if-self.false c.self.view_is
-          c.as_slice.result.now c.as_slice.ensures.value c.in_ok-name.name.now first,
+    let first = subst (λ f. IsFirstName inside.locals inside.remotes (option_copied f)) c.in_ok-name.was c.first_name.ensures in (
+      refuses_row inside.is_ended inside.locals inside.remotes c.args.self.now c.if-self.false c.self.view_is c.in_ok-name.name.now first,
       none_empty,
     )
 
 pub returns-in-Err-clause-goes : goal.returns-in-Err-clause-goes
 returns-in-Err-clause-goes c =
     let inside = c.self.inside in
-    let first = subst (λ f. IsFirstName inside.locals c.as_slice.result.now (option_copied f)) c.in_ok-name.was c.first_name.ensures in
-    let less = none_is_fewer inside.is_ended inside.locals inside.remotes.items c.args.self.now c.if-self.false c.self.view_is
-    c.as_slice.result.now c.as_slice.ensures.value c.in_ok-name.name.now first in
+    let first = subst (λ f. IsFirstName inside.locals inside.remotes (option_copied f)) c.in_ok-name.was c.first_name.ensures in
+    let less = none_is_fewer inside.is_ended inside.locals inside.remotes c.args.self.now c.if-self.false c.self.view_is c.in_ok-name.name.now first in
     record { on = λ _. (tt, tt, less); keeps = tt; rests = λ _. tt }

@@ -3,7 +3,7 @@ use Rattle.std.proofs.Common.{◌≡◌, ◌++◌, map}
 use Rattle.std.specs.Map.Iter.{deref_pair}
 use Rattle.jj_merges.specs.Maps.{MapsTo}
 use Rattle.jj_stores.specs.JoinRows.{ShowsRefs}
-use Rattle.jj_stores.proofs.op_store.refs_left.remotes_left.Given as goal
+use Rattle.jj_stores.proofs.op_store.remotes_left.shown_of_remotes.Given as goal
 
 abbrev pub invariant-loop-remote : goal.invariant-loop-remote
 invariant-loop-remote g l = record {

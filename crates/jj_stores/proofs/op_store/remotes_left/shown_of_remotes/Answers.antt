@@ -7,7 +7,7 @@ use Rattle.jj_stores.specs.declared.op_store.ref_target.RemoteRef.{RemoteRef}
 use Rattle.jj_stores.specs.declared.op_store.view.RemoteView.{RemoteView}
 use Rattle.jj_stores.specs.ViewJoins.{Named}
 use Rattle.jj_stores.specs.JoinRows.{ShowsRefs}
-use Rattle.jj_stores.proofs.op_store.refs_left.remotes_left.Goals as goal
+use Rattle.jj_stores.proofs.op_store.remotes_left.shown_of_remotes.Goals as goal
 
 pub loop-remote-preserved : goal.loop-remote-preserved
 loop-remote-preserved g c =

@@ -1,0 +1,200 @@
+//! Refs of remotes that are left to be joined.
+ghost use Rattle.std.specs.Prelude.{◌≡◌, map, option_map, [], IfOk, OnOk, MatchOption};
+ghost use Rattle.std.specs.List.{slice_get, All, AllZip};
+ghost use Rattle.std.specs.Option.{option_copied};
+ghost use Rattle.std.specs.Map.{keys_of, lookup};
+ghost use Rattle.std.specs.Str.{bytes_eq};
+ghost use Rattle.jj_merges.specs.Maps.{MapsTo};
+ghost use Rattle.jj_stores.specs.ViewJoins.{IsAscending, IsLeast, LosesAt, remotes_with, IsFirstName, IsFirstOfRemotes};
+ghost use Rattle.jj_stores.specs.FlatRefs.{TakesRef};
+ghost use Rattle.jj_stores.specs.JoinRows.{ref_of, ShowsRefs};
+
+use super::refs_left::{RefsLeft, lesser};
+use super::{RefTarget, RemoteRef, RemoteView};
+use jj_ids::ref_name::{RefName, RefNameBuf, RemoteName, RemoteNameBuf};
+use std::alloc::{AllocError, Global};
+use std::cmp::Reverse;
+use std::collections::{BTreeMap, BinaryHeap};
+use std::marker::Model;
+
+// The refs of a remote that are left.
+#[derive(Drop)]
+pub(super) struct RemoteLeft<'a> {
+    remote: RemoteName<'a>,
+    refs: RefsLeft<'a, RemoteRef>,
+}
+
+impl<'a> Model for RemoteLeft<'a> {
+    ghost use Rattle.std.specs.Prelude.{ℕ, List};
+    ghost use Rattle.jj_ids.specs.Names.{name_of};
+    ghost use Rattle.jj_stores.specs.ViewJoins.{Named};
+    ghost use Rattle.jj_stores.specs.declared.op_store.ref_target.RemoteRef.{RemoteRef as Ref};
+
+    ghost Value = { List ℕ × Named Ref };
+
+    ghost view = { λ left. (name_of left.remote, left.refs) };
+}
+
+impl<'a> RemoteLeft<'a> {
+    // The first name.
+    fn first_name(&self) -> Option<&'a RefNameBuf>
+        ensures first { option_copied result ≡ slice_get (keys_of self.now.1) 0 }
+        ensures ascending { IsAscending self.now.1 }
+    {
+        self.refs.first_name()
+    }
+
+    // Takes the ref of this name, if there is one.
+    fn take_at(&mut self, name: &RefNameBuf) -> Option<(RemoteName<'a>, &'a RemoteRef)>
+        requires { IsLeast name.now self.old.1 }
+        ensures found { option_map ref_of result ≡ option_map (λ r. (self.old.0, r))
+            (lookup (bytes_eq name.now) self.old.1) }
+        ensures left { LosesAt name.now self.old self.new }
+    {
+        let target = self.refs.take_at(name)?;
+        Some((self.remote, target))
+    }
+}
+
+// The refs of remotes that are left, with the first name of each remote that has any and the
+// remote's place, the earliest on top.
+#[derive(Drop)]
+pub(super) struct RemotesLeft<'a> {
+    remotes: Vec<RemoteLeft<'a>>,
+    firsts: BinaryHeap<Reverse<(RefName<'a>, usize)>>,
+}
+
+impl<'a> Model for RemotesLeft<'a> {
+    ghost use Rattle.std.specs.Prelude.{map};
+    ghost use Rattle.std.specs.BinaryHeap.{heap_items, IsHeap};
+    ghost use Rattle.jj_stores.specs.Firsts.{AreFirsts, earlier_cmp, first_of};
+    ghost use Rattle.jj_stores.specs.ViewJoins.{Named};
+    ghost use Rattle.jj_stores.specs.declared.op_store.ref_target.RemoteRef.{RemoteRef as Ref};
+
+    ghost Value = { Named (Named Ref) };
+
+    ghost view = { λ left. left.remotes.items };
+
+    ghost invariant = { λ left.
+        AreFirsts left.remotes.items (map first_of (heap_items left.firsts))
+        × IsHeap (λ a b. earlier_cmp (first_of a) (first_of b)) (heap_items left.firsts) };
+}
+
+impl<'a> RemotesLeft<'a> {
+    // The refs of these remotes.
+    fn new(alloc: Global, remotes: Vec<RemoteLeft<'a>>) -> Result<Self, AllocError>
+        ensures { IfOk result (λ left. left ≡ remotes.entry.items) }
+    {
+        let mut firsts = BinaryHeap::with_capacity(alloc, remotes.len())?;
+        for place in 0..remotes.len() {
+            if let Some(name) = remotes[place].first_name() {
+                firsts.push(Reverse((name.as_name(), place)))?;
+            }
+        }
+        Ok(RemotesLeft { remotes, firsts })
+    }
+
+    // The first name that has a ref at a remote.
+    pub(super) fn first_name(&self) -> Option<&'a RefNameBuf>
+        ensures { IsFirstOfRemotes self.now (option_copied result) }
+    {
+        let Reverse((_, place)) = self.firsts.peek()?;
+        self.remotes[*place].first_name()
+    }
+
+    // Takes the ref of this name, which is above none, from the first remote that has it.
+    pub(super) fn take_ref(&mut self, name: &RefNameBuf) -> Option<(RemoteName<'a>, &'a RemoteRef)>
+        requires { All (λ remote. IsLeast name.now remote.1) self.old }
+        ensures { MatchOption result
+            ((remotes_with self.old name.now ≡ []) × (self.new ≡ self.old)
+            × All (λ remote. IsAscending remote.1) self.old)
+            (λ found. TakesRef name.now self.old (ref_of found) self.new) }
+    {
+        let Reverse((first, _)) = self.firsts.peek()?;
+        if *first != name.as_name() {
+            return None;
+        }
+        let Reverse((_, place)) = self.firsts.pop()?;
+        let Some(found) = self.remotes[place].take_at(name) else {
+            unreachable!();
+        };
+        if let Some(next) = self.remotes[place].first_name() {
+            match self.firsts.push(Reverse((next.as_name(), place))) {
+                Ok(()) => {}
+                Err(_) => unreachable!(),
+            }
+        }
+        Some(found)
+    }
+
+    // Takes the refs of this name, which is above none, from all remotes, in their order.
+    pub(super) fn take_refs(
+        &mut self,
+        alloc: Global,
+        name: &RefNameBuf,
+    ) -> Result<Vec<(RemoteName<'a>, &'a RemoteRef)>, AllocError>
+        requires { All (λ remote. IsLeast name.now remote.1) self.old }
+        ensures refs { IfOk result (λ refs.
+            map ref_of refs.items ≡ remotes_with self.old name.now) }
+        ensures left { OnOk result (AllZip (LosesAt name.now) self.old self.new) }
+    {
+        let mut refs = Vec::new(alloc);
+        while let Some(found) = self.take_ref(name) {
+            refs.push(found)?;
+        }
+        Ok(refs)
+    }
+}
+
+// The first name that has a ref here or at a remote.
+pub(super) fn first_name<'a>(
+    locals: &RefsLeft<'a, RefTarget>,
+    remotes: &RemotesLeft<'a>,
+) -> Option<&'a RefNameBuf>
+    ensures { IsFirstName locals.now remotes.now (option_copied result) }
+{
+    let local = locals.first_name();
+    let Some(remote) = remotes.first_name() else {
+        return local;
+    };
+    match local {
+        Some(local) => Some(lesser(local, remote)),
+        None => Some(remote),
+    }
+}
+
+// What remotes have of the refs that `get_remote_refs` shows, in the order of their names.
+fn shown_of_remotes<'a, F: FnMut(&'a RemoteView) -> &'a BTreeMap<RefNameBuf, RemoteRef>>(
+    alloc: Global,
+    remote_views: &'a BTreeMap<RemoteNameBuf, RemoteView>,
+    get_remote_refs: F,
+) -> Result<Vec<RemoteLeft<'a>>, AllocError>
+    requires { F.IsAlwaysCallable get_remote_refs }
+    ensures { IfOk result (λ remotes. (last : F) × MapsTo (ShowsRefs F.FnMut) get_remote_refs
+        remote_views.now.entries remotes.items last) }
+{
+    let mut get_remote_refs = get_remote_refs;
+    let mut remotes = Vec::with_capacity(alloc, remote_views.len())?;
+    for (remote, view) in remote_views {
+        let refs = RefsLeft::new(get_remote_refs(view));
+        remotes.push(RemoteLeft {
+            remote: remote.as_name(),
+            refs,
+        })?;
+    }
+    Ok(remotes)
+}
+
+// What remotes have of the refs that `get_remote_refs` shows, the least name at hand.
+pub(super) fn remotes_left<'a, F: FnMut(&'a RemoteView) -> &'a BTreeMap<RefNameBuf, RemoteRef>>(
+    alloc: Global,
+    remote_views: &'a BTreeMap<RemoteNameBuf, RemoteView>,
+    get_remote_refs: F,
+) -> Result<RemotesLeft<'a>, AllocError>
+    requires { F.IsAlwaysCallable get_remote_refs }
+    ensures { IfOk result (λ remotes. (last : F) × MapsTo (ShowsRefs F.FnMut) get_remote_refs
+        remote_views.now.entries remotes last) }
+{
+    let remotes = shown_of_remotes(alloc, remote_views, get_remote_refs)?;
+    RemotesLeft::new(alloc, remotes)
+}
