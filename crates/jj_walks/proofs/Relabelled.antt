@@ -19,7 +19,7 @@ Contains-unmap f [] y (k, lt, e) = absurd (omega arith)
 Contains-unmap f (x ∷ xs) y (zero, lt, e) = (x, here x xs, e)
 Contains-unmap f (x ∷ xs) y (suc k, lt, e) = let r = Contains-unmap f xs y (k, omega arith, e) in (r.0, later x xs r.0 r.1, r.2)
 
-split_map : {X Y : Type 0} (f : X → Y) (xs : List X) (front back : List Y) (a : Y) → map f xs ≡ front ++ a ∷ back
+pub split_map : {X Y : Type 0} (f : X → Y) (xs : List X) (front back : List Y) (a : Y) → map f xs ≡ front ++ a ∷ back
     → (before : List X) × (x : X) × (after : List X) × (xs ≡ before ++ x ∷ after) × (map f before ≡ front) × (f x ≡ a)
 split_map f [] [] back a e = absurd cc
 split_map f [] (y ∷ front) back a e = absurd cc

@@ -77,7 +77,8 @@ module _ {N ID F : Type 0} (ids : Shared F (Bor N × Unit {0}) (Bor ID)) (eq : I
       IsCause as_id h s Memory t = Unit {0}
 
       -- after the history h some nodes are read, and then: the input has ended and all nodes were
-      -- given; or a node is given that may come next; or an error tells its cause
+      -- given; or a node is given that may come next, and ids are told as before; or an error tells
+      -- its cause
       abbrev pub GivesNext : History N ID → TopoGroupedGraph N ID S F
           → Option (Result (Item N ID) (GroupedGraphError E)) → TopoGroupedGraph N ID S F → Type 0
       GivesNext h s None t = (items : List (Item N ID)) × (reads : List (Entry N ID)) × (u : S)
@@ -86,6 +87,7 @@ module _ {N ID F : Type 0} (ids : Shared F (Bor N × Unit {0}) (Bor ID)) (eq : I
       GivesNext h s (Some (Ok x)) t = (items : List (Item N ID)) × (reads : List (Entry N ID))
           × (e : Entry N ID) × ReadsTo s.as_id s.input items reads t.input
           × (item_of e ≡ listed_item x) × Keeps eq (Gave e ∷ read_on reads h) t.held
+          × (t.as_id ≡ s.as_id)
       GivesNext h s (Some (Err error)) t = (items : List (Item N ID)) × (reads : List (Entry N ID))
           × (u : S) × ReadsTo s.as_id s.input items reads u
           × IsHistory eq (read_on reads h) × IsCause s.as_id (read_on reads h) u error t.input

@@ -19,3 +19,7 @@ pub mod Branches
 pub mod HeldNodes
 pub mod GroupedSteps
 pub mod GroupedOrders
+pub mod AllOk
+pub mod Stops
+pub mod ListOrError
+pub mod Outcomes

@@ -27,6 +27,7 @@ pub struct Candidates<ID: Hash + Eq> {
 }
 
 impl<ID: Hash + Eq + Clone + Drop> Candidates<ID> {
+    /// No candidates.
     pub fn new(alloc: Global) -> Self
         ensures ids { result.ids.items ≡ [] }
         ensures heads { deque_items result.heads ≡ [] }
@@ -40,6 +41,7 @@ impl<ID: Hash + Eq + Clone + Drop> Candidates<ID> {
         }
     }
 
+    /// Appends a candidate.
     pub fn push(&mut self, id: ID) -> Result<(), AllocError>
         ensures ids { OnOk result (self.new.ids.items ≡ self.old.ids.items ++ id ∷ []) }
         ensures heads { self.new.heads ≡ self.old.heads }
@@ -50,6 +52,7 @@ impl<ID: Hash + Eq + Clone + Drop> Candidates<ID> {
         Ok(())
     }
 
+    /// Appends a head.
     pub fn push_head(&mut self, id: ID) -> Result<(), AllocError>
         ensures ids { self.new.ids ≡ self.old.ids }
         ensures heads { OnOk result (deque_items self.new.heads ≡ deque_items self.old.heads
@@ -144,8 +147,8 @@ impl<ID: Hash + Eq + Clone + Drop> Candidates<ID> {
         }
     }
 
-    /// Makes the children of the blocked id that came last candidates, or else the first head.
-    /// Answers `false` where there is neither.
+    // Makes the children of the blocked id that came last candidates, or else the first head.
+    // Answers `false` where there is neither.
     fn refill(&mut self) -> Result<bool, AllocError>
         requires { self.old.ids.items ≡ [] }
         ensures listed { IfOk result (λ _. (i : ID)

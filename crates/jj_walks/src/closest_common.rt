@@ -1,22 +1,19 @@
 //! The closest of the nodes that two sets reach.
-ghost use Rattle.std.specs.Prelude.{◌≡◌, ℕ, ◌+◌, ◌≤◌, ◌<◌, ◌^◌, ◌&&◌, ◌∷◌, ◌++◌, IfOk, IfErr, IsTrue, OnOk, MatchBool, List, cond, map};
+ghost use Rattle.std.specs.Prelude.{◌≡◌, ◌+◌, ◌≤◌, ◌<◌, ◌^◌, ◌&&◌, ◌∷◌, ◌++◌, IfOk, IsTrue, OnOk, MatchBool, cond, map};
 ghost use Rattle.std.specs.BinaryHeap.{heap_items, heap_len};
-ghost use Rattle.std.specs.Fn.{AlwaysReturns};
-ghost use Rattle.std.specs.Iterator.{IsFiniteIterable};
 ghost use Rattle.std.specs.List.Sorted.{IsPermutation};
 ghost use Rattle.jj_walks.specs.CommonNodes.{HasNoCommonCycle, AreClosestCommon};
-ghost use Rattle.jj_walks.specs.Errors.{IfNode};
-ghost use Rattle.jj_walks.specs.Failing.{Fault, FailingGraph, ReachesFailure, ShowsLists};
-ghost use Rattle.jj_walks.specs.Marks.{unmarked, mark_at, joined, grows, marked, starts_waiting, asked, handed_on, sides_met, closest_of};
-ghost use Rattle.jj_walks.specs.Walk.{Numbered, AreNodes, DrainsTo};
+ghost use Rattle.jj_walks.specs.Failing.{ReachesFailure};
+ghost use Rattle.jj_walks.specs.Marks.{mark_at, joined, grows, marked, starts_waiting, asked, handed_on, sides_met, closest_of};
+ghost use Rattle.jj_walks.specs.Outcomes.{Ends, IfFails, ListsEndOrFail, OverTwoSets};
 
 use crate::walk_error::WalkError;
 use std::alloc::{AllocError, Global};
 use std::collections::{BinaryHeap, HashMap};
 use std::hash::Hash;
 
-/// What is known to reach a node: the first set, the second, and a common node that is strictly
-/// above it.
+// What is known to reach a node: the first set, the second, and a common node that is strictly
+// above it.
 #[derive(Clone, Copy)]
 struct Reach {
     left: bool,
@@ -24,7 +21,7 @@ struct Reach {
     below: bool,
 }
 
-/// What is known of a node, and whether it waits to be asked for its neighbours.
+// What is known of a node, and whether it waits to be asked for its neighbours.
 #[derive(Clone, Copy)]
 struct Mark {
     reach: Reach,
@@ -50,7 +47,7 @@ impl Reach {
         self.left && self.right
     }
 
-    /// What a node tells of its neighbours: those of a common node are below it.
+    // What a node tells of its neighbours: those of a common node are below it.
     fn handed_on(self) -> Reach
         ensures { result ≡ handed_on self }
     {
@@ -71,7 +68,7 @@ impl Reach {
         }
     }
 
-    /// Whether what is added has a set more.
+    // Whether what is added has a set more.
     fn grows(self, added: Reach) -> bool
         ensures { result ≡ grows self added }
     {
@@ -89,7 +86,7 @@ impl Mark {
         }
     }
 
-    /// Whether the node joins those that wait by what is added.
+    // Whether the node joins those that wait by what is added.
     fn starts_waiting(self, added: Reach) -> bool
         ensures { result ≡ starts_waiting self added }
     {
@@ -97,7 +94,7 @@ impl Mark {
     }
 }
 
-/// What is known of the node of this id.
+// What is known of the node of this id.
 fn mark_of<ID: Hash + Eq>(known: &HashMap<ID, Mark>, id: &ID) -> Mark
     ensures { result ≡ mark_at ID.eq known.now id.now }
 {
@@ -114,7 +111,7 @@ fn mark_of<ID: Hash + Eq>(known: &HashMap<ID, Mark>, id: &ID) -> Mark
     }
 }
 
-/// Adds to what is known of a node. Where a set more reaches it, it waits to be asked.
+// Adds to what is known of a node. Where a set more reaches it, it waits to be asked.
 fn mark_node<T: Ord + Drop, ID: Hash + Eq + Drop>(
     known: &mut HashMap<ID, Mark>,
     waiting: &mut BinaryHeap<T>,
@@ -142,7 +139,7 @@ fn mark_node<T: Ord + Drop, ID: Hash + Eq + Drop>(
     Ok(())
 }
 
-/// What is known of a waiting node, which waits no longer.
+// What is known of a waiting node, which waits no longer.
 fn ask<ID: Hash + Eq>(known: &mut HashMap<ID, Mark>, id: &ID) -> Reach
     ensures reach { result ≡ (mark_at ID.eq known.old id.now).reach }
     ensures known { IsTrue (mark_at ID.eq known.old id.now).waits → (i : ID)
@@ -163,14 +160,14 @@ fn ask<ID: Hash + Eq>(known: &mut HashMap<ID, Mark>, id: &ID) -> Reach
     }
 }
 
-/// The common nodes that were met, with their ids, and what is known of all nodes that were met.
+// The common nodes that were met, with their ids, and what is known of all nodes that were met.
 #[derive(Drop)]
 struct Met<T, ID: Hash + Eq> {
     common: Vec<(T, ID)>,
     known: HashMap<ID, Mark>,
 }
 
-/// The nodes of which no common node is known to be strictly above them.
+// The nodes of which no common node is known to be strictly above them.
 fn closest<T: Drop, ID: Hash + Eq + Drop>(
     alloc: Global,
     met: Met<T, ID>,
@@ -211,37 +208,24 @@ where
     N: FnMut(&T) -> Result<NI, E> + Drop,
     requires id_fn { F.IsAlwaysCallable id_fn }
     requires neighbors_fn { N.IsAlwaysCallable neighbors_fn }
-    requires lists { AlwaysReturns N.FnMut (λ a r.
-        IfOk r (IsFiniteIterable NI.into_iter_gives NI.IntoIter.can_next NI.IntoIter.remaining))
-        neighbors_fn }
-    requires set1 { IsFiniteIterable II1.into_iter_gives
-        II1.IntoIter.can_next II1.IntoIter.remaining set1 }
-    requires set2 { IsFiniteIterable II2.into_iter_gives
-        II2.IntoIter.can_next II2.IntoIter.remaining set2 }
-    ensures closest { IfOk result (λ v. (xs ys : List T)
-        × DrainsTo II1.into_iter_gives II1.IntoIter.next_gives set1 xs
-        × DrainsTo II2.into_iter_gives II2.IntoIter.next_gives set2 ys
-        × ((walk : Numbered T ID) (items : FailingGraph (Fault E))
-        → ShowsLists walk items ID.eq F.Fn N.FnMut NI.into_iter_gives NI.IntoIter.next_gives id_fn
-        neighbors_fn
-        → AreNodes walk (map walk.node xs) → AreNodes walk (map walk.node ys)
-        → HasNoCommonCycle walk.graph (map walk.node xs) (map walk.node ys)
-        → AreClosestCommon walk.graph (map walk.node xs) (map walk.node ys)
+    requires lists { ListsEndOrFail N.FnMut NI.IntoIterator NI.IntoIter.Iterator neighbors_fn }
+    requires set1 { Ends II1.IntoIterator II1.IntoIter.Iterator set1 }
+    requires set2 { Ends II2.IntoIterator II2.IntoIter.Iterator set2 }
+    ensures closest { IfOk result (λ v. OverTwoSets ID.eq F.Fn N.FnMut NI.IntoIterator
+        NI.IntoIter.Iterator id_fn neighbors_fn II1.IntoIterator II1.IntoIter.Iterator
+        II2.IntoIterator II2.IntoIter.Iterator set1 set2 (λ walk items starts1 starts2.
+        HasNoCommonCycle walk.graph starts1 starts2 → AreClosestCommon walk.graph starts1 starts2
         (map walk.node v.items))) }
-    ensures refused { IfErr result (λ e. IfNode e
-        (λ error. (xs ys : List T) × DrainsTo II1.into_iter_gives II1.IntoIter.next_gives set1 xs
-        × DrainsTo II2.into_iter_gives II2.IntoIter.next_gives set2 ys
-        × ((walk : Numbered T ID) (items : FailingGraph (Fault E))
-        → ShowsLists walk items ID.eq F.Fn N.FnMut NI.into_iter_gives NI.IntoIter.next_gives id_fn
-        neighbors_fn
-        → AreNodes walk (map walk.node xs) → AreNodes walk (map walk.node ys)
-        → ReachesFailure items (map walk.node xs ++ map walk.node ys) error))) }
+    ensures refused { IfFails result (λ error. OverTwoSets ID.eq F.Fn N.FnMut NI.IntoIterator
+        NI.IntoIter.Iterator id_fn neighbors_fn II1.IntoIterator II1.IntoIter.Iterator
+        II2.IntoIterator II2.IntoIter.Iterator set1 set2 (λ walk items starts1 starts2.
+        ReachesFailure items (starts1 ++ starts2) error)) }
 {
     let met = common_nodes(alloc, set1, set2, id_fn, neighbors_fn)?;
     Ok(closest(alloc, met)?)
 }
 
-/// The common nodes that a search for the closest meets.
+// The common nodes that a search for the closest meets.
 fn common_nodes<T, ID, E, II1, II2, NI, F, N>(
     alloc: Global,
     set1: II1,
@@ -263,31 +247,18 @@ where
     N: FnMut(&T) -> Result<NI, E> + Drop,
     requires id_fn { F.IsAlwaysCallable id_fn }
     requires neighbors_fn { N.IsAlwaysCallable neighbors_fn }
-    requires lists { AlwaysReturns N.FnMut (λ a r.
-        IfOk r (IsFiniteIterable NI.into_iter_gives NI.IntoIter.can_next NI.IntoIter.remaining))
-        neighbors_fn }
-    requires set1 { IsFiniteIterable II1.into_iter_gives
-        II1.IntoIter.can_next II1.IntoIter.remaining set1 }
-    requires set2 { IsFiniteIterable II2.into_iter_gives
-        II2.IntoIter.can_next II2.IntoIter.remaining set2 }
-    ensures closest { IfOk result (λ met. (xs ys : List T)
-        × DrainsTo II1.into_iter_gives II1.IntoIter.next_gives set1 xs
-        × DrainsTo II2.into_iter_gives II2.IntoIter.next_gives set2 ys
-        × ((walk : Numbered T ID) (items : FailingGraph (Fault E))
-        → ShowsLists walk items ID.eq F.Fn N.FnMut NI.into_iter_gives NI.IntoIter.next_gives id_fn
-        neighbors_fn
-        → AreNodes walk (map walk.node xs) → AreNodes walk (map walk.node ys)
-        → HasNoCommonCycle walk.graph (map walk.node xs) (map walk.node ys)
-        → AreClosestCommon walk.graph (map walk.node xs) (map walk.node ys)
+    requires lists { ListsEndOrFail N.FnMut NI.IntoIterator NI.IntoIter.Iterator neighbors_fn }
+    requires set1 { Ends II1.IntoIterator II1.IntoIter.Iterator set1 }
+    requires set2 { Ends II2.IntoIterator II2.IntoIter.Iterator set2 }
+    ensures closest { IfOk result (λ met. OverTwoSets ID.eq F.Fn N.FnMut NI.IntoIterator
+        NI.IntoIter.Iterator id_fn neighbors_fn II1.IntoIterator II1.IntoIter.Iterator
+        II2.IntoIterator II2.IntoIter.Iterator set1 set2 (λ walk items starts1 starts2.
+        HasNoCommonCycle walk.graph starts1 starts2 → AreClosestCommon walk.graph starts1 starts2
         (map walk.node (closest_of (mark_at ID.eq met.known) met.common.items)))) }
-    ensures refused { IfErr result (λ e. IfNode e
-        (λ error. (xs ys : List T) × DrainsTo II1.into_iter_gives II1.IntoIter.next_gives set1 xs
-        × DrainsTo II2.into_iter_gives II2.IntoIter.next_gives set2 ys
-        × ((walk : Numbered T ID) (items : FailingGraph (Fault E))
-        → ShowsLists walk items ID.eq F.Fn N.FnMut NI.into_iter_gives NI.IntoIter.next_gives id_fn
-        neighbors_fn
-        → AreNodes walk (map walk.node xs) → AreNodes walk (map walk.node ys)
-        → ReachesFailure items (map walk.node xs ++ map walk.node ys) error))) }
+    ensures refused { IfFails result (λ error. OverTwoSets ID.eq F.Fn N.FnMut NI.IntoIterator
+        NI.IntoIter.Iterator id_fn neighbors_fn II1.IntoIterator II1.IntoIter.Iterator
+        II2.IntoIterator II2.IntoIter.Iterator set1 set2 (λ walk items starts1 starts2.
+        ReachesFailure items (starts1 ++ starts2) error)) }
 {
     let mut known = HashMap::new(alloc);
     let mut waiting = BinaryHeap::new(alloc);

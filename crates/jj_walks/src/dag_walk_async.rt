@@ -9,3 +9,4 @@ pub use crate::topo_order_lazy::{TopoOrderReverseLazy, topo_order_reverse_lazy};
 pub use crate::topo_order_ok::{
     topo_order_forward_ok as topo_order_forward, topo_order_reverse_ok as topo_order_reverse,
 };
+pub use crate::walk_error::WalkError;

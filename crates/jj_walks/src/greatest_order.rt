@@ -1,18 +1,16 @@
 //! The greatest of the orders in which each node stands before its neighbours.
-ghost use Rattle.std.specs.Prelude.{◌≡◌, ℕ, ◌+◌, ◌<◌, ◌≤◌, ◌∷◌, ◌++◌, [], List, map, length, slice_index, slice_index_or, slice_set, IfOk, IfErr, IsSome, OnOk, MatchOption, eqb, ◌⊎◌};
+ghost use Rattle.std.specs.Prelude.{◌≡◌, ℕ, ◌+◌, ◌<◌, ◌∷◌, [], List, map, length, slice_index, slice_index_or, slice_set, IfOk, IsSome, OnOk, MatchOption};
 ghost use Rattle.std.specs.HashMap.{get};
-ghost use Rattle.std.specs.List.{All, Contains, filter_map};
+ghost use Rattle.std.specs.List.{Contains, filter_map};
 ghost use Rattle.std.specs.List.Sorted.{IsPermutation};
-ghost use Rattle.std.specs.BinaryHeap.{heap_items, KeepsHeap, HeapUnchanged};
+ghost use Rattle.std.specs.BinaryHeap.{heap_items, KeepsHeap};
 ghost use Rattle.std.specs.Ordering.{nat_cmp, ordering_then};
-ghost use Rattle.std.specs.Fn.{AlwaysReturns};
-ghost use Rattle.std.specs.Iterator.{IsFiniteIterable};
-ghost use Rattle.jj_walks.specs.Errors.{IfNode};
-ghost use Rattle.jj_walks.specs.Failing.{BeginsWith, Fault, FailingGraph, HasNoFailure, ReachesFailure, ShowsItems};
+ghost use Rattle.jj_walks.specs.Failing.{Fault, FailingGraph, HasNoFailure, ShowsItems};
 ghost use Rattle.jj_walks.specs.Collecting.{IsCollecting};
-ghost use Rattle.jj_walks.specs.Graph.{HasNoCycle, IsChildFirst, IsGreatestChildFirst, ReachedFrom, ReachesCycle};
+ghost use Rattle.jj_walks.specs.Graph.{HasNoCycle, IsChildFirst, IsGreatestChildFirst};
 ghost use Rattle.jj_walks.specs.Walk.{Numbered, AreNodes, DrainsTo, IsOrderedLike};
 ghost use Rattle.jj_walks.specs.ReadyNodes.{IsStuck, IsNotBelow, TakesGreatestReady, edges_to, places_graph};
+ghost use Rattle.jj_walks.specs.Outcomes.{Ends, FailsOr, IfFails, IsReachedBesideCycle, ItemFails, ListsEnd, OverItems};
 
 use crate::walk_error::WalkError;
 use std::alloc::{AllocError, Global};
@@ -44,35 +42,16 @@ where
     requires id_fn { F.IsAlwaysCallable id_fn }
     requires neighbors_fn { N.IsAlwaysCallable neighbors_fn }
     requires cycle_fn { C.IsAlwaysCallable cycle_fn }
-    requires lists { AlwaysReturns N.FnMut (λ a r.
-        IsFiniteIterable NI.into_iter_gives NI.IntoIter.can_next NI.IntoIter.remaining r)
-        neighbors_fn }
-    requires start { IsFiniteIterable II.into_iter_gives
-        II.IntoIter.can_next II.IntoIter.remaining start }
-    ensures order { IfOk result (λ v. (xs : List T)
-        × DrainsTo II.into_iter_gives II.IntoIter.next_gives start (map Ok xs)
-        × ((walk : Numbered T ID) (items : FailingGraph (Fault E))
-        → ShowsItems walk items ID.eq F.Fn N.FnMut NI.into_iter_gives NI.IntoIter.next_gives id_fn
-        neighbors_fn → AreNodes walk (map walk.node xs)
-        → IsChildFirst walk.graph (map walk.node xs) (map walk.node v.items)
-        × HasNoCycle walk.graph (map walk.node xs) × HasNoFailure items (map walk.node xs)
-        × (IsOrderedLike walk T.cmp → IsGreatestChildFirst walk.graph (map walk.node xs)
-        (map walk.node v.items)))) }
-    ensures node { IfErr result (λ e. IfNode e (λ error.
-        ((xs : List T) × BeginsWith II.into_iter_gives II.IntoIter.next_gives start
-        (map Ok xs ++ Err error ∷ []))
-        ⊎ ((xs : List T) × DrainsTo II.into_iter_gives II.IntoIter.next_gives start (map Ok xs)
-        × ((walk : Numbered T ID) (items : FailingGraph (Fault E))
-        → ShowsItems walk items ID.eq F.Fn N.FnMut NI.into_iter_gives NI.IntoIter.next_gives id_fn
-        neighbors_fn → AreNodes walk (map walk.node xs)
-        → ReachesFailure items (map walk.node xs) error))
-        ⊎ ((x : T) × (xs : List T) × C.post cycle_fn x error
-        × DrainsTo II.into_iter_gives II.IntoIter.next_gives start (map Ok xs)
-        × ((walk : Numbered T ID) (items : FailingGraph (Fault E))
-        → ShowsItems walk items ID.eq F.Fn N.FnMut NI.into_iter_gives NI.IntoIter.next_gives id_fn
-        neighbors_fn → AreNodes walk (map walk.node xs)
-        → ReachedFrom walk.graph (map walk.node xs) (walk.node x)
-        × ReachesCycle walk.graph (map walk.node xs))))) }
+    requires lists { ListsEnd N.FnMut NI.IntoIterator NI.IntoIter.Iterator neighbors_fn }
+    requires start { Ends II.IntoIterator II.IntoIter.Iterator start }
+    ensures order { IfOk result (λ v. OverItems ID.eq F.Fn N.FnMut II.IntoIterator
+        II.IntoIter.Iterator NI.IntoIterator NI.IntoIter.Iterator id_fn neighbors_fn start
+        (λ walk items starts. IsChildFirst walk.graph starts (map walk.node v.items) × HasNoCycle
+        walk.graph starts × HasNoFailure items starts × (IsOrderedLike walk T.cmp
+        → IsGreatestChildFirst walk.graph starts (map walk.node v.items)))) }
+    ensures node { IfFails result (FailsOr ID.eq F.Fn N.FnMut II.IntoIterator II.IntoIter.Iterator
+        NI.IntoIterator NI.IntoIter.Iterator id_fn neighbors_fn start (C.post cycle_fn)
+        IsReachedBesideCycle) }
 {
     let found = collect_nodes(alloc, start, id_fn, neighbors_fn)?;
     let (targets, indegrees) = link(alloc, &found.index_of, &found.neighbor_ids)?;
@@ -83,7 +62,7 @@ where
     }
 }
 
-/// Moves the node at this index, if it still waits, to the nodes that are ready.
+// Moves the node at this index, if it still waits, to the nodes that are ready.
 fn make_ready<T: Ord + Drop>(
     waiting: &mut Vec<Option<T>>,
     ready: &mut BinaryHeap<(T, usize)>,
@@ -112,7 +91,7 @@ pub struct Collected<T, ID: Hash + Eq> {
     pub index_of: HashMap<ID, usize>,
 }
 
-/// Visits all nodes that the starts reach, the last start and the last neighbour first.
+// Visits all nodes that the starts reach, the last start and the last neighbour first.
 fn collect_nodes<T, ID, E, II, NI, F, N>(
     alloc: Global,
     start: II,
@@ -131,11 +110,8 @@ where
     N: FnMut(&T) -> NI + Drop,
     requires id_fn { F.IsAlwaysCallable id_fn }
     requires neighbors_fn { N.IsAlwaysCallable neighbors_fn }
-    requires lists { AlwaysReturns N.FnMut (λ a r.
-        IsFiniteIterable NI.into_iter_gives NI.IntoIter.can_next NI.IntoIter.remaining r)
-        neighbors_fn }
-    requires start { IsFiniteIterable II.into_iter_gives
-        II.IntoIter.can_next II.IntoIter.remaining start }
+    requires lists { ListsEnd N.FnMut NI.IntoIterator NI.IntoIter.Iterator neighbors_fn }
+    requires start { Ends II.IntoIterator II.IntoIter.Iterator start }
     ensures collected { IfOk result (λ found. (xs given : List T)
         × DrainsTo II.into_iter_gives II.IntoIter.next_gives start (map Ok xs)
         × (found.nodes.items ≡ map (λ x. Some x) given)
@@ -146,14 +122,8 @@ where
         neighbors_fn → AreNodes walk (map walk.node xs)
         → IsCollecting walk items (map walk.node xs) (get ID.eq found.index_of) [] given
         (map (λ v. v.items) found.neighbor_ids.items))) }
-    ensures failed { IfErr result (λ e. IfNode e (λ error.
-        ((xs : List T) × BeginsWith II.into_iter_gives II.IntoIter.next_gives start
-        (map Ok xs ++ Err error ∷ []))
-        ⊎ ((xs : List T) × DrainsTo II.into_iter_gives II.IntoIter.next_gives start (map Ok xs)
-        × ((walk : Numbered T ID) (items : FailingGraph (Fault E))
-        → ShowsItems walk items ID.eq F.Fn N.FnMut NI.into_iter_gives NI.IntoIter.next_gives id_fn
-        neighbors_fn → AreNodes walk (map walk.node xs)
-        → ReachesFailure items (map walk.node xs) error)))) }
+    ensures failed { IfFails result (ItemFails ID.eq F.Fn N.FnMut II.IntoIterator
+        II.IntoIter.Iterator NI.IntoIterator NI.IntoIter.Iterator id_fn neighbors_fn start) }
 {
     let mut stack = Vec::new(alloc);
     for item in start {

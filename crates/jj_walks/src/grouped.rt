@@ -112,7 +112,7 @@ where
         }
     }
 
-    /// Reads one node more: whether there was one.
+    // Reads one node more: whether there was one.
     fn read_next(&mut self) -> Result<bool, GroupedGraphError<E>>
         requires { CanRead F.Fn ID.eq ID.is_clone S.can_next S.remaining self.old }
         ensures as_id { self.new.as_id ≡ self.old.as_id }

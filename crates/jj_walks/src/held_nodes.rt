@@ -33,6 +33,7 @@ pub enum Ready<N, ID> {
 }
 
 impl<N: Drop, ID: Hash + Eq + Clone + Drop> HeldNodes<N, ID> {
+    /// No nodes.
     pub fn new(alloc: Global) -> Self
         ensures { Keeps ID.eq [] result }
     {
@@ -43,6 +44,7 @@ impl<N: Drop, ID: Hash + Eq + Clone + Drop> HeldNodes<N, ID> {
         }
     }
 
+    /// Whether no node is held.
     pub fn is_empty(&self) -> bool
         ensures { (h : History N ID) → Keeps ID.eq h self.now → IsTrue result
             ↔ (held ID.eq h ≡ []) }
@@ -50,6 +52,7 @@ impl<N: Drop, ID: Hash + Eq + Clone + Drop> HeldNodes<N, ID> {
         self.nodes.is_empty()
     }
 
+    /// Whether the node of the id is held.
     pub fn is_held(&self, id: &ID) -> bool
         ensures { result ≡ is_some (get ID.eq self.now.nodes id.now) }
     {
@@ -114,7 +117,7 @@ impl<N: Drop, ID: Hash + Eq + Clone + Drop> HeldNodes<N, ID> {
     }
 }
 
-/// Makes the id a head, if it was not counted before.
+// Makes the id a head, if it was not counted before.
 fn list_head<ID: Hash + Eq + Clone + Drop>(
     counts: &mut HashMap<ID, usize>,
     candidates: &mut Candidates<ID>,
@@ -144,7 +147,7 @@ fn list_head<ID: Hash + Eq + Clone + Drop>(
     Ok(())
 }
 
-/// Counts no edge to the id, if it was not counted before.
+// Counts no edge to the id, if it was not counted before.
 fn count_none<ID: Hash + Eq + Drop>(
     counts: &mut HashMap<ID, usize>,
     id: ID,
@@ -162,7 +165,7 @@ fn count_none<ID: Hash + Eq + Drop>(
     Ok(())
 }
 
-/// Counts one edge more to the target of each edge.
+// Counts one edge more to the target of each edge.
 fn count_edges<ID: Hash + Eq + Clone + Drop>(
     counts: &mut HashMap<ID, usize>,
     edges: &[GraphEdge<ID>],
@@ -181,7 +184,7 @@ fn count_edges<ID: Hash + Eq + Clone + Drop>(
     Ok(())
 }
 
-/// Counts one edge less to the target of each edge.
+// Counts one edge less to the target of each edge.
 fn uncount_edges<ID: Hash + Eq + Drop>(counts: &mut HashMap<ID, usize>, edges: &[GraphEdge<ID>])
     ensures counts { (i : ID) → count_at ID.eq counts.new i
         ≡ count_at ID.eq counts.old i - count_by (leads_to ID.eq i) edges.now }
@@ -194,7 +197,7 @@ fn uncount_edges<ID: Hash + Eq + Drop>(counts: &mut HashMap<ID, usize>, edges: &
     }
 }
 
-/// Counts one edge more to the id.
+// Counts one edge more to the id.
 fn count_up<ID: Hash + Eq + Drop>(counts: &mut HashMap<ID, usize>, id: ID) -> Result<(), AllocError>
     ensures counts { OnOk result ((i : ID) → count_at ID.eq counts.new i
         ≡ count_at ID.eq counts.old i + (if ID.eq id i then 1 else 0)) }
@@ -213,7 +216,7 @@ fn count_up<ID: Hash + Eq + Drop>(counts: &mut HashMap<ID, usize>, id: ID) -> Re
     Ok(())
 }
 
-/// Counts one edge less to the id.
+// Counts one edge less to the id.
 fn count_down<ID: Hash + Eq + Drop>(counts: &mut HashMap<ID, usize>, id: &ID)
     ensures counts { (i : ID) → count_at ID.eq counts.new i
         ≡ count_at ID.eq counts.old i - (if ID.eq id.now i then 1 else 0) }

@@ -64,7 +64,7 @@ where
         Err(WalkError::Node((self.cycle_fn)(node)))
     }
 
-    /// Makes the next nodes ready, where none is.
+    // Makes the next nodes ready, where none is.
     fn refill(&mut self) -> Result<(), WalkError<E>>
         requires { CanGo F.Fn N.FnMut C.FnMut NI.into_iter_gives NI.IntoIter.can_next
             NI.IntoIter.remaining self.old }
@@ -98,7 +98,7 @@ where
         }
     }
 
-    /// Makes this node ready. The order goes on from these starts, or ends with this error.
+    // Makes this node ready. The order goes on from these starts, or ends with this error.
     fn make_ready(&mut self, node: T, start: Vec<T>, failed: Option<E>) -> Result<(), WalkError<E>>
         ensures ready { OnOk result (self.new.ready.items ≡ self.old.ready.items ++ node ∷ []) }
         ensures start { self.new.start ≡ start }
@@ -114,7 +114,7 @@ where
         Ok(())
     }
 
-    /// Makes a chunk of what several starts reach ready, where no node is.
+    // Makes a chunk of what several starts reach ready, where no node is.
     fn look_ahead(&mut self) -> Result<(), WalkError<E>>
         requires can_go { CanGo F.Fn N.FnMut C.FnMut NI.into_iter_gives NI.IntoIter.can_next
             NI.IntoIter.remaining self.old }

@@ -19,8 +19,8 @@ use std::alloc::Global;
 use std::collections::{BinaryHeap, HashMap};
 use std::hash::Hash;
 
-/// The next node to explore: there is none where no node waits, or where one waits after some were
-/// explored and no root, a node without neighbours, was met.
+// The next node to explore: there is none where no node waits, or where one waits after some were
+// explored and no root, a node without neighbours, was met.
 fn next_to_explore<T: Ord>(
     waiting: &mut BinaryHeap<T>,
     explored: usize,
@@ -105,7 +105,7 @@ impl<F, N> Shown<F, N> {
         Ok(list)
     }
 
-    /// Explores the greatest waiting node, again and again.
+    // Explores the greatest waiting node, again and again.
     fn explore<T, ID, E, NI>(
         &mut self,
         alloc: Global,

@@ -1,15 +1,19 @@
 //! The nodes of a set that no other node of it reaches.
-ghost use Rattle.std.specs.Prelude.{◌≡◌, ◌+◌, ◌≤◌, ◌++◌, ◌∷◌, [], true, false, IfOk, OnOk, IfSome, IfNone, IsTrue, MatchBool, List, map, length};
-ghost use Rattle.std.specs.Fn.{AlwaysReturns};
+ghost use Rattle.std.specs.Prelude.{◌≡◌, ◌+◌, ◌≤◌, ◌++◌, ◌∷◌, [], true, false, IfOk, OnOk, IfSome, IfNone, IsTrue, map, length};
 ghost use Rattle.std.specs.HashSet.{contains, Updates, hash_set_len, IsUnique};
-ghost use Rattle.std.specs.Iterator.{IsFiniteIterable};
 ghost use Rattle.std.specs.List.{Contains};
 ghost use Rattle.jj_walks.specs.Graph.{HasNoCycle, IsMaximalIn};
-ghost use Rattle.jj_walks.specs.Walk.{Numbered, AreNodes, DrainsTo, IsShownBy, StandsForNodes};
+ghost use Rattle.jj_walks.specs.Walk.{StandsForNodes};
+ghost use Rattle.jj_walks.specs.Outcomes.{ClonesAreEqual, Ends, ListsEnd, OverNodes};
 
+use crate::all_ok::AllOk;
+use crate::maximal_ok::heads_ok;
+use crate::walk_error::WalkError;
 use std::alloc::{AllocError, Global};
 use std::collections::{HashSet, VecDeque};
+use std::convert::Infallible;
 use std::hash::Hash;
+use std::marker::PhantomData;
 
 /// Takes a neighbour out of the heads, and lets it wait if its id is new.
 pub fn meet<T: Hash + Eq + Drop, ID: Hash + Eq + Drop>(
@@ -75,43 +79,32 @@ where
     N: FnMut(&T) -> NI + Drop,
     requires id_fn { F.IsAlwaysCallable id_fn }
     requires neighbors_fn { N.IsAlwaysCallable neighbors_fn }
-    requires lists { AlwaysReturns N.FnMut (λ a r.
-        IsFiniteIterable NI.into_iter_gives NI.IntoIter.can_next NI.IntoIter.remaining r)
-        neighbors_fn }
-    requires start { IsFiniteIterable II.into_iter_gives
-        II.IntoIter.can_next II.IntoIter.remaining start }
-    requires clones { (x y : T) → T.is_clone x y → IsTrue (T.eq x y) }
-    ensures heads { IfOk result (λ s. (xs : List T)
-        × DrainsTo II.into_iter_gives II.IntoIter.next_gives start xs
-        × ((walk : Numbered T ID)
-        → IsShownBy walk ID.eq F.Fn N.FnMut NI.into_iter_gives NI.IntoIter.next_gives id_fn
-        neighbors_fn → AreNodes walk (map walk.node xs)
-        → HasNoCycle walk.graph (map walk.node xs) → StandsForNodes walk T.eq
-        → IsMaximalIn walk.graph (map walk.node xs) (map walk.node s.keys))) }
+    requires lists { ListsEnd N.FnMut NI.IntoIterator NI.IntoIter.Iterator neighbors_fn }
+    requires start { Ends II.IntoIterator II.IntoIter.Iterator start }
+    requires clones { ClonesAreEqual T.is_clone T.eq }
+    ensures heads { IfOk result (λ s. OverNodes ID.eq F.Fn N.FnMut II.IntoIterator
+        II.IntoIter.Iterator NI.IntoIterator NI.IntoIter.Iterator id_fn neighbors_fn start
+        (λ walk starts. HasNoCycle walk.graph starts → StandsForNodes walk T.eq → IsMaximalIn
+        walk.graph starts (map walk.node s.keys))) }
 {
-    let mut heads = HashSet::new(alloc);
-    let mut visited = HashSet::new(alloc);
-    let mut waiting = VecDeque::new(alloc);
-    for node in start {
-        if heads.contains(&node) {
-            continue;
-        }
-        visited.insert(id_fn(&node))?;
-        heads.insert(node.clone()?)?;
-        waiting.push_back(node)?;
+    let start = AllOk {
+        items: start.into_iter(),
+        error: PhantomData,
+    };
+    let found: Result<HashSet<T>, WalkError<Infallible>> = heads_ok(
+        alloc,
+        start,
+        id_fn,
+        move |node: &T| AllOk {
+            items: neighbors_fn(node).into_iter(),
+            error: PhantomData,
+        },
+    );
+    match found {
+        Ok(heads) => Ok(heads),
+        Err(refused) => match refused {
+            WalkError::Memory => Err(AllocError),
+            WalkError::Node(never) => match never {},
+        },
     }
-    let mut root_met = false;
-    let mut level = 0;
-    while let Some(node) = next_to_ask(&mut waiting, &mut level, root_met) {
-        // A set never holds 2^63 ids, so the walk ends.
-        let _count = visited.len();
-        let mut is_root = true;
-        for neighbor in neighbors_fn(&node) {
-            is_root = false;
-            let id = id_fn(&neighbor);
-            meet(&mut heads, &mut visited, &mut waiting, neighbor, id)?;
-        }
-        root_met |= is_root;
-    }
-    Ok(heads)
 }

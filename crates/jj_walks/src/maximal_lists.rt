@@ -1,17 +1,18 @@
 //! The maximal nodes of a set, where a list of neighbours may fail as a whole.
-ghost use Rattle.std.specs.Prelude.{IfOk, IfErr, IsTrue, List, map};
-ghost use Rattle.std.specs.Fn.{AlwaysReturns};
-ghost use Rattle.std.specs.Iterator.{IsFiniteIterable};
+ghost use Rattle.std.specs.Prelude.{IfOk, map};
 ghost use Rattle.jj_walks.specs.Graph.{HasNoCycle, IsMaximalIn};
-ghost use Rattle.jj_walks.specs.Failing.{Fault, FailingGraph, ShowsLists, ReachesFailure};
-ghost use Rattle.jj_walks.specs.Walk.{Numbered, AreNodes, DrainsTo, StandsForNodes};
-ghost use Rattle.jj_walks.specs.Errors.{IfNode};
+ghost use Rattle.jj_walks.specs.Failing.{ReachesFailure};
+ghost use Rattle.jj_walks.specs.Walk.{StandsForNodes};
+ghost use Rattle.jj_walks.specs.Outcomes.{ClonesAreEqual, Ends, IfFails, ListsEndOrFail, OverLists};
 
-use crate::maximal::{meet, next_to_ask};
+use crate::all_ok::AllOk;
+use crate::list_or_error::answered;
+use crate::maximal_ok::heads_ok;
 use crate::walk_error::WalkError;
 use std::alloc::Global;
-use std::collections::{HashSet, VecDeque};
+use std::collections::HashSet;
 use std::hash::Hash;
+use std::marker::PhantomData;
 
 /// `heads` where a list of neighbours may fail as a whole: `Node` of the first that is met to fail.
 pub fn heads<T, ID, E, II, NI, F, N>(
@@ -32,53 +33,22 @@ where
     N: FnMut(&T) -> Result<NI, E> + Drop,
     requires id_fn { F.IsAlwaysCallable id_fn }
     requires neighbors_fn { N.IsAlwaysCallable neighbors_fn }
-    requires lists { AlwaysReturns N.FnMut (λ a r.
-        IfOk r (IsFiniteIterable NI.into_iter_gives NI.IntoIter.can_next NI.IntoIter.remaining))
-        neighbors_fn }
-    requires start { IsFiniteIterable II.into_iter_gives
-        II.IntoIter.can_next II.IntoIter.remaining start }
-    requires clones { (x y : T) → T.is_clone x y → IsTrue (T.eq x y) }
-    ensures heads { IfOk result (λ s. (xs : List T)
-        × DrainsTo II.into_iter_gives II.IntoIter.next_gives start xs
-        × ((walk : Numbered T ID) (items : FailingGraph (Fault E))
-        → ShowsLists walk items ID.eq F.Fn N.FnMut NI.into_iter_gives NI.IntoIter.next_gives id_fn
-        neighbors_fn → AreNodes walk (map walk.node xs)
-        → HasNoCycle walk.graph (map walk.node xs) → StandsForNodes walk T.eq
-        → IsMaximalIn walk.graph (map walk.node xs) (map walk.node s.keys))) }
-    ensures refused { IfErr result (λ e. IfNode e
-        (λ error. (xs : List T) × DrainsTo II.into_iter_gives II.IntoIter.next_gives start xs
-        × ((walk : Numbered T ID) (items : FailingGraph (Fault E))
-        → ShowsLists walk items ID.eq F.Fn N.FnMut NI.into_iter_gives NI.IntoIter.next_gives id_fn
-        neighbors_fn → AreNodes walk (map walk.node xs)
-        → ReachesFailure items (map walk.node xs) error))) }
+    requires lists { ListsEndOrFail N.FnMut NI.IntoIterator NI.IntoIter.Iterator neighbors_fn }
+    requires start { Ends II.IntoIterator II.IntoIter.Iterator start }
+    requires clones { ClonesAreEqual T.is_clone T.eq }
+    ensures heads { IfOk result (λ s. OverLists ID.eq F.Fn N.FnMut NI.IntoIterator
+        NI.IntoIter.Iterator id_fn neighbors_fn II.IntoIterator II.IntoIter.Iterator start
+        (λ walk items starts. HasNoCycle walk.graph starts → StandsForNodes walk T.eq → IsMaximalIn
+        walk.graph starts (map walk.node s.keys))) }
+    ensures refused { IfFails result (λ error. OverLists ID.eq F.Fn N.FnMut NI.IntoIterator
+        NI.IntoIter.Iterator id_fn neighbors_fn II.IntoIterator II.IntoIter.Iterator start
+        (λ walk items starts. ReachesFailure items starts error)) }
 {
-    let mut heads = HashSet::new(alloc);
-    let mut visited = HashSet::new(alloc);
-    let mut waiting = VecDeque::new(alloc);
-    for node in start {
-        if heads.contains(&node) {
-            continue;
-        }
-        visited.insert(id_fn(&node))?;
-        heads.insert(node.clone()?)?;
-        waiting.push_back(node)?;
-    }
-    let mut root_met = false;
-    let mut level = 0;
-    while let Some(node) = next_to_ask(&mut waiting, &mut level, root_met) {
-        // A set never holds 2^63 ids, so the walk ends.
-        let _count = visited.len();
-        let mut is_root = true;
-        let neighbors = match neighbors_fn(&node) {
-            Ok(list) => list.into_iter(),
-            Err(error) => return Err(WalkError::Node(error)),
-        };
-        for neighbor in neighbors {
-            is_root = false;
-            let id = id_fn(&neighbor);
-            meet(&mut heads, &mut visited, &mut waiting, neighbor, id)?;
-        }
-        root_met |= is_root;
-    }
-    Ok(heads)
+    let start = AllOk {
+        items: start.into_iter(),
+        error: PhantomData,
+    };
+    heads_ok(alloc, start, id_fn, move |node: &T| {
+        answered(neighbors_fn(node))
+    })
 }

@@ -1,11 +1,8 @@
 //! The maximal nodes of a set, over items that may fail.
-ghost use Rattle.std.specs.Prelude.{◌⊎◌, ◌++◌, ◌∷◌, [], IfOk, IfErr, IsTrue, List, map};
-ghost use Rattle.std.specs.Fn.{AlwaysReturns};
-ghost use Rattle.std.specs.Iterator.{IsFiniteIterable};
+ghost use Rattle.std.specs.Prelude.{IfOk, map};
 ghost use Rattle.jj_walks.specs.Graph.{HasNoCycle, IsMaximalIn};
-ghost use Rattle.jj_walks.specs.Failing.{Fault, FailingGraph, ShowsItems, ReachesFailure, BeginsWith};
-ghost use Rattle.jj_walks.specs.Walk.{Numbered, AreNodes, DrainsTo, StandsForNodes};
-ghost use Rattle.jj_walks.specs.Errors.{IfNode};
+ghost use Rattle.jj_walks.specs.Walk.{StandsForNodes};
+ghost use Rattle.jj_walks.specs.Outcomes.{ClonesAreEqual, Ends, IfFails, ItemFails, ListsEnd, OverItems};
 
 use crate::maximal::{meet, next_to_ask};
 use crate::walk_error::WalkError;
@@ -33,27 +30,15 @@ where
     N: FnMut(&T) -> NI + Drop,
     requires id_fn { F.IsAlwaysCallable id_fn }
     requires neighbors_fn { N.IsAlwaysCallable neighbors_fn }
-    requires lists { AlwaysReturns N.FnMut (λ a r.
-        IsFiniteIterable NI.into_iter_gives NI.IntoIter.can_next NI.IntoIter.remaining r)
-        neighbors_fn }
-    requires start { IsFiniteIterable II.into_iter_gives
-        II.IntoIter.can_next II.IntoIter.remaining start }
-    requires clones { (x y : T) → T.is_clone x y → IsTrue (T.eq x y) }
-    ensures heads { IfOk result (λ s. (xs : List T)
-        × DrainsTo II.into_iter_gives II.IntoIter.next_gives start (map Ok xs)
-        × ((walk : Numbered T ID) (items : FailingGraph (Fault E))
-        → ShowsItems walk items ID.eq F.Fn N.FnMut NI.into_iter_gives NI.IntoIter.next_gives id_fn
-        neighbors_fn → AreNodes walk (map walk.node xs)
-        → HasNoCycle walk.graph (map walk.node xs) → StandsForNodes walk T.eq
-        → IsMaximalIn walk.graph (map walk.node xs) (map walk.node s.keys))) }
-    ensures refused { IfErr result (λ e. IfNode e (λ error.
-        ((xs : List T) × BeginsWith II.into_iter_gives II.IntoIter.next_gives start
-        (map Ok xs ++ Err error ∷ []))
-        ⊎ ((xs : List T) × DrainsTo II.into_iter_gives II.IntoIter.next_gives start (map Ok xs)
-        × ((walk : Numbered T ID) (items : FailingGraph (Fault E))
-        → ShowsItems walk items ID.eq F.Fn N.FnMut NI.into_iter_gives NI.IntoIter.next_gives id_fn
-        neighbors_fn → AreNodes walk (map walk.node xs)
-        → ReachesFailure items (map walk.node xs) error)))) }
+    requires lists { ListsEnd N.FnMut NI.IntoIterator NI.IntoIter.Iterator neighbors_fn }
+    requires start { Ends II.IntoIterator II.IntoIter.Iterator start }
+    requires clones { ClonesAreEqual T.is_clone T.eq }
+    ensures heads { IfOk result (λ s. OverItems ID.eq F.Fn N.FnMut II.IntoIterator
+        II.IntoIter.Iterator NI.IntoIterator NI.IntoIter.Iterator id_fn neighbors_fn start
+        (λ walk items starts. HasNoCycle walk.graph starts → StandsForNodes walk T.eq → IsMaximalIn
+        walk.graph starts (map walk.node s.keys))) }
+    ensures refused { IfFails result (ItemFails ID.eq F.Fn N.FnMut II.IntoIterator
+        II.IntoIter.Iterator NI.IntoIterator NI.IntoIter.Iterator id_fn neighbors_fn start) }
 {
     let mut heads = HashSet::new(alloc);
     let mut visited = HashSet::new(alloc);

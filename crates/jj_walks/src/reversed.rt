@@ -16,7 +16,7 @@ use std::alloc::Global;
 use std::collections::HashMap;
 use std::hash::Hash;
 
-/// The edges that lead to each id.
+// The edges that lead to each id.
 type Incoming<ID> = HashMap<ID, Vec<GraphEdge<ID>>>;
 
 /// The nodes from the last to the first, each with the edges that lead to it: to the id of each
@@ -71,7 +71,7 @@ where
     Ok(reversed)
 }
 
-/// Takes out the edges that lead to the id.
+// Takes out the edges that lead to the id.
 fn take_edges<ID: Hash + Eq + Drop>(
     alloc: Global,
     incoming: &mut Incoming<ID>,

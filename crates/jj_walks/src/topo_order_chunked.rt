@@ -1,12 +1,8 @@
 //! A child-first order, a chunk at a time.
-ghost use Rattle.std.specs.Prelude.{◌≡◌, ◌⊎◌, List, [], map, IfOk, IfErr, OnErr};
-ghost use Rattle.std.specs.Fn.{AlwaysReturns};
-ghost use Rattle.std.specs.Iterator.{IsFiniteIterable};
+ghost use Rattle.std.specs.Prelude.{◌≡◌, ◌⊎◌, [], map, IfOk, OnErr};
 ghost use Rattle.jj_walks.specs.Chunks.{IsNextChunk};
-ghost use Rattle.jj_walks.specs.Errors.{IfNode};
-ghost use Rattle.jj_walks.specs.Failing.{Fault, FailingGraph, ReachesFailure, ShowsItems};
-ghost use Rattle.jj_walks.specs.Graph.{ReachedFrom, ReachesCycle};
-ghost use Rattle.jj_walks.specs.Walk.{Numbered, AreNodes};
+ghost use Rattle.jj_walks.specs.Failing.{ReachesFailure};
+ghost use Rattle.jj_walks.specs.Outcomes.{IfFails, InItems, IsReachedBesideCycle, ListsEnd};
 
 use crate::look_ahead::{Chunk, Shown};
 use crate::walk_error::WalkError;
@@ -41,26 +37,18 @@ where
     requires id_fn { F.IsAlwaysCallable id_fn }
     requires neighbors_fn { N.IsAlwaysCallable neighbors_fn }
     requires cycle_fn { C.IsAlwaysCallable cycle_fn }
-    requires lists { AlwaysReturns N.FnMut (λ a r.
-        IsFiniteIterable NI.into_iter_gives NI.IntoIter.can_next NI.IntoIter.remaining r)
-        neighbors_fn }
-    ensures chunk { IfOk result (λ chunk. (walk : Numbered T ID) (items : FailingGraph (Fault E))
-        → ShowsItems walk items ID.eq F.Fn N.FnMut NI.into_iter_gives NI.IntoIter.next_gives id_fn
-        neighbors_fn → AreNodes walk (map walk.node start.old.items)
-        → IsNextChunk walk.graph (map walk.node start.old.items) (map walk.node chunk.items)
-        (map walk.node start.new.items)) }
+    requires lists { ListsEnd N.FnMut NI.IntoIterator NI.IntoIter.Iterator neighbors_fn }
+    ensures chunk { IfOk result (λ chunk. InItems ID.eq F.Fn N.FnMut NI.IntoIterator
+        NI.IntoIter.Iterator id_fn neighbors_fn start.old.items
+        (λ walk items starts. IsNextChunk walk.graph starts (map walk.node chunk.items)
+        (map walk.node start.new.items))) }
     ensures refused_start { OnErr result (start.new.items ≡ []) }
-    ensures node { IfErr result (λ e. IfNode e (λ error.
-        ((walk : Numbered T ID) (items : FailingGraph (Fault E))
-        → ShowsItems walk items ID.eq F.Fn N.FnMut NI.into_iter_gives NI.IntoIter.next_gives id_fn
-        neighbors_fn → AreNodes walk (map walk.node start.old.items)
-        → ReachesFailure items (map walk.node start.old.items) error)
-        ⊎ ((x : T) × C.post cycle_fn x error × ((walk : Numbered T ID)
-        (items : FailingGraph (Fault E))
-        → ShowsItems walk items ID.eq F.Fn N.FnMut NI.into_iter_gives NI.IntoIter.next_gives id_fn
-        neighbors_fn → AreNodes walk (map walk.node start.old.items)
-        → ReachedFrom walk.graph (map walk.node start.old.items) (walk.node x)
-        × ReachesCycle walk.graph (map walk.node start.old.items))))) }
+    ensures node { IfFails result (λ error. InItems ID.eq F.Fn N.FnMut NI.IntoIterator
+        NI.IntoIter.Iterator id_fn neighbors_fn start.old.items
+        (λ walk items starts. ReachesFailure items starts error) ⊎ ((x : T) × C.post cycle_fn x
+        error × InItems ID.eq F.Fn N.FnMut NI.IntoIterator NI.IntoIter.Iterator id_fn neighbors_fn
+        start.old.items
+        (λ walk items starts. IsReachedBesideCycle walk.graph starts (walk.node x)))) }
 {
     let mut graph = Shown {
         id_fn,

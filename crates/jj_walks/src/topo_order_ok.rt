@@ -1,15 +1,12 @@
 //! The orders of `topo_order`, over items that may fail.
-ghost use Rattle.std.specs.Prelude.{◌⊎◌, IfOk, IfErr, IsTrue, List, [], ◌∷◌, ◌++◌, map, reverse};
-ghost use Rattle.std.specs.Fn.{AlwaysReturns};
-ghost use Rattle.std.specs.Iterator.{IsFiniteIterable};
+ghost use Rattle.std.specs.Prelude.{IfOk, map, reverse};
 ghost use Rattle.jj_walks.specs.Graph.{IsPostorder, HasNoCycle, OnCycleFrom};
-ghost use Rattle.jj_walks.specs.Failing.{Fault, FailingGraph, ShowsItems, BeginsWith, HasNoFailure, ReachesFailure};
-ghost use Rattle.jj_walks.specs.Walk.{Numbered, AreNodes, DrainsTo};
-ghost use Rattle.jj_walks.specs.Errors.{IfNode};
+ghost use Rattle.jj_walks.specs.Failing.{HasNoFailure};
+ghost use Rattle.jj_walks.specs.Outcomes.{ClonesAreEqual, Ends, FailsOr, IfFails, ListsEnd, OverItems};
 
+use crate::forward::{Stop, walk_forward};
 use crate::walk_error::WalkError;
 use std::alloc::Global;
-use std::collections::HashSet;
 use std::hash::Hash;
 
 /// The nodes that the starts reach, each once and after its neighbours; later starts and later
@@ -19,7 +16,7 @@ pub fn topo_order_forward_ok<T, ID, E, II, NI, F, N, C>(
     alloc: Global,
     start: II,
     id_fn: F,
-    mut neighbors_fn: N,
+    neighbors_fn: N,
     cycle_fn: C,
 ) -> Result<Vec<T>, WalkError<E>>
 where
@@ -36,70 +33,25 @@ where
     requires id_fn { F.IsAlwaysCallable id_fn }
     requires neighbors_fn { N.IsAlwaysCallable neighbors_fn }
     requires cycle_fn { C.IsAlwaysCallable cycle_fn }
-    requires lists { AlwaysReturns N.FnMut (λ a r.
-        IsFiniteIterable NI.into_iter_gives NI.IntoIter.can_next NI.IntoIter.remaining r)
-        neighbors_fn }
-    requires start { IsFiniteIterable II.into_iter_gives
-        II.IntoIter.can_next II.IntoIter.remaining start }
-    requires clones { (i j : ID) → ID.is_clone i j → IsTrue (ID.eq i j) }
-    ensures order { IfOk result (λ v. (xs : List T)
-        × DrainsTo II.into_iter_gives II.IntoIter.next_gives start (map Ok xs)
-        × ((walk : Numbered T ID) (items : FailingGraph (Fault E))
-        → ShowsItems walk items ID.eq F.Fn N.FnMut NI.into_iter_gives NI.IntoIter.next_gives id_fn
-        neighbors_fn → AreNodes walk (map walk.node xs)
-        → IsPostorder walk.graph (map walk.node xs) (map walk.node v.items)
-        × HasNoCycle walk.graph (map walk.node xs) × HasNoFailure items (map walk.node xs))) }
-    ensures refused { IfErr result (λ e. IfNode e (λ error.
-        ((xs : List T) × BeginsWith II.into_iter_gives II.IntoIter.next_gives start
-        (map Ok xs ++ Err error ∷ []))
-        ⊎ ((xs : List T) × DrainsTo II.into_iter_gives II.IntoIter.next_gives start (map Ok xs)
-        × ((walk : Numbered T ID) (items : FailingGraph (Fault E))
-        → ShowsItems walk items ID.eq F.Fn N.FnMut NI.into_iter_gives NI.IntoIter.next_gives id_fn
-        neighbors_fn → AreNodes walk (map walk.node xs)
-        → ReachesFailure items (map walk.node xs) error))
-        ⊎ ((x : T) × (xs : List T) × C.post cycle_fn x error
-        × DrainsTo II.into_iter_gives II.IntoIter.next_gives start (map Ok xs)
-        × ((walk : Numbered T ID) (items : FailingGraph (Fault E))
-        → ShowsItems walk items ID.eq F.Fn N.FnMut NI.into_iter_gives NI.IntoIter.next_gives id_fn
-        neighbors_fn → AreNodes walk (map walk.node xs)
-        → OnCycleFrom walk.graph (map walk.node xs) (walk.node x))))) }
+    requires lists { ListsEnd N.FnMut NI.IntoIterator NI.IntoIter.Iterator neighbors_fn }
+    requires start { Ends II.IntoIterator II.IntoIter.Iterator start }
+    requires clones { ClonesAreEqual ID.is_clone ID.eq }
+    ensures order { IfOk result (λ v. OverItems ID.eq F.Fn N.FnMut II.IntoIterator
+        II.IntoIter.Iterator NI.IntoIterator NI.IntoIter.Iterator id_fn neighbors_fn start
+        (λ walk items starts. IsPostorder walk.graph starts (map walk.node v.items) × HasNoCycle
+        walk.graph starts × HasNoFailure items starts)) }
+    ensures refused { IfFails result (FailsOr ID.eq F.Fn N.FnMut II.IntoIterator
+        II.IntoIter.Iterator NI.IntoIterator NI.IntoIter.Iterator id_fn neighbors_fn start
+        (C.post cycle_fn) OnCycleFrom) }
 {
-    let mut stack: Vec<(T, bool)> = Vec::new(alloc);
-    for item in start {
-        match item {
-            Ok(node) => stack.push((node, false))?,
-            Err(error) => return Err(WalkError::Node(error)),
-        }
+    match walk_forward(alloc, start, id_fn, neighbors_fn) {
+        Ok(order) => Ok(order),
+        Err(stop) => match stop {
+            Stop::Memory => Err(WalkError::Memory),
+            Stop::Failed(error) => Err(WalkError::Node(error)),
+            Stop::Cycle(node) => Err(WalkError::Node(cycle_fn(node))),
+        },
     }
-    let mut visiting = HashSet::new(alloc);
-    let mut emitted = HashSet::new(alloc);
-    let mut result = Vec::new(alloc);
-    while let Some((node, neighbors_visited)) = stack.pop() {
-        let id = id_fn(&node);
-        if emitted.contains(&id) {
-            continue;
-        }
-        if neighbors_visited {
-            visiting.remove(&id);
-            emitted.insert(id)?;
-            result.push(node)?;
-        } else {
-            // A set never holds 2^63 ids, so the walk ends.
-            let _count = visiting.len();
-            if !visiting.insert(id.clone()?)? {
-                return Err(WalkError::Node(cycle_fn(node)));
-            }
-            let neighbors = neighbors_fn(&node).into_iter();
-            stack.push((node, true))?;
-            for neighbor in neighbors {
-                match neighbor {
-                    Ok(neighbor) => stack.push((neighbor, false))?,
-                    Err(error) => return Err(WalkError::Node(error)),
-                }
-            }
-        }
-    }
-    Ok(result)
 }
 
 /// The nodes that the starts reach, each once and before its neighbours: `topo_order_forward_ok`'s
@@ -126,33 +78,16 @@ where
     requires id_fn { F.IsAlwaysCallable id_fn }
     requires neighbors_fn { N.IsAlwaysCallable neighbors_fn }
     requires cycle_fn { C.IsAlwaysCallable cycle_fn }
-    requires lists { AlwaysReturns N.FnMut (λ a r.
-        IsFiniteIterable NI.into_iter_gives NI.IntoIter.can_next NI.IntoIter.remaining r)
-        neighbors_fn }
-    requires start { IsFiniteIterable II.into_iter_gives
-        II.IntoIter.can_next II.IntoIter.remaining start }
-    requires clones { (i j : ID) → ID.is_clone i j → IsTrue (ID.eq i j) }
-    ensures order { IfOk result (λ v. (xs : List T)
-        × DrainsTo II.into_iter_gives II.IntoIter.next_gives start (map Ok xs)
-        × ((walk : Numbered T ID) (items : FailingGraph (Fault E))
-        → ShowsItems walk items ID.eq F.Fn N.FnMut NI.into_iter_gives NI.IntoIter.next_gives id_fn
-        neighbors_fn → AreNodes walk (map walk.node xs)
-        → IsPostorder walk.graph (map walk.node xs) (reverse (map walk.node v.items))
-        × HasNoCycle walk.graph (map walk.node xs) × HasNoFailure items (map walk.node xs))) }
-    ensures refused { IfErr result (λ e. IfNode e (λ error.
-        ((xs : List T) × BeginsWith II.into_iter_gives II.IntoIter.next_gives start
-        (map Ok xs ++ Err error ∷ []))
-        ⊎ ((xs : List T) × DrainsTo II.into_iter_gives II.IntoIter.next_gives start (map Ok xs)
-        × ((walk : Numbered T ID) (items : FailingGraph (Fault E))
-        → ShowsItems walk items ID.eq F.Fn N.FnMut NI.into_iter_gives NI.IntoIter.next_gives id_fn
-        neighbors_fn → AreNodes walk (map walk.node xs)
-        → ReachesFailure items (map walk.node xs) error))
-        ⊎ ((x : T) × (xs : List T) × C.post cycle_fn x error
-        × DrainsTo II.into_iter_gives II.IntoIter.next_gives start (map Ok xs)
-        × ((walk : Numbered T ID) (items : FailingGraph (Fault E))
-        → ShowsItems walk items ID.eq F.Fn N.FnMut NI.into_iter_gives NI.IntoIter.next_gives id_fn
-        neighbors_fn → AreNodes walk (map walk.node xs)
-        → OnCycleFrom walk.graph (map walk.node xs) (walk.node x))))) }
+    requires lists { ListsEnd N.FnMut NI.IntoIterator NI.IntoIter.Iterator neighbors_fn }
+    requires start { Ends II.IntoIterator II.IntoIter.Iterator start }
+    requires clones { ClonesAreEqual ID.is_clone ID.eq }
+    ensures order { IfOk result (λ v. OverItems ID.eq F.Fn N.FnMut II.IntoIterator
+        II.IntoIter.Iterator NI.IntoIterator NI.IntoIter.Iterator id_fn neighbors_fn start
+        (λ walk items starts. IsPostorder walk.graph starts (reverse (map walk.node v.items))
+        × HasNoCycle walk.graph starts × HasNoFailure items starts)) }
+    ensures refused { IfFails result (FailsOr ID.eq F.Fn N.FnMut II.IntoIterator
+        II.IntoIter.Iterator NI.IntoIterator NI.IntoIter.Iterator id_fn neighbors_fn start
+        (C.post cycle_fn) OnCycleFrom) }
 {
     let mut order = topo_order_forward_ok(alloc, start, id_fn, neighbors_fn, cycle_fn)?;
     order.reverse();

@@ -4,3 +4,5 @@ pub mod Gaps
 pub mod Preorders
 pub mod Sound
 pub mod Grouping
+pub mod Ranks
+pub mod Newest

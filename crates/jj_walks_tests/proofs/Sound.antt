@@ -1,12 +1,14 @@
 -- Iterators over commits whose items never fail.
-use Rattle.std.proofs.Common.{◌≡◌, ℕ, true, None, Some, List, [], ◌∷◌, ◌++◌, map, refl, sym, ◌∙◌, ap, subst, arith, is_some, Result, Ok, Err, reverse, inl, inr, ◌⊎◌}
+use Rattle.std.proofs.Common.{◌≡◌, ℕ, true, None, Some, List, [], ◌∷◌, ◌++◌, map, refl, sym, ◌∙◌, ap, subst, arith, is_some, Result, Ok, Err, reverse, inl, inr, ◌⊎◌, eqb}
+use Rattle.std.specs.Fn.{Called, FnReturnsAt, Mut, Shared}
+use Rattle.std.proofs.lemmas.Fn.{always_returns_same}
 use Rattle.std.specs.Iterator.{YieldsFirst, YieldsFirstBy}
 use Rattle.std.specs.List.{Contains, filter_map}
 use Rattle.std.proofs.lemmas.Iterator.Consumers.{YieldsList-from_first}
 use Rattle.std.proofs.lemmas.List.{map-id}
 use Rattle.std.proofs.lemmas.List.Elements.{Contains-append_right}
 use denote.Ref.{Bor}
-use Rattle.jj_walks.specs.Failing.{AreItems, BeginsWith, Fault, ListsItems}
+use Rattle.jj_walks.specs.Failing.{AreItems, BeginsWith, Fault, ListsItems, ShowsItems}
 use Rattle.jj_walks.specs.Walk.{Numbered, AreNodes, DrainsTo}
 use Rattle.jj_walks.specs.Graph.{IsChildFirst, IsPreorder, ReachedFrom}
 use Rattle.jj_walks.proofs.Collecting.{are_nodes}
@@ -21,7 +23,7 @@ use Rattle.jj_walks_tests.specs.Commits.{commit_with, has_commit, ids_of, known_
 use Rattle.jj_walks_tests.specs.declared.commits.SoundIds.{SoundIds}
 use Rattle.jj_walks_tests.specs.Parents.{shown_item, ids_left, items_left}
 use Rattle.jj_walks_tests.proofs.Preorders.{Preorder-reached}
-use Rattle.jj_walks_tests.proofs.Numbering.{walk_of, node, node_has, node_id, has_found, parents_had, items_of, ids_are, set_are_nodes, set_starts, walk_closed}
+use Rattle.jj_walks_tests.proofs.Numbering.{walk_of, node, node_has, node_id, has_found, parents_had, items_of, items_sound, node_stands, ids_are, set_are_nodes, set_starts, walk_closed}
 
 abbrev pub becomes : SoundCommits → SoundCommits → Type 0
 becomes s t = t ≡ s
@@ -89,6 +91,20 @@ module _ (commits : List Commit) where
             (are_items xs (parents_in commits x.now) (commits_drained commits x.now.parents.items value xs same list d) (λ c h. parents_had commits x.now.parents.items c h));
         first = λ xs e d. absurd (never_fails commits x.now.parents.items value xs e same list d);
       }
+
+  -- Closures that tell a commit's id and list its parents show the graph of the commits.
+  module _ {F N : Type 0} (ids : Shared F (Bor (Bor Commit) × Unit {0}) ℕ) (lists : Mut N (Bor (Bor Commit) × Unit {0}) SoundCommits) (id_fn : F) (neighbors_fn : N)
+      (tells : (x : Bor Commit) (i : ℕ) → FnReturnsAt ids id_fn x i → i ≡ x.now.id)
+      (looks : (a : Bor (Bor Commit) × Unit {0}) (r : SoundCommits) (after : N) → Called lists neighbors_fn a r after
+      → (r.found.commits.now ≡ commits) × (r.found.ids.now ≡ a.0.now.now.parents.items) × (after ≡ neighbors_fn)) where
+    pub commits_shown : ShowsItems (walk_of commits) (items_of commits) eqb ids lists becomes (YieldsFirstBy shown_item items_left) id_fn neighbors_fn
+    commits_shown = record {
+      sound_graph = λ a. items_sound commits (parent_graph commits a);
+      closed = walk_closed commits;
+      apart = λ i j a b. refl;
+      ids_stand = λ x i is h. tells x i h ∙ node_stands commits x is;
+      neighbors = always_returns_same lists _ neighbors_fn (λ a r after h. let k = looks a r after h in (λ here. lists_parents a.0.now r here k.0 k.1, k.2));
+    }
 
   -- the commits of some ids, as starts
   pub known_starts : (ids : List ℕ) (xs : List (Bor Commit)) → map (λ y. y.now) xs ≡ filter_map (commit_with commits) ids → map (node commits) xs ≡ known_ids commits ids

@@ -3,3 +3,4 @@ pub mod Commits
 pub mod Branches
 pub mod Parents
 pub mod Gaps
+pub mod Newest

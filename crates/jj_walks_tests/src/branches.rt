@@ -10,7 +10,7 @@ use crate::commits::{Commit, commit_of};
 use jj_walks::graph::{GraphEdge, GraphNode, GroupedGraphError, TopoGroupedGraph};
 use std::alloc::{AllocError, Global};
 
-/// The edge to a parent, missing where the list has no such commit.
+// The edge to a parent, missing where the list has no such commit.
 fn parent_edge(commits: &[Commit], id: u64) -> GraphEdge<u64>
     ensures { result ≡ parent_edge commits.now id }
 {
@@ -34,7 +34,7 @@ fn parent_edges(
     Ok(edges)
 }
 
-/// The commits with their edges, as an input that never fails.
+// The commits with their edges, as an input that never fails.
 fn shown_commits<'a>(
     alloc: Global,
     commits: &'a [Commit],

@@ -4,6 +4,7 @@ ghost use Rattle.jj_walks.specs.Chunks.{IsNextChunk};
 ghost use Rattle.jj_walks.specs.Errors.{IfNode};
 ghost use Rattle.jj_walks.specs.Graph.{IsChildFirst, ReachesCycle};
 ghost use Rattle.jj_walks_tests.specs.Commits.{known_ids, parent_graph};
+ghost use Rattle.jj_walks_tests.specs.Newest.{IsNewestFirst};
 
 use crate::commits::{Commit, failing_parents_of, sound_commits, sound_parent_ids};
 use jj_walks::dag_walk::WalkError;
@@ -43,13 +44,13 @@ pub fn children_first<'a>(
     Ok(order)
 }
 
-/// The same list in one call: at each place the greatest commit whose children stand before it.
+/// The same list in one call, with the newest commit first of all that may stand there.
 pub fn newest_first<'a>(
     alloc: Global,
     commits: &'a [Commit],
     ids: &'a [u64],
 ) -> Result<Vec<&'a Commit>, WalkError<u64>>
-    ensures order { IfOk result (λ order. IsChildFirst (parent_graph commits.now)
+    ensures order { IfOk result (λ order. IsNewestFirst commits.now
         (known_ids commits.now ids.now) (map (λ commit. commit.now.id) order.items)) }
     ensures cycle { IfErr result (λ e. IfNode e (λ _. ReachesCycle (parent_graph commits.now)
         (known_ids commits.now ids.now))) }
@@ -81,4 +82,51 @@ pub fn next_ids(
         |id: &u64| sound_parent_ids(commits, *id),
         |id: u64| id,
     )
+}
+
+#[cfg(test)]
+mod tests {
+    use super::*;
+    use std::alloc::AllocError;
+    use std::process::Abort;
+    use std::test::Fail;
+
+    fn commit(alloc: Global, time: u64, id: u64, parents: &[u64]) -> Result<Commit, AllocError> {
+        Ok(Commit {
+            time,
+            id,
+            parents: parents.to_vec(alloc)?,
+            text: String::new(alloc),
+        })
+    }
+
+    fn newest_of_five<R: Abort>(rt: &R, alloc: Global) -> Result<(), AllocError> {
+        let mut commits = Vec::new(alloc);
+        commits.push(commit(alloc, 1, 1, &[])?)?;
+        commits.push(commit(alloc, 9, 2, &[1])?)?;
+        commits.push(commit(alloc, 5, 3, &[1])?)?;
+        commits.push(commit(alloc, 5, 4, &[1])?)?;
+        commits.push(commit(alloc, 6, 5, &[2, 3])?)?;
+        let order = match newest_first(alloc, &commits, &[4, 5]) {
+            Ok(order) => order,
+            Err(WalkError::Memory) => return Err(AllocError),
+            Err(WalkError::Node(_id)) => Vec::new(alloc),
+        };
+        let mut ids = Vec::new(alloc);
+        for commit in order.iter() {
+            ids.push(commit.id)?;
+        }
+        assert_eq!(rt; ids.as_slice(), [5, 2, 4, 3, 1].as_slice());
+        Ok(())
+    }
+
+    #[test]
+    fn newest_commits_come_first(rt: HostRuntime) -> Result<(), Fail> {
+        let alloc = rt.alloc();
+        let first = newest_of_five(&rt, alloc);
+        if first.is_err() {
+            newest_of_five(&rt, alloc)?;
+        }
+        Ok(())
+    }
 }

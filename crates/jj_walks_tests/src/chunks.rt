@@ -7,27 +7,27 @@ use std::alloc::{AllocError, Global};
 use std::process::Abort;
 use std::test::Fail;
 
-/// D over B and C, those over A.
+// D over B and C, those over A.
 const SQUARE: FailingTable<'static> = &[
     ('D', &[Ok('B'), Ok('C')]),
     ('B', &[Ok('A')]),
     ('C', &[Ok('A')]),
 ];
 
-/// 2 and 3 over 1, and 1 over 0.
+// 2 and 3 over 1, and 1 over 0.
 const JOINED: FailingTable<'static> = &[('2', &[Ok('1')]), ('3', &[Ok('1')]), ('1', &[Ok('0')])];
 
-/// Two chains, of which one has its root above the end of the other.
+// Two chains, of which one has its root above the end of the other.
 const GREAT_ROOT: FailingTable<'static> = &[
     ('b', &[Ok('a')]),
     ('B', &[Ok('A')]),
     ('A', &[Ok('b')]),
 ];
 
-/// Each is its own neighbour.
+// Each is its own neighbour.
 const ROUND: FailingTable<'static> = &[('a', &[Ok('a')]), ('x', &[Ok('x')])];
 
-/// B to A and to a failed item, C to B.
+// B to A and to a failed item, C to B.
 const BROKEN: FailingTable<'static> = &[('B', &[Ok('A'), Err('X')]), ('C', &[Ok('B')])];
 
 fn next_chunk(
@@ -44,7 +44,7 @@ fn next_chunk(
     )
 }
 
-/// Takes a chunk and says whether it is what is wanted, in some order, and so is what it leaves.
+// Takes a chunk and says whether it is what is wanted, in some order, and so is what it leaves.
 fn gives<R: Abort>(
     rt: &R,
     alloc: Global,

@@ -9,7 +9,7 @@ use std::ops::Range;
 use std::process::Abort;
 use std::test::Fail;
 
-/// D and E over B and C, those over A.
+// D and E over B and C, those over A.
 const CROSSED: Table<'static> = &[
     ('D', &['B', 'C']),
     ('E', &['B', 'C']),
@@ -17,13 +17,13 @@ const CROSSED: Table<'static> = &[
     ('C', &['A']),
 ];
 
-/// 1 and 2 over 9, and 9 over 5.
+// 1 and 2 over 9, and 9 over 5.
 const JOINED: Table<'static> = &[('1', &['9']), ('2', &['9']), ('9', &['5'])];
 
-/// Each of the two leads to the other.
+// Each of the two leads to the other.
 const PAIR: Table<'static> = &[('A', &['B']), ('B', &['A'])];
 
-/// A cycle above the other set, and one below a common node.
+// A cycle above the other set, and one below a common node.
 const ROUNDS: Table<'static> = &[
     ('A', &['B']),
     ('B', &['C', 'A']),
@@ -32,8 +32,8 @@ const ROUNDS: Table<'static> = &[
     ('E', &['D']),
 ];
 
-/// X and Y each lead to the other through the lesser of two common nodes, which is above the
-/// greater.
+// X and Y each lead to the other through the lesser of two common nodes, which is above the
+// greater.
 const STEEP: Table<'static> = &[
     ('X', &['P', 'B']),
     ('Y', &['P', 'B']),
@@ -122,10 +122,10 @@ fn closest_of_failing_lists(rt: HostRuntime) -> Result<(), Fail> {
     Ok(())
 }
 
-/// Where the two sides of a chain part.
+// Where the two sides of a chain part.
 const BASE: u64 = 100_000;
 
-/// A chain from `BASE` down to 0, and above it two chains, of the odd and of the even numbers.
+// A chain from `BASE` down to 0, and above it two chains, of the odd and of the even numbers.
 fn beside(node: u64) -> Range<u64> {
     if node == 0 {
         0..0
@@ -136,7 +136,7 @@ fn beside(node: u64) -> Range<u64> {
     }
 }
 
-/// The closest nodes of two sets of one node in these chains, and how many lists were asked for.
+// The closest nodes of two sets of one node in these chains, and how many lists were asked for.
 fn counted_chain(
     alloc: Global,
     first: u64,
@@ -156,7 +156,7 @@ fn counted_chain(
     Ok((nodes, calls.get()))
 }
 
-/// 40 squares, one below the other, where lower nodes have greater numbers.
+// 40 squares, one below the other, where lower nodes have greater numbers.
 fn squares(node: u64) -> Range<u64> {
     if node >= 120 {
         0..0

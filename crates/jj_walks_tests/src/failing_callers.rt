@@ -21,7 +21,7 @@ pub enum Gap {
     Text(String),
 }
 
-/// Whether the list has a commit of each of these ids.
+// Whether the list has a commit of each of these ids.
 fn has_all(commits: &[Commit], ids: &[u64]) -> bool
     ensures { result ≡ has_ids commits.now ids.now }
 {
@@ -33,7 +33,7 @@ fn has_all(commits: &[Commit], ids: &[u64]) -> bool
     true
 }
 
-/// The parents of a commit, if the list has them all.
+// The parents of a commit, if the list has them all.
 fn whole_parents_of<'a>(
     alloc: Global,
     commits: &'a [Commit],

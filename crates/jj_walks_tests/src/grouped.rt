@@ -4,7 +4,7 @@ use std::alloc::{AllocError, Global};
 use std::process::Abort;
 use std::test::Fail;
 
-/// One item of an input, and one of an answer.
+// One item of an input, and one of an answer.
 enum Item {
     /// A node and the targets of its direct edges.
     Node(char, &'static [char]),
@@ -13,7 +13,7 @@ enum Item {
     Failure(char),
 }
 
-/// What ends an answer.
+// What ends an answer.
 #[derive(Debug, PartialEq, Eq, Clone, Copy)]
 enum End {
     Whole,
@@ -197,7 +197,7 @@ fn grouped_orders(rt: HostRuntime) -> Result<(), Fail> {
     Ok(())
 }
 
-/// A run that ends with an error, and is asked again.
+// A run that ends with an error, and is asked again.
 fn asks_after_the_end<R: Abort>(rt: &R, alloc: Global) -> Result<(), AllocError> {
     let input = input_of(alloc, &[Node('A', &['A'])])?;
     let mut nodes = TopoGroupedGraph::new(alloc, input.into_iter(), letter).stream();

@@ -4,10 +4,10 @@ use std::alloc::{AllocError, Global};
 use std::process::Abort;
 use std::test::Fail;
 
-/// A and B are each the other's neighbour.
+// A and B are each the other's neighbour.
 const PAIR: &[(char, &[char])] = &[('A', &['B']), ('B', &['A'])];
 
-/// A leads back to C, and D to the cycle.
+// A leads back to C, and D to the cycle.
 const ROUND: &[(char, &[char])] = &[
     ('A', &['C']),
     ('B', &['A']),

@@ -1,11 +1,12 @@
 //! Walks over graphs of many nodes: a chain, a fan, and a history full of merges. The head of a
 //! graph is its greatest node, which reaches all others.
-use jj_walks::dag_walk::WalkError;
+use jj_walks::dag_walk::{WalkError, heads, topo_order_forward};
 use jj_walks::dag_walk_async::{
     closest_common_nodes, topo_order_reverse_chunked, topo_order_reverse_lazy,
 };
 use jj_walks::graph::{GraphEdge, GraphNode, GroupedGraphError, TopoGroupedGraph};
 use std::alloc::{AllocError, Global};
+use std::collections::HashSet;
 use std::ops::Range;
 
 /// How the nodes below the head hang together.
@@ -19,7 +20,7 @@ pub enum Shape {
     Merges,
 }
 
-/// The neighbours of a node.
+// The neighbours of a node.
 fn below(shape: Shape, head: u64, node: u64) -> Range<u64> {
     match shape {
         Shape::Chain => node.saturating_sub(1)..node,
@@ -27,6 +28,27 @@ fn below(shape: Shape, head: u64, node: u64) -> Range<u64> {
         Shape::Fan => 0..0,
         Shape::Merges => node.saturating_sub(3)..node,
     }
+}
+
+/// What the head reaches, each node after its neighbours.
+pub fn forward(alloc: Global, shape: Shape, head: u64) -> Result<Vec<u64>, WalkError<u64>> {
+    topo_order_forward(
+        alloc,
+        head..head.saturating_add(1),
+        |node: &u64| *node,
+        |node: &u64| below(shape, head, *node),
+        |node: u64| node,
+    )
+}
+
+/// The nodes below the head that no other of them reaches.
+pub fn maximal(alloc: Global, shape: Shape, head: u64) -> Result<HashSet<u64>, AllocError> {
+    heads(
+        alloc,
+        0..head,
+        |node: &u64| *node,
+        |node: &u64| below(shape, head, *node),
+    )
 }
 
 /// The lazy order of what the head reaches.
@@ -48,7 +70,7 @@ pub fn lazy(alloc: Global, shape: Shape, head: u64) -> Result<Vec<u64>, WalkErro
     Ok(order)
 }
 
-/// Puts the next chunk at the end of the order, and says whether there was one.
+// Puts the next chunk at the end of the order, and says whether there was one.
 fn chunk(
     alloc: Global,
     shape: Shape,
@@ -159,6 +181,34 @@ mod tests {
                 wanted = wanted.saturating_sub(1);
             }
         }
+    }
+
+    #[test]
+    fn long_forward_orders(rt: HostRuntime) -> Result<(), Fail> {
+        let alloc = rt.alloc();
+        for shape in SHAPES {
+            let order = forward(alloc, *shape, HEAD).or_else(|_| forward(alloc, *shape, HEAD));
+            let mut order = found(&rt, order)?;
+            order.reverse();
+            is_whole(&rt, *shape, &order);
+        }
+        Ok(())
+    }
+
+    #[test]
+    fn many_maximal_nodes(rt: HostRuntime) -> Result<(), Fail> {
+        let alloc = rt.alloc();
+        for shape in SHAPES {
+            let nodes = maximal(alloc, *shape, HEAD).or_else(|_| maximal(alloc, *shape, HEAD))?;
+            let wanted = if matches!(shape, Shape::Fan) {
+                100_000
+            } else {
+                1
+            };
+            assert_eq!(rt; nodes.len(), wanted);
+            assert!(rt; nodes.contains(&(HEAD - 1)));
+        }
+        Ok(())
     }
 
     #[test]

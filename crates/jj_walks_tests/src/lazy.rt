@@ -6,20 +6,20 @@ use std::alloc::{AllocError, Global};
 use std::process::Abort;
 use std::test::Fail;
 
-/// D over B and C, those over A.
+// D over B and C, those over A.
 const SQUARE: FailingTable<'static> = &[
     ('D', &[Ok('B'), Ok('C')]),
     ('B', &[Ok('A')]),
     ('C', &[Ok('A')]),
 ];
 
-/// C to B to A.
+// C to B to A.
 const LINEAR: FailingTable<'static> = &[('B', &[Ok('A')]), ('C', &[Ok('B')])];
 
-/// Each is its own neighbour.
+// Each is its own neighbour.
 const ROUND: FailingTable<'static> = &[('a', &[Ok('a')]), ('x', &[Ok('x')])];
 
-/// A leads back to C, and D to the cycle.
+// A leads back to C, and D to the cycle.
 const CYCLE: FailingTable<'static> = &[
     ('A', &[Ok('C')]),
     ('B', &[Ok('A')]),
@@ -27,13 +27,13 @@ const CYCLE: FailingTable<'static> = &[
     ('D', &[Ok('B'), Ok('C')]),
 ];
 
-/// B to A and to a failed item, C to B.
+// B to A and to a failed item, C to B.
 const BROKEN: FailingTable<'static> = &[('B', &[Ok('A'), Err('X')]), ('C', &[Ok('B')])];
 
-/// z is its own neighbour, x has none.
+// z is its own neighbour, x has none.
 const GREAT_ROUND: FailingTable<'static> = &[('z', &[Ok('z')])];
 
-/// F to E to A, and F to D to C to B to A.
+// F to E to A, and F to D to C to B to A.
 const MERGE: FailingTable<'static> = &[
     ('B', &[Ok('A')]),
     ('C', &[Ok('B')]),
@@ -42,7 +42,7 @@ const MERGE: FailingTable<'static> = &[
     ('F', &[Ok('E'), Ok('D')]),
 ];
 
-/// Nested merges whose letters do not follow the order.
+// Nested merges whose letters do not follow the order.
 const NESTED: FailingTable<'static> = &[
     ('b', &[Ok('A')]),
     ('C', &[Ok('A')]),
@@ -54,7 +54,7 @@ const NESTED: FailingTable<'static> = &[
     ('I', &[Ok('C'), Ok('e'), Ok('G'), Ok('h')]),
 ];
 
-/// Two heads over one root.
+// Two heads over one root.
 const TWO_HEADS: FailingTable<'static> = &[
     ('B', &[Ok('A')]),
     ('C', &[Ok('B')]),
@@ -63,11 +63,11 @@ const TWO_HEADS: FailingTable<'static> = &[
     ('F', &[Ok('E'), Ok('D')]),
 ];
 
-/// One head over two roots.
+// One head over two roots.
 const TWO_ROOTS: FailingTable<'static> = &[('B', &[Ok('A')]), ('D', &[Ok('C'), Ok('B')])];
 
-/// The nodes that an order gives, and the error with which it ends.
-/// The root is greater than its children.
+// The nodes that an order gives, and the error with which it ends.
+// The root is greater than its children.
 const GREATER_ROOT: FailingTable<'static> = &[
     ('B', &[Ok('a')]),
     ('C', &[Ok('B')]),
@@ -75,7 +75,7 @@ const GREATER_ROOT: FailingTable<'static> = &[
     ('E', &[Ok('D'), Ok('C')]),
 ];
 
-/// Two ways from G to C, and one from there.
+// Two ways from G to C, and one from there.
 const FORK: FailingTable<'static> = &[
     ('B', &[Ok('A')]),
     ('C', &[Ok('B')]),
@@ -85,8 +85,8 @@ const FORK: FailingTable<'static> = &[
     ('G', &[Ok('E'), Ok('F')]),
 ];
 
-/// The same with a fork that is greater than its children, and a merge that is less than its
-/// parents.
+// The same with a fork that is greater than its children, and a merge that is less than its
+// parents.
 const TURNED_FORK: FailingTable<'static> = &[
     ('B', &[Ok('A')]),
     ('c', &[Ok('B')]),
@@ -120,7 +120,7 @@ fn ordered(
     Ok((given, error))
 }
 
-/// Whether the node stands in the list behind this index.
+// Whether the node stands in the list behind this index.
 fn stands_behind(order: &[char], index: usize, node: char) -> bool {
     for (place, other) in order.iter().enumerate() {
         if place > index && *other == node {
@@ -130,7 +130,7 @@ fn stands_behind(order: &[char], index: usize, node: char) -> bool {
     false
 }
 
-/// Asserts that an order has so many nodes, each before its neighbours.
+// Asserts that an order has so many nodes, each before its neighbours.
 fn orders_all<R: Abort>(
     rt: &R,
     alloc: Global,
@@ -178,7 +178,7 @@ fn each_node_comes_before_its_neighbors(rt: HostRuntime) -> Result<(), Fail> {
     Ok(())
 }
 
-/// Asserts what an order gives, where there is one such order, and its error.
+// Asserts what an order gives, where there is one such order, and its error.
 fn gives<R: Abort>(
     rt: &R,
     alloc: Global,
@@ -232,7 +232,7 @@ fn orders_end_with_their_errors(rt: HostRuntime) -> Result<(), Fail> {
     Ok(())
 }
 
-/// D leads to a cycle, but is not on it.
+// D leads to a cycle, but is not on it.
 fn cycle_below<R: Abort>(rt: &R, alloc: Global) -> Result<(), AllocError> {
     let (given, error) = ordered(alloc, CYCLE, &[Ok('D')])?;
     assert!(rt; given.contains(&'D'));

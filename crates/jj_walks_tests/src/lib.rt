@@ -31,3 +31,5 @@ mod tables;
 mod texts;
 #[cfg(test)]
 mod topo_order_reverse_ord_tests;
+#[cfg(test)]
+mod walk_errors;

@@ -4,7 +4,7 @@ use std::alloc::{AllocError, Global};
 use std::process::Abort;
 use std::test::Fail;
 
-/// D and F over C, F over e, and both over b and A.
+// D and F over C, F over e, and both over b and A.
 const MIXED: &[(char, &[char])] = &[
     ('b', &['A']),
     ('C', &['b']),
@@ -13,7 +13,7 @@ const MIXED: &[(char, &[char])] = &[
     ('F', &['C', 'e']),
 ];
 
-/// D and E over B and C, those over A.
+// D and E over B and C, those over A.
 const CROSSED: &[(char, &[char])] = &[
     ('D', &['B', 'C']),
     ('E', &['B', 'C']),
@@ -21,10 +21,10 @@ const CROSSED: &[(char, &[char])] = &[
     ('C', &['A']),
 ];
 
-/// 3 and 4 over 1, and 2 over 5.
+// 3 and 4 over 1, and 2 over 5.
 const TWO_ROOTS: &[(char, &[char])] = &[('3', &['1']), ('4', &['1']), ('2', &['5'])];
 
-/// B to A and to a failed item, C to B.
+// B to A and to a failed item, C to B.
 const BROKEN: &[(char, &[Result<char, char>])] = &[('B', &[Ok('A'), Err('X')]), ('C', &[Ok('B')])];
 
 fn sets<R: Abort>(rt: &R, alloc: Global) -> Result<(), AllocError> {

@@ -8,10 +8,10 @@ use std::alloc::{AllocError, Global};
 use std::process::Abort;
 use std::test::Fail;
 
-/// C to B to A.
+// C to B to A.
 const LINEAR: &[(char, &[char])] = &[('B', &['A']), ('C', &['B'])];
 
-/// F to E to A, and F to D to C to B to A.
+// F to E to A, and F to D to C to B to A.
 const MERGE: &[(char, &[char])] = &[
     ('B', &['A']),
     ('C', &['B']),
@@ -20,7 +20,7 @@ const MERGE: &[(char, &[char])] = &[
     ('F', &['E', 'D']),
 ];
 
-/// A merge in one arm of a merge.
+// A merge in one arm of a merge.
 const NESTED: &[(char, &[char])] = &[
     ('B', &['A']),
     ('C', &['A']),
@@ -32,7 +32,7 @@ const NESTED: &[(char, &[char])] = &[
     ('I', &['D', 'H']),
 ];
 
-/// Nested merges whose letters do not follow the order.
+// Nested merges whose letters do not follow the order.
 const NESTED_MIXED: &[(char, &[char])] = &[
     ('b', &['A']),
     ('C', &['A']),
@@ -44,7 +44,7 @@ const NESTED_MIXED: &[(char, &[char])] = &[
     ('I', &['C', 'e', 'G', 'h']),
 ];
 
-/// The root is greater than its children.
+// The root is greater than its children.
 const GREAT_ROOT: &[(char, &[char])] = &[
     ('B', &['a']),
     ('C', &['B']),
@@ -52,7 +52,7 @@ const GREAT_ROOT: &[(char, &[char])] = &[
     ('E', &['D', 'C']),
 ];
 
-/// Two ways from G to C, and one from there.
+// Two ways from G to C, and one from there.
 const FORK: &[(char, &[char])] = &[
     ('B', &['A']),
     ('C', &['B']),
@@ -62,7 +62,7 @@ const FORK: &[(char, &[char])] = &[
     ('G', &['E', 'F']),
 ];
 
-/// The same with a fork that is greater than its children.
+// The same with a fork that is greater than its children.
 const GREAT_FORK: &[(char, &[char])] = &[
     ('B', &['A']),
     ('c', &['B']),
@@ -72,7 +72,7 @@ const GREAT_FORK: &[(char, &[char])] = &[
     ('G', &['F', 'D']),
 ];
 
-/// The same with a merge that is less than its parents.
+// The same with a merge that is less than its parents.
 const LESSER_MERGE: &[(char, &[char])] = &[
     ('B', &['A']),
     ('C', &['B']),
@@ -82,7 +82,7 @@ const LESSER_MERGE: &[(char, &[char])] = &[
     ('G', &['f', 'd']),
 ];
 
-/// Two heads over one root.
+// Two heads over one root.
 const TWO_HEADS: &[(char, &[char])] = &[
     ('B', &['A']),
     ('C', &['B']),
@@ -91,10 +91,10 @@ const TWO_HEADS: &[(char, &[char])] = &[
     ('F', &['E', 'D']),
 ];
 
-/// One head over two roots.
+// One head over two roots.
 const TWO_ROOTS: &[(char, &[char])] = &[('B', &['A']), ('D', &['C', 'B'])];
 
-/// Graphs, starts, and the order in which each node stands before its neighbours.
+// Graphs, starts, and the order in which each node stands before its neighbours.
 const REVERSE: &[(Table<'static>, &[char], &[char])] = &[
     (LINEAR, &['C'], &['C', 'B', 'A']),
     (LINEAR, &['C', 'B'], &['C', 'B', 'A']),
@@ -156,10 +156,10 @@ fn forward_order_and_preorder(rt: HostRuntime) -> Result<(), Fail> {
     Ok(())
 }
 
-/// B to A and to a failed item, C to B.
+// B to A and to a failed item, C to B.
 const BROKEN: &[(char, &[Result<char, char>])] = &[('B', &[Ok('A'), Err('X')]), ('C', &[Ok('B')])];
 
-/// The same, where A has a failed item too.
+// The same, where A has a failed item too.
 const BROKEN_TWICE: &[(char, &[Result<char, char>])] = &[
     ('A', &[Err('Y')]),
     ('B', &[Ok('A'), Err('X')]),
@@ -226,7 +226,7 @@ fn is_memory(item: &Option<Result<char, WalkError<char>>>) -> bool {
     matches!(item, Some(Err(WalkError::Memory)))
 }
 
-/// A failed start, which does not end the walk, and a node without neighbours.
+// A failed start, which does not end the walk, and a node without neighbours.
 fn asks_a_failing_walk<R: Abort>(rt: &R, alloc: Global) -> Result<(), AllocError> {
     let mut walk = dfs_ok(
         alloc,

@@ -5,13 +5,13 @@ use std::alloc::{AllocError, Global};
 use std::process::Abort;
 use std::test::Fail;
 
-/// A letter and a number, which is no part of its id.
+// A letter and a number, which is no part of its id.
 type Numbered = (char, u32);
 
-/// Nodes with the types and targets of their edges.
+// Nodes with the types and targets of their edges.
 type Rows<'a> = &'a [(Numbered, &'a [(GraphEdgeType, char)])];
 
-/// Each graph, and the same turned round.
+// Each graph, and the same turned round.
 const TURNED: &[(Rows<'static>, Rows<'static>)] = &[
     (&[], &[]),
     // One edge.
@@ -106,7 +106,7 @@ fn shown(
     Ok(nodes)
 }
 
-/// Whether the nodes are those of the rows, with their edges.
+// Whether the nodes are those of the rows, with their edges.
 fn is_shown(nodes: &[GraphNode<Numbered, char>], rows: Rows<'_>) -> bool {
     nodes.len() == rows.len()
         && nodes.iter().zip(rows).all(|(node, row)| {

@@ -15,7 +15,7 @@ fn texts(alloc: Global, words: &[&str]) -> Result<Vec<String>, AllocError> {
     Ok(texts)
 }
 
-/// The heads of texts that have no neighbours, with their lengths as ids.
+// The heads of texts that have no neighbours, with their lengths as ids.
 fn heads_of_texts(alloc: Global, words: &[&str]) -> Result<HashSet<String>, AllocError> {
     let texts = texts(alloc, words)?;
     heads(
@@ -26,7 +26,7 @@ fn heads_of_texts(alloc: Global, words: &[&str]) -> Result<HashSet<String>, Allo
     )
 }
 
-/// An order of texts that all have the empty text as their id.
+// An order of texts that all have the empty text as their id.
 fn order_by_one_id(alloc: Global, words: &[&str]) -> Result<Vec<String>, WalkError<String>> {
     let texts = texts(alloc, words)?;
     topo_order_forward(

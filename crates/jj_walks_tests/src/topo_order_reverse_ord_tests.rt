@@ -6,22 +6,22 @@ use std::alloc::{AllocError, Global};
 use std::process::Abort;
 use std::test::Fail;
 
-/// Each id with its items: neighbours, or errors in their place.
+// Each id with its items: neighbours, or errors in their place.
 type Rows<'a> = &'a [(u64, &'a [Result<u64, u64>])];
 
-/// Two chains of which the one with the greater end has the smaller root.
+// Two chains of which the one with the greater end has the smaller root.
 const TWO_CHAINS: Rows<'static> = &[(1, &[Ok(9)]), (5, &[Ok(2)])];
 
-/// The same, with an edge listed twice.
+// The same, with an edge listed twice.
 const EDGE_TWICE: Rows<'static> = &[(1, &[Ok(9), Ok(9)]), (5, &[Ok(2)])];
 
-/// Two nodes with one neighbour, which has another.
+// Two nodes with one neighbour, which has another.
 const SHARED: Rows<'static> = &[(1, &[Ok(9)]), (2, &[Ok(9)]), (9, &[Ok(5)])];
 
-/// Two roots under three nodes.
+// Two roots under three nodes.
 const TWO_ROOTS: Rows<'static> = &[(3, &[Ok(1)]), (4, &[Ok(1)]), (2, &[Ok(5)])];
 
-/// A node that becomes the greatest once its child is taken.
+// A node that becomes the greatest once its child is taken.
 const LATE: Rows<'static> = &[
     (8, &[Ok(20), Ok(1)]),
     (7, &[Ok(3)]),
@@ -29,7 +29,7 @@ const LATE: Rows<'static> = &[
     (3, &[Ok(2)]),
 ];
 
-/// A cycle of two, one of itself, and one below a node.
+// A cycle of two, one of itself, and one below a node.
 const CYCLES: Rows<'static> = &[
     (1, &[Ok(2)]),
     (2, &[Ok(1)]),
@@ -39,7 +39,7 @@ const CYCLES: Rows<'static> = &[
     (6, &[Ok(5)]),
 ];
 
-/// 2 has a failed item, and so has 7, which no other node has as a neighbour.
+// 2 has a failed item, and so has 7, which no other node has as a neighbour.
 const FAILING: Rows<'static> = &[
     (1, &[Ok(2), Ok(3)]),
     (2, &[Ok(4), Err(102)]),

@@ -5,7 +5,7 @@ use Rattle.jj_walks.proofs.Errors.{node_weaker}
 use Rattle.jj_walks.proofs.LazyRuns.{IsChildFirst-from_drains, IsCause-from_yields}
 use Rattle.jj_walks_tests.specs.Commits.{known_ids, parent_graph}
 use Rattle.jj_walks_tests.proofs.Numbering.{walk_of, walk_closed, items_of, items_sound, node_stands}
-use Rattle.jj_walks_tests.proofs.Sound.{commits_drained, shown_are, never_fails, lists_parents, known_starts, known_are_nodes, child_first_ids, no_failure}
+use Rattle.jj_walks_tests.proofs.Sound.{commits_drained, shown_are, never_fails, commits_shown, known_starts, known_are_nodes, child_first_ids, no_failure}
 use Rattle.jj_walks_tests.proofs.children_first.children_first.Goals as goal
 
 pub topo_order_reverse_lazy-requires-clause-lists : goal.topo_order_reverse_lazy-requires-clause-lists
@@ -26,13 +26,7 @@ returns-clause-order c =
     (λ p.
     let given = known_starts commits ids p.0 (shown_are p.0 _ (commits_drained commits ids starts (map (λ x. Ok x) p.0) c.sound_commits.ensures.commits c.sound_commits.ensures.ids p.1)) in
     let k = p.2 (walk_of commits) (items_of commits)
-    (record {
-      sound_graph = λ a. items_sound commits (parent_graph commits a);
-      closed = walk_closed commits;
-      apart = λ i j a b. refl;
-      ids_stand = λ x i is h. let e : i ≡ x.now.id = search (rules, h.says.met, h.shows) in e ∙ node_stands commits x is;
-      neighbors = always_returns_same _ _ _ (λ a r f h. (λ here. lists_parents commits a.0.now r here (search (rules, of_calls, h)) (search (rules, of_calls, h)), search (rules, of_calls, h)));
-    })
+    (commits_shown commits _ _ _ _ (λ x i h. search (rules, h.says.met, h.shows)) (λ a r f h. (search (rules, of_calls, h), search (rules, of_calls, h), search (rules, of_calls, h))))
     (rw given (known_are_nodes commits ids)) in
     let it = c.into_iter-commit-iterator.ensures.into_iter_gives in
     let nodes = c.loop-commit.invariant.nodes in
@@ -51,13 +45,7 @@ returns-in-Err-clause-cycle c =
     (λ p.
     let given = known_starts commits ids p.0 (shown_are p.0 _ (commits_drained commits ids starts (map (λ x. Ok x) p.0) c.sound_commits.ensures.commits c.sound_commits.ensures.ids p.1)) in
     let k = p.2 (walk_of commits) (items_of commits)
-    (record {
-      sound_graph = λ a. items_sound commits (parent_graph commits a);
-      closed = walk_closed commits;
-      apart = λ i j a b. refl;
-      ids_stand = λ x i is h. let e : i ≡ x.now.id = search (rules, h.says.met, h.shows) in e ∙ node_stands commits x is;
-      neighbors = always_returns_same _ _ _ (λ a r f h. (λ here. lists_parents commits a.0.now r here (search (rules, of_calls, h)) (search (rules, of_calls, h)), search (rules, of_calls, h)));
-    })
+    (commits_shown commits _ _ _ _ (λ x i h. search (rules, h.says.met, h.shows)) (λ a r f h. (search (rules, of_calls, h), search (rules, of_calls, h), search (rules, of_calls, h))))
     (rw given (known_are_nodes commits ids)) in
     let it = c.into_iter-commit-iterator.ensures.into_iter_gives in
     let nodes = c.loop-commit.invariant.nodes in

@@ -4,7 +4,9 @@ use Rattle.std.proofs.lemmas.Result.{IfOk-weaker, IfErr-weaker}
 use Rattle.jj_walks.proofs.Errors.{node_weaker}
 use Rattle.jj_walks_tests.specs.Commits.{known_ids, parent_graph}
 use Rattle.jj_walks_tests.proofs.Numbering.{walk_of, walk_closed, items_of, items_sound, node_stands}
-use Rattle.jj_walks_tests.proofs.Sound.{commits_drained, shown_are, never_fails, lists_parents, known_starts, known_are_nodes, child_first_ids, no_failure}
+use Rattle.jj_walks_tests.proofs.Sound.{commits_drained, shown_are, never_fails, commits_shown, known_starts, known_are_nodes, no_failure}
+use Rattle.jj_walks.proofs.Renumbered.{renumbered_shows, renumbered_nodes}
+use Rattle.jj_walks_tests.proofs.Newest.{back, commits_compare, free, newest_ids, ranked_items, ranked_walk, ranks_are, to, undo, unused}
 use Rattle.jj_walks_tests.proofs.children_first.newest_first.Goals as goal
 
 pub topo_order_reverse_ord-requires-clause-lists : goal.topo_order_reverse_ord-requires-clause-lists
@@ -14,18 +16,18 @@ pub returns-clause-order : goal.returns-clause-order
 returns-clause-order c =
     let commits = c.args.commits.now in
     let ids = c.args.ids.now in
+    let nodes = known_are_nodes commits ids in
     IfOk-weaker c.topo_order_reverse_ord.result _ _ (λ order p.
     let given = known_starts commits ids p.0 (shown_are p.0 _ (commits_drained commits ids c.sound_commits.result (map (λ x. Ok x) p.0) c.sound_commits.ensures.commits c.sound_commits.ensures.ids p.1)) in
-    let k = p.2 (walk_of commits) (items_of commits)
-    (record {
-      sound_graph = λ a. items_sound commits (parent_graph commits a);
-      closed = walk_closed commits;
-      apart = λ i j a b. refl;
-      ids_stand = λ x i is h. let e : i ≡ x.now.id = search (rules, h.says.met, h.shows) in e ∙ node_stands commits x is;
-      neighbors = always_returns_same _ _ _ (λ a r f h. (λ here. lists_parents commits a.0.now r here (search (rules, of_calls, h)) (search (rules, of_calls, h)), search (rules, of_calls, h)));
-    })
-    (rw given (known_are_nodes commits ids)) in
-    child_first_ids commits (known_ids commits ids) (known_are_nodes commits ids) order.items (rw given at k.0)) c.topo_order_reverse_ord.ensures.order
+    let first = p.2 (walk_of commits) (items_of commits)
+    (commits_shown commits _ _ _ _ (λ x i h. search (rules, h.says.met, h.shows)) (λ a r f h. (search (rules, of_calls, h), search (rules, of_calls, h), search (rules, of_calls, h))))
+    (rw given nodes) in
+    let starts : map (ranked_walk commits).node p.0 ≡ map (to commits) (known_ids commits ids) = ranks_are commits p.0 (rw given nodes) ∙ ap (map (to commits)) given in
+    let ranked = p.2 (ranked_walk commits) (ranked_items commits)
+    (renumbered_shows (walk_of commits) (to commits) (back commits) (unused commits) (undo commits) (free commits) (walk_closed commits) (items_of commits) _ _ _ _ _ _ _
+    (commits_shown commits _ _ _ _ (λ x i h. search (rules, h.says.met, h.shows)) (λ a r f h. (search (rules, of_calls, h), search (rules, of_calls, h), search (rules, of_calls, h)))))
+    (rw starts (renumbered_nodes (walk_of commits) (to commits) (back commits) (unused commits) (undo commits) (free commits) (walk_closed commits) (known_ids commits ids) nodes)) in
+    newest_ids commits (known_ids commits ids) nodes order.items (rw given at first.0) (rw starts at ranked.3 (commits_compare commits))) c.topo_order_reverse_ord.ensures.order
 
 pub returns-clause-cycle : goal.returns-clause-cycle
 returns-clause-cycle c =
@@ -38,25 +40,13 @@ returns-clause-cycle c =
     (λ p.
     let given = known_starts commits ids p.0 (shown_are p.0 _ (commits_drained commits ids starts (map (λ x. Ok x) p.0) c.sound_commits.ensures.commits c.sound_commits.ensures.ids p.1)) in
     let k = p.2 (walk_of commits) (items_of commits)
-    (record {
-      sound_graph = λ a. items_sound commits (parent_graph commits a);
-      closed = walk_closed commits;
-      apart = λ i j a b. refl;
-      ids_stand = λ x i is h. let e : i ≡ x.now.id = search (rules, h.says.met, h.shows) in e ∙ node_stands commits x is;
-      neighbors = always_returns_same _ _ _ (λ a r f h. (λ here. lists_parents commits a.0.now r here (search (rules, of_calls, h)) (search (rules, of_calls, h)), search (rules, of_calls, h)));
-    })
+    (commits_shown commits _ _ _ _ (λ x i h. search (rules, h.says.met, h.shows)) (λ a r f h. (search (rules, of_calls, h), search (rules, of_calls, h), search (rules, of_calls, h))))
     (rw given (known_are_nodes commits ids)) in
     absurd (no_failure commits k.0 k.1 k.3))
     (λ p.
     let given = known_starts commits ids p.1 (shown_are p.1 _ (commits_drained commits ids starts (map (λ x. Ok x) p.1) c.sound_commits.ensures.commits c.sound_commits.ensures.ids p.3)) in
     let k = p.4 (walk_of commits) (items_of commits)
-    (record {
-      sound_graph = λ a. items_sound commits (parent_graph commits a);
-      closed = walk_closed commits;
-      apart = λ i j a b. refl;
-      ids_stand = λ x i is h. let e : i ≡ x.now.id = search (rules, h.says.met, h.shows) in e ∙ node_stands commits x is;
-      neighbors = always_returns_same _ _ _ (λ a r f h. (λ here. lists_parents commits a.0.now r here (search (rules, of_calls, h)) (search (rules, of_calls, h)), search (rules, of_calls, h)));
-    })
+    (commits_shown commits _ _ _ _ (λ x i h. search (rules, h.says.met, h.shows)) (λ a r f h. (search (rules, of_calls, h), search (rules, of_calls, h), search (rules, of_calls, h))))
     (rw given (known_are_nodes commits ids)) in
     rw given at k.1)
     more)

@@ -14,7 +14,7 @@ pub returns-in-Node-clause-gives : goal.returns-in-Node-clause-gives
 returns-in-Node-clause-gives g c = λ h k.
     let before = c.reading.invariant.reads in
     let taken = (rw c.in-Node.is at c.in_ok-node.ensures.taken) (read_on before.1 h) (before.3 h k) in
-    (before.0, before.1, taken.0, before.2, taken.1, taken.2)
+    (before.0, before.1, taken.0, before.2, taken.1, taken.2, c.reading.invariant.as_id)
 
 pub reading-preserved : goal.reading-preserved
 reading-preserved g c =

@@ -7,7 +7,7 @@ use Rattle.jj_walks.proofs.FailingOrders.{NoneFails}
 use Rattle.std.specs.Fn.{AlwaysReturns}
 use Rattle.std.specs.Iterator.{IsFiniteIterable}
 use Rattle.std.specs.HashSet.{contains, hash_set_len}
-use Rattle.jj_walks.proofs.topo_order_ok.topo_order_forward_ok.Given as goal
+use Rattle.jj_walks.proofs.forward.walk_forward.Given as goal
 
 abbrev pub invariant-loop-item : goal.invariant-loop-item
 invariant-loop-item g l = record {

@@ -1,0 +1,9 @@
+-- What an iterator gives whose items stand in an `Ok`.
+use Rattle.std.specs.Prelude.{Option, Result, MatchOption, MatchResult}
+use Rattle.std.specs.declared.option.Option.TheVariants.{None, Some}
+
+-- a call gives the end, or an item in an `Ok`, where one of the other iterator gives the same
+abbrev pub GivesOk : {S T E : Type 0} → (S → Option T → S → Type 0) → S → Option (Result T E) → S
+    → Type 0
+GivesOk steps s r t = MatchOption r (steps s None t)
+    (λ item. MatchResult item (λ x. steps s (Some x) t) (λ _. ⊥))
