@@ -13,3 +13,4 @@ pub mod GlobLowered
 pub mod GlobByteSets
 pub mod GlobLowers
 pub mod GlobEnding
+pub mod GlobFront

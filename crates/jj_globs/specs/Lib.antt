@@ -7,3 +7,4 @@ pub mod GlobEscape
 pub mod GlobPlaces
 pub mod GlobLowering
 pub mod GlobEnding
+pub mod GlobFront

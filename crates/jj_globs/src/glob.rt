@@ -4,6 +4,7 @@ mod class;
 mod ending;
 mod error;
 mod escaping;
+mod front;
 mod live;
 mod pattern;
 mod put;

@@ -256,6 +256,39 @@ fn prefixes<R: Abort>(rt: &R, alloc: Global) -> Result<(), AllocError> {
     Ok(())
 }
 
+// The bytes before the first sign; none where letters match in either case.
+fn fronts<R: Abort>(rt: &R, alloc: Global) -> Result<(), AllocError> {
+    for (text, front) in [
+        ("", ""),
+        ("src/*.rs", "src/"),
+        ("src/**/x", "src"),
+        ("src/é?", "src/é"),
+        ("a\\*b[c]d", "a*b"),
+        ("a{}b{c,d}", "ab"),
+        ("**", ""),
+        ("*a", ""),
+    ] {
+        assert_eq!(rt;
+            glob(rt, alloc, text, true, false)?.front(),
+            front.as_bytes(),
+            "of {text}"
+        );
+    }
+    assert_eq!(rt;
+        glob(rt, alloc, "src/x", true, true)?.front(),
+        "".as_bytes()
+    );
+    Ok(())
+}
+
+#[test]
+fn literal_fronts(rt: HostRuntime) {
+    let alloc = rt.alloc();
+    if fronts(&rt, alloc).is_err() {
+        assert!(rt; fronts(&rt, alloc).is_ok());
+    }
+}
+
 // The texts are those that globset's translation gives, with each byte past ASCII and each sign of
 // a class written out.
 fn regex_texts<R: Abort>(rt: &R, alloc: Global) -> Result<(), AllocError> {

@@ -7,13 +7,13 @@ use jj_globs::glob::{Glob, GlobError};
 use std::alloc::{AllocError, Global};
 use std::process::Abort;
 
-/// How deep groups are nested.
+// How deep groups are nested.
 const DEEPEST: u32 = 3;
 
-/// The bytes of a text: `LONGEST` at most.
+// The bytes of a text: `LONGEST` at most.
 const LONGEST: usize = 8;
 
-/// A piece of a glob's text.
+// A piece of a glob's text.
 #[derive(Drop)]
 enum Piece {
     Byte(u8),
@@ -33,7 +33,7 @@ struct Text {
     len: usize,
 }
 
-/// The places of a text, from before its first byte to behind its last.
+// The places of a text, from before its first byte to behind its last.
 #[derive(Clone, Copy)]
 struct Places([bool; 9]);
 

@@ -11,3 +11,4 @@ pub mod PatternTexts
 pub mod PatternSound
 pub mod PatternTrees
 pub mod PatternAdds
+pub mod PatternOrder

@@ -8,3 +8,4 @@ pub mod WalkParts
 pub mod Wanted
 pub mod Patterns
 pub mod PatternTree
+pub mod PatternOrder

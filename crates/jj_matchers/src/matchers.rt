@@ -7,6 +7,7 @@ mod globs_matcher;
 mod intersection_matcher;
 mod marked_tree;
 mod path_glob_pattern;
+mod pattern_order;
 mod prefix_matcher;
 mod tree_walk;
 mod union_matcher;

@@ -337,6 +337,73 @@ fn builds<R: Abort>(rt: &R, alloc: Global) -> Result<(), AllocError> {
     Ok(())
 }
 
+// Patterns whose fronts lie within one another, are equal, or are all of a text; in any order.
+fn fronts<R: Abort>(rt: &R, alloc: Global) -> Result<(), AllocError> {
+    let rows = [
+        ("d", "b/y"),
+        ("d", "ab"),
+        ("d", "a/b/*.c"),
+        ("d", "a"),
+        ("d", "a/b/x"),
+        ("d", "a/b/*.h"),
+        ("d", "{z,*.md}"),
+        ("d", "b/{x,y}"),
+        ("d", "a/b"),
+    ];
+    let whole = globs(rt, alloc, false, &rows)?;
+    answers(
+        rt,
+        alloc,
+        whole,
+        &[
+            "d/a",
+            "d/ab",
+            "d/a/b",
+            "d/a/b/x",
+            "d/a/b/x.c",
+            "d/a/b/.h",
+            "d/b/x",
+            "d/b/y",
+            "d/z",
+            "d/x.md",
+        ],
+        &[
+            "d/b",
+            "d/abc",
+            "d/a/bc",
+            "d/a/b/xx",
+            "d/a/b/x.d",
+            "d/a/c",
+            "d/b/z",
+            "d/y",
+            "a",
+        ],
+        &[("d/a", "*", "*"), ("d/a/b", "*", "*"), ("d/c", "*", "*")],
+    )?;
+    let prefixes = globs(rt, alloc, true, &rows)?;
+    answers(
+        rt,
+        alloc,
+        prefixes,
+        &["d/a/c", "d/a/bc", "d/ab/c", "d/b/x/c", "d/z/c", "d/x.md/c"],
+        &["d/b", "d/abc", "d/b/xx", "d/y", "d/zz"],
+        &[
+            ("d/a", "**", ""),
+            ("d/b", "*", "*"),
+            ("d/b/y", "**", ""),
+            ("d/y", "*", "*"),
+        ],
+    )
+}
+
+#[test]
+fn patterns_by_their_fronts(rt: HostRuntime) {
+    let alloc = rt.alloc();
+    if fronts(&rt, alloc).is_err() {
+        assert!(rt; fronts(&rt, alloc).is_ok());
+    }
+}
+
 // Checks the fault of a text that is no pattern.
 fn faults<R: Abort>(rt: &R, alloc: Global, text: &str, fault: GlobError) -> Result<(), AllocError> {
     for parsed in [

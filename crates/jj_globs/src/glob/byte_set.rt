@@ -15,7 +15,7 @@ pub struct ByteSet {
 }
 
 impl ByteSet {
-    /// Whether the set holds the byte.
+    // Whether the set holds the byte.
     pub(crate) fn holds(&self, byte: u8) -> bool
         ensures { result ≡ in_set self.now byte }
     {
@@ -23,8 +23,8 @@ impl ByteSet {
         if self.negated { !found } else { found }
     }
 
-    /// The bytes that the ranges hold, with `icase` a letter in either case, or with `negated` all
-    /// others.
+    // The bytes that the ranges hold, with `icase` a letter in either case, or with `negated` all
+    // others.
     pub(crate) fn of_ranges(ranges: &[ByteRange], options: Options, negated: bool) -> ByteSet
         ensures { (b : ℕ) → in_set result b ≡ in_class options (negated, ranges.now) b }
     {

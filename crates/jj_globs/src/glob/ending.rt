@@ -6,7 +6,7 @@ ghost use Rattle.jj_globs.specs.GlobEnding.{IsByte, IsLiteralFrom, fits_back};
 use crate::glob::step::Step;
 use crate::glob::token::Options;
 
-/// The place from which on each step is a byte, and past which no step before it leads.
+// The place from which on each step is a byte, and past which no step before it leads.
 pub(crate) fn literal_end(steps: &[Step]) -> usize
     requires inside { StaysInside steps.now }
     ensures { IsLiteralFrom steps.now result }
@@ -35,7 +35,7 @@ fn place_behind(step: Step, place: usize, end: usize) -> usize
     }
 }
 
-/// Whether the bytes end as these literal steps do.
+// Whether the bytes end as these literal steps do.
 pub(crate) fn ends_as(options: Options, literals: &[Step], bytes: &[u8]) -> bool
     ensures { result ≡ fits_back options (reverse literals.now) (reverse bytes.now) }
 {

@@ -232,8 +232,8 @@ fn run(
     finish(options, below, steps, now)
 }
 
-/// Whether the steps stand for the bytes, or with `below` for a front of them that `/` follows, in
-/// two rows of so many words.
+// Whether the steps stand for the bytes, or with `below` for a front of them that `/` follows, in
+// two rows of so many words.
 #[inline(never)]
 pub(crate) fn run_in_rows<const WORDS: usize>(
     options: Options,

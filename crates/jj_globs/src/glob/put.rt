@@ -6,7 +6,7 @@ use crate::glob::sign::Place;
 use crate::glob::token::{Part, Token};
 use std::alloc::AllocError;
 
-/// A `,`, which stands for itself where no group is open.
+// A `,`, which stands for itself where no group is open.
 pub(crate) fn put_comma(tokens: &mut Vec<Token>, open_groups: usize) -> Result<(), AllocError>
     ensures plain { OnOk result (open_groups ≡ 0
         → reverse tokens.new.items ≡ Token.Part (Part.Byte 44) ∷ reverse tokens.old.items) }
@@ -36,8 +36,8 @@ fn put_or(tokens: &mut Vec<Token>) -> Result<(), AllocError>
     Ok(())
 }
 
-/// The `}` of a group: an alternative without tokens is dropped, and so is a group without
-/// alternatives. Tells whether the group was dropped.
+// The `}` of a group: an alternative without tokens is dropped, and so is a group without
+// alternatives. Tells whether the group was dropped.
 pub(crate) fn put_close(tokens: &mut Vec<Token>) -> Result<bool, AllocError>
     ensures tokens { OnOk result (reverse tokens.new.items
         ≡ with_close (reverse tokens.old.items)) }
@@ -55,7 +55,7 @@ pub(crate) fn put_close(tokens: &mut Vec<Token>) -> Result<bool, AllocError>
     Ok(false)
 }
 
-/// A `**/` at a place.
+// A `**/` at a place.
 pub(crate) fn put_dirs(tokens: &mut Vec<Token>, place: Place) -> Result<(), AllocError>
     ensures { OnOk result (reverse tokens.new.items ≡ with_dirs place (reverse tokens.old.items)) }
 {
@@ -72,7 +72,7 @@ pub(crate) fn put_dirs(tokens: &mut Vec<Token>, place: Place) -> Result<(), Allo
     Ok(())
 }
 
-/// A `**` at a place where its sequence ends.
+// A `**` at a place where its sequence ends.
 pub(crate) fn put_last_dirs(tokens: &mut Vec<Token>, place: Place) -> Result<(), AllocError>
     ensures { OnOk result (reverse tokens.new.items
         ≡ with_last_dirs place (reverse tokens.old.items)) }
@@ -87,7 +87,7 @@ pub(crate) fn put_last_dirs(tokens: &mut Vec<Token>, place: Place) -> Result<(),
     Ok(())
 }
 
-/// Two stars that stand for no directories.
+// Two stars that stand for no directories.
 pub(crate) fn put_two_stars(tokens: &mut Vec<Token>) -> Result<(), AllocError>
     ensures { OnOk result (reverse tokens.new.items ≡ two_stars (reverse tokens.old.items)) }
 {
@@ -105,7 +105,7 @@ fn put_instead(tokens: &mut Vec<Token>, part: Part) -> Result<(), AllocError>
     Ok(())
 }
 
-/// Where a `**` stands that comes next.
+// Where a `**` stands that comes next.
 pub(crate) fn place_of(is_behind_group: bool, tokens: &[Token]) -> Place
     ensures { result ≡ place_of is_behind_group (reverse tokens.now) }
 {

@@ -11,7 +11,7 @@ use crate::glob::sign::{Sign, next_sign};
 use crate::glob::token::{Part, Token};
 use std::alloc::{AllocError, Global};
 
-/// The tokens that a text reads as, or its first fault.
+// The tokens that a text reads as, or its first fault.
 pub(crate) fn read_tokens(alloc: Global, text: &[u8]) -> Result<Vec<Token>, GlobError>
     ensures { MatchResult result (λ tokens. tokens_of text.now ≡ Ok tokens.items)
         (λ error. IsReadingFault error (tokens_of text.now)) }

@@ -3,7 +3,7 @@
 use crate::glob::token::{ByteRange, Class, Options, Part, Token};
 use std::alloc::{AllocError, Global};
 
-/// The text of the regular expression, in which `.` has to match a line feed too.
+// The text of the regular expression, in which `.` has to match a line feed too.
 pub(crate) fn regex_of_tokens(
     alloc: Global,
     tokens: &[Token],

@@ -19,7 +19,7 @@ pub struct OpenGroup {
     pub after: usize,
 }
 
-/// The steps that accept what the tokens stand for.
+// The steps that accept what the tokens stand for.
 pub(crate) fn steps_of(
     alloc: Global,
     tokens: &[Token],

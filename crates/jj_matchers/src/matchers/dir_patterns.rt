@@ -2,9 +2,11 @@
 ghost use Rattle.std.specs.Prelude.{◌≡◌, [], ◌∷◌, ◌++◌, MatchResult};
 ghost use Rattle.std.specs.List.{list_any};
 ghost use Rattle.jj_paths.specs.Names.{path_of};
-ghost use Rattle.jj_matchers.specs.Patterns.{is_match, is_prefix_match, is_stars, accepts_tail, covers_tail};
+ghost use Rattle.jj_matchers.specs.Patterns.{is_stars, accepts_tail, covers_tail};
+ghost use Rattle.jj_matchers.specs.PatternOrder.{fits_text};
 
 use crate::matchers::PathGlobPattern;
+use crate::matchers::pattern_order::{any_in_order, stay_in_order};
 use jj_paths::repo_path::RepoPath;
 use std::alloc::{AllocError, Global};
 use std::marker::Model;
@@ -13,23 +15,32 @@ use std::marker::Model;
 #[derive(Debug, Drop)]
 pub struct DirPatterns {
     patterns: Option<Vec<PathGlobPattern>>,
+    // whether they are known to be in the order of their fronts
+    in_order: bool,
 }
 
 impl Model for DirPatterns {
-    ghost use Rattle.std.specs.Prelude.{List, []};
+    ghost use Rattle.std.specs.Prelude.{◌≡◌, true, List, []};
     ghost use Rattle.std.specs.Option.{option_map_or};
     ghost use Rattle.jj_globs.specs.GlobMeaning.{GlobSpec};
+    ghost use Rattle.jj_matchers.specs.PatternOrder.{is_in_order};
 
     ghost Value = { List GlobSpec };
 
     ghost view = { λ d. option_map_or (λ patterns. patterns.items) d.patterns [] };
+
+    ghost invariant = { λ d. d.in_order ≡ true
+        → is_in_order (option_map_or (λ patterns. patterns.items) d.patterns []) ≡ true };
 }
 
 impl Default for DirPatterns {
     ghost is_default = { λ d. d ≡ [] };
 
     fn default() -> DirPatterns {
-        DirPatterns { patterns: None }
+        DirPatterns {
+            patterns: None,
+            in_order: true,
+        }
     }
 }
 
@@ -39,6 +50,7 @@ impl Clone for DirPatterns {
     fn clone(&self) -> Result<DirPatterns, AllocError> {
         Ok(DirPatterns {
             patterns: self.patterns.clone()?,
+            in_order: self.in_order,
         })
     }
 }
@@ -53,7 +65,9 @@ impl DirPatterns {
     {
         match &mut self.patterns {
             Some(patterns) => {
+                let in_order = self.in_order && stay_in_order(patterns.as_slice(), &pattern);
                 patterns.push(pattern)?;
+                self.in_order = in_order;
             }
             None => {
                 let mut patterns = Vec::new(alloc);
@@ -80,12 +94,7 @@ impl DirPatterns {
         if tail.is_root() {
             return false;
         }
-        let text = tail.as_internal_file_string();
-        if prefix_paths {
-            self.any_prefix_match(text)
-        } else {
-            self.any_match(text)
-        }
+        self.any_fits(prefix_paths, tail.as_internal_file_string())
     }
 
     /// Whether a pattern that accepts what lies below a match covers everything below this tail.
@@ -95,22 +104,21 @@ impl DirPatterns {
         if tail.is_root() {
             self.any_stars()
         } else {
-            self.any_prefix_match(tail.as_internal_file_string())
+            self.any_fits(true, tail.as_internal_file_string())
         }
     }
 
-    fn any_match(&self, text: &str) -> bool
-        ensures { result ≡ list_any (λ glob. is_match glob text.now) self.now }
+    // whether a pattern fits the text
+    fn any_fits(&self, prefix_paths: bool, text: &str) -> bool
+        ensures { result ≡ list_any (λ glob. fits_text prefix_paths glob text.now) self.now }
     {
-        self.as_slice().iter().any(|pattern| pattern.is_match(text))
-    }
-
-    fn any_prefix_match(&self, text: &str) -> bool
-        ensures { result ≡ list_any (λ glob. is_prefix_match glob text.now) self.now }
-    {
-        self.as_slice()
-            .iter()
-            .any(|pattern| pattern.is_prefix_match(text))
+        if self.in_order {
+            any_in_order(self.as_slice(), prefix_paths, text)
+        } else {
+            self.as_slice()
+                .iter()
+                .any(|pattern| pattern.fits(prefix_paths, text))
+        }
     }
 
     fn any_stars(&self) -> bool

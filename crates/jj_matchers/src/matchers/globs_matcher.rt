@@ -208,7 +208,7 @@ impl<'a> GlobsMatcherBuilder<'a> {
     {
         let alloc = *self.dir_patterns.allocator();
         let mut sorted = Vec::from_slice(alloc, self.dir_patterns.as_slice())?;
-        sorted.sort_unstable_by_key(|(dir, _)| *dir);
+        sorted.sort_unstable_by_key(|(dir, pattern)| (*dir, pattern.front()));
         let mut tree = RepoPathTree::default(alloc);
         for (dir, pattern) in &sorted {
             add_pattern(alloc, &mut tree, *dir, pattern)?;

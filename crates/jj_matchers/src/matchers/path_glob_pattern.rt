@@ -3,7 +3,9 @@ ghost use Rattle.std.specs.Prelude.{◌≡◌, ◌==◌, true, false, IsOk, OnOk
 ghost use Rattle.std.specs.List.{list_all};
 ghost use Rattle.jj_globs.specs.GlobText.{tokens_of};
 ghost use Rattle.jj_globs.specs.GlobReads.{IsReadingFault};
+ghost use Rattle.jj_globs.specs.GlobFront.{front_of};
 ghost use Rattle.jj_matchers.specs.Patterns.{is_match, is_prefix_match, is_stars};
+ghost use Rattle.jj_matchers.specs.PatternOrder.{fits_text};
 
 use jj_globs::glob::{Glob, GlobError};
 use std::alloc::{AllocError, Global};
@@ -84,17 +86,35 @@ impl PathGlobPattern {
     }
 
     // whether the pattern stands for the text of a path
-    pub(super) fn is_match(&self, path: &str) -> bool
+    fn is_match(&self, path: &str) -> bool
         ensures { result ≡ is_match self.now path.now }
     {
         self.glob.is_match(path.as_bytes())
     }
 
     // whether it stands for the text of a path, or for a front of it that `/` follows
-    pub(super) fn is_prefix_match(&self, path: &str) -> bool
+    fn is_prefix_match(&self, path: &str) -> bool
         ensures { result ≡ is_prefix_match self.now path.now }
     {
         self.glob.is_prefix_match(path.as_bytes())
+    }
+
+    // whether it stands for the text of a path, or with the flag for a front of it that `/` follows
+    pub(super) fn fits(&self, prefix_paths: bool, path: &str) -> bool
+        ensures { result ≡ fits_text prefix_paths self.now path.now }
+    {
+        if prefix_paths {
+            self.is_prefix_match(path)
+        } else {
+            self.is_match(path)
+        }
+    }
+
+    // the bytes with which every path begins that the pattern stands for
+    pub(super) fn front(&self) -> &[u8]
+        ensures { result.now ≡ front_of self.now }
+    {
+        self.glob.front()
     }
 
     // whether the pattern is one or more stars alone

@@ -24,8 +24,8 @@ pub struct Walk {
     pub entered: Vec<RepoPathBuf>,
 }
 
-/// A directory that a walk has entered, with its answer and the children that the walk has not come
-/// to yet.
+// A directory that a walk has entered, with its answer and the children that the walk has not come
+// to yet.
 #[derive(Drop)]
 struct Entered<'t> {
     dir: RepoPathBuf,

@@ -46,6 +46,7 @@ impl Visit {
         }
     }
 
+    /// Whether no file is to be looked for below the directory.
     pub fn is_nothing(&self) -> bool
         ensures { IsTrue result ↔ (answer_of self.now ≡ nothing) }
     {

@@ -1,6 +1,5 @@
-use Rattle.std.proofs.Common.{◌≡◌, true, false, sym, ap, ◌∙◌}
+use Rattle.std.proofs.Common.{false, sym, ap, ◌∙◌}
 use Rattle.jj_paths.specs.Names.{path_of}
-use Rattle.jj_matchers.specs.Patterns.{pattern_dirs}
 use Rattle.jj_matchers.proofs.PatternSound.{answer_below, answer_is}
 use Rattle.jj_matchers.proofs.PatternTrees.{children_are, no_children_are}
 use Rattle.jj_matchers.proofs.matchers.globs_matcher.GlobsMatcher.answer.Goals as goal

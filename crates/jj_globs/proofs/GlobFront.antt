@@ -1,0 +1,51 @@
+-- Every text that a glob stands for begins with the glob's literal front, and so does every text of which it stands for a
+-- front.
+use Rattle.std.proofs.Common.{◌≡◌, ◌∙◌, ap, sym, subst, refl, ℕ, Bool, true, false, ◌==◌, inl, inr, List, [], ◌∷◌, ◌++◌, append_assoc, if◌then◌else◌}
+use Rattle.std.proofs.lemmas.Bool.Decides.{Decides-eqb}
+use Rattle.jj_globs.specs.declared.glob.token.Part.TheVariants.{Byte, AnyByte, Star, LeadingDirs, InnerDirs, Below, Everything, OneOf}
+use Rattle.jj_globs.specs.declared.glob.token.Token.{Token}
+use Rattle.jj_globs.specs.declared.glob.token.Token.TheVariants.{Part as part, Open, Or, Close}
+use Rattle.jj_globs.specs.declared.glob.token.Options.{Options}
+use Rattle.jj_globs.specs.GlobMeaning.{lower, same_byte, reading_of, Stands, GlobSpec, IsMatch, IsPrefixMatch}
+use Rattle.jj_globs.specs.GlobFront.{leading_bytes, literal_front, front_read, front_of}
+
+-- the bytes begin with the front
+abbrev pub BeginsWith : List ℕ → List ℕ → Type 0
+BeginsWith bytes front = (rest : List ℕ) × (bytes ≡ front ++ rest)
+
+same_alone : (o : Options) → o.icase ≡ false → (a b : ℕ) → same_byte o a b ≡ (a == b)
+same_alone o e a b = ap (λ t. if t then lower a == lower b else a == b) e
+
+stands_behind : (o : Options) → o.icase ≡ false → (ts : List Token) (bs : List ℕ) → Stands o (reading_of ts).here bs → BeginsWith bs (leading_bytes ts)
+stands_behind o e [] bs h = (bs, refl)
+stands_behind o e (part (Byte c) ∷ ts) bs (front, rest, split, (b, is, same), later) =
+    let behind = stands_behind o e ts rest later in
+    let byte : c ≡ b = (Decides-eqb c b).0 (sym (same_alone o e c b) ∙ same) in
+    (behind.0, split ∙ ap (λ l. l ++ rest) is ∙ ap (λ x. x ∷ rest) (sym byte) ∙ ap (λ l. c ∷ l) behind.1)
+stands_behind o e (part AnyByte ∷ ts) bs h = (bs, refl)
+stands_behind o e (part Star ∷ ts) bs h = (bs, refl)
+stands_behind o e (part LeadingDirs ∷ ts) bs h = (bs, refl)
+stands_behind o e (part InnerDirs ∷ ts) bs h = (bs, refl)
+stands_behind o e (part Below ∷ ts) bs h = (bs, refl)
+stands_behind o e (part Everything ∷ ts) bs h = (bs, refl)
+stands_behind o e (part (OneOf class) ∷ ts) bs h = (bs, refl)
+stands_behind o e (Open ∷ ts) bs h = (bs, refl)
+stands_behind o e (Or ∷ ts) bs h = (bs, refl)
+stands_behind o e (Close ∷ ts) bs h = (bs, refl)
+
+stands_fronted : (o : Options) (ts : List Token) (bs : List ℕ) → Stands o (reading_of ts).here bs → BeginsWith bs (literal_front o ts)
+stands_fronted o ts bs h = by_case o.icase refl
+  where
+    by_case : (t : Bool) → o.icase ≡ t → BeginsWith bs (literal_front o ts)
+    by_case true e = (bs, ap (λ (l : List ℕ). l ++ bs) (sym (ap (λ t. if t then [] else leading_bytes ts) e)))
+    by_case false e = subst (BeginsWith bs) (sym (ap (λ t. if t then [] else leading_bytes ts) e)) (stands_behind o e ts bs h)
+
+match_fronted : (g : GlobSpec) (bs : List ℕ) → IsMatch g bs → BeginsWith bs (front_of g)
+unfolding front_of
+match_fronted g bs (ts, reads, h) = subst (BeginsWith bs) (ap (front_read g.options) (sym reads)) (stands_fronted g.options ts bs h)
+
+pub prefix_match_fronted : (g : GlobSpec) (bs : List ℕ) → IsPrefixMatch g bs → BeginsWith bs (front_of g)
+prefix_match_fronted g bs (inl whole) = match_fronted g bs whole
+prefix_match_fronted g bs (inr (front, rest, split, matched)) =
+    let begins = match_fronted g front matched in
+    (begins.0 ++ 47 ∷ rest, split ∙ ap (λ l. l ++ 47 ∷ rest) begins.1 ∙ append_assoc (front_of g) begins.0 (47 ∷ rest))

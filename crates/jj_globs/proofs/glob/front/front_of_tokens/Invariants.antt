@@ -1,0 +1,10 @@
+-- The bytes so far and those with which what is left begins are all.
+use Rattle.std.proofs.Common.{◌≡◌, ◌++◌, length}
+use Rattle.jj_globs.specs.GlobFront.{leading_bytes}
+use Rattle.jj_globs.proofs.glob.front.front_of_tokens.Given as goal
+
+abbrev pub invariant-loop-byte : goal.invariant-loop-byte
+invariant-loop-byte l = l.front.items ++ leading_bytes l.left ≡ leading_bytes l.tokens
+
+abbrev pub decreases-loop-byte : goal.decreases-loop-byte
+decreases-loop-byte l = length l.left

@@ -1,0 +1,14 @@
+-- The bytes so far and those with which what is left of both begins are all.
+use Rattle.std.proofs.Common.{length, ◌-◌, ◌≡◌, ◌+◌, ◌≤◌, nat_eq, drop}
+use Rattle.std.specs.List.{common_prefix_len}
+use Rattle.jj_matchers.proofs.matchers.pattern_order.shared_length.Given as goal
+
+abbrev pub invariant-loop-shared : goal.invariant-loop-shared
+invariant-loop-shared l = record {
+  within : l.shared ≤ length l.front;
+  inside : l.shared ≤ length l.bytes;
+  both : l.shared + common_prefix_len nat_eq (drop l.shared l.front) (drop l.shared l.bytes) ≡ common_prefix_len nat_eq l.front l.bytes;
+}
+
+abbrev pub decreases-loop-shared : goal.decreases-loop-shared
+decreases-loop-shared l = length l.front - l.shared
