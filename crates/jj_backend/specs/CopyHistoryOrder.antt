@@ -28,12 +28,16 @@ then_is_eq Less s = refl
 then_is_eq Equal s = refl
 then_is_eq Greater s = refl
 
-both : (a b : Bool) (r s : Ordering) → a ≡ is_eq r → b ≡ is_eq s → (a && b) ≡ is_eq (ordering_then r s)
+both : (a b : Bool) (r s : Ordering) → a ≡ is_eq r → b ≡ is_eq s
+    → (a && b) ≡ is_eq (ordering_then r s)
 both a b r s p q = ap₂ (λ x y. x && y) p q ∙ then_is_eq r s
 
-pub copy_history_ties : (a b : CopyHistoryValue) → copy_history_eq a b ≡ eq_by_cmp copy_history_cmp a b
-copy_history_ties a b = both _ _ _ _ (path_ties a.current_path b.current_path)
-    (both _ _ _ _ (lists_ties (slice_cmp nat_cmp) texts_ties a.parents b.parents) (texts_ties a.salt b.salt))
+pub copy_history_ties : (a b : CopyHistoryValue)
+    → copy_history_eq a b ≡ eq_by_cmp copy_history_cmp a b
+copy_history_ties a b =
+    let parents = lists_ties (slice_cmp nat_cmp) texts_ties a.parents b.parents in
+    both _ _ _ _ (path_ties a.current_path b.current_path)
+    (both _ _ _ _ parents (texts_ties a.salt b.salt))
 
 pub copy_history_po : IsPartialOrder copy_history_eq (λ a b. Some (copy_history_cmp a b))
 copy_history_po = po copy_history_cmp_total copy_history_ties
@@ -60,5 +64,6 @@ copy_history_hash-respects_eq a b same =
     let parents = (pointwise_decides bytes_decides a.parents b.parents).0 (first_true _ _ others) in
     let salt = (bytes_decides a.salt b.salt).0 (second_true _ _ others) in
     let join : HashWrites → HashWrites → HashWrites = λ x y. x ++ y in
-    ap₂ join (ap₂ join (path_hash-respects_eq a.current_path b.current_path path) (ap (fed.slice (fed.slice fed.u8)) parents))
+    let paths = path_hash-respects_eq a.current_path b.current_path path in
+    ap₂ join (ap₂ join paths (ap (fed.slice (fed.slice fed.u8)) parents))
     (ap (fed.slice fed.u8) salt)

@@ -1,5 +1,5 @@
 //! Callers of jj_backend, with what they promise of its answers.
-ghost use Rattle.std.specs.Prelude.{◌≡◌, ◌∷◌, [], ◌*ℤ◌, pos, false, Some, IfOk, IsTrue, is_some, ◌↔◌};
+ghost use Rattle.std.specs.Prelude.{◌≡◌, ◌∷◌, [], ◌*ℤ◌, pos, true, false, Some, IfOk, IsTrue, is_some, ◌↔◌};
 ghost use Rattle.std.specs.declared.cmp.Ordering.TheVariants.{Less};
 ghost use Rattle.jj_backend.specs.declared.backend.tree_value.TreeValue.TheVariants.{File};
 ghost use Rattle.jiff.specs.Words.{IsTimestampNanos};
@@ -10,8 +10,8 @@ ghost use Rattle.jj_backend.specs.Records.{commit_eq};
 ghost use Rattle.jj_backend.specs.Trees.{value_at};
 
 use jj_backend::backend::{
-    ChangeId, Commit, CopyHistory, FileId, MergedTreeValue, MergedTreeValueExt, MillisSinceEpoch,
-    Timestamp, Tree, TreeId, make_root_commit,
+    ChangeId, Commit, CopyHistory, CopyId, FileId, MergedTreeValue, MergedTreeValueExt,
+    MillisSinceEpoch, Timestamp, Tree, TreeId, TreeValue, make_root_commit,
 };
 use jj_merges::merge::Merge;
 use jj_paths::repo_path::RepoPathComponent;
@@ -76,4 +76,22 @@ pub fn new_file(alloc: Global, id: FileId) -> Result<MergedTreeValue, AllocError
 {
     let ids = Merge::normal(alloc, id);
     MergedTreeValue::absent(alloc).with_new_file_ids(alloc, &ids)
+}
+
+/// An executable file with another id is still executable, and came from the same copy.
+pub fn changed_file(
+    alloc: Global,
+    id: FileId,
+    copy_id: CopyId,
+    new_id: FileId,
+) -> Result<MergedTreeValue, AllocError>
+    ensures { IfOk result (λ merge. merge ≡ Some (File new_id true copy_id) ∷ []) }
+{
+    let file = TreeValue::File {
+        id,
+        executable: true,
+        copy_id,
+    };
+    let ids = Merge::normal(alloc, new_id);
+    MergedTreeValue::normal(alloc, file).with_new_file_ids(alloc, &ids)
 }

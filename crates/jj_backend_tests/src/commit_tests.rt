@@ -1,5 +1,6 @@
-//! The root commit.
-use crate::records::{BEGINNING, signature};
+//! The root commit, and copies of commits.
+use crate::callers::{are_equal, copied};
+use crate::records::{BEGINNING, signature, signed_commit};
 use jj_backend::backend::{ChangeId, Commit, TreeId, make_root_commit};
 use std::alloc::{AllocError, Global};
 use std::process::Abort;
@@ -32,5 +33,18 @@ fn the_root_commit_is_empty(rt: HostRuntime) -> Result<(), Fail> {
     let root = root(alloc).or_else(|_| root(alloc))?;
     assert!(rt; has_no_origin(&root));
     assert!(rt; is_unsigned(alloc, &root).or_else(|_| is_unsigned(alloc, &root))?);
+    Ok(())
+}
+
+fn is_copied(alloc: Global) -> Result<bool, AllocError> {
+    let signed = signed_commit(alloc)?;
+    let copy = copied(&signed)?;
+    Ok(are_equal(&copy, &signed) && !are_equal(&copy, &root(alloc)?))
+}
+
+#[test]
+fn a_copy_of_a_commit_is_equal(rt: HostRuntime) -> Result<(), Fail> {
+    let alloc = rt.alloc();
+    assert!(rt; is_copied(alloc).or_else(|_| is_copied(alloc))?);
     Ok(())
 }

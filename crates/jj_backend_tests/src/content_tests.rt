@@ -1,5 +1,5 @@
 //! Content bytes of records, as hex texts.
-use crate::records::{commit, file, signature};
+use crate::records::{commit, file, signature, signed_commit};
 use jj_backend::backend::{
     CommitId, CopyHistory, CopyId, MillisSinceEpoch, SecureSig, SymlinkId, Timestamp, TreeId,
     TreeValue,
@@ -124,5 +124,22 @@ fn a_commit_is_its_parts(rt: HostRuntime) -> Result<(), Fail> {
          0100000000000000620000000000000000000000000000000000000000\
          00000000"
     );
+    Ok(())
+}
+
+fn signed_content(alloc: Global) -> Result<(String, String), AllocError> {
+    let signed = content_text(alloc, &signed_commit(alloc)?)?;
+    Ok((commit_content(alloc)?, signed))
+}
+
+// The signature comes last, after the number of its variant.
+#[test]
+fn a_signed_commit_ends_with_its_signature(rt: HostRuntime) -> Result<(), Fail> {
+    let alloc = rt.alloc();
+    let (plain, signed) = signed_content(alloc).or_else(|_| signed_content(alloc))?;
+    let sig = "0100000001000000000000000e01000000000000000f";
+    let front = signed.as_str().strip_suffix(sig);
+    assert!(rt; front.is_some());
+    assert!(rt; front == plain.as_str().strip_suffix("00000000"));
     Ok(())
 }

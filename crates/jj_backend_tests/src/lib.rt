@@ -10,6 +10,8 @@ mod commit_tests;
 #[cfg(test)]
 mod content_tests;
 #[cfg(test)]
+mod copy_tests;
+#[cfg(test)]
 mod error_tests;
 #[cfg(test)]
 mod json_tests;

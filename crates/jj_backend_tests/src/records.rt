@@ -1,7 +1,7 @@
 //! Records that the tests are made of.
 use jj_backend::backend::{
-    ChangeId, Commit, CommitId, CopyId, FileId, MillisSinceEpoch, Signature, Timestamp, TreeId,
-    TreeValue,
+    ChangeId, Commit, CommitId, CopyId, FileId, MillisSinceEpoch, SecureSig, Signature, Timestamp,
+    TreeId, TreeValue,
 };
 use jj_merges::merge::Merge;
 use std::alloc::{AllocError, Global};
@@ -54,4 +54,14 @@ pub fn commit(alloc: Global) -> Result<Commit, AllocError> {
         committer: signature(alloc, "b", "", BEGINNING)?,
         secure_sig: None,
     })
+}
+
+/// The same commit with a signature.
+pub fn signed_commit(alloc: Global) -> Result<Commit, AllocError> {
+    let mut commit = commit(alloc)?;
+    commit.secure_sig = Some(SecureSig {
+        signed_data: [14].to_vec(alloc)?,
+        sig: [15].to_vec(alloc)?,
+    });
+    Ok(commit)
 }

@@ -1,9 +1,10 @@
 //! Merges of what stands at a path: whether they are trees, the parts of files, and conflicts in
 //! words.
+use crate::callers::{changed_file, new_file};
 use crate::records::file;
 use jj_backend::backend::{
-    FileId, MergedTreeVal, MergedTreeValue, MergedTreeValueExt, SymlinkId, TreeId, TreeValue,
-    borrow_tree_value,
+    CommitId, CopyId, FileId, MergedTreeVal, MergedTreeValue, MergedTreeValueExt, SymlinkId,
+    TreeId, TreeValue, borrow_tree_value,
 };
 use jj_merges::conflict_labels::ConflictLabels;
 use jj_merges::merge::Merge;
@@ -79,6 +80,31 @@ fn removed_terms_come_first(rt: HostRuntime) -> Result<(), Fail> {
     Ok(())
 }
 
+fn told_of_submodule<R: Abort>(rt: &R, alloc: Global) -> Result<String, AllocError> {
+    let submodule = TreeValue::GitSubmodule(CommitId::from_bytes(alloc, &[4])?);
+    let conflict = merge(
+        rt,
+        alloc,
+        None,
+        Some(submodule),
+        Some(file(alloc, 1, true)?),
+    )?;
+    conflict.describe(alloc, &labels(rt, alloc)?)
+}
+
+// The base has an empty label, which is not told.
+#[test]
+fn submodules_in_words(rt: HostRuntime) -> Result<(), Fail> {
+    let alloc = rt.alloc();
+    let text = told_of_submodule(&rt, alloc).or_else(|_| told_of_submodule(&rt, alloc))?;
+    assert_eq!(rt;
+        text.as_str(),
+        "Conflict:\n  Removing Git submodule with id 04\n\
+         \x20 Adding executable file with id 01 (right)\n"
+    );
+    Ok(())
+}
+
 fn kinds(merge: &MergedTreeValue) -> (bool, bool) {
     (merge.is_tree(), merge.is_file_like())
 }
@@ -94,9 +120,16 @@ fn kinds_of_conflicts<R: Abort>(rt: &R, alloc: Global) -> Result<bool, AllocErro
     )
 }
 
+fn kinds_of_resolved(alloc: Global) -> Result<bool, AllocError> {
+    let file = Merge::normal(alloc, file(alloc, 1, false)?);
+    let tree = Merge::resolved(alloc, directory(alloc)?);
+    Ok(kinds(&file) == (false, true) && kinds(&tree) == (true, false))
+}
+
 #[test]
 fn trees_and_files(rt: HostRuntime) -> Result<(), Fail> {
     let alloc = rt.alloc();
+    assert!(rt; kinds_of_resolved(alloc).or_else(|_| kinds_of_resolved(alloc))?);
     assert!(rt; kinds_of_conflicts(&rt, alloc).or_else(|_| kinds_of_conflicts(&rt, alloc))?);
     assert!(rt; kinds(&MergedTreeValue::absent(alloc)) == (false, false));
     Ok(())
@@ -117,6 +150,47 @@ fn ids_of_files<R: Abort>(rt: &R, alloc: Global) -> Result<bool, AllocError> {
 fn ids_place_by_place(rt: HostRuntime) -> Result<(), Fail> {
     let alloc = rt.alloc();
     assert!(rt; ids_of_files(&rt, alloc).or_else(|_| ids_of_files(&rt, alloc))?);
+    Ok(())
+}
+
+fn flags_and_copies<R: Abort>(rt: &R, alloc: Global) -> Result<bool, AllocError> {
+    let one = Some(file(alloc, 1, true)?);
+    let files = merge(rt, alloc, one, None, Some(file(alloc, 2, false)?))?;
+    let Some(executable) = files.to_executable_merge(alloc)? else {
+        return Ok(false);
+    };
+    let Some(copies) = files.to_copy_id_merge(alloc)? else {
+        return Ok(false);
+    };
+    let none = || Some(CopyId::placeholder(alloc));
+    Ok(
+        executable.as_slice() == [Some(true), None, Some(false)].as_slice()
+            && copies.as_slice() == [none(), None, none()].as_slice(),
+    )
+}
+
+#[test]
+fn flags_and_copies_place_by_place(rt: HostRuntime) -> Result<(), Fail> {
+    let alloc = rt.alloc();
+    assert!(rt; flags_and_copies(&rt, alloc).or_else(|_| flags_and_copies(&rt, alloc))?);
+    Ok(())
+}
+
+fn files_with_new_ids(alloc: Global) -> Result<bool, AllocError> {
+    let id = FileId::from_bytes(alloc, &[1])?;
+    let new = new_file(alloc, id.clone()?)?;
+    let old = FileId::from_bytes(alloc, &[2])?;
+    let changed = changed_file(alloc, old, CopyId::placeholder(alloc), id)?;
+    Ok(
+        new == Merge::normal(alloc, file(alloc, 1, false)?)
+            && changed == Merge::normal(alloc, file(alloc, 1, true)?),
+    )
+}
+
+#[test]
+fn files_take_new_ids(rt: HostRuntime) -> Result<(), Fail> {
+    let alloc = rt.alloc();
+    assert!(rt; files_with_new_ids(alloc).or_else(|_| files_with_new_ids(alloc))?);
     Ok(())
 }
 

@@ -59,10 +59,12 @@ pub trait Backend {
     /// How many calls at once serve the backend best.
     fn concurrency(&self) -> usize;
 
+    /// The bytes of a file. The path says where the file is, for backends that can use it.
     fn read_file(&self, alloc: Global, path: RepoPath<'_>, id: &FileId) -> BackendResult<Vec<u8>>
         ensures { IsRead (may_fail self.now) ((objects self.now).files id.now)
             (λ v. v.items) result };
 
+    /// Keeps the bytes of a file, and answers its id.
     fn write_file(
         &mut self,
         alloc: Global,
@@ -73,6 +75,7 @@ pub trait Backend {
             (objects self.new) id contents.now) }
         ensures kept { OnErr result (objects self.new ≡ objects self.old) };
 
+    /// The target of a symbolic link.
     fn read_symlink(
         &self,
         alloc: Global,
@@ -82,6 +85,7 @@ pub trait Backend {
         ensures { IsRead (may_fail self.now)
             ((objects self.now).symlinks id.now) string_bytes result };
 
+    /// Keeps the target of a symbolic link, and answers its id.
     fn write_symlink(
         &mut self,
         alloc: Global,
@@ -92,9 +96,11 @@ pub trait Backend {
             (objects self.new) id target.now) }
         ensures kept { OnErr result (objects self.new ≡ objects self.old) };
 
+    /// How a file was copied.
     fn read_copy(&self, alloc: Global, id: &CopyId) -> BackendResult<CopyHistory>
         ensures { IsRead (may_fail self.now) ((objects self.now).copies id.now) (λ c. c) result };
 
+    /// Keeps how a file was copied, and answers its id.
     fn write_copy(&mut self, alloc: Global, copy: &CopyHistory) -> BackendResult<CopyId>
         ensures ok { IfOk result (λ id. AddsCopy (objects self.old)
             (objects self.new) id copy.now) }
@@ -107,9 +113,11 @@ pub trait Backend {
         copy_id: &CopyId,
     ) -> BackendResult<Vec<RelatedCopy>>;
 
+    /// The entries of a directory.
     fn read_tree(&self, alloc: Global, path: RepoPath<'_>, id: &TreeId) -> BackendResult<Tree>
         ensures { IsRead (may_fail self.now) ((objects self.now).trees id.now) (λ t. t) result };
 
+    /// Keeps the entries of a directory, and answers their id.
     fn write_tree(
         &mut self,
         alloc: Global,
@@ -120,6 +128,7 @@ pub trait Backend {
             (objects self.new) id contents.now) }
         ensures kept { OnErr result (objects self.new ≡ objects self.old) };
 
+    /// A commit as it is kept.
     fn read_commit(&self, alloc: Global, id: &CommitId) -> BackendResult<Commit>
         ensures { IsRead (may_fail self.now) ((objects self.now).commits id.now) (λ c. c) result };
 

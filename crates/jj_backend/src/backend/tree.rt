@@ -26,18 +26,21 @@ pub struct TreeEntry<'a> {
 }
 
 impl<'a> TreeEntry<'a> {
+    /// The entry of this name and value.
     pub fn new(name: RepoPathComponent<'a>, value: &'a TreeValue) -> Self
         ensures { entry_of result ≡ (name_of name.entry, value.now) }
     {
         TreeEntry { name, value }
     }
 
+    /// The name in its directory.
     pub fn name(&self) -> RepoPathComponent<'a>
         ensures { name_of result ≡ (entry_of self.now).0 }
     {
         self.name
     }
 
+    /// What stands there.
     pub fn value(&self) -> &'a TreeValue
         ensures { result.now ≡ (entry_of self.now).1 }
     {

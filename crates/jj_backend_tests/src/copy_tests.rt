@@ -1,0 +1,66 @@
+//! Copies of records that tell of copies and of signatures.
+use jj_backend::backend::{CommitId, CopyHistory, CopyId, CopyRecord, FileId, SecureSig};
+use jj_paths::repo_path::RepoPathBuf;
+use std::alloc::{AllocError, Global};
+use std::process::Abort;
+use std::test::Fail;
+
+fn record(alloc: Global) -> Result<CopyRecord, AllocError> {
+    Ok(CopyRecord {
+        target: RepoPathBuf::root(alloc),
+        target_commit: CommitId::from_bytes(alloc, &[1])?,
+        source: RepoPathBuf::root(alloc),
+        source_file: FileId::from_bytes(alloc, &[2])?,
+        source_commit: CommitId::from_bytes(alloc, &[3])?,
+    })
+}
+
+fn history(alloc: Global) -> Result<CopyHistory, AllocError> {
+    Ok(CopyHistory {
+        current_path: RepoPathBuf::root(alloc),
+        parents: vec![in alloc; CopyId::from_bytes(alloc, &[9])?]?,
+        salt: [7].to_vec(alloc)?,
+    })
+}
+
+fn sig(alloc: Global) -> Result<SecureSig, AllocError> {
+    Ok(SecureSig {
+        signed_data: [1, 2].to_vec(alloc)?,
+        sig: [3].to_vec(alloc)?,
+    })
+}
+
+fn are_copied(alloc: Global) -> Result<bool, AllocError> {
+    let record = record(alloc)?;
+    let history = history(alloc)?;
+    let sig = sig(alloc)?;
+    Ok(record.clone()? == record && history.clone()? == history && sig.clone()? == sig)
+}
+
+#[test]
+fn copies_are_equal(rt: HostRuntime) -> Result<(), Fail> {
+    let alloc = rt.alloc();
+    assert!(rt; are_copied(alloc).or_else(|_| are_copied(alloc))?);
+    Ok(())
+}
+
+fn are_told_apart(alloc: Global) -> Result<bool, AllocError> {
+    let mut record = self::record(alloc)?;
+    record.source_commit = CommitId::from_bytes(alloc, &[4])?;
+    let mut history = self::history(alloc)?;
+    history.salt = [8].to_vec(alloc)?;
+    let mut sig = self::sig(alloc)?;
+    sig.sig = [4].to_vec(alloc)?;
+    Ok(
+        record != self::record(alloc)?
+            && history > self::history(alloc)?
+            && sig != self::sig(alloc)?,
+    )
+}
+
+#[test]
+fn the_last_part_counts(rt: HostRuntime) -> Result<(), Fail> {
+    let alloc = rt.alloc();
+    assert!(rt; are_told_apart(alloc).or_else(|_| are_told_apart(alloc))?);
+    Ok(())
+}
