@@ -20,6 +20,8 @@ pub mod OneGraph
 pub mod HexBytes
 pub mod HashContent
 pub mod OneAnswer
+pub mod FoundFiles
+pub mod FirstFaults
 pub mod SamePatterns
 pub mod SetPasses
 pub mod SetBuilds

@@ -27,4 +27,6 @@ pub mod HashCommand
 pub mod Program
 pub mod Reports
 pub mod Laws
+pub mod FoundFiles
+pub mod FirstFaults
 pub mod SoundIds

@@ -2,7 +2,7 @@
 use jj_matchers::matchers::PathGlobPattern;
 use jj_paths::repo_path::RepoPath;
 
-/// A set of files that a line names.
+// A set of files that a line names.
 #[derive(Drop)]
 pub(crate) enum FileSet<'t> {
     Everything,
@@ -17,7 +17,7 @@ pub(crate) enum FileSet<'t> {
     },
 }
 
-/// How a line combines two sets, of which the one that was put on the stack first is the first.
+// How a line combines two sets, of which the one that was put on the stack first is the first.
 #[derive(Clone, Copy, Debug, PartialEq, Eq)]
 pub(crate) enum Combination {
     Union,
@@ -25,7 +25,7 @@ pub(crate) enum Combination {
     Intersection,
 }
 
-/// What a line does with the stack of sets.
+// What a line does with the stack of sets.
 #[derive(Drop)]
 pub(crate) enum SetStep<S> {
     Push(S),

@@ -16,7 +16,7 @@ use crate::reading::{Reading, take_lines};
 use std::alloc::{AllocError, Global};
 use std::collections::BTreeMap;
 
-/// What a line asks.
+// What a line asks.
 #[derive(Drop)]
 pub(crate) enum GraphRequest {
     Order(Vec<u64>),
@@ -24,14 +24,14 @@ pub(crate) enum GraphRequest {
     Common(Vec<u64>, Vec<u64>),
 }
 
-/// The neighbours of each node that has a line so far, and what the lines ask.
+// The neighbours of each node that has a line so far, and what the lines ask.
 #[derive(Drop)]
 pub(crate) struct GraphReading {
     neighbors: BTreeMap<u64, Vec<u64>>,
     requests: Vec<GraphRequest>,
 }
 
-/// The number that a field of a line is.
+// The number that a field of a line is.
 fn number_field(number: usize, text: &str) -> Result<u64, Fault>
     ensures { MatchResult result
         (λ id. at_line number (number_at text.now) ≡ Ok id)
@@ -46,7 +46,7 @@ fn number_field(number: usize, text: &str) -> Result<u64, Fault>
     }
 }
 
-/// The numbers of the fields of a line.
+// The numbers of the fields of a line.
 fn numbers(alloc: Global, number: usize, fields: &[&str]) -> Result<Vec<u64>, Fault>
     ensures { MatchResult result
         (λ ids. at_line number (numbers_of (map (λ field. field.now) fields.now)) ≡ Ok ids.items)
@@ -63,7 +63,7 @@ fn numbers(alloc: Global, number: usize, fields: &[&str]) -> Result<Vec<u64>, Fa
     Ok(ids)
 }
 
-/// Whether a field parts two sets.
+// Whether a field parts two sets.
 fn is_dash(field: &str) -> bool
     ensures { result ≡ is_dash field.now }
 {
@@ -82,7 +82,7 @@ fn dash_count(fields: &[&str]) -> usize
     dashes
 }
 
-/// The place of the first field `-`, or the number of fields.
+// The place of the first field `-`, or the number of fields.
 fn dash_place(fields: &[&str]) -> usize
     ensures place { result ≡ position_or_len is_dash (map (λ field. field.now) fields.now) }
     ensures within { count_by is_dash (map (λ field. field.now) fields.now) ≡ 1
@@ -98,7 +98,7 @@ fn dash_place(fields: &[&str]) -> usize
     place
 }
 
-/// The fields before the field `-`, and those after it, where there is one.
+// The fields before the field `-`, and those after it, where there is one.
 fn split_sets<'a, 't>(fields: &'a [&'t str]) -> Option<(&'a [&'t str], &'a [&'t str])>
     ensures { MatchOption result ((count_by is_dash (map (λ field. field.now) fields.now) == 1)
         ≡ false)
@@ -116,7 +116,7 @@ fn split_sets<'a, 't>(fields: &'a [&'t str]) -> Option<(&'a [&'t str], &'a [&'t 
 }
 
 impl GraphReading {
-    /// Lists the neighbours of the node of the first field.
+    // Lists the neighbours of the node of the first field.
     fn list(&mut self, alloc: Global, number: usize, fields: &[&str]) -> Result<(), Fault>
         ensures { MatchResult result
             (λ _. at_line number (node_step (graph_state_of self.old)
@@ -148,7 +148,7 @@ impl GraphReading {
         Ok(())
     }
 
-    /// Takes a request for the order of the ids of the fields.
+    // Takes a request for the order of the ids of the fields.
     fn ask_order(&mut self, alloc: Global, number: usize, fields: &[&str]) -> Result<(), Fault>
         ensures { MatchResult result
             (λ _. at_line number (with_request (graph_state_of self.old) Order
@@ -163,7 +163,7 @@ impl GraphReading {
         }
     }
 
-    /// Takes a request for the heads of the ids of the fields.
+    // Takes a request for the heads of the ids of the fields.
     fn ask_heads(&mut self, alloc: Global, number: usize, fields: &[&str]) -> Result<(), Fault>
         ensures { MatchResult result
             (λ _. at_line number (with_request (graph_state_of self.old) Heads
@@ -180,8 +180,8 @@ impl GraphReading {
 }
 
 impl GraphReading {
-    /// Takes a request for the closest common nodes of the ids before the field `-` and those after
-    /// it.
+    // Takes a request for the closest common nodes of the ids before the field `-` and those after
+    // it.
     fn ask_common(&mut self, alloc: Global, number: usize, fields: &[&str]) -> Result<(), Fault>
         ensures { MatchResult result
             (λ _. at_line number (common_step (graph_state_of self.old)
@@ -233,7 +233,7 @@ impl<'t> Reading<'t> for GraphReading {
     }
 }
 
-/// What the command `graph` writes for a text.
+// What the command `graph` writes for a text.
 pub(crate) fn graph_output(alloc: Global, text: &str) -> Result<Vec<u8>, Fault>
     ensures done { IfOk result (λ output. GivesGraph text.now (Ok output.items)) }
     ensures fault { IfErr result (λ fault. IsFaultOf fault (graph_state text.now)) }
@@ -262,7 +262,7 @@ pub(crate) fn graph_output(alloc: Global, text: &str) -> Result<Vec<u8>, Fault>
     Ok(output.into_bytes())
 }
 
-/// The ids that requests name.
+// The ids that requests name.
 fn asked_ids(alloc: Global, requests: &[GraphRequest]) -> Result<Vec<u64>, AllocError>
     ensures { IfOk result (λ ids. All
         (λ request. All (Contains ids.items) (ids_of (graph_request_of request))) requests.now) }
@@ -274,7 +274,7 @@ fn asked_ids(alloc: Global, requests: &[GraphRequest]) -> Result<Vec<u64>, Alloc
     Ok(ids)
 }
 
-/// Adds the ids that a request names.
+// Adds the ids that a request names.
 fn push_asked(ids: &mut Vec<u64>, request: &GraphRequest) -> Result<(), AllocError>
     ensures { OnOk result (ids.new.items
         ≡ ids.old.items ++ ids_of (graph_request_of request.now)) }
@@ -289,7 +289,7 @@ fn push_asked(ids: &mut Vec<u64>, request: &GraphRequest) -> Result<(), AllocErr
     }
 }
 
-/// Adds the answer to a request to the output, where the graph has no cycle.
+// Adds the answer to a request to the output, where the graph has no cycle.
 fn push_answer(
     alloc: Global,
     output: &mut String,
@@ -318,7 +318,7 @@ fn push_answer(
     }
 }
 
-/// Adds a line to the output: its first field, and each number after a TAB.
+// Adds a line to the output: its first field, and each number after a TAB.
 fn push_numbers(output: &mut String, name: &str, numbers: &[u64]) -> Result<(), AllocError>
     ensures { OnOk result (string_bytes output.new ≡ string_bytes output.old
         ++ numbers_line name.now numbers.now) }

@@ -17,7 +17,7 @@ use std::alloc::{AllocError, Global};
 use std::iter::Copied;
 use std::slice;
 
-/// The neighbours of a node as a list that may fail in the eyes of a walk. It never does.
+// The neighbours of a node as a list that may fail in the eyes of a walk. It never does.
 fn sound_neighbors_of(graph: &ListedGraph, id: u64) -> Result<Copied<slice::Iter<'_, u64>>, u64>
     ensures { IsOkAnd result (λ list. iter_rest (copied_source list)
         ≡ shown_by graph.now id) }
@@ -25,7 +25,7 @@ fn sound_neighbors_of(graph: &ListedGraph, id: u64) -> Result<Copied<slice::Iter
     Ok(graph.neighbors_of(id).iter().copied())
 }
 
-/// Ids as items that may fail in the eyes of a walk. None does.
+// Ids as items that may fail in the eyes of a walk. None does.
 #[derive(Drop)]
 struct SoundIds<'a> {
     ids: &'a [u64],
@@ -47,7 +47,7 @@ impl<'a> Iterator for SoundIds<'a> {
     }
 }
 
-/// The neighbours of a node, as such items.
+// The neighbours of a node, as such items.
 fn sound_items_of(graph: &ListedGraph, id: u64) -> SoundIds<'_>
     ensures { result.ids.now ≡ shown_by graph.now id }
 {
@@ -56,7 +56,7 @@ fn sound_items_of(graph: &ListedGraph, id: u64) -> SoundIds<'_>
     }
 }
 
-/// Whether the graph has a cycle anywhere.
+// Whether the graph has a cycle anywhere.
 pub(crate) fn has_cycle(alloc: Global, graph: &ListedGraph) -> Result<bool, AllocError>
     ensures { IfOk result (λ cyclic. MatchBool cyclic (HasCycle (shown_by graph.now))
         (¬ (HasCycle (shown_by graph.now)))) }
@@ -77,7 +77,7 @@ pub(crate) fn has_cycle(alloc: Global, graph: &ListedGraph) -> Result<bool, Allo
     }
 }
 
-/// The greatest child-first order of what these ids reach.
+// The greatest child-first order of what these ids reach.
 pub(crate) fn greatest_order(
     alloc: Global,
     graph: &ListedGraph,
@@ -105,7 +105,7 @@ pub(crate) fn greatest_order(
     }
 }
 
-/// The ids that no other of them reaches, in ascending order.
+// The ids that no other of them reaches, in ascending order.
 pub(crate) fn ascending_heads(
     alloc: Global,
     graph: &ListedGraph,
@@ -128,7 +128,7 @@ pub(crate) fn ascending_heads(
     Ok(ascending)
 }
 
-/// The closest common nodes of two sets of ids, in ascending order.
+// The closest common nodes of two sets of ids, in ascending order.
 pub(crate) fn ascending_common(
     alloc: Global,
     graph: &ListedGraph,

@@ -11,10 +11,10 @@ use jj_content::content_hash::blake2b_hash;
 use jj_content::hex_util::{decode_hex, encode_hex};
 use std::alloc::{AllocError, Global};
 
-/// A digest of 64 bytes, or what is wrong with the line that asks for it.
+// A digest of 64 bytes, or what is wrong with the line that asks for it.
 type LineDigest = Result<[u8; 64], LineFault>;
 
-/// The answers to the lines so far.
+// The answers to the lines so far.
 #[derive(Drop)]
 pub(crate) struct HashReading {
     output: Vec<u8>,
@@ -38,7 +38,7 @@ impl<'t> Reading<'t> for HashReading {
     }
 }
 
-/// What the command `hash` writes for a text.
+// What the command `hash` writes for a text.
 pub(crate) fn hash_lines(alloc: Global, text: &str) -> Result<Vec<u8>, Fault>
     ensures done { IfOk result (λ output. GivesHash text.now (Ok output.items)) }
     ensures fault { IfErr result (λ fault. IsFaultOf fault (hash_output text.now)) }
@@ -52,7 +52,7 @@ pub(crate) fn hash_lines(alloc: Global, text: &str) -> Result<Vec<u8>, Fault>
     Ok(reading.output)
 }
 
-/// The digest of the bytes that a line's fields name.
+// The digest of the bytes that a line's fields name.
 fn line_digest(alloc: Global, fields: &[&str]) -> Result<LineDigest, AllocError>
     ensures { IfOk result (λ answer. IsDigestOf
         (named_bytes (map (λ field. field.now) fields.now)) answer) }
@@ -69,7 +69,7 @@ fn line_digest(alloc: Global, fields: &[&str]) -> Result<LineDigest, AllocError>
     }
 }
 
-/// The digest of the bytes of one field's hex text.
+// The digest of the bytes of one field's hex text.
 fn raw_digest(alloc: Global, fields: &[&str]) -> Result<LineDigest, AllocError>
     ensures { IfOk result (λ answer. IsDigestOf
         (raw_bytes (map (λ field. field.now) fields.now)) answer) }
@@ -85,7 +85,7 @@ fn raw_digest(alloc: Global, fields: &[&str]) -> Result<LineDigest, AllocError>
     Ok(Ok(hasher.finalize()))
 }
 
-/// The digest of the content of one field.
+// The digest of the content of one field.
 fn text_digest(alloc: Global, fields: &[&str]) -> Result<LineDigest, AllocError>
     ensures { IfOk result (λ answer. IsDigestOf
         (content_of_one (map (λ field. field.now) fields.now)) answer) }
@@ -96,7 +96,7 @@ fn text_digest(alloc: Global, fields: &[&str]) -> Result<LineDigest, AllocError>
     Ok(Ok(blake2b_hash(alloc, text)?))
 }
 
-/// The digest of the content of the merge of the fields.
+// The digest of the content of the merge of the fields.
 fn merge_digest(alloc: Global, fields: &[&str]) -> Result<LineDigest, AllocError>
     ensures { IfOk result (λ answer. IsDigestOf
         (content_of_merge (map (λ field. field.now) fields.now)) answer) }
@@ -108,7 +108,7 @@ fn merge_digest(alloc: Global, fields: &[&str]) -> Result<LineDigest, AllocError
     Ok(Ok(blake2b_hash(alloc, &terms)?))
 }
 
-/// Adds a line with a digest to the output.
+// Adds a line with a digest to the output.
 fn push_digest(alloc: Global, output: &mut Vec<u8>, digest: &[u8; 64]) -> Result<(), AllocError>
     ensures { OnOk result (output.new.items ≡ output.old.items ++ digest_line digest.now) }
 {

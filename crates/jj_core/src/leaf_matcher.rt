@@ -13,7 +13,7 @@ use jj_matchers::matchers::{
 use jj_paths::repo_path::RepoPath;
 use std::alloc::{AllocError, Global};
 
-/// The matcher of a set that a line names.
+// The matcher of a set that a line names.
 #[derive(Drop)]
 pub(crate) enum LeafMatcher {
     Everything,
@@ -58,7 +58,7 @@ impl Matcher for LeafMatcher {
 impl LeafMatcher {
     ghost use Rattle.jj_core.specs.Leaves.{StandsFor};
 
-    /// The matcher of this set.
+    // The matcher of this set.
     pub(crate) fn new(alloc: Global, set: &FileSet<'_>) -> Result<LeafMatcher, AllocError>
         ensures { IfOk result (λ matcher. StandsFor matcher (set_of set.now)) }
     {
@@ -76,7 +76,7 @@ impl LeafMatcher {
     }
 }
 
-/// The matcher of globs in directories.
+// The matcher of globs in directories.
 fn globs_matcher(
     alloc: Global,
     prefix_paths: bool,

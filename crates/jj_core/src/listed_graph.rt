@@ -9,8 +9,8 @@ use crate::numbering::Numbering;
 use std::alloc::AllocError;
 use std::collections::BTreeMap;
 
-/// A graph by the neighbours of its nodes, and the numbers by which walks know them. Each id that
-/// a list names is numbered.
+// A graph by the neighbours of its nodes, and the numbers by which walks know them. Each id that
+// a list names is numbered.
 #[derive(Drop)]
 pub(crate) struct ListedGraph {
     neighbors: BTreeMap<u64, Vec<u64>>,
@@ -22,7 +22,7 @@ impl ListedGraph {
     ghost use Rattle.jj_core.specs.ListedGraphs.{named_by, shown_by};
     ghost use Rattle.jj_core.specs.Numbering.{IsNumberOf};
 
-    /// The graph of these lists, which numbers the ids asked for too.
+    // The graph of these lists, which numbers the ids asked for too.
     pub(crate) fn new(
         neighbors: BTreeMap<u64, Vec<u64>>,
         asked: Vec<u64>,
@@ -40,21 +40,21 @@ impl ListedGraph {
         })
     }
 
-    /// The ids that are numbered: each that a list names, and those asked for.
+    // The ids that are numbered: each that a list names, and those asked for.
     pub(crate) fn ids(&self) -> &[u64]
         ensures { result.now ≡ named_by self.now }
     {
         self.numbering.ids()
     }
 
-    /// The number of an id, which no other of the graph has.
+    // The number of an id, which no other of the graph has.
     pub(crate) fn number(&self, id: u64) -> usize
         ensures { Contains (named_by self.now) id → IsNumberOf (named_by self.now) id result }
     {
         self.numbering.number(id)
     }
 
-    /// The neighbours of a node, none where it has no list.
+    // The neighbours of a node, none where it has no list.
     pub(crate) fn neighbors_of(&self, id: u64) -> &[u64]
         ensures { result.now ≡ shown_by self.now id }
     {

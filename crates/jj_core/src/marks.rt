@@ -8,27 +8,27 @@ use jj_paths::repo_path::RepoPath;
 use jj_paths::repo_path_tree::RepoPathTree;
 use std::alloc::{AllocError, Global};
 
-/// A mark, and some bytes of its text as a number.
+// A mark, and some bytes of its text as a number.
 #[derive(Clone, Copy)]
 struct KeyedMark<'t> {
     key: u64,
     path: RepoPath<'t>,
 }
 
-/// Lists of at most this many marks are sorted by comparing whole texts.
+// Lists of at most this many marks are sorted by comparing whole texts.
 const FEW: usize = 32;
 
-/// How many parts of eight bytes are compared as numbers; marks that agree in all of them are
-/// compared as texts.
+// How many parts of eight bytes are compared as numbers; marks that agree in all of them are
+// compared as texts.
 const PARTS: usize = 8;
 
-/// The bytes of a part.
+// The bytes of a part.
 const PART_LEN: usize = 8;
 
-/// The tree of the marks, which may come in any order. They are sorted by their texts first, which
-/// brings the marks of a directory together and mostly puts a new name behind the last one. The
-/// order of paths differs from that only where a name goes on with a byte below the slash, and
-/// takes longer to compare.
+// The tree of the marks, which may come in any order. They are sorted by their texts first, which
+// brings the marks of a directory together and mostly puts a new name behind the last one. The
+// order of paths differs from that only where a name goes on with a byte below the slash, and
+// takes longer to compare.
 pub(crate) fn marked_tree(
     alloc: Global,
     marks: Vec<RepoPath<'_>>,
@@ -41,7 +41,7 @@ pub(crate) fn marked_tree(
     Ok(tree)
 }
 
-/// The marks, with keys that are still to be read.
+// The marks, with keys that are still to be read.
 fn keyed<'t>(alloc: Global, marks: &[RepoPath<'t>]) -> Result<Vec<KeyedMark<'t>>, AllocError>
     ensures { IfOk result (λ keyed. map keyed_path keyed.items ≡ map path_of marks.now) }
 {
@@ -55,9 +55,9 @@ fn keyed<'t>(alloc: Global, marks: &[RepoPath<'t>]) -> Result<Vec<KeyedMark<'t>>
     Ok(keyed)
 }
 
-/// Adds marks whose texts agree in the parts before this one. They are sorted by this part as a
-/// number, which is read from the text once, and those that agree in it too are added next: so
-/// their texts are at hand.
+// Adds marks whose texts agree in the parts before this one. They are sorted by this part as a
+// number, which is read from the text once, and those that agree in it too are added next: so
+// their texts are at hand.
 fn add_marks(
     tree: &mut RepoPathTree<bool>,
     marks: &mut [KeyedMark<'_>],
@@ -79,7 +79,7 @@ fn add_marks(
     Ok(())
 }
 
-/// Adds marks in the order of their texts.
+// Adds marks in the order of their texts.
 fn add_by_text(tree: &mut RepoPathTree<bool>, marks: &mut [KeyedMark<'_>]) -> Result<(), AllocError>
     ensures { IfOk result (λ done. AddsMarks (map keyed_path marks.old) tree.old tree.new) }
 {
@@ -90,7 +90,7 @@ fn add_by_text(tree: &mut RepoPathTree<bool>, marks: &mut [KeyedMark<'_>]) -> Re
     Ok(())
 }
 
-/// Reads the keys of marks from a place of their texts on.
+// Reads the keys of marks from a place of their texts on.
 fn take_keys(marks: &mut [KeyedMark<'_>], from: usize)
     ensures { map keyed_path marks.new ≡ map keyed_path marks.old }
 {
@@ -99,7 +99,7 @@ fn take_keys(marks: &mut [KeyedMark<'_>], from: usize)
     }
 }
 
-/// The bytes of a part as one number, the first one highest, and zeros behind the end of the text.
+// The bytes of a part as one number, the first one highest, and zeros behind the end of the text.
 fn key_from(text: &[u8], from: usize) -> u64 {
     let Some(rest) = text.get(from..) else {
         return 0;
@@ -114,7 +114,7 @@ fn key_from(text: &[u8], from: usize) -> u64 {
     }
 }
 
-/// Where the marks end that have the key of the one at this place.
+// Where the marks end that have the key of the one at this place.
 fn run_end(marks: &[KeyedMark<'_>], start: usize) -> usize
     requires { start < length marks.now }
     ensures above { start < result }

@@ -26,7 +26,7 @@ use jj_paths::repo_path::RepoPath;
 use jj_paths::repo_path_tree::RepoPathTree;
 use std::alloc::{AllocError, Global};
 
-/// The matcher of a set that lines have combined. However deep they nest, nothing here recurses.
+// The matcher of a set that lines have combined. However deep they nest, nothing here recurses.
 #[derive(Drop)]
 pub(crate) struct SetMatcher {
     parts: Vec<Part<LeafMatcher>>,
@@ -53,7 +53,7 @@ impl Matcher for SetMatcher {
     }
 }
 
-/// Whether the file is in the set that these parts make.
+// Whether the file is in the set that these parts make.
 fn parts_match(parts: &[Part<LeafMatcher>], file: RepoPath<'_>) -> bool
     ensures { result ≡ (pass_over (leaf_accepts (path_of file.entry)) parts.now
         (pass_at 0 false)).is_in }
@@ -67,7 +67,7 @@ fn parts_match(parts: &[Part<LeafMatcher>], file: RepoPath<'_>) -> bool
     pass.is_in
 }
 
-/// The answer for a directory of the set that these parts make.
+// The answer for a directory of the set that these parts make.
 fn visit_parts(
     alloc: Global,
     parts: &[Part<LeafMatcher>],
@@ -88,7 +88,7 @@ fn visit_parts(
     }
 }
 
-/// The pass behind one more part.
+// The pass behind one more part.
 fn behind(pass: Pass, part: &Part<LeafMatcher>, file: RepoPath<'_>) -> Pass
     requires { pass.decided + 1 < 2 ^ 64 }
     ensures { result ≡ behind (leaf_accepts (path_of file.entry)) part.now pass }
@@ -106,7 +106,7 @@ fn behind(pass: Pass, part: &Part<LeafMatcher>, file: RepoPath<'_>) -> Pass
     }
 }
 
-/// The answers behind one more part.
+// The answers behind one more part.
 fn visit_part(
     alloc: Global,
     visits: &mut Vec<Visit>,
@@ -128,7 +128,7 @@ fn visit_part(
     }
 }
 
-/// Puts in place of the two answers on top what they combine to.
+// Puts in place of the two answers on top what they combine to.
 fn combine_top(visits: &mut Vec<Visit>, combination: Combination) -> Result<(), AllocError>
     ensures { IfOk result (λ done. (dir : Path) (stack : List (SetTree LeafMatcher))
         → AnswerAll dir stack (reverse visits.old.items)
@@ -142,7 +142,7 @@ fn combine_top(visits: &mut Vec<Visit>, combination: Combination) -> Result<(), 
     Ok(())
 }
 
-/// The answer of a combination, from those of its operands.
+// The answer of a combination, from those of its operands.
 fn combined_visit(
     combination: Combination,
     first: Visit,
@@ -163,7 +163,7 @@ impl SetMatcher {
     ghost use Rattle.jj_core.specs.SetMatching.{accepts_of, answers_of};
     ghost use Rattle.jj_core.specs.SetStacks.{sets_in};
 
-    /// The matcher of the one set of a stack.
+    // The matcher of the one set of a stack.
     fn new(alloc: Global, sets: SetStack<'_>) -> Result<SetMatcher, AllocError>
         requires { length (sets_in sets) ≡ 1 }
         ensures accepts { IfOk result (λ matcher. (set : SetTree NamedSet)
@@ -180,7 +180,7 @@ impl SetMatcher {
     }
 }
 
-/// The same parts, with the matcher of each set in its place.
+// The same parts, with the matcher of each set in its place.
 fn part_matchers(
     alloc: Global,
     parts: &[Part<FileSet<'_>>],
@@ -194,7 +194,7 @@ fn part_matchers(
     Ok(matchers)
 }
 
-/// The same part, with the matcher of its set in its place.
+// The same part, with the matcher of its set in its place.
 fn part_matcher(alloc: Global, part: &Part<FileSet<'_>>) -> Result<Part<LeafMatcher>, AllocError>
     ensures { IfOk result (λ own. StandsForPart own (part_of part.now)) }
 {
@@ -208,7 +208,7 @@ fn part_matcher(alloc: Global, part: &Part<FileSet<'_>>) -> Result<Part<LeafMatc
     }
 }
 
-/// What a walk by the one set of a stack finds in a tree of marks.
+// What a walk by the one set of a stack finds in a tree of marks.
 pub(crate) fn walk_set(
     alloc: Global,
     tree: &RepoPathTree<bool>,

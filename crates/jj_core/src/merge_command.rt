@@ -11,7 +11,7 @@ use crate::reading::{Reading, push_line, take_lines};
 use jj_merges::merge::{Merge, MergeBuilder, SameChange};
 use std::alloc::{AllocError, Global};
 
-/// What a line asks of a merge.
+// What a line asks of a merge.
 #[derive(Clone, Copy)]
 pub(crate) enum Question {
     Simplify,
@@ -19,7 +19,7 @@ pub(crate) enum Question {
 }
 
 impl Question {
-    /// What a line of this name asks.
+    // What a line of this name asks.
     fn from_name(name: &str) -> Option<Question>
         ensures { result ≡ question_named name.now }
     {
@@ -32,20 +32,20 @@ impl Question {
     }
 }
 
-/// A line's question, and the merge of its terms.
+// A line's question, and the merge of its terms.
 #[derive(Drop)]
 pub(crate) struct MergeRequest<'t> {
     question: Question,
     terms: Merge<&'t str>,
 }
 
-/// The requests of the lines so far.
+// The requests of the lines so far.
 #[derive(Drop)]
 pub(crate) struct MergeReading<'t> {
     requests: Vec<MergeRequest<'t>>,
 }
 
-/// The merge of these terms.
+// The merge of these terms.
 pub(crate) fn merge_of<'t>(alloc: Global, terms: &[&'t str]) -> Result<Merge<&'t str>, AllocError>
     requires { IsOdd (length terms.now) }
     ensures { IfOk result (λ merge. merge ≡ terms.now) }
@@ -87,7 +87,7 @@ impl<'t> Reading<'t> for MergeReading<'t> {
     }
 }
 
-/// What the command `merge` writes for a text.
+// What the command `merge` writes for a text.
 pub(crate) fn merge_output(alloc: Global, text: &str) -> Result<Vec<u8>, Fault>
     ensures done { IfOk result (λ output. GivesMerge text.now (Ok output.items)) }
     ensures fault { IfErr result (λ fault. IsFaultOf fault (merge_requests text.now)) }
@@ -105,7 +105,7 @@ pub(crate) fn merge_output(alloc: Global, text: &str) -> Result<Vec<u8>, Fault>
     Ok(output)
 }
 
-/// Adds the answer to a request to the output.
+// Adds the answer to a request to the output.
 fn push_answer(
     alloc: Global,
     output: &mut Vec<u8>,

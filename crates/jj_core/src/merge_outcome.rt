@@ -10,11 +10,11 @@ ghost use Rattle.jj_core.specs.TextMerges.{text_eq, HaveCountsOf, IsTextOutcome}
 use jj_merges::merge::{EverySecond, Merge, SameChange};
 use std::alloc::{AllocError, Global};
 
-/// From so many terms on, the adds and the removes of a merge are sorted before they are compared.
+// From so many terms on, the adds and the removes of a merge are sorted before they are compared.
 const MANY_TERMS: usize = 64;
 
-/// The outcome of the merge, where the counts of its terms decide it. It takes memory where the
-/// merge has many terms.
+// The outcome of the merge, where the counts of its terms decide it. It takes memory where the
+// merge has many terms.
 pub(crate) fn outcome<'t>(
     alloc: Global,
     terms: &Merge<&'t str>,
@@ -29,7 +29,7 @@ pub(crate) fn outcome<'t>(
     Ok(resolved(&left, same_change))
 }
 
-/// The outcome of the merge, where the counts of its terms decide it.
+// The outcome of the merge, where the counts of its terms decide it.
 fn resolved<'t>(terms: &Merge<&'t str>, same_change: SameChange) -> Option<&'t str>
     ensures { IsTextOutcome same_change terms.now result }
 {
@@ -39,7 +39,7 @@ fn resolved<'t>(terms: &Merge<&'t str>, same_change: SameChange) -> Option<&'t s
     }
 }
 
-/// A merge of what is left where adds and equal removes are taken out in pairs.
+// A merge of what is left where adds and equal removes are taken out in pairs.
 fn cancelled<'t>(alloc: Global, terms: &Merge<&'t str>) -> Result<Merge<&'t str>, AllocError>
     requires { IsOdd (length terms.now) }
     ensures { IfOk result (λ left. HaveSameCounts text_eq left terms.now) }
@@ -51,7 +51,7 @@ fn cancelled<'t>(alloc: Global, terms: &Merge<&'t str>) -> Result<Merge<&'t str>
     Ok(left)
 }
 
-/// The texts in ascending order.
+// The texts in ascending order.
 fn sorted<'t>(alloc: Global, texts: EverySecond<'_, &'t str>) -> Result<Vec<&'t str>, AllocError>
     ensures { IfOk result (λ sorted. IsPermutation texts.entry sorted.items) }
 {
@@ -63,7 +63,7 @@ fn sorted<'t>(alloc: Global, texts: EverySecond<'_, &'t str>) -> Result<Vec<&'t 
     Ok(sorted)
 }
 
-/// The merge of these removes and adds, of which there is one more.
+// The merge of these removes and adds, of which there is one more.
 fn merge_of_sides<'t>(
     alloc: Global,
     removes: Vec<&'t str>,
@@ -77,8 +77,8 @@ fn merge_of_sides<'t>(
     Ok(merge)
 }
 
-/// The adds and the removes that are left where equal ones in front are taken out in pairs. Where
-/// both ascend, no add is left that equals a remove.
+// The adds and the removes that are left where equal ones in front are taken out in pairs. Where
+// both ascend, no add is left that equals a remove.
 fn without_pairs<'t>(
     alloc: Global,
     adds: &[&'t str],

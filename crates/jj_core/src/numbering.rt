@@ -6,7 +6,7 @@ ghost use Rattle.jj_core.specs.Numbering.{IsNumberOf};
 
 use std::alloc::{AllocError, Global};
 
-/// Ids in ascending order, each once.
+// Ids in ascending order, each once.
 #[derive(Drop)]
 pub(crate) struct Numbering {
     ids: Vec<u64>,
@@ -14,7 +14,7 @@ pub(crate) struct Numbering {
 }
 
 impl Numbering {
-    /// The numbers of these ids.
+    // The numbers of these ids.
     pub(crate) fn new(mut ids: Vec<u64>) -> Numbering
         ensures { All (Contains result.ids.items) ids.items }
     {
@@ -23,14 +23,14 @@ impl Numbering {
         Numbering { ids }
     }
 
-    /// The ids.
+    // The ids.
     pub(crate) fn ids(&self) -> &[u64]
         ensures { result.now ≡ self.now.ids.items }
     {
         &self.ids
     }
 
-    /// The number of an id; what it is of another is not said.
+    // The number of an id; what it is of another is not said.
     pub(crate) fn number(&self, id: u64) -> usize
         ensures { Contains self.now.ids.items id → IsNumberOf self.now.ids.items id result }
     {

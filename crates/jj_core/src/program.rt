@@ -41,10 +41,10 @@ impl Command {
     }
 }
 
-/// The bytes that are taken from the reader at a time.
+// The bytes that are taken from the reader at a time.
 const READ_BUFFER: usize = 65536;
 
-/// Reads a source to its end.
+// Reads a source to its end.
 fn read_input<R: Source>(alloc: Global, reader: &mut R) -> Result<Vec<u8>, Fault>
     requires { R.has_failed reader.old ≡ false }
     ensures all { IfOk result (λ input. Consumes (R.remaining reader.old)
@@ -69,7 +69,7 @@ fn read_input<R: Source>(alloc: Global, reader: &mut R) -> Result<Vec<u8>, Fault
     }
 }
 
-/// What a command writes for an input.
+// What a command writes for an input.
 fn output(alloc: Global, command: Command, input: &[u8]) -> Result<Vec<u8>, Fault>
     ensures done { IfOk result (λ output. Gives command input.now (Ok output.items)) }
     ensures fault { IfErr result (λ fault. IsFaultOn command input.now fault) }
@@ -112,7 +112,7 @@ pub fn run<R: Source, W: Sink>(
     Ok(())
 }
 
-/// The command that these words name, if they are its name alone.
+// The command that these words name, if they are its name alone.
 fn command_of(words: &[String]) -> Option<Command>
     ensures { result ≡ command_line (map string_bytes words.now) }
 {

@@ -22,7 +22,7 @@ fn say<E: Sink>(errors: &mut E, texts: &[&str])
     }
 }
 
-/// Says how the program is called.
+// Says how the program is called.
 pub(crate) fn report_usage<E: Sink>(errors: &mut E)
     requires { E.has_failed errors.old ≡ false }
     ensures { Says (E.contents errors.old) (E.contents errors.new) (E.has_failed errors.new)
@@ -31,7 +31,7 @@ pub(crate) fn report_usage<E: Sink>(errors: &mut E)
     say(errors, &[USAGE]);
 }
 
-/// Says what a run failed by.
+// Says what a run failed by.
 pub(crate) fn report_fault<E: Sink>(errors: &mut E, fault: Fault)
     requires { E.has_failed errors.old ≡ false }
     ensures { Says (E.contents errors.old) (E.contents errors.new) (E.has_failed errors.new)

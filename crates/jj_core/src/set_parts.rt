@@ -7,8 +7,8 @@ ghost use Rattle.jj_core.specs.SetParts.{parts_along, is_decided_by, with_second
 use crate::file_set::{Combination, SetStep};
 use std::alloc::{AllocError, Global};
 
-/// A part of a set: a leaf, the place between the two operands of a combination, or the place
-/// behind both. The list has them backwards.
+// A part of a set: a leaf, the place between the two operands of a combination, or the place
+// behind both. The list has them backwards.
 #[derive(Drop)]
 pub(crate) enum Part<S> {
     Leaf(S),
@@ -16,7 +16,7 @@ pub(crate) enum Part<S> {
     Combined(Combination),
 }
 
-/// The parts of the set that these steps make.
+// The parts of the set that these steps make.
 pub(crate) fn parts<S: Drop>(
     alloc: Global,
     mut steps: Vec<SetStep<S>>,
@@ -32,7 +32,7 @@ pub(crate) fn parts<S: Drop>(
     Ok(parts)
 }
 
-/// Adds the parts of a step, the last of those that are left.
+// Adds the parts of a step, the last of those that are left.
 fn add_parts<S: Drop>(
     step: SetStep<S>,
     parts: &mut Vec<Part<S>>,
@@ -58,8 +58,8 @@ fn add_parts<S: Drop>(
     }
 }
 
-/// How far a pass has come: whether the file is in the set that was passed last, and of how many
-/// combinations around here the second operand need not be asked.
+// How far a pass has come: whether the file is in the set that was passed last, and of how many
+// combinations around here the second operand need not be asked.
 #[derive(Clone, Copy, Debug, PartialEq, Eq)]
 pub(crate) struct Pass {
     pub(crate) decided: usize,
@@ -67,7 +67,7 @@ pub(crate) struct Pass {
 }
 
 impl Pass {
-    /// The pass before the first part.
+    // The pass before the first part.
     pub(crate) fn new() -> Pass
         ensures { result ≡ pass_at 0 false }
     {
@@ -77,7 +77,7 @@ impl Pass {
         }
     }
 
-    /// The pass behind a leaf that has this answer.
+    // The pass behind a leaf that has this answer.
     pub(crate) fn after_leaf(self, is_in: bool) -> Pass
         ensures { result ≡ behind_leaf is_in self.decided self.is_in }
     {
@@ -88,7 +88,7 @@ impl Pass {
         }
     }
 
-    /// The pass at the second operand.
+    // The pass at the second operand.
     pub(crate) fn at_second(self, combination: Combination) -> Pass
         requires { self.decided + 1 < 2 ^ 64 }
         ensures { result ≡ at_second_set combination self.decided self.is_in }
@@ -108,7 +108,7 @@ impl Pass {
         }
     }
 
-    /// The pass behind both operands.
+    // The pass behind both operands.
     pub(crate) fn after_both(self, combination: Combination) -> Pass
         ensures { result ≡ behind_both combination self.decided self.is_in }
     {
@@ -127,7 +127,7 @@ impl Pass {
 }
 
 impl Combination {
-    /// Whether the answer for the first set is that for the combination.
+    // Whether the answer for the first set is that for the combination.
     fn is_decided_by(self, first: bool) -> bool
         ensures { result ≡ is_decided_by self first }
     {
@@ -137,7 +137,7 @@ impl Combination {
         }
     }
 
-    /// The answer for the combination, where that for the first operand leaves it to the second.
+    // The answer for the combination, where that for the first operand leaves it to the second.
     fn with_second(self, second: bool) -> bool
         ensures { result ≡ with_second self second }
     {

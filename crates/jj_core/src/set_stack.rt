@@ -6,8 +6,8 @@ ghost use Rattle.jj_core.specs.SetsRead.{are_whole, set_of, sets_by};
 use crate::file_set::{Combination, FileSet, SetStep};
 use std::alloc::{AllocError, Global};
 
-/// A stack of sets, kept as the steps that made it. Its height is counted, and no set is ever
-/// moved.
+// A stack of sets, kept as the steps that made it. Its height is counted, and no set is ever
+// moved.
 #[derive(Drop)]
 pub(crate) struct SetStack<'t> {
     steps: Vec<SetStep<FileSet<'t>>>,
@@ -19,7 +19,7 @@ pub(crate) struct SetStack<'t> {
 impl<'t> SetStack<'t> {
     ghost use Rattle.jj_core.specs.SetStacks.{sets_in};
 
-    /// The stack without sets.
+    // The stack without sets.
     pub(crate) fn new(alloc: Global) -> SetStack<'t>
         ensures { sets_in result ≡ [] }
     {
@@ -29,14 +29,14 @@ impl<'t> SetStack<'t> {
         }
     }
 
-    /// How many sets there are.
+    // How many sets there are.
     pub(crate) fn height(&self) -> usize
         ensures { result ≡ length (sets_in self.now) }
     {
         self.height
     }
 
-    /// Puts a set on the stack.
+    // Puts a set on the stack.
     pub(crate) fn push(&mut self, set: FileSet<'t>) -> Result<(), AllocError>
         ensures { MatchResult result (λ done. sets_in self.new
             ≡ one (set_of set.entry) ∷ sets_in self.old)
@@ -47,7 +47,7 @@ impl<'t> SetStack<'t> {
         Ok(())
     }
 
-    /// Puts in place of the two sets on top what they combine to.
+    // Puts in place of the two sets on top what they combine to.
     pub(crate) fn combine(&mut self, combination: Combination) -> Result<(), AllocError>
         requires { 2 ≤ length (sets_in self.old) }
         ensures { MatchResult result (λ done. sets_in self.new
@@ -58,7 +58,7 @@ impl<'t> SetStack<'t> {
         Ok(())
     }
 
-    /// The steps that made the stack.
+    // The steps that made the stack.
     pub(crate) fn into_steps(self) -> Vec<SetStep<FileSet<'t>>>
         ensures sets { sets_by result.items ≡ sets_in self.entry }
         ensures whole { are_whole result.items ≡ true }

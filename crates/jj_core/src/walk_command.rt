@@ -25,14 +25,14 @@ use jj_matchers::matchers::PathGlobPattern;
 use jj_paths::repo_path::{InvalidNewRepoPathError, RepoPath, RepoPathBuf};
 use std::alloc::{AllocError, Global};
 
-/// The marks and the sets of the lines so far.
+// The marks and the sets of the lines so far.
 #[derive(Drop)]
 pub(crate) struct WalkReading<'t> {
     marks: Vec<RepoPath<'t>>,
     sets: SetStack<'t>,
 }
 
-/// The path that a field of a line is.
+// The path that a field of a line is.
 fn path_field<'t>(alloc: Global, number: usize, text: &'t str) -> Result<RepoPath<'t>, Fault>
     ensures { MatchResult result
         (λ path. at_line number (path_at text.now) ≡ Ok (path_of path))
@@ -48,7 +48,7 @@ fn path_field<'t>(alloc: Global, number: usize, text: &'t str) -> Result<RepoPat
     }
 }
 
-/// The paths of the fields of a line.
+// The paths of the fields of a line.
 fn paths<'t>(alloc: Global, number: usize, fields: &[&'t str]) -> Result<Vec<RepoPath<'t>>, Fault>
     ensures { MatchResult result
         (λ paths. at_line number (paths_of (map (λ field. field.now) fields.now))
@@ -66,7 +66,7 @@ fn paths<'t>(alloc: Global, number: usize, fields: &[&'t str]) -> Result<Vec<Rep
     Ok(paths)
 }
 
-/// The directories and the globs of fields that come in pairs.
+// The directories and the globs of fields that come in pairs.
 fn pairs<'t>(
     alloc: Global,
     number: usize,
@@ -95,7 +95,7 @@ fn pairs<'t>(
     Ok((dirs, globs))
 }
 
-/// The glob that a field of a line is.
+// The glob that a field of a line is.
 fn glob_field(alloc: Global, number: usize, text: &str) -> Result<PathGlobPattern, Fault>
     ensures { MatchResult result
         (λ glob. at_line number (glob_at text.now) ≡ Ok glob)
@@ -107,7 +107,7 @@ fn glob_field(alloc: Global, number: usize, text: &str) -> Result<PathGlobPatter
     }
 }
 
-/// The fault of a field that is no glob.
+// The fault of a field that is no glob.
 fn glob_fault(number: usize, error: GlobError) -> Fault
     ensures { (text : List ℕ) → IsReadingFault error (tokens_of text)
         → IsFaultOf result (at_line number (glob_at text)) }
@@ -121,7 +121,7 @@ fn glob_fault(number: usize, error: GlobError) -> Fault
     }
 }
 
-/// The globs of the fields of a line.
+// The globs of the fields of a line.
 fn path_globs(alloc: Global, number: usize, fields: &[&str]) -> Result<Vec<PathGlobPattern>, Fault>
     ensures { MatchResult result
         (λ globs. at_line number (globs_of (map (λ field. field.now) fields.now)) ≡ Ok globs.items)
@@ -139,7 +139,7 @@ fn path_globs(alloc: Global, number: usize, fields: &[&str]) -> Result<Vec<PathG
 }
 
 impl<'t> WalkReading<'t> {
-    /// Marks the path of the one field.
+    // Marks the path of the one field.
     fn mark(&mut self, alloc: Global, number: usize, fields: &[&'t str]) -> Result<(), Fault>
         ensures { MatchResult result
             (λ _. at_line number (mark_step (state_of self.old)
@@ -159,7 +159,7 @@ impl<'t> WalkReading<'t> {
         }
     }
 
-    /// Puts a set on the stack, where no field is left.
+    // Puts a set on the stack, where no field is left.
     fn push_alone(
         &mut self,
         number: usize,
@@ -183,7 +183,7 @@ impl<'t> WalkReading<'t> {
         Ok(())
     }
 
-    /// Puts the set of these files on the stack.
+    // Puts the set of these files on the stack.
     fn push_files(&mut self, alloc: Global, number: usize, fields: &[&'t str]) -> Result<(), Fault>
         ensures { MatchResult result
             (λ _. at_line number (pushed_paths (state_of self.old) Files
@@ -198,7 +198,7 @@ impl<'t> WalkReading<'t> {
         }
     }
 
-    /// Puts the set of what is at and below these paths on the stack.
+    // Puts the set of what is at and below these paths on the stack.
     fn push_prefix(&mut self, alloc: Global, number: usize, fields: &[&'t str]) -> Result<(), Fault>
         ensures { MatchResult result
             (λ _. at_line number (pushed_paths (state_of self.old) Prefix
@@ -213,7 +213,7 @@ impl<'t> WalkReading<'t> {
         }
     }
 
-    /// Puts the set of what these globs accept, each in its directory, on the stack.
+    // Puts the set of what these globs accept, each in its directory, on the stack.
     fn push_globs(
         &mut self,
         alloc: Global,
@@ -247,7 +247,7 @@ impl<'t> WalkReading<'t> {
         Ok(())
     }
 
-    /// Combines the two sets on top of the stack, where no field is left.
+    // Combines the two sets on top of the stack, where no field is left.
     fn combine(
         &mut self,
         number: usize,
@@ -311,7 +311,7 @@ impl<'t> Reading<'t> for WalkReading<'t> {
     }
 }
 
-/// What the command `walk` writes for a text.
+// What the command `walk` writes for a text.
 pub(crate) fn walk_output<'t>(alloc: Global, text: &'t str) -> Result<Vec<u8>, Fault>
     ensures done { IfOk result (λ output. GivesWalk text.now (Ok output.items)) }
     ensures fault { IfErr result (λ fault. IsFaultOf fault (walk_request text.now)) }
@@ -330,7 +330,7 @@ pub(crate) fn walk_output<'t>(alloc: Global, text: &'t str) -> Result<Vec<u8>, F
     }
 }
 
-/// The lines of what a walk by a set finds in the tree of the marks.
+// The lines of what a walk by a set finds in the tree of the marks.
 fn found_lines(
     alloc: Global,
     marks: Vec<RepoPath<'_>>,
@@ -349,7 +349,7 @@ fn found_lines(
     Ok(output)
 }
 
-/// Adds a line of this name for each path.
+// Adds a line of this name for each path.
 fn push_paths(output: &mut Vec<u8>, name: &str, paths: &[RepoPathBuf]) -> Result<(), AllocError>
     ensures { OnOk result (output.new.items ≡ output.old.items ++ path_lines name.now paths.now) }
 {

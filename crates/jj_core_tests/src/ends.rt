@@ -26,7 +26,7 @@ impl Read for Cut<'_> {
     }
 }
 
-/// The bytes that a test's writer has room for.
+// The bytes that a test's writer has room for.
 const ROOM: usize = 512;
 
 /// A writer that keeps what it takes, at most `most` bytes at a time, and fails once `left` writes

@@ -61,7 +61,7 @@ pub const fn at(line: usize, kind: LineFault) -> Fault {
     Fault::Line { line, kind }
 }
 
-/// The calls of `most` bytes that a text takes.
+// The calls of `most` bytes that a text takes.
 fn calls(text: &str, most: usize) -> usize {
     match most {
         0 => 0,
