@@ -13,15 +13,15 @@ const FORWARD_HEX_CHARS: &[u8; 16] = b"0123456789abcdef";
 
 const REVERSE_HEX_CHARS: &[u8; 16] = b"zyxwvutsrqponmlk";
 
-/// Which sixteen characters are the digits.
+// Which sixteen characters are the digits.
 #[derive(Clone, Copy)]
 enum Digits {
     Forward,
     Reverse,
 }
 
-/// The value of each byte as a digit of forward hex, and 16 for one that is none. Digits come in
-/// no order that a processor could guess, so a table is looked up where no branch is taken.
+// The value of each byte as a digit of forward hex, and 16 for one that is none. Digits come in
+// no order that a processor could guess, so a table is looked up where no branch is taken.
 const FORWARD_HEX_VALUES: [u8; 256] = [
     16, 16, 16, 16, 16, 16, 16, 16, 16, 16, 16, 16, 16, 16, 16, 16, 16, 16, 16, 16, 16, 16, 16, 16,
     16, 16, 16, 16, 16, 16, 16, 16, 16, 16, 16, 16, 16, 16, 16, 16, 16, 16, 16, 16, 16, 16, 16, 16,
@@ -36,7 +36,7 @@ const FORWARD_HEX_VALUES: [u8; 256] = [
     16, 16, 16, 16, 16, 16, 16, 16, 16, 16, 16, 16, 16, 16,
 ];
 
-/// The same for reversed hex.
+// The same for reversed hex.
 const REVERSE_HEX_VALUES: [u8; 256] = [
     16, 16, 16, 16, 16, 16, 16, 16, 16, 16, 16, 16, 16, 16, 16, 16, 16, 16, 16, 16, 16, 16, 16, 16,
     16, 16, 16, 16, 16, 16, 16, 16, 16, 16, 16, 16, 16, 16, 16, 16, 16, 16, 16, 16, 16, 16, 16, 16,

@@ -149,7 +149,7 @@ impl<W: Write> Sink for Watched<W> {
     }
 }
 
-/// The bytes that `copy` takes from its source at a time.
+// The bytes that `copy` takes from its source at a time.
 const COPY_BUFFER: usize = 16384;
 
 /// Writes a whole piece, in as many writes as it takes.

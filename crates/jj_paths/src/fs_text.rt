@@ -6,7 +6,7 @@ ghost use Rattle.jj_paths.specs.FsTexts.{or_dot};
 use std::alloc::AllocError;
 use std::path::PathBuf;
 
-/// The path's text, or `.` where it is empty.
+// The path's text, or `.` where it is empty.
 pub(crate) fn text_or_dot(mut path: PathBuf) -> Result<String, AllocError>
     ensures { IfOk result (λ text. string_bytes text ≡ or_dot (path_buf_bytes path)) }
 {

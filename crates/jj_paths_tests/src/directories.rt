@@ -10,7 +10,7 @@ use std::io;
 use std::io::ErrorKind;
 use std::process::Abort;
 
-/// One directory, `dir`, with files in it. The call of this number, counted from 0, fails.
+// One directory, `dir`, with files in it. The call of this number, counted from 0, fails.
 #[derive(Drop)]
 struct Memory {
     is_there: bool,
@@ -18,10 +18,10 @@ struct Memory {
     calls_left: Cell<u32>,
 }
 
-/// The names of the files.
+// The names of the files.
 const NAMES: [&str; 3] = ["a", "b", "c"];
 
-/// Their paths.
+// Their paths.
 const PATHS: [&str; 3] = ["dir/a", "dir/b", "dir/c"];
 
 impl Memory {

@@ -5,11 +5,11 @@ use jj_paths::file_util::{Watched, copy};
 use std::io;
 use std::io::{ErrorKind, Read, Write};
 
-/// What is copied: the byte at place `i` is `i` modulo 251.
+// What is copied: the byte at place `i` is `i` modulo 251.
 const LONGEST: usize = 40000;
 
-/// A reader of the first `len` such bytes that gives at most `most` at a time, and fails once
-/// `left` reads are made.
+// A reader of the first `len` such bytes that gives at most `most` at a time, and fails once
+// `left` reads are made.
 #[derive(Drop)]
 struct Cut {
     given: usize,
@@ -34,8 +34,8 @@ impl Read for Cut {
     }
 }
 
-/// A writer that takes at most `most` bytes at a time, compares them with those that are copied,
-/// and fails once `left` writes are made.
+// A writer that takes at most `most` bytes at a time, compares them with those that are copied,
+// and fails once `left` writes are made.
 #[derive(Drop)]
 struct Taken {
     len: usize,
@@ -67,8 +67,8 @@ fn byte_at(i: usize) -> u8 {
     (i % 251) as u8
 }
 
-/// What a copy of so many bytes answers, how many were written, and whether they are a beginning of
-/// what was read.
+// What a copy of so many bytes answers, how many were written, and whether they are a beginning of
+// what was read.
 fn copied(len: usize, most: usize, reads: u32, writes: u32) -> (io::Result<usize>, usize, bool) {
     let mut reader = Watched::new(Cut {
         given: 0,

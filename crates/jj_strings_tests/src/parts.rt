@@ -3,7 +3,7 @@ use crate::fixtures::matcher;
 use std::alloc::{AllocError, Global};
 use std::process::Abort;
 
-/// So many times the letter, and then an end.
+// So many times the letter, and then an end.
 fn letters(alloc: Global, letter: &str, times: u32, end: &str) -> Result<String, AllocError> {
     let mut text = String::new(alloc);
     for _ in 0..times {

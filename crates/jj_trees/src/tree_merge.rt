@@ -21,7 +21,7 @@ use smallvec::SmallVec;
 use std::alloc::{AllocError, Global};
 use std::num::NonZeroUsize;
 
-/// What becomes of one name.
+// What becomes of one name.
 enum Step<'a> {
     Resolved(&'a TreeValue),
     Absent,
@@ -29,14 +29,14 @@ enum Step<'a> {
     Conflict,
 }
 
-/// A directory whose entries are to be merged, and what each term has at its path.
+// A directory whose entries are to be merged, and what each term has at its path.
 #[derive(Drop)]
 struct Directory {
     path: RepoPathBuf,
     values: Vec<Option<TreeValue>>,
 }
 
-/// Whether each value is a tree or absent.
+// Whether each value is a tree or absent.
 fn are_trees(values: &[Option<TreeValue>]) -> bool
     ensures { IsTrue result ↔ All (λ v. is_tree_or_absent v ≡ true) values.now }
 {
@@ -53,7 +53,7 @@ pub struct TreeMerge {
     pub conflicts: Vec<(RepoPathBuf, Merge<Option<TreeValue>>, ConflictLabels)>,
 }
 
-/// What becomes of the values at one name.
+// What becomes of the values at one name.
 fn step_of(values: &[Option<TreeValue>], same_change: SameChange) -> Step<'_>
     requires { IsOdd (length values.now) }
     ensures { IsStep ⟦<Option<TreeValue> as PartialEq>⟧.eq same_change values.now result }
@@ -71,7 +71,7 @@ fn step_of(values: &[Option<TreeValue>], same_change: SameChange) -> Step<'_>
     }
 }
 
-/// The tree that a value is; an empty one where it is none.
+// The tree that a value is; an empty one where it is none.
 fn tree_of<B: Backend>(
     alloc: Global,
     backend: &B,
@@ -90,7 +90,7 @@ fn tree_of<B: Backend>(
     }
 }
 
-/// The trees of these values; an empty one where there is none.
+// The trees of these values; an empty one where there is none.
 fn trees_of<B: Backend>(
     alloc: Global,
     backend: &B,
@@ -112,7 +112,7 @@ fn trees_of<B: Backend>(
     Ok(trees)
 }
 
-/// The error of trees that are nested deeper than was asked for.
+// The error of trees that are nested deeper than was asked for.
 fn too_deep(alloc: Global) -> BackendError
     ensures { (result ≡ BackendError.Memory) ⊎ (is_unsupported result ≡ true) }
 {
@@ -122,7 +122,7 @@ fn too_deep(alloc: Global) -> BackendError
     }
 }
 
-/// Appends what comes of the values at a path; values that are to be entered are handed back.
+// Appends what comes of the values at a path; values that are to be entered are handed back.
 fn merge_here(
     alloc: Global,
     path: RepoPathBuf,
@@ -161,7 +161,7 @@ fn merge_here(
     }
 }
 
-/// Merges the trees of a directory, and appends what comes of them.
+// Merges the trees of a directory, and appends what comes of them.
 fn merge_below<B: Backend>(
     alloc: Global,
     backend: &B,
@@ -213,7 +213,7 @@ fn merge_below<B: Backend>(
     Ok(())
 }
 
-/// What each term has at the root.
+// What each term has at the root.
 fn root_values_of(alloc: Global, ids: &[TreeId]) -> Result<Vec<Option<TreeValue>>, AllocError>
     ensures { IfOk result (λ values. values.items ≡ root_values ids.now) }
 {

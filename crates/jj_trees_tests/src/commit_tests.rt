@@ -11,8 +11,8 @@ use std::alloc::{AllocError, Global};
 use std::process::Abort;
 use std::test::Fail;
 
-/// What is signed of the commit `first` of nobody, on the root commit, in hex digits: one parent,
-/// no predecessor, the tree, no label, the change, the description, both signatures, no third.
+// What is signed of the commit `first` of nobody, on the root commit, in hex digits: one parent,
+// no predecessor, the tree, no label, the change, the description, both signatures, no third.
 const CONTENT: &str = "\
     01000000000000000400000000000000000000000000000000000000\
     01000000000000000400000000000000482ae5a201000000000000000000000000000000\
@@ -22,13 +22,13 @@ const CONTENT: &str = "\
     00000000000000000000000000000000000000000000000000000000\
     00000000";
 
-/// The id of that commit.
+// The id of that commit.
 const UNSIGNED: [u8; 4] = [0x27, 0x47, 0x32, 0x83];
 
-/// The id of that commit with the signature of the fake signer.
+// The id of that commit with the signature of the fake signer.
 const SIGNED: [u8; 4] = [0x97, 0x99, 0xd0, 0x83];
 
-/// A backend with ids of four bytes.
+// A backend with ids of four bytes.
 fn short_ids(alloc: Global) -> Result<MemoryBackend, AllocError> {
     MemoryBackend::with_id_length(alloc, 4)
 }

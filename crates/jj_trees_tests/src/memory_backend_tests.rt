@@ -13,21 +13,21 @@ use std::alloc::{AllocError, Global};
 use std::process::Abort;
 use std::test::Fail;
 
-/// The id of 32 bytes of the file `abc`, and of a link to it: a front of the digest of 3 in 8 bytes
-/// and then the text.
+// The id of 32 bytes of the file `abc`, and of a link to it: a front of the digest of 3 in 8 bytes
+// and then the text.
 const ABC: &str = "139554ef5d1694989effaaea7c7dcd8b28002f2759cdd9ee70a65c49d8288297";
 
-/// The id of 32 bytes of the tree without entries: a front of the digest of eight zero bytes.
+// The id of 32 bytes of the tree without entries: a front of the digest of eight zero bytes.
 const EMPTY_TREE: &str = "482ae5a29fbe856c7272f2071b8b0f0359ee2d89ff392b8a900643fbd0836ecc";
 
-/// The id of 32 bytes of the copy history of the path `a/b`, the parents 01 and 0203, and the salt
-/// 07.
+// The id of 32 bytes of the copy history of the path `a/b`, the parents 01 and 0203, and the salt
+// 07.
 const COPY: &str = "0440d61f666b93b0392a93315ad6b0fc6f1ee31a76d8997b29cc34dbdb28ad03";
 
-/// The id of four bytes of the tree of a file `x`, 01, and a link `y`, 02.
+// The id of four bytes of the tree of a file `x`, 01, and a link `y`, 02.
 const TWO_ENTRIES: &str = "37061d63";
 
-/// A backend with ids of 32 bytes.
+// A backend with ids of 32 bytes.
 fn long_ids(alloc: Global) -> Result<MemoryBackend, AllocError> {
     MemoryBackend::with_id_length(alloc, 32)
 }
@@ -79,7 +79,7 @@ fn the_root_commit(rt: HostRuntime) -> Result<(), Fail> {
     Ok(())
 }
 
-/// Lengths of ids that stand for nothing.
+// Lengths of ids that stand for nothing.
 const LENGTHS: [usize; 7] = [0, 1, 16, 63, 64, 65, 200];
 
 // Whether an error says that an object of this type and id is not there; another error stays one.
@@ -202,7 +202,7 @@ fn links(rt: HostRuntime) -> Result<(), Fail> {
     Ok(())
 }
 
-/// Bytes of ids and of a salt.
+// Bytes of ids and of a salt.
 const ONE: &[u8] = &[1];
 
 const TWO: &[u8] = &[2];

@@ -6,7 +6,7 @@ use std::alloc::{AllocError, Global};
 use std::process::Abort;
 use std::test::Fail;
 
-/// A file that was acknowledged, and its number.
+// A file that was acknowledged, and its number.
 type Acknowledged = Vec<(FileId, u16)>;
 
 // Remembers a file.

@@ -11,15 +11,15 @@ use std::alloc::Global;
 use std::process::Abort;
 use std::test::Fail;
 
-/// The left side changes the first two files.
+// The left side changes the first two files.
 const LEFT: &[(&str, &str)] = &[("README", "two\n"), ("main", "b\n"), ("old", "x\n")];
 
 const BASE: &[(&str, &str)] = &[("README", "one\n"), ("main", "a\n"), ("old", "x\n")];
 
-/// The right side changes the second, and removes the third.
+// The right side changes the second, and removes the third.
 const RIGHT: &[(&str, &str)] = &[("README", "one\n"), ("main", "c\n")];
 
-/// What the merge tells. The ids are fronts of digests that another program gives.
+// What the merge tells. The ids are fronts of digests that another program gives.
 const TOLD: &str = "\
 README
 main: Conflict:

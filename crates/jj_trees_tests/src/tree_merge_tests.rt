@@ -7,7 +7,7 @@ use std::alloc::Global;
 use std::process::Abort;
 use std::test::Fail;
 
-/// Files of one directory.
+// Files of one directory.
 const FILES: &[Row] = &[
     Row {
         trees: "0:a=f1,1:a=f0,2:a=f0",
@@ -43,7 +43,7 @@ const FILES: &[Row] = &[
     },
 ];
 
-/// The same change on both sides, and one side alone.
+// The same change on both sides, and one side alone.
 const SAME_CHANGES: &[Row] = &[
     Row {
         trees: "0:c=f1,1:c=f0,2:c=f1",
@@ -71,7 +71,7 @@ const SAME_CHANGES: &[Row] = &[
     },
 ];
 
-/// Directories, some of them on some sides alone.
+// Directories, some of them on some sides alone.
 const DIRECTORIES: &[Row] = &[
     Row {
         trees: "3:x=f0,4:x=f0 y=f1,0:,1:d=t3,2:d=t4",
@@ -100,7 +100,7 @@ const DIRECTORIES: &[Row] = &[
     },
 ];
 
-/// Levels that are given.
+// Levels that are given.
 const LEVELS: &[Row] = &[
     Row {
         trees: "3:x=f0,4:x=f0 y=f1,0:,1:d=t3,2:d=t4",
@@ -128,7 +128,7 @@ const LEVELS: &[Row] = &[
     },
 ];
 
-/// Trees that are not there: a root, and one below.
+// Trees that are not there: a root, and one below.
 const ABSENT: &[Row] = &[
     Row {
         trees: "0:a=f1,1:a=f0",

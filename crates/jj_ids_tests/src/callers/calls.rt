@@ -212,7 +212,7 @@ pub fn owned_symbol_order(a: &RemoteRefSymbolBuf, b: &RemoteRefSymbolBuf) -> Ord
     a.cmp(b)
 }
 
-// The order of symbols of either form, in generic code.
+/// The order of symbols of either form, in generic code.
 pub fn order_at_remote<S: AtRemote>(a: &S, b: &S) -> Ordering
     ensures { result ≡ S.cmp a.now b.now }
 {

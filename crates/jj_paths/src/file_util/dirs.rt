@@ -25,12 +25,15 @@ pub trait DirAccess {
     /// That the names of a directory's entries may be these, or that listing them may fail so.
     ghost may_list: { Self → List ℕ → Result (List (List ℕ)) PathError → Type 0 };
 
+    /// Makes a directory, whose parent has to be there.
     fn create_dir(&mut self, path: &str) -> io::Result<()>
         ensures { may_create self.old path.now result self.new };
 
+    /// Removes a file.
     fn remove_file(&mut self, path: &str) -> io::Result<()>
         ensures { may_remove self.old path.now result self.new };
 
+    /// Whether a directory is at the path; false too where that cannot be told.
     fn is_dir(&self, path: &str) -> bool
         ensures { result ≡ is_directory self.now path.now };
 

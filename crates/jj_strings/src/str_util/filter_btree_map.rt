@@ -12,7 +12,7 @@ use std::collections::BTreeMap;
 use std::collections::btree_map::Iter;
 use std::option::IntoIter;
 
-/// Entries of a map that are still to be looked at: all of them, or the one of a key.
+// Entries of a map that are still to be looked at: all of them, or the one of a key.
 type Entries<'a, K, V> = Either<Iter<'a, K, V>, IntoIter<(&'a K, &'a V)>>;
 
 /// The entries, in order. An error comes only where a regular expression is inside; after it there

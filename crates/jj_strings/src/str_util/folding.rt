@@ -6,15 +6,15 @@ ghost use Rattle.jj_strings.specs.Folded.{folded};
 
 use bstr::ByteSlice;
 
-/// Where a text can stand at fewer places than this, it is compared at each.
+// Where a text can stand at fewer places than this, it is compared at each.
 const FEW: usize = 16;
 
-/// The longest text that is looked for in windows of a few hundred bytes.
+// The longest text that is looked for in windows of a few hundred bytes.
 const SHORT: usize = 256;
 
 const SHORT_WINDOW: usize = 512;
 
-/// The longest text that is looked for in windows at all; a longer one is compared place by place.
+// The longest text that is looked for in windows at all; a longer one is compared place by place.
 const LONG: usize = 65_536;
 
 const LONG_WINDOW: usize = 131_072;

@@ -9,7 +9,7 @@ use jj_content::content_hash::{ContentHash, DigestUpdate};
 use std::alloc::{AllocError, Global};
 use std::marker::Model;
 
-/// The content of a file.
+// The content of a file.
 #[derive(Drop)]
 pub(super) struct FileContent {
     pub(super) bytes: Vec<u8>,
@@ -41,7 +41,7 @@ impl PartialEq for FileContent {
     }
 }
 
-/// What a symbolic link points to.
+// What a symbolic link points to.
 #[derive(Drop)]
 pub(super) struct LinkTarget {
     pub(super) text: String,
@@ -73,7 +73,7 @@ impl PartialEq for LinkTarget {
     }
 }
 
-/// Content bytes that were taken in, while there was room for all of them.
+// Content bytes that were taken in, while there was room for all of them.
 #[derive(Drop)]
 struct TakenBytes {
     bytes: Vec<u8>,
@@ -90,7 +90,7 @@ impl DigestUpdate for TakenBytes {
     }
 }
 
-/// The content bytes of a value.
+// The content bytes of a value.
 pub(super) fn content_of<T: ContentHash>(alloc: Global, value: &T) -> Result<Vec<u8>, AllocError>
     ensures { IfOk result (λ bytes. bytes.items ≡ T.content value.now) }
 {

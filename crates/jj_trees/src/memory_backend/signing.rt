@@ -35,8 +35,8 @@ pub(super) fn rootless_error(alloc: Global) -> BackendError
     other_error(alloc, "a commit needs a parent")
 }
 
-/// A commit with a signature of what it says, in place of one that it had. Without parents it is
-/// refused, and the signer not asked.
+// A commit with a signature of what it says, in place of one that it had. Without parents it is
+// refused, and the signer not asked.
 pub(super) fn sign_commit<S: SigningFn>(
     alloc: Global,
     mut commit: Commit,

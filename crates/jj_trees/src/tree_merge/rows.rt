@@ -12,7 +12,7 @@ use jj_backend::backend::{Tree, TreeEntriesNonRecursiveIterator, TreeValue};
 use jj_paths::repo_path::{RepoPathComponent, RepoPathComponentBuf};
 use std::alloc::{AllocError, Global};
 
-/// A name of a directory, and what each term has there.
+// A name of a directory, and what each term has there.
 #[derive(Drop)]
 pub(super) struct Row {
     pub(super) name: RepoPathComponentBuf,
@@ -121,7 +121,7 @@ fn fronts_of<'a>(
     Ok(fronts)
 }
 
-/// The names that stand in any of the trees, ascending, each with what stands there, tree by tree.
+// The names that stand in any of the trees, ascending, each with what stands there, tree by tree.
 pub(super) fn rows_of(alloc: Global, trees: &[Tree]) -> Result<Vec<Row>, AllocError>
     ensures { IfOk result (λ rows.
         AreRows trees.now (map (λ row. (row.name, row.values.items)) rows.items)) }
