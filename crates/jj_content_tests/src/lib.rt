@@ -16,6 +16,7 @@ mod known_answers;
 mod maps;
 #[cfg(test)]
 mod recorder;
-pub mod records;
+#[cfg(test)]
+mod records;
 #[cfg(test)]
 mod symbol_util_tests;

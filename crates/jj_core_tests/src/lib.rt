@@ -1,11 +1,17 @@
 //! Tests of the program's engine, by whole inputs and outputs.
 #![tactic(auto)]
 
+#[cfg(test)]
 mod ends;
+#[cfg(test)]
 mod graph_tests;
+#[cfg(test)]
 mod hash_tests;
+#[cfg(test)]
 mod merge_tests;
 #[cfg(test)]
 mod runs;
+#[cfg(test)]
 mod start_tests;
+#[cfg(test)]
 mod walk_tests;

@@ -1,6 +1,7 @@
 //! Tests of merges and of the labels of their terms, over the public calls alone.
 #![tactic(auto)]
 
+#[cfg(test)]
 pub mod callers;
 #[cfg(test)]
 mod contents;

@@ -4,6 +4,7 @@
 // more, when there is memory.
 #![tactic(auto)]
 
+#[cfg(test)]
 pub mod callers;
 #[cfg(test)]
 mod join_tests;

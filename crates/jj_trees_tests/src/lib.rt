@@ -4,7 +4,9 @@
 // more, when there is memory.
 #![tactic(auto)]
 
+#[cfg(test)]
 pub mod building;
+#[cfg(test)]
 pub mod callers;
 #[cfg(test)]
 mod commit_tests;
@@ -22,6 +24,7 @@ mod once_more;
 mod one_byte_tests;
 #[cfg(test)]
 mod signers;
+#[cfg(test)]
 pub mod three_sides;
 #[cfg(test)]
 mod three_sides_tests;

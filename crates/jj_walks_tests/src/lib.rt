@@ -1,20 +1,27 @@
 //! Tests of `jj_walks` over its public calls, and a caller that is proved by its contracts.
 #![tactic(auto)]
 
+#[cfg(test)]
 pub mod ancestry;
+#[cfg(test)]
 pub mod branches;
+#[cfg(test)]
 pub mod callers;
+#[cfg(test)]
 pub mod children_first;
 #[cfg(test)]
 mod chunks;
 #[cfg(test)]
 mod closest_common_tests;
+#[cfg(test)]
 pub mod commits;
+#[cfg(test)]
 pub mod failing_callers;
 #[cfg(test)]
 mod grouped;
 #[cfg(test)]
 mod hostile;
+#[cfg(test)]
 pub mod large;
 #[cfg(test)]
 mod lazy;
@@ -24,6 +31,7 @@ mod maximal;
 mod orders;
 #[cfg(test)]
 mod reversed;
+#[cfg(test)]
 mod shown;
 #[cfg(test)]
 mod tables;
