@@ -1,6 +1,6 @@
 //! Matchers that are asked string after string.
 use crate::fixtures::pattern;
-use jj_strings::str_util::{StringExpression, StringMatcher};
+use jj_strings::str_util::{StringExpression, StringMatcher, StringSearcher};
 use std::alloc::{AllocError, Global};
 use std::process::Abort;
 
@@ -27,18 +27,20 @@ const ASKED: [(&str, bool); 7] = [
     ("", false),
 ];
 
+// Asks once more where memory was refused.
+fn answer(searcher: &mut StringSearcher<'_>, text: &str) -> Result<bool, AllocError> {
+    match searcher.is_match(text) {
+        Ok(yes) => Ok(yes),
+        Err(AllocError) => searcher.is_match_bytes(text.as_bytes()),
+    }
+}
+
 // A searcher that was refused memory is asked for the same text again.
 fn asks<R: Abort>(rt: &R, alloc: Global) -> Result<(), AllocError> {
     let matcher = starts_alone(rt, alloc)?;
     let mut searcher = matcher.searcher(alloc);
     for (text, holds) in ASKED {
-        let first = searcher.is_match(text);
-        let answer = if first.is_err() {
-            searcher.is_match_bytes(text.as_bytes())?
-        } else {
-            first?
-        };
-        assert_eq!(rt; answer, holds, "{text:?}");
+        assert_eq!(rt; answer(&mut searcher, text)?, holds, "{text:?}");
     }
     Ok(())
 }
