@@ -109,13 +109,33 @@ fn has_signed(alloc: Global, signer: &Fake, content: &str) -> Result<bool, Alloc
     Ok(encode_hex(alloc, &signer.signed)?.as_str() == content)
 }
 
+// Writes a commit that was signed before, and has it signed once more.
+fn written_signed(
+    alloc: Global,
+    backend: &mut MemoryBackend,
+    signer: &mut Fake,
+) -> BackendResult<(CommitId, Commit)> {
+    let commit = signed_before(alloc, backend)?;
+    backend.write_commit(alloc, commit, Some(signer))
+}
+
+// Whether what was written is that commit with the fake signer's signature.
+fn is_kept_signed(
+    alloc: Global,
+    backend: &MemoryBackend,
+    signer: &Fake,
+    id: &CommitId,
+    kept: &Commit,
+) -> BackendResult<bool> {
+    let is_signed = is_signed_by(kept, signer) && has_signed(alloc, signer, CONTENT)?;
+    Ok(is_signed && is_commit(alloc, backend, id, &SIGNED, kept)?)
+}
+
 fn keeps_signed_commits(alloc: Global) -> BackendResult<bool> {
     let mut backend = short_ids(alloc)?;
-    let commit = signed_before(alloc, &backend)?;
     let mut signer = new_fake(alloc, Does::Signs);
-    let (id, kept) = backend.write_commit(alloc, commit, Some(&mut signer))?;
-    let is_signed = is_signed_by(&kept, &signer) && has_signed(alloc, &signer, CONTENT)?;
-    Ok(is_signed && is_commit(alloc, &backend, &id, &SIGNED, &kept)?)
+    let (id, kept) = written_signed(alloc, &mut backend, &mut signer)?;
+    is_kept_signed(alloc, &backend, &signer, &id, &kept)
 }
 
 #[test]
@@ -149,22 +169,16 @@ fn refuses(
     Ok(is_refused && signer.asked == times)
 }
 
-fn hands_failures_on(alloc: Global) -> BackendResult<bool> {
+// Whether the write of a commit is refused as `Other` of this kind by a signer that was asked once.
+fn hands_failure_on(alloc: Global, does: Does, kind: SourceKind) -> BackendResult<bool> {
     let mut backend = short_ids(alloc)?;
     let commit = first_commit(alloc, &backend)?;
-    let again = commit.clone()?;
-    let fails = refuses(alloc, &mut backend, commit, Does::Fails, SourceKind::Io, 1)?;
-    Ok(
-        fails
-            && refuses(
-                alloc,
-                &mut backend,
-                again,
-                Does::FindsFault,
-                SourceKind::Data,
-                1,
-            )?,
-    )
+    refuses(alloc, &mut backend, commit, does, kind, 1)
+}
+
+fn hands_failures_on(alloc: Global) -> BackendResult<bool> {
+    let fails = hands_failure_on(alloc, Does::Fails, SourceKind::Io)?;
+    Ok(fails && hands_failure_on(alloc, Does::FindsFault, SourceKind::Data)?)
 }
 
 #[test]
