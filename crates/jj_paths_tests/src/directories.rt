@@ -134,25 +134,37 @@ fn directories_are_made_or_used(rt: HostRuntime) {
     assert!(rt; creates(&rt, alloc).or_else(|_| creates(&rt, alloc)).is_ok());
 }
 
-fn empties<R: Abort>(rt: &R, alloc: Global) -> Result<(), AllocError> {
+fn empties_full<R: Abort>(rt: &R, alloc: Global) -> Result<(), AllocError> {
     let mut full = Memory::new(true, [true; 3], 9);
     match remove_dir_contents(alloc, &mut full, "dir") {
         Ok(()) => assert_eq!(rt; full.count(), 0),
         Err(fault) => return is_fault(rt, fault, "", ErrorKind::Other),
     }
-    let mut unlisted = Memory::new(true, [true; 3], 0);
-    match remove_dir_contents(alloc, &mut unlisted, "dir") {
-        Ok(()) => panic!(rt; "listed"),
-        Err(fault) => is_fault(rt, fault, "dir", ErrorKind::PermissionDenied)?,
+    Ok(())
+}
+
+// Refuses the call of this number: the path is the one that is named, and so many files are left.
+fn stops_at<R: Abort>(
+    rt: &R,
+    alloc: Global,
+    call: u32,
+    path: &str,
+    left: usize,
+) -> Result<(), AllocError> {
+    let mut failing = Memory::new(true, [true; 3], call);
+    match remove_dir_contents(alloc, &mut failing, "dir") {
+        Ok(()) => panic!(rt; "removed"),
+        Err(fault) => is_fault(rt, fault, path, ErrorKind::PermissionDenied)?,
     }
-    assert_eq!(rt; unlisted.count(), 3);
+    assert_eq!(rt; failing.count(), left);
+    Ok(())
+}
+
+fn empties<R: Abort>(rt: &R, alloc: Global) -> Result<(), AllocError> {
+    empties_full(rt, alloc)?;
+    stops_at(rt, alloc, 0, "dir", 3)?;
     for (i, path) in PATHS.iter().enumerate() {
-        let mut failing = Memory::new(true, [true; 3], i as u32 + 1);
-        match remove_dir_contents(alloc, &mut failing, "dir") {
-            Ok(()) => panic!(rt; "removed"),
-            Err(fault) => is_fault(rt, fault, path, ErrorKind::PermissionDenied)?,
-        }
-        assert_eq!(rt; failing.count(), 3 - i);
+        stops_at(rt, alloc, i as u32 + 1, path, 3 - i)?;
     }
     Ok(())
 }

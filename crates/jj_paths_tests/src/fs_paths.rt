@@ -2,7 +2,8 @@
 //! paths.
 use crate::fixtures::path;
 use jj_paths::repo_path::{
-    InvalidRepoPathComponentError, InvalidRepoPathError, RelativePathParseError, RepoPathBuf,
+    InvalidRepoPathComponentError, InvalidRepoPathError, RelativePathParseError, RepoPath,
+    RepoPathBuf,
 };
 use std::alloc::{AllocError, Global};
 use std::process::Abort;
@@ -32,13 +33,23 @@ const WITH_DOTS: [[&str; 3]; 7] = [
     ["file/..", "..", "base/file/.."],
 ];
 
+// The path of the file system that a path is below a base.
+fn made_below<R: Abort>(
+    rt: &R,
+    alloc: Global,
+    path: RepoPath<'_>,
+    base: &str,
+) -> Result<String, AllocError> {
+    match path.to_fs_path(alloc, base) {
+        Ok(made) => Ok(made),
+        Err(InvalidRepoPathError::Memory) => Err(AllocError),
+        Err(e) => panic!(rt; "{path:?}: {e}"),
+    }
+}
+
 fn goes_below<R: Abort>(rt: &R, alloc: Global) -> Result<(), AllocError> {
     for [text, base, below] in BELOW {
-        let made = match path(rt, alloc, text).to_fs_path(alloc, base) {
-            Ok(made) => made,
-            Err(InvalidRepoPathError::Memory) => return Err(AllocError),
-            Err(e) => panic!(rt; "{text}: {e}"),
-        };
+        let made = made_below(rt, alloc, path(rt, alloc, text), base)?;
         assert_eq!(rt; made.as_str(), below);
         let made = path(rt, alloc, text).to_fs_path_unchecked(alloc, base)?;
         assert_eq!(rt; made.as_str(), below);
@@ -134,20 +145,30 @@ fn refused_relative() -> [(&'static [u8], &'static str); 8] {
     ]
 }
 
+fn refuses_bytes<R: Abort>(
+    rt: &R,
+    alloc: Global,
+    bytes: &[u8],
+    named: &str,
+) -> Result<(), AllocError> {
+    match RepoPathBuf::from_relative_path(alloc, bytes) {
+        Ok(path) => panic!(rt; "{path:?} of {bytes:?}"),
+        Err(RelativePathParseError::InvalidComponent { component, path }) => {
+            assert_eq!(rt; component.as_str(), named);
+            assert_eq!(rt; path.as_slice(), bytes);
+        }
+        Err(RelativePathParseError::InvalidUtf8 { path }) => {
+            assert_eq!(rt; named, "");
+            assert_eq!(rt; path.as_slice(), bytes);
+        }
+        Err(RelativePathParseError::Memory) => return Err(AllocError),
+    }
+    Ok(())
+}
+
 fn refuses_relative<R: Abort>(rt: &R, alloc: Global) -> Result<(), AllocError> {
     for (bytes, named) in refused_relative() {
-        match RepoPathBuf::from_relative_path(alloc, bytes) {
-            Ok(path) => panic!(rt; "{path:?} of {bytes:?}"),
-            Err(RelativePathParseError::InvalidComponent { component, path }) => {
-                assert_eq!(rt; component.as_str(), named);
-                assert_eq!(rt; path.as_slice(), bytes);
-            }
-            Err(RelativePathParseError::InvalidUtf8 { path }) => {
-                assert_eq!(rt; named, "");
-                assert_eq!(rt; path.as_slice(), bytes);
-            }
-            Err(RelativePathParseError::Memory) => return Err(AllocError),
-        }
+        refuses_bytes(rt, alloc, bytes, named)?;
     }
     Ok(())
 }

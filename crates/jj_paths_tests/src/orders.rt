@@ -1,5 +1,6 @@
 //! Equality, order and hashes of names and paths.
 use crate::fixtures::{name, owned, path};
+use jj_paths::repo_path::RepoPathComponent;
 use std::alloc::{AllocError, Global};
 use std::cmp::Ordering;
 use std::collections::HashSet;
@@ -43,23 +44,18 @@ fn paths_name_by_name(rt: HostRuntime) {
     }
 }
 
+// Checks that the first name is less than the second one.
+fn ascend<R: Abort>(rt: &R, less: RepoPathComponent<'_>, more: RepoPathComponent<'_>) {
+    assert!(rt; less < more, "{less:?} and {more:?}");
+    assert!(rt; less != more, "{less:?} and {more:?}");
+    assert_eq!(rt; more.cmp(&less), Ordering::Greater);
+}
+
 #[test]
 fn names_by_bytes(rt: HostRuntime) {
     let alloc = rt.alloc();
     for (less, more) in [("dir", "dir#"), ("B", "a"), ("a", "aa"), ("z", "\u{e9}")] {
-        assert!(rt;
-            name(&rt, alloc, less) < name(&rt, alloc, more),
-            "{less} and {more}"
-        );
-        assert!(rt;
-            name(&rt, alloc, less) != name(&rt, alloc, more),
-            "{less} and {more}"
-        );
-        assert_eq!(rt;
-            name(&rt, alloc, more).cmp(&name(&rt, alloc, less)),
-            Ordering::Greater,
-            "{less} and {more}"
-        );
+        ascend(&rt, name(&rt, alloc, less), name(&rt, alloc, more));
     }
     assert!(rt; name(&rt, alloc, "dir") == name(&rt, alloc, "dir"));
 }

@@ -135,29 +135,29 @@ fn sets_of_regex_expressions(rt: HostRuntime) {
 }
 
 // A lone pattern has the matcher of the pattern, all others own the expression.
+// Checks the debug form of an expression's matcher.
+fn shows_matcher<R: Abort>(
+    rt: &R,
+    alloc: Global,
+    expression: StringExpression,
+    shown: &str,
+) -> Result<(), AllocError> {
+    shows(rt, alloc, &expression.to_matcher(alloc)?, shown)
+}
+
 fn matchers<R: Abort>(rt: &R, alloc: Global) -> Result<(), AllocError> {
-    shows(
+    shows_matcher(rt, alloc, StringExpression::all(alloc)?, "All")?;
+    shows_matcher(rt, alloc, exact(alloc, "x")?, "Exact(\"x\")")?;
+    shows_matcher(
         rt,
         alloc,
-        &StringExpression::all(alloc)?.to_matcher(alloc)?,
-        "All",
-    )?;
-    shows(
-        rt,
-        alloc,
-        &exact(alloc, "x")?.to_matcher(alloc)?,
-        "Exact(\"x\")",
-    )?;
-    shows(
-        rt,
-        alloc,
-        &part(alloc, "x")?.to_matcher(alloc)?,
+        part(alloc, "x")?,
         "Expr(Pattern(Substring(\"x\")))",
     )?;
-    shows(
+    shows_matcher(
         rt,
         alloc,
-        &StringExpression::none(alloc)?.to_matcher(alloc)?,
+        StringExpression::none(alloc)?,
         "Expr(NotIn(Pattern(Substring(\"\"))))",
     )
 }
@@ -170,18 +170,23 @@ fn expressions_to_matchers(rt: HostRuntime) {
     }
 }
 
+// The text `a`, what has `b` in it, and the text `c` if it is not `d`.
+fn with_exact_texts(alloc: Global) -> Result<StringExpression, AllocError> {
+    let not_d = exact(alloc, "d")?.negated(alloc)?;
+    let mut expressions = Vec::new(alloc);
+    expressions.push(exact(alloc, "a")?)?;
+    expressions.push(part(alloc, "b")?)?;
+    expressions.push(exact(alloc, "c")?.intersection(alloc, not_d)?)?;
+    StringExpression::union_all(alloc, expressions)
+}
+
 // Exact texts are listed from left to right, those below a complement too.
 fn exact_texts<R: Abort>(rt: &R, alloc: Global) -> Result<(), AllocError> {
     assert_eq!(rt;
         StringExpression::all(alloc)?.exact_strings(alloc)?.count(),
         0
     );
-    let not_d = exact(alloc, "d")?.negated(alloc)?;
-    let mut expressions = Vec::new(alloc);
-    expressions.push(exact(alloc, "a")?)?;
-    expressions.push(part(alloc, "b")?)?;
-    expressions.push(exact(alloc, "c")?.intersection(alloc, not_d)?)?;
-    let union = StringExpression::union_all(alloc, expressions)?;
+    let union = with_exact_texts(alloc)?;
     let texts: Vec<&str> = union.exact_strings(alloc)?.collect(alloc)?;
     assert!(rt; texts.as_slice() == ["a", "c", "d"].as_slice());
     Ok(())

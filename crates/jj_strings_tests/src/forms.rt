@@ -1,6 +1,6 @@
 //! Patterns as matchers, as globs and as regular expressions.
 use crate::fixtures::{matcher, pattern, shows};
-use jj_strings::str_util::StringPattern;
+use jj_strings::str_util::{StringMatcher, StringPattern};
 use std::alloc::{AllocError, Global};
 use std::process::Abort;
 
@@ -103,10 +103,19 @@ fn reads_back<R: Abort>(
     glob: &str,
 ) -> Result<(), AllocError> {
     let read = matcher(rt, alloc, "glob", glob)?;
-    let matcher = pattern.to_matcher(alloc)?;
+    agree(rt, alloc, &read, &pattern.to_matcher(alloc)?)
+}
+
+// Checks that both matchers hold the same strings.
+fn agree<R: Abort>(
+    rt: &R,
+    alloc: Global,
+    one: &StringMatcher,
+    other: &StringMatcher,
+) -> Result<(), AllocError> {
     for string in STRINGS {
-        let is_in = matcher.is_match(alloc, string)?;
-        assert_eq!(rt; read.is_match(alloc, string)?, is_in, "{glob} and {string}");
+        let is_in = other.is_match(alloc, string)?;
+        assert_eq!(rt; one.is_match(alloc, string)?, is_in, "{string} by {one:?}");
     }
     Ok(())
 }

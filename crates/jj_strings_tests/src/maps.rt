@@ -25,14 +25,27 @@ fn finds<R: Abort, K: TextKey>(
     wanted: &[(&str, usize)],
 ) -> Result<(), AllocError> {
     let found = items(rt, alloc, matcher.filter_btree_map(alloc, map))?;
-    let again = items(rt, alloc, matcher.filter_btree_map_as_deref(alloc, map))?;
     assert_eq!(rt; found.len(), wanted.len(), "by {matcher:?}");
-    assert_eq!(rt; again.len(), wanted.len(), "by {matcher:?}");
-    for ((one, other), (text, place)) in found.iter().zip(again.iter()).zip(wanted) {
-        assert_eq!(rt; one.0.as_text(), *text);
-        assert_eq!(rt; *one.1, *place);
-        assert_eq!(rt; other.0.as_text(), *text);
-        assert_eq!(rt; *other.1, *place);
+    for (entry, (text, place)) in found.iter().zip(wanted) {
+        assert_eq!(rt; entry.0.as_text(), *text);
+        assert_eq!(rt; *entry.1, *place);
+    }
+    finds_derefs(rt, alloc, matcher, map, wanted)
+}
+
+// The same by what the keys are dereferenced to.
+fn finds_derefs<R: Abort, K: TextKey>(
+    rt: &R,
+    alloc: Global,
+    matcher: &StringMatcher,
+    map: &BTreeMap<K, usize>,
+    wanted: &[(&str, usize)],
+) -> Result<(), AllocError> {
+    let found = items(rt, alloc, matcher.filter_btree_map_as_deref(alloc, map))?;
+    assert_eq!(rt; found.len(), wanted.len(), "by {matcher:?}");
+    for (entry, (text, place)) in found.iter().zip(wanted) {
+        assert_eq!(rt; entry.0.as_text(), *text);
+        assert_eq!(rt; *entry.1, *place);
     }
     Ok(())
 }
@@ -84,10 +97,15 @@ fn maps_by_names(rt: HostRuntime) {
     }
 }
 
+// What is three bytes long.
+fn of_three_bytes(alloc: Global) -> Result<StringMatcher, AllocError> {
+    let test: ByteTest = Box::new(alloc, |bytes: &[u8]| bytes.len() == 3)?;
+    Ok(StringMatcher::Fn(BytePredicate::new(test)))
+}
+
 // A predicate that the caller brings is asked of the bytes themselves.
 fn predicates<R: Abort>(rt: &R, alloc: Global) -> Result<(), AllocError> {
-    let test: ByteTest = Box::new(alloc, |bytes: &[u8]| bytes.len() == 3)?;
-    let matcher = StringMatcher::Fn(BytePredicate::new(test));
+    let matcher = of_three_bytes(alloc)?;
     for (string, is_in) in [
         ("foo", true),
         ("\u{c0}", false),

@@ -103,23 +103,30 @@ const FAULTS: [(&str, &str, &str, &str); 14] = [
     ("regex-i", "[", "Regex(", "regex parse error"),
 ];
 
+// Checks how the debug form and the text of an error begin.
+fn begins<R: Abort>(
+    rt: &R,
+    alloc: Global,
+    error: &StringPatternParseError,
+    wanted: (&str, &str),
+) -> Result<(), AllocError> {
+    let (shown, message) = wanted;
+    let debug = format!(in alloc; "{error:?}")?;
+    assert!(rt; debug.as_str().starts_with(shown), "the error {debug}");
+    let display = format!(in alloc; "{error}")?;
+    assert!(rt;
+        display.as_str().starts_with(message),
+        "the error {display}"
+    );
+    Ok(())
+}
+
 fn faults<R: Abort>(rt: &R, alloc: Global) -> Result<(), AllocError> {
     for (kind, text, shown, message) in FAULTS {
         match StringPattern::from_str_kind(alloc, text, kind) {
             Ok(_) => panic!(rt; "{kind}:{text} is no pattern"),
             Err(StringPatternParseError::Memory) => return Err(AllocError),
-            Err(error) => {
-                let debug = format!(in alloc; "{error:?}")?;
-                assert!(rt;
-                    debug.as_str().starts_with(shown),
-                    "{kind}:{text} is {debug}"
-                );
-                let display = format!(in alloc; "{error}")?;
-                assert!(rt;
-                    display.as_str().starts_with(message),
-                    "{kind}:{text} is {display}"
-                );
-            }
+            Err(error) => begins(rt, alloc, &error, (shown, message))?,
         }
     }
     Ok(())

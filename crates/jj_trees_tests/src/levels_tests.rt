@@ -2,7 +2,7 @@
 use crate::building::{ascending_tree, component, plain_file, tree_merge_of};
 use jj_backend::backend::{Backend, BackendError, BackendResult, TreeId, TreeValue};
 use jj_merges::conflict_labels::ConflictLabels;
-use jj_merges::merge::SameChange;
+use jj_merges::merge::{Merge, SameChange};
 use jj_paths::repo_path::RepoPath;
 use jj_trees::memory_backend::MemoryBackend;
 use jj_trees::tree_merge::{TreeMerge, merge_trees};
@@ -37,15 +37,24 @@ fn nested(
     Ok(id)
 }
 
+// The merge of three files below so many levels of directories.
+fn three_nested(
+    alloc: Global,
+    backend: &mut MemoryBackend,
+    levels: usize,
+) -> BackendResult<Merge<TreeId>> {
+    let left = nested(alloc, backend, b'1', levels)?;
+    let base = nested(alloc, backend, b'0', levels)?;
+    let right = nested(alloc, backend, b'2', levels)?;
+    let mut changes = Vec::new(alloc);
+    changes.push((base, right))?;
+    tree_merge_of(alloc, left, changes)
+}
+
 // What three files come to below so many levels of directories.
 fn merge_nested(alloc: Global, levels: usize) -> BackendResult<TreeMerge> {
     let mut backend = MemoryBackend::new(alloc)?;
-    let left = nested(alloc, &mut backend, b'1', levels)?;
-    let base = nested(alloc, &mut backend, b'0', levels)?;
-    let right = nested(alloc, &mut backend, b'2', levels)?;
-    let mut changes = Vec::new(alloc);
-    changes.push((base, right))?;
-    let trees = tree_merge_of(alloc, left, changes)?;
+    let trees = three_nested(alloc, &mut backend, levels)?;
     let labels = ConflictLabels::unlabeled(alloc);
     merge_trees(alloc, &backend, &trees, &labels, SameChange::Accept)
 }

@@ -190,10 +190,15 @@ fn keeps_links(alloc: Global) -> BackendResult<bool> {
     let mut backend = long_ids(alloc)?;
     let file = backend.write_file(alloc, RepoPath::root(), b"abc")?;
     let was_none = is_no_symlink(alloc, &backend, file.as_bytes())?;
+    let is_kept = keeps_link(alloc, &mut backend, file.as_bytes())?;
+    Ok(was_none && is_kept && is_abc(alloc, &backend, &file)?)
+}
+
+// Whether a link to `abc` is kept, at this id.
+fn keeps_link(alloc: Global, backend: &mut MemoryBackend, id: &[u8]) -> BackendResult<bool> {
     let link = backend.write_symlink(alloc, RepoPath::root(), "abc")?;
     let target = backend.read_symlink(alloc, RepoPath::root(), &link)?;
-    let is_kept = target.as_str() == "abc" && is_abc(alloc, &backend, &file)?;
-    Ok(was_none && is_kept && link.as_bytes() == file.as_bytes())
+    Ok(target.as_str() == "abc" && link.as_bytes() == id)
 }
 
 #[test]
@@ -234,7 +239,17 @@ fn keeps_copies(alloc: Global) -> BackendResult<bool> {
     let mut backend = long_ids(alloc)?;
     let copy = history(alloc)?;
     let id = backend.write_copy(alloc, &copy)?;
-    Ok(has_hex(alloc, &id, COPY)? && backend.read_copy(alloc, &id)? == copy)
+    Ok(has_hex(alloc, &id, COPY)? && is_history(alloc, &backend, &id, &copy)?)
+}
+
+// Whether an id stands for this history.
+fn is_history(
+    alloc: Global,
+    backend: &MemoryBackend,
+    id: &CopyId,
+    copy: &CopyHistory,
+) -> BackendResult<bool> {
+    Ok(&backend.read_copy(alloc, id)? == copy)
 }
 
 #[test]

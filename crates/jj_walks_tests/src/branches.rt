@@ -105,13 +105,19 @@ mod tests {
         })
     }
 
-    /// 4 over 2, 3 over 1, 2 over 1: the branch of 3 comes first, where 3 is wanted.
-    fn wanted_first<R: Abort>(rt: &R, alloc: Global) -> Result<(), AllocError> {
+    /// 4 over 2, 3 over 1, 2 over 1.
+    fn two_branches(alloc: Global) -> Result<Vec<Commit>, AllocError> {
         let mut commits = Vec::new(alloc);
         commits.push(commit(alloc, 4, &[2])?)?;
         commits.push(commit(alloc, 3, &[1])?)?;
         commits.push(commit(alloc, 2, &[1])?)?;
         commits.push(commit(alloc, 1, &[])?)?;
+        Ok(commits)
+    }
+
+    /// The branch of 3 comes first, where 3 is wanted.
+    fn wanted_first<R: Abort>(rt: &R, alloc: Global) -> Result<(), AllocError> {
+        let commits = two_branches(alloc)?;
         let order = match grouped_commits(alloc, &commits, 3) {
             Ok(order) => order,
             Err(GroupedGraphError::Memory) => return Err(AllocError),
