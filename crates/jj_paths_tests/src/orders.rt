@@ -91,12 +91,19 @@ fn sets_of_paths<R: Abort>(rt: &R, alloc: Global) -> Result<(), AllocError> {
     assert_eq!(rt; paths.len(), 2);
     assert!(rt; paths.contains(&owned(rt, alloc, "")?));
     assert!(rt; !paths.contains(&owned(rt, alloc, "dir")?));
+    sets_of_names(rt, alloc)?;
+    sets_of_borrowed_paths(rt, alloc)
+}
 
+fn sets_of_names<R: Abort>(rt: &R, alloc: Global) -> Result<(), AllocError> {
     let mut names = HashSet::new(alloc);
     names.insert(name(rt, alloc, "dir").to_owned(alloc)?)?;
     names.insert(name(rt, alloc, "dir").to_owned(alloc)?)?;
     assert_eq!(rt; names.len(), 1);
+    Ok(())
+}
 
+fn sets_of_borrowed_paths<R: Abort>(rt: &R, alloc: Global) -> Result<(), AllocError> {
     let mut borrowed = HashSet::new(alloc);
     borrowed.insert(path(rt, alloc, "a/b"))?;
     borrowed.insert(path(rt, alloc, "a/b"))?;

@@ -183,35 +183,43 @@ fn splits_the_first_name(rt: HostRuntime) {
 }
 
 #[test]
-fn names_from_both_ends(rt: HostRuntime) {
-    let alloc = rt.alloc();
-    let a = name(&rt, alloc, "a");
-    let b = name(&rt, alloc, "b");
-    let c = name(&rt, alloc, "c");
+fn names_of_the_root(rt: HostRuntime) {
     let mut none = RepoPath::root().components();
     assert!(rt; none.next() == None);
     assert!(rt; none.next_back() == None);
+}
 
+#[test]
+fn names_from_the_front(rt: HostRuntime) {
+    let alloc = rt.alloc();
     let mut forward = path(&rt, alloc, "a/b/c").components();
-    assert!(rt; forward.next() == Some(a));
+    assert!(rt; forward.next() == Some(name(&rt, alloc, "a")));
     assert!(rt; forward.as_path() == path(&rt, alloc, "b/c"));
-    assert!(rt; forward.next() == Some(b));
-    assert!(rt; forward.next() == Some(c));
+    assert!(rt; forward.next() == Some(name(&rt, alloc, "b")));
+    assert!(rt; forward.next() == Some(name(&rt, alloc, "c")));
     assert!(rt; forward.next() == None);
     assert!(rt; forward.next() == None);
+}
 
+#[test]
+fn names_from_the_back(rt: HostRuntime) {
+    let alloc = rt.alloc();
     let mut backward = path(&rt, alloc, "a/b/c").components();
-    assert!(rt; backward.next_back() == Some(c));
+    assert!(rt; backward.next_back() == Some(name(&rt, alloc, "c")));
     assert!(rt; backward.as_path() == path(&rt, alloc, "a/b"));
-    assert!(rt; backward.next_back() == Some(b));
-    assert!(rt; backward.next_back() == Some(a));
+    assert!(rt; backward.next_back() == Some(name(&rt, alloc, "b")));
+    assert!(rt; backward.next_back() == Some(name(&rt, alloc, "a")));
     assert!(rt; backward.next_back() == None);
     assert!(rt; backward.next_back() == None);
+}
 
+#[test]
+fn names_from_both_ends(rt: HostRuntime) {
+    let alloc = rt.alloc();
     let mut inward = path(&rt, alloc, "a/b/c").components();
-    assert!(rt; inward.next_back() == Some(c));
-    assert!(rt; inward.next() == Some(a));
-    assert!(rt; inward.next_back() == Some(b));
+    assert!(rt; inward.next_back() == Some(name(&rt, alloc, "c")));
+    assert!(rt; inward.next() == Some(name(&rt, alloc, "a")));
+    assert!(rt; inward.next_back() == Some(name(&rt, alloc, "b")));
     assert!(rt; inward.next() == None);
 }
 

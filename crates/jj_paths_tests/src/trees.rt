@@ -199,6 +199,11 @@ fn refused_adds(rt: HostRuntime) {
             assert!(rt; tree.set(path(&rt, alloc, "a/b/c/d"), 4).is_ok());
         }
     }
+    has_values_of_all(&rt, alloc, &tree);
+}
+
+// Checks the values of the small tree to which `a/b/c/d` was added.
+fn has_values_of_all<R: Abort>(rt: &R, alloc: Global, tree: &RepoPathTree<u32>) {
     for (text, want) in [
         ("", 0),
         ("a", 1),
@@ -208,7 +213,7 @@ fn refused_adds(rt: HostRuntime) {
         ("a/b/c", 0),
         ("a/b/c/d", 4),
     ] {
-        assert_eq!(rt; value_at(&rt, alloc, &tree, text), want, "{text}");
+        assert_eq!(rt; value_at(rt, alloc, tree, text), want, "{text}");
     }
 }
 
@@ -280,6 +285,12 @@ fn adds_in_descending_order<R: Abort>(rt: &R, alloc: Global) -> Result<(), Alloc
             Err(_) => panic!(rt; "digits are a path"),
         }
     }
+    lists_all(rt, alloc, &tree)?;
+    finds_even_alone(rt, alloc, &tree)
+}
+
+// Checks that the children are the even names, in order.
+fn lists_all<R: Abort>(rt: &R, alloc: Global, tree: &RepoPathTree<u32>) -> Result<(), AllocError> {
     let mut children = tree.children();
     for number in 0u32..2000 {
         match children.next() {
@@ -291,6 +302,15 @@ fn adds_in_descending_order<R: Abort>(rt: &R, alloc: Global) -> Result<(), Alloc
         }
     }
     assert!(rt; children.next().is_none());
+    Ok(())
+}
+
+// Checks that the tree has the even names and no odd one.
+fn finds_even_alone<R: Abort>(
+    rt: &R,
+    alloc: Global,
+    tree: &RepoPathTree<u32>,
+) -> Result<(), AllocError> {
     for number in 0u32..2000 {
         let even = numbered(alloc, 2 * number)?;
         let odd = numbered(alloc, 2 * number + 1)?;

@@ -97,15 +97,10 @@ fn maps_by_names(rt: HostRuntime) {
     }
 }
 
-// What is three bytes long.
-fn of_three_bytes(alloc: Global) -> Result<StringMatcher, AllocError> {
-    let test: ByteTest = Box::new(alloc, |bytes: &[u8]| bytes.len() == 3)?;
-    Ok(StringMatcher::Fn(BytePredicate::new(test)))
-}
-
 // A predicate that the caller brings is asked of the bytes themselves.
 fn predicates<R: Abort>(rt: &R, alloc: Global) -> Result<(), AllocError> {
-    let matcher = of_three_bytes(alloc)?;
+    let test: ByteTest = Box::new(alloc, |bytes: &[u8]| bytes.len() == 3)?;
+    let matcher = StringMatcher::Fn(BytePredicate::new(test));
     for (string, is_in) in [
         ("foo", true),
         ("\u{c0}", false),
