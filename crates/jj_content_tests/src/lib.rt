@@ -16,7 +16,6 @@ mod known_answers;
 mod maps;
 #[cfg(test)]
 mod recorder;
-#[cfg(test)]
-mod records;
+pub mod records;
 #[cfg(test)]
 mod symbol_util_tests;

@@ -13,9 +13,7 @@ pub mod children_first;
 mod chunks;
 #[cfg(test)]
 mod closest_common_tests;
-#[cfg(test)]
 pub mod commits;
-#[cfg(test)]
 pub mod failing_callers;
 #[cfg(test)]
 mod grouped;
