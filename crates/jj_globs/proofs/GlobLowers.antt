@@ -36,17 +36,17 @@ test_same p q t e (b ∷ bs) = ap (λ v. v && t bs) (e b)
 -- 1. A place with so many steps behind it stays what it is when a step is put before all.
 
 module _ (o : Options) (below : Bool) where
-  kept : (s : Step) (ss : List Step) (k : ℕ) → k ≤ length ss → (bs : List ℕ) → test_at o below (s ∷ ss) k bs ≡ test_at o below ss k bs
+  pub kept : (s : Step) (ss : List Step) (k : ℕ) → k ≤ length ss → (bs : List ℕ) → test_at o below (s ∷ ss) k bs ≡ test_at o below ss k bs
   kept s ss k within bs = later o below s ss (length (s ∷ ss) - k) (length ss - k) (omega (arith, within)) bs
 
-  at_front : (ss : List Step) (bs : List ℕ) → test_at o below ss (length ss) bs ≡ answers o below ss 0 bs
+  pub at_front : (ss : List Step) (bs : List ℕ) → test_at o below ss (length ss) bs ≡ answers o below ss 0 bs
   at_front ss bs = let none : length ss - length ss ≡ 0 = omega arith in ap (λ (k : ℕ). answers o below ss k bs) none
 
   any_kept : (s : Step) (ss : List Step) (any : Option ℕ) (t : Test) → AnyIs o below ss any t → AnyIs o below (s ∷ ss) any t
   any_kept s ss None t h = h
   any_kept s ss (Some n) t h = let within = h.0 in ((omega (arith, within)), (λ bs. kept s ss n within bs ∙ h.1 bs))
 
-  outer_kept : (s : Step) (ss : List Step) (gs : List OpenGroup) (ts : List (Test × Test)) → OuterIs o below ss gs ts → OuterIs o below (s ∷ ss) gs ts
+  pub outer_kept : (s : Step) (ss : List Step) (gs : List OpenGroup) (ts : List (Test × Test)) → OuterIs o below ss gs ts → OuterIs o below (s ∷ ss) gs ts
   outer_kept s ss [] [] h = tt
   outer_kept s ss [] (t ∷ ts) h = absurd h
   outer_kept s ss (g ∷ gs) [] h = absurd h
@@ -191,7 +191,7 @@ module _ (o : Options) (below : Bool) where
 
 -- 5. No step leads past the end.
 
-inside_step : (s : Step) (ss : List Step) → further_of s ≤ length ss → StaysInside ss → StaysInside (s ∷ ss)
+pub inside_step : (s : Step) (ss : List Step) → further_of s ≤ length ss → StaysInside ss → StaysInside (s ∷ ss)
 inside_step s ss within h zero x e =
     let same : s ≡ x = cc in
     let further : further_of s ≡ further_of x = ap further_of same in

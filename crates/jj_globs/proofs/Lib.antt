@@ -14,3 +14,4 @@ pub mod GlobByteSets
 pub mod GlobLowers
 pub mod GlobEnding
 pub mod GlobFront
+pub mod GlobSharing

@@ -8,3 +8,4 @@ pub mod GlobPlaces
 pub mod GlobLowering
 pub mod GlobEnding
 pub mod GlobFront
+pub mod GlobSharing

@@ -146,6 +146,49 @@ fn groups<R: Abort>(rt: &R, alloc: Global) -> Result<(), AllocError> {
     )
 }
 
+// Groups of words, of which some begin alike, some begin with others, and some are given twice.
+fn groups_of_words<R: Abort>(rt: &R, alloc: Global) -> Result<(), AllocError> {
+    matches(
+        rt,
+        alloc,
+        false,
+        &[
+            (
+                "{ab,ac,abd,b,ab}",
+                &["ab", "ac", "abd", "b"],
+                &["", "a", "ad", "abc", "bd", "abab", "acd"],
+            ),
+            (
+                "{abc,ab,a}x",
+                &["abcx", "abx", "ax"],
+                &["x", "abc", "acx", "bx"],
+            ),
+            ("{a,ab}{bc,c}", &["abc", "ac", "abbc"], &["ab", "abb", "c"]),
+            ("{x{ab,aa},xab}*", &["xab", "xaac"], &["xa", "ab", "xbb"]),
+            (
+                "{a1,b1,a2,b2}/{a,b}",
+                &["a1/a", "b2/b"],
+                &["a1", "a1b2/a", "a/a"],
+            ),
+            (
+                "**/{ab,ac}",
+                &["ab", "x/ac", "x/y/ab"],
+                &["xab", "ab/x", "x/a"],
+            ),
+        ],
+    )?;
+    matches(
+        rt,
+        alloc,
+        true,
+        &[(
+            "{aB,Ab,ac,AD}",
+            &["ab", "AB", "aC", "ad"],
+            &["a", "abb", "b"],
+        )],
+    )
+}
+
 // Any bytes only where the whole text is a run of `**` joined by `/`: beside a group that leaves
 // nothing it is not.
 fn runs_beside_empty_groups<R: Abort>(rt: &R, alloc: Global) -> Result<(), AllocError> {
@@ -423,6 +466,9 @@ fn groups_have_alternatives(rt: HostRuntime) {
     }
     if runs_beside_empty_groups(&rt, alloc).is_err() {
         assert!(rt; runs_beside_empty_groups(&rt, alloc).is_ok());
+    }
+    if groups_of_words(&rt, alloc).is_err() {
+        assert!(rt; groups_of_words(&rt, alloc).is_ok());
     }
 }
 

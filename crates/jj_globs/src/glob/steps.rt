@@ -5,6 +5,7 @@ ghost use Rattle.jj_globs.specs.GlobPlaces.{in_set};
 ghost use Rattle.jj_globs.specs.GlobLowering.{AddsPart, AddsToken, forked, AreSteps};
 
 use crate::glob::byte_set::ByteSet;
+use crate::glob::shared_fronts::put_literal_group;
 use crate::glob::step::Step;
 use crate::glob::token::{Options, Part, Token};
 use std::alloc::{AllocError, Global};
@@ -31,8 +32,12 @@ pub(crate) fn steps_of(
     let mut groups = Vec::new(alloc);
     let mut left = tokens;
     while let Some((token, before)) = left.split_last() {
-        put_token(&mut steps, &mut groups, token, options)?;
-        left = before;
+        if let Some(outside) = put_literal_group(alloc, &mut steps, left)? {
+            left = outside;
+        } else {
+            put_token(&mut steps, &mut groups, token, options)?;
+            left = before;
+        }
     }
     steps.reverse();
     Ok(steps)

@@ -3,12 +3,12 @@ use Rattle.std.proofs.Common.{◌≡◌, ◌<◌, length}
 use Rattle.jj_globs.specs.GlobPlaces.{answers, StaysInside}
 use Rattle.jj_globs.proofs.glob.pattern.stand_for.Given as goal
 
-abbrev pub invariant-loop-own : goal.invariant-loop-own
-invariant-loop-own l = record {
+abbrev pub invariant-loop-step : goal.invariant-loop-step
+invariant-loop-step l = record {
   same : answers l.options l.below l.steps 0 l.bytes ≡ answers l.options l.below l.left 0 l.text;
   inside : StaysInside l.left;
   size : length l.left < 1048576;
 }
 
-abbrev pub decreases-loop-own : goal.decreases-loop-own
-decreases-loop-own l = length l.left
+abbrev pub decreases-loop-step : goal.decreases-loop-step
+decreases-loop-step l = length l.left

@@ -1,9 +1,12 @@
-use Rattle.std.proofs.Common.{◌≡◌, ◌∙◌, [], List, sym, ap, subst, reverse}
+use Rattle.std.proofs.Common.{rules, ◌≢◌, ◌++◌, ◌≡◌, ◌∙◌, [], List, sym, ap, subst, reverse}
 use Rattle.std.proofs.lemmas.List.{nil_from_length}
 use Rattle.jj_globs.specs.declared.glob.token.Token.{Token}
 use Rattle.jj_globs.specs.declared.glob.step.Step.{Step}
 use Rattle.jj_globs.specs.GlobPlain.{Tests, test_before}
 use Rattle.jj_globs.specs.GlobPlaces.{answers, end_test, StaysInside}
+use Rattle.jj_globs.specs.GlobLowering.{AddsToken}
+use Rattle.jj_globs.specs.GlobSharing.{Word, any_word, group_of, AddsWords}
+use Rattle.jj_globs.proofs.GlobSharing.{lower_words, over_group, over_append}
 use Rattle.jj_globs.proofs.GlobLowers.{lower_token, inside_token, lowered_end, tests_over, tests_over-end, tests_over-last, nothing_inside}
 use Rattle.jj_globs.proofs.glob.steps.steps_of.Goals as goal
 
@@ -18,19 +21,44 @@ loop-token-init c = record {
 }
 
 pub loop-token-preserved : goal.loop-token-preserved
-loop-token-preserved c = record {
-  lowered = λ below.
-      let known = c.loop-token.invariant.lowered below in (
-        test_before c.args.options c.in-Some.token.now known.0,
-        lower_token c.args.options below c.in-Some.token.now (reverse c.loop-token.steps.items) (reverse c.put_token.new.steps.items)
-            (reverse c.loop-token.groups.items) (reverse c.put_token.new.groups.items) known.0 c.in_ok-put_token.ensures known.1,
-        sym (tests_over-last c.args.options c.in-Some.before.now c.in-Some.token.now known.0)
-            ∙ ap (λ (ks : List Token). tests_over c.args.options ks known.0) (sym c.in-Some.ensures.cases.0) ∙ known.2,
-      );
-  inside =
-      inside_token c.args.options c.in-Some.token.now (reverse c.loop-token.steps.items) (reverse c.put_token.new.steps.items)
-      (reverse c.loop-token.groups.items) (reverse c.put_token.new.groups.items) c.in_ok-put_token.ensures c.loop-token.invariant.inside;
-}
+loop-token-preserved c =
+    let same : c.put_literal_group.new.steps.items ≡ c.loop-token.steps.items = search rules in
+    let adds : AddsToken c.args.options c.in-Some.token.now (reverse c.loop-token.steps.items) (reverse c.loop-token.groups.items)
+    (reverse c.put_token.new.steps.items) (reverse c.put_token.new.groups.items) =
+    subst (λ (ss : List Step). AddsToken c.args.options c.in-Some.token.now (reverse ss) (reverse c.loop-token.groups.items)
+    (reverse c.put_token.new.steps.items) (reverse c.put_token.new.groups.items)) same c.in_ok-put_token.ensures in
+    record {
+      lowered = λ below.
+          let known = c.loop-token.invariant.lowered below in (
+            test_before c.args.options c.in-Some.token.now known.0,
+            lower_token c.args.options below c.in-Some.token.now (reverse c.loop-token.steps.items) (reverse c.put_token.new.steps.items)
+                (reverse c.loop-token.groups.items) (reverse c.put_token.new.groups.items) known.0 adds known.1,
+            sym (tests_over-last c.args.options c.in-Some.before.now c.in-Some.token.now known.0)
+                ∙ ap (λ (ks : List Token). tests_over c.args.options ks known.0) (sym c.in-Some.ensures.cases.0) ∙ known.2,
+          );
+      inside =
+          inside_token c.args.options c.in-Some.token.now (reverse c.loop-token.steps.items) (reverse c.put_token.new.steps.items)
+          (reverse c.loop-token.groups.items) (reverse c.put_token.new.groups.items) adds c.loop-token.invariant.inside;
+    }
+
+pub loop-token-preserved-in-Some-2 : goal.loop-token-preserved-in-Some-2
+loop-token-preserved-in-Some-2 c =
+    let o = c.args.options in
+    let old = reverse c.loop-token.steps.items in
+    let new = reverse c.put_literal_group.new.steps.items in
+    let outside = c.in-Some-2.outside.now in
+    let found : (words : List Word) × (words ≢ []) × (c.loop-token.left.now ≡ outside ++ group_of words) × AddsWords words old new = search rules in
+    let (words, some, split, adds) = found in
+    record {
+      lowered = λ below.
+          let known = c.loop-token.invariant.lowered below in (
+            record { here = any_word o words known.0.here; outer = known.0.outer },
+            lower_words o below words old new (reverse c.loop-token.groups.items) known.0 adds known.1,
+            ap (tests_over o outside) (sym (over_group o words known.0 some)) ∙ sym (over_append o outside (group_of words) known.0)
+                ∙ ap (λ (ks : List Token). tests_over o ks known.0) (sym split) ∙ known.2,
+          );
+      inside = adds.inside c.loop-token.invariant.inside;
+    }
 
 pub returns : goal.returns
 returns c =

@@ -1,0 +1,14 @@
+-- The words behind those left were put before the steps.
+use Rattle.std.proofs.Common.{◌≡◌, length, map, reverse}
+use Rattle.jj_globs.proofs.GlobSharing.{HasPut}
+use Rattle.jj_globs.proofs.glob.shared_fronts.put_words.Given as goal
+
+abbrev pub invariant-loop-word : goal.invariant-loop-word
+invariant-loop-word l = record {
+  put : HasPut (map (λ word. word.items) l.words) (reverse l.fn.steps.items)
+      (map (λ word. word.items) l.left) l.current (reverse l.steps.items) (reverse l.branches.items);
+  after : l.after ≡ length l.fn.steps.items;
+}
+
+abbrev pub decreases-loop-word : goal.decreases-loop-word
+decreases-loop-word l = length l.left

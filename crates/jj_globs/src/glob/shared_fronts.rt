@@ -1,0 +1,158 @@
+//! Groups of literal alternatives, whose steps share the fronts of the alternatives: a match goes
+//! on from few places, however many alternatives there are.
+ghost use Rattle.std.specs.Prelude.{◌≡◌, ◌≢◌, ◌++◌, ◌≤◌, [], List, length, map, reverse, take};
+ghost use Rattle.std.specs.Prelude.{IfOk, IfSome, MatchOption, OnOk};
+ghost use Rattle.jj_globs.specs.GlobSharing.{Word, group_of, AddsWords, JoinsBranch, PutsBytes};
+
+use crate::glob::step::Step;
+use crate::glob::token::{Part, Token};
+use std::alloc::{AllocError, Global};
+
+/// Where words part: behind so many bytes of the word that is put before the steps. The place is
+/// named by the number of steps behind it.
+#[derive(Clone, Copy, Drop)]
+pub struct Branch {
+    /// How many bytes stand before it.
+    pub depth: usize,
+    /// Where the words begin that part from the current one there.
+    pub place: usize,
+}
+
+// Where the tokens end with a group of which each alternative is bytes alone, adds the steps of the
+// group, and answers the tokens before it.
+pub(crate) fn put_literal_group<'t>(
+    alloc: Global,
+    steps: &mut Vec<Step>,
+    tokens: &'t [Token],
+) -> Result<Option<&'t [Token]>, AllocError>
+    ensures { IfOk result (λ found. MatchOption found (steps.new.items ≡ steps.old.items)
+        (λ before. (words : List Word) × (words ≢ []) × (tokens.now ≡ before.now ++ group_of words)
+        × AddsWords words (reverse steps.old.items) (reverse steps.new.items))) }
+{
+    let Some((mut words, before)) = literal_group(alloc, tokens)? else {
+        return Ok(None);
+    };
+    words.sort_unstable();
+    put_words(alloc, steps, words.as_slice())?;
+    Ok(Some(before))
+}
+
+// The alternatives of the group that the tokens end with, the last first, and the tokens before the
+// group, where each of its alternatives is bytes alone.
+fn literal_group(
+    alloc: Global,
+    tokens: &[Token],
+) -> Result<Option<(Vec<Vec<u8>>, &[Token])>, AllocError>
+    ensures group { IfOk result (λ found. IfSome found (λ group. tokens.now
+        ≡ group.1.now ++ group_of (reverse (map (λ word. word.items) group.0.items)))) }
+    ensures some { IfOk result (λ found. IfSome found (λ group. group.0.items ≢ [])) }
+{
+    let Some((Token::Close, inner)) = tokens.split_last() else {
+        return Ok(None);
+    };
+    let mut words = Vec::new(alloc);
+    let mut word = Vec::new(alloc);
+    let mut left = inner;
+    while let Some((token, before)) = left.split_last() {
+        match token {
+            Token::Part(Part::Byte(byte)) => word.push(*byte)?,
+            Token::Or => {
+                word.reverse();
+                words.push(word)?;
+                word = Vec::new(alloc);
+            }
+            Token::Open => {
+                word.reverse();
+                words.push(word)?;
+                return Ok(Some((words, before)));
+            }
+            _ => return Ok(None),
+        }
+        left = before;
+    }
+    Ok(None)
+}
+
+// How many bytes both begin with.
+fn common_front(a: &[u8], b: &[u8]) -> usize
+    ensures same { take result a.now ≡ take result b.now }
+    ensures within { (result ≤ length a.now) × (result ≤ length b.now) }
+{
+    let mut common = 0;
+    while common < a.len() && common < b.len() && a[common] == b[common] {
+        common += 1;
+    }
+    common
+}
+
+// Adds the steps of one of the words. Words beside each other share the steps of their front.
+fn put_words(alloc: Global, steps: &mut Vec<Step>, words: &[Vec<u8>]) -> Result<(), AllocError>
+    requires some { words.now ≢ [] }
+    ensures { OnOk result (AddsWords (map (λ word. word.items) words.now)
+        (reverse steps.old.items) (reverse steps.new.items)) }
+{
+    let after = steps.len();
+    let mut branches = Vec::new(alloc);
+    let Some((last, others)) = words.split_last() else {
+        return Ok(());
+    };
+    let mut current = last.as_slice();
+    let mut left = others;
+    while let Some((word, before)) = left.split_last() {
+        let common = common_front(current, word.as_slice());
+        put_bytes(steps, &mut branches, current, common)?;
+        branches.push(Branch {
+            depth: common,
+            place: steps.len(),
+        })?;
+        steps.push(Step::Jump(steps.len().saturating_sub(after)))?;
+        current = word.as_slice();
+        left = before;
+    }
+    put_bytes(steps, &mut branches, current, 0)
+}
+
+// Puts the bytes of a word from a place on before the steps, and joins the branches among them.
+fn put_bytes(
+    steps: &mut Vec<Step>,
+    branches: &mut Vec<Branch>,
+    word: &[u8],
+    from: usize,
+) -> Result<(), AllocError>
+    requires { from ≤ length word.now }
+    ensures { OnOk result (PutsBytes word.now from
+        (reverse steps.old.items) (reverse branches.old.items)
+        (reverse steps.new.items) (reverse branches.new.items)) }
+{
+    join_branch(steps, branches, word.len())?;
+    let mut left = word;
+    while left.len() > from {
+        let Some((byte, before)) = left.split_last() else {
+            return Ok(());
+        };
+        steps.push(Step::Byte(*byte))?;
+        join_branch(steps, branches, before.len())?;
+        left = before;
+    }
+    Ok(())
+}
+
+// Joins the branch that stands behind so many bytes, if there is one.
+fn join_branch(
+    steps: &mut Vec<Step>,
+    branches: &mut Vec<Branch>,
+    depth: usize,
+) -> Result<(), AllocError>
+    ensures { OnOk result (JoinsBranch depth
+        (reverse steps.old.items) (reverse branches.old.items)
+        (reverse steps.new.items) (reverse branches.new.items)) }
+{
+    if let Some(branch) = branches.last() {
+        let branch = *branch;
+        if branch.depth == depth {
+            let _ = branches.pop();
+            steps.push(Step::Fork(steps.len().saturating_sub(branch.place)))?;
+        }
+    }
+    Ok(())
+}
