@@ -1,5 +1,8 @@
 -- The content bytes of records: those of the parts, in order; and the values whose lists and texts
 -- are no longer than a count can say.
+-- Cited by contracts of public items: IsCommit, IsCopyHistory, IsMillis, IsSecureSig, IsSignature,
+-- IsTimestamp, bytes_content, commit_content, copy_history_content, millis_content,
+-- secure_sig_content, signature_content, timestamp_content.
 use Rattle.std.specs.Prelude.{ℕ, ◌<◌, ◌^◌, [], ◌∷◌, List, length, ◌++◌, FitsSigned}
 use Rattle.std.specs.Int.{w32, w64}
 use Rattle.jj_content.specs.Content.{i32_content, i64_content, text_content, list_content, option_content, AreValues, IsOptionOf}

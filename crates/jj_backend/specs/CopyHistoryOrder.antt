@@ -1,4 +1,6 @@
 -- The order of copy histories by their parts in turn, with its laws, and what one gives to a hash.
+-- Cited by contracts of public items: copy_history_cmp, copy_history_cmp_total, copy_history_hash,
+-- copy_history_hash-respects_eq, copy_history_po, copy_history_ties.
 use Rattle.std.specs.Prelude.{◌≡◌, ◌++◌, ◌&&◌, Bool, true, false, Some}
 use Rattle.std.proofs.Common.{ap, ap₂, sym, refl, true≢false, ◌∙◌}
 use Rattle.std.specs.Cmp.{IsTotalOrder, IsPartialOrder, on_total, then_total, po}

@@ -1,4 +1,5 @@
 -- What errors of a backend say.
+-- Cited by contracts of public items: is_other, is_unsupported.
 use Rattle.std.specs.Prelude.{Bool, true, false}
 use Rattle.jj_backend.specs.declared.backend.errors.BackendError.{BackendError}
 use Rattle.jj_backend.specs.declared.backend.errors.BackendError.TheVariants.{ObjectNotFound, Other, Unsupported}

@@ -1,5 +1,7 @@
 -- Merges of what stands at a path in several trees: whether they are trees or files, the parts of
 -- the files, and how a conflict is told.
+-- Cited by contracts of public items: CanTakeId, Values, are_file_like, are_trees, description,
+-- executable_of, file_id_of, parts, with_file_ids.
 use Rattle.std.specs.Prelude.{ℕ, Bool, true, false, not, List, [], ◌∷◌, ◌++◌, Option, Some, None, ⊤, codes}
 use Rattle.std.specs.List.{list_all}
 use Rattle.std.specs.Option.{option_map, option_and_then}

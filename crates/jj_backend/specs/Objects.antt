@@ -1,4 +1,6 @@
 -- What a backend keeps, by ids, and what reads and writes of it answer.
+-- Cited by contracts of public items: AddsCommit, AddsCopy, AddsFile, AddsSymlink, AddsTree,
+-- IsRead, IsSigned, Objects.
 use Rattle.std.specs.Prelude.{◌≡◌, ℕ, List, Option, Some, None, if◌then◌else◌, ◌⊎◌, Result, Ok, MatchResult}
 use Rattle.std.specs.Bool.{MatchBool}
 use Rattle.std.specs.Str.{bytes_eq}

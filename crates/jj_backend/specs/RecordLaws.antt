@@ -1,5 +1,7 @@
 -- That records are equal by parts, and that content tells them apart, each from the laws of its
 -- parts.
+-- Cited by contracts of public items: commit_equiv, commit_lawful, copy_history_equiv,
+-- copy_history_lawful, secure_sig_equiv, secure_sig_lawful, signature_equiv, signature_lawful.
 use Rattle.std.specs.Cmp.{IsEquivalence, and_equiv, on_equiv, int_eq_equiv}
 use Rattle.std.specs.Cmp.Lexicographic.{nat_list_eq_equiv, lists_equiv, options_equiv}
 use Rattle.jj_content.specs.Content.{IsLawful}

@@ -1,5 +1,7 @@
 -- What contracts see of records: their parts, with texts and ids by their bytes and paths by their
 -- names.
+-- Cited by contracts of public items: CommitValue, CopyHistoryValue, SecureSigValue,
+-- SignatureValue, commit_eq, copy_history_eq, root_commit, secure_sig_eq, signature_eq.
 use Rattle.std.specs.Prelude.{ℕ, pos, List, [], ◌∷◌, Option, None, Bool}
 use Rattle.std.specs.Str.{bytes_eq}
 use Rattle.std.specs.Cmp.Lexicographic.{pointwise}

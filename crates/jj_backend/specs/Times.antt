@@ -1,4 +1,5 @@
 -- Offsets and dates of moments.
+-- Cited by contracts of public items: HasOffset, IsDate, offset_seconds.
 use Rattle.std.specs.Prelude.{◌≡◌, ℤ, pos, negsuc, ◌*ℤ◌, ◌&&◌, if◌then◌else◌, int_le}
 use Rattle.jiff.specs.Words.{plain_zoned, fixed_zone, IsTimestampNanos}
 use Rattle.jiff.specs.declared.zoned.Zoned.{Zoned}

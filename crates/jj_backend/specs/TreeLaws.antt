@@ -1,4 +1,5 @@
 -- Equality and content of trees, entry by entry.
+-- Cited by contracts of public items: IsTree, tree_content, tree_eq, tree_equiv, tree_lawful.
 use Rattle.std.specs.Prelude.{ℕ, List, ◌++◌, Bool}
 use Rattle.std.specs.Cmp.{IsEquivalence, and_equiv, on_equiv}
 use Rattle.std.specs.Cmp.Lexicographic.{pointwise, nat_list_eq_equiv, lists_equiv}

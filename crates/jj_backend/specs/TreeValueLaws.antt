@@ -1,4 +1,5 @@
 -- That content tells what stands at a name apart.
+-- Cited by contracts of public items: tree_value_lawful.
 use Rattle.std.proofs.Common.{◌≡◌, ℕ, List, ◌++◌, ◌<◌, ◌^◌, true, refl, Bool, arith}
 use Rattle.jj_content.specs.Content.{IsLawful}
 use Rattle.jj_content.specs.Lawful.{enum_lawful, both_lawful, on_lawful, bool_lawful}

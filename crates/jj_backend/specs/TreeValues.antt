@@ -1,4 +1,5 @@
 -- What stands at a name of a tree: a file, a symbolic link, a tree or a Git submodule.
+-- Cited by contracts of public items: IsTreeValue, copy_id_of, tree_value_content.
 use Rattle.std.specs.Prelude.{ℕ, Bool, List, ◌++◌, Option, Some, None, ⊤}
 use Rattle.jj_content.specs.Content.{u32_content, bool_content}
 use Rattle.jj_backend.specs.Contents.{AreBytes, bytes_content}

@@ -1,4 +1,5 @@
 -- Trees of one directory: what stands at its names, and what is left of walks over it.
+-- Cited by contracts of public items: Entries, entries_left, entry_of, names_left, value_at.
 use Rattle.std.specs.Prelude.{◌≡◌, ℕ, ◌<◌, List, map, length, Option, Some, slice_index_or}
 use Rattle.std.specs.Map.{lookup}
 use Rattle.std.specs.Str.{bytes_eq}

@@ -1,4 +1,6 @@
 -- Hex text: each byte as two digits, the high one first.
+-- Cited by contracts of public items: ReadsAs, ReadsAsNothing, common_length, evened, hex,
+-- hex_digits, is_text_of, reverse_hex, reverse_hex_digits.
 use Rattle.std.specs.Prelude.{◌≡◌, ℕ, ◌/◌, ◌%◌, ◌+◌, ◌<◌, List, [], ◌∷◌, ◌++◌, ◌==◌, length, slice_index, replicate, codes, if◌then◌else◌, All, Option, position, Bool, ◌&&◌, is_some}
 use Rattle.std.specs.Str.{str_to_ascii_lowercase}
 use Rattle.std.specs.Char.{to_ascii_lowercase}

@@ -1,4 +1,5 @@
 -- The digits of each kind of hex text.
+-- Machinery of private functions and fields.
 use Rattle.std.specs.Prelude.{ℕ, List}
 use Rattle.jj_content.specs.Hex.{hex_digits, reverse_hex_digits}
 use Rattle.jj_content.specs.declared.hex_util.Digits.{Digits}

@@ -1,5 +1,6 @@
 -- Items put in order: the order in which they came changes nothing, and tables that are equal as
 -- tables give lists that are equal item by item.
+-- Cited by contracts of public items through Tables.
 use Rattle.std.proofs.Common.{◌≡◌, ◌+◌, ◌<◌, ◌⊎◌, List, [], ◌∷◌, length, map, true, false, refl, sym, ap, ◌∙◌, subst, inl, inr, get_or, arith}
 use Rattle.std.specs.Ordering.{is_gt, is_eq, is_lt, ordering_reverse}
 use Rattle.std.specs.declared.cmp.Ordering.{Ordering}

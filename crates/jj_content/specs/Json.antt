@@ -1,4 +1,5 @@
 -- What a call that makes a JSON value answers.
+-- Cited by contracts of public items: IsAnswer, IsJsonList.
 use Rattle.std.specs.Prelude.{◌≡◌, List, Result, Ok, Err}
 use Rattle.std.specs.List.{AllZip}
 use Rattle.serde_json.specs.Data.{Data, array}

@@ -1,4 +1,7 @@
 -- That content is lawful at numbers and texts, and at what is made of parts whose content is.
+-- Cited by contracts of public items: bool_lawful, both_lawful, i32_lawful, i64_lawful,
+-- list_lawful, on_lawful, option_lawful, text_lawful, u32_lawful, u64_lawful, u8_lawful,
+-- unit_lawful.
 use Rattle.std.proofs.Common.{◌≡◌, ℕ, ◌<◌, ◌^◌, List, [], ◌∷◌, ◌++◌, length, take, drop, Bool, true, false, refl, sym, ap, ◌∙◌, arith, Option, Some, None, eq-eqb}
 use Rattle.std.proofs.lemmas.List.{append_assoc, append_cancel_left}
 use Rattle.std.proofs.lemmas.List.Elements.{recursion_from_All}

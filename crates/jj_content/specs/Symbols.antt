@@ -1,5 +1,6 @@
 -- Quoted texts: how a character prints between double quotes, and which character an escape stands
 -- for.
+-- Cited by contracts of public items: IsEscapeOf, escaped_text, quoted_text.
 use Rattle.std.specs.Prelude.{◌≡◌, ℕ, ◌<◌, List, [], ◌∷◌, ◌++◌, ◌==◌, codes, if◌then◌else◌, Option, Some, find, ◌⊎◌}
 use Rattle.std.specs.Option.{option_map, option_map_or}
 use Rattle.std.specs.List.{flat_map}

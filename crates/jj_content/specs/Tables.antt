@@ -1,6 +1,7 @@
 -- Tables of items with distinct keys: two find the same at each key exactly where the lists of
 -- their items in key order are equal item by item. So the content of hashed maps and sets is
 -- lawful.
+-- Cited by contracts of public items: hash_map_lawful, hash_set_lawful.
 use Rattle.std.proofs.Common.{◌≡◌, ℕ, List, [], ◌∷◌, map, Bool, true, false, cond, Option, Some, None, refl, sym, ap, ◌∙◌, subst, inl, inr, arith, ◌&&◌, ◌||◌}
 use Rattle.std.specs.Ordering.{on, is_gt, is_eq, ordering_reverse}
 use Rattle.std.specs.declared.cmp.Ordering.{Ordering}

@@ -1,4 +1,5 @@
 -- The content of a kind is lawful.
+-- Cited by contracts of public items: kind_lawful.
 use Rattle.std.proofs.Common.{◌≡◌, ℕ, List, ◌++◌, ◌<◌, ◌^◌, true, refl, Bool, arith}
 use Rattle.std.proofs.Common.{Vec, Global}
 use Rattle.jj_content.specs.Content.{IsLawful}

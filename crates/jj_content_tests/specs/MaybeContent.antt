@@ -1,4 +1,5 @@
 -- The content of an option of a number: the variant's number, and then its field.
+-- Cited by contracts of public items: IsMaybe, maybe_content.
 use Rattle.std.specs.Prelude.{ℕ, [], ◌++◌, List, ⊤, FitsSigned}
 use Rattle.std.specs.Int.{w32}
 use Rattle.jj_content.specs.Content.{u32_content, i32_content}

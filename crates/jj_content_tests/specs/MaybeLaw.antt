@@ -1,4 +1,5 @@
 -- The content of an option of a number is lawful.
+-- Cited by contracts of public items: maybe_lawful.
 use Rattle.std.proofs.Common.{◌≡◌, ℕ, List, ◌++◌, ◌<◌, ◌^◌, true, refl, arith}
 use Rattle.jj_content.specs.Content.{IsLawful}
 use Rattle.jj_content.specs.Lawful.{enum_lawful, i32_lawful}

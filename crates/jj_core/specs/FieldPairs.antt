@@ -1,4 +1,5 @@
 -- Fields that come in pairs.
+-- Cited by contracts of public items through WalkCommand.
 use Rattle.std.specs.Prelude.{Bool, true, false, List, [], ◌∷◌}
 
 -- the number of fields is even

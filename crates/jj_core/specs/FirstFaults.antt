@@ -1,4 +1,5 @@
 -- Which line's fault a command answers.
+-- Cited by contracts of public items: GivesFirstFault.
 use Rattle.std.specs.Prelude.{◌≡◌, ℕ, ◌-◌, ◌<◌, ◌≤◌, List, length, take, Err}
 use Rattle.jj_core.specs.declared.fault.Fault.TheVariants.{Line}
 use Rattle.jj_core.specs.declared.fault.LineFault.{LineFault}

@@ -1,4 +1,5 @@
 -- The paths of the set that a text names, and what its walk finds, in the words of sets.
+-- Cited by contracts of public items: FindsItsFiles.
 use Rattle.std.specs.Prelude.{◌≡◌, ◌≢◌, ◌↔◌, ◌⊎◌, ℕ, List, [], ◌++◌, codes, Contains, Ok}
 use Rattle.std.specs.List.Sorted.{IsStrictlySortedBy}
 use Rattle.jj_paths.specs.Paths.{Path, path_cmp}

@@ -1,5 +1,6 @@
 -- The command `graph`: lines that list the neighbours of nodes, and lines that ask for the order,
 -- the heads or the closest common nodes of some.
+-- Cited by contracts of public items through Program.
 use Rattle.std.specs.Prelude.{◌≡◌, ◌⊎◌, ℕ, ◌==◌, Bool, List, [], ◌∷◌, ◌++◌, cond, codes, map, Option, Some, None, is_some, unwrap_or, Result, Ok, Err}
 use Rattle.std.specs.Str.{bytes_eq}
 use Rattle.std.specs.Str.Parse.{digits_value}

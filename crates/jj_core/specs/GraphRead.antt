@@ -1,4 +1,5 @@
 -- What is seen of what the command `graph` has read.
+-- Machinery of private functions and fields.
 use Rattle.std.specs.Prelude.{map}
 use Rattle.jj_core.specs.declared.graph_command.GraphRequest.{GraphRequest as GraphRequestValue}
 use Rattle.jj_core.specs.declared.graph_command.GraphRequest.TheVariants.{Order as Order', Heads as Heads', Common as Common'}

@@ -1,5 +1,6 @@
 -- The command `hash`: each line names bytes, by their hex text or as the content of texts, and is
 -- answered by their digest.
+-- Cited by contracts of public items through Program.
 use Rattle.std.specs.Prelude.{◌≡◌, ◌==◌, ◌%◌, ℕ, ◌+◌, ◌*◌, List, [], ◌∷◌, ◌++◌, cond, codes, length, Option, None, Some, Result, Ok, Err}
 use Rattle.std.specs.Str.{bytes_eq}
 use Rattle.jj_content.specs.Blake2b.{blake2b}

@@ -1,4 +1,5 @@
 -- What contracts see of a mark with its key: its path.
+-- Machinery of private functions and fields.
 use Rattle.jj_paths.specs.Paths.{Path}
 use Rattle.jj_paths.specs.Names.{path_of}
 use Rattle.jj_core.specs.declared.marks.KeyedMark.{KeyedMark}

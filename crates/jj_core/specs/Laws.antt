@@ -1,4 +1,5 @@
 -- What holds of all inputs: a command gives one answer.
+-- Cited by contracts of public items: GivesOneAnswer.
 use Rattle.std.specs.Prelude.{◌≡◌, ℕ, List, Result}
 use Rattle.jj_core.specs.declared.fault.Fault.{Fault}
 use Rattle.jj_core.specs.declared.program.Command.{Command}

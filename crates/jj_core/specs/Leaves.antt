@@ -1,4 +1,5 @@
 -- What is seen of the matcher of a named set.
+-- Machinery of private functions and fields.
 use Rattle.std.specs.Prelude.{◌≡◌, Bool, true, false, ◌||◌, List, []}
 use Rattle.std.specs.List.{list_any}
 use Rattle.jj_paths.specs.Paths.{Name, Path}

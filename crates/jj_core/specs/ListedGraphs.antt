@@ -1,4 +1,5 @@
 -- What is seen of a graph whose edges a map lists.
+-- Machinery of private functions and fields.
 use Rattle.std.specs.Prelude.{ℕ, List}
 use Rattle.jj_walks.specs.Graph.{Graph}
 use Rattle.jj_core.specs.declared.listed_graph.ListedGraph.{ListedGraph}

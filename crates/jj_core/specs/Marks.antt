@@ -1,4 +1,5 @@
 -- The tree that a list of marked paths makes.
+-- Cited by contracts of public items through Walked.
 use Rattle.std.specs.Prelude.{◌≡◌, ◌↔◌, ◌⊎◌, Bool, true, List, [], ◌++◌, Some, IsSome, Contains}
 use Rattle.jj_paths.specs.Paths.{Path}
 use Rattle.jj_paths.specs.Tree.{Tree, get, value_at, is_ordered}

@@ -1,4 +1,5 @@
 -- Sets that lines have combined, with a matcher at each leaf.
+-- Machinery of private functions and fields.
 use Rattle.std.specs.Prelude.{◌≡◌, Bool, false, List, [], ◌∷◌}
 use Rattle.jj_paths.specs.Paths.{Name, Path}
 use Rattle.jj_matchers.specs.Answers.{Answer, IsSound}

@@ -1,4 +1,5 @@
 -- The command `merge`: each line asks what is left of a merge of texts, or for its outcome.
+-- Cited by contracts of public items through Program.
 use Rattle.std.specs.Prelude.{◌≡◌, ◌==◌, ◌%◌, ℕ, List, [], ◌∷◌, ◌++◌, cond, codes, length, Contains, Option, Some, None, Result, Ok, Err}
 use Rattle.std.specs.Str.{bytes_eq}
 use Rattle.jj_merges.specs.declared.merge.SameChange.{SameChange}

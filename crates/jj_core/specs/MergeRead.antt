@@ -1,4 +1,5 @@
 -- What is seen of what the command `merge` has read.
+-- Machinery of private functions and fields.
 use Rattle.std.specs.Prelude.{List, map}
 use Rattle.jj_core.specs.declared.merge_command.MergeRequest.{MergeRequest as MergeRequestValue}
 use Rattle.jj_core.specs.declared.merge_command.MergeReading.{MergeReading}

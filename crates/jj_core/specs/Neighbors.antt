@@ -1,5 +1,6 @@
 -- A map from ids to the lists of their neighbours, seen as a function, and the ids that a graph
 -- names.
+-- Machinery of private functions and fields.
 use Rattle.std.specs.Prelude.{◌≡◌, ◌==◌, true, ℕ, List, Option}
 use Rattle.std.specs.Option.{option_map}
 use Rattle.std.specs.Ordering.{nat_cmp}

@@ -1,4 +1,5 @@
 -- Ids numbered by their places in ascending order.
+-- Machinery of private functions and fields.
 use Rattle.std.specs.Prelude.{◌≡◌, ◌<◌, ℕ, List, length, get_or}
 
 -- the number of an id is its place

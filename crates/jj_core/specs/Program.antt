@@ -1,4 +1,6 @@
 -- What a command writes for an input, and what a run leaves.
+-- Cited by contracts of public items: FailsBy, WritesOutput, command_line, command_named,
+-- is_read_failure, is_read_fault, is_write_failure, is_write_fault, streams.
 use Rattle.std.specs.Prelude.{◌≡◌, ℕ, List, [], ◌∷◌, Bool, true, false, cond, codes, Option, Some, None, Result, Ok, Err}
 use Rattle.std.specs.Bool.{MatchBool}
 use Rattle.std.specs.Str.{bytes_eq, is_utf8}

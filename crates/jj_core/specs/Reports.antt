@@ -1,4 +1,5 @@
 -- What is said on standard error.
+-- Cited by contracts of public items: Says, report_text, usage_text.
 use Rattle.std.specs.Prelude.{◌≡◌, ℕ, List, [], ◌∷◌, ◌++◌, Bool, false, codes, Option}
 use Rattle.std.specs.Io.KnownBytes.{Appends}
 use Rattle.jj_paths.specs.Streams.{AppendsFrontOf}

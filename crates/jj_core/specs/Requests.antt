@@ -1,4 +1,5 @@
 -- Output that answers the requests of an input one after the other.
+-- Cited by contracts of public items through GraphCommand, MergeCommand.
 use Rattle.std.specs.Prelude.{◌≡◌, ℕ, List, [], ◌∷◌, ◌++◌}
 
 -- the output is an answer to each request, in order

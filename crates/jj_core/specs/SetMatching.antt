@@ -1,4 +1,5 @@
 -- What is seen of the matcher of a set that lines have combined.
+-- Machinery of private functions and fields.
 use Rattle.std.specs.Prelude.{Bool, List}
 use Rattle.jj_paths.specs.Paths.{Name, Path}
 use Rattle.jj_matchers.specs.Answers.{Answer}

@@ -1,5 +1,6 @@
 -- A set as parts, over which one pass tells whether it passes a test. The parts stand backwards:
 -- the pass begins with the last.
+-- Machinery of private functions and fields.
 use Rattle.std.specs.Prelude.{ℕ, zero, suc, Bool, not, List, [], ◌∷◌, ◌++◌, if◌then◌else◌}
 use Rattle.jj_core.specs.declared.file_set.Combination.{Combination}
 use Rattle.jj_core.specs.declared.file_set.Combination.TheVariants.{Union, Difference, Intersection}

@@ -1,4 +1,5 @@
 -- What is seen of a stack of sets.
+-- Machinery of private functions and fields.
 use Rattle.std.specs.Prelude.{List}
 use Rattle.jj_core.specs.declared.set_stack.SetStack.{SetStack}
 use Rattle.jj_core.specs.SetTrees.{SetTree}

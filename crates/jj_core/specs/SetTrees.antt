@@ -1,5 +1,6 @@
 -- Sets that are combined of sets: the steps that build them on a stack, and what holds of them by
 -- their leaves.
+-- Cited by contracts of public items through FoundFiles, WalkCommand, Walked.
 use Rattle.std.specs.Prelude.{Bool, not, ◌&&◌, ◌||◌, List, [], ◌∷◌, ◌++◌}
 use Rattle.jj_paths.specs.Paths.{Name}
 use Rattle.jj_matchers.specs.Answers.{Answer}

@@ -1,4 +1,5 @@
 -- What is seen of the sets that lines name, and of the steps that they take.
+-- Machinery of private functions and fields.
 use Rattle.std.specs.Prelude.{Bool, true, false, ◌&&◌, List, [], ◌∷◌, map, reverse}
 use Rattle.std.specs.List.{zip}
 use Rattle.jj_paths.specs.Names.{path_of}

@@ -1,4 +1,5 @@
 -- What is left of ids that are given as items which may fail.
+-- Machinery of private functions and fields.
 use Rattle.std.specs.Prelude.{ℕ, List, map, Result}
 use Rattle.std.specs.declared.result.Result.TheVariants.{Ok}
 use Rattle.jj_core.specs.declared.graph_walks.SoundIds.{SoundIds}

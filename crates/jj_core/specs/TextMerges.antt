@@ -1,4 +1,5 @@
 -- Merges of borrowed texts, which are equal where their bytes are.
+-- Machinery of private functions and fields.
 use Rattle.std.specs.Prelude.{◌≡◌, ◌+◌, ℕ, Bool, List, Option, Some, None, map, count_by}
 use Rattle.std.specs.Borrow.{Bor}
 use Rattle.std.specs.Str.{bytes_eq}

@@ -1,5 +1,6 @@
 -- The command `walk`: lines that mark paths, and lines that put file sets on a stack, of which one
 -- has to be left.
+-- Cited by contracts of public items through FoundFiles, Walked.
 use Rattle.std.specs.Prelude.{ℕ, Bool, true, false, List, [], ◌∷◌, ◌++◌, cond, codes, length, map, is_ok, Result, Ok, Err}
 use Rattle.std.specs.Str.{bytes_eq}
 use Rattle.std.specs.List.{list_all, zip}

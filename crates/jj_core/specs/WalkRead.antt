@@ -1,4 +1,5 @@
 -- What is seen of what the command `walk` has read.
+-- Machinery of private functions and fields.
 use Rattle.std.specs.Prelude.{map}
 use Rattle.jj_paths.specs.Names.{path_of}
 use Rattle.jj_core.specs.declared.walk_command.WalkReading.{WalkReading}

@@ -1,4 +1,5 @@
 -- What a walk that a text asks for finds, in lines.
+-- Cited by contracts of public items through FoundFiles, Program.
 use Rattle.std.specs.Prelude.{◌≡◌, ℕ, List, [], ◌∷◌, ◌++◌, Bool, true, false, codes, flat_map, Result, Ok, Err}
 use Rattle.jj_paths.specs.Paths.{Name, Path, path_text}
 use Rattle.jj_paths.specs.Tree.{Tree}

@@ -1,4 +1,5 @@
 -- A text as a glob that stands for it alone.
+-- Cited by contracts of public items: escaped, is_special.
 use Rattle.std.specs.Prelude.{ℕ, Bool, ◌==◌, ◌||◌, if◌then◌else◌, List, [], ◌∷◌}
 use Rattle.std.specs.List.{flat_map}
 

@@ -1,4 +1,5 @@
 -- The literal front of a glob: bytes with which every text begins that the glob stands for.
+-- Cited by contracts of public items: front_of.
 use Rattle.std.specs.Prelude.{ℕ, List, [], ◌∷◌, Result, Ok, Err, if◌then◌else◌}
 use Rattle.jj_globs.specs.declared.glob.error.GlobError.{GlobError}
 use Rattle.jj_globs.specs.declared.glob.token.Options.{Options}

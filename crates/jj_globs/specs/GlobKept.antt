@@ -1,5 +1,6 @@
 -- What a glob keeps beside its text: its tokens, the steps that accept what they stand for, where
 -- their literal end begins, and the literal front.
+-- Machinery of private functions and fields.
 use Rattle.std.specs.Prelude.{◌≡◌, ℕ, ◌<◌, List, length, Ok}
 use Rattle.jj_globs.specs.declared.glob.token.Options.{Options}
 use Rattle.jj_globs.specs.declared.glob.token.Token.{Token}

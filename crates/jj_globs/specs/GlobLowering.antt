@@ -1,5 +1,6 @@
 -- What each token adds to the steps, which are made from the last token on, so that the step made
 -- last stands first; and when the steps so far accept what the tokens so far do.
+-- Machinery of private functions and fields.
 use Rattle.std.specs.Prelude.{◌≡◌, ℕ, ◌-◌, ◌≤◌, Bool, false, List, [], ◌∷◌, length, Option, Some, None}
 use Rattle.jj_globs.specs.declared.glob.token.Options.{Options}
 use Rattle.jj_globs.specs.declared.glob.token.Part.{Part}

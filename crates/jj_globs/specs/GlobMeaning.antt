@@ -1,4 +1,5 @@
 -- Which bytes a glob stands for.
+-- Cited by contracts of public items: GlobSpec, IsMatch, IsPrefixMatch.
 use Rattle.std.specs.Prelude.{◌≡◌, ℕ, ◌+◌, ◌-◌, Bool, not, IsTrue, ◌==◌, ◌&&◌, ◌||◌, nat_le, if◌then◌else◌, ◌⊎◌, List, [], ◌∷◌, ◌++◌, Ok, All}
 use Rattle.std.specs.List.{list_any}
 use Rattle.jj_globs.specs.declared.glob.token.ByteRange.{ByteRange}

@@ -1,4 +1,5 @@
 -- The steps of a glob: what each place of them accepts, and places that are live, in bits.
+-- Machinery of private functions and fields.
 use Rattle.std.specs.Prelude.{◌≡◌, ℕ, zero, suc, ◌+◌, ◌/◌, ◌%◌, ◌≤◌, Bool, true, not, ◌==◌, ◌&&◌, ◌||◌, if◌then◌else◌, List, [], ◌∷◌, length, get_or, slice_get, Some, IsTrue}
 use Rattle.std.specs.Int.{bit_at}
 use Rattle.jj_globs.specs.declared.glob.token.Options.{Options}

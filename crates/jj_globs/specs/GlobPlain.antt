@@ -1,4 +1,5 @@
 -- A plain, slow program for the meaning of a glob: it goes back wherever a star may stand for more.
+-- Cited by contracts of public items through jj_matchers.Patterns.
 use Rattle.std.specs.Prelude.{ℕ, Bool, true, false, ◌==◌, ◌&&◌, ◌||◌, List, [], ◌∷◌, Result, Ok, Err}
 use Rattle.jj_globs.specs.declared.glob.token.Part.{Part}
 use Rattle.jj_globs.specs.declared.glob.token.Part.TheVariants.{Byte, AnyByte, Star, LeadingDirs, InnerDirs, Below, Everything, OneOf}

@@ -1,4 +1,5 @@
 -- What each step of the reader of globs has found in the words that are left.
+-- Cited by contracts of public items: IsReadingFault.
 use Rattle.std.specs.Prelude.{◌≡◌, ℕ, zero, suc, Bool, true, false, List, [], ◌∷◌, map, Result, Err}
 use Rattle.jj_globs.specs.declared.glob.token.Part.{Part}
 use Rattle.jj_globs.specs.declared.glob.token.Token.{Token}

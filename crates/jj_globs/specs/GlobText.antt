@@ -1,4 +1,5 @@
 -- Which tokens a glob's text reads as, or its first fault.
+-- Cited by contracts of public items: tokens_of.
 use Rattle.std.specs.Prelude.{ℕ, zero, suc, Bool, true, false, ◌||◌, nat_lt, nat_le, ◌==◌, if◌then◌else◌, List, [], ◌∷◌, ◌++◌, map, reverse, Result, Ok, Err}
 use Rattle.jj_globs.specs.declared.glob.token.ByteRange.{ByteRange}
 use Rattle.jj_globs.specs.declared.glob.token.Part.{Part}

@@ -1,4 +1,5 @@
 -- What is said of commits, in a crate above the ids.
+-- Cited by contracts of public items: parents_of.
 use Rattle.std.specs.Prelude.{◌≡◌, ℕ, List, true}
 use Rattle.std.specs.List.{list_any}
 use Rattle.std.specs.Str.{bytes_eq}

@@ -1,4 +1,5 @@
 -- The answers of a union, a difference and an intersection, from the answers of the two matchers.
+-- Cited by contracts of public items: difference_answer, intersection_answer, union_answer.
 use Rattle.std.specs.Prelude.{Bool, true, ◌&&◌, ◌||◌, List, if◌then◌else◌}
 use Rattle.jj_paths.specs.Paths.{Name}
 use Rattle.jj_matchers.specs.Answers.{Answer, all_recursively, specific, nothing}

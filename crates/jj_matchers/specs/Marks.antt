@@ -1,4 +1,5 @@
 -- The paths that a tree of marks stands for.
+-- Cited by contracts of public items: marked_paths.
 use Rattle.std.specs.Prelude.{◌≡◌, Bool, true, false, ◌||◌, List, [], ◌∷◌, ◌++◌, Option, Some, None, map, if◌then◌else◌}
 use Rattle.std.specs.List.{filter, list_any}
 use Rattle.jj_paths.specs.Paths.{Name, Path}

@@ -1,4 +1,5 @@
 -- Globs in the order of their literal fronts.
+-- Machinery of private functions and fields.
 use Rattle.std.specs.Prelude.{ℕ, Bool, true, false, ◌==◌, ◌&&◌, List, [], ◌∷◌, nat_lt, if◌then◌else◌}
 use Rattle.std.specs.List.{list_all}
 use Rattle.jj_globs.specs.GlobMeaning.{GlobSpec}

@@ -1,4 +1,5 @@
 -- A tree of the globs that stand in each directory.
+-- Cited by contracts of public items: patterns_of.
 use Rattle.std.specs.Prelude.{◌≡◌, ◌≢◌, Bool, true, false, List, [], ◌∷◌, ◌++◌, map, Option, Some, None}
 use Rattle.std.specs.List.{flat_map}
 use Rattle.jj_paths.specs.Paths.{Path}

@@ -1,4 +1,6 @@
 -- Globs in directories: the paths that they accept, and what they answer for a directory.
+-- Cited by contracts of public items: HasSamePatterns, IsAccepted, Patterns, TellsAccepted,
+-- is_accepted, opens_to_patterns, pattern_dirs, patterns_answer.
 use Rattle.std.specs.Prelude.{◌≡◌, ℕ, Bool, true, false, ◌==◌, ◌&&◌, ◌||◌, List, [], ◌∷◌, ◌++◌, map, if◌then◌else◌, Any}
 use Rattle.std.specs.List.{list_any, list_all}
 use Rattle.std.specs.Str.{bytes_eq}

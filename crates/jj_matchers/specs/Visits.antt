@@ -1,4 +1,5 @@
 -- What contracts see of a `Visit`.
+-- Cited by contracts of public items: answer_of, dir_names, file_names, sets_answer.
 use Rattle.std.specs.Prelude.{Bool, true, List, [], ◌∷◌}
 use Rattle.std.specs.Str.{bytes_eq}
 use Rattle.std.specs.List.{list_any}

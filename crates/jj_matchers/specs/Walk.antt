@@ -1,4 +1,5 @@
 -- What a pruned walk of a tree of marks finds.
+-- Cited by contracts of public items: entered_by, files_of.
 use Rattle.std.specs.Prelude.{Bool, true, false, ◌&&◌, List, [], ◌∷◌, ◌++◌, map}
 use Rattle.std.specs.List.{filter}
 use Rattle.jj_paths.specs.Paths.{Name, Path}

@@ -1,5 +1,6 @@
 -- A walk under way: the directories that it has entered and not finished, and what it has yet to
 -- find there.
+-- Machinery of private functions and fields.
 use Rattle.std.specs.Prelude.{◌≡◌, ◌⊎◌, ◌+◌, ◌*◌, ℕ, Bool, true, false, List, [], ◌∷◌, ◌++◌}
 use Rattle.std.specs.List.{AllByRecursion}
 use Rattle.std.specs.List.Sorted.{IsStrictlySortedBy}

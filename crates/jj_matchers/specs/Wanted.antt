@@ -1,5 +1,7 @@
 -- Sets of paths that are given by a list: the paths of the list, and the paths at or below one of
 -- them.
+-- Cited by contracts of public items: HasSamePaths, files_answer, has_prefix, is_wanted,
+-- leads_to_prefix, leads_to_wanted, prefix_answer.
 use Rattle.std.specs.Prelude.{◌≡◌, Bool, true, false, ◌&&◌, List, [], ◌∷◌, ◌++◌, if◌then◌else◌}
 use Rattle.std.specs.List.{list_any}
 use Rattle.std.specs.Str.{bytes_eq}

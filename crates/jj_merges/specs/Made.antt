@@ -1,4 +1,5 @@
 -- Merges made of items.
+-- Cited by contracts of public items: Gives, diff_terms.
 use Rattle.std.specs.Prelude.{◌≡◌, List, [], ◌∷◌, ◌++◌, Option}
 use Rattle.std.specs.Iterator.{Drains}
 use Rattle.jj_merges.specs.declared.merge.diffs.Diff.{Diff}

@@ -1,4 +1,5 @@
 -- Terms that are there or absent.
+-- Cited by contracts of public items: IsOptionClone, only_value, present.
 use Rattle.std.specs.Prelude.{Option, Some, None, List, [], ◌∷◌}
 use Rattle.std.specs.List.{filter_map}
 

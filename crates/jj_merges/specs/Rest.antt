@@ -1,4 +1,5 @@
--- What is left of the terms of a merge. No public clause cites this module.
+-- What is left of the terms of a merge.
+-- Cited by contracts of public items: rest_items.
 use Rattle.std.specs.Prelude.{List}
 use Rattle.std.specs.Option.{option_to_list}
 use Rattle.std.specs.Vec.Iter.{into_iter_items}

@@ -1,4 +1,5 @@
--- Where a merge keeps its terms. No public clause cites this module.
+-- Where a merge keeps its terms.
+-- Cited by contracts of public items: items.
 use Rattle.std.specs.Prelude.{◌≡◌, List, length}
 use Rattle.std.specs.Vec as vec
 use Rattle.arrayvec.specs.ArrayVec as inline

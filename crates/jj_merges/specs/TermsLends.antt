@@ -1,4 +1,5 @@
--- What the terms end as, where they are lent. No public clause cites this module.
+-- What the terms end as, where they are lent.
+-- Machinery of private functions and fields.
 use Rattle.std.specs.Prelude.{List}
 use Rattle.std.specs.Borrow.{Lends, Fml, RattleType, MutBor, Array}
 use Rattle.jj_merges.specs.Terms.{terms_with_items}

@@ -1,4 +1,5 @@
 -- What contracts see of the cause of an error.
+-- Cited by contracts of public items: Cause.
 use Rattle.std.specs.Prelude.{ℕ, List}
 use Rattle.jj_paths.specs.declared.file_util.errors.SourceKind.{SourceKind}
 

@@ -1,4 +1,5 @@
 -- The content bytes of a path, which are those of its text, and that they tell paths apart.
+-- Cited by contracts of public items: IsShortPath, path_content, path_lawful.
 use Rattle.std.specs.Prelude.{◌≡◌, ℕ, ◌<◌, ◌^◌, List, length}
 use Rattle.std.specs.Cmp.Lexicographic.{same_text}
 use Rattle.std.proofs.Common.{sym, ap, ◌∙◌}

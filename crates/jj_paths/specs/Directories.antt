@@ -1,4 +1,5 @@
 -- What is done to directories, over what making, listing and removing may do.
+-- Cited by contracts of public items: CreatesOrReuses, EmptiesDir, IsEmptyDir, IsListFault.
 use Rattle.std.specs.Prelude.{◌≡◌, ◌⊎◌, ⊤, ℕ, Bool, false, ◌==◌, List, [], ◌∷◌, ◌++◌, length, Result, Ok, Err, MatchResult, IsErrAnd, MatchBool, string_bytes}
 use Rattle.std.specs.Path.{path_join}
 use Rattle.std.specs.declared.io.Error.{Error}

@@ -1,4 +1,5 @@
 -- What the errors of names and paths say that the file system cannot have.
+-- Cited by contracts of public items: IsOfPath, IsRefusedName, IsRefusedPath.
 use Rattle.std.specs.Prelude.{◌≡◌, ◌≢◌, ◌⊎◌, ⊤, true, IsSomeAnd, string_bytes}
 use Rattle.std.specs.List.{find}
 use Rattle.jj_paths.specs.Paths.{Name, Path}

@@ -1,6 +1,7 @@
 -- Texts of paths of the file system: components appended to a text, one after another. What the
 -- components of a text are, and how one is appended, is the standard library's `path_components`
 -- and `path_join`.
+-- Cited by contracts of public items: fs_text, is_dots.
 use Rattle.std.specs.Prelude.{ℕ, Bool, ◌||◌, List, [], ◌∷◌}
 use Rattle.std.specs.Str.{bytes_eq}
 use Rattle.std.specs.Path.{path_join, cur_dir, parent_dir}

@@ -1,4 +1,5 @@
 -- What contracts see of the iterators over the names of a path and over the paths above it.
+-- Cited by contracts of public items: ancestors_left, components_left.
 use Rattle.std.specs.Prelude.{List, [], Option, Some, None}
 use Rattle.jj_paths.specs.Paths.{Path, fronts}
 use Rattle.jj_paths.specs.Names.{path_of}

@@ -1,5 +1,7 @@
 -- What holds of all paths and of all trees: a text and its path give each other back, a last name
 -- is one name, and a tree holds its root and every front of a path that it holds.
+-- Cited by contracts of public items: HoldsFronts, HoldsRoot, LastNamesAreOne, PathsGiveBack,
+-- TextsGiveBack.
 use Rattle.std.specs.Prelude.{◌≡◌, IsSome, Some, true, ℕ, List, [], ◌∷◌, ◌++◌}
 use Rattle.std.specs.List.{list_all}
 use Rattle.jj_paths.specs.Paths.{Name, Path, components, path_text, is_name, is_path_text}

@@ -1,4 +1,5 @@
 -- All nodes of a tree, one after another.
+-- Cited by contracts of public items: ListsInOrder, ListsNodes.
 use Rattle.std.specs.Prelude.{◌≡◌, ◌↔◌, true, Some, List, [], ◌∷◌, ◌++◌, map, Contains}
 use Rattle.std.specs.List.Sorted.{IsStrictlySortedBy}
 use Rattle.jj_paths.specs.Paths.{Path, path_cmp}

@@ -1,4 +1,5 @@
 -- What contracts see of the iterator over the names of a path of the file system.
+-- Machinery of private functions and fields.
 use Rattle.std.specs.Prelude.{ℕ, List}
 use Rattle.std.specs.Path.{path_names}
 use Rattle.jj_paths.specs.declared.repo_path.from_relative.Names.{Names}

@@ -1,5 +1,7 @@
 -- The equality and the order of paths, name by name, with their laws, and what a path gives to a
 -- hash.
+-- Cited by contracts of public items: path_cmp_total, path_eq, path_eq_equiv, path_hash,
+-- path_hash-respects_eq, path_po, path_ties.
 use Rattle.std.specs.Prelude.{◌≡◌, ◌==◌, ℕ, Bool, true, Some, if◌then◌else◌}
 use Rattle.std.proofs.Common.{ap}
 use Rattle.std.specs.Str.{bytes_eq}

@@ -1,5 +1,6 @@
 -- What is made of the components of paths of the file system: the standard library's
 -- `path_components`.
+-- Cited by contracts of public items: IsNormalized, IsRelativeTo.
 use Rattle.std.specs.Prelude.{◌≡◌, ◌⊎◌, ℕ, Bool, false, not, List, [], ◌∷◌, ◌++◌, map}
 use Rattle.std.specs.Path.{cur_dir, parent_dir, path_components}
 use Rattle.jj_paths.specs.FsTexts.{fs_text}

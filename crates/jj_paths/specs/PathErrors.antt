@@ -1,4 +1,5 @@
 -- What an error of input or output says once the path is named.
+-- Cited by contracts of public items: AddsPath.
 use Rattle.std.specs.Prelude.{◌≡◌, ⊤, ℕ, List, Result, Ok, MatchResult, IsErrAnd, string_bytes}
 use Rattle.std.specs.declared.io.Error.{Error}
 use Rattle.jj_paths.specs.declared.file_util.errors.PathError.{PathError}

@@ -1,4 +1,5 @@
 -- What is made of texts of paths of the file system.
+-- Cited by contracts of public items: expanded.
 use Rattle.std.specs.Prelude.{ℕ, if◌then◌else◌, List, Option, Some, None, drop, codes}
 use Rattle.std.specs.List.{starts_with}
 use Rattle.std.specs.Prelude.{nat_eq}

@@ -1,5 +1,6 @@
 -- Which relative paths of the file system are paths in a repository, by their components: the
 -- standard library's `path_components`.
+-- Cited by contracts of public items: IsParseError, is_refused, relative_components.
 use Rattle.std.specs.Prelude.{◌≡◌, ⊤, ℕ, Bool, false, true, not, ◌||◌, if◌then◌else◌, List, [], ◌∷◌, Option, Some, IsSomeAnd, string_bytes}
 use Rattle.std.specs.Str.{bytes_eq, is_utf8}
 use Rattle.std.specs.Path.{root_dir, cur_dir, path_components}

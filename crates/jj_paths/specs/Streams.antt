@@ -1,4 +1,6 @@
 -- What is said of reads from a source and writes to a sink, where their bytes are known.
+-- Cited by contracts of public items: AppendsFrontOf, CopiesAll, CopiesFront, NotesFailure,
+-- TakesSome.
 use Rattle.std.specs.Prelude.{◌≡◌, ℕ, ◌<◌, ◌^◌, ◌-◌, Bool, ◌||◌, ◌&&◌, ◌==◌, is_err, List, ◌++◌, length, min, nat_lt, Option, Result, Ok, Err, IfOk, IsErrAnd, MatchBool}
 use Rattle.std.specs.Io.KnownBytes.{Appends, Consumes, IsAtEnd}
 use Rattle.std.specs.IoError.{error_kind}

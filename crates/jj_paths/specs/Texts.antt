@@ -1,4 +1,5 @@
 -- The text of a path that is given names at its end.
+-- Machinery of private functions and fields.
 use Rattle.std.specs.Prelude.{◌≡◌, ℕ, ◌<◌, List, [], ◌∷◌, ◌++◌, length, slice_index}
 use Rattle.jj_paths.specs.Paths.{Name, Path}
 

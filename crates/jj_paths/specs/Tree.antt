@@ -1,4 +1,7 @@
 -- A tree of values at paths: each node has a value, and branches with names to further nodes.
+-- Cited by contracts of public items: IsEdited, IsExtended, IsPartOf, IsSet, IsTreeClone, Tree,
+-- below_wrapper, branch_count, branches_of, child, children, get, has_branches,
+-- most_le-branch_count, nodes_on, none, put_value, tree_code, weight_le-pair.
 use Rattle.std.specs.Prelude.{◌≡◌, ◌≢◌, IsSome, Bool, true, false, ◌&&◌, ℕ, ◌+◌, ◌*◌, ◌≤◌, ◌<◌, length, slice_index_or, if◌then◌else◌, List, [], ◌∷◌, ◌++◌, Option, None, Some, refl, max}
 use Rattle.std.specs.declared.cmp.Ordering.TheVariants.{Less, Greater}
 use Rattle.std.specs.Str.{bytes_eq}

@@ -1,4 +1,5 @@
 -- Where the workspaces of a repository are: the path of each name that has one.
+-- Cited by contracts of public items: SamePlaces, with_name_changed, with_place, without_places.
 use Rattle.std.specs.Prelude.{◌≡◌, ℕ, if◌then◌else◌, List, Option, None, Some}
 use Rattle.std.specs.List.{list_any}
 use Rattle.std.specs.Str.{bytes_eq}

@@ -1,4 +1,5 @@
 -- What backends that are asked in turn decide of a signature, and what is then remembered.
+-- Cited by contracts of public items: Decide, IsVerified, backends, remembered.
 use Rattle.std.specs.Prelude.{◌≡◌, ℕ, Bool, true, false, not, List, [], ◌∷◌, ◌++◌, option_to_list, ◌⊎◌, take, Option, None, Some, Result, Ok, Err}
 use Rattle.std.specs.Bool.{MatchBool}
 use Rattle.std.specs.List.{list_any}

@@ -1,4 +1,5 @@
 -- The first names of remotes, each with the place of its remote.
+-- Machinery of private functions and fields.
 use Rattle.std.specs.Prelude.{◌≡◌, ℕ, suc, List, [], ◌∷◌, Option}
 use Rattle.std.specs.Cmp.Lexicographic.{slice_cmp}
 use Rattle.std.specs.List.{All, cons_option, slice_get, sum_by}

@@ -1,4 +1,5 @@
 -- The refs of all remotes in one list.
+-- Cited by contracts of public items: GivesRef.
 use Rattle.std.specs.Prelude.{◌≡◌, ℕ, List, [], ◌∷◌, ◌++◌, false, cond, Option, Some, None}
 use Rattle.std.specs.Borrow.{Bor}
 use Rattle.std.specs.Cmp.Lexicographic.{slice_cmp}

@@ -1,4 +1,5 @@
 -- What contracts see of the joins: what is left of them, and the rows that they give.
+-- Cited by contracts of public items: JoinLeft, ShowsRefs, left_unless, refs_left.
 use Rattle.std.specs.Prelude.{◌≡◌, ◌+◌, ℕ, List, [], length, Bool, true, false, Option}
 use Rattle.std.specs.Borrow.{Bor}
 use Rattle.std.specs.List.{sum_by}

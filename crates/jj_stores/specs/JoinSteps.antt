@@ -1,4 +1,5 @@
--- How the joins go.
+-- One step of a join: the row that it gives, and what it leaves.
+-- Cited by contracts of public items: GivesRow.
 use Rattle.std.specs.Prelude.{ℕ, List, [], ◌∷◌, map, Option, Some, None, Result, Ok, Err}
 use Rattle.std.specs.Option.{option_copied}
 use Rattle.jj_ids.specs.Names.{name_of}

@@ -1,4 +1,6 @@
 -- The content bytes of operations, part by part, and the operation that all others descend from.
+-- Cited by contracts of public items: IsMetadata, IsOperation, IsRange, IsRootOperation,
+-- metadata_content, operation_content, range_content.
 use Rattle.std.specs.Prelude.{◌≡◌, ℕ, pos, false, List, [], ◌++◌, None, IsSomeAnd, string_bytes}
 use Rattle.std.specs.BTreeMap.{BTreeMap}
 use Rattle.std.specs.declared.string.String.{String}

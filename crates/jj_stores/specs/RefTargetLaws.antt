@@ -1,4 +1,5 @@
 -- That content tells targets and remote refs apart, from the laws of their parts.
+-- Cited by contracts of public items: remote_ref_lawful, state_lawful.
 use Rattle.std.proofs.Common.{◌≡◌, ℕ, ◌++◌, List, Bool, true, refl, lit<, arith}
 use Rattle.jj_content.specs.Content.{IsLawful}
 use Rattle.jj_content.specs.Lawful.{on_lawful, both_lawful, list_lawful, option_lawful, same_u32}

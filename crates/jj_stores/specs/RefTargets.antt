@@ -1,4 +1,6 @@
 -- Where refs point to, here and at remotes, and their content bytes.
+-- Cited by contracts of public items: IsRemoteRef, absent_ref, absent_target, remote_ref_content,
+-- state_content, tracked_target.
 use Rattle.std.specs.Prelude.{ℕ, List, [], ◌∷◌, ◌++◌, Option, Some, None}
 use Rattle.jj_content.specs.Content.{AreValues, IsOptionOf, u32_content, list_content, option_content}
 use Rattle.jj_backend.specs.Contents.{AreBytes, bytes_content}

@@ -1,4 +1,5 @@
 -- What a contract sees of a verification.
+-- Cited by contracts of public items: Verdict, unknown_verdict.
 use Rattle.std.specs.Prelude.{ℕ, List, Option, None, Bool, true, false}
 use Rattle.jj_stores.specs.declared.signing.SigStatus.{SigStatus}
 use Rattle.jj_stores.specs.declared.signing.SigStatus.TheVariants.{Good, Unknown, Bad}

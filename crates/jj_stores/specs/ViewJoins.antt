@@ -1,4 +1,5 @@
 -- Refs here and at remotes joined by name.
+-- Cited by contracts of public items: Named.
 use Rattle.std.specs.Prelude.{◌≡◌, ℕ, List, [], ◌∷◌, ◌++◌, false, Option, Some, None, MatchOption, IsSome}
 use Rattle.std.specs.Cmp.Lexicographic.{slice_cmp}
 use Rattle.std.specs.List.{All, filter_map}

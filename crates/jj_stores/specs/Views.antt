@@ -1,5 +1,7 @@
 -- The content bytes of views, part by part, and the view of a repository that has only its root
 -- commit.
+-- Cited by contracts of public items: IsRemoteView, IsRootView, IsView, remote_view_content,
+-- view_content.
 use Rattle.std.specs.Prelude.{◌≡◌, ℕ, List, [], ◌∷◌, ◌++◌}
 use Rattle.std.specs.HashSet as set
 use Rattle.std.specs.Ordering.{nat_cmp}

@@ -1,4 +1,5 @@
 -- What an iterator over matching entries of a map holds.
+-- Cited by contracts of public items: HoldsAllOf, entries_left.
 use Rattle.std.specs.Prelude.{◌≡◌, List, ◌++◌, map, All}
 use Rattle.std.specs.Option.{option_to_list}
 use Rattle.std.specs.Borrow.{Bor}

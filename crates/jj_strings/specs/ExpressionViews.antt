@@ -1,4 +1,5 @@
 -- What contracts see of expressions of strings.
+-- Cited by contracts of public items: expression_of.
 use Rattle.jj_strings.specs.declared.str_util.expression.StringExpression.{StringExpression}
 use Rattle.jj_strings.specs.declared.str_util.expression.StringExpression.TheVariants.{Pattern, NotIn', Union', Intersection'}
 use Rattle.jj_strings.specs.PatternViews.{pattern_of}

@@ -1,4 +1,5 @@
 -- What an iterator over matching entries of a map holds.
+-- Cited by contracts of public items: filter_entries, filter_matcher.
 use Rattle.std.specs.Prelude.{List}
 use Rattle.jj_strings.specs.declared.str_util.matcher.StringMatcher.{StringMatcher}
 use Rattle.jj_strings.specs.declared.str_util.filter_btree_map.FilterBTreeMap.{FilterBTreeMap}

@@ -1,4 +1,5 @@
 -- The glob that stands for the same strings as a pattern.
+-- Cited by contracts of public items: glob_icase, glob_text.
 use Rattle.std.specs.Prelude.{ℕ, Bool, false, List, [], ◌∷◌, ◌++◌, Option, None, Some}
 use Rattle.jj_globs.specs.GlobEscape.{escaped}
 use Rattle.jj_strings.specs.StringSets.{Pattern, exact, substring, glob}

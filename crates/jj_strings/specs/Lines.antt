@@ -1,4 +1,5 @@
 -- The lines of a text, and steps that look for those of a set.
+-- Cited by contracts of public items: GivesNext, GivesNextLine.
 use Rattle.std.specs.Prelude.{◌≡◌, ℕ, suc, ◌==◌, if◌then◌else◌, List, [], ◌∷◌, ◌++◌, All, Option, Some, None, Result, Ok, Err}
 use Rattle.std.specs.Borrow.{Bor}
 use Rattle.std.specs.declared.alloc.AllocError.{AllocError}

@@ -1,4 +1,5 @@
 -- What an iterator over matching lines holds.
+-- Cited by contracts of public items: matcher_of, rest_of.
 use Rattle.std.specs.Prelude.{ℕ, List}
 use Rattle.jj_strings.specs.declared.str_util.matcher.StringMatcher.{StringMatcher}
 use Rattle.jj_strings.specs.Searchers.{searched}

@@ -1,4 +1,5 @@
 -- Which error a text gets that is no pattern of strings.
+-- Cited by contracts of public items: IsGlobFault, IsRegexFault, of_glob_error, of_regex_error.
 use Rattle.std.specs.Prelude.{◌≡◌, ℕ, List, Err}
 use Rattle.regex.specs.Sources.{IsRefusal}
 use Rattle.regex.specs.Failures.{IsRightKind}

@@ -1,4 +1,6 @@
 -- Kinds of patterns by name, and the pattern that a text is as one of a kind.
+-- Cited by contracts of public items: IsRegexIOf, IsRegexOf, IsUnknownKind, ReadsAsKind,
+-- bytes_config, bytes_config_i, kind_named.
 use Rattle.std.specs.Prelude.{◌≡◌, ℕ, true, false, if◌then◌else◌, List, Option, None, Some, Result, Ok, Err, codes, string_bytes}
 use Rattle.std.specs.Str.{bytes_eq}
 use Rattle.regex.specs.Patterns.{Config, default_config}

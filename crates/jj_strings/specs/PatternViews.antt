@@ -1,4 +1,5 @@
 -- What contracts see of patterns of strings.
+-- Cited by contracts of public items: pattern_of.
 use Rattle.std.specs.Prelude.{string_bytes}
 use Rattle.jj_strings.specs.declared.str_util.pattern.StringPattern.{StringPattern}
 use Rattle.jj_strings.specs.declared.str_util.pattern.StringPattern.TheVariants.{Exact, ExactI, Substring, SubstringI, Glob, GlobI, Regex, RegexI}

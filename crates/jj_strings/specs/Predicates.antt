@@ -1,4 +1,5 @@
 -- Which bytes the caller's predicate accepts.
+-- Cited by contracts of public items: Accepts.
 use Rattle.std.specs.Prelude.{◌≡◌, ℕ, true, List}
 use Rattle.std.specs.Borrow.{Bor}
 use Rattle.jj_strings.specs.declared.str_util.predicate.BytePredicate.{BytePredicate}

@@ -1,4 +1,5 @@
 -- What a searcher looks for.
+-- Cited by contracts of public items: searched.
 use Rattle.jj_strings.specs.declared.str_util.matcher.StringMatcher.{StringMatcher}
 use Rattle.jj_strings.specs.declared.str_util.matcher.StringMatcher.TheVariants.{Expr}
 use Rattle.jj_strings.specs.declared.str_util.searcher.Searched.{Searched}

@@ -1,4 +1,5 @@
 -- What the searches of an expression look for.
+-- Machinery of private functions and fields.
 use Rattle.std.specs.Prelude.{◌≡◌, ◌↔◌, ℕ, List, Option, None, Some, IsSome}
 use Rattle.regex.specs.Patterns.{find}
 use Rattle.regex.specs.Bytes.{matcher_pattern}

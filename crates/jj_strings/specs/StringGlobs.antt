@@ -1,4 +1,5 @@
 -- Globs as patterns of strings: their `?` and `*` stand for `/` too.
+-- Cited by contracts of public items: StringGlob, as_glob.
 use Rattle.std.specs.Prelude.{ℕ, Bool, false, List}
 use Rattle.jj_globs.specs.GlobMeaning.{GlobSpec}
 

@@ -1,4 +1,6 @@
 -- A matcher of strings as a set of byte lists.
+-- Cited by contracts of public items: InMatcher, IsExpressionFromText, IsPatternFromText,
+-- MayAllocate.
 use Rattle.std.specs.Prelude.{◌≡◌, ◌⊎◌, ℕ, List, string_bytes}
 use Rattle.regex.specs.Bytes.{regex_config, IsReadFromSource}
 use Rattle.regex.specs.declared.bytes.regex.Regex as compiled

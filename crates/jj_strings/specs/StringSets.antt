@@ -1,5 +1,8 @@
 -- Patterns and expressions of strings: what they say, and the sets of byte lists that they stand
 -- for.
+-- Cited by contracts of public items: HasRegex, InExpression, InPattern, IsRegex, IsUnionOf,
+-- everything, exact, exact_i, exact_text, exact_texts, glob_i, glob_or_exact, intersection, is_all,
+-- not_in, nothing, of_pattern, string_glob, substring, substring_i, text_of, union.
 use Rattle.std.specs.Prelude.{◌≡◌, ℕ, ◌/◌, ◌<◌, ◌⊎◌, Bool, true, false, ◌==◌, if◌then◌else◌, List, [], ◌∷◌, ◌++◌, length, Option, None, Some, IsSome}
 use Rattle.std.specs.Option.{option_to_list}
 use Rattle.std.specs.List.{list_any}

@@ -1,4 +1,5 @@
 -- The first entries of what is left of a directory's trees.
+-- Machinery of private functions and fields.
 use Rattle.std.specs.Prelude.{◌≡◌, cond, List, [], ◌∷◌, Option, Some, None, All, Any}
 use Rattle.std.specs.Ordering.{is_lt}
 use Rattle.std.specs.Str.{bytes_eq}

@@ -1,4 +1,6 @@
 -- What a backend in memory keeps, and under which ids.
+-- Cited by contracts of public items: MemoryBackendValue, StandsForOther, new_backend, object_id,
+-- objects_of.
 use Rattle.std.specs.Prelude.{◌≡◌, ◌≢◌, ℕ, List, [], ◌∷◌, take, replicate, Some}
 use Rattle.std.specs.Map.{lookup}
 use Rattle.std.specs.Str.{bytes_eq}

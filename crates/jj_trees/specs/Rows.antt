@@ -1,4 +1,5 @@
 -- The names of a directory's trees, with what stands there, tree by tree.
+-- Machinery of private functions and fields.
 use Rattle.std.specs.Prelude.{◌≡◌, ◌⊎◌, List, Option, None, map, All, Any, AllPairs}
 use Rattle.std.specs.Map.{lookup}
 use Rattle.std.specs.Str.{bytes_eq}

@@ -1,4 +1,5 @@
 -- What comes of a failure to sign a commit.
+-- Cited by contracts of public items: FailsToSign, StandsForOtherCommit, signer_left.
 use Rattle.std.specs.Prelude.{◌≡◌, ◌⊎◌, ℕ, List, Option, Some, None, Result, Err}
 use Rattle.std.proofs.Common.{inl, inr}
 use Rattle.jj_paths.specs.Causes.{Cause}

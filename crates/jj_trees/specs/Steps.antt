@@ -1,4 +1,5 @@
 -- What becomes of the values at one name.
+-- Machinery of private functions and fields.
 use Rattle.std.specs.Prelude.{◌≡◌, true, Bool, Option, Some, None, All}
 use Rattle.jj_merges.specs.declared.merge.SameChange.{SameChange}
 use Rattle.jj_merges.specs.Decided.{IsDecided}

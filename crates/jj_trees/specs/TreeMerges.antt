@@ -1,4 +1,5 @@
 -- What trees merge to, path by path.
+-- Cited by contracts of public items: IsMerge, IsRefused, IsWithin, conflict_entries, root_values.
 use Rattle.std.specs.Prelude.{◌≡◌, ◌↔◌, ◌⊎◌, ⊤, ℕ, ◌<◌, Bool, true, false, List, [], ◌∷◌, ◌++◌, map}
 use Rattle.std.specs.Prelude.{length, Option, Some, None, option_and_then, unwrap_or, All, Any}
 use Rattle.std.specs.Prelude.{AllPairs, Contains}

@@ -1,4 +1,5 @@
 -- Why a write is refused.
+-- Cited by contracts of public items: IsNotKept.
 use Rattle.std.specs.Prelude.{◌≡◌, ◌⊎◌, true}
 use Rattle.jj_backend.specs.Errors.{is_other}
 use Rattle.jj_backend.specs.declared.backend.errors.BackendError.{BackendError}

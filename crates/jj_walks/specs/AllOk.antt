@@ -1,4 +1,5 @@
 -- What an iterator gives whose items stand in an `Ok`.
+-- Machinery of private functions and fields.
 use Rattle.std.specs.Prelude.{Option, Result, MatchOption, MatchResult}
 use Rattle.std.specs.declared.option.Option.TheVariants.{None, Some}
 

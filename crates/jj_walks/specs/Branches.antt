@@ -1,4 +1,5 @@
 -- What the candidates of a grouped graph keep of the branch that leads to an id.
+-- Cited by contracts of public items through HeldNodes.
 use Rattle.std.specs.Prelude.{◌≡◌, ◌⊎◌, Bool, true, false, not, ◌&&◌, ◌||◌, is_some, List, [], ◌∷◌, ◌++◌, Option, Some, ℕ}
 use Rattle.std.specs.HashMap.{HashMap}
 use Rattle.std.specs.Global.{Global}

@@ -1,4 +1,5 @@
 -- What may be given next: ids with counts, and lists of ids.
+-- Cited by contracts of public items through Branches, HeldNodes.
 use Rattle.std.specs.Prelude.{◌≡◌, ℕ, ◌+◌, ◌*◌, ◌^◌, ◌==◌, Bool, true, false, ◌||◌, not, is_some, List, ◌++◌, length, Option, None, Some}
 use Rattle.std.specs.List.{list_any, list_all, AllZip}
 use Rattle.std.specs.HashMap.{HashMap, get, hash_map_len}

@@ -1,4 +1,5 @@
 -- What a clause says of the error of a walk.
+-- Cited by contracts of public items: IfNode.
 use Rattle.jj_walks.specs.declared.walk_error.WalkError.{WalkError}
 use Rattle.jj_walks.specs.declared.walk_error.WalkError.TheVariants.{Memory, Node}
 

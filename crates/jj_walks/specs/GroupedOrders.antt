@@ -1,4 +1,5 @@
 -- A whole grouped order of the nodes of a list. Lists of nodes have the newest first.
+-- Machinery of private functions and fields.
 use Rattle.std.specs.Prelude.{◌≡◌, Bool, true, false, not, ◌||◌, List, [], ◌∷◌, reverse, find, Option, Some, MatchOption, ⊤}
 use Rattle.std.specs.List.{Contains, list_all, list_any}
 use Rattle.jj_walks.specs.declared.graph.GraphEdge.{GraphEdge}

@@ -1,4 +1,5 @@
 -- What the iterator over a grouped graph does from a state.
+-- Cited by contracts of public items: CanRead, GivesOn, nodes_left.
 use Rattle.std.specs.Prelude.{◌≡◌, ℕ, ◌+◌, Bool, true, false, cond, is_some, List, [], ◌∷◌, map, Option, None, Some, Result, Ok, Err, MatchBool}
 use Rattle.std.specs.Iterator.{Count, IsFinite, Yields, size}
 use Rattle.std.specs.Fn.{Shared, FnReturnsAt}

@@ -1,4 +1,5 @@
 -- What the held nodes of a grouped graph keep of its history.
+-- Cited by contracts of public items: Keeps.
 use Rattle.std.specs.Prelude.{◌≡◌, ◌+◌, ℕ, Bool, true, List, ◌∷◌, is_some, Option, None}
 use Rattle.std.specs.Option.{option_map}
 use Rattle.std.specs.HashMap.{get}

@@ -1,4 +1,5 @@
 -- What an iterator gives that has the items of a list, or one failed item in its place.
+-- Machinery of private functions and fields.
 use Rattle.std.specs.Prelude.{◌≡◌, Option, Result}
 use Rattle.std.specs.Option.{option_map}
 use Rattle.std.specs.declared.option.Option.TheVariants.{None, Some}

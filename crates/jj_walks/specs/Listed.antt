@@ -1,4 +1,5 @@
 -- Lists by key.
+-- Cited by contracts of public items through Branches.
 use Rattle.std.specs.Prelude.{Bool, List, [], Option, None, Some}
 use Rattle.std.specs.HashMap.{HashMap, get}
 use Rattle.std.specs.Global.{Global}

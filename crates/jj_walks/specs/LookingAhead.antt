@@ -1,4 +1,5 @@
 -- What is known of nodes that were explored from several starts, while others wait.
+-- Machinery of private functions and fields.
 use Rattle.std.specs.Prelude.{◌≡◌, ℕ, ◌==◌, ◌≤◌, Bool, false, cond, Option, List, [], map}
 use Rattle.std.specs.List.{Contains, sum_by}
 use Rattle.jj_walks.specs.Collecting.{IsCollecting}

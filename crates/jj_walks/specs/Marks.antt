@@ -1,4 +1,5 @@
 -- What a search for common nodes keeps of each node that it has met.
+-- Machinery of private functions and fields.
 use Rattle.std.specs.Prelude.{ℕ, ◌+◌, Bool, false, not, ◌&&◌, ◌||◌, cond, List, map, filter, Option, None, Some}
 use Rattle.std.specs.HashMap.{HashMap, get, values}
 use Rattle.std.specs.List.{sum_by}

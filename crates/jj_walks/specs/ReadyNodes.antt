@@ -1,5 +1,6 @@
 -- Orders of some nodes of a graph that are taken one by one, each the greatest whose children were
 -- all taken before.
+-- Machinery of private functions and fields.
 use Rattle.std.specs.Prelude.{◌≡◌, ℕ, ◌∷◌, ◌++◌, List, [], slice_index_or, false, eqb}
 use Rattle.std.specs.declared.option.Option.{Option}
 use Rattle.std.specs.declared.option.Option.TheVariants.{None, Some}

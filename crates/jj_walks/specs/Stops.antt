@@ -1,4 +1,5 @@
 -- What a clause says of why a walk stopped.
+-- Machinery of private functions and fields.
 use Rattle.jj_walks.specs.declared.forward.Stop.{Stop}
 use Rattle.jj_walks.specs.declared.forward.Stop.TheVariants.{Memory, Failed, Cycle}
 

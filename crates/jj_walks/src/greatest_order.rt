@@ -193,7 +193,7 @@ pub fn link<ID: Hash + Eq + Drop>(
     Ok((targets, indegrees))
 }
 
-/// Takes the greatest node without a child that was not taken, as long as there is one. Beside the
+/// Takes the greatest node all of whose children were taken, as long as there is one. Beside the
 /// nodes taken stands one of those left, which all are on or below a cycle.
 pub fn take_greatest_first<T: Ord + Drop>(
     alloc: Global,

@@ -1,4 +1,5 @@
 -- The commits of a list, with edges to their parents.
+-- Cited by contracts of public items: nodes_of.
 use Rattle.std.specs.Prelude.{◌≡◌, ℕ, List, map, reverse, is_some, if◌then◌else◌, IsOkAnd, Result}
 use Rattle.std.specs.List.{AllZip}
 use Rattle.std.specs.Global.{Global}

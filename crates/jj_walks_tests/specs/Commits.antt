@@ -1,4 +1,6 @@
 -- A list of commits, and the graph of their parents.
+-- Cited by contracts of public items: IsOnCycle, IsParentsFirst, commit_with, has_commit, ids_of,
+-- known_ids, parent_graph.
 use Rattle.std.specs.Prelude.{◌≡◌, ◌==◌, ◌&&◌, ℕ, Bool, true, false, cond, List, [], ◌∷◌, map, eqb, Option, None, Some}
 use Rattle.std.specs.List.{Contains, IsDistinct, filter_map}
 use Rattle.std.specs.Cmp.Lexicographic.{pointwise}

@@ -1,4 +1,5 @@
 -- A list of commits that may lack parents of its commits, and what an error tells of one that does.
+-- Cited by contracts of public items: IsGapIn, whole_graph.
 use Rattle.std.specs.Prelude.{◌≡◌, ◌&&◌, ℕ, Bool, true, false, cond, List, [], ◌∷◌, None, Some, is_some}
 use Rattle.std.specs.String.{string_bytes, string_eq}
 use Rattle.jj_walks_tests.specs.declared.commits.Commit.{Commit}
