@@ -1,5 +1,6 @@
 -- Groups of literal alternatives, and steps in which the alternatives share their fronts: what the
 -- steps accept, seen from the word whose bytes are being put before them, the last byte first.
+-- Machinery of private functions and fields.
 use Rattle.std.specs.Prelude.{◌≡◌, ℕ, ◌≤◌, ◌==◌, ◌||◌, Bool, List, [], ◌∷◌, ◌++◌, length, reverse, take, if◌then◌else◌}
 use Rattle.std.specs.List.{list_any}
 use Rattle.jj_globs.specs.declared.glob.token.Options.{Options}
