@@ -43,7 +43,7 @@ same_or_not (m ∷ p) (n ∷ q) = by_name (bytes_eq m n) refl (same_or_not p q)
 -- a tree has the nodes on the way to a node
 get-front : (t : Tree Bool) (q rest : Path) → IsSome (get t (q ++ rest)) → IsSome (get t q)
 get-front t [] rest there = refl
-get-front t (name ∷ q) rest there = known (λ sub h. get-front sub q rest h) (child t.1 name) there
+get-front t (name ∷ q) rest there = known (λ sub h. get-front sub q rest h) (child t.branches name) there
   where
     known : ((sub : Tree Bool) → IsSome (get sub (q ++ rest)) → IsSome (get sub q)) → (o : Option (Tree Bool)) → IsSome (option_and_then (λ sub. get sub (q ++ rest)) o) → IsSome (option_and_then (λ sub. get sub q) o)
     known below None h = absurd (not_some_none (Tree Bool) h)
@@ -53,19 +53,19 @@ get-front t (name ∷ q) rest there = known (λ sub h. get-front sub q rest h) (
 pub value_there : (t : Tree Bool) (q : Path) → IsSome (get t q) → (v : Bool) × (value_at t q ≡ Some v)
 value_there t q there = known (get t q) there
   where
-    known : (o : Option (Tree Bool)) → IsSome o → (v : Bool) × (option_map (λ node. node.0) o ≡ Some v)
+    known : (o : Option (Tree Bool)) → IsSome o → (v : Bool) × (option_map (λ node. node.value) o ≡ Some v)
     known None h = absurd (not_some_none (Tree Bool) h)
-    known (Some node) h = (node.0, refl)
+    known (Some node) h = (node.value, refl)
 
 pub there_by_value : (t : Tree Bool) (q : Path) (v : Bool) → value_at t q ≡ Some v → IsSome (get t q)
 there_by_value t q v is = known (get t q) is
   where
-    known : (o : Option (Tree Bool)) → option_map (λ node. node.0) o ≡ Some v → IsSome o
+    known : (o : Option (Tree Bool)) → option_map (λ node. node.value) o ≡ Some v → IsSome o
     known None h = absurd (some_none h)
     known (Some node) h = refl
 
 -- a tree of one node that is not marked has no marks
-pub marked_start : (t : Tree Bool) → t.0 ≡ false → t.1 ≡ none → IsMarkedTree [] t
+pub marked_start : (t : Tree Bool) → t.value ≡ false → t.branches ≡ none → IsMarkedTree [] t
 marked_start t unmarked bare = record {
   ordered = ap is_ordered bare;
   marked = λ path. ((λ is. absurd (no_mark path is)), (λ h. absurd (nothing_there path h)));
@@ -73,8 +73,8 @@ marked_start t unmarked bare = record {
 }
   where
     no_mark : (path : Path) → value_at t path ≡ Some true → ⊥
-    no_mark [] is = let e : t.0 ≡ true = cc in false≢true (sym unmarked ∙ e)
-    no_mark (name ∷ rest) is = some_none (sym (ap (λ b. option_map (λ node. node.0) (option_and_then (λ sub. get sub rest) (child b name))) bare) ∙ is)
+    no_mark [] is = let e : t.value ≡ true = cc in false≢true (sym unmarked ∙ e)
+    no_mark (name ∷ rest) is = some_none (sym (ap (λ b. option_map (λ node. node.value) (option_and_then (λ sub. get sub rest) (child b name))) bare) ∙ is)
 
     only_root : (path : Path) → IsSome (get t path) → path ≡ []
     only_root [] is = refl

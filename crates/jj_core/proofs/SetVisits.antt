@@ -2,12 +2,12 @@
 use Rattle.std.proofs.Common.{◌≡◌, ◌∙◌, List, [], ◌∷◌, ◌++◌, refl, ap, sym, subst, reverse}
 use Rattle.jj_paths.specs.Paths.{Name, Path}
 use Rattle.jj_matchers.specs.Answers.{Answer, IsSound}
-use Rattle.jj_matchers.specs.Listed.{ChoosesFrom}
+use Rattle.jj_matchers.specs.Candidates.{ChoosesFrom}
 use Rattle.jj_matchers.specs.declared.matchers.visits.Visit.{Visit}
 use Rattle.jj_matchers.specs.declared.matchers.visits.Visit.TheVariants.{Nothing}
 use Rattle.jj_matchers.specs.Visits.{answer_of}
 use Rattle.jj_matchers.proofs.Combined.{union_sound, difference_sound, intersection_sound}
-use Rattle.jj_matchers.proofs.Listed.{chosen_left, chosen_right, union_chooses, difference_chooses, intersection_chooses}
+use Rattle.jj_matchers.proofs.Candidates.{chosen_left, chosen_right, union_chooses, difference_chooses, intersection_chooses}
 use Rattle.jj_core.specs.declared.file_set.Combination.{Combination}
 use Rattle.jj_core.specs.declared.file_set.Combination.TheVariants.{Union, Difference, Intersection}
 use Rattle.jj_core.specs.declared.leaf_matcher.LeafMatcher.{LeafMatcher}

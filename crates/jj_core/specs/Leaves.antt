@@ -3,7 +3,7 @@ use Rattle.std.specs.Prelude.{◌≡◌, Bool, true, false, ◌||◌, List, []}
 use Rattle.std.specs.List.{list_any}
 use Rattle.jj_paths.specs.Paths.{Name, Path}
 use Rattle.jj_matchers.specs.Answers.{Answer, all_recursively, nothing}
-use Rattle.jj_matchers.specs.Listed.{names_of}
+use Rattle.jj_matchers.specs.Candidates.{names_of}
 use Rattle.jj_matchers.specs.Patterns.{is_accepted, opens_to_patterns, pattern_dirs, patterns_answer}
 use Rattle.jj_matchers.specs.Wanted.{is_wanted, leads_to_wanted, files_answer, has_prefix, leads_to_prefix, prefix_answer}
 use Rattle.jj_core.specs.declared.leaf_matcher.LeafMatcher.{LeafMatcher}

@@ -2,7 +2,7 @@
 use Rattle.std.specs.Prelude.{◌≡◌, Bool, false, List, [], ◌∷◌}
 use Rattle.jj_paths.specs.Paths.{Name, Path}
 use Rattle.jj_matchers.specs.Answers.{Answer, IsSound}
-use Rattle.jj_matchers.specs.Listed.{ChoosesFrom}
+use Rattle.jj_matchers.specs.Candidates.{ChoosesFrom}
 use Rattle.jj_matchers.specs.declared.matchers.visits.Visit.{Visit}
 use Rattle.jj_matchers.specs.Visits.{answer_of}
 use Rattle.jj_core.specs.declared.leaf_matcher.LeafMatcher.{LeafMatcher}

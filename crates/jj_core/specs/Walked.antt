@@ -4,7 +4,7 @@ use Rattle.jj_paths.specs.Paths.{Name, Path, path_text}
 use Rattle.jj_paths.specs.Tree.{Tree}
 use Rattle.jj_matchers.specs.Answers.{Answer, all_recursively, nothing}
 use Rattle.jj_matchers.specs.Wanted.{is_wanted, files_answer, has_prefix, prefix_answer}
-use Rattle.jj_matchers.specs.Listed.{names_of}
+use Rattle.jj_matchers.specs.Candidates.{names_of}
 use Rattle.jj_matchers.specs.Patterns.{is_accepted, pattern_dirs, patterns_answer}
 use Rattle.jj_matchers.specs.Walk.{files_of, entered_by}
 use Rattle.jj_core.specs.declared.fault.Fault.{Fault}

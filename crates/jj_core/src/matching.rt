@@ -2,7 +2,7 @@
 ghost use Rattle.std.specs.Prelude.{◌≡◌, ◌+◌, ◌<◌, ◌^◌, false, List, [], ◌∷◌, length, map, reverse, IfOk};
 ghost use Rattle.jj_paths.specs.Names.{path_of};
 ghost use Rattle.jj_paths.specs.Paths.{Name, Path};
-ghost use Rattle.jj_matchers.specs.Listed.{ChoosesFrom};
+ghost use Rattle.jj_matchers.specs.Candidates.{ChoosesFrom};
 ghost use Rattle.jj_matchers.specs.Visits.{answer_of};
 ghost use Rattle.jj_matchers.specs.Walk.{files_of, entered_by};
 ghost use Rattle.jj_core.specs.declared.leaf_matcher.LeafMatcher.{LeafMatcher};

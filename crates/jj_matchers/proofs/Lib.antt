@@ -1,6 +1,6 @@
 pub mod Children
 pub mod Combined
-pub mod Listed
+pub mod Candidates
 pub mod Marked
 pub mod Marks
 pub mod Orders

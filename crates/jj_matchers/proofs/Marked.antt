@@ -51,10 +51,10 @@ module _ (old new : Tree Bool) (path : Path) (set : IsMarkedAt old path new) whe
     where
       by_node : (o : Option (Tree Bool)) → get new front ≡ o → ⊥
       by_node None is =
-          let gone : value_at new (front ++ rest) ≡ None = ap (option_map (λ (node : Tree Bool). node.0)) (get-append new front rest ∙ ap (option_and_then (λ (node : Tree Bool). get node rest)) is) in
+          let gone : value_at new (front ++ rest) ≡ None = ap (option_map (λ (node : Tree Bool). node.value)) (get-append new front rest ∙ ap (option_and_then (λ (node : Tree Bool). get node rest)) is) in
           let clash : Some v ≡ None = sym e ∙ gone in cc
       by_node (Some node) is =
-          let clash : Some node.0 ≡ None = sym (ap (option_map (λ (node : Tree Bool). node.0)) is) ∙ missing in cc
+          let clash : Some node.value ≡ None = sym (ap (option_map (λ (node : Tree Bool). node.value)) is) ∙ missing in cc
 
   pub leads-set : LeadsToMarks old → LeadsToMarks new
   leads-set leads above name blank no_child = by_old (value_at old p) refl
@@ -97,10 +97,10 @@ module _ (old new : Tree Bool) (path : Path) (set : IsMarkedAt old path new) whe
       by_old None e = reaches (set.makes p false ne e blank).1.0 (set.makes p false ne e blank).1.1
 
 -- a tree of one blank node has no mark
-pub is_marked-blank : (tree : Tree Bool) → IsBlank tree.0 → tree.1 ≡ none → (q : Path) → is_marked tree q ≡ false
+pub is_marked-blank : (tree : Tree Bool) → IsBlank tree.value → tree.branches ≡ none → (q : Path) → is_marked tree q ≡ false
 is_marked-blank tree blank alone [] = blank
-is_marked-blank tree blank alone (name ∷ rest) = ap (λ b. is_some_true (option_map (λ (node : Tree Bool). node.0) (option_and_then (λ sub. get sub rest) (child b name)))) alone
+is_marked-blank tree blank alone (name ∷ rest) = ap (λ b. is_some_true (option_map (λ (node : Tree Bool). node.value) (option_and_then (λ sub. get sub rest) (child b name)))) alone
 
-pub leads-blank : (tree : Tree Bool) → tree.1 ≡ none → LeadsToMarks tree
-leads-blank tree alone [] name blank no_child = let clash : Some false ≡ None = sym blank ∙ ap (λ b. option_map (λ (node : Tree Bool). node.0) (option_and_then (λ sub. get sub []) (child b name))) alone in cc
-leads-blank tree alone (first ∷ above) name blank no_child = let clash : Some false ≡ None = sym blank ∙ ap (λ b. option_map (λ (node : Tree Bool). node.0) (option_and_then (λ sub. get sub (above ++ name ∷ [])) (child b first))) alone in cc
+pub leads-blank : (tree : Tree Bool) → tree.branches ≡ none → LeadsToMarks tree
+leads-blank tree alone [] name blank no_child = let clash : Some false ≡ None = sym blank ∙ ap (λ b. option_map (λ (node : Tree Bool). node.value) (option_and_then (λ sub. get sub []) (child b name))) alone in cc
+leads-blank tree alone (first ∷ above) name blank no_child = let clash : Some false ≡ None = sym blank ∙ ap (λ b. option_map (λ (node : Tree Bool). node.value) (option_and_then (λ sub. get sub (above ++ name ∷ [])) (child b first))) alone in cc

@@ -1,6 +1,6 @@
 pub mod Answers
 pub mod Combined
-pub mod Listed
+pub mod Candidates
 pub mod Marks
 pub mod Visits
 pub mod Walk

@@ -3,7 +3,7 @@ use Rattle.std.specs.Prelude.{◌≡◌, Bool, true, false, ◌||◌, List, [], 
 use Rattle.std.specs.List.{filter, list_any}
 use Rattle.jj_paths.specs.Paths.{Name, Path}
 use Rattle.jj_paths.specs.Tree.{Tree, Branches, child, children, has_branches, value_at}
-use Rattle.jj_paths.specs.Listed.{all_nodes}
+use Rattle.jj_paths.specs.Nodes.{all_nodes}
 use Rattle.jj_matchers.specs.Answers.{Answer, specific, nothing}
 
 abbrev pub is_some_true : Option Bool → Bool
@@ -16,7 +16,7 @@ is_marked tree path = is_some_true (value_at tree path)
 
 -- the marked paths of a tree
 abbrev pub marked_paths : Tree Bool → List Path
-marked_paths tree = filter (is_marked tree) (map (λ node. node.0) (all_nodes tree))
+marked_paths tree = filter (is_marked tree) (map (λ found. found.path) (all_nodes tree))
 
 -- each node but the root that has no mark has a child, and so leads to a mark
 abbrev pub LeadsToMarks : Tree Bool → Type 0
@@ -42,10 +42,10 @@ children_answer dirs files branches = if any_child dirs branches
     (named_by files branches) else nothing
 
 abbrev pub has_children : Tree Bool → Bool
-has_children node = has_branches node.1
+has_children node = has_branches node.branches
 
 abbrev pub has_mark : Tree Bool → Bool
-has_mark node = node.0
+has_mark node = node.value
 
 abbrev pub any_node : Tree Bool → Bool
 any_node node = true

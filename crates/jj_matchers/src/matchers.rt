@@ -17,7 +17,7 @@ ghost use Rattle.std.specs.Prelude.{◌≡◌, Bool, true, false, List, [], IfOk
 ghost use Rattle.jj_paths.specs.Paths.{Name, Path};
 ghost use Rattle.jj_paths.specs.Names.{path_of};
 ghost use Rattle.jj_matchers.specs.Answers.{Answer, IsSound, all_recursively, nothing};
-ghost use Rattle.jj_matchers.specs.Listed.{ChoosesFrom};
+ghost use Rattle.jj_matchers.specs.Candidates.{ChoosesFrom};
 ghost use Rattle.jj_matchers.specs.Visits.{answer_of};
 
 pub use difference_matcher::{DifferenceMatcher, difference_visit};

@@ -9,7 +9,7 @@ use Rattle.std.proofs.lemmas.Bool.{and_parts}
 use Rattle.std.proofs.lemmas.List.{map-append}
 use Rattle.jj_paths.specs.Paths.{Name, Path, name_cmp, path_cmp}
 use Rattle.jj_paths.specs.Tree.{Tree, Branches, none, branch, children, is_ordered}
-use Rattle.jj_paths.specs.Listed.{nodes_under, all_nodes}
+use Rattle.jj_paths.specs.Nodes.{NodeAt, nodes_under, all_nodes}
 use Rattle.jj_paths.proofs.Places.{less_from_is_lt}
 use Rattle.jj_paths.proofs.Trees.{name_cmp-itself}
 
@@ -45,8 +45,8 @@ unfolding IsStrictlySortedBy
 sorted_none = tt
 
 module _ {V : Type 0} where
-  abbrev paths : List (Path × Tree V) → List Path
-  paths nodes = map (λ (node : Path × Tree V). node.0) nodes
+  abbrev paths : List (NodeAt V) → List Path
+  paths nodes = map (λ (found : NodeAt V). found.path) nodes
 
   -- what holds below each name of some branches holds of all that is listed
   all_under : (P : Path → Type 0) (dir : Path) (b : Branches V) → AllByRecursion (λ (c : Name × Tree V). (rest : Path) → P (dir ++ c.0 ∷ rest)) (children b) → AllByRecursion P (paths (nodes_under dir b))
@@ -55,7 +55,7 @@ module _ {V : Type 0} where
       let here = dir ++ name ∷ [] in
       let deep = all_under P here below (each below (λ n rest. subst P (sym (append_assoc dir (name ∷ []) (n ∷ rest))) (h.0 (n ∷ rest)))) in
       let later = all_under P dir after h.1 in
-      (h.0 [], subst (AllByRecursion P) (sym (map-append (λ (node : Path × Tree V). node.0) (nodes_under here below) (nodes_under dir after))) (all-append P _ _ deep later))
+      (h.0 [], subst (AllByRecursion P) (sym (map-append (λ (found : NodeAt V). found.path) (nodes_under here below) (nodes_under dir after))) (all-append P _ _ deep later))
     where
       each : (b : Branches V) → ((n : Name) (rest : Path) → P ((dir ++ name ∷ []) ++ n ∷ rest)) → AllByRecursion (λ (c : Name × Tree V). (rest : Path) → P ((dir ++ name ∷ []) ++ c.0 ∷ rest)) (children b)
       each none f = tt
@@ -91,8 +91,8 @@ module _ {V : Type 0} where
       (λ n rest. subst (λ x. AllByRecursion (λ y. path_cmp x y ≡ Less) later) (sym (append_assoc dir (name ∷ []) (n ∷ rest)))
       (all_under (λ y. path_cmp (dir ++ name ∷ n ∷ rest) y ≡ Less) dir after (greater_names dir name (n ∷ rest) after parts.0))) in
       let both_rise = sorted-append deep later (ordered_under here below both.0) (ordered_under dir after both.1) deep_later in
-      subst (λ l. IsStrictlySortedBy path_cmp (here ∷ l)) (sym (map-append (λ (node : Path × Tree V). node.0) (nodes_under here below) (nodes_under dir after)))
+      subst (λ l. IsStrictlySortedBy path_cmp (here ∷ l)) (sym (map-append (λ (found : NodeAt V). found.path) (nodes_under here below) (nodes_under dir after)))
       (sorted-cons here (deep ++ later) (all-append (λ y. path_cmp here y ≡ Less) deep later here_deep here_later) both_rise)
 
-  pub lists_in_order : (tree : Tree V) → is_ordered tree.1 ≡ true → IsStrictlySortedBy path_cmp (map (λ node. node.0) (all_nodes tree))
-  lists_in_order tree up = sorted-cons [] (paths (nodes_under [] tree.1)) (all_anywhere (λ y. path_cmp [] y ≡ Less) [] tree.1 (λ n rest. before_below [] n rest)) (ordered_under [] tree.1 up)
+  pub lists_in_order : (tree : Tree V) → is_ordered tree.branches ≡ true → IsStrictlySortedBy path_cmp (map (λ found. found.path) (all_nodes tree))
+  lists_in_order tree up = sorted-cons [] (paths (nodes_under [] tree.branches)) (all_anywhere (λ y. path_cmp [] y ≡ Less) [] tree.branches (λ n rest. before_below [] n rest)) (ordered_under [] tree.branches up)

@@ -30,7 +30,7 @@ pub fn marked_tree(alloc: Global, paths: &[RepoPath<'_>]) -> Result<RepoPathTree
 /// The answer that names the children with children as directories, and the marked ones as files.
 pub fn visit_files(alloc: Global, tree: &RepoPathTree<bool>) -> Result<Visit, AllocError>
     ensures { IfOk result (λ visit. answer_of visit
-        ≡ children_answer has_children has_mark tree.now.1) }
+        ≡ children_answer has_children has_mark tree.now.branches) }
 {
     let mut dirs = HashSet::new(alloc);
     let mut files = HashSet::new(alloc);
@@ -48,7 +48,7 @@ pub fn visit_files(alloc: Global, tree: &RepoPathTree<bool>) -> Result<Visit, Al
 /// The answer that names all children as directories, and the marked ones as files.
 pub fn visit_prefixes(alloc: Global, tree: &RepoPathTree<bool>) -> Result<Visit, AllocError>
     ensures { IfOk result (λ visit. answer_of visit
-        ≡ children_answer any_node has_mark tree.now.1) }
+        ≡ children_answer any_node has_mark tree.now.branches) }
 {
     let mut dirs = HashSet::new(alloc);
     let mut files = HashSet::new(alloc);

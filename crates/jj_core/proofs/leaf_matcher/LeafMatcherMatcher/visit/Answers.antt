@@ -1,5 +1,5 @@
 use Rattle.std.proofs.Common.{IfOk, subst, sym}
-use Rattle.jj_matchers.specs.Listed.{ChoosesFrom}
+use Rattle.jj_matchers.specs.Candidates.{ChoosesFrom}
 use Rattle.jj_matchers.specs.Visits.{answer_of}
 use Rattle.jj_core.specs.Leaves.{leaf_names}
 use Rattle.jj_core.proofs.leaf_matcher.LeafMatcherMatcher.visit.Goals as goal

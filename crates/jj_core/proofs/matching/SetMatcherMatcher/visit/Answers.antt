@@ -2,7 +2,7 @@ use Rattle.std.proofs.Common.{◌≡◌, subst}
 use Rattle.std.proofs.lemmas.Result.{IfOk-weaker}
 use Rattle.jj_paths.specs.Names.{path_of}
 use Rattle.jj_matchers.specs.Answers.{IsSound}
-use Rattle.jj_matchers.specs.Listed.{ChoosesFrom}
+use Rattle.jj_matchers.specs.Candidates.{ChoosesFrom}
 use Rattle.jj_matchers.specs.Visits.{answer_of}
 use Rattle.jj_core.specs.Matching.{IsAnswerOf, made_by, set_accepts, set_opens, set_answer, set_names}
 use Rattle.jj_core.proofs.matching.SetMatcherMatcher.visit.Goals as goal

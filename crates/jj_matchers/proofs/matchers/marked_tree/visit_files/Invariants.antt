@@ -12,6 +12,6 @@ abbrev pub invariant-loop-name : goal.invariant-loop-name
 invariant-loop-name l = record {
   can : (goal.iterator-loop-name).can_next l.name-iterator;
   finite : (goal.iterator-loop-name).is_finite l.name-iterator;
-  dirs : (name : Name) → (is_among l.dirs.keys name || any_named has_children name (children_left l.name-iterator)) ≡ any_named has_children name (children l.tree.1);
-  files : (name : Name) → (is_among l.files.keys name || any_named has_mark name (children_left l.name-iterator)) ≡ any_named has_mark name (children l.tree.1);
+  dirs : (name : Name) → (is_among l.dirs.keys name || any_named has_children name (children_left l.name-iterator)) ≡ any_named has_children name (children l.tree.branches);
+  files : (name : Name) → (is_among l.files.keys name || any_named has_mark name (children_left l.name-iterator)) ≡ any_named has_mark name (children l.tree.branches);
 }

@@ -8,5 +8,5 @@ returns c =
     let i = c.loop-name.invariant in
     let left = c.in-None.ensures.steps.0 in
     c.sets.ensures
-    ∙ sets_are any_node has_mark c.args.tree.now.1 c.children-name-items.ensures.by_name c.loop-name.dirs.keys c.loop-name.files.keys
+    ∙ sets_are any_node has_mark c.args.tree.now.branches c.children-name-items.ensures.by_name c.loop-name.dirs.keys c.loop-name.files.keys
     (λ name. none_left any_node name _ _ _ left (i.dirs name)) (λ name. none_left has_mark name _ _ _ left (i.files name))

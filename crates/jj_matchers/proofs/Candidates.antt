@@ -11,7 +11,7 @@ use Rattle.jj_paths.specs.Orders.{path_eq, path_eq-Decides}
 use Rattle.jj_matchers.specs.Answers.{Answer, all_recursively, specific, nothing}
 use Rattle.jj_matchers.specs.Visits.{is_among, sets_answer}
 use Rattle.jj_matchers.specs.Wanted.{is_at_or_below, is_below, is_wanted, leads_to_wanted, leads_to_prefix, has_prefix, files_answer, prefix_answer}
-use Rattle.jj_matchers.specs.Listed.{IsAllOrAmong, ChoosesFrom, any_passes, names_of}
+use Rattle.jj_matchers.specs.Candidates.{IsAllOrAmong, ChoosesFrom, any_passes, names_of}
 use Rattle.jj_matchers.specs.Combined.{named_answer, union_answer, difference_answer, intersection_answer}
 use Rattle.jj_matchers.proofs.Wanted.{or_left, any_implies, both_true, is_at_or_below-append, below_dir}
 
