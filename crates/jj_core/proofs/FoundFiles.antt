@@ -14,11 +14,11 @@ use Rattle.jj_paths.proofs.ListedNodes.{lists_nodes}
 use Rattle.jj_paths.proofs.ListedOrder.{lists_in_order}
 use Rattle.jj_matchers.specs.Wanted.{is_wanted, has_prefix, is_at_or_below}
 use Rattle.jj_matchers.specs.Walk.{files_of, entered_by, is_file, paths_where}
-use Rattle.jj_matchers.proofs.Wanted.{below_base, is_at_or_below-append}
+use Rattle.jj_matchers.proofs.Wanted.{Decides-is_wanted, below_base, is_at_or_below-append}
 use Rattle.jj_matchers.proofs.PatternSound.{Decides-is_accepted}
 use Rattle.jj_core.specs.declared.file_set.Combination.TheVariants.{Union, Difference, Intersection}
 use Rattle.jj_core.specs.FoundFiles.{IsNamed, IsIn, AreFound, FindsItsFiles}
-use Rattle.jj_core.specs.Marks.{IsMarkedTree}
+use Rattle.jj_matchers.specs.Marks.{IsMarkedTree}
 use Rattle.jj_core.specs.SetTrees.{SetTree, one, both}
 use Rattle.jj_core.specs.Walked.{named_accepts, accepted_by, answered_by}
 use Rattle.jj_core.specs.WalkCommand.{FileSet, Everything, Nothing, Files, Prefix, Globs, WalkRequest}
@@ -31,11 +31,7 @@ equal≢less h = true≢false (sym (ap is_lt h))
 named : (set : FileSet) (path : Path) → Decides (named_accepts path set) (IsNamed set path)
 named Everything path = ((λ h. tt), (λ h. refl))
 named Nothing path = ((λ h. absurd (true≢false (sym h))), (λ h. absurd h))
-named (Files paths) path = (
-  (λ h. let found = Any-from_list_any (path_eq path) paths h in
-      (found.0, found.2, subst (λ p. get_or paths found.0 p ≡ p) (sym ((path_eq-Decides path found.1).0 found.4)) found.3)),
-  (λ h. list_any_at (path_eq path) paths h.0 path h.1 ((path_eq-Decides path (get_or paths h.0 path)).1 (sym h.2))),
-)
+named (Files paths) path = Decides-is_wanted paths path
 named (Prefix paths) path = (
   (λ h. let found = Any-from_list_any (λ base. is_at_or_below base path) paths h in
       let rest = below_base found.1 path found.4 in

@@ -12,8 +12,8 @@ use Rattle.std.proofs.lemmas.Slice.Eq.{bytes_eq-Decides}
 use Rattle.std.proofs.lemmas.Bool.{and_parts}
 use Rattle.jj_paths.specs.Paths.{Name, Path, name_cmp}
 use Rattle.jj_paths.specs.Tree.{Tree, tree_of, Branches, none, branch, children, child, get, value_at, is_ordered}
-use Rattle.jj_core.specs.Marks.{IsMarkedTree}
-use Rattle.jj_core.proofs.MarkedTrees.{value_there, there_by_value}
+use Rattle.jj_matchers.specs.Marks.{IsMarkedTree}
+use Rattle.jj_matchers.proofs.MarkedTrees.{value_there, there_by_value}
 
 some_none : {X : Type 0} {x : X} → Some x ≡ None → ⊥
 some_none e = cc

@@ -9,7 +9,7 @@ use Rattle.jj_matchers.specs.Patterns.{is_accepted, pattern_dirs, patterns_answe
 use Rattle.jj_matchers.specs.Walk.{files_of, entered_by}
 use Rattle.jj_core.specs.declared.fault.Fault.{Fault}
 use Rattle.jj_core.specs.Lines.{line_text}
-use Rattle.jj_core.specs.Marks.{IsMarkedTree}
+use Rattle.jj_matchers.specs.Marks.{IsMarkedTree}
 use Rattle.jj_core.specs.SetTrees.{SetTree, passes, answer_by}
 use Rattle.jj_core.specs.WalkCommand.{FileSet, Everything, Nothing, Files, Prefix, Globs, WalkRequest, walk_request}
 

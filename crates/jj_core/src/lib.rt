@@ -10,7 +10,6 @@ mod hash_command;
 pub mod laws;
 mod leaf_matcher;
 mod listed_graph;
-mod marks;
 mod matching;
 mod merge_command;
 mod merge_outcome;

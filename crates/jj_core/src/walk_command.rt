@@ -5,7 +5,7 @@ ghost use Rattle.jj_paths.specs.Names.{path_of};
 ghost use Rattle.jj_globs.specs.GlobText.{tokens_of};
 ghost use Rattle.jj_globs.specs.GlobReads.{IsReadingFault};
 ghost use Rattle.jj_paths.specs.Tree.{Tree};
-ghost use Rattle.jj_core.specs.Marks.{IsMarkedTree};
+ghost use Rattle.jj_matchers.specs.Marks.{IsMarkedTree};
 ghost use Rattle.jj_core.specs.Lines.{at_line, IsFaultOf};
 ghost use Rattle.jj_core.specs.SetTrees.{SetTree};
 ghost use Rattle.jj_core.specs.WalkCommand.{FileSet as NamedSet, WalkState, WalkRequest, Files, Prefix, path_at, paths_of, glob_at, globs_of, globs_step, paired_fields, combined_step, pushed_alone, pushed_paths, mark_step, walk_step, walk_request};
@@ -16,12 +16,11 @@ ghost use Rattle.jj_core.specs.Walked.{GivesWalk, walk_lines, path_lines};
 
 use crate::fault::{Fault, LineFault};
 use crate::file_set::{Combination, FileSet};
-use crate::marks::marked_tree;
 use crate::matching::walk_set;
 use crate::reading::{Reading, push_line, take_lines};
 use crate::set_stack::SetStack;
 use jj_globs::glob::GlobError;
-use jj_matchers::matchers::PathGlobPattern;
+use jj_matchers::matchers::{PathGlobPattern, marked_tree};
 use jj_paths::repo_path::{InvalidNewRepoPathError, RepoPath, RepoPathBuf};
 use std::alloc::{AllocError, Global};
 
@@ -341,7 +340,7 @@ fn found_lines(
         → (tree : Tree Bool) × IsMarkedTree (map path_of marks.entry.items) tree
         × (output.items ≡ walk_lines set tree)) }
 {
-    let tree = marked_tree(alloc, marks)?;
+    let tree = marked_tree(alloc, &marks)?;
     let found = walk_set(alloc, &tree, sets)?;
     let mut output = Vec::new(alloc);
     push_paths(&mut output, "file", &found.files)?;

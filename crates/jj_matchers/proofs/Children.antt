@@ -14,7 +14,7 @@ use Rattle.jj_paths.specs.Tree.{Tree, tree_of, Branches, none, branch, children}
 use Rattle.jj_matchers.specs.Answers.{specific}
 use Rattle.jj_matchers.specs.Marks.{named_by, any_child, children_answer}
 use Rattle.jj_matchers.specs.Visits.{is_among, sets_answer}
-use Rattle.jj_matchers.proofs.Orders.{name_cmp-itself, less_from_is_lt}
+use Rattle.jj_paths.proofs.PathOrders.{name_cmp-itself, less_from_is_lt}
 use Rattle.jj_matchers.proofs.Wanted.{or_left, false_if, any_implies}
 
 -- whether a node of that name passes a test

@@ -11,7 +11,7 @@ use Rattle.jj_paths.specs.Paths.{Name, Path, name_cmp, path_cmp}
 use Rattle.jj_paths.specs.Tree.{Tree, tree_of, Branches, none, branch, branches_of, children, has_branches}
 use Rattle.jj_paths.specs.Nodes.{NodeAt, node_at, nodes_under}
 use Rattle.jj_matchers.specs.Walk.{paths_where}
-use Rattle.jj_matchers.proofs.Orders.{before_name, before_below, less_from_is_lt, all-append, sorted-append, sorted-cons, sorted_none}
+use Rattle.jj_paths.proofs.PathOrders.{before_name, before_below, less_from_is_lt, all-append, sorted-append, sorted-cons, sorted_none}
 
 -- a path, if the test passes
 abbrev pub path_if : Bool → Path → List Path

@@ -2,6 +2,7 @@ pub mod Answers
 pub mod Combined
 pub mod Candidates
 pub mod Marks
+pub mod KeyedMarks
 pub mod Visits
 pub mod Walk
 pub mod WalkParts

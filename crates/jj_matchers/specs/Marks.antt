@@ -1,10 +1,23 @@
--- The paths that a tree of marks stands for.
-use Rattle.std.specs.Prelude.{◌≡◌, Bool, true, false, ◌||◌, List, [], ◌∷◌, ◌++◌, Option, Some, None, map, if◌then◌else◌}
+-- Trees of marks: the tree that a list of marked paths makes, and the paths that a tree stands for.
+use Rattle.std.specs.Prelude.{◌≡◌, ◌↔◌, ◌⊎◌, Bool, true, false, ◌||◌, List, [], ◌∷◌, ◌++◌, Option, Some, None, IsSome, map, if◌then◌else◌, Contains}
 use Rattle.std.specs.List.{filter, list_any}
 use Rattle.jj_paths.specs.Paths.{Name, Path}
-use Rattle.jj_paths.specs.Tree.{Tree, Branches, child, children, has_branches, value_at}
+use Rattle.jj_paths.specs.Tree.{Tree, Branches, child, children, get, has_branches, is_ordered, value_at}
 use Rattle.jj_paths.specs.Nodes.{all_nodes}
 use Rattle.jj_matchers.specs.Answers.{Answer, specific, nothing}
+
+-- the tree in path order whose nodes are the root and each beginning of a mark, and where exactly
+-- the marks are marked
+pub record IsMarkedTree (marks : List Path) (tree : Tree Bool) : Type 0 where
+  pub ordered : is_ordered tree.branches ≡ true
+  pub marked : (path : Path) → (value_at tree path ≡ Some true) ↔ Contains marks path
+  pub nodes : (path : Path) → IsSome (get tree path)
+      ↔ ((path ≡ []) ⊎ ((rest : Path) × Contains marks (path ++ rest)))
+
+-- the tree of any marks before becomes that of those marks and these
+abbrev pub AddsMarks : List Path → Tree Bool → Tree Bool → Type 0
+AddsMarks marks old new = (before : List Path) → IsMarkedTree before old
+    → IsMarkedTree (before ++ marks) new
 
 abbrev pub is_some_true : Option Bool → Bool
 is_some_true None = false

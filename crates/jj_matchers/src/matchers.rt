@@ -1,11 +1,12 @@
 //! Matchers: sets of paths that can tell where below a directory their paths are.
 
+mod children_visit;
 mod difference_matcher;
 mod dir_patterns;
 mod files_matcher;
 mod globs_matcher;
 mod intersection_matcher;
-mod marked_tree;
+mod marks;
 mod path_glob_pattern;
 mod pattern_order;
 mod prefix_matcher;
@@ -25,6 +26,7 @@ pub use files_matcher::FilesMatcher;
 pub use globs_matcher::{GlobsMatcher, GlobsMatcherBuilder};
 pub use intersection_matcher::{IntersectionMatcher, intersection_visit};
 use jj_paths::repo_path::RepoPath;
+pub use marks::marked_tree;
 pub use path_glob_pattern::PathGlobPattern;
 pub use prefix_matcher::PrefixMatcher;
 use std::alloc::{AllocError, Global};

@@ -30,7 +30,7 @@ module _ {V : Type 0} (eq : V → V → Bool) where
   not_unequal true e = refl
   not_unequal false e = absurd (false≢true e)
 
-  children_as_branches : (b : Branches V) → branches_of (children b) ≡ b
+  pub children_as_branches : (b : Branches V) → branches_of (children b) ≡ b
   children_as_branches none = refl
   children_as_branches (branch n v b a) = ap (branch n v b) (children_as_branches a)
 

@@ -12,14 +12,14 @@ use Rattle.std.proofs.lemmas.List.Elements.{Contains-append_left, Contains-appen
 use Rattle.jj_paths.specs.Paths.{Name, Path, name_cmp}
 use Rattle.jj_paths.specs.Tree.{Tree, tree_of, Branches, none, branch, children, child, get, is_ordered}
 use Rattle.jj_paths.specs.Nodes.{NodeAt, node_at, nodes_under, all_nodes}
-use Rattle.jj_paths.proofs.Grown.{differs, some_none, some_same}
-use Rattle.jj_paths.proofs.Places.{less_from_is_lt}
-use Rattle.jj_paths.proofs.Trees.{not_same}
+use Rattle.jj_paths.proofs.Grown.{differs, some_same}
+use Rattle.jj_paths.proofs.PathOrders.{less_from_is_lt}
+use Rattle.jj_paths.proofs.Trees.{some_none, not_same}
 
-nothing_there : {X : Type 0} (x : X) → Contains [] x → ⊥
+pub nothing_there : {X : Type 0} (x : X) → Contains [] x → ⊥
 nothing_there x (k, below, is) = absurd (omega arith)
 
-the_one : {X : Type 0} (x y : X) → Contains (x ∷ []) y → y ≡ x
+pub the_one : {X : Type 0} (x y : X) → Contains (x ∷ []) y → y ≡ x
 the_one x y (zero, below, is) = sym is
 the_one x y (suc k, below, is) = absurd (omega arith)
 

@@ -10,39 +10,7 @@ use Rattle.std.proofs.lemmas.List.{map-append}
 use Rattle.jj_paths.specs.Paths.{Name, Path, name_cmp, path_cmp}
 use Rattle.jj_paths.specs.Tree.{Tree, Branches, none, branch, children, is_ordered}
 use Rattle.jj_paths.specs.Nodes.{NodeAt, nodes_under, all_nodes}
-use Rattle.jj_paths.proofs.Places.{less_from_is_lt}
-use Rattle.jj_paths.proofs.Trees.{name_cmp-itself}
-
--- two paths below a directory compare as what is below
-path_cmp-append : (dir a b : Path) → path_cmp (dir ++ a) (dir ++ b) ≡ path_cmp a b
-path_cmp-append [] a b = refl
-path_cmp-append (name ∷ dir) a b = ap (λ r. ordering_then r (path_cmp (dir ++ a) (dir ++ b))) (name_cmp-itself name) ∙ path_cmp-append dir a b
-
-before_name : (dir : Path) (n m : Name) (a b : Path) → name_cmp n m ≡ Less → path_cmp (dir ++ n ∷ a) (dir ++ m ∷ b) ≡ Less
-before_name dir n m a b e = path_cmp-append dir (n ∷ a) (m ∷ b) ∙ ap (λ r. ordering_then r (path_cmp a b)) e
-
-before_below : (dir : Path) (n : Name) (a : Path) → path_cmp dir (dir ++ n ∷ a) ≡ Less
-before_below [] n a = refl
-before_below (name ∷ dir) n a = ap (λ r. ordering_then r (path_cmp dir (dir ++ n ∷ a))) (name_cmp-itself name) ∙ before_below dir n a
-
-module _ {X : Type 0} where
-  all-append : (P : X → Type 0) (xs ys : List X) → AllByRecursion P xs → AllByRecursion P ys → AllByRecursion P (xs ++ ys)
-  all-append P [] ys h k = k
-  all-append P (x ∷ xs) ys h k = (h.0, all-append P xs ys h.1 k)
-
--- two rising lists, each path of the first before all of the second
-sorted-append : (xs ys : List Path) → IsStrictlySortedBy path_cmp xs → IsStrictlySortedBy path_cmp ys → AllByRecursion (λ x. AllByRecursion (λ y. path_cmp x y ≡ Less) ys) xs → IsStrictlySortedBy path_cmp (xs ++ ys)
-unfolding IsStrictlySortedBy
-sorted-append [] ys h k before = k
-sorted-append (x ∷ xs) ys h k before = (all-append (λ y. path_cmp x y ≡ Less) xs ys h.0 before.0, sorted-append xs ys h.1 k before.1)
-
-sorted-cons : (x : Path) (xs : List Path) → AllByRecursion (λ y. path_cmp x y ≡ Less) xs → IsStrictlySortedBy path_cmp xs → IsStrictlySortedBy path_cmp (x ∷ xs)
-unfolding IsStrictlySortedBy
-sorted-cons x xs h k = (h, k)
-
-sorted_none : IsStrictlySortedBy path_cmp []
-unfolding IsStrictlySortedBy
-sorted_none = tt
+use Rattle.jj_paths.proofs.PathOrders.{less_from_is_lt, before_name, before_below, all-append, sorted-append, sorted-cons, sorted_none}
 
 module _ {V : Type 0} where
   abbrev paths : List (NodeAt V) → List Path

@@ -10,15 +10,12 @@ use Rattle.std.specs.Cmp.Lexicographic.{nat_list_cmp_total}
 use Rattle.std.proofs.lemmas.Bool.{and_parts}
 use Rattle.jj_paths.specs.Paths.{Name, Path, name_cmp}
 use Rattle.jj_paths.specs.Tree.{Tree, tree_of, Branches, none, branch, branches_of, children, child, update_child, put_value, is_ordered, IsGapFor}
-use Rattle.jj_paths.proofs.Trees.{children-branches_of}
+use Rattle.jj_paths.proofs.Trees.{some_none, children-branches_of}
 
 pub both_true : (a b : Bool) → a ≡ true → b ≡ true → a && b ≡ true
 both_true true true e f = refl
 both_true true false e f = absurd (false≢true f)
 both_true false b e f = absurd (false≢true e)
-
-some_none : {X : Type 0} {x : X} → None ≡ Some x → ⊥
-some_none e = cc
 
 module _ {V : Type 0} where
   pub below_all-insert : (k : Name) (es : List (Name × Tree V)) (i : ℕ) (x : Name × Tree V) → name_cmp k x.0 ≡ Less → below_all name_cmp k es ≡ true → below_all name_cmp k (insert es i x) ≡ true

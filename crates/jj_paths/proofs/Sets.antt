@@ -6,7 +6,8 @@ use Rattle.std.specs.Option.{option_and_then, option_map}
 use Rattle.std.proofs.lemmas.Slice.Eq.{bytes_eq-Decides}
 use Rattle.jj_paths.specs.Paths.{Name, Path, first_of, rest_of}
 use Rattle.jj_paths.specs.Tree.{Tree, tree_of, Branches, none, branch, IsChildEdited, update_child, put, put_value, get, value_at, child, IsExtended, IsEdited, IsSet, is_ordered}
-use Rattle.jj_paths.proofs.Grown.{some_none, child-update_same, child-update_other, extended-step, extended-same, there-step}
+use Rattle.jj_paths.proofs.Trees.{some_none}
+use Rattle.jj_paths.proofs.Grown.{child-update_same, child-update_other, extended-step, extended-same, there-step}
 use Rattle.jj_paths.proofs.Ordered.{is_ordered-put_value}
 
 -- a path that is not the root is its first name and the rest

@@ -1,8 +1,8 @@
 use Rattle.std.proofs.Common.{get_or, refl, ◌∙◌}
 use Rattle.std.proofs.Math.Seq.{map-set_same}
-use Rattle.jj_core.specs.declared.marks.KeyedMark.{KeyedMark}
-use Rattle.jj_core.specs.KeyedMarks.{keyed_path}
-use Rattle.jj_core.proofs.marks.take_keys.Goals as goal
+use Rattle.jj_matchers.specs.declared.matchers.marks.KeyedMark.{KeyedMark}
+use Rattle.jj_matchers.specs.KeyedMarks.{keyed_path}
+use Rattle.jj_matchers.proofs.matchers.marks.take_keys.Goals as goal
 
 pub loop-mark-preserved : goal.loop-mark-preserved
 loop-mark-preserved c =

@@ -5,7 +5,7 @@ use Rattle.jj_paths.specs.Tree.{children}
 use Rattle.jj_matchers.specs.Marks.{any_node, has_mark}
 use Rattle.jj_matchers.specs.Visits.{is_among}
 use Rattle.jj_matchers.proofs.Children.{any_named}
-use Rattle.jj_matchers.proofs.matchers.marked_tree.visit_prefixes.Given as goal
+use Rattle.jj_matchers.proofs.matchers.children_visit.visit_prefixes.Given as goal
 
 -- the names so far and those that are left are all
 abbrev pub invariant-loop-name : goal.invariant-loop-name

@@ -1,8 +1,8 @@
 //! The tree of the paths that are marked.
 ghost use Rattle.std.specs.Prelude.{◌≡◌, ◌<◌, ◌≤◌, map, length, IfOk};
 ghost use Rattle.jj_paths.specs.Names.{path_of};
-ghost use Rattle.jj_core.specs.Marks.{IsMarkedTree, AddsMarks};
-ghost use Rattle.jj_core.specs.KeyedMarks.{keyed_path};
+ghost use Rattle.jj_matchers.specs.Marks.{IsMarkedTree, AddsMarks};
+ghost use Rattle.jj_matchers.specs.KeyedMarks.{keyed_path};
 
 use jj_paths::repo_path::RepoPath;
 use jj_paths::repo_path_tree::RepoPathTree;
@@ -25,17 +25,12 @@ const PARTS: usize = 8;
 // The bytes of a part.
 const PART_LEN: usize = 8;
 
-// The tree of the marks, which may come in any order. They are sorted by their texts first, which
-// brings the marks of a directory together and mostly puts a new name behind the last one. The
-// order of paths differs from that only where a name goes on with a byte below the slash, and
-// takes longer to compare.
-pub(crate) fn marked_tree(
-    alloc: Global,
-    marks: Vec<RepoPath<'_>>,
-) -> Result<RepoPathTree<bool>, AllocError>
-    ensures { IfOk result (IsMarkedTree (map path_of marks.entry.items)) }
+/// The tree with `true` at each mark, and `false` at the other nodes on the way to one. The marks may
+/// come in any order, and more than once.
+pub fn marked_tree(alloc: Global, marks: &[RepoPath<'_>]) -> Result<RepoPathTree<bool>, AllocError>
+    ensures { IfOk result (IsMarkedTree (map path_of marks.now)) }
 {
-    let mut keyed = keyed(alloc, &marks)?;
+    let mut keyed = keyed(alloc, marks)?;
     let mut tree = RepoPathTree::default(alloc);
     add_marks(&mut tree, &mut keyed, 0)?;
     Ok(tree)
@@ -55,6 +50,10 @@ fn keyed<'t>(alloc: Global, marks: &[RepoPath<'t>]) -> Result<Vec<KeyedMark<'t>>
     Ok(keyed)
 }
 
+// Marks are sorted by their texts first, which brings the marks of a directory together and mostly
+// puts a new name after the last one. The order of paths differs from that only where a name goes
+// on with a byte below the slash, and takes longer to compare.
+//
 // Adds marks whose texts agree in the parts before this one. They are sorted by this part as a
 // number, which is read from the text once, and those that agree in it too are added next: so
 // their texts are at hand.
@@ -99,7 +98,7 @@ fn take_keys(marks: &mut [KeyedMark<'_>], from: usize)
     }
 }
 
-// The bytes of a part as one number, the first one highest, and zeros behind the end of the text.
+// The bytes of a part as one number, the first one highest, and zeros past the end of the text.
 fn key_from(text: &[u8], from: usize) -> u64 {
     let Some(rest) = text.get(from..) else {
         return 0;

@@ -3,9 +3,9 @@ use Rattle.std.proofs.lemmas.List.{take_all}
 use Rattle.std.proofs.lemmas.Slice.{drop-put_mid}
 use Rattle.std.proofs.lemmas.List.Sorted.{IsPermutation-sym, IsPermutation-map}
 use Rattle.std.proofs.Math.ListN.{length-map}
-use Rattle.jj_core.specs.KeyedMarks.{keyed_path}
-use Rattle.jj_core.proofs.AddedMarks.{adds_none, adds_more, adds_permuted, adds_list, run_next, later_same}
-use Rattle.jj_core.proofs.marks.+add_marks.Goals as goal
+use Rattle.jj_matchers.specs.KeyedMarks.{keyed_path}
+use Rattle.jj_matchers.proofs.AddedMarks.{adds_none, adds_more, adds_permuted, adds_list, run_next, later_same}
+use Rattle.jj_matchers.proofs.matchers.marks.+add_marks.Goals as goal
 
 pub loop-start-init : goal.loop-start-init
 loop-start-init t c = record { added = adds_none c.args.tree.now; others = refl; in_range = omega arith }

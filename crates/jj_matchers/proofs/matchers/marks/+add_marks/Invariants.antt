@@ -1,8 +1,8 @@
 -- The marks of the runs before the start are added, and those from the start on are as they were when they were sorted.
 use Rattle.std.proofs.Common.{◌≡◌, ◌-◌, ◌≤◌, map, take, drop, length}
-use Rattle.jj_core.specs.Marks.{AddsMarks}
-use Rattle.jj_core.specs.KeyedMarks.{keyed_path}
-use Rattle.jj_core.proofs.marks.+add_marks.Given as goal
+use Rattle.jj_matchers.specs.Marks.{AddsMarks}
+use Rattle.jj_matchers.specs.KeyedMarks.{keyed_path}
+use Rattle.jj_matchers.proofs.matchers.marks.+add_marks.Given as goal
 
 abbrev pub decreases-add_marks : goal.decreases-add_marks
 decreases-add_marks l = 8 - l.part

@@ -6,8 +6,8 @@ use Rattle.std.proofs.lemmas.List.Sorted.{IsPermutation-append_right}
 use Rattle.std.proofs.Math.Seq.{take-add}
 use Rattle.jj_paths.specs.Paths.{Path}
 use Rattle.jj_paths.specs.Tree.{Tree, IsSet}
-use Rattle.jj_core.specs.Marks.{IsMarkedTree, AddsMarks}
-use Rattle.jj_core.proofs.MarkedTrees.{marked_step, marked_permutation}
+use Rattle.jj_matchers.specs.Marks.{IsMarkedTree, AddsMarks}
+use Rattle.jj_matchers.proofs.MarkedTrees.{marked_step, marked_permutation}
 
 pub adds_none : (tree : Tree Bool) → AddsMarks [] tree tree
 adds_none tree = λ before marked. subst (λ l. IsMarkedTree l tree) (sym (append-nil before)) marked

@@ -1,9 +1,9 @@
 use Rattle.std.proofs.Common.{◌≡◌, ◌<◌, ◌+◌, ◌++◌, ◌∷◌, [], ◌∙◌, map, take, length, ap, sym, arith}
 use Rattle.std.proofs.lemmas.List.{map_more, take_all}
 use Rattle.std.proofs.lemmas.List.Sorted.{IsPermutation-sym, IsPermutation-map}
-use Rattle.jj_core.specs.KeyedMarks.{keyed_path}
-use Rattle.jj_core.proofs.AddedMarks.{adds_none, adds_one, adds_more, adds_permuted, adds_list}
-use Rattle.jj_core.proofs.marks.add_by_text.Goals as goal
+use Rattle.jj_matchers.specs.KeyedMarks.{keyed_path}
+use Rattle.jj_matchers.proofs.AddedMarks.{adds_none, adds_one, adds_more, adds_permuted, adds_list}
+use Rattle.jj_matchers.proofs.matchers.marks.add_by_text.Goals as goal
 
 pub loop-mark-init : goal.loop-mark-init
 loop-mark-init c = adds_none c.args.tree.now

@@ -1,8 +1,9 @@
--- The marked tree grows by a mark at a time, and no order of the marks changes it.
-use Rattle.std.proofs.Common.{◌≡◌, ◌≢◌, ◌⊎◌, zero, suc, inl, inr, Option, Some, None, IsSome, ◌∙◌, Bool, true, false, List, [], ◌∷◌, ◌++◌, refl, ap, sym, subst, arith, append-nil, lit<}
+-- The marked tree grows by a mark at a time, no order of the marks changes it, and it answers as the list of its marks.
+use Rattle.std.proofs.Common.{◌≡◌, ◌≢◌, ◌⊎◌, inl, inr, Option, Some, None, IsSome, ◌∙◌, Bool, true, false, List, [], ◌∷◌, ◌++◌, refl, ap, sym, subst, append_assoc, append-nil, lit<}
 use Rattle.std.specs.Prelude.{Contains}
 use mathlib.Core.Bool.{false≢true}
 use Rattle.std.specs.Str.{bytes_eq}
+use Rattle.std.specs.Cmp.{both_ways}
 use Rattle.std.specs.Option.{option_and_then, option_map}
 use Rattle.std.specs.List.Sorted.{IsPermutation}
 use Rattle.std.proofs.lemmas.Slice.Eq.{bytes_eq-Decides}
@@ -10,20 +11,19 @@ use Rattle.std.proofs.lemmas.List.Elements.{Contains-append_left, Contains-appen
 use Rattle.std.proofs.lemmas.List.Sorted.{Contains-permutation, IsPermutation-sym}
 use Rattle.jj_paths.specs.Paths.{Path}
 use Rattle.jj_paths.specs.Tree.{Tree, none, get, child, value_at, is_ordered, IsSet}
-use Rattle.jj_core.specs.Marks.{IsMarkedTree}
+use Rattle.jj_paths.specs.Orders.{path_eq, path_eq-Decides}
+use Rattle.jj_paths.proofs.Trees.{some_none}
+use Rattle.jj_paths.proofs.ListedNodes.{nothing_there, the_one}
+use Rattle.jj_paths.proofs.LawsOfPaths.{holds_fronts}
+use Rattle.jj_matchers.specs.Marks.{is_some_true, is_marked, marked_paths, IsMarkedTree, LeadsToMarks}
+use Rattle.jj_matchers.specs.Wanted.{is_wanted, HasSamePaths}
+use Rattle.jj_matchers.proofs.Marks.{is_wanted-marked}
+use Rattle.jj_matchers.proofs.Wanted.{Decides-is_wanted, same_members}
 
-some_none : {X : Type 0} {x : X} → None ≡ Some x → ⊥
-some_none e = cc
+-- 1. Marks, one after another.
 
 not_some_none : (X : Type 0) → IsSome {T = X} None → ⊥
 not_some_none X e = absurd (false≢true e)
-
-nothing_there : {X : Type 0} (x : X) → Contains [] x → ⊥
-nothing_there x (k, below, is) = absurd (omega arith)
-
-the_one : (x y : Path) → Contains (x ∷ []) y → y ≡ x
-the_one x y (zero, below, is) = sym is
-the_one x y (suc k, below, is) = absurd (omega arith)
 
 -- two paths are the same, or they are not
 same_or_not : (p q : Path) → (p ≡ q) ⊎ (p ≢ q)
@@ -39,15 +39,6 @@ same_or_not (m ∷ p) (n ∷ q) = by_name (bytes_eq m n) refl (same_or_not p q)
     by_name : (b : Bool) → bytes_eq m n ≡ b → (p ≡ q) ⊎ (p ≢ q) → (m ∷ p ≡ n ∷ q) ⊎ (m ∷ p ≢ n ∷ q)
     by_name true is rest = by_rest ((bytes_eq-Decides m n).0 is) rest
     by_name false is rest = inr (λ all. false≢true (sym is ∙ (bytes_eq-Decides m n).1 cc))
-
--- a tree has the nodes on the way to a node
-get-front : (t : Tree Bool) (q rest : Path) → IsSome (get t (q ++ rest)) → IsSome (get t q)
-get-front t [] rest there = refl
-get-front t (name ∷ q) rest there = known (λ sub h. get-front sub q rest h) (child t.branches name) there
-  where
-    known : ((sub : Tree Bool) → IsSome (get sub (q ++ rest)) → IsSome (get sub q)) → (o : Option (Tree Bool)) → IsSome (option_and_then (λ sub. get sub (q ++ rest)) o) → IsSome (option_and_then (λ sub. get sub q) o)
-    known below None h = absurd (not_some_none (Tree Bool) h)
-    known below (Some sub) h = below sub h
 
 -- the value of a node that is there
 pub value_there : (t : Tree Bool) (q : Path) → IsSome (get t q) → (v : Bool) × (value_at t q ≡ Some v)
@@ -135,7 +126,7 @@ marked_step is_new unmarked marks path old new before set = record {
       where
         by_part : Contains marks (q ++ rest) ⊎ Contains (path ∷ []) (q ++ rest) → IsSome (get new q)
         by_part (inl old_mark) = let (v, was) = value_there old q ((before.nodes q).1 (inr (rest, old_mark))) in there_by_value new q v (set.keeps q v off was)
-        by_part (inr one) = get-front new q rest (there_by_value new (q ++ rest) true (ap (value_at new) (the_one path (q ++ rest) one) ∙ set.here))
+        by_part (inr one) = holds_fronts Bool new q rest (there_by_value new (q ++ rest) true (ap (value_at new) (the_one path (q ++ rest) one) ∙ set.here))
 
 -- the same marks in another order
 pub marked_permutation : (xs ys : List Path) (t : Tree Bool) → IsPermutation xs ys → IsMarkedTree xs t → IsMarkedTree ys t
@@ -152,3 +143,47 @@ marked_permutation xs ys t moved marked = record {
     back : (path : Path) → (path ≡ []) ⊎ ((rest : Path) × Contains ys (path ++ rest)) → (path ≡ []) ⊎ ((rest : Path) × Contains xs (path ++ rest))
     back path (inl root) = inl root
     back path (inr (rest, h)) = inr (rest, Contains-permutation ys xs (path ++ rest) (IsPermutation-sym xs ys moved) h)
+
+-- 2. The marks of the tree.
+
+module _ (marks : List Path) (tree : Tree Bool) (marked : IsMarkedTree marks tree) where
+  -- the marked paths of the tree are those of the list
+  pub marked-paths : HasSamePaths (marked_paths tree) marks
+  marked-paths = same_members (marked_paths tree) marks (λ path. is_wanted-marked tree path ∙ both_ways (is_marked tree path) (is_wanted marks path) (to path) (from path))
+    where
+      value_true : (o : Option Bool) → is_some_true o ≡ true → o ≡ Some true
+      value_true None h = absurd (false≢true h)
+      value_true (Some true) h = refl
+      value_true (Some false) h = absurd (false≢true h)
+
+      to : (path : Path) → is_marked tree path ≡ true → is_wanted marks path ≡ true
+      to path h = (Decides-is_wanted marks path).1 ((marked.marked path).0 (value_true (value_at tree path) h))
+
+      from : (path : Path) → is_wanted marks path ≡ true → is_marked tree path ≡ true
+      from path h = ap is_some_true ((marked.marked path).1 ((Decides-is_wanted marks path).0 h))
+
+  -- each node but the root leads to a mark
+  pub marked-leads : LeadsToMarks tree
+  marked-leads above name blank no_child = by_mark ((marked.nodes path).0 (there_by_value tree path false blank))
+    where
+      path : Path
+      path = above ++ name ∷ []
+
+      not_root : (above : Path) → above ++ name ∷ [] ≡ [] → ⊥
+      not_root [] e = cc
+      not_root (first ∷ above) e = cc
+
+      below : (rest : Path) → Contains marks (path ++ rest) → ⊥
+      below [] h =
+          let is : value_at tree path ≡ Some true = (marked.marked path).1 (subst (Contains marks) (append-nil path) h) in
+          let clash : Some false ≡ Some true = sym blank ∙ is in cc
+      below (next ∷ rest) h =
+          let child = above ++ name ∷ next ∷ [] in
+          let whole : path ++ next ∷ rest ≡ child ++ rest = append_assoc above (name ∷ []) (next ∷ rest) ∙ sym (append_assoc above (name ∷ next ∷ []) rest) in
+          let is : value_at tree (child ++ rest) ≡ Some true = (marked.marked (child ++ rest)).1 (subst (Contains marks) whole h) in
+          let (v, at) = value_there tree child (holds_fronts Bool tree child rest (there_by_value tree (child ++ rest) true is)) in
+          some_none (sym (no_child next) ∙ at)
+
+      by_mark : (path ≡ []) ⊎ ((rest : Path) × Contains marks (path ++ rest)) → ⊥
+      by_mark (inl root) = not_root above root
+      by_mark (inr (rest, h)) = below rest h

@@ -1,7 +1,7 @@
 use Rattle.std.proofs.Common.{◌∙◌}
 use Rattle.jj_matchers.specs.Marks.{has_children, has_mark}
 use Rattle.jj_matchers.proofs.Children.{sets_are, none_left}
-use Rattle.jj_matchers.proofs.matchers.marked_tree.visit_files.Goals as goal
+use Rattle.jj_matchers.proofs.matchers.children_visit.visit_files.Goals as goal
 
 pub returns : goal.returns
 returns c =
