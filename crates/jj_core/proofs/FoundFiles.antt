@@ -21,14 +21,14 @@ use Rattle.jj_core.specs.FoundFiles.{IsNamed, IsIn, AreFound, FindsItsFiles}
 use Rattle.jj_matchers.specs.Marks.{IsMarkedTree}
 use Rattle.jj_core.specs.SetTrees.{SetTree, one, both}
 use Rattle.jj_core.specs.Walked.{named_accepts, accepted_by, answered_by}
-use Rattle.jj_core.specs.WalkCommand.{FileSet, Everything, Nothing, Files, Prefix, Globs, WalkRequest}
+use Rattle.jj_core.specs.WalkCommand.{NamedSet, Everything, Nothing, Files, Prefix, Globs, WalkRequest}
 
 equal≢less : Equal ≡ Less → ⊥
 equal≢less h = true≢false (sym (ap is_lt h))
 
 -- 1. A set's test is its meaning.
 
-named : (set : FileSet) (path : Path) → Decides (named_accepts path set) (IsNamed set path)
+named : (set : NamedSet) (path : Path) → Decides (named_accepts path set) (IsNamed set path)
 named Everything path = ((λ h. tt), (λ h. refl))
 named Nothing path = ((λ h. absurd (true≢false (sym h))), (λ h. absurd h))
 named (Files paths) path = Decides-is_wanted paths path
@@ -58,7 +58,7 @@ in_both : (a b : Bool) (A B : Type 0) → Decides a A → Decides b B → Decide
 in_both false b A B h k = ((λ e. absurd (true≢false (sym e))), (λ e. absurd (true≢false (sym (h.1 e.0)))))
 in_both true b A B h k = ((λ e. (h.0 refl, k.0 e)), (λ e. k.1 e.1))
 
-is_in : (set : SetTree FileSet) (path : Path) → Decides (accepted_by set path) (IsIn set path)
+is_in : (set : SetTree NamedSet) (path : Path) → Decides (accepted_by set path) (IsIn set path)
 is_in (one set) path = named set path
 is_in (both Union first second) path = either _ _ _ _ (is_in first path) (is_in second path)
 is_in (both Difference first second) path = alone _ _ _ _ (is_in first path) (is_in second path)

@@ -6,7 +6,7 @@ use Rattle.jj_core.specs.declared.program.Command.{Command}
 use Rattle.jj_core.specs.declared.fault.Fault.{Fault}
 use Rattle.jj_core.specs.declared.fault.Fault.TheVariants.{ReadInput, NotUtf8, Memory, WriteOutput, Matchers, Line}
 use Rattle.jj_core.specs.Lines.{IsFaultOf}
-use Rattle.jj_core.specs.Program.{Gives, GivesText, IsFaultOn}
+use Rattle.jj_core.specs.Program.{Gives, GivesText, IsFaultOfInput}
 
 false_or : (b : Bool) → (b ≡ true → ⊥) → b ≡ false
 false_or true f = absurd (f refl)
@@ -26,7 +26,7 @@ known_gives command known input answer is utf8 given = gives_text command input 
 
 -- a fault of what a text asks for is a fault of the input
 pub known_fault : {A : Type 0} (command known : Command) (input : List ℕ) (asked : Result A Fault) → ((fault : Fault) → asked ≡ Err fault → GivesText known input (Err fault)) → command ≡ known
-    → (fault : Fault) → IsUtf8 input → IsFaultOf fault asked → IsFaultOn command input fault
+    → (fault : Fault) → IsUtf8 input → IsFaultOf fault asked → IsFaultOfInput command input fault
 known_fault command known input asked given is Memory utf8 h = tt
 known_fault command known input asked given is ReadInput utf8 h = h
 known_fault command known input asked given is WriteOutput utf8 h = h
