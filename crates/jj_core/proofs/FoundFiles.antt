@@ -1,18 +1,17 @@
 -- A walk finds exactly the marked paths of its set.
-use Rattle.std.proofs.Common.{◌≡◌, ◌≢◌, ◌↔◌, ◌⊎◌, ◌<◌, ℕ, zero, suc, Bool, true, false, not, ◌&&◌, ◌||◌, cond, List, [], ◌∷◌, ◌++◌, length, map, filter, Contains, Option, Some, None, option_map, unwrap_or, Ok, codes, Decides, is_lt, get_or, refl, ap, subst, sym, ◌∙◌, arith, inl, inr, true≢false}
-use Rattle.std.specs.List.{AllByRecursion, list_any}
+use Rattle.std.proofs.Common.{◌≡◌, ◌≢◌, ◌⊎◌, ◌<◌, ℕ, zero, suc, Bool, true, false, not, ◌&&◌, ◌||◌, cond, List, [], ◌∷◌, length, map, filter, Contains, Option, Some, None, option_map, unwrap_or, Decides, is_lt, get_or, refl, ap, subst, sym, ◌∙◌, arith, inl, inr, true≢false}
+use Rattle.std.specs.List.{AllByRecursion}
 use Rattle.std.specs.List.Sorted.{IsStrictlySortedBy}
 use Rattle.std.specs.declared.cmp.Ordering.TheVariants.{Less, Equal}
 use Rattle.std.proofs.lemmas.Bool.{and_parts}
 use Rattle.std.proofs.lemmas.Option.{none-some}
 use Rattle.std.proofs.lemmas.List.Folds.{Any-from_list_any, list_any_at}
-use Rattle.jj_paths.specs.Paths.{Name, Path, path_cmp}
-use Rattle.jj_paths.specs.Orders.{path_eq, path_eq-Decides}
-use Rattle.jj_paths.specs.Tree.{Tree, get, value_at}
+use Rattle.jj_paths.specs.Paths.{Path, path_cmp}
+use Rattle.jj_paths.specs.Tree.{Tree, get}
 use Rattle.jj_paths.specs.Nodes.{NodeAt, node_at, nodes_under, all_nodes}
 use Rattle.jj_paths.proofs.ListedNodes.{lists_nodes}
 use Rattle.jj_paths.proofs.ListedOrder.{lists_in_order}
-use Rattle.jj_matchers.specs.Wanted.{is_wanted, has_prefix, is_at_or_below}
+use Rattle.jj_matchers.specs.Wanted.{is_at_or_below}
 use Rattle.jj_matchers.specs.Walk.{files_of, entered_by, is_file, paths_where}
 use Rattle.jj_matchers.proofs.Wanted.{Decides-is_wanted, below_base, is_at_or_below-append}
 use Rattle.jj_matchers.proofs.PatternSound.{Decides-is_accepted}

@@ -1,11 +1,11 @@
 -- A tree to which a mark is set.
-use Rattle.std.proofs.Common.{◌≡◌, ◌≢◌, Bool, true, false, ◌||◌, [], ◌∷◌, ◌++◌, Some, None, Option, refl, ap, sym, ◌∙◌, append_assoc, append-nil}
+use Rattle.std.proofs.Common.{◌≡◌, ◌≢◌, Bool, true, false, [], ◌∷◌, ◌++◌, Some, None, Option, refl, ap, sym, ◌∙◌, append_assoc, append-nil}
 use mathlib.Core.Bool.{false≢true}
 use Rattle.std.specs.Option.{option_map, option_and_then}
 use Rattle.jj_paths.specs.Paths.{Name, Path}
 use Rattle.jj_paths.specs.Orders.{path_eq, path_eq-Decides}
-use Rattle.jj_paths.specs.Tree.{Tree, none, get, child, value_at, IsSet}
-use Rattle.jj_matchers.specs.Marks.{is_some_true, is_marked, LeadsToMarks}
+use Rattle.jj_paths.specs.Tree.{Tree, none, get, child, value_at}
+use Rattle.jj_matchers.specs.Marks.{LeadsToMarks}
 use Rattle.jj_matchers.proofs.Marks.{get-append}
 
 abbrev pub IsBlank : Bool → Type 0

@@ -11,7 +11,6 @@ use Rattle.std.proofs.lemmas.List.Elements.{Contains-append_left, Contains-appen
 use Rattle.std.proofs.lemmas.List.Sorted.{Contains-permutation, IsPermutation-sym}
 use Rattle.jj_paths.specs.Paths.{Path}
 use Rattle.jj_paths.specs.Tree.{Tree, none, get, child, value_at, is_ordered, IsSet}
-use Rattle.jj_paths.specs.Orders.{path_eq, path_eq-Decides}
 use Rattle.jj_paths.proofs.Trees.{some_none}
 use Rattle.jj_paths.proofs.ListedNodes.{nothing_there, the_one}
 use Rattle.jj_paths.proofs.LawsOfPaths.{holds_fronts}

@@ -1,5 +1,5 @@
 -- Names that ascend at every node of a tree still do when a child is made, and when a child is changed.
-use Rattle.std.proofs.Common.{◌≡◌, ℕ, zero, suc, ◌<◌, get_or, Some, None, ◌∙◌, Bool, true, false, ◌&&◌, List, [], ◌∷◌, length, refl, ap, sym, arith}
+use Rattle.std.proofs.Common.{◌≡◌, ℕ, zero, suc, ◌<◌, get_or, Some, ◌∙◌, Bool, true, false, ◌&&◌, List, [], ◌∷◌, length, refl, ap, sym, arith}
 use mathlib.Core.Bool.{false≢true}
 use Rattle.std.specs.List.{insert}
 use Rattle.std.specs.declared.cmp.Ordering.TheVariants.{Less}
