@@ -13,7 +13,7 @@ use Rattle.jj_core.specs.MergeCommand.{merge_step}
 use Rattle.jj_core.specs.Program.{GivesText}
 use Rattle.jj_core.specs.SetTrees.{SetTree}
 use Rattle.jj_paths.specs.Paths.{Path}
-use Rattle.jj_core.specs.WalkCommand.{WalkState, WalkRequest, FileSet, walk_step, walk_start, walk_end, only_set}
+use Rattle.jj_core.specs.WalkCommand.{WalkState, WalkRequest, NamedSet, walk_step, walk_start, walk_end, only_set}
 
 -- 1. What tells faults apart.
 
@@ -129,7 +129,7 @@ module _ {S : Type 0} (step : S → List (List ℕ) → Result S LineFault) wher
 
 -- 4. The commands.
 
-not_matchers : (marks : List Path) (stack : List (SetTree FileSet)) (number : ℕ) (kind : LineFault) → only_set marks stack ≡ Err (Line number kind) → ⊥
+not_matchers : (marks : List Path) (stack : List (SetTree NamedSet)) (number : ℕ) (kind : LineFault) → only_set marks stack ≡ Err (Line number kind) → ⊥
 not_matchers marks [] number kind e = true≢false (sym (ap (λ r. names_line (fault_or Memory r)) e))
 not_matchers marks (set ∷ []) number kind e = ok≢err _ (Line number kind) e
 not_matchers marks (set ∷ other ∷ stack) number kind e = true≢false (sym (ap (λ r. names_line (fault_or Memory r)) e))

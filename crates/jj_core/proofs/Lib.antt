@@ -1,5 +1,3 @@
-pub mod MarkedTrees
-pub mod AddedMarks
 pub mod Steps
 pub mod Requests
 pub mod Fields

@@ -12,7 +12,7 @@ use Rattle.jj_core.specs.declared.fault.Fault.{Fault}
 use Rattle.jj_core.specs.declared.fault.Fault.TheVariants.{NotUtf8}
 use Rattle.jj_core.specs.declared.program.Command.{Command}
 use Rattle.jj_core.specs.declared.program.Command.TheVariants.{Walk, Merge, Graph, Hash}
-use Rattle.jj_core.specs.Marks.{IsMarkedTree}
+use Rattle.jj_matchers.specs.Marks.{IsMarkedTree}
 use Rattle.jj_core.specs.WalkCommand.{WalkRequest}
 use Rattle.jj_core.specs.Walked.{GivesWalk, walk_lines}
 use Rattle.jj_core.specs.declared.merge_command.Question.{Question}

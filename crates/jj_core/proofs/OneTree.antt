@@ -11,9 +11,9 @@ use Rattle.std.specs.Cmp.Lexicographic.{nat_list_cmp_total}
 use Rattle.std.proofs.lemmas.Slice.Eq.{bytes_eq-Decides}
 use Rattle.std.proofs.lemmas.Bool.{and_parts}
 use Rattle.jj_paths.specs.Paths.{Name, Path, name_cmp}
-use Rattle.jj_paths.specs.Tree.{Tree, Branches, none, branch, children, child, get, value_at, is_ordered}
-use Rattle.jj_core.specs.Marks.{IsMarkedTree}
-use Rattle.jj_core.proofs.MarkedTrees.{value_there, there_by_value}
+use Rattle.jj_paths.specs.Tree.{Tree, tree_of, Branches, none, branch, children, child, get, value_at, is_ordered}
+use Rattle.jj_matchers.specs.Marks.{IsMarkedTree}
+use Rattle.jj_matchers.proofs.MarkedTrees.{value_there, there_by_value}
 
 some_none : {X : Type 0} {x : X} → Some x ≡ None → ⊥
 some_none e = cc
@@ -32,7 +32,7 @@ name_cmp-itself n less = let back : name_cmp n n ≡ ordering_reverse (name_cmp 
 module _ {V : Type 0} where
   -- the value at a path below a node that may be missing
   abbrev value_below : Option (Tree V) → Path → Option V
-  value_below o rest = option_map (λ node. node.0) (option_and_then (λ sub. get sub rest) o)
+  value_below o rest = option_map (λ node. node.value) (option_and_then (λ sub. get sub rest) o)
 
   -- a child's name is greater than a name that is below all
   less_than_child : (a : Branches V) (m n : Name) (sub : Tree V) → below_all name_cmp m (children a) ≡ true → child a n ≡ Some sub → name_cmp m n ≡ Less
@@ -135,12 +135,12 @@ module _ {V : Type 0} where
           later name rest false is = rw is at (same_here name rest)
 
   -- the same values, and so the same tree
-  pub same_tree : (s t : Tree V) → is_ordered s.1 ≡ true → is_ordered t.1 ≡ true → ((path : Path) → value_at s path ≡ value_at t path) → s ≡ t
+  pub same_tree : (s t : Tree V) → is_ordered s.branches ≡ true → is_ordered t.branches ≡ true → ((path : Path) → value_at s path ≡ value_at t path) → s ≡ t
   same_tree s t up up' same =
-      let root : Some s.0 ≡ Some t.0 = same [] in
-      let value : s.0 ≡ t.0 = cc in
-      let below : s.1 ≡ t.1 = same_branches s.1 t.1 up up' (λ name rest. same (name ∷ rest)) in
-      λ i. (value i, below i)
+      let root : Some s.value ≡ Some t.value = same [] in
+      let value : s.value ≡ t.value = cc in
+      let below : s.branches ≡ t.branches = same_branches s.branches t.branches up up' (λ name rest. same (name ∷ rest)) in
+      λ i. tree_of (value i) (below i)
 
 -- two trees of the same marks have the same values
 pub one_marked_tree : (marks : List Path) (s t : Tree Bool) → IsMarkedTree marks s → IsMarkedTree marks t → s ≡ t

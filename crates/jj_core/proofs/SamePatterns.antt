@@ -5,7 +5,7 @@ use Rattle.std.proofs.lemmas.List.Folds.{list_any-append}
 use Rattle.jj_paths.specs.Paths.{Name, Path}
 use Rattle.jj_globs.specs.GlobMeaning.{GlobSpec}
 use Rattle.jj_matchers.specs.Answers.{all_recursively, specific, nothing}
-use Rattle.jj_matchers.specs.Listed.{names_of}
+use Rattle.jj_matchers.specs.Candidates.{names_of}
 use Rattle.jj_matchers.specs.Patterns.{Patterns, HasSamePatterns, pattern_dirs, is_accepted, is_covered, patterns_answer, tail_passes, accepts_tail, covers_tail}
 use Rattle.jj_matchers.specs.Wanted.{HasSamePaths, is_below, is_at_or_below}
 use Rattle.jj_matchers.proofs.PatternTrees.{any-map}

@@ -8,24 +8,24 @@ use Rattle.jj_matchers.specs.Answers.{Answer, all_recursively, specific, nothing
 use Rattle.jj_matchers.specs.Combined.{intersection_answer}
 use Rattle.jj_core.specs.declared.file_set.Combination.{Combination}
 use Rattle.jj_core.specs.declared.file_set.Combination.TheVariants.{Union, Difference, Intersection}
-use Rattle.jj_core.specs.declared.file_set.FileSet.{FileSet as FileSetValue}
+use Rattle.jj_core.specs.declared.file_set.FileSet.{FileSet}
 use Rattle.jj_core.specs.declared.file_set.SetStep.{SetStep}
-use Rattle.jj_core.specs.declared.leaf_matcher.LeafMatcher.{LeafMatcher}
-use Rattle.jj_core.specs.declared.set_parts.Part.{Part}
-use Rattle.jj_core.specs.declared.set_parts.Part.TheVariants.{Leaf, Second, Combined}
+use Rattle.jj_core.specs.declared.file_set.leaf_matcher.LeafMatcher.{LeafMatcher}
+use Rattle.jj_core.specs.declared.file_set.parts.Part.{Part}
+use Rattle.jj_core.specs.declared.file_set.parts.Part.TheVariants.{Leaf, BeforeSecond, AfterBoth}
 use Rattle.jj_core.specs.Leaves.{StandsFor, leaf_names}
 use Rattle.jj_core.specs.Matching.{IsTold, StandsForPart, StandForParts, set_accepts, set_answer, made_by, top_set}
-use Rattle.jj_core.specs.SetTrees.{SetTree, one, both, combined_test, joined_answer, joined_names, names_by, passes, steps_to_all}
+use Rattle.jj_core.specs.SetTrees.{SetTree, one, both, combined_test, combined_answer, combined_names, names_by, passes, steps_to_all}
 use Rattle.jj_core.specs.SetParts.{parts_of, parts_along, pass_at, pass_over}
 use Rattle.jj_core.specs.SetsRead.{are_whole, part_of, sets_by, steps_back}
-use Rattle.jj_core.specs.WalkCommand.{FileSet}
+use Rattle.jj_core.specs.WalkCommand.{NamedSet}
 use Rattle.jj_core.specs.Walked.{accepted_by, answered_by, named_names}
 use Rattle.jj_core.proofs.SetBuilds.{parts_along-map, parts_of_steps, sets_of_parts}
 use Rattle.jj_core.proofs.SetCounts.{only_item, steps_from}
 use Rattle.jj_core.proofs.SetPasses.{told}
 
 -- a matcher answers as a set does, from the same names
-pub record StandsForSet (matcher : SetTree LeafMatcher) (set : SetTree FileSet) : Type 0 where
+pub record StandsForSet (matcher : SetTree LeafMatcher) (set : SetTree NamedSet) : Type 0 where
   pub accepts : (path : Path) → set_accepts matcher path ≡ accepted_by set path
   pub answers : (dir : Path) → set_answer matcher dir ≡ answered_by set dir
   pub names : (test : Name → Bool) → list_any test (names_by leaf_names matcher) ≡ list_any test (names_by named_names set)
@@ -43,19 +43,19 @@ same_intersection names others same (specific dirs files) (specific other_dirs o
     λ i. if (both_dirs [] || same both_dirs i) || (both_files [] || same both_files i) then specific both_dirs both_files else nothing
 
 same_joined : (k : Combination) (names others : List Name) → ((test : Name → Bool) → list_any test names ≡ list_any test others) → (a b : Answer) →
-    joined_answer k names a b ≡ joined_answer k others a b
+    combined_answer k names a b ≡ combined_answer k others a b
 same_joined Union names others same a b = refl
 same_joined Difference names others same a b = refl
 same_joined Intersection names others same a b = same_intersection names others same a b
 
-module _ (m n : SetTree LeafMatcher) (s t : SetTree FileSet) (first : StandsForSet m s) (second : StandsForSet n t) where
+module _ (m n : SetTree LeafMatcher) (s t : SetTree NamedSet) (first : StandsForSet m s) (second : StandsForSet n t) where
   all_names : (test : Name → Bool) → list_any test (names_by leaf_names m ++ names_by leaf_names n) ≡ list_any test (names_by named_names s ++ names_by named_names t)
   all_names test =
       list_any-append test (names_by leaf_names m) (names_by leaf_names n)
       ∙ (λ i. first.names test i || second.names test i)
       ∙ sym (list_any-append test (names_by named_names s) (names_by named_names t))
 
-  own_names : (k : Combination) (test : Name → Bool) → list_any test (joined_names k (names_by leaf_names m) (names_by leaf_names n)) ≡ list_any test (joined_names k (names_by named_names s) (names_by named_names t))
+  own_names : (k : Combination) (test : Name → Bool) → list_any test (combined_names k (names_by leaf_names m) (names_by leaf_names n)) ≡ list_any test (combined_names k (names_by named_names s) (names_by named_names t))
   own_names Union test = all_names test
   own_names Difference test = first.names test
   own_names Intersection test = all_names test
@@ -65,15 +65,15 @@ module _ (m n : SetTree LeafMatcher) (s t : SetTree FileSet) (first : StandsForS
     accepts = λ path i. combined_test k (first.accepts path i) (second.accepts path i);
     answers = λ dir.
         same_joined k _ _ all_names (set_answer m dir) (set_answer n dir)
-        ∙ (λ i. joined_answer k (names_by named_names s ++ names_by named_names t) (first.answers dir i) (second.answers dir i));
+        ∙ (λ i. combined_answer k (names_by named_names s ++ names_by named_names t) (first.answers dir i) (second.answers dir i));
     names = own_names k;
   }
 
-stands_alone : (matcher : LeafMatcher) (set : FileSet) → StandsFor matcher set → StandsForSet (one matcher) (one set)
+stands_alone : (matcher : LeafMatcher) (set : NamedSet) → StandsFor matcher set → StandsForSet (one matcher) (one set)
 stands_alone matcher set stands = record { accepts = stands.accepts; answers = stands.answers; names = stands.names }
 
 -- the parts of a matcher of a set, and the parts behind them
-pub record Built (set : SetTree FileSet) (parts : List (Part LeafMatcher)) (rest : List (Part FileSet)) : Type 0 where
+pub record Built (set : SetTree NamedSet) (parts : List (Part LeafMatcher)) (rest : List (Part NamedSet)) : Type 0 where
   pub matcher : SetTree LeafMatcher
   pub left : List (Part LeafMatcher)
   pub split : parts ≡ parts_of matcher ++ left
@@ -81,46 +81,46 @@ pub record Built (set : SetTree FileSet) (parts : List (Part LeafMatcher)) (rest
   pub others : StandForParts left rest
 
 -- how the parts of a set are taken off, where it is known for some
-abbrev Builds : SetTree FileSet → Type 0
-Builds set = (parts : List (Part LeafMatcher)) (rest : List (Part FileSet)) → StandForParts parts (parts_of set ++ rest) → Built set parts rest
+abbrev Builds : SetTree NamedSet → Type 0
+Builds set = (parts : List (Part LeafMatcher)) (rest : List (Part NamedSet)) → StandForParts parts (parts_of set ++ rest) → Built set parts rest
 
-module _ (k : Combination) (first second : SetTree FileSet) (build_first : Builds first) (build_second : Builds second) (own : Combination) (is_own : own ≡ k) (parts : List (Part LeafMatcher)) (rest : List (Part FileSet)) where
-  build_last : (b : Built second parts (Second k ∷ (parts_of first ++ rest))) (left : List (Part LeafMatcher)) → b.left ≡ Second k ∷ left → Built first left rest → Built (both k first second) (Combined own ∷ parts) rest
+module _ (k : Combination) (first second : SetTree NamedSet) (build_first : Builds first) (build_second : Builds second) (own : Combination) (is_own : own ≡ k) (parts : List (Part LeafMatcher)) (rest : List (Part NamedSet)) where
+  build_last : (b : Built second parts (BeforeSecond k ∷ (parts_of first ++ rest))) (left : List (Part LeafMatcher)) → b.left ≡ BeforeSecond k ∷ left → Built first left rest → Built (both k first second) (AfterBoth own ∷ parts) rest
   build_last b left is a = record {
     matcher = both k a.matcher b.matcher;
     left = a.left;
     split =
-        ap (λ c. Combined c ∷ parts) is_own
-        ∙ ap (λ l. Combined k ∷ l) (b.split
-        ∙ ap (λ l. parts_of b.matcher ++ l) (is ∙ ap (λ l. Second k ∷ l) a.split)
-        ∙ sym (append_assoc (parts_of b.matcher) (Second k ∷ parts_of a.matcher) a.left));
+        ap (λ c. AfterBoth c ∷ parts) is_own
+        ∙ ap (λ l. AfterBoth k ∷ l) (b.split
+        ∙ ap (λ l. parts_of b.matcher ++ l) (is ∙ ap (λ l. BeforeSecond k ∷ l) a.split)
+        ∙ sym (append_assoc (parts_of b.matcher) (BeforeSecond k ∷ parts_of a.matcher) a.left));
     stands = stands_joined a.matcher b.matcher first second a.stands b.stands k;
     others = a.others;
   }
 
-  build_rest : (b : Built second parts (Second k ∷ (parts_of first ++ rest))) (left : List (Part LeafMatcher)) → b.left ≡ left → StandForParts left (Second k ∷ (parts_of first ++ rest)) → Built (both k first second) (Combined own ∷ parts) rest
+  build_rest : (b : Built second parts (BeforeSecond k ∷ (parts_of first ++ rest))) (left : List (Part LeafMatcher)) → b.left ≡ left → StandForParts left (BeforeSecond k ∷ (parts_of first ++ rest)) → Built (both k first second) (AfterBoth own ∷ parts) rest
   build_rest b [] is h = absurd h
   build_rest b (Leaf matcher ∷ left) is h = absurd h.0
-  build_rest b (Combined other ∷ left) is h = absurd h.0
-  build_rest b (Second other ∷ left) is h = build_last b left (is ∙ ap (λ c. Second c ∷ left) h.0) (build_first left rest h.1)
+  build_rest b (AfterBoth other ∷ left) is h = absurd h.0
+  build_rest b (BeforeSecond other ∷ left) is h = build_last b left (is ∙ ap (λ c. BeforeSecond c ∷ left) h.0) (build_first left rest h.1)
 
-  build_both : StandForParts parts ((parts_of second ++ Second k ∷ parts_of first) ++ rest) → Built (both k first second) (Combined own ∷ parts) rest
+  build_both : StandForParts parts ((parts_of second ++ BeforeSecond k ∷ parts_of first) ++ rest) → Built (both k first second) (AfterBoth own ∷ parts) rest
   build_both stand =
-      let b = build_second parts (Second k ∷ (parts_of first ++ rest)) (subst (StandForParts parts) (append_assoc (parts_of second) (Second k ∷ parts_of first) rest) stand) in
+      let b = build_second parts (BeforeSecond k ∷ (parts_of first ++ rest)) (subst (StandForParts parts) (append_assoc (parts_of second) (BeforeSecond k ∷ parts_of first) rest) stand) in
       build_rest b b.left refl b.others
 
-build : (set : SetTree FileSet) → Builds set
+build : (set : SetTree NamedSet) → Builds set
 build (one set) [] rest stand = absurd stand
 build (one set) (Leaf matcher ∷ parts) rest stand = record { matcher = one matcher; left = parts; split = refl; stands = stands_alone matcher set stand.0; others = stand.1 }
-build (one set) (Second own ∷ parts) rest stand = absurd stand.0
-build (one set) (Combined own ∷ parts) rest stand = absurd stand.0
+build (one set) (BeforeSecond own ∷ parts) rest stand = absurd stand.0
+build (one set) (AfterBoth own ∷ parts) rest stand = absurd stand.0
 build (both k first second) [] rest stand = absurd stand
 build (both k first second) (Leaf matcher ∷ parts) rest stand = absurd stand.0
-build (both k first second) (Second own ∷ parts) rest stand = absurd stand.0
-build (both k first second) (Combined own ∷ parts) rest stand = build_both k first second (build first) (build second) own stand.0 parts rest stand.1
+build (both k first second) (BeforeSecond own ∷ parts) rest stand = absurd stand.0
+build (both k first second) (AfterBoth own ∷ parts) rest stand = build_both k first second (build first) (build second) own stand.0 parts rest stand.1
 
 -- parts with a matcher in place of each set of a set's parts are those of a matcher of the set
-pub record IsMatcherOf (set : SetTree FileSet) (parts : List (Part LeafMatcher)) : Type 0 where
+pub record IsMatcherOf (set : SetTree NamedSet) (parts : List (Part LeafMatcher)) : Type 0 where
   pub matcher : SetTree LeafMatcher
   pub made : parts ≡ parts_of matcher
   pub stands : StandsForSet matcher set
@@ -129,7 +129,7 @@ none_left : (left : List (Part LeafMatcher)) → StandForParts left [] → left 
 none_left [] h = refl
 none_left (part ∷ left) h = absurd h
 
-pub matcher_of : (set : SetTree FileSet) (parts : List (Part LeafMatcher)) → StandForParts parts (parts_of set) → IsMatcherOf set parts
+pub matcher_of : (set : SetTree NamedSet) (parts : List (Part LeafMatcher)) → StandForParts parts (parts_of set) → IsMatcherOf set parts
 matcher_of set parts stand =
     let built = build set parts [] (subst (StandForParts parts) (sym (append-nil (parts_of set))) stand) in
     record {
@@ -139,22 +139,22 @@ matcher_of set parts stand =
     }
 
 -- one more matcher for one more part
-pub stand_more : (own : List (Part LeafMatcher)) (parts : List (Part FileSet)) (one_own : Part LeafMatcher) (part : Part FileSet) → StandForParts own parts → StandsForPart one_own part → StandForParts (own ++ one_own ∷ []) (parts ++ part ∷ [])
+pub stand_more : (own : List (Part LeafMatcher)) (parts : List (Part NamedSet)) (one_own : Part LeafMatcher) (part : Part NamedSet) → StandForParts own parts → StandsForPart one_own part → StandForParts (own ++ one_own ∷ []) (parts ++ part ∷ [])
 stand_more [] [] one_own part h stands = (stands, tt)
 stand_more [] (other ∷ parts) one_own part h stands = absurd h
 stand_more (first ∷ own) [] one_own part h stands = absurd h
 stand_more (first ∷ own) (other ∷ parts) one_own part h stands = (h.0, stand_more own parts one_own part h.1 stands)
 
 -- what the matchers of the parts of a stack of one set make
-pub record NewMatcher (sets : List (SetTree FileSet)) (parts : List (Part LeafMatcher)) : Type 0 where
+pub record NewMatcher (sets : List (SetTree NamedSet)) (parts : List (Part LeafMatcher)) : Type 0 where
   pub told_by : IsTold parts
-  pub stands : (set : SetTree FileSet) → sets ≡ set ∷ [] → StandsForSet (made_by parts) set
+  pub stands : (set : SetTree NamedSet) → sets ≡ set ∷ [] → StandsForSet (made_by parts) set
 
-abbrev top_or : SetTree FileSet → List (SetTree FileSet) → SetTree FileSet
+abbrev top_or : SetTree NamedSet → List (SetTree NamedSet) → SetTree NamedSet
 top_or other [] = other
 top_or other (set ∷ stack) = set
 
-pub new_matcher : (steps : List (SetStep FileSetValue)) (own : List (Part FileSetValue)) (parts : List (Part LeafMatcher)) → length (sets_by steps) ≡ 1 → are_whole steps ≡ true →
+pub new_matcher : (steps : List (SetStep FileSet)) (own : List (Part FileSet)) (parts : List (Part LeafMatcher)) → length (sets_by steps) ≡ 1 → are_whole steps ≡ true →
     own ≡ parts_along [] (reverse steps) → StandForParts parts (map part_of own) → NewMatcher (sets_by steps) parts
 new_matcher steps own parts alone whole along stand =
     let item = only_item (sets_by steps) alone in

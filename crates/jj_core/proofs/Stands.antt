@@ -4,7 +4,7 @@ use Rattle.jj_paths.specs.Paths.{Path}
 use Rattle.jj_paths.specs.Orders.{path_eq}
 use Rattle.jj_matchers.specs.Patterns.{Patterns, HasSamePatterns, pattern_dirs}
 use Rattle.jj_matchers.specs.Wanted.{HasSamePaths, is_at_or_below}
-use Rattle.jj_core.specs.declared.leaf_matcher.LeafMatcher.TheVariants.{Everything as Everything', Nothing as Nothing', Files as Files', Prefix as Prefix', Globs as Globs'}
+use Rattle.jj_core.specs.declared.file_set.leaf_matcher.LeafMatcher.TheVariants.{Everything as Everything', Nothing as Nothing', Files as Files', Prefix as Prefix', Globs as Globs'}
 use Rattle.jj_core.specs.Leaves.{StandsFor}
 use Rattle.jj_core.specs.WalkCommand.{Everything, Nothing, Files, Prefix, Globs}
 use Rattle.jj_core.proofs.SamePaths.{same_files_answer, same_prefix_answer}

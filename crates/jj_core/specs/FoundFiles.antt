@@ -7,11 +7,11 @@ use Rattle.jj_matchers.specs.Patterns.{IsAccepted}
 use Rattle.jj_core.specs.declared.file_set.Combination.TheVariants.{Union, Difference, Intersection}
 use Rattle.jj_core.specs.SetTrees.{SetTree, one, both}
 use Rattle.jj_core.specs.Walked.{GivesWalk, path_lines}
-use Rattle.jj_core.specs.WalkCommand.{FileSet, Everything, Nothing, Files, Prefix, Globs, WalkRequest, walk_request}
+use Rattle.jj_core.specs.WalkCommand.{NamedSet, Everything, Nothing, Files, Prefix, Globs, WalkRequest, walk_request}
 
 -- the path is in the set that a line names: all are, none is, those of a list, those at or below
 -- one of a list, or those whose rest below a pattern's directory its glob stands for
-abbrev pub IsNamed : FileSet → Path → Type 0
+abbrev pub IsNamed : NamedSet → Path → Type 0
 IsNamed Everything path = Unit {0}
 IsNamed Nothing path = ⊥
 IsNamed (Files paths) path = Contains paths path
@@ -19,7 +19,7 @@ IsNamed (Prefix paths) path = (base rest : Path) × Contains paths base × (path
 IsNamed (Globs patterns) path = IsAccepted patterns path
 
 -- the path is in the combined set
-abbrev pub IsIn : SetTree FileSet → Path → Type 0
+abbrev pub IsIn : SetTree NamedSet → Path → Type 0
 IsIn (one set) path = IsNamed set path
 IsIn (both Union first second) path = IsIn first path ⊎ IsIn second path
 IsIn (both Difference first second) path = IsIn first path × (IsIn second path → ⊥)

@@ -1,11 +1,9 @@
 pub mod Faults
 pub mod Lines
 pub mod Requests
-pub mod Marks
 pub mod SetTrees
 pub mod SetParts
 pub mod FieldPairs
-pub mod KeyedMarks
 pub mod WalkCommand
 pub mod SetsRead
 pub mod SetStacks

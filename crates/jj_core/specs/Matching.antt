@@ -3,17 +3,17 @@
 use Rattle.std.specs.Prelude.{◌≡◌, Bool, false, List, [], ◌∷◌}
 use Rattle.jj_paths.specs.Paths.{Name, Path}
 use Rattle.jj_matchers.specs.Answers.{Answer, IsSound}
-use Rattle.jj_matchers.specs.Listed.{ChoosesFrom}
+use Rattle.jj_matchers.specs.Candidates.{ChoosesFrom}
 use Rattle.jj_matchers.specs.declared.matchers.visits.Visit.{Visit}
 use Rattle.jj_matchers.specs.Visits.{answer_of}
-use Rattle.jj_core.specs.declared.leaf_matcher.LeafMatcher.{LeafMatcher}
-use Rattle.jj_core.specs.declared.leaf_matcher.LeafMatcher.TheVariants.{Nothing}
-use Rattle.jj_core.specs.declared.set_parts.Part.{Part}
-use Rattle.jj_core.specs.declared.set_parts.Part.TheVariants.{Leaf, Second, Combined}
+use Rattle.jj_core.specs.declared.file_set.leaf_matcher.LeafMatcher.{LeafMatcher}
+use Rattle.jj_core.specs.declared.file_set.leaf_matcher.LeafMatcher.TheVariants.{Nothing}
+use Rattle.jj_core.specs.declared.file_set.parts.Part.{Part}
+use Rattle.jj_core.specs.declared.file_set.parts.Part.TheVariants.{Leaf, BeforeSecond, AfterBoth}
 use Rattle.jj_core.specs.Leaves.{StandsFor, leaf_accepts, leaf_opens, leaf_answer, leaf_names}
 use Rattle.jj_core.specs.SetTrees.{SetTree, one, passes, is_open, names_by, answer_by}
 use Rattle.jj_core.specs.SetParts.{pass_at, pass_over, sets_of}
-use Rattle.jj_core.specs.WalkCommand.{FileSet}
+use Rattle.jj_core.specs.WalkCommand.{NamedSet}
 
 -- the set on top of a stack, and the one that parts make
 abbrev pub top_set : List (SetTree LeafMatcher) → SetTree LeafMatcher
@@ -57,18 +57,18 @@ AnswerAll dir (set ∷ sets) (visit ∷ visits) = IsAnswerOf dir set (answer_of 
     × AnswerAll dir sets visits
 
 -- a part with a matcher in place of its set
-abbrev pub StandsForPart : Part LeafMatcher → Part FileSet → Type 0
+abbrev pub StandsForPart : Part LeafMatcher → Part NamedSet → Type 0
 StandsForPart (Leaf matcher) (Leaf set) = StandsFor matcher set
-StandsForPart (Leaf matcher) (Second combination) = ⊥
-StandsForPart (Leaf matcher) (Combined combination) = ⊥
-StandsForPart (Second own) (Leaf set) = ⊥
-StandsForPart (Second own) (Second combination) = own ≡ combination
-StandsForPart (Second own) (Combined combination) = ⊥
-StandsForPart (Combined own) (Leaf set) = ⊥
-StandsForPart (Combined own) (Second combination) = ⊥
-StandsForPart (Combined own) (Combined combination) = own ≡ combination
+StandsForPart (Leaf matcher) (BeforeSecond combination) = ⊥
+StandsForPart (Leaf matcher) (AfterBoth combination) = ⊥
+StandsForPart (BeforeSecond own) (Leaf set) = ⊥
+StandsForPart (BeforeSecond own) (BeforeSecond combination) = own ≡ combination
+StandsForPart (BeforeSecond own) (AfterBoth combination) = ⊥
+StandsForPart (AfterBoth own) (Leaf set) = ⊥
+StandsForPart (AfterBoth own) (BeforeSecond combination) = ⊥
+StandsForPart (AfterBoth own) (AfterBoth combination) = own ≡ combination
 
-abbrev pub StandForParts : List (Part LeafMatcher) → List (Part FileSet) → Type 0
+abbrev pub StandForParts : List (Part LeafMatcher) → List (Part NamedSet) → Type 0
 StandForParts [] [] = Unit {0}
 StandForParts [] (part ∷ parts) = ⊥
 StandForParts (own ∷ others) [] = ⊥

@@ -28,16 +28,16 @@ question_named name =
     None))
 
 -- the requests with one more, where its terms are odd in number
-abbrev pub asked : List MergeRequest → Option Question → List (List ℕ)
+abbrev pub request_step : List MergeRequest → Option Question → List (List ℕ)
     → Result (List MergeRequest) LineFault
-asked requests None terms = Err UnknownCommand
-asked requests (Some question) terms = cond (length terms % 2 == 1)
+request_step requests None terms = Err UnknownCommand
+request_step requests (Some question) terms = cond (length terms % 2 == 1)
     (Ok (requests ++ record { question = question; terms = terms } ∷ [])) (Err BadFieldCount)
 
 -- what a line's fields make of the requests so far, or what is wrong with them
 abbrev pub merge_step : List MergeRequest → List (List ℕ) → Result (List MergeRequest) LineFault
 merge_step requests [] = Err UnknownCommand
-merge_step requests (name ∷ terms) = asked requests (question_named name) terms
+merge_step requests (name ∷ terms) = request_step requests (question_named name) terms
 
 -- what a text asks, or its first fault
 abbrev pub merge_requests : List ℕ → Result (List MergeRequest) Fault

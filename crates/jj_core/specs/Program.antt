@@ -104,10 +104,10 @@ FailsBy command before after (Matchers count) = GivesFault command before after 
 FailsBy command before after (Line line kind) = GivesFault command before after (Line line kind)
 
 -- the input has this fault, or memory ran out
-abbrev pub IsFaultOn : Command → List ℕ → Fault → Type 0
-IsFaultOn command input Memory = Unit {0}
-IsFaultOn command input ReadInput = ⊥
-IsFaultOn command input WriteOutput = ⊥
-IsFaultOn command input NotUtf8 = Gives command input (Err NotUtf8)
-IsFaultOn command input (Matchers count) = Gives command input (Err (Matchers count))
-IsFaultOn command input (Line line kind) = Gives command input (Err (Line line kind))
+abbrev pub IsFaultOfInput : Command → List ℕ → Fault → Type 0
+IsFaultOfInput command input Memory = Unit {0}
+IsFaultOfInput command input ReadInput = ⊥
+IsFaultOfInput command input WriteOutput = ⊥
+IsFaultOfInput command input NotUtf8 = Gives command input (Err NotUtf8)
+IsFaultOfInput command input (Matchers count) = Gives command input (Err (Matchers count))
+IsFaultOfInput command input (Line line kind) = Gives command input (Err (Line line kind))

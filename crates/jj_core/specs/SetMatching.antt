@@ -3,7 +3,7 @@
 use Rattle.std.specs.Prelude.{Bool, List}
 use Rattle.jj_paths.specs.Paths.{Name, Path}
 use Rattle.jj_matchers.specs.Answers.{Answer}
-use Rattle.jj_core.specs.declared.matching.SetMatcher.{SetMatcher}
+use Rattle.jj_core.specs.declared.file_set.matcher.SetMatcher.{SetMatcher}
 use Rattle.jj_core.specs.Matching.{made_by, set_accepts, set_opens, set_answer, set_names}
 
 -- the paths that it accepts, the directories that it may open, its answers and the names from which

@@ -6,33 +6,33 @@ use Rattle.jj_core.specs.declared.file_set.Combination.{Combination}
 use Rattle.jj_core.specs.declared.file_set.Combination.TheVariants.{Union, Difference, Intersection}
 use Rattle.jj_core.specs.declared.file_set.SetStep.{SetStep}
 use Rattle.jj_core.specs.declared.file_set.SetStep.TheVariants.{Push, Combine}
-use Rattle.jj_core.specs.declared.set_parts.Part.{Part}
-use Rattle.jj_core.specs.declared.set_parts.Part.TheVariants.{Leaf, Second, Combined}
-use Rattle.jj_core.specs.declared.set_parts.Pass.{Pass}
-use Rattle.jj_core.specs.SetTrees.{SetTree, one, both, joined}
+use Rattle.jj_core.specs.declared.file_set.parts.Part.{Part}
+use Rattle.jj_core.specs.declared.file_set.parts.Part.TheVariants.{Leaf, BeforeSecond, AfterBoth}
+use Rattle.jj_core.specs.declared.file_set.parts.Pass.{Pass}
+use Rattle.jj_core.specs.SetTrees.{SetTree, one, both, combined_stack}
 
 -- the parts of a set
 abbrev pub parts_of : {A : Type 0} → SetTree A → List (Part A)
 parts_of (one set) = Leaf set ∷ []
-parts_of (both combination first second) = Combined combination ∷ (parts_of second
-    ++ Second combination ∷ parts_of first)
+parts_of (both combination first second) = AfterBoth combination ∷ (parts_of second
+    ++ BeforeSecond combination ∷ parts_of first)
 
 -- the parts that steps make, the last step first, where these combinations still want their second
 -- set
 abbrev pub parts_along : {A : Type 0} → List Combination → List (SetStep A) → List (Part A)
 parts_along wanting [] = []
 parts_along wanting (Combine combination ∷ earlier) =
-    Combined combination ∷ parts_along (combination ∷ wanting) earlier
+    AfterBoth combination ∷ parts_along (combination ∷ wanting) earlier
 parts_along [] (Push set ∷ earlier) = Leaf set ∷ parts_along [] earlier
 parts_along (combination ∷ wanting) (Push set ∷ earlier) =
-    Leaf set ∷ Second combination ∷ parts_along wanting earlier
+    Leaf set ∷ BeforeSecond combination ∷ parts_along wanting earlier
 
 -- the stack of the sets that parts make
 abbrev pub sets_of : {A : Type 0} → List (Part A) → List (SetTree A)
 sets_of [] = []
 sets_of (Leaf set ∷ earlier) = one set ∷ sets_of earlier
-sets_of (Second combination ∷ earlier) = sets_of earlier
-sets_of (Combined combination ∷ earlier) = joined combination (sets_of earlier)
+sets_of (BeforeSecond combination ∷ earlier) = sets_of earlier
+sets_of (AfterBoth combination ∷ earlier) = combined_stack combination (sets_of earlier)
 
 -- whether the answer for the first set is that for the combination, and else the answer that the
 -- second set makes
@@ -51,26 +51,26 @@ with_second Intersection second = second
 abbrev pub pass_at : ℕ → Bool → Pass
 pass_at decided is_in = record { decided = decided; is_in = is_in }
 
--- the pass behind each kind of part
-abbrev pub behind_leaf : Bool → ℕ → Bool → Pass
-behind_leaf answer zero is_in = pass_at zero answer
-behind_leaf answer (suc decided) is_in = pass_at (suc decided) is_in
+-- the pass after each kind of part
+abbrev pub after_leaf : Bool → ℕ → Bool → Pass
+after_leaf answer zero is_in = pass_at zero answer
+after_leaf answer (suc decided) is_in = pass_at (suc decided) is_in
 
-abbrev pub at_second_set : Combination → ℕ → Bool → Pass
-at_second_set combination zero is_in =
+abbrev pub before_second : Combination → ℕ → Bool → Pass
+before_second combination zero is_in =
     if is_decided_by combination is_in then pass_at 1 is_in else pass_at zero is_in
-at_second_set combination (suc decided) is_in = pass_at (suc (suc decided)) is_in
+before_second combination (suc decided) is_in = pass_at (suc (suc decided)) is_in
 
-abbrev pub behind_both : Combination → ℕ → Bool → Pass
-behind_both combination zero is_in = pass_at zero (with_second combination is_in)
-behind_both combination (suc decided) is_in = pass_at decided is_in
+abbrev pub after_both : Combination → ℕ → Bool → Pass
+after_both combination zero is_in = pass_at zero (with_second combination is_in)
+after_both combination (suc decided) is_in = pass_at decided is_in
 
-abbrev pub behind : {A : Type 0} → (A → Bool) → Part A → Pass → Pass
-behind test (Leaf set) pass = behind_leaf (test set) pass.decided pass.is_in
-behind test (Second combination) pass = at_second_set combination pass.decided pass.is_in
-behind test (Combined combination) pass = behind_both combination pass.decided pass.is_in
+abbrev pub after_part : {A : Type 0} → (A → Bool) → Part A → Pass → Pass
+after_part test (Leaf set) pass = after_leaf (test set) pass.decided pass.is_in
+after_part test (BeforeSecond combination) pass = before_second combination pass.decided pass.is_in
+after_part test (AfterBoth combination) pass = after_both combination pass.decided pass.is_in
 
--- the pass behind all of the parts
+-- the pass after all of the parts
 abbrev pub pass_over : {A : Type 0} → (A → Bool) → List (Part A) → Pass → Pass
 pass_over test [] pass = pass
-pass_over test (part ∷ earlier) pass = behind test part (pass_over test earlier pass)
+pass_over test (part ∷ earlier) pass = after_part test part (pass_over test earlier pass)

@@ -18,16 +18,16 @@ pub data SetTree (A : Type 0) : Type 0 where
 -- 1. Stacks, the last set first.
 
 -- the stack with the two sets on top combined; of a stack of fewer sets nothing is left
-abbrev pub joined : {A : Type 0} → Combination → List (SetTree A) → List (SetTree A)
-joined combination [] = []
-joined combination (alone ∷ []) = []
-joined combination (second ∷ first ∷ stack) = both combination first second ∷ stack
+abbrev pub combined_stack : {A : Type 0} → Combination → List (SetTree A) → List (SetTree A)
+combined_stack combination [] = []
+combined_stack combination (alone ∷ []) = []
+combined_stack combination (second ∷ first ∷ stack) = both combination first second ∷ stack
 
 -- the stack that steps make, the last step first
 abbrev pub stack_of : {A : Type 0} → List (SetStep A) → List (SetTree A)
 stack_of [] = []
 stack_of (Push set ∷ earlier) = one set ∷ stack_of earlier
-stack_of (Combine combination ∷ earlier) = joined combination (stack_of earlier)
+stack_of (Combine combination ∷ earlier) = combined_stack combination (stack_of earlier)
 
 -- the steps that make a set, and those that make a stack, the last step first
 abbrev pub steps_to : {A : Type 0} → SetTree A → List (SetStep A)
@@ -64,24 +64,24 @@ is_open test (both combination first second) =
     open_test combination (is_open test first) (is_open test second)
 
 -- the names from which the answers of a set choose, by those of its leaves
-abbrev pub joined_names : Combination → List Name → List Name → List Name
-joined_names Union first second = first ++ second
-joined_names Difference first second = first
-joined_names Intersection first second = first ++ second
+abbrev pub combined_names : Combination → List Name → List Name → List Name
+combined_names Union first second = first ++ second
+combined_names Difference first second = first
+combined_names Intersection first second = first ++ second
 
 abbrev pub names_by : {A : Type 0} → (A → List Name) → SetTree A → List Name
 names_by names (one set) = names set
 names_by names (both combination first second) =
-    joined_names combination (names_by names first) (names_by names second)
+    combined_names combination (names_by names first) (names_by names second)
 
 -- the answer of a set, by those of its leaves
-abbrev pub joined_answer : Combination → List Name → Answer → Answer → Answer
-joined_answer Union names first second = union_answer first second
-joined_answer Difference names first second = difference_answer first second
-joined_answer Intersection names first second = intersection_answer names first second
+abbrev pub combined_answer : Combination → List Name → Answer → Answer → Answer
+combined_answer Union names first second = union_answer first second
+combined_answer Difference names first second = difference_answer first second
+combined_answer Intersection names first second = intersection_answer names first second
 
 abbrev pub answer_by : {A : Type 0} → (A → List Name) → (A → Answer) → SetTree A → Answer
 answer_by names answer (one set) = answer set
 answer_by names answer (both combination first second) =
-    joined_answer combination (names_by names first ++ names_by names second)
+    combined_answer combination (names_by names first ++ names_by names second)
     (answer_by names answer first) (answer_by names answer second)

@@ -19,17 +19,17 @@ use Rattle.jj_core.specs.FieldPairs.{is_paired, firsts, seconds}
 use Rattle.jj_core.specs.SetTrees.{SetTree, one, both}
 
 -- a set of files that a line names
-pub data FileSet : Type 0 where
-  Everything : FileSet
-  Nothing : FileSet
-  Files : List Path → FileSet
-  Prefix : List Path → FileSet
-  Globs : Patterns → FileSet
+pub data NamedSet : Type 0 where
+  Everything : NamedSet
+  Nothing : NamedSet
+  Files : List Path → NamedSet
+  Prefix : List Path → NamedSet
+  Globs : Patterns → NamedSet
 
 -- what the lines so far have marked, and the sets that they left, the last first
 pub record WalkState : Type 0 where
   pub marks : List Path
-  pub stack : List (SetTree FileSet)
+  pub stack : List (SetTree NamedSet)
 
 -- the state before the first line
 abbrev pub walk_start : WalkState
@@ -41,7 +41,7 @@ marked state (Ok path) = Ok (record { marks = state.marks ++ path ∷ []; stack 
 marked state (Err kind) = Err kind
 
 -- the state with a named set on the stack
-abbrev pub pushed : WalkState → FileSet → WalkState
+abbrev pub pushed : WalkState → NamedSet → WalkState
 pushed state set = record { marks = state.marks; stack = one set ∷ state.stack }
 
 -- the path of a text
@@ -53,13 +53,13 @@ abbrev pub paths_of : List (List ℕ) → Result (List Path) LineFault
 paths_of texts = cond (list_all is_path_text texts) (Ok (map components texts)) (Err BadPath)
 
 -- the state with a set of the paths of these texts on the stack
-abbrev pub pushed_paths : WalkState → (List Path → FileSet) → Result (List Path) LineFault
+abbrev pub pushed_paths : WalkState → (List Path → NamedSet) → Result (List Path) LineFault
     → Result WalkState LineFault
 pushed_paths state set (Ok paths) = Ok (pushed state (set paths))
 pushed_paths state set (Err kind) = Err kind
 
 -- the state with a set on the stack that takes no fields
-abbrev pub pushed_alone : WalkState → FileSet → List (List ℕ) → Result WalkState LineFault
+abbrev pub pushed_alone : WalkState → NamedSet → List (List ℕ) → Result WalkState LineFault
 pushed_alone state set [] = Ok (pushed state set)
 pushed_alone state set (field ∷ fields) = Err BadFieldCount
 
@@ -102,7 +102,7 @@ globs_step state prefix_paths fields = pushed_pairs state prefix_paths (paired_f
 
 -- the state with the two sets on top of the stack combined, of which the one that was pushed first
 -- is the first
-abbrev pub with_combined : List Path → Combination → List (SetTree FileSet)
+abbrev pub with_combined : List Path → Combination → List (SetTree NamedSet)
     → Result WalkState LineFault
 with_combined marks combination [] = Err EmptyStack
 with_combined marks combination (alone ∷ []) = Err EmptyStack
@@ -139,10 +139,10 @@ walk_step state (name ∷ fields) =
 -- what a whole text asks for: the marks, and the one set
 pub record WalkRequest : Type 0 where
   pub marks : List Path
-  pub set : SetTree FileSet
+  pub set : SetTree NamedSet
 
 -- the request with the one set that is left; where none or more are left, their number is the fault
-abbrev pub only_set : List Path → List (SetTree FileSet) → Result WalkRequest Fault
+abbrev pub only_set : List Path → List (SetTree NamedSet) → Result WalkRequest Fault
 only_set marks [] = Err (Matchers 0)
 only_set marks (set ∷ []) = Ok (record { marks = marks; set = set })
 only_set marks (set ∷ other ∷ stack) = Err (Matchers (length (set ∷ other ∷ stack)))

@@ -1,6 +1,15 @@
-//! The sets of files that lines of an input name, and what lines do with the stack of sets.
+//! The sets of files that lines of an input name, what lines do with the stack of sets, and the
+//! matcher of the set that is left.
+
+mod leaf_matcher;
+mod matcher;
+mod parts;
+mod stack;
+
 use jj_matchers::matchers::PathGlobPattern;
 use jj_paths::repo_path::RepoPath;
+pub(crate) use matcher::walk_set;
+pub(crate) use stack::SetStack;
 
 // A set of files that a line names.
 #[derive(Drop)]

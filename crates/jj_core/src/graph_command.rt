@@ -55,10 +55,8 @@ fn numbers(alloc: Global, number: usize, fields: &[&str]) -> Result<Vec<u64>, Fa
 {
     let mut ids = Vec::new(alloc);
     for field in fields {
-        match number_field(number, field) {
-            Ok(id) => ids.push(id)?,
-            Err(fault) => return Err(fault),
-        }
+        let id = number_field(number, field)?;
+        ids.push(id)?;
     }
     Ok(ids)
 }
@@ -130,14 +128,8 @@ impl GraphReading {
                 kind: LineFault::BadFieldCount,
             });
         };
-        let id = match number_field(number, id) {
-            Ok(id) => id,
-            Err(fault) => return Err(fault),
-        };
-        let neighbors = match numbers(alloc, number, neighbors) {
-            Ok(neighbors) => neighbors,
-            Err(fault) => return Err(fault),
-        };
+        let id = number_field(number, id)?;
+        let neighbors = numbers(alloc, number, neighbors)?;
         if self.neighbors.contains_key(&id) {
             return Err(Fault::Line {
                 line: number,
@@ -157,10 +149,9 @@ impl GraphReading {
             (with_request (graph_state_of self.old) Order
             (numbers_of (map (λ field. field.now) fields.now))))) }
     {
-        match numbers(alloc, number, fields) {
-            Ok(ids) => Ok(self.requests.push(GraphRequest::Order(ids))?),
-            Err(fault) => Err(fault),
-        }
+        let ids = numbers(alloc, number, fields)?;
+        self.requests.push(GraphRequest::Order(ids))?;
+        Ok(())
     }
 
     // Takes a request for the heads of the ids of the fields.
@@ -172,10 +163,9 @@ impl GraphReading {
             (with_request (graph_state_of self.old) Heads
             (numbers_of (map (λ field. field.now) fields.now))))) }
     {
-        match numbers(alloc, number, fields) {
-            Ok(ids) => Ok(self.requests.push(GraphRequest::Heads(ids))?),
-            Err(fault) => Err(fault),
-        }
+        let ids = numbers(alloc, number, fields)?;
+        self.requests.push(GraphRequest::Heads(ids))?;
+        Ok(())
     }
 }
 
@@ -195,14 +185,10 @@ impl GraphReading {
                 kind: LineFault::BadFieldCount,
             });
         };
-        let set1 = match numbers(alloc, number, first) {
-            Ok(ids) => ids,
-            Err(fault) => return Err(fault),
-        };
-        match numbers(alloc, number, second) {
-            Ok(set2) => Ok(self.requests.push(GraphRequest::Common(set1, set2))?),
-            Err(fault) => Err(fault),
-        }
+        let set1 = numbers(alloc, number, first)?;
+        let set2 = numbers(alloc, number, second)?;
+        self.requests.push(GraphRequest::Common(set1, set2))?;
+        Ok(())
     }
 }
 
@@ -242,9 +228,7 @@ pub(crate) fn graph_output(alloc: Global, text: &str) -> Result<Vec<u8>, Fault>
         neighbors: BTreeMap::new(alloc),
         requests: Vec::new(alloc),
     };
-    if let Err(fault) = take_lines(alloc, &mut reading, text) {
-        return Err(fault);
-    }
+    take_lines(alloc, &mut reading, text)?;
     let GraphReading {
         neighbors,
         requests,

@@ -46,9 +46,7 @@ pub(crate) fn hash_lines(alloc: Global, text: &str) -> Result<Vec<u8>, Fault>
     let mut reading = HashReading {
         output: Vec::new(alloc),
     };
-    if let Err(fault) = take_lines(alloc, &mut reading, text) {
-        return Err(fault);
-    }
+    take_lines(alloc, &mut reading, text)?;
     Ok(reading.output)
 }
 

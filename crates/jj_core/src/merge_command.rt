@@ -7,7 +7,8 @@ ghost use Rattle.jj_core.specs.MergeRead.{merge_request_of, merge_requests_of};
 
 use crate::fault::{Fault, LineFault};
 use crate::merge_outcome::outcome;
-use crate::reading::{Reading, push_line, take_lines};
+use crate::output_lines::push_line;
+use crate::reading::{Reading, take_lines};
 use jj_merges::merge::{Merge, MergeBuilder, SameChange};
 use std::alloc::{AllocError, Global};
 
@@ -95,9 +96,7 @@ pub(crate) fn merge_output(alloc: Global, text: &str) -> Result<Vec<u8>, Fault>
     let mut reading = MergeReading {
         requests: Vec::new(alloc),
     };
-    if let Err(fault) = take_lines(alloc, &mut reading, text) {
-        return Err(fault);
-    }
+    take_lines(alloc, &mut reading, text)?;
     let mut output = Vec::new(alloc);
     for request in &reading.requests {
         push_answer(alloc, &mut output, request)?;

@@ -2,7 +2,7 @@
 ghost use Rattle.std.specs.Prelude.{◌≡◌, ◌≢◌, ◌<◌, length, map, false, Ok, IfOk, IfErr, OnOk, IsSome, IfSome, None, string_bytes};
 ghost use Rattle.std.specs.Io.KnownBytes.{Consumes, IsAtEnd, Keeps};
 ghost use Rattle.jj_core.specs.Lines.{IsFaultOf};
-ghost use Rattle.jj_core.specs.Program.{command_named, command_line, Gives, is_read_failure, is_write_failure, is_read_fault, is_write_fault, streams, WritesOutput, FailsBy, IsFaultOn};
+ghost use Rattle.jj_core.specs.Program.{command_named, command_line, Gives, is_read_failure, is_write_failure, is_read_fault, is_write_fault, streams, WritesOutput, FailsBy, IsFaultOfInput};
 ghost use Rattle.jj_core.specs.Reports.{usage_text, report_text, Says};
 ghost use Rattle.jj_core.specs.declared.fault.Fault.{Fault};
 
@@ -72,7 +72,7 @@ fn read_input<R: Source>(alloc: Global, reader: &mut R) -> Result<Vec<u8>, Fault
 // What a command writes for an input.
 fn output(alloc: Global, command: Command, input: &[u8]) -> Result<Vec<u8>, Fault>
     ensures done { IfOk result (λ output. Gives command input.now (Ok output.items)) }
-    ensures fault { IfErr result (λ fault. IsFaultOn command input.now fault) }
+    ensures fault { IfErr result (λ fault. IsFaultOfInput command input.now fault) }
 {
     let Ok(text) = str::from_utf8(input) else {
         return Err(Fault::NotUtf8);

@@ -5,23 +5,21 @@ ghost use Rattle.jj_paths.specs.Names.{path_of};
 ghost use Rattle.jj_globs.specs.GlobText.{tokens_of};
 ghost use Rattle.jj_globs.specs.GlobReads.{IsReadingFault};
 ghost use Rattle.jj_paths.specs.Tree.{Tree};
-ghost use Rattle.jj_core.specs.Marks.{IsMarkedTree};
+ghost use Rattle.jj_matchers.specs.Marks.{IsMarkedTree};
 ghost use Rattle.jj_core.specs.Lines.{at_line, IsFaultOf};
 ghost use Rattle.jj_core.specs.SetTrees.{SetTree};
-ghost use Rattle.jj_core.specs.WalkCommand.{FileSet as NamedSet, WalkState, WalkRequest, Files, Prefix, path_at, paths_of, glob_at, globs_of, globs_step, paired_fields, combined_step, pushed_alone, pushed_paths, mark_step, walk_step, walk_request};
+ghost use Rattle.jj_core.specs.WalkCommand.{NamedSet, WalkState, WalkRequest, Files, Prefix, path_at, paths_of, glob_at, globs_of, globs_step, paired_fields, combined_step, pushed_alone, pushed_paths, mark_step, walk_step, walk_request};
 ghost use Rattle.jj_core.specs.SetsRead.{set_of};
 ghost use Rattle.jj_core.specs.SetStacks.{sets_in};
 ghost use Rattle.jj_core.specs.WalkRead.{state_of};
 ghost use Rattle.jj_core.specs.Walked.{GivesWalk, walk_lines, path_lines};
 
 use crate::fault::{Fault, LineFault};
-use crate::file_set::{Combination, FileSet};
-use crate::marks::marked_tree;
-use crate::matching::walk_set;
-use crate::reading::{Reading, push_line, take_lines};
-use crate::set_stack::SetStack;
+use crate::file_set::{Combination, FileSet, SetStack, walk_set};
+use crate::output_lines::push_line;
+use crate::reading::{Reading, take_lines};
 use jj_globs::glob::GlobError;
-use jj_matchers::matchers::PathGlobPattern;
+use jj_matchers::matchers::{PathGlobPattern, marked_tree};
 use jj_paths::repo_path::{InvalidNewRepoPathError, RepoPath, RepoPathBuf};
 use std::alloc::{AllocError, Global};
 
@@ -58,10 +56,8 @@ fn paths<'t>(alloc: Global, number: usize, fields: &[&'t str]) -> Result<Vec<Rep
 {
     let mut paths = Vec::new(alloc);
     for field in fields {
-        match path_field(alloc, number, field) {
-            Ok(path) => paths.push(path)?,
-            Err(fault) => return Err(fault),
-        }
+        let path = path_field(alloc, number, field)?;
+        paths.push(path)?;
     }
     Ok(paths)
 }
@@ -130,10 +126,8 @@ fn path_globs(alloc: Global, number: usize, fields: &[&str]) -> Result<Vec<PathG
 {
     let mut globs = Vec::new(alloc);
     for field in fields {
-        match glob_field(alloc, number, field) {
-            Ok(glob) => globs.push(glob)?,
-            Err(fault) => return Err(fault),
-        }
+        let glob = glob_field(alloc, number, field)?;
+        globs.push(glob)?;
     }
     Ok(globs)
 }
@@ -153,10 +147,9 @@ impl<'t> WalkReading<'t> {
                 kind: LineFault::BadFieldCount,
             });
         };
-        match path_field(alloc, number, text) {
-            Ok(path) => Ok(self.marks.push(path)?),
-            Err(fault) => Err(fault),
-        }
+        let path = path_field(alloc, number, text)?;
+        self.marks.push(path)?;
+        Ok(())
     }
 
     // Puts a set on the stack, where no field is left.
@@ -192,10 +185,9 @@ impl<'t> WalkReading<'t> {
             (pushed_paths (state_of self.old) Files
             (paths_of (map (λ field. field.now) fields.now))))) }
     {
-        match paths(alloc, number, fields) {
-            Ok(paths) => Ok(self.sets.push(FileSet::Files(paths))?),
-            Err(fault) => Err(fault),
-        }
+        let paths = paths(alloc, number, fields)?;
+        self.sets.push(FileSet::Files(paths))?;
+        Ok(())
     }
 
     // Puts the set of what is at and below these paths on the stack.
@@ -207,10 +199,9 @@ impl<'t> WalkReading<'t> {
             (pushed_paths (state_of self.old) Prefix
             (paths_of (map (λ field. field.now) fields.now))))) }
     {
-        match paths(alloc, number, fields) {
-            Ok(paths) => Ok(self.sets.push(FileSet::Prefix(paths))?),
-            Err(fault) => Err(fault),
-        }
+        let paths = paths(alloc, number, fields)?;
+        self.sets.push(FileSet::Prefix(paths))?;
+        Ok(())
     }
 
     // Puts the set of what these globs accept, each in its directory, on the stack.
@@ -227,18 +218,9 @@ impl<'t> WalkReading<'t> {
             (λ fault. IsFaultOf fault (at_line number
             (globs_step (state_of self.old) prefix_paths (map (λ field. field.now) fields.now)))) }
     {
-        let (dirs, globs) = match pairs(alloc, number, fields) {
-            Ok(pairs) => pairs,
-            Err(fault) => return Err(fault),
-        };
-        let dirs = match paths(alloc, number, &dirs) {
-            Ok(dirs) => dirs,
-            Err(fault) => return Err(fault),
-        };
-        let globs = match path_globs(alloc, number, &globs) {
-            Ok(globs) => globs,
-            Err(fault) => return Err(fault),
-        };
+        let (dirs, globs) = pairs(alloc, number, fields)?;
+        let dirs = paths(alloc, number, &dirs)?;
+        let globs = path_globs(alloc, number, &globs)?;
         self.sets.push(FileSet::Globs {
             prefix_paths,
             dirs,
@@ -320,9 +302,7 @@ pub(crate) fn walk_output<'t>(alloc: Global, text: &'t str) -> Result<Vec<u8>, F
         marks: Vec::new(alloc),
         sets: SetStack::new(alloc),
     };
-    if let Err(fault) = take_lines(alloc, &mut reading, text) {
-        return Err(fault);
-    }
+    take_lines(alloc, &mut reading, text)?;
     let WalkReading { marks, sets } = reading;
     match sets.height() {
         1 => Ok(found_lines(alloc, marks, sets)?),
@@ -341,7 +321,7 @@ fn found_lines(
         → (tree : Tree Bool) × IsMarkedTree (map path_of marks.entry.items) tree
         × (output.items ≡ walk_lines set tree)) }
 {
-    let tree = marked_tree(alloc, marks)?;
+    let tree = marked_tree(alloc, &marks)?;
     let found = walk_set(alloc, &tree, sets)?;
     let mut output = Vec::new(alloc);
     push_paths(&mut output, "file", &found.files)?;

@@ -10,11 +10,11 @@ use Rattle.std.specs.FinMap.{is_sorted}
 use Rattle.std.specs.FinMap.Entries.{below_all}
 use Rattle.std.proofs.lemmas.Slice.Eq.{bytes_eq-Decides}
 use Rattle.jj_paths.specs.Paths.{Name, name_cmp}
-use Rattle.jj_paths.specs.Tree.{Tree, Branches, none, branch, children}
+use Rattle.jj_paths.specs.Tree.{Tree, tree_of, Branches, none, branch, children}
 use Rattle.jj_matchers.specs.Answers.{specific}
 use Rattle.jj_matchers.specs.Marks.{named_by, any_child, children_answer}
 use Rattle.jj_matchers.specs.Visits.{is_among, sets_answer}
-use Rattle.jj_matchers.proofs.Orders.{name_cmp-itself, less_from_is_lt}
+use Rattle.jj_paths.proofs.PathOrders.{name_cmp-itself, less_from_is_lt}
 use Rattle.jj_matchers.proofs.Wanted.{or_left, false_if, any_implies}
 
 -- whether a node of that name passes a test
@@ -43,7 +43,7 @@ any_named-child test (branch n value below after) e name = by_name (bytes_eq n n
     by_name : (t : Bool) → bytes_eq n name ≡ t → (is_sorted name_cmp (children after) ≡ true → any_named test name (children after) ≡ named_by test after name) → any_named test name (children (branch n value below after)) ≡ named_by test (branch n value below after) name
     by_name true same later =
         let is : n ≡ name = (bytes_eq-Decides n name).0 same in
-        rw (same, bytes_eq-sym name n, same) (ap (λ b. test (value, below) || b) (ap (λ m. any_named test m (children after)) (sym is) ∙ none_named test n (children after) rise.0) ∙ or_none (test (value, below)))
+        rw (same, bytes_eq-sym name n, same) (ap (λ b. test (tree_of value below) || b) (ap (λ m. any_named test m (children after)) (sym is) ∙ none_named test n (children after) rise.0) ∙ or_none (test (tree_of value below)))
       where
         or_none : (b : Bool) → (b || false) ≡ b
         or_none true = refl

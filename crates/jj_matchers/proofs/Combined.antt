@@ -5,10 +5,10 @@ use Rattle.std.proofs.Math.Bool.{and-false}
 use Rattle.std.proofs.lemmas.Bool.{and_parts, or_cases, or_right}
 use Rattle.jj_paths.specs.Paths.{Name, Path}
 use Rattle.jj_matchers.specs.Answers.{Answer, all_recursively, specific, nothing, IsSound, NamesAll}
-use Rattle.jj_matchers.specs.Listed.{IsAllOrAmong, ChoosesFrom, any_passes}
+use Rattle.jj_matchers.specs.Candidates.{IsAllOrAmong, ChoosesFrom, any_passes}
 use Rattle.jj_matchers.specs.Combined.{union_answer, difference_answer, named_answer, intersection_answer}
 use Rattle.jj_matchers.proofs.Wanted.{or_left, false_if, both_true}
-use Rattle.jj_matchers.proofs.Listed.{passes_some, both_listed}
+use Rattle.jj_matchers.proofs.Candidates.{passes_some, both_listed}
 
 -- the paths of either set, of both, and of one without those of the other
 abbrev pub either : (Path → Bool) → (Path → Bool) → Path → Bool

@@ -1,9 +1,10 @@
 pub mod Children
 pub mod Combined
-pub mod Listed
+pub mod Candidates
 pub mod Marked
+pub mod MarkedTrees
+pub mod AddedMarks
 pub mod Marks
-pub mod Orders
 pub mod UnderWay
 pub mod Walks
 pub mod Wanted

@@ -1,23 +1,15 @@
 -- A tree to which a mark is set.
-use Rattle.std.proofs.Common.{◌≡◌, ◌≢◌, Bool, true, false, ◌||◌, [], ◌∷◌, ◌++◌, Some, None, Option, refl, ap, sym, ◌∙◌, append_assoc, append-nil}
+use Rattle.std.proofs.Common.{◌≡◌, ◌≢◌, Bool, true, false, [], ◌∷◌, ◌++◌, Some, None, Option, refl, ap, sym, ◌∙◌, append_assoc, append-nil}
 use mathlib.Core.Bool.{false≢true}
 use Rattle.std.specs.Option.{option_map, option_and_then}
 use Rattle.jj_paths.specs.Paths.{Name, Path}
 use Rattle.jj_paths.specs.Orders.{path_eq, path_eq-Decides}
-use Rattle.jj_paths.specs.Tree.{Tree, none, get, child, value_at, IsSet}
-use Rattle.jj_matchers.specs.Marks.{is_some_true, is_marked, LeadsToMarks}
+use Rattle.jj_paths.specs.Tree.{Tree, none, get, child, value_at}
+use Rattle.jj_matchers.specs.Marks.{LeadsToMarks}
 use Rattle.jj_matchers.proofs.Marks.{get-append}
 
 abbrev pub IsBlank : Bool → Type 0
 IsBlank mark = mark ≡ false
-
-or_with : (a : Bool) → (a || false) ≡ a
-or_with true = refl
-or_with false = refl
-
-or_true : (a : Bool) → (a || true) ≡ true
-or_true true = refl
-or_true false = refl
 
 -- the path has a mark, every other value is kept, and further values are at most blank ones on the fronts of the path
 pub record IsMarkedAt (old : Tree Bool) (path : Path) (new : Tree Bool) : Type 0 where
@@ -25,36 +17,17 @@ pub record IsMarkedAt (old : Tree Bool) (path : Path) (new : Tree Bool) : Type 0
   pub keeps : (q : Path) (v : Bool) → q ≢ path → value_at old q ≡ Some v → value_at new q ≡ Some v
   pub makes : (q : Path) (v : Bool) → q ≢ path → value_at old q ≡ None → value_at new q ≡ Some v → IsBlank v × ((rest : Path) × (path ≡ q ++ rest))
 
-pub marked-set : (old new : Tree Bool) (path : Path) → IsSet IsBlank old path true new → IsMarkedAt old path new
-marked-set old new path set = record { here = set.here; keeps = set.keeps; makes = set.makes }
-
 module _ (old new : Tree Bool) (path : Path) (set : IsMarkedAt old path new) where
-  pub is_marked-set : (q : Path) → is_marked new q ≡ (is_marked old q || path_eq q path)
-  is_marked-set q = by_path (path_eq q path) refl
-    where
-      elsewhere : q ≢ path → (o : Option Bool) → value_at old q ≡ o → (n : Option Bool) → value_at new q ≡ n → is_some_true n ≡ is_some_true o
-      elsewhere ne (Some v) e n f = ap is_some_true (sym f ∙ set.keeps q v ne e)
-      elsewhere ne None e None f = refl
-      elsewhere ne None e (Some v) f = (set.makes q v ne e f).0
-
-      by_path : (t : Bool) → path_eq q path ≡ t → is_marked new q ≡ (is_marked old q || path_eq q path)
-      by_path true e =
-          let same : q ≡ path = (path_eq-Decides q path).0 e in
-          ap (λ p. is_some_true (value_at new p)) same ∙ ap is_some_true set.here ∙ sym (ap (λ b. is_marked old q || b) e ∙ or_true (is_marked old q))
-      by_path false e =
-          let ne : q ≢ path = λ same. false≢true (sym e ∙ (path_eq-Decides q path).1 same) in
-          elsewhere ne (value_at old q) refl (value_at new q) refl ∙ sym (ap (λ b. is_marked old q || b) e ∙ or_with (is_marked old q))
-
   -- a front of a path with a value has one
   front_has : (front rest : Path) (v : Bool) → value_at new (front ++ rest) ≡ Some v → value_at new front ≡ None → ⊥
   front_has front rest v e missing = by_node (get new front) refl
     where
       by_node : (o : Option (Tree Bool)) → get new front ≡ o → ⊥
       by_node None is =
-          let gone : value_at new (front ++ rest) ≡ None = ap (option_map (λ (node : Tree Bool). node.0)) (get-append new front rest ∙ ap (option_and_then (λ (node : Tree Bool). get node rest)) is) in
+          let gone : value_at new (front ++ rest) ≡ None = ap (option_map (λ (node : Tree Bool). node.value)) (get-append new front rest ∙ ap (option_and_then (λ (node : Tree Bool). get node rest)) is) in
           let clash : Some v ≡ None = sym e ∙ gone in cc
       by_node (Some node) is =
-          let clash : Some node.0 ≡ None = sym (ap (option_map (λ (node : Tree Bool). node.0)) is) ∙ missing in cc
+          let clash : Some node.value ≡ None = sym (ap (option_map (λ (node : Tree Bool). node.value)) is) ∙ missing in cc
 
   pub leads-set : LeadsToMarks old → LeadsToMarks new
   leads-set leads above name blank no_child = by_old (value_at old p) refl
@@ -96,11 +69,6 @@ module _ (old new : Tree Bool) (path : Path) (set : IsMarkedAt old path new) whe
           leads above name (e ∙ ap (λ b. Some b) is) old_child
       by_old None e = reaches (set.makes p false ne e blank).1.0 (set.makes p false ne e blank).1.1
 
--- a tree of one blank node has no mark
-pub is_marked-blank : (tree : Tree Bool) → IsBlank tree.0 → tree.1 ≡ none → (q : Path) → is_marked tree q ≡ false
-is_marked-blank tree blank alone [] = blank
-is_marked-blank tree blank alone (name ∷ rest) = ap (λ b. is_some_true (option_map (λ (node : Tree Bool). node.0) (option_and_then (λ sub. get sub rest) (child b name)))) alone
-
-pub leads-blank : (tree : Tree Bool) → tree.1 ≡ none → LeadsToMarks tree
-leads-blank tree alone [] name blank no_child = let clash : Some false ≡ None = sym blank ∙ ap (λ b. option_map (λ (node : Tree Bool). node.0) (option_and_then (λ sub. get sub []) (child b name))) alone in cc
-leads-blank tree alone (first ∷ above) name blank no_child = let clash : Some false ≡ None = sym blank ∙ ap (λ b. option_map (λ (node : Tree Bool). node.0) (option_and_then (λ sub. get sub (above ++ name ∷ [])) (child b first))) alone in cc
+pub leads-blank : (tree : Tree Bool) → tree.branches ≡ none → LeadsToMarks tree
+leads-blank tree alone [] name blank no_child = let clash : Some false ≡ None = sym blank ∙ ap (λ b. option_map (λ (node : Tree Bool). node.value) (option_and_then (λ sub. get sub []) (child b name))) alone in cc
+leads-blank tree alone (first ∷ above) name blank no_child = let clash : Some false ≡ None = sym blank ∙ ap (λ b. option_map (λ (node : Tree Bool). node.value) (option_and_then (λ sub. get sub (above ++ name ∷ [])) (child b first))) alone in cc

@@ -11,8 +11,8 @@ use Rattle.std.proofs.lemmas.List.{map-append}
 use Rattle.std.proofs.lemmas.Slice.Eq.{bytes_eq-Decides}
 use Rattle.jj_paths.specs.Paths.{Name, Path}
 use Rattle.jj_paths.specs.Orders.{path_eq, path_eq-Decides}
-use Rattle.jj_paths.specs.Tree.{Tree, Branches, none, branch, child, get, has_branches, nodes_on}
-use Rattle.jj_paths.specs.Listed.{nodes_under}
+use Rattle.jj_paths.specs.Tree.{Tree, tree_of, Branches, none, branch, child, get, has_branches, nodes_on}
+use Rattle.jj_paths.specs.Nodes.{NodeAt, nodes_under}
 use Rattle.jj_matchers.specs.Answers.{Answer, all_recursively, specific, nothing}
 use Rattle.jj_matchers.specs.Wanted.{is_at_or_below, is_below, is_wanted, leads_to_wanted, files_answer, has_prefix, leads_to_prefix, prefix_answer}
 use Rattle.jj_matchers.specs.Marks.{is_some_true, is_marked, marked_paths, LeadsToMarks, passes, named_by, any_child, children_answer, has_children, has_mark, any_node}
@@ -22,7 +22,7 @@ module _ {V : Type 0} where
   -- the node at a path below another
   pub get-append : (tree : Tree V) (dir rest : Path) → get tree (dir ++ rest) ≡ option_and_then (λ node. get node rest) (get tree dir)
   get-append tree [] rest = refl
-  get-append tree (name ∷ dir) rest = by_child (child tree.1 name) (λ sub. get-append sub dir rest)
+  get-append tree (name ∷ dir) rest = by_child (child tree.branches name) (λ sub. get-append sub dir rest)
     where
       by_child : (o : Option (Tree V)) → ((sub : Tree V) → get sub (dir ++ rest) ≡ option_and_then (λ node. get node rest) (get sub dir)) →
           option_and_then (λ sub. get sub (dir ++ rest)) o ≡ option_and_then (λ node. get node rest) (option_and_then (λ sub. get sub dir) o)
@@ -32,8 +32,8 @@ module _ {V : Type 0} where
   pub get-below : (tree node : Tree V) (dir rest : Path) → get tree dir ≡ Some node → get tree (dir ++ rest) ≡ get node rest
   get-below tree node dir rest e = get-append tree dir rest ∙ ap (option_and_then (λ n. get n rest)) e
 
-  pub get-child : (tree node : Tree V) (dir : Path) (name : Name) → get tree dir ≡ Some node → get tree (dir ++ name ∷ []) ≡ child node.1 name
-  get-child tree node dir name e = get-below tree node dir (name ∷ []) e ∙ itself (child node.1 name)
+  pub get-child : (tree node : Tree V) (dir : Path) (name : Name) → get tree dir ≡ Some node → get tree (dir ++ name ∷ []) ≡ child node.branches name
+  get-child tree node dir name e = get-below tree node dir (name ∷ []) e ∙ itself (child node.branches name)
     where
       itself : (o : Option (Tree V)) → option_and_then (λ sub. get sub []) o ≡ o
       itself None = refl
@@ -41,7 +41,7 @@ module _ {V : Type 0} where
 
   -- each path with a value is among the paths of the nodes
   pub path_listed : (b : Branches V) (dir : Path) (name : Name) (rest : Path) (sub : Tree V) (v : V) → option_and_then (λ n. get n rest) (child b name) ≡ Some sub →
-      list_any (path_eq (dir ++ name ∷ rest)) (map (λ (node : Path × Tree V). node.0) (nodes_under dir b)) ≡ true
+      list_any (path_eq (dir ++ name ∷ rest)) (map (λ (found : NodeAt V). found.path) (nodes_under dir b)) ≡ true
   path_listed none dir name rest sub v e = absurd (no_node e)
     where
       no_node : None ≡ Some sub → ⊥
@@ -49,14 +49,14 @@ module _ {V : Type 0} where
   path_listed (branch n value below after) dir name rest sub v e =
       by_name (bytes_eq n name) refl rest e (λ next more h. path_listed below (dir ++ n ∷ []) next more sub v h) (λ h. path_listed after dir name rest sub v h)
     where
-      paths : List (Path × Tree V) → List Path
-      paths = map (λ (node : Path × Tree V). node.0)
+      paths : List (NodeAt V) → List Path
+      paths = map (λ (found : NodeAt V). found.path)
 
       here : (m : Name) → n ≡ m → path_eq (dir ++ m ∷ []) (dir ++ n ∷ []) ≡ true
       here m is = (path_eq-Decides (dir ++ m ∷ []) (dir ++ n ∷ [])).1 (ap (λ x. dir ++ x ∷ []) (sym is))
 
       split : (p : Path) → list_any (path_eq p) (paths (nodes_under (dir ++ n ∷ []) below ++ nodes_under dir after)) ≡ (list_any (path_eq p) (paths (nodes_under (dir ++ n ∷ []) below)) || list_any (path_eq p) (paths (nodes_under dir after)))
-      split p = ap (list_any (path_eq p)) (map-append (λ (node : Path × Tree V). node.0) (nodes_under (dir ++ n ∷ []) below) (nodes_under dir after)) ∙ list_any-append (path_eq p) (paths (nodes_under (dir ++ n ∷ []) below)) (paths (nodes_under dir after))
+      split p = ap (list_any (path_eq p)) (map-append (λ (found : NodeAt V). found.path) (nodes_under (dir ++ n ∷ []) below) (nodes_under dir after)) ∙ list_any-append (path_eq p) (paths (nodes_under (dir ++ n ∷ []) below)) (paths (nodes_under dir after))
 
       by_name : (t : Bool) → bytes_eq n name ≡ t → (rest : Path) → option_and_then (λ n. get n rest) (child (branch n value below after) name) ≡ Some sub →
           ((next : Name) (more : Path) → option_and_then (λ n. get n more) (child below next) ≡ Some sub → list_any (path_eq ((dir ++ n ∷ []) ++ next ∷ more)) (paths (nodes_under (dir ++ n ∷ []) below)) ≡ true) →
@@ -95,19 +95,19 @@ module _ where
       by_keep false is further = further (rw is at h)
 
   -- a path with a mark is among the paths of the nodes
-  listed : (tree : Tree Bool) (path : Path) → is_marked tree path ≡ true → list_any (path_eq path) ([] ∷ map (λ (node : Path × Tree Bool). node.0) (nodes_under [] tree.1)) ≡ true
+  listed : (tree : Tree Bool) (path : Path) → is_marked tree path ≡ true → list_any (path_eq path) ([] ∷ map (λ (found : NodeAt Bool). found.path) (nodes_under [] tree.branches)) ≡ true
   listed tree [] marked = refl
   listed tree (name ∷ rest) marked = by_node (get tree (name ∷ rest)) refl
     where
-      by_node : (o : Option (Tree Bool)) → get tree (name ∷ rest) ≡ o → list_any (path_eq (name ∷ rest)) ([] ∷ map (λ (node : Path × Tree Bool). node.0) (nodes_under [] tree.1)) ≡ true
-      by_node None is = absurd (false≢true (sym (ap (λ o. is_some_true (option_map (λ (node : Tree Bool). node.0) o)) is) ∙ marked))
-      by_node (Some sub) is = path_listed tree.1 [] name rest sub true is
+      by_node : (o : Option (Tree Bool)) → get tree (name ∷ rest) ≡ o → list_any (path_eq (name ∷ rest)) ([] ∷ map (λ (found : NodeAt Bool). found.path) (nodes_under [] tree.branches)) ≡ true
+      by_node None is = absurd (false≢true (sym (ap (λ o. is_some_true (option_map (λ (node : Tree Bool). node.value) o)) is) ∙ marked))
+      by_node (Some sub) is = path_listed tree.branches [] name rest sub true is
 
   pub any_marked : (tree : Tree Bool) (test : Path → Bool) → list_any test (marked_paths tree) ≡ true → (path : Path) × ((is_marked tree path ≡ true) × (test path ≡ true))
-  any_marked tree test = found_in (is_marked tree) test ([] ∷ map (λ (node : Path × Tree Bool). node.0) (nodes_under [] tree.1))
+  any_marked tree test = found_in (is_marked tree) test ([] ∷ map (λ (found : NodeAt Bool). found.path) (nodes_under [] tree.branches))
 
   pub marked_any : (tree : Tree Bool) (test : Path → Bool) (path : Path) → is_marked tree path ≡ true → test path ≡ true → list_any test (marked_paths tree) ≡ true
-  marked_any tree test path marked passing = any_filter (is_marked tree) test path marked passing ([] ∷ map (λ (node : Path × Tree Bool). node.0) (nodes_under [] tree.1)) (listed tree path marked)
+  marked_any tree test path marked passing = any_filter (is_marked tree) test path marked passing ([] ∷ map (λ (found : NodeAt Bool). found.path) (nodes_under [] tree.branches)) (listed tree path marked)
 
   pub is_wanted-marked : (tree : Tree Bool) (path : Path) → is_wanted (marked_paths tree) path ≡ is_marked tree path
   is_wanted-marked tree path =
@@ -117,10 +117,10 @@ module _ where
 
 -- the mark of a node that is there, or is not
 pub marked_at : (tree : Tree Bool) (path : Path) (o : Option (Tree Bool)) → get tree path ≡ o → is_marked tree path ≡ passes has_mark o
-marked_at tree path None e = ap (λ o. is_some_true (option_map (λ (node : Tree Bool). node.0) o)) e
-marked_at tree path (Some node) e = ap (λ o. is_some_true (option_map (λ (node : Tree Bool). node.0) o)) e
+marked_at tree path None e = ap (λ o. is_some_true (option_map (λ (node : Tree Bool). node.value) o)) e
+marked_at tree path (Some node) e = ap (λ o. is_some_true (option_map (λ (node : Tree Bool). node.value) o)) e
 
-child-first : (n : Name) (value : Bool) (below after : Branches Bool) → child (branch n value below after) n ≡ Some (value, below)
+child-first : (n : Name) (value : Bool) (below after : Branches Bool) → child (branch n value below after) n ≡ Some (tree_of value below)
 child-first n value below after = rw ((bytes_eq-Decides n n).1 refl)
 
 no_branches : (b : Branches Bool) → has_branches b ≡ false → b ≡ none
@@ -129,32 +129,32 @@ no_branches (branch n value below after) e = absurd (false≢true (sym e))
 
 module _ (tree : Tree Bool) (leads : LeadsToMarks tree) where
   -- a node below the root has a mark or a child
-  not_idle : (dir : Path) (name : Name) → get tree (dir ++ name ∷ []) ≡ Some (false, none) → ⊥
+  not_idle : (dir : Path) (name : Name) → get tree (dir ++ name ∷ []) ≡ Some (tree_of false none) → ⊥
   not_idle dir name e =
-      leads dir name (ap (option_map (λ (node : Tree Bool). node.0)) e)
-      (λ next. ap (option_map (λ (node : Tree Bool). node.0)) (ap (get tree) (sym (append_assoc dir (name ∷ []) (next ∷ []))) ∙ get-below tree (false, none) (dir ++ name ∷ []) (next ∷ []) e))
+      leads dir name (ap (option_map (λ (node : Tree Bool). node.value)) e)
+      (λ next. ap (option_map (λ (node : Tree Bool). node.value)) (ap (get tree) (sym (append_assoc dir (name ∷ []) (next ∷ []))) ∙ get-below tree (tree_of false none) (dir ++ name ∷ []) (next ∷ []) e))
 
   -- a node with children leads to a mark
-  mark_below : (b : Branches Bool) (dir : Path) (v : Bool) → get tree dir ≡ Some (v, b) → has_branches b ≡ true → (name : Name) × ((rest : Path) × (is_marked tree (dir ++ name ∷ rest) ≡ true))
+  mark_below : (b : Branches Bool) (dir : Path) (v : Bool) → get tree dir ≡ Some (tree_of v b) → has_branches b ≡ true → (name : Name) × ((rest : Path) × (is_marked tree (dir ++ name ∷ rest) ≡ true))
   mark_below none dir v e h = absurd (false≢true h)
   mark_below (branch n value below after) dir v e h = by_value value below here (mark_below below (dir ++ n ∷ []) value here)
     where
-      here : get tree (dir ++ n ∷ []) ≡ Some (value, below)
-      here = get-child tree (v, branch n value below after) dir n e ∙ child-first n value below after
+      here : get tree (dir ++ n ∷ []) ≡ Some (tree_of value below)
+      here = get-child tree (tree_of v (branch n value below after)) dir n e ∙ child-first n value below after
 
-      by_value : (w : Bool) (b : Branches Bool) → get tree (dir ++ n ∷ []) ≡ Some (w, b) → (has_branches b ≡ true → (name : Name) × ((rest : Path) × (is_marked tree ((dir ++ n ∷ []) ++ name ∷ rest) ≡ true))) → (name : Name) × ((rest : Path) × (is_marked tree (dir ++ name ∷ rest) ≡ true))
-      by_value true b is deeper = (n, ([], marked_at tree (dir ++ n ∷ []) (Some (true, b)) is))
+      by_value : (w : Bool) (b : Branches Bool) → get tree (dir ++ n ∷ []) ≡ Some (tree_of w b) → (has_branches b ≡ true → (name : Name) × ((rest : Path) × (is_marked tree ((dir ++ n ∷ []) ++ name ∷ rest) ≡ true))) → (name : Name) × ((rest : Path) × (is_marked tree (dir ++ name ∷ rest) ≡ true))
+      by_value true b is deeper = (n, ([], marked_at tree (dir ++ n ∷ []) (Some (tree_of true b)) is))
       by_value false none is deeper = absurd (not_idle dir n is)
       by_value false (branch m u x y) is deeper = let found = deeper refl in (n, (found.0 ∷ found.1.0, ap (is_marked tree) (sym (append_assoc dir (n ∷ []) (found.0 ∷ found.1.0))) ∙ found.1.1))
 
   -- below a node that is there
-  pub leads-get : (dir : Path) (node : Tree Bool) → get tree dir ≡ Some node → leads_to_wanted (marked_paths tree) dir ≡ has_branches node.1
+  pub leads-get : (dir : Path) (node : Tree Bool) → get tree dir ≡ Some node → leads_to_wanted (marked_paths tree) dir ≡ has_branches node.branches
   leads-get dir node e =
-      both_ways (leads_to_wanted (marked_paths tree) dir) (has_branches node.1)
-      (λ h. let found = any_marked tree (is_below dir) h in let below = below_dir dir found.0 found.1.1 in by_branches node.1 refl below.0 below.1.0 (ap (is_marked tree) (sym below.1.1) ∙ found.1.0))
-      (λ h. let found = mark_below node.1 dir node.0 e h in marked_any tree (is_below dir) (dir ++ found.0 ∷ found.1.0) found.1.1 (is_below-append dir found.0 found.1.0))
+      both_ways (leads_to_wanted (marked_paths tree) dir) (has_branches node.branches)
+      (λ h. let found = any_marked tree (is_below dir) h in let below = below_dir dir found.0 found.1.1 in by_branches node.branches refl below.0 below.1.0 (ap (is_marked tree) (sym below.1.1) ∙ found.1.0))
+      (λ h. let found = mark_below node.branches dir node.value e h in marked_any tree (is_below dir) (dir ++ found.0 ∷ found.1.0) found.1.1 (is_below-append dir found.0 found.1.0))
     where
-      by_branches : (b : Branches Bool) → node.1 ≡ b → (name : Name) (rest : Path) → is_marked tree (dir ++ name ∷ rest) ≡ true → has_branches node.1 ≡ true
+      by_branches : (b : Branches Bool) → node.branches ≡ b → (name : Name) (rest : Path) → is_marked tree (dir ++ name ∷ rest) ≡ true → has_branches node.branches ≡ true
       by_branches none is name rest marked =
           let missing : get tree (dir ++ name ∷ rest) ≡ None = get-below tree node dir (name ∷ rest) e ∙ ap (λ b. option_and_then (λ sub. get sub rest) (child b name)) is in
           absurd (false≢true (sym (marked_at tree (dir ++ name ∷ rest) None missing) ∙ marked))
@@ -168,25 +168,25 @@ module _ (tree : Tree Bool) (leads : LeadsToMarks tree) where
       let found = any_marked tree (is_below dir) h in let below = below_dir dir found.0 found.1.1 in
       false≢true (sym (missing_below dir (below.0 ∷ below.1.0) e) ∙ ap (is_marked tree) (sym below.1.1) ∙ found.1.0))
 
-  pub leads_to-child : (dir : Path) (node : Tree Bool) (name : Name) → get tree dir ≡ Some node → named_by has_children node.1 name ≡ leads_to_wanted (marked_paths tree) (dir ++ name ∷ [])
-  leads_to-child dir node name e = by_child (child node.1 name) (get-child tree node dir name e)
+  pub leads_to-child : (dir : Path) (node : Tree Bool) (name : Name) → get tree dir ≡ Some node → named_by has_children node.branches name ≡ leads_to_wanted (marked_paths tree) (dir ++ name ∷ [])
+  leads_to-child dir node name e = by_child (child node.branches name) (get-child tree node dir name e)
     where
       by_child : (o : Option (Tree Bool)) → get tree (dir ++ name ∷ []) ≡ o → passes has_children o ≡ leads_to_wanted (marked_paths tree) (dir ++ name ∷ [])
       by_child None is = sym (leads-none (dir ++ name ∷ []) is)
       by_child (Some sub) is = sym (leads-get (dir ++ name ∷ []) sub is)
 
-  pub wanted-child : (dir : Path) (node : Tree Bool) (name : Name) → get tree dir ≡ Some node → named_by has_mark node.1 name ≡ is_wanted (marked_paths tree) (dir ++ name ∷ [])
-  wanted-child dir node name e = sym (is_wanted-marked tree (dir ++ name ∷ []) ∙ marked_at tree (dir ++ name ∷ []) (child node.1 name) (get-child tree node dir name e))
+  pub wanted-child : (dir : Path) (node : Tree Bool) (name : Name) → get tree dir ≡ Some node → named_by has_mark node.branches name ≡ is_wanted (marked_paths tree) (dir ++ name ∷ [])
+  wanted-child dir node name e = sym (is_wanted-marked tree (dir ++ name ∷ []) ∙ marked_at tree (dir ++ name ∷ []) (child node.branches name) (get-child tree node dir name e))
 
   -- a node below the root is at or above a mark
-  pub prefix-child : (dir : Path) (node : Tree Bool) (name : Name) → get tree dir ≡ Some node → named_by any_node node.1 name ≡ leads_to_prefix (marked_paths tree) (dir ++ name ∷ [])
-  prefix-child dir node name e = by_child (child node.1 name) (get-child tree node dir name e)
+  pub prefix-child : (dir : Path) (node : Tree Bool) (name : Name) → get tree dir ≡ Some node → named_by any_node node.branches name ≡ leads_to_prefix (marked_paths tree) (dir ++ name ∷ [])
+  prefix-child dir node name e = by_child (child node.branches name) (get-child tree node dir name e)
     where
       p : Path
       p = dir ++ name ∷ []
 
-      there : (v : Bool) (b : Branches Bool) → get tree p ≡ Some (v, b) → leads_to_prefix (marked_paths tree) p ≡ true
-      there true b is = marked_any tree (is_at_or_below p) p (marked_at tree p (Some (true, b)) is) (ap (is_at_or_below p) (sym (append-nil p)) ∙ is_at_or_below-append p [])
+      there : (v : Bool) (b : Branches Bool) → get tree p ≡ Some (tree_of v b) → leads_to_prefix (marked_paths tree) p ≡ true
+      there true b is = marked_any tree (is_at_or_below p) p (marked_at tree p (Some (tree_of true b)) is) (ap (is_at_or_below p) (sym (append-nil p)) ∙ is_at_or_below-append p [])
       there false none is = absurd (not_idle dir name is)
       there false (branch n u x y) is = let found = mark_below (branch n u x y) p false is refl in marked_any tree (is_at_or_below p) (p ++ found.0 ∷ found.1.0) found.1.1 (is_at_or_below-append p (found.0 ∷ found.1.0))
 
@@ -194,14 +194,14 @@ module _ (tree : Tree Bool) (leads : LeadsToMarks tree) where
       by_child None is = sym (false_if _ (λ h.
           let found = any_marked tree (is_at_or_below p) h in let below = below_base p found.0 found.1.1 in
           false≢true (sym (missing_below p below.0 is) ∙ ap (is_marked tree) (sym below.1) ∙ found.1.0)))
-      by_child (Some sub) is = sym (there sub.0 sub.1 is)
+      by_child (Some sub) is = sym (there sub.value sub.branches is)
 
   -- a node has children where one of them has a mark or children
-  files_or_dirs : (dir : Path) (v : Bool) (b : Branches Bool) → get tree dir ≡ Some (v, b) → (any_child has_children b || any_child has_mark b) ≡ has_branches b
+  files_or_dirs : (dir : Path) (v : Bool) (b : Branches Bool) → get tree dir ≡ Some (tree_of v b) → (any_child has_children b || any_child has_mark b) ≡ has_branches b
   files_or_dirs dir v none e = refl
-  files_or_dirs dir v (branch n value below after) e = by_value value below (get-child tree (v, branch n value below after) dir n e ∙ child-first n value below after)
+  files_or_dirs dir v (branch n value below after) e = by_value value below (get-child tree (tree_of v (branch n value below after)) dir n e ∙ child-first n value below after)
     where
-      by_value : (w : Bool) (b : Branches Bool) → get tree (dir ++ n ∷ []) ≡ Some (w, b) → (any_child has_children (branch n w b after) || any_child has_mark (branch n w b after)) ≡ true
+      by_value : (w : Bool) (b : Branches Bool) → get tree (dir ++ n ∷ []) ≡ Some (tree_of w b) → (any_child has_children (branch n w b after) || any_child has_mark (branch n w b after)) ≡ true
       by_value true b is = or_right (any_child has_children (branch n true b after)) _ refl
       by_value false none is = absurd (not_idle dir n is)
       by_value false (branch m u x y) is = refl
@@ -211,9 +211,9 @@ module _ (tree : Tree Bool) (leads : LeadsToMarks tree) where
   nodes_or_marks (branch n value below after) = refl
 
   -- the answers of a node are those of the list of marked paths
-  pub files_are : (dir : Path) (node : Tree Bool) → get tree dir ≡ Some node → children_answer has_children has_mark node.1 ≡ files_answer (marked_paths tree) dir
+  pub files_are : (dir : Path) (node : Tree Bool) → get tree dir ≡ Some node → children_answer has_children has_mark node.branches ≡ files_answer (marked_paths tree) dir
   files_are dir node e =
-      let some : (any_child has_children node.1 || any_child has_mark node.1) ≡ leads_to_wanted (marked_paths tree) dir = files_or_dirs dir node.0 node.1 e ∙ sym (leads-get dir node e) in
+      let some : (any_child has_children node.branches || any_child has_mark node.branches) ≡ leads_to_wanted (marked_paths tree) dir = files_or_dirs dir node.value node.branches e ∙ sym (leads-get dir node e) in
       λ i. if some i then specific (λ name. leads_to-child dir node name e i) (λ name. wanted-child dir node name e i) else nothing
 
   pub no_files_are : (dir : Path) → get tree dir ≡ None → nothing ≡ files_answer (marked_paths tree) dir
@@ -222,10 +222,10 @@ module _ (tree : Tree Bool) (leads : LeadsToMarks tree) where
   abbrev below_answer : Path → Answer
   below_answer dir = if leads_to_wanted (marked_paths tree) dir then specific (λ name. leads_to_prefix (marked_paths tree) (dir ++ name ∷ [])) (λ name. is_wanted (marked_paths tree) (dir ++ name ∷ [])) else nothing
 
-  pub prefixes_are : (dir : Path) (node : Tree Bool) → get tree dir ≡ Some node → has_prefix (marked_paths tree) dir ≡ false → children_answer any_node has_mark node.1 ≡ prefix_answer (marked_paths tree) dir
+  pub prefixes_are : (dir : Path) (node : Tree Bool) → get tree dir ≡ Some node → has_prefix (marked_paths tree) dir ≡ false → children_answer any_node has_mark node.branches ≡ prefix_answer (marked_paths tree) dir
   prefixes_are dir node e refused =
-      let some : (any_child any_node node.1 || any_child has_mark node.1) ≡ leads_to_wanted (marked_paths tree) dir = nodes_or_marks node.1 ∙ sym (leads-get dir node e) in
-      let named : children_answer any_node has_mark node.1 ≡ below_answer dir = λ i. if some i then specific (λ name. prefix-child dir node name e i) (λ name. wanted-child dir node name e i) else nothing in
+      let some : (any_child any_node node.branches || any_child has_mark node.branches) ≡ leads_to_wanted (marked_paths tree) dir = nodes_or_marks node.branches ∙ sym (leads-get dir node e) in
+      let named : children_answer any_node has_mark node.branches ≡ below_answer dir = λ i. if some i then specific (λ name. prefix-child dir node name e i) (λ name. wanted-child dir node name e i) else nothing in
       named ∙ ap (λ b. if b then all_recursively else below_answer dir) (sym refused)
 
   pub no_prefixes_are : (dir : Path) → get tree dir ≡ None → has_prefix (marked_paths tree) dir ≡ false → nothing ≡ prefix_answer (marked_paths tree) dir
@@ -234,36 +234,36 @@ module _ (tree : Tree Bool) (leads : LeadsToMarks tree) where
       none_below ∙ ap (λ b. if b then all_recursively else below_answer dir) (sym refused)
 
 -- a marked node on the way to a path
-on_the_way : (path : Path) (tree : Tree Bool) → list_any (λ (step : Tree Bool × Path). step.0.0) (nodes_on tree path) ≡ true → (front : Path) × ((rest : Path) × ((path ≡ front ++ rest) × (is_marked tree front ≡ true)))
-on_the_way [] tree h = ([], ([], (refl, elim (or_cases tree.0 false h) [ inl e ↦ e | inr e ↦ absurd (false≢true e) ])))
+on_the_way : (path : Path) (tree : Tree Bool) → list_any (λ (step : Tree Bool × Path). step.0.value) (nodes_on tree path) ≡ true → (front : Path) × ((rest : Path) × ((path ≡ front ++ rest) × (is_marked tree front ≡ true)))
+on_the_way [] tree h = ([], ([], (refl, elim (or_cases tree.value false h) [ inl e ↦ e | inr e ↦ absurd (false≢true e) ])))
 on_the_way (name ∷ path) tree h =
-    elim (or_cases tree.0 _ h) [
+    elim (or_cases tree.value _ h) [
       | inl e ↦ ([], (name ∷ path, (refl, e)))
-      | inr e ↦ by_child (child tree.1 name) refl (on_the_way path) e
+      | inr e ↦ by_child (child tree.branches name) refl (on_the_way path) e
     ]
   where
-    by_child : (o : Option (Tree Bool)) → child tree.1 name ≡ o → ((sub : Tree Bool) → list_any (λ (step : Tree Bool × Path). step.0.0) (nodes_on sub path) ≡ true → (front : Path) × ((rest : Path) × ((path ≡ front ++ rest) × (is_marked sub front ≡ true)))) →
-        list_any (λ (step : Tree Bool × Path). step.0.0) (elim o [ None ↦ [] | Some sub ↦ nodes_on sub path ]) ≡ true → (front : Path) × ((rest : Path) × ((name ∷ path ≡ front ++ rest) × (is_marked tree front ≡ true)))
+    by_child : (o : Option (Tree Bool)) → child tree.branches name ≡ o → ((sub : Tree Bool) → list_any (λ (step : Tree Bool × Path). step.0.value) (nodes_on sub path) ≡ true → (front : Path) × ((rest : Path) × ((path ≡ front ++ rest) × (is_marked sub front ≡ true)))) →
+        list_any (λ (step : Tree Bool × Path). step.0.value) (elim o [ None ↦ [] | Some sub ↦ nodes_on sub path ]) ≡ true → (front : Path) × ((rest : Path) × ((name ∷ path ≡ front ++ rest) × (is_marked tree front ≡ true)))
     by_child None is further e = absurd (false≢true e)
     by_child (Some sub) is further e =
         let found = further sub e in
-        (name ∷ found.0, (found.1.0, (ap (λ l. name ∷ l) found.1.1.0, ap (λ o. is_some_true (option_map (λ (node : Tree Bool). node.0) (option_and_then (λ n. get n found.0) o))) is ∙ found.1.1.1)))
+        (name ∷ found.0, (found.1.0, (ap (λ l. name ∷ l) found.1.1.0, ap (λ o. is_some_true (option_map (λ (node : Tree Bool). node.value) (option_and_then (λ n. get n found.0) o))) is ∙ found.1.1.1)))
 
-pass_the_way : (front rest : Path) (tree : Tree Bool) → is_marked tree front ≡ true → list_any (λ (step : Tree Bool × Path). step.0.0) (nodes_on tree (front ++ rest)) ≡ true
+pass_the_way : (front rest : Path) (tree : Tree Bool) → is_marked tree front ≡ true → list_any (λ (step : Tree Bool × Path). step.0.value) (nodes_on tree (front ++ rest)) ≡ true
 pass_the_way [] [] tree h = or_left _ _ h
 pass_the_way [] (name ∷ rest) tree h = or_left _ _ h
-pass_the_way (name ∷ front) rest tree h = or_right tree.0 _ (by_child (child tree.1 name) (pass_the_way front rest) h)
+pass_the_way (name ∷ front) rest tree h = or_right tree.value _ (by_child (child tree.branches name) (pass_the_way front rest) h)
   where
-    by_child : (o : Option (Tree Bool)) → ((sub : Tree Bool) → is_marked sub front ≡ true → list_any (λ (step : Tree Bool × Path). step.0.0) (nodes_on sub (front ++ rest)) ≡ true) →
-        is_some_true (option_map (λ (node : Tree Bool). node.0) (option_and_then (λ n. get n front) o)) ≡ true → list_any (λ (step : Tree Bool × Path). step.0.0) (elim o [ None ↦ [] | Some sub ↦ nodes_on sub (front ++ rest) ]) ≡ true
+    by_child : (o : Option (Tree Bool)) → ((sub : Tree Bool) → is_marked sub front ≡ true → list_any (λ (step : Tree Bool × Path). step.0.value) (nodes_on sub (front ++ rest)) ≡ true) →
+        is_some_true (option_map (λ (node : Tree Bool). node.value) (option_and_then (λ n. get n front) o)) ≡ true → list_any (λ (step : Tree Bool × Path). step.0.value) (elim o [ None ↦ [] | Some sub ↦ nodes_on sub (front ++ rest) ]) ≡ true
     by_child None further e = absurd (false≢true e)
     by_child (Some sub) further e = further sub e
 
-pub has_prefix-way : (tree : Tree Bool) (path : Path) → list_any (λ (step : Tree Bool × Path). step.0.0) (nodes_on tree path) ≡ has_prefix (marked_paths tree) path
+pub has_prefix-way : (tree : Tree Bool) (path : Path) → list_any (λ (step : Tree Bool × Path). step.0.value) (nodes_on tree path) ≡ has_prefix (marked_paths tree) path
 has_prefix-way tree path =
     both_ways _ (has_prefix (marked_paths tree) path)
     (λ h. let found = on_the_way path tree h in marked_any tree (λ prefix. is_at_or_below prefix path) found.0 found.1.1.1 (ap (is_at_or_below found.0) found.1.1.0 ∙ is_at_or_below-append found.0 found.1.0))
     (λ h.
     let found = any_marked tree (λ prefix. is_at_or_below prefix path) h in
     let below = below_base found.0 path found.1.1 in
-    ap (λ p. list_any (λ (step : Tree Bool × Path). step.0.0) (nodes_on tree p)) below.1 ∙ pass_the_way found.0 below.0 tree found.1.0)
+    ap (λ p. list_any (λ (step : Tree Bool × Path). step.0.value) (nodes_on tree p)) below.1 ∙ pass_the_way found.0 below.0 tree found.1.0)

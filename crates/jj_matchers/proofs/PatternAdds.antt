@@ -3,7 +3,7 @@ use Rattle.std.proofs.Common.{◌≡◌, ◌≢◌, ◌∙◌, ap, sym, refl, Bo
 use mathlib.Core.Bool.{false≢true}
 use Rattle.std.specs.Option.{option_map}
 use Rattle.jj_paths.specs.Paths.{Path}
-use Rattle.jj_paths.specs.Tree.{Tree, get, value_at, IsEdited}
+use Rattle.jj_paths.specs.Tree.{Tree, tree_of, get, value_at, IsEdited}
 use Rattle.jj_globs.specs.GlobMeaning.{GlobSpec}
 use Rattle.jj_matchers.specs.Wanted.{is_at_or_below}
 use Rattle.jj_matchers.specs.PatternTree.{has_globs, marks_of, globs_or_none, globs_at, AddsGlob}
@@ -20,11 +20,11 @@ has_globs-push : (globs : List GlobSpec) (glob : GlobSpec) → has_globs (globs 
 has_globs-push [] glob = refl
 has_globs-push (g ∷ globs) glob = refl
 
-module _ (old new node : Tree (List GlobSpec)) (dir : Path) (glob : GlobSpec) (edited : IsEdited IsBare old dir node (node.0 ++ glob ∷ [], node.1) new) where
+module _ (old new node : Tree (List GlobSpec)) (dir : Path) (glob : GlobSpec) (edited : IsEdited IsBare old dir node (tree_of (node.value ++ glob ∷ []) node.branches) new) where
   changed : Tree (List GlobSpec)
-  changed = (node.0 ++ glob ∷ [], node.1)
+  changed = tree_of (node.value ++ glob ∷ []) node.branches
 
-  node_here : get new dir ≡ Some (node.0 ++ glob ∷ [], node.1)
+  node_here : get new dir ≡ Some (tree_of (node.value ++ glob ∷ []) node.branches)
   node_here = ap (get new) (sym (append-nil dir)) ∙ edited.within []
 
   -- what was made on the way has no globs
@@ -44,7 +44,7 @@ module _ (old new node : Tree (List GlobSpec)) (dir : Path) (glob : GlobSpec) (e
       within [] is = absurd (off (is ∙ append-nil dir))
       within (name ∷ rest) is =
           ap (value_at new) is
-          ∙ ap (option_map (λ (n : Tree (List GlobSpec)). n.0)) (edited.within (name ∷ rest) ∙ sym (get-below edited.tree node dir (name ∷ rest) edited.at_path))
+          ∙ ap (option_map (λ (n : Tree (List GlobSpec)). n.value)) (edited.within (name ∷ rest) ∙ sym (get-below edited.tree node dir (name ∷ rest) edited.at_path))
           ∙ ap (value_at edited.tree) (sym is)
 
       by_place : (t : Bool) → is_at_or_below dir path ≡ t → value_at new path ≡ value_at edited.tree path
@@ -53,7 +53,7 @@ module _ (old new node : Tree (List GlobSpec)) (dir : Path) (glob : GlobSpec) (e
 
   marked : IsMarkedAt (marks_of old) dir (marks_of new)
   marked = record {
-    here = value_at-marks new dir ∙ ap (λ o. option_map has_globs (option_map (λ (n : Tree (List GlobSpec)). n.0) o)) node_here ∙ ap (λ b. Some b) (has_globs-push node.0 glob);
+    here = value_at-marks new dir ∙ ap (λ o. option_map has_globs (option_map (λ (n : Tree (List GlobSpec)). n.value) o)) node_here ∙ ap (λ b. Some b) (has_globs-push node.value glob);
     keeps = λ path v off e. keeps path v off (value_at old path) refl (sym (value_at-marks old path) ∙ e);
     makes = λ path v off e f. makes path v off (value_at old path) refl (sym (value_at-marks old path) ∙ e) (value_at edited.tree path) refl (sym (ap (option_map has_globs) (same_value path off)) ∙ sym (value_at-marks new path) ∙ f);
   }
@@ -81,8 +81,8 @@ module _ (old new node : Tree (List GlobSpec)) (dir : Path) (glob : GlobSpec) (e
 
   pub adds-edited : AddsGlob old dir glob new
   adds-edited = record {
-    here = ap (λ o. globs_or_none (option_map (λ (n : Tree (List GlobSpec)). n.0) o)) node_here
-        ∙ ap (λ l. l ++ glob ∷ []) (sym (ap (λ o. globs_or_none (option_map (λ (n : Tree (List GlobSpec)). n.0) o)) edited.at_path) ∙ kept dir);
+    here = ap (λ o. globs_or_none (option_map (λ (n : Tree (List GlobSpec)). n.value) o)) node_here
+        ∙ ap (λ l. l ++ glob ∷ []) (sym (ap (λ o. globs_or_none (option_map (λ (n : Tree (List GlobSpec)). n.value) o)) edited.at_path) ∙ kept dir);
     others = λ path off. ap globs_or_none (same_value path off) ∙ kept path;
     leads = leads-set (marks_of old) (marks_of new) dir marked;
   }

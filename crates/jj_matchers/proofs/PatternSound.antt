@@ -10,11 +10,11 @@ use Rattle.std.proofs.lemmas.Slice.Eq.{bytes_eq-Decides}
 use Rattle.jj_paths.specs.Paths.{Name, Path, path_text}
 use Rattle.jj_matchers.specs.Answers.{Answer, all_recursively, specific, nothing, IsSound}
 use Rattle.jj_globs.specs.GlobMeaning.{GlobSpec}
-use Rattle.jj_matchers.specs.Listed.{ChoosesFrom, names_of}
+use Rattle.jj_matchers.specs.Candidates.{ChoosesFrom, names_of}
 use Rattle.jj_matchers.specs.Wanted.{is_at_or_below, has_prefix, leads_to_wanted, leads_to_prefix}
 use Rattle.jj_matchers.specs.Patterns.{Patterns, is_prefix_match, accepts_tail, covers_tail, tail_passes, pattern_dirs, is_accepted, is_covered, opens_to_patterns, patterns_answer, AcceptsText, IsAccepted, TellsAccepted}
 use Rattle.jj_matchers.proofs.PatternTexts.{Tells-is_match, Tells-is_prefix_match, prefix_match_below, stars_fit}
-use Rattle.jj_matchers.proofs.Listed.{leads_among}
+use Rattle.jj_matchers.proofs.Candidates.{leads_among}
 use Rattle.jj_matchers.proofs.Wanted.{or_left, false_if, both_true, any_implies, list_any-map, is_at_or_below-append, at_or_below_more, prefix_below, prefix_deeper}
 
 -- 1. Tails.

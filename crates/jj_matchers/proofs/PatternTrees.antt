@@ -12,8 +12,8 @@ use Rattle.std.specs.Ordering.{is_lt}
 use Rattle.std.proofs.lemmas.List.Folds.{list_any-append}
 use Rattle.jj_paths.specs.Paths.{Name, Path, name_cmp}
 use Rattle.jj_paths.specs.Orders.{path_eq, path_eq-Decides}
-use Rattle.jj_paths.specs.Tree.{Tree, Branches, none, branch, child, children, get, has_branches, nodes_on, value_at}
-use Rattle.jj_paths.specs.Listed.{nodes_under}
+use Rattle.jj_paths.specs.Tree.{Tree, tree_of, Branches, none, branch, child, children, get, has_branches, nodes_on, value_at}
+use Rattle.jj_paths.specs.Nodes.{NodeAt, nodes_under}
 use Rattle.jj_matchers.specs.Answers.{Answer, specific, nothing}
 use Rattle.jj_globs.specs.GlobMeaning.{GlobSpec}
 use Rattle.jj_matchers.specs.Wanted.{is_at_or_below, is_below, is_wanted, HasSamePaths, has_prefix, leads_to_wanted, leads_to_prefix}
@@ -49,13 +49,13 @@ child-marks none name = refl
 child-marks (branch n globs below after) name = by_name (bytes_eq n name) (child-marks after name)
   where
     by_name : (t : Bool) → child (marked_branches after) name ≡ option_map marks_of (child after name) →
-        (if t then Some (has_globs globs, marked_branches below) else child (marked_branches after) name) ≡ option_map marks_of (if t then Some (globs, below) else child after name)
+        (if t then Some (tree_of (has_globs globs) (marked_branches below)) else child (marked_branches after) name) ≡ option_map marks_of (if t then Some (tree_of globs below) else child after name)
     by_name true later = refl
     by_name false later = later
 
 pub get-marks : (path : Path) (tree : Tree (List GlobSpec)) → get (marks_of tree) path ≡ option_map marks_of (get tree path)
 get-marks [] tree = refl
-get-marks (name ∷ rest) tree = ap (option_and_then (λ (sub : Tree Bool). get sub rest)) (child-marks tree.1 name) ∙ by_child (child tree.1 name) (get-marks rest)
+get-marks (name ∷ rest) tree = ap (option_and_then (λ (sub : Tree Bool). get sub rest)) (child-marks tree.branches name) ∙ by_child (child tree.branches name) (get-marks rest)
   where
     by_child : (o : Option (Tree (List GlobSpec))) → ((sub : Tree (List GlobSpec)) → get (marks_of sub) rest ≡ option_map marks_of (get sub rest)) →
         option_and_then (λ (sub : Tree Bool). get sub rest) (option_map marks_of o) ≡ option_map marks_of (option_and_then (λ (sub : Tree (List GlobSpec)). get sub rest) o)
@@ -63,9 +63,9 @@ get-marks (name ∷ rest) tree = ap (option_and_then (λ (sub : Tree Bool). get 
     by_child (Some sub) further = further sub
 
 pub value_at-marks : (tree : Tree (List GlobSpec)) (path : Path) → value_at (marks_of tree) path ≡ option_map has_globs (value_at tree path)
-value_at-marks tree path = ap (option_map (λ (node : Tree Bool). node.0)) (get-marks path tree) ∙ by_node (get tree path)
+value_at-marks tree path = ap (option_map (λ (node : Tree Bool). node.value)) (get-marks path tree) ∙ by_node (get tree path)
   where
-    by_node : (o : Option (Tree (List GlobSpec))) → option_map (λ (node : Tree Bool). node.0) (option_map marks_of o) ≡ option_map has_globs (option_map (λ (node : Tree (List GlobSpec)). node.0) o)
+    by_node : (o : Option (Tree (List GlobSpec))) → option_map (λ (node : Tree Bool). node.value) (option_map marks_of o) ≡ option_map has_globs (option_map (λ (node : Tree (List GlobSpec)). node.value) o)
     by_node None = refl
     by_node (Some node) = refl
 
@@ -82,13 +82,13 @@ marked_children (node ∷ nodes) = (node.0, marks_of node.1) ∷ marked_children
 
 pub children-marks : (b : Branches (List GlobSpec)) → children (marked_branches b) ≡ marked_children (children b)
 children-marks none = refl
-children-marks (branch n globs below after) = ap (λ l. (n, (has_globs globs, marked_branches below)) ∷ l) (children-marks after)
+children-marks (branch n globs below after) = ap (λ l. (n, tree_of (has_globs globs) (marked_branches below)) ∷ l) (children-marks after)
 
 -- 3. Patterns.
 
 module _ (tree : Tree (List GlobSpec)) where
   abbrev paths : List Path
-  paths = [] ∷ map (λ (node : Path × Tree (List GlobSpec)). node.0) (nodes_under [] tree.1)
+  paths = [] ∷ map (λ (found : NodeAt (List GlobSpec)). found.path) (nodes_under [] tree.branches)
 
   at_dir : (test : Path × GlobSpec → Bool) (dir : Path) → list_any test (patterns_at tree dir) ≡ list_any (λ glob. test (dir, glob)) (globs_at tree dir)
   at_dir test dir = any-map (λ glob. (dir, glob)) test (globs_at tree dir)
@@ -101,13 +101,13 @@ module _ (tree : Tree (List GlobSpec)) where
   -- a directory with globs is the path of a node
   listed : (dir : Path) (node : Tree (List GlobSpec)) → get tree dir ≡ Some node → list_any (path_eq dir) paths ≡ true
   listed [] node e = refl
-  listed (name ∷ rest) node e = path_listed tree.1 [] name rest node [] e
+  listed (name ∷ rest) node e = path_listed tree.branches [] name rest node [] e
 
   pub node_of : (dir : Path) (test : GlobSpec → Bool) → list_any test (globs_at tree dir) ≡ true → (node : Tree (List GlobSpec)) × (get tree dir ≡ Some node)
   node_of dir test h = by_node (get tree dir) refl
     where
       by_node : (o : Option (Tree (List GlobSpec))) → get tree dir ≡ o → (node : Tree (List GlobSpec)) × (get tree dir ≡ Some node)
-      by_node None e = absurd (false≢true (sym (ap (λ o. list_any test (globs_or_none (option_map (λ (node : Tree (List GlobSpec)). node.0) o))) e) ∙ h))
+      by_node None e = absurd (false≢true (sym (ap (λ o. list_any test (globs_or_none (option_map (λ (node : Tree (List GlobSpec)). node.value) o))) e) ∙ h))
       by_node (Some node) e = (node, e)
 
   pub pattern_any : (test : Path × GlobSpec → Bool) (dir : Path) → list_any (λ glob. test (dir, glob)) (globs_at tree dir) ≡ true → list_any test (patterns_of tree) ≡ true
@@ -135,10 +135,10 @@ module _ {V : Type 0} (test : Tree V × Path → Bool) where
   on_the_way (name ∷ path) tree h =
       elim (or_cases (test (tree, name ∷ path)) _ h) [
         | inl e ↦ record { front = []; tail = name ∷ path; node = tree; is = refl; at = refl; passes = e }
-        | inr e ↦ by_child (child tree.1 name) refl (on_the_way path) e
+        | inr e ↦ by_child (child tree.branches name) refl (on_the_way path) e
       ]
     where
-      by_child : (o : Option (Tree V)) → child tree.1 name ≡ o → ((sub : Tree V) → list_any test (nodes_on sub path) ≡ true → OnTheWay sub path) →
+      by_child : (o : Option (Tree V)) → child tree.branches name ≡ o → ((sub : Tree V) → list_any test (nodes_on sub path) ≡ true → OnTheWay sub path) →
           list_any test (elim o [ None ↦ [] | Some sub ↦ nodes_on sub path ]) ≡ true → OnTheWay tree (name ∷ path)
       by_child None is further e = absurd (false≢true e)
       by_child (Some sub) is further e =
@@ -155,7 +155,7 @@ module _ {V : Type 0} (test : Tree V × Path → Bool) where
   pub pass_the_way : (front tail : Path) (tree node : Tree V) → get tree front ≡ Some node → test (node, tail) ≡ true → list_any test (nodes_on tree (front ++ tail)) ≡ true
   pass_the_way [] [] tree node at h = let same : node ≡ tree = cc in or_left (test (tree, [])) false (ap (λ (n : Tree V). test (n, [])) (sym same) ∙ h)
   pass_the_way [] (name ∷ tail) tree node at h = let same : node ≡ tree = cc in or_left (test (tree, name ∷ tail)) _ (ap (λ (n : Tree V). test (n, name ∷ tail)) (sym same) ∙ h)
-  pass_the_way (name ∷ front) tail tree node at h = or_right (test (tree, name ∷ (front ++ tail))) _ (by_child (child tree.1 name) (pass_the_way front tail) at)
+  pass_the_way (name ∷ front) tail tree node at h = or_right (test (tree, name ∷ (front ++ tail))) _ (by_child (child tree.branches name) (pass_the_way front tail) at)
     where
       by_child : (o : Option (Tree V)) → ((sub node : Tree V) → get sub front ≡ Some node → test (node, tail) ≡ true → list_any test (nodes_on sub (front ++ tail)) ≡ true) →
           option_and_then (λ (n : Tree V). get n front) o ≡ Some node → list_any test (elim o [ None ↦ [] | Some sub ↦ nodes_on sub (front ++ tail) ]) ≡ true
@@ -179,7 +179,7 @@ always (name ∷ dir) (first ∷ path) = ap (λ b. bytes_eq name first && b) (al
 module _ (tree : Tree (List GlobSpec)) where
   module _ (test : GlobSpec → Path → Bool) (path : Path) where
     abbrev step_test : Tree (List GlobSpec) × Path → Bool
-    step_test step = list_any (λ glob. test glob step.1) step.0.0
+    step_test step = list_any (λ glob. test glob step.1) step.0.value
 
     abbrev pattern_test : Path × GlobSpec → Bool
     pattern_test pattern = tail_passes pattern.0 (test pattern.1) path
@@ -187,7 +187,7 @@ module _ (tree : Tree (List GlobSpec)) where
     to_patterns : list_any step_test (nodes_on tree path) ≡ true → list_any pattern_test (patterns_of tree) ≡ true
     to_patterns h =
         let found = on_the_way step_test path tree h in
-        let globs : globs_at tree found.front ≡ found.node.0 = ap (λ o. globs_or_none (option_map (λ (node : Tree (List GlobSpec)). node.0) o)) found.at in
+        let globs : globs_at tree found.front ≡ found.node.value = ap (λ o. globs_or_none (option_map (λ (node : Tree (List GlobSpec)). node.value) o)) found.at in
         let here : list_any (λ glob. test glob found.tail) (globs_at tree found.front) ≡ true = ap (list_any (λ glob. test glob found.tail)) globs ∙ found.passes in
         pattern_any tree pattern_test found.front
         (any_implies (λ glob. test glob found.tail) (λ glob. tail_passes found.front (test glob) path)
@@ -200,7 +200,7 @@ module _ (tree : Tree (List GlobSpec)) where
         let one = some_of (λ glob. tail_passes dir (test glob) path) (globs_at tree dir) found.1 in
         let way = passed (test one.0) dir path one.1 in
         let node = node_of tree dir (λ glob. tail_passes dir (test glob) path) found.1 in
-        let globs : globs_at tree dir ≡ node.0.0 = ap (λ o. globs_or_none (option_map (λ (n : Tree (List GlobSpec)). n.0) o)) node.1 in
+        let globs : globs_at tree dir ≡ node.0.value = ap (λ o. globs_or_none (option_map (λ (n : Tree (List GlobSpec)). n.value) o)) node.1 in
         let here : list_any (λ glob. test glob way.tail) (globs_at tree dir) ≡ true =
         any_implies (λ glob. tail_passes dir (test glob) path) (λ glob. test glob way.tail)
         (λ glob e. sym (ap (tail_passes dir (test glob)) way.is ∙ tail_passes-append (test glob) dir way.tail) ∙ e) (globs_at tree dir) found.1 in
@@ -212,10 +212,10 @@ module _ (tree : Tree (List GlobSpec)) where
   abbrev pub dirs : List Path
   dirs = map (λ (pattern : Path × GlobSpec). pattern.0) (patterns_of tree)
 
-  pub way_has : (path : Path) → list_any (λ (step : Tree (List GlobSpec) × Path). has_globs step.0.0) (nodes_on tree path) ≡ has_prefix dirs path
+  pub way_has : (path : Path) → list_any (λ (step : Tree (List GlobSpec) × Path). has_globs step.0.value) (nodes_on tree path) ≡ has_prefix dirs path
   way_has path =
-      let steps : list_any (λ (step : Tree (List GlobSpec) × Path). has_globs step.0.0) (nodes_on tree path) ≡ list_any (λ (step : Tree (List GlobSpec) × Path). list_any (λ glob. true) step.0.0) (nodes_on tree path) =
-      λ i. list_any (λ (step : Tree (List GlobSpec) × Path). sym (any_true step.0.0) i) (nodes_on tree path) in
+      let steps : list_any (λ (step : Tree (List GlobSpec) × Path). has_globs step.0.value) (nodes_on tree path) ≡ list_any (λ (step : Tree (List GlobSpec) × Path). list_any (λ glob. true) step.0.value) (nodes_on tree path) =
+      λ i. list_any (λ (step : Tree (List GlobSpec) × Path). sym (any_true step.0.value) i) (nodes_on tree path) in
       let patterns : list_any (λ (pattern : Path × GlobSpec). tail_passes pattern.0 (λ tail. true) path) (patterns_of tree) ≡ list_any (λ (pattern : Path × GlobSpec). is_at_or_below pattern.0 path) (patterns_of tree) =
       λ i. list_any (λ (pattern : Path × GlobSpec). always pattern.0 path i) (patterns_of tree) in
       steps ∙ way_passes (λ glob tail. true) path ∙ patterns ∙ sym (any-map (λ (pattern : Path × GlobSpec). pattern.0) (λ dir. is_at_or_below dir path) (patterns_of tree))
@@ -259,14 +259,14 @@ module _ (tree : Tree (List GlobSpec)) where
     nodes none = refl
     nodes (branch n value below after) = refl
 
-    pub children_are : (dir : Path) (node : Tree (List GlobSpec)) → get tree dir ≡ Some node → children_answer any_node no_node (marked_branches node.1) ≡ children_on_the_way dir
+    pub children_are : (dir : Path) (node : Tree (List GlobSpec)) → get tree dir ≡ Some node → children_answer any_node no_node (marked_branches node.branches) ≡ children_on_the_way dir
     children_are dir node e =
         let there : get (marks_of tree) dir ≡ Some (marks_of node) = leads_there dir (Some node) e in
-        let some : (any_child any_node (marked_branches node.1) || any_child no_node (marked_branches node.1)) ≡ leads_to_wanted dirs dir =
-        nodes (marked_branches node.1) ∙ sym (leads-get (marks_of tree) leads dir (marks_of node) there) ∙ same_dirs (is_below dir) in
+        let some : (any_child any_node (marked_branches node.branches) || any_child no_node (marked_branches node.branches)) ≡ leads_to_wanted dirs dir =
+        nodes (marked_branches node.branches) ∙ sym (leads-get (marks_of tree) leads dir (marks_of node) there) ∙ same_dirs (is_below dir) in
         λ i. if some i then specific
         (λ name. (prefix-child (marks_of tree) leads dir (marks_of node) name there ∙ same_dirs (is_at_or_below (dir ++ name ∷ []))) i)
-        (λ name. unmarked (child (marked_branches node.1) name) i) else nothing
+        (λ name. unmarked (child (marked_branches node.branches) name) i) else nothing
 
     pub no_children_are : (dir : Path) → get tree dir ≡ None → nothing ≡ children_on_the_way dir
     no_children_are dir e =
@@ -280,11 +280,11 @@ or_false true = refl
 or_false false = refl
 
 -- a node without globs and without children
-pub bare_tree : (tree : Tree (List GlobSpec)) → tree.0 ≡ [] → tree.1 ≡ none → (dir : Path) → globs_at tree dir ≡ []
+pub bare_tree : (tree : Tree (List GlobSpec)) → tree.value ≡ [] → tree.branches ≡ none → (dir : Path) → globs_at tree dir ≡ []
 bare_tree tree bare alone [] = bare
-bare_tree tree bare alone (name ∷ rest) = ap (λ b. globs_or_none (option_map (λ (node : Tree (List GlobSpec)). node.0) (option_and_then (λ (sub : Tree (List GlobSpec)). get sub rest) (child b name)))) alone
+bare_tree tree bare alone (name ∷ rest) = ap (λ b. globs_or_none (option_map (λ (node : Tree (List GlobSpec)). node.value) (option_and_then (λ (sub : Tree (List GlobSpec)). get sub rest) (child b name)))) alone
 
-pub bare_leads : (tree : Tree (List GlobSpec)) → tree.1 ≡ none → LeadsToGlobs tree
+pub bare_leads : (tree : Tree (List GlobSpec)) → tree.branches ≡ none → LeadsToGlobs tree
 bare_leads tree alone = leads-blank (marks_of tree) (ap marked_branches alone)
 
 pub any_more : (old new : Tree (List GlobSpec)) (dir : Path) (glob : GlobSpec) → AddsGlob old dir glob new → (path : Path) (test : GlobSpec → Bool) →

@@ -8,14 +8,14 @@ use Rattle.std.specs.List.{AllByRecursion}
 use Rattle.std.specs.List.Sorted.{IsStrictlySortedBy}
 use Rattle.jj_paths.specs.Paths.{Name, Path, name_cmp, path_cmp}
 use Rattle.jj_paths.specs.Tree.{Tree, branches_of, branch_count, children, has_branches}
-use Rattle.jj_paths.specs.Listed.{nodes_under}
+use Rattle.jj_paths.specs.Nodes.{NodeAt, node_at, nodes_under}
 use Rattle.jj_matchers.specs.declared.matchers.tree_walk.Entered.{Entered}
 use Rattle.jj_matchers.specs.Answers.{Answer, all_recursively, specific, nothing, IsSound}
 use Rattle.jj_matchers.specs.Visits.{answer_of}
 use Rattle.jj_matchers.specs.Walk.{paths_where, entered_by, is_file, is_entered, leads_to, enters, is_entered_directory}
 use Rattle.jj_matchers.specs.WalkParts.{paths_below, GoesOnBy, Enters, IsOpened, IsUnderWay, IsOnTheWay, GivesAll, left_in, left_in_all, work_left}
 use Rattle.std.specs.declared.cmp.Ordering.TheVariants.{Less}
-use Rattle.jj_matchers.proofs.Orders.{sorted_none, sorted-cons, before_below, all-append}
+use Rattle.jj_paths.proofs.PathOrders.{sorted_none, sorted-cons, before_below, all-append}
 use Rattle.jj_matchers.proofs.Walks.{path_if, path_if_true, path_if_false, branches_of-children, paths_where_first, found_step, ordered_step, none_below, nothing_below, all_anywhere}
 
 false_and : (a b : Bool) → b ≡ false → (a && b) ≡ false
@@ -32,16 +32,16 @@ module _ (accepts opens : Path → Bool) (answer : Path → Answer) where
 
   -- below `nothing` there is no file, and no directory is entered
   pub no_files : (dir : Path) (tree : Tree Bool) → GoesOnBy accepts opens answer dir nothing → paths_below (is_file accepts) dir tree ≡ []
-  no_files dir tree on = none_below (is_file accepts) dir tree.1 (λ name rest sub. false_and sub.0 _ (on.sound name rest))
+  no_files dir tree on = none_below (is_file accepts) dir tree.branches (λ name rest sub. false_and sub.value _ (on.sound name rest))
 
   pub none_entered : (dir : Path) (tree : Tree Bool) → GoesOnBy accepts opens answer dir nothing → paths_below (is_entered_directory answer) dir tree ≡ []
-  none_entered dir tree on = none_below (is_entered_directory answer) dir tree.1 (λ name rest sub. false_and (has_branches sub.1) _ (on.below name rest))
+  none_entered dir tree on = none_below (is_entered_directory answer) dir tree.branches (λ name rest sub. false_and (has_branches sub.branches) _ (on.below name rest))
 
   -- whether a directory is entered itself
-  pub entered_itself : (dir : Path) (tree : Tree Bool) (known : Answer) → GoesOnBy accepts opens answer dir known → has_branches tree.1 ≡ true → is_entered_directory answer (dir, tree) ≡ is_entered known
+  pub entered_itself : (dir : Path) (tree : Tree Bool) (known : Answer) → GoesOnBy accepts opens answer dir known → has_branches tree.branches ≡ true → is_entered_directory answer (node_at dir tree) ≡ is_entered known
   entered_itself dir tree known on e = ap (λ b. b && enters answer [] dir) e ∙ on.itself
 
-  pub not_without_children : (dir : Path) (tree : Tree Bool) → has_branches tree.1 ≡ false → is_entered_directory answer (dir, tree) ≡ false
+  pub not_without_children : (dir : Path) (tree : Tree Bool) → has_branches tree.branches ≡ false → is_entered_directory answer (node_at dir tree) ≡ false
   not_without_children dir tree e = ap (λ b. b && enters answer [] dir) e
 
   pub opened_is_under_way : (dir : Path) (known : Answer) (tree : Tree Bool) (directory : Entered) → GoesOnBy accepts opens answer dir known → IsOpened dir known tree directory → IsUnderWay accepts opens answer directory
@@ -56,7 +56,7 @@ module _ {X : Type 0} where
   all_append_parts P (x ∷ xs) ys h = let later = all_append_parts P xs ys h.1 in ((h.0, later.0), later.1)
 
 -- the directory that was entered last is the first that a walk goes on with
-pub left_in_all-snoc : (test : Path × Tree Bool → Bool) (further : List Entered) (directory : Entered) → left_in_all test (further ++ directory ∷ []) ≡ left_in test directory ++ left_in_all test further
+pub left_in_all-snoc : (test : NodeAt Bool → Bool) (further : List Entered) (directory : Entered) → left_in_all test (further ++ directory ∷ []) ≡ left_in test directory ++ left_in_all test further
 left_in_all-snoc test [] directory = sym (append-nil (left_in test directory))
 left_in_all-snoc test (first ∷ further) directory =
     ap (λ l. l ++ left_in test first) (left_in_all-snoc test further directory)
@@ -67,23 +67,23 @@ work_left-snoc [] directory = refl
 work_left-snoc (first ∷ further) directory = omega (arith, work_left-snoc further directory)
 
 -- what is left of a directory without further children
-left_none : (test : Path × Tree Bool → Bool) (directory : Entered) → directory.left.now ≡ [] → left_in test directory ≡ []
+left_none : (test : NodeAt Bool → Bool) (directory : Entered) → directory.left.now ≡ [] → left_in test directory ≡ []
 left_none test directory done = ap (λ l. paths_where test (nodes_under directory.dir (branches_of l))) done
 
-abbrev IsInOrder : (Path × Tree Bool → Bool) → Entered → Type 0
+abbrev IsInOrder : (NodeAt Bool → Bool) → Entered → Type 0
 IsInOrder test directory = IsStrictlySortedBy path_cmp (left_in test directory)
 
 -- a directory without further children is finished
-finished : (test : Path × Tree Bool → Bool) (all found : List Path) (further : List Entered) (directory : Entered) → directory.left.now ≡ [] → GivesAll test all found (further ++ directory ∷ []) → GivesAll test all found further
+finished : (test : NodeAt Bool → Bool) (all found : List Path) (further : List Entered) (directory : Entered) → directory.left.now ≡ [] → GivesAll test all found (further ++ directory ∷ []) → GivesAll test all found further
 finished test all found further directory done gives = record {
   whole = ap (λ l. found ++ l) (sym (left_in_all-snoc test further directory ∙ ap (λ l. l ++ left_in_all test further) (left_none test directory done))) ∙ gives.whole;
   ordered = λ h. gives.ordered (all-append (IsInOrder test) further (directory ∷ []) h (subst (IsStrictlySortedBy path_cmp) (sym (left_none test directory done)) sorted_none, tt));
 }
 
 -- a child adds its own path, and leaves what is below it beside what is below the children after it
-module _ (test : Path × Tree Bool → Bool) (further unfinished : List Entered) (directory : Entered) (name : Name) (sub : Tree Bool) (after : List (Name × Tree Bool)) where
+module _ (test : NodeAt Bool → Bool) (further unfinished : List Entered) (directory : Entered) (name : Name) (sub : Tree Bool) (after : List (Name × Tree Bool)) where
   past_child : (all found new : List Path) → directory.left.now ≡ (name, sub) ∷ after → is_sorted name_cmp directory.left.now ≡ true →
-      new ≡ found ++ path_if (test (directory.dir ++ name ∷ [], sub)) (directory.dir ++ name ∷ []) →
+      new ≡ found ++ path_if (test (node_at (directory.dir ++ name ∷ []) sub)) (directory.dir ++ name ∷ []) →
       left_in_all test unfinished ≡ (paths_below test (directory.dir ++ name ∷ []) sub ++ paths_where test (nodes_under directory.dir (branches_of after))) ++ left_in_all test further →
       (AllByRecursion (IsInOrder test) unfinished → AllByRecursion (IsInOrder test) further × IsStrictlySortedBy path_cmp (paths_below test (directory.dir ++ name ∷ []) sub) × IsStrictlySortedBy path_cmp (paths_where test (nodes_under directory.dir (branches_of after)))) →
       GivesAll test all found (further ++ directory ∷ []) → GivesAll test all new unfinished
@@ -118,7 +118,7 @@ module _ (accepts opens : Path → Bool) (answer : Path → Answer) (tree : Tree
     abbrev child : Path
     child = directory.dir ++ name ∷ []
 
-    rest_in : (test : Path × Tree Bool → Bool) → left_in test next ≡ paths_where test (nodes_under directory.dir (branches_of after))
+    rest_in : (test : NodeAt Bool → Bool) → left_in test next ≡ paths_where test (nodes_under directory.dir (branches_of after))
     rest_in test = ap (λ d. paths_where test (nodes_under d (branches_of next.left.now))) path ∙ ap (λ l. paths_where test (nodes_under directory.dir (branches_of l))) rest
 
     -- the directory is still under way
@@ -129,14 +129,14 @@ module _ (accepts opens : Path → Bool) (answer : Path → Answer) (tree : Tree
     }
 
     -- a child that is not entered
-    module _ (test : Path × Tree Bool → Bool) (all found new : List Path) (names : is_sorted name_cmp directory.left.now ≡ true) (is : new ≡ found ++ path_if (test (directory.dir ++ name ∷ [], sub)) (directory.dir ++ name ∷ [])) where
+    module _ (test : NodeAt Bool → Bool) (all found new : List Path) (names : is_sorted name_cmp directory.left.now ≡ true) (is : new ≡ found ++ path_if (test (node_at (directory.dir ++ name ∷ []) sub)) (directory.dir ++ name ∷ [])) where
       past_leaf : paths_below test (directory.dir ++ name ∷ []) sub ≡ [] → GivesAll test all found (further ++ directory ∷ []) → GivesAll test all new (further ++ next ∷ [])
       past_leaf nothing_there = past_child test further (further ++ next ∷ []) directory name sub after all found new left names is
           (left_in_all-snoc test further next ∙ ap (λ l. l ++ left_in_all test further) (rest_in test ∙ ap (λ l. l ++ paths_where test (nodes_under directory.dir (branches_of after))) (sym nothing_there)))
           (λ h. let parts = all_append_parts (IsInOrder test) further (next ∷ []) h in (parts.0, subst (IsStrictlySortedBy path_cmp) (sym nothing_there) sorted_none, subst (IsStrictlySortedBy path_cmp) (rest_in test) parts.1.0))
 
       -- a child that is entered
-      past_directory : (below : Entered) → below.dir ≡ directory.dir ++ name ∷ [] → below.left.now ≡ children sub.1 → GivesAll test all found (further ++ directory ∷ []) → GivesAll test all new ((further ++ next ∷ []) ++ below ∷ [])
+      past_directory : (below : Entered) → below.dir ≡ directory.dir ++ name ∷ [] → below.left.now ≡ children sub.branches → GivesAll test all found (further ++ directory ∷ []) → GivesAll test all new ((further ++ next ∷ []) ++ below ∷ [])
       past_directory below at all_left = past_child test further ((further ++ next ∷ []) ++ below ∷ []) directory name sub after all found new left names is
           (left_in_all-snoc test (further ++ next ∷ []) below
           ∙ ap (λ l. left_in test below ++ l) (left_in_all-snoc test further next)
@@ -148,10 +148,10 @@ module _ (accepts opens : Path → Bool) (answer : Path → Answer) (tree : Tree
           (parts.0, subst (IsStrictlySortedBy path_cmp) deep outer.1.0, subst (IsStrictlySortedBy path_cmp) (rest_in test) parts.1.0))
         where
           deep : left_in test below ≡ paths_below test (directory.dir ++ name ∷ []) sub
-          deep = ap (λ d. paths_where test (nodes_under d (branches_of below.left.now))) at ∙ ap (λ b. paths_where test (nodes_under (directory.dir ++ name ∷ []) b)) (ap branches_of all_left ∙ branches_of-children sub.1)
+          deep = ap (λ d. paths_where test (nodes_under d (branches_of below.left.now))) at ∙ ap (λ b. paths_where test (nodes_under (directory.dir ++ name ∷ []) b)) (ap branches_of all_left ∙ branches_of-children sub.branches)
 
-    module _ (new_files new_entered : List Path) (file_is : new_files ≡ files ++ path_if (is_file accepts (directory.dir ++ name ∷ [], sub)) (directory.dir ++ name ∷ [])) where
-      pub way_past : (is_entered_directory answer (directory.dir ++ name ∷ [], sub)) ≡ false → new_entered ≡ entered →
+    module _ (new_files new_entered : List Path) (file_is : new_files ≡ files ++ path_if (is_file accepts (node_at (directory.dir ++ name ∷ []) sub)) (directory.dir ++ name ∷ [])) where
+      pub way_past : (is_entered_directory answer (node_at (directory.dir ++ name ∷ []) sub)) ≡ false → new_entered ≡ entered →
           paths_below (is_file accepts) (directory.dir ++ name ∷ []) sub ≡ [] → paths_below (is_entered_directory answer) (directory.dir ++ name ∷ []) sub ≡ [] →
           IsOnTheWay accepts opens answer tree files entered (further ++ directory ∷ []) → IsOnTheWay accepts opens answer tree new_files new_entered (further ++ next ∷ [])
       way_past not_entered same no_file none way =
@@ -163,7 +163,7 @@ module _ (accepts opens : Path → Bool) (answer : Path → Answer) (tree : Tree
             only_open = subst (AllByRecursion (λ dir. (dir ≡ []) ⊎ (opens dir ≡ true))) (sym same) way.only_open;
           }
 
-      pub way_below : (below : Entered) (known : Answer) → GoesOnBy accepts opens answer (directory.dir ++ name ∷ []) known → IsOpened (directory.dir ++ name ∷ []) known sub below → has_branches sub.1 ≡ true →
+      pub way_below : (below : Entered) (known : Answer) → GoesOnBy accepts opens answer (directory.dir ++ name ∷ []) known → IsOpened (directory.dir ++ name ∷ []) known sub below → has_branches sub.branches ≡ true →
           opens (directory.dir ++ name ∷ []) ≡ true → new_entered ≡ entered ++ (directory.dir ++ name ∷ []) ∷ [] →
           IsOnTheWay accepts opens answer tree files entered (further ++ directory ∷ []) → IsOnTheWay accepts opens answer tree new_files new_entered ((further ++ next ∷ []) ++ below ∷ [])
       way_below below known on opened has open_there is way =
@@ -178,23 +178,23 @@ module _ (accepts opens : Path → Bool) (answer : Path → Answer) (tree : Tree
 
 -- the start: a root that is entered, or not
 module _ (accepts opens : Path → Bool) (answer : Path → Answer) (tree : Tree Bool) where
-  alone : (test : Path × Tree Bool → Bool) (all : List Path) → all ≡ [] → GivesAll test all [] []
+  alone : (test : NodeAt Bool → Bool) (all : List Path) → all ≡ [] → GivesAll test all [] []
   alone test all e = record { whole = sym e; ordered = λ h. subst (IsStrictlySortedBy path_cmp) (sym e) sorted_none }
 
-  pub way_without_children : has_branches tree.1 ≡ false → IsOnTheWay accepts opens answer tree [] [] []
+  pub way_without_children : has_branches tree.branches ≡ false → IsOnTheWay accepts opens answer tree [] [] []
   way_without_children e = record {
-    of_files = alone (is_file accepts) _ (nothing_below (is_file accepts) [] tree.1 e);
-    of_directories = alone (is_entered_directory answer) _ (from_parts false (not_without_children accepts opens answer [] tree e) ∙ nothing_below (is_entered_directory answer) [] tree.1 e);
+    of_files = alone (is_file accepts) _ (nothing_below (is_file accepts) [] tree.branches e);
+    of_directories = alone (is_entered_directory answer) _ (from_parts false (not_without_children accepts opens answer [] tree e) ∙ nothing_below (is_entered_directory answer) [] tree.branches e);
     under_way = tt;
     only_open = tt;
   }
     where
-      from_parts : (t : Bool) → is_entered_directory answer ([], tree) ≡ t → entered_by answer tree ≡ path_if t [] ++ paths_below (is_entered_directory answer) [] tree
-      from_parts t e = paths_where_first (is_entered_directory answer) [] tree (nodes_under [] tree.1) ∙ ap (λ b. path_if b [] ++ paths_below (is_entered_directory answer) [] tree) e
+      from_parts : (t : Bool) → is_entered_directory answer (node_at [] tree) ≡ t → entered_by answer tree ≡ path_if t [] ++ paths_below (is_entered_directory answer) [] tree
+      from_parts t e = paths_where_first (is_entered_directory answer) [] tree (nodes_under [] tree.branches) ∙ ap (λ b. path_if b [] ++ paths_below (is_entered_directory answer) [] tree) e
 
-  module _ (known : Answer) (on : GoesOnBy accepts opens answer [] known) (has : has_branches tree.1 ≡ true) where
+  module _ (known : Answer) (on : GoesOnBy accepts opens answer [] known) (has : has_branches tree.branches ≡ true) where
     root_first : (t : Bool) → is_entered known ≡ t → entered_by answer tree ≡ path_if t [] ++ paths_below (is_entered_directory answer) [] tree
-    root_first t e = paths_where_first (is_entered_directory answer) [] tree (nodes_under [] tree.1) ∙ ap (λ b. path_if b [] ++ paths_below (is_entered_directory answer) [] tree) (entered_itself accepts opens answer [] tree known on has ∙ e)
+    root_first t e = paths_where_first (is_entered_directory answer) [] tree (nodes_under [] tree.branches) ∙ ap (λ b. path_if b [] ++ paths_below (is_entered_directory answer) [] tree) (entered_itself accepts opens answer [] tree known on has ∙ e)
 
     pub way_at_root : (root : Entered) (entered : List Path) → entered ≡ [] ∷ [] → IsOpened [] known tree root → IsOnTheWay accepts opens answer tree [] entered (root ∷ [])
     way_at_root root entered is opened = record {
@@ -202,16 +202,16 @@ module _ (accepts opens : Path → Bool) (answer : Path → Answer) (tree : Tree
       of_directories = record {
         whole = ap (λ l. l ++ left_in (is_entered_directory answer) root) is ∙ ap (λ l. [] ∷ l) (deep (is_entered_directory answer)) ∙ sym (root_first true opened.entered);
         ordered = λ h. subst (IsStrictlySortedBy path_cmp) (sym (root_first true opened.entered))
-            (sorted-cons [] _ (all_anywhere (λ y. path_cmp [] y ≡ Less) (is_entered_directory answer) [] tree.1 (λ n rest. before_below [] n rest)) (subst (IsStrictlySortedBy path_cmp) (deep (is_entered_directory answer)) h.0));
+            (sorted-cons [] _ (all_anywhere (λ y. path_cmp [] y ≡ Less) (is_entered_directory answer) [] tree.branches (λ n rest. before_below [] n rest)) (subst (IsStrictlySortedBy path_cmp) (deep (is_entered_directory answer)) h.0));
       };
       under_way = (opened_is_under_way accepts opens answer [] known tree root on opened, tt);
       only_open = subst (AllByRecursion (λ dir. (dir ≡ []) ⊎ (opens dir ≡ true))) (sym is) (inl refl, tt);
     }
       where
-        deep : (test : Path × Tree Bool → Bool) → left_in test root ≡ paths_below test [] tree
-        deep test = ap (λ d. paths_where test (nodes_under d (branches_of root.left.now))) opened.path ∙ ap (λ b. paths_where test (nodes_under [] b)) (ap branches_of opened.left ∙ branches_of-children tree.1)
+        deep : (test : NodeAt Bool → Bool) → left_in test root ≡ paths_below test [] tree
+        deep test = ap (λ d. paths_where test (nodes_under d (branches_of root.left.now))) opened.path ∙ ap (λ b. paths_where test (nodes_under [] b)) (ap branches_of opened.left ∙ branches_of-children tree.branches)
 
-  pub way_past_root : (known : Answer) → GoesOnBy accepts opens answer [] known → has_branches tree.1 ≡ true → is_entered known ≡ false → IsOnTheWay accepts opens answer tree [] [] []
+  pub way_past_root : (known : Answer) → GoesOnBy accepts opens answer [] known → has_branches tree.branches ≡ true → is_entered known ≡ false → IsOnTheWay accepts opens answer tree [] [] []
   way_past_root all_recursively on has e = absurd (false≢true (sym e))
   way_past_root (specific dirs files) on has e = absurd (false≢true (sym e))
   way_past_root nothing on has e = record {
@@ -234,11 +234,11 @@ module _ (accepts opens : Path → Bool) (answer : Path → Answer) (tree : Tree
       (subst (IsOnTheWay accepts opens answer tree files entered) (sym u) way))
 
   -- a walk begins: without children, or with what the root's answer says
-  pub begins_without_children : (files entered : List Path) (unfinished : List Entered) → files ≡ [] → entered ≡ [] → unfinished ≡ [] → has_branches tree.1 ≡ false → IsOnTheWay accepts opens answer tree files entered unfinished
+  pub begins_without_children : (files entered : List Path) (unfinished : List Entered) → files ≡ [] → entered ≡ [] → unfinished ≡ [] → has_branches tree.branches ≡ false → IsOnTheWay accepts opens answer tree files entered unfinished
   begins_without_children files entered unfinished f e u none = same_way [] files [] entered [] unfinished f e u (way_without_children none)
 
   pub begins : (files new_files entered new_entered : List Path) (unfinished new_unfinished : List Entered) (root asked : Path) (known : Answer) → files ≡ [] → entered ≡ [] → unfinished ≡ [] → new_files ≡ files → root ≡ [] → asked ≡ [] →
-      has_branches tree.1 ≡ true → IsSound accepts opens asked known → known ≡ answer asked → Enters root known tree entered new_entered unfinished new_unfinished → IsOnTheWay accepts opens answer tree new_files new_entered new_unfinished
+      has_branches tree.branches ≡ true → IsSound accepts opens asked known → known ≡ answer asked → Enters root known tree entered new_entered unfinished new_unfinished → IsOnTheWay accepts opens answer tree new_files new_entered new_unfinished
   begins files new_files entered new_entered unfinished new_unfinished root asked known f e u same at at' has sound is enters = by_entry (subst (λ r. Enters r known tree entered new_entered unfinished new_unfinished) at enters)
     where
       on : GoesOnBy accepts opens answer [] known
@@ -251,8 +251,8 @@ module _ (accepts opens : Path → Bool) (answer : Path → Answer) (tree : Tree
   -- a walk goes on with a child that has children, by the child's answer
   pub goes_on_below : (files entered : List Path) (further : List Entered) (directory next : Entered) (name : Name) (sub : Tree Bool) (after : List (Name × Tree Bool)) → directory.left.now ≡ (name, sub) ∷ after →
       next.dir ≡ directory.dir → next.answer ≡ directory.answer → next.left.now ≡ after → (new_files old_entered new_entered : List Path) (unfinished new_unfinished : List Entered) (path asked : Path) (known : Answer) →
-      new_files ≡ files ++ path_if (is_file accepts (directory.dir ++ name ∷ [], sub)) (directory.dir ++ name ∷ []) → old_entered ≡ entered → unfinished ≡ further ++ next ∷ [] → path ≡ directory.dir ++ name ∷ [] → asked ≡ path →
-      has_branches sub.1 ≡ true → GoesOnBy accepts opens answer asked known → (is_entered known ≡ true → opens asked ≡ true) → Enters path known sub old_entered new_entered unfinished new_unfinished →
+      new_files ≡ files ++ path_if (is_file accepts (node_at (directory.dir ++ name ∷ []) sub)) (directory.dir ++ name ∷ []) → old_entered ≡ entered → unfinished ≡ further ++ next ∷ [] → path ≡ directory.dir ++ name ∷ [] → asked ≡ path →
+      has_branches sub.branches ≡ true → GoesOnBy accepts opens answer asked known → (is_entered known ≡ true → opens asked ≡ true) → Enters path known sub old_entered new_entered unfinished new_unfinished →
       IsOnTheWay accepts opens answer tree files entered (further ++ directory ∷ []) → IsOnTheWay accepts opens answer tree new_files new_entered new_unfinished
   goes_on_below files entered further directory next name sub after left d a l new_files old_entered new_entered unfinished new_unfinished path asked known file_is e u at at' has goes open_there enters way =
       by_entry (subst (λ p. Enters p known sub old_entered new_entered unfinished new_unfinished) at enters)
@@ -291,7 +291,7 @@ module _ (further : List Entered) (directory next : Entered) (name : Name) (sub 
         work_left-snoc further directory,
         ap (λ l. branch_count (branches_of l)) left,
         ap (λ l. branch_count (branches_of l)) rest,
-        ap branch_count (ap branches_of h.1.left ∙ branches_of-children sub.1),
+        ap branch_count (ap branches_of h.1.left ∙ branches_of-children sub.branches),
       )
 
 -- a list without a length
@@ -300,12 +300,12 @@ no_length [] e = refl
 no_length (x ∷ xs) e = absurd (omega arith)
 
 -- the files after the test of a child
-pub file_taken : (accepts : Path → Bool) (sub : Tree Bool) (child path : Path) (files new : List Path) → sub.0 ≡ true → accepts path ≡ true → path ≡ child → new ≡ files ++ path ∷ [] → new ≡ files ++ path_if (is_file accepts (child, sub)) child
+pub file_taken : (accepts : Path → Bool) (sub : Tree Bool) (child path : Path) (files new : List Path) → sub.value ≡ true → accepts path ≡ true → path ≡ child → new ≡ files ++ path ∷ [] → new ≡ files ++ path_if (is_file accepts (node_at child sub)) child
 file_taken accepts sub child path files new marked accepted at is =
-    path_if_true (sub.0 && accepts child) child files new (ap (λ b. b && accepts child) marked ∙ ap accepts (sym at) ∙ accepted) (is ∙ ap (λ p. files ++ p ∷ []) at)
+    path_if_true (sub.value && accepts child) child files new (ap (λ b. b && accepts child) marked ∙ ap accepts (sym at) ∙ accepted) (is ∙ ap (λ p. files ++ p ∷ []) at)
 
-pub file_unmarked : (accepts : Path → Bool) (sub : Tree Bool) (child : Path) (files new : List Path) → sub.0 ≡ false → new ≡ files → new ≡ files ++ path_if (is_file accepts (child, sub)) child
-file_unmarked accepts sub child files new unmarked is = path_if_false (sub.0 && accepts child) child files new (ap (λ b. b && accepts child) unmarked) is
+pub file_unmarked : (accepts : Path → Bool) (sub : Tree Bool) (child : Path) (files new : List Path) → sub.value ≡ false → new ≡ files → new ≡ files ++ path_if (is_file accepts (node_at child sub)) child
+file_unmarked accepts sub child files new unmarked is = path_if_false (sub.value && accepts child) child files new (ap (λ b. b && accepts child) unmarked) is
 
-pub file_refused : (accepts : Path → Bool) (sub : Tree Bool) (child path : Path) (files new : List Path) → accepts path ≡ false → path ≡ child → new ≡ files → new ≡ files ++ path_if (is_file accepts (child, sub)) child
-file_refused accepts sub child path files new refused at is = path_if_false (sub.0 && accepts child) child files new (false_and sub.0 _ (ap accepts (sym at) ∙ refused)) is
+pub file_refused : (accepts : Path → Bool) (sub : Tree Bool) (child path : Path) (files new : List Path) → accepts path ≡ false → path ≡ child → new ≡ files → new ≡ files ++ path_if (is_file accepts (node_at child sub)) child
+file_refused accepts sub child path files new refused at is = path_if_false (sub.value && accepts child) child files new (false_and sub.value _ (ap accepts (sym at) ∙ refused)) is

@@ -1,10 +1,11 @@
 -- The answers for sets of paths that are given by a list are sound.
-use Rattle.std.proofs.Common.{◌≡◌, Bool, true, false, ◌&&◌, ◌||◌, List, [], ◌∷◌, ◌++◌, map, refl, ap, sym, ◌∙◌, append_assoc, inl, inr, if◌then◌else◌}
+use Rattle.std.proofs.Common.{◌≡◌, Bool, true, false, ◌&&◌, ◌||◌, List, [], ◌∷◌, ◌++◌, map, Contains, Decides, get_or, refl, ap, sym, subst, ◌∙◌, append_assoc, inl, inr, if◌then◌else◌}
 use mathlib.Core.Bool.{false≢true}
 use Rattle.std.proofs.lemmas.Bool.{and_parts, or_cases, or_right}
 use Rattle.std.specs.Str.{bytes_eq}
 use Rattle.std.specs.Cmp.{both_ways}
 use Rattle.std.specs.List.{list_any}
+use Rattle.std.proofs.lemmas.List.Folds.{Any-from_list_any, list_any_at}
 use Rattle.std.proofs.lemmas.Slice.Eq.{bytes_eq-Decides}
 use Rattle.jj_paths.specs.Paths.{Name, Path}
 use Rattle.jj_paths.specs.Orders.{path_eq, path_eq-Decides}
@@ -153,6 +154,14 @@ module _ (prefixes : List Path) where
   pub prefix_inside : (dir : Path) → has_prefix prefixes dir ≡ true → all_recursively ≡ prefix_answer prefixes dir
   prefix_inside dir e =
       ap (λ b. if b then all_recursively else (if leads_to_wanted prefixes dir then specific (λ name. leads_to_prefix prefixes (dir ++ name ∷ [])) (λ name. is_wanted prefixes (dir ++ name ∷ [])) else nothing)) (sym e)
+
+-- whether a path is one of a list
+pub Decides-is_wanted : (paths : List Path) (path : Path) → Decides (is_wanted paths path) (Contains paths path)
+Decides-is_wanted paths path = (
+  (λ h. let found = Any-from_list_any (path_eq path) paths h in
+      (found.0, found.2, subst (λ p. get_or paths found.0 p ≡ p) (sym ((path_eq-Decides path found.1).0 found.4)) found.3)),
+  (λ h. list_any_at (path_eq path) paths h.0 path h.1 ((path_eq-Decides path (get_or paths h.0 path)).1 (sym h.2))),
+)
 
 some_passes : (test : Path → Bool) (xs : List Path) → list_any test xs ≡ true → (x : Path) × ((is_wanted xs x ≡ true) × (test x ≡ true))
 some_passes test [] h = absurd (false≢true h)

@@ -3,7 +3,7 @@
 use Rattle.std.specs.Prelude.{Bool, true, ◌&&◌, ◌||◌, List, if◌then◌else◌}
 use Rattle.jj_paths.specs.Paths.{Name}
 use Rattle.jj_matchers.specs.Answers.{Answer, all_recursively, specific, nothing}
-use Rattle.jj_matchers.specs.Listed.{any_passes}
+use Rattle.jj_matchers.specs.Candidates.{any_passes}
 
 -- what either answer names
 abbrev pub union_answer : Answer → Answer → Answer

@@ -1,7 +1,8 @@
 pub mod Answers
 pub mod Combined
-pub mod Listed
+pub mod Candidates
 pub mod Marks
+pub mod KeyedMarks
 pub mod Visits
 pub mod Walk
 pub mod WalkParts

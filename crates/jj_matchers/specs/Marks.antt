@@ -1,11 +1,24 @@
--- The paths that a tree of marks stands for.
--- Cited by contracts of public items: marked_paths.
-use Rattle.std.specs.Prelude.{◌≡◌, Bool, true, false, ◌||◌, List, [], ◌∷◌, ◌++◌, Option, Some, None, map, if◌then◌else◌}
+-- Trees of marks: the tree that a list of marked paths makes, and the paths that a tree stands for.
+-- Cited by contracts of public items: IsMarkedTree, marked_paths.
+use Rattle.std.specs.Prelude.{◌≡◌, ◌↔◌, ◌⊎◌, Bool, true, false, ◌||◌, List, [], ◌∷◌, ◌++◌, Option, Some, None, IsSome, map, if◌then◌else◌, Contains}
 use Rattle.std.specs.List.{filter, list_any}
 use Rattle.jj_paths.specs.Paths.{Name, Path}
-use Rattle.jj_paths.specs.Tree.{Tree, Branches, child, children, has_branches, value_at}
-use Rattle.jj_paths.specs.Listed.{all_nodes}
+use Rattle.jj_paths.specs.Tree.{Tree, Branches, child, children, get, has_branches, is_ordered, value_at}
+use Rattle.jj_paths.specs.Nodes.{all_nodes}
 use Rattle.jj_matchers.specs.Answers.{Answer, specific, nothing}
+
+-- the tree in path order whose nodes are the root and each beginning of a mark, and where exactly
+-- the marks are marked
+pub record IsMarkedTree (marks : List Path) (tree : Tree Bool) : Type 0 where
+  pub ordered : is_ordered tree.branches ≡ true
+  pub marked : (path : Path) → (value_at tree path ≡ Some true) ↔ Contains marks path
+  pub nodes : (path : Path) → IsSome (get tree path)
+      ↔ ((path ≡ []) ⊎ ((rest : Path) × Contains marks (path ++ rest)))
+
+-- the tree of any marks before becomes that of those marks and these
+abbrev pub AddsMarks : List Path → Tree Bool → Tree Bool → Type 0
+AddsMarks marks old new = (before : List Path) → IsMarkedTree before old
+    → IsMarkedTree (before ++ marks) new
 
 abbrev pub is_some_true : Option Bool → Bool
 is_some_true None = false
@@ -17,7 +30,7 @@ is_marked tree path = is_some_true (value_at tree path)
 
 -- the marked paths of a tree
 abbrev pub marked_paths : Tree Bool → List Path
-marked_paths tree = filter (is_marked tree) (map (λ node. node.0) (all_nodes tree))
+marked_paths tree = filter (is_marked tree) (map (λ found. found.path) (all_nodes tree))
 
 -- each node but the root that has no mark has a child, and so leads to a mark
 abbrev pub LeadsToMarks : Tree Bool → Type 0
@@ -43,10 +56,10 @@ children_answer dirs files branches = if any_child dirs branches
     (named_by files branches) else nothing
 
 abbrev pub has_children : Tree Bool → Bool
-has_children node = has_branches node.1
+has_children node = has_branches node.branches
 
 abbrev pub has_mark : Tree Bool → Bool
-has_mark node = node.0
+has_mark node = node.value
 
 abbrev pub any_node : Tree Bool → Bool
 any_node node = true

@@ -3,8 +3,8 @@
 use Rattle.std.specs.Prelude.{◌≡◌, ◌≢◌, Bool, true, false, List, [], ◌∷◌, ◌++◌, map, Option, Some, None}
 use Rattle.std.specs.List.{flat_map}
 use Rattle.jj_paths.specs.Paths.{Path}
-use Rattle.jj_paths.specs.Tree.{Tree, Branches, none, branch, value_at}
-use Rattle.jj_paths.specs.Listed.{all_nodes}
+use Rattle.jj_paths.specs.Tree.{Tree, tree_of, Branches, none, branch, value_at}
+use Rattle.jj_paths.specs.Nodes.{all_nodes}
 use Rattle.jj_globs.specs.GlobMeaning.{GlobSpec}
 use Rattle.jj_matchers.specs.Marks.{LeadsToMarks}
 
@@ -19,7 +19,7 @@ marked_branches (branch name globs below after) =
     branch name (has_globs globs) (marked_branches below) (marked_branches after)
 
 abbrev pub marks_of : Tree (List GlobSpec) → Tree Bool
-marks_of tree = (has_globs tree.0, marked_branches tree.1)
+marks_of tree = tree_of (has_globs tree.value) (marked_branches tree.branches)
 
 abbrev pub no_node : Tree Bool → Bool
 no_node node = false
@@ -37,7 +37,7 @@ abbrev pub patterns_at : Tree (List GlobSpec) → Path → List (Path × GlobSpe
 patterns_at tree dir = map (λ glob. (dir, glob)) (globs_at tree dir)
 
 abbrev pub patterns_of : Tree (List GlobSpec) → List (Path × GlobSpec)
-patterns_of tree = flat_map (patterns_at tree) (map (λ node. node.0) (all_nodes tree))
+patterns_of tree = flat_map (patterns_at tree) (map (λ found. found.path) (all_nodes tree))
 
 -- each directory but the root that has no globs has a child, and so leads to some
 abbrev pub LeadsToGlobs : Tree (List GlobSpec) → Type 0

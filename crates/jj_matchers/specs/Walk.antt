@@ -4,20 +4,20 @@ use Rattle.std.specs.Prelude.{Bool, true, false, ◌&&◌, List, [], ◌∷◌, 
 use Rattle.std.specs.List.{filter}
 use Rattle.jj_paths.specs.Paths.{Name, Path}
 use Rattle.jj_paths.specs.Tree.{Tree, has_branches}
-use Rattle.jj_paths.specs.Listed.{nodes_under, all_nodes}
+use Rattle.jj_paths.specs.Nodes.{NodeAt, nodes_under, all_nodes}
 use Rattle.jj_matchers.specs.Answers.{Answer, all_recursively, specific, nothing}
 
 -- the paths of the nodes that pass a test
-abbrev pub paths_where : {V : Type 0} → (Path × Tree V → Bool) → List (Path × Tree V) → List Path
-paths_where test nodes = map (λ node. node.0) (filter test nodes)
+abbrev pub paths_where : {V : Type 0} → (NodeAt V → Bool) → List (NodeAt V) → List Path
+paths_where test nodes = map (λ found. found.path) (filter test nodes)
 
 -- a marked node whose path is accepted
-abbrev pub is_file : (Path → Bool) → Path × Tree Bool → Bool
-is_file accepts node = node.1.0 && accepts node.0
+abbrev pub is_file : (Path → Bool) → NodeAt Bool → Bool
+is_file accepts found = found.node.value && accepts found.path
 
 -- the marked paths below the root that are accepted
 abbrev pub files_of : (Path → Bool) → Tree Bool → List Path
-files_of accepts tree = paths_where (is_file accepts) (nodes_under [] tree.1)
+files_of accepts tree = paths_where (is_file accepts) (nodes_under [] tree.branches)
 
 -- a directory is entered unless its answer is `nothing`
 abbrev pub is_entered : Answer → Bool
@@ -39,8 +39,9 @@ enters answer dir [] = is_entered (answer dir)
 enters answer dir (name ∷ rest) = leads_to (answer dir) name (enters answer (dir ++ name ∷ []) rest)
 
 -- a node with children that a walk from the root enters
-abbrev pub is_entered_directory : (Path → Answer) → Path × Tree Bool → Bool
-is_entered_directory answer node = has_branches node.1.1 && enters answer [] node.0
+abbrev pub is_entered_directory : (Path → Answer) → NodeAt Bool → Bool
+is_entered_directory answer found = has_branches found.node.branches
+    && enters answer [] found.path
 
 -- the directories that a walk enters, from the root on
 abbrev pub entered_by : (Path → Answer) → Tree Bool → List Path

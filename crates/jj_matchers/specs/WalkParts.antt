@@ -7,15 +7,15 @@ use Rattle.std.specs.List.Sorted.{IsStrictlySortedBy}
 use Rattle.std.specs.FinMap.{is_sorted}
 use Rattle.jj_paths.specs.Paths.{Name, Path, name_cmp, path_cmp}
 use Rattle.jj_paths.specs.Tree.{Tree, branches_of, branch_count, children}
-use Rattle.jj_paths.specs.Listed.{nodes_under}
+use Rattle.jj_paths.specs.Nodes.{NodeAt, nodes_under}
 use Rattle.jj_matchers.specs.Answers.{Answer, IsSound}
 use Rattle.jj_matchers.specs.Visits.{answer_of}
 use Rattle.jj_matchers.specs.Walk.{paths_where, files_of, entered_by, is_file, is_entered, is_entered_directory, leads_to, enters}
 use Rattle.jj_matchers.specs.declared.matchers.tree_walk.Entered.{Entered}
 
 -- the paths of the nodes strictly below a directory that pass a test
-abbrev pub paths_below : (Path × Tree Bool → Bool) → Path → Tree Bool → List Path
-paths_below test dir tree = paths_where test (nodes_under dir tree.1)
+abbrev pub paths_below : (NodeAt Bool → Bool) → Path → Tree Bool → List Path
+paths_below test dir tree = paths_where test (nodes_under dir tree.branches)
 
 -- an answer for a directory that is sound, and by which a walk from the root goes on there
 pub record GoesOnBy (accepts opens : Path → Bool) (answer : Path → Answer) (dir : Path)
@@ -31,7 +31,7 @@ pub record IsOpened (dir : Path) (known : Answer) (tree : Tree Bool)
   pub entered : is_entered known ≡ true
   pub path : directory.dir ≡ dir
   pub answer : answer_of directory.answer ≡ known
-  pub left : directory.left.now ≡ children tree.1
+  pub left : directory.left.now ≡ children tree.branches
   pub by_name : is_sorted name_cmp directory.left.now ≡ true
 
 -- what entering a directory adds to the directories that were entered and to those not finished,
@@ -51,11 +51,11 @@ pub record IsUnderWay (accepts opens : Path → Bool) (answer : Path → Answer)
 
 -- the paths that pass a test below the children that a walk has not come to: of one directory, and
 -- of all, the last entered first
-abbrev pub left_in : (Path × Tree Bool → Bool) → Entered → List Path
+abbrev pub left_in : (NodeAt Bool → Bool) → Entered → List Path
 left_in test directory = paths_where test
     (nodes_under directory.dir (branches_of directory.left.now))
 
-abbrev pub left_in_all : (Path × Tree Bool → Bool) → List Entered → List Path
+abbrev pub left_in_all : (NodeAt Bool → Bool) → List Entered → List Path
 left_in_all test [] = []
 left_in_all test (directory ∷ further) = left_in_all test further ++ left_in test directory
 
@@ -66,7 +66,7 @@ work_left (directory ∷ further) = 1 + 2 * branch_count
     (branches_of directory.left.now) + work_left further
 
 -- what was found and what is left give all, and all is in order if each directory's part is
-pub record GivesAll (test : Path × Tree Bool → Bool) (all found : List Path)
+pub record GivesAll (test : NodeAt Bool → Bool) (all found : List Path)
     (unfinished : List Entered) : Type 0 where
   pub whole : found ++ left_in_all test unfinished ≡ all
   pub ordered : AllByRecursion (λ directory.

@@ -1,11 +1,12 @@
 //! Matchers: sets of paths that can tell where below a directory their paths are.
 
+mod children_visit;
 mod difference_matcher;
 mod dir_patterns;
 mod files_matcher;
 mod globs_matcher;
 mod intersection_matcher;
-mod marked_tree;
+mod marks;
 mod path_glob_pattern;
 mod pattern_order;
 mod prefix_matcher;
@@ -17,7 +18,7 @@ ghost use Rattle.std.specs.Prelude.{◌≡◌, Bool, true, false, List, [], IfOk
 ghost use Rattle.jj_paths.specs.Paths.{Name, Path};
 ghost use Rattle.jj_paths.specs.Names.{path_of};
 ghost use Rattle.jj_matchers.specs.Answers.{Answer, IsSound, all_recursively, nothing};
-ghost use Rattle.jj_matchers.specs.Listed.{ChoosesFrom};
+ghost use Rattle.jj_matchers.specs.Candidates.{ChoosesFrom};
 ghost use Rattle.jj_matchers.specs.Visits.{answer_of};
 
 pub use difference_matcher::{DifferenceMatcher, difference_visit};
@@ -25,6 +26,7 @@ pub use files_matcher::FilesMatcher;
 pub use globs_matcher::{GlobsMatcher, GlobsMatcherBuilder};
 pub use intersection_matcher::{IntersectionMatcher, intersection_visit};
 use jj_paths::repo_path::RepoPath;
+pub use marks::marked_tree;
 pub use path_glob_pattern::PathGlobPattern;
 pub use prefix_matcher::PrefixMatcher;
 use std::alloc::{AllocError, Global};

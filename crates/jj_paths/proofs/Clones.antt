@@ -4,7 +4,7 @@ use Rattle.std.specs.Ordering.{is_lt}
 use Rattle.std.specs.FinMap.{is_sorted}
 use Rattle.std.specs.FinMap.Entries.{below_all}
 use Rattle.jj_paths.specs.Paths.{Name, name_cmp}
-use Rattle.jj_paths.specs.Tree.{Tree, Branches, none, branch, branches_of, AreClones, IsTreeClone}
+use Rattle.jj_paths.specs.Tree.{Tree, tree_of, Branches, none, branch, branches_of, AreClones, IsTreeClone}
 
 module _ {V : Type 0} (is_clone : V → V → Type 0) where
   -- one more child on both sides
@@ -46,4 +46,4 @@ module _ {V : Type 0} (is_clone : V → V → Type 0) where
         λ i. branch (e i) (f i) (p i) (q i)
 
     pub same_tree : (tree copy : Tree V) → IsTreeClone is_clone tree copy → copy ≡ tree
-    same_tree tree copy same = let v = exact tree.0 copy.0 same.0 in let b = same_branches tree.1 copy.1 same.1 in λ i. (v i, b i)
+    same_tree tree copy same = let v = exact tree.value copy.value same.0 in let b = same_branches tree.branches copy.branches same.1 in λ i. tree_of (v i) (b i)

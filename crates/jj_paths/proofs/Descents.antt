@@ -17,11 +17,11 @@ module _ {V : Type 0} where
   has_branches-last [] x = refl
   has_branches-last (y ∷ items) x = refl
 
-  pub way_count-last : (items : List (Name × Tree V)) (x : Name × Tree V) → way_count (branches_of (items ++ x ∷ [])) ≡ 2 * branch_count (branches_of items) + 1 + way_count x.1.1
+  pub way_count-last : (items : List (Name × Tree V)) (x : Name × Tree V) → way_count (branches_of (items ++ x ∷ [])) ≡ 2 * branch_count (branches_of items) + 1 + way_count x.1.branches
   way_count-last [] x = omega arith
   way_count-last (y ∷ items) x = rw (has_branches-last items x) (omega (arith, way_count-last items x))
 
-  pub branch_count-last : (items : List (Name × Tree V)) (x : Name × Tree V) → branch_count (branches_of (items ++ x ∷ [])) ≡ branch_count (branches_of items) + 1 + branch_count x.1.1
+  pub branch_count-last : (items : List (Name × Tree V)) (x : Name × Tree V) → branch_count (branches_of (items ++ x ∷ [])) ≡ branch_count (branches_of items) + 1 + branch_count x.1.branches
   branch_count-last [] x = omega arith
   branch_count-last (y ∷ items) x = omega (arith, branch_count-last items x)
 

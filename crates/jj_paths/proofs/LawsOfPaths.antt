@@ -46,7 +46,7 @@ last_names_are_one (x ∷ above) (y ∷ others) name last e =
 
 pub holds_fronts : (V : Type 0) → HoldsFronts V
 holds_fronts V tree [] rest there = refl
-holds_fronts V tree (name ∷ front) rest there = by_child (λ sub. holds_fronts V sub front rest) (child tree.1 name) there
+holds_fronts V tree (name ∷ front) rest there = by_child (λ sub. holds_fronts V sub front rest) (child tree.branches name) there
   where
     by_child : ((sub : Tree V) → IsSome (get sub (front ++ rest)) → IsSome (get sub front)) → (o : Option (Tree V)) → IsSome (option_and_then (λ s. get s (front ++ rest)) o) → IsSome (option_and_then (λ s. get s front) o)
     by_child later None h = h

@@ -1,7 +1,7 @@
 -- The paths of the nodes that are listed rise.
-use Rattle.std.proofs.Common.{◌≡◌, true, List, [], ◌∷◌, ◌++◌, map, refl, ap, sym, subst, ◌∙◌, append_assoc}
+use Rattle.std.proofs.Common.{◌≡◌, true, List, [], ◌∷◌, ◌++◌, map, sym, subst, append_assoc}
 use Rattle.std.specs.declared.cmp.Ordering.TheVariants.{Less}
-use Rattle.std.specs.Ordering.{is_lt, ordering_then}
+use Rattle.std.specs.Ordering.{is_lt}
 use Rattle.std.specs.List.{AllByRecursion}
 use Rattle.std.specs.List.Sorted.{IsStrictlySortedBy}
 use Rattle.std.specs.FinMap.Entries.{below_all}
@@ -9,44 +9,12 @@ use Rattle.std.proofs.lemmas.Bool.{and_parts}
 use Rattle.std.proofs.lemmas.List.{map-append}
 use Rattle.jj_paths.specs.Paths.{Name, Path, name_cmp, path_cmp}
 use Rattle.jj_paths.specs.Tree.{Tree, Branches, none, branch, children, is_ordered}
-use Rattle.jj_paths.specs.Listed.{nodes_under, all_nodes}
-use Rattle.jj_paths.proofs.Places.{less_from_is_lt}
-use Rattle.jj_paths.proofs.Trees.{name_cmp-itself}
-
--- two paths below a directory compare as what is below
-path_cmp-append : (dir a b : Path) → path_cmp (dir ++ a) (dir ++ b) ≡ path_cmp a b
-path_cmp-append [] a b = refl
-path_cmp-append (name ∷ dir) a b = ap (λ r. ordering_then r (path_cmp (dir ++ a) (dir ++ b))) (name_cmp-itself name) ∙ path_cmp-append dir a b
-
-before_name : (dir : Path) (n m : Name) (a b : Path) → name_cmp n m ≡ Less → path_cmp (dir ++ n ∷ a) (dir ++ m ∷ b) ≡ Less
-before_name dir n m a b e = path_cmp-append dir (n ∷ a) (m ∷ b) ∙ ap (λ r. ordering_then r (path_cmp a b)) e
-
-before_below : (dir : Path) (n : Name) (a : Path) → path_cmp dir (dir ++ n ∷ a) ≡ Less
-before_below [] n a = refl
-before_below (name ∷ dir) n a = ap (λ r. ordering_then r (path_cmp dir (dir ++ n ∷ a))) (name_cmp-itself name) ∙ before_below dir n a
-
-module _ {X : Type 0} where
-  all-append : (P : X → Type 0) (xs ys : List X) → AllByRecursion P xs → AllByRecursion P ys → AllByRecursion P (xs ++ ys)
-  all-append P [] ys h k = k
-  all-append P (x ∷ xs) ys h k = (h.0, all-append P xs ys h.1 k)
-
--- two rising lists, each path of the first before all of the second
-sorted-append : (xs ys : List Path) → IsStrictlySortedBy path_cmp xs → IsStrictlySortedBy path_cmp ys → AllByRecursion (λ x. AllByRecursion (λ y. path_cmp x y ≡ Less) ys) xs → IsStrictlySortedBy path_cmp (xs ++ ys)
-unfolding IsStrictlySortedBy
-sorted-append [] ys h k before = k
-sorted-append (x ∷ xs) ys h k before = (all-append (λ y. path_cmp x y ≡ Less) xs ys h.0 before.0, sorted-append xs ys h.1 k before.1)
-
-sorted-cons : (x : Path) (xs : List Path) → AllByRecursion (λ y. path_cmp x y ≡ Less) xs → IsStrictlySortedBy path_cmp xs → IsStrictlySortedBy path_cmp (x ∷ xs)
-unfolding IsStrictlySortedBy
-sorted-cons x xs h k = (h, k)
-
-sorted_none : IsStrictlySortedBy path_cmp []
-unfolding IsStrictlySortedBy
-sorted_none = tt
+use Rattle.jj_paths.specs.Nodes.{NodeAt, nodes_under, all_nodes}
+use Rattle.jj_paths.proofs.PathOrders.{less_from_is_lt, before_name, before_below, all-append, sorted-append, sorted-cons, sorted_none}
 
 module _ {V : Type 0} where
-  abbrev paths : List (Path × Tree V) → List Path
-  paths nodes = map (λ (node : Path × Tree V). node.0) nodes
+  abbrev paths : List (NodeAt V) → List Path
+  paths nodes = map (λ (found : NodeAt V). found.path) nodes
 
   -- what holds below each name of some branches holds of all that is listed
   all_under : (P : Path → Type 0) (dir : Path) (b : Branches V) → AllByRecursion (λ (c : Name × Tree V). (rest : Path) → P (dir ++ c.0 ∷ rest)) (children b) → AllByRecursion P (paths (nodes_under dir b))
@@ -55,7 +23,7 @@ module _ {V : Type 0} where
       let here = dir ++ name ∷ [] in
       let deep = all_under P here below (each below (λ n rest. subst P (sym (append_assoc dir (name ∷ []) (n ∷ rest))) (h.0 (n ∷ rest)))) in
       let later = all_under P dir after h.1 in
-      (h.0 [], subst (AllByRecursion P) (sym (map-append (λ (node : Path × Tree V). node.0) (nodes_under here below) (nodes_under dir after))) (all-append P _ _ deep later))
+      (h.0 [], subst (AllByRecursion P) (sym (map-append (λ (found : NodeAt V). found.path) (nodes_under here below) (nodes_under dir after))) (all-append P _ _ deep later))
     where
       each : (b : Branches V) → ((n : Name) (rest : Path) → P ((dir ++ name ∷ []) ++ n ∷ rest)) → AllByRecursion (λ (c : Name × Tree V). (rest : Path) → P ((dir ++ name ∷ []) ++ c.0 ∷ rest)) (children b)
       each none f = tt
@@ -91,8 +59,8 @@ module _ {V : Type 0} where
       (λ n rest. subst (λ x. AllByRecursion (λ y. path_cmp x y ≡ Less) later) (sym (append_assoc dir (name ∷ []) (n ∷ rest)))
       (all_under (λ y. path_cmp (dir ++ name ∷ n ∷ rest) y ≡ Less) dir after (greater_names dir name (n ∷ rest) after parts.0))) in
       let both_rise = sorted-append deep later (ordered_under here below both.0) (ordered_under dir after both.1) deep_later in
-      subst (λ l. IsStrictlySortedBy path_cmp (here ∷ l)) (sym (map-append (λ (node : Path × Tree V). node.0) (nodes_under here below) (nodes_under dir after)))
+      subst (λ l. IsStrictlySortedBy path_cmp (here ∷ l)) (sym (map-append (λ (found : NodeAt V). found.path) (nodes_under here below) (nodes_under dir after)))
       (sorted-cons here (deep ++ later) (all-append (λ y. path_cmp here y ≡ Less) deep later here_deep here_later) both_rise)
 
-  pub lists_in_order : (tree : Tree V) → is_ordered tree.1 ≡ true → IsStrictlySortedBy path_cmp (map (λ node. node.0) (all_nodes tree))
-  lists_in_order tree up = sorted-cons [] (paths (nodes_under [] tree.1)) (all_anywhere (λ y. path_cmp [] y ≡ Less) [] tree.1 (λ n rest. before_below [] n rest)) (ordered_under [] tree.1 up)
+  pub lists_in_order : (tree : Tree V) → is_ordered tree.branches ≡ true → IsStrictlySortedBy path_cmp (map (λ found. found.path) (all_nodes tree))
+  lists_in_order tree up = sorted-cons [] (paths (nodes_under [] tree.branches)) (all_anywhere (λ y. path_cmp [] y ≡ Less) [] tree.branches (λ n rest. before_below [] n rest)) (ordered_under [] tree.branches up)

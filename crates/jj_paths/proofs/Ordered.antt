@@ -1,5 +1,5 @@
 -- Names that ascend at every node of a tree still do when a child is made, and when a child is changed.
-use Rattle.std.proofs.Common.{◌≡◌, ℕ, zero, suc, ◌<◌, get_or, Some, None, ◌∙◌, Bool, true, false, ◌&&◌, List, [], ◌∷◌, length, refl, ap, sym, arith}
+use Rattle.std.proofs.Common.{◌≡◌, ℕ, zero, suc, ◌<◌, get_or, Some, ◌∙◌, Bool, true, false, ◌&&◌, List, [], ◌∷◌, length, refl, ap, sym, arith}
 use mathlib.Core.Bool.{false≢true}
 use Rattle.std.specs.List.{insert}
 use Rattle.std.specs.declared.cmp.Ordering.TheVariants.{Less}
@@ -9,16 +9,13 @@ use Rattle.std.specs.FinMap.Entries.{below_all}
 use Rattle.std.specs.Cmp.Lexicographic.{nat_list_cmp_total}
 use Rattle.std.proofs.lemmas.Bool.{and_parts}
 use Rattle.jj_paths.specs.Paths.{Name, Path, name_cmp}
-use Rattle.jj_paths.specs.Tree.{Tree, Branches, none, branch, branches_of, children, child, update_child, put_value, is_ordered, IsGapFor}
-use Rattle.jj_paths.proofs.Trees.{children-branches_of}
+use Rattle.jj_paths.specs.Tree.{Tree, tree_of, Branches, none, branch, branches_of, children, child, update_child, put_value, is_ordered, IsGapFor}
+use Rattle.jj_paths.proofs.Trees.{some_none, children-branches_of}
 
 pub both_true : (a b : Bool) → a ≡ true → b ≡ true → a && b ≡ true
 both_true true true e f = refl
 both_true true false e f = absurd (false≢true f)
 both_true false b e f = absurd (false≢true e)
-
-some_none : {X : Type 0} {x : X} → None ≡ Some x → ⊥
-some_none e = cc
 
 module _ {V : Type 0} where
   pub below_all-insert : (k : Name) (es : List (Name × Tree V)) (i : ℕ) (x : Name × Tree V) → name_cmp k x.0 ≡ Less → below_all name_cmp k es ≡ true → below_all name_cmp k (insert es i x) ≡ true
@@ -32,7 +29,7 @@ module _ {V : Type 0} where
   below_all-from k (a ∷ more) less = both_true _ _ (ap is_lt (less 0 a (omega arith))) (below_all-from k more (λ j d lt. less (suc j) d (omega arith)))
 
   -- a node without children comes into a gap
-  pub is_ordered-insert : (items : List (Name × Tree V)) (i : ℕ) (name : Name) (node : Tree V) → node.1 ≡ none → IsGapFor items name i → is_ordered (branches_of items) ≡ true → is_ordered (branches_of (insert items i (name, node))) ≡ true
+  pub is_ordered-insert : (items : List (Name × Tree V)) (i : ℕ) (name : Name) (node : Tree V) → node.branches ≡ none → IsGapFor items name i → is_ordered (branches_of items) ≡ true → is_ordered (branches_of (insert items i (name, node))) ≡ true
   is_ordered-insert [] zero name node bare gap up = ap (λ b. is_ordered b && true) bare
   is_ordered-insert [] (suc i) name node bare gap up = ap (λ b. is_ordered b && true) bare
   is_ordered-insert (a ∷ more) zero name node bare gap up =
@@ -41,7 +38,7 @@ module _ {V : Type 0} where
       (both_true _ _ (ap is_ordered bare) up)
   is_ordered-insert (a ∷ more) (suc i) name node bare gap up =
       let parts = and_parts (below_all name_cmp a.0 (children (branches_of more))) _ up in
-      let below = and_parts (is_ordered a.1.1) _ parts.1 in
+      let below = and_parts (is_ordered a.1.branches) _ parts.1 in
       both_true _ _
       (ap (below_all name_cmp a.0) (children-branches_of (insert more i (name, node))) ∙ below_all-insert a.0 more i (name, node) (gap.smaller_before 0 a (omega arith)) (sym (ap (below_all name_cmp a.0) (children-branches_of more)) ∙ parts.0))
       (both_true _ _ below.0
@@ -51,15 +48,15 @@ module _ {V : Type 0} where
         greater_after = λ j e le lt. gap.greater_after (suc j) e (omega arith) (omega arith);
       }) below.1))
 
-  pub is_ordered-child : (b : Branches V) (name : Name) (sub : Tree V) → is_ordered b ≡ true → child b name ≡ Some sub → is_ordered sub.1 ≡ true
+  pub is_ordered-child : (b : Branches V) (name : Name) (sub : Tree V) → is_ordered b ≡ true → child b name ≡ Some sub → is_ordered sub.branches ≡ true
   is_ordered-child none name sub up e = absurd (some_none e)
   is_ordered-child (branch n value below after) name sub up e = by_name (bytes_eq n name) refl (is_ordered-child after name sub)
     where
-      by_name : (t : Bool) → bytes_eq n name ≡ t → (is_ordered after ≡ true → child after name ≡ Some sub → is_ordered sub.1 ≡ true) → is_ordered sub.1 ≡ true
+      by_name : (t : Bool) → bytes_eq n name ≡ t → (is_ordered after ≡ true → child after name ≡ Some sub → is_ordered sub.branches ≡ true) → is_ordered sub.branches ≡ true
       by_name true is later =
-          let here : Some (value, below) ≡ Some sub = rw is at e in
-          let same : (value, below) ≡ sub = cc in
-          ap (λ s. is_ordered s.1) (sym same) ∙ (and_parts (is_ordered below) _ (and_parts (below_all name_cmp n (children after)) _ up).1).0
+          let here : Some (tree_of value below) ≡ Some sub = rw is at e in
+          let same : tree_of value below ≡ sub = cc in
+          ap (λ s. is_ordered s.branches) (sym same) ∙ (and_parts (is_ordered below) _ (and_parts (below_all name_cmp n (children after)) _ up).1).0
       by_name false is later =
           let there : child after name ≡ Some sub = rw is at e in
           later (and_parts (is_ordered below) _ (and_parts (below_all name_cmp n (children after)) _ up).1).1 there
@@ -74,23 +71,23 @@ module _ {V : Type 0} where
       by_name true is later = rw is refl
       by_name false is later = rw is (ap (λ t. is_lt (name_cmp k n) && t) later)
 
-  pub is_ordered-update_child : (b : Branches V) (name : Name) (f : Tree V → Tree V) → is_ordered b ≡ true → ((sub : Tree V) → child b name ≡ Some sub → is_ordered (f sub).1 ≡ true) → is_ordered (update_child b name f) ≡ true
+  pub is_ordered-update_child : (b : Branches V) (name : Name) (f : Tree V → Tree V) → is_ordered b ≡ true → ((sub : Tree V) → child b name ≡ Some sub → is_ordered (f sub).branches ≡ true) → is_ordered (update_child b name f) ≡ true
   is_ordered-update_child none name f up h = refl
   is_ordered-update_child (branch n value below after) name f up h = by_name (bytes_eq n name) refl (is_ordered-update_child after name f)
     where
-      by_name : (t : Bool) → bytes_eq n name ≡ t → (is_ordered after ≡ true → ((sub : Tree V) → child after name ≡ Some sub → is_ordered (f sub).1 ≡ true) → is_ordered (update_child after name f) ≡ true)
+      by_name : (t : Bool) → bytes_eq n name ≡ t → (is_ordered after ≡ true → ((sub : Tree V) → child after name ≡ Some sub → is_ordered (f sub).branches ≡ true) → is_ordered (update_child after name f) ≡ true)
           → is_ordered (update_child (branch n value below after) name f) ≡ true
       by_name true is later =
           let parts = and_parts (below_all name_cmp n (children after)) _ up in
           let rest = and_parts (is_ordered below) _ parts.1 in
-          rw is (both_true _ _ parts.0 (both_true _ _ (h (value, below) (rw is)) rest.1))
+          rw is (both_true _ _ parts.0 (both_true _ _ (h (tree_of value below) (rw is)) rest.1))
       by_name false is later =
           let parts = and_parts (below_all name_cmp n (children after)) _ up in
           let rest = and_parts (is_ordered below) _ parts.1 in
           rw is (both_true _ _ (below_all-update_child n after name f ∙ parts.0) (both_true _ _ rest.0 (later rest.1 (λ sub e. h sub (rw is e)))))
 
   -- another value at a path keeps every name
-  pub is_ordered-put_value : (t : Tree V) (path : Path) (v : V) → is_ordered t.1 ≡ true → is_ordered (put_value t path v).1 ≡ true
+  pub is_ordered-put_value : (t : Tree V) (path : Path) (v : V) → is_ordered t.branches ≡ true → is_ordered (put_value t path v).branches ≡ true
   is_ordered-put_value t [] v up = up
   is_ordered-put_value t (name ∷ rest) v up =
-      is_ordered-update_child t.1 name (λ sub. put_value sub rest v) up (λ sub e. is_ordered-put_value sub rest v (is_ordered-child t.1 name sub up e))
+      is_ordered-update_child t.branches name (λ sub. put_value sub rest v) up (λ sub e. is_ordered-put_value sub rest v (is_ordered-child t.branches name sub up e))

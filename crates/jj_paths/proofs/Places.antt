@@ -1,45 +1,14 @@
 -- What a binary search finds among named nodes whose names rise.
-use Rattle.std.proofs.Common.{◌≡◌, ℕ, zero, suc, ◌-◌, ◌<◌, ◌≤◌, true, List, [], ◌∷◌, length, get_or, Result, Ok, Err, IfOk, IfErr, refl, sym, ap, ◌∙◌, arith}
-use mathlib.Core.Bool.{false≢true}
-use Rattle.std.specs.declared.cmp.Ordering.{Ordering}
-use Rattle.std.specs.declared.cmp.Ordering.TheVariants.{Less, Equal, Greater}
-use Rattle.std.specs.Ordering.{is_lt, ordering_index, ordering_reverse}
-use Rattle.std.specs.Cmp.Lexicographic.{nat_list_cmp_total}
-use Rattle.std.specs.FinMap.{is_sorted, slice_cmp-IsAntisymmetric, nat_cmp-IsAntisymmetric}
+use Rattle.std.proofs.Common.{◌≡◌, ℕ, zero, suc, ◌-◌, ◌<◌, true, List, [], ◌∷◌, length, get_or, Result, Ok, Err, IfOk, IfErr, refl, sym, ap, ◌∙◌, arith}
+use Rattle.std.specs.declared.cmp.Ordering.TheVariants.{Less, Equal}
+use Rattle.std.specs.Ordering.{ordering_index}
+use Rattle.std.specs.FinMap.{is_sorted}
 use Rattle.std.specs.FinMap.Entries.{below_all}
 use Rattle.std.specs.List.Sorted.{IsBinarySearchResult, IsSearchInRange, IsNonDecreasingBy}
 use Rattle.std.proofs.lemmas.Bool.{and_parts}
 use Rattle.jj_paths.specs.Paths.{Name, name_cmp}
 use Rattle.jj_paths.specs.Tree.{Tree, IsAt, IsGapFor}
-
-pub name_cmp-same : (x y : Name) → name_cmp x y ≡ Equal → x ≡ y
-name_cmp-same = slice_cmp-IsAntisymmetric nat_cmp-IsAntisymmetric
-
-pub less_from_is_lt : (r : Ordering) → is_lt r ≡ true → r ≡ Less
-less_from_is_lt Less e = refl
-less_from_is_lt Equal e = absurd (false≢true e)
-less_from_is_lt Greater e = absurd (false≢true e)
-
-least_index : (r : Ordering) → ordering_index r ≤ 0 → r ≡ Less
-least_index Less le = refl
-least_index Equal le = absurd (omega arith)
-least_index Greater le = absurd (omega arith)
-
--- a smaller name compares no higher with any name
-rises : (x y q : Name) (r : Ordering) → name_cmp y q ≡ r → name_cmp x y ≡ Less → ordering_index (name_cmp x q) ≤ ordering_index r
-rises x y q Less e less = rw (nat_list_cmp_total.trans x y q less e) (omega arith)
-rises x y q Equal e less =
-    let t = nat_list_cmp_total in
-    let same : name_cmp y x ≡ name_cmp q x = t.congr y q x e in
-    let back : name_cmp y x ≡ Greater = t.antisymm y x ∙ ap ordering_reverse less in
-    let is : name_cmp x q ≡ Less = t.antisymm x q ∙ ap ordering_reverse (sym same ∙ back) in
-    rw is (omega arith)
-rises x y q Greater e less = at_most_two (name_cmp x q)
-  where
-    at_most_two : (r : Ordering) → ordering_index r ≤ 2
-    at_most_two Less = omega arith
-    at_most_two Equal = omega arith
-    at_most_two Greater = omega arith
+use Rattle.jj_paths.proofs.PathOrders.{name_cmp-same, less_from_is_lt, least_index, rises}
 
 module _ {V : Type 0} where
   pub below_all-at : (x : Name) (es : List (Name × Tree V)) (j : ℕ) (d : Name × Tree V) → below_all name_cmp x es ≡ true → j < length es → name_cmp x (get_or es j d).0 ≡ Less

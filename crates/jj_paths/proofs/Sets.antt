@@ -5,8 +5,9 @@ use Rattle.std.specs.Str.{bytes_eq}
 use Rattle.std.specs.Option.{option_and_then, option_map}
 use Rattle.std.proofs.lemmas.Slice.Eq.{bytes_eq-Decides}
 use Rattle.jj_paths.specs.Paths.{Name, Path, first_of, rest_of}
-use Rattle.jj_paths.specs.Tree.{Tree, Branches, none, branch, IsChildEdited, update_child, put, put_value, get, value_at, child, IsExtended, IsEdited, IsSet, is_ordered}
-use Rattle.jj_paths.proofs.Grown.{some_none, child-update_same, child-update_other, extended-step, extended-same, there-step}
+use Rattle.jj_paths.specs.Tree.{Tree, tree_of, Branches, none, branch, IsChildEdited, update_child, put, put_value, get, value_at, child, IsExtended, IsEdited, IsSet, is_ordered}
+use Rattle.jj_paths.proofs.Trees.{some_none}
+use Rattle.jj_paths.proofs.Grown.{child-update_same, child-update_other, extended-step, extended-same, there-step}
 use Rattle.jj_paths.proofs.Ordered.{is_ordered-put_value}
 
 -- a path that is not the root is its first name and the rest
@@ -19,18 +20,18 @@ module _ {V : Type 0} where
   below o r = option_and_then (λ s. get s r) o
 
   abbrev value_below : Option (Tree V) → Path → Option V
-  value_below o r = option_map (λ node. node.0) (below o r)
+  value_below o r = option_map (λ node. node.value) (below o r)
 
   -- the child that a path with a node leads through
   record Through (t : Tree V) (name : Name) (rest : Path) (n : Tree V) : Type 0 where
     sub : Tree V
-    is_child : child t.1 name ≡ Some sub
+    is_child : child t.branches name ≡ Some sub
     is_below : get sub rest ≡ Some n
 
   through : (t : Tree V) (name : Name) (rest : Path) (n : Tree V) → get t (name ∷ rest) ≡ Some n → Through t name rest n
-  through t name rest n e = known (child t.1 name) refl e
+  through t name rest n e = known (child t.branches name) refl e
     where
-      known : (o : Option (Tree V)) → child t.1 name ≡ o → below o rest ≡ Some n → Through t name rest n
+      known : (o : Option (Tree V)) → child t.branches name ≡ o → below o rest ≡ Some n → Through t name rest n
       known None is f = absurd (some_none f)
       known (Some s) is f = record { sub = s; is_child = is; is_below = f }
 
@@ -39,7 +40,7 @@ module _ {V : Type 0} where
   get-put-within t [] rest n w e = refl
   get-put-within t (name ∷ p) rest n w e =
       let way = through t name p n e in
-      ap (λ o. below o (p ++ rest)) (child-update_same t.1 name (λ s. put s p w) way.sub way.is_child) ∙ get-put-within way.sub p rest n w way.is_below
+      ap (λ o. below o (p ++ rest)) (child-update_same t.branches name (λ s. put s p w) way.sub way.is_child) ∙ get-put-within way.sub p rest n w way.is_below
 
   -- and elsewhere its values are as they were
   pub value_at-put-others : (t : Tree V) (path q : Path) (n w : Tree V) → get t path ≡ Some n → ((rest : Path) → q ≢ path ++ rest) → value_at (put t path w) q ≡ value_at t q
@@ -47,24 +48,24 @@ module _ {V : Type 0} where
   value_at-put-others t (name ∷ p) [] n w e off = refl
   value_at-put-others t (name ∷ p) (m ∷ r) n w e off = by_name (λ s h o. value_at-put-others s p r n w h o) (bytes_eq m name) refl
     where
-      by_name : ((s : Tree V) → get s p ≡ Some n → ((rest : Path) → r ≢ p ++ rest) → value_at (put s p w) r ≡ value_at s r) → (b : Bool) → bytes_eq m name ≡ b → value_below (child (update_child t.1 name (λ s. put s p w)) m) r ≡ value_below (child t.1 m) r
+      by_name : ((s : Tree V) → get s p ≡ Some n → ((rest : Path) → r ≢ p ++ rest) → value_at (put s p w) r ≡ value_at s r) → (b : Bool) → bytes_eq m name ≡ b → value_below (child (update_child t.branches name (λ s. put s p w)) m) r ≡ value_below (child t.branches m) r
       by_name later true same =
           let way = through t name p n e in
           let eq : m ≡ name = (bytes_eq-Decides m name).0 same in
-          ap (λ k. value_below (child (update_child t.1 name (λ s. put s p w)) k) r) eq
-          ∙ ap (λ o. value_below o r) (child-update_same t.1 name (λ s. put s p w) way.sub way.is_child)
+          ap (λ k. value_below (child (update_child t.branches name (λ s. put s p w)) k) r) eq
+          ∙ ap (λ o. value_below o r) (child-update_same t.branches name (λ s. put s p w) way.sub way.is_child)
           ∙ later way.sub way.is_below (λ rest is. off rest (ap (λ k. k ∷ r) eq ∙ ap (λ l. name ∷ l) is))
           ∙ ap (λ o. value_below o r) (sym way.is_child)
-          ∙ ap (λ k. value_below (child t.1 k) r) (sym eq)
+          ∙ ap (λ k. value_below (child t.branches k) r) (sym eq)
       by_name later false other =
-          ap (λ o. value_below o r) (child-update_other t.1 name m (λ s. put s p w) (λ eq. false≢true (sym other ∙ (bytes_eq-Decides m name).1 eq)))
+          ap (λ o. value_below o r) (child-update_other t.branches name m (λ s. put s p w) (λ eq. false≢true (sym other ∙ (bytes_eq-Decides m name).1 eq)))
 
   -- another value at a path changes that value alone
   pub value_at-put_value : (t : Tree V) (path : Path) (n : Tree V) (v : V) → get t path ≡ Some n → value_at (put_value t path v) path ≡ Some v
   value_at-put_value t [] n v e = refl
   value_at-put_value t (name ∷ p) n v e =
       let way = through t name p n e in
-      ap (λ o. value_below o p) (child-update_same t.1 name (λ s. put_value s p v) way.sub way.is_child) ∙ value_at-put_value way.sub p n v way.is_below
+      ap (λ o. value_below o p) (child-update_same t.branches name (λ s. put_value s p v) way.sub way.is_child) ∙ value_at-put_value way.sub p n v way.is_below
 
   pub value_at-put_value-others : (t : Tree V) (path q : Path) (n : Tree V) (v : V) → get t path ≡ Some n → q ≢ path → value_at (put_value t path v) q ≡ value_at t q
   value_at-put_value-others t [] [] n v e off = absurd (off refl)
@@ -72,17 +73,17 @@ module _ {V : Type 0} where
   value_at-put_value-others t (name ∷ p) [] n v e off = refl
   value_at-put_value-others t (name ∷ p) (m ∷ r) n v e off = by_name (λ s h o. value_at-put_value-others s p r n v h o) (bytes_eq m name) refl
     where
-      by_name : ((s : Tree V) → get s p ≡ Some n → r ≢ p → value_at (put_value s p v) r ≡ value_at s r) → (b : Bool) → bytes_eq m name ≡ b → value_below (child (update_child t.1 name (λ s. put_value s p v)) m) r ≡ value_below (child t.1 m) r
+      by_name : ((s : Tree V) → get s p ≡ Some n → r ≢ p → value_at (put_value s p v) r ≡ value_at s r) → (b : Bool) → bytes_eq m name ≡ b → value_below (child (update_child t.branches name (λ s. put_value s p v)) m) r ≡ value_below (child t.branches m) r
       by_name later true same =
           let way = through t name p n e in
           let eq : m ≡ name = (bytes_eq-Decides m name).0 same in
-          ap (λ k. value_below (child (update_child t.1 name (λ s. put_value s p v)) k) r) eq
-          ∙ ap (λ o. value_below o r) (child-update_same t.1 name (λ s. put_value s p v) way.sub way.is_child)
+          ap (λ k. value_below (child (update_child t.branches name (λ s. put_value s p v)) k) r) eq
+          ∙ ap (λ o. value_below o r) (child-update_same t.branches name (λ s. put_value s p v) way.sub way.is_child)
           ∙ later way.sub way.is_below (λ is. off (ap (λ k. k ∷ r) eq ∙ ap (λ l. name ∷ l) is))
           ∙ ap (λ o. value_below o r) (sym way.is_child)
-          ∙ ap (λ k. value_below (child t.1 k) r) (sym eq)
+          ∙ ap (λ k. value_below (child t.branches k) r) (sym eq)
       by_name later false other =
-          ap (λ o. value_below o r) (child-update_other t.1 name m (λ s. put_value s p v) (λ eq. false≢true (sym other ∙ (bytes_eq-Decides m name).1 eq)))
+          ap (λ o. value_below o r) (child-update_other t.branches name m (λ s. put_value s p v) (λ eq. false≢true (sym other ∙ (bytes_eq-Decides m name).1 eq)))
 
   -- a node is put into a tree that was extended
   pub edited : (is_new : V → Type 0) (old tree : Tree V) (path : Path) (node changed : Tree V) → IsExtended is_new old path tree → get tree path ≡ Some node → IsEdited is_new old path node changed (put tree path changed)
@@ -101,11 +102,11 @@ module _ {V : Type 0} where
     here = ap (λ t. value_at t path) is ∙ value_at-put_value tree path node v at;
     keeps = λ q w off e. ap (λ t. value_at t q) is ∙ value_at-put_value-others tree path q node v at off ∙ extended.keeps q w e;
     makes = λ q w off e f. extended.makes q w e (sym (ap (λ t. value_at t q) is ∙ value_at-put_value-others tree path q node v at off) ∙ f);
-    ordered = λ up. ap (λ t. is_ordered t.1) is ∙ is_ordered-put_value tree path v (extended.ordered up);
+    ordered = λ up. ap (λ t. is_ordered t.branches) is ∙ is_ordered-put_value tree path v (extended.ordered up);
   }
 
   -- setting a value at the root of a tree, or below one of its children
-  pub set-root : (is_new : V → Type 0) (old new : Tree V) (path : Path) (v : V) → path ≡ [] → new ≡ (v, old.1) → (t : Tree V) × IsExtended is_new old path t × IsSome (get t path) × (new ≡ put_value t path v)
+  pub set-root : (is_new : V → Type 0) (old new : Tree V) (path : Path) (v : V) → path ≡ [] → new ≡ tree_of v old.branches → (t : Tree V) × IsExtended is_new old path t × IsSome (get t path) × (new ≡ put_value t path v)
   set-root is_new old new path v root is = (old, extended-same is_new old path, ap (λ p. is_some (get old p)) root, is ∙ ap (λ p. put_value old p v) (sym root))
 
   some_node : (o : Option (Tree V)) → IsSome o → (node : Tree V) × (o ≡ Some node)
@@ -143,13 +144,13 @@ module _ {V : Type 0} where
       set-below v (Ok a) h =
           let t = h.0 in
           let node = edit.tree in (
-            (node.0, update_child node.1 name (λ _. t)),
+            tree_of node.value (update_child node.branches name (λ _. t)),
             extended-step is_new old node sub t path name rest is edit.grown edit.at_name h.1,
             there-step node sub t path name rest is edit.at_name h.2,
             edit.is_put
-                ∙ ap (λ s. (node.0, update_child node.1 name (λ _. s))) h.3
-                ∙ ap (λ b. (node.0, b)) (sym (update_child-twice node.1 name t (λ s. put_value s rest v)))
-                ∙ ap (λ p. put_value (node.0, update_child node.1 name (λ _. t)) p v) (sym is),
+                ∙ ap (λ s. tree_of node.value (update_child node.branches name (λ _. s))) h.3
+                ∙ ap (tree_of node.value) (sym (update_child-twice node.branches name t (λ s. put_value s rest v)))
+                ∙ ap (λ p. put_value (tree_of node.value (update_child node.branches name (λ _. t))) p v) (sym is),
           )
       set-below v (Err e) h = extended-below h
 

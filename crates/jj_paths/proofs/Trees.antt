@@ -2,24 +2,17 @@
 use Rattle.std.proofs.Common.{◌≡◌, ℕ, zero, suc, ◌<◌, get_or, Some, None, ◌∙◌, inl, inr, Bool, true, false, not, ◌==◌, List, [], ◌∷◌, length, refl, ap, sym, arith}
 use Rattle.std.proofs.lemmas.Bool.{ne_eqb}
 use Rattle.jj_paths.specs.Paths.{Name, name_cmp}
-use Rattle.std.specs.declared.cmp.Ordering.{Ordering}
 use Rattle.std.specs.declared.cmp.Ordering.TheVariants.{Less, Equal, Greater}
-use Rattle.std.specs.Ordering.{ordering_reverse}
 use Rattle.std.specs.Str.{bytes_eq}
 use Rattle.std.specs.FinMap.{is_sorted}
-use Rattle.std.specs.Cmp.Lexicographic.{nat_list_cmp_total}
 use Rattle.std.proofs.lemmas.Slice.Eq.{bytes_eq-Decides}
 use Rattle.std.proofs.lemmas.Bool.{and_parts, cases_lt}
 use Rattle.jj_paths.specs.Tree.{Tree, branches_of, children, has_branches, child, IsAt, IsGapFor}
+use Rattle.jj_paths.proofs.PathOrders.{name_cmp-itself}
 use Rattle.jj_paths.proofs.Places.{below_all-at}
 
-pub name_cmp-itself : (x : Name) → name_cmp x x ≡ Equal
-name_cmp-itself x = by_antisymm (name_cmp x x) (nat_list_cmp_total.antisymm x x)
-  where
-    by_antisymm : (r : Ordering) → r ≡ ordering_reverse r → r ≡ Equal
-    by_antisymm Less e = cc
-    by_antisymm Equal e = refl
-    by_antisymm Greater e = cc
+pub some_none : {X : Type 0} {x : X} → None ≡ Some x → ⊥
+some_none e = cc
 
 -- names that compare unequal differ
 pub not_same : (x y name : Name) → name_cmp x y ≡ Less → y ≡ name → bytes_eq x name ≡ false

@@ -12,9 +12,9 @@ module _ {V : Type 0} where
   nodes_on-parts tree [] zero d lt = ([], refl, refl)
   nodes_on-parts tree [] (suc k) d lt = absurd (omega (arith, lt))
   nodes_on-parts tree (name ∷ rest) zero d lt = ([], refl, refl)
-  nodes_on-parts tree (name ∷ rest) (suc k) d lt = by_child (λ sub. nodes_on-parts sub rest k d) (child tree.1 name) refl (omega (arith, lt))
+  nodes_on-parts tree (name ∷ rest) (suc k) d lt = by_child (λ sub. nodes_on-parts sub rest k d) (child tree.branches name) refl (omega (arith, lt))
     where
-      by_child : ((sub : Tree V) → k < length (nodes_on sub rest) → IsPartOf sub rest (get_or (nodes_on sub rest) k d)) → (o : Option (Tree V)) → child tree.1 name ≡ o → k < length (after o rest) → IsPartOf tree (name ∷ rest) (get_or (after o rest) k d)
+      by_child : ((sub : Tree V) → k < length (nodes_on sub rest) → IsPartOf sub rest (get_or (nodes_on sub rest) k d)) → (o : Option (Tree V)) → child tree.branches name ≡ o → k < length (after o rest) → IsPartOf tree (name ∷ rest) (get_or (after o rest) k d)
       by_child later None is less = absurd (omega (arith, less))
       by_child later (Some sub) is less =
           let (front, e, g) = later sub less in

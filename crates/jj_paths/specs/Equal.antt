@@ -19,7 +19,7 @@ module _ {V : Type 0} (eq : V → V → Bool) where
       && (branches_eq below below' && branches_eq after after'))
 
   abbrev pub tree_eq : Tree V → Tree V → Bool
-  tree_eq tree other = eq tree.0 other.0 && branches_eq tree.1 other.1
+  tree_eq tree other = eq tree.value other.value && branches_eq tree.branches other.branches
 
 module _ {V : Type 0} {eq : V → V → Bool} where
   module _ (values : IsPartialEquivalence eq) where
@@ -53,16 +53,17 @@ module _ {V : Type 0} {eq : V → V → Bool} where
 
     pub tree_per : IsPartialEquivalence (tree_eq eq)
     tree_per = record {
-      symm = λ s t. let b = branches_symm s.1 t.1 in λ i. values.symm s.0 t.0 i && b i;
+      symm = λ s t. let b = branches_symm s.branches t.branches in λ i. values.symm s.value t.value i && b i;
       trans = λ s t u h k.
-          let hs = and_parts (eq s.0 t.0) _ h in
-          let ks = and_parts (eq t.0 u.0) _ k in
-          and_from _ _ (values.trans s.0 t.0 u.0 hs.0 ks.0) (branches_trans s.1 t.1 u.1 hs.1 ks.1);
+          let hs = and_parts (eq s.value t.value) _ h in
+          let ks = and_parts (eq t.value u.value) _ k in
+          and_from _ _ (values.trans s.value t.value u.value hs.0 ks.0)
+          (branches_trans s.branches t.branches u.branches hs.1 ks.1);
     }
 
   pub tree_equiv : IsEquivalence eq → IsEquivalence (tree_eq eq)
   tree_equiv values = equiv (tree_per (partial_equiv_from_equiv values))
-      (λ t. and_from _ _ (values.refl t.0) (itself t.1))
+      (λ t. and_from _ _ (values.refl t.value) (itself t.branches))
     where
       itself : (b : Branches V) → branches_eq eq b b ≡ true
       itself none = refl

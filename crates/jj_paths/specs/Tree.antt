@@ -1,7 +1,7 @@
 -- A tree of values at paths: each node has a value, and branches with names to further nodes.
 -- Cited by contracts of public items: IsEdited, IsExtended, IsPartOf, IsSet, IsTreeClone, Tree,
 -- below_wrapper, branch_count, branches_of, child, children, get, has_branches,
--- most_le-branch_count, nodes_on, none, put_value, tree_code, weight_le-pair.
+-- most_le-branch_count, nodes_on, none, put_value, tree_code, tree_of, weight_le-pair.
 use Rattle.std.specs.Prelude.{◌≡◌, ◌≢◌, IsSome, Bool, true, false, ◌&&◌, ℕ, ◌+◌, ◌*◌, ◌≤◌, ◌<◌, length, slice_index_or, if◌then◌else◌, List, [], ◌∷◌, ◌++◌, Option, None, Some, refl, max}
 use Rattle.std.specs.declared.cmp.Ordering.TheVariants.{Less, Greater}
 use Rattle.std.specs.Str.{bytes_eq}
@@ -18,9 +18,14 @@ pub data Branches (V : Type 0) : Type 0 where
   none : Branches V
   branch : Name → V → Branches V → Branches V → Branches V
 
--- a node: its value and its branches
-abbrev pub Tree : Type 0 → Type 0
-Tree V = V × Branches V
+-- a tree, seen from its root: the value there and the branches
+pub record Tree (V : Type 0) : Type 0 where
+  pub value : V
+  pub branches : Branches V
+
+-- the tree of a value and branches
+abbrev pub tree_of : {V : Type 0} → V → Branches V → Tree V
+tree_of value branches = record { value = value; branches = branches }
 
 -- the size of a tree is above that of its node
 pub below_wrapper : (n : ℕ) → max (2 * n + 1) 0 ≤ 2 * n + 1
@@ -30,11 +35,11 @@ module _ {V : Type 0} where
   -- branches as a list of names and nodes, and back
   abbrev pub children : Branches V → List (Name × Tree V)
   children none = []
-  children (branch name value below after) = (name, (value, below)) ∷ children after
+  children (branch name value below after) = (name, tree_of value below) ∷ children after
 
   abbrev pub branches_of : List (Name × Tree V) → Branches V
   branches_of [] = none
-  branches_of (x ∷ xs) = branch x.0 x.1.0 x.1.1 (branches_of xs)
+  branches_of (x ∷ xs) = branch x.0 x.1.value x.1.branches (branches_of xs)
 
   abbrev pub has_branches : Branches V → Bool
   has_branches none = false
@@ -49,19 +54,19 @@ module _ {V : Type 0} where
   -- the node of the first branch with that name
   abbrev pub child : Branches V → Name → Option (Tree V)
   child none name = None
-  child (branch n value below after) name = if bytes_eq n name then Some
-      (value, below) else child after name
+  child (branch n value below after) name =
+      if bytes_eq n name then Some (tree_of value below) else child after name
 
   -- the node at a path below a node
   abbrev pub get : Tree V → Path → Option (Tree V)
   get tree [] = Some tree
-  get tree (name ∷ rest) = option_and_then (λ sub. get sub rest) (child tree.1 name)
+  get tree (name ∷ rest) = option_and_then (λ sub. get sub rest) (child tree.branches name)
 
   -- the nodes on the way to a path, as far as they go, each with what of the path is below it: all,
   -- and those below a node
   abbrev pub nodes_on : Tree V → Path → List (Tree V × Path)
   nodes_on tree [] = (tree, []) ∷ []
-  nodes_on tree (name ∷ rest) = (tree, name ∷ rest) ∷ elim (child tree.1 name)
+  nodes_on tree (name ∷ rest) = (tree, name ∷ rest) ∷ elim (child tree.branches name)
       [ None ↦ [] | Some sub ↦ nodes_on sub rest ]
 
   abbrev pub nodes_from : Option (Tree V × Path) → List (Tree V × Path)
@@ -70,7 +75,7 @@ module _ {V : Type 0} where
 
   abbrev pub nodes_below : Tree V → Path → List (Tree V × Path)
   nodes_below tree [] = []
-  nodes_below tree (name ∷ rest) = nodes_from (option_map (λ sub. (sub, rest)) (child tree.1 name))
+  nodes_below tree (name ∷ rest) = nodes_from (option_map (λ sub. (sub, rest)) (child tree.branches name))
 
   -- a node with what of the path is below it: the path leads to the node by what is above it
   abbrev pub IsPartOf : Tree V → Path → Tree V × Path → Type 0
@@ -81,50 +86,51 @@ module _ {V : Type 0} where
   abbrev pub update_child : Branches V → Name → (Tree V → Tree V) → Branches V
   update_child none name f = none
   update_child (branch n value below after) name f =
-      if bytes_eq n name then branch n (f (value, below)).0
-      (f (value, below)).1 after else branch n value below (update_child after name f)
+      if bytes_eq n name then branch n (f (tree_of value below)).value
+      (f (tree_of value below)).branches after
+      else branch n value below (update_child after name f)
 
   -- the tree with another node at a path
   abbrev pub put : Tree V → Path → Tree V → Tree V
   put tree [] node = node
-  put tree (name ∷ rest) node = (tree.0, update_child tree.1 name (λ sub. put sub rest node))
+  put tree (name ∷ rest) node =
+      tree_of tree.value (update_child tree.branches name (λ sub. put sub rest node))
 
   -- the tree with another one at the first name of a path
   abbrev pub put_below : Tree V → Path → Tree V → Tree V
   put_below tree [] sub = sub
-  put_below tree (name ∷ rest) sub = (tree.0, update_child tree.1 name (λ _. sub))
+  put_below tree (name ∷ rest) sub =
+      tree_of tree.value (update_child tree.branches name (λ _. sub))
 
   -- the tree with another value at a path
   abbrev pub put_value : Tree V → Path → V → Tree V
-  put_value tree [] value = (value, tree.1)
-  put_value tree (name ∷ rest) value = (
-    tree.0,
-    update_child tree.1 name (λ sub. put_value sub rest value),
-  )
+  put_value tree [] value = tree_of value tree.branches
+  put_value tree (name ∷ rest) value =
+      tree_of tree.value (update_child tree.branches name (λ sub. put_value sub rest value))
 
   -- a node has the child of that name, which is a new one where it had none, and its other children
   -- are as they were
   pub record IsGrown (is_new : V → Type 0) (old : Tree V) (name : Name)
       (node : Tree V) : Type 0 where
-    pub value : node.0 ≡ old.0
-    pub there : IsSome (child node.1 name)
-    pub others : (n : Name) → n ≢ name → child node.1 n ≡ child old.1 n
-    pub keeps : (sub : Tree V) → child old.1 name ≡ Some sub → child node.1 name ≡ Some sub
-    pub makes : (sub : Tree V) → child old.1 name ≡ None → child node.1 name ≡ Some sub
-        → is_new sub.0 × (sub.1 ≡ none)
-    pub ordered : is_ordered old.1 ≡ true → is_ordered node.1 ≡ true
+    pub value : node.value ≡ old.value
+    pub there : IsSome (child node.branches name)
+    pub others : (n : Name) → n ≢ name → child node.branches n ≡ child old.branches n
+    pub keeps : (sub : Tree V) → child old.branches name ≡ Some sub → child node.branches name ≡ Some sub
+    pub makes : (sub : Tree V) → child old.branches name ≡ None → child node.branches name ≡ Some sub
+        → is_new sub.value × (sub.branches ≡ none)
+    pub ordered : is_ordered old.branches ≡ true → is_ordered node.branches ≡ true
 
   -- the child of a node that was grown becomes another, and so the old node becomes the new one
   pub record IsChildEdited (is_new : V → Type 0) (old : Tree V) (name : Name)
       (sub changed new : Tree V) : Type 0 where
     pub tree : Tree V
     pub grown : IsGrown is_new old name tree
-    pub at_name : child tree.1 name ≡ Some sub
-    pub is_put : new ≡ (tree.0, update_child tree.1 name (λ _. changed))
+    pub at_name : child tree.branches name ≡ Some sub
+    pub is_put : new ≡ tree_of tree.value (update_child tree.branches name (λ _. changed))
 
   -- the value at a path
   abbrev pub value_at : Tree V → Path → Option V
-  value_at tree path = option_map (λ node. node.0) (get tree path)
+  value_at tree path = option_map (λ node. node.value) (get tree path)
 
   -- a tree keeps the values of another, and has at most new ones on the fronts of a path, which the
   -- test passes; names that ascended at every node still do
@@ -133,7 +139,7 @@ module _ {V : Type 0} where
     pub keeps : (q : Path) (value : V) → value_at old q ≡ Some value → value_at tree q ≡ Some value
     pub makes : (q : Path) (value : V) → value_at old q ≡ None → value_at tree q ≡ Some value
         → is_new value × ((rest : Path) × (path ≡ q ++ rest))
-    pub ordered : is_ordered old.1 ≡ true → is_ordered tree.1 ≡ true
+    pub ordered : is_ordered old.branches ≡ true → is_ordered tree.branches ≡ true
 
   -- the node at the path of a tree that was extended becomes another, and so the old tree becomes
   -- the new one: what is at or below the path is the other node's, and every other value is as it
@@ -156,7 +162,7 @@ module _ {V : Type 0} where
     pub keeps : (q : Path) (v : V) → q ≢ path → value_at old q ≡ Some v → value_at new q ≡ Some v
     pub makes : (q : Path) (v : V) → q ≢ path → value_at old q ≡ None → value_at new q ≡ Some v
         → is_new v × ((rest : Path) × (path ≡ q ++ rest))
-    pub ordered : is_ordered old.1 ≡ true → is_ordered new.1 ≡ true
+    pub ordered : is_ordered old.branches ≡ true → is_ordered new.branches ≡ true
 
   -- branches of the same names, whose values are clones of the others', each at its place; and a
   -- node's
@@ -169,7 +175,8 @@ module _ {V : Type 0} where
       × AreClones is_clone after after'
 
   abbrev pub IsTreeClone : (V → V → Type 0) → Tree V → Tree V → Type 0
-  IsTreeClone is_clone tree copy = is_clone tree.0 copy.0 × AreClones is_clone tree.1 copy.1
+  IsTreeClone is_clone tree copy = is_clone tree.value copy.value
+      × AreClones is_clone tree.branches copy.branches
 
   -- the branch at place i has the name
   pub record IsAt (entries : List (Name × Tree V)) (name : Name) (i : ℕ) : Type 0 where
@@ -191,7 +198,7 @@ module _ {V : Type 0} where
 
   -- the size falls from a node to its children, as Rattle counts it
   pub most_le-branch_count : (μ : Name × Tree V → ℕ)
-      → ((x : Name × Tree V) → μ x ≤ 2 * branch_count x.1.1 + 2) → (items : List (Name × Tree V))
+      → ((x : Name × Tree V) → μ x ≤ 2 * branch_count x.1.branches + 2) → (items : List (Name × Tree V))
       → max (most μ items) 0 ≤ 2 * branch_count (branches_of items)
   most_le-branch_count μ h [] = omega arith
   most_le-branch_count μ h (x ∷ xs) = omega (arith, h x, most_le-branch_count μ h xs)
@@ -199,7 +206,7 @@ module _ {V : Type 0} where
   -- what a pair adds to the size of the branches that it stands in, as the size of a node is
   -- counted
   pub weight_le-pair : (x : Name × Tree V)
-      → max 0 (max (2 * branch_count x.1.1 + 1 + 1) 0) ≤ 2 * branch_count x.1.1 + 2
+      → max 0 (max (2 * branch_count x.1.branches + 1 + 1) 0) ≤ 2 * branch_count x.1.branches + 2
   weight_le-pair x = omega arith
 
   -- a code: the branches in postorder
@@ -238,4 +245,5 @@ module _ {V : Type 0} where
       (coded_option (coded× (coded_list coded_ℕ) v))) tokens from_tokens from_tokens-tokens
 
   abbrev pub tree_code : Coded V → Coded (Tree V)
-  tree_code v = coded× v (branches_code v)
+  tree_code v = code_by (V × Branches V) (coded× v (branches_code v))
+      (λ tree. (tree.value, tree.branches)) (λ parts. tree_of parts.0 parts.1) (λ tree. refl)

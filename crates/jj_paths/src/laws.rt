@@ -1,6 +1,6 @@
 //! Laws of paths and of trees. Each function does nothing, and its contract is the law.
 ghost use Rattle.jj_paths.specs.Laws.{TextsGiveBack, PathsGiveBack, LastNamesAreOne, HoldsRoot, HoldsFronts};
-ghost use Rattle.jj_paths.specs.Listed.{ListsNodes, ListsInOrder};
+ghost use Rattle.jj_paths.specs.Nodes.{ListsNodes, ListsInOrder};
 
 /// A path's text gives its names back, and the names of a path give its text back. So the texts
 /// that are accepted are exactly those of lists of names, and two paths are the same where their

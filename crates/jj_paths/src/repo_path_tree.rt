@@ -9,7 +9,7 @@ ghost use Rattle.jj_paths.specs.Paths.{Name, Path, name_cmp, first_of, rest_of};
 ghost use Rattle.jj_paths.specs.Names.{name_of, path_of};
 ghost use Rattle.std.specs.FinMap.{is_sorted};
 ghost use Rattle.std.specs.Iterator.{YieldsFirstBy, item_count};
-ghost use Rattle.jj_paths.specs.Tree.{Tree, branches_of, none, children, child, get, has_branches, put, put_value, update_child, put_below, nodes_on, nodes_below, nodes_from, IsPartOf, IsExtended, IsEdited, IsSet, IsGrown, IsChildEdited, IsAt, IsGapFor, IsTreeClone};
+ghost use Rattle.jj_paths.specs.Tree.{Tree, tree_of, branches_of, none, children, child, get, has_branches, put, put_value, update_child, put_below, nodes_on, nodes_below, nodes_from, IsPartOf, IsExtended, IsEdited, IsSet, IsGrown, IsChildEdited, IsAt, IsGapFor, IsTreeClone};
 
 use crate::repo_path::{RepoPath, RepoPathComponent, RepoPathComponentBuf};
 use std::alloc::{AllocError, Global};
@@ -42,26 +42,26 @@ impl<V> Model for RepoPathTree<V> {
 
     ghost view = { λ t. t.node };
 
-    ghost size = { λ t. 2 * branch_count t.1 + 1 };
+    ghost size = { λ t. 2 * branch_count t.branches + 1 };
 
-    ghost size_decreases = { λ t h. below_wrapper (branch_count t.node.1) };
+    ghost size_decreases = { λ t h. below_wrapper (branch_count t.node.branches) };
 }
 
 impl<V> Model for RepoPathNode<V> {
     ghost use Rattle.std.specs.Prelude.{IsTrue, ◌*◌};
     ghost use Rattle.std.specs.FinMap.{is_sorted};
     ghost use Rattle.jj_paths.specs.Paths.{name_cmp};
-    ghost use Rattle.jj_paths.specs.Tree.{Tree, tree_code, branches_of, branch_count, most_le-branch_count, weight_le-pair};
+    ghost use Rattle.jj_paths.specs.Tree.{Tree, tree_of, tree_code, branches_of, branch_count, most_le-branch_count, weight_le-pair};
 
     ghost Value = { Tree V };
 
     ghost coded = { tree_code V.code };
 
-    ghost view = { λ t. (t.value, branches_of t.entries.items) };
+    ghost view = { λ t. tree_of t.value (branches_of t.entries.items) };
 
     ghost invariant = { λ t. IsTrue (is_sorted name_cmp t.entries.items) };
 
-    ghost size = { λ t. 2 * branch_count t.1 };
+    ghost size = { λ t. 2 * branch_count t.branches };
 
     ghost size_decreases = { λ t h. most_le-branch_count _ weight_le-pair t.entries.items };
 }
@@ -118,7 +118,7 @@ impl<V> RepoPathNode<V> {
 
     // the value and the children
     fn into_parts(self) -> (V, Vec<(RepoPathComponentBuf, RepoPathTree<V>)>)
-        ensures parts { self ≡ (result.0, branches_of result.1.items) }
+        ensures parts { self ≡ tree_of result.0 (branches_of result.1.items) }
         ensures by_name { IsTrue (is_sorted name_cmp result.1.items) }
     {
         let RepoPathNode { value, entries } = self;
@@ -129,7 +129,7 @@ impl<V> RepoPathNode<V> {
 impl<V> RepoPathTree<V> {
     // the value and the children of the root
     fn into_parts(self) -> (V, Vec<(RepoPathComponentBuf, RepoPathTree<V>)>)
-        ensures parts { self ≡ (result.0, branches_of result.1.items) }
+        ensures parts { self ≡ tree_of result.0 (branches_of result.1.items) }
         ensures by_name { IsTrue (is_sorted name_cmp result.1.items) }
     {
         let RepoPathTree { node } = self;
@@ -142,7 +142,7 @@ impl<V> RepoPathTree<V> {
         entries: Vec<(RepoPathComponentBuf, RepoPathTree<V>)>,
     ) -> RepoPathTree<V>
         requires { IsTrue (is_sorted name_cmp entries.items) }
-        ensures { result ≡ (value, branches_of entries.items) }
+        ensures { result ≡ tree_of value (branches_of entries.items) }
     {
         RepoPathTree {
             node: RepoPathNode { value, entries },
@@ -159,7 +159,7 @@ impl<V> RepoPathNode<V> {
 
     /// The value at the node.
     pub fn value(&self) -> &V
-        ensures { result.now ≡ self.now.0 }
+        ensures { result.now ≡ self.now.value }
     {
         &self.value
     }
@@ -168,22 +168,22 @@ impl<V> RepoPathNode<V> {
     pub fn set_value(&mut self, value: V)
     where
         V: Drop,
-        ensures { self.new ≡ (value, self.old.1) }
+        ensures { self.new ≡ tree_of value self.old.branches }
     {
         self.value = value;
     }
 
     /// Whether the node has children.
     pub fn has_children(&self) -> bool
-        ensures { result ≡ has_branches self.now.1 }
+        ensures { result ≡ has_branches self.now.branches }
     {
         !self.entries.is_empty()
     }
 
     /// The children, by name.
     pub fn children(&self) -> RepoPathTreeChildren<'_, V>
-        ensures listed { children_left result ≡ children self.now.1 }
-        ensures by_name { IsTrue (is_sorted name_cmp (children self.now.1)) }
+        ensures listed { children_left result ≡ children self.now.branches }
+        ensures by_name { IsTrue (is_sorted name_cmp (children self.now.branches)) }
     {
         RepoPathTreeChildren {
             entries: self.entries.as_slice(),
@@ -192,15 +192,15 @@ impl<V> RepoPathNode<V> {
 
     /// The children, by name, each with its name as the tree owns it.
     pub fn entries(&self) -> &[(RepoPathComponentBuf, RepoPathTree<V>)]
-        ensures listed { result.now ≡ children self.now.1 }
-        ensures by_name { IsTrue (is_sorted name_cmp (children self.now.1)) }
+        ensures listed { result.now ≡ children self.now.branches }
+        ensures by_name { IsTrue (is_sorted name_cmp (children self.now.branches)) }
     {
         self.entries.as_slice()
     }
 
     /// The tree below, at a name.
     pub fn child(&self, name: RepoPathComponent<'_>) -> Option<&RepoPathTree<V>>
-        ensures { option_copied result ≡ child self.now.1 (name_of name.entry) }
+        ensures { option_copied result ≡ child self.now.branches (name_of name.entry) }
     {
         match place(&self.entries, name) {
             Ok(at) => Some(&self.entries[at].1),
@@ -211,8 +211,8 @@ impl<V> RepoPathNode<V> {
     /// The value at the node, to write to.
     pub fn value_mut(&mut self) -> &mut V
         ensures* writes_back { sem 𝓛 (Lends (the_row V.row) V.row self.entry result
-            (λ w. (w, self.old.1))) }
-        ensures value { result.now ≡ self.old.0 }
+            (λ w. tree_of w self.old.branches)) }
+        ensures value { result.now ≡ self.old.value }
     {
         &mut self.value
     }
@@ -231,7 +231,7 @@ impl<V> RepoPathNode<V> {
             (λ new. new ≡ self.old)) }
         ensures value { IfOk result (λ sub. (t : Tree V)
             × IsGrown V.is_default self.old (name_of name.entry) t
-            × (child t.1 (name_of name.entry) ≡ Some sub.now)) }
+            × (child t.branches (name_of name.entry) ≡ Some sub.now)) }
     {
         match place(&self.entries, name) {
             Ok(at) => Ok(second(&mut self.entries[at])),
@@ -258,7 +258,7 @@ impl<V> RepoPathNode<V> {
             (path_of path.entry)) sub.now changed new)) (λ new. new ≡ self.old)) }
         ensures value { IfOk result (λ sub. (t : Tree V)
             × IsGrown V.is_default self.old (first_of (path_of path.entry)) t
-            × (child t.1 (first_of (path_of path.entry)) ≡ Some sub.now)) }
+            × (child t.branches (first_of (path_of path.entry)) ≡ Some sub.now)) }
     {
         match path.split_first() {
             None => unreachable!(),
@@ -268,10 +268,11 @@ impl<V> RepoPathNode<V> {
 
     // the tree below, at a name
     fn child_mut(&mut self, name: RepoPathComponent<'_>) -> &mut RepoPathTree<V>
-        requires { IsSome (child self.old.1 (name_of name)) }
+        requires { IsSome (child self.old.branches (name_of name)) }
         ensures* writes_back { sem 𝓛 (Lends (the_row V.row) (tree.the_row V.row) self.entry result
-            (λ w. (self.old.0, update_child self.old.1 (name_of name.entry) (λ sub. w)))) }
-        ensures value { child self.old.1 (name_of name.entry) ≡ Some result.now }
+            (λ w. tree_of self.old.value
+            (update_child self.old.branches (name_of name.entry) (λ sub. w)))) }
+        ensures value { child self.old.branches (name_of name.entry) ≡ Some result.now }
     {
         match place(&self.entries, name) {
             Ok(at) => second(&mut self.entries[at]),
@@ -315,15 +316,15 @@ impl<V> RepoPathTree<V> {
     pub fn default(alloc: Global) -> RepoPathTree<V>
     where
         V: Default,
-        ensures value { V.is_default result.0 }
-        ensures alone { result.1 ≡ none }
+        ensures value { V.is_default result.value }
+        ensures alone { result.branches ≡ none }
     {
         RepoPathTree::new(alloc, V::default())
     }
 
     // a tree that holds the root alone
     fn new(alloc: Global, value: V) -> RepoPathTree<V>
-        ensures { result ≡ (value, none) }
+        ensures { result ≡ tree_of value none }
     {
         RepoPathTree {
             node: RepoPathNode {
@@ -342,7 +343,7 @@ impl<V> RepoPathTree<V> {
 
     /// The value at the root.
     pub fn value(&self) -> &V
-        ensures { result.now ≡ self.now.0 }
+        ensures { result.now ≡ self.now.value }
     {
         self.node.value()
     }
@@ -350,8 +351,8 @@ impl<V> RepoPathTree<V> {
     /// The value at the root, to write to.
     pub fn value_mut(&mut self) -> &mut V
         ensures* writes_back { sem 𝓛 (Lends (the_row V.row) V.row self.entry result
-            (λ w. (w, self.old.1))) }
-        ensures value { result.now ≡ self.old.0 }
+            (λ w. tree_of w self.old.branches)) }
+        ensures value { result.now ≡ self.old.value }
     {
         self.own_node().value_mut()
     }
@@ -360,37 +361,37 @@ impl<V> RepoPathTree<V> {
     pub fn set_value(&mut self, value: V)
     where
         V: Drop,
-        ensures { self.new ≡ (value, self.old.1) }
+        ensures { self.new ≡ tree_of value self.old.branches }
     {
         self.node.set_value(value);
     }
 
     /// Whether the root has children.
     pub fn has_children(&self) -> bool
-        ensures { result ≡ has_branches self.now.1 }
+        ensures { result ≡ has_branches self.now.branches }
     {
         self.node.has_children()
     }
 
     /// The children of the root, by name.
     pub fn children(&self) -> RepoPathTreeChildren<'_, V>
-        ensures listed { children_left result ≡ children self.now.1 }
-        ensures by_name { IsTrue (is_sorted name_cmp (children self.now.1)) }
+        ensures listed { children_left result ≡ children self.now.branches }
+        ensures by_name { IsTrue (is_sorted name_cmp (children self.now.branches)) }
     {
         self.node.children()
     }
 
     /// The children of the root, by name, each with its name as the tree owns it.
     pub fn entries(&self) -> &[(RepoPathComponentBuf, RepoPathTree<V>)]
-        ensures listed { result.now ≡ children self.now.1 }
-        ensures by_name { IsTrue (is_sorted name_cmp (children self.now.1)) }
+        ensures listed { result.now ≡ children self.now.branches }
+        ensures by_name { IsTrue (is_sorted name_cmp (children self.now.branches)) }
     {
         self.node.entries()
     }
 
     /// The tree below the root, at a name.
     pub fn child(&self, name: RepoPathComponent<'_>) -> Option<&RepoPathTree<V>>
-        ensures { option_copied result ≡ child self.now.1 (name_of name.entry) }
+        ensures { option_copied result ≡ child self.now.branches (name_of name.entry) }
     {
         self.node.child(name)
     }

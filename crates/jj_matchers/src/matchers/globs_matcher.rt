@@ -3,7 +3,7 @@ ghost use Rattle.std.specs.Prelude.{◌≡◌, ◌↔◌, false, [], ◌∷◌, 
 ghost use Rattle.jj_paths.specs.Names.{path_of};
 ghost use Rattle.jj_matchers.specs.Answers.{IsSound};
 ghost use Rattle.jj_matchers.specs.Visits.{answer_of};
-ghost use Rattle.jj_matchers.specs.Listed.{ChoosesFrom, names_of};
+ghost use Rattle.jj_matchers.specs.Candidates.{ChoosesFrom, names_of};
 ghost use Rattle.jj_matchers.specs.Marks.{children_answer, any_node};
 ghost use Rattle.jj_matchers.specs.Wanted.{has_prefix};
 ghost use Rattle.jj_matchers.specs.Patterns.{HasSamePatterns, IsAccepted, TellsAccepted, is_accepted, is_covered, opens_to_patterns, pattern_dirs, patterns_answer};
@@ -143,7 +143,7 @@ impl Matcher for GlobsMatcher {
 // The answer that names all children as directories.
 fn visit_directories(alloc: Global, tree: &RepoPathTree<DirPatterns>) -> Result<Visit, AllocError>
     ensures { IfOk result (λ visit. answer_of visit
-        ≡ children_answer any_node no_node (marked_branches tree.now.1)) }
+        ≡ children_answer any_node no_node (marked_branches tree.now.branches)) }
 {
     let mut dirs = HashSet::new(alloc);
     for (name, _) in tree.children() {

@@ -2,7 +2,7 @@
 ghost use Rattle.std.specs.Prelude.{◌≡◌, ◌&&◌, ◌++◌, List};
 ghost use Rattle.jj_paths.specs.Paths.{Name};
 ghost use Rattle.jj_matchers.specs.Combined.{intersection_answer, named_answer};
-ghost use Rattle.jj_matchers.specs.Listed.{ChoosesFrom, IsAllOrAmong};
+ghost use Rattle.jj_matchers.specs.Candidates.{ChoosesFrom, IsAllOrAmong};
 ghost use Rattle.jj_matchers.specs.Visits.{answer_of, dir_names, file_names, is_among};
 
 use crate::matchers::{Matcher, Visit, VisitDirs, VisitFiles};

@@ -2,11 +2,11 @@
 ghost use Rattle.std.specs.Prelude.{◌≡◌, ◌||◌, IfOk, map};
 ghost use Rattle.jj_paths.specs.Paths.{Path};
 ghost use Rattle.jj_paths.specs.Names.{path_of};
-ghost use Rattle.jj_matchers.specs.Listed.{names_of};
+ghost use Rattle.jj_matchers.specs.Candidates.{names_of};
 ghost use Rattle.jj_matchers.specs.Wanted.{HasSamePaths, has_prefix, leads_to_prefix, prefix_answer};
 
-use crate::matchers::marked_tree::{marked_tree, visit_prefixes};
-use crate::matchers::{Matcher, Visit};
+use crate::matchers::children_visit::visit_prefixes;
+use crate::matchers::{Matcher, Visit, marked_tree};
 use jj_paths::repo_path::RepoPath;
 use jj_paths::repo_path_tree::RepoPathTree;
 use std::alloc::{AllocError, Global};

@@ -48,7 +48,7 @@ returns-clause-done c =
     let state : GraphState = graph_state_of reading in
     let start : graph_state_of (record { neighbors = c.new.result; requests = c.new-2.result }) ≡ graph_start =
     λ i. record { listed = (listed_in-empty c.new.result c.new.ensures.empty) i; requests = map graph_request_of (c.new-2.ensures.items i) } in
-    let read = ap (λ s. after_lines graph_step 1 s (lines_of c.args.text.now)) (sym start) ∙ c.in_default.ensures in
+    let read = ap (λ s. after_lines graph_step 1 s (lines_of c.args.text.now)) (sym start) ∙ c.in_ok-take_lines.ensures in
     let items = c.deref-request-items.result.now in
     let whole : take c.loop-request.request-index items ≡ reading.requests.items = take_all c.loop-request.request-index items (omega arith) ∙ c.deref-request-items.ensures.value in
     let shown : shown_by c.in_ok-graph.graph ≡ graph_of state.listed = c.in_ok-graph.ensures.graph in

@@ -17,7 +17,7 @@ returns-in_ok-found_lines-in-1-clause-done c =
     ap (λ l. record { marks = map path_of l; stack = sets_in c.new-2.result }) c.new.ensures.items
     ∙ ap (λ l. record { marks = []; stack = l }) c.new-2.ensures in
     let read : after_lines walk_step 1 walk_start (lines_of c.args.text.now) ≡ Ok (state_of reading) =
-    ap (λ s. after_lines walk_step 1 s (lines_of c.args.text.now)) (sym start) ∙ c.in_default.ensures in
+    ap (λ s. after_lines walk_step 1 s (lines_of c.args.text.now)) (sym start) ∙ c.in_ok-take_lines.ensures in
     let asked : walk_request c.args.text.now ≡ Ok request = ap walk_end read ∙ ap (only_set marks) item.1 in
     let (tree, marked, lines) = c.in_ok-found_lines-in-1.ensures item.0 item.1 in
     (request, asked, (tree, marked, lines))

@@ -2,7 +2,7 @@ use Rattle.std.proofs.Common.{◌≡◌, ◌+◌, ◌++◌, ◌∷◌, [], true,
 use Rattle.std.proofs.lemmas.List.{take_more, take_all}
 use Rattle.std.specs.FinMap.{is_sorted}
 use Rattle.jj_paths.specs.Paths.{name_cmp}
-use Rattle.jj_paths.specs.Tree.{branches_of, AreClones, IsTreeClone}
+use Rattle.jj_paths.specs.Tree.{tree_of, branches_of, AreClones, IsTreeClone}
 use Rattle.jj_paths.proofs.Clones.{clones-snoc, is_sorted-clones, same_tree}
 use Rattle.jj_paths.proofs.repo_path_tree.+copies.Goals as goal
 
@@ -33,5 +33,5 @@ RepoPathNode::clone-returns-clause-equal g t c = λ exact.
     let whole : take c.loop-name.name-index items ≡ items = take_all c.loop-name.name-index items (omega (arith, c.loop-name-test.false)) in
     let below : AreClones is_clone (branches_of c.self.inside.entries.items) (branches_of c.loop-name.entries.items) =
     subst (λ l. AreClones is_clone (branches_of l) (branches_of c.loop-name.entries.items)) (whole ∙ c.deref-name-items.ensures.value) c.loop-name.invariant in
-    same_tree is_clone exact c.args.self.now (c.in_ok-value.value, branches_of c.loop-name.entries.items)
-    (subst (λ t. IsTreeClone is_clone t (c.in_ok-value.value, branches_of c.loop-name.entries.items)) c.self.view_is (c.in_ok-value.ensures.cases, below))
+    same_tree is_clone exact c.args.self.now (tree_of c.in_ok-value.value (branches_of c.loop-name.entries.items))
+    (subst (λ t. IsTreeClone is_clone t (tree_of c.in_ok-value.value (branches_of c.loop-name.entries.items))) c.self.view_is (c.in_ok-value.ensures.cases, below))

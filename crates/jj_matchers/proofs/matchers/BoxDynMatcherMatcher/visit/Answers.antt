@@ -1,6 +1,6 @@
 use Rattle.std.proofs.Common.{IfOk, subst}
 use Rattle.jj_paths.specs.Names.{path_of}
-use Rattle.jj_matchers.specs.Listed.{ChoosesFrom}
+use Rattle.jj_matchers.specs.Candidates.{ChoosesFrom}
 use Rattle.jj_matchers.specs.Visits.{answer_of}
 use Rattle.jj_matchers.proofs.matchers.BoxDynMatcherMatcher.visit.Goals as goal
 

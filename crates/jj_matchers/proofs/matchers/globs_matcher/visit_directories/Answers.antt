@@ -8,4 +8,4 @@ returns c =
     let names = c.loop-name.dirs.keys in
     c.sets.ensures
     ∙ ap (sets_answer names) c.new.ensures.empty
-    ∙ directories_are c.args.tree.now.1 names c.children-name-items.ensures.by_name (none_left names _ _ c.in-None.ensures.steps.0 c.loop-name.invariant.dirs)
+    ∙ directories_are c.args.tree.now.branches names c.children-name-items.ensures.by_name (none_left names _ _ c.in-None.ensures.steps.0 c.loop-name.invariant.dirs)

@@ -13,5 +13,5 @@ abbrev pub invariant-loop-name : goal.invariant-loop-name
 invariant-loop-name l = record {
   can : (goal.iterator-loop-name).can_next l.name-iterator;
   finite : (goal.iterator-loop-name).is_finite l.name-iterator;
-  dirs : (name : Name) → (is_among l.dirs.keys name || any_named any_node name (marked_children (children_left l.name-iterator))) ≡ any_named any_node name (marked_children (children l.tree.1));
+  dirs : (name : Name) → (is_among l.dirs.keys name || any_named any_node name (marked_children (children_left l.name-iterator))) ≡ any_named any_node name (marked_children (children l.tree.branches));
 }

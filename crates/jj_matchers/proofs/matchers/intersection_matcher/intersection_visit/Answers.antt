@@ -1,9 +1,9 @@
 use Rattle.std.proofs.Common.{◌≡◌, ◌&&◌, ◌∙◌, Bool, ap, sym, subst}
 use Rattle.jj_paths.specs.Paths.{Name}
 use Rattle.jj_matchers.specs.Combined.{named_answer}
-use Rattle.jj_matchers.specs.Listed.{IsAllOrAmong}
+use Rattle.jj_matchers.specs.Candidates.{IsAllOrAmong}
 use Rattle.jj_matchers.specs.Visits.{dir_names, file_names}
-use Rattle.jj_matchers.proofs.Listed.{both_listed}
+use Rattle.jj_matchers.proofs.Candidates.{both_listed}
 use Rattle.jj_matchers.proofs.matchers.intersection_matcher.intersection_visit.Goals as goal
 
 pub returns-in-Specific-second : goal.returns-in-Specific-second

@@ -1,5 +1,5 @@
 use Rattle.std.proofs.Common.{◌∙◌}
-use Rattle.jj_matchers.proofs.Listed.{sets_named}
+use Rattle.jj_matchers.proofs.Candidates.{sets_named}
 use Rattle.jj_matchers.proofs.matchers.intersection_matcher.named.Goals as goal
 
 pub returns-in-Set-files : goal.returns-in-Set-files

@@ -1,6 +1,7 @@
 use Rattle.std.proofs.Common.{◌≡◌, ◌<◌, ◌∷◌, ◌++◌, [], refl, sym, ap, subst, ◌∙◌}
 use Rattle.jj_paths.specs.Paths.{Path}
 use Rattle.jj_paths.specs.Names.{name_of}
+use Rattle.jj_paths.specs.Nodes.{node_at}
 use Rattle.jj_matchers.specs.declared.matchers.tree_walk.Entered.{Entered}
 use Rattle.jj_matchers.specs.Visits.{answer_of}
 use Rattle.jj_matchers.specs.Walk.{is_file, is_entered_directory}
@@ -33,7 +34,7 @@ returns-then-not-has_children-clause-on_the_way g c = λ tree way.
     let files = c.args.walk.now.files.items in
     let entered = c.args.walk.now.entered.items in
     let p : c.in_ok-path.path ≡ child = c.in_ok-path.ensures ∙ ap (λ d. d ++ name_of c.as_component.result ∷ []) c.as_path.ensures ∙ ap (λ n. directory.dir ++ n ∷ []) c.as_component.ensures in
-    let taken : c.if-value.walk.files.items ≡ files ++ path_if (is_file accepts (child, sub)) child =
+    let taken : c.if-value.walk.files.items ≡ files ++ path_if (is_file accepts (node_at child sub)) child =
     elim c.if-value.branch [
       | then-value+then-is_accepted+in_ok-to_owned+in_ok-push w ↦
           file_taken accepts sub child c.in_ok-path.path files _ (sym c.value.ensures ∙ w.if-value.true) (ap accepts (sym w.as_path-then-value.ensures) ∙ sym w.is_accepted.ensures ∙ w.if-is_accepted.true) p
@@ -51,7 +52,7 @@ returns-then-not-has_children-clause-on_the_way g c = λ tree way.
     let none = sym c.if-not-has_children.ensures in
     subst (IsOnTheWay accepts opens answers tree c.if-value.walk.files.items c.if-value.walk.entered.items) (sym c.in_ok-push-2.ensures.items)
     (way_past accepts opens answers tree files entered further directory next name sub c.in-Some.left.now c.in-Some.ensures.cases.0 refl refl refl c.if-value.walk.files.items c.if-value.walk.entered.items taken
-    (not_without_children accepts opens answers child sub none) kept (nothing_below (is_file accepts) child sub.1 none) (nothing_below (is_entered_directory answers) child sub.1 none) way)
+    (not_without_children accepts opens answers child sub none) kept (nothing_below (is_file accepts) child sub.branches none) (nothing_below (is_entered_directory answers) child sub.branches none) way)
 
 pub returns-then-not-has_children-clause-less_left : goal.returns-then-not-has_children-clause-less_left
 returns-then-not-has_children-clause-less_left g c =
@@ -75,7 +76,7 @@ returns-clause-on_the_way g c = λ tree way.
     let files = c.args.walk.now.files.items in
     let entered = c.args.walk.now.entered.items in
     let p : c.in_ok-path.path ≡ child = c.in_ok-path.ensures ∙ ap (λ d. d ++ name_of c.as_component.result ∷ []) c.as_path.ensures ∙ ap (λ n. directory.dir ++ n ∷ []) c.as_component.ensures in
-    let taken : c.if-value.walk.files.items ≡ files ++ path_if (is_file accepts (child, sub)) child =
+    let taken : c.if-value.walk.files.items ≡ files ++ path_if (is_file accepts (node_at child sub)) child =
     elim c.if-value.branch [
       | then-value+then-is_accepted+in_ok-to_owned+in_ok-push w ↦
           file_taken accepts sub child c.in_ok-path.path files _ (sym c.value.ensures ∙ w.if-value.true) (ap accepts (sym w.as_path-then-value.ensures) ∙ sym w.is_accepted.ensures ∙ w.if-is_accepted.true) p

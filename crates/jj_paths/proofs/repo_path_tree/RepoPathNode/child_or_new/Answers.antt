@@ -3,7 +3,7 @@ use Rattle.std.specs.List.{insert}
 use Rattle.std.specs.FinMap.{is_sorted}
 use Rattle.jj_paths.specs.Paths.{name_cmp}
 use Rattle.jj_paths.specs.Names.{name_of}
-use Rattle.jj_paths.specs.Tree.{Tree, branches_of, IsAt, IsGapFor, IsGrown}
+use Rattle.jj_paths.specs.Tree.{Tree, tree_of, branches_of, IsAt, IsGapFor, IsGrown}
 use Rattle.jj_paths.proofs.Grown.{grown-insert, grown-at, is_sorted-insert, is_at-insert}
 use Rattle.jj_paths.proofs.Puts.{is_sorted-set, child-lent, child-edited}
 use Rattle.jj_paths.proofs.repo_path_tree.RepoPathNode.child_or_new.Goals as goal
@@ -18,7 +18,7 @@ returns-in-Ok g c =
     let at = subst (λ l. IsAt l (name_of c.args.name) c.in-Ok.at) c.deref.ensures.value c.in-Ok.ensures.found in
     let grown = subst (IsGrown g.V.Default.is_default c.args.self.now (name_of c.args.name)) (sym c.self.view_is) (grown-at g.V.Default.is_default c.args.self.now c.self.inside.value items c.in-Ok.at (name_of c.args.name) c.self.view_is c.self.invariant at) in (
       (refl, λ w _. child-edited c.self.invariant at c.index_mut.ensures.value c.second.ensures.value grown w, tt),
-      record { writes_back = tt; value = ((c.self.inside.value, branches_of items), grown, child-lent c.self.invariant at c.index_mut.ensures.value c.second.ensures.value) },
+      record { writes_back = tt; value = (tree_of c.self.inside.value (branches_of items), grown, child-lent c.self.invariant at c.index_mut.ensures.value c.second.ensures.value) },
     )
 
 pub invariant_of-self-lent-in-Err : goal.invariant_of-self-lent-in-Err
@@ -35,9 +35,9 @@ returns-in_ok-insert-in-Err g c =
     let gap = subst (λ l. IsGapFor l (name_of c.args.name) c.in-Err.at) c.deref.ensures.value c.in-Err.ensures.absent in
     let made = c.in_ok-insert-in-Err.ensures.items ∙ ap (λ n. insert items c.in-Err.at (n, c.new-tree.result)) c.in_ok-owned-in-Err.ensures in
     let grown = grown-insert g.V.Default.is_default c.args.self.now c.self.inside.value items c.insert.new.self.items c.in-Err.at (name_of c.args.name) c.new-tree.result c.self.view_is gap made
-    (subst (λ t. g.V.Default.is_default t.0) (sym c.new-tree.ensures) c.default.ensures) (ap (λ t. t.1) c.new-tree.ensures) in
+    (subst (λ t. g.V.Default.is_default t.value) (sym c.new-tree.ensures) c.default.ensures) (ap (λ t. t.branches) c.new-tree.ensures) in
     let sorted = ap (λ l. is_sorted name_cmp l) made ∙ is_sorted-insert items c.in-Err.at (name_of c.args.name) c.new-tree.result c.self.invariant gap in
     let at = subst (λ l. IsAt l (name_of c.args.name) c.in-Err.at) (sym made) (is_at-insert items c.in-Err.at (name_of c.args.name) c.new-tree.result gap.in_range) in (
       (refl, λ w _. child-edited sorted at c.index_mut-in-Err.ensures.value c.second-in-Err.ensures.value grown w, tt),
-      record { writes_back = tt; value = ((c.self.inside.value, branches_of c.insert.new.self.items), grown, child-lent sorted at c.index_mut-in-Err.ensures.value c.second-in-Err.ensures.value) },
+      record { writes_back = tt; value = (tree_of c.self.inside.value (branches_of c.insert.new.self.items), grown, child-lent sorted at c.index_mut-in-Err.ensures.value c.second-in-Err.ensures.value) },
     )

@@ -1,7 +1,7 @@
 use Rattle.std.proofs.Common.{◌≡◌, ℕ, ◌<◌, ◌+◌, ◌*◌, List, [], ◌∷◌, ◌++◌, sym, ap, ◌∙◌, arith}
 use Rattle.std.specs.FinMap.{is_sorted}
 use Rattle.jj_paths.specs.Paths.{Name, name_cmp}
-use Rattle.jj_paths.specs.Tree.{Tree, branches_of, branch_count}
+use Rattle.jj_paths.specs.Tree.{Tree, tree_of, branches_of, branch_count}
 use Rattle.jj_paths.proofs.Descents.{way_count, way_count-last, branch_count-last, is_sorted-front, is_sorted-last}
 use Rattle.jj_paths.proofs.repo_path_tree.RepoPathNode.drop.Goals as goal
 
@@ -10,13 +10,13 @@ module _ {V : Type 0} where
   abbrev left : List (Name × Tree V) → List (Name × Tree V) → ℕ
   left current above = 2 * branch_count (branches_of current) + way_count (branches_of above)
 
-  down : (current above rest next below : List (Name × Tree V)) (name : Name) (tree way_up : Tree V) (v w : V) → current ≡ rest ++ (name, tree) ∷ [] → next ≡ rest ++ (name, way_up) ∷ [] → tree ≡ (v, branches_of below) → way_up ≡ (w, branches_of above) → left below next < left current above
+  down : (current above rest next below : List (Name × Tree V)) (name : Name) (tree way_up : Tree V) (v w : V) → current ≡ rest ++ (name, tree) ∷ [] → next ≡ rest ++ (name, way_up) ∷ [] → tree ≡ tree_of v (branches_of below) → way_up ≡ tree_of w (branches_of above) → left below next < left current above
   down current above rest next below name tree way_up v w e f g h =
-      omega (arith, ap (λ l. branch_count (branches_of l)) e ∙ branch_count-last rest (name, tree), ap (λ t. branch_count t.1) g, ap (λ l. way_count (branches_of l)) f ∙ way_count-last rest (name, way_up), ap (λ t. way_count t.1) h)
+      omega (arith, ap (λ l. branch_count (branches_of l)) e ∙ branch_count-last rest (name, tree), ap (λ t. branch_count t.branches) g, ap (λ l. way_count (branches_of l)) f ∙ way_count-last rest (name, way_up), ap (λ t. way_count t.branches) h)
 
-  up : (current above rest next : List (Name × Tree V)) (name : Name) (way_up : Tree V) (v : V) → above ≡ rest ++ (name, way_up) ∷ [] → way_up ≡ (v, branches_of next) → left rest next < left current above
+  up : (current above rest next : List (Name × Tree V)) (name : Name) (way_up : Tree V) (v : V) → above ≡ rest ++ (name, way_up) ∷ [] → way_up ≡ tree_of v (branches_of next) → left rest next < left current above
   up current above rest next name way_up v e f =
-      omega (arith, ap (λ l. way_count (branches_of l)) e ∙ way_count-last rest (name, way_up), ap (λ t. way_count t.1) f)
+      omega (arith, ap (λ l. way_count (branches_of l)) e ∙ way_count-last rest (name, way_up), ap (λ t. way_count t.branches) f)
 
 pub loop-name-smaller-in-Some : goal.loop-name-smaller-in-Some
 loop-name-smaller-in-Some g c =

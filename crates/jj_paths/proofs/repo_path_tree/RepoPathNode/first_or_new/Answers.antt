@@ -13,6 +13,6 @@ returns g c =
       ),
       record {
         writes_back = tt;
-        value = subst (λ n. IfOk c.child_or_new.result (λ sub. (t : Tree g.row.V.Denot) × IsGrown g.V.Default.is_default c.args.self.now n t × (child t.1 n ≡ Some sub.now))) first c.child_or_new.ensures.value;
+        value = subst (λ n. IfOk c.child_or_new.result (λ sub. (t : Tree g.row.V.Denot) × IsGrown g.V.Default.is_default c.args.self.now n t × (child t.branches n ≡ Some sub.now))) first c.child_or_new.ensures.value;
       },
     )

@@ -1,10 +1,10 @@
 use Rattle.std.proofs.Common.{sym, subst}
 use Rattle.jj_paths.specs.Names.{path_of}
 use Rattle.jj_matchers.specs.Answers.{IsSound}
-use Rattle.jj_matchers.specs.Listed.{ChoosesFrom}
+use Rattle.jj_matchers.specs.Candidates.{ChoosesFrom}
 use Rattle.jj_matchers.specs.Visits.{answer_of}
 use Rattle.jj_matchers.proofs.Combined.{less, difference_sound}
-use Rattle.jj_matchers.proofs.Listed.{difference_chooses}
+use Rattle.jj_matchers.proofs.Candidates.{difference_chooses}
 use Rattle.jj_matchers.proofs.matchers.difference_matcher.DifferenceMatcherMatcher.visit.Goals as goal
 
 pub returns-clause-sound : goal.returns-clause-sound

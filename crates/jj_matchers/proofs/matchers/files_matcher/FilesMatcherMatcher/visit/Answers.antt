@@ -2,9 +2,9 @@ use Rattle.std.proofs.Common.{◌≡◌, sym, ap, subst, ◌∙◌}
 use Rattle.jj_paths.specs.Names.{path_of}
 use Rattle.jj_matchers.specs.Answers.{nothing, IsSound}
 use Rattle.jj_matchers.specs.Visits.{answer_of}
-use Rattle.jj_matchers.specs.Listed.{ChoosesFrom, names_of}
+use Rattle.jj_matchers.specs.Candidates.{ChoosesFrom, names_of}
 use Rattle.jj_matchers.specs.Wanted.{is_wanted, leads_to_wanted, files_answer}
-use Rattle.jj_matchers.proofs.Listed.{files_choose}
+use Rattle.jj_matchers.proofs.Candidates.{files_choose}
 use Rattle.jj_matchers.proofs.Marks.{files_are, no_files_are}
 use Rattle.jj_matchers.proofs.Wanted.{files_sound}
 use Rattle.jj_matchers.proofs.matchers.files_matcher.FilesMatcherMatcher.visit.Goals as goal

@@ -16,7 +16,7 @@ pub returns-then-self : goal.returns-then-self
 returns-then-self c =
     let dir = path_of c.args.dir in
     let tree = c.self.inside.tree in
-    any_from_yields_List (λ (step : Tree (List GlobSpec) × Path). list_any (λ glob. covers_tail glob step.1) step.0.0) c.any.new.self _ _ c.any.ensures.ran
+    any_from_yields_List (λ (step : Tree (List GlobSpec) × Path). list_any (λ glob. covers_tail glob step.1) step.0.value) c.any.new.self _ _ c.any.ensures.ran
     (YieldsList-from_first (λ step. (step.0.now, path_of step.1)) walk_left _ c.walk_to.ensures.on_the_way)
     (λ x b q called. (search rules, search rules))
     ∙ way_passes tree covers_tail dir

@@ -15,7 +15,7 @@ use Rattle.jj_matchers.proofs.matchers.globs_matcher.GlobsMatcher.has_patterns_a
 pub returns : goal.returns
 returns c =
     let dir = path_of c.args.dir in
-    any_from_yields_List (λ (step : Tree (List GlobSpec) × Path). has_globs step.0.0) c.any.new.self _ _ c.any.ensures.ran
+    any_from_yields_List (λ (step : Tree (List GlobSpec) × Path). has_globs step.0.value) c.any.new.self _ _ c.any.ensures.ran
     (YieldsList-from_first (λ step. (step.0.now, path_of step.1)) walk_left _ c.walk_to.ensures.on_the_way)
     (λ x b q called. (search rules, search rules))
     ∙ way_has c.self.inside.tree dir

@@ -17,7 +17,7 @@ returns c =
     let path = path_of c.args.file in
     let flag = c.self.inside.matches_prefix_paths in
     let is : c.any.result ≡ is_accepted c.args.self.now path =
-    any_from_yields_List (λ (step : Tree (List GlobSpec) × Path). list_any (λ glob. accepts_tail flag glob step.1) step.0.0) c.any.new.self _ _ c.any.ensures.ran
+    any_from_yields_List (λ (step : Tree (List GlobSpec) × Path). list_any (λ glob. accepts_tail flag glob step.1) step.0.value) c.any.new.self _ _ c.any.ensures.ran
     (YieldsList-from_first (λ step. (step.0.now, path_of step.1)) walk_left _ c.walk_to.ensures.on_the_way)
     (λ x b q called. (search rules, search rules))
     ∙ way_passes c.self.inside.tree (accepts_tail flag) path

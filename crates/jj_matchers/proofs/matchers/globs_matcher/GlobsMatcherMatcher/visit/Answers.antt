@@ -1,7 +1,7 @@
 use Rattle.std.proofs.Common.{sym, subst}
 use Rattle.jj_paths.specs.Names.{path_of}
 use Rattle.jj_matchers.specs.Visits.{answer_of}
-use Rattle.jj_matchers.specs.Listed.{ChoosesFrom, names_of}
+use Rattle.jj_matchers.specs.Candidates.{ChoosesFrom, names_of}
 use Rattle.jj_matchers.specs.Patterns.{pattern_dirs}
 use Rattle.jj_matchers.proofs.PatternSound.{patterns_choose, told_sound, tells_accepted}
 use Rattle.jj_matchers.proofs.matchers.globs_matcher.GlobsMatcherMatcher.visit.Goals as goal

@@ -2,10 +2,10 @@ use Rattle.std.proofs.Common.{◌≡◌, ◌++◌, sym, subst, ap, ◌∙◌}
 use Rattle.jj_paths.specs.Names.{path_of}
 use Rattle.jj_matchers.specs.Answers.{IsSound}
 use Rattle.jj_matchers.specs.Combined.{intersection_answer}
-use Rattle.jj_matchers.specs.Listed.{ChoosesFrom}
+use Rattle.jj_matchers.specs.Candidates.{ChoosesFrom}
 use Rattle.jj_matchers.specs.Visits.{answer_of}
 use Rattle.jj_matchers.proofs.Combined.{both, intersection_sound}
-use Rattle.jj_matchers.proofs.Listed.{chosen_left, chosen_right, intersection_chooses}
+use Rattle.jj_matchers.proofs.Candidates.{chosen_left, chosen_right, intersection_chooses}
 use Rattle.jj_matchers.proofs.matchers.intersection_matcher.IntersectionMatcherMatcher.visit.Goals as goal
 
 pub returns : goal.returns

@@ -12,7 +12,7 @@ use Rattle.jj_matchers.proofs.matchers.prefix_matcher.PrefixMatcherMatcher.match
 pub returns : goal.returns
 returns c =
     let path = path_of c.args.file in
-    any_from_yields_List (λ (step : Tree Bool × Path). step.0.0) c.any.new.self _ _ c.any.ensures.ran
+    any_from_yields_List (λ (step : Tree Bool × Path). step.0.value) c.any.new.self _ _ c.any.ensures.ran
     (YieldsList-from_first (λ step. (step.0.now, path_of step.1)) walk_left _ c.walk_to.ensures.on_the_way)
     (λ x b q called. (search rules, search rules))
     ∙ has_prefix-way c.self.inside.tree path

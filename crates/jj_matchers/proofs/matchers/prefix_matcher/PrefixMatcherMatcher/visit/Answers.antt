@@ -2,10 +2,10 @@ use Rattle.std.proofs.Common.{◌≡◌, true, false, sym, ap, subst, ◌∙◌}
 use Rattle.jj_paths.specs.Names.{path_of}
 use Rattle.jj_matchers.specs.Answers.{nothing, IsSound}
 use Rattle.jj_matchers.specs.Visits.{answer_of}
-use Rattle.jj_matchers.specs.Listed.{ChoosesFrom, names_of}
+use Rattle.jj_matchers.specs.Candidates.{ChoosesFrom, names_of}
 use Rattle.jj_matchers.specs.Wanted.{has_prefix, prefix_answer}
 use Rattle.jj_matchers.specs.Marks.{marked_paths}
-use Rattle.jj_matchers.proofs.Listed.{prefixes_choose}
+use Rattle.jj_matchers.proofs.Candidates.{prefixes_choose}
 use Rattle.jj_matchers.proofs.Marks.{prefixes_are, no_prefixes_are}
 use Rattle.jj_matchers.proofs.Wanted.{prefix_sound, prefix_opens, prefix_inside}
 use Rattle.jj_matchers.proofs.matchers.prefix_matcher.PrefixMatcherMatcher.visit.Goals as goal

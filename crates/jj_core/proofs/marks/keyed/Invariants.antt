@@ -1,8 +1,0 @@
--- The paths so far are there.
-use Rattle.std.proofs.Common.{◌≡◌, map, take}
-use Rattle.jj_paths.specs.Names.{path_of}
-use Rattle.jj_core.specs.KeyedMarks.{keyed_path}
-use Rattle.jj_core.proofs.marks.keyed.Given as goal
-
-abbrev pub invariant-loop-mark : goal.invariant-loop-mark
-invariant-loop-mark l = map keyed_path l.keyed.items ≡ map path_of (take l.mark-index l.marks)

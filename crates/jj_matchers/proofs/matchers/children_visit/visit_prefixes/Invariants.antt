@@ -1,0 +1,17 @@
+use Rattle.std.proofs.Common.{◌≡◌, ◌||◌}
+use Rattle.jj_paths.specs.Paths.{Name}
+use Rattle.jj_paths.specs.Children.{children_left}
+use Rattle.jj_paths.specs.Tree.{children}
+use Rattle.jj_matchers.specs.Marks.{any_node, has_mark}
+use Rattle.jj_matchers.specs.Visits.{is_among}
+use Rattle.jj_matchers.proofs.Children.{any_named}
+use Rattle.jj_matchers.proofs.matchers.children_visit.visit_prefixes.Given as goal
+
+-- the names so far and those that are left are all
+abbrev pub invariant-loop-name : goal.invariant-loop-name
+invariant-loop-name l = record {
+  can : (goal.iterator-loop-name).can_next l.name-iterator;
+  finite : (goal.iterator-loop-name).is_finite l.name-iterator;
+  dirs : (name : Name) → (is_among l.dirs.keys name || any_named any_node name (children_left l.name-iterator)) ≡ any_named any_node name (children l.tree.branches);
+  files : (name : Name) → (is_among l.files.keys name || any_named has_mark name (children_left l.name-iterator)) ≡ any_named has_mark name (children l.tree.branches);
+}
