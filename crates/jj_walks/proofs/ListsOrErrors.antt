@@ -3,7 +3,7 @@ use Rattle.std.proofs.Common.{◌≡◌, ℕ, Bool, List as list, [], ◌∷◌,
 use Rattle.std.specs.Fn.{Shared, Mut, Called, AlwaysReturns}
 use Rattle.std.specs.Iterator.{Count, Drains, IsFinite, IsFiniteIterable, Yields}
 use denote.Ref.{Bor}
-use Rattle.jj_walks.specs.Failing.{AnswersItems, AreItems, BeginsWith, FailingGraph, Fault, ListsItems, ShowsItems, ShowsLists}
+use Rattle.jj_walks.specs.Failing.{AnswersItems, AreItems, FailingGraph, Fault, ListsItems, ShowsItems, ShowsLists}
 use Rattle.jj_walks.specs.ListOrError.{CanList, GivesListed, StandsFor, listed_left}
 use Rattle.jj_walks.specs.Walk.{DrainsTo, Numbered}
 use Rattle.jj_walks.specs.declared.list_or_error.ListOrError.{ListOrError}

@@ -1,7 +1,7 @@
 -- What is true of items is true of the items in an `Ok`.
-use Rattle.std.proofs.Common.{◌≡◌, ℕ, Bool, List, [], ◌∷◌, ◌++◌, map, Option, None, Some, Result, Ok, Err, refl, sym, ◌∙◌, ap, subst}
+use Rattle.std.proofs.Common.{◌≡◌, ℕ, Bool, List, [], ◌∷◌, ◌++◌, map, Option, Result, Ok, Err, refl, sym, ap, subst}
 use Rattle.std.specs.Fn.{Shared, Mut, Called, AlwaysReturns, ReturnsEach}
-use Rattle.std.specs.Iterator.{Count, Drains, IsFinite, IsFiniteIterable, Yields}
+use Rattle.std.specs.Iterator.{Count, IsFinite, IsFiniteIterable, Yields}
 use denote.Ref.{Bor}
 use Rattle.jj_walks.specs.AllOk.{GivesOk}
 use Rattle.jj_walks.specs.Failing.{AreItems, BeginsWith, Fault, ListsItems, ShowsItems, sound_items}
