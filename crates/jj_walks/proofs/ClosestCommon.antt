@@ -352,7 +352,7 @@ module _ {T ID : Type 0} (w : Numbered T ID) where
     pub handed : (b : ℕ) → Contains given b → Passes known (m b)
 
   -- it waits no longer
-  pub hands_none : (eq : ID → ID → Bool) (set1 set2 : List ℕ) (m : ℕ → Reach) (waiting waiting2 : List T) (common : List (T × ID)) (rooted : Bool) (find find2 : ID → Mark) (x : T) (i : ID) (known : Reach)
+  hands_none : (eq : ID → ID → Bool) (set1 set2 : List ℕ) (m : ℕ → Reach) (waiting waiting2 : List T) (common : List (T × ID)) (rooted : Bool) (find find2 : ID → Mark) (x : T) (i : ID) (known : Reach)
       → Apart eq → HoldsMarks set1 set2 m waiting common rooted find → IsPermutation waiting (x ∷ waiting2) → w.is_node (w.node x) ≡ true → w.id i ≡ w.node x → known ≡ (find i).reach
       → (IsTrue (find i).waits → (q : ID) → find2 q ≡ cond (eq i q) (asked (find i)) (find q)) → HandsOn set1 set2 m (w.node x) known waiting2 common rooted find2 []
   hands_none eq set1 set2 m waiting waiting2 common rooted find find2 x i known apart k popped here same is updates =
@@ -403,6 +403,28 @@ module _ {T ID : Type 0} (w : Numbered T ID) where
         same_right = ap (λ r. r.right) (sym reach);
         handed = λ b h. absurd (nothing b h);
       }
+
+  -- a node that waited is reached
+  pub was_reached : {set1 set2 : List ℕ} {m : ℕ → Reach} {waiting : List T} {common : List (T × ID)} {rooted : Bool} {find : ID → Mark} (waiting2 : List T) (x : T)
+      → ((a : ℕ) → w.is_node a ≡ true → AreNodes w (w.graph a)) → AreNodes w set1 → AreNodes w set2 → HoldsMarks set1 set2 m waiting common rooted find → IsPermutation waiting (x ∷ waiting2)
+      → ReachedFrom w.graph (set1 ++ set2) (w.node x) × (w.is_node (w.node x) ≡ true)
+  was_reached {set1} {set2} {waiting = waiting} waiting2 x closed first second k popped =
+      let W = map w.node waiting in
+      let moves : IsPermutation W (w.node x ∷ map w.node waiting2) = IsPermutation-map w.node waiting (x ∷ waiting2) popped in
+      let waited = Contains-permutation (w.node x ∷ map w.node waiting2) W (w.node x) (IsPermutation-sym W (w.node x ∷ map w.node waiting2) moves) (0, omega arith, refl) in
+      let reached = k.reached (w.node x) waited in
+      (reached, are_nodes {E = ℕ} w (λ a. []) (set1 ++ set2) closed (both_nodes set1 set2 first second) (w.node x) reached)
+
+  -- it is asked: its neighbours are to be met
+  pub asks : (eq : ID → ID → Bool) (set1 set2 : List ℕ) (m : ℕ → Reach) (waiting waiting2 : List T) (common : List (T × ID)) (rooted : Bool) (find find2 : ID → Mark) (x : T) (i : ID) (known : Reach)
+      → ((a : ℕ) → w.is_node a ≡ true → AreNodes w (w.graph a)) → Apart eq → AreNodes w set1 → AreNodes w set2 → HoldsMarks set1 set2 m waiting common rooted find
+      → IsPermutation waiting (x ∷ waiting2) → (w.is_node (w.node x) ≡ true → w.id i ≡ w.node x) → known ≡ (find i).reach
+      → (IsTrue (find i).waits → (q : ID) → find2 q ≡ cond (eq i q) (asked (find i)) (find q))
+      → (w.is_node (w.node x) ≡ true) × (w.id i ≡ w.node x) × HandsOn set1 set2 m (w.node x) known waiting2 common rooted find2 []
+  asks eq set1 set2 m waiting waiting2 common rooted find find2 x i known closed apart first second k popped named is updates =
+      let here = (was_reached waiting2 x closed first second k popped).1 in
+      let same = named here in
+      (here, same, hands_none eq set1 set2 m waiting waiting2 common rooted find find2 x i known apart k popped here same is updates)
 
   or_self : (b : Bool) → (b || b) ≡ b
   or_self true = refl
@@ -485,7 +507,7 @@ module _ {T ID : Type 0} (w : Numbered T ID) where
   ids_more common x i ids same entry h = ⊎_elim (λ old. ids entry old) (λ new. subst (λ (e : T × ID). w.id e.1 ≡ w.node e.0) new same) (Contains-push_cases common (x, i) entry h)
 
   -- all its neighbours have it, and the node is common
-  pub hands_common : {set1 set2 : List ℕ} {m : ℕ → Reach} {known : Reach} {waiting : List T} {common : List (T × ID)} {rooted : Bool} {find : ID → Mark} {given : List ℕ} (x : T) (i : ID) (is_root : Bool)
+  hands_common : {set1 set2 : List ℕ} {m : ℕ → Reach} {known : Reach} {waiting : List T} {common : List (T × ID)} {rooted : Bool} {find : ID → Mark} {given : List ℕ} (x : T) (i : ID) (is_root : Bool)
       → HandsOn set1 set2 m (w.node x) known waiting common rooted find given → w.id i ≡ w.node x → IsBoth known
       → ((b : ℕ) → HasEdge w.graph (w.node x) b → Contains given b) → (is_root ≡ false → (b : ℕ) × HasEdge w.graph (w.node x) b)
       → HoldsMarks set1 set2 m waiting (common ++ (x, i) ∷ []) (rooted || is_root) find
@@ -507,7 +529,7 @@ module _ {T ID : Type 0} (w : Numbered T ID) where
       }
 
   -- all its neighbours have it, and the node is on one side
-  pub hands_side : {set1 set2 : List ℕ} {m : ℕ → Reach} {a : ℕ} {known : Reach} {waiting : List T} {common : List (T × ID)} {rooted : Bool} {find : ID → Mark} {given : List ℕ} (is_root : Bool)
+  hands_side : {set1 set2 : List ℕ} {m : ℕ → Reach} {a : ℕ} {known : Reach} {waiting : List T} {common : List (T × ID)} {rooted : Bool} {find : ID → Mark} {given : List ℕ} (is_root : Bool)
       → HandsOn set1 set2 m a known waiting common rooted find given → (known.left && known.right) ≡ false
       → ((b : ℕ) → HasEdge w.graph a b → Contains given b) → (is_root ≡ false → (b : ℕ) × HasEdge w.graph a b)
       → HoldsMarks set1 set2 m waiting common (rooted || is_root) find
@@ -526,6 +548,20 @@ module _ {T ID : Type 0} (w : Numbered T ID) where
         ids = k.ids;
         reached = λ b h. k.reached b (Contains-append_right (a ∷ []) W b h);
       }
+
+  -- an asked node whose neighbours were all met is kept where both sets reach it
+  pub hands_over : {set1 set2 : List ℕ} {m : ℕ → Reach} {known : Reach} {waiting : List T} {common common2 : List (T × ID)} {rooted : Bool} {find : ID → Mark} {given : List ℕ} (x : T) (i : ID) (is_root : Bool)
+      → HandsOn set1 set2 m (w.node x) known waiting common rooted find given → w.id i ≡ w.node x → common2 ≡ cond (known.left && known.right) (common ++ (x, i) ∷ []) common
+      → ((b : ℕ) → HasEdge w.graph (w.node x) b → Contains given b) → (is_root ≡ false → (b : ℕ) × HasEdge w.graph (w.node x) b)
+      → HoldsMarks set1 set2 m waiting common2 (rooted || is_root) find
+  hands_over {set1} {set2} {m} {known} {waiting} {common} {common2} {rooted} {find} {given} x i is_root k same kept all asked = by (known.left && known.right) refl kept
+    where
+      Holds : List (T × ID) → Type 0
+      Holds l = HoldsMarks set1 set2 m waiting l (rooted || is_root) find
+
+      by : (both : Bool) → (known.left && known.right) ≡ both → common2 ≡ cond both (common ++ (x, i) ∷ []) common → Holds common2
+      by true e is = subst Holds (sym is) (hands_common x i is_root k same (and_both known.left known.right e) all asked)
+      by false e is = subst Holds (sym is) (hands_side is_root k e all asked)
 
   -- ---- the end
 

@@ -2,13 +2,14 @@
 use Rattle.std.proofs.Common.{◌≡◌, ℕ, Bool, List as list, [], ◌∷◌, ◌++◌, map, Option, None, Some, Result, Ok, Err, IfOk, append-nil, is_some, true≢false, refl, sym, ◌∙◌, ap, subst}
 use Rattle.std.specs.Fn.{Shared, Mut, Called, AlwaysReturns}
 use Rattle.std.specs.Iterator.{Count, Drains, IsFinite, IsFiniteIterable, Yields}
+use denote.Param.Always.{always_mut}
 use denote.Ref.{Bor}
-use Rattle.jj_walks.specs.Failing.{AnswersItems, AreItems, BeginsWith, FailingGraph, Fault, ListsItems, ShowsItems, ShowsLists}
+use Rattle.jj_walks.specs.Failing.{AnswersItems, AreItems, FailingGraph, Fault, ListsItems, ShowsItems, ShowsLists}
 use Rattle.jj_walks.specs.ListOrError.{CanList, GivesListed, StandsFor, listed_left}
 use Rattle.jj_walks.specs.Walk.{DrainsTo, Numbered}
 use Rattle.jj_walks.specs.declared.list_or_error.ListOrError.{ListOrError}
 use Rattle.jj_walks.specs.declared.list_or_error.ListOrError.TheVariants.{List, Error}
-use Rattle.jj_walks.proofs.Wrapped.{AlwaysReturns-through, no_error}
+use Rattle.jj_walks.proofs.Wrapped.{AlwaysReturns-through, always_mut-through, no_error}
 
 module _ {I T E : Type 0} (steps : I → Option T → I → Type 0) where
   -- the items of a list come in an `Ok`
@@ -85,6 +86,10 @@ module _ {U I T E : Type 0} (becomes : U → I → Type 0) (steps : I → Option
 module _ {T ID E F N G U I : Type 0} (eq : ID → ID → Bool) (ids : Shared F (Bor T × Unit {0}) ID) (lists : Mut N (Bor T × Unit {0}) (Result U E)) (becomes : U → I → Type 0) (steps : I → Option T → I → Type 0)
     (outer : Mut G (Bor T × Unit {0}) (ListOrError I E)) (inner : G → N)
     (hands_on : (f : G) (a : Bor T × Unit {0}) (r : ListOrError I E) (f' : G) → Called outer f a r f' → (n : Result U E) × Called lists (inner f) a n (inner f') × StandsFor becomes n r) where
+  -- what may be called still may
+  pub callable_listed : ((f : G) (a : Bor T × Unit {0}) → always_mut lists (inner f) → outer.pre f a) → (f : G) → always_mut lists (inner f) → always_mut outer f
+  callable_listed asks = always_mut-through outer lists inner asks (λ f a r after h. let q = hands_on f a r after h in (q.0, q.1))
+
   -- what ends still ends
   pub ends_listed : (can : I → Type 0) (left : I → Count) (f : G) → AlwaysReturns lists (λ a r. IfOk r (IsFiniteIterable becomes can left)) (inner f)
       → AlwaysReturns outer (λ a r. IsFiniteIterable (λ v k. k ≡ v) (CanList can) (listed_left left) r) f

@@ -1,19 +1,19 @@
 -- The same walk under other numbers: what the closures show under one numbering they show under any other that tells the nodes apart.
-use Rattle.std.proofs.Common.{◌≡◌, ◌≢◌, ◌<◌, ℕ, zero, suc, append_assoc, Bool, true, false, cond, ◌&&◌, ◌==◌, Option, Result, Ok, Err, List, [], ◌∷◌, ◌++◌, map, refl, sym, ◌∙◌, ap, subst, arith, true≢false, eqb}
-use Rattle.std.specs.List.{Contains, IsDistinct, cons_option, filter_map}
+use Rattle.std.proofs.Common.{◌≡◌, ◌≢◌, ◌<◌, ℕ, zero, suc, append_assoc, Bool, true, false, cond, ◌&&◌, ◌==◌, Option, Result, Ok, Err, List, [], ◌∷◌, ◌++◌, map, refl, sym, ◌∙◌, ap, subst, arith, true≢false}
+use Rattle.std.specs.List.{Contains, cons_option}
 use Rattle.std.specs.Result.{result_ok}
 use Rattle.std.specs.Bool.{one_answer}
-use Rattle.std.specs.Fn.{Shared, Mut, Called, AlwaysReturns, ReturnsEach}
+use Rattle.std.specs.Fn.{Shared, Mut, AlwaysReturns, ReturnsEach}
 use Rattle.std.proofs.lemmas.Bool.Decides.{Decides-eqb}
 use Rattle.std.proofs.lemmas.List.{map-append}
-use Rattle.std.proofs.lemmas.List.Elements.{Contains-append_left, Contains-append_right}
+use Rattle.std.proofs.lemmas.List.Elements.{Contains-append_left}
 use denote.Ref.{Bor}
-use Rattle.jj_walks.specs.Graph.{Graph, HasEdge, Path, Reaches, StrictlyReaches, ReachedFrom, StandsBefore, IsChildFirst, IsGreatestChildFirst}
+use Rattle.jj_walks.specs.Graph.{HasEdge, Path, ReachedFrom, StandsBefore, IsChildFirst, IsGreatestChildFirst}
 use Rattle.jj_walks.specs.Walk.{Numbered, AreNodes}
 use Rattle.jj_walks.specs.Failing.{AreItems, FailingGraph, Fault, IsItem, ListsItems, ShowsItems, sound_items}
 use Rattle.jj_walks.proofs.Collecting.{are_nodes}
 use Rattle.jj_walks.proofs.Reaching.{Contains-split}
-use Rattle.jj_walks.proofs.ReadyOrders.{at_split, distinct, here, later, tail_distinct, twice}
+use Rattle.jj_walks.proofs.ReadyOrders.{at_split, distinct, here, later, twice}
 use Rattle.jj_walks.proofs.Relabelled.{Contains-map, Contains-unmap, split_map}
 
 -- ---- tests, and calls

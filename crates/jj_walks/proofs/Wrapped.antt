@@ -1,7 +1,8 @@
 -- What is true of items is true of the items in an `Ok`.
-use Rattle.std.proofs.Common.{◌≡◌, ℕ, Bool, List, [], ◌∷◌, ◌++◌, map, Option, None, Some, Result, Ok, Err, refl, sym, ◌∙◌, ap, subst}
+use Rattle.std.proofs.Common.{◌≡◌, ℕ, Bool, List, [], ◌∷◌, ◌++◌, map, Option, Result, Ok, Err, refl, sym, ap, subst}
 use Rattle.std.specs.Fn.{Shared, Mut, Called, AlwaysReturns, ReturnsEach}
-use Rattle.std.specs.Iterator.{Count, Drains, IsFinite, IsFiniteIterable, Yields}
+use Rattle.std.specs.Iterator.{Count, IsFinite, IsFiniteIterable, Yields}
+use denote.Param.Always.{always_mut, mut_by, mut_next}
 use denote.Ref.{Bor}
 use Rattle.jj_walks.specs.AllOk.{GivesOk}
 use Rattle.jj_walks.specs.Failing.{AreItems, BeginsWith, Fault, ListsItems, ShowsItems, sound_items}
@@ -22,6 +23,12 @@ AlwaysReturns-through {F} {G} {X} {R} {S} outer inner P Q of step f k = record {
     each (a ∷ xs) f k = λ r f' h.
         let s = step f a r f' h in
         (s.2 (k (a ∷ []) s.0 (of f') s.1).0, each xs f' (λ ys. (k (a ∷ ys) s.0 (of f') s.1).1))
+
+-- where the inner closure may always be called, the outer one may
+pub always_mut-through : {F G X R S : Type 0} (outer : Mut F X R) (inner : Mut G X S) (of : F → G) → ((f : F) (a : X) → always_mut inner (of f) → outer.pre f a)
+    → ((f : F) (a : X) (r : R) (f' : F) → Called outer f a r f' → (s : S) × Called inner (of f) a s (of f')) → (f : F) → always_mut inner (of f) → always_mut outer f
+always_mut-through outer inner of asks calls f k =
+    mut_by outer (λ f. always_mut inner (of f)) asks (λ f a r after k h. let s = calls f a r after h in mut_next inner (of f) a s.0 (of after) (of after) s.1 refl k) f k
 
 module _ {I T E : Type 0} (steps : I → Option T → I → Type 0) where
   abbrev pub wrapped : AllOk I E → Option (Result T E) → AllOk I E → Type 0
@@ -93,6 +100,10 @@ drains_ok E becomes steps value s b xs d =
 module _ {T ID E F N G U I : Type 0} (eq : ID → ID → Bool) (ids : Shared F (Bor T × Unit {0}) ID) (lists : Mut N (Bor T × Unit {0}) U) (becomes : U → I → Type 0) (steps : I → Option T → I → Type 0)
     (outer : Mut G (Bor T × Unit {0}) (AllOk I E)) (inner : G → N)
     (hands_on : (f : G) (a : Bor T × Unit {0}) (r : AllOk I E) (f' : G) → Called outer f a r f' → (n : U) × Called lists (inner f) a n (inner f') × becomes n r.items) where
+  -- what may be called still may
+  pub callable_wrapped : ((f : G) (a : Bor T × Unit {0}) → always_mut lists (inner f) → outer.pre f a) → (f : G) → always_mut lists (inner f) → always_mut outer f
+  callable_wrapped asks = always_mut-through outer lists inner asks (λ f a r after h. let q = hands_on f a r after h in (q.0, q.1))
+
   -- what ends still ends
   pub ends_wrapped : (can : I → Type 0) (left : I → Count) (f : G) → AlwaysReturns lists (λ a r. IsFiniteIterable becomes can left r) (inner f)
       → AlwaysReturns outer (λ a r. IsFiniteIterable (λ v k. k ≡ v) (λ k. can k.items) (λ k. left k.items) r) f

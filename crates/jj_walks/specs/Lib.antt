@@ -4,6 +4,7 @@ pub mod DfsSteps
 pub mod Failing
 pub mod Errors
 pub mod DfsOkSteps
+pub mod NextItem
 pub mod ReadyNodes
 pub mod Collecting
 pub mod Listed

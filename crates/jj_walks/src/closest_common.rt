@@ -1,5 +1,5 @@
 //! The closest of the nodes that two sets reach.
-ghost use Rattle.std.specs.Prelude.{◌≡◌, ◌+◌, ◌≤◌, ◌<◌, ◌^◌, ◌&&◌, ◌∷◌, ◌++◌, IfOk, IsTrue, OnOk, MatchBool, cond, map};
+ghost use Rattle.std.specs.Prelude.{◌≡◌, ◌+◌, ◌≤◌, ◌<◌, ◌^◌, ◌&&◌, ◌∷◌, ◌++◌, [], IfOk, IsTrue, OnOk, MatchBool, cond, map};
 ghost use Rattle.std.specs.BinaryHeap.{heap_items, heap_len};
 ghost use Rattle.std.specs.List.Sorted.{IsPermutation};
 ghost use Rattle.jj_walks.specs.CommonNodes.{HasNoCommonCycle, AreClosestCommon};
@@ -160,6 +160,22 @@ fn ask<ID: Hash + Eq>(known: &mut HashMap<ID, Mark>, id: &ID) -> Reach
     }
 }
 
+// Puts a node that both sets reach behind the common nodes that were met before.
+fn keep_common<T: Drop, ID: Drop>(
+    common: &mut Vec<(T, ID)>,
+    reach: Reach,
+    node: T,
+    id: ID,
+) -> Result<(), AllocError>
+    ensures { OnOk result (common.new.items ≡ cond (reach.left && reach.right)
+        (common.old.items ++ (node, id) ∷ []) common.old.items) }
+{
+    if reach.is_common() {
+        common.push((node, id))?;
+    }
+    Ok(())
+}
+
 // The common nodes that were met, with their ids, and what is known of all nodes that were met.
 #[derive(Drop)]
 struct Met<T, ID: Hash + Eq> {
@@ -296,9 +312,7 @@ where
             )?;
         }
         root_met |= is_root;
-        if reach.is_common() {
-            common.push((node, id))?;
-        }
+        keep_common(&mut common, reach, node, id)?;
     }
     Ok(Met { common, known })
 }

@@ -1,15 +1,14 @@
 //! The depth-first walk as an iterator.
-ghost use Rattle.std.specs.Prelude.{◌≡◌, ◌+◌, ◌++◌, List, [], IfOk, true, false, ◌<◌, ◌^◌};
-ghost use Rattle.std.specs.Fn.{CalledAt};
-ghost use Rattle.std.specs.HashSet.{contains, Updates, hash_set_len};
+ghost use Rattle.std.specs.Prelude.{[], IfOk};
 ghost use Rattle.std.specs.Iterator.{at_most};
 ghost use Rattle.jj_walks.specs.DfsSteps.{CanWalk, IsLeftOf};
-ghost use Rattle.jj_walks.specs.Walk.{DrainsTo};
 ghost use Rattle.jj_walks.specs.Outcomes.{Ends, ListsEnd, OverNodes};
 
-use crate::entering::enter;
+use crate::next_item::next_item;
+use crate::walk_error::WalkError;
 use std::alloc::{AllocError, Global};
 use std::collections::HashSet;
+use std::convert::Infallible;
 use std::hash::Hash;
 
 /// The nodes of a depth-first walk, as they are met.
@@ -42,27 +41,20 @@ where
     ghost remaining = { λ s. at_most (items_left s) };
 
     fn next(&mut self) -> Option<Result<T, AllocError>> {
-        while let Some(node) = self.work.pop() {
-            let id = (self.id_fn)(&node);
-            if self.visited.contains(&id) {
-                continue;
-            }
-            let entered = enter(
-                &mut self.work,
-                &mut self.visited,
-                &mut self.neighbors_fn,
-                &node,
-                id,
-            );
-            return match entered {
-                Ok(()) => Some(Ok(node)),
-                Err(refused) => {
-                    self.work.clear();
-                    Some(Err(refused))
-                }
-            };
+        let item = next_item(
+            &mut self.work,
+            &mut self.visited,
+            &|node: T| -> Result<T, Infallible> { Ok(node) },
+            &self.id_fn,
+            &mut self.neighbors_fn,
+        )?;
+        match item {
+            Ok(node) => Some(Ok(node)),
+            Err(refused) => match refused {
+                WalkError::Memory => Some(Err(AllocError)),
+                WalkError::Node(never) => match never {},
+            },
         }
-        None
     }
 }
 

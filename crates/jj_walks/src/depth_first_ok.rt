@@ -1,14 +1,12 @@
 //! The depth-first walk over items that may fail, as an iterator.
-ghost use Rattle.std.specs.Prelude.{◌≡◌, ℕ, ◌+◌, ◌++◌, List, [], Result, IfOk, true, false, ◌<◌, ◌^◌};
-ghost use Rattle.std.specs.Fn.{CalledAt};
-ghost use Rattle.std.specs.HashSet.{contains, Updates, hash_set_len};
+ghost use Rattle.std.specs.Prelude.{ℕ, List, [], Result, IfOk};
 ghost use Rattle.std.specs.Iterator.{at_most};
 ghost use Rattle.jj_walks.specs.DfsOkSteps.{CanWalk, IsLeftOf};
 ghost use Rattle.jj_walks.specs.Failing.{FailingGraph, Fault, ShowsItems, AreItems, AreSoundNodes};
 ghost use Rattle.jj_walks.specs.Walk.{Numbered, DrainsTo};
 ghost use Rattle.jj_walks.specs.Outcomes.{Ends, ListsEnd};
 
-use crate::entering::enter;
+use crate::next_item::next_item;
 use crate::walk_error::WalkError;
 use std::alloc::{AllocError, Global};
 use std::collections::HashSet;
@@ -44,31 +42,13 @@ where
     ghost remaining = { λ s. at_most (items_left s) };
 
     fn next(&mut self) -> Option<Result<T, WalkError<E>>> {
-        while let Some(item) = self.work.pop() {
-            let node = match item {
-                Ok(node) => node,
-                Err(error) => return Some(Err(WalkError::Node(error))),
-            };
-            let id = (self.id_fn)(&node);
-            if self.visited.contains(&id) {
-                continue;
-            }
-            let entered = enter(
-                &mut self.work,
-                &mut self.visited,
-                &mut self.neighbors_fn,
-                &node,
-                id,
-            );
-            return match entered {
-                Ok(()) => Some(Ok(node)),
-                Err(_refused) => {
-                    self.work.clear();
-                    Some(Err(WalkError::Memory))
-                }
-            };
-        }
-        None
+        next_item(
+            &mut self.work,
+            &mut self.visited,
+            &|item: Result<T, E>| -> Result<T, E> { item },
+            &self.id_fn,
+            &mut self.neighbors_fn,
+        )
     }
 }
 

@@ -21,6 +21,7 @@ mod look_ahead;
 mod maximal;
 mod maximal_lists;
 mod maximal_ok;
+mod next_item;
 mod reversed;
 mod topo_order;
 mod topo_order_chunked;

@@ -1,7 +1,8 @@
 //! The maximal nodes of a set, where a list of neighbours may fail as a whole.
-ghost use Rattle.std.specs.Prelude.{IfOk, map};
+ghost use Rattle.std.specs.Prelude.{Result, IfOk, map};
 ghost use Rattle.jj_walks.specs.Graph.{HasNoCycle, IsMaximalIn};
 ghost use Rattle.jj_walks.specs.Failing.{ReachesFailure};
+ghost use Rattle.jj_walks.specs.ListOrError.{StandsFor};
 ghost use Rattle.jj_walks.specs.Walk.{StandsForNodes};
 ghost use Rattle.jj_walks.specs.Outcomes.{ClonesAreEqual, Ends, IfFails, ListsEndOrFail, OverLists};
 
@@ -48,7 +49,10 @@ where
         items: start.into_iter(),
         error: PhantomData,
     };
-    heads_ok(alloc, start, id_fn, move |node: &T| {
-        answered(neighbors_fn(node))
-    })
+    let items_fn = move |node: &T|
+        requires { N.IsAlwaysCallable neighbors_fn }
+        ensures { (answer : Result NI E) × N.step neighbors_fn.entry node.entry answer neighbors_fn.exit
+            × StandsFor NI.into_iter_gives answer result }
+    { answered(neighbors_fn(node)) };
+    heads_ok(alloc, start, id_fn, items_fn)
 }

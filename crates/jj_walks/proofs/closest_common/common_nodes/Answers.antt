@@ -1,16 +1,14 @@
-use Rattle.std.proofs.Common.{rules, of_calls, arith, append-nil, append_assoc, ◌≡◌, ℕ, ◌++◌, ◌∷◌, ◌||◌, List, [], map, length, refl, sym, ◌∙◌, ap, subst, true≢false, Ok, Err, lit<}
+use Rattle.std.proofs.Common.{rules, of_calls, arith, append-nil, append_assoc, ◌≡◌, ℕ, ◌++◌, ◌∷◌, List, [], map, length, refl, sym, ◌∙◌, ap, subst, true≢false, Ok, Err, lit<}
 use Rattle.std.specs.BinaryHeap.{heap_items, heap_len}
 use Rattle.std.specs.List.{Contains}
 use Rattle.std.specs.List.Sorted.{IsPermutation}
 use Rattle.std.proofs.lemmas.List.{nil_from_length}
 use Rattle.std.proofs.lemmas.List.Elements.{Contains-append_left, Contains-append_right, Contains-push}
-use Rattle.std.proofs.lemmas.List.Sorted.{IsPermutation-sym, Contains-permutation}
 use Rattle.jj_walks.specs.Failing.{Fault, ShowsLists, sound_items, sound as sound_graph}
 use Rattle.jj_walks.specs.Graph.{HasEdge}
 use Rattle.jj_walks.specs.Marks.{handed_on, mark_at}
 use Rattle.jj_walks.specs.Walk.{DrainsTo}
-use Rattle.jj_walks.proofs.ClosestCommon.{HandsOn, HoldsMarks, both_nodes, starting_none, starting_left, starting_right, started, started_holds, hands_none, hands_more, hands_common, hands_side, ends, ends_early, closest_at_end, ids_more}
-use Rattle.jj_walks.proofs.Collecting.{are_nodes}
+use Rattle.jj_walks.proofs.ClosestCommon.{HandsOn, starting_none, starting_left, starting_right, started, started_holds, was_reached, asks, hands_more, hands_over, ends, ends_early, closest_at_end, ids_more}
 use Rattle.jj_walks.proofs.CommonMarks.{and_both, marks_more}
 use Rattle.jj_walks.proofs.FailingOrders.{ReachedFrom-same, sound_items-nodes, failed_list}
 use Rattle.jj_walks.proofs.Heads.{Contains-map}
@@ -175,78 +173,24 @@ loop-node-3-preserved g c =
             let set2 = map walk.node before.walking.1 in
             let known = before.walking.4 walk items shown first second in
             let held = known.1.1 in
-            let waited = Contains-map walk.node (heap_items c.loop-node-3.waiting) node (Contains-permutation (node ∷ heap_items c.pop.new.self) (heap_items c.loop-node-3.waiting) node (IsPermutation-sym (heap_items c.loop-node-3.waiting) (node ∷ heap_items c.pop.new.self) popped) (0, omega arith, refl)) in
-            let here = are_nodes walk items (set1 ++ set2) shown.closed (both_nodes walk set1 set2 first second) (walk.node node) (held.reached (walk.node node) waited) in
-            let same = shown.ids_stand node id here (returned g.F.Fn c.id_fn-id-in-Some-pop.ensures) in
-            let on = hands_none walk g.ID.PartialEq.eq set1 set2 known.1.0 (heap_items c.loop-node-3.waiting) (heap_items c.pop.new.self) c.loop-node-3.common.items c.loop-node-3.root_met
-            (mark_at g.ID.PartialEq.eq c.loop-node-3.known) (mark_at g.ID.PartialEq.eq c.ask-reach.new.known) node id c.ask-reach.result shown.apart held popped here same c.ask-reach.ensures.reach c.ask-reach.ensures.known in
+            let at = asks walk g.ID.PartialEq.eq set1 set2 known.1.0 (heap_items c.loop-node-3.waiting) (heap_items c.pop.new.self) c.loop-node-3.common.items c.loop-node-3.root_met
+            (mark_at g.ID.PartialEq.eq c.loop-node-3.known) (mark_at g.ID.PartialEq.eq c.ask-reach.new.known) node id c.ask-reach.result shown.closed shown.apart first second held popped
+            (λ here. shown.ids_stand node id here (returned g.F.Fn c.id_fn-id-in-Some-pop.ensures)) c.ask-reach.ensures.reach c.ask-reach.ensures.known in
             let turn = AlwaysReturns-call g.N.FnMut _ known.0.neighbors called in
             let after : ShowsLists walk items g.ID.PartialEq.eq g.F.Fn g.N.FnMut g.NI.IntoIterator.into_iter_gives g.NI.IntoIter.Iterator.next_gives c.args.id_fn c.neighbors_fn.new.self =
             record { sound_graph = shown.sound_graph; closed = shown.closed; apart = shown.apart; ids_stand = shown.ids_stand; neighbors = turn.1 } in
-            let whole = (rw ok at (turn.0 here)) c.loop-neighbor.yielded drained in
+            let whole = (rw ok at (turn.0 at.0)) c.loop-neighbor.yielded drained in
             let listed : map walk.node c.loop-neighbor.yielded ≡ walk.graph (walk.node node) =
             sym (shown.sound_graph (walk.node node) ∙ ap sound_items whole ∙ sound_items-nodes (Fault g.row.E.Denot) walk.node c.loop-neighbor.yielded) in
-            let inner = c.loop-neighbor.invariant.walking walk items c.neighbors_fn.new.self set1 set2 [] known.1.0 c.loop-node-3.root_met (walk.node node) after here on (append-nil (map walk.node c.loop-neighbor.yielded) ∙ listed) in (
+            let inner = c.loop-neighbor.invariant.walking walk items c.neighbors_fn.new.self set1 set2 [] known.1.0 c.loop-node-3.root_met (walk.node node) after at.0 at.2 (append-nil (map walk.node c.loop-neighbor.yielded) ∙ listed) in (
               after,
               (
                 inner.0,
-                hands_side walk c.loop-neighbor.is_root inner.1 (sym c.is_common-in-Some-pop.ensures ∙ c.if-is_common-2.false)
+                hands_over walk node id c.loop-neighbor.is_root inner.1 at.1 c.in_ok-keep_common.ensures
                     (λ b h. subst (λ (l : List ℕ). Contains l b) (sym listed) h)
                     (λ none.
                     let some = c.loop-neighbor.invariant.asked none in
                     (walk.node some.0, subst (λ (l : List ℕ). Contains l (walk.node some.0)) listed (Contains-map walk.node c.loop-neighbor.yielded some.0 some.1))),
-              ),
-            ),
-      );
-    }
-
-pub loop-node-3-preserved-in-Continue-branch-5 : goal.loop-node-3-preserved-in-Continue-branch-5
-loop-node-3-preserved-in-Continue-branch-5 g c =
-    let before = c.loop-node-3.invariant in
-    let called = c.neighbors_fn.ensures in
-    let node = c.in-Some-pop.node in
-    let id = c.id_fn-id-in-Some-pop.result in
-    let popped : IsPermutation (heap_items c.loop-node-3.waiting) (node ∷ heap_items c.pop.new.self) = c.in-Some-pop.ensures.permutation in
-    let ok : c.neighbors_fn.result ≡ Ok c.in-Ok.list = c.in-Ok.is in
-    let source : c.into_iter-neighbor-iterator.result ≡ c.into_iter-neighbors.result = c.into_iter-neighbor-iterator.ensures.into_iter_gives in
-    let drained : DrainsTo g.NI.IntoIterator.into_iter_gives g.NI.IntoIter.Iterator.next_gives c.in-Ok.list c.loop-neighbor.yielded =
-    (c.into_iter-neighbors.result, c.into_iter-neighbors.ensures.into_iter_gives, (c.next-in-loop-neighbor.new.self, (c.loop-neighbor.neighbor-iterator, rw source at c.loop-neighbor.yielded_by, c.in-None-neighbor.ensures.steps))) in
-    let more : c.push-then-is_common-2.new.self.items ≡ c.loop-node-3.common.items ++ (node, id) ∷ [] = c.in_ok-push-2.ensures.items in
-    record {
-      callable = search of_calls;
-      lists = (AlwaysReturns-call g.N.FnMut _ before.lists called).1;
-      small = c.loop-neighbor.invariant.small;
-      walking = (
-        before.walking.0,
-        before.walking.1,
-        before.walking.2,
-        before.walking.3,
-        λ walk items shown first second.
-            let set1 = map walk.node before.walking.0 in
-            let set2 = map walk.node before.walking.1 in
-            let known = before.walking.4 walk items shown first second in
-            let held = known.1.1 in
-            let waited = Contains-map walk.node (heap_items c.loop-node-3.waiting) node (Contains-permutation (node ∷ heap_items c.pop.new.self) (heap_items c.loop-node-3.waiting) node (IsPermutation-sym (heap_items c.loop-node-3.waiting) (node ∷ heap_items c.pop.new.self) popped) (0, omega arith, refl)) in
-            let here = are_nodes walk items (set1 ++ set2) shown.closed (both_nodes walk set1 set2 first second) (walk.node node) (held.reached (walk.node node) waited) in
-            let same = shown.ids_stand node id here (returned g.F.Fn c.id_fn-id-in-Some-pop.ensures) in
-            let on = hands_none walk g.ID.PartialEq.eq set1 set2 known.1.0 (heap_items c.loop-node-3.waiting) (heap_items c.pop.new.self) c.loop-node-3.common.items c.loop-node-3.root_met
-            (mark_at g.ID.PartialEq.eq c.loop-node-3.known) (mark_at g.ID.PartialEq.eq c.ask-reach.new.known) node id c.ask-reach.result shown.apart held popped here same c.ask-reach.ensures.reach c.ask-reach.ensures.known in
-            let turn = AlwaysReturns-call g.N.FnMut _ known.0.neighbors called in
-            let after : ShowsLists walk items g.ID.PartialEq.eq g.F.Fn g.N.FnMut g.NI.IntoIterator.into_iter_gives g.NI.IntoIter.Iterator.next_gives c.args.id_fn c.neighbors_fn.new.self =
-            record { sound_graph = shown.sound_graph; closed = shown.closed; apart = shown.apart; ids_stand = shown.ids_stand; neighbors = turn.1 } in
-            let whole = (rw ok at (turn.0 here)) c.loop-neighbor.yielded drained in
-            let listed : map walk.node c.loop-neighbor.yielded ≡ walk.graph (walk.node node) =
-            sym (shown.sound_graph (walk.node node) ∙ ap sound_items whole ∙ sound_items-nodes (Fault g.row.E.Denot) walk.node c.loop-neighbor.yielded) in
-            let inner = c.loop-neighbor.invariant.walking walk items c.neighbors_fn.new.self set1 set2 [] known.1.0 c.loop-node-3.root_met (walk.node node) after here on (append-nil (map walk.node c.loop-neighbor.yielded) ∙ listed) in (
-              after,
-              (
-                inner.0,
-                subst (λ l. HoldsMarks walk set1 set2 inner.0 (heap_items c.loop-neighbor.waiting) l (c.loop-node-3.root_met || c.loop-neighbor.is_root) (mark_at g.ID.PartialEq.eq c.loop-neighbor.known)) (sym more)
-                    (hands_common walk node id c.loop-neighbor.is_root inner.1 same (and_both _ _ (sym c.is_common-in-Some-pop.ensures ∙ c.if-is_common-2.true))
-                    (λ b h. subst (λ (l : List ℕ). Contains l b) (sym listed) h)
-                    (λ none.
-                    let some = c.loop-neighbor.invariant.asked none in
-                    (walk.node some.0, subst (λ (l : List ℕ). Contains l (walk.node some.0)) listed (Contains-map walk.node c.loop-neighbor.yielded some.0 some.1)))),
               ),
             ),
       );
@@ -266,14 +210,12 @@ returns-in-Err-clause-refused g c =
           let set1 = map walk.node before.walking.0 in
           let set2 = map walk.node before.walking.1 in
           let known = before.walking.4 walk items shown first second in
-          let waited = Contains-map walk.node (heap_items c.loop-node-3.waiting) node (Contains-permutation (node ∷ heap_items c.pop.new.self) (heap_items c.loop-node-3.waiting) node (IsPermutation-sym (heap_items c.loop-node-3.waiting) (node ∷ heap_items c.pop.new.self) popped) (0, omega arith, refl)) in
-          let reached = known.1.1.reached (walk.node node) waited in
-          let here = are_nodes walk items (set1 ++ set2) shown.closed (both_nodes walk set1 set2 first second) (walk.node node) reached in
+          let at = was_reached walk (heap_items c.pop.new.self) node shown.closed first second known.1.1 popped in
           let turn = AlwaysReturns-call g.N.FnMut _ known.0.neighbors c.neighbors_fn.ensures in
-          let one = failed_list (items (walk.node node)) c.in-Err.error (rw failed at (turn.0 here)) in (
+          let one = failed_list (items (walk.node node)) c.in-Err.error (rw failed at (turn.0 at.1)) in (
             walk.node node,
             one.0,
-            ReachedFrom-same walk.graph (sound_graph items) shown.sound_graph (set1 ++ set2) (walk.node node) reached,
+            ReachedFrom-same walk.graph (sound_graph items) shown.sound_graph (set1 ++ set2) (walk.node node) at.0,
             one.1,
             one.2,
           ),
@@ -299,14 +241,12 @@ returns-then-not-root_met-clause-closest g c =
           let set2 = map walk.node before.walking.1 in
           let known = before.walking.4 walk items shown first second in
           let held = known.1.1 in
-          let waited = Contains-map walk.node (heap_items c.loop-node-3.waiting) node (Contains-permutation (node ∷ heap_items c.pop.new.self) (heap_items c.loop-node-3.waiting) node (IsPermutation-sym (heap_items c.loop-node-3.waiting) (node ∷ heap_items c.pop.new.self) popped) (0, omega arith, refl)) in
-          let here = are_nodes walk items (set1 ++ set2) shown.closed (both_nodes walk set1 set2 first second) (walk.node node) (held.reached (walk.node node) waited) in
-          let same = shown.ids_stand node id here (returned g.F.Fn c.id_fn-id-in-Some-pop.ensures) in
-          let on = hands_none walk g.ID.PartialEq.eq set1 set2 known.1.0 (heap_items c.loop-node-3.waiting) (heap_items c.pop.new.self) c.loop-node-3.common.items c.loop-node-3.root_met
-          (mark_at g.ID.PartialEq.eq c.loop-node-3.known) (mark_at g.ID.PartialEq.eq c.ask-reach.new.known) node id c.ask-reach.result shown.apart held popped here same c.ask-reach.ensures.reach c.ask-reach.ensures.known in
-          let end = ends_early walk node id on empty (and_both _ _ (sym c.is_common.ensures ∙ c.if-is_common.true)) c.if-not-root_met.true in
+          let at = asks walk g.ID.PartialEq.eq set1 set2 known.1.0 (heap_items c.loop-node-3.waiting) (heap_items c.pop.new.self) c.loop-node-3.common.items c.loop-node-3.root_met
+          (mark_at g.ID.PartialEq.eq c.loop-node-3.known) (mark_at g.ID.PartialEq.eq c.ask-reach.new.known) node id c.ask-reach.result shown.closed shown.apart first second held popped
+          (λ here. shown.ids_stand node id here (returned g.F.Fn c.id_fn-id-in-Some-pop.ensures)) c.ask-reach.ensures.reach c.ask-reach.ensures.known in
+          let end = ends_early walk node id at.2 empty (and_both _ _ (sym c.is_common.ensures ∙ c.if-is_common.true)) c.if-not-root_met.true in
           rw more (closest_at_end walk set1 set2 (walk.node node ∷ []) known.1.0 (heap_items c.pop.new.self) (map (λ entry. walk.node entry.0) c.loop-node-3.common.items) (c.loop-node-3.common.items ++ (node, id) ∷ []) c.loop-node-3.root_met
-          (mark_at g.ID.PartialEq.eq c.ask-reach.new.known) end on.marks (ids_more walk c.loop-node-3.common.items node id held.ids same) shown.closed first acyclic),
+          (mark_at g.ID.PartialEq.eq c.ask-reach.new.known) end at.2.marks (ids_more walk c.loop-node-3.common.items node id held.ids at.1) shown.closed first acyclic),
     )
 
 pub returns-clause-closest : goal.returns-clause-closest
