@@ -1,4 +1,5 @@
 -- What a step of a depth-first walk takes from the items that wait.
+-- Machinery of private functions and fields.
 use Rattle.std.specs.Prelude.{◌≡◌, ◌+◌, ◌<◌, ◌^◌, Bool, true, false, List, [], ◌∷◌, ◌++◌, Option, Result}
 use Rattle.std.specs.declared.result.Result.TheVariants.{Ok, Err}
 use Rattle.std.specs.Fn.{Shared, Mut, CalledAt, FnReturns, FnReturnsAt}
