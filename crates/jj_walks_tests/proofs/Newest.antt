@@ -57,7 +57,7 @@ module _ (commits : List Commit) where
   free n h = rank_below time_of (ids_of commits) n
 
   -- the numbering by rank
-  abbrev pub ranked_walk : Numbered (Bor Commit) ℕ
+  abbrev pub ranked_walk : Numbered (Bor Commit) (Bor ℕ)
   ranked_walk = renumbered (walk_of commits) to back unused
 
   -- the parents of the commit of a rank, by their ranks

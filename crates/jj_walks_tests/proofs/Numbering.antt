@@ -101,9 +101,9 @@ module _ (commits : List Commit) where
   abbrev pub node : Bor Commit → ℕ
   node x = cond (has_commit commits x.now) x.now.id (unused_id commits)
 
-  -- the numbering
-  abbrev pub walk_of : Numbered (Bor Commit) ℕ
-  walk_of = record { graph = parent_graph commits; is_node = λ n. is_some (commit_with commits n); node = node; id = λ i. i }
+  -- the numbering, where commits lend their ids
+  abbrev pub walk_of : Numbered (Bor Commit) (Bor ℕ)
+  walk_of = record { graph = parent_graph commits; is_node = λ n. is_some (commit_with commits n); node = node; id = λ i. i.now }
 
   pub node_id : (x : Bor Commit) → has_commit commits x.now ≡ true → node x ≡ x.now.id
   node_id x h = ap (λ b. cond b x.now.id (unused_id commits)) h

@@ -93,11 +93,11 @@ module _ (commits : List Commit) where
       }
 
   -- Closures that tell a commit's id and list its parents show the graph of the commits.
-  module _ {F N : Type 0} (ids : Shared F (Bor (Bor Commit) × Unit {0}) ℕ) (lists : Mut N (Bor (Bor Commit) × Unit {0}) SoundCommits) (id_fn : F) (neighbors_fn : N)
-      (tells : (x : Bor Commit) (i : ℕ) → FnReturnsAt ids id_fn x i → i ≡ x.now.id)
+  module _ {F N : Type 0} (ids : Shared F (Bor (Bor Commit) × Unit {0}) (Bor ℕ)) (lists : Mut N (Bor (Bor Commit) × Unit {0}) SoundCommits) (id_fn : F) (neighbors_fn : N)
+      (tells : (x : Bor Commit) (i : Bor ℕ) → FnReturnsAt ids id_fn x i → i.now ≡ x.now.id)
       (looks : (a : Bor (Bor Commit) × Unit {0}) (r : SoundCommits) (after : N) → Called lists neighbors_fn a r after
       → (r.found.commits.now ≡ commits) × (r.found.ids.now ≡ a.0.now.now.parents.items) × (after ≡ neighbors_fn)) where
-    pub commits_shown : ShowsItems (walk_of commits) (items_of commits) eqb ids lists becomes (YieldsFirstBy shown_item items_left) id_fn neighbors_fn
+    pub commits_shown : ShowsItems (walk_of commits) (items_of commits) (λ i j. eqb i.now j.now) ids lists becomes (YieldsFirstBy shown_item items_left) id_fn neighbors_fn
     commits_shown = record {
       sound_graph = λ a. items_sound commits (parent_graph commits a);
       closed = walk_closed commits;

@@ -28,7 +28,7 @@ pub fn parents_first<'a>(
     topo_order_forward(
         alloc,
         commits.iter(),
-        |commit: &&Commit| commit.id,
+        |commit: &&Commit| &commit.id,
         |commit: &&Commit| parents_of(commits, *commit),
         |commit: &Commit| commit.id,
     )
@@ -44,7 +44,7 @@ pub fn tips<'a>(alloc: Global, commits: &'a [Commit]) -> Result<HashSet<&'a Comm
     heads(
         alloc,
         commits.iter(),
-        |commit: &&Commit| commit.id,
+        |commit: &&Commit| &commit.id,
         |commit: &&Commit| parents_of(commits, *commit),
     )
 }
@@ -67,7 +67,7 @@ pub fn merge_bases<'a>(
         alloc,
         set1.iter(),
         set2.iter(),
-        |commit: &&Commit| commit.id,
+        |commit: &&Commit| &commit.id,
         |commit: &&Commit| sound_parents_of(commits, *commit),
     )
 }
@@ -84,7 +84,7 @@ pub fn ancestors<'a>(
     let walk = dfs(
         alloc,
         commits_of(commits, ids),
-        |commit: &&Commit| commit.id,
+        |commit: &&Commit| &commit.id,
         |commit: &&Commit| parents_of(commits, *commit),
     )?;
     let mut found = Vec::new(alloc);

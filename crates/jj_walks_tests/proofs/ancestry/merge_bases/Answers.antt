@@ -49,7 +49,7 @@ returns c =
       sound_graph = λ a. items_sound commits (parent_graph commits a);
       closed = walk_closed commits;
       apart = λ i j a b. refl;
-      ids_stand = λ x i is h. let e : i ≡ x.now.id = search (rules, h.says.met, h.shows) in e ∙ node_stands commits x is;
+      ids_stand = λ x i is h. let e : i.now ≡ x.now.id = search (rules, h.says.met, h.shows) in e ∙ node_stands commits x is;
       neighbors = always_returns_same _ _ _ (λ a r f h. (λ here. lists_parents commits a.0.now r here (search (rules, of_calls, h)), search (rules, of_calls, h)));
     })
     (rw starts1 nodes1) (rw starts2 nodes2) (rw starts1 (λ a both round. c.requires.acyclic a both.0 round)) in

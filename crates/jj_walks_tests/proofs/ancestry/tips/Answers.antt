@@ -23,7 +23,7 @@ returns c =
     (record {
       closed = walk_closed commits;
       apart = λ i j a b. refl;
-      ids_stand = λ x i is h. let e : i ≡ x.now.id = search (rules, h.says.met, h.shows) in e ∙ node_stands commits x is;
+      ids_stand = λ x i is h. let e : i.now ≡ x.now.id = search (rules, h.says.met, h.shows) in e ∙ node_stands commits x is;
       neighbors = always_returns_same _ _ _ (λ a r f h. (
         λ xs here d. walk_neighbors commits a.0.now xs here (drained_are (λ s k. k ≡ s) _ r xs (λ y. y.now) (parents_in commits a.0.now.now) (λ it b. YieldsList-from_first (λ y. y.now) parents_left _ (search (rules, of_calls, h, b))) d),
         search (rules, of_calls, h),
