@@ -12,7 +12,7 @@ ghost use Rattle.jj_merges.specs.Merge.{adds, removes};
 ghost use Rattle.jj_merges.specs.Simplify.{kept_places, at_places};
 ghost use Rattle.jj_merges.specs.Labels.{say_nothing, labels_of, merge_of, nonempty};
 
-use crate::merge::{Merge, simplified};
+use crate::merge::{Merge, cancelling};
 use smallvec::SmallVec;
 use std::alloc::{AllocError, Global};
 use std::fmt;
@@ -163,9 +163,9 @@ impl ConflictLabels {
             return Ok((ConflictLabels::unlabeled(alloc), merge.simplify(alloc)?));
         }
         let values = merge.as_slice();
-        let places = simplified::kept(alloc, values)?;
-        let labels = simplified::clones_at(alloc, self.labels.as_slice(), &places)?;
-        let terms = simplified::clones_at(alloc, values, &places)?;
+        let places = cancelling::kept(alloc, values)?;
+        let labels = cancelling::clones_at(alloc, self.labels.as_slice(), &places)?;
+        let terms = cancelling::clones_at(alloc, values, &places)?;
         Ok((ConflictLabels::from_merge(labels), terms))
     }
 }

@@ -1,7 +1,7 @@
 use Rattle.std.proofs.Common.{below_more, arith, ◌∙◌, sym}
 use Rattle.jj_merges.specs.Simplify.{same_term}
 use Rattle.jj_merges.proofs.Found.{position-found, position-none, same_term-read}
-use Rattle.jj_merges.proofs.merge.simplified.find_equal.Goals as goal
+use Rattle.jj_merges.proofs.merge.cancelling.find_equal.Goals as goal
 
 pub returns-then-eq : goal.returns-then-eq
 returns-then-eq g c = position-found (same_term g.T.PartialEq.eq c.args.values.now c.args.add) c.args.removes.now c.loop-index.index (omega arith) c.loop-index.invariant

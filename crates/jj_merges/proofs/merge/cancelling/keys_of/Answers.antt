@@ -2,7 +2,7 @@ use Rattle.std.proofs.Common.{take, rules, of_calls}
 use Rattle.std.specs.Fn.{CalledAt}
 use Rattle.std.proofs.lemmas.List.{take_more}
 use Rattle.jj_merges.proofs.MapsLemmas.{MapsTo-push}
-use Rattle.jj_merges.proofs.merge.simplified.keys_of.Goals as goal
+use Rattle.jj_merges.proofs.merge.cancelling.keys_of.Goals as goal
 
 pub loop-value-preserved : goal.loop-value-preserved
 loop-value-preserved g c =

@@ -2,7 +2,7 @@ use Rattle.std.proofs.Common.{◌≡◌, take, length}
 use Rattle.std.specs.List.{AllZip}
 use Rattle.jj_merges.specs.Simplify.{at_places}
 use Rattle.jj_merges.specs.Terms.{items, HoldsOne}
-use Rattle.jj_merges.proofs.merge.simplified.clones_at.Given as goal
+use Rattle.jj_merges.proofs.merge.cancelling.clones_at.Given as goal
 
 abbrev pub invariant-loop-place : goal.invariant-loop-place
 invariant-loop-place g l =

@@ -8,7 +8,7 @@ ghost use Rattle.jj_merges.specs.Maps.{MapsTo};
 ghost use Rattle.jj_merges.specs.Merge.{AreEqual, HaveSameCounts, HaveSameSides, IsDisjoint};
 ghost use Rattle.jj_merges.specs.Simplify.{AreKept, kept_places, at_places};
 
-use super::{Merge, simplified};
+use super::{Merge, cancelling};
 use std::alloc::{AllocError, Global};
 
 impl<T: PartialEq + Clone> Merge<T> {
@@ -42,8 +42,8 @@ impl<T: PartialEq + Clone> Merge<T> {
         if values.len() == 1 {
             return self.clone(alloc);
         }
-        let places = simplified::kept(alloc, values)?;
-        simplified::clones_at(alloc, values, &places)
+        let places = cancelling::kept(alloc, values)?;
+        cancelling::clones_at(alloc, values, &places)
     }
 }
 
@@ -64,9 +64,9 @@ impl<T: Clone> Merge<T> {
             × IsDisjoint U.eq (at_places keys (kept_places U.eq keys))) }
     {
         let values = self.as_slice();
-        let keys = simplified::keys_of(alloc, values, f)?;
-        let places = simplified::kept(alloc, &keys)?;
-        simplified::clones_at(alloc, values, &places)
+        let keys = cancelling::keys_of(alloc, values, f)?;
+        let places = cancelling::kept(alloc, &keys)?;
+        cancelling::clones_at(alloc, values, &places)
     }
 }
 
@@ -85,7 +85,7 @@ impl<T: PartialEq + Drop> Merge<T> {
             → AreEqual T.eq (at_places self (kept_places T.eq self)) simplified
             → AreEqual T.eq self m) }
     {
-        let places = simplified::kept(alloc, self.as_slice())?;
+        let places = cancelling::kept(alloc, self.as_slice())?;
         let Merge { terms } = self;
         let mut terms = terms;
         let mut updates = simplified.into_iter();

@@ -1,7 +1,7 @@
 use Rattle.std.proofs.Common.{◌∷◌, [], arith, ap, length, length-append}
 use Rattle.jj_merges.specs.Terms.{items}
 use Rattle.jj_merges.proofs.Clones.{clones_more}
-use Rattle.jj_merges.proofs.merge.simplified.clones_at.Goals as goal
+use Rattle.jj_merges.proofs.merge.cancelling.clones_at.Goals as goal
 
 pub loop-place-preserved : goal.loop-place-preserved
 loop-place-preserved g c = (
