@@ -98,7 +98,7 @@ pub fn write_quoted<W: fmt::Write>(writer: &mut W, text: &str) -> fmt::Result
     Ok(())
 }
 
-// The character of a letter behind a backslash.
+// The character of a letter after a backslash.
 fn char_of_letter(letter: u8) -> Option<char>
     ensures { result ≡ letter_char letter }
 {

@@ -1,9 +1,9 @@
 //! The program `jj-core`: it reads standard input, and writes standard output.
 #![tactic(auto)]
 
-use jj_core::file_util::Watched;
-use jj_core::program;
-use jj_core::program::Fault;
+use jj_paths::file_util::Watched;
+use jj_program::program;
+use jj_program::program::Fault;
 use std::io::ErrorKind;
 use std::process::ExitCode;
 use std::rt::Env;

@@ -1,9 +1,0 @@
--- The requests so far are answered.
-use Rattle.std.proofs.Common.{map, take}
-use Rattle.jj_core.specs.Requests.{AnswersEach}
-use Rattle.jj_core.specs.MergeCommand.{IsMergeAnswer}
-use Rattle.jj_core.specs.MergeRead.{merge_request_of}
-use Rattle.jj_core.proofs.merge_command.merge_output.Given as goal
-
-abbrev pub invariant-loop-request : goal.invariant-loop-request
-invariant-loop-request l = AnswersEach IsMergeAnswer (map merge_request_of (take l.request-index l.request-items)) l.output.items

@@ -1,7 +1,0 @@
-use Rattle.jj_core.proofs.TextOutcomes.{outcome_by_counts}
-use Rattle.jj_core.proofs.merge_outcome.outcome.Goals as goal
-
-pub returns : goal.returns
-returns c =
-    outcome_by_counts c.args.same_change c.in_ok-left.left c.args.terms.now c.resolved-2.result
-    c.in_ok-left.ensures c.resolved-2.ensures

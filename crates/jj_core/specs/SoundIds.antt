@@ -1,8 +1,0 @@
--- What is left of ids that are given as items which may fail.
--- Machinery of private functions and fields.
-use Rattle.std.specs.Prelude.{ℕ, List, map, Result}
-use Rattle.std.specs.declared.result.Result.TheVariants.{Ok}
-use Rattle.jj_core.specs.declared.graph_walks.SoundIds.{SoundIds}
-
-abbrev pub sound_left : SoundIds → List (Result ℕ ℕ)
-sound_left s = map (λ id. Ok id) s.ids.now

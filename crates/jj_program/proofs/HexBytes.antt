@@ -1,0 +1,60 @@
+-- A hex text has one reading: its bytes are those that a decoder finds.
+use Rattle.std.proofs.Common.{◌≡◌, ◌∙◌, ℕ, ◌+◌, ◌*◌, ◌/◌, ◌%◌, ◌<◌, List, [], ◌∷◌, get_or, Option, Some, None, refl, sym, subst, arith}
+use Rattle.std.specs.Str.{str_to_ascii_lowercase}
+use Rattle.std.specs.Char.{to_ascii_lowercase}
+use Rattle.std.proofs.lemmas.List.Elements.{All-head, All-tail}
+use Rattle.std.proofs.lemmas.Option.{none-some, same_Some}
+use Rattle.jj_content.specs.Hex.{hex_digits, digit_value, text_with, ReadsAs, ReadsAsNothing}
+use Rattle.jj_content.proofs.HexTexts.{IsByte, are_hex_digits, digit_value-same, text_with-cons, ReadsAs-nil, ReadsAs-cons, ReadsAs-length}
+use Rattle.jj_program.specs.HashCommand.{bytes_of_hex, with_byte}
+
+abbrev Reads : List ℕ → List ℕ → Type 0
+Reads text bytes = ReadsAs hex_digits text bytes
+
+-- a character that is written as a digit has the digit's value
+value_of : (c v : ℕ) → v < 16 → to_ascii_lowercase c ≡ get_or hex_digits v 0 → digit_value hex_digits c ≡ Some v
+value_of c v small is =
+    digit_value-same hex_digits c (get_or hex_digits v 0) (is ∙ sym (are_hex_digits.lower v small)) ∙ are_hex_digits.back v small
+
+-- the bytes that a text reads as are those that are found
+pub found_bytes : (text bytes : List ℕ) → Reads text bytes → bytes_of_hex text ≡ Some bytes
+found_bytes [] [] reads = refl
+found_bytes [] (x ∷ xs) reads = absurd (omega (arith, ReadsAs-length hex_digits [] (x ∷ xs) reads))
+found_bytes (a ∷ []) bytes reads = absurd (omega (arith, ReadsAs-length hex_digits (a ∷ []) bytes reads))
+found_bytes (a ∷ b ∷ text) [] reads = absurd (omega (arith, ReadsAs-length hex_digits (a ∷ b ∷ text) [] reads))
+found_bytes (a ∷ b ∷ text) (x ∷ xs) reads =
+    let small : x < 256 = All-head IsByte x xs reads.bytes_fit in
+    let same = reads.same in
+    let written = text_with-cons hex_digits x xs in
+    let first : to_ascii_lowercase a ≡ get_or hex_digits (x / 16) 0 = cc in
+    let second : to_ascii_lowercase b ≡ get_or hex_digits (x % 16) 0 = cc in
+    let further : str_to_ascii_lowercase text ≡ text_with hex_digits xs = cc in
+    let high = value_of a (x / 16) (omega arith) first in
+    let low = value_of b (x % 16) (omega arith) second in
+    let rest = found_bytes text xs (record { bytes_fit = All-tail IsByte x xs reads.bytes_fit; same = further }) in
+    let whole : x / 16 * 16 + x % 16 ≡ x = omega arith in
+    rw (high, low, rest, whole) refl
+
+-- the bytes that are found are those that the text reads as
+pub found_reads : (text bytes : List ℕ) → bytes_of_hex text ≡ Some bytes → Reads text bytes
+found_reads [] [] found = ReadsAs-nil hex_digits
+found_reads [] (x ∷ xs) found = cc
+found_reads (a ∷ []) bytes found = absurd (none-some _ found)
+found_reads (a ∷ b ∷ text) bytes found = by_digits (found_reads text) (digit_value hex_digits a) (digit_value hex_digits b) (bytes_of_hex text) refl refl refl found
+  where
+    by_digits : ((rest : List ℕ) → bytes_of_hex text ≡ Some rest → Reads text rest) → (high low : Option ℕ) (rest : Option (List ℕ)) → digit_value hex_digits a ≡ high → digit_value hex_digits b ≡ low → bytes_of_hex text ≡ rest
+        → with_byte high low rest ≡ Some bytes → Reads (a ∷ b ∷ text) bytes
+    by_digits further (Some high) (Some low) (Some rest) h l r is =
+        let is_bytes : (high * 16 + low) ∷ rest ≡ bytes = same_Some _ _ is in
+        subst (λ found. Reads (a ∷ b ∷ text) found) is_bytes (ReadsAs-cons hex_digits text rest a b high low are_hex_digits (further rest r) h l)
+    by_digits further (Some high) (Some low) None h l r is = absurd (none-some _ is)
+    by_digits further (Some high) None rest h l r is = absurd (none-some _ is)
+    by_digits further None low rest h l r is = absurd (none-some _ is)
+
+-- where the text reads as nothing, no bytes are found
+pub found_nothing : (text : List ℕ) → ReadsAsNothing hex_digits text → bytes_of_hex text ≡ None
+found_nothing text none = by_found (bytes_of_hex text) refl
+  where
+    by_found : (found : Option (List ℕ)) → bytes_of_hex text ≡ found → bytes_of_hex text ≡ None
+    by_found None is = is
+    by_found (Some bytes) is = absurd (none bytes (found_reads text bytes is))

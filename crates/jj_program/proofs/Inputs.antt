@@ -1,0 +1,47 @@
+-- What a command gives for an input that is text, and for one that is not.
+use Rattle.std.proofs.Common.{◌≡◌, ℕ, List, Bool, true, false, refl, subst, sym, Result, Ok, Err, IfOk, IfErr}
+use Rattle.std.proofs.lemmas.Result.{IfOk-weaker, IfErr-weaker}
+use Rattle.std.specs.Str.{IsUtf8, is_utf8}
+use Rattle.std.proofs.lemmas.Str.{IsUtf8-from_is_utf8, is_utf8-from_IsUtf8}
+use Rattle.jj_program.specs.declared.program.Command.{Command}
+use Rattle.jj_program.specs.declared.fault.Fault.{Fault}
+use Rattle.jj_program.specs.declared.fault.Fault.TheVariants.{ReadInput, NotUtf8, Memory, WriteOutput, Matchers, Line}
+use Rattle.jj_program.specs.Lines.{IsFaultOf}
+use Rattle.jj_program.specs.Program.{Gives, GivesText, IsFaultOfInput}
+
+false_or : (b : Bool) → (b ≡ true → ⊥) → b ≡ false
+false_or true f = absurd (f refl)
+false_or false f = refl
+
+-- bytes that are UTF-8 have what is given for their text
+pub gives_text : (command : Command) (input : List ℕ) (answer : Result (List ℕ) Fault) → IsUtf8 input → GivesText command input answer → Gives command input answer
+gives_text command input answer utf8 given = let e : is_utf8 input ≡ true = is_utf8-from_IsUtf8 input utf8 in rw e given
+
+-- other bytes have that fault
+pub gives_not_utf8 : (command : Command) (input : List ℕ) → ¬ (IsUtf8 input) → Gives command input (Err NotUtf8)
+gives_not_utf8 command input f = let e : is_utf8 input ≡ false = false_or (is_utf8 input) (λ h. f (IsUtf8-from_is_utf8 input h)) in rw e refl
+
+-- what is given for a known command's text is given for the input
+pub known_gives : (command known : Command) (input : List ℕ) (answer : Result (List ℕ) Fault) → command ≡ known → IsUtf8 input → GivesText known input answer → Gives command input answer
+known_gives command known input answer is utf8 given = gives_text command input answer utf8 (subst (λ c. GivesText c input answer) (sym is) given)
+
+-- a fault of what a text asks for is a fault of the input
+pub known_fault : {A : Type 0} (command known : Command) (input : List ℕ) (asked : Result A Fault) → ((fault : Fault) → asked ≡ Err fault → GivesText known input (Err fault)) → command ≡ known
+    → (fault : Fault) → IsUtf8 input → IsFaultOf fault asked → IsFaultOfInput command input fault
+known_fault command known input asked given is Memory utf8 h = tt
+known_fault command known input asked given is ReadInput utf8 h = h
+known_fault command known input asked given is WriteOutput utf8 h = h
+known_fault command known input asked given is NotUtf8 utf8 h = known_gives command known input (Err NotUtf8) is utf8 (given NotUtf8 h)
+known_fault command known input asked given is (Matchers count) utf8 h = known_gives command known input (Err (Matchers count)) is utf8 (given (Matchers count) h)
+known_fault command known input asked given is (Line line kind) utf8 h = known_gives command known input (Err (Line line kind)) is utf8 (given (Line line kind) h)
+
+-- what a known command was called with is the input's text, so its output and its fault are the input's
+module _ {X : Type 0} (command known : Command) (input text : List ℕ) (result : Result X Fault) (is : command ≡ known) (read : (text ≡ input) × IsUtf8 input) where
+  pub known_output : (items : X → List ℕ) → IfOk result (λ output. GivesText known text (Ok (items output))) → IfOk result (λ output. Gives command input (Ok (items output)))
+  known_output items = IfOk-weaker result (λ output. GivesText known text (Ok (items output))) (λ output. Gives command input (Ok (items output)))
+      (λ output given. known_gives command known input (Ok (items output)) is read.1 (subst (λ t. GivesText known t (Ok (items output))) read.0 given))
+
+  pub known_failure : {A : Type 0} (asked : List ℕ → Result A Fault) → ((fault : Fault) → asked input ≡ Err fault → GivesText known input (Err fault))
+      → IfErr result (λ fault. IsFaultOf fault (asked text)) → IfErr result (IsFaultOfInput command input)
+  known_failure asked given = IfErr-weaker result (λ fault. IsFaultOf fault (asked text)) (IsFaultOfInput command input)
+      (λ fault found. known_fault command known input (asked input) given is fault read.1 (subst (λ t. IsFaultOf fault (asked t)) read.0 found))

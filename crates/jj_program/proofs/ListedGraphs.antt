@@ -1,0 +1,132 @@
+-- Graphs whose edges a map lists: where their cycles lie, and their maximal nodes in ascending order.
+use Rattle.std.proofs.Common.{◌≡◌, ◌∙◌, Iter, ℕ, ◌<◌, List, [], ◌∷◌, length, get_or, Result, Ok, Err, None, ap, refl, sym, arith, eqb, map}
+use Rattle.std.specs.Prelude.{IsOkAnd, ◌++◌}
+use Rattle.std.specs.Iterator.{YieldsFirst}
+use Rattle.std.specs.declared.iter.Copied.{Copied}
+use Rattle.std.specs.Iterator.Adapters.{copied_source}
+use Rattle.std.specs.Slice.Iter.{iter_rest}
+use Rattle.std.proofs.iter.Yields.{copies, fronts}
+use Rattle.std.proofs.lemmas.Iterator.{YieldsList-from_slice}
+use Rattle.std.proofs.lemmas.Iterator.Consumers.{YieldsList-from_copied, YieldsList-from_first}
+use Rattle.std.specs.Option.{option_map}
+use Rattle.std.specs.List.{Contains}
+use Rattle.std.specs.List.Sorted.{IsPermutation, IsSorted, IsStrictlyIncreasing}
+use Rattle.std.specs.Ordering.{nat_cmp}
+use Rattle.std.specs.BTreeMap.{BTreeMap, is_at}
+use Rattle.std.specs.Global.{Global}
+use Rattle.std.specs.Map.{lookup}
+use Rattle.std.proofs.lemmas.List.{get_or-map, length-map, map-id}
+use Rattle.std.specs.declared.vec.Vec.{Vec}
+use Rattle.std.proofs.lemmas.List.Sorted.{Contains-permutation, IsPermutation-sym, IsNonDecreasingBy-from_sort}
+use Rattle.std.proofs.lemmas.Map.Keys.{IsDistinct-IsPermutation, IsStrictlyIncreasing-from_distinct}
+use Rattle.jj_walks.specs.CommonNodes.{AreClosestCommon}
+use Rattle.jj_walks.specs.Graph.{Graph, HasNoCycle, IsMaximalIn}
+use Rattle.jj_walks.specs.Failing.{Fault, AreItems, AnswersItems, BeginsWith, ListsItems, sound_items}
+use Rattle.jj_walks.proofs.FailingWalks.{begun_are}
+use Rattle.jj_program.specs.declared.graph_walks.SoundIds.{SoundIds}
+use Rattle.jj_program.specs.SoundIds.{sound_left}
+use Rattle.jj_walks.specs.Walk.{DrainsTo}
+use Rattle.jj_walks.proofs.Walking.{drained_are, eqb-flip, Contains-from_has}
+use Rattle.jj_program.specs.Neighbors.{listed_in, HoldsNeighbors}
+use Rattle.jj_program.specs.GraphCommand.{HasCycle}
+
+-- where none of the ids reaches a cycle, there is none
+pub none_listed : (graph : Graph) (ids : List ℕ) → HoldsNeighbors graph ids → HasNoCycle graph ids → HasCycle graph → ⊥
+none_listed graph ids held none (id, (steps, (next, edge, way))) =
+    none id (next, Contains-from_has ids next (held id next edge), (steps, way)) (steps, (next, edge, way))
+
+-- where there is no cycle, no nodes reach one
+pub none_reached : (graph : Graph) (starts : List ℕ) → (HasCycle graph → ⊥) → HasNoCycle graph starts
+none_reached graph starts none a reached cycle = none (a, cycle)
+
+-- neighbours that are all sound
+pub sound_neighbors : (E : Type 0) (ids : List ℕ) → ids ≡ sound_items {K = E} (map (λ id. Ok id) ids)
+sound_neighbors E [] = refl
+sound_neighbors E (id ∷ ids) = ap (λ l. id ∷ l) (sound_neighbors E ids)
+
+-- and none of which failed
+pub none_failed : (E : Type 0) (ids : List ℕ) (e : E) → Contains (map (λ id. Ok id) ids) (Err e) → ⊥
+none_failed E ids e (k, within, is) =
+    let sound_item : ℕ → Result ℕ E = λ id. Ok id in
+    let inside : k < length ids = omega (arith, length-map ids sound_item) in
+    let sound : get_or (map sound_item ids) k (Err e) ≡ Ok (get_or ids k 0) = get_or-map sound_item ids k 0 (Err e) inside in
+    let both : Ok (get_or ids k 0) ≡ Err e = sym sound ∙ is in cc
+
+-- what such a list drains to
+pub lists_neighbors : (r : Result (Copied (Iter ℕ)) ℕ) (ids : List ℕ) → IsOkAnd r (λ list. iter_rest (copied_source list) ≡ ids)
+    → AnswersItems (λ x. x) (λ s t. t ≡ s) (copies fronts) r (map (λ id. Ok id) ids)
+lists_neighbors (Ok list) ids rest = λ xs d.
+    let given = drained_are (λ s t. t ≡ s) (copies fronts) list xs (λ x. x) ids (λ it b. YieldsList-from_copied (YieldsList-from_slice ids (ap (λ s. iter_rest (copied_source s)) b ∙ rest))) d in
+    ap (map {B = Result ℕ (Fault ℕ)} (λ id. Ok id)) (sym given ∙ map-id xs)
+lists_neighbors (Err e) ids none = absurd none
+
+-- ids as items: each is the node of that number
+are_sound : (xs : List (Result ℕ ℕ)) (ids : List ℕ) → map (λ x. x) xs ≡ map (λ id. Ok id) ids → AreItems (λ x. x) xs (map (λ id. Ok id) ids)
+are_sound [] [] e = tt
+are_sound [] (id ∷ ids) e = absurd cc
+are_sound (x ∷ xs) [] e = absurd cc
+are_sound (Err x ∷ xs) (id ∷ ids) e = absurd cc
+are_sound (Ok x ∷ xs) (id ∷ ids) e =
+    let first : x ≡ id = cc in
+    let rest : map (λ y. y) xs ≡ map (λ n. Ok n) ids = cc in
+    (first, are_sound xs ids rest)
+
+-- what an iterator over ids gives, up to an error, is no list of them
+pub no_beginning : (value : SoundIds) (xs : List (Result ℕ ℕ)) (e : ℕ) → BeginsWith (λ s t. t ≡ s) (YieldsFirst sound_left) value (xs ++ Err e ∷ []) → ⊥
+no_beginning value xs e d =
+    let begun = begun_are (λ s t. t ≡ s) (YieldsFirst sound_left) value (xs ++ Err e ∷ []) (λ x. x) (sound_left value) (λ it b. YieldsList-from_first (λ x. x) sound_left (sound_left value) (ap sound_left b)) d in
+    has_error xs value.ids.now begun.0 begun.1
+  where
+    has_error : (ys : List (Result ℕ ℕ)) (ids : List ℕ) (rest : List (Result ℕ ℕ)) → map (λ id. Ok id) ids ≡ map (λ x. x) (ys ++ Err e ∷ []) ++ rest → ⊥
+    has_error [] [] rest same = cc
+    has_error [] (id ∷ ids) rest same = cc
+    has_error (y ∷ ys) [] rest same = cc
+    has_error (y ∷ ys) (id ∷ ids) rest same = let more : map (λ n. Ok n) ids ≡ map (λ x. x) (ys ++ Err e ∷ []) ++ rest = cc in has_error ys ids rest more
+
+-- what such an iterator lists are the ids
+pub items_neighbors : (value : SoundIds) (ids : List ℕ) → value.ids.now ≡ ids → ListsItems (λ x. x) (λ s t. t ≡ s) (YieldsFirst sound_left) value (map (λ id. Ok id) ids)
+items_neighbors value ids e = record {
+  whole = λ xs d. are_sound xs ids (drained_are (λ s t. t ≡ s) (YieldsFirst sound_left) value xs (λ x. x) (map (λ id. Ok id) ids)
+      (λ it b. YieldsList-from_first (λ x. x) sound_left (map (λ id. Ok id) ids) (ap sound_left b ∙ ap (map (λ id. Ok id)) e)) d);
+  first = λ xs error d. absurd (no_beginning value xs error d);
+}
+
+-- ids that were given as items
+pub given_ids : (value : SoundIds) (xs : List ℕ) → DrainsTo (λ s t. t ≡ s) (YieldsFirst sound_left) value (map (λ x. Ok x) xs) → map (λ x. x) xs ≡ value.ids.now
+given_ids value xs d = same xs value.ids.now (drained_are (λ s t. t ≡ s) (YieldsFirst sound_left) value (map (λ x. Ok x) xs) (λ x. x) (sound_left value)
+    (λ it b. YieldsList-from_first (λ x. x) sound_left (sound_left value) (ap sound_left b)) d)
+  where
+    same : (ys ids : List ℕ) → map (λ x. x) (map {B = Result ℕ ℕ} (λ x. Ok x) ys) ≡ map (λ id. Ok id) ids → map (λ x. x) ys ≡ ids
+    same [] [] e = refl
+    same [] (id ∷ ids) e = absurd cc
+    same (y ∷ ys) [] e = absurd cc
+    same (y ∷ ys) (id ∷ ids) e =
+        let first : y ≡ id = cc in
+        let rest : map (λ x. x) (map {B = Result ℕ ℕ} (λ x. Ok x) ys) ≡ map (λ n. Ok n) ids = cc in
+        ap (λ n. n ∷ map (λ x. x) ys) first ∙ ap (λ l. id ∷ l) (same ys ids rest)
+
+-- an empty map lists nothing
+pub listed_in-empty : (m : BTreeMap ℕ (Vec ℕ Global)) → m.entries ≡ [] → listed_in m ≡ (λ id. None)
+listed_in-empty m empty = λ i id. option_map (λ v. v.items) (lookup (is_at (nat_cmp id)) (empty i))
+
+-- the maximal nodes in another order
+pub maximal_permuted : (graph : Graph) (ids found sorted : List ℕ) → IsPermutation found sorted → IsMaximalIn graph ids found → IsMaximalIn graph ids sorted
+maximal_permuted graph ids found sorted moved of_found = record {
+  all = λ a. ((λ h. (of_found.all a).0 (Contains-permutation sorted found a (IsPermutation-sym found sorted moved) h)), λ h. Contains-permutation found sorted a moved ((of_found.all a).1 h));
+  once = IsDistinct-IsPermutation eqb eqb-flip found sorted moved of_found.once;
+}
+
+-- sorted, they rise
+pub maximal_rising : (graph : Graph) (ids sorted : List ℕ) → IsSorted nat_cmp sorted → IsMaximalIn graph ids sorted → IsStrictlyIncreasing sorted
+maximal_rising graph ids sorted in_order of_sorted = IsStrictlyIncreasing-from_distinct sorted (IsNonDecreasingBy-from_sort (λ x. x) sorted in_order) of_sorted.once
+
+-- the closest common nodes in another order
+pub closest_permuted : (graph : Graph) (set1 set2 found sorted : List ℕ) → IsPermutation found sorted → AreClosestCommon graph set1 set2 found → AreClosestCommon graph set1 set2 sorted
+closest_permuted graph set1 set2 found sorted moved of_found = record {
+  all = λ a. ((λ h. (of_found.all a).0 (Contains-permutation sorted found a (IsPermutation-sym found sorted moved) h)), λ h. Contains-permutation found sorted a moved ((of_found.all a).1 h));
+  once = IsDistinct-IsPermutation eqb eqb-flip found sorted moved of_found.once;
+}
+
+-- sorted, they rise
+pub closest_rising : (graph : Graph) (set1 set2 sorted : List ℕ) → IsSorted nat_cmp sorted → AreClosestCommon graph set1 set2 sorted → IsStrictlyIncreasing sorted
+closest_rising graph set1 set2 sorted in_order of_sorted = IsStrictlyIncreasing-from_distinct sorted (IsNonDecreasingBy-from_sort (λ x. x) sorted in_order) of_sorted.once

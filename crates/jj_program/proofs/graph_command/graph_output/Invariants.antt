@@ -1,0 +1,11 @@
+-- The requests so far are answered.
+use Rattle.std.proofs.Common.{map, take}
+use Rattle.std.specs.Prelude.{string_bytes}
+use Rattle.jj_program.specs.ListedGraphs.{shown_by}
+use Rattle.jj_program.specs.Requests.{AnswersEach}
+use Rattle.jj_program.specs.GraphCommand.{IsGraphAnswer}
+use Rattle.jj_program.specs.GraphRead.{graph_request_of}
+use Rattle.jj_program.proofs.graph_command.graph_output.Given as goal
+
+abbrev pub invariant-loop-request : goal.invariant-loop-request
+invariant-loop-request l = AnswersEach (IsGraphAnswer (shown_by l.graph)) (map graph_request_of (take l.request-index l.request-items)) (string_bytes l.output)

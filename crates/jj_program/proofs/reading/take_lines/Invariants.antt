@@ -1,0 +1,16 @@
+-- What the lines that are left make of the state so far is what all lines make of the first one.
+use Rattle.std.proofs.Common.{◌≡◌, ◌+◌, ◌≤◌, length}
+use denote.Shadow.{shadow}
+use denote.Text.{Utf8}
+use Rattle.jj_program.specs.Lines.{lines_of, after_lines}
+use Rattle.jj_program.proofs.reading.take_lines.Given as goal
+
+abbrev pub invariant-loop-line : goal.invariant-loop-line
+invariant-loop-line g l =
+    (after_lines g.M.Reading.step l.number (g.M.Reading.state l.reading) (lines_of l.rest)
+    ≡ after_lines g.M.Reading.step 1 (g.M.Reading.state l.initial.reading) (lines_of l.fn.text))
+    × (l.number + length l.rest ≤ 1 + length l.fn.text)
+    × shadow (Utf8 l.rest)
+
+abbrev pub decreases-loop-line : goal.decreases-loop-line
+decreases-loop-line g l = length l.rest

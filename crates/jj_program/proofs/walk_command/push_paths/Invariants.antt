@@ -1,0 +1,7 @@
+-- The lines of the paths so far are written.
+use Rattle.std.proofs.Common.{◌≡◌, ◌++◌, take}
+use Rattle.jj_program.specs.Walked.{path_lines}
+use Rattle.jj_program.proofs.walk_command.push_paths.Given as goal
+
+abbrev pub invariant-loop-path : goal.invariant-loop-path
+invariant-loop-path l = l.output.items ≡ l.initial.output.items ++ path_lines l.name (take l.path-index l.paths)

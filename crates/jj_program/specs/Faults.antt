@@ -1,0 +1,28 @@
+-- The texts that name a fault.
+-- Cited by contracts of public items: fault_text, line_fault_text.
+use Rattle.std.specs.Prelude.{ℕ, List, ◌++◌, codes}
+use Rattle.std.specs.Fmt.{decimal}
+use Rattle.jj_program.specs.declared.fault.LineFault.{LineFault}
+use Rattle.jj_program.specs.declared.fault.LineFault.TheVariants.{UnknownCommand, BadFieldCount, BadPath, BadGlob, EmptyStack, BadNumber, RepeatedNode, BadHex}
+use Rattle.jj_program.specs.declared.fault.Fault.{Fault}
+use Rattle.jj_program.specs.declared.fault.Fault.TheVariants.{ReadInput, NotUtf8, Memory, WriteOutput, Matchers, Line}
+
+-- what is wrong with a line
+abbrev pub line_fault_text : LineFault → List ℕ
+line_fault_text UnknownCommand = codes "unknown command"
+line_fault_text BadFieldCount = codes "bad field count"
+line_fault_text BadPath = codes "bad path"
+line_fault_text BadGlob = codes "bad glob"
+line_fault_text EmptyStack = codes "empty stack"
+line_fault_text BadNumber = codes "bad number"
+line_fault_text RepeatedNode = codes "repeated node"
+line_fault_text BadHex = codes "bad hex"
+
+-- what a run failed by
+abbrev pub fault_text : Fault → List ℕ
+fault_text ReadInput = codes "cannot read input"
+fault_text NotUtf8 = codes "input is not UTF-8"
+fault_text Memory = codes "out of memory"
+fault_text WriteOutput = codes "cannot write output"
+fault_text (Matchers count) = decimal count ++ codes " matchers at end"
+fault_text (Line line kind) = codes "line " ++ decimal line ++ codes ": " ++ line_fault_text kind

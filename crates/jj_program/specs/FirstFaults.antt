@@ -1,0 +1,28 @@
+-- Which line's fault a command answers.
+-- Cited by contracts of public items: GivesFirstFault.
+use Rattle.std.specs.Prelude.{◌≡◌, ℕ, ◌-◌, ◌<◌, ◌≤◌, List, length, take, Err}
+use Rattle.jj_program.specs.declared.fault.Fault.TheVariants.{Line}
+use Rattle.jj_program.specs.declared.fault.LineFault.{LineFault}
+use Rattle.jj_program.specs.declared.program.Command.{Command}
+use Rattle.jj_program.specs.Lines.{lines_of}
+use Rattle.jj_program.specs.Program.{GivesText}
+
+-- two texts begin with the same lines, as many as this
+abbrev pub BeginAlike : ℕ → List ℕ → List ℕ → Type 0
+BeginAlike count text other = take count (lines_of text) ≡ take count (lines_of other)
+
+-- the faulty line is there; every text that begins with the lines up to it has its fault; and no
+-- text that begins with the lines before it has a fault in one of them
+pub record IsFirstFault (command : Command) (text : List ℕ) (number : ℕ) (kind : LineFault)
+    : Type 0 where
+  pub there : (1 ≤ number) × (number ≤ length (lines_of text))
+  pub decided : (other : List ℕ) → BeginAlike number text other
+      → GivesText command other (Err (Line number kind))
+  pub first : (other : List ℕ) (earlier : ℕ) (fault : LineFault)
+      → BeginAlike (number - 1) text other → earlier < number
+      → GivesText command other (Err (Line earlier fault)) → ⊥
+
+-- a fault that a command gives with a line is that of the first faulty line
+abbrev pub GivesFirstFault : Type 0
+GivesFirstFault = (command : Command) (text : List ℕ) (number : ℕ) (kind : LineFault)
+    → GivesText command text (Err (Line number kind)) → IsFirstFault command text number kind

@@ -1,0 +1,38 @@
+-- The paths of the set that a text names, and what its walk finds, in the words of sets.
+-- Cited by contracts of public items: FindsItsFiles.
+use Rattle.std.specs.Prelude.{◌≡◌, ◌≢◌, ◌↔◌, ◌⊎◌, ℕ, List, [], ◌++◌, codes, Contains, Ok}
+use Rattle.std.specs.List.Sorted.{IsStrictlySortedBy}
+use Rattle.jj_paths.specs.Paths.{Path, path_cmp}
+use Rattle.jj_matchers.specs.Patterns.{IsAccepted}
+use Rattle.jj_program.specs.declared.file_set.Combination.TheVariants.{Union, Difference, Intersection}
+use Rattle.jj_program.specs.SetTrees.{SetTree, one, both}
+use Rattle.jj_program.specs.Walked.{GivesWalk, path_lines}
+use Rattle.jj_program.specs.WalkCommand.{NamedSet, Everything, Nothing, Files, Prefix, Globs, WalkRequest, walk_request}
+
+-- the path is in the set that a line names: all are, none is, those of a list, those at or below
+-- one of a list, or those whose rest below a pattern's directory its glob stands for
+abbrev pub IsNamed : NamedSet → Path → Type 0
+IsNamed Everything path = Unit {0}
+IsNamed Nothing path = ⊥
+IsNamed (Files paths) path = Contains paths path
+IsNamed (Prefix paths) path = (base rest : Path) × Contains paths base × (path ≡ base ++ rest)
+IsNamed (Globs patterns) path = IsAccepted patterns path
+
+-- the path is in the combined set
+abbrev pub IsIn : SetTree NamedSet → Path → Type 0
+IsIn (one set) path = IsNamed set path
+IsIn (both Union first second) path = IsIn first path ⊎ IsIn second path
+IsIn (both Difference first second) path = IsIn first path × (IsIn second path → ⊥)
+IsIn (both Intersection first second) path = IsIn first path × IsIn second path
+
+-- these are the marked paths below the root that are in the set, each once, in path order
+pub record AreFound (request : WalkRequest) (found : List Path) : Type 0 where
+  pub exact : (path : Path) → Contains found path
+      ↔ (Contains request.marks path × (path ≢ []) × IsIn request.set path)
+  pub ordered : IsStrictlySortedBy path_cmp found
+
+-- the output of a walk is the lines of those files, and then those of the directories entered
+abbrev pub FindsItsFiles : Type 0
+FindsItsFiles = (text output : List ℕ) → GivesWalk text (Ok output) → (request : WalkRequest)
+    × (found entered : List Path) × (walk_request text ≡ Ok request) × AreFound request found
+    × (output ≡ path_lines (codes "file") found ++ path_lines (codes "enter") entered)

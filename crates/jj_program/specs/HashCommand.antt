@@ -1,0 +1,84 @@
+-- The command `hash`: each line names bytes, by their hex text or as the content of texts, and is
+-- answered by their digest.
+-- Cited by contracts of public items through LineFaults, Program.
+use Rattle.std.specs.Prelude.{◌≡◌, ◌==◌, ◌%◌, ℕ, ◌+◌, ◌*◌, List, [], ◌∷◌, ◌++◌, cond, codes, length, Option, None, Some, Result, Ok, Err}
+use Rattle.std.specs.Str.{bytes_eq}
+use Rattle.jj_content.specs.Blake2b.{blake2b}
+use Rattle.jj_content.specs.Content.{text_content, list_content}
+use Rattle.jj_content.specs.Hex.{hex, hex_digits, digit_value}
+use Rattle.jj_program.specs.declared.fault.Fault.{Fault}
+use Rattle.jj_program.specs.declared.fault.LineFault.{LineFault}
+use Rattle.jj_program.specs.declared.fault.LineFault.TheVariants.{UnknownCommand, BadFieldCount, BadHex}
+use Rattle.jj_program.specs.Lines.{lines_of, after_lines}
+
+-- a byte of two digits' values, before the bytes of further digits
+abbrev pub with_byte : Option ℕ → Option ℕ → Option (List ℕ) → Option (List ℕ)
+with_byte (Some high) (Some low) (Some bytes) = Some ((high * 16 + low) ∷ bytes)
+with_byte (Some high) (Some low) None = None
+with_byte (Some high) None bytes = None
+with_byte None low bytes = None
+
+-- the bytes of a hex text, two digits each in either case
+abbrev pub bytes_of_hex : List ℕ → Option (List ℕ)
+bytes_of_hex [] = Some []
+bytes_of_hex (alone ∷ []) = None
+bytes_of_hex (high ∷ low ∷ text) =
+    with_byte (digit_value hex_digits high) (digit_value hex_digits low) (bytes_of_hex text)
+
+-- the bytes, or that a text is no hex text
+abbrev pub or_bad_hex : Option (List ℕ) → Result (List ℕ) LineFault
+or_bad_hex (Some bytes) = Ok bytes
+or_bad_hex None = Err BadHex
+
+-- what one field names, where there is one alone
+abbrev pub of_one_field : (List ℕ → Result (List ℕ) LineFault) → List (List ℕ)
+    → Result (List ℕ) LineFault
+of_one_field named [] = Err BadFieldCount
+of_one_field named (field ∷ []) = named field
+of_one_field named (field ∷ other ∷ fields) = Err BadFieldCount
+
+-- the bytes of one hex text, the content of one text, and that of a merge of texts, which are odd
+-- in number
+abbrev pub raw_bytes : List (List ℕ) → Result (List ℕ) LineFault
+raw_bytes fields = of_one_field (λ text. or_bad_hex (bytes_of_hex text)) fields
+
+abbrev pub content_of_one : List (List ℕ) → Result (List ℕ) LineFault
+content_of_one fields = of_one_field (λ text. Ok (text_content text)) fields
+
+abbrev pub content_of_merge : List (List ℕ) → Result (List ℕ) LineFault
+content_of_merge fields =
+    cond (length fields % 2 == 1) (Ok (list_content text_content fields)) (Err BadFieldCount)
+
+-- the bytes that a line's fields name
+abbrev pub named_bytes : List (List ℕ) → Result (List ℕ) LineFault
+named_bytes [] = Err UnknownCommand
+named_bytes (name ∷ fields) =
+    cond (bytes_eq name (codes "raw")) (raw_bytes fields)
+    (cond (bytes_eq name (codes "text")) (content_of_one fields)
+    (cond (bytes_eq name (codes "list")) (Ok (list_content text_content fields))
+    (cond (bytes_eq name (codes "merge")) (content_of_merge fields)
+    (Err UnknownCommand))))
+
+-- the digest of these bytes, or the same fault
+abbrev pub IsDigestOf : Result (List ℕ) LineFault → Result (List ℕ) LineFault → Type 0
+IsDigestOf (Ok bytes) answer = answer ≡ Ok (blake2b bytes)
+IsDigestOf (Err kind) answer = answer ≡ Err kind
+
+-- a digest as a line: 128 hex digits
+abbrev pub digest_line : List ℕ → List ℕ
+digest_line digest = hex digest ++ 10 ∷ []
+
+-- the output with one more answer, or what is wrong with the line
+abbrev pub with_digest : List ℕ → Result (List ℕ) LineFault → Result (List ℕ) LineFault
+with_digest output (Ok bytes) = Ok (output ++ digest_line (blake2b bytes))
+with_digest output (Err kind) = Err kind
+
+abbrev pub hash_step : List ℕ → List (List ℕ) → Result (List ℕ) LineFault
+hash_step output fields = with_digest output (named_bytes fields)
+
+-- the digests of a text's lines in turn, or its first fault
+abbrev pub hash_output : List ℕ → Result (List ℕ) Fault
+hash_output text = after_lines hash_step 1 [] (lines_of text)
+
+abbrev pub GivesHash : List ℕ → Result (List ℕ) Fault → Type 0
+GivesHash text answer = hash_output text ≡ answer

@@ -1,0 +1,113 @@
+-- What a command writes for an input, and what a run leaves.
+-- Cited by contracts of public items: FailsBy, WritesOutput, command_line, command_named,
+-- is_read_failure, is_read_fault, is_write_failure, is_write_fault, streams.
+use Rattle.std.specs.Prelude.{◌≡◌, ℕ, List, [], ◌∷◌, Bool, true, false, cond, codes, Option, Some, None, Result, Ok, Err}
+use Rattle.std.specs.Bool.{MatchBool}
+use Rattle.std.specs.Str.{bytes_eq, is_utf8}
+use Rattle.std.specs.Io.KnownBytes.{Appends, Consumes, IsAtEnd, Keeps}
+use Rattle.jj_paths.specs.Streams.{AppendsFrontOf}
+use Rattle.jj_program.specs.declared.fault.Fault.{Fault}
+use Rattle.jj_program.specs.declared.fault.Fault.TheVariants.{ReadInput, NotUtf8, Memory, WriteOutput, Matchers, Line}
+use Rattle.jj_program.specs.declared.program.Command.{Command}
+use Rattle.jj_program.specs.declared.program.Command.TheVariants.{Walk, Merge, Graph, Hash}
+use Rattle.jj_program.specs.Walked.{GivesWalk}
+use Rattle.jj_program.specs.MergeCommand.{GivesMerge}
+use Rattle.jj_program.specs.GraphCommand.{GivesGraph}
+use Rattle.jj_program.specs.HashCommand.{GivesHash}
+
+-- the command of this name
+abbrev pub command_named : List ℕ → Option Command
+command_named name =
+    cond (bytes_eq name (codes "walk")) (Some Walk)
+    (cond (bytes_eq name (codes "merge")) (Some Merge)
+    (cond (bytes_eq name (codes "graph")) (Some Graph)
+    (cond (bytes_eq name (codes "hash")) (Some Hash)
+    None)))
+
+-- the command that the words of a command line name, if they are its name alone
+abbrev pub command_line : List (List ℕ) → Option Command
+command_line [] = None
+command_line (word ∷ []) = command_named word
+command_line (word ∷ other ∷ words) = None
+
+-- what a command gives for a text: its output, or the text's first fault
+abbrev pub GivesText : Command → List ℕ → Result (List ℕ) Fault → Type 0
+GivesText Walk text = GivesWalk text
+GivesText Merge text = GivesMerge text
+GivesText Graph text = GivesGraph text
+GivesText Hash text = GivesHash text
+
+-- what a command gives for an input: that of its text, if it is UTF-8
+abbrev pub Gives : Command → List ℕ → Result (List ℕ) Fault → Type 0
+Gives command input answer = MatchBool (is_utf8 input) (GivesText command input answer)
+    (answer ≡ Err NotUtf8)
+
+-- a read failed
+abbrev pub is_read_failure : Fault → Bool
+is_read_failure ReadInput = true
+is_read_failure NotUtf8 = false
+is_read_failure Memory = false
+is_read_failure WriteOutput = false
+is_read_failure (Matchers count) = false
+is_read_failure (Line line kind) = false
+
+-- a write failed
+abbrev pub is_write_failure : Fault → Bool
+is_write_failure ReadInput = false
+is_write_failure NotUtf8 = false
+is_write_failure Memory = false
+is_write_failure WriteOutput = true
+is_write_failure (Matchers count) = false
+is_write_failure (Line line kind) = false
+
+-- whether a run failed by a read
+abbrev pub is_read_fault : {A : Type 0} → Result A Fault → Bool
+is_read_fault (Err fault) = is_read_failure fault
+is_read_fault (Ok x) = false
+
+-- whether a run failed by a write
+abbrev pub is_write_fault : {A : Type 0} → Result A Fault → Bool
+is_write_fault (Err fault) = is_write_failure fault
+is_write_fault (Ok x) = false
+
+-- the bytes that a source has yet to give, and those that a sink was given, where they are known
+pub record Streams : Type 0 where
+  pub unread : Option (List ℕ)
+  pub written : Option (List ℕ)
+
+abbrev pub streams : Option (List ℕ) → Option (List ℕ) → Streams
+streams unread written = record { unread = unread; written = written }
+
+-- the source was read to its end, and the command gives this answer for its bytes
+abbrev pub Answers : Command → (before after : Streams) → Result (List ℕ) Fault → Type 0
+Answers command before after answer = (input : List ℕ)
+    × Consumes before.unread after.unread input × IsAtEnd after.unread × Gives command input answer
+
+-- the output of all the source's bytes was written
+abbrev pub WritesOutput : Command → (before after : Streams) → Type 0
+WritesOutput command before after = (output : List ℕ)
+    × Answers command before after (Ok output) × Appends before.written after.written output
+
+-- the source was read to its end, the command gives this fault, and nothing was written
+abbrev pub GivesFault : Command → (before after : Streams) → Fault → Type 0
+GivesFault command before after fault =
+    Answers command before after (Err fault) × Keeps before.written after.written
+
+-- what a run that fails leaves, by its fault: nothing was written, except where a write failed
+abbrev pub FailsBy : Command → (before after : Streams) → Fault → Type 0
+FailsBy command before after ReadInput = Keeps before.written after.written
+FailsBy command before after Memory = Keeps before.written after.written
+FailsBy command before after WriteOutput = (output : List ℕ)
+    × Answers command before after (Ok output) × AppendsFrontOf before.written after.written output
+FailsBy command before after NotUtf8 = GivesFault command before after NotUtf8
+FailsBy command before after (Matchers count) = GivesFault command before after (Matchers count)
+FailsBy command before after (Line line kind) = GivesFault command before after (Line line kind)
+
+-- the input has this fault, or memory ran out
+abbrev pub IsFaultOfInput : Command → List ℕ → Fault → Type 0
+IsFaultOfInput command input Memory = Unit {0}
+IsFaultOfInput command input ReadInput = ⊥
+IsFaultOfInput command input WriteOutput = ⊥
+IsFaultOfInput command input NotUtf8 = Gives command input (Err NotUtf8)
+IsFaultOfInput command input (Matchers count) = Gives command input (Err (Matchers count))
+IsFaultOfInput command input (Line line kind) = Gives command input (Err (Line line kind))

@@ -1,0 +1,53 @@
+-- What is seen of the sets that lines name, and of the steps that they take.
+-- Machinery of private functions and fields.
+use Rattle.std.specs.Prelude.{Bool, true, false, ◌&&◌, List, [], ◌∷◌, map, reverse}
+use Rattle.std.specs.List.{zip}
+use Rattle.jj_paths.specs.Names.{path_of}
+use Rattle.jj_program.specs.declared.file_set.FileSet.{FileSet}
+use Rattle.jj_program.specs.declared.file_set.FileSet.TheVariants.{Everything as Everything', Nothing as Nothing', Files as Files', Prefix as Prefix', Globs as Globs'}
+use Rattle.jj_program.specs.declared.file_set.SetStep.{SetStep}
+use Rattle.jj_program.specs.declared.file_set.SetStep.TheVariants.{Push, Combine}
+use Rattle.jj_program.specs.declared.file_set.parts.Part.{Part}
+use Rattle.jj_program.specs.declared.file_set.parts.Part.TheVariants.{Leaf, BeforeSecond, AfterBoth}
+use Rattle.jj_program.specs.WalkCommand.{NamedSet, Everything, Nothing, Files, Prefix, Globs}
+use Rattle.jj_program.specs.SetTrees.{SetTree, stack_of}
+
+-- the set that a value stands for
+abbrev pub set_of : FileSet → NamedSet
+set_of Everything' = Everything
+set_of Nothing' = Nothing
+set_of (Files' paths) = Files (map path_of paths.items)
+set_of (Prefix' paths) = Prefix (map path_of paths.items)
+set_of (Globs' prefix_paths dirs globs) = Globs
+    (record { prefix_paths = prefix_paths; patterns = zip (map path_of dirs.items) globs.items })
+
+abbrev pub step_of : SetStep FileSet → SetStep NamedSet
+step_of (Push set) = Push (set_of set)
+step_of (Combine combination) = Combine combination
+
+abbrev pub part_of : Part FileSet → Part NamedSet
+part_of (Leaf set) = Leaf (set_of set)
+part_of (BeforeSecond combination) = BeforeSecond combination
+part_of (AfterBoth combination) = AfterBoth combination
+
+-- the steps of a list of values, the last first
+abbrev pub steps_back : List (SetStep FileSet) → List (SetStep NamedSet)
+steps_back steps = map step_of (reverse steps)
+
+-- steps that each find the sets that they combine, the last step first
+abbrev pub has_two : {A : Type 0} → List A → Bool
+has_two [] = false
+has_two (alone ∷ []) = false
+has_two (first ∷ second ∷ others) = true
+
+abbrev pub is_whole : {A : Type 0} → List (SetStep A) → Bool
+is_whole [] = true
+is_whole (Push set ∷ earlier) = is_whole earlier
+is_whole (Combine combination ∷ earlier) = has_two (stack_of earlier) && is_whole earlier
+
+-- the sets that steps make, and whether each step finds its sets
+abbrev pub sets_by : List (SetStep FileSet) → List (SetTree NamedSet)
+sets_by steps = stack_of (steps_back steps)
+
+abbrev pub are_whole : List (SetStep FileSet) → Bool
+are_whole steps = is_whole (steps_back steps)

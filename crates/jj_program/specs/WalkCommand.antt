@@ -1,0 +1,156 @@
+-- The command `walk`: lines that mark paths, and lines that put file sets on a stack, of which one
+-- has to be left.
+-- Cited by contracts of public items through FoundFiles, LineFaults, Walked.
+use Rattle.std.specs.Prelude.{ℕ, Bool, true, false, List, [], ◌∷◌, ◌++◌, cond, codes, length, map, is_ok, Result, Ok, Err}
+use Rattle.std.specs.Str.{bytes_eq}
+use Rattle.std.specs.List.{list_all, zip}
+use Rattle.jj_paths.specs.Paths.{Path, components, is_path_text}
+use Rattle.jj_globs.specs.GlobText.{tokens_of}
+use Rattle.jj_globs.specs.GlobMeaning.{GlobSpec}
+use Rattle.jj_matchers.specs.Patterns.{Patterns}
+use Rattle.jj_program.specs.declared.file_set.Combination.{Combination}
+use Rattle.jj_program.specs.declared.file_set.Combination.TheVariants.{Union, Difference, Intersection}
+use Rattle.jj_program.specs.declared.fault.LineFault.{LineFault}
+use Rattle.jj_program.specs.declared.fault.LineFault.TheVariants.{UnknownCommand, BadFieldCount, BadPath, BadGlob, EmptyStack}
+use Rattle.jj_program.specs.declared.fault.Fault.{Fault}
+use Rattle.jj_program.specs.declared.fault.Fault.TheVariants.{Matchers}
+use Rattle.jj_program.specs.Lines.{lines_of, after_lines}
+use Rattle.jj_program.specs.FieldPairs.{is_paired, firsts, seconds}
+use Rattle.jj_program.specs.SetTrees.{SetTree, one, both}
+
+-- a set of files that a line names
+pub data NamedSet : Type 0 where
+  Everything : NamedSet
+  Nothing : NamedSet
+  Files : List Path → NamedSet
+  Prefix : List Path → NamedSet
+  Globs : Patterns → NamedSet
+
+-- what the lines so far have marked, and the sets that they left, the last first
+pub record WalkState : Type 0 where
+  pub marks : List Path
+  pub stack : List (SetTree NamedSet)
+
+-- the state before the first line
+abbrev pub walk_start : WalkState
+walk_start = record { marks = []; stack = [] }
+
+-- the state with a path marked
+abbrev pub marked : WalkState → Result Path LineFault → Result WalkState LineFault
+marked state (Ok path) = Ok (record { marks = state.marks ++ path ∷ []; stack = state.stack })
+marked state (Err kind) = Err kind
+
+-- the state with a named set on the stack
+abbrev pub pushed : WalkState → NamedSet → WalkState
+pushed state set = record { marks = state.marks; stack = one set ∷ state.stack }
+
+-- the path of a text
+abbrev pub path_at : List ℕ → Result Path LineFault
+path_at text = cond (is_path_text text) (Ok (components text)) (Err BadPath)
+
+-- the paths of these texts, where all are paths
+abbrev pub paths_of : List (List ℕ) → Result (List Path) LineFault
+paths_of texts = cond (list_all is_path_text texts) (Ok (map components texts)) (Err BadPath)
+
+-- the state with a set of the paths of these texts on the stack
+abbrev pub pushed_paths : WalkState → (List Path → NamedSet) → Result (List Path) LineFault
+    → Result WalkState LineFault
+pushed_paths state set (Ok paths) = Ok (pushed state (set paths))
+pushed_paths state set (Err kind) = Err kind
+
+-- the state with a set on the stack that takes no fields
+abbrev pub pushed_alone : WalkState → NamedSet → List (List ℕ) → Result WalkState LineFault
+pushed_alone state set [] = Ok (pushed state set)
+pushed_alone state set (field ∷ fields) = Err BadFieldCount
+
+-- the glob of a text, whose stars do not pass a `/`
+abbrev pub glob_of : List ℕ → GlobSpec
+glob_of text = record { text = text; options = record { separator = true; icase = false } }
+
+unfoldable pub is_glob_text : List ℕ → Bool
+is_glob_text text = is_ok (tokens_of text)
+
+abbrev pub glob_at : List ℕ → Result GlobSpec LineFault
+glob_at text = cond (is_glob_text text) (Ok (glob_of text)) (Err BadGlob)
+
+-- the globs of these texts, where all are globs
+abbrev pub globs_of : List (List ℕ) → Result (List GlobSpec) LineFault
+globs_of texts = cond (list_all is_glob_text texts) (Ok (map glob_of texts)) (Err BadGlob)
+
+-- the state with a set of globs in directories on the stack; a bad path comes before a bad glob
+abbrev pub pushed_globs : WalkState → Bool → Result (List Path) LineFault
+    → Result (List GlobSpec) LineFault → Result WalkState LineFault
+pushed_globs state prefix_paths (Ok dirs) (Ok globs) =
+    Ok (pushed state (Globs (record { prefix_paths = prefix_paths; patterns = zip dirs globs })))
+pushed_globs state prefix_paths (Ok dirs) (Err kind) = Err kind
+pushed_globs state prefix_paths (Err kind) globs = Err kind
+
+-- the directories and the globs of fields that are one and the other in turn
+abbrev pub paired_fields : List (List ℕ) → Result (List (List ℕ) × List (List ℕ)) LineFault
+paired_fields fields = cond (is_paired fields) (Ok (firsts fields, seconds fields))
+    (Err BadFieldCount)
+
+-- the state with the set of such fields on the stack
+abbrev pub pushed_pairs : WalkState → Bool → Result (List (List ℕ) × List (List ℕ)) LineFault
+    → Result WalkState LineFault
+pushed_pairs state prefix_paths (Ok pairs) =
+    pushed_globs state prefix_paths (paths_of pairs.0) (globs_of pairs.1)
+pushed_pairs state prefix_paths (Err kind) = Err kind
+
+abbrev pub globs_step : WalkState → Bool → List (List ℕ) → Result WalkState LineFault
+globs_step state prefix_paths fields = pushed_pairs state prefix_paths (paired_fields fields)
+
+-- the state with the two sets on top of the stack combined, of which the one that was pushed first
+-- is the first
+abbrev pub with_combined : List Path → Combination → List (SetTree NamedSet)
+    → Result WalkState LineFault
+with_combined marks combination [] = Err EmptyStack
+with_combined marks combination (alone ∷ []) = Err EmptyStack
+with_combined marks combination (second ∷ first ∷ stack) =
+    Ok (record { marks = marks; stack = both combination first second ∷ stack })
+
+-- the same, where no field is left
+abbrev pub combined_step : WalkState → Combination → List (List ℕ) → Result WalkState LineFault
+combined_step state combination [] = with_combined state.marks combination state.stack
+combined_step state combination (field ∷ fields) = Err BadFieldCount
+
+-- the state with the path of the one field marked
+abbrev pub mark_step : WalkState → List (List ℕ) → Result WalkState LineFault
+mark_step state [] = Err BadFieldCount
+mark_step state (text ∷ []) = marked state (path_at text)
+mark_step state (text ∷ other ∷ texts) = Err BadFieldCount
+
+-- what a line's fields make of the state, or what is wrong with them
+abbrev pub walk_step : WalkState → List (List ℕ) → Result WalkState LineFault
+walk_step state [] = Err UnknownCommand
+walk_step state (name ∷ fields) =
+    cond (bytes_eq name (codes "mark")) (mark_step state fields)
+    (cond (bytes_eq name (codes "everything")) (pushed_alone state Everything fields)
+    (cond (bytes_eq name (codes "nothing")) (pushed_alone state Nothing fields)
+    (cond (bytes_eq name (codes "files")) (pushed_paths state Files (paths_of fields))
+    (cond (bytes_eq name (codes "prefix")) (pushed_paths state Prefix (paths_of fields))
+    (cond (bytes_eq name (codes "globs")) (globs_step state false fields)
+    (cond (bytes_eq name (codes "prefix-globs")) (globs_step state true fields)
+    (cond (bytes_eq name (codes "union")) (combined_step state Union fields)
+    (cond (bytes_eq name (codes "difference")) (combined_step state Difference fields)
+    (cond (bytes_eq name (codes "intersection")) (combined_step state Intersection fields)
+    (Err UnknownCommand))))))))))
+
+-- what a whole text asks for: the marks, and the one set
+pub record WalkRequest : Type 0 where
+  pub marks : List Path
+  pub set : SetTree NamedSet
+
+-- the request with the one set that is left; where none or more are left, their number is the fault
+abbrev pub only_set : List Path → List (SetTree NamedSet) → Result WalkRequest Fault
+only_set marks [] = Err (Matchers 0)
+only_set marks (set ∷ []) = Ok (record { marks = marks; set = set })
+only_set marks (set ∷ other ∷ stack) = Err (Matchers (length (set ∷ other ∷ stack)))
+
+abbrev pub walk_end : Result WalkState Fault → Result WalkRequest Fault
+walk_end (Ok state) = only_set state.marks state.stack
+walk_end (Err fault) = Err fault
+
+-- what a text asks for, or its first fault
+abbrev pub walk_request : List ℕ → Result WalkRequest Fault
+walk_request text = walk_end (after_lines walk_step 1 walk_start (lines_of text))

@@ -1,0 +1,105 @@
+//! Why a run of the program fails.
+ghost use Rattle.std.specs.Prelude.{◌≡◌, ◌++◌, Some};
+ghost use Rattle.jj_program.specs.declared.fault.Fault.TheVariants.{Memory};
+ghost use Rattle.jj_program.specs.Faults.{line_fault_text, fault_text};
+
+use itoa::Buffer;
+use std::alloc::{AllocError, AllocFailed};
+use std::error::Error;
+use std::fmt;
+
+/// What is wrong with a line of the input; of several kinds the first one here is named.
+#[derive(Clone, Copy, Debug, PartialEq, Eq)]
+pub enum LineFault {
+    UnknownCommand,
+    BadFieldCount,
+    BadPath,
+    BadGlob,
+    EmptyStack,
+    BadNumber,
+    RepeatedNode,
+    BadHex,
+}
+
+/// Why a run of the program failed.
+#[derive(Clone, Copy, Debug, PartialEq, Eq)]
+pub enum Fault {
+    ReadInput,
+    NotUtf8,
+    Memory,
+    WriteOutput,
+    Matchers(usize),
+    Line { line: usize, kind: LineFault },
+}
+
+impl LineFault {
+    // what is wrong, in words
+    fn as_str(self) -> &'static str
+        ensures { result.now ≡ line_fault_text self }
+    {
+        match self {
+            LineFault::UnknownCommand => "unknown command",
+            LineFault::BadFieldCount => "bad field count",
+            LineFault::BadPath => "bad path",
+            LineFault::BadGlob => "bad glob",
+            LineFault::EmptyStack => "empty stack",
+            LineFault::BadNumber => "bad number",
+            LineFault::RepeatedNode => "repeated node",
+            LineFault::BadHex => "bad hex",
+        }
+    }
+}
+
+impl Fault {
+    // what failed, in words, as four texts that follow one another; a number stands in `digits`
+    pub(crate) fn as_texts(self, digits: &mut Buffer) -> (&str, &str, &str, &str)
+        ensures { result.0.now ++ result.1.now ++ result.2.now ++ result.3.now ≡ fault_text self }
+    {
+        match self {
+            Fault::ReadInput => ("cannot read input", "", "", ""),
+            Fault::NotUtf8 => ("input is not UTF-8", "", "", ""),
+            Fault::Memory => ("out of memory", "", "", ""),
+            Fault::WriteOutput => ("cannot write output", "", "", ""),
+            Fault::Matchers(count) => (digits.format(count), " matchers at end", "", ""),
+            Fault::Line { line, kind } => ("line ", digits.format(line), ": ", kind.as_str()),
+        }
+    }
+}
+
+impl fmt::Display for LineFault {
+    ghost output = { λ kind. Some (line_fault_text kind) };
+
+    fn fmt<W: fmt::Write>(&self, f: &mut fmt::Formatter<W>) -> fmt::Result {
+        f.write_str(self.as_str())
+    }
+}
+
+impl fmt::Display for Fault {
+    ghost output = { λ fault. Some (fault_text fault) };
+
+    fn fmt<W: fmt::Write>(&self, f: &mut fmt::Formatter<W>) -> fmt::Result {
+        let mut digits = Buffer::new();
+        let (first, second, third, fourth) = self.as_texts(&mut digits);
+        write!(f, "{first}{second}{third}{fourth}")
+    }
+}
+
+impl Error for LineFault {}
+
+impl Error for Fault {}
+
+impl From<AllocError> for Fault {
+    ghost from_gives = { λ _ fault. fault ≡ Memory };
+
+    fn from(_error: AllocError) -> Fault {
+        Fault::Memory
+    }
+}
+
+impl<T: Drop> From<AllocFailed<T>> for Fault {
+    ghost from_gives = { λ _ fault. fault ≡ Memory };
+
+    fn from(_error: AllocFailed<T>) -> Fault {
+        Fault::Memory
+    }
+}

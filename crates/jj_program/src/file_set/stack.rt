@@ -1,0 +1,70 @@
+//! The stack of the sets that lines have built.
+ghost use Rattle.std.specs.Prelude.{◌≡◌, ◌≤◌, [], ◌∷◌, true, length, MatchResult};
+ghost use Rattle.jj_program.specs.SetTrees.{one, combined_stack};
+ghost use Rattle.jj_program.specs.SetsRead.{are_whole, set_of, sets_by};
+
+use crate::file_set::{Combination, FileSet, SetStep};
+use std::alloc::{AllocError, Global};
+
+// A stack of sets, kept as the steps that made it. Its height is counted, and no set is ever
+// moved.
+#[derive(Drop)]
+pub(crate) struct SetStack<'t> {
+    steps: Vec<SetStep<FileSet<'t>>>,
+    height: usize,
+    ghost counted: { height ≡ length (sets_by steps.items) },
+    ghost whole: { are_whole steps.items ≡ true },
+}
+
+impl<'t> SetStack<'t> {
+    ghost use Rattle.jj_program.specs.SetStacks.{sets_in};
+
+    // The stack without sets.
+    pub(crate) fn new(alloc: Global) -> SetStack<'t>
+        ensures { sets_in result ≡ [] }
+    {
+        SetStack {
+            steps: Vec::new(alloc),
+            height: 0,
+        }
+    }
+
+    // How many sets there are.
+    pub(crate) fn height(&self) -> usize
+        ensures { result ≡ length (sets_in self.now) }
+    {
+        self.height
+    }
+
+    // Puts a set on the stack.
+    pub(crate) fn push(&mut self, set: FileSet<'t>) -> Result<(), AllocError>
+        ensures { MatchResult result (λ done. sets_in self.new
+            ≡ one (set_of set.entry) ∷ sets_in self.old)
+            (λ e. sets_in self.new ≡ sets_in self.old) }
+    {
+        self.steps.push(SetStep::Push(set))?;
+        self.height += 1;
+        Ok(())
+    }
+
+    // Puts in place of the two sets on top what they combine to.
+    pub(crate) fn combine(&mut self, combination: Combination) -> Result<(), AllocError>
+        requires { 2 ≤ length (sets_in self.old) }
+        ensures { MatchResult result
+            (λ done. sets_in self.new ≡ combined_stack combination (sets_in self.old))
+            (λ e. sets_in self.new ≡ sets_in self.old) }
+    {
+        self.steps.push(SetStep::Combine(combination))?;
+        self.height -= 1;
+        Ok(())
+    }
+
+    // The steps that made the stack.
+    pub(crate) fn into_steps(self) -> Vec<SetStep<FileSet<'t>>>
+        ensures sets { sets_by result.items ≡ sets_in self.entry }
+        ensures whole { are_whole result.items ≡ true }
+    {
+        let SetStack { steps, height: _ } = self;
+        steps
+    }
+}

@@ -1,0 +1,316 @@
+//! The command `graph`: lines list the neighbours of nodes, or ask for the order, the heads or the
+//! closest common nodes of some.
+ghost use Rattle.std.specs.Prelude.{◌≡◌, ◌==◌, ◌<◌, ◌++◌, ℕ, All, List, length, map, true, false, Ok, MatchOption, MatchResult, IfOk, IfErr, OnOk, string_bytes};
+ghost use Rattle.std.specs.List.{Contains, after_first, before_first, count_by, position_or_len};
+ghost use Rattle.std.specs.Str.Parse.{digits_value};
+ghost use Rattle.jj_program.specs.Lines.{at_line, IsFaultOf};
+ghost use Rattle.jj_program.specs.ListedGraphs.{named_by, shown_by};
+ghost use Rattle.jj_program.specs.GraphCommand.{GraphState, Order, Heads, HasCycle, AnswersRequest, GivesGraph, graph_state, ids_of, graph_step, common_step, is_dash, node_step, number_at, numbers_of, numbers_line, with_request};
+ghost use Rattle.jj_program.specs.GraphRead.{graph_request_of, graph_state_of};
+
+use crate::fault::{Fault, LineFault};
+use crate::graph_walks::{ascending_common, ascending_heads, greatest_order, has_cycle};
+use crate::listed_graph::ListedGraph;
+use crate::number::parse_number;
+use crate::reading::{Reading, take_lines};
+use std::alloc::{AllocError, Global};
+use std::collections::BTreeMap;
+
+// What a line asks.
+#[derive(Drop)]
+pub(crate) enum GraphRequest {
+    Order(Vec<u64>),
+    Heads(Vec<u64>),
+    Common(Vec<u64>, Vec<u64>),
+}
+
+// The neighbours of each node that has a line so far, and what the lines ask.
+#[derive(Drop)]
+pub(crate) struct GraphReading {
+    neighbors: BTreeMap<u64, Vec<u64>>,
+    requests: Vec<GraphRequest>,
+}
+
+// The number that a field of a line is.
+fn number_field(line: usize, text: &str) -> Result<u64, Fault>
+    ensures { MatchResult result
+        (λ id. at_line line (number_at text.now) ≡ Ok id)
+        (λ fault. IsFaultOf fault (at_line line (number_at text.now))) }
+{
+    match parse_number(text) {
+        Some(id) => Ok(id),
+        None => Err(Fault::Line {
+            line,
+            kind: LineFault::BadNumber,
+        }),
+    }
+}
+
+// The numbers of the fields of a line.
+fn numbers(alloc: Global, line: usize, fields: &[&str]) -> Result<Vec<u64>, Fault>
+    ensures { MatchResult result
+        (λ ids. at_line line (numbers_of (map (λ field. field.now) fields.now)) ≡ Ok ids.items)
+        (λ fault. IsFaultOf fault (at_line line
+        (numbers_of (map (λ field. field.now) fields.now)))) }
+{
+    let mut ids = Vec::new(alloc);
+    for field in fields {
+        let id = number_field(line, field)?;
+        ids.push(id)?;
+    }
+    Ok(ids)
+}
+
+// Whether a field parts two sets.
+fn is_dash(field: &str) -> bool
+    ensures { result ≡ is_dash field.now }
+{
+    field == "-"
+}
+
+fn dash_count(fields: &[&str]) -> usize
+    ensures { result ≡ count_by is_dash (map (λ field. field.now) fields.now) }
+{
+    let mut dashes = 0;
+    for field in fields {
+        if is_dash(field) {
+            dashes += 1;
+        }
+    }
+    dashes
+}
+
+// The place of the first field `-`, or the number of fields.
+fn dash_place(fields: &[&str]) -> usize
+    ensures place { result ≡ position_or_len is_dash (map (λ field. field.now) fields.now) }
+    ensures within { count_by is_dash (map (λ field. field.now) fields.now) ≡ 1
+        → result < length fields.now }
+{
+    let mut place = 0;
+    for field in fields {
+        if is_dash(field) {
+            return place;
+        }
+        place += 1;
+    }
+    place
+}
+
+// The fields before the field `-`, and those after it, where there is one.
+fn split_sets<'a, 't>(fields: &'a [&'t str]) -> Option<(&'a [&'t str], &'a [&'t str])>
+    ensures { MatchOption result ((count_by is_dash (map (λ field. field.now) fields.now) == 1)
+        ≡ false)
+        (λ sets. ((count_by is_dash (map (λ field. field.now) fields.now) == 1) ≡ true)
+        × (map (λ field. field.now) sets.0.now
+        ≡ before_first is_dash (map (λ field. field.now) fields.now))
+        × (map (λ field. field.now) sets.1.now
+        ≡ after_first is_dash (map (λ field. field.now) fields.now))) }
+{
+    if dash_count(fields) != 1 {
+        return None;
+    }
+    let place = dash_place(fields);
+    Some((&fields[..place], &fields[place + 1..]))
+}
+
+impl GraphReading {
+    // Lists the neighbours of the node of the first field.
+    fn list(&mut self, alloc: Global, line: usize, fields: &[&str]) -> Result<(), Fault>
+        ensures { MatchResult result
+            (λ _. at_line line (node_step (graph_state_of self.old)
+            (map (λ field. field.now) fields.now)) ≡ Ok (graph_state_of self.new))
+            (λ fault. IsFaultOf fault (at_line line
+            (node_step (graph_state_of self.old) (map (λ field. field.now) fields.now)))) }
+    {
+        let [id, neighbors @ ..] = fields else {
+            return Err(Fault::Line {
+                line,
+                kind: LineFault::BadFieldCount,
+            });
+        };
+        let id = number_field(line, id)?;
+        let neighbors = numbers(alloc, line, neighbors)?;
+        if self.neighbors.contains_key(&id) {
+            return Err(Fault::Line {
+                line,
+                kind: LineFault::RepeatedNode,
+            });
+        }
+        self.neighbors.insert(id, neighbors)?;
+        Ok(())
+    }
+
+    // Takes a request for the order of the ids of the fields.
+    fn ask_order(&mut self, alloc: Global, line: usize, fields: &[&str]) -> Result<(), Fault>
+        ensures { MatchResult result
+            (λ _. at_line line (with_request (graph_state_of self.old) Order
+            (numbers_of (map (λ field. field.now) fields.now))) ≡ Ok (graph_state_of self.new))
+            (λ fault. IsFaultOf fault (at_line line
+            (with_request (graph_state_of self.old) Order
+            (numbers_of (map (λ field. field.now) fields.now))))) }
+    {
+        let ids = numbers(alloc, line, fields)?;
+        self.requests.push(GraphRequest::Order(ids))?;
+        Ok(())
+    }
+
+    // Takes a request for the heads of the ids of the fields.
+    fn ask_heads(&mut self, alloc: Global, line: usize, fields: &[&str]) -> Result<(), Fault>
+        ensures { MatchResult result
+            (λ _. at_line line (with_request (graph_state_of self.old) Heads
+            (numbers_of (map (λ field. field.now) fields.now))) ≡ Ok (graph_state_of self.new))
+            (λ fault. IsFaultOf fault (at_line line
+            (with_request (graph_state_of self.old) Heads
+            (numbers_of (map (λ field. field.now) fields.now))))) }
+    {
+        let ids = numbers(alloc, line, fields)?;
+        self.requests.push(GraphRequest::Heads(ids))?;
+        Ok(())
+    }
+}
+
+impl GraphReading {
+    // Takes a request for the closest common nodes of the ids before the field `-` and those after
+    // it.
+    fn ask_common(&mut self, alloc: Global, line: usize, fields: &[&str]) -> Result<(), Fault>
+        ensures { MatchResult result
+            (λ _. at_line line (common_step (graph_state_of self.old)
+            (map (λ field. field.now) fields.now)) ≡ Ok (graph_state_of self.new))
+            (λ fault. IsFaultOf fault (at_line line
+            (common_step (graph_state_of self.old) (map (λ field. field.now) fields.now)))) }
+    {
+        let Some((first, second)) = split_sets(fields) else {
+            return Err(Fault::Line {
+                line,
+                kind: LineFault::BadFieldCount,
+            });
+        };
+        let set1 = numbers(alloc, line, first)?;
+        let set2 = numbers(alloc, line, second)?;
+        self.requests.push(GraphRequest::Common(set1, set2))?;
+        Ok(())
+    }
+}
+
+impl<'t> Reading<'t> for GraphReading {
+    ghost State = { GraphState };
+
+    ghost state = { graph_state_of };
+
+    ghost step = { graph_step };
+
+    fn take(&mut self, alloc: Global, line: usize, fields: &[&'t str]) -> Result<(), Fault> {
+        let [name, rest @ ..] = fields else {
+            return Err(Fault::Line {
+                line,
+                kind: LineFault::UnknownCommand,
+            });
+        };
+        match *name {
+            "node" => self.list(alloc, line, rest),
+            "order" => self.ask_order(alloc, line, rest),
+            "heads" => self.ask_heads(alloc, line, rest),
+            "common" => self.ask_common(alloc, line, rest),
+            _ => Err(Fault::Line {
+                line,
+                kind: LineFault::UnknownCommand,
+            }),
+        }
+    }
+}
+
+// What the command `graph` writes for a text.
+pub(crate) fn graph_output(alloc: Global, text: &str) -> Result<Vec<u8>, Fault>
+    ensures done { IfOk result (λ output. GivesGraph text.now (Ok output.items)) }
+    ensures fault { IfErr result (λ fault. IsFaultOf fault (graph_state text.now)) }
+{
+    let mut reading = GraphReading {
+        neighbors: BTreeMap::new(alloc),
+        requests: Vec::new(alloc),
+    };
+    take_lines(alloc, &mut reading, text)?;
+    let GraphReading {
+        neighbors,
+        requests,
+    } = reading;
+    let graph = ListedGraph::new(neighbors, asked_ids(alloc, &requests)?)?;
+    let cyclic = has_cycle(alloc, &graph)?;
+    let mut output = String::new(alloc);
+    for request in &requests {
+        if cyclic {
+            output.push_str("cycle\n")?;
+        } else {
+            push_answer(alloc, &mut output, &graph, request)?;
+        }
+    }
+    Ok(output.into_bytes())
+}
+
+// The ids that requests name.
+fn asked_ids(alloc: Global, requests: &[GraphRequest]) -> Result<Vec<u64>, AllocError>
+    ensures { IfOk result (λ ids. All
+        (λ request. All (Contains ids.items) (ids_of (graph_request_of request))) requests.now) }
+{
+    let mut ids = Vec::new(alloc);
+    for request in requests {
+        push_asked(&mut ids, request)?;
+    }
+    Ok(ids)
+}
+
+// Adds the ids that a request names.
+fn push_asked(ids: &mut Vec<u64>, request: &GraphRequest) -> Result<(), AllocError>
+    ensures { OnOk result (ids.new.items
+        ≡ ids.old.items ++ ids_of (graph_request_of request.now)) }
+{
+    match request {
+        GraphRequest::Order(asked) => ids.extend_from_slice(asked.as_slice()),
+        GraphRequest::Heads(asked) => ids.extend_from_slice(asked.as_slice()),
+        GraphRequest::Common(set1, set2) => {
+            ids.extend_from_slice(set1.as_slice())?;
+            ids.extend_from_slice(set2.as_slice())
+        }
+    }
+}
+
+// Adds the answer to a request to the output, where the graph has no cycle.
+fn push_answer(
+    alloc: Global,
+    output: &mut String,
+    graph: &ListedGraph,
+    request: &GraphRequest,
+) -> Result<(), AllocError>
+    requires acyclic { ¬ (HasCycle (shown_by graph.now)) }
+    requires named { All (Contains (named_by graph.now)) (ids_of (graph_request_of request.now)) }
+    ensures { OnOk result ((answer : List ℕ)
+        × AnswersRequest (shown_by graph.now) (graph_request_of request.now) answer
+        × (string_bytes output.new ≡ string_bytes output.old ++ answer)) }
+{
+    match request {
+        GraphRequest::Order(ids) => {
+            let order = greatest_order(alloc, graph, ids)?;
+            push_numbers(output, "order", &order)
+        }
+        GraphRequest::Heads(ids) => {
+            let heads = ascending_heads(alloc, graph, ids)?;
+            push_numbers(output, "heads", &heads)
+        }
+        GraphRequest::Common(set1, set2) => {
+            let common = ascending_common(alloc, graph, set1, set2)?;
+            push_numbers(output, "common", &common)
+        }
+    }
+}
+
+// Adds a line to the output: its first field, and each number after a TAB.
+fn push_numbers(output: &mut String, name: &str, numbers: &[u64]) -> Result<(), AllocError>
+    ensures { OnOk result (string_bytes output.new ≡ string_bytes output.old
+        ++ numbers_line name.now numbers.now) }
+{
+    output.push_str(name)?;
+    for number in numbers {
+        write!(output, "\t{number}")?;
+    }
+    output.push('\n')?;
+    Ok(())
+}

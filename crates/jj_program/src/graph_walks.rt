@@ -1,0 +1,163 @@
+//! Answers about graphs, by the walks over them.
+ghost use Rattle.std.specs.Prelude.{◌≡◌, All, IfOk, IsOkAnd, MatchBool};
+ghost use Rattle.std.specs.List.{Contains};
+ghost use Rattle.std.specs.Iterator.{YieldsFirst, item_count};
+ghost use Rattle.std.specs.Iterator.Adapters.{copied_source};
+ghost use Rattle.std.specs.List.Sorted.{IsStrictlyIncreasing};
+ghost use Rattle.std.specs.Slice.Iter.{iter_rest};
+ghost use Rattle.jj_walks.specs.CommonNodes.{AreClosestCommon};
+ghost use Rattle.jj_walks.specs.Graph.{IsGreatestChildFirst, IsMaximalIn};
+ghost use Rattle.jj_program.specs.ListedGraphs.{named_by, shown_by};
+ghost use Rattle.jj_program.specs.GraphCommand.{HasCycle};
+
+use crate::listed_graph::ListedGraph;
+use jj_walks::dag_walk::{WalkError, heads, topo_order_forward};
+use jj_walks::dag_walk_async::{closest_common_nodes, topo_order_reverse_ord};
+use std::alloc::{AllocError, Global};
+use std::iter::Copied;
+use std::slice;
+
+// The neighbours of a node as a list that may fail in the eyes of a walk. It never does.
+fn sound_neighbors_of(graph: &ListedGraph, id: u64) -> Result<Copied<slice::Iter<'_, u64>>, u64>
+    ensures { IsOkAnd result (λ list. iter_rest (copied_source list)
+        ≡ shown_by graph.now id) }
+{
+    Ok(graph.neighbors_of(id).iter().copied())
+}
+
+// Ids as items that may fail in the eyes of a walk. None does.
+#[derive(Drop)]
+struct SoundIds<'a> {
+    ids: &'a [u64],
+}
+
+impl<'a> Iterator for SoundIds<'a> {
+    type Item = Result<u64, u64>;
+
+    ghost use Rattle.jj_program.specs.SoundIds.{sound_left};
+
+    ghost next_gives = { YieldsFirst sound_left };
+
+    ghost remaining = { item_count sound_left };
+
+    fn next(&mut self) -> Option<Result<u64, u64>> {
+        let (id, others) = self.ids.split_first()?;
+        self.ids = others;
+        Some(Ok(*id))
+    }
+}
+
+// The neighbours of a node, as such items.
+fn sound_items_of(graph: &ListedGraph, id: u64) -> SoundIds<'_>
+    ensures { result.ids.now ≡ shown_by graph.now id }
+{
+    SoundIds {
+        ids: graph.neighbors_of(id),
+    }
+}
+
+// Whether the graph has a cycle anywhere.
+pub(crate) fn has_cycle(alloc: Global, graph: &ListedGraph) -> Result<bool, AllocError>
+    ensures { IfOk result (λ cyclic. MatchBool cyclic (HasCycle (shown_by graph.now))
+        (¬ (HasCycle (shown_by graph.now)))) }
+{
+    let order = topo_order_forward(
+        alloc,
+        graph.ids().iter().copied(),
+        |id: &u64| graph.number(*id),
+        |id: &u64| graph.neighbors_of(*id).iter().copied(),
+        |id: u64| id,
+    );
+    match order {
+        Ok(_order) => Ok(false),
+        Err(error) => match error {
+            WalkError::Node(_) => Ok(true),
+            WalkError::Memory => Err(AllocError),
+        },
+    }
+}
+
+// The greatest child-first order of what these ids reach.
+pub(crate) fn greatest_order(
+    alloc: Global,
+    graph: &ListedGraph,
+    ids: &[u64],
+) -> Result<Vec<u64>, AllocError>
+    requires acyclic { ¬ (HasCycle (shown_by graph.now)) }
+    requires named { All (Contains (named_by graph.now)) ids.now }
+    ensures { IfOk result (λ order. IsGreatestChildFirst
+        (shown_by graph.now) ids.now order.items) }
+{
+    let order = topo_order_reverse_ord(
+        alloc,
+        SoundIds { ids },
+        |id: &u64| graph.number(*id),
+        |id: &u64| sound_items_of(graph, *id),
+        |id: u64| id,
+    );
+    match order {
+        Ok(order) => Ok(order),
+        Err(error) => match error {
+            WalkError::Memory => Err(AllocError),
+            // Only a cycle would be refused.
+            WalkError::Node(_) => unreachable!(),
+        },
+    }
+}
+
+// The ids that no other of them reaches, in ascending order.
+pub(crate) fn ascending_heads(
+    alloc: Global,
+    graph: &ListedGraph,
+    ids: &[u64],
+) -> Result<Vec<u64>, AllocError>
+    requires acyclic { ¬ (HasCycle (shown_by graph.now)) }
+    requires named { All (Contains (named_by graph.now)) ids.now }
+    ensures maximal { IfOk result (λ heads.
+        IsMaximalIn (shown_by graph.now) ids.now heads.items) }
+    ensures ascending { IfOk result (λ heads. IsStrictlyIncreasing heads.items) }
+{
+    let found = heads(
+        alloc,
+        ids.iter().copied(),
+        |id: &u64| graph.number(*id),
+        |id: &u64| graph.neighbors_of(*id).iter().copied(),
+    )?;
+    let mut ascending: Vec<u64> = found.iter().copied().collect(alloc)?;
+    ascending.sort_unstable();
+    Ok(ascending)
+}
+
+// The closest common nodes of two sets of ids, in ascending order.
+pub(crate) fn ascending_common(
+    alloc: Global,
+    graph: &ListedGraph,
+    set1: &[u64],
+    set2: &[u64],
+) -> Result<Vec<u64>, AllocError>
+    requires acyclic { ¬ (HasCycle (shown_by graph.now)) }
+    requires named { All (Contains (named_by graph.now)) set1.now }
+    requires named_second { All (Contains (named_by graph.now)) set2.now }
+    ensures closest { IfOk result (λ common.
+        AreClosestCommon (shown_by graph.now) set1.now set2.now common.items) }
+    ensures ascending { IfOk result (λ common. IsStrictlyIncreasing common.items) }
+{
+    let found = closest_common_nodes(
+        alloc,
+        set1.iter().copied(),
+        set2.iter().copied(),
+        |id: &u64| graph.number(*id),
+        |id: &u64| sound_neighbors_of(graph, *id),
+    );
+    match found {
+        Ok(mut common) => {
+            common.sort_unstable();
+            Ok(common)
+        }
+        Err(error) => match error {
+            WalkError::Memory => Err(AllocError),
+            // No list of neighbours fails.
+            WalkError::Node(_) => unreachable!(),
+        },
+    }
+}

@@ -1,0 +1,19 @@
+//! The engine of the program `jj-core`: what it writes for an input, or the first fault.
+#![tactic(auto)]
+
+mod fault;
+mod file_set;
+mod graph_command;
+mod graph_walks;
+mod hash_command;
+pub mod laws;
+mod listed_graph;
+mod merge_command;
+mod merge_outcome;
+mod number;
+mod numbering;
+mod output_lines;
+pub mod program;
+mod reading;
+mod report;
+mod walk_command;

@@ -1,0 +1,129 @@
+//! The command `merge`: each line asks what is left of a merge of texts, or for its outcome.
+ghost use Rattle.std.specs.Prelude.{◌≡◌, ◌++◌, map, ℕ, List, Ok, IfOk, IfErr, OnOk, length};
+ghost use Rattle.jj_merges.specs.Odd.{IsOdd};
+ghost use Rattle.jj_program.specs.Lines.{IsFaultOf};
+ghost use Rattle.jj_program.specs.MergeCommand.{MergeRequest, question_named, merge_step, merge_requests, IsMergeAnswer, GivesMerge};
+ghost use Rattle.jj_program.specs.MergeRead.{merge_request_of, merge_requests_of};
+
+use crate::fault::{Fault, LineFault};
+use crate::merge_outcome::outcome;
+use crate::output_lines::push_line;
+use crate::reading::{Reading, take_lines};
+use jj_merges::merge::{Merge, MergeBuilder, SameChange};
+use std::alloc::{AllocError, Global};
+
+// What a line asks of a merge.
+#[derive(Clone, Copy)]
+pub(crate) enum Question {
+    Simplify,
+    Resolve(SameChange),
+}
+
+impl Question {
+    // What a line of this name asks.
+    fn from_name(name: &str) -> Option<Question>
+        ensures { result ≡ question_named name.now }
+    {
+        match name {
+            "simplify" => Some(Question::Simplify),
+            "keep" => Some(Question::Resolve(SameChange::Keep)),
+            "accept" => Some(Question::Resolve(SameChange::Accept)),
+            _ => None,
+        }
+    }
+}
+
+// A line's question, and the merge of its terms.
+#[derive(Drop)]
+pub(crate) struct MergeRequest<'t> {
+    question: Question,
+    terms: Merge<&'t str>,
+}
+
+// The requests of the lines so far.
+#[derive(Drop)]
+pub(crate) struct MergeReading<'t> {
+    requests: Vec<MergeRequest<'t>>,
+}
+
+// The merge of these terms.
+pub(crate) fn merge_of<'t>(alloc: Global, terms: &[&'t str]) -> Result<Merge<&'t str>, AllocError>
+    requires { IsOdd (length terms.now) }
+    ensures { IfOk result (λ merge. merge ≡ terms.now) }
+{
+    let mut builder = MergeBuilder::default(alloc);
+    builder.extend(alloc, terms.iter().copied())?;
+    Ok(builder.build())
+}
+
+impl<'t> Reading<'t> for MergeReading<'t> {
+    ghost State = { List MergeRequest };
+
+    ghost state = { merge_requests_of };
+
+    ghost step = { merge_step };
+
+    fn take(&mut self, alloc: Global, line: usize, fields: &[&'t str]) -> Result<(), Fault> {
+        let [name, terms @ ..] = fields else {
+            return Err(Fault::Line {
+                line,
+                kind: LineFault::UnknownCommand,
+            });
+        };
+        let Some(question) = Question::from_name(name) else {
+            return Err(Fault::Line {
+                line,
+                kind: LineFault::UnknownCommand,
+            });
+        };
+        if terms.len() % 2 != 1 {
+            return Err(Fault::Line {
+                line,
+                kind: LineFault::BadFieldCount,
+            });
+        }
+        let terms = merge_of(alloc, terms)?;
+        self.requests.push(MergeRequest { question, terms })?;
+        Ok(())
+    }
+}
+
+// What the command `merge` writes for a text.
+pub(crate) fn merge_output(alloc: Global, text: &str) -> Result<Vec<u8>, Fault>
+    ensures done { IfOk result (λ output. GivesMerge text.now (Ok output.items)) }
+    ensures fault { IfErr result (λ fault. IsFaultOf fault (merge_requests text.now)) }
+{
+    let mut reading = MergeReading {
+        requests: Vec::new(alloc),
+    };
+    take_lines(alloc, &mut reading, text)?;
+    let mut output = Vec::new(alloc);
+    for request in &reading.requests {
+        push_answer(alloc, &mut output, request)?;
+    }
+    Ok(output)
+}
+
+// Adds the answer to a request to the output.
+fn push_answer(
+    alloc: Global,
+    output: &mut Vec<u8>,
+    request: &MergeRequest<'_>,
+) -> Result<(), AllocError>
+    ensures { OnOk result ((answer : List ℕ) × IsMergeAnswer (merge_request_of request.now) answer
+        × (output.new.items ≡ output.old.items ++ answer)) }
+{
+    match request.question {
+        Question::Simplify => {
+            let left = request.terms.simplify(alloc)?;
+            push_line(output, "terms", left.as_slice())
+        }
+        Question::Resolve(same_change) => {
+            let found = outcome(alloc, &request.terms, same_change)?;
+            match found {
+                Some(term) => push_line(output, "resolved", &[term]),
+                None => push_line(output, "conflict", &[]),
+            }
+        }
+    }
+}

@@ -1,0 +1,168 @@
+//! The program: it reads a command's input to the end, and writes the output of all of it.
+ghost use Rattle.std.specs.Prelude.{◌≡◌, ◌≢◌, ◌<◌, length, map, false, Ok, IfOk, IfErr, OnOk, IsSome, IfSome, None, string_bytes};
+ghost use Rattle.std.specs.Io.KnownBytes.{Consumes, IsAtEnd, Keeps};
+ghost use Rattle.jj_program.specs.Lines.{IsFaultOf};
+ghost use Rattle.jj_program.specs.Program.{command_named, command_line, Gives, is_read_failure, is_write_failure, is_read_fault, is_write_fault, streams, WritesOutput, FailsBy, IsFaultOfInput};
+ghost use Rattle.jj_program.specs.Reports.{usage_text, report_text, Says};
+ghost use Rattle.jj_program.specs.declared.fault.Fault.{Fault};
+
+pub use crate::fault::{Fault, LineFault};
+use crate::graph_command::graph_output;
+use crate::hash_command::hash_lines;
+use crate::merge_command::merge_output;
+use crate::report::{report_fault, report_usage};
+use crate::walk_command::walk_output;
+use jj_paths::file_util::{Sink, Source, write_all};
+use std::alloc::Global;
+
+/// What the program can be asked for.
+#[derive(Clone, Copy, Debug, PartialEq, Eq)]
+pub enum Command {
+    Walk,
+    Merge,
+    Graph,
+    Hash,
+}
+
+impl Command {
+    ghost use Rattle.jj_program.specs.Program.{command_named};
+
+    /// The command of this name.
+    pub fn from_name(name: &str) -> Option<Command>
+        ensures { result ≡ command_named name.now }
+    {
+        match name {
+            "walk" => Some(Command::Walk),
+            "merge" => Some(Command::Merge),
+            "graph" => Some(Command::Graph),
+            "hash" => Some(Command::Hash),
+            _ => None,
+        }
+    }
+}
+
+// The bytes that are taken from the reader at a time.
+const READ_BUFFER: usize = 65536;
+
+// Reads a source to its end.
+fn read_input<R: Source>(alloc: Global, reader: &mut R) -> Result<Vec<u8>, Fault>
+    requires { R.has_failed reader.old ≡ false }
+    ensures all { IfOk result (λ input. Consumes (R.remaining reader.old)
+        (R.remaining reader.new) input.items) }
+    ensures end { OnOk result (IsAtEnd (R.remaining reader.new)) }
+    ensures failure { R.has_failed reader.new ≡ is_read_fault result }
+    ensures others { is_write_fault result ≡ false }
+    ensures faults { IfErr result (λ fault. fault ≢ Fault.ReadInput → fault ≡ Fault.Memory) }
+{
+    let mut input = Vec::new(alloc);
+    let mut buf = [0u8; READ_BUFFER];
+    loop {
+        let Ok(n) = reader.read(&mut buf) else {
+            return Err(Fault::ReadInput);
+        };
+        if n == 0 {
+            return Ok(input);
+        }
+        if input.extend_from_slice(&buf[..n]).is_err() {
+            return Err(Fault::Memory);
+        }
+    }
+}
+
+// What a command writes for an input.
+fn output(alloc: Global, command: Command, input: &[u8]) -> Result<Vec<u8>, Fault>
+    ensures done { IfOk result (λ output. Gives command input.now (Ok output.items)) }
+    ensures fault { IfErr result (λ fault. IsFaultOfInput command input.now fault) }
+{
+    let Ok(text) = str::from_utf8(input) else {
+        return Err(Fault::NotUtf8);
+    };
+    match command {
+        Command::Walk => walk_output(alloc, text),
+        Command::Merge => merge_output(alloc, text),
+        Command::Graph => graph_output(alloc, text),
+        Command::Hash => hash_lines(alloc, text),
+    }
+}
+
+/// Reads a source to its end, and writes what the command gives for its bytes. For faulty input
+/// nothing is written.
+pub fn run<R: Source, W: Sink>(
+    alloc: Global,
+    command: Command,
+    reader: &mut R,
+    writer: &mut W,
+) -> Result<(), Fault>
+    requires reader_works { R.has_failed reader.old ≡ false }
+    requires writer_works { W.has_failed writer.old ≡ false }
+    ensures done { OnOk result (WritesOutput command
+        (streams (R.remaining reader.old) (W.contents writer.old))
+        (streams (R.remaining reader.new) (W.contents writer.new))) }
+    ensures fails { IfErr result (FailsBy command
+        (streams (R.remaining reader.old) (W.contents writer.old))
+        (streams (R.remaining reader.new) (W.contents writer.new))) }
+    ensures read_failure { R.has_failed reader.new ≡ is_read_fault result }
+    ensures write_failure { W.has_failed writer.new ≡ is_write_fault result }
+{
+    let input = read_input(alloc, reader)?;
+    let output = output(alloc, command, &input)?;
+    if write_all(writer, &output).is_err() {
+        return Err(Fault::WriteOutput);
+    }
+    Ok(())
+}
+
+// The command that these words name, if they are its name alone.
+fn command_of(words: &[String]) -> Option<Command>
+    ensures { result ≡ command_line (map string_bytes words.now) }
+{
+    match words {
+        [word] => Command::from_name(word.as_str()),
+        _ => None,
+    }
+}
+
+/// Runs the program on the words after its name, and answers its exit status: 0 where the output
+/// was written, 1 after a fault, which is said in a line to `errors`, and 2, with a line on the
+/// usage, where the words name no command. Saying a fault takes no memory.
+pub fn start<R: Source, W: Sink, E: Sink>(
+    alloc: Global,
+    words: &[String],
+    reader: &mut R,
+    writer: &mut W,
+    errors: &mut E,
+) -> u8
+    requires reader_works { R.has_failed reader.old ≡ false }
+    requires writer_works { W.has_failed writer.old ≡ false }
+    requires errors_work { E.has_failed errors.old ≡ false }
+    ensures usage { command_line (map string_bytes words.now) ≡ None → (result ≡ 2)
+        × (R.remaining reader.new ≡ R.remaining reader.old)
+        × (W.contents writer.new ≡ W.contents writer.old)
+        × Says (E.contents errors.old) (E.contents errors.new) (E.has_failed errors.new)
+        usage_text }
+    ensures status { IsSome (command_line (map string_bytes words.now)) → result < 2 }
+    ensures success { IfSome (command_line (map string_bytes words.now)) (λ command. result ≡ 0 →
+        WritesOutput command (streams (R.remaining reader.old) (W.contents writer.old))
+        (streams (R.remaining reader.new) (W.contents writer.new))
+        × (R.has_failed reader.new ≡ false) × (W.has_failed writer.new ≡ false)
+        × (E.contents errors.new ≡ E.contents errors.old)) }
+    ensures failure { IfSome (command_line (map string_bytes words.now)) (λ command. result ≡ 1 →
+        (fault : Fault) × FailsBy command (streams (R.remaining reader.old) (W.contents writer.old))
+        (streams (R.remaining reader.new) (W.contents writer.new)) fault
+        × (R.has_failed reader.new ≡ is_read_failure fault)
+        × (W.has_failed writer.new ≡ is_write_failure fault)
+        × Says (E.contents errors.old) (E.contents errors.new) (E.has_failed errors.new)
+        (report_text fault)) }
+{
+    let Some(command) = command_of(words) else {
+        report_usage(errors);
+        return 2;
+    };
+    match run(alloc, command, reader, writer) {
+        Ok(()) => 0,
+        Err(fault) => {
+            report_fault(errors, fault);
+            1
+        }
+    }
+}

@@ -1,0 +1,43 @@
+//! What the program says on standard error, for which it takes no memory.
+ghost use Rattle.std.specs.Prelude.{◌≡◌, ℕ, List, ◌++◌, flat_map, false};
+ghost use Rattle.jj_program.specs.Reports.{usage_text, report_text, Says};
+
+use crate::fault::Fault;
+use itoa::Buffer;
+use jj_paths::file_util::{Sink, write_all};
+
+// what the program says of a command line that it cannot read
+const USAGE: &str = "usage: jj-core walk|merge|graph|hash\n";
+
+// Says a line of these texts. A fault of the sink changes nothing but that it ends there.
+fn say<E: Sink>(errors: &mut E, texts: &[&str])
+    requires { E.has_failed errors.old ≡ false }
+    ensures { Says (E.contents errors.old) (E.contents errors.new) (E.has_failed errors.new)
+        (flat_map (λ text. text.now) texts.now) }
+{
+    for place in 0..texts.len() {
+        if write_all(errors, texts[place].as_bytes()).is_err() {
+            return;
+        }
+    }
+}
+
+// Says how the program is called.
+pub(crate) fn report_usage<E: Sink>(errors: &mut E)
+    requires { E.has_failed errors.old ≡ false }
+    ensures { Says (E.contents errors.old) (E.contents errors.new) (E.has_failed errors.new)
+        usage_text }
+{
+    say(errors, &[USAGE]);
+}
+
+// Says what a run failed by.
+pub(crate) fn report_fault<E: Sink>(errors: &mut E, fault: Fault)
+    requires { E.has_failed errors.old ≡ false }
+    ensures { Says (E.contents errors.old) (E.contents errors.new) (E.has_failed errors.new)
+        (report_text fault) }
+{
+    let mut digits = Buffer::new();
+    let (first, second, third, fourth) = fault.as_texts(&mut digits);
+    say(errors, &["jj-core: ", first, second, third, fourth, "\n"]);
+}

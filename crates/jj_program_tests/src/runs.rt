@@ -1,0 +1,119 @@
+//! Runs of the program over memory, whose reads and writes are cut short, or fail in turn.
+use crate::ends::{Cut, Kept};
+use jj_paths::file_util::Watched;
+use jj_program::program::{Command, Fault, LineFault, run};
+use std::alloc::Global;
+use std::process::Abort;
+
+/// What a run answers and writes where reads and writes are cut to `most` bytes, and fail after so
+/// many.
+pub fn outcome(
+    alloc: Global,
+    command: Command,
+    input: &[u8],
+    most: usize,
+    reads: u32,
+    writes: u32,
+) -> (Result<(), Fault>, Kept) {
+    let mut reader = Watched::new(Cut {
+        rest: input,
+        most,
+        left: reads,
+    });
+    let mut kept = Kept::new(most, writes);
+    let mut writer = Watched::new(&mut kept);
+    let result = run(alloc, command, &mut reader, &mut writer);
+    (result, kept)
+}
+
+/// The input writes this output, however its reads and writes are cut; memory may run out.
+pub fn writes(rt: &(impl Abort + AllocGlobal), command: Command, input: &str, output: &str) {
+    for most in [1, 7, 1000] {
+        let (result, kept) = outcome(rt.alloc(), command, input.as_bytes(), most, 1000, 1000);
+        match result {
+            Ok(()) => {
+                assert_eq!(rt; kept.as_slice(), output.as_bytes(), "{input:?} {most}");
+            }
+            Err(fault) => {
+                assert_eq!(rt; fault, Fault::Memory, "{input:?} {most}");
+                assert!(rt; kept.as_slice().is_empty());
+            }
+        }
+    }
+}
+
+/// The input has this fault, and nothing is written; memory may run out.
+pub fn fails(rt: &(impl Abort + AllocGlobal), command: Command, input: &[u8], expected: Fault) {
+    let (result, kept) = outcome(rt.alloc(), command, input, 1000, 1000, 1000);
+    match result {
+        Ok(()) => panic!(rt; "no fault in {input:?}"),
+        Err(fault) => {
+            assert!(rt;
+                fault == expected || fault == Fault::Memory,
+                "{fault} in {input:?}"
+            );
+        }
+    }
+    assert!(rt; kept.as_slice().is_empty());
+}
+
+pub const fn at(line: usize, kind: LineFault) -> Fault {
+    Fault::Line { line, kind }
+}
+
+// The calls of `most` bytes that a text takes.
+fn calls(text: &str, most: usize) -> usize {
+    match most {
+        0 => 0,
+        _ => text.len().div_ceil(most),
+    }
+}
+
+/// Each read of the input fails in turn, and then nothing is written.
+pub fn reads_fail(rt: &(impl Abort + AllocGlobal), command: Command, input: &str, output: &str) {
+    for most in [1, 7, 1000] {
+        // The last read finds the end.
+        let needed = calls(input, most);
+        for reads in 0..60u32 {
+            let (result, kept) = outcome(rt.alloc(), command, input.as_bytes(), most, reads, 1000);
+            let works = usize::try_from(reads).is_ok_and(|reads| reads > needed);
+            match result {
+                Ok(()) => {
+                    assert!(rt; works, "{most} {reads}");
+                    assert_eq!(rt; kept.as_slice(), output.as_bytes());
+                }
+                Err(fault) => {
+                    assert!(rt;
+                        fault == Fault::Memory || fault == Fault::ReadInput && !works,
+                        "{fault} {most} {reads}"
+                    );
+                    assert!(rt; kept.as_slice().is_empty());
+                }
+            }
+        }
+    }
+}
+
+/// Each write of the output fails in turn, and then a beginning of it was written.
+pub fn writes_fail(rt: &(impl Abort + AllocGlobal), command: Command, input: &str, output: &str) {
+    for most in [1, 7, 1000] {
+        let needed = calls(output, most);
+        for writes in 0..60u32 {
+            let (result, kept) = outcome(rt.alloc(), command, input.as_bytes(), most, 1000, writes);
+            let works = usize::try_from(writes).is_ok_and(|writes| writes >= needed);
+            match result {
+                Ok(()) => {
+                    assert!(rt; works, "{most} {writes}");
+                    assert_eq!(rt; kept.as_slice(), output.as_bytes());
+                }
+                Err(fault) => {
+                    assert!(rt;
+                        fault == Fault::Memory || fault == Fault::WriteOutput && !works,
+                        "{fault} {most} {writes}"
+                    );
+                    assert!(rt; output.as_bytes().starts_with(kept.as_slice()));
+                }
+            }
+        }
+    }
+}
