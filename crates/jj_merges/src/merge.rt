@@ -12,6 +12,7 @@ ghost use Rattle.jj_merges.specs.Merge.{adds, removes, HaveSameCounts, IsDisjoin
 ghost use Rattle.jj_merges.specs.Simplify.{kept_places, at_places};
 
 mod builder;
+pub(crate) mod cancelling;
 mod changes;
 mod contents;
 mod diffs;
@@ -21,7 +22,6 @@ mod images;
 mod into_iter;
 mod legacy;
 mod options;
-pub(crate) mod cancelling;
 mod simplify;
 mod standard;
 mod storage;
