@@ -1,5 +1,5 @@
 //! A backend in memory, whose ids are digests of what they stand for.
-ghost use Rattle.std.specs.Prelude.{◌≡◌, ◌≢◌, ◌≤◌, ◌⊎◌, [], true, codes, replicate, Some};
+ghost use Rattle.std.specs.Prelude.{◌≡◌, ◌≢◌, ◌≤◌, ◌⊎◌, [], true, codes, Some};
 ghost use Rattle.std.specs.Prelude.{IfOk, IfErr, OnOk, OnErr, IsErrAnd};
 ghost use Rattle.std.specs.Option.{option_map};
 ghost use Rattle.jj_content.specs.Content.{text_content};
@@ -13,17 +13,18 @@ ghost use Rattle.jj_trees.specs.Kept.{new_backend, object_id, objects_of, Stands
 ghost use Rattle.jj_trees.specs.Signing.{FailsToSign, StandsForOtherCommit, signer_left};
 
 mod contents;
+mod first_objects;
 mod shelf;
 mod signing;
 
 use contents::{FileContent, LinkTarget};
+use first_objects::{keep_empty_tree, keep_root_commit, zeros};
 use jj_backend::backend::{
     Backend, BackendError, BackendResult, ChangeId, Commit, CommitId, CopyHistory, CopyId,
-    CopyRecord, FileId, RelatedCopy, SigningFn, SymlinkId, Tree, TreeId, make_root_commit,
+    CopyRecord, FileId, RelatedCopy, SigningFn, SymlinkId, Tree, TreeId,
 };
-use jj_ids::object_id::{Id, IdKind};
 use jj_paths::repo_path::{RepoPath, RepoPathBuf};
-use shelf::{id_of, keep, keep_copied, object_of, one_object};
+use shelf::{id_of, keep, keep_copied, object_of};
 use signing::{rootless_error, sign_commit};
 use std::alloc::{AllocError, Global};
 use std::collections::BTreeMap;
@@ -31,13 +32,6 @@ use std::marker::Model;
 
 // How many bytes the ids of changes have.
 const CHANGE_ID_LENGTH: usize = 16;
-
-// The id of that many zeros.
-fn zeros<K: IdKind>(alloc: Global, length: usize) -> Result<Id<K>, AllocError>
-    ensures { IfOk result (λ id. id ≡ replicate length 0) }
-{
-    Ok(Id::new(Vec::from_elem(alloc, 0, length)?))
-}
 
 // The error of what this backend does not do.
 fn unsupported_error(alloc: Global, message: &str) -> BackendError
@@ -105,11 +99,8 @@ impl MemoryBackend {
     {
         let root_commit_id: CommitId = zeros(alloc, id_length)?;
         let root_change_id: ChangeId = zeros(alloc, CHANGE_ID_LENGTH)?;
-        let empty_tree = Tree::default(alloc);
-        let empty_tree_id: TreeId = id_of(alloc, id_length, &empty_tree)?;
-        let commit = make_root_commit(alloc, root_change_id.clone()?, empty_tree_id.clone()?);
-        let trees = one_object(alloc, empty_tree_id.clone()?, empty_tree)?;
-        let commits = one_object(alloc, root_commit_id.clone()?, commit)?;
+        let (empty_tree_id, trees) = keep_empty_tree(alloc, id_length)?;
+        let commits = keep_root_commit(alloc, &root_commit_id, &root_change_id, &empty_tree_id)?;
         Ok(MemoryBackend {
             id_length,
             root_commit_id,

@@ -1,0 +1,47 @@
+//! What a backend in memory has from the start: the tree without entries and the root commit.
+ghost use Rattle.std.specs.Prelude.{◌≡◌, ◌≤◌, [], ◌∷◌, IfOk, replicate};
+ghost use Rattle.jj_backend.specs.Records.{root_commit};
+ghost use Rattle.jj_backend.specs.TreeLaws.{tree_content};
+ghost use Rattle.jj_trees.specs.Kept.{object_id};
+
+use super::shelf::{id_of, one_object};
+use jj_backend::backend::{ChangeId, Commit, CommitId, Tree, TreeId, make_root_commit};
+use jj_ids::object_id::{Id, IdKind};
+use std::alloc::{AllocError, Global};
+use std::collections::BTreeMap;
+
+// The id of that many zeros.
+pub(super) fn zeros<K: IdKind>(alloc: Global, length: usize) -> Result<Id<K>, AllocError>
+    ensures { IfOk result (λ id. id ≡ replicate length 0) }
+{
+    Ok(Id::new(Vec::from_elem(alloc, 0, length)?))
+}
+
+// The tree without entries, kept, and its id.
+pub(super) fn keep_empty_tree(
+    alloc: Global,
+    id_length: usize,
+) -> Result<(TreeId, BTreeMap<TreeId, Tree>), AllocError>
+    requires { id_length ≤ 64 }
+    ensures id { IfOk result (λ kept. kept.0 ≡ object_id id_length (tree_content [])) }
+    ensures tree { IfOk result (λ kept. kept.1.entries ≡ (kept.0, []) ∷ []) }
+{
+    let tree = Tree::default(alloc);
+    let id: TreeId = id_of(alloc, id_length, &tree)?;
+    let trees = one_object(alloc, id.clone()?, tree)?;
+    Ok((id, trees))
+}
+
+// The root commit, kept.
+pub(super) fn keep_root_commit(
+    alloc: Global,
+    id: &CommitId,
+    change_id: &ChangeId,
+    tree_id: &TreeId,
+) -> Result<BTreeMap<CommitId, Commit>, AllocError>
+    ensures { IfOk result (λ kept.
+        kept.entries ≡ (id.now, root_commit change_id.now tree_id.now) ∷ []) }
+{
+    let commit = make_root_commit(alloc, change_id.clone()?, tree_id.clone()?);
+    one_object(alloc, id.clone()?, commit)
+}
