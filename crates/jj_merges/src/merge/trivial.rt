@@ -22,18 +22,14 @@ fn count_adds<T: Eq>(values: &[T], value: &T) -> usize
     count
 }
 
-// How many removes equal `value`.
-#[tactic(auto, using(crate::proofs::Counts::count_more))]
+// How many removes equal `value`: they are the adds of what follows the first term.
 fn count_removes<T: Eq>(values: &[T], value: &T) -> usize
     ensures { result ≡ count_by (T.eq value.now) (removes values.now) }
 {
-    let mut count = 0;
-    for (place, term) in values.iter().enumerate() {
-        if place % 2 == 1 && value == term {
-            count += 1;
-        }
+    match values {
+        [_, rest @ ..] => count_adds(rest, value),
+        [] => 0,
     }
-    count
 }
 
 // Whether one of the values equals this one.
