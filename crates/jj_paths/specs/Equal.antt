@@ -53,7 +53,9 @@ module _ {V : Type 0} {eq : V → V → Bool} where
 
     pub tree_per : IsPartialEquivalence (tree_eq eq)
     tree_per = record {
-      symm = λ s t. let b = branches_symm s.branches t.branches in λ i. values.symm s.value t.value i && b i;
+      symm = λ s t.
+          let b = branches_symm s.branches t.branches in
+          λ i. values.symm s.value t.value i && b i;
       trans = λ s t u h k.
           let hs = and_parts (eq s.value t.value) _ h in
           let ks = and_parts (eq t.value u.value) _ k in

@@ -75,7 +75,8 @@ module _ {V : Type 0} where
 
   abbrev pub nodes_below : Tree V → Path → List (Tree V × Path)
   nodes_below tree [] = []
-  nodes_below tree (name ∷ rest) = nodes_from (option_map (λ sub. (sub, rest)) (child tree.branches name))
+  nodes_below tree (name ∷ rest) =
+      nodes_from (option_map (λ sub. (sub, rest)) (child tree.branches name))
 
   -- a node with what of the path is below it: the path leads to the node by what is above it
   abbrev pub IsPartOf : Tree V → Path → Tree V × Path → Type 0
@@ -115,8 +116,10 @@ module _ {V : Type 0} where
     pub value : node.value ≡ old.value
     pub there : IsSome (child node.branches name)
     pub others : (n : Name) → n ≢ name → child node.branches n ≡ child old.branches n
-    pub keeps : (sub : Tree V) → child old.branches name ≡ Some sub → child node.branches name ≡ Some sub
-    pub makes : (sub : Tree V) → child old.branches name ≡ None → child node.branches name ≡ Some sub
+    pub keeps : (sub : Tree V) → child old.branches name ≡ Some sub
+        → child node.branches name ≡ Some sub
+    pub makes : (sub : Tree V) → child old.branches name ≡ None
+        → child node.branches name ≡ Some sub
         → is_new sub.value × (sub.branches ≡ none)
     pub ordered : is_ordered old.branches ≡ true → is_ordered node.branches ≡ true
 
@@ -198,7 +201,8 @@ module _ {V : Type 0} where
 
   -- the size falls from a node to its children, as Rattle counts it
   pub most_le-branch_count : (μ : Name × Tree V → ℕ)
-      → ((x : Name × Tree V) → μ x ≤ 2 * branch_count x.1.branches + 2) → (items : List (Name × Tree V))
+      → ((x : Name × Tree V) → μ x ≤ 2 * branch_count x.1.branches + 2)
+      → (items : List (Name × Tree V))
       → max (most μ items) 0 ≤ 2 * branch_count (branches_of items)
   most_le-branch_count μ h [] = omega arith
   most_le-branch_count μ h (x ∷ xs) = omega (arith, h x, most_le-branch_count μ h xs)

@@ -15,7 +15,7 @@ pub use crate::repo_path_tree::{
 };
 pub use from_relative::RelativePathParseError;
 pub use iter::{RepoPathAncestors, RepoPathComponentsIter};
-use std::alloc::{AllocError, Global};
+use std::alloc::{AllocError, AllocFailed, Global};
 use std::marker::Model;
 use thiserror::Error;
 pub use to_fs::{InvalidRepoPathComponentError, InvalidRepoPathError};
@@ -425,6 +425,26 @@ impl InvalidNewRepoPathError {
             Ok(value) => InvalidNewRepoPathError::Invalid { value },
             Err(_) => InvalidNewRepoPathError::Memory,
         }
+    }
+}
+
+impl From<AllocError> for InvalidNewRepoPathError {
+    ghost use Rattle.jj_paths.specs.declared.repo_path.InvalidNewRepoPathError.TheVariants.{Memory};
+
+    ghost from_gives = { λ _ e. e ≡ Memory };
+
+    fn from(_error: AllocError) -> InvalidNewRepoPathError {
+        InvalidNewRepoPathError::Memory
+    }
+}
+
+impl<T: Drop> From<AllocFailed<T>> for InvalidNewRepoPathError {
+    ghost use Rattle.jj_paths.specs.declared.repo_path.InvalidNewRepoPathError.TheVariants.{Memory};
+
+    ghost from_gives = { λ _ e. e ≡ Memory };
+
+    fn from(_error: AllocFailed<T>) -> InvalidNewRepoPathError {
+        InvalidNewRepoPathError::Memory
     }
 }
 

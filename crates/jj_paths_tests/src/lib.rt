@@ -7,6 +7,8 @@
 #[cfg(test)]
 mod directories;
 #[cfg(test)]
+mod error_tests;
+#[cfg(test)]
 mod file_util_tests;
 #[cfg(test)]
 mod fixtures;

@@ -8,7 +8,7 @@ ghost use Rattle.jj_paths.specs.Texts.{with_name};
 ghost use Rattle.jj_paths.specs.RelativePaths.{IsParseError, is_place, is_refused, relative_components};
 
 use super::RepoPathBuf;
-use std::alloc::{AllocError, Global};
+use std::alloc::{AllocError, AllocFailed, Global};
 use std::error::Error;
 use std::fmt;
 
@@ -64,6 +64,16 @@ impl From<AllocError> for RelativePathParseError {
     ghost from_gives = { λ _ e. e ≡ Memory };
 
     fn from(_error: AllocError) -> RelativePathParseError {
+        RelativePathParseError::Memory
+    }
+}
+
+impl<T: Drop> From<AllocFailed<T>> for RelativePathParseError {
+    ghost use Rattle.jj_paths.specs.declared.repo_path.from_relative.RelativePathParseError.TheVariants.{Memory};
+
+    ghost from_gives = { λ _ e. e ≡ Memory };
+
+    fn from(_error: AllocFailed<T>) -> RelativePathParseError {
         RelativePathParseError::Memory
     }
 }

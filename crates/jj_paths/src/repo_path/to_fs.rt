@@ -7,7 +7,7 @@ ghost use Rattle.jj_paths.specs.FsTexts.{appended, fs_text, is_dots};
 
 use super::{RepoPath, RepoPathBuf, RepoPathComponent};
 use crate::fs_text::text_or_dot;
-use std::alloc::{AllocError, Global};
+use std::alloc::{AllocError, AllocFailed, Global};
 use std::path::PathBuf;
 use thiserror::Error;
 
@@ -123,12 +123,42 @@ impl<'a> RepoPath<'a> {
     }
 }
 
+impl From<AllocError> for InvalidRepoPathComponentError {
+    ghost use Rattle.jj_paths.specs.declared.repo_path.to_fs.InvalidRepoPathComponentError.TheVariants.{Memory};
+
+    ghost from_gives = { λ _ e. e ≡ Memory };
+
+    fn from(_error: AllocError) -> InvalidRepoPathComponentError {
+        InvalidRepoPathComponentError::Memory
+    }
+}
+
+impl<T: Drop> From<AllocFailed<T>> for InvalidRepoPathComponentError {
+    ghost use Rattle.jj_paths.specs.declared.repo_path.to_fs.InvalidRepoPathComponentError.TheVariants.{Memory};
+
+    ghost from_gives = { λ _ e. e ≡ Memory };
+
+    fn from(_error: AllocFailed<T>) -> InvalidRepoPathComponentError {
+        InvalidRepoPathComponentError::Memory
+    }
+}
+
 impl From<AllocError> for InvalidRepoPathError {
     ghost use Rattle.jj_paths.specs.declared.repo_path.to_fs.InvalidRepoPathError.TheVariants.{Memory};
 
     ghost from_gives = { λ _ e. e ≡ Memory };
 
     fn from(_error: AllocError) -> InvalidRepoPathError {
+        InvalidRepoPathError::Memory
+    }
+}
+
+impl<T: Drop> From<AllocFailed<T>> for InvalidRepoPathError {
+    ghost use Rattle.jj_paths.specs.declared.repo_path.to_fs.InvalidRepoPathError.TheVariants.{Memory};
+
+    ghost from_gives = { λ _ e. e ≡ Memory };
+
+    fn from(_error: AllocFailed<T>) -> InvalidRepoPathError {
         InvalidRepoPathError::Memory
     }
 }
