@@ -7,6 +7,8 @@
 #[cfg(test)]
 pub mod callers;
 #[cfg(test)]
+mod error_tests;
+#[cfg(test)]
 mod join_tests;
 #[cfg(test)]
 mod json_tests;
