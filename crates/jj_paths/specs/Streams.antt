@@ -1,6 +1,6 @@
 -- What is said of reads from a source and writes to a sink, where their bytes are known.
 -- Cited by contracts of public items: AppendsFrontOf, CopiesAll, CopiesFront, NotesFailure,
--- TakesSome.
+-- TakesSome, streams.
 use Rattle.std.specs.Prelude.{◌≡◌, ℕ, ◌<◌, ◌^◌, ◌-◌, Bool, ◌||◌, ◌&&◌, ◌==◌, is_err, List, ◌++◌, length, min, nat_lt, Option, Result, Ok, Err, IfOk, IsErrAnd, MatchBool}
 use Rattle.std.specs.Io.KnownBytes.{Appends, Consumes, IsAtEnd}
 use Rattle.std.specs.IoError.{error_kind}
@@ -20,18 +20,25 @@ abbrev pub AppendsFrontOf : Option (List ℕ) → Option (List ℕ) → List ℕ
 AppendsFrontOf old new whole = (written rest : List ℕ) × Appends old new written
     × (written ++ rest ≡ whole)
 
+-- the bytes that a source has yet to give, and those that a sink was given, where they are known
+pub record Streams : Type 0 where
+  pub unread : Option (List ℕ)
+  pub written : Option (List ℕ)
+
+abbrev pub streams : Option (List ℕ) → Option (List ℕ) → Streams
+streams unread written = record { unread = unread; written = written }
+
 -- the source's bytes were all read, and written to the sink, and the answer is their number
-abbrev pub CopiesAll : Option (List ℕ) → Option (List ℕ) → Option (List ℕ) → Option (List ℕ) → ℕ
-    → Type 0
-CopiesAll source source' sink sink' n =
-    (bytes : List ℕ) × Consumes source source' bytes × IsAtEnd source' × Appends sink sink' bytes
+abbrev pub CopiesAll : (before after : Streams) → ℕ → Type 0
+CopiesAll before after n = (bytes : List ℕ) × Consumes before.unread after.unread bytes
+    × IsAtEnd after.unread × Appends before.written after.written bytes
     × (n ≡ usize_saturate (length bytes))
 
 -- what was written is a beginning of what was read
-abbrev pub CopiesFront : Option (List ℕ) → Option (List ℕ) → Option (List ℕ) → Option (List ℕ)
-    → Type 0
-CopiesFront source source' sink sink' =
-    (written lost : List ℕ) × Consumes source source' (written ++ lost) × Appends sink sink' written
+abbrev pub CopiesFront : (before after : Streams) → Type 0
+CopiesFront before after = (written lost : List ℕ)
+    × Consumes before.unread after.unread (written ++ lost)
+    × Appends before.written after.written written
 
 -- a sink took some of a nonempty piece, or failed
 abbrev pub TakesSome : {E : Type 0} → Result ℕ E → List ℕ → Type 0

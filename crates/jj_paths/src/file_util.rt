@@ -2,7 +2,7 @@
 ghost use Rattle.std.specs.Prelude.{◌≡◌, ℕ, ◌<◌, ◌^◌, ◌-◌, Bool, false, List, IfOk, IsErr, OnOk, Option, is_err, ◌||◌};
 ghost use Rattle.std.specs.Io.{ReadsAtMost, WritesAtMost};
 ghost use Rattle.std.specs.Io.KnownBytes.{Appends, ReadConsumes, WriteAppends};
-ghost use Rattle.jj_paths.specs.Streams.{NotesFailure, SettlesWrite, TakesSome, CopiesAll, CopiesFront, AppendsFrontOf};
+ghost use Rattle.jj_paths.specs.Streams.{NotesFailure, SettlesWrite, TakesSome, CopiesAll, CopiesFront, AppendsFrontOf, streams};
 ghost use Rattle.jj_paths.specs.Watching.{watched, watched_failed, watched_reads_left};
 
 mod dirs;
@@ -171,10 +171,11 @@ pub fn write_all<W: Sink>(writer: &mut W, piece: &[u8]) -> io::Result<()>
 pub fn copy<R: Source, W: Sink>(reader: &mut R, writer: &mut W) -> io::Result<usize>
     requires reader_works { R.has_failed reader.old ≡ false }
     requires writer_works { W.has_failed writer.old ≡ false }
-    ensures all { IfOk result (CopiesAll (R.remaining reader.old) (R.remaining reader.new)
-        (W.contents writer.old) (W.contents writer.new)) }
-    ensures front { CopiesFront (R.remaining reader.old) (R.remaining reader.new)
-        (W.contents writer.old) (W.contents writer.new) }
+    ensures all { IfOk result (CopiesAll
+        (streams (R.remaining reader.old) (W.contents writer.old))
+        (streams (R.remaining reader.new) (W.contents writer.new))) }
+    ensures front { CopiesFront (streams (R.remaining reader.old) (W.contents writer.old))
+        (streams (R.remaining reader.new) (W.contents writer.new)) }
     ensures failure { is_err result ≡ (R.has_failed reader.new || W.has_failed writer.new) }
 {
     let mut buf = [0u8; COPY_BUFFER];

@@ -1,11 +1,11 @@
 -- What a command writes for an input, and what a run leaves.
 -- Cited by contracts of public items: FailsBy, WritesOutput, command_line, command_named,
--- is_read_failure, is_read_fault, is_write_failure, is_write_fault, streams.
+-- is_read_failure, is_read_fault, is_write_failure, is_write_fault.
 use Rattle.std.specs.Prelude.{◌≡◌, ℕ, List, [], ◌∷◌, Bool, true, false, cond, codes, Option, Some, None, Result, Ok, Err}
 use Rattle.std.specs.Bool.{MatchBool}
 use Rattle.std.specs.Str.{bytes_eq, is_utf8}
 use Rattle.std.specs.Io.KnownBytes.{Appends, Consumes, IsAtEnd, Keeps}
-use Rattle.jj_paths.specs.Streams.{AppendsFrontOf}
+use Rattle.jj_paths.specs.Streams.{AppendsFrontOf, Streams}
 use Rattle.jj_program.specs.declared.fault.Fault.{Fault}
 use Rattle.jj_program.specs.declared.fault.Fault.TheVariants.{ReadInput, NotUtf8, Memory, WriteOutput, Matchers, Line}
 use Rattle.jj_program.specs.declared.program.Command.{Command}
@@ -69,14 +69,6 @@ is_read_fault (Ok x) = false
 abbrev pub is_write_fault : {A : Type 0} → Result A Fault → Bool
 is_write_fault (Err fault) = is_write_failure fault
 is_write_fault (Ok x) = false
-
--- the bytes that a source has yet to give, and those that a sink was given, where they are known
-pub record Streams : Type 0 where
-  pub unread : Option (List ℕ)
-  pub written : Option (List ℕ)
-
-abbrev pub streams : Option (List ℕ) → Option (List ℕ) → Streams
-streams unread written = record { unread = unread; written = written }
 
 -- the source was read to its end, and the command gives this answer for its bytes
 abbrev pub Answers : Command → (before after : Streams) → Result (List ℕ) Fault → Type 0

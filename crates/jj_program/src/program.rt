@@ -1,8 +1,9 @@
 //! The program: it reads a command's input to the end, and writes the output of all of it.
 ghost use Rattle.std.specs.Prelude.{◌≡◌, ◌≢◌, ◌<◌, length, map, false, Ok, IfOk, IfErr, OnOk, IsSome, IfSome, None, string_bytes};
 ghost use Rattle.std.specs.Io.KnownBytes.{Consumes, IsAtEnd, Keeps};
+ghost use Rattle.jj_paths.specs.Streams.{streams};
 ghost use Rattle.jj_program.specs.Lines.{IsFaultOf};
-ghost use Rattle.jj_program.specs.Program.{command_named, command_line, Gives, is_read_failure, is_write_failure, is_read_fault, is_write_fault, streams, WritesOutput, FailsBy, IsFaultOfInput};
+ghost use Rattle.jj_program.specs.Program.{command_named, command_line, Gives, is_read_failure, is_write_failure, is_read_fault, is_write_fault, WritesOutput, FailsBy, IsFaultOfInput};
 ghost use Rattle.jj_program.specs.Reports.{usage_text, report_text, Says};
 ghost use Rattle.jj_program.specs.declared.fault.Fault.{Fault};
 
