@@ -13,7 +13,7 @@ use Rattle.jj_content.specs.Hex.{digit_pair, hex_digits}
 abbrev pub lettered : List (ℕ × ℕ)
 lettered = (34, 34) ∷ (92, 92) ∷ (9, 116) ∷ (13, 114) ∷ (10, 110) ∷ (0, 48) ∷ []
 
--- a byte as two hex digits behind a backslash and an x
+-- a byte as two hex digits after a backslash and an x
 abbrev pub hex_escape : ℕ → List ℕ
 hex_escape byte = codes "\\x" ++ digit_pair hex_digits byte
 
@@ -32,7 +32,7 @@ escaped_text text = flat_map escaped_byte text
 abbrev pub quoted_text : List ℕ → List ℕ
 quoted_text text = (34 ∷ escaped_text text) ++ 34 ∷ []
 
--- the character of a letter behind a backslash, where `e` is the escape character too
+-- the character of a letter after a backslash, where `e` is the escape character too
 abbrev pub letter_char : ℕ → Option ℕ
 letter_char letter = option_map (λ e. e.0) (find (λ e. e.1 == letter) (lettered ++ (27, 101) ∷ []))
 

@@ -75,7 +75,7 @@ module _ {S : Type 0} (step : S → List (List ℕ) → Result S LineFault) wher
       by_line deep (Ok next) is h = let later = deep next h in (omega (arith, later.0), omega (arith, later.1))
       by_line deep (Err fault) is h = let here = own number state line k kind (is ∙ h) in (omega (arith, here), omega (arith, here))
 
-  -- lines behind the faulty one have no part in it
+  -- lines after the faulty one have no part in it
   decided : (number : ℕ) (state : S) (lines others : List (List ℕ)) (m : ℕ) (kind : LineFault) → after_lines step number state lines ≡ Err (Line (number + m) kind) → take (suc m) lines ≡ take (suc m) others → after_lines step number state others ≡ Err (Line (number + m) kind)
   decided number state [] others m kind e alike = absurd (ok≢err state (Line (number + m) kind) e)
   decided number state (line ∷ lines) [] m kind e alike = absurd (none≢cons line (take m lines) alike)

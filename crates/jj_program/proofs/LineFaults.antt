@@ -166,7 +166,7 @@ walk_names earlier state fields height name =
     by false false false false false false false false false true = sets_combined earlier state.marks state.stack Intersection fields height
     by false false false false false false false false false false = no_set earlier state fields
 
--- the height of the stack behind one line more
+-- the height of the stack after one line more
 higher : (earlier : List (List ℕ)) (state : WalkState) (line : List ℕ) (form : LineForm) (r : Result WalkState LineFault) → form_of_line Walk line ≡ form → IsHigh earlier state → Grows state form r
     → After r (IsHigh (earlier ++ line ∷ []))
 higher earlier state line form (Err kind) is high grows = tt
@@ -306,7 +306,7 @@ graph_names earlier state fields listing name = by (bytes_eq name (codes "node")
     by false false false true = common_asked earlier state fields
     by false false false false = (refl, tt)
 
--- what is listed behind one line more
+-- what is listed after one line more
 longer : (earlier : List (List ℕ)) (state : GraphState) (line name : List ℕ) (fields : List (List ℕ)) (r : Result GraphState LineFault) → fields_of line ≡ name ∷ fields → IsListing earlier state
     → Lists state (bytes_eq name (codes "node")) fields r → After r (IsListing (earlier ++ line ∷ []))
 longer earlier state line name fields (Err kind) is listing lists = tt

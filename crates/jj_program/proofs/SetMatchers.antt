@@ -72,7 +72,7 @@ module _ (m n : SetTree LeafMatcher) (s t : SetTree NamedSet) (first : StandsFor
 stands_alone : (matcher : LeafMatcher) (set : NamedSet) → StandsFor matcher set → StandsForSet (one matcher) (one set)
 stands_alone matcher set stands = record { accepts = stands.accepts; answers = stands.answers; names = stands.names }
 
--- the parts of a matcher of a set, and the parts behind them
+-- the parts of a matcher of a set, and the parts after them
 pub record Built (set : SetTree NamedSet) (parts : List (Part LeafMatcher)) (rest : List (Part NamedSet)) : Type 0 where
   pub matcher : SetTree LeafMatcher
   pub left : List (Part LeafMatcher)

@@ -19,7 +19,7 @@ drop_map_next view items i d h =
 ends_no_line : (text : List ℕ) → ((i : ℕ) → i < length text → get_or text i 0 ≢ 10) → All (λ b. (b == 10) ≡ false) text
 ends_no_line text other = All-from_get_or (λ b. (b == 10) ≡ false) text 0 (λ i within. ne_eqb (get_or text i 0) 10 (other i within))
 
--- the first line of a text that has a line feed, and what is behind it
+-- the first line of a text that has a line feed, and what follows it
 pub record IsFirstLine (text line behind : List ℕ) : Type 0 where
   pub first : lines_of text ≡ line ∷ lines_of behind
   pub shorter : length behind < length text

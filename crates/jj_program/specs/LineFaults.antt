@@ -20,7 +20,7 @@ use Rattle.jj_program.specs.Numbers.{is_number}
 use Rattle.jj_program.specs.Program.{GivesText}
 use Rattle.jj_program.specs.WalkCommand.{is_glob_text}
 
--- what a line's name asks of the fields behind it: a path, paths, directories and globs in turn, no
+-- what a line's name asks of the fields after it: a path, paths, directories and globs in turn, no
 -- field (of a line that puts a set on the stack, or that takes two from it), a node's number and
 -- those of its neighbours, numbers, two lists of them that a dash parts, an odd number of texts,
 -- one hex text, one text, or any texts; a name that the command does not have asks nothing
@@ -169,7 +169,7 @@ abbrev pub repeats_node : LineForm → List (List ℕ) → List (List ℕ) → B
 repeats_node node_line earlier fields = is_listed earlier fields
 repeats_node form earlier fields = false
 
--- whether a line of this form with these fields, behind these earlier lines, has a fault of a kind
+-- whether a line of this form with these fields, after these earlier lines, has a fault of a kind
 abbrev pub has_fault : LineForm → (earlier fields : List (List ℕ)) → LineFault → Bool
 has_fault form earlier fields UnknownCommand = is_unknown form
 has_fault form earlier fields BadFieldCount = is_bad_count form fields
@@ -198,7 +198,7 @@ abbrev pub kind_of_line : Command → (earlier : List (List ℕ)) → List ℕ �
 kind_of_line command earlier [] = None
 kind_of_line command earlier (b ∷ bs) = kind_of_fields command earlier (fields_of (b ∷ bs))
 
--- the first fault of lines that stand behind these earlier ones, the first of which has this number
+-- the first fault of lines that stand after these earlier ones, the first of which has this number
 abbrev pub first_fault : Command → (earlier : List (List ℕ)) → ℕ → List (List ℕ) → Option Fault
 first_fault command earlier number [] = None
 first_fault command earlier number (line ∷ lines) =

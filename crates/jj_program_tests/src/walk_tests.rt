@@ -28,7 +28,7 @@ mod tests {
             // The root is never a file, and a root without children is not entered.
             ("mark\t\nfiles\t\n", ""),
             ("everything\n", ""),
-            // Marks come in any order and more than once, also behind the set; empty lines are
+            // Marks come in any order and more than once, also after the set; empty lines are
             // skipped.
             (
                 "\nmark\tc\nprefix\tb\t\n\nmark\ta\nmark\tb\nmark\ta\n\n",
