@@ -51,7 +51,8 @@ where
     };
     let items_fn = move |node: &T|
         requires { N.IsAlwaysCallable neighbors_fn }
-        ensures { (answer : Result NI E) × N.step neighbors_fn.entry node.entry answer neighbors_fn.exit
+        ensures { (answer : Result NI E)
+            × N.step neighbors_fn.entry node.entry answer neighbors_fn.exit
             × StandsFor NI.into_iter_gives answer result }
     { answered(neighbors_fn(node)) };
     heads_ok(alloc, start, id_fn, items_fn)

@@ -3,7 +3,8 @@ use std::alloc::{AllocError, AllocFailed};
 use std::error::Error;
 use std::fmt;
 
-/// Why a walk stopped: memory ran out, or a closure failed or a cycle was met, with the error of that.
+/// Why a walk stopped: memory ran out, or a closure failed or a cycle was met, with the error of
+/// that.
 #[derive(Debug, PartialEq, Eq, Drop)]
 pub enum WalkError<E> {
     Memory,
