@@ -9,12 +9,14 @@ ghost use Rattle.jj_walks.specs.HeldNodes.{Keeps};
 use crate::graph::GraphNode;
 use crate::held_nodes::{HeldNodes, Ready};
 use std::alloc::{AllocError, AllocFailed, Global};
+use std::error::Error;
+use std::fmt;
 use std::hash::Hash;
 
 /// Why a grouped graph ended before its last node. A node is held from when it was read until it is
 /// given, and an id is wanted from when it was prioritised, or an edge to it that is not missing
 /// was read, until its node is given.
-#[derive(Debug, Drop)]
+#[derive(Debug, PartialEq, Eq, Drop)]
 pub enum GroupedGraphError<E> {
     /// An error of the input.
     Input(E),
@@ -181,6 +183,22 @@ where
         }
     }
 }
+
+impl<E: fmt::Display> fmt::Display for GroupedGraphError<E> {
+    fn fmt<W: fmt::Write>(&self, f: &mut fmt::Formatter<W>) -> fmt::Result {
+        match self {
+            GroupedGraphError::Input(error) => error.fmt(f),
+            GroupedGraphError::DuplicateId => f.write_str("a node has the id of one that waits"),
+            GroupedGraphError::MissingNode => f.write_str("a node that is wanted did not come"),
+            GroupedGraphError::NotChildFirst => {
+                f.write_str("each node that waits has a child that waits")
+            }
+            GroupedGraphError::Memory => f.write_str("out of memory"),
+        }
+    }
+}
+
+impl<E: fmt::Debug + fmt::Display + Drop> Error for GroupedGraphError<E> {}
 
 impl<E> From<AllocError> for GroupedGraphError<E> {
     ghost use Rattle.std.specs.Prelude.{◌≡◌};

@@ -1,17 +1,19 @@
 //! Errors of walks, as they print and compare.
 use jj_walks::dag_walk::WalkError;
+use jj_walks::graph::GroupedGraphError;
 use std::alloc::{AllocError, Global};
+use std::error::Error;
 use std::process::Abort;
 use std::test::Fail;
 
-fn printed(alloc: Global, error: &WalkError<u32>) -> Result<String, AllocError> {
+fn printed<E: Error>(alloc: Global, error: &E) -> Result<String, AllocError> {
     format!(in alloc; "{error}")
 }
 
-fn prints<R: Abort>(
+fn prints<R: Abort, E: Error>(
     rt: &R,
     alloc: Global,
-    error: &WalkError<u32>,
+    error: &E,
     wanted: &str,
 ) -> Result<(), AllocError> {
     let text = printed(alloc, error).or_else(|_| printed(alloc, error))?;
@@ -22,10 +24,39 @@ fn prints<R: Abort>(
 #[test]
 fn errors_print_and_compare(rt: HostRuntime) -> Result<(), Fail> {
     let alloc = rt.alloc();
-    prints(&rt, alloc, &WalkError::Memory, "out of memory")?;
-    prints(&rt, alloc, &WalkError::Node(7), "7")?;
+    prints(&rt, alloc, &WalkError::<u32>::Memory, "out of memory")?;
+    prints(&rt, alloc, &WalkError::Node(7u32), "7")?;
     assert!(rt; WalkError::Node(7) == WalkError::Node(7u32));
     assert!(rt; WalkError::Node(7) != WalkError::Node(8u32));
     assert!(rt; WalkError::Memory != WalkError::Node(7u32));
+    Ok(())
+}
+
+#[test]
+fn grouped_errors_print_and_compare(rt: HostRuntime) -> Result<(), Fail> {
+    let alloc = rt.alloc();
+    let texts = [
+        (GroupedGraphError::Input(7u32), "7"),
+        (
+            GroupedGraphError::DuplicateId,
+            "a node has the id of one that waits",
+        ),
+        (
+            GroupedGraphError::MissingNode,
+            "a node that is wanted did not come",
+        ),
+        (
+            GroupedGraphError::NotChildFirst,
+            "each node that waits has a child that waits",
+        ),
+        (GroupedGraphError::Memory, "out of memory"),
+    ];
+    for (error, wanted) in &texts {
+        prints(&rt, alloc, error, *wanted)?;
+        assert!(rt; *error == *error);
+        assert!(rt; *error != GroupedGraphError::Input(8));
+    }
+    assert!(rt; GroupedGraphError::Input(7u32) == GroupedGraphError::Input(7));
+    assert!(rt; GroupedGraphError::<u32>::MissingNode != GroupedGraphError::NotChildFirst);
     Ok(())
 }
