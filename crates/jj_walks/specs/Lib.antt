@@ -24,3 +24,5 @@ pub mod AllOk
 pub mod Stops
 pub mod ListOrError
 pub mod Outcomes
+pub mod Owed
+pub mod Orders

@@ -1,9 +1,9 @@
 //! The walk that gives a node after its neighbours, over items that may fail.
-ghost use Rattle.std.specs.Prelude.{IfOk, IfErr, map};
-ghost use Rattle.jj_walks.specs.Graph.{IsPostorder, HasNoCycle, OnCycleFrom};
-ghost use Rattle.jj_walks.specs.Failing.{HasNoFailure};
-ghost use Rattle.jj_walks.specs.Stops.{IfCycle, IfFailed};
-ghost use Rattle.jj_walks.specs.Outcomes.{ClonesAreEqual, Ends, ItemFails, ListsEnd, OverItems};
+ghost use Rattle.std.specs.Prelude.{IfOk};
+ghost use Rattle.jj_walks.specs.Orders.{GivesSoundPostorder};
+ghost use Rattle.jj_walks.specs.Outcomes.{ClonesAreEqual, Ends};
+ghost use Rattle.jj_walks.specs.Owed.{CanShow};
+ghost use Rattle.jj_walks.specs.Stops.{StopsAtFailure, StopsOnCycle};
 
 use std::alloc::{AllocError, AllocFailed, Global};
 use std::collections::HashSet;
@@ -59,20 +59,15 @@ where
     NI::IntoIter: Drop,
     F: Fn(&T) -> ID + Drop,
     N: FnMut(&T) -> NI + Drop,
-    requires id_fn { F.IsAlwaysCallable id_fn }
-    requires neighbors_fn { N.IsAlwaysCallable neighbors_fn }
-    requires lists { ListsEnd N.FnMut NI.IntoIterator NI.IntoIter.Iterator neighbors_fn }
+    requires closures { CanShow F.Fn N.FnMut NI.IntoIterator NI.IntoIter.Iterator id_fn neighbors_fn }
     requires start { Ends II.IntoIterator II.IntoIter.Iterator start }
     requires clones { ClonesAreEqual ID.is_clone ID.eq }
-    ensures order { IfOk result (λ v. OverItems ID.eq F.Fn N.FnMut II.IntoIterator
-        II.IntoIter.Iterator NI.IntoIterator NI.IntoIter.Iterator id_fn neighbors_fn start
-        (λ walk items starts. IsPostorder walk.graph starts (map walk.node v.items) × HasNoCycle
-        walk.graph starts × HasNoFailure items starts)) }
-    ensures failed { IfErr result (λ e. IfFailed e (ItemFails ID.eq F.Fn N.FnMut II.IntoIterator
-        II.IntoIter.Iterator NI.IntoIterator NI.IntoIter.Iterator id_fn neighbors_fn start)) }
-    ensures cycle { IfErr result (λ e. IfCycle e (λ x. OverItems ID.eq F.Fn N.FnMut II.IntoIterator
-        II.IntoIter.Iterator NI.IntoIterator NI.IntoIter.Iterator id_fn neighbors_fn start
-        (λ walk items starts. OnCycleFrom walk.graph starts (walk.node x)))) }
+    ensures order { IfOk result (GivesSoundPostorder ID.eq F.Fn N.FnMut II.IntoIterator
+        II.IntoIter.Iterator NI.IntoIterator NI.IntoIter.Iterator id_fn neighbors_fn start) }
+    ensures failed { StopsAtFailure result ID.eq F.Fn N.FnMut II.IntoIterator II.IntoIter.Iterator
+        NI.IntoIterator NI.IntoIter.Iterator id_fn neighbors_fn start }
+    ensures cycle { StopsOnCycle result ID.eq F.Fn N.FnMut II.IntoIterator II.IntoIter.Iterator
+        NI.IntoIterator NI.IntoIter.Iterator id_fn neighbors_fn start }
 {
     let mut stack: Vec<(T, bool)> = Vec::new(alloc);
     for item in start {

@@ -1,7 +1,7 @@
 //! Orders in which each node stands after, or before, its neighbours.
-ghost use Rattle.std.specs.Prelude.{IfOk, map, reverse};
-ghost use Rattle.jj_walks.specs.Graph.{IsPostorder, HasNoCycle, OnCycleFrom};
-ghost use Rattle.jj_walks.specs.Outcomes.{ClonesAreEqual, Ends, IfFails, ListsEnd, MadeOfNode, OverNodes};
+ghost use Rattle.std.specs.Prelude.{IfOk};
+ghost use Rattle.jj_walks.specs.Orders.{FailsOnCycle, GivesPostorder, GivesPostorderFromEnd};
+ghost use Rattle.jj_walks.specs.Owed.{CanBeOrdered};
 
 use crate::all_ok::AllOk;
 use crate::forward::{Stop, walk_forward};
@@ -30,19 +30,12 @@ where
     F: Fn(&T) -> ID + Drop,
     N: FnMut(&T) -> NI + Drop,
     C: FnOnce(T) -> E + Drop,
-    requires id_fn { F.IsAlwaysCallable id_fn }
-    requires neighbors_fn { N.IsAlwaysCallable neighbors_fn }
-    requires cycle_fn { C.IsAlwaysCallable cycle_fn }
-    requires lists { ListsEnd N.FnMut NI.IntoIterator NI.IntoIter.Iterator neighbors_fn }
-    requires start { Ends II.IntoIterator II.IntoIter.Iterator start }
-    requires clones { ClonesAreEqual ID.is_clone ID.eq }
-    ensures order { IfOk result (λ v. OverNodes ID.eq F.Fn N.FnMut II.IntoIterator
-        II.IntoIter.Iterator NI.IntoIterator NI.IntoIter.Iterator id_fn neighbors_fn start
-        (λ walk starts. IsPostorder walk.graph starts (map walk.node v.items) × HasNoCycle
-        walk.graph starts)) }
-    ensures cycle { IfFails result (MadeOfNode ID.eq F.Fn N.FnMut II.IntoIterator
-        II.IntoIter.Iterator NI.IntoIterator NI.IntoIter.Iterator id_fn neighbors_fn start
-        (C.post cycle_fn) OnCycleFrom) }
+    requires { CanBeOrdered F.Fn N.FnMut C.FnOnce II.IntoIterator II.IntoIter.Iterator
+        NI.IntoIterator NI.IntoIter.Iterator ID.is_clone ID.eq id_fn neighbors_fn cycle_fn start }
+    ensures order { IfOk result (GivesPostorder ID.eq F.Fn N.FnMut II.IntoIterator
+        II.IntoIter.Iterator NI.IntoIterator NI.IntoIter.Iterator id_fn neighbors_fn start) }
+    ensures cycle { FailsOnCycle result (C.post cycle_fn) ID.eq F.Fn N.FnMut II.IntoIterator
+        II.IntoIter.Iterator NI.IntoIterator NI.IntoIter.Iterator id_fn neighbors_fn start }
 {
     let start = AllOk {
         items: start.into_iter(),
@@ -86,19 +79,12 @@ where
     F: Fn(&T) -> ID + Drop,
     N: FnMut(&T) -> NI + Drop,
     C: FnOnce(T) -> E + Drop,
-    requires id_fn { F.IsAlwaysCallable id_fn }
-    requires neighbors_fn { N.IsAlwaysCallable neighbors_fn }
-    requires cycle_fn { C.IsAlwaysCallable cycle_fn }
-    requires lists { ListsEnd N.FnMut NI.IntoIterator NI.IntoIter.Iterator neighbors_fn }
-    requires start { Ends II.IntoIterator II.IntoIter.Iterator start }
-    requires clones { ClonesAreEqual ID.is_clone ID.eq }
-    ensures order { IfOk result (λ v. OverNodes ID.eq F.Fn N.FnMut II.IntoIterator
-        II.IntoIter.Iterator NI.IntoIterator NI.IntoIter.Iterator id_fn neighbors_fn start
-        (λ walk starts. IsPostorder walk.graph starts (reverse (map walk.node v.items)) × HasNoCycle
-        walk.graph starts)) }
-    ensures cycle { IfFails result (MadeOfNode ID.eq F.Fn N.FnMut II.IntoIterator
-        II.IntoIter.Iterator NI.IntoIterator NI.IntoIter.Iterator id_fn neighbors_fn start
-        (C.post cycle_fn) OnCycleFrom) }
+    requires { CanBeOrdered F.Fn N.FnMut C.FnOnce II.IntoIterator II.IntoIter.Iterator
+        NI.IntoIterator NI.IntoIter.Iterator ID.is_clone ID.eq id_fn neighbors_fn cycle_fn start }
+    ensures order { IfOk result (GivesPostorderFromEnd ID.eq F.Fn N.FnMut II.IntoIterator
+        II.IntoIter.Iterator NI.IntoIterator NI.IntoIter.Iterator id_fn neighbors_fn start) }
+    ensures cycle { FailsOnCycle result (C.post cycle_fn) ID.eq F.Fn N.FnMut II.IntoIterator
+        II.IntoIter.Iterator NI.IntoIterator NI.IntoIter.Iterator id_fn neighbors_fn start }
 {
     let mut order = topo_order_forward(alloc, start, id_fn, neighbors_fn, cycle_fn)?;
     order.reverse();

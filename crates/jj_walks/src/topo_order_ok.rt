@@ -1,8 +1,7 @@
 //! The orders of `topo_order`, over items that may fail.
-ghost use Rattle.std.specs.Prelude.{IfOk, map, reverse};
-ghost use Rattle.jj_walks.specs.Graph.{IsPostorder, HasNoCycle, OnCycleFrom};
-ghost use Rattle.jj_walks.specs.Failing.{HasNoFailure};
-ghost use Rattle.jj_walks.specs.Outcomes.{ClonesAreEqual, Ends, FailsOr, IfFails, ListsEnd, OverItems};
+ghost use Rattle.std.specs.Prelude.{IfOk};
+ghost use Rattle.jj_walks.specs.Orders.{FailsOrOnCycle, GivesSoundPostorder, GivesSoundPostorderFromEnd};
+ghost use Rattle.jj_walks.specs.Owed.{CanBeOrdered};
 
 use crate::forward::{Stop, walk_forward};
 use crate::walk_error::WalkError;
@@ -30,19 +29,12 @@ where
     F: Fn(&T) -> ID + Drop,
     N: FnMut(&T) -> NI + Drop,
     C: FnOnce(T) -> E + Drop,
-    requires id_fn { F.IsAlwaysCallable id_fn }
-    requires neighbors_fn { N.IsAlwaysCallable neighbors_fn }
-    requires cycle_fn { C.IsAlwaysCallable cycle_fn }
-    requires lists { ListsEnd N.FnMut NI.IntoIterator NI.IntoIter.Iterator neighbors_fn }
-    requires start { Ends II.IntoIterator II.IntoIter.Iterator start }
-    requires clones { ClonesAreEqual ID.is_clone ID.eq }
-    ensures order { IfOk result (λ v. OverItems ID.eq F.Fn N.FnMut II.IntoIterator
-        II.IntoIter.Iterator NI.IntoIterator NI.IntoIter.Iterator id_fn neighbors_fn start
-        (λ walk items starts. IsPostorder walk.graph starts (map walk.node v.items) × HasNoCycle
-        walk.graph starts × HasNoFailure items starts)) }
-    ensures refused { IfFails result (FailsOr ID.eq F.Fn N.FnMut II.IntoIterator
-        II.IntoIter.Iterator NI.IntoIterator NI.IntoIter.Iterator id_fn neighbors_fn start
-        (C.post cycle_fn) OnCycleFrom) }
+    requires { CanBeOrdered F.Fn N.FnMut C.FnOnce II.IntoIterator II.IntoIter.Iterator
+        NI.IntoIterator NI.IntoIter.Iterator ID.is_clone ID.eq id_fn neighbors_fn cycle_fn start }
+    ensures order { IfOk result (GivesSoundPostorder ID.eq F.Fn N.FnMut II.IntoIterator
+        II.IntoIter.Iterator NI.IntoIterator NI.IntoIter.Iterator id_fn neighbors_fn start) }
+    ensures refused { FailsOrOnCycle result (C.post cycle_fn) ID.eq F.Fn N.FnMut II.IntoIterator
+        II.IntoIter.Iterator NI.IntoIterator NI.IntoIter.Iterator id_fn neighbors_fn start }
 {
     match walk_forward(alloc, start, id_fn, neighbors_fn) {
         Ok(order) => Ok(order),
@@ -75,19 +67,12 @@ where
     F: Fn(&T) -> ID + Drop,
     N: FnMut(&T) -> NI + Drop,
     C: FnOnce(T) -> E + Drop,
-    requires id_fn { F.IsAlwaysCallable id_fn }
-    requires neighbors_fn { N.IsAlwaysCallable neighbors_fn }
-    requires cycle_fn { C.IsAlwaysCallable cycle_fn }
-    requires lists { ListsEnd N.FnMut NI.IntoIterator NI.IntoIter.Iterator neighbors_fn }
-    requires start { Ends II.IntoIterator II.IntoIter.Iterator start }
-    requires clones { ClonesAreEqual ID.is_clone ID.eq }
-    ensures order { IfOk result (λ v. OverItems ID.eq F.Fn N.FnMut II.IntoIterator
-        II.IntoIter.Iterator NI.IntoIterator NI.IntoIter.Iterator id_fn neighbors_fn start
-        (λ walk items starts. IsPostorder walk.graph starts (reverse (map walk.node v.items))
-        × HasNoCycle walk.graph starts × HasNoFailure items starts)) }
-    ensures refused { IfFails result (FailsOr ID.eq F.Fn N.FnMut II.IntoIterator
-        II.IntoIter.Iterator NI.IntoIterator NI.IntoIter.Iterator id_fn neighbors_fn start
-        (C.post cycle_fn) OnCycleFrom) }
+    requires { CanBeOrdered F.Fn N.FnMut C.FnOnce II.IntoIterator II.IntoIter.Iterator
+        NI.IntoIterator NI.IntoIter.Iterator ID.is_clone ID.eq id_fn neighbors_fn cycle_fn start }
+    ensures order { IfOk result (GivesSoundPostorderFromEnd ID.eq F.Fn N.FnMut II.IntoIterator
+        II.IntoIter.Iterator NI.IntoIterator NI.IntoIter.Iterator id_fn neighbors_fn start) }
+    ensures refused { FailsOrOnCycle result (C.post cycle_fn) ID.eq F.Fn N.FnMut II.IntoIterator
+        II.IntoIter.Iterator NI.IntoIterator NI.IntoIter.Iterator id_fn neighbors_fn start }
 {
     let mut order = topo_order_forward_ok(alloc, start, id_fn, neighbors_fn, cycle_fn)?;
     order.reverse();

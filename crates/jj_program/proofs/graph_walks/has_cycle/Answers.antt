@@ -12,8 +12,17 @@ use Rattle.jj_program.proofs.NumberedWalks.{numbered, numbers_apart, number_stan
 use Rattle.jj_program.proofs.ListedGraphs.{none_listed}
 use Rattle.jj_program.proofs.graph_walks.has_cycle.Goals as goal
 
-pub topo_order_forward-order-requires-clause-lists : goal.topo_order_forward-order-requires-clause-lists
-topo_order_forward-order-requires-clause-lists c = always_returns_same _ _ _ (λ a r f h. (λ it b. (search rules, search rules), search (rules, of_calls, h)))
+pub topo_order_forward-order-requires : goal.topo_order_forward-order-requires
+topo_order_forward-order-requires c = record {
+  closures = record {
+    id_fn = search rules;
+    neighbors_fn = search rules;
+    lists = always_returns_same _ _ _ (λ a r f h. (λ it b. (search rules, search rules), search (rules, of_calls, h)));
+  };
+  cycle_fn = search rules;
+  start = search rules;
+  clones = search rules;
+}
 
 pub returns-in-Ok : goal.returns-in-Ok
 returns-in-Ok c =
@@ -33,7 +42,7 @@ returns-in-Ok c =
       ));
     })
     (nodes_among ids (map (λ x. x) p.0) ids starts (All-contains_itself ids)) in
-    none_listed graph ids c.args.graph.now.named (subst (HasNoCycle graph) starts k.1)
+    none_listed graph ids c.args.graph.now.named (subst (HasNoCycle graph) starts k.no_cycle)
 
 pub returns-in-Node : goal.returns-in-Node
 returns-in-Node c =

@@ -48,8 +48,8 @@ loop-node-init g c =
     let visiting : c.new-visiting.result.keys ≡ [] = c.new-visiting.ensures.empty in
     let emitted : c.new-emitted.result.keys ≡ [] = c.new-emitted.ensures.empty in
     record {
-      callable = c.requires.neighbors_fn;
-      lists = c.requires.lists;
+      callable = c.requires.closures.neighbors_fn;
+      lists = c.requires.closures.lists;
       walking = (
         sound.0,
         drained,
@@ -241,9 +241,10 @@ returns-clause-order g c =
       before.walking.1,
       λ walk items shown nodes.
           let known = before.walking.2 walk items shown nodes in
-          let whole = (rw empty at known.1).rest (numbers walk c.loop-node.result.items) ended in (
-            whole,
-            HasNoCycle-from_postorder walk.graph (numbers walk before.walking.0) (numbers walk c.loop-node.result.items) whole,
-            HasNoFailure-from_postorder items walk.graph shown.sound_graph (numbers walk before.walking.0) (numbers walk c.loop-node.result.items) whole known.2,
-          ),
+          let whole = (rw empty at known.1).rest (numbers walk c.loop-node.result.items) ended in
+          record {
+            postorder = whole;
+            no_cycle = HasNoCycle-from_postorder walk.graph (numbers walk before.walking.0) (numbers walk c.loop-node.result.items) whole;
+            no_failure = HasNoFailure-from_postorder items walk.graph shown.sound_graph (numbers walk before.walking.0) (numbers walk c.loop-node.result.items) whole known.2;
+          },
     )

@@ -1,6 +1,5 @@
-use Rattle.std.proofs.Common.{List, ℕ, sym, subst}
-use Rattle.jj_walks.specs.Graph.{HasNoCycle, IsPostorder}
-use Rattle.jj_walks.specs.Failing.{HasNoFailure}
+use Rattle.std.proofs.Common.{sym, subst}
+use Rattle.jj_walks.specs.Orders.{IsSoundPostorder}
 use Rattle.jj_walks.proofs.Walking.{numbers, numbers-turned}
 use Rattle.jj_walks.proofs.topo_order_ok.topo_order_reverse_ok.Goals as goal
 
@@ -10,6 +9,5 @@ returns-clause-order g c =
       found.0,
       found.1,
       λ walk items shown nodes.
-          let Whole : List ℕ → Type 0 = λ order. IsPostorder walk.graph (numbers walk found.0) order × HasNoCycle walk.graph (numbers walk found.0) × HasNoFailure items (numbers walk found.0) in
-          subst Whole (sym (numbers-turned walk c.in_ok-order.order.items c.reverse.new.self.items c.reverse.ensures.items)) (found.2 walk items shown nodes),
+          subst (IsSoundPostorder walk.graph items (numbers walk found.0)) (sym (numbers-turned walk c.in_ok-order.order.items c.reverse.new.self.items c.reverse.ensures.items)) (found.2 walk items shown nodes),
     )

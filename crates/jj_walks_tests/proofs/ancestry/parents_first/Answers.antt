@@ -12,8 +12,17 @@ use Rattle.jj_walks.proofs.Errors.{node_weaker}
 use Rattle.jj_walks_tests.proofs.Ordered.{ordered, on_cycle}
 use Rattle.jj_walks_tests.proofs.ancestry.parents_first.Goals as goal
 
-pub topo_order_forward-requires-clause-lists : goal.topo_order_forward-requires-clause-lists
-topo_order_forward-requires-clause-lists c = always_returns_same _ _ _ (λ a r f h. (λ it b. (search rules, search rules), search (rules, of_calls, h)))
+pub topo_order_forward-requires : goal.topo_order_forward-requires
+topo_order_forward-requires c = record {
+  closures = record {
+    id_fn = search rules;
+    neighbors_fn = search rules;
+    lists = always_returns_same _ _ _ (λ a r f h. (λ it b. (search rules, search rules), search (rules, of_calls, h)));
+  };
+  cycle_fn = search rules;
+  start = search rules;
+  clones = search rules;
+}
 
 pub returns-clause-order : goal.returns-clause-order
 returns-clause-order c =
@@ -32,7 +41,7 @@ returns-clause-order c =
     })
     (rw starts (starts_are_nodes commits c.requires)) in
     let found = rw starts at k in
-    ordered commits c.requires order.items found.0 found.1) c.topo_order_forward.ensures.order
+    ordered commits c.requires order.items found.postorder found.no_cycle) c.topo_order_forward.ensures.order
 
 pub returns-clause-cycle : goal.returns-clause-cycle
 returns-clause-cycle c =

@@ -2,5 +2,14 @@ use Rattle.std.proofs.Common.{rules, of_calls}
 use Rattle.std.proofs.lemmas.Fn.{always_returns_same}
 use Rattle.jj_walks_tests.proofs.tables.forward_ok.Goals as goal
 
-pub topo_order_forward_ok-requires-clause-lists : goal.topo_order_forward_ok-requires-clause-lists
-topo_order_forward_ok-requires-clause-lists c = always_returns_same _ _ _ (λ a r f h. (λ it b. (search rules, search rules), search (rules, of_calls, h)))
+pub topo_order_forward_ok-requires : goal.topo_order_forward_ok-requires
+topo_order_forward_ok-requires c = record {
+  closures = record {
+    id_fn = search rules;
+    neighbors_fn = search rules;
+    lists = always_returns_same _ _ _ (λ a r f h. (λ it b. (search rules, search rules), search (rules, of_calls, h)));
+  };
+  cycle_fn = search rules;
+  start = search rules;
+  clones = search rules;
+}
