@@ -1,6 +1,6 @@
 -- Chunks of a child-first order: some of the nodes that the starts reach, and the starts of a walk
 -- over the others.
--- Cited by contracts of public items: IsNextChunk.
+-- Cited by contracts of public items through LazySteps, NextChunk.
 use Rattle.std.specs.Prelude.{◌≡◌, ◌↔◌, ◌⊎◌, ℕ, ◌≤◌, List, [], ◌∷◌, ◌++◌, length, eqb}
 use Rattle.std.specs.declared.result.Result.TheVariants.{Err}
 use Rattle.std.specs.List.{Contains, IsDistinct}

@@ -1,5 +1,5 @@
 -- What the iterator `DepthFirst` does from a state.
--- Cited by contracts of public items: CanWalk, IsLeftOf, Steps, items_left.
+-- Cited by contracts of public items: CanWalk, Steps, items_left.
 use Rattle.std.specs.Prelude.{◌≡◌, ℕ, ◌+◌, ◌-◌, ◌^◌, Bool, List, [], ◌∷◌, ◌++◌, map, Option, Result, MatchOption, MatchResult, IfErr, IsNone}
 use Rattle.std.specs.Iterator.{Count, IsFiniteIterable}
 use Rattle.std.specs.Fn.{Shared, Mut, AlwaysReturns}

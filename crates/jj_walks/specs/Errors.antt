@@ -1,5 +1,5 @@
 -- What a clause says of the error of a walk.
--- Cited by contracts of public items: IfNode.
+-- Cited by contracts of public items through DfsOkSteps, LazySteps, Outcomes.
 use Rattle.jj_walks.specs.declared.walk_error.WalkError.{WalkError}
 use Rattle.jj_walks.specs.declared.walk_error.WalkError.TheVariants.{Memory, Node}
 

@@ -1,5 +1,5 @@
 -- What the iterator `TopoOrderReverseLazy` does from a state.
--- Cited by contracts of public items: CanGo, FailsNext, IsPlanOf, Steps, items_left.
+-- Cited by contracts of public items: CanGo, Steps, items_left.
 use Rattle.std.specs.Prelude.{◌≡◌, ◌⊎◌, ℕ, ◌+◌, ◌-◌, ◌^◌, ◌==◌, Bool, true, false, cond, List, [], ◌∷◌, ◌++◌, map, reverse, Option, None, Some, Result, Err, MatchOption, MatchResult, eqb}
 use Rattle.std.specs.Iterator.{Count, IsFiniteIterable}
 use Rattle.std.specs.Fn.{Shared, Mut, Called, AlwaysReturns}

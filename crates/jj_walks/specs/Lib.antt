@@ -26,3 +26,9 @@ pub mod ListOrError
 pub mod Outcomes
 pub mod Owed
 pub mod Orders
+pub mod Found
+pub mod Started
+pub mod GreatestOrder
+pub mod NextChunk
+pub mod Reversing
+pub mod Exploring

@@ -1,7 +1,5 @@
 -- What is asked of the closures of a walk, and what a walk gives over whatever they show.
--- Cited by contracts of public items: ClonesAreEqual, Ends, FailsOr, IfFails, InItems,
--- IsReachedBesideCycle, ItemFails, ListsEnd, ListsEndOrFail, OverItems, OverLists, OverNodes,
--- OverTwoSets.
+-- Cited by contracts of public items: ClonesAreEqual, Ends, IfFails, ItemFails.
 use Rattle.std.specs.Prelude.{◌⊎◌, ℕ, Bool, IsTrue, List, [], ◌∷◌, ◌++◌, map, Result, IfOk, IfErr}
 use Rattle.std.specs.declared.result.Result.TheVariants.{Ok, Err}
 use Rattle.std.specs.Fn.{Shared, Mut, AlwaysReturns}

@@ -1,12 +1,12 @@
 -- What a walk asks of those who call it.
--- Cited by contracts of public items: CanBeOrdered.
-use Rattle.std.specs.Prelude.{Bool}
+-- Cited by contracts of public items: CanBeOrdered, CanShow, MayShow.
+use Rattle.std.specs.Prelude.{Bool, Result}
 use Rattle.std.specs.Fn.{Once, Shared, Mut}
 use Rattle.std.specs.declared.iter.IntoIterator as into
 use Rattle.std.specs.declared.iter.Iterator as iter
 use denote.Ref.{Bor}
 use denote.Param.Always.{always_fn, always_mut, always_once}
-use Rattle.jj_walks.specs.Outcomes.{ClonesAreEqual, Ends, ListsEnd}
+use Rattle.jj_walks.specs.Outcomes.{ClonesAreEqual, Ends, ListsEnd, ListsEndOrFail}
 
 module _ {T ID X F N U J : Type 0} (ids : Shared F (Bor T × Unit {0}) ID)
     (lists_of : Mut N (Bor T × Unit {0}) U) where
@@ -27,3 +27,11 @@ module _ {T ID X F N U J : Type 0} (ids : Shared F (Bor T × Unit {0}) ID)
     pub cycle_fn : always_once cycles cycle_of
     pub start : Ends starts start_items from
     pub clones : ClonesAreEqual clone eq
+
+-- as `CanShow`, where the closure answers a list, or an error in its place
+pub record MayShow {T ID E F N U J : Type 0} (ids : Shared F (Bor T × Unit {0}) ID)
+    (lists_of : Mut N (Bor T × Unit {0}) (Result U E)) (value : into.Ghosts U T J)
+    (items : iter.Ghosts J T) (id_of : F) (neighbors_of : N) : Type 0 where
+  pub id_fn : always_fn ids id_of
+  pub neighbors_fn : always_mut lists_of neighbors_of
+  pub lists : ListsEndOrFail lists_of value items neighbors_of

@@ -1,6 +1,6 @@
 -- The reverse of a shown graph: its nodes from the last to the first, each with the edges that lead
 -- to it.
--- Cited by contracts of public items: ShowsById, reversed_graph, shown_graph.
+-- Cited by contracts of public items through Reversing.
 use Rattle.std.specs.Prelude.{◌≡◌, Bool, List, [], ◌∷◌, ◌++◌, map, filter, reverse, if◌then◌else◌}
 use Rattle.std.specs.List.{AllZip, list_any}
 use Rattle.std.specs.Global.{Global}

@@ -2,10 +2,10 @@
 ghost use Rattle.std.specs.Prelude.{◌≡◌, ◌+◌, ◌≤◌, ◌<◌, ◌^◌, ◌&&◌, ◌∷◌, ◌++◌, [], IfOk, IsTrue, OnOk, MatchBool, cond, map};
 ghost use Rattle.std.specs.BinaryHeap.{heap_items, heap_len};
 ghost use Rattle.std.specs.List.Sorted.{IsPermutation};
-ghost use Rattle.jj_walks.specs.CommonNodes.{HasNoCommonCycle, AreClosestCommon};
-ghost use Rattle.jj_walks.specs.Failing.{ReachesFailure};
+ghost use Rattle.jj_walks.specs.Found.{GivesClosestCommon, ListOfSetsFails};
 ghost use Rattle.jj_walks.specs.Marks.{mark_at, joined, grows, marked, starts_waiting, asked, handed_on, sides_met, closest_of};
-ghost use Rattle.jj_walks.specs.Outcomes.{Ends, IfFails, ListsEndOrFail, OverTwoSets};
+ghost use Rattle.jj_walks.specs.Outcomes.{Ends, IfFails};
+ghost use Rattle.jj_walks.specs.Owed.{MayShow};
 
 use crate::walk_error::WalkError;
 use std::alloc::{AllocError, Global};
@@ -222,20 +222,15 @@ where
     NI::IntoIter: Drop,
     F: Fn(&T) -> ID + Drop,
     N: FnMut(&T) -> Result<NI, E> + Drop,
-    requires id_fn { F.IsAlwaysCallable id_fn }
-    requires neighbors_fn { N.IsAlwaysCallable neighbors_fn }
-    requires lists { ListsEndOrFail N.FnMut NI.IntoIterator NI.IntoIter.Iterator neighbors_fn }
+    requires closures { MayShow F.Fn N.FnMut NI.IntoIterator NI.IntoIter.Iterator id_fn neighbors_fn }
     requires set1 { Ends II1.IntoIterator II1.IntoIter.Iterator set1 }
     requires set2 { Ends II2.IntoIterator II2.IntoIter.Iterator set2 }
-    ensures closest { IfOk result (λ v. OverTwoSets ID.eq F.Fn N.FnMut NI.IntoIterator
+    ensures closest { IfOk result (λ v. GivesClosestCommon ID.eq F.Fn N.FnMut NI.IntoIterator
         NI.IntoIter.Iterator id_fn neighbors_fn II1.IntoIterator II1.IntoIter.Iterator
-        II2.IntoIterator II2.IntoIter.Iterator set1 set2 (λ walk items starts1 starts2.
-        HasNoCommonCycle walk.graph starts1 starts2 → AreClosestCommon walk.graph starts1 starts2
-        (map walk.node v.items))) }
-    ensures refused { IfFails result (λ error. OverTwoSets ID.eq F.Fn N.FnMut NI.IntoIterator
+        II2.IntoIterator II2.IntoIter.Iterator set1 set2 v.items) }
+    ensures refused { IfFails result (ListOfSetsFails ID.eq F.Fn N.FnMut NI.IntoIterator
         NI.IntoIter.Iterator id_fn neighbors_fn II1.IntoIterator II1.IntoIter.Iterator
-        II2.IntoIterator II2.IntoIter.Iterator set1 set2 (λ walk items starts1 starts2.
-        ReachesFailure items (starts1 ++ starts2) error)) }
+        II2.IntoIterator II2.IntoIter.Iterator set1 set2) }
 {
     let met = common_nodes(alloc, set1, set2, id_fn, neighbors_fn)?;
     Ok(closest(alloc, met)?)
@@ -261,20 +256,16 @@ where
     NI::IntoIter: Drop,
     F: Fn(&T) -> ID + Drop,
     N: FnMut(&T) -> Result<NI, E> + Drop,
-    requires id_fn { F.IsAlwaysCallable id_fn }
-    requires neighbors_fn { N.IsAlwaysCallable neighbors_fn }
-    requires lists { ListsEndOrFail N.FnMut NI.IntoIterator NI.IntoIter.Iterator neighbors_fn }
+    requires closures { MayShow F.Fn N.FnMut NI.IntoIterator NI.IntoIter.Iterator id_fn neighbors_fn }
     requires set1 { Ends II1.IntoIterator II1.IntoIter.Iterator set1 }
     requires set2 { Ends II2.IntoIterator II2.IntoIter.Iterator set2 }
-    ensures closest { IfOk result (λ met. OverTwoSets ID.eq F.Fn N.FnMut NI.IntoIterator
+    ensures closest { IfOk result (λ met. GivesClosestCommon ID.eq F.Fn N.FnMut NI.IntoIterator
         NI.IntoIter.Iterator id_fn neighbors_fn II1.IntoIterator II1.IntoIter.Iterator
-        II2.IntoIterator II2.IntoIter.Iterator set1 set2 (λ walk items starts1 starts2.
-        HasNoCommonCycle walk.graph starts1 starts2 → AreClosestCommon walk.graph starts1 starts2
-        (map walk.node (closest_of (mark_at ID.eq met.known) met.common.items)))) }
-    ensures refused { IfFails result (λ error. OverTwoSets ID.eq F.Fn N.FnMut NI.IntoIterator
+        II2.IntoIterator II2.IntoIter.Iterator set1 set2
+        (closest_of (mark_at ID.eq met.known) met.common.items)) }
+    ensures refused { IfFails result (ListOfSetsFails ID.eq F.Fn N.FnMut NI.IntoIterator
         NI.IntoIter.Iterator id_fn neighbors_fn II1.IntoIterator II1.IntoIter.Iterator
-        II2.IntoIterator II2.IntoIter.Iterator set1 set2 (λ walk items starts1 starts2.
-        ReachesFailure items (starts1 ++ starts2) error)) }
+        II2.IntoIterator II2.IntoIter.Iterator set1 set2) }
 {
     let mut known = HashMap::new(alloc);
     let mut waiting = BinaryHeap::new(alloc);

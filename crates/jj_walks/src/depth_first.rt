@@ -1,8 +1,9 @@
 //! The depth-first walk as an iterator.
-ghost use Rattle.std.specs.Prelude.{[], IfOk};
+ghost use Rattle.std.specs.Prelude.{IfOk};
 ghost use Rattle.std.specs.Iterator.{at_most};
-ghost use Rattle.jj_walks.specs.DfsSteps.{CanWalk, IsLeftOf};
-ghost use Rattle.jj_walks.specs.Outcomes.{Ends, ListsEnd, OverNodes};
+ghost use Rattle.jj_walks.specs.Outcomes.{Ends};
+ghost use Rattle.jj_walks.specs.Owed.{CanShow};
+ghost use Rattle.jj_walks.specs.Started.{StartsWalk};
 
 use crate::next_item::next_item;
 use crate::walk_error::WalkError;
@@ -74,16 +75,10 @@ where
     NI::IntoIter: Drop,
     F: Fn(&T) -> ID + Drop,
     N: FnMut(&T) -> NI + Drop,
-    requires id_fn { F.IsAlwaysCallable id_fn }
-    requires neighbors_fn { N.IsAlwaysCallable neighbors_fn }
-    requires lists { ListsEnd N.FnMut NI.IntoIterator NI.IntoIter.Iterator neighbors_fn }
+    requires closures { CanShow F.Fn N.FnMut NI.IntoIterator NI.IntoIter.Iterator id_fn neighbors_fn }
     requires start { Ends II.IntoIterator II.IntoIter.Iterator start }
-    ensures can_walk { IfOk result
-        (CanWalk F.Fn N.FnMut NI.into_iter_gives NI.IntoIter.can_next NI.IntoIter.remaining) }
-    ensures left { IfOk result (λ it. OverNodes ID.eq F.Fn N.FnMut II.IntoIterator
-        II.IntoIter.Iterator NI.IntoIterator NI.IntoIter.Iterator id_fn neighbors_fn start
-        (λ walk starts. IsLeftOf F.Fn N.FnMut walk ID.eq NI.into_iter_gives NI.IntoIter.next_gives
-        starts [] it)) }
+    ensures { IfOk result (StartsWalk ID.eq F.Fn N.FnMut II.IntoIterator II.IntoIter.Iterator
+        NI.IntoIterator NI.IntoIter.Iterator id_fn neighbors_fn start) }
 {
     let mut work = Vec::new(alloc);
     for node in start {

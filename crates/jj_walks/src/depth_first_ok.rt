@@ -1,10 +1,9 @@
 //! The depth-first walk over items that may fail, as an iterator.
-ghost use Rattle.std.specs.Prelude.{ℕ, List, [], Result, IfOk};
+ghost use Rattle.std.specs.Prelude.{IfOk};
 ghost use Rattle.std.specs.Iterator.{at_most};
-ghost use Rattle.jj_walks.specs.DfsOkSteps.{CanWalk, IsLeftOf};
-ghost use Rattle.jj_walks.specs.Failing.{FailingGraph, Fault, ShowsItems, AreItems, AreSoundNodes};
-ghost use Rattle.jj_walks.specs.Walk.{Numbered, DrainsTo};
-ghost use Rattle.jj_walks.specs.Outcomes.{Ends, ListsEnd};
+ghost use Rattle.jj_walks.specs.Outcomes.{Ends};
+ghost use Rattle.jj_walks.specs.Owed.{CanShow};
+ghost use Rattle.jj_walks.specs.Started.{StartsWalkOfItems};
 
 use crate::next_item::next_item;
 use crate::walk_error::WalkError;
@@ -70,21 +69,10 @@ where
     NI::IntoIter: Drop,
     F: Fn(&T) -> ID + Drop,
     N: FnMut(&T) -> NI + Drop,
-    requires id_fn { F.IsAlwaysCallable id_fn }
-    requires neighbors_fn { N.IsAlwaysCallable neighbors_fn }
-    requires lists { ListsEnd N.FnMut NI.IntoIterator NI.IntoIter.Iterator neighbors_fn }
+    requires closures { CanShow F.Fn N.FnMut NI.IntoIterator NI.IntoIter.Iterator id_fn neighbors_fn }
     requires start { Ends II.IntoIterator II.IntoIter.Iterator start }
-    ensures can_walk { IfOk result
-        (CanWalk F.Fn N.FnMut NI.into_iter_gives NI.IntoIter.can_next NI.IntoIter.remaining) }
-    ensures left { IfOk result (λ it. (xs : List (Result T E))
-        × DrainsTo II.into_iter_gives II.IntoIter.next_gives start xs
-        × ((walk : Numbered T ID) (items : FailingGraph (Fault E))
-        (starts : List (Result ℕ (Fault E)))
-        → ShowsItems walk items ID.eq F.Fn N.FnMut NI.into_iter_gives NI.IntoIter.next_gives id_fn
-        neighbors_fn
-        → AreItems walk.node xs starts → AreSoundNodes walk items starts
-        → IsLeftOf F.Fn N.FnMut walk items ID.eq NI.into_iter_gives NI.IntoIter.next_gives starts
-        [] it)) }
+    ensures { IfOk result (StartsWalkOfItems ID.eq F.Fn N.FnMut II.IntoIterator
+        II.IntoIter.Iterator NI.IntoIterator NI.IntoIter.Iterator id_fn neighbors_fn start) }
 {
     let mut work = Vec::new(alloc);
     for item in start {

@@ -5,12 +5,10 @@ ghost use Rattle.std.specs.List.{Contains, filter_map};
 ghost use Rattle.std.specs.List.Sorted.{IsPermutation};
 ghost use Rattle.std.specs.BinaryHeap.{heap_items, KeepsHeap};
 ghost use Rattle.std.specs.Ordering.{nat_cmp, ordering_then};
-ghost use Rattle.jj_walks.specs.Failing.{Fault, FailingGraph, HasNoFailure, ShowsItems};
-ghost use Rattle.jj_walks.specs.Collecting.{IsCollecting};
-ghost use Rattle.jj_walks.specs.Graph.{HasNoCycle, IsChildFirst, IsGreatestChildFirst};
-ghost use Rattle.jj_walks.specs.Walk.{Numbered, AreNodes, DrainsTo, IsOrderedLike};
+ghost use Rattle.jj_walks.specs.GreatestOrder.{FailsOrBesideCycle, GivesGreatestOrder, HasCollected};
+ghost use Rattle.jj_walks.specs.Outcomes.{Ends, IfFails, ItemFails};
+ghost use Rattle.jj_walks.specs.Owed.{CanShow};
 ghost use Rattle.jj_walks.specs.ReadyNodes.{IsStuck, IsNotBelow, TakesGreatestReady, edges_to, places_graph};
-ghost use Rattle.jj_walks.specs.Outcomes.{Ends, FailsOr, IfFails, IsReachedBesideCycle, ItemFails, ListsEnd, OverItems};
 
 use crate::walk_error::WalkError;
 use std::alloc::{AllocError, Global};
@@ -39,19 +37,13 @@ where
     F: Fn(&T) -> ID + Drop,
     N: FnMut(&T) -> NI + Drop,
     C: FnOnce(T) -> E + Drop,
-    requires id_fn { F.IsAlwaysCallable id_fn }
-    requires neighbors_fn { N.IsAlwaysCallable neighbors_fn }
+    requires closures { CanShow F.Fn N.FnMut NI.IntoIterator NI.IntoIter.Iterator id_fn neighbors_fn }
     requires cycle_fn { C.IsAlwaysCallable cycle_fn }
-    requires lists { ListsEnd N.FnMut NI.IntoIterator NI.IntoIter.Iterator neighbors_fn }
     requires start { Ends II.IntoIterator II.IntoIter.Iterator start }
-    ensures order { IfOk result (λ v. OverItems ID.eq F.Fn N.FnMut II.IntoIterator
-        II.IntoIter.Iterator NI.IntoIterator NI.IntoIter.Iterator id_fn neighbors_fn start
-        (λ walk items starts. IsChildFirst walk.graph starts (map walk.node v.items) × HasNoCycle
-        walk.graph starts × HasNoFailure items starts × (IsOrderedLike walk T.cmp
-        → IsGreatestChildFirst walk.graph starts (map walk.node v.items)))) }
-    ensures node { IfFails result (FailsOr ID.eq F.Fn N.FnMut II.IntoIterator II.IntoIter.Iterator
-        NI.IntoIterator NI.IntoIter.Iterator id_fn neighbors_fn start (C.post cycle_fn)
-        IsReachedBesideCycle) }
+    ensures order { IfOk result (GivesGreatestOrder T.cmp ID.eq F.Fn N.FnMut II.IntoIterator
+        II.IntoIter.Iterator NI.IntoIterator NI.IntoIter.Iterator id_fn neighbors_fn start) }
+    ensures node { FailsOrBesideCycle result (C.post cycle_fn) ID.eq F.Fn N.FnMut II.IntoIterator
+        II.IntoIter.Iterator NI.IntoIterator NI.IntoIter.Iterator id_fn neighbors_fn start }
 {
     let found = collect_nodes(alloc, start, id_fn, neighbors_fn)?;
     let (targets, indegrees) = link(alloc, &found.index_of, &found.neighbor_ids)?;
@@ -108,20 +100,10 @@ where
     NI::IntoIter: Drop,
     F: Fn(&T) -> ID + Drop,
     N: FnMut(&T) -> NI + Drop,
-    requires id_fn { F.IsAlwaysCallable id_fn }
-    requires neighbors_fn { N.IsAlwaysCallable neighbors_fn }
-    requires lists { ListsEnd N.FnMut NI.IntoIterator NI.IntoIter.Iterator neighbors_fn }
+    requires closures { CanShow F.Fn N.FnMut NI.IntoIterator NI.IntoIter.Iterator id_fn neighbors_fn }
     requires start { Ends II.IntoIterator II.IntoIter.Iterator start }
-    ensures collected { IfOk result (λ found. (xs given : List T)
-        × DrainsTo II.into_iter_gives II.IntoIter.next_gives start (map Ok xs)
-        × (found.nodes.items ≡ map (λ x. Some x) given)
-        × (length found.neighbor_ids.items ≡ length given)
-        × ((i : ID) (k : ℕ) → get ID.eq found.index_of i ≡ Some k → k < length given)
-        × ((walk : Numbered T ID) (items : FailingGraph (Fault E))
-        → ShowsItems walk items ID.eq F.Fn N.FnMut NI.into_iter_gives NI.IntoIter.next_gives id_fn
-        neighbors_fn → AreNodes walk (map walk.node xs)
-        → IsCollecting walk items (map walk.node xs) (get ID.eq found.index_of) [] given
-        (map (λ v. v.items) found.neighbor_ids.items))) }
+    ensures collected { IfOk result (HasCollected ID.eq F.Fn N.FnMut II.IntoIterator
+        II.IntoIter.Iterator NI.IntoIterator NI.IntoIter.Iterator id_fn neighbors_fn start) }
     ensures failed { IfFails result (ItemFails ID.eq F.Fn N.FnMut II.IntoIterator
         II.IntoIter.Iterator NI.IntoIterator NI.IntoIter.Iterator id_fn neighbors_fn start) }
 {

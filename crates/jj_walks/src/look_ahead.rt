@@ -1,17 +1,10 @@
 //! Looking ahead from several starts, as far as one node that all explored nodes reach, or to the
 //! roots.
-ghost use Rattle.std.specs.Prelude.{◌≡◌, ℕ, ◌<◌, ◌≤◌, ◌∷◌, List, [], map, length, true, IfOk, IfErr, IfSome, IfNone, MatchOption, Ok};
-ghost use Rattle.std.specs.HashMap.{get};
+ghost use Rattle.std.specs.Prelude.{◌≡◌, ◌≤◌, ◌∷◌, [], length, true, IfOk, IfSome, IfNone};
 ghost use Rattle.std.specs.List.Sorted.{IsPermutation};
 ghost use Rattle.std.specs.BinaryHeap.{heap_items};
-ghost use Rattle.std.specs.Fn.{AlwaysReturns};
-ghost use Rattle.std.specs.Iterator.{IsFiniteIterable};
-ghost use Rattle.jj_walks.specs.Chunks.{IsChunkOfMany, IsStretch, NoneFailed};
-ghost use Rattle.jj_walks.specs.Errors.{IfNode};
-ghost use Rattle.jj_walks.specs.Graph.{ReachedFrom, ReachesCycle};
-ghost use Rattle.jj_walks.specs.Failing.{Fault, FailingGraph, ReachesFailure, ShowsItems};
-ghost use Rattle.jj_walks.specs.LookingAhead.{HasLooked};
-ghost use Rattle.jj_walks.specs.Walk.{Numbered, AreNodes};
+ghost use Rattle.jj_walks.specs.Exploring.{HasChunk, HasExplored, ItemBelowFails, KeepsShowing, ListsNeighbors, NeighborFails};
+ghost use Rattle.jj_walks.specs.Outcomes.{IfFails, ListsEnd};
 
 use crate::greatest_order::{Collected, link, take_greatest_first};
 use crate::walk_error::WalkError;
@@ -71,29 +64,18 @@ impl<F, N> Shown<F, N> {
         F: Fn(&T) -> ID,
         N: FnMut(&T) -> NI,
         requires neighbors_fn { N.IsAlwaysCallable self.old.neighbors_fn }
-        requires lists { AlwaysReturns N.FnMut
-            (λ a r. IsFiniteIterable NI.into_iter_gives NI.IntoIter.can_next NI.IntoIter.remaining
-            r) self.old.neighbors_fn }
+        requires lists { ListsEnd N.FnMut NI.IntoIterator NI.IntoIter.Iterator
+            self.old.neighbors_fn }
         ensures id_fn { self.new.id_fn ≡ self.old.id_fn }
         ensures neighbors_fn { N.IsAlwaysCallable self.new.neighbors_fn }
-        ensures lists { AlwaysReturns N.FnMut (λ a r.
-            IsFiniteIterable NI.into_iter_gives NI.IntoIter.can_next NI.IntoIter.remaining r)
+        ensures lists { ListsEnd N.FnMut NI.IntoIterator NI.IntoIter.Iterator
             self.new.neighbors_fn }
-        ensures shown { (walk : Numbered T ID) (items : FailingGraph (Fault E))
-            → ShowsItems walk items ID.eq F.Fn N.FnMut NI.into_iter_gives NI.IntoIter.next_gives
-            self.old.id_fn self.old.neighbors_fn
-            → ShowsItems walk items ID.eq F.Fn N.FnMut NI.into_iter_gives NI.IntoIter.next_gives
-            self.old.id_fn self.new.neighbors_fn }
-        ensures listed { IfOk result (λ v. (walk : Numbered T ID) (items : FailingGraph (Fault E))
-            → ShowsItems walk items ID.eq F.Fn N.FnMut NI.into_iter_gives NI.IntoIter.next_gives
-            self.old.id_fn self.old.neighbors_fn → walk.is_node (walk.node node.now) ≡ true
-            → (map walk.node v.items ≡ walk.graph (walk.node node.now))
-            × (items (walk.node node.now) ≡ map (λ x. Ok (walk.node x)) v.items)) }
-        ensures failed { IfErr result (λ e. IfNode e
-            (λ error. (walk : Numbered T ID) (items : FailingGraph (Fault E))
-            → ShowsItems walk items ID.eq F.Fn N.FnMut NI.into_iter_gives NI.IntoIter.next_gives
-            self.old.id_fn self.old.neighbors_fn → walk.is_node (walk.node node.now) ≡ true
-            → ReachesFailure items (walk.node node.now ∷ []) error)) }
+        ensures shown { KeepsShowing ID.eq F.Fn N.FnMut NI.IntoIterator NI.IntoIter.Iterator
+            self.old self.new }
+        ensures listed { IfOk result (ListsNeighbors ID.eq F.Fn N.FnMut NI.IntoIterator
+            NI.IntoIter.Iterator self.old node.now) }
+        ensures failed { IfFails result (NeighborFails ID.eq F.Fn N.FnMut NI.IntoIterator
+            NI.IntoIter.Iterator self.old node.now) }
     {
         let mut list = Vec::new(alloc);
         for neighbor in (self.neighbors_fn)(node) {
@@ -121,33 +103,16 @@ impl<F, N> Shown<F, N> {
         N: FnMut(&T) -> NI,
         requires id_fn { F.IsAlwaysCallable self.old.id_fn }
         requires neighbors_fn { N.IsAlwaysCallable self.old.neighbors_fn }
-        requires lists { AlwaysReturns N.FnMut
-            (λ a r. IsFiniteIterable NI.into_iter_gives NI.IntoIter.can_next NI.IntoIter.remaining
-            r) self.old.neighbors_fn }
+        requires lists { ListsEnd N.FnMut NI.IntoIterator NI.IntoIter.Iterator
+            self.old.neighbors_fn }
         ensures id_fn { self.new.id_fn ≡ self.old.id_fn }
         ensures neighbors_fn { N.IsAlwaysCallable self.new.neighbors_fn }
-        ensures lists { AlwaysReturns N.FnMut (λ a r.
-            IsFiniteIterable NI.into_iter_gives NI.IntoIter.can_next NI.IntoIter.remaining r)
+        ensures lists { ListsEnd N.FnMut NI.IntoIterator NI.IntoIter.Iterator
             self.new.neighbors_fn }
-        ensures explored { IfOk result (λ r. (given : List T)
-            × (r.0.nodes.items ≡ map (λ x. Some x) given)
-            × (length r.0.neighbor_ids.items ≡ length given)
-            × ((i : ID) (k : ℕ) → get ID.eq r.0.index_of i ≡ Some k → k < length given)
-            × (given ≡ [] → r.1.items ≡ []) × (length r.1.items ≤ 1)
-            × ((walk : Numbered T ID) (items : FailingGraph (Fault E))
-            → ShowsItems walk items ID.eq F.Fn N.FnMut NI.into_iter_gives NI.IntoIter.next_gives
-            self.old.id_fn self.old.neighbors_fn
-            → AreNodes walk (map walk.node start.items)
-            → ShowsItems walk items ID.eq F.Fn N.FnMut NI.into_iter_gives NI.IntoIter.next_gives
-            self.old.id_fn self.new.neighbors_fn
-            × HasLooked walk items (map walk.node start.items)
-            (get ID.eq r.0.index_of) r.1.items given (map (λ v. v.items) r.0.neighbor_ids.items))) }
-        ensures failed { IfErr result (λ e. IfNode e (λ error.
-            (walk : Numbered T ID) (items : FailingGraph (Fault E))
-            → ShowsItems walk items ID.eq F.Fn N.FnMut NI.into_iter_gives NI.IntoIter.next_gives
-            self.old.id_fn self.old.neighbors_fn
-            → AreNodes walk (map walk.node start.items)
-            → ReachesFailure items (map walk.node start.items) error)) }
+        ensures explored { IfOk result (HasExplored ID.eq F.Fn N.FnMut NI.IntoIterator
+            NI.IntoIter.Iterator self.old self.new start.items) }
+        ensures failed { IfFails result (ItemBelowFails ID.eq F.Fn N.FnMut NI.IntoIterator
+            NI.IntoIter.Iterator self.old start.items) }
     {
         let mut waiting = BinaryHeap::from(start);
         let mut nodes = Vec::new(alloc);
@@ -197,33 +162,16 @@ impl<F, N> Shown<F, N> {
         N: FnMut(&T) -> NI,
         requires id_fn { F.IsAlwaysCallable self.old.id_fn }
         requires neighbors_fn { N.IsAlwaysCallable self.old.neighbors_fn }
-        requires lists { AlwaysReturns N.FnMut
-            (λ a r. IsFiniteIterable NI.into_iter_gives NI.IntoIter.can_next NI.IntoIter.remaining
-            r) self.old.neighbors_fn }
+        requires lists { ListsEnd N.FnMut NI.IntoIterator NI.IntoIter.Iterator
+            self.old.neighbors_fn }
         ensures id_fn { self.new.id_fn ≡ self.old.id_fn }
         ensures neighbors_fn { N.IsAlwaysCallable self.new.neighbors_fn }
-        ensures lists { AlwaysReturns N.FnMut (λ a r.
-            IsFiniteIterable NI.into_iter_gives NI.IntoIter.can_next NI.IntoIter.remaining r)
+        ensures lists { ListsEnd N.FnMut NI.IntoIterator NI.IntoIter.Iterator
             self.new.neighbors_fn }
-        ensures chunk { IfOk result (λ chunk.
-            (walk : Numbered T ID) (items : FailingGraph (Fault E))
-            → ShowsItems walk items ID.eq F.Fn N.FnMut NI.into_iter_gives NI.IntoIter.next_gives
-            self.old.id_fn self.old.neighbors_fn
-            → AreNodes walk (map walk.node start.items)
-            → ShowsItems walk items ID.eq F.Fn N.FnMut NI.into_iter_gives NI.IntoIter.next_gives
-            self.old.id_fn self.new.neighbors_fn
-            × MatchOption chunk.stuck (IsChunkOfMany walk.graph (map walk.node start.items)
-            (map walk.node chunk.nodes.items) (map walk.node chunk.left.items)
-            × IsStretch walk.graph (map walk.node start.items) (map walk.node chunk.nodes.items)
-            (map walk.node chunk.left.items) × NoneFailed items (map walk.node chunk.nodes.items))
-            (λ x. ReachedFrom walk.graph (map walk.node start.items) (walk.node x)
-            × ReachesCycle walk.graph (map walk.node start.items))) }
-        ensures failed { IfErr result (λ e. IfNode e (λ error.
-            (walk : Numbered T ID) (items : FailingGraph (Fault E))
-            → ShowsItems walk items ID.eq F.Fn N.FnMut NI.into_iter_gives NI.IntoIter.next_gives
-            self.old.id_fn self.old.neighbors_fn
-            → AreNodes walk (map walk.node start.items)
-            → ReachesFailure items (map walk.node start.items) error)) }
+        ensures chunk { IfOk result (HasChunk ID.eq F.Fn N.FnMut NI.IntoIterator
+            NI.IntoIter.Iterator self.old self.new start.items) }
+        ensures failed { IfFails result (ItemBelowFails ID.eq F.Fn N.FnMut NI.IntoIterator
+            NI.IntoIter.Iterator self.old start.items) }
     {
         let (found, left) = self.explore(alloc, start)?;
         let (targets, indegrees) = link(alloc, &found.index_of, &found.neighbor_ids)?;

@@ -1,10 +1,10 @@
 //! The nodes of a set that no other node of it reaches.
-ghost use Rattle.std.specs.Prelude.{◌≡◌, ◌+◌, ◌≤◌, ◌++◌, ◌∷◌, [], true, false, IfOk, OnOk, IfSome, IfNone, IsTrue, map, length};
+ghost use Rattle.std.specs.Prelude.{◌≡◌, ◌+◌, ◌≤◌, ◌++◌, ◌∷◌, [], true, false, IfOk, OnOk, IfSome, IfNone, IsTrue, length};
 ghost use Rattle.std.specs.HashSet.{contains, Updates, hash_set_len, IsUnique};
 ghost use Rattle.std.specs.List.{Contains};
-ghost use Rattle.jj_walks.specs.Graph.{HasNoCycle, IsMaximalIn};
-ghost use Rattle.jj_walks.specs.Walk.{StandsForNodes};
-ghost use Rattle.jj_walks.specs.Outcomes.{ClonesAreEqual, Ends, ListsEnd, OverNodes};
+ghost use Rattle.jj_walks.specs.Found.{GivesHeads};
+ghost use Rattle.jj_walks.specs.Outcomes.{ClonesAreEqual, Ends};
+ghost use Rattle.jj_walks.specs.Owed.{CanShow};
 
 use crate::all_ok::AllOk;
 use crate::maximal_ok::heads_ok;
@@ -77,15 +77,11 @@ where
     NI::IntoIter: Drop,
     F: Fn(&T) -> ID + Drop,
     N: FnMut(&T) -> NI + Drop,
-    requires id_fn { F.IsAlwaysCallable id_fn }
-    requires neighbors_fn { N.IsAlwaysCallable neighbors_fn }
-    requires lists { ListsEnd N.FnMut NI.IntoIterator NI.IntoIter.Iterator neighbors_fn }
+    requires closures { CanShow F.Fn N.FnMut NI.IntoIterator NI.IntoIter.Iterator id_fn neighbors_fn }
     requires start { Ends II.IntoIterator II.IntoIter.Iterator start }
     requires clones { ClonesAreEqual T.is_clone T.eq }
-    ensures heads { IfOk result (λ s. OverNodes ID.eq F.Fn N.FnMut II.IntoIterator
-        II.IntoIter.Iterator NI.IntoIterator NI.IntoIter.Iterator id_fn neighbors_fn start
-        (λ walk starts. HasNoCycle walk.graph starts → StandsForNodes walk T.eq → IsMaximalIn
-        walk.graph starts (map walk.node s.keys))) }
+    ensures heads { IfOk result (GivesHeads T.eq ID.eq F.Fn N.FnMut II.IntoIterator
+        II.IntoIter.Iterator NI.IntoIterator NI.IntoIter.Iterator id_fn neighbors_fn start) }
 {
     let start = AllOk {
         items: start.into_iter(),

@@ -1,10 +1,9 @@
 //! The maximal nodes of a set, where a list of neighbours may fail as a whole.
-ghost use Rattle.std.specs.Prelude.{Result, IfOk, map};
-ghost use Rattle.jj_walks.specs.Graph.{HasNoCycle, IsMaximalIn};
-ghost use Rattle.jj_walks.specs.Failing.{ReachesFailure};
+ghost use Rattle.std.specs.Prelude.{Result, IfOk};
+ghost use Rattle.jj_walks.specs.Found.{GivesHeadsOfLists, ListFails};
 ghost use Rattle.jj_walks.specs.ListOrError.{StandsFor};
-ghost use Rattle.jj_walks.specs.Walk.{StandsForNodes};
-ghost use Rattle.jj_walks.specs.Outcomes.{ClonesAreEqual, Ends, IfFails, ListsEndOrFail, OverLists};
+ghost use Rattle.jj_walks.specs.Outcomes.{ClonesAreEqual, Ends, IfFails};
+ghost use Rattle.jj_walks.specs.Owed.{MayShow};
 
 use crate::all_ok::AllOk;
 use crate::list_or_error::answered;
@@ -32,18 +31,13 @@ where
     NI::IntoIter: Drop,
     F: Fn(&T) -> ID + Drop,
     N: FnMut(&T) -> Result<NI, E> + Drop,
-    requires id_fn { F.IsAlwaysCallable id_fn }
-    requires neighbors_fn { N.IsAlwaysCallable neighbors_fn }
-    requires lists { ListsEndOrFail N.FnMut NI.IntoIterator NI.IntoIter.Iterator neighbors_fn }
+    requires closures { MayShow F.Fn N.FnMut NI.IntoIterator NI.IntoIter.Iterator id_fn neighbors_fn }
     requires start { Ends II.IntoIterator II.IntoIter.Iterator start }
     requires clones { ClonesAreEqual T.is_clone T.eq }
-    ensures heads { IfOk result (λ s. OverLists ID.eq F.Fn N.FnMut NI.IntoIterator
-        NI.IntoIter.Iterator id_fn neighbors_fn II.IntoIterator II.IntoIter.Iterator start
-        (λ walk items starts. HasNoCycle walk.graph starts → StandsForNodes walk T.eq → IsMaximalIn
-        walk.graph starts (map walk.node s.keys))) }
-    ensures refused { IfFails result (λ error. OverLists ID.eq F.Fn N.FnMut NI.IntoIterator
-        NI.IntoIter.Iterator id_fn neighbors_fn II.IntoIterator II.IntoIter.Iterator start
-        (λ walk items starts. ReachesFailure items starts error)) }
+    ensures heads { IfOk result (GivesHeadsOfLists T.eq ID.eq F.Fn N.FnMut NI.IntoIterator
+        NI.IntoIter.Iterator id_fn neighbors_fn II.IntoIterator II.IntoIter.Iterator start) }
+    ensures refused { IfFails result (ListFails ID.eq F.Fn N.FnMut NI.IntoIterator
+        NI.IntoIter.Iterator id_fn neighbors_fn II.IntoIterator II.IntoIter.Iterator start) }
 {
     let start = AllOk {
         items: start.into_iter(),

@@ -1,8 +1,8 @@
 //! The maximal nodes of a set, over items that may fail.
-ghost use Rattle.std.specs.Prelude.{IfOk, map};
-ghost use Rattle.jj_walks.specs.Graph.{HasNoCycle, IsMaximalIn};
-ghost use Rattle.jj_walks.specs.Walk.{StandsForNodes};
-ghost use Rattle.jj_walks.specs.Outcomes.{ClonesAreEqual, Ends, IfFails, ItemFails, ListsEnd, OverItems};
+ghost use Rattle.std.specs.Prelude.{IfOk};
+ghost use Rattle.jj_walks.specs.Found.{GivesHeadsOfItems};
+ghost use Rattle.jj_walks.specs.Outcomes.{ClonesAreEqual, Ends, IfFails, ItemFails};
+ghost use Rattle.jj_walks.specs.Owed.{CanShow};
 
 use crate::maximal::{meet, next_to_ask};
 use crate::walk_error::WalkError;
@@ -28,15 +28,11 @@ where
     NI::IntoIter: Drop,
     F: Fn(&T) -> ID + Drop,
     N: FnMut(&T) -> NI + Drop,
-    requires id_fn { F.IsAlwaysCallable id_fn }
-    requires neighbors_fn { N.IsAlwaysCallable neighbors_fn }
-    requires lists { ListsEnd N.FnMut NI.IntoIterator NI.IntoIter.Iterator neighbors_fn }
+    requires closures { CanShow F.Fn N.FnMut NI.IntoIterator NI.IntoIter.Iterator id_fn neighbors_fn }
     requires start { Ends II.IntoIterator II.IntoIter.Iterator start }
     requires clones { ClonesAreEqual T.is_clone T.eq }
-    ensures heads { IfOk result (λ s. OverItems ID.eq F.Fn N.FnMut II.IntoIterator
-        II.IntoIter.Iterator NI.IntoIterator NI.IntoIter.Iterator id_fn neighbors_fn start
-        (λ walk items starts. HasNoCycle walk.graph starts → StandsForNodes walk T.eq → IsMaximalIn
-        walk.graph starts (map walk.node s.keys))) }
+    ensures heads { IfOk result (GivesHeadsOfItems T.eq ID.eq F.Fn N.FnMut II.IntoIterator
+        II.IntoIter.Iterator NI.IntoIterator NI.IntoIter.Iterator id_fn neighbors_fn start) }
     ensures refused { IfFails result (ItemFails ID.eq F.Fn N.FnMut II.IntoIterator
         II.IntoIter.Iterator NI.IntoIterator NI.IntoIter.Iterator id_fn neighbors_fn start) }
 {

@@ -1,13 +1,9 @@
 //! The reverse of a shown graph.
-ghost use Rattle.std.specs.Prelude.{◌≡◌, ◌++◌, ◌∷◌, [], IfOk, IfErr, List, map, if◌then◌else◌};
-ghost use Rattle.std.specs.Fn.{FnReturnsAt};
-ghost use Rattle.std.specs.Global.{Global as global};
-ghost use Rattle.std.specs.Iterator.{Drains, IsFinite, Yields};
-ghost use Rattle.std.specs.declared.vec.Vec.{Vec as vec};
-ghost use Rattle.jj_walks.specs.Errors.{IfNode};
+ghost use Rattle.std.specs.Prelude.{◌≡◌, [], IfOk, if◌then◌else◌};
+ghost use Rattle.std.specs.Iterator.{IsFinite};
 ghost use Rattle.jj_walks.specs.Listed.{items_at};
-ghost use Rattle.jj_walks.specs.Reversed.{ShowsById, reversed_graph, shown_graph};
-ghost use denote.Ref.{Bor};
+ghost use Rattle.jj_walks.specs.Outcomes.{IfFails};
+ghost use Rattle.jj_walks.specs.Reversing.{GivesReversed, InputFails};
 
 use crate::graph::{GraphEdge, GraphNode};
 use crate::lists::push_at;
@@ -36,14 +32,8 @@ where
     requires as_id { F.IsAlwaysCallable as_id }
     requires callable { I.can_next input }
     requires finite { IsFinite (I.remaining input) }
-    ensures reversed { IfOk result (λ v. (nodes : List (N × vec (GraphEdge ID) global))
-        × Drains I.next_gives input (map Ok nodes)
-        × ((id : N → ID) → ((x : N) (r : Bor ID) → FnReturnsAt F.Fn as_id x r → r.now ≡ id x)
-        → ShowsById ID.is_clone id (reversed_graph ID.eq id (shown_graph nodes))
-        (shown_graph v.items))) }
-    ensures refused { IfErr result (λ e. IfNode e
-        (λ error. (nodes : List (N × vec (GraphEdge ID) global)) × (t : I)
-        × Yields I.next_gives input (map Ok nodes ++ Err error ∷ []) t)) }
+    ensures reversed { IfOk result (GivesReversed F.Fn I.next_gives ID.is_clone ID.eq input as_id) }
+    ensures refused { IfFails result (InputFails I.next_gives input) }
 {
     let mut nodes = Vec::new(alloc);
     let mut incoming = HashMap::new(alloc);

@@ -1,8 +1,7 @@
 //! A child-first order, a chunk at a time.
-ghost use Rattle.std.specs.Prelude.{◌≡◌, ◌⊎◌, [], map, IfOk, OnErr};
-ghost use Rattle.jj_walks.specs.Chunks.{IsNextChunk};
-ghost use Rattle.jj_walks.specs.Failing.{ReachesFailure};
-ghost use Rattle.jj_walks.specs.Outcomes.{IfFails, InItems, IsReachedBesideCycle, ListsEnd};
+ghost use Rattle.std.specs.Prelude.{◌≡◌, [], IfOk, OnErr};
+ghost use Rattle.jj_walks.specs.NextChunk.{FailsAtChunk, GivesNextChunk};
+ghost use Rattle.jj_walks.specs.Owed.{CanShow};
 
 use crate::look_ahead::{Chunk, Shown};
 use crate::walk_error::WalkError;
@@ -34,21 +33,13 @@ where
     F: Fn(&T) -> ID + Drop,
     N: FnMut(&T) -> NI + Drop,
     C: FnOnce(T) -> E + Drop,
-    requires id_fn { F.IsAlwaysCallable id_fn }
-    requires neighbors_fn { N.IsAlwaysCallable neighbors_fn }
+    requires closures { CanShow F.Fn N.FnMut NI.IntoIterator NI.IntoIter.Iterator id_fn neighbors_fn }
     requires cycle_fn { C.IsAlwaysCallable cycle_fn }
-    requires lists { ListsEnd N.FnMut NI.IntoIterator NI.IntoIter.Iterator neighbors_fn }
-    ensures chunk { IfOk result (λ chunk. InItems ID.eq F.Fn N.FnMut NI.IntoIterator
-        NI.IntoIter.Iterator id_fn neighbors_fn start.old.items
-        (λ walk items starts. IsNextChunk walk.graph starts (map walk.node chunk.items)
-        (map walk.node start.new.items))) }
+    ensures chunk { IfOk result (λ chunk. GivesNextChunk ID.eq F.Fn N.FnMut NI.IntoIterator
+        NI.IntoIter.Iterator id_fn neighbors_fn start.old.items chunk.items start.new.items) }
     ensures refused_start { OnErr result (start.new.items ≡ []) }
-    ensures node { IfFails result (λ error. InItems ID.eq F.Fn N.FnMut NI.IntoIterator
-        NI.IntoIter.Iterator id_fn neighbors_fn start.old.items
-        (λ walk items starts. ReachesFailure items starts error) ⊎ ((x : T) × C.post cycle_fn x
-        error × InItems ID.eq F.Fn N.FnMut NI.IntoIterator NI.IntoIter.Iterator id_fn neighbors_fn
-        start.old.items
-        (λ walk items starts. IsReachedBesideCycle walk.graph starts (walk.node x)))) }
+    ensures node { FailsAtChunk result (C.post cycle_fn) ID.eq F.Fn N.FnMut NI.IntoIterator
+        NI.IntoIter.Iterator id_fn neighbors_fn start.old.items }
 {
     let mut graph = Shown {
         id_fn,

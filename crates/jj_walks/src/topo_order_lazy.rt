@@ -1,9 +1,9 @@
 //! A child-first order whose nodes come as they are asked for.
-ghost use Rattle.std.specs.Prelude.{◌≡◌, ◌++◌, ◌∷◌, ◌⊎◌, List, [], Ok, Err, map, IfOk, false};
+ghost use Rattle.std.specs.Prelude.{IfOk};
 ghost use Rattle.std.specs.Iterator.{at_most};
-ghost use Rattle.jj_walks.specs.Failing.{BeginsWith};
-ghost use Rattle.jj_walks.specs.LazySteps.{CanGo, FailsNext, IsPlanOf};
-ghost use Rattle.jj_walks.specs.Outcomes.{Ends, ListsEnd, OverItems};
+ghost use Rattle.jj_walks.specs.Outcomes.{Ends};
+ghost use Rattle.jj_walks.specs.Owed.{CanShow};
+ghost use Rattle.jj_walks.specs.Started.{StartsOrder};
 
 use crate::lazy_plan::Plan;
 use crate::look_ahead::Shown;
@@ -83,20 +83,12 @@ where
     F: Fn(&T) -> ID + Drop,
     N: FnMut(&T) -> NI + Drop,
     C: FnMut(T) -> E + Drop,
-    requires id_fn { F.IsAlwaysCallable id_fn }
-    requires neighbors_fn { N.IsAlwaysCallable neighbors_fn }
+    requires closures { CanShow F.Fn N.FnMut NI.IntoIterator NI.IntoIter.Iterator id_fn neighbors_fn }
     requires cycle_fn { C.IsAlwaysCallable cycle_fn }
-    requires lists { ListsEnd N.FnMut NI.IntoIterator NI.IntoIter.Iterator neighbors_fn }
     requires start { Ends II.IntoIterator II.IntoIter.Iterator start }
-    ensures can_go { IfOk result (λ it. CanGo F.Fn N.FnMut C.FnMut NI.into_iter_gives
-        NI.IntoIter.can_next NI.IntoIter.remaining it.plan) }
-    ensures has_ended { IfOk result (λ it. it.has_ended ≡ false) }
-    ensures left { IfOk result (λ it. (OverItems ID.eq F.Fn N.FnMut II.IntoIterator
-        II.IntoIter.Iterator NI.IntoIterator NI.IntoIter.Iterator id_fn neighbors_fn start
-        (λ walk items starts. IsPlanOf F.Fn N.FnMut walk items ID.eq NI.into_iter_gives
-        NI.IntoIter.next_gives cycle_fn starts [] it.plan)) ⊎ ((xs : List T) × (error : E)
-        × BeginsWith II.into_iter_gives II.IntoIter.next_gives start (map Ok xs ++ Err error ∷ [])
-        × FailsNext error it.plan)) }
+    ensures { IfOk result (StartsOrder ID.eq F.Fn N.FnMut C.FnMut II.IntoIterator
+        II.IntoIter.Iterator NI.IntoIterator NI.IntoIter.Iterator id_fn neighbors_fn cycle_fn
+        start) }
 {
     let mut nodes = Vec::new(alloc);
     let mut failed = None;

@@ -10,8 +10,12 @@ use Rattle.jj_program.proofs.NumberedWalks.{numbered, numbers_apart, number_stan
 use Rattle.jj_program.proofs.ListedGraphs.{sound_neighbors, none_failed, items_neighbors, no_beginning, given_ids}
 use Rattle.jj_program.proofs.graph_walks.greatest_order.Goals as goal
 
-pub topo_order_reverse_ord-order-requires-clause-lists : goal.topo_order_reverse_ord-order-requires-clause-lists
-topo_order_reverse_ord-order-requires-clause-lists c = always_returns_same _ _ _ (λ a r f h. (λ it b. (search rules, search rules), search (rules, of_calls, h)))
+pub topo_order_reverse_ord-order-requires-clause-closures : goal.topo_order_reverse_ord-order-requires-clause-closures
+topo_order_reverse_ord-order-requires-clause-closures c = record {
+  id_fn = search rules;
+  neighbors_fn = search rules;
+  lists = always_returns_same _ _ _ (λ a r f h. (λ it b. (search rules, search rules), search (rules, of_calls, h)));
+}
 
 pub unreachable-requires : goal.unreachable-requires
 unreachable-requires c =
@@ -64,5 +68,5 @@ returns-in-Ok c =
       neighbors = always_returns_same _ _ _ (λ a r f h. (λ here. items_neighbors r (graph a.0.now) (search (rules, of_calls, h)), search (rules, of_calls, h)));
     })
     (nodes_among ids (map (λ x. x) p.0) c.args.ids.now starts c.requires.named) in
-    let greatest = k.3 (λ x y a b. refl) in
+    let greatest = k.greatest (λ x y a b. refl) in
     subst (λ ids. IsGreatestChildFirst graph ids c.in-Ok.order.items) starts (subst (λ order. IsGreatestChildFirst graph (map (λ x. x) p.0) order) (map-id c.in-Ok.order.items) greatest)

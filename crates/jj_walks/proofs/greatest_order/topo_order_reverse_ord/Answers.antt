@@ -76,5 +76,10 @@ returns-in-None-clause-order g c =
       λ walk items shown nodes.
           let collected = p.6 walk items shown nodes in
           let o = order_is walk items g.T.Ord.cmp (map walk.node p.0) find p.1 ids (map (λ v. v.items) c.deref-2.result.now) shown.sound_graph shown.closed nodes collected sizes linked p.5 q.0 takes c.in_ok-order.order.items (rw (p.3) at q.1) all in
-          (o.0, o.1, nothing_failed walk items g.T.Ord.cmp (map walk.node p.0) find p.1 ids (map (λ v. v.items) c.deref-2.result.now) shown.sound_graph shown.closed nodes collected sizes linked p.5, o.2),
+          record {
+            child_first = o.0;
+            no_cycle = o.1;
+            no_failure = nothing_failed walk items g.T.Ord.cmp (map walk.node p.0) find p.1 ids (map (λ v. v.items) c.deref-2.result.now) shown.sound_graph shown.closed nodes collected sizes linked p.5;
+            greatest = o.2;
+          },
     )

@@ -8,8 +8,12 @@ use Rattle.jj_walks_tests.proofs.Numbering.{walk_of, walk_closed, items_of, item
 use Rattle.jj_walks_tests.proofs.Sound.{commits_drained, shown_are, never_fails, commits_shown, known_starts, known_are_nodes, child_first_ids, no_failure}
 use Rattle.jj_walks_tests.proofs.children_first.children_first.Goals as goal
 
-pub topo_order_reverse_lazy-requires-clause-lists : goal.topo_order_reverse_lazy-requires-clause-lists
-topo_order_reverse_lazy-requires-clause-lists c = always_returns_same _ _ _ (λ a r f h. (λ it b. (search rules, search rules), search (rules, of_calls, h)))
+pub topo_order_reverse_lazy-requires-clause-closures : goal.topo_order_reverse_lazy-requires-clause-closures
+topo_order_reverse_lazy-requires-clause-closures c = record {
+  id_fn = search rules;
+  neighbors_fn = search rules;
+  lists = always_returns_same _ _ _ (λ a r f h. (λ it b. (search rules, search rules), search (rules, of_calls, h)));
+}
 
 pub loop-commit-init : goal.loop-commit-init
 loop-commit-init c =

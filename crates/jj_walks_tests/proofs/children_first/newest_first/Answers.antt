@@ -9,8 +9,12 @@ use Rattle.jj_walks.proofs.Renumbered.{renumbered_shows, renumbered_nodes}
 use Rattle.jj_walks_tests.proofs.Newest.{back, commits_compare, free, newest_ids, ranked_items, ranked_walk, ranks_are, to, undo, unused}
 use Rattle.jj_walks_tests.proofs.children_first.newest_first.Goals as goal
 
-pub topo_order_reverse_ord-requires-clause-lists : goal.topo_order_reverse_ord-requires-clause-lists
-topo_order_reverse_ord-requires-clause-lists c = always_returns_same _ _ _ (λ a r f h. (λ it b. (search rules, search rules), search (rules, of_calls, h)))
+pub topo_order_reverse_ord-requires-clause-closures : goal.topo_order_reverse_ord-requires-clause-closures
+topo_order_reverse_ord-requires-clause-closures c = record {
+  id_fn = search rules;
+  neighbors_fn = search rules;
+  lists = always_returns_same _ _ _ (λ a r f h. (λ it b. (search rules, search rules), search (rules, of_calls, h)));
+}
 
 pub returns-clause-order : goal.returns-clause-order
 returns-clause-order c =
@@ -27,7 +31,7 @@ returns-clause-order c =
     (renumbered_shows (walk_of commits) (to commits) (back commits) (unused commits) (undo commits) (free commits) (walk_closed commits) (items_of commits) _ _ _ _ _ _ _
     (commits_shown commits _ _ _ _ (λ x i h. search (rules, h.says.met, h.shows)) (λ a r f h. (search (rules, of_calls, h), search (rules, of_calls, h), search (rules, of_calls, h)))))
     (rw starts (renumbered_nodes (walk_of commits) (to commits) (back commits) (unused commits) (undo commits) (free commits) (walk_closed commits) (known_ids commits ids) nodes)) in
-    newest_ids commits (known_ids commits ids) nodes order.items (rw given at first.0) (rw starts at ranked.3 (commits_compare commits))) c.topo_order_reverse_ord.ensures.order
+    newest_ids commits (known_ids commits ids) nodes order.items (rw given at first.child_first) (rw starts at ranked.greatest (commits_compare commits))) c.topo_order_reverse_ord.ensures.order
 
 pub returns-clause-cycle : goal.returns-clause-cycle
 returns-clause-cycle c =

@@ -12,7 +12,14 @@ use Rattle.jj_walks_tests.proofs.children_first.next_ids.Goals as goal
 pub topo_order_reverse_chunked-requires : goal.topo_order_reverse_chunked-requires
 topo_order_reverse_chunked-requires c = (
   search rules,
-  (search rules, (first_of (search (rules, of_calls), search of_calls, grind (arith, common_steps)), (search rules, always_returns_same _ _ _ (λ a r f h. (λ it b. (search rules, search rules), search (rules, of_calls, h)))))),
+  (
+    record {
+      id_fn = search rules;
+      neighbors_fn = first_of (search (rules, of_calls), search of_calls, grind (arith, common_steps));
+      lists = always_returns_same _ _ _ (λ a r f h. (λ it b. (search rules, search rules), search (rules, of_calls, h)));
+    },
+    search rules,
+  ),
 )
 
 pub returns-clause-chunk : goal.returns-clause-chunk

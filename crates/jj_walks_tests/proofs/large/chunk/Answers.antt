@@ -7,10 +7,11 @@ pub topo_order_reverse_chunked-requires : goal.topo_order_reverse_chunked-requir
 topo_order_reverse_chunked-requires c = (
   search rules,
   (
+    record {
+      id_fn = search rules;
+      neighbors_fn = first_of (search (rules, of_calls), search of_calls, grind (arith, common_steps));
+      lists = always_returns_same _ _ _ (λ a r f h. (λ it b. (first_of (search rules, search (rules, of_calls, h, b)), first_of (search rules, search (rules, of_calls, h, b))), search (rules, of_calls, h)));
+    },
     search rules,
-    (
-      first_of (search (rules, of_calls), search of_calls, grind (arith, common_steps)),
-      (search rules, always_returns_same _ _ _ (λ a r f h. (λ it b. (first_of (search rules, search (rules, of_calls, h, b)), first_of (search rules, search (rules, of_calls, h, b))), search (rules, of_calls, h)))),
-    ),
   ),
 )

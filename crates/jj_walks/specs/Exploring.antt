@@ -1,0 +1,77 @@
+-- What is known after nodes were asked for their neighbours: one node, the nodes that several
+-- starts reach as far as one node that all of them reach, and these in child-first order.
+-- Machinery of private functions and fields.
+use Rattle.std.specs.Prelude.{◌≡◌, ℕ, ◌<◌, ◌≤◌, Bool, true, List, [], ◌∷◌, map, length, Result, MatchOption}
+use Rattle.std.specs.declared.option.Option.TheVariants.{Some}
+use Rattle.std.specs.declared.result.Result.TheVariants.{Ok}
+use Rattle.std.specs.Fn.{Shared, Mut}
+use Rattle.std.specs.Global.{Global}
+use Rattle.std.specs.HashMap.{get}
+use Rattle.std.specs.declared.iter.IntoIterator as into
+use Rattle.std.specs.declared.iter.Iterator as iter
+use Rattle.std.specs.declared.vec.Vec.{Vec}
+use denote.Ref.{Bor}
+use Rattle.jj_walks.specs.declared.greatest_order.Collected.{Collected}
+use Rattle.jj_walks.specs.declared.look_ahead.Chunk.{Chunk}
+use Rattle.jj_walks.specs.declared.look_ahead.Shown.{Shown}
+use Rattle.jj_walks.specs.Chunks.{IsChunkOfMany, IsStretch, NoneFailed}
+use Rattle.jj_walks.specs.Failing.{FailingGraph, Fault, ReachesFailure, ShowsItems}
+use Rattle.jj_walks.specs.Graph.{ReachedFrom, ReachesCycle}
+use Rattle.jj_walks.specs.LookingAhead.{HasLooked}
+use Rattle.jj_walks.specs.Outcomes.{InItems}
+use Rattle.jj_walks.specs.Walk.{Numbered}
+
+module _ {T ID E F N U J : Type 0} (eq : ID → ID → Bool) (ids : Shared F (Bor T × Unit {0}) ID)
+    (lists : Mut N (Bor T × Unit {0}) U) (value : into.Ghosts U (Result T E) J)
+    (items : iter.Ghosts J (Result T E)) where
+  -- the closures show this graph, when `neighbors_fn` is this
+  abbrev pub ShowsBy : F → N → Numbered T ID → FailingGraph (Fault E) → Type 0
+  ShowsBy id_fn neighbors_fn walk shown =
+      ShowsItems walk shown eq ids lists value.into_iter_gives items.next_gives id_fn neighbors_fn
+
+  -- each graph that the closures showed before a call they show after it
+  abbrev pub KeepsShowing : Shown F N → Shown F N → Type 0
+  KeepsShowing s t = (walk : Numbered T ID) (shown : FailingGraph (Fault E))
+      → ShowsBy s.id_fn s.neighbors_fn walk shown → ShowsBy s.id_fn t.neighbors_fn walk shown
+
+  -- these are the neighbours of the node, of which none failed
+  abbrev pub ListsNeighbors : Shown F N → T → Vec T Global → Type 0
+  ListsNeighbors s node v = (walk : Numbered T ID) (shown : FailingGraph (Fault E))
+      → ShowsBy s.id_fn s.neighbors_fn walk shown → walk.is_node (walk.node node) ≡ true
+      → (map walk.node v.items ≡ walk.graph (walk.node node))
+      × (shown (walk.node node) ≡ map (λ x. Ok (walk.node x)) v.items)
+
+  -- a neighbour of the node failed with this error
+  abbrev pub NeighborFails : Shown F N → T → E → Type 0
+  NeighborFails s node error = (walk : Numbered T ID) (shown : FailingGraph (Fault E))
+      → ShowsBy s.id_fn s.neighbors_fn walk shown → walk.is_node (walk.node node) ≡ true
+      → ReachesFailure shown (walk.node node ∷ []) error
+
+  -- a neighbour of a node that these reach failed with this error
+  abbrev pub ItemBelowFails : Shown F N → List T → E → Type 0
+  ItemBelowFails s starts error = InItems eq ids lists value items s.id_fn s.neighbors_fn starts
+      (λ walk shown nodes. ReachesFailure shown nodes error)
+
+  -- the nodes that were explored, with the ids of the neighbours of each, and at most one that
+  -- waits
+  abbrev pub HasExplored : Shown F N → Shown F N → List T → Collected T ID × Vec T Global → Type 0
+  HasExplored s t starts r = (given : List T) × (r.0.nodes.items ≡ map (λ x. Some x) given)
+      × (length r.0.neighbor_ids.items ≡ length given)
+      × ((i : ID) (k : ℕ) → get eq r.0.index_of i ≡ Some k → k < length given)
+      × (given ≡ [] → r.1.items ≡ []) × (length r.1.items ≤ 1)
+      × InItems eq ids lists value items s.id_fn s.neighbors_fn starts (λ walk shown nodes.
+      ShowsBy s.id_fn t.neighbors_fn walk shown
+      × HasLooked walk shown nodes (get eq r.0.index_of) r.1.items given
+      (map (λ v. v.items) r.0.neighbor_ids.items))
+
+  -- a chunk of what these reach; or a node that they reach, and they reach a cycle
+  abbrev pub HasChunk : Shown F N → Shown F N → List T → Chunk T → Type 0
+  HasChunk s t starts chunk = InItems eq ids lists value items s.id_fn s.neighbors_fn starts
+      (λ walk shown nodes. ShowsBy s.id_fn t.neighbors_fn walk shown
+      × MatchOption chunk.stuck
+      (IsChunkOfMany walk.graph nodes (map walk.node chunk.nodes.items)
+      (map walk.node chunk.left.items)
+      × IsStretch walk.graph nodes (map walk.node chunk.nodes.items)
+      (map walk.node chunk.left.items)
+      × NoneFailed shown (map walk.node chunk.nodes.items))
+      (λ x. ReachedFrom walk.graph nodes (walk.node x) × ReachesCycle walk.graph nodes))
