@@ -23,7 +23,7 @@ module _ {T ID X F N U J : Type 0} (ids : Shared F (Bor T × Unit {0}) ID)
       (starts : into.Ghosts II X I) (start_items : iter.Ghosts I X) (value : into.Ghosts U X J)
       (items : iter.Ghosts J X) (clone : ID → ID → Type 0) (eq : ID → ID → Bool) (id_of : F)
       (neighbors_of : N) (cycle_of : C) (from : II) : Type 0 where
-    pub closures : CanShow value items id_of neighbors_of
+    pub graph : CanShow value items id_of neighbors_of
     pub cycle_fn : always_once cycles cycle_of
     pub start : Ends starts start_items from
     pub clones : ClonesAreEqual clone eq

@@ -222,7 +222,7 @@ where
     NI::IntoIter: Drop,
     F: Fn(&T) -> ID + Drop,
     N: FnMut(&T) -> Result<NI, E> + Drop,
-    requires closures { MayShow F.Fn N.FnMut NI.IntoIterator NI.IntoIter.Iterator id_fn neighbors_fn }
+    requires graph { MayShow F.Fn N.FnMut NI.IntoIterator NI.IntoIter.Iterator id_fn neighbors_fn }
     requires set1 { Ends II1.IntoIterator II1.IntoIter.Iterator set1 }
     requires set2 { Ends II2.IntoIterator II2.IntoIter.Iterator set2 }
     ensures closest { IfOk result (λ v. GivesClosestCommon ID.eq F.Fn N.FnMut NI.IntoIterator
@@ -256,7 +256,7 @@ where
     NI::IntoIter: Drop,
     F: Fn(&T) -> ID + Drop,
     N: FnMut(&T) -> Result<NI, E> + Drop,
-    requires closures { MayShow F.Fn N.FnMut NI.IntoIterator NI.IntoIter.Iterator id_fn neighbors_fn }
+    requires graph { MayShow F.Fn N.FnMut NI.IntoIterator NI.IntoIter.Iterator id_fn neighbors_fn }
     requires set1 { Ends II1.IntoIterator II1.IntoIter.Iterator set1 }
     requires set2 { Ends II2.IntoIterator II2.IntoIter.Iterator set2 }
     ensures closest { IfOk result (λ met. GivesClosestCommon ID.eq F.Fn N.FnMut NI.IntoIterator

@@ -75,7 +75,7 @@ where
     NI::IntoIter: Drop,
     F: Fn(&T) -> ID + Drop,
     N: FnMut(&T) -> NI + Drop,
-    requires closures { CanShow F.Fn N.FnMut NI.IntoIterator NI.IntoIter.Iterator id_fn neighbors_fn }
+    requires graph { CanShow F.Fn N.FnMut NI.IntoIterator NI.IntoIter.Iterator id_fn neighbors_fn }
     requires start { Ends II.IntoIterator II.IntoIter.Iterator start }
     ensures { IfOk result (StartsWalk ID.eq F.Fn N.FnMut II.IntoIterator II.IntoIter.Iterator
         NI.IntoIterator NI.IntoIter.Iterator id_fn neighbors_fn start) }

@@ -59,7 +59,7 @@ where
     NI::IntoIter: Drop,
     F: Fn(&T) -> ID + Drop,
     N: FnMut(&T) -> NI + Drop,
-    requires closures { CanShow F.Fn N.FnMut NI.IntoIterator NI.IntoIter.Iterator id_fn neighbors_fn }
+    requires graph { CanShow F.Fn N.FnMut NI.IntoIterator NI.IntoIter.Iterator id_fn neighbors_fn }
     requires start { Ends II.IntoIterator II.IntoIter.Iterator start }
     requires clones { ClonesAreEqual ID.is_clone ID.eq }
     ensures order { IfOk result (GivesSoundPostorder ID.eq F.Fn N.FnMut II.IntoIterator

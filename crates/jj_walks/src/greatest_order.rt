@@ -37,7 +37,7 @@ where
     F: Fn(&T) -> ID + Drop,
     N: FnMut(&T) -> NI + Drop,
     C: FnOnce(T) -> E + Drop,
-    requires closures { CanShow F.Fn N.FnMut NI.IntoIterator NI.IntoIter.Iterator id_fn neighbors_fn }
+    requires graph { CanShow F.Fn N.FnMut NI.IntoIterator NI.IntoIter.Iterator id_fn neighbors_fn }
     requires cycle_fn { C.IsAlwaysCallable cycle_fn }
     requires start { Ends II.IntoIterator II.IntoIter.Iterator start }
     ensures order { IfOk result (GivesGreatestOrder T.cmp ID.eq F.Fn N.FnMut II.IntoIterator
@@ -100,7 +100,7 @@ where
     NI::IntoIter: Drop,
     F: Fn(&T) -> ID + Drop,
     N: FnMut(&T) -> NI + Drop,
-    requires closures { CanShow F.Fn N.FnMut NI.IntoIterator NI.IntoIter.Iterator id_fn neighbors_fn }
+    requires graph { CanShow F.Fn N.FnMut NI.IntoIterator NI.IntoIter.Iterator id_fn neighbors_fn }
     requires start { Ends II.IntoIterator II.IntoIter.Iterator start }
     ensures collected { IfOk result (HasCollected ID.eq F.Fn N.FnMut II.IntoIterator
         II.IntoIter.Iterator NI.IntoIterator NI.IntoIter.Iterator id_fn neighbors_fn start) }

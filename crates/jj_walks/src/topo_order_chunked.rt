@@ -33,7 +33,7 @@ where
     F: Fn(&T) -> ID + Drop,
     N: FnMut(&T) -> NI + Drop,
     C: FnOnce(T) -> E + Drop,
-    requires closures { CanShow F.Fn N.FnMut NI.IntoIterator NI.IntoIter.Iterator id_fn neighbors_fn }
+    requires graph { CanShow F.Fn N.FnMut NI.IntoIterator NI.IntoIter.Iterator id_fn neighbors_fn }
     requires cycle_fn { C.IsAlwaysCallable cycle_fn }
     ensures chunk { IfOk result (λ chunk. GivesNextChunk ID.eq F.Fn N.FnMut NI.IntoIterator
         NI.IntoIter.Iterator id_fn neighbors_fn start.old.items chunk.items start.new.items) }

@@ -83,7 +83,7 @@ where
     F: Fn(&T) -> ID + Drop,
     N: FnMut(&T) -> NI + Drop,
     C: FnMut(T) -> E + Drop,
-    requires closures { CanShow F.Fn N.FnMut NI.IntoIterator NI.IntoIter.Iterator id_fn neighbors_fn }
+    requires graph { CanShow F.Fn N.FnMut NI.IntoIterator NI.IntoIter.Iterator id_fn neighbors_fn }
     requires cycle_fn { C.IsAlwaysCallable cycle_fn }
     requires start { Ends II.IntoIterator II.IntoIter.Iterator start }
     ensures { IfOk result (StartsOrder ID.eq F.Fn N.FnMut C.FnMut II.IntoIterator

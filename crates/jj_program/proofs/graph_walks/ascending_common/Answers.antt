@@ -13,8 +13,8 @@ use Rattle.jj_program.proofs.NumberedWalks.{numbered, numbers_apart, number_stan
 use Rattle.jj_program.proofs.ListedGraphs.{sound_neighbors, none_failed, lists_neighbors, closest_permuted, closest_rising}
 use Rattle.jj_program.proofs.graph_walks.ascending_common.Goals as goal
 
-pub closest_common_nodes-found-requires-clause-closures : goal.closest_common_nodes-found-requires-clause-closures
-closest_common_nodes-found-requires-clause-closures c = record {
+pub closest_common_nodes-found-requires-clause-graph : goal.closest_common_nodes-found-requires-clause-graph
+closest_common_nodes-found-requires-clause-graph c = record {
   id_fn = search rules;
   neighbors_fn = search rules;
   lists = always_returns_same _ _ _ (λ a r f h. (first_of (search rules, search (rules, of_calls, h)), search (rules, of_calls, h)));

@@ -13,8 +13,8 @@ use Rattle.jj_program.proofs.NumberedWalks.{numbered, numbers_apart, number_stan
 use Rattle.jj_program.proofs.ListedGraphs.{none_reached, maximal_permuted, maximal_rising}
 use Rattle.jj_program.proofs.graph_walks.ascending_heads.Goals as goal
 
-pub heads-requires-clause-closures : goal.heads-requires-clause-closures
-heads-requires-clause-closures c = record {
+pub heads-requires-clause-graph : goal.heads-requires-clause-graph
+heads-requires-clause-graph c = record {
   id_fn = search rules;
   neighbors_fn = search rules;
   lists = always_returns_same _ _ _ (λ a r f h. (λ it b. (search rules, search rules), search (rules, of_calls, h)));

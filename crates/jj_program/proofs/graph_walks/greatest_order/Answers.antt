@@ -10,8 +10,8 @@ use Rattle.jj_program.proofs.NumberedWalks.{numbered, numbers_apart, number_stan
 use Rattle.jj_program.proofs.ListedGraphs.{sound_neighbors, none_failed, items_neighbors, no_beginning, given_ids}
 use Rattle.jj_program.proofs.graph_walks.greatest_order.Goals as goal
 
-pub topo_order_reverse_ord-order-requires-clause-closures : goal.topo_order_reverse_ord-order-requires-clause-closures
-topo_order_reverse_ord-order-requires-clause-closures c = record {
+pub topo_order_reverse_ord-order-requires-clause-graph : goal.topo_order_reverse_ord-order-requires-clause-graph
+topo_order_reverse_ord-order-requires-clause-graph c = record {
   id_fn = search rules;
   neighbors_fn = search rules;
   lists = always_returns_same _ _ _ (λ a r f h. (λ it b. (search rules, search rules), search (rules, of_calls, h)));

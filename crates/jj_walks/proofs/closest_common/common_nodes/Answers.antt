@@ -84,8 +84,8 @@ loop-node-3-init g c =
     let drained : DrainsTo g.II2.IntoIterator.into_iter_gives g.II2.IntoIter.Iterator.next_gives c.args.set2 c.loop-node-2.yielded =
     (c.into_iter-node-iterator-2.result, c.into_iter-node-iterator-2.ensures.into_iter_gives, (c.next-in-loop-node-2.new.self, (c.loop-node-2.node-iterator, c.loop-node-2.yielded_by, c.in-None-node.ensures.steps))) in
     record {
-      callable = c.requires.closures.neighbors_fn;
-      lists = c.requires.closures.lists;
+      callable = c.requires.graph.neighbors_fn;
+      lists = c.requires.graph.lists;
       small = before.small;
       walking = (
         before.starting.0,

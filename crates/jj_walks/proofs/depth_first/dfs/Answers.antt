@@ -10,7 +10,7 @@ returns g c =
     (c.into_iter-node-iterator.result, c.into_iter-node-iterator.ensures.into_iter_gives, (c.next.new.self, (c.loop-node.node-iterator, c.loop-node.yielded_by, c.in-None.ensures.steps))) in
     let empty : c.new.result.keys ≡ [] = c.new.ensures.empty in
     record {
-      can_walk = record { id_fn = c.requires.closures.id_fn; neighbors_fn = c.requires.closures.neighbors_fn; ends = c.requires.closures.lists };
+      can_walk = record { id_fn = c.requires.graph.id_fn; neighbors_fn = c.requires.graph.neighbors_fn; ends = c.requires.graph.lists };
       left = (
         c.loop-node.yielded,
         drained,

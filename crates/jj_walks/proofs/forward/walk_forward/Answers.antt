@@ -48,8 +48,8 @@ loop-node-init g c =
     let visiting : c.new-visiting.result.keys ≡ [] = c.new-visiting.ensures.empty in
     let emitted : c.new-emitted.result.keys ≡ [] = c.new-emitted.ensures.empty in
     record {
-      callable = c.requires.closures.neighbors_fn;
-      lists = c.requires.closures.lists;
+      callable = c.requires.graph.neighbors_fn;
+      lists = c.requires.graph.lists;
       walking = (
         sound.0,
         drained,

@@ -10,7 +10,7 @@ returns g c =
     let xs = c.loop-item.nodes.items in
     let unread : c.new-2.result.keys ≡ [] = c.new-2.ensures.empty in
     record {
-      can_go = record { id_fn = c.requires.closures.id_fn; neighbors_fn = c.requires.closures.neighbors_fn; ends = c.requires.closures.lists; cycle_fn = c.requires.cycle_fn };
+      can_go = record { id_fn = c.requires.graph.id_fn; neighbors_fn = c.requires.graph.neighbors_fn; ends = c.requires.graph.lists; cycle_fn = c.requires.cycle_fn };
       has_ended = refl;
       left =
           elim c.match-next.branch [

@@ -10,8 +10,8 @@ use Rattle.jj_walks_tests.proofs.Numbering.{walk_of, walk_closed, walk_neighbors
 use Rattle.jj_walks_tests.proofs.Sound.{known_starts, known_are_nodes, preorder_ids}
 use Rattle.jj_walks_tests.proofs.ancestry.ancestors.Goals as goal
 
-pub dfs-requires-clause-closures : goal.dfs-requires-clause-closures
-dfs-requires-clause-closures c = record {
+pub dfs-requires-clause-graph : goal.dfs-requires-clause-graph
+dfs-requires-clause-graph c = record {
   id_fn = search rules;
   neighbors_fn = search rules;
   lists = always_returns_same _ _ _ (λ a r f h. (λ it b. (search rules, search rules), search (rules, of_calls, h)));

@@ -31,8 +31,8 @@ lists_parents commits x (Ok list) here (same, ids) = λ xs d.
     ap (map {B = Result ℕ (Fault ℕ)} (λ n. Ok n)) (sym (walk_neighbors commits x xs here given)) ∙ all_ok (node commits) xs
 lists_parents commits x (Err e) here none = absurd none
 
-pub closest_common_nodes-requires-clause-closures : goal.closest_common_nodes-requires-clause-closures
-closest_common_nodes-requires-clause-closures c = record {
+pub closest_common_nodes-requires-clause-graph : goal.closest_common_nodes-requires-clause-graph
+closest_common_nodes-requires-clause-graph c = record {
   id_fn = search rules;
   neighbors_fn = search rules;
   lists = always_returns_same _ _ _ (λ a r f h. (first_of (search rules, search (rules, of_calls, h)), search (rules, of_calls, h)));

@@ -14,7 +14,7 @@ use Rattle.jj_walks_tests.proofs.ancestry.parents_first.Goals as goal
 
 pub topo_order_forward-requires : goal.topo_order_forward-requires
 topo_order_forward-requires c = record {
-  closures = record {
+  graph = record {
     id_fn = search rules;
     neighbors_fn = search rules;
     lists = always_returns_same _ _ _ (λ a r f h. (λ it b. (search rules, search rules), search (rules, of_calls, h)));

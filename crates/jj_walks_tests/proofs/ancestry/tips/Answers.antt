@@ -11,8 +11,8 @@ use Rattle.jj_walks_tests.specs.Parents.{parents_left}
 use Rattle.jj_walks_tests.proofs.Numbering.{walk_of, walk_closed, walk_neighbors, walk_starts, walk_stands, starts_are_nodes, node, node_stands, maximal_ids}
 use Rattle.jj_walks_tests.proofs.ancestry.tips.Goals as goal
 
-pub heads-requires-clause-closures : goal.heads-requires-clause-closures
-heads-requires-clause-closures c = record {
+pub heads-requires-clause-graph : goal.heads-requires-clause-graph
+heads-requires-clause-graph c = record {
   id_fn = search rules;
   neighbors_fn = search rules;
   lists = always_returns_same _ _ _ (λ a r f h. (λ it b. (search rules, search rules), search (rules, of_calls, h)));

@@ -8,8 +8,8 @@ use Rattle.jj_walks_tests.proofs.Numbering.{walk_of, walk_closed, items_of, item
 use Rattle.jj_walks_tests.proofs.Sound.{commits_drained, shown_are, never_fails, commits_shown, known_starts, known_are_nodes, child_first_ids, no_failure}
 use Rattle.jj_walks_tests.proofs.children_first.children_first.Goals as goal
 
-pub topo_order_reverse_lazy-requires-clause-closures : goal.topo_order_reverse_lazy-requires-clause-closures
-topo_order_reverse_lazy-requires-clause-closures c = record {
+pub topo_order_reverse_lazy-requires-clause-graph : goal.topo_order_reverse_lazy-requires-clause-graph
+topo_order_reverse_lazy-requires-clause-graph c = record {
   id_fn = search rules;
   neighbors_fn = search rules;
   lists = always_returns_same _ _ _ (λ a r f h. (λ it b. (search rules, search rules), search (rules, of_calls, h)));

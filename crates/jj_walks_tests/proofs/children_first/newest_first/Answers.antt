@@ -9,8 +9,8 @@ use Rattle.jj_walks.proofs.Renumbered.{renumbered_shows, renumbered_nodes}
 use Rattle.jj_walks_tests.proofs.Newest.{back, commits_compare, free, newest_ids, ranked_items, ranked_walk, ranks_are, to, undo, unused}
 use Rattle.jj_walks_tests.proofs.children_first.newest_first.Goals as goal
 
-pub topo_order_reverse_ord-requires-clause-closures : goal.topo_order_reverse_ord-requires-clause-closures
-topo_order_reverse_ord-requires-clause-closures c = record {
+pub topo_order_reverse_ord-requires-clause-graph : goal.topo_order_reverse_ord-requires-clause-graph
+topo_order_reverse_ord-requires-clause-graph c = record {
   id_fn = search rules;
   neighbors_fn = search rules;
   lists = always_returns_same _ _ _ (λ a r f h. (λ it b. (search rules, search rules), search (rules, of_calls, h)));

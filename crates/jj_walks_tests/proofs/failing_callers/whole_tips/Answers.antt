@@ -9,8 +9,8 @@ use Rattle.jj_walks_tests.proofs.Numbering.{walk_starts, walk_stands, starts_are
 use Rattle.jj_walks_tests.proofs.Gaps.{walk_whole, whole_items, whole_sound, whole_closed, whole_answers, whole_maximal, gap_found}
 use Rattle.jj_walks_tests.proofs.failing_callers.whole_tips.Goals as goal
 
-pub heads-requires-clause-closures : goal.heads-requires-clause-closures
-heads-requires-clause-closures c = record {
+pub heads-requires-clause-graph : goal.heads-requires-clause-graph
+heads-requires-clause-graph c = record {
   id_fn = search rules;
   neighbors_fn = search rules;
   lists = always_returns_same _ _ _ (λ a r f h. (first_of (search rules, search (rules, of_calls, h)), search (rules, of_calls, h)));

@@ -2,8 +2,8 @@ use Rattle.std.proofs.Common.{rules, of_calls}
 use Rattle.std.proofs.lemmas.Fn.{always_returns_same}
 use Rattle.jj_walks_tests.proofs.tables.preorder_ok.Goals as goal
 
-pub dfs_ok-requires-clause-closures : goal.dfs_ok-requires-clause-closures
-dfs_ok-requires-clause-closures c = record {
+pub dfs_ok-requires-clause-graph : goal.dfs_ok-requires-clause-graph
+dfs_ok-requires-clause-graph c = record {
   id_fn = search rules;
   neighbors_fn = search rules;
   lists = always_returns_same _ _ _ (λ a r f h. (λ it b. (search rules, search rules), search (rules, of_calls, h)));

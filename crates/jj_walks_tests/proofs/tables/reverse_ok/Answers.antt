@@ -4,7 +4,7 @@ use Rattle.jj_walks_tests.proofs.tables.reverse_ok.Goals as goal
 
 pub topo_order_reverse_ok-requires : goal.topo_order_reverse_ok-requires
 topo_order_reverse_ok-requires c = record {
-  closures = record {
+  graph = record {
     id_fn = search rules;
     neighbors_fn = search rules;
     lists = always_returns_same _ _ _ (λ a r f h. (λ it b. (search rules, search rules), search (rules, of_calls, h)));
