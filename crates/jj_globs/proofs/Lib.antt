@@ -7,6 +7,7 @@ pub mod GlobClosed
 pub mod GlobPrefix
 pub mod GlobEscapes
 pub mod GlobLive
+pub mod GlobSummary
 pub mod GlobRun
 pub mod GlobSolved
 pub mod GlobLowered

@@ -1,6 +1,6 @@
 -- The steps of a glob: what each place of them accepts, and places that are live, in bits.
 -- Machinery of private functions and fields.
-use Rattle.std.specs.Prelude.{◌≡◌, ℕ, zero, suc, ◌+◌, ◌/◌, ◌%◌, ◌≤◌, Bool, true, not, ◌==◌, ◌&&◌, ◌||◌, if◌then◌else◌, List, [], ◌∷◌, length, get_or, slice_get, Some, IsTrue}
+use Rattle.std.specs.Prelude.{◌≡◌, ◌↔◌, ℕ, zero, suc, ◌+◌, ◌*◌, ◌/◌, ◌%◌, ◌≤◌, Bool, true, not, ◌==◌, ◌&&◌, ◌||◌, if◌then◌else◌, List, [], ◌∷◌, length, get_or, slice_get, Some, IsTrue}
 use Rattle.std.specs.Int.{bit_at}
 use Rattle.jj_globs.specs.declared.glob.token.Options.{Options}
 use Rattle.jj_globs.specs.declared.glob.byte_set.ByteSet.{ByteSet}
@@ -17,6 +17,16 @@ IsLive words place = bit_at (get_or words (place / 64) 0) (place % 64) ≡ 1
 
 abbrev pub is_live : List ℕ → ℕ → Bool
 is_live words place = bit_at (get_or words (place / 64) 0) (place % 64) == 1
+
+-- a word holds a live place
+abbrev pub HoldsLive : List ℕ → ℕ → Type 0
+HoldsLive words word = (place : ℕ) × (place / 64 ≡ word) × IsLive words place
+
+-- the summary has a bit for each word, and those are live whose words hold a live place
+pub record IsSummary (words summary : List ℕ) : Type 0 where
+  pub tells : (word : ℕ) → IsLive summary word ↔ HoldsLive words word
+  pub room : length words ≤ 64 * length summary
+  pub limit : length summary ≤ 256
 
 -- the set holds the byte
 abbrev pub in_set : ByteSet → ℕ → Bool

@@ -10,6 +10,7 @@ mod pattern;
 mod put;
 mod reader;
 mod regex_text;
+mod row;
 mod shared_fronts;
 mod sign;
 mod step;

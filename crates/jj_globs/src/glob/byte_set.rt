@@ -3,7 +3,7 @@ ghost use Rattle.std.specs.Prelude.{false, ◌≡◌, ◌↔◌, ◌⊎◌, ℕ,
 ghost use Rattle.jj_globs.specs.GlobPlaces.{IsLive, in_set};
 ghost use Rattle.jj_globs.specs.GlobMeaning.{in_class, in_range, any_range, lower, upper};
 
-use crate::glob::live::put;
+use crate::glob::row::put;
 use crate::glob::token::{ByteRange, Class, Options};
 
 /// A set of bytes, or with `negated` all bytes but those: the byte b is the bit b % 64 of the word

@@ -1,29 +1,23 @@
-use Rattle.std.proofs.Common.{◌<◌, ◌*◌, ◌≡◌, ◌∙◌, [], inl, inr, ap, refl, ℕ, length, arith, true, false}
+use Rattle.std.proofs.Common.{◌≡◌, ◌∙◌, [], inl, inr, ap, refl, ℕ, length, arith, true, false}
 use Rattle.std.proofs.lemmas.Option.{slice_get-get_or}
 use Rattle.jj_globs.specs.GlobPlaces.{AnyLive}
-use Rattle.jj_globs.proofs.GlobRun.{end_step_same, inside_room}
+use Rattle.jj_globs.proofs.GlobRun.{end_step_same}
 use Rattle.jj_globs.proofs.glob.live.finish.Goals as goal
 
-pub lead_at_end-requires-clause-inside : goal.lead_at_end-requires-clause-inside
-lead_at_end-requires-clause-inside c =
-    let room = c.in-Some.ensures.len ∙ c.loop-place.invariant.room_now in
-    let size : length c.args.steps.now < 64 * length c.take.new.words = rw room c.requires.size in
-    inside_room c.args.steps.now c.in-Some.place (64 * length c.take.new.words) _ c.requires.inside size c.if-place-steps.false
-
 pub returns-then-place-steps : goal.returns-then-place-steps
-returns-then-place-steps c = λ P solves.
+returns-then-place-steps g c = λ P solves.
     let known = c.loop-place.invariant.same P solves in
     let high = c.loop-place.invariant.now_within c.in-Some.place c.in-Some.ensures.taken.0 in
     let last : c.in-Some.place ≡ length c.args.steps.now = (let low = c.if-place-steps.true in omega (arith, high, low)) in
     ((λ t. known.0 (c.in-Some.place, c.in-Some.ensures.taken.0, ap (λ (k : ℕ). P k []) last ∙ solves.at_end [])), (λ x. refl))
 
 pub loop-place-preserved : goal.loop-place-preserved
-loop-place-preserved c =
+loop-place-preserved g c =
     let known = slice_get-get_or c.args.steps.now c.in-Some.place _ c.if-place-steps.false in
     let inside = c.requires.inside c.in-Some.place _ known in
     record {
       same = λ P solves.
-          end_step_same P c.loop-place.now c.take.new.words c.lead_at_end.new.now [] c.in-Some.place _ (AnyLive P c.args.now.now [])
+          end_step_same P c.loop-place.now c.take.new.self c.lead_at_end.new.now [] c.in-Some.place _ (AnyLive P c.args.now.now [])
           c.in-Some.ensures.taken.0 c.in-Some.ensures.taken.1 (solves.at_step c.in-Some.place _ known [])
           (c.lead_at_end.ensures.same P) (c.loop-place.invariant.same P solves);
       from = λ j live. elim (c.lead_at_end.ensures.above j live) [
@@ -34,8 +28,7 @@ loop-place-preserved c =
         | inl l ↦ c.loop-place.invariant.now_within j ((c.in-Some.ensures.taken.1 j).0 l).0
         | inr w ↦ (let high = w.1 in omega (arith, high, inside))
       ];
-      room_now = c.lead_at_end.ensures.len_now ∙ c.in-Some.ensures.len ∙ c.loop-place.invariant.room_now;
     }
 
 pub returns : goal.returns
-returns c = λ P solves. ((λ t. (let no : false ≡ true = t in cc)), (λ x. (let a = (c.loop-place.invariant.same P solves).1 x in absurd (c.take.ensures.none c.in_default.is a.0 a.1))))
+returns g c = λ P solves. ((λ t. (let no : false ≡ true = t in cc)), (λ x. (let a = (c.loop-place.invariant.same P solves).1 x in absurd (c.take.ensures.none c.in_default.is a.0 a.1))))

@@ -1,20 +1,18 @@
-use Rattle.std.proofs.Common.{◌≡◌, true, false, ◌↔◌, ◌∙◌, ◌∷◌, inl, inr, refl, ℕ, List, subst, arith}
+use Rattle.std.proofs.Common.{◌≡◌, true, false, ◌↔◌, ◌∷◌, inl, inr, refl, ℕ, List, subst, arith}
 use Rattle.std.specs.Prelude.{IsTrue}
 use Rattle.jj_globs.specs.GlobPlaces.{AnyLive}
 use Rattle.jj_globs.proofs.GlobRun.{started, moved, accepted, no_bytes, dead}
 use Rattle.jj_globs.proofs.glob.live.run.Goals as goal
 
 pub loop-byte-init : goal.loop-byte-init
-loop-byte-init c = record {
-  same = λ P solves. started P c.args.now.now c.put.new.words c.args.bytes.now c.requires.now_none c.put.ensures.live;
+loop-byte-init g c = record {
+  same = λ P solves. started P c.args.now.now c.put.new.self c.args.bytes.now c.requires.now_none c.put.ensures.live;
   next_none = c.requires.next_none;
   within = λ j live. elim ((c.put.ensures.live j).0 live) [ inl l ↦ absurd (c.requires.now_none j l) | inr e ↦ omega (arith, e) ];
-  room_now = c.put.ensures.len;
-  room_next = refl;
 }
 
 pub returns-then-pass : goal.returns-then-pass
-returns-then-pass c = λ P solves.
+returns-then-pass g c = λ P solves.
     let known = subst (λ (x : List ℕ). AnyLive P c.loop-byte.now x ↔ IsTrue (P 0 c.args.bytes.now)) c.in-Some.ensures.cases.0 (c.loop-byte.invariant.same P solves) in (
       (λ t. accepted P c.loop-byte.now c.loop-byte.next (c.in-Some.byte.now ∷ c.in-Some.rest.now) c.in-Some.rest.now (IsTrue (P 0 c.args.bytes.now)) c.loop-byte.invariant.next_none
           (c.pass.ensures.done c.if-pass.true P c.in-Some.rest.now solves) known),
@@ -22,7 +20,7 @@ returns-then-pass c = λ P solves.
     )
 
 pub returns-in_default-split_first : goal.returns-in_default-split_first
-returns-in_default-split_first c = λ P solves.
+returns-in_default-split_first g c = λ P solves.
     let known = subst (λ (x : List ℕ). AnyLive P c.loop-byte.now x ↔ IsTrue (P 0 c.args.bytes.now)) c.in-Some.ensures.cases.0 (c.loop-byte.invariant.same P solves) in
     let first = moved P c.loop-byte.now c.loop-byte.next c.pass.new.next (c.in-Some.byte.now ∷ c.in-Some.rest.now) c.in-Some.rest.now (IsTrue (P 0 c.args.bytes.now))
     c.loop-byte.invariant.next_none (c.pass.ensures.same c.if-pass.false P c.in-Some.rest.now solves) known in
@@ -31,7 +29,7 @@ returns-in_default-split_first c = λ P solves.
     ((λ t. at_end.0 (last.0 t)), (λ x. last.1 (at_end.1 x)))
 
 pub returns-then-pass-2 : goal.returns-then-pass-2
-returns-then-pass-2 c = λ P solves.
+returns-then-pass-2 g c = λ P solves.
     let known = subst (λ (x : List ℕ). AnyLive P c.loop-byte.now x ↔ IsTrue (P 0 c.args.bytes.now)) c.in-Some.ensures.cases.0 (c.loop-byte.invariant.same P solves) in
     let first = moved P c.loop-byte.now c.loop-byte.next c.pass.new.next (c.in-Some.byte.now ∷ c.in-Some.rest.now) c.in-Some.rest.now (IsTrue (P 0 c.args.bytes.now))
     c.loop-byte.invariant.next_none (c.pass.ensures.same c.if-pass.false P c.in-Some.rest.now solves) known in
@@ -42,7 +40,7 @@ returns-then-pass-2 c = λ P solves.
     )
 
 pub loop-byte-preserved : goal.loop-byte-preserved
-loop-byte-preserved c = record {
+loop-byte-preserved g c = record {
   same = λ P solves.
       let known = subst (λ (x : List ℕ). AnyLive P c.loop-byte.now x ↔ IsTrue (P 0 c.args.bytes.now)) c.in-Some.ensures.cases.0 (c.loop-byte.invariant.same P solves) in
       let first = moved P c.loop-byte.now c.loop-byte.next c.pass.new.next (c.in-Some.byte.now ∷ c.in-Some.rest.now) c.in-Some.rest.now (IsTrue (P 0 c.args.bytes.now))
@@ -52,13 +50,11 @@ loop-byte-preserved c = record {
       (c.pass.ensures.empty c.if-pass.false) (c.pass-in-Some.ensures.same c.if-pass-2.false P c.in-Some-split_first.behind.now solves) again;
   next_none = c.pass-in-Some.ensures.empty c.if-pass-2.false;
   within = c.pass-in-Some.ensures.next_within;
-  room_now = c.pass-in-Some.ensures.len_next ∙ c.pass.ensures.len_now ∙ c.loop-byte.invariant.room_now;
-  room_next = c.pass-in-Some.ensures.len_now ∙ c.pass.ensures.len_next ∙ c.loop-byte.invariant.room_next;
 }
 
-pub returns-then-none_live : goal.returns-then-none_live
-returns-then-none_live c = λ P solves.
+pub returns-then-is_empty : goal.returns-then-is_empty
+returns-then-is_empty g c = λ P solves.
     let known = subst (λ (x : List ℕ). AnyLive P c.loop-byte.now x ↔ IsTrue (P 0 c.args.bytes.now)) c.in-Some.ensures.cases.0 (c.loop-byte.invariant.same P solves) in
     let first = moved P c.loop-byte.now c.loop-byte.next c.pass.new.next (c.in-Some.byte.now ∷ c.in-Some.rest.now) c.in-Some.rest.now (IsTrue (P 0 c.args.bytes.now))
     c.loop-byte.invariant.next_none (c.pass.ensures.same c.if-pass.false P c.in-Some.rest.now solves) known in
-    ((λ t. let no : false ≡ true = t in cc), (λ x. absurd (dead P c.pass.new.next c.in-Some.rest.now (IsTrue (P 0 c.args.bytes.now)) (c.none_live.ensures c.if-none_live.true) first x)))
+    ((λ t. let no : false ≡ true = t in cc), (λ x. absurd (dead P c.pass.new.next c.in-Some.rest.now (IsTrue (P 0 c.args.bytes.now)) (c.is_empty.ensures c.if-is_empty.true) first x)))

@@ -1,7 +1,7 @@
 -- No place before the word is live.
 use Rattle.std.proofs.Common.{◌≤◌, ◌*◌, ◌-◌, ℕ, length}
 use Rattle.jj_globs.specs.GlobPlaces.{IsLive}
-use Rattle.jj_globs.proofs.glob.live.none_live.Given as goal
+use Rattle.jj_globs.proofs.glob.row.first_place.Given as goal
 
 abbrev pub invariant-loop-word : goal.invariant-loop-word
 invariant-loop-word l = record { before : (j : ℕ) → IsLive l.words j → l.word * 64 ≤ j }
