@@ -1,5 +1,6 @@
 pub mod Occurrences
 pub mod Windows
+pub mod Ends
 pub mod RegexSearches
 pub mod FirstLines
 pub mod EmptyRegex

@@ -1,11 +1,14 @@
 pub mod Folded
+pub mod Borders
 pub mod StringGlobs
 pub mod StringSets
 pub mod PatternViews
+pub mod LongParts
 pub mod PatternFaults
 pub mod PatternKinds
 pub mod GlobsOfPatterns
 pub mod ExpressionViews
+pub mod CompiledViews
 pub mod Searches
 pub mod Predicates
 pub mod StringMatchers

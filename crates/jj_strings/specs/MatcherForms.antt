@@ -3,7 +3,7 @@
 use Rattle.std.specs.Prelude.{ℕ, if◌then◌else◌, List, Option, None, Some, string_bytes}
 use Rattle.jj_strings.specs.declared.str_util.matcher.StringMatcher.{StringMatcher}
 use Rattle.jj_strings.specs.declared.str_util.matcher.StringMatcher.TheVariants.{All, Exact, Expr, Fn}
-use Rattle.jj_strings.specs.ExpressionViews.{expression_of}
+use Rattle.jj_strings.specs.CompiledViews.{source_expression}
 use Rattle.jj_strings.specs.StringSets.{Pattern, is_all, exact_text, Expression, of_pattern, not_in, union, intersection}
 
 -- every string, one text, an expression, or the caller's predicate
@@ -17,7 +17,7 @@ pub data Form : Type 0 where
 abbrev pub form_of : {F : _} {V : _} {m : _} → StringMatcher F V m → Form
 form_of All = every_string
 form_of (Exact text) = one_text (string_bytes text)
-form_of (Expr e) = an_expression (expression_of e)
+form_of (Expr e) = an_expression (source_expression e)
 form_of (Fn p) = a_predicate
 
 -- one text where there is one

@@ -5,12 +5,12 @@ use Rattle.regex.specs.Patterns.{find}
 use Rattle.regex.specs.Bytes.{matcher_pattern}
 use Rattle.jj_strings.specs.declared.str_util.expression_search.ExpressionSearch.{ExpressionSearch}
 use Rattle.jj_strings.specs.declared.str_util.expression_search.ExpressionSearch.TheVariants.{Text, Regex, NotIn', Union', Intersection'}
-use Rattle.jj_strings.specs.PatternViews.{pattern_of}
+use Rattle.jj_strings.specs.CompiledViews.{source_pattern}
 use Rattle.jj_strings.specs.StringSets.{Expression, of_pattern, not_in, union, intersection, InPattern, IsRegex}
 
 -- the search has the form of the expression, and finds what its patterns stand for
 abbrev pub IsSearchOf : ExpressionSearch → Expression → Type 0
-IsSearchOf (Text p) (of_pattern q) = (pattern_of p.now ≡ q) × (IsRegex q → ⊥)
+IsSearchOf (Text p) (of_pattern q) = (source_pattern p.now ≡ q) × (IsRegex q → ⊥)
 IsSearchOf (Regex m) (of_pattern q) = (bytes : List ℕ)
     → IsSome (find (matcher_pattern m) bytes 0) ↔ InPattern q bytes
 IsSearchOf (NotIn' p s) (not_in e) = IsSearchOf s e

@@ -7,7 +7,7 @@ use Rattle.regex.specs.declared.bytes.regex.Regex as compiled
 use Rattle.jj_strings.specs.Predicates.{Accepts}
 use Rattle.jj_strings.specs.declared.str_util.matcher.StringMatcher.{StringMatcher}
 use Rattle.jj_strings.specs.declared.str_util.matcher.StringMatcher.TheVariants.{All, Exact, Expr, Fn}
-use Rattle.jj_strings.specs.ExpressionViews.{expression_of}
+use Rattle.jj_strings.specs.CompiledViews.{source_expression}
 use Rattle.jj_strings.specs.PatternKinds.{bytes_config, bytes_config_i}
 use Rattle.jj_strings.specs.StringSets.{Pattern, regex, regex_i, Expression, of_pattern, InExpression, HasRegex}
 
@@ -15,12 +15,12 @@ use Rattle.jj_strings.specs.StringSets.{Pattern, regex, regex_i, Expression, of_
 abbrev pub InMatcher : {F : _} {V : _} {m : _} → StringMatcher F V m → List ℕ → Type 0
 InMatcher All bytes = Unit {0}
 InMatcher (Exact text) bytes = bytes ≡ string_bytes text
-InMatcher (Expr e) bytes = InExpression (expression_of e) bytes
+InMatcher (Expr e) bytes = InExpression (source_expression e) bytes
 InMatcher (Fn p) bytes = Accepts p bytes
 
 -- a match may take memory: a regular expression is inside
 abbrev pub MayAllocate : {F : _} {V : _} {m : _} → StringMatcher F V m → Type 0
-MayAllocate (Expr e) = HasRegex (expression_of e)
+MayAllocate (Expr e) = HasRegex (source_expression e)
 MayAllocate _ = ⊥
 
 -- a regular expression that was made of its text, with letters in either case or not

@@ -1,5 +1,7 @@
 //! Sets of strings: patterns, expressions of patterns, and what looks for the strings of a set in
 //! lines and maps.
+mod borders;
+mod compiled;
 mod error;
 mod expression;
 mod expression_search;

@@ -1,4 +1,4 @@
-//! Parts without regard to case that are long, or stand far behind in a long text.
+//! Parts without regard to case that are long, overlap themselves, or stand late in a long text.
 use crate::fixtures::matcher;
 use std::alloc::{AllocError, Global};
 use std::process::Abort;
@@ -58,5 +58,63 @@ fn parts_that_are_long(rt: HostRuntime) {
     let alloc = rt.alloc();
     if long_parts(&rt, alloc).is_err() {
         assert!(rt; long_parts(&rt, alloc).is_ok());
+    }
+}
+
+// What a part repeats and what it ends with, both also in capitals, and another end. In texts of
+// the last three rows a part overlaps itself.
+const PERIODS: [[&str; 5]; 4] = [
+    ["xyz", "XYZ", "", "", "w"],
+    ["ab", "AB", "c", "C", "d"],
+    ["aab", "AAB", "aac", "AAC", "aaa"],
+    ["abcabd", "ABCABD", "abcabe", "ABCABE", "abcabc"],
+];
+
+// The part is the period so often, and then the end.
+fn periodic_parts<R: Abort>(rt: &R, alloc: Global, times: u32) -> Result<(), AllocError> {
+    for [period, capitals, end, last, other] in PERIODS {
+        let text = letters(alloc, period, times, end)?;
+        let part = matcher(rt, alloc, "substring-i", text.as_str())?;
+        let longer = letters(alloc, capitals, times.saturating_add(7), last)?;
+        assert!(rt; part.is_match(alloc, longer.as_str())?, "{period}");
+        let shorter = letters(alloc, capitals, times.saturating_sub(1), last)?;
+        assert!(rt; !part.is_match(alloc, shorter.as_str())?, "{period}");
+        let mut misses = String::new(alloc);
+        for _ in 0..9u8 {
+            misses.push_str(letters(alloc, period, times.saturating_sub(1), other)?.as_str())?;
+        }
+        assert!(rt; !part.is_match(alloc, misses.as_str())?, "{period}");
+        misses.push_str(text.as_str())?;
+        assert!(rt; part.is_match(alloc, misses.as_str())?, "{period}");
+    }
+    Ok(())
+}
+
+#[test]
+fn parts_that_overlap_themselves(rt: HostRuntime) {
+    let alloc = rt.alloc();
+    for times in [100u32, 257, 400] {
+        if periodic_parts(&rt, alloc, times).is_err() {
+            assert!(rt; periodic_parts(&rt, alloc, times).is_ok());
+        }
+    }
+}
+
+// A part of 100,001 bytes in texts of a million.
+fn very_long_parts<R: Abort>(rt: &R, alloc: Global) -> Result<(), AllocError> {
+    let text = letters(alloc, "aB", 50_000, "c")?;
+    let part = matcher(rt, alloc, "substring-i", text.as_str())?;
+    let found = letters(alloc, "Ab", 500_000, "C")?;
+    assert!(rt; part.is_match(alloc, found.as_str())?);
+    let missed = letters(alloc, "Ab", 500_000, "d")?;
+    assert!(rt; !part.is_match(alloc, missed.as_str())?);
+    Ok(())
+}
+
+#[test]
+fn parts_that_are_very_long(rt: HostRuntime) {
+    let alloc = rt.alloc();
+    if very_long_parts(&rt, alloc).is_err() {
+        assert!(rt; very_long_parts(&rt, alloc).is_ok());
     }
 }

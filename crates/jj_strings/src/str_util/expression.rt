@@ -1,5 +1,5 @@
 //! Expressions of patterns: complements, unions and intersections of their sets.
-ghost use Rattle.std.specs.Prelude.{◌≡◌, ◌↔◌, ◌++◌, IsTrue, IsErr, IfOk, OnOk, map, string_bytes};
+ghost use Rattle.std.specs.Prelude.{◌≡◌, ◌++◌, IfOk, OnOk, map, string_bytes};
 
 use crate::str_util::pattern::StringPattern;
 use std::alloc::{AllocError, Global};
@@ -20,7 +20,7 @@ pub enum StringExpression {
 
 impl StringExpression {
     ghost use Rattle.std.specs.Vec.Iter.{into_iter_items};
-    ghost use Rattle.jj_strings.specs.StringSets.{InExpression, HasRegex, IsUnionOf, exact_texts, everything, nothing, of_pattern, exact, substring, not_in, union, intersection};
+    ghost use Rattle.jj_strings.specs.StringSets.{IsUnionOf, exact_texts, everything, nothing, of_pattern, exact, substring, not_in, union, intersection};
     ghost use Rattle.jj_strings.specs.PatternViews.{pattern_of};
     ghost use Rattle.jj_strings.specs.ExpressionViews.{expression_of};
 
@@ -154,33 +154,6 @@ impl StringExpression {
                 let right_copy = right.copied()?;
                 left.copied()?
                     .intersection(*Box::allocator(left), right_copy)
-            }
-        }
-    }
-
-    // Whether the expression's set holds the bytes.
-    pub(crate) fn holds(&self, alloc: Global, bytes: &[u8]) -> Result<bool, AllocError>
-        ensures answer { IfOk result (λ yes. IsTrue yes
-            ↔ InExpression (expression_of self.now) bytes.now) }
-        ensures memory { IsErr result → HasRegex (expression_of self.now) }
-    {
-        match self {
-            StringExpression::Pattern(pattern) => pattern.holds(alloc, bytes),
-            StringExpression::NotIn(inner) => {
-                let yes = inner.holds(alloc, bytes)?;
-                Ok(!yes)
-            }
-            StringExpression::Union(left, right) => {
-                if left.holds(alloc, bytes)? {
-                    return Ok(true);
-                }
-                right.holds(alloc, bytes)
-            }
-            StringExpression::Intersection(left, right) => {
-                if !left.holds(alloc, bytes)? {
-                    return Ok(false);
-                }
-                right.holds(alloc, bytes)
             }
         }
     }

@@ -1,8 +1,7 @@
 //! Expressions that are asked string after string: each regular expression keeps its search.
 ghost use Rattle.std.specs.Prelude.{◌≡◌, ◌↔◌, IsTrue, IsErr, IfOk};
 
-use crate::str_util::expression::StringExpression;
-use crate::str_util::pattern::StringPattern;
+use crate::str_util::compiled::{CompiledExpression, CompiledPattern};
 use regex::bytes::Matcher;
 use std::alloc::{AllocError, Global};
 
@@ -10,7 +9,7 @@ use std::alloc::{AllocError, Global};
 #[derive(Drop)]
 pub(crate) enum ExpressionSearch<'m> {
     // The strings of a pattern that is no regular expression.
-    Text(&'m StringPattern),
+    Text(&'m CompiledPattern),
     // The strings in which a regular expression has a match.
     Regex(Matcher<'m>),
     // All other strings.
@@ -21,41 +20,41 @@ pub(crate) enum ExpressionSearch<'m> {
     Intersection(Box<(ExpressionSearch<'m>, ExpressionSearch<'m>)>),
 }
 
-impl StringExpression {
-    ghost use Rattle.jj_strings.specs.ExpressionViews.{expression_of};
+impl CompiledExpression {
+    ghost use Rattle.jj_strings.specs.CompiledViews.{source_expression};
     ghost use Rattle.jj_strings.specs.StringSets.{HasRegex};
     ghost use Rattle.jj_strings.specs.Searches.{IsSearchOf};
 
     // Whether a regular expression is inside.
     pub(crate) fn has_regex(&self) -> bool
-        ensures { IsTrue result ↔ HasRegex (expression_of self.now) }
+        ensures { IsTrue result ↔ HasRegex (source_expression self.now) }
     {
         match self {
-            StringExpression::Pattern(pattern) => pattern.as_regex().is_some(),
-            StringExpression::NotIn(inner) => inner.has_regex(),
-            StringExpression::Union(left, right) => left.has_regex() || right.has_regex(),
-            StringExpression::Intersection(left, right) => left.has_regex() || right.has_regex(),
+            CompiledExpression::Pattern(pattern) => pattern.as_regex().is_some(),
+            CompiledExpression::NotIn(inner) => inner.has_regex(),
+            CompiledExpression::Union(left, right) => left.has_regex() || right.has_regex(),
+            CompiledExpression::Intersection(left, right) => left.has_regex() || right.has_regex(),
         }
     }
 
     // The expression with a search for each of its regular expressions.
     pub(crate) fn search(&self, alloc: Global) -> Result<ExpressionSearch<'_>, AllocError>
-        ensures { IfOk result (λ search. IsSearchOf search (expression_of self.now)) }
+        ensures { IfOk result (λ search. IsSearchOf search (source_expression self.now)) }
     {
         match self {
-            StringExpression::Pattern(pattern) => match pattern.as_regex() {
+            CompiledExpression::Pattern(pattern) => match pattern.as_regex() {
                 Some(regex) => Ok(ExpressionSearch::Regex(regex.matcher(alloc)?)),
                 None => Ok(ExpressionSearch::Text(&**pattern)),
             },
-            StringExpression::NotIn(inner) => {
+            CompiledExpression::NotIn(inner) => {
                 let inner = Box::new(alloc, inner.search(alloc)?)?;
                 Ok(ExpressionSearch::NotIn(inner))
             }
-            StringExpression::Union(left, right) => {
+            CompiledExpression::Union(left, right) => {
                 let sides = (left.search(alloc)?, right.search(alloc)?);
                 Ok(ExpressionSearch::Union(Box::new(alloc, sides)?))
             }
-            StringExpression::Intersection(left, right) => {
+            CompiledExpression::Intersection(left, right) => {
                 let sides = (left.search(alloc)?, right.search(alloc)?);
                 Ok(ExpressionSearch::Intersection(Box::new(alloc, sides)?))
             }

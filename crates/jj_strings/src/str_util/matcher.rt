@@ -1,7 +1,7 @@
 //! Matchers of strings: sets in the form in which they are asked.
 ghost use Rattle.std.specs.Prelude.{◌≡◌, ◌↔◌, ℕ, List, IsTrue, IsErr, IfOk, string_bytes};
 
-use crate::str_util::expression::StringExpression;
+use crate::str_util::compiled::CompiledExpression;
 use crate::str_util::predicate::BytePredicate;
 use std::alloc::{AllocError, Global};
 use std::fmt;
@@ -14,7 +14,7 @@ pub enum StringMatcher {
     /// This text alone.
     Exact(String),
     /// The strings of the expression, which the matcher owns.
-    Expr(StringExpression),
+    Expr(CompiledExpression),
     /// The strings that the caller's predicate accepts.
     Fn(BytePredicate),
 }

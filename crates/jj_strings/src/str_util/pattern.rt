@@ -1,13 +1,11 @@
 //! Patterns of strings.
-ghost use Rattle.std.specs.Prelude.{◌≡◌, ◌↔◌, ℕ, [], Bool, true, false, IsTrue, IsOk, IsErr, IfOk, IfErr, OnOk, MatchOption, MatchResult, option_map, is_some, string_bytes};
+ghost use Rattle.std.specs.Prelude.{◌≡◌, ◌↔◌, ℕ, [], Bool, true, false, IsTrue, IsOk, IfOk, IfErr, OnOk, MatchOption, MatchResult, option_map, is_some, string_bytes};
 ghost use Rattle.std.specs.List.{list_any};
 ghost use Rattle.jj_globs.specs.GlobEscape.{is_special};
 
 use crate::str_util::error::StringPatternParseError;
-use crate::str_util::folding::contains_folded;
 use crate::str_util::glob_pattern::GlobPattern;
 use crate::str_util::kind::PatternKind;
-use bstr::ByteSlice;
 use jj_globs::glob::is_special;
 use regex::RegexBuilder;
 use regex::bytes::Regex;
@@ -32,7 +30,7 @@ pub enum StringPattern {
 }
 
 impl StringPattern {
-    ghost use Rattle.jj_strings.specs.StringSets.{InPattern, IsRegex, IsRegexIn, exact, exact_i, substring, substring_i, glob_i, glob_or_exact, string_glob, text_of, is_all, exact_text};
+    ghost use Rattle.jj_strings.specs.StringSets.{exact, exact_i, substring, substring_i, glob_i, glob_or_exact, string_glob, text_of, is_all, exact_text};
     ghost use Rattle.jj_strings.specs.PatternViews.{pattern_of};
     ghost use Rattle.jj_strings.specs.PatternFaults.{IsGlobFault, IsRegexFault};
     ghost use Rattle.jj_strings.specs.PatternKinds.{kind_named, ReadsAsKind, IsUnknownKind, IsRegexOf, IsRegexIOf, bytes_config, bytes_config_i};
@@ -190,46 +188,6 @@ impl StringPattern {
             StringPattern::GlobI(pattern) => pattern.as_str(),
             StringPattern::Regex(pattern) => pattern.as_str(),
             StringPattern::RegexI(pattern) => pattern.as_str(),
-        }
-    }
-
-    // Whether the pattern's set holds the bytes.
-    pub(crate) fn holds(&self, alloc: Global, bytes: &[u8]) -> Result<bool, AllocError>
-        ensures answer { IfOk result (λ yes. IsTrue yes
-            ↔ InPattern (pattern_of self.now) bytes.now) }
-        ensures memory { IsErr result → IsRegex (pattern_of self.now) }
-    {
-        match self.as_regex() {
-            Some(regex) => Ok(regex.matcher(alloc)?.is_match(bytes)),
-            None => Ok(self.holds_without_regex(bytes)),
-        }
-    }
-
-    // The regular expression of a pattern that is one.
-    pub(crate) fn as_regex(&self) -> Option<&Regex>
-        ensures { IsRegexIn result (pattern_of self.now) }
-    {
-        match self {
-            StringPattern::Regex(regex) => Some(&**regex),
-            StringPattern::RegexI(regex) => Some(&**regex),
-            _ => None,
-        }
-    }
-
-    // Whether the set of a pattern that is no regular expression holds the bytes.
-    pub(crate) fn holds_without_regex(&self, bytes: &[u8]) -> bool
-        ensures { (IsRegex (pattern_of self.now) → ⊥) → IsTrue result
-            ↔ InPattern (pattern_of self.now) bytes.now }
-    {
-        match self {
-            StringPattern::Exact(text) => bytes == text.as_bytes(),
-            StringPattern::ExactI(text) => bytes.eq_ignore_ascii_case(text.as_bytes()),
-            StringPattern::Substring(text) => bytes.contains_str(text.as_bytes()),
-            StringPattern::SubstringI(text) => contains_folded(bytes, text.as_bytes()),
-            StringPattern::Glob(pattern) => pattern.holds(bytes),
-            StringPattern::GlobI(pattern) => pattern.holds(bytes),
-            StringPattern::Regex(_) => false,
-            StringPattern::RegexI(_) => false,
         }
     }
 }

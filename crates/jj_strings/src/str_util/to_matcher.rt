@@ -30,7 +30,7 @@ impl StringPattern {
         if let Some(text) = self.as_exact() {
             return Ok(StringMatcher::Exact(String::from_str(alloc, text)?));
         }
-        Ok(StringMatcher::Expr(StringExpression::pattern(alloc, self.clone()?)?))
+        Ok(StringMatcher::Expr(self.compiled(alloc)?))
     }
 }
 
@@ -51,7 +51,7 @@ impl StringExpression {
     {
         match self {
             StringExpression::Pattern(pattern) => pattern.to_matcher(alloc),
-            _ => Ok(StringMatcher::Expr(self.clone()?)),
+            _ => Ok(StringMatcher::Expr(self.compiled(alloc)?)),
         }
     }
 }

@@ -1,0 +1,184 @@
+//! Patterns and expressions in the form in which matchers ask them.
+ghost use Rattle.std.specs.Prelude.{◌≡◌, ◌↔◌, IsTrue, IsErr, IfOk};
+ghost use Rattle.jj_strings.specs.PatternViews.{pattern_of};
+ghost use Rattle.jj_strings.specs.LongParts.{HasBorders};
+
+use crate::str_util::borders::borders_of;
+use crate::str_util::expression::StringExpression;
+use crate::str_util::folding::{SHORT, contains_folded};
+use crate::str_util::pattern::StringPattern;
+use bstr::ByteSlice;
+use regex::bytes::Regex;
+use std::alloc::{AllocError, Global};
+use std::fmt;
+
+/// A pattern to be asked. One that is a long part without regard to case is beside its borders.
+#[derive(Drop)]
+pub struct CompiledPattern {
+    pattern: StringPattern,
+    borders: Vec<usize>,
+    ghost tabled: { HasBorders (pattern_of pattern) borders.items },
+}
+
+/// An expression to be asked.
+#[derive(Debug, Drop)]
+pub enum CompiledExpression {
+    /// The strings of the pattern.
+    Pattern(Box<CompiledPattern>),
+    /// All other strings.
+    NotIn(Box<CompiledExpression>),
+    /// The strings of either.
+    Union(Box<CompiledExpression>, Box<CompiledExpression>),
+    /// The strings of both.
+    Intersection(Box<CompiledExpression>, Box<CompiledExpression>),
+}
+
+// The borders of a pattern that is a long part without regard to case; of any other one, none.
+fn borders_for(alloc: Global, pattern: &StringPattern) -> Result<Vec<usize>, AllocError>
+    ensures { IfOk result (λ borders. HasBorders (pattern_of pattern.now) borders.items) }
+{
+    match pattern {
+        StringPattern::SubstringI(text) => {
+            if text.len() <= SHORT {
+                return Ok(Vec::new(alloc));
+            }
+            borders_of(alloc, text.as_bytes())
+        }
+        _ => Ok(Vec::new(alloc)),
+    }
+}
+
+impl CompiledPattern {
+    ghost use Rattle.jj_strings.specs.StringSets.{InPattern, IsRegex, IsRegexIn};
+    ghost use Rattle.jj_strings.specs.CompiledViews.{source_pattern};
+
+    // The pattern, to be asked.
+    pub(crate) fn new(alloc: Global, pattern: StringPattern) -> Result<CompiledPattern, AllocError>
+        ensures { IfOk result (λ compiled. source_pattern compiled ≡ pattern_of pattern) }
+    {
+        let borders = borders_for(alloc, &pattern)?;
+        Ok(CompiledPattern { pattern, borders })
+    }
+
+    // Whether the pattern's set holds the bytes.
+    pub(crate) fn holds(&self, alloc: Global, bytes: &[u8]) -> Result<bool, AllocError>
+        ensures answer { IfOk result (λ yes. IsTrue yes
+            ↔ InPattern (source_pattern self.now) bytes.now) }
+        ensures memory { IsErr result → IsRegex (source_pattern self.now) }
+    {
+        match self.as_regex() {
+            Some(regex) => Ok(regex.matcher(alloc)?.is_match(bytes)),
+            None => Ok(self.holds_without_regex(bytes)),
+        }
+    }
+
+    // The regular expression of a pattern that is one.
+    pub(crate) fn as_regex(&self) -> Option<&Regex>
+        ensures { IsRegexIn result (source_pattern self.now) }
+    {
+        match &self.pattern {
+            StringPattern::Regex(regex) => Some(&**regex),
+            StringPattern::RegexI(regex) => Some(&**regex),
+            _ => None,
+        }
+    }
+
+    // Whether the set of a pattern that is no regular expression holds the bytes.
+    pub(crate) fn holds_without_regex(&self, bytes: &[u8]) -> bool
+        ensures { (IsRegex (source_pattern self.now) → ⊥) → IsTrue result
+            ↔ InPattern (source_pattern self.now) bytes.now }
+    {
+        match &self.pattern {
+            StringPattern::Exact(text) => bytes == text.as_bytes(),
+            StringPattern::ExactI(text) => bytes.eq_ignore_ascii_case(text.as_bytes()),
+            StringPattern::Substring(text) => bytes.contains_str(text.as_bytes()),
+            StringPattern::SubstringI(text) => {
+                contains_folded(bytes, text.as_bytes(), self.borders.as_slice())
+            }
+            StringPattern::Glob(pattern) => pattern.holds(bytes),
+            StringPattern::GlobI(pattern) => pattern.holds(bytes),
+            StringPattern::Regex(_) => false,
+            StringPattern::RegexI(_) => false,
+        }
+    }
+}
+
+impl fmt::Debug for CompiledPattern {
+    fn fmt<W: fmt::Write>(&self, f: &mut fmt::Formatter<W>) -> fmt::Result {
+        self.pattern.fmt(f)
+    }
+}
+
+impl StringExpression {
+    ghost use Rattle.jj_strings.specs.ExpressionViews.{expression_of};
+    ghost use Rattle.jj_strings.specs.CompiledViews.{source_expression};
+
+    // The expression, to be asked.
+    pub(crate) fn compiled(&self, alloc: Global) -> Result<CompiledExpression, AllocError>
+        ensures { IfOk result (λ compiled. source_expression compiled ≡ expression_of self.now) }
+    {
+        match self {
+            StringExpression::Pattern(pattern) => pattern.compiled(alloc),
+            StringExpression::NotIn(inner) => {
+                let inner = Box::new(alloc, inner.compiled(alloc)?)?;
+                Ok(CompiledExpression::NotIn(inner))
+            }
+            StringExpression::Union(left, right) => {
+                let left = Box::new(alloc, left.compiled(alloc)?)?;
+                let right = Box::new(alloc, right.compiled(alloc)?)?;
+                Ok(CompiledExpression::Union(left, right))
+            }
+            StringExpression::Intersection(left, right) => {
+                let left = Box::new(alloc, left.compiled(alloc)?)?;
+                let right = Box::new(alloc, right.compiled(alloc)?)?;
+                Ok(CompiledExpression::Intersection(left, right))
+            }
+        }
+    }
+}
+
+impl StringPattern {
+    ghost use Rattle.jj_strings.specs.StringSets.{of_pattern};
+    ghost use Rattle.jj_strings.specs.CompiledViews.{source_expression};
+
+    // The pattern as an expression, to be asked.
+    pub(crate) fn compiled(&self, alloc: Global) -> Result<CompiledExpression, AllocError>
+        ensures { IfOk result (λ compiled. source_expression compiled
+            ≡ of_pattern (pattern_of self.now)) }
+    {
+        let pattern = CompiledPattern::new(alloc, self.clone()?)?;
+        Ok(CompiledExpression::Pattern(Box::new(alloc, pattern)?))
+    }
+}
+
+impl CompiledExpression {
+    ghost use Rattle.jj_strings.specs.StringSets.{InExpression, HasRegex};
+    ghost use Rattle.jj_strings.specs.CompiledViews.{source_expression};
+
+    // Whether the expression's set holds the bytes.
+    pub(crate) fn holds(&self, alloc: Global, bytes: &[u8]) -> Result<bool, AllocError>
+        ensures answer { IfOk result (λ yes. IsTrue yes
+            ↔ InExpression (source_expression self.now) bytes.now) }
+        ensures memory { IsErr result → HasRegex (source_expression self.now) }
+    {
+        match self {
+            CompiledExpression::Pattern(pattern) => pattern.holds(alloc, bytes),
+            CompiledExpression::NotIn(inner) => {
+                let yes = inner.holds(alloc, bytes)?;
+                Ok(!yes)
+            }
+            CompiledExpression::Union(left, right) => {
+                if left.holds(alloc, bytes)? {
+                    return Ok(true);
+                }
+                right.holds(alloc, bytes)
+            }
+            CompiledExpression::Intersection(left, right) => {
+                if !left.holds(alloc, bytes)? {
+                    return Ok(false);
+                }
+                right.holds(alloc, bytes)
+            }
+        }
+    }
+}
