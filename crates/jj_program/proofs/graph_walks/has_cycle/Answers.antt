@@ -16,7 +16,7 @@ pub topo_order_forward-order-requires : goal.topo_order_forward-order-requires
 topo_order_forward-order-requires c = record {
   graph = record {
     id_fn = search rules;
-    neighbors_fn = search rules;
+    neighbors_fn = search (rules, of_calls);
     lists = always_returns_same _ _ _ (λ a r f h. (λ it b. (search rules, search rules), search (rules, of_calls, h)));
   };
   cycle_fn = search rules;

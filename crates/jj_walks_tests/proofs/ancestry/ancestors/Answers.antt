@@ -13,7 +13,7 @@ use Rattle.jj_walks_tests.proofs.ancestry.ancestors.Goals as goal
 pub dfs-requires-clause-graph : goal.dfs-requires-clause-graph
 dfs-requires-clause-graph c = record {
   id_fn = search rules;
-  neighbors_fn = search rules;
+  neighbors_fn = search (rules, of_calls);
   lists = always_returns_same _ _ _ (λ a r f h. (λ it b. (search rules, search rules), search (rules, of_calls, h)));
 }
 

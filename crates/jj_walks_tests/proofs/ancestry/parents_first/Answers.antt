@@ -3,6 +3,7 @@ use Rattle.std.proofs.lemmas.Fn.{always_returns_same}
 use Rattle.std.proofs.lemmas.Iterator.{YieldsList-from_slice}
 use Rattle.std.proofs.lemmas.Iterator.Consumers.{YieldsList-from_first}
 use Rattle.std.proofs.lemmas.Result.{IfOk-weaker, IfErr-weaker}
+use denote.Param.Always.{mut_total}
 use Rattle.jj_walks.specs.Graph.{IsPostorder, HasNoCycle, OnCycleFrom}
 use Rattle.jj_walks.proofs.Walking.{drained_are}
 use Rattle.jj_walks_tests.specs.Commits.{ids_of, parents_in, parent_graph}
@@ -16,7 +17,7 @@ pub topo_order_forward-requires : goal.topo_order_forward-requires
 topo_order_forward-requires c = record {
   graph = record {
     id_fn = search rules;
-    neighbors_fn = search rules;
+    neighbors_fn = mut_total _ _ (λ s a. search rules);
     lists = always_returns_same _ _ _ (λ a r f h. (λ it b. (search rules, search rules), search (rules, of_calls, h)));
   };
   cycle_fn = search rules;

@@ -12,7 +12,7 @@ use Rattle.jj_walks_tests.proofs.children_first.newest_first.Goals as goal
 pub topo_order_reverse_ord-requires-clause-graph : goal.topo_order_reverse_ord-requires-clause-graph
 topo_order_reverse_ord-requires-clause-graph c = record {
   id_fn = search rules;
-  neighbors_fn = search rules;
+  neighbors_fn = search (rules, of_calls);
   lists = always_returns_same _ _ _ (λ a r f h. (λ it b. (search rules, search rules), search (rules, of_calls, h)));
 }
 

@@ -7,6 +7,6 @@ use Rattle.jj_walks_tests.proofs.closest_common_tests.counted_chain.Goals as goa
 pub closest_common_nodes-requires-clause-graph : goal.closest_common_nodes-requires-clause-graph
 closest_common_nodes-requires-clause-graph c = record {
   id_fn = search rules;
-  neighbors_fn = search rules;
+  neighbors_fn = search (rules, of_calls);
   lists = always_returns_same _ _ _ (λ a r f h. (first_of (search rules, search (rules, of_calls, h)), search (rules, of_calls, h)));
 }

@@ -6,7 +6,7 @@ pub topo_order_forward-requires : goal.topo_order_forward-requires
 topo_order_forward-requires c = record {
   graph = record {
     id_fn = search rules;
-    neighbors_fn = search rules;
+    neighbors_fn = search (rules, of_calls);
     lists = always_returns_same _ _ _ (λ a r f h. (λ it b. (first_of (search rules, search (rules, of_calls, h, b)), first_of (search rules, search (rules, of_calls, h, b))), search (rules, of_calls, h)));
   };
   cycle_fn = search rules;

@@ -5,6 +5,6 @@ use Rattle.jj_walks_tests.proofs.lazy.ordered.Goals as goal
 pub topo_order_reverse_lazy-requires-clause-graph : goal.topo_order_reverse_lazy-requires-clause-graph
 topo_order_reverse_lazy-requires-clause-graph c = record {
   id_fn = search rules;
-  neighbors_fn = search rules;
+  neighbors_fn = search (rules, of_calls);
   lists = always_returns_same _ _ _ (λ a r f h. (λ it b. (search rules, search rules), search (rules, of_calls, h)));
 }

@@ -5,6 +5,6 @@ use Rattle.jj_walks_tests.proofs.tables.preorder_ok.Goals as goal
 pub dfs_ok-requires-clause-graph : goal.dfs_ok-requires-clause-graph
 dfs_ok-requires-clause-graph c = record {
   id_fn = search rules;
-  neighbors_fn = search rules;
+  neighbors_fn = search (rules, of_calls);
   lists = always_returns_same _ _ _ (λ a r f h. (λ it b. (search rules, search rules), search (rules, of_calls, h)));
 }
