@@ -1,17 +1,14 @@
 -- What a command gives for an input that is text, and for one that is not.
-use Rattle.std.proofs.Common.{◌≡◌, ℕ, List, Bool, true, false, refl, subst, sym, Result, Ok, Err, IfOk, IfErr}
+use Rattle.std.proofs.Common.{◌≡◌, ℕ, List, true, false, refl, subst, sym, Result, Ok, Err, IfOk, IfErr}
 use Rattle.std.proofs.lemmas.Result.{IfOk-weaker, IfErr-weaker}
 use Rattle.std.specs.Str.{IsUtf8, is_utf8}
 use Rattle.std.proofs.lemmas.Str.{IsUtf8-from_is_utf8, is_utf8-from_IsUtf8}
+use Rattle.std.proofs.lemmas.Bool.{false_from_ne_true}
 use Rattle.jj_program.specs.declared.program.Command.{Command}
 use Rattle.jj_program.specs.declared.fault.Fault.{Fault}
 use Rattle.jj_program.specs.declared.fault.Fault.TheVariants.{ReadInput, NotUtf8, Memory, WriteOutput, Matchers, Line}
 use Rattle.jj_program.specs.Lines.{IsFaultOf}
 use Rattle.jj_program.specs.Program.{Gives, GivesText, IsFaultOfInput}
-
-false_or : (b : Bool) → (b ≡ true → ⊥) → b ≡ false
-false_or true f = absurd (f refl)
-false_or false f = refl
 
 -- bytes that are UTF-8 have what is given for their text
 pub gives_text : (command : Command) (input : List ℕ) (answer : Result (List ℕ) Fault) → IsUtf8 input → GivesText command input answer → Gives command input answer
@@ -19,7 +16,7 @@ gives_text command input answer utf8 given = let e : is_utf8 input ≡ true = is
 
 -- other bytes have that fault
 pub gives_not_utf8 : (command : Command) (input : List ℕ) → ¬ (IsUtf8 input) → Gives command input (Err NotUtf8)
-gives_not_utf8 command input f = let e : is_utf8 input ≡ false = false_or (is_utf8 input) (λ h. f (IsUtf8-from_is_utf8 input h)) in rw e refl
+gives_not_utf8 command input f = let e : is_utf8 input ≡ false = false_from_ne_true (is_utf8 input) (λ h. f (IsUtf8-from_is_utf8 input h)) in rw e refl
 
 -- what is given for a known command's text is given for the input
 pub known_gives : (command known : Command) (input : List ℕ) (answer : Result (List ℕ) Fault) → command ≡ known → IsUtf8 input → GivesText known input answer → Gives command input answer

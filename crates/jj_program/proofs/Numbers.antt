@@ -9,6 +9,7 @@ use Rattle.std.specs.Str.Parse.{digits_value, AllDigits, ParsesUnsigned}
 use Rattle.std.proofs.lemmas.Str.Parse.{IsNumeralModel, numerals_by_value, tells_digits, parse_plain, digit_at}
 use Rattle.std.proofs.lemmas.Fmt.{decimal-digits_value, decimal_is_IsNumeral, decimal_digit, first_decimal}
 use Rattle.std.proofs.lemmas.Slice.Eq.{bytes_eq-Decides}
+use Rattle.std.proofs.lemmas.Bool.{false_from_ne_true}
 use Rattle.jj_program.specs.Numbers.{is_number, number_of, IsPlain}
 
 own : IsNumeralModel (AllDigits 10) (digits_value 10)
@@ -58,12 +59,8 @@ number_is_digits text h =
     let parts = and_parts (nat_lt (digits_value 10 text) (2 ^ 64)) (bytes_eq (decimal (digits_value 10 text)) text) h in
     number_is_plain (digits_value 10 text) text (search rules) refl ((bytes_eq-Decides _ _).0 parts.1)
 
-false_or : (b : Bool) → (b ≡ true → ⊥) → b ≡ false
-false_or true f = absurd (f refl)
-false_or false f = refl
-
 pub no_number : (text : List ℕ) → (is_number text ≡ true → ⊥) → number_of text ≡ None
-no_number text h = let e : is_number text ≡ false = false_or (is_number text) h in rw e
+no_number text h = let e : is_number text ≡ false = false_from_ne_true (is_number text) h in rw e
 
 -- what `parse` answers for a plain text is its number
 pub number_of-parse : {E : Type 0} (text : List ℕ) (r : Result ℕ E) → ParsesUnsigned 64 10 text r → IsPlain text → result_ok r ≡ number_of text

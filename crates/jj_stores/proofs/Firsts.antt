@@ -17,6 +17,7 @@ use Rattle.std.proofs.lemmas.List.Elements.{All-nil, All-head, All-tail, All-con
 use Rattle.std.proofs.lemmas.List.Sorted.{IsPermutation-map, sum_by-IsPermutation}
 use Rattle.std.proofs.lemmas.List.Sums.{sum_by-cons, get_or-le-sum_by}
 use Rattle.std.proofs.lemmas.Slice.Eq.{bytes_eq-Decides}
+use Rattle.std.proofs.lemmas.Bool.{and_parts}
 use Rattle.jj_stores.specs.Firsts.{earlier_cmp, first_at, firsts_from, AreFirsts}
 use Rattle.jj_stores.specs.ViewJoins.{Named, IsAscending, IsLeast, remotes_with, IsFirstOfRemotes}
 use Rattle.jj_stores.proofs.FirstNames.{IsMore, at_first, joined_more, more_at, some_joined}
@@ -91,18 +92,13 @@ abbrev pub StandsAt : {R : Type 0} → List ℕ → Named (Named R) → ℕ → 
 StandsAt {R} name remotes i = (i < length remotes)
     × ((d : List ℕ × Named R) → Some name ≡ slice_get (keys_of (get_or remotes i d).1) 0)
 
-both_true : (a b : Bool) → (a && b) ≡ true → (a ≡ true) × (b ≡ true)
-both_true true true h = (refl, refl)
-both_true true false h = cc
-both_true false b h = cc
-
 module _ {R : Type 0} where
   stands_or : (name m : List ℕ) (place k : ℕ) (v : R) (remote : List ℕ) (es : Named R) (rs : Named (Named R)) (b : Bool)
       → is_here name place (m, k) ≡ b → 0 < once b + sum_by (here_count name place) (firsts_from (suc k) rs)
       → (0 < sum_by (here_count name place) (firsts_from (suc k) rs) → (i : ℕ) × (place ≡ suc k + i) × StandsAt name rs i)
       → (i : ℕ) × (place ≡ k + i) × StandsAt name ((remote, (m, v) ∷ es) ∷ rs) i
   stands_or name m place k v remote es rs true is some later =
-      let parts = both_true (bytes_eq name m) (eqb place k) is in
+      let parts = and_parts (bytes_eq name m) (eqb place k) is in
       let named : name ≡ m = (bytes_eq-Decides name m).0 parts.0 in
       let at : place ≡ k = (Decides-eqb place k).0 parts.1 in
       (0, omega (arith, at), (omega arith, λ d. ap (λ n. Some n) named))

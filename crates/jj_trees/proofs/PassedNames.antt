@@ -1,5 +1,5 @@
 -- Entries of trees, taken name by name.
-use Rattle.std.proofs.Common.{◌≡◌, ℕ, zero, suc, ◌+◌, ◌<◌, ◌≤◌, ◌⊎◌, inl, inr, Bool, true, false, cond, ◌&&◌, List, [], ◌∷◌, ◌++◌, length, map, get_or, take, Option, None, Some, refl, sym, ap, subst, ◌∙◌, true≢false, arith}
+use Rattle.std.proofs.Common.{◌≡◌, ℕ, zero, suc, ◌+◌, ◌<◌, ◌≤◌, ◌⊎◌, inl, inr, Bool, true, false, cond, List, [], ◌∷◌, ◌++◌, length, map, get_or, take, Option, None, Some, refl, sym, ap, subst, ◌∙◌, true≢false, arith}
 use Rattle.std.specs.Prelude.{All, Any, AllPairs}
 use Rattle.std.specs.Map.{lookup}
 use Rattle.std.specs.FinMap.{is_sorted, slice_cmp-IsAntisymmetric, nat_cmp-IsAntisymmetric}
@@ -9,7 +9,7 @@ use Rattle.std.specs.Str.{bytes_eq}
 use Rattle.std.specs.Cmp.Lexicographic.{bytes_decides, nat_list_cmp_total}
 use Rattle.std.specs.declared.cmp.Ordering.{Ordering}
 use Rattle.std.specs.declared.cmp.Ordering.TheVariants.{Less, Equal, Greater}
-use Rattle.std.proofs.lemmas.Bool.{and_parts}
+use Rattle.std.proofs.lemmas.Bool.{and_parts, and_from}
 use Rattle.std.proofs.lemmas.List.Elements.{All-nil, All-cons, All-push, All-weaker, All-head, All-tail, Contains-append_left}
 use Rattle.std.proofs.lemmas.List.{take_more, map-append, with_items_is}
 use Rattle.std.specs.Vec.{with_items}
@@ -67,15 +67,11 @@ not_before name other front differs = by (is_lt (name_cmp other name)) refl
         let same : Some other ≡ Some name = sym (ap (λ t. cond t (Some other) (Some name)) e) ∙ front in
         absurd (true≢false (sym ((bytes_decides name other).1 (sym (some_same other name same))) ∙ differs))
 
-both : (a b : Bool) → a ≡ true → b ≡ true → (a && b) ≡ true
-both true b h k = k
-both false b h k = absurd (true≢false (sym h))
-
 below_later : (a b : Name) (es : Entries) → name_cmp a b ≡ Less → below_all name_cmp b es ≡ true → below_all name_cmp a es ≡ true
 below_later a b [] less h = refl
 below_later a b (e ∷ es) less h =
     let parts = and_parts (is_lt (name_cmp b e.0)) (below_all name_cmp b es) h in
-    both (is_lt (name_cmp a e.0)) (below_all name_cmp a es)
+    and_from (is_lt (name_cmp a e.0)) (below_all name_cmp a es)
     (ap is_lt (nat_list_cmp_total.trans a b e.0 less (less_from (name_cmp b e.0) parts.0)))
     (below_later a b es less parts.1)
 
@@ -110,7 +106,7 @@ module _ (name : Name) where
       by true h = subst (λ n. below_all name_cmp n es ≡ true) (sym ((bytes_decides name e.0).0 h)) parts.0
       by false h =
           let less = after_from name e.0 h (not_before name e.0 front h) in
-          both (is_lt (name_cmp name e.0)) (below_all name_cmp name es) (ap is_lt less) (below_later name e.0 es less parts.0)
+          and_from (is_lt (name_cmp name e.0)) (below_all name_cmp name es) (ap is_lt less) (below_later name e.0 es less parts.0)
 
   sorted_left : (es : Entries) → is_sorted name_cmp es ≡ true → is_sorted name_cmp (without_first name es) ≡ true
   sorted_left [] sorted = refl

@@ -5,6 +5,7 @@ use Rattle.std.specs.HashMap.Eq.{lookup_congr}
 use Rattle.std.specs.List.{Contains, list_any, sum_by}
 use Rattle.std.specs.VecDeque.{deque_items}
 use Rattle.std.proofs.lemmas.List.Sums.{sum_by-cons}
+use Rattle.std.proofs.lemmas.Bool.{and_from, or_cases, or_left, or_right}
 use Rattle.jj_walks.specs.declared.graph.GraphEdge.{GraphEdge}
 use Rattle.jj_walks.specs.declared.candidates.Candidates.{Candidates}
 use Rattle.jj_walks.specs.Candidates.{count_of, has_id, is_listed}
@@ -15,10 +16,7 @@ use Rattle.jj_walks.specs.HeldNodes.{KeepsHistory}
 use Rattle.jj_walks.proofs.CandidateLists.{and_left, and_right}
 use Rattle.jj_walks.proofs.Histories.{cons-cases, cons-first, cons-later}
 use Rattle.jj_walks.proofs.HistoryLists.{congr-right}
-use Rattle.jj_walks.proofs.KeptHistories.{has_id-append, or_cases, or_left, or_right, positive-count}
-
-and_both : (a b : Bool) → a ≡ true → b ≡ true → (a && b) ≡ true
-and_both a b e f = ap (λ x. x && b) e ∙ f
+use Rattle.jj_walks.proofs.KeptHistories.{has_id-append, positive-count}
 
 no-push : {A : Type 0} (xs : List A) (x : A) → [] ≡ xs ++ x ∷ [] → ⊥
 no-push [] x e = cc
@@ -225,10 +223,10 @@ module _ {ID : Type 0} {eq : ID → ID → Bool} (laws : IsEquivalence eq) where
     alike = k.alike;
     reaches = λ i l. let r = k.reaches i l in (r.0, way-more edge grown kept i wanted r.0 r.1);
     has_child = λ j h. let c = k.has_child j h in (c.0, kept c.0 j c.1);
-    sound = λ j i l. ⊎_elim (λ a. kept i j (k.sound j i a)) (λ a. grows i j ∙ or_left (eq from i && leads j) (edge i j) (and_both (eq from i) (leads j) (and_right (leads j) (eq from i) a) (and_left (leads j) (eq from i) a)))
+    sound = λ j i l. ⊎_elim (λ a. kept i j (k.sound j i a)) (λ a. grows i j ∙ or_left (eq from i && leads j) (edge i j) (and_from (eq from i) (leads j) (and_right (leads j) (eq from i) a) (and_left (leads j) (eq from i) a)))
         (or_cases (has_child eq s.children j i) (leads j && eq from i) (sym (children j i) ∙ l));
     whole = λ j i e. ⊎_elim
-        (λ a. or_left (has_child eq t.children j i) (known i) (children j i ∙ or_right (has_child eq s.children j i) (leads j && eq from i) (and_both (leads j) (eq from i) (and_right (eq from i) (leads j) a) (and_left (eq from i) (leads j) a))))
+        (λ a. or_left (has_child eq t.children j i) (known i) (children j i ∙ or_right (has_child eq s.children j i) (leads j && eq from i) (and_from (leads j) (eq from i) (and_right (eq from i) (leads j) a) (and_left (eq from i) (leads j) a))))
         (λ a. ⊎_elim (λ l. or_left (has_child eq t.children j i) (known i) (children j i ∙ or_left (has_child eq s.children j i) (leads j && eq from i) l)) (λ n. or_right (has_child eq t.children j i) (known i) n)
         (or_cases (has_child eq s.children j i) (known i) (k.whole j i a)))
         (or_cases (eq from i && leads j) (edge i j) (sym (grows i j) ∙ e));
@@ -283,7 +281,7 @@ module _ {N ID : Type 0} {eq : ID → ID → Bool} (laws : IsEquivalence eq) whe
       zero-or (suc n) any none = absurd (true≢false (sym (any (omega arith)) ∙ none))
 
       go : (0 < sum_by (λ e. count_by (leads_to eq j) e.edges) es → (i : ID) × (has_edge eq es i j ≡ true)) → (b : Bool) → list_any (leads_to eq j) f.edges ≡ b → (i : ID) × (has_edge eq (f ∷ es) i j ≡ true)
-      go below true is = (f.id, or_left (eq f.id f.id && list_any (leads_to eq j) f.edges) (has_edge eq es f.id j) (and_both (eq f.id f.id) (list_any (leads_to eq j) f.edges) (laws.refl f.id) is))
+      go below true is = (f.id, or_left (eq f.id f.id && list_any (leads_to eq j) f.edges) (has_edge eq es f.id j) (and_from (eq f.id f.id) (list_any (leads_to eq j) f.edges) (laws.refl f.id) is))
       go below false is =
           let none : count_by (leads_to eq j) f.edges ≡ 0 = zero-or (count_by (leads_to eq j) f.edges) (counted-any laws j f.edges) is in
           let rest = below (omega (arith, whole, none, h)) in

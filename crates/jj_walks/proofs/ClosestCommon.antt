@@ -10,6 +10,7 @@ use Rattle.std.proofs.lemmas.List.{map-append}
 use Rattle.std.proofs.lemmas.List.Elements.{Contains-append_left, Contains-append_right, Contains-append_cases, Contains-push, Contains-push_cases}
 use Rattle.std.proofs.lemmas.List.Sorted.{IsPermutation-sym, IsPermutation-trans, IsPermutation-map, IsPermutation-to_front, Contains-permutation}
 use Rattle.std.proofs.lemmas.Map.Keys.{IsDistinct-push, IsDistinct-head, IsDistinct-tail, IsDistinct-cons, IsDistinct-IsPermutation}
+use Rattle.std.proofs.lemmas.Bool.{and_parts}
 use Rattle.jj_walks.specs.declared.closest_common.Reach.{Reach}
 use Rattle.jj_walks.specs.declared.closest_common.Mark.{Mark}
 use Rattle.jj_walks.specs.CommonNodes.{HasNoCommonCycle, AreClosestCommon}
@@ -17,7 +18,7 @@ use Rattle.jj_walks.specs.Graph.{HasEdge, ReachedFrom}
 use Rattle.jj_walks.specs.Marks.{unmarked, joined, grows, handed_on, marked, starts_waiting, asked, closest_of}
 use Rattle.jj_walks.specs.Walk.{Numbered, AreNodes}
 use Rattle.jj_walks.proofs.Collecting.{are_nodes}
-use Rattle.jj_walks.proofs.CommonMarks.{IsBoth, Passes, IsMarking, IsAtEnd, at_mark, marks_more, marking_more, marking_asked, passes_marked, passes_kept, is_common, and_both, end_common, end_maximal, maximal_ends}
+use Rattle.jj_walks.proofs.CommonMarks.{IsBoth, Passes, IsMarking, IsAtEnd, at_mark, marks_more, marking_more, marking_asked, passes_marked, passes_kept, is_common, end_common, end_maximal, maximal_ends}
 use Rattle.jj_walks.proofs.Reaching.{ReachedFrom-edge}
 use Rattle.jj_walks.proofs.Walking.{has, has-push, has-from_Contains, Contains-from_has, Decides-has, eqb-flip}
 
@@ -143,7 +144,7 @@ module _ {T ID : Type 0} (w : Numbered T ID) where
       let P : Bool → Type 0 = λ t. (grows known added && not (has old y)) ≡ t → MatchBool t (IsPermutation (x ∷ waiting) waiting2) (waiting2 ≡ waiting) → result in
       elim (grows known added && not (has old y)) as P [
         | true ↦ λ e p.
-            let parts = and_both (grows known added) (not (has old y)) e in
+            let parts = and_parts (grows known added) (not (has old y)) e in
             let q = IsPermutation-map w.node (x ∷ waiting) waiting2 p in (
               (λ b. has-permutation (y ∷ old) (map w.node waiting2) q b ∙ moved (b == y) (has old b) (grows known added) parts.0),
               distinct_put old (map w.node waiting2) y q once (is_false (has old y) parts.1),
@@ -462,7 +463,7 @@ module _ {T ID : Type 0} (w : Numbered T ID) where
       let adds : (b : ℕ) → Contains (a ∷ later) b → Contains (a ∷ W) b ⊎ ((b ≡ y) × (grows (m y) r ≡ true)) = λ b h.
       ⊎_elim (λ first. inl (0, omega arith, first))
       (λ rest. ⊎_elim (λ old. inl (Contains-append_right (a ∷ []) W b (Contains-from_has W b old)))
-      (λ new. let parts = and_both (b == y) (grows (m y) r) new in inr ((Decides-eqb b y).0 parts.0, parts.1))
+      (λ new. let parts = and_parts (b == y) (grows (m y) r) new in inr ((Decides-eqb b y).0 parts.0, parts.1))
       (or_one (has W b) ((b == y) && grows (m y) r) (sym (more.1 b) ∙ has-from_Contains later b rest)))
       (head_or_rest a later b h) in
       let grown : grows (m y) r ≡ true → Contains (a ∷ later) y = λ e.
@@ -560,7 +561,7 @@ module _ {T ID : Type 0} (w : Numbered T ID) where
       Holds l = HoldsMarks set1 set2 m waiting l (rooted || is_root) find
 
       by : (both : Bool) → (known.left && known.right) ≡ both → common2 ≡ cond both (common ++ (x, i) ∷ []) common → Holds common2
-      by true e is = subst Holds (sym is) (hands_common x i is_root k same (and_both known.left known.right e) all asked)
+      by true e is = subst Holds (sym is) (hands_common x i is_root k same (and_parts known.left known.right e) all asked)
       by false e is = subst Holds (sym is) (hands_side is_root k e all asked)
 
   -- ---- the end

@@ -5,6 +5,7 @@ use Rattle.std.specs.Prelude.{◌↔◌}
 use Rattle.std.specs.List.{Contains, IsDistinct}
 use Rattle.std.proofs.lemmas.Bool.Decides.{Decides-eqb}
 use Rattle.std.proofs.lemmas.List.Elements.{Contains-append_right}
+use Rattle.std.proofs.lemmas.Bool.{and_parts, or_cases, or_left, or_right}
 use Rattle.jj_walks.specs.Graph.{Graph, HasEdge, Path, Reaches, StrictlyReaches, ReachedFrom, IsMaximal}
 use Rattle.jj_walks.specs.CommonNodes.{IsCommon, HasNoCommonCycle}
 use Rattle.jj_walks.specs.declared.closest_common.Reach.{Reach}
@@ -13,22 +14,6 @@ use Rattle.jj_walks.proofs.Walking.{has, has-from_Contains, Contains-from_has}
 use Rattle.jj_walks.proofs.Reaching.{Reaches-trans, Reaches-then_strictly, edge_then_Reaches, ReachedFrom-edge}
 
 -- ---- tests
-
-or_left : (a b : Bool) → a ≡ true → (a || b) ≡ true
-or_left true b e = refl
-or_left false b e = absurd (true≢false (sym e))
-
-or_right : (a b : Bool) → b ≡ true → (a || b) ≡ true
-or_right true b e = refl
-or_right false b e = e
-
-pub or_cases : (a b : Bool) → (a || b) ≡ true → (a ≡ true) ⊎ (b ≡ true)
-or_cases true b e = inl refl
-or_cases false b e = inr e
-
-pub and_both : (a b : Bool) → (a && b) ≡ true → (a ≡ true) × (b ≡ true)
-and_both true b e = (refl, e)
-and_both false b e = absurd (true≢false (sym e))
 
 both_and : (a b : Bool) → a ≡ true → b ≡ true → (a && b) ≡ true
 both_and true b e f = f
@@ -147,7 +132,7 @@ module _ (g : Graph) (set1 set2 : List ℕ) where
         below = λ b. at_mark m y r b (λ l. l.below ≡ true → (c : ℕ) × IsCommon g set1 set2 c × StrictlyReaches g c b)
             (λ same h. ⊎_elim (s.below b)
             (λ new.
-            let both = and_both k.left k.right new in
+            let both = and_parts k.left k.right new in
             (a, is_common s a (has_left both.0, has_right both.1), (0, (b, subst (λ n. HasEdge g a n) (sym same) edge, refl))))
             (or_cases (m b).below (k.left && k.right) h)) (λ ne. s.below b);
         first = λ b h. kept_left m y r b (s.first b h);

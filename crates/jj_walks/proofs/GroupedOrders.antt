@@ -5,6 +5,7 @@ use borrow.Author.Tests.{eq-eqb}
 use Rattle.std.specs.Cmp.{IsEquivalence}
 use Rattle.std.specs.List.{Contains, list_all, list_any}
 use Rattle.std.proofs.lemmas.List.{reverse-append}
+use Rattle.std.proofs.lemmas.Bool.{or_cases, or_left, or_right}
 use Rattle.jj_walks.specs.declared.graph.GraphEdge.{GraphEdge}
 use Rattle.jj_walks.specs.Grouped.{AreReadChildFirst, Entry, Gave, History, IsHistory, Prioritized, Reaches, Read, edges_to, first_wanted, given_nodes, has_edge, held, held_at, is_free, is_shown, is_wanted, last_edges, last_free, leads_to, read_nodes, targets_of}
 use Rattle.jj_walks.specs.GroupedOrders.{AreApart, AreGrouped, IsGroupedOrder, IsOldest, IsWhole, has_node, is_ready, newest_edges, prioritized, PrioritizesFirst}
@@ -12,7 +13,6 @@ use Rattle.jj_walks.proofs.Branches.{circle-free, edge-counted, edge-entry, reac
 use Rattle.jj_walks.proofs.CandidateLists.{and_left, and_right}
 use Rattle.jj_walks.proofs.Histories.{cons-cases, cons-first, cons-later, edge-counts, none-found, read-given, read-given_or_held}
 use Rattle.jj_walks.proofs.HistoryLists.{congr-right, find-others, find-passes}
-use Rattle.jj_walks.proofs.KeptHistories.{or_cases, or_left, or_right}
 
 no-false : {A : Type 0} → false ≡ true → A
 no-false e = absurd (true≢false (sym e))

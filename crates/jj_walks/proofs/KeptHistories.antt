@@ -17,6 +17,7 @@ use Rattle.std.specs.HashMap.{hash_map_len}
 use Rattle.std.specs.Map.{lookup}
 use Rattle.std.specs.Global.{Global}
 use Rattle.std.specs.declared.vec.Vec.{Vec}
+use Rattle.std.proofs.lemmas.Bool.{or_cases, or_left, or_right}
 use Rattle.jj_walks.specs.declared.held_nodes.HeldNodes.{HeldNodes}
 use Rattle.jj_walks.specs.HeldNodes.{Keeps, KeepsHistory, item_of, listed_item}
 use Rattle.jj_walks.proofs.CandidateLists.{and_left, and_right, last-or-none, list_all-append, listed-passed}
@@ -33,16 +34,6 @@ positive-is (Some n) = refl
 pub or_true : (a : Bool) → (a || true) ≡ true
 or_true true = refl
 or_true false = refl
-
-pub or_cases : (a b : Bool) → (a || b) ≡ true → (a ≡ true) ⊎ (b ≡ true)
-or_cases true b e = inl refl
-or_cases false b e = inr e
-
-pub or_left : (a b : Bool) → a ≡ true → (a || b) ≡ true
-or_left a b e = ap (λ x. x || b) e
-
-pub or_right : (a b : Bool) → b ≡ true → (a || b) ≡ true
-or_right a b e = ap (λ x. a || x) e ∙ or_true a
 
 abbrev count_one : Bool → ℕ
 count_one b = cond b 1 0

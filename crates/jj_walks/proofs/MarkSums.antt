@@ -6,10 +6,10 @@ use Rattle.std.specs.List.{sum_by}
 use Rattle.std.specs.Option.{option_map}
 use Rattle.std.proofs.lemmas.List.Sums.{sum_by-cons}
 use Rattle.std.proofs.lemmas.Map.Entries.{sum_by_puts_entry, length-values_of}
+use Rattle.std.proofs.lemmas.Bool.{and_parts, or_cases}
 use Rattle.jj_walks.specs.declared.closest_common.Reach.{Reach}
 use Rattle.jj_walks.specs.declared.closest_common.Mark.{Mark}
 use Rattle.jj_walks.specs.Marks.{mark_at, mark_of, grows, marked, starts_waiting, sides, sides_met}
-use Rattle.jj_walks.proofs.CommonMarks.{or_cases, and_both}
 
 one_more : (k r : Bool) → cond k 1 0 ≤ cond (k || r) 1 0
 one_more true r = omega arith
@@ -29,7 +29,7 @@ sides_more mark added =
 
 pub sides_start : (mark : Mark) (added : Reach) → starts_waiting mark added ≡ true → sides mark + 1 ≤ sides (marked mark added)
 sides_start mark added e =
-    let grown = and_both (grows mark.reach added) (not mark.waits) e in
+    let grown = and_parts (grows mark.reach added) (not mark.waits) e in
     let l = one_more mark.reach.left added.left in
     let r = one_more mark.reach.right added.right in
     ⊎_elim

@@ -1,5 +1,5 @@
 -- The same walk under other numbers: what the closures show under one numbering they show under any other that tells the nodes apart.
-use Rattle.std.proofs.Common.{◌≡◌, ◌≢◌, ◌<◌, ℕ, zero, suc, append_assoc, Bool, true, false, cond, ◌&&◌, ◌==◌, Option, Result, Ok, Err, List, [], ◌∷◌, ◌++◌, map, refl, sym, ◌∙◌, ap, subst, arith, true≢false}
+use Rattle.std.proofs.Common.{◌≡◌, ◌≢◌, ◌<◌, ℕ, zero, suc, append_assoc, Bool, true, false, cond, ◌&&◌, ◌==◌, Option, Result, Ok, Err, List, [], ◌∷◌, ◌++◌, map, refl, sym, ◌∙◌, ap, subst, arith}
 use Rattle.std.specs.List.{Contains, cons_option}
 use Rattle.std.specs.Result.{result_ok}
 use Rattle.std.specs.Bool.{one_answer}
@@ -7,6 +7,7 @@ use Rattle.std.specs.Fn.{Shared, Mut, AlwaysReturns, ReturnsEach}
 use Rattle.std.proofs.lemmas.Bool.Decides.{Decides-eqb}
 use Rattle.std.proofs.lemmas.List.{map-append}
 use Rattle.std.proofs.lemmas.List.Elements.{Contains-append_left}
+use Rattle.std.proofs.lemmas.Bool.{and_from, and_parts}
 use denote.Ref.{Bor}
 use Rattle.jj_walks.specs.Graph.{HasEdge, Path, ReachedFrom, StandsBefore, IsChildFirst, IsGreatestChildFirst}
 use Rattle.jj_walks.specs.Walk.{Numbered, AreNodes}
@@ -17,13 +18,6 @@ use Rattle.jj_walks.proofs.ReadyOrders.{at_split, distinct, here, later, twice}
 use Rattle.jj_walks.proofs.Relabelled.{Contains-map, Contains-unmap, split_map}
 
 -- ---- tests, and calls
-
-both : (a b : Bool) → (a && b) ≡ true → (a ≡ true) × (b ≡ true)
-both true b e = (refl, e)
-both false b e = absurd (true≢false (sym e))
-
-and_both : (a b : Bool) → a ≡ true → b ≡ true → (a && b) ≡ true
-and_both a b p q = rw (p, q) refl
 
 -- what holds of each call gives what follows from it
 pub AlwaysReturns-weaker : {F X R : Type 0} (g : Mut F X R) (P Q : X → R → Type 0) (f : F) → ((a : X) (r : R) → P a r → Q a r) → AlwaysReturns g P f → AlwaysReturns g Q f
@@ -66,7 +60,7 @@ module _ {T ID : Type 0} (w : Numbered T ID) (to back : ℕ → ℕ) (unused : �
     pub is_renumbered : (n : ℕ) → w.is_node n ≡ true → renumbered.is_node (to n) ≡ true
     is_renumbered n is =
         let e = undo n is in
-        and_both _ _ (ap w.is_node e ∙ is) ((Decides-eqb (to (back (to n))) (to n)).1 (ap to e))
+        and_from _ _ (ap w.is_node e ∙ is) ((Decides-eqb (to (back (to n))) (to n)).1 (ap to e))
 
     pub is_node_of : (n : ℕ) → renumbered.is_node (number_of n) ≡ true → w.is_node n ≡ true
     is_node_of n is =
@@ -76,7 +70,7 @@ module _ {T ID : Type 0} (w : Numbered T ID) (to back : ℕ → ℕ) (unused : �
           | false ↦ λ e.
               let out : number_of n ≡ unused = ap (λ b. cond b (to n) unused) e in
               let at : renumbered.is_node unused ≡ true = subst (λ (m : ℕ). renumbered.is_node m ≡ true) out is in
-              let k = both (w.is_node (back unused)) (to (back unused) == unused) at in
+              let k = and_parts (w.is_node (back unused)) (to (back unused) == unused) at in
               absurd (free (back unused) k.0 ((Decides-eqb (to (back unused)) unused).0 k.1))
         ] refl
 
@@ -85,7 +79,7 @@ module _ {T ID : Type 0} (w : Numbered T ID) (to back : ℕ → ℕ) (unused : �
 
     pub renumbered_closed : (a : ℕ) → renumbered.is_node a ≡ true → AreNodes renumbered (renumbered.graph a)
     renumbered_closed a is b h =
-        let k = both (w.is_node (back a)) (to (back a) == a) is in
+        let k = and_parts (w.is_node (back a)) (to (back a) == a) is in
         let m = Contains-unmap to (w.graph (back a)) b h in
         subst (λ (n : ℕ). renumbered.is_node n ≡ true) m.2 (is_renumbered m.0 (closed (back a) k.0 m.0 m.1))
 

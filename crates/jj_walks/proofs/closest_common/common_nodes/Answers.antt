@@ -4,12 +4,13 @@ use Rattle.std.specs.List.{Contains}
 use Rattle.std.specs.List.Sorted.{IsPermutation}
 use Rattle.std.proofs.lemmas.List.{nil_from_length}
 use Rattle.std.proofs.lemmas.List.Elements.{Contains-append_left, Contains-append_right, Contains-push}
+use Rattle.std.proofs.lemmas.Bool.{and_parts}
 use Rattle.jj_walks.specs.Failing.{Fault, ShowsLists, sound_items, sound as sound_graph}
 use Rattle.jj_walks.specs.Graph.{HasEdge}
 use Rattle.jj_walks.specs.Marks.{handed_on, mark_at}
 use Rattle.jj_walks.specs.Walk.{DrainsTo}
 use Rattle.jj_walks.proofs.ClosestCommon.{HandsOn, starting_none, starting_left, starting_right, started, started_holds, was_reached, asks, hands_more, hands_over, ends, ends_early, closest_at_end, ids_more}
-use Rattle.jj_walks.proofs.CommonMarks.{and_both, marks_more}
+use Rattle.jj_walks.proofs.CommonMarks.{marks_more}
 use Rattle.jj_walks.proofs.FailingOrders.{ReachedFrom-same, sound_items-nodes, failed_list}
 use Rattle.jj_walks.proofs.Heads.{Contains-map}
 use Rattle.jj_walks.proofs.Walking.{numbers-push, returned, AlwaysReturns-call}
@@ -244,7 +245,7 @@ returns-then-not-root_met-clause-closest g c =
           let at = asks walk g.ID.PartialEq.eq set1 set2 known.1.0 (heap_items c.loop-node-3.waiting) (heap_items c.pop.new.self) c.loop-node-3.common.items c.loop-node-3.root_met
           (mark_at g.ID.PartialEq.eq c.loop-node-3.known) (mark_at g.ID.PartialEq.eq c.ask-reach.new.known) node id c.ask-reach.result shown.closed shown.apart first second held popped
           (λ here. shown.ids_stand node id here (returned g.F.Fn c.id_fn-id-in-Some-pop.ensures)) c.ask-reach.ensures.reach c.ask-reach.ensures.known in
-          let end = ends_early walk node id at.2 empty (and_both _ _ (sym c.is_common.ensures ∙ c.if-is_common.true)) c.if-not-root_met.true in
+          let end = ends_early walk node id at.2 empty (and_parts _ _ (sym c.is_common.ensures ∙ c.if-is_common.true)) c.if-not-root_met.true in
           rw more (closest_at_end walk set1 set2 (walk.node node ∷ []) known.1.0 (heap_items c.pop.new.self) (map (λ entry. walk.node entry.0) c.loop-node-3.common.items) (c.loop-node-3.common.items ++ (node, id) ∷ []) c.loop-node-3.root_met
           (mark_at g.ID.PartialEq.eq c.ask-reach.new.known) end at.2.marks (ids_more walk c.loop-node-3.common.items node id held.ids at.1) shown.closed first acyclic),
     )
