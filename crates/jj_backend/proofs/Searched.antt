@@ -1,51 +1,18 @@
 -- What a binary search finds among entries whose names rise.
-use Rattle.std.proofs.Common.{◌≡◌, ℕ, zero, suc, ◌<◌, ◌≤◌, Bool, true, false, [], ◌∷◌, length, get_or, Some, None, Result, Ok, Err, refl, sym, ap, ◌∙◌, arith, inl, inr}
-use mathlib.Core.Bool.{false≢true}
+use Rattle.std.proofs.Common.{◌≡◌, ℕ, zero, suc, ◌<◌, Bool, true, false, [], ◌∷◌, length, get_or, Some, None, Result, Ok, Err, refl, sym, ap, ◌∙◌, arith, inl, inr}
 use Rattle.std.specs.declared.cmp.Ordering.{Ordering}
 use Rattle.std.specs.declared.cmp.Ordering.TheVariants.{Less, Equal, Greater}
-use Rattle.std.specs.Ordering.{is_lt, ordering_index, ordering_reverse}
-use Rattle.std.specs.Cmp.Lexicographic.{nat_list_cmp_total}
-use Rattle.std.specs.FinMap.{is_sorted, slice_cmp-IsAntisymmetric, nat_cmp-IsAntisymmetric}
+use Rattle.std.specs.Ordering.{ordering_index}
+use Rattle.std.specs.FinMap.{is_sorted}
 use Rattle.std.specs.FinMap.Entries.{below_all}
 use Rattle.std.specs.List.Sorted.{IsBinarySearchResult, IsSearchInRange, IsNonDecreasingBy}
 use Rattle.std.specs.Str.{bytes_eq}
 use Rattle.std.proofs.lemmas.Bool.{and_parts, cases_lt}
 use Rattle.std.proofs.lemmas.Slice.Eq.{bytes_eq-Decides}
 use Rattle.jj_paths.specs.Paths.{Name, name_cmp}
+use Rattle.jj_paths.proofs.PathOrders.{name_cmp-same, name_cmp-itself, less_from_is_lt, rises}
 use Rattle.jj_backend.specs.Trees.{Entries, value_at, IsEntryAt}
 use Rattle.jj_backend.specs.declared.backend.tree_value.TreeValue.{TreeValue}
-
-name_cmp-same : (x y : Name) → name_cmp x y ≡ Equal → x ≡ y
-name_cmp-same = slice_cmp-IsAntisymmetric nat_cmp-IsAntisymmetric
-
-name_cmp-itself : (x : Name) → name_cmp x x ≡ Equal
-name_cmp-itself x = by_antisymm (name_cmp x x) (nat_list_cmp_total.antisymm x x)
-  where
-    by_antisymm : (r : Ordering) → r ≡ ordering_reverse r → r ≡ Equal
-    by_antisymm Less e = cc
-    by_antisymm Equal e = refl
-    by_antisymm Greater e = cc
-
-less_from_is_lt : (r : Ordering) → is_lt r ≡ true → r ≡ Less
-less_from_is_lt Less e = refl
-less_from_is_lt Equal e = absurd (false≢true e)
-less_from_is_lt Greater e = absurd (false≢true e)
-
--- a smaller name compares no higher with any name
-rises : (x y q : Name) (r : Ordering) → name_cmp y q ≡ r → name_cmp x y ≡ Less → ordering_index (name_cmp x q) ≤ ordering_index r
-rises x y q Less e less = rw (nat_list_cmp_total.trans x y q less e) (omega arith)
-rises x y q Equal e less =
-    let t = nat_list_cmp_total in
-    let same : name_cmp y x ≡ name_cmp q x = t.congr y q x e in
-    let back : name_cmp y x ≡ Greater = t.antisymm y x ∙ ap ordering_reverse less in
-    let is : name_cmp x q ≡ Less = t.antisymm x q ∙ ap ordering_reverse (sym same ∙ back) in
-    rw is (omega arith)
-rises x y q Greater e less = at_most_two (name_cmp x q)
-  where
-    at_most_two : (r : Ordering) → ordering_index r ≤ 2
-    at_most_two Less = omega arith
-    at_most_two Equal = omega arith
-    at_most_two Greater = omega arith
 
 -- a name that compares unequal differs
 differs : (x name : Name) (r : Ordering) → name_cmp x name ≡ r → (r ≡ Equal → ⊥) → bytes_eq name x ≡ false
