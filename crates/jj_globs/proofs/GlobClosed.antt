@@ -10,7 +10,7 @@ use Rattle.jj_globs.specs.declared.glob.sign.Place.TheVariants.{Start, LeadingRu
 use Rattle.jj_globs.specs.GlobText.{Word, question, asterisk, slash, open_brace, comma, close_brace, literal, class, fault, place_behind, place_behind_group, place_of, instead, two_stars, with_dirs, with_last_dirs, ends_sequence, with_or, with_close, closes_nothing, only_dirs, read, tokens_of, words, sign_of}
 use Rattle.jj_globs.specs.GlobMeaning.{Sequence, Alternatives, before_or, before_open, reading_of}
 
--- so many groups are open behind these tokens, the last first
+-- so many groups are open after these tokens, the last first
 abbrev pub HasOpen : List Token → ℕ → Type 0
 HasOpen [] n = n ≡ 0
 HasOpen (part p ∷ ts) n = HasOpen ts n

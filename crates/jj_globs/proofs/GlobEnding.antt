@@ -76,7 +76,7 @@ bytes_fit o (Everything ∷ ss) only bs h = let (b, is) = only 0 Everything refl
 bytes_fit o (Fork further ∷ ss) only bs h = let (b, is) = only 0 (Fork further) refl in cc is
 bytes_fit o (Jump further ∷ ss) only bs h = let (b, is) = only 0 (Jump further) refl in cc is
 
--- 3. A step before the end leaves what fits behind it.
+-- 3. A step before the end leaves what fits after it.
 
 module _ (o : Options) (end : List Step) where
   abbrev Ends : List ℕ → Type 0

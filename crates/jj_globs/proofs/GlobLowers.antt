@@ -33,7 +33,7 @@ test_same : (p q : ℕ → Bool) (t : Test) → ((b : ℕ) → p b ≡ q b) → 
 test_same p q t e [] = refl
 test_same p q t e (b ∷ bs) = ap (λ v. v && t bs) (e b)
 
--- 1. A place with so many steps behind it stays what it is when a step is put before all.
+-- 1. A place with so many steps after it stays what it is when a step is put before all.
 
 module _ (o : Options) (below : Bool) where
   pub kept : (s : Step) (ss : List Step) (k : ℕ) → k ≤ length ss → (bs : List ℕ) → test_at o below (s ∷ ss) k bs ≡ test_at o below ss k bs

@@ -1,4 +1,4 @@
--- The tokens of a glob with `{/**,}` behind them stand for the bytes of which a front matches.
+-- The tokens of a glob with `{/**,}` after them stand for the bytes of which a front matches.
 use Rattle.std.proofs.Math.Path.{fun_ext}
 use Rattle.std.proofs.Common.{◌||◌, ◌&&◌, ◌==◌, Bool, true, false, ◌≡◌, ◌∙◌, ap, sym, subst, ℕ, ◌⊎◌, inl, inr, List, [], ◌∷◌, ◌++◌, Ok, refl, append-nil}
 use Rattle.jj_globs.specs.declared.glob.token.Token.{Token}
@@ -31,7 +31,7 @@ join_outer [] m = []
 join_outer (g ∷ []) m = (g.0, join g.1 m) ∷ []
 join_outer (g ∷ h ∷ gs) m = g ∷ join_outer (h ∷ gs) m
 
--- a reading with more behind its end
+-- a reading with more after its end
 abbrev pub joined : Reading → Sequence → Reading
 joined r m = record { here = join_here r.here r.outer m; outer = join_outer r.outer m }
 

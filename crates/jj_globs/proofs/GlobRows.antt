@@ -224,7 +224,7 @@ wide : matches path (91 ∷ 195 ∷ 169 ∷ 45 ∷ 122 ∷ 93 ∷ []) [] ≡ fau
 unfolding tokens_of words read
 wide = refl
 
--- a group that leaves no token: behind it `**/` is still at the start, but a slash before it is not right before `**`
+-- a group that leaves no token: after it `**/` is still at the start, but a slash before it is not right before `**`
 empty_group_at_start : matches path (codes "{}**/a") (codes "x/a") ≡ yes
 unfolding tokens_of words read
 empty_group_at_start = refl

@@ -127,7 +127,7 @@ module _ (o : Options) (below : Bool) where
       ∙ ap (λ (n : ℕ). up o below mid (reverse before) (without_branch n branches) (with_branch o below mid n branches byte) x) (sym deep)
       ∙ ap (λ (cs : Word). up o below mid cs branches (answers o below mid 0) x) (sym turned)
 
-  -- the branch behind the whole word
+  -- the branch after the whole word
   pub whole_word_up : (word : Word) (old new : List Step) (branches rest : List Branch)
       → JoinsBranch (length word) old branches new rest → LeadInside (length old) branches → (x : List ℕ)
       → up o below new (reverse word) rest (answers o below new 0) x ≡ up_from o below old (reverse word) branches (answers o below old 0) x
@@ -248,7 +248,7 @@ lead_joined depth old branches new rest joined n le h =
     subst (LeadInside (length new)) (sym joined.left)
     (lead_longer n (length new) (without_branch depth branches) (omega (arith, le, longer)) (lead_without n depth branches h))
 
--- none of them, but for the branch behind all
+-- none of them, but for the branch after all
 pub puts_none : (word : Word) (old : List Step) (branches : List Branch) (new : List Step) (rest : List Branch)
     → JoinsBranch (length word) old branches new rest → PutsBytes word (length word) old branches new rest
 puts_none word old branches new rest joined = record {

@@ -20,7 +20,7 @@ pub many_same : (p : ℕ → Bool) (t u : Test) → ((bs : List ℕ) → t bs �
 many_same p t u e [] = e []
 many_same p t u e (b ∷ bs) = ap (λ v. v || (p b && many p t bs)) (e (b ∷ bs)) ∙ ap (λ v. u (b ∷ bs) || (p b && v)) (many_same p t u e bs)
 
--- the first place, and the places behind it
+-- the first place, and the places after it
 at_first : (o : Options) (below : Bool) (s : Step) (ss : List Step) (bs : List ℕ) → step_then o (answers o below ss) s bs ≡ by_step o (answers o below (s ∷ ss)) s 0 bs
 at_first o below (Byte c) ss bs = one_same (same_byte o c) (answers o below ss 0) (answers o below (Byte c ∷ ss) (0 + 1)) (λ x. sym (later o below (Byte c) ss (0 + 1) 0 (omega arith) x)) bs
 at_first o below AnyByte ss bs = one_same (is_plain o) (answers o below ss 0) (answers o below (AnyByte ∷ ss) (0 + 1)) (λ x. sym (later o below AnyByte ss (0 + 1) 0 (omega arith) x)) bs

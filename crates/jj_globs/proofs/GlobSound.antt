@@ -162,7 +162,7 @@ Tells-leading t P h bs =
 pub slash_is : (b : ℕ) → IsTrue (is_slash b) → b ≡ 47
 slash_is b e = (Decides-eqb b 47).0 e
 
--- a slash, and a part behind it
+-- a slash, and a part after it
 abbrev pub Behind : Bytes → Bytes
 Behind A bs = (rest : List ℕ) × (bs ≡ 47 ∷ rest) × A rest
 
@@ -213,7 +213,7 @@ Tells-part_then o Everything t P h bs = Tells-any t P h bs
 
 -- 3. Places in the list of tokens.
 
--- the sequence and, behind it, what follows each group that is open
+-- the sequence and, after it, what follows each group that is open
 abbrev pub Onward : Options → Sequence → List (Alternatives × Sequence) → Bytes
 Onward o s [] bs = Stands o s bs
 Onward o s (g ∷ gs) bs = IsSplit (Stands o s) (Onward o g.1 gs) bs

@@ -15,7 +15,7 @@ use Rattle.jj_globs.specs.GlobMeaning.{in_class}
 use Rattle.jj_globs.specs.GlobPlain.{Test, Tests, tests_before}
 use Rattle.jj_globs.specs.GlobPlaces.{in_set, answers, end_test, StaysInside}
 
--- the steps of a part, before those behind it
+-- the steps of a part, before those after it
 abbrev pub AddsPart : Options → Part → List Step → List Step → Type 0
 AddsPart o (byte c) ss new = new ≡ Byte c ∷ ss
 AddsPart o any_one ss new = new ≡ AnyByte ∷ ss
@@ -28,7 +28,7 @@ AddsPart o LeadingDirs ss new = new ≡ Fork 2 ∷ Everything ∷ Byte 47 ∷ ss
 AddsPart o InnerDirs ss new = new ≡ Byte 47 ∷ Fork 2 ∷ Everything ∷ Byte 47 ∷ ss
 
 -- what stands here, or the alternatives that were read before, at the place with that many steps
--- behind it
+-- after it
 abbrev pub forked : Option ℕ → List Step → List Step
 forked None ss = ss
 forked (Some others) ss = Fork (length ss - others) ∷ ss
@@ -46,7 +46,7 @@ AddsToken o Or ss (g ∷ gs) new opened =
 AddsToken o Open ss [] new opened = (new ≡ ss) × (opened ≡ [])
 AddsToken o Open ss (g ∷ gs) new opened = (new ≡ forked g.any ss) × (opened ≡ gs)
 
--- what the place with so many steps behind it accepts
+-- what the place with so many steps after it accepts
 abbrev pub test_at : Options → Bool → List Step → ℕ → Test
 test_at o below ss behind bs = answers o below ss (length ss - behind) bs
 

@@ -77,7 +77,7 @@ pub record Reading : Type 0 where
   pub here : Sequence
   pub outer : List (Alternatives × Sequence)
 
--- a `,`: an alternative begins behind it, and what stands here ends
+-- a `,`: an alternative begins after it, and what stands here ends
 abbrev pub before_or : Sequence → List (Alternatives × Sequence) → Reading
 before_or s [] = record { here = s; outer = [] }
 before_or s (g ∷ gs) = record { here = done; outer = (either s g.0, g.1) ∷ gs }

@@ -39,7 +39,7 @@ abbrev pub end_test : Bool → Test
 end_test below [] = true
 end_test below (b ∷ bs) = below && (b == 47)
 
--- what a step accepts, from what the places behind it accept
+-- what a step accepts, from what the places after it accept
 abbrev pub step_then : Options → (ℕ → Test) → Step → Test
 step_then o Q (Byte c) bs = one (same_byte o c) (Q 0) bs
 step_then o Q AnyByte bs = one (is_plain o) (Q 0) bs
@@ -75,7 +75,7 @@ pub record Solves (o : Options) (below : Bool) (steps : List Step) (P : ℕ → 
 abbrev pub AnyLive : (ℕ → Test) → List ℕ → List ℕ → Type 0
 AnyLive P words bs = (place : ℕ) × IsLive words place × IsTrue (P place bs)
 
--- how far behind the next place a step may lead
+-- how far after the next place a step may lead
 abbrev pub further_of : Step → ℕ
 further_of (Fork further) = further
 further_of (Jump further) = further

@@ -15,7 +15,7 @@ use Rattle.jj_globs.specs.GlobText.{Word, sign_of, words, class, fault, read}
 abbrev pub IsClassRead : List Word → Bool × List ByteRange → List ℕ → Type 0
 IsClassRead found (negated, ranges) rest = found ≡ class negated ranges ∷ words (map sign_of rest)
 
--- behind any tokens, the words read as one part and what follows it
+-- after any tokens, the words read as one part and what follows it
 abbrev pub IsPartRead : List Word → Part → List ℕ → Type 0
 IsPartRead found next rest = (n : ℕ) (e : Bool) (ts : List Token)
     → read n e ts found ≡ read n false (part next ∷ ts) (words (map sign_of rest))

@@ -34,7 +34,7 @@ abbrev pub letters : Word → List Token
 letters [] = []
 letters (c ∷ cs) = part (byte c) ∷ letters cs
 
--- the tokens behind the first alternative of a group: a `,` before each further one, and the `}`
+-- the tokens after the first alternative of a group: a `,` before each further one, and the `}`
 abbrev pub further_alternatives : List Word → List Token
 further_alternatives [] = Close ∷ []
 further_alternatives (word ∷ words) = Or ∷ letters word ++ further_alternatives words
@@ -58,15 +58,15 @@ pub record AddsWords (words : List Word) (old new : List Step) : Type 0 where
   pub inside : StaysInside old → StaysInside new
 
 -- 3. Branches, the innermost first: places that words lead to which part from the current one
--- behind so many of its bytes.
+-- after so many of its bytes.
 
--- the test, or what a branch accepts that stands behind so many bytes
+-- the test, or what a branch accepts that stands after so many bytes
 abbrev pub with_branch : Options → Bool → List Step → ℕ → List Branch → Test → Test
 with_branch o below ss depth [] t bs = t bs
 with_branch o below ss depth (b ∷ branches) t bs =
     if b.depth == depth then t bs || test_at o below ss b.place bs else t bs
 
--- the branches that are left behind so many bytes
+-- the branches that are left after so many bytes
 abbrev pub without_branch : ℕ → List Branch → List Branch
 without_branch depth [] = []
 without_branch depth (b ∷ branches) = if b.depth == depth then branches else b ∷ branches
@@ -78,7 +78,7 @@ up o below ss (c ∷ cs) branches t =
     up o below ss cs (without_branch (length cs) branches)
     (with_branch o below ss (length cs) branches (one (same_byte o c) t))
 
--- the same, where a branch may also stand behind all bytes
+-- the same, where a branch may also stand after all bytes
 abbrev pub up_from : Options → Bool → List Step → Word → List Branch → Test → Test
 up_from o below ss cs branches t =
     up o below ss cs (without_branch (length cs) branches)
@@ -89,7 +89,7 @@ abbrev pub LeadInside : ℕ → List Branch → Type 0
 LeadInside end [] = Unit {0}
 LeadInside end (b ∷ branches) = (b.place ≤ end) × LeadInside end branches
 
--- the branch behind so many bytes, if there is one, was joined to the steps
+-- the branch after so many bytes, if there is one, was joined to the steps
 pub record JoinsBranch (depth : ℕ) (old : List Step) (branches : List Branch) (new : List Step)
     (rest : List Branch) : Type 0 where
   pub same : (o : Options) (below : Bool) (bs : List ℕ) → answers o below new 0 bs

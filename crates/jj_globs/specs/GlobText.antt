@@ -113,7 +113,7 @@ only_dirs s = false
 
 -- 4. Tokens of any other text, read with the tokens so far, the last first.
 
--- the place behind the last token
+-- the place after the last token
 abbrev pub place_behind : List Token → Place
 place_behind [] = Start
 place_behind (Open ∷ ts) = Start
@@ -123,7 +123,7 @@ place_behind (part InnerDirs ∷ ts) = InnerRun
 place_behind (part (Byte b) ∷ ts) = if b == 47 then AfterSlash else Elsewhere
 place_behind ts = Elsewhere
 
--- the place behind a group that left no token: a slash before it does not stand right before what
+-- the place after a group that left no token: a slash before it does not stand right before what
 -- follows
 abbrev pub place_behind_group : Place → Place
 place_behind_group Start = Start

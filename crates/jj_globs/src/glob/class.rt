@@ -8,7 +8,7 @@ use crate::glob::sign::{Sign, next_sign};
 use crate::glob::token::{ByteRange, Class};
 use std::alloc::Global;
 
-// A class, from behind its `[` on, and what follows it.
+// A class, from after its `[` on, and what follows it.
 pub(crate) fn read_class<'a>(alloc: Global, text: &'a [u8]) -> Result<(Class, &'a [u8]), GlobError>
     ensures read { MatchResult result
         (λ read. IsClassRead (words (Sign.OpenBracket ∷ map sign_of text.now)) read.0 read.1.now)

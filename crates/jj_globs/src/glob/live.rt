@@ -9,7 +9,7 @@ use crate::glob::row::Row;
 use crate::glob::step::Step;
 use crate::glob::token::Options;
 
-// Makes live what the step of a place leads on to: at once in `now`, and behind the byte in `next`.
+// Makes live what the step of a place leads on to: at once in `now`, and after the byte in `next`.
 fn lead_on<const WORDS: usize, const GROUPS: usize>(
     options: Options,
     step: Step,
@@ -57,7 +57,7 @@ fn lead_on<const WORDS: usize, const GROUPS: usize>(
     }
 }
 
-// Leads all live places over one byte: behind it the places of `next` are live. Answers whether the
+// Leads all live places over one byte: after it the places of `next` are live. Answers whether the
 // end was live and accepts.
 fn pass<const WORDS: usize, const GROUPS: usize>(
     options: Options,

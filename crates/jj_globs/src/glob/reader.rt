@@ -16,13 +16,23 @@ pub(crate) fn read_tokens(alloc: Global, text: &[u8]) -> Result<Vec<Token>, Glob
     ensures { MatchResult result (λ tokens. tokens_of text.now ≡ Ok tokens.items)
         (λ error. IsReadingFault error (tokens_of text.now)) }
 {
+    if !is_only_dirs(text) {
+        return read_words(alloc, text);
+    }
+    let mut tokens = Vec::new(alloc);
+    tokens.push(Token::Part(Part::Everything))?;
+    Ok(tokens)
+}
+
+// The same of a text that does not stand for any bytes.
+fn read_words(alloc: Global, text: &[u8]) -> Result<Vec<Token>, GlobError>
+    requires plain { only_dirs (map sign_of text.now) ≡ false }
+    ensures { MatchResult result (λ tokens. tokens_of text.now ≡ Ok tokens.items)
+        (λ error. IsReadingFault error (tokens_of text.now)) }
+{
     // Each open group is a byte of the text, so their number fits.
     let _len = text.len();
     let mut tokens = Vec::new(alloc);
-    if is_only_dirs(text) {
-        tokens.push(Token::Part(Part::Everything))?;
-        return Ok(tokens);
-    }
     let mut rest = text;
     let mut open_groups = 0;
     let mut is_behind_group = false;
@@ -77,7 +87,7 @@ fn is_only_dirs(text: &[u8]) -> bool
     false
 }
 
-// What the other signs begin, from behind the sign on: a class, an escaped byte, any byte, or a
+// What the other signs begin, from after the sign on: a class, an escaped byte, any byte, or a
 // byte that stands for itself.
 fn read_part<'a>(alloc: Global, sign: Sign, text: &'a [u8]) -> Result<(Part, &'a [u8]), GlobError>
     requires no_star { sign ≢ Sign.Asterisk }
@@ -152,7 +162,7 @@ fn ends_sequence(open_groups: usize, text: &[u8]) -> bool
     }
 }
 
-// The text from behind a first star on.
+// The text from after a first star on.
 fn read_stars<'a>(
     tokens: &mut Vec<Token>,
     open_groups: usize,

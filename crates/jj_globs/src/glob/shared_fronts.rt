@@ -8,8 +8,8 @@ use crate::glob::step::Step;
 use crate::glob::token::{Part, Token};
 use std::alloc::{AllocError, Global};
 
-/// Where words part: behind so many bytes of the word that is put before the steps. The place is
-/// named by the number of steps behind it.
+/// Where words part: after so many bytes of the word that is put before the steps. The place is
+/// named by the number of steps after it.
 #[derive(Clone, Copy, Drop)]
 pub struct Branch {
     /// How many bytes stand before it.
@@ -137,7 +137,7 @@ fn put_bytes(
     Ok(())
 }
 
-// Joins the branch that stands behind so many bytes, if there is one.
+// Joins the branch that stands after so many bytes, if there is one.
 fn join_branch(
     steps: &mut Vec<Step>,
     branches: &mut Vec<Branch>,

@@ -74,7 +74,7 @@ impl Sign {
     }
 }
 
-// What the first byte means, and the bytes behind it.
+// What the first byte means, and the bytes after it.
 pub(crate) fn next_sign(text: &[u8]) -> Option<(Sign, &[u8])>
     ensures { MatchOption result (text.now ≡ [])
         (λ next. map sign_of text.now ≡ next.0 ∷ map sign_of next.1.now) }

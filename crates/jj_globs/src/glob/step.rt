@@ -1,7 +1,7 @@
 //! The steps of a glob: its tokens without the brackets of groups.
 use crate::glob::byte_set::ByteSet;
 
-/// A step takes a byte, or leads on to places behind it. A place is a step's index, and the number
+/// A step takes a byte, or leads on to places after it. A place is a step's index, and the number
 /// of steps is the end.
 #[derive(Clone, Copy, Drop)]
 pub enum Step {
@@ -17,6 +17,6 @@ pub enum Step {
     Everything,
     /// The next place, or the one so many places further on.
     Fork(usize),
-    /// The place so many places behind the next one.
+    /// The place so many places after the next one.
     Jump(usize),
 }

@@ -10,7 +10,7 @@ use crate::glob::step::Step;
 use crate::glob::token::{Options, Part, Token};
 use std::alloc::{AllocError, Global};
 
-/// A group whose `}` was read and whose `{` was not. A place is named by the number of steps behind
+/// A group whose `}` was read and whose `{` was not. A place is named by the number of steps after
 /// it.
 #[derive(Clone, Copy, Drop)]
 pub struct OpenGroup {

@@ -1,4 +1,4 @@
--- What was live at the start is live now, behind the byte or before it; no place before `from` is left.
+-- What was live at the start is live now, after the byte or before it; no place before `from` is left.
 use Rattle.std.proofs.Common.{◌≤◌, ◌-◌, ◌+◌, ◌↔◌, ◌⊎◌, ◌∷◌, List, ℕ, length}
 use Rattle.jj_globs.specs.GlobPlain.{Test}
 use Rattle.jj_globs.specs.GlobPlaces.{IsLive, AnyLive, Solves}

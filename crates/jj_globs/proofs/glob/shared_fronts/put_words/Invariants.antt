@@ -1,4 +1,4 @@
--- The words behind those left were put before the steps.
+-- The words after those left were put before the steps.
 use Rattle.std.proofs.Common.{◌≡◌, length, map, reverse}
 use Rattle.jj_globs.proofs.GlobSharing.{HasPut}
 use Rattle.jj_globs.proofs.glob.shared_fronts.put_words.Given as goal

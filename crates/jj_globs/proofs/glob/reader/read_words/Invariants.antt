@@ -1,6 +1,6 @@
 use Rattle.std.proofs.Common.{◌≡◌, ◌≤◌, ◌+◌, length, map, reverse}
 use Rattle.jj_globs.specs.GlobText.{sign_of, words, read, tokens_of}
-use Rattle.jj_globs.proofs.glob.reader.read_tokens.Given as goal
+use Rattle.jj_globs.proofs.glob.reader.read_words.Given as goal
 
 abbrev pub invariant-loop-sign : goal.invariant-loop-sign
 invariant-loop-sign l = record {
