@@ -176,7 +176,10 @@ fn groups_of_words<R: Abort>(rt: &R, alloc: Global) -> Result<(), AllocError> {
                 &["xab", "ab/x", "x/a"],
             ),
         ],
-    )?;
+    )
+}
+
+fn groups_of_words_in_either_case<R: Abort>(rt: &R, alloc: Global) -> Result<(), AllocError> {
     matches(
         rt,
         alloc,
@@ -187,6 +190,28 @@ fn groups_of_words<R: Abort>(rt: &R, alloc: Global) -> Result<(), AllocError> {
             &["a", "abb", "b"],
         )],
     )
+}
+
+// The names with the numbers below a count, in any directory: as many as fill each size of row.
+fn many_words<R: Abort>(rt: &R, alloc: Global) -> Result<(), AllocError> {
+    for count in [20u32, 500, 2_000, 9_000, 20_000] {
+        let mut text = String::from_str(alloc, "**/{")?;
+        for number in 0..count {
+            text.push_str(format!(in alloc; "n{number}.rs,")?.as_str())?;
+        }
+        text.push_str("other}")?;
+        let glob = glob(rt, alloc, text.as_str(), true, false)?;
+        let last = count.saturating_sub(1);
+        let yes = format!(in alloc; "x/n/n{last}.rs")?;
+        let no = format!(in alloc; "x/n/n{count}.rs")?;
+        stands_for(
+            rt,
+            &glob,
+            &["n0.rs", "n/other", "n1.rs/n19.rs", yes.as_str()],
+            &["n.rs", "n0.rs/n", "n19.r", no.as_str()],
+        );
+    }
+    Ok(())
 }
 
 // Any bytes only where the whole text is a run of `**` joined by `/`: beside a group that leaves
@@ -469,6 +494,17 @@ fn groups_have_alternatives(rt: HostRuntime) {
     }
     if groups_of_words(&rt, alloc).is_err() {
         assert!(rt; groups_of_words(&rt, alloc).is_ok());
+    }
+    if groups_of_words_in_either_case(&rt, alloc).is_err() {
+        assert!(rt; groups_of_words_in_either_case(&rt, alloc).is_ok());
+    }
+}
+
+#[test]
+fn groups_of_many_words(rt: HostRuntime) {
+    let alloc = rt.alloc();
+    if many_words(&rt, alloc).is_err() {
+        assert!(rt; many_words(&rt, alloc).is_ok());
     }
 }
 

@@ -33,7 +33,7 @@ struct Text {
     len: usize,
 }
 
-// The places of a text, from before its first byte to behind its last.
+// The places of a text, from before its first byte to after its last.
 #[derive(Clone, Copy)]
 struct Places([bool; 9]);
 
@@ -133,7 +133,7 @@ fn random_text(numbers: &mut Numbers) -> Text {
 // 2. The second reading.
 
 impl Text {
-    // The places behind one byte that passes.
+    // The places after one byte that passes.
     fn one<F: Fn(u8) -> bool>(&self, from: Places, test: F) -> Places
         requires { F.IsAlwaysCallable test }
     {
@@ -146,7 +146,7 @@ impl Text {
         to
     }
 
-    // The places behind any bytes that pass.
+    // The places after any bytes that pass.
     fn many<F: Fn(u8) -> bool>(&self, from: Places, test: F) -> Places
         requires { F.IsAlwaysCallable test }
     {
@@ -159,12 +159,12 @@ impl Text {
         to
     }
 
-    // The places behind nothing, or behind any bytes that end in a slash.
+    // The places after nothing, or after any bytes that end in a slash.
     fn dirs(&self, from: Places) -> Places {
         from.or(self.one(self.many(from, |_| true), |byte| byte == b'/'))
     }
 
-    // The places behind a slash and any bytes.
+    // The places after a slash and any bytes.
     fn below(&self, from: Places) -> Places {
         self.many(self.one(from, |byte| byte == b'/'), |_| true)
     }
@@ -243,6 +243,57 @@ fn is_any(pieces: &[Piece]) -> bool {
         && (run == pieces.len() || (run + 1 == pieces.len() && is_two_stars(pieces.last())))
 }
 
+// Where the run of `**/` ends that begins at this place, with two stars that end the text after it;
+// and whether there are such stars.
+fn run_end(pieces: &[Piece], start: usize) -> (usize, bool)
+    requires { start ≤ length pieces.now }
+{
+    let end = start.saturating_add(run_len(&pieces[start..]));
+    if end.saturating_add(1) == pieces.len() && is_two_stars(pieces.last()) {
+        (pieces.len(), true)
+    } else {
+        (end, false)
+    }
+}
+
+// Directories that begin at this piece: up to which piece they are read, and the places after them.
+fn past_dirs(pieces: &[Piece], index: usize, text: &Text, from: Places) -> Option<(usize, Places)>
+    requires { index < length pieces.now }
+{
+    let following = &pieces[index + 1..];
+    match &pieces[index] {
+        Piece::TwoStars
+            if leaves_nothing(&pieces[..index], DEEPEST) && run_len(&pieces[index..]) > 0 => {
+            let (end, _ends_text) = run_end(pieces, index);
+            Some((end, text.dirs(from)))
+        }
+        Piece::Slash if is_two_stars(following.first()) && run_len(following) > 0 => {
+            let (end, ends_text) = run_end(pieces, index + 1);
+            if ends_text {
+                Some((end, text.below(from)))
+            } else {
+                Some((end, text.dirs(text.one(from, |byte| byte == b'/'))))
+            }
+        }
+        Piece::Slash if is_two_stars(following.first()) && following.len() == 1 => {
+            Some((pieces.len(), text.below(from)))
+        }
+        _ => None,
+    }
+}
+
+// The places after a piece that is no group.
+fn past_piece(piece: &Piece, options: Options, text: &Text, from: Places) -> Places {
+    match piece {
+        Piece::Slash => text.one(from, |byte| byte == b'/'),
+        Piece::Byte(own) => text.one(from, |byte| options.is_same(*own, byte)),
+        Piece::Question => text.one(from, |byte| options.is_plain(byte)),
+        Piece::Class(negated) => text.one(from, |byte| options.is_in_class(*negated, byte)),
+        Piece::Star | Piece::TwoStars => text.many(from, |byte| options.is_plain(byte)),
+        Piece::Group(_) => from,
+    }
+}
+
 // The places to which the sequence leads.
 fn after(pieces: &[Piece], depth: u32, options: Options, text: &Text, from: Places) -> Places {
     let mut places = from;
@@ -252,57 +303,32 @@ fn after(pieces: &[Piece], depth: u32, options: Options, text: &Text, from: Plac
         if index < read {
             continue;
         }
-        let behind = &pieces[index + 1..];
-        places = match piece {
-            Piece::TwoStars
-                if leaves_nothing(&pieces[..index], DEEPEST) && run_len(&pieces[index..]) > 0 => {
-                read = index.saturating_add(run_len(&pieces[index..]));
-                if read.saturating_add(1) == pieces.len() && is_two_stars(pieces.last()) {
-                    read = pieces.len();
-                }
-                text.dirs(places)
-            }
-            Piece::Slash if is_two_stars(behind.first()) && run_len(behind) > 0 => {
-                read = index.saturating_add(1).saturating_add(run_len(behind));
-                if read.saturating_add(1) == pieces.len() && is_two_stars(pieces.last()) {
-                    read = pieces.len();
-                    text.below(places)
-                } else {
-                    text.dirs(text.one(places, |byte| byte == b'/'))
-                }
-            }
-            Piece::Slash if is_two_stars(behind.first()) && behind.len() == 1 => {
-                read = pieces.len();
-                text.below(places)
-            }
-            Piece::Slash => text.one(places, |byte| byte == b'/'),
-            Piece::Byte(own) => text.one(places, |byte| options.is_same(*own, byte)),
-            Piece::Question => text.one(places, |byte| options.is_plain(byte)),
-            Piece::Class(negated) => text.one(places, |byte| options.is_in_class(*negated, byte)),
-            Piece::Star | Piece::TwoStars => text.many(places, |byte| options.is_plain(byte)),
-            Piece::Group(alternatives) => {
-                let mut found = Places([false; 9]);
-                let mut is_nothing = true;
-                for alternative in alternatives.iter() {
-                    if depth > 0 && !leaves_nothing(alternative.as_slice(), DEEPEST) {
-                        is_nothing = false;
-                        found = found.or(after(
-                            alternative.as_slice(),
-                            depth - 1,
-                            options,
-                            text,
-                            places,
-                        ));
-                    }
-                }
-                if is_nothing { places } else { found }
-            }
+        if let Some((end, to)) = past_dirs(pieces, index, text, places) {
+            read = end;
+            places = to;
+            continue;
+        }
+        let Piece::Group(alternatives) = piece else {
+            places = past_piece(piece, options, text, places);
+            continue;
         };
+        let mut found = Places([false; 9]);
+        let mut is_nothing = true;
+        for alternative in alternatives.iter() {
+            if depth > 0 && !leaves_nothing(alternative.as_slice(), DEEPEST) {
+                is_nothing = false;
+                let own = after(alternative.as_slice(), depth - 1, options, text, places);
+                found = found.or(own);
+            }
+        }
+        if !is_nothing {
+            places = found;
+        }
     }
     places
 }
 
-// The places behind a front of the text for which the glob stands.
+// The places after a front of the text for which the glob stands.
 fn fronts(pieces: &[Piece], options: Options, text: &Text) -> Places {
     let mut first = Places([false; 9]);
     first.0[0] = true;
