@@ -26,7 +26,7 @@ pub adds_list : (xs ys : List Path) (old new : Tree Bool) → xs ≡ ys → Adds
 adds_list xs ys old new same adds = subst (λ l. AddsMarks l old new) same adds
 
 module _ {X Y : Type 0} (f : X → Y) where
-  -- a run behind what comes before it, where the list from its start on is as it was at first
+  -- a run after what comes before it, where the list from its start on is as it was at first
   pub run_next : (now first : List X) (start end : ℕ) → start ≤ end → drop start now ≡ drop start first
       → take start (map f first) ++ map f (take (end - start) (drop start now)) ≡ take end (map f first)
   run_next now first start end le same =

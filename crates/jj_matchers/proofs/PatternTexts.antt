@@ -105,7 +105,7 @@ words-stars (b ∷ text) h =
     let first : b ≡ 42 = (Decides-eqb b 42).0 parts.0 in
     ap (λ x. words (sign_of x ∷ map sign_of text)) first ∙ ap (λ ws. asterisk ∷ ws) (words-stars text parts.1)
 
--- behind a star, further stars read as as many stars
+-- after a star, further stars read as as many stars
 read-stars : (text : List ℕ) (b : ℕ) (before : List ℕ) → (all : List ℕ) × (read zero false (part Star ∷ star_tokens before) (star_words text) ≡ Ok (reverse (part Star ∷ star_tokens all)))
 unfolding read
 read-stars [] b before = (before, refl)

@@ -12,11 +12,11 @@ use Rattle.jj_paths.specs.Nodes.{NodeAt, node_at, nodes_under}
 use Rattle.jj_matchers.specs.declared.matchers.tree_walk.Entered.{Entered}
 use Rattle.jj_matchers.specs.Answers.{Answer, all_recursively, specific, nothing, IsSound}
 use Rattle.jj_matchers.specs.Visits.{answer_of}
-use Rattle.jj_matchers.specs.Walk.{paths_where, entered_by, is_file, is_entered, leads_to, enters, is_entered_directory}
+use Rattle.jj_matchers.specs.Walk.{paths_where, entered_by, is_file, is_entered, leads_to, enters, is_entered_directory, path_if}
 use Rattle.jj_matchers.specs.WalkParts.{paths_below, GoesOnBy, Enters, IsOpened, IsUnderWay, IsOnTheWay, GivesAll, left_in, left_in_all, work_left}
 use Rattle.std.specs.declared.cmp.Ordering.TheVariants.{Less}
 use Rattle.jj_paths.proofs.PathOrders.{sorted_none, sorted-cons, before_below, all-append}
-use Rattle.jj_matchers.proofs.Walks.{path_if, path_if_true, path_if_false, branches_of-children, paths_where_first, found_step, ordered_step, none_below, nothing_below, all_anywhere}
+use Rattle.jj_matchers.proofs.Walks.{path_if_true, path_if_false, branches_of-children, paths_where_first, found_step, ordered_step, none_below, nothing_below, all_anywhere}
 
 false_and : (a b : Bool) → b ≡ false → (a && b) ≡ false
 false_and a b e = rw e (and-false a)

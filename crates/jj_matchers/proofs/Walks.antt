@@ -10,13 +10,8 @@ use Rattle.std.proofs.lemmas.Bool.{and_parts}
 use Rattle.jj_paths.specs.Paths.{Name, Path, name_cmp, path_cmp}
 use Rattle.jj_paths.specs.Tree.{Tree, tree_of, Branches, none, branch, branches_of, children, has_branches}
 use Rattle.jj_paths.specs.Nodes.{NodeAt, node_at, nodes_under}
-use Rattle.jj_matchers.specs.Walk.{paths_where}
+use Rattle.jj_matchers.specs.Walk.{paths_where, path_if}
 use Rattle.jj_paths.proofs.PathOrders.{before_name, before_below, less_from_is_lt, all-append, sorted-append, sorted-cons, sorted_none}
-
--- a path, if the test passes
-abbrev pub path_if : Bool → Path → List Path
-path_if true path = path ∷ []
-path_if false path = []
 
 pub path_if_true : (t : Bool) (path : Path) (found new : List Path) → t ≡ true → new ≡ found ++ path ∷ [] → new ≡ found ++ path_if t path
 path_if_true t path found new e is = rw e is

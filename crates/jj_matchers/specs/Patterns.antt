@@ -21,7 +21,7 @@ is_yes (faulty error) = false
 unfoldable pub is_match : GlobSpec → List ℕ → Bool
 is_match glob bytes = is_yes (matches glob.options glob.text bytes)
 
--- whether, behind some bytes, a front that a slash follows passes a test
+-- whether, after some bytes, a front that a slash follows passes a test
 abbrev pub passes_before_slash : (List ℕ → Bool) → List ℕ → List ℕ → Bool
 passes_before_slash test before [] = false
 passes_before_slash test before (b ∷ bytes) = ((b == 47) && test before)

@@ -7,6 +7,11 @@ use Rattle.jj_paths.specs.Tree.{Tree, has_branches}
 use Rattle.jj_paths.specs.Nodes.{NodeAt, nodes_under, all_nodes}
 use Rattle.jj_matchers.specs.Answers.{Answer, all_recursively, specific, nothing}
 
+-- a path, if the test passes
+abbrev pub path_if : Bool → Path → List Path
+path_if true path = path ∷ []
+path_if false path = []
+
 -- the paths of the nodes that pass a test
 abbrev pub paths_where : {V : Type 0} → (NodeAt V → Bool) → List (NodeAt V) → List Path
 paths_where test nodes = map (λ found. found.path) (filter test nodes)

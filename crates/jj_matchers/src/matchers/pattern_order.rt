@@ -31,7 +31,7 @@ pub(super) fn any_in_order(patterns: &[PathGlobPattern], prefix_paths: bool, tex
     false
 }
 
-// Whether a pattern behind these leaves them in order.
+// Whether a pattern after these leaves them in order.
 pub(super) fn stay_in_order(patterns: &[PathGlobPattern], pattern: &PathGlobPattern) -> bool
     ensures { is_in_order patterns.now ≡ true
         → result ≡ is_in_order (patterns.now ++ pattern.now ∷ []) }

@@ -5,7 +5,8 @@ ghost use Rattle.jj_paths.specs.Paths.{path_cmp};
 ghost use Rattle.jj_paths.specs.Tree.{Tree};
 ghost use Rattle.jj_matchers.specs.Answers.{IsSound};
 ghost use Rattle.jj_matchers.specs.Visits.{answer_of};
-ghost use Rattle.jj_matchers.specs.Walk.{files_of, entered_by, is_entered};
+ghost use Rattle.jj_paths.specs.Nodes.{node_at};
+ghost use Rattle.jj_matchers.specs.Walk.{files_of, entered_by, is_entered, is_file, path_if};
 ghost use Rattle.jj_matchers.specs.WalkParts.{GoesOnBy, Enters, IsUnderWay, IsOnTheWay, work_left};
 ghost use Rattle.std.specs.List.{All};
 ghost use Rattle.std.specs.List.Sorted.{IsStrictlySortedBy};
@@ -103,15 +104,17 @@ fn go_on<'t, M: Matcher>(
     ensures less_left { OnOk result (work_left unfinished.new.items < work_left
         (unfinished.old.items ++ directory.entry ∷ [])) }
 {
-    let Entered { dir, answer, left } = directory;
-    let Some((child, left)) = left.split_first() else {
+    let Some((child, left)) = directory.left.split_first() else {
         return Ok(());
     };
+    let path = directory.dir.as_path().join(alloc, child.0.as_component())?;
+    take_file(alloc, &directory, child, path.as_path(), matcher, walk)?;
+    let Entered {
+        dir,
+        answer,
+        left: _,
+    } = directory;
     let (name, sub) = child;
-    let path = dir.as_path().join(alloc, name.as_component())?;
-    if *sub.value() && is_accepted(&dir, &answer, name, path.as_path(), matcher) {
-        walk.files.push(path.as_path().to_owned(alloc)?)?;
-    }
     if !sub.has_children() {
         unfinished.push(Entered { dir, answer, left })?;
         return Ok(());
@@ -119,6 +122,30 @@ fn go_on<'t, M: Matcher>(
     let below = answer_below(alloc, &dir, &answer, name, path.as_path(), matcher)?;
     unfinished.push(Entered { dir, answer, left })?;
     enter(alloc, sub, path, below, walk, unfinished)?;
+    Ok(())
+}
+
+// Takes the file at a child of a directory, if it is marked and accepted.
+fn take_file<M: Matcher>(
+    alloc: Global,
+    directory: &Entered<'_>,
+    child: &(RepoPathComponentBuf, RepoPathTree<bool>),
+    path: RepoPath<'_>,
+    matcher: &M,
+    walk: &mut Walk,
+) -> Result<(), AllocError>
+    requires at { path_of path ≡ directory.now.dir ++ child.now.0 ∷ [] }
+    requires sound { IsSound (M.accepts matcher.now) (M.opens matcher.now) directory.now.dir
+        (answer_of directory.now.answer) }
+    ensures files { OnOk result (walk.new.files.items ≡ walk.old.files.items
+        ++ path_if (is_file (M.accepts matcher.now) (node_at (path_of path.entry) child.now.1))
+        (path_of path.entry)) }
+    ensures entered { OnOk result (walk.new.entered.items ≡ walk.old.entered.items) }
+{
+    let (name, sub) = child;
+    if *sub.value() && is_accepted(&directory.dir, &directory.answer, name, path, matcher) {
+        walk.files.push(path.to_owned(alloc)?)?;
+    }
     Ok(())
 }
 

@@ -4,12 +4,11 @@ use Rattle.jj_paths.specs.Names.{name_of}
 use Rattle.jj_paths.specs.Nodes.{node_at}
 use Rattle.jj_matchers.specs.declared.matchers.tree_walk.Entered.{Entered}
 use Rattle.jj_matchers.specs.Visits.{answer_of}
-use Rattle.jj_matchers.specs.Walk.{is_file, is_entered_directory}
+use Rattle.jj_matchers.specs.Walk.{is_file, is_entered_directory, path_if}
 use Rattle.jj_matchers.specs.WalkParts.{IsOnTheWay, work_left}
-use Rattle.jj_matchers.proofs.Walks.{path_if, nothing_below}
-use Rattle.jj_matchers.proofs.UnderWay.{way_finished, way_past, goes_on_below, not_without_children, less_finished, less_past, less_below, no_length, file_taken, file_unmarked, file_refused}
+use Rattle.jj_matchers.proofs.Walks.{nothing_below}
+use Rattle.jj_matchers.proofs.UnderWay.{way_finished, way_past, goes_on_below, not_without_children, less_finished, less_past, less_below, no_length}
 use Rattle.jj_matchers.proofs.matchers.tree_walk.go_on.Goals as goal
-use Rattle.jj_matchers.proofs.matchers.tree_walk.go_on.Goals.{then-value+then-is_accepted+in_ok-to_owned+in_ok-push, else-value, else-value-via-then-value+else-is_accepted, else-value-via-else-value}
 
 pub returns-in_default-clause-on_the_way : goal.returns-in_default-clause-on_the_way
 returns-in_default-clause-on_the_way g c = λ tree way.
@@ -33,32 +32,19 @@ returns-then-not-has_children-clause-on_the_way g c = λ tree way.
     let further = c.args.unfinished.now.items in
     let files = c.args.walk.now.files.items in
     let entered = c.args.walk.now.entered.items in
-    let p : c.in_ok-path.path ≡ child = c.in_ok-path.ensures ∙ ap (λ d. d ++ name_of c.as_component.result ∷ []) c.as_path.ensures ∙ ap (λ n. directory.dir ++ n ∷ []) c.as_component.ensures in
-    let taken : c.if-value.walk.files.items ≡ files ++ path_if (is_file accepts (node_at child sub)) child =
-    elim c.if-value.branch [
-      | then-value+then-is_accepted+in_ok-to_owned+in_ok-push w ↦
-          file_taken accepts sub child c.in_ok-path.path files _ (sym c.value.ensures ∙ w.if-value.true) (ap accepts (sym w.as_path-then-value.ensures) ∙ sym w.is_accepted.ensures ∙ w.if-is_accepted.true) p
-          (ap (λ x. x.files.items) w.walk-is ∙ w.in_ok-push.ensures.items ∙ ap (λ q. files ++ q ∷ []) (w.in_ok-to_owned.ensures ∙ w.as_path-then-is_accepted.ensures))
-      | else-value w ↦ elim w.else-value.branch [
-        | else-value-via-then-value+else-is_accepted u ↦ file_refused accepts sub child c.in_ok-path.path files _ (ap accepts (sym u.as_path-then-value.ensures) ∙ sym u.is_accepted.ensures ∙ u.if-is_accepted.false) p (ap (λ x. x.files.items) w.walk-is)
-        | else-value-via-else-value u ↦ file_unmarked accepts sub child files _ (sym c.value.ensures ∙ u.if-value.false) (ap (λ x. x.files.items) w.walk-is)
-      ]
-    ] in
-    let kept : c.if-value.walk.entered.items ≡ entered =
-    elim c.if-value.branch [
-      | then-value+then-is_accepted+in_ok-to_owned+in_ok-push w ↦ ap (λ x. x.entered.items) w.walk-is
-      | else-value w ↦ ap (λ x. x.entered.items) w.walk-is
-    ] in
+    let at : c.in_ok-path.path ≡ child = c.in_ok-path.ensures ∙ ap (λ d. d ++ name_of c.as_component.result ∷ []) c.as_path.ensures ∙ ap (λ n. directory.dir ++ n ∷ []) c.as_component.ensures in
+    let taken : c.take_file.new.walk.files.items ≡ files ++ path_if (is_file accepts (node_at child sub)) child =
+    subst (λ (q : Path). c.take_file.new.walk.files.items ≡ files ++ path_if (is_file accepts (node_at q sub)) q) (c.as_path-2.ensures ∙ at) c.in_ok-take_file.ensures.files in
     let none = sym c.if-not-has_children.ensures in
-    subst (IsOnTheWay accepts opens answers tree c.if-value.walk.files.items c.if-value.walk.entered.items) (sym c.in_ok-push-2.ensures.items)
-    (way_past accepts opens answers tree files entered further directory next name sub c.in-Some.left.now c.in-Some.ensures.cases.0 refl refl refl c.if-value.walk.files.items c.if-value.walk.entered.items taken
-    (not_without_children accepts opens answers child sub none) kept (nothing_below (is_file accepts) child sub.branches none) (nothing_below (is_entered_directory answers) child sub.branches none) way)
+    subst (IsOnTheWay accepts opens answers tree c.take_file.new.walk.files.items c.take_file.new.walk.entered.items) (sym c.in_ok-push.ensures.items)
+    (way_past accepts opens answers tree files entered further directory next name sub c.in-Some.left.now c.in-Some.ensures.cases.0 refl refl refl c.take_file.new.walk.files.items c.take_file.new.walk.entered.items taken
+    (not_without_children accepts opens answers child sub none) c.in_ok-take_file.ensures.entered (nothing_below (is_file accepts) child sub.branches none) (nothing_below (is_entered_directory answers) child sub.branches none) way)
 
 pub returns-then-not-has_children-clause-less_left : goal.returns-then-not-has_children-clause-less_left
 returns-then-not-has_children-clause-less_left g c =
     let directory = c.args.directory in
     let next : Entered = record { dir = directory.dir; answer = directory.answer; left = c.in-Some.left } in
-    subst (λ l. work_left l < work_left (c.args.unfinished.now.items ++ directory ∷ [])) (sym c.in_ok-push-2.ensures.items)
+    subst (λ l. work_left l < work_left (c.args.unfinished.now.items ++ directory ∷ [])) (sym c.in_ok-push.ensures.items)
     (less_past c.args.unfinished.now.items directory next c.in-Some.child.now.0 c.in-Some.child.now.1 c.in-Some.left.now c.in-Some.ensures.cases.0 refl)
 
 pub returns-clause-on_the_way : goal.returns-clause-on_the_way
@@ -75,28 +61,15 @@ returns-clause-on_the_way g c = λ tree way.
     let further = c.args.unfinished.now.items in
     let files = c.args.walk.now.files.items in
     let entered = c.args.walk.now.entered.items in
-    let p : c.in_ok-path.path ≡ child = c.in_ok-path.ensures ∙ ap (λ d. d ++ name_of c.as_component.result ∷ []) c.as_path.ensures ∙ ap (λ n. directory.dir ++ n ∷ []) c.as_component.ensures in
-    let taken : c.if-value.walk.files.items ≡ files ++ path_if (is_file accepts (node_at child sub)) child =
-    elim c.if-value.branch [
-      | then-value+then-is_accepted+in_ok-to_owned+in_ok-push w ↦
-          file_taken accepts sub child c.in_ok-path.path files _ (sym c.value.ensures ∙ w.if-value.true) (ap accepts (sym w.as_path-then-value.ensures) ∙ sym w.is_accepted.ensures ∙ w.if-is_accepted.true) p
-          (ap (λ x. x.files.items) w.walk-is ∙ w.in_ok-push.ensures.items ∙ ap (λ q. files ++ q ∷ []) (w.in_ok-to_owned.ensures ∙ w.as_path-then-is_accepted.ensures))
-      | else-value w ↦ elim w.else-value.branch [
-        | else-value-via-then-value+else-is_accepted u ↦ file_refused accepts sub child c.in_ok-path.path files _ (ap accepts (sym u.as_path-then-value.ensures) ∙ sym u.is_accepted.ensures ∙ u.if-is_accepted.false) p (ap (λ x. x.files.items) w.walk-is)
-        | else-value-via-else-value u ↦ file_unmarked accepts sub child files _ (sym c.value.ensures ∙ u.if-value.false) (ap (λ x. x.files.items) w.walk-is)
-      ]
-    ] in
-    let kept : c.if-value.walk.entered.items ≡ entered =
-    elim c.if-value.branch [
-      | then-value+then-is_accepted+in_ok-to_owned+in_ok-push w ↦ ap (λ x. x.entered.items) w.walk-is
-      | else-value w ↦ ap (λ x. x.entered.items) w.walk-is
-    ] in
+    let at : c.in_ok-path.path ≡ child = c.in_ok-path.ensures ∙ ap (λ d. d ++ name_of c.as_component.result ∷ []) c.as_path.ensures ∙ ap (λ n. directory.dir ++ n ∷ []) c.as_component.ensures in
+    let taken : c.take_file.new.walk.files.items ≡ files ++ path_if (is_file accepts (node_at child sub)) child =
+    subst (λ (q : Path). c.take_file.new.walk.files.items ≡ files ++ path_if (is_file accepts (node_at q sub)) q) (c.as_path-2.ensures ∙ at) c.in_ok-take_file.ensures.files in
     goes_on_below accepts opens answers tree files entered further directory next name sub c.in-Some.left.now c.in-Some.ensures.cases.0 refl refl refl
-    _ c.if-value.walk.entered.items _ c.push-2.new.self.items _ c.in_ok-path.path _ (answer_of c.in_ok-below.below)
-    (c.in_ok-enter.ensures.files ∙ taken) kept c.in_ok-push-3.ensures.items p c.as_path-2.ensures (sym c.if-not-has_children.ensures) c.in_ok-below.ensures.below c.in_ok-below.ensures.open c.in_ok-enter.ensures.entered way
+    _ c.take_file.new.walk.entered.items _ c.push-2.new.self.items _ c.in_ok-path.path _ (answer_of c.in_ok-below.below)
+    (c.in_ok-enter.ensures.files ∙ taken) c.in_ok-take_file.ensures.entered c.in_ok-push-2.ensures.items at c.as_path-3.ensures (sym c.if-not-has_children.ensures) c.in_ok-below.ensures.below c.in_ok-below.ensures.open c.in_ok-enter.ensures.entered way
 
 pub returns-clause-less_left : goal.returns-clause-less_left
 returns-clause-less_left g c =
     let directory = c.args.directory in
     let next : Entered = record { dir = directory.dir; answer = directory.answer; left = c.in-Some.left } in
-    less_below c.args.unfinished.now.items directory next c.in-Some.child.now.0 c.in-Some.child.now.1 c.in-Some.left.now c.in-Some.ensures.cases.0 refl _ _ c.push-2.new.self.items _ c.in_ok-path.path (answer_of c.in_ok-below.below) c.in_ok-push-3.ensures.items c.in_ok-enter.ensures.entered
+    less_below c.args.unfinished.now.items directory next c.in-Some.child.now.0 c.in-Some.child.now.1 c.in-Some.left.now c.in-Some.ensures.cases.0 refl _ _ c.push-2.new.self.items _ c.in_ok-path.path (answer_of c.in_ok-below.below) c.in_ok-push-2.ensures.items c.in_ok-enter.ensures.entered
