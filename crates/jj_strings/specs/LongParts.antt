@@ -8,7 +8,7 @@ use Rattle.jj_strings.specs.StringSets.{Pattern, substring_i}
 
 -- the text of a pattern that is such a part
 abbrev pub long_part : Pattern → Option (List ℕ)
-long_part (substring_i text) = if nat_lt 256 (length text) then Some text else None
+long_part (substring_i text) = if nat_lt 4096 (length text) then Some text else None
 long_part p = None
 
 -- its borders are at hand

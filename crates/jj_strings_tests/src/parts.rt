@@ -34,7 +34,7 @@ fn parts_around_seams(rt: HostRuntime) {
 }
 
 // Parts of so many letters and one more.
-const LENGTHS: [u32; 5] = [254, 255, 256, 1_000, 70_000];
+const LENGTHS: [u32; 7] = [254, 255, 256, 4_094, 4_095, 4_096, 70_000];
 
 fn long_parts<R: Abort>(rt: &R, alloc: Global) -> Result<(), AllocError> {
     for length in LENGTHS {
@@ -93,7 +93,7 @@ fn periodic_parts<R: Abort>(rt: &R, alloc: Global, times: u32) -> Result<(), All
 #[test]
 fn parts_that_overlap_themselves(rt: HostRuntime) {
     let alloc = rt.alloc();
-    for times in [100u32, 257, 400] {
+    for times in [100u32, 400, 2_100] {
         if periodic_parts(&rt, alloc, times).is_err() {
             assert!(rt; periodic_parts(&rt, alloc, times).is_ok());
         }

@@ -5,7 +5,7 @@ ghost use Rattle.jj_strings.specs.LongParts.{HasBorders};
 
 use crate::str_util::borders::borders_of;
 use crate::str_util::expression::StringExpression;
-use crate::str_util::folding::{SHORT, contains_folded};
+use crate::str_util::folding::{LONG, contains_folded};
 use crate::str_util::pattern::StringPattern;
 use bstr::ByteSlice;
 use regex::bytes::Regex;
@@ -39,7 +39,7 @@ fn borders_for(alloc: Global, pattern: &StringPattern) -> Result<Vec<usize>, All
 {
     match pattern {
         StringPattern::SubstringI(text) => {
-            if text.len() <= SHORT {
+            if text.len() <= LONG {
                 return Ok(Vec::new(alloc));
             }
             borders_of(alloc, text.as_bytes())

@@ -11,33 +11,42 @@ use bstr::ByteSlice;
 // Where a text can stand at fewer places than this, it is compared at each.
 const FEW: usize = 16;
 
-// The longest text that is looked for in windows; a longer one is found by its borders.
-pub(crate) const SHORT: usize = 256;
+// The longest text that is looked for in windows of a few hundred bytes.
+const SHORT: usize = 256;
 
-const WINDOW: usize = 512;
+const SHORT_WINDOW: usize = 512;
+
+// The longest text that is looked for in windows at all; a longer one is found by its borders.
+pub(crate) const LONG: usize = 4_096;
+
+const LONG_WINDOW: usize = 8_192;
 
 // Whether the bytes hold the text as a part, with ASCII letters in either case. A text that is
-// longer than `SHORT` comes with its borders. It takes time that grows with the bytes alone.
+// longer than `LONG` comes with its borders. It takes time that grows with the bytes alone.
 pub(crate) fn contains_folded(bytes: &[u8], text: &[u8], borders: &[usize]) -> bool
-    requires { SHORT < length text.now → IsBorderTable (folded text.now) borders.now }
+    requires { LONG < length text.now → IsBorderTable (folded text.now) borders.now }
     ensures { IsTrue result ↔ Contains (folded bytes.now) (folded text.now) }
 {
     if bytes.len().saturating_sub(text.len()) < FEW {
         stands_at_a_place(bytes, text)
     } else if text.len() <= SHORT {
-        stands_in_arrays(bytes, text)
+        stands_in_arrays::<SHORT, SHORT_WINDOW>(bytes, text)
+    } else if text.len() <= LONG {
+        stands_in_arrays::<LONG, LONG_WINDOW>(bytes, text)
     } else {
         stands_by_borders(bytes, text, borders)
     }
 }
 
-// Whether the bytes hold the text, with room for it and for a window on the stack.
+// Whether the bytes hold the text, with room on the stack for a text and a window of these lengths.
 #[inline(never)]
-fn stands_in_arrays(bytes: &[u8], text: &[u8]) -> bool
-    requires { length text.now ≤ SHORT }
+fn stands_in_arrays<const TEXT: usize, const WINDOW: usize>(bytes: &[u8], text: &[u8]) -> bool
+    requires text { length text.now ≤ TEXT }
+    requires window { TEXT < WINDOW }
+    requires limit { WINDOW ≤ 8192 }
     ensures { IsTrue result ↔ Contains (folded bytes.now) (folded text.now) }
 {
-    let mut lower = [0; SHORT];
+    let mut lower = [0; TEXT];
     let mut window = [0; WINDOW];
     stands_in_windows(bytes, text, &mut lower, &mut window)
 }
