@@ -29,7 +29,7 @@ apart_from_none from_left to_left none next fs ts f t = cc (none, f)
 pub apart_to_none : (from_left to_left : List (List ℕ)) → to_left ≡ [] → IsApart from_left to_left
 apart_to_none from_left to_left none next fs ts f t = cc (none, t)
 
--- what was noted behind the components so far
+-- what was noted after the components so far
 abbrev pub IsNoted : (left : Option (Path × Path)) (front from_left to_left : List (List ℕ)) → Type 0
 IsNoted left front from_left to_left = MatchOption left (front ≡ [])
     (λ left. (first : List ℕ) × (rest : List (List ℕ)) × (front ≡ first ∷ rest)

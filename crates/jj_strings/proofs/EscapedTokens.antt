@@ -55,7 +55,7 @@ plain-escaped b plain = ap (λ (s : Bool). if s then 91 ∷ b ∷ 93 ∷ [] else
 plain-part : (b : ℕ) → IsPlainByte b → part_of b ≡ Byte b
 plain-part b plain = ap (λ (s : Bool). if s then OneOf (false, record { first = b; last = b } ∷ []) else Byte b) plain.special
 
--- one escaped byte behind others
+-- one escaped byte after others
 abbrev Steps : ℕ → Type 0
 Steps b = (ts : List Token) (s : List Sign) → read zero false ts (words (map sign_of (escaped_byte b) ++ s)) ≡ read zero false (part (part_of b) ∷ ts) (words s)
 
@@ -68,7 +68,7 @@ step =
     ∙ ap (λ (g : Sign). read zero false ts (words (g ∷ s))) plain.sign
     ∙ ap (λ (p : Part). read zero false (part p ∷ ts) (words s)) (sym (plain-part b plain)))
 
--- and right behind a star that begins the text
+-- and right after a star that begins the text
 abbrev StarSteps : ℕ → Type 0
 StarSteps b = (s : List Sign) → read zero false [] (asterisk ∷ words (map sign_of (escaped_byte b) ++ s)) ≡ read zero false (part (part_of b) ∷ part Star ∷ []) (words s)
 
@@ -100,7 +100,7 @@ reverse_pushed (b ∷ t) ts =
     reverse_pushed t (x ∷ ts) ∙ ap (λ (l : List Token). l ++ tokens_for t) (reverse-append (x ∷ []) ts)
     ∙ append_assoc (reverse ts) (x ∷ []) (tokens_for t)
 
--- an escaped text is no run of `**`, nor one behind a star: it begins with no star
+-- an escaped text is no run of `**`, nor one after a star: it begins with no star
 abbrev NoRun : ℕ → Type 0
 NoRun b = (s : List Sign) → (only_dirs (map sign_of (escaped_byte b) ++ s) ≡ false) × (only_dirs (Asterisk ∷ (map sign_of (escaped_byte b) ++ s)) ≡ false)
 

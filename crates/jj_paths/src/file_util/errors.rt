@@ -8,7 +8,7 @@ use std::io;
 use std::marker::Model;
 use thiserror::Error;
 
-/// What kind of thing stands behind an error.
+/// What kind of thing caused an error.
 #[derive(Clone, Copy, Debug, PartialEq, Eq)]
 pub enum SourceKind {
     /// Input or output failed.

@@ -231,7 +231,7 @@ impl<'a> Hash for RepoPath<'a> {
     }
 }
 
-// Texts by their bytes, where a slash comes before all others: so a name that goes on comes behind
+// Texts by their bytes, where a slash comes before all others: so a name that goes on comes after
 // one that has ended, and the order is that of the lists of names.
 fn slash_first(mine: &[u8], theirs: &[u8]) -> Ordering
     ensures { result ≡ slice_cmp slash_cmp mine.now theirs.now }

@@ -115,7 +115,7 @@ impl StringExpression {
         Ok(texts.into_iter())
     }
 
-    // Puts the texts of the exact patterns behind those that are there.
+    // Puts the texts of the exact patterns after those that are there.
     fn push_exact_strings<'a>(&'a self, texts: &mut Vec<&'a str>) -> Result<(), AllocError>
         ensures { OnOk result (map (λ text. text.now) texts.new.items
             ≡ map (λ text. text.now) texts.old.items ++ exact_texts (expression_of self.now)) }

@@ -1,4 +1,4 @@
--- The components so far are common, and what was noted is what is left behind them.
+-- The components so far are common, and what was noted is what is left after them.
 use Rattle.std.proofs.Common.{◌≡◌, ◌++◌, ◌∷◌, [], List, ℕ, MatchOption}
 use Rattle.std.specs.Path.{path_bytes, path_components, components_remaining}
 use Rattle.jj_paths.proofs.file_util.path_components.strip_common_front.Given as goal
