@@ -1,6 +1,8 @@
 //! Which paths a matcher of files or of prefixes accepts, and its answers for directories.
 use crate::fixtures::{answers, files, names, prefix};
-use jj_matchers::matchers::{EverythingMatcher, NothingMatcher, Visit, VisitDirs, VisitFiles};
+use jj_matchers::matchers::{
+    EverythingMatcher, FilesMatcher, NothingMatcher, Visit, VisitDirs, VisitFiles,
+};
 use std::alloc::{AllocError, Global};
 use std::process::Abort;
 
@@ -23,8 +25,8 @@ fn constant<R: Abort>(rt: &R, alloc: Global) -> Result<(), AllocError> {
     )
 }
 
-fn some_files<R: Abort>(rt: &R, alloc: Global) -> Result<(), AllocError> {
-    let matcher = files(
+fn files_of_subdirs<R: Abort>(rt: &R, alloc: Global) -> Result<FilesMatcher, AllocError> {
+    files(
         rt,
         alloc,
         &[
@@ -34,7 +36,11 @@ fn some_files<R: Abort>(rt: &R, alloc: Global) -> Result<(), AllocError> {
             "dir1/subdir1/file2",
             "dir1/subdir2/file3",
         ],
-    )?;
+    )
+}
+
+fn some_files<R: Abort>(rt: &R, alloc: Global) -> Result<(), AllocError> {
+    let matcher = files_of_subdirs(rt, alloc)?;
     answers(
         rt,
         alloc,
@@ -104,7 +110,10 @@ fn some_prefixes<R: Abort>(rt: &R, alloc: Global) -> Result<(), AllocError> {
         &["", "file", "dir/file"],
         &[],
         &[("", "**", ""), ("foo/bar", "**", "")],
-    )?;
+    )
+}
+
+fn prefixes_below<R: Abort>(rt: &R, alloc: Global) -> Result<(), AllocError> {
     let one = prefix(rt, alloc, &["foo/bar"])?;
     answers(
         rt,
@@ -147,6 +156,9 @@ fn files_and_prefixes(rt: HostRuntime) {
     }
     if some_prefixes(&rt, alloc).is_err() {
         assert!(rt; some_prefixes(&rt, alloc).is_ok());
+    }
+    if prefixes_below(&rt, alloc).is_err() {
+        assert!(rt; prefixes_below(&rt, alloc).is_ok());
     }
 }
 

@@ -29,7 +29,10 @@ fn unions<R: Abort>(rt: &R, alloc: Global) -> Result<(), AllocError> {
             ("qux", "", ""),
             ("qux/foo", "", ""),
         ],
-    )?;
+    )
+}
+
+fn unions_below<R: Abort>(rt: &R, alloc: Global) -> Result<(), AllocError> {
     let below = UnionMatcher::new(
         prefix(rt, alloc, &["common/bar", "1/foo"])?,
         prefix(rt, alloc, &["common/baz", "2/qux"])?,
@@ -82,7 +85,10 @@ fn unions_of_kinds<R: Abort>(rt: &R, alloc: Global) -> Result<(), AllocError> {
         &[],
         &[],
         &[("", "a", "c"), ("a", "", "b"), ("c", "", "")],
-    )?;
+    )
+}
+
+fn unions_with_globs<R: Abort>(rt: &R, alloc: Global) -> Result<(), AllocError> {
     let names = UnionMatcher::new(
         files(rt, alloc, &["a/b", "c"])?,
         globs(rt, alloc, false, &[("a", "*.rs"), ("d", "*")])?,
@@ -103,8 +109,14 @@ fn either(rt: HostRuntime) {
     if unions(&rt, alloc).is_err() {
         assert!(rt; unions(&rt, alloc).is_ok());
     }
+    if unions_below(&rt, alloc).is_err() {
+        assert!(rt; unions_below(&rt, alloc).is_ok());
+    }
     if unions_of_kinds(&rt, alloc).is_err() {
         assert!(rt; unions_of_kinds(&rt, alloc).is_ok());
+    }
+    if unions_with_globs(&rt, alloc).is_err() {
+        assert!(rt; unions_with_globs(&rt, alloc).is_ok());
     }
 }
 
@@ -158,7 +170,10 @@ fn differences_of_kinds<R: Abort>(rt: &R, alloc: Global) -> Result<(), AllocErro
         &[("", "*", "*"), ("a", "", ""), ("b", "**", "")],
     )?;
     let none = DifferenceMatcher::new(EverythingMatcher, EverythingMatcher);
-    answers(rt, alloc, none, &[], &[], &[("", "", ""), ("a", "", "")])?;
+    answers(rt, alloc, none, &[], &[], &[("", "", ""), ("a", "", "")])
+}
+
+fn differences_of_names<R: Abort>(rt: &R, alloc: Global) -> Result<(), AllocError> {
     let named = DifferenceMatcher::new(
         files(rt, alloc, &["a/b", "c"])?,
         files(rt, alloc, &["a/b", "d"])?,
@@ -199,6 +214,9 @@ fn the_one_alone(rt: HostRuntime) {
     if differences_of_kinds(&rt, alloc).is_err() {
         assert!(rt; differences_of_kinds(&rt, alloc).is_ok());
     }
+    if differences_of_names(&rt, alloc).is_err() {
+        assert!(rt; differences_of_names(&rt, alloc).is_ok());
+    }
 }
 
 fn intersections<R: Abort>(rt: &R, alloc: Global) -> Result<(), AllocError> {
@@ -221,7 +239,10 @@ fn intersections<R: Abort>(rt: &R, alloc: Global) -> Result<(), AllocError> {
             ("baz", "", ""),
             ("baz/foo", "", ""),
         ],
-    )?;
+    )
+}
+
+fn intersections_below<R: Abort>(rt: &R, alloc: Global) -> Result<(), AllocError> {
     let below = IntersectionMatcher::new(
         prefix(rt, alloc, &["foo"])?,
         prefix(rt, alloc, &["foo/bar"])?,
@@ -258,7 +279,10 @@ fn intersections_of_kinds<R: Abort>(rt: &R, alloc: Global) -> Result<(), AllocEr
         &[],
         &[],
         &[("", "a", "b"), ("a", "", "x"), ("b", "", "")],
-    )?;
+    )
+}
+
+fn intersections_with_globs<R: Abort>(rt: &R, alloc: Global) -> Result<(), AllocError> {
     let named = IntersectionMatcher::new(
         globs(rt, alloc, false, &[("", "**/*.rs")])?,
         prefix(rt, alloc, &["a/b"])?,
@@ -326,8 +350,14 @@ fn both(rt: HostRuntime) {
     if intersections(&rt, alloc).is_err() {
         assert!(rt; intersections(&rt, alloc).is_ok());
     }
+    if intersections_below(&rt, alloc).is_err() {
+        assert!(rt; intersections_below(&rt, alloc).is_ok());
+    }
     if intersections_of_kinds(&rt, alloc).is_err() {
         assert!(rt; intersections_of_kinds(&rt, alloc).is_ok());
+    }
+    if intersections_with_globs(&rt, alloc).is_err() {
+        assert!(rt; intersections_with_globs(&rt, alloc).is_ok());
     }
     if nested(&rt, alloc).is_err() {
         assert!(rt; nested(&rt, alloc).is_ok());

@@ -149,7 +149,10 @@ fn prefix_globs_in_directories<R: Abort>(rt: &R, alloc: Global) -> Result<(), Al
             ("baz/x", "**", ""),
             ("baz/x/y", "**", ""),
         ],
-    )?;
+    )
+}
+
+fn prefix_glob_of_any<R: Abort>(rt: &R, alloc: Global) -> Result<(), AllocError> {
     let any = globs(rt, alloc, true, &[("foo", "*")])?;
     answers(
         rt,
@@ -175,11 +178,23 @@ fn in_directories(rt: HostRuntime) {
     if prefix_globs_in_directories(&rt, alloc).is_err() {
         assert!(rt; prefix_globs_in_directories(&rt, alloc).is_ok());
     }
+    if prefix_glob_of_any(&rt, alloc).is_err() {
+        assert!(rt; prefix_glob_of_any(&rt, alloc).is_ok());
+    }
 }
 
 fn two_stars<R: Abort>(rt: &R, alloc: Global) -> Result<(), AllocError> {
     let rows = [("a/b", "**/x"), ("a/c", "y/**"), ("d", "**")];
-    let files = globs(rt, alloc, false, &rows)?;
+    two_stars_of_files(rt, alloc, &rows)?;
+    two_stars_of_prefixes(rt, alloc, &rows)
+}
+
+fn two_stars_of_files<R: Abort>(
+    rt: &R,
+    alloc: Global,
+    rows: &[(&str, &str)],
+) -> Result<(), AllocError> {
+    let files = globs(rt, alloc, false, rows)?;
     answers(
         rt,
         alloc,
@@ -198,8 +213,15 @@ fn two_stars<R: Abort>(rt: &R, alloc: Global) -> Result<(), AllocError> {
             ("d/p", "*", "*"),
             ("e", "", ""),
         ],
-    )?;
-    let prefixes = globs(rt, alloc, true, &rows)?;
+    )
+}
+
+fn two_stars_of_prefixes<R: Abort>(
+    rt: &R,
+    alloc: Global,
+    rows: &[(&str, &str)],
+) -> Result<(), AllocError> {
+    let prefixes = globs(rt, alloc, true, rows)?;
     answers(
         rt,
         alloc,
@@ -350,7 +372,16 @@ fn fronts<R: Abort>(rt: &R, alloc: Global) -> Result<(), AllocError> {
         ("d", "b/{x,y}"),
         ("d", "a/b"),
     ];
-    let whole = globs(rt, alloc, false, &rows)?;
+    fronts_of_files(rt, alloc, &rows)?;
+    fronts_of_prefixes(rt, alloc, &rows)
+}
+
+fn fronts_of_files<R: Abort>(
+    rt: &R,
+    alloc: Global,
+    rows: &[(&str, &str)],
+) -> Result<(), AllocError> {
+    let whole = globs(rt, alloc, false, rows)?;
     answers(
         rt,
         alloc,
@@ -379,8 +410,15 @@ fn fronts<R: Abort>(rt: &R, alloc: Global) -> Result<(), AllocError> {
             "a",
         ],
         &[("d/a", "*", "*"), ("d/a/b", "*", "*"), ("d/c", "*", "*")],
-    )?;
-    let prefixes = globs(rt, alloc, true, &rows)?;
+    )
+}
+
+fn fronts_of_prefixes<R: Abort>(
+    rt: &R,
+    alloc: Global,
+    rows: &[(&str, &str)],
+) -> Result<(), AllocError> {
+    let prefixes = globs(rt, alloc, true, rows)?;
     answers(
         rt,
         alloc,
