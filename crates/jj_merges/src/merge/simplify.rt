@@ -38,12 +38,7 @@ impl<T: PartialEq + Clone> Merge<T> {
         // To simplify it again keeps every term in its place.
         ensures twice { IfOk result (λ s. kept_places T.eq s ≡ range_with_len 0 (length s)) }
     {
-        let values = self.as_slice();
-        if values.len() == 1 {
-            return self.clone(alloc);
-        }
-        let places = cancelling::kept(alloc, values)?;
-        cancelling::clones_at(alloc, values, &places)
+        cancelling::left_of(alloc, self.as_slice())
     }
 }
 
