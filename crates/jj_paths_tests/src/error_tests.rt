@@ -1,31 +1,10 @@
 //! Texts of errors that other tests do not show, and errors that become others.
-use crate::fixtures::name;
-use jj_paths::file_util::{SourceError, SourceKind};
+use crate::fixtures::{holds, name};
 use jj_paths::repo_path::{
     InvalidNewRepoPathError, InvalidRepoPathComponentError, RepoPathBuf, RepoPathComponent,
 };
-use jj_paths::workspace_store::WorkspaceStoreError;
 use std::alloc::{AllocError, Global};
 use std::process::Abort;
-
-fn shows_causes<R: Abort>(rt: &R, alloc: Global) -> Result<(), AllocError> {
-    let error = WorkspaceStoreError::Other(SourceError {
-        kind: SourceKind::Other,
-        message: String::from_str(alloc, "the cause")?,
-    });
-    assert_eq!(rt; error.to_string(alloc)?.as_str(), "the cause");
-    let shown = WorkspaceStoreError::Memory.to_string(alloc)?;
-    assert_eq!(rt; shown.as_str(), "out of memory");
-    Ok(())
-}
-
-#[test]
-fn causes_of_stores_of_workspaces(rt: HostRuntime) {
-    let alloc = rt.alloc();
-    if shows_causes(&rt, alloc).is_err() {
-        assert!(rt; shows_causes(&rt, alloc).is_ok());
-    }
-}
 
 // A path in a box, or why there is none: two requests for memory beside the text's fault.
 fn boxed_path(alloc: Global, text: &str) -> Result<Box<RepoPathBuf>, InvalidNewRepoPathError> {
@@ -51,10 +30,7 @@ fn boxes_paths<R: Abort>(rt: &R, alloc: Global) -> Result<(), AllocError> {
 
 #[test]
 fn paths_in_boxes(rt: HostRuntime) {
-    let alloc = rt.alloc();
-    if boxes_paths(&rt, alloc).is_err() {
-        assert!(rt; boxes_paths(&rt, alloc).is_ok());
-    }
+    holds(&rt, boxes_paths);
 }
 
 // A name as a file's, in a box.
@@ -84,10 +60,7 @@ fn boxes_names<R: Abort>(rt: &R, alloc: Global) -> Result<(), AllocError> {
 
 #[test]
 fn names_in_boxes(rt: HostRuntime) {
-    let alloc = rt.alloc();
-    if boxes_names(&rt, alloc).is_err() {
-        assert!(rt; boxes_names(&rt, alloc).is_ok());
-    }
+    holds(&rt, boxes_names);
 }
 
 #[test]

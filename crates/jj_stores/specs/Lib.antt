@@ -12,3 +12,4 @@ pub mod JoinRows
 pub mod JoinSteps
 pub mod FlatRefs
 pub mod Firsts
+pub mod Workspaces

@@ -1,10 +1,10 @@
 //! Where the workspaces of a repository are.
 ghost use Rattle.std.specs.Prelude.{◌≡◌, ℕ, List, Option, OnOk, OnErr, IfOk, map, option_map, string_bytes};
 ghost use Rattle.jj_ids.specs.Names.{name_of};
-ghost use Rattle.jj_paths.specs.Workspaces.{SamePlaces, with_name_changed, with_place, without_places};
+ghost use Rattle.jj_stores.specs.Workspaces.{SamePlaces, with_name_changed, with_place, without_places};
 
-use crate::file_util::SourceError;
 use jj_ids::ref_name::WorkspaceName;
+use jj_paths::file_util::SourceError;
 use std::alloc::{AllocError, AllocFailed, Global};
 use thiserror::Error;
 
@@ -18,7 +18,7 @@ pub enum WorkspaceStoreError {
 }
 
 impl From<SourceError> for WorkspaceStoreError {
-    ghost use Rattle.jj_paths.specs.declared.workspace_store.WorkspaceStoreError.TheVariants.{Other};
+    ghost use Rattle.jj_stores.specs.declared.workspace_store.WorkspaceStoreError.TheVariants.{Other};
 
     ghost from_gives = { λ source e. e ≡ Other source };
 
@@ -28,7 +28,7 @@ impl From<SourceError> for WorkspaceStoreError {
 }
 
 impl From<AllocError> for WorkspaceStoreError {
-    ghost use Rattle.jj_paths.specs.declared.workspace_store.WorkspaceStoreError.TheVariants.{Memory};
+    ghost use Rattle.jj_stores.specs.declared.workspace_store.WorkspaceStoreError.TheVariants.{Memory};
 
     ghost from_gives = { λ _ e. e ≡ Memory };
 
@@ -38,7 +38,7 @@ impl From<AllocError> for WorkspaceStoreError {
 }
 
 impl<T: Drop> From<AllocFailed<T>> for WorkspaceStoreError {
-    ghost use Rattle.jj_paths.specs.declared.workspace_store.WorkspaceStoreError.TheVariants.{Memory};
+    ghost use Rattle.jj_stores.specs.declared.workspace_store.WorkspaceStoreError.TheVariants.{Memory};
 
     ghost from_gives = { λ _ e. e ≡ Memory };
 

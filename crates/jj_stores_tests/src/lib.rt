@@ -18,3 +18,5 @@ mod op_store_tests;
 mod signers;
 #[cfg(test)]
 mod view_tests;
+#[cfg(test)]
+mod workspace_store_tests;
