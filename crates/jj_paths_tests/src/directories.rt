@@ -1,6 +1,7 @@
 //! Directories in memory, one call of which fails.
 ghost use Rattle.std.specs.Prelude.{◌≡◌, ℕ, Bool, List, Result, Ok, Err, IsTrue};
 
+use crate::fixtures::holds;
 use jj_paths::file_util::{
     DirAccess, IoResultExt, PathError, create_or_reuse_dir, is_empty_dir, remove_dir_contents,
 };
@@ -130,8 +131,7 @@ fn creates<R: Abort>(rt: &R, alloc: Global) -> Result<(), AllocError> {
 
 #[test]
 fn directories_are_made_or_used(rt: HostRuntime) {
-    let alloc = rt.alloc();
-    assert!(rt; creates(&rt, alloc).or_else(|_| creates(&rt, alloc)).is_ok());
+    holds(&rt, creates);
 }
 
 fn empties_full<R: Abort>(rt: &R, alloc: Global) -> Result<(), AllocError> {
@@ -171,8 +171,7 @@ fn empties<R: Abort>(rt: &R, alloc: Global) -> Result<(), AllocError> {
 
 #[test]
 fn entries_are_removed_up_to_the_first_fault(rt: HostRuntime) {
-    let alloc = rt.alloc();
-    assert!(rt; empties(&rt, alloc).or_else(|_| empties(&rt, alloc)).is_ok());
+    holds(&rt, empties);
 }
 
 fn tells_empty<R: Abort>(rt: &R, alloc: Global) -> Result<(), AllocError> {
@@ -194,10 +193,5 @@ fn tells_empty<R: Abort>(rt: &R, alloc: Global) -> Result<(), AllocError> {
 
 #[test]
 fn empty_directories(rt: HostRuntime) {
-    let alloc = rt.alloc();
-    assert!(rt;
-        tells_empty(&rt, alloc)
-            .or_else(|_| tells_empty(&rt, alloc))
-            .is_ok()
-    );
+    holds(&rt, tells_empty);
 }

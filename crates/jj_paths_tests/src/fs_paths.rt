@@ -1,6 +1,6 @@
 //! Repo paths below directories of the file system, and relative paths of the file system as repo
 //! paths.
-use crate::fixtures::path;
+use crate::fixtures::{holds, path};
 use jj_paths::repo_path::{
     InvalidRepoPathComponentError, InvalidRepoPathError, RelativePathParseError, RepoPath,
     RepoPathBuf,
@@ -59,12 +59,7 @@ fn goes_below<R: Abort>(rt: &R, alloc: Global) -> Result<(), AllocError> {
 
 #[test]
 fn below_a_base(rt: HostRuntime) {
-    let alloc = rt.alloc();
-    assert!(rt;
-        goes_below(&rt, alloc)
-            .or_else(|_| goes_below(&rt, alloc))
-            .is_ok()
-    );
+    holds(&rt, goes_below);
 }
 
 fn refuses_dots<R: Abort>(rt: &R, alloc: Global) -> Result<(), AllocError> {
@@ -90,12 +85,7 @@ fn refuses_dots<R: Abort>(rt: &R, alloc: Global) -> Result<(), AllocError> {
 
 #[test]
 fn names_that_are_dots(rt: HostRuntime) {
-    let alloc = rt.alloc();
-    assert!(rt;
-        refuses_dots(&rt, alloc)
-            .or_else(|_| refuses_dots(&rt, alloc))
-            .is_ok()
-    );
+    holds(&rt, refuses_dots);
 }
 
 // a relative path, and the repo path
@@ -123,12 +113,7 @@ fn reads_relative<R: Abort>(rt: &R, alloc: Global) -> Result<(), AllocError> {
 
 #[test]
 fn relative_paths(rt: HostRuntime) {
-    let alloc = rt.alloc();
-    assert!(rt;
-        reads_relative(&rt, alloc)
-            .or_else(|_| reads_relative(&rt, alloc))
-            .is_ok()
-    );
+    holds(&rt, reads_relative);
 }
 
 // a path that is refused, and the component that is no name, or nothing where a name is no text
@@ -175,10 +160,5 @@ fn refuses_relative<R: Abort>(rt: &R, alloc: Global) -> Result<(), AllocError> {
 
 #[test]
 fn no_relative_paths(rt: HostRuntime) {
-    let alloc = rt.alloc();
-    assert!(rt;
-        refuses_relative(&rt, alloc)
-            .or_else(|_| refuses_relative(&rt, alloc))
-            .is_ok()
-    );
+    holds(&rt, refuses_relative);
 }

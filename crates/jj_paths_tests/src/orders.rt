@@ -1,5 +1,5 @@
 //! Equality, order and hashes of names and paths.
-use crate::fixtures::{name, owned, path};
+use crate::fixtures::{holds, name, owned, path};
 use jj_paths::repo_path::RepoPathComponent;
 use std::alloc::{AllocError, Global};
 use std::cmp::Ordering;
@@ -75,12 +75,7 @@ fn owned_as_borrowed<R: Abort>(rt: &R, alloc: Global) -> Result<(), AllocError> 
 
 #[test]
 fn owned_paths_and_names(rt: HostRuntime) {
-    let alloc = rt.alloc();
-    assert!(rt;
-        owned_as_borrowed(&rt, alloc)
-            .or_else(|_| owned_as_borrowed(&rt, alloc))
-            .is_ok()
-    );
+    holds(&rt, owned_as_borrowed);
 }
 
 fn sets_of_paths<R: Abort>(rt: &R, alloc: Global) -> Result<(), AllocError> {
@@ -114,10 +109,5 @@ fn sets_of_borrowed_paths<R: Abort>(rt: &R, alloc: Global) -> Result<(), AllocEr
 
 #[test]
 fn hashed_paths_and_names(rt: HostRuntime) {
-    let alloc = rt.alloc();
-    assert!(rt;
-        sets_of_paths(&rt, alloc)
-            .or_else(|_| sets_of_paths(&rt, alloc))
-            .is_ok()
-    );
+    holds(&rt, sets_of_paths);
 }

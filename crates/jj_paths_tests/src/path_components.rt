@@ -1,4 +1,5 @@
 //! Paths of the file system made of the components of others: normal forms, and ways between two.
+use crate::fixtures::holds;
 use jj_paths::file_util::{normalize_path, relative_path};
 use std::alloc::{AllocError, Global};
 use std::process::Abort;
@@ -33,12 +34,7 @@ fn normalizes<R: Abort>(rt: &R, alloc: Global) -> Result<(), AllocError> {
 
 #[test]
 fn normal_forms(rt: HostRuntime) {
-    let alloc = rt.alloc();
-    assert!(rt;
-        normalizes(&rt, alloc)
-            .or_else(|_| normalizes(&rt, alloc))
-            .is_ok()
-    );
+    holds(&rt, normalizes);
 }
 
 // a directory, a path, and the way from the one to the other
@@ -79,6 +75,5 @@ fn leads<R: Abort>(rt: &R, alloc: Global) -> Result<(), AllocError> {
 
 #[test]
 fn ways(rt: HostRuntime) {
-    let alloc = rt.alloc();
-    assert!(rt; leads(&rt, alloc).or_else(|_| leads(&rt, alloc)).is_ok());
+    holds(&rt, leads);
 }

@@ -1,4 +1,5 @@
 //! Texts of paths of the file system: their bytes, and paths below the home directory.
+use crate::fixtures::holds;
 use jj_paths::file_util::{
     BadPathEncoding, expand_home_path, path_from_bytes, path_to_bytes, slash_path,
 };
@@ -53,6 +54,5 @@ fn expands<R: Abort>(rt: &R, alloc: Global) -> Result<(), AllocError> {
 
 #[test]
 fn homes(rt: HostRuntime) {
-    let alloc = rt.alloc();
-    assert!(rt; expands(&rt, alloc).or_else(|_| expands(&rt, alloc)).is_ok());
+    holds(&rt, expands);
 }

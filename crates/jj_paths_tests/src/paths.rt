@@ -1,5 +1,5 @@
 //! Paths as lists of names: joined, split, stripped and walked.
-use crate::fixtures::{name, owned, path};
+use crate::fixtures::{holds, name, owned, path};
 use jj_paths::repo_path::{RepoPath, RepoPathBuf, RepoPathComponent};
 use std::alloc::{AllocError, Global};
 use std::process::Abort;
@@ -105,12 +105,7 @@ fn joins_names<R: Abort>(rt: &R, alloc: Global) -> Result<(), AllocError> {
 
 #[test]
 fn joins(rt: HostRuntime) {
-    let alloc = rt.alloc();
-    assert!(rt;
-        joins_names(&rt, alloc)
-            .or_else(|_| joins_names(&rt, alloc))
-            .is_ok()
-    );
+    holds(&rt, joins_names);
 }
 
 // The names are added, or the path is as it was.
@@ -254,10 +249,5 @@ fn copies_of<R: Abort>(rt: &R, alloc: Global) -> Result<(), AllocError> {
 
 #[test]
 fn copies(rt: HostRuntime) {
-    let alloc = rt.alloc();
-    assert!(rt;
-        copies_of(&rt, alloc)
-            .or_else(|_| copies_of(&rt, alloc))
-            .is_ok()
-    );
+    holds(&rt, copies_of);
 }

@@ -1,5 +1,5 @@
 //! Texts that are paths and names, texts that are not, and how all are shown.
-use crate::fixtures::{name, owned, path};
+use crate::fixtures::{holds, name, owned, path};
 use jj_paths::repo_path::{
     InvalidNewRepoPathError, RepoPath, RepoPathBuf, RepoPathComponent, RepoPathComponentBuf,
 };
@@ -10,60 +10,48 @@ const NO_PATHS: [&str; 8] = ["/", "/x", "x/", "x//y", "/a", "a/", "a//b", "//"];
 
 const NO_NAMES: [&str; 5] = ["", "/", "a/b", "/a", "a/"];
 
-// The text is handed back, or memory was refused.
-fn is_refused(error: InvalidNewRepoPathError, text: &str) -> Result<bool, AllocError> {
-    match error {
-        InvalidNewRepoPathError::Invalid { value } => Ok(value.as_str() == text),
-        InvalidNewRepoPathError::Memory => Err(AllocError),
+// The text is refused and handed back, or memory was refused.
+fn is_refused<R: Abort, T: Drop>(
+    rt: &R,
+    read: Result<T, InvalidNewRepoPathError>,
+    text: &str,
+) -> Result<(), AllocError> {
+    match read {
+        Ok(_) => panic!(rt; "{text} was taken"),
+        Err(InvalidNewRepoPathError::Memory) => Err(AllocError),
+        Err(InvalidNewRepoPathError::Invalid { value }) => {
+            assert_eq!(rt; value.as_str(), text);
+            Ok(())
+        }
     }
 }
 
 fn refuses_paths<R: Abort>(rt: &R, alloc: Global) -> Result<(), AllocError> {
     for text in NO_PATHS {
-        match RepoPath::from_internal_string(alloc, text) {
-            Ok(_) => panic!(rt; "{text} is no path"),
-            Err(e) => assert!(rt; is_refused(e, text)?, "{text}"),
-        }
-        match RepoPathBuf::from_internal_string(String::from_str(alloc, text)?) {
-            Ok(_) => panic!(rt; "{text} is no path"),
-            Err(e) => assert!(rt; is_refused(e, text)?, "{text}"),
-        }
+        is_refused(rt, RepoPath::from_internal_string(alloc, text), text)?;
+        let owned = String::from_str(alloc, text)?;
+        is_refused(rt, RepoPathBuf::from_internal_string(owned), text)?;
     }
     Ok(())
 }
 
 #[test]
 fn no_paths(rt: HostRuntime) {
-    let alloc = rt.alloc();
-    assert!(rt;
-        refuses_paths(&rt, alloc)
-            .or_else(|_| refuses_paths(&rt, alloc))
-            .is_ok()
-    );
+    holds(&rt, refuses_paths);
 }
 
 fn refuses_names<R: Abort>(rt: &R, alloc: Global) -> Result<(), AllocError> {
     for text in NO_NAMES {
-        match RepoPathComponent::new(alloc, text) {
-            Ok(_) => panic!(rt; "{text} is no name"),
-            Err(e) => assert!(rt; is_refused(e, text)?, "{text}"),
-        }
-        match RepoPathComponentBuf::new(String::from_str(alloc, text)?) {
-            Ok(_) => panic!(rt; "{text} is no name"),
-            Err(e) => assert!(rt; is_refused(e, text)?, "{text}"),
-        }
+        is_refused(rt, RepoPathComponent::new(alloc, text), text)?;
+        let owned = String::from_str(alloc, text)?;
+        is_refused(rt, RepoPathComponentBuf::new(owned), text)?;
     }
     Ok(())
 }
 
 #[test]
 fn no_names(rt: HostRuntime) {
-    let alloc = rt.alloc();
-    assert!(rt;
-        refuses_names(&rt, alloc)
-            .or_else(|_| refuses_names(&rt, alloc))
-            .is_ok()
-    );
+    holds(&rt, refuses_names);
 }
 
 fn reads_paths<R: Abort>(rt: &R, alloc: Global) -> Result<(), AllocError> {
@@ -85,12 +73,7 @@ fn reads_paths<R: Abort>(rt: &R, alloc: Global) -> Result<(), AllocError> {
 
 #[test]
 fn paths_and_names(rt: HostRuntime) {
-    let alloc = rt.alloc();
-    assert!(rt;
-        reads_paths(&rt, alloc)
-            .or_else(|_| reads_paths(&rt, alloc))
-            .is_ok()
-    );
+    holds(&rt, reads_paths);
 }
 
 fn writes_directories<R: Abort>(rt: &R, alloc: Global) -> Result<(), AllocError> {
@@ -108,12 +91,7 @@ fn writes_directories<R: Abort>(rt: &R, alloc: Global) -> Result<(), AllocError>
 
 #[test]
 fn directories(rt: HostRuntime) {
-    let alloc = rt.alloc();
-    assert!(rt;
-        writes_directories(&rt, alloc)
-            .or_else(|_| writes_directories(&rt, alloc))
-            .is_ok()
-    );
+    holds(&rt, writes_directories);
 }
 
 fn shows_errors<R: Abort>(rt: &R, alloc: Global) -> Result<(), AllocError> {
@@ -133,12 +111,7 @@ fn shows_errors<R: Abort>(rt: &R, alloc: Global) -> Result<(), AllocError> {
 
 #[test]
 fn errors_shown(rt: HostRuntime) {
-    let alloc = rt.alloc();
-    assert!(rt;
-        shows_errors(&rt, alloc)
-            .or_else(|_| shows_errors(&rt, alloc))
-            .is_ok()
-    );
+    holds(&rt, shows_errors);
 }
 
 fn shows_paths<R: Abort>(rt: &R, alloc: Global) -> Result<(), AllocError> {
@@ -164,10 +137,5 @@ fn shows_paths<R: Abort>(rt: &R, alloc: Global) -> Result<(), AllocError> {
 
 #[test]
 fn paths_shown(rt: HostRuntime) {
-    let alloc = rt.alloc();
-    assert!(rt;
-        shows_paths(&rt, alloc)
-            .or_else(|_| shows_paths(&rt, alloc))
-            .is_ok()
-    );
+    holds(&rt, shows_paths);
 }

@@ -1,5 +1,5 @@
 //! Trees of values at paths.
-use crate::fixtures::{name, path};
+use crate::fixtures::{holds, name, path};
 use jj_paths::repo_path::{RepoPath, RepoPathBuf, RepoPathComponentBuf};
 use jj_paths::repo_path_tree::RepoPathTree;
 use std::alloc::{AllocError, Global};
@@ -22,20 +22,32 @@ fn value_at<R: Abort>(rt: &R, alloc: Global, tree: &RepoPathTree<u32>, text: &'s
     }
 }
 
+// The values of the small tree.
+const SMALL: [(&str, u32); 6] = [
+    ("", 0),
+    ("a", 1),
+    ("a/b", 2),
+    ("c", 0),
+    ("c/d", 3),
+    ("b", 99),
+];
+
+// The tree has these values.
+fn has_values<R: Abort>(
+    rt: &R,
+    alloc: Global,
+    tree: &RepoPathTree<u32>,
+    values: &[(&'static str, u32)],
+) {
+    for (text, wanted) in values {
+        assert_eq!(rt; value_at(rt, alloc, tree, text), *wanted, "{text}");
+    }
+}
+
 fn reads_values<R: Abort>(rt: &R, alloc: Global) -> Result<(), AllocError> {
     let mut tree = small_tree(rt, alloc)?;
-    for (text, want) in [
-        ("", 0),
-        ("a", 1),
-        ("a/b", 2),
-        ("c", 0),
-        ("c/d", 3),
-        ("b", 99),
-        ("a/b/c", 99),
-        ("ab", 99),
-    ] {
-        assert_eq!(rt; value_at(rt, alloc, &tree, text), want, "{text}");
-    }
+    has_values(rt, alloc, &tree, &SMALL);
+    has_values(rt, alloc, &tree, &[("a/b/c", 99), ("ab", 99)]);
     assert!(rt; tree.has_children());
     tree.set_value(7);
     *tree.value_mut() += 1;
@@ -50,12 +62,7 @@ fn reads_values<R: Abort>(rt: &R, alloc: Global) -> Result<(), AllocError> {
 
 #[test]
 fn values(rt: HostRuntime) {
-    let alloc = rt.alloc();
-    assert!(rt;
-        reads_values(&rt, alloc)
-            .or_else(|_| reads_values(&rt, alloc))
-            .is_ok()
-    );
+    holds(&rt, reads_values);
 }
 
 fn lists_children<R: Abort>(rt: &R, alloc: Global) -> Result<(), AllocError> {
@@ -88,77 +95,54 @@ fn lists_children<R: Abort>(rt: &R, alloc: Global) -> Result<(), AllocError> {
 
 #[test]
 fn children(rt: HostRuntime) {
-    let alloc = rt.alloc();
-    assert!(rt;
-        lists_children(&rt, alloc)
-            .or_else(|_| lists_children(&rt, alloc))
-            .is_ok()
-    );
+    holds(&rt, lists_children);
+}
+
+// A walk to a path passes these values, each with the rest of the way, and goes on answering none.
+fn passes<R: Abort>(
+    rt: &R,
+    alloc: Global,
+    tree: &RepoPathTree<u32>,
+    way: &'static str,
+    wanted: &[(u32, &str)],
+) {
+    let mut walk = tree.walk_to(path(rt, alloc, way));
+    for (value, rest) in wanted {
+        match walk.next() {
+            Some((below, left)) => assert_eq!(rt;
+                (*below.value(), left.as_internal_file_string()),
+                (*value, *rest)
+            ),
+            None => panic!(rt; "the walk to {way} ends before {rest}"),
+        }
+    }
+    assert!(rt; walk.next().is_none());
+    assert!(rt; walk.next().is_none());
 }
 
 fn walks_to_paths<R: Abort>(rt: &R, alloc: Global) -> Result<(), AllocError> {
     let tree = small_tree(rt, alloc)?;
-    let mut whole = tree.walk_to(path(rt, alloc, "a/b"));
-    for (want_value, want_rest) in [(0, "a/b"), (1, "b"), (2, "")] {
-        match whole.next() {
-            Some((below, rest)) => assert_eq!(rt;
-                (*below.value(), rest.as_internal_file_string()),
-                (want_value, want_rest)
-            ),
-            None => panic!(rt; "the tree holds a/b"),
-        }
-    }
-    assert!(rt; whole.next().is_none());
-    let mut cut_short = tree.walk_to(path(rt, alloc, "c/x/y"));
-    for (want_value, want_rest) in [(0, "c/x/y"), (0, "x/y")] {
-        match cut_short.next() {
-            Some((below, rest)) => assert_eq!(rt;
-                (*below.value(), rest.as_internal_file_string()),
-                (want_value, want_rest)
-            ),
-            None => panic!(rt; "the tree holds c"),
-        }
-    }
-    assert!(rt; cut_short.next().is_none());
-    assert!(rt; cut_short.next().is_none());
+    passes(rt, alloc, &tree, "a/b", &[(0, "a/b"), (1, "b"), (2, "")]);
+    passes(rt, alloc, &tree, "c/x/y", &[(0, "c/x/y"), (0, "x/y")]);
     Ok(())
 }
 
 #[test]
 fn walks(rt: HostRuntime) {
-    let alloc = rt.alloc();
-    assert!(rt;
-        walks_to_paths(&rt, alloc)
-            .or_else(|_| walks_to_paths(&rt, alloc))
-            .is_ok()
-    );
+    holds(&rt, walks_to_paths);
 }
 
 fn copies_trees<R: Abort>(rt: &R, alloc: Global) -> Result<(), AllocError> {
     let mut tree = small_tree(rt, alloc)?;
     let copy = tree.clone()?;
     tree.set(path(rt, alloc, "a/b"), 5)?;
-    for (text, want) in [
-        ("", 0),
-        ("a", 1),
-        ("a/b", 2),
-        ("c", 0),
-        ("c/d", 3),
-        ("b", 99),
-    ] {
-        assert_eq!(rt; value_at(rt, alloc, &copy, text), want, "{text}");
-    }
+    has_values(rt, alloc, &copy, &SMALL);
     Ok(())
 }
 
 #[test]
 fn copies(rt: HostRuntime) {
-    let alloc = rt.alloc();
-    assert!(rt;
-        copies_trees(&rt, alloc)
-            .or_else(|_| copies_trees(&rt, alloc))
-            .is_ok()
-    );
+    holds(&rt, copies_trees);
 }
 
 fn shows_trees<R: Abort>(rt: &R, alloc: Global) -> Result<(), AllocError> {
@@ -173,12 +157,7 @@ fn shows_trees<R: Abort>(rt: &R, alloc: Global) -> Result<(), AllocError> {
 
 #[test]
 fn trees_shown(rt: HostRuntime) {
-    let alloc = rt.alloc();
-    assert!(rt;
-        shows_trees(&rt, alloc)
-            .or_else(|_| shows_trees(&rt, alloc))
-            .is_ok()
-    );
+    holds(&rt, shows_trees);
 }
 
 // Where `add` is refused, each value is kept, and what is new on the way has the default value.
@@ -199,22 +178,8 @@ fn refused_adds(rt: HostRuntime) {
             assert!(rt; tree.set(path(&rt, alloc, "a/b/c/d"), 4).is_ok());
         }
     }
-    has_values_of_all(&rt, alloc, &tree);
-}
-
-// Checks the values of the small tree to which `a/b/c/d` was added.
-fn has_values_of_all<R: Abort>(rt: &R, alloc: Global, tree: &RepoPathTree<u32>) {
-    for (text, want) in [
-        ("", 0),
-        ("a", 1),
-        ("a/b", 2),
-        ("c", 0),
-        ("c/d", 3),
-        ("a/b/c", 0),
-        ("a/b/c/d", 4),
-    ] {
-        assert_eq!(rt; value_at(rt, alloc, tree, text), want, "{text}");
-    }
+    has_values(&rt, alloc, &tree, &SMALL);
+    has_values(&rt, alloc, &tree, &[("a/b/c", 0), ("a/b/c/d", 4)]);
 }
 
 fn compares_trees<R: Abort>(rt: &R, alloc: Global) -> Result<(), AllocError> {
@@ -236,12 +201,7 @@ fn compares_trees<R: Abort>(rt: &R, alloc: Global) -> Result<(), AllocError> {
 // Trees are equal by their paths and values, however they were made.
 #[test]
 fn equality(rt: HostRuntime) {
-    let alloc = rt.alloc();
-    assert!(rt;
-        compares_trees(&rt, alloc)
-            .or_else(|_| compares_trees(&rt, alloc))
-            .is_ok()
-    );
+    holds(&rt, compares_trees);
 }
 
 fn clones_texts<R: Abort>(rt: &R, alloc: Global) -> Result<(), AllocError> {
@@ -264,12 +224,7 @@ fn clones_texts<R: Abort>(rt: &R, alloc: Global) -> Result<(), AllocError> {
 // Values may be texts, which are equal to their clones and not the same.
 #[test]
 fn clones_of_texts(rt: HostRuntime) {
-    let alloc = rt.alloc();
-    assert!(rt;
-        clones_texts(&rt, alloc)
-            .or_else(|_| clones_texts(&rt, alloc))
-            .is_ok()
-    );
+    holds(&rt, clones_texts);
 }
 
 // A name of four digits, written by the caller's number.
@@ -330,12 +285,7 @@ fn finds_even_alone<R: Abort>(
 
 #[test]
 fn two_thousand_children(rt: HostRuntime) {
-    let alloc = rt.alloc();
-    assert!(rt;
-        adds_in_descending_order(&rt, alloc)
-            .or_else(|_| adds_in_descending_order(&rt, alloc))
-            .is_ok()
-    );
+    holds(&rt, adds_in_descending_order);
 }
 
 fn drops_a_deep_tree<R: Abort>(rt: &R, alloc: Global) -> Result<(), AllocError> {
@@ -360,10 +310,5 @@ fn drops_a_deep_tree<R: Abort>(rt: &R, alloc: Global) -> Result<(), AllocError> 
 // A tree is dropped by a loop, and not by a recursion as deep as the tree.
 #[test]
 fn deep_trees(rt: HostRuntime) {
-    let alloc = rt.alloc();
-    assert!(rt;
-        drops_a_deep_tree(&rt, alloc)
-            .or_else(|_| drops_a_deep_tree(&rt, alloc))
-            .is_ok()
-    );
+    holds(&rt, drops_a_deep_tree);
 }
