@@ -7,11 +7,11 @@ use Rattle.std.specs.Cmp.{both_ways}
 use Rattle.std.specs.Option.{option_and_then, option_map}
 use Rattle.std.specs.List.Sorted.{IsPermutation}
 use Rattle.std.proofs.lemmas.Slice.Eq.{bytes_eq-Decides}
+use Rattle.std.proofs.lemmas.Option.{none-some}
 use Rattle.std.proofs.lemmas.List.Elements.{Contains-append_left, Contains-append_right, Contains-append_cases}
 use Rattle.std.proofs.lemmas.List.Sorted.{Contains-permutation, IsPermutation-sym}
 use Rattle.jj_paths.specs.Paths.{Path}
 use Rattle.jj_paths.specs.Tree.{Tree, none, get, child, value_at, is_ordered, IsSet}
-use Rattle.jj_paths.proofs.Trees.{some_none}
 use Rattle.jj_paths.proofs.ListedNodes.{nothing_there, the_one}
 use Rattle.jj_paths.proofs.LawsOfPaths.{holds_fronts}
 use Rattle.jj_matchers.specs.Marks.{is_some_true, is_marked, marked_paths, IsMarkedTree, LeadsToMarks}
@@ -51,7 +51,7 @@ pub there_by_value : (t : Tree Bool) (q : Path) (v : Bool) → value_at t q ≡ 
 there_by_value t q v is = known (get t q) is
   where
     known : (o : Option (Tree Bool)) → option_map (λ node. node.value) o ≡ Some v → IsSome o
-    known None h = absurd (some_none h)
+    known None h = absurd (none-some _ h)
     known (Some node) h = refl
 
 -- a tree of one node that is not marked has no marks
@@ -64,7 +64,7 @@ marked_start t unmarked bare = record {
   where
     no_mark : (path : Path) → value_at t path ≡ Some true → ⊥
     no_mark [] is = let e : t.value ≡ true = cc in false≢true (sym unmarked ∙ e)
-    no_mark (name ∷ rest) is = some_none (sym (ap (λ b. option_map (λ node. node.value) (option_and_then (λ sub. get sub rest) (child b name))) bare) ∙ is)
+    no_mark (name ∷ rest) is = none-some _ (sym (ap (λ b. option_map (λ node. node.value) (option_and_then (λ sub. get sub rest) (child b name))) bare) ∙ is)
 
     only_root : (path : Path) → IsSome (get t path) → path ≡ []
     only_root [] is = refl
@@ -181,7 +181,7 @@ module _ (marks : List Path) (tree : Tree Bool) (marked : IsMarkedTree marks tre
           let whole : path ++ next ∷ rest ≡ child ++ rest = append_assoc above (name ∷ []) (next ∷ rest) ∙ sym (append_assoc above (name ∷ next ∷ []) rest) in
           let is : value_at tree (child ++ rest) ≡ Some true = (marked.marked (child ++ rest)).1 (subst (Contains marks) whole h) in
           let (v, at) = value_there tree child (holds_fronts Bool tree child rest (there_by_value tree (child ++ rest) true is)) in
-          some_none (sym (no_child next) ∙ at)
+          none-some _ (sym (no_child next) ∙ at)
 
       by_mark : (path ≡ []) ⊎ ((rest : Path) × Contains marks (path ++ rest)) → ⊥
       by_mark (inl root) = not_root above root

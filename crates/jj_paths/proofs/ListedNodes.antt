@@ -7,6 +7,7 @@ use Rattle.std.specs.Str.{bytes_eq}
 use Rattle.std.specs.Option.{option_and_then}
 use Rattle.std.specs.FinMap.Entries.{below_all}
 use Rattle.std.proofs.lemmas.Bool.{and_parts}
+use Rattle.std.proofs.lemmas.Option.{none-some}
 use Rattle.std.proofs.lemmas.Slice.Eq.{bytes_eq-Decides}
 use Rattle.std.proofs.lemmas.List.Elements.{Contains-append_left, Contains-append_right, Contains-append_cases}
 use Rattle.jj_paths.specs.Paths.{Name, Path, name_cmp}
@@ -14,7 +15,7 @@ use Rattle.jj_paths.specs.Tree.{Tree, tree_of, Branches, none, branch, children,
 use Rattle.jj_paths.specs.Nodes.{NodeAt, node_at, nodes_under, all_nodes}
 use Rattle.jj_paths.proofs.Grown.{differs, some_same}
 use Rattle.jj_paths.proofs.PathOrders.{less_from_is_lt}
-use Rattle.jj_paths.proofs.Trees.{some_none, not_same}
+use Rattle.jj_paths.proofs.Trees.{not_same}
 
 pub nothing_there : {X : Type 0} (x : X) → Contains [] x → ⊥
 nothing_there x (k, below, is) = absurd (omega arith)
@@ -72,7 +73,7 @@ module _ {V : Type 0} where
           by_name true is =
               let same : n ≡ later.name = (bytes_eq-Decides n later.name).0 is in
               let gone : child after later.name ≡ None = ap (child after) (sym same) ∙ not_among after n up in
-              absurd (some_none (sym (ap (λ o. option_and_then (λ sub. get sub later.rest) o) gone) ∙ later.there))
+              absurd (none-some _ (sym (ap (λ o. option_and_then (λ sub. get sub later.rest) o) gone) ∙ later.there))
           by_name false is = rw is later.there
 
       by_rest : below_all name_cmp n (children after) ≡ true → (Contains (nodes_under here below) (node_at path node) → LeadsTo here below path node) → (Contains (nodes_under dir after) (node_at path node) → LeadsTo dir after path node)
@@ -94,7 +95,7 @@ module _ {V : Type 0} where
 
   -- what is there is listed
   is_listed : (dir : Path) (b : Branches V) (name : Name) (rest : Path) (node : Tree V) → node_below b name rest ≡ Some node → Contains (nodes_under dir b) (node_at (dir ++ name ∷ rest) node)
-  is_listed dir none name rest node there = absurd (some_none there)
+  is_listed dir none name rest node there = absurd (none-some _ there)
   is_listed dir (branch n value below after) name rest node there =
       by_name (bytes_eq n name) refl (λ next more h. is_listed (dir ++ n ∷ []) below next more node h) (λ h. is_listed dir after name rest node h)
     where

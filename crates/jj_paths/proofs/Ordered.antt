@@ -1,47 +1,42 @@
 -- Names that ascend at every node of a tree still do when a child is made, and when a child is changed.
 use Rattle.std.proofs.Common.{◌≡◌, ℕ, zero, suc, ◌<◌, get_or, Some, ◌∙◌, Bool, true, false, ◌&&◌, List, [], ◌∷◌, length, refl, ap, sym, arith}
-use mathlib.Core.Bool.{false≢true}
 use Rattle.std.specs.List.{insert}
 use Rattle.std.specs.declared.cmp.Ordering.TheVariants.{Less}
 use Rattle.std.specs.Ordering.{is_lt, ordering_reverse}
 use Rattle.std.specs.Str.{bytes_eq}
 use Rattle.std.specs.FinMap.Entries.{below_all}
 use Rattle.std.specs.Cmp.Lexicographic.{nat_list_cmp_total}
-use Rattle.std.proofs.lemmas.Bool.{and_parts}
+use Rattle.std.proofs.lemmas.Bool.{and_parts, and_from}
+use Rattle.std.proofs.lemmas.Option.{none-some}
 use Rattle.jj_paths.specs.Paths.{Name, Path, name_cmp}
 use Rattle.jj_paths.specs.Tree.{Tree, tree_of, Branches, none, branch, branches_of, children, child, update_child, put_value, is_ordered, IsGapFor}
-use Rattle.jj_paths.proofs.Trees.{some_none, children-branches_of}
-
-pub both_true : (a b : Bool) → a ≡ true → b ≡ true → a && b ≡ true
-both_true true true e f = refl
-both_true true false e f = absurd (false≢true f)
-both_true false b e f = absurd (false≢true e)
+use Rattle.jj_paths.proofs.Trees.{children-branches_of}
 
 module _ {V : Type 0} where
   pub below_all-insert : (k : Name) (es : List (Name × Tree V)) (i : ℕ) (x : Name × Tree V) → name_cmp k x.0 ≡ Less → below_all name_cmp k es ≡ true → below_all name_cmp k (insert es i x) ≡ true
-  below_all-insert k [] zero x less all = both_true _ _ (ap is_lt less) refl
-  below_all-insert k [] (suc i) x less all = both_true _ _ (ap is_lt less) refl
-  below_all-insert k (a ∷ more) zero x less all = both_true _ _ (ap is_lt less) all
-  below_all-insert k (a ∷ more) (suc i) x less all = both_true _ _ (and_parts _ _ all).0 (below_all-insert k more i x less (and_parts _ _ all).1)
+  below_all-insert k [] zero x less all = and_from _ _ (ap is_lt less) refl
+  below_all-insert k [] (suc i) x less all = and_from _ _ (ap is_lt less) refl
+  below_all-insert k (a ∷ more) zero x less all = and_from _ _ (ap is_lt less) all
+  below_all-insert k (a ∷ more) (suc i) x less all = and_from _ _ (and_parts _ _ all).0 (below_all-insert k more i x less (and_parts _ _ all).1)
 
   pub below_all-from : (k : Name) (es : List (Name × Tree V)) → ((j : ℕ) (d : Name × Tree V) → j < length es → name_cmp k (get_or es j d).0 ≡ Less) → below_all name_cmp k es ≡ true
   below_all-from k [] less = refl
-  below_all-from k (a ∷ more) less = both_true _ _ (ap is_lt (less 0 a (omega arith))) (below_all-from k more (λ j d lt. less (suc j) d (omega arith)))
+  below_all-from k (a ∷ more) less = and_from _ _ (ap is_lt (less 0 a (omega arith))) (below_all-from k more (λ j d lt. less (suc j) d (omega arith)))
 
   -- a node without children comes into a gap
   pub is_ordered-insert : (items : List (Name × Tree V)) (i : ℕ) (name : Name) (node : Tree V) → node.branches ≡ none → IsGapFor items name i → is_ordered (branches_of items) ≡ true → is_ordered (branches_of (insert items i (name, node))) ≡ true
   is_ordered-insert [] zero name node bare gap up = ap (λ b. is_ordered b && true) bare
   is_ordered-insert [] (suc i) name node bare gap up = ap (λ b. is_ordered b && true) bare
   is_ordered-insert (a ∷ more) zero name node bare gap up =
-      both_true _ _
+      and_from _ _
       (ap (below_all name_cmp name) (children-branches_of (a ∷ more)) ∙ below_all-from name (a ∷ more) (λ j d lt. nat_list_cmp_total.antisymm name (get_or (a ∷ more) j d).0 ∙ ap ordering_reverse (gap.greater_after j d (omega arith) lt)))
-      (both_true _ _ (ap is_ordered bare) up)
+      (and_from _ _ (ap is_ordered bare) up)
   is_ordered-insert (a ∷ more) (suc i) name node bare gap up =
       let parts = and_parts (below_all name_cmp a.0 (children (branches_of more))) _ up in
       let below = and_parts (is_ordered a.1.branches) _ parts.1 in
-      both_true _ _
+      and_from _ _
       (ap (below_all name_cmp a.0) (children-branches_of (insert more i (name, node))) ∙ below_all-insert a.0 more i (name, node) (gap.smaller_before 0 a (omega arith)) (sym (ap (below_all name_cmp a.0) (children-branches_of more)) ∙ parts.0))
-      (both_true _ _ below.0
+      (and_from _ _ below.0
       (is_ordered-insert more i name node bare (record {
         in_range = omega (arith, gap.in_range);
         smaller_before = λ j e lt. gap.smaller_before (suc j) e (omega arith);
@@ -49,7 +44,7 @@ module _ {V : Type 0} where
       }) below.1))
 
   pub is_ordered-child : (b : Branches V) (name : Name) (sub : Tree V) → is_ordered b ≡ true → child b name ≡ Some sub → is_ordered sub.branches ≡ true
-  is_ordered-child none name sub up e = absurd (some_none e)
+  is_ordered-child none name sub up e = absurd (none-some _ e)
   is_ordered-child (branch n value below after) name sub up e = by_name (bytes_eq n name) refl (is_ordered-child after name sub)
     where
       by_name : (t : Bool) → bytes_eq n name ≡ t → (is_ordered after ≡ true → child after name ≡ Some sub → is_ordered sub.branches ≡ true) → is_ordered sub.branches ≡ true
@@ -80,11 +75,11 @@ module _ {V : Type 0} where
       by_name true is later =
           let parts = and_parts (below_all name_cmp n (children after)) _ up in
           let rest = and_parts (is_ordered below) _ parts.1 in
-          rw is (both_true _ _ parts.0 (both_true _ _ (h (tree_of value below) (rw is)) rest.1))
+          rw is (and_from _ _ parts.0 (and_from _ _ (h (tree_of value below) (rw is)) rest.1))
       by_name false is later =
           let parts = and_parts (below_all name_cmp n (children after)) _ up in
           let rest = and_parts (is_ordered below) _ parts.1 in
-          rw is (both_true _ _ (below_all-update_child n after name f ∙ parts.0) (both_true _ _ rest.0 (later rest.1 (λ sub e. h sub (rw is e)))))
+          rw is (and_from _ _ (below_all-update_child n after name f ∙ parts.0) (and_from _ _ rest.0 (later rest.1 (λ sub e. h sub (rw is e)))))
 
   -- another value at a path keeps every name
   pub is_ordered-put_value : (t : Tree V) (path : Path) (v : V) → is_ordered t.branches ≡ true → is_ordered (put_value t path v).branches ≡ true

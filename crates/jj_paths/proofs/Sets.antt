@@ -3,10 +3,11 @@ use Rattle.std.proofs.Common.{◌≡◌, ◌≢◌, Option, Some, None, IsSome, 
 use mathlib.Core.Bool.{false≢true}
 use Rattle.std.specs.Str.{bytes_eq}
 use Rattle.std.specs.Option.{option_and_then, option_map}
+use Rattle.std.proofs.lemmas.Option.{none-some}
 use Rattle.std.proofs.lemmas.Slice.Eq.{bytes_eq-Decides}
 use Rattle.jj_paths.specs.Paths.{Name, Path, first_of, rest_of}
 use Rattle.jj_paths.specs.Tree.{Tree, tree_of, Branches, none, branch, IsChildEdited, update_child, put, put_value, get, value_at, child, IsExtended, IsEdited, IsSet, is_ordered}
-use Rattle.jj_paths.proofs.Trees.{some_none}
+use Rattle.jj_paths.proofs.Trees.{}
 use Rattle.jj_paths.proofs.Grown.{child-update_same, child-update_other, extended-step, extended-same, there-step}
 use Rattle.jj_paths.proofs.Ordered.{is_ordered-put_value}
 
@@ -32,7 +33,7 @@ module _ {V : Type 0} where
   through t name rest n e = known (child t.branches name) refl e
     where
       known : (o : Option (Tree V)) → child t.branches name ≡ o → below o rest ≡ Some n → Through t name rest n
-      known None is f = absurd (some_none f)
+      known None is f = absurd (none-some _ f)
       known (Some s) is f = record { sub = s; is_child = is; is_below = f }
 
   -- at or below the path the tree is what was put there

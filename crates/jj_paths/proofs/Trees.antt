@@ -11,9 +11,6 @@ use Rattle.jj_paths.specs.Tree.{Tree, branches_of, children, has_branches, child
 use Rattle.jj_paths.proofs.PathOrders.{name_cmp-itself}
 use Rattle.jj_paths.proofs.Places.{below_all-at}
 
-pub some_none : {X : Type 0} {x : X} → None ≡ Some x → ⊥
-some_none e = cc
-
 -- names that compare unequal differ
 pub not_same : (x y name : Name) → name_cmp x y ≡ Less → y ≡ name → bytes_eq x name ≡ false
 not_same x y name less e = by_cases (bytes_eq x name) refl

@@ -2,6 +2,7 @@ use Rattle.std.proofs.Common.{◌≡◌, [], ◌∷◌, ◌∙◌, sym, ap, subs
 use Rattle.std.specs.List.{find}
 use Rattle.std.specs.Str.{bytes_eq, is_utf8}
 use Rattle.std.specs.Path.{path_names}
+use Rattle.std.proofs.lemmas.Bool.{false_from_ne_true}
 use Rattle.std.proofs.lemmas.Str.{IsUtf8-from_is_utf8, is_utf8-from_IsUtf8}
 use Rattle.jj_paths.specs.NamesLeft.{names_left}
 use Rattle.jj_paths.specs.RelativePaths.{is_refused, IsParseError}
@@ -10,14 +11,10 @@ use Rattle.jj_paths.proofs.FsNames.{name-refused, names-valid}
 use Rattle.jj_paths.proofs.Longer.{extended_text}
 use Rattle.jj_paths.proofs.repo_path.from_relative.joined_names.Goals as goal
 
-false_or : (b : Bool) → (b ≡ true → ⊥) → b ≡ false
-false_or true f = absurd (f refl)
-false_or false f = refl
-
 pub returns-in_default-clause-refused : goal.returns-in_default-clause-refused
 returns-in_default-clause-refused c =
     let name = c.in-Some.name.now in
-    let utf8 : is_utf8 name ≡ false = false_or (is_utf8 name) (λ h. c.in_default.ensures.cases.0 (IsUtf8-from_is_utf8 name h)) in
+    let utf8 : is_utf8 name ≡ false = false_from_ne_true (is_utf8 name) (λ h. c.in_default.ensures.cases.0 (IsUtf8-from_is_utf8 name h)) in
     let is = name-refused c.loop-name.name-iterator.rest.now name _ c.in-Some.ensures.steps (c.if-eq.ensures ∙ ap (bytes_eq name) c.as_slice.ensures) in
     let refused : is_refused name ≡ true = is ∙ ap not utf8 in
     let first : find is_refused (name ∷ names_left c.next.new.self) ≡ Some name = rw refused refl in

@@ -1,6 +1,0 @@
--- A fact of an answer that is `Ok`, weakened.
-use Rattle.std.proofs.Common.{Result, Ok, Err, OnOk}
-
-pub on_ok : {T E P Q : Type 0} (r : Result T E) → (P → Q) → OnOk r P → OnOk r Q
-on_ok (Ok x) f p = f p
-on_ok (Err e) f p = p
