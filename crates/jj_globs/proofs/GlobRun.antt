@@ -1,13 +1,61 @@
 -- A run over bytes with the live places: what a step leads on to.
 use Rattle.std.proofs.lemmas.Bool.Decides.{eqb_tells}
-use Rattle.std.proofs.lemmas.Option.{slice_get-get_or}
-use Rattle.std.proofs.Common.{◌≡◌, ◌≢◌, ◌<◌, length, get_or, arith, ◌==◌, ◌↔◌, ◌⊎◌, ◌∙◌, ◌+◌, ◌||◌, ◌&&◌, Bool, true, false, ℕ, List, [], ◌∷◌, IsTrue, ap, sym, subst, refl, inl, inr}
+use Rattle.std.proofs.lemmas.Bool.{eqb-true}
+use Rattle.std.specs.Prelude.{slice_get, Some}
+use Rattle.std.proofs.Common.{◌≡◌, ◌≢◌, ◌≤◌, length, arith, ◌==◌, ◌↔◌, ◌⊎◌, ◌∙◌, ◌+◌, ◌||◌, ◌&&◌, Bool, true, false, ℕ, List, [], ◌∷◌, IsTrue, ap, sym, subst, refl, inl, inr}
 use Rattle.jj_globs.specs.declared.glob.step.Step.{Step}
-use Rattle.jj_globs.specs.declared.glob.step.Step.TheVariants.{Star, Everything}
+use Rattle.jj_globs.specs.declared.glob.step.Step.TheVariants.{Byte, AnyByte, OneOf, Star, Everything, Fork, Jump}
 use Rattle.jj_globs.specs.declared.glob.token.Options.{Options}
-use Rattle.jj_globs.specs.GlobMeaning.{is_plain}
-use Rattle.jj_globs.specs.GlobPlain.{Test, many}
-use Rattle.jj_globs.specs.GlobPlaces.{IsLive, AnyLive, by_step, end_test, StaysInside, further_of}
+use Rattle.jj_globs.specs.GlobMeaning.{is_plain, same_byte}
+use Rattle.jj_globs.specs.GlobPlain.{Test, one, many, any_byte}
+use Rattle.jj_globs.specs.GlobPlaces.{IsLive, AnyLive, AnyAfter, AnyAhead, by_step, StaysInside, further_of, takes_byte}
+use Rattle.jj_globs.proofs.GlobSolved.{many_same}
+
+-- 1. What rows accept, one change after another.
+
+-- first what S says is accepted as well, and then what T says
+pub both_led : (A B C S T V : Type 0) → (B ↔ (S ⊎ A)) → (C ↔ (T ⊎ B)) → (V ↔ (S ⊎ T)) → C ↔ (V ⊎ A)
+both_led A B C S T V one two is = (
+  (λ c. elim (two.0 c) [
+    | inl t ↦ inl (is.1 (inr t))
+    | inr b ↦ elim (one.0 b) [ inl s ↦ inl (is.1 (inl s)) | inr a ↦ inr a ]
+  ]),
+  (λ h. elim h [
+    | inl v ↦ elim (is.0 v) [ inl s ↦ two.1 (inr (one.1 (inl s))) | inr t ↦ two.1 (inl t) ]
+    | inr a ↦ two.1 (inr (one.1 (inr a)))
+  ]),
+)
+
+-- a place that accepts the same
+pub led_as : (A B : Type 0) (u v : Bool) → v ≡ u → (B ↔ (IsTrue u ⊎ A)) → B ↔ (IsTrue v ⊎ A)
+led_as A B u v e led = subst (λ x. B ↔ (IsTrue x ⊎ A)) (sym e) led
+
+-- a place that accepts nothing
+pub led_nowhere : (A : Type 0) (v : Bool) → v ≡ false → A ↔ (IsTrue v ⊎ A)
+led_nowhere A v e = ((λ a. inr a), (λ h. elim h [ inl t ↦ (let no : false ≡ true = sym e ∙ t in cc) | inr a ↦ a ]))
+
+-- of what V says, S is accepted already, and T is left
+pub fork_led : (A B S T V X : Type 0) → (B ↔ (S ⊎ A)) → (V ↔ (S ⊎ T)) → ((V ⊎ A) ↔ X) → (T ⊎ B) ↔ X
+fork_led A B S T V X one is known = (
+  (λ h. elim h [
+    | inl t ↦ known.0 (inl (is.1 (inr t)))
+    | inr b ↦ elim (one.0 b) [ inl s ↦ known.0 (inl (is.1 (inl s))) | inr a ↦ known.0 (inr a) ]
+  ]),
+  (λ x. elim (known.1 x) [
+    | inl v ↦ elim (is.0 v) [ inl s ↦ inr (one.1 (inl s)) | inr t ↦ inl t ]
+    | inr a ↦ inr (one.1 (inr a))
+  ]),
+)
+
+-- what was accepted with a place that is taken out is accepted again
+pub led_again : (A B C X T : Type 0) → (A ↔ (T ⊎ B)) → (C ↔ (T ⊎ B)) → (A ↔ X) → C ↔ X
+led_again A B C X T out in_again known = ((λ c. known.0 (out.1 (in_again.0 c))), (λ x. in_again.1 (out.0 (known.1 x))))
+
+pub or_is : (a m : Bool) → IsTrue (a || m) ↔ (IsTrue a ⊎ IsTrue m)
+or_is true m = ((λ h. inl refl), (λ h. refl))
+or_is false m = ((λ h. inr h), (λ h. elim h [ inl e ↦ cc | inr t ↦ t ]))
+
+-- 2. One place more or less.
 
 -- one more place is live
 any_put : (P : ℕ → Test) (old new bs : List ℕ) (p : ℕ) → ((j : ℕ) → IsLive new j ↔ (IsLive old j ⊎ (j ≡ p)))
@@ -17,134 +65,195 @@ any_put P old new bs p live = (
   (λ h. elim h [ inl a ↦ (a.0, (live a.0).1 (inl a.1), a.2) | inr t ↦ (p, (live p).1 (inr refl), t) ]),
 )
 
-pub two_puts : (P : ℕ → Test) (now now' next next' : List ℕ) (q r : ℕ) (bs rest : List ℕ) (v : Bool)
-    → ((j : ℕ) → IsLive now' j ↔ (IsLive now j ⊎ (j ≡ q))) → ((j : ℕ) → IsLive next' j ↔ (IsLive next j ⊎ (j ≡ r)))
-    → (IsTrue v ↔ (IsTrue (P q bs) ⊎ IsTrue (P r rest)))
-    → (AnyLive P now' bs ⊎ AnyLive P next' rest) ↔ (IsTrue v ⊎ (AnyLive P now bs ⊎ AnyLive P next rest))
-two_puts P now now' next next' q r bs rest v live live' is =
-    let one = any_put P now now' bs q live in
-    let two = any_put P next next' rest r live' in (
+pub put_now : (P : ℕ → Test) (now now' next bs : List ℕ) (p : ℕ) → ((j : ℕ) → IsLive now' j ↔ (IsLive now j ⊎ (j ≡ p)))
+    → AnyAhead P now' next bs ↔ (IsTrue (P p bs) ⊎ AnyAhead P now next bs)
+put_now P now now' next bs p live =
+    let more = any_put P now now' bs p live in (
       (λ h. elim h [
-        | inl a ↦ elim (one.0 a) [ inl b ↦ inr (inl b) | inr t ↦ inl (is.1 (inl t)) ]
-        | inr a ↦ elim (two.0 a) [ inl b ↦ inr (inr b) | inr t ↦ inl (is.1 (inr t)) ]
+        | inl a ↦ elim (more.0 a) [ inl b ↦ inr (inl b) | inr t ↦ inl t ]
+        | inr a ↦ inr (inr a)
       ]),
       (λ h. elim h [
-        | inl t ↦ elim (is.0 t) [ inl x ↦ inl (one.1 (inr x)) | inr x ↦ inr (two.1 (inr x)) ]
-        | inr g ↦ elim g [ inl b ↦ inl (one.1 (inl b)) | inr b ↦ inr (two.1 (inl b)) ]
+        | inl t ↦ inl (more.1 (inr t))
+        | inr g ↦ elim g [ inl b ↦ inl (more.1 (inl b)) | inr b ↦ inr b ]
       ]),
     )
 
-or_is : (a m : Bool) → IsTrue (a || m) ↔ (IsTrue a ⊎ IsTrue m)
-or_is true m = ((λ h. inl refl), (λ h. refl))
-or_is false m = ((λ h. inr h), (λ h. elim h [ inl e ↦ cc | inr t ↦ t ]))
+pub put_next : (P : ℕ → Test) (now next next' bs : List ℕ) (q b : ℕ) (rest : List ℕ) → bs ≡ b ∷ rest
+    → ((j : ℕ) → IsLive next' j ↔ (IsLive next j ⊎ (j ≡ q)))
+    → AnyAhead P now next' bs ↔ (IsTrue (P q rest) ⊎ AnyAhead P now next bs)
+put_next P now next next' bs q b rest e live =
+    let more = any_put P next next' rest q live in
+    subst (λ (x : List ℕ). AnyAhead P now next' x ↔ (IsTrue (P q rest) ⊎ AnyAhead P now next x)) (sym e) (
+      (λ h. elim h [
+        | inl a ↦ inr (inl a)
+        | inr a ↦ elim (more.0 a) [ inl b ↦ inr (inr b) | inr t ↦ inl t ]
+      ]),
+      (λ h. elim h [
+        | inl t ↦ inr (more.1 (inr t))
+        | inr g ↦ elim g [ inl b ↦ inl b | inr b ↦ inr (more.1 (inl b)) ]
+      ]),
+    )
 
-pub star_value : (o : Options) (P : ℕ → Test) (s : Step) (k b : ℕ) (rest : List ℕ) → s ≡ Star → is_plain o b ≡ true → ((bs : List ℕ) → P k bs ≡ by_step o P s k bs)
-    → IsTrue (by_step o P s k (b ∷ rest)) ↔ (IsTrue (P (k + 1) (b ∷ rest)) ⊎ IsTrue (P k rest))
-star_value o P s k b rest e plain tells =
-    let value : by_step o P s k (b ∷ rest) ≡ (P (k + 1) (b ∷ rest) || P k rest) =
-    ap (λ (x : Step). by_step o P x k (b ∷ rest)) e ∙ ap (λ v. P (k + 1) (b ∷ rest) || (v && many (is_plain o) (P (k + 1)) rest)) plain
-    ∙ ap (λ v. P (k + 1) (b ∷ rest) || v) (sym (tells rest ∙ ap (λ (x : Step). by_step o P x k rest) e)) in
-    rw value (or_is (P (k + 1) (b ∷ rest)) (P k rest))
-
-pub everything_value : (o : Options) (P : ℕ → Test) (s : Step) (k b : ℕ) (rest : List ℕ) → s ≡ Everything → ((bs : List ℕ) → P k bs ≡ by_step o P s k bs)
-    → IsTrue (by_step o P s k (b ∷ rest)) ↔ (IsTrue (P (k + 1) (b ∷ rest)) ⊎ IsTrue (P k rest))
-everything_value o P s k b rest e tells =
-    let value : by_step o P s k (b ∷ rest) ≡ (P (k + 1) (b ∷ rest) || P k rest) =
-    ap (λ (x : Step). by_step o P x k (b ∷ rest)) e
-    ∙ ap (λ v. P (k + 1) (b ∷ rest) || v) (sym (tells rest ∙ ap (λ (x : Step). by_step o P x k rest) e)) in
-    rw value (or_is (P (k + 1) (b ∷ rest)) (P k rest))
+-- the same places are live
+pub any_same : (P : ℕ → Test) (old new bs : List ℕ) → ((j : ℕ) → IsLive new j ↔ IsLive old j) → AnyLive P new bs ↔ AnyLive P old bs
+any_same P old new bs same = ((λ a. (a.0, (same a.0).0 a.1, a.2)), (λ a. (a.0, (same a.0).1 a.1, a.2)))
 
 -- one live place is taken out
-any_take : (P : ℕ → Test) (old new bs : List ℕ) (p : ℕ) → IsLive old p → ((j : ℕ) → IsLive new j ↔ (IsLive old j × (j ≢ p)))
+pub any_take : (P : ℕ → Test) (old new bs : List ℕ) (p : ℕ) → IsLive old p → ((j : ℕ) → IsLive new j ↔ (IsLive old j × (j ≢ p)))
     → AnyLive P old bs ↔ (IsTrue (P p bs) ⊎ AnyLive P new bs)
 any_take P old new bs p live taken = (
   (λ a. elim (eqb_tells a.0 p) [ inl w ↦ inl (subst (λ (j : ℕ). IsTrue (P j bs)) w.1 a.2) | inr w ↦ inr (a.0, (taken a.0).1 (a.1, w.1), a.2) ]),
   (λ h. elim h [ inl t ↦ (p, live, t) | inr a ↦ (a.0, ((taken a.0).0 a.1).0, a.2) ]),
 )
 
-pub step_same : (P : ℕ → Test) (now taken next now' next' bs rest : List ℕ) (p : ℕ) (v : Bool) (X : Type 0)
-    → IsLive now p → ((j : ℕ) → IsLive taken j ↔ (IsLive now j × (j ≢ p))) → P p bs ≡ v
-    → ((AnyLive P now' bs ⊎ AnyLive P next' rest) ↔ (IsTrue v ⊎ (AnyLive P taken bs ⊎ AnyLive P next rest)))
-    → ((AnyLive P now bs ⊎ AnyLive P next rest) ↔ X)
-    → (AnyLive P now' bs ⊎ AnyLive P next' rest) ↔ X
-step_same P now taken next now' next' bs rest p v X live out is led known =
-    let one = any_take P now taken bs p live out in (
-      (λ h. elim (led.0 h) [
-        | inl t ↦ known.0 (inl (one.1 (inl (subst IsTrue (sym is) t))))
-        | inr g ↦ elim g [ inl a ↦ known.0 (inl (one.1 (inr a))) | inr a ↦ known.0 (inr a) ]
+pub take_now : (P : ℕ → Test) (now taken next bs : List ℕ) (p : ℕ) → IsLive now p → ((j : ℕ) → IsLive taken j ↔ (IsLive now j × (j ≢ p)))
+    → AnyAhead P now next bs ↔ (IsTrue (P p bs) ⊎ AnyAhead P taken next bs)
+take_now P now taken next bs p live out =
+    let less = any_take P now taken bs p live out in (
+      (λ h. elim h [
+        | inl a ↦ elim (less.0 a) [ inl t ↦ inl t | inr b ↦ inr (inl b) ]
+        | inr a ↦ inr (inr a)
       ]),
-      (λ x. elim (known.1 x) [
-        | inl a ↦ elim (one.0 a) [ inl t ↦ led.1 (inl (subst IsTrue is t)) | inr b ↦ led.1 (inr (inl b)) ]
-        | inr b ↦ led.1 (inr (inr b))
+      (λ h. elim h [
+        | inl t ↦ inl (less.1 (inl t))
+        | inr g ↦ elim g [ inl b ↦ inl (less.1 (inr b)) | inr b ↦ inr b ]
       ]),
     )
 
--- a place that accepts nothing here is let go
-pub gone_same : (P : ℕ → Test) (now taken next bs rest : List ℕ) (p : ℕ) (X : Type 0)
-    → IsLive now p → ((j : ℕ) → IsLive taken j ↔ (IsLive now j × (j ≢ p))) → P p bs ≡ false
-    → ((AnyLive P now bs ⊎ AnyLive P next rest) ↔ X) → (AnyLive P taken bs ⊎ AnyLive P next rest) ↔ X
-gone_same P now taken next bs rest p X live out is known =
-    let one = any_take P now taken bs p live out in (
-      (λ h. elim h [ inl a ↦ known.0 (inl (one.1 (inr a))) | inr a ↦ known.0 (inr a) ]),
-      (λ x. elim (known.1 x) [
-        | inl a ↦ elim (one.0 a) [ inl t ↦ (let no : false ≡ true = sym is ∙ t in cc) | inr b ↦ inl b ]
-        | inr b ↦ inr b
-      ]),
+-- 3. What steps accept.
+
+pub star_value : (o : Options) (P : ℕ → Test) (s : Step) (k b : ℕ) (rest bs : List ℕ) → s ≡ Star → bs ≡ b ∷ rest → is_plain o b ≡ true
+    → ((xs : List ℕ) → P k xs ≡ by_step o P s k xs) → IsTrue (P k bs) ↔ (IsTrue (P (k + 1) bs) ⊎ IsTrue (P k rest))
+star_value o P s k b rest bs e split plain tells =
+    let star : (xs : List ℕ) → P k xs ≡ many (is_plain o) (P (k + 1)) xs = λ xs. tells xs ∙ ap (λ (x : Step). by_step o P x k xs) e in
+    let value : P k (b ∷ rest) ≡ (P (k + 1) (b ∷ rest) || P k rest) =
+    star (b ∷ rest) ∙ ap (λ v. P (k + 1) (b ∷ rest) || (v && many (is_plain o) (P (k + 1)) rest)) plain
+    ∙ ap (λ v. P (k + 1) (b ∷ rest) || v) (sym (star rest)) in
+    subst (λ (x : List ℕ). IsTrue (P k x) ↔ (IsTrue (P (k + 1) x) ⊎ IsTrue (P k rest))) (sym split)
+    (subst (λ v. IsTrue v ↔ (IsTrue (P (k + 1) (b ∷ rest)) ⊎ IsTrue (P k rest))) (sym value) (or_is (P (k + 1) (b ∷ rest)) (P k rest)))
+
+-- a star that stands for no more bytes
+pub star_ends : (o : Options) (P : ℕ → Test) (s : Step) (k b : ℕ) (rest bs : List ℕ) → s ≡ Star → bs ≡ b ∷ rest → is_plain o b ≡ false
+    → ((xs : List ℕ) → P k xs ≡ by_step o P s k xs) → P k bs ≡ P (k + 1) bs
+star_ends o P s k b rest bs e split plain tells =
+    ap (P k) split ∙ tells (b ∷ rest) ∙ ap (λ (x : Step). by_step o P x k (b ∷ rest)) e
+    ∙ ap (λ v. P (k + 1) (b ∷ rest) || (v && many (is_plain o) (P (k + 1)) rest)) plain
+    ∙ or_false (P (k + 1) (b ∷ rest)) ∙ ap (P (k + 1)) (sym split)
+  where
+    or_false : (v : Bool) → (v || false) ≡ v
+    or_false true = refl
+    or_false false = refl
+
+-- one of any bytes, at their end
+pub any_at_end : (o : Options) (P : ℕ → Test) (s : Step) (k : ℕ) (bs : List ℕ) → (s ≡ Star) ⊎ (s ≡ Everything) → bs ≡ []
+    → ((xs : List ℕ) → P k xs ≡ by_step o P s k xs) → P k bs ≡ P (k + 1) bs
+any_at_end o P s k bs which split tells =
+    ap (P k) split ∙ tells [] ∙ elim which [
+      | inl e ↦ ap (λ (x : Step). by_step o P x k []) e
+      | inr e ↦ ap (λ (x : Step). by_step o P x k []) e
+    ] ∙ ap (P (k + 1)) (sym split)
+
+pub everything_value : (o : Options) (P : ℕ → Test) (s : Step) (k b : ℕ) (rest bs : List ℕ) → s ≡ Everything → bs ≡ b ∷ rest
+    → ((xs : List ℕ) → P k xs ≡ by_step o P s k xs) → IsTrue (P k bs) ↔ (IsTrue (P (k + 1) bs) ⊎ IsTrue (P k rest))
+everything_value o P s k b rest bs e split tells =
+    let any : (xs : List ℕ) → P k xs ≡ many any_byte (P (k + 1)) xs = λ xs. tells xs ∙ ap (λ (x : Step). by_step o P x k xs) e in
+    let value : P k (b ∷ rest) ≡ (P (k + 1) (b ∷ rest) || P k rest) =
+    any (b ∷ rest) ∙ ap (λ v. P (k + 1) (b ∷ rest) || v) (sym (any rest)) in
+    subst (λ (x : List ℕ). IsTrue (P k x) ↔ (IsTrue (P (k + 1) x) ⊎ IsTrue (P k rest))) (sym split)
+    (subst (λ v. IsTrue v ↔ (IsTrue (P (k + 1) (b ∷ rest)) ⊎ IsTrue (P k rest))) (sym value) (or_is (P (k + 1) (b ∷ rest)) (P k rest)))
+
+pub fork_value : (o : Options) (P : ℕ → Test) (k n : ℕ) (bs : List ℕ) → P k bs ≡ by_step o P (Fork n) k bs
+    → IsTrue (P k bs) ↔ (IsTrue (P (k + 1) bs) ⊎ IsTrue (P (k + 1 + n) bs))
+fork_value o P k n bs tells =
+    subst (λ v. IsTrue v ↔ (IsTrue (P (k + 1) bs) ⊎ IsTrue (P (k + 1 + n) bs))) (sym tells) (or_is (P (k + 1) bs) (P (k + 1 + n) bs))
+
+-- a step that is none of these takes a byte
+pub is_byte_step : (s : Step) → (s ≡ Star → ⊥) → (s ≡ Everything → ⊥) → ((n : ℕ) → s ≡ Fork n → ⊥) → ((n : ℕ) → s ≡ Jump n → ⊥) → takes_byte s ≡ true
+is_byte_step (Byte c) h i j k = refl
+is_byte_step AnyByte h i j k = refl
+is_byte_step (OneOf set) h i j k = refl
+is_byte_step Star h i j k = absurd (h refl)
+is_byte_step Everything h i j k = absurd (i refl)
+is_byte_step (Fork n) h i j k = absurd (j n refl)
+is_byte_step (Jump n) h i j k = absurd (k n refl)
+
+-- bytes that a lone place of any bytes passes over
+pub passed_over : (o : Options) (P : ℕ → Test) (k own : ℕ) (bs rest : List ℕ)
+    → ((xs : List ℕ) → P k xs ≡ by_step o P Everything k xs) → ((xs : List ℕ) → P (k + 1) xs ≡ by_step o P (Byte own) (k + 1) xs)
+    → ((t : Test) → many any_byte (one (same_byte o own) t) bs ≡ many any_byte (one (same_byte o own) t) rest) → P k bs ≡ P k rest
+passed_over o P k own bs rest tells behind same =
+    let any : (xs : List ℕ) → P k xs ≡ many any_byte (one (same_byte o own) (P (k + 1 + 1))) xs =
+    λ xs. tells xs ∙ many_same any_byte (P (k + 1)) (one (same_byte o own) (P (k + 1 + 1))) behind xs in
+    any bs ∙ same (P (k + 1 + 1)) ∙ sym (any rest)
+
+-- 4. One byte further on.
+
+-- a place that was put alone
+pub started : (P : ℕ → Test) (old new bs : List ℕ) (p : ℕ) → ((j : ℕ) → IsLive old j → ⊥) → ((j : ℕ) → IsLive new j ↔ (IsLive old j ⊎ (j ≡ p)))
+    → AnyLive P new bs ↔ IsTrue (P p bs)
+started P old new bs p none live =
+    let more = any_put P old new bs p live in (
+      (λ a. elim (more.0 a) [ inl b ↦ absurd (none b.0 b.1) | inr t ↦ t ]),
+      (λ t. more.1 (inr t)),
     )
 
-pub at_the_end : (P : ℕ → Test) (p n b : ℕ) (below : Bool) (rest : List ℕ) → p ≡ n → ((bs : List ℕ) → P n bs ≡ end_test below bs) → P p (b ∷ rest) ≡ (below && (b == 47))
-at_the_end P p n b below rest e tells = ap (λ (k : ℕ). P k (b ∷ rest)) e ∙ tells (b ∷ rest)
+none_after : (P : ℕ → Test) (next bs : List ℕ) → ((j : ℕ) → IsLive next j → ⊥) → AnyAfter P next bs → ⊥
+none_after P next [] none h = h
+none_after P next (b ∷ bs) none h = none h.0 h.1
 
-pub refused : (b : ℕ) (below : Bool) → ((below ≡ true) × (b ≡ 47 → ⊥)) ⊎ (below ≡ false) → (below && (b == 47)) ≡ false
-refused b below h =
-    elim h [
-      | inl w ↦ ap (λ x. x && (b == 47)) w.0 ∙ elim (eqb_tells b 47) [ inl v ↦ absurd (w.1 v.1) | inr v ↦ v.0 ]
-      | inr e ↦ ap (λ x. x && (b == 47)) e
-    ]
+pub accepted : (P : ℕ → Test) (now next bs : List ℕ) (X : Type 0) → ((j : ℕ) → IsLive next j → ⊥)
+    → AnyAhead P now next bs → (AnyLive P now bs ↔ X) → X
+accepted P now next bs X none h known = elim h [ inl a ↦ known.0 a | inr b ↦ absurd (none_after P next bs none b) ]
 
-pub end_step_same : (P : ℕ → Test) (now taken now' bs : List ℕ) (p : ℕ) (v : Bool) (X : Type 0)
-    → IsLive now p → ((j : ℕ) → IsLive taken j ↔ (IsLive now j × (j ≢ p))) → P p bs ≡ v
-    → (AnyLive P now' bs ↔ (IsTrue v ⊎ AnyLive P taken bs)) → (AnyLive P now bs ↔ X) → AnyLive P now' bs ↔ X
-end_step_same P now taken now' bs p v X live out is led known =
-    let one = any_take P now taken bs p live out in (
-      (λ h. known.0 (one.1 (elim (led.0 h) [ inl t ↦ inl (subst IsTrue (sym is) t) | inr a ↦ inr a ]))),
-      (λ x. led.1 (elim (one.0 (known.1 x)) [ inl t ↦ inl (subst IsTrue is t) | inr a ↦ inr a ])),
+pub moved : (P : ℕ → Test) (now next next' bs : List ℕ) (b : ℕ) (rest : List ℕ) (X : Type 0) → bs ≡ b ∷ rest → ((j : ℕ) → IsLive next j → ⊥)
+    → (AnyAfter P next' bs ↔ AnyAhead P now next bs) → (AnyLive P now bs ↔ X) → AnyLive P next' rest ↔ X
+moved P now next next' bs b rest X e none step known =
+    let led = subst (λ (x : List ℕ). AnyAfter P next' x ↔ AnyAhead P now next bs) e step in (
+      (λ a. accepted P now next bs X none (led.0 a) known),
+      (λ x. led.1 (inl (known.1 x))),
     )
 
--- the first place alone is live
-pub started : (P : ℕ → Test) (old new bs : List ℕ) → ((j : ℕ) → IsLive old j → ⊥) → ((j : ℕ) → IsLive new j ↔ (IsLive old j ⊎ (j ≡ 0)))
-    → AnyLive P new bs ↔ IsTrue (P 0 bs)
-started P old new bs none live =
-    let one = any_put P old new bs 0 live in (
-      (λ a. elim (one.0 a) [ inl b ↦ absurd (none b.0 b.1) | inr t ↦ t ]),
-      (λ t. one.1 (inr t)),
-    )
+-- where no byte is left
+pub ended : (P : ℕ → Test) (now next next' bs : List ℕ) (X : Type 0) → bs ≡ []
+    → (AnyAfter P next' bs ↔ AnyAhead P now next bs) → (AnyLive P now bs ↔ X) → X → ⊥
+ended P now next next' bs X e step known x =
+    let led = subst (λ (y : List ℕ). AnyAfter P next' y ↔ AnyAhead P now next bs) e step in led.1 (inl (known.1 x))
 
--- one byte further on
-pub moved : (P : ℕ → Test) (now next next' bs rest : List ℕ) (X : Type 0) → ((j : ℕ) → IsLive next j → ⊥)
-    → (AnyLive P next' rest ↔ (AnyLive P now bs ⊎ AnyLive P next rest)) → (AnyLive P now bs ↔ X) → AnyLive P next' rest ↔ X
-moved P now next next' bs rest X none step known = (
-  (λ a. elim (step.0 a) [ inl b ↦ known.0 b | inr b ↦ absurd (none b.0 b.1) ]),
-  (λ x. step.1 (inl (known.1 x))),
+-- a place that was taken out and put back
+pub put_back : (now taken new : List ℕ) (p : ℕ) → IsLive now p → ((j : ℕ) → IsLive taken j ↔ (IsLive now j × (j ≢ p)))
+    → ((j : ℕ) → IsLive new j ↔ (IsLive taken j ⊎ (j ≡ p))) → (j : ℕ) → IsLive new j ↔ IsLive now j
+put_back now taken new p live out back j = (
+  (λ h. elim ((back j).0 h) [ inl l ↦ ((out j).0 l).0 | inr e ↦ subst (IsLive now) (sym e) live ]),
+  (λ h. elim (eqb_tells j p) [ inl w ↦ (back j).1 (inr w.1) | inr w ↦ (back j).1 (inl ((out j).1 (h, w.1))) ]),
 )
 
-pub accepted : (P : ℕ → Test) (now next bs rest : List ℕ) (X : Type 0) → ((j : ℕ) → IsLive next j → ⊥)
-    → (AnyLive P now bs ⊎ AnyLive P next rest) → (AnyLive P now bs ↔ X) → X
-accepted P now next bs rest X none h known = elim h [ inl a ↦ known.0 a | inr b ↦ absurd (none b.0 b.1) ]
+-- a place that is live alone
+pub alone : (P : ℕ → Test) (now taken bs : List ℕ) (p : ℕ) → IsLive now p → ((j : ℕ) → IsLive taken j ↔ (IsLive now j × (j ≢ p)))
+    → ((j : ℕ) → IsLive taken j → ⊥) → AnyLive P now bs ↔ IsTrue (P p bs)
+alone P now taken bs p live out none =
+    let less = any_take P now taken bs p live out in (
+      (λ a. elim (less.0 a) [ inl t ↦ t | inr b ↦ absurd (none b.0 b.1) ]),
+      (λ t. less.1 (inl t)),
+    )
 
 pub no_bytes : (bs : List ℕ) → length bs ≡ 0 → bs ≡ []
 no_bytes [] e = refl
 no_bytes (b ∷ bs) e = absurd (omega (arith, e))
 
-pub inside_room : (steps : List Step) (k n : ℕ) (d : Step) → StaysInside steps → length steps < n → k < length steps → k + 1 + further_of (get_or steps k d) < n
-inside_room steps k n d inside size within =
-    let held = inside k (get_or steps k d) (slice_get-get_or steps k d within) in omega (arith, held)
-
--- nothing is live, so nothing is accepted
-pub dead : (P : ℕ → Test) (now bs : List ℕ) (X : Type 0) → ((j : ℕ) → IsLive now j → ⊥) → (AnyLive P now bs ↔ X) → X → ⊥
-dead P now bs X none known x = let a = known.1 x in none a.0 a.1
-
 pub same_bool : (a b : Bool) → (IsTrue a ↔ IsTrue b) → a ≡ b
 same_bool true b h = sym (h.0 refl)
 same_bool false true h = h.1 refl
 same_bool false false h = refl
+
+-- some byte is left
+pub some_bytes : (bs : List ℕ) → (length bs == 0) ≡ false → (b : ℕ) × (rest : List ℕ) × (bs ≡ b ∷ rest)
+some_bytes [] e = cc
+some_bytes (b ∷ bs) e = (b, bs, refl)
+
+pub none_left : (bs : List ℕ) → (length bs == 0) ≡ true → bs ≡ []
+none_left bs e = no_bytes bs (eqb-true (length bs) 0 e)
+
+-- a step leads no further than the end
+pub leads_inside : (steps : List Step) (k : ℕ) (s t : Step) → StaysInside steps → slice_get steps k ≡ Some s → s ≡ t → k + 1 + further_of t ≤ length steps
+leads_inside steps k s t inside at e = subst (λ (x : Step). k + 1 + further_of x ≤ length steps) e (inside k s at)

@@ -47,7 +47,7 @@ at_end : (o : Options) (below : Bool) (ss : List Step) (bs : List ℕ) → answe
 at_end o below [] bs = refl
 at_end o below (s ∷ ss) bs = later o below s ss (length (s ∷ ss)) (length ss) (omega arith) bs ∙ at_end o below ss bs
 
-at_step : (o : Options) (below : Bool) (ss : List Step) (k : ℕ) (s : Step) → slice_get ss k ≡ Some s → (bs : List ℕ) → answers o below ss k bs ≡ by_step o (answers o below ss) s k bs
+pub at_step : (o : Options) (below : Bool) (ss : List Step) (k : ℕ) (s : Step) → slice_get ss k ≡ Some s → (bs : List ℕ) → answers o below ss k bs ≡ by_step o (answers o below ss) s k bs
 at_step o below [] k s e bs = cc
 at_step o below (x ∷ ss) zero s e bs =
     let same : x ≡ s = cc in at_first o below x ss bs ∙ ap (λ (y : Step). by_step o (answers o below (x ∷ ss)) y 0 bs) same

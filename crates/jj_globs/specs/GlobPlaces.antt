@@ -1,6 +1,6 @@
 -- The steps of a glob: what each place of them accepts, and places that are live, in bits.
 -- Machinery of private functions and fields.
-use Rattle.std.specs.Prelude.{◌≡◌, ◌↔◌, ℕ, zero, suc, ◌+◌, ◌*◌, ◌/◌, ◌%◌, ◌≤◌, Bool, true, not, ◌==◌, ◌&&◌, ◌||◌, if◌then◌else◌, List, [], ◌∷◌, length, get_or, slice_get, Some, IsTrue}
+use Rattle.std.specs.Prelude.{◌≡◌, ◌↔◌, ◌⊎◌, ℕ, zero, suc, ◌+◌, ◌*◌, ◌/◌, ◌%◌, ◌≤◌, Bool, true, false, not, ◌==◌, ◌&&◌, ◌||◌, if◌then◌else◌, List, [], ◌∷◌, length, get_or, slice_get, Some, IsTrue}
 use Rattle.std.specs.Int.{bit_at}
 use Rattle.jj_globs.specs.declared.glob.token.Options.{Options}
 use Rattle.jj_globs.specs.declared.glob.byte_set.ByteSet.{ByteSet}
@@ -74,6 +74,29 @@ pub record Solves (o : Options) (below : Bool) (steps : List Step) (P : ℕ → 
 -- a live place accepts the bytes
 abbrev pub AnyLive : (ℕ → Test) → List ℕ → List ℕ → Type 0
 AnyLive P words bs = (place : ℕ) × IsLive words place × IsTrue (P place bs)
+
+-- a place that is live after the first byte accepts what follows that byte
+abbrev pub AnyAfter : (ℕ → Test) → List ℕ → List ℕ → Type 0
+AnyAfter P next [] = ⊥
+AnyAfter P next (b ∷ bs) = AnyLive P next bs
+
+-- a place that is live before the bytes accepts them, or one that is live after the first byte what
+-- follows it
+abbrev pub AnyAhead : (ℕ → Test) → List ℕ → List ℕ → List ℕ → Type 0
+AnyAhead P now next bs = AnyLive P now bs ⊎ AnyAfter P next bs
+
+-- the new rows accept what the place does, and what the old ones did
+abbrev pub LeadsOn : Options → List Step → ℕ → List ℕ → List ℕ → List ℕ → List ℕ → List ℕ → Type 0
+LeadsOn o steps place bs now next now' next' = (below : Bool) (P : ℕ → Test)
+    → Solves o below steps P
+    → AnyAhead P now' next' bs ↔ (IsTrue (P place bs) ⊎ AnyAhead P now next bs)
+
+-- the step takes one byte
+abbrev pub takes_byte : Step → Bool
+takes_byte (Byte c) = true
+takes_byte AnyByte = true
+takes_byte (OneOf set) = true
+takes_byte s = false
 
 -- how far after the next place a step may lead
 abbrev pub further_of : Step → ℕ

@@ -1,69 +1,134 @@
 //! A match: the places that are live, led over the bytes one by one.
-ghost use Rattle.std.specs.Prelude.{true, false, [], ◌≡◌, ◌≢◌, ◌↔◌, ◌⊎◌, ℕ, ◌+◌, ◌*◌, ◌<◌, ◌≤◌, length, None, IfSome};
-ghost use Rattle.std.specs.Prelude.{◌∷◌, List, slice_get, Some, IsTrue};
-ghost use Rattle.std.specs.Int.{bit_at};
-ghost use Rattle.jj_globs.specs.GlobPlaces.{IsLive, AnyLive, Solves, StaysInside, answers, by_step, further_of};
-ghost use Rattle.jj_globs.specs.GlobPlain.{Test};
+ghost use Rattle.std.specs.Prelude.{◌≡◌, ◌↔◌, ◌⊎◌, ◌+◌, ◌*◌, ◌<◌, ◌≤◌, ℕ, Bool, true, false};
+ghost use Rattle.std.specs.Prelude.{length, slice_get, Some, IfSome, IsTrue};
+ghost use Rattle.jj_globs.specs.declared.glob.step.Step.{Step as StepValue};
+ghost use Rattle.jj_globs.specs.GlobMeaning.{same_byte};
+ghost use Rattle.jj_globs.specs.GlobPlain.{Test, one, many, any_byte};
+ghost use Rattle.jj_globs.specs.GlobPlaces.{IsLive, AnyLive, AnyAfter, AnyAhead, LeadsOn};
+ghost use Rattle.jj_globs.specs.GlobPlaces.{Solves, StaysInside, answers, end_test, takes_byte};
 
 use crate::glob::row::Row;
-use crate::glob::step::Step;
+use crate::glob::step::{Step, take_byte};
 use crate::glob::token::Options;
 
-// Makes live what the step of a place leads on to: at once in `now`, and after the byte in `next`.
-fn lead_on<const WORDS: usize, const GROUPS: usize>(
+// Makes a place live before the bytes that are left. A step of one byte is taken at once, so that a
+// place whose byte is another one is never live.
+fn enter<const WORDS: usize, const GROUPS: usize>(
     options: Options,
-    step: Step,
+    steps: &[Step],
     place: usize,
-    byte: u8,
+    left: &[u8],
     now: &mut Row<WORDS, GROUPS>,
     next: &mut Row<WORDS, GROUPS>,
 )
-    requires inside { place + 1 + further_of step < 64 * WORDS }
+    requires size { length steps.now < 64 * WORDS }
     requires limit { WORDS ≤ 16384 }
-    ensures same { (P : ℕ → Test) (rest : List ℕ)
-        → ((bs : List ℕ) → P place bs ≡ by_step options P step place bs)
-        → (AnyLive P now.new (byte ∷ rest) ⊎ AnyLive P next.new rest)
-        ↔ (IsTrue (by_step options P step place (byte ∷ rest))
-        ⊎ (AnyLive P now.old (byte ∷ rest) ⊎ AnyLive P next.old rest)) }
+    requires inside { place ≤ length steps.now }
+    ensures same { LeadsOn options steps.now place left.now now.old next.old now.new next.new }
     ensures above { (j : ℕ) → IsLive now.new j
-        → IsLive now.old j ⊎ ((place < j) × (j ≤ place + 1 + further_of step)) }
-    ensures within { (j : ℕ) → IsLive next.new j → IsLive next.old j ⊎ (j ≤ place + 1) }
+        → IsLive now.old j ⊎ ((j ≡ place) × ((s : StepValue) → slice_get steps.now place ≡ Some s
+        → takes_byte s ≡ false)) }
+    ensures within { (j : ℕ) → IsLive next.new j → IsLive next.old j ⊎ (j ≤ length steps.now) }
 {
-    match step {
-        Step::Byte(own) => if options.same_byte(own, byte) {
-            next.put(place + 1);
-        },
-        Step::AnyByte => if options.is_plain(byte) {
-            next.put(place + 1);
-        },
-        Step::OneOf(set) => if set.holds(byte) {
-            next.put(place + 1);
-        },
-        Step::Star => {
-            now.put(place + 1);
-            if options.is_plain(byte) {
-                next.put(place);
-            }
-        }
-        Step::Everything => {
-            now.put(place + 1);
-            next.put(place);
-        }
-        Step::Fork(further) => {
-            now.put(place + 1);
-            now.put(place + 1 + further);
-        }
-        Step::Jump(further) => now.put(place + 1 + further),
+    if place >= steps.len() {
+        now.put(place);
+        return;
+    }
+    match take_byte(options, &steps[place], left) {
+        None => now.put(place),
+        Some(None) => {}
+        Some(Some(_)) => next.put(place + 1),
     }
 }
 
-// Leads all live places over one byte: after it the places of `next` are live. Answers whether the
-// end was live and accepts.
+// Enters the places that a fork leads to. Where the first of them is a byte, no other place leads to
+// the second one: so a fork there is passed through at once.
+fn enter_forks<const WORDS: usize, const GROUPS: usize>(
+    options: Options,
+    steps: &[Step],
+    place: usize,
+    further: usize,
+    left: &[u8],
+    now: &mut Row<WORDS, GROUPS>,
+    next: &mut Row<WORDS, GROUPS>,
+)
+    requires size { length steps.now < 64 * WORDS }
+    requires limit { WORDS ≤ 16384 }
+    requires inside { StaysInside steps.now }
+    requires fork { slice_get steps.now place ≡ Some (Step.Fork further) }
+    ensures same { LeadsOn options steps.now place left.now now.old next.old now.new next.new }
+    ensures above { (j : ℕ) → IsLive now.new j
+        → IsLive now.old j ⊎ ((place < j) × (j ≤ length steps.now)) }
+    ensures within { (j : ℕ) → IsLive next.new j → IsLive next.old j ⊎ (j ≤ length steps.now) }
+{
+    let mut first = place + 1;
+    enter(options, steps, first, left, now, next);
+    let mut second = first + further;
+    while let Some(further) = fork_behind_byte(steps, first, second) {
+        first = second + 1;
+        enter(options, steps, first, left, now, next);
+        second = first + further;
+    }
+    enter(options, steps, second, left, now, next);
+}
+
+// How far the fork at `second` leads, where one is there and a byte at `first`.
+fn fork_behind_byte(steps: &[Step], first: usize, second: usize) -> Option<usize>
+    ensures { IfSome result (λ further. slice_get steps.now second ≡ Some (Step.Fork further)) }
+{
+    match (steps.get(first), steps.get(second)) {
+        (Some(Step::Byte(_)), Some(Step::Fork(further))) => Some(*further),
+        _ => None,
+    }
+}
+
+// Enters the places that the step of a live place leads to: at once in `now`, and after the first
+// byte that is left in `next`.
+fn lead_on<const WORDS: usize, const GROUPS: usize>(
+    options: Options,
+    steps: &[Step],
+    place: usize,
+    left: &[u8],
+    now: &mut Row<WORDS, GROUPS>,
+    next: &mut Row<WORDS, GROUPS>,
+)
+    requires size { length steps.now < 64 * WORDS }
+    requires limit { WORDS ≤ 16384 }
+    requires inside { StaysInside steps.now }
+    requires step { place < length steps.now }
+    ensures same { LeadsOn options steps.now place left.now now.old next.old now.new next.new }
+    ensures above { (j : ℕ) → IsLive now.new j
+        → IsLive now.old j ⊎ ((place < j) × (j ≤ length steps.now)) }
+    ensures within { (j : ℕ) → IsLive next.new j → IsLive next.old j ⊎ (j ≤ length steps.now) }
+{
+    match steps[place] {
+        Step::Star => {
+            enter(options, steps, place + 1, left, now, next);
+            if let Some((byte, _)) = left.split_first() {
+                if options.is_plain(*byte) {
+                    next.put(place);
+                }
+            }
+        }
+        Step::Everything => {
+            enter(options, steps, place + 1, left, now, next);
+            if !left.is_empty() {
+                next.put(place);
+            }
+        }
+        Step::Fork(further) => enter_forks(options, steps, place, further, left, now, next),
+        Step::Jump(further) => enter(options, steps, place + 1 + further, left, now, next),
+        _ => enter(options, steps, place, left, now, next),
+    }
+}
+
+// Leads all live places over the first byte that is left: after it the places of `next` are live.
+// Answers whether the end was live and accepts.
 fn pass<const WORDS: usize, const GROUPS: usize>(
     options: Options,
     below: bool,
     steps: &[Step],
-    byte: u8,
+    left: &[u8],
     now: &mut Row<WORDS, GROUPS>,
     next: &mut Row<WORDS, GROUPS>,
 ) -> bool
@@ -72,12 +137,10 @@ fn pass<const WORDS: usize, const GROUPS: usize>(
     requires inside { StaysInside steps.now }
     requires now_within { (j : ℕ) → IsLive now.old j → j ≤ length steps.now }
     requires next_within { (j : ℕ) → IsLive next.old j → j ≤ length steps.now }
-    ensures done { result ≡ true → (P : ℕ → Test) (rest : List ℕ)
-        → Solves options below steps.now P
-        → AnyLive P now.old (byte ∷ rest) ⊎ AnyLive P next.old rest }
-    ensures same { result ≡ false → (P : ℕ → Test) (rest : List ℕ)
-        → Solves options below steps.now P
-        → AnyLive P next.new rest ↔ (AnyLive P now.old (byte ∷ rest) ⊎ AnyLive P next.old rest) }
+    ensures done { result ≡ true → (P : ℕ → Test) → Solves options below steps.now P
+        → AnyAhead P now.old next.old left.now }
+    ensures same { result ≡ false → (P : ℕ → Test) → Solves options below steps.now P
+        → AnyAfter P next.new left.now ↔ AnyAhead P now.old next.old left.now }
     ensures empty { result ≡ false → (j : ℕ) → IsLive now.new j → ⊥ }
     ensures next_within { (j : ℕ) → IsLive next.new j → j ≤ length steps.now }
 {
@@ -85,65 +148,79 @@ fn pass<const WORDS: usize, const GROUPS: usize>(
     while let Some(place) = now.take(from) {
         from = place + 1;
         if place < steps.len() {
-            lead_on(options, steps[place], place, byte, now, next);
-        } else if below && byte == b'/' {
+            lead_on(options, steps, place, left, now, next);
+        } else if is_end(below, left) {
             return true;
         }
     }
     false
 }
 
-// Makes live what the step of a place leads on to where no bytes are left.
-fn lead_at_end<const WORDS: usize, const GROUPS: usize>(
-    options: Options,
-    step: Step,
-    place: usize,
-    now: &mut Row<WORDS, GROUPS>,
-)
-    requires inside { place + 1 + further_of step < 64 * WORDS }
-    requires limit { WORDS ≤ 16384 }
-    ensures same { (P : ℕ → Test)
-        → AnyLive P now.new [] ↔ (IsTrue (by_step options P step place []) ⊎ AnyLive P now.old []) }
-    ensures above { (j : ℕ) → IsLive now.new j
-        → IsLive now.old j ⊎ ((place < j) × (j ≤ place + 1 + further_of step)) }
+// Whether the end accepts what is left.
+fn is_end(below: bool, left: &[u8]) -> bool
+    ensures { result ≡ end_test below left.now }
 {
-    match step {
-        Step::Byte(_) => {}
-        Step::AnyByte => {}
-        Step::OneOf(_) => {}
-        Step::Star => now.put(place + 1),
-        Step::Everything => now.put(place + 1),
-        Step::Fork(further) => {
-            now.put(place + 1);
-            now.put(place + 1 + further);
-        }
-        Step::Jump(further) => now.put(place + 1 + further),
+    match left.first() {
+        None => true,
+        Some(byte) => below && *byte == b'/',
     }
 }
 
-// Whether a live place accepts nothing.
-fn finish<const WORDS: usize, const GROUPS: usize>(
+// What is left after bytes that change nothing: all of them where no place is live, and where one
+// alone is, that of any bytes before a certain one, those up to that one.
+fn skip<'t, const WORDS: usize, const GROUPS: usize>(
     options: Options,
-    below: bool,
     steps: &[Step],
+    left: &'t [u8],
     now: &mut Row<WORDS, GROUPS>,
-) -> bool
+) -> &'t [u8]
     requires size { length steps.now < 64 * WORDS }
     requires limit { WORDS ≤ 16384 }
-    requires inside { StaysInside steps.now }
-    requires now_within { (j : ℕ) → IsLive now.old j → j ≤ length steps.now }
-    ensures { (P : ℕ → Test) → Solves options below steps.now P
-        → IsTrue result ↔ AnyLive P now.old [] }
+    requires within { (j : ℕ) → IsLive now.old j → j ≤ length steps.now }
+    ensures same { (below : Bool) (P : ℕ → Test) → Solves options below steps.now P
+        → AnyLive P now.new result.now ↔ AnyLive P now.old left.now }
+    ensures within { (j : ℕ) → IsLive now.new j → j ≤ length steps.now }
+    ensures shorter { length result.now ≤ length left.now }
 {
-    let mut from = 0;
-    while let Some(place) = now.take(from) {
-        from = place + 1;
-        if place >= steps.len() {
-            return true;
+    let Some(place) = now.take(0) else {
+        return &left[left.len()..];
+    };
+    let is_alone = now.is_empty();
+    now.put(place);
+    if is_alone {
+        if let Some(own) = awaited_byte(steps, place) {
+            return from_byte(options, own, left);
         }
-        lead_at_end(options, steps[place], place, now);
     }
-    false
+    left
+}
+
+// The byte that comes after any bytes, where the place stands for any bytes and a byte.
+fn awaited_byte(steps: &[Step], place: usize) -> Option<u8>
+    requires { place ≤ length steps.now }
+    ensures { IfSome result (λ own. (slice_get steps.now place ≡ Some Step.Everything)
+        × (slice_get steps.now (place + 1) ≡ Some (Step.Byte own))) }
+{
+    match (steps.get(place), steps.get(place + 1)) {
+        (Some(Step::Everything), Some(Step::Byte(own))) => Some(*own),
+        _ => None,
+    }
+}
+
+// The bytes from the first one on that is this one.
+fn from_byte<'t>(options: Options, own: u8, bytes: &'t [u8]) -> &'t [u8]
+    ensures same { (t : Test) → many any_byte (one (same_byte options own) t) bytes.now
+        ≡ many any_byte (one (same_byte options own) t) result.now }
+    ensures shorter { length result.now ≤ length bytes.now }
+{
+    let mut left = bytes;
+    while let Some((byte, rest)) = left.split_first() {
+        if options.same_byte(own, *byte) {
+            break;
+        }
+        left = rest;
+    }
+    left
 }
 
 // Whether the steps stand for the bytes, or with `below` for a front of them that `/` follows. The
@@ -166,22 +243,19 @@ fn run<const WORDS: usize, const GROUPS: usize>(
 {
     now.put(0);
     let mut left = bytes;
-    while let Some((byte, rest)) = left.split_first() {
-        if pass(options, below, steps, *byte, now, next) {
+    while let Some((_, rest)) = left.split_first() {
+        if pass(options, below, steps, left, now, next) {
             return true;
         }
-        if next.is_empty() {
+        if pass(options, below, steps, rest, next, now) {
+            return true;
+        }
+        let Some((_, behind)) = rest.split_first() else {
             return false;
-        }
-        let Some((second, behind)) = rest.split_first() else {
-            return finish(options, below, steps, next);
         };
-        if pass(options, below, steps, *second, next, now) {
-            return true;
-        }
-        left = behind;
+        left = skip(options, steps, behind, now);
     }
-    finish(options, below, steps, now)
+    pass(options, below, steps, left, now, next)
 }
 
 // Whether the steps stand for the bytes, or with `below` for a front of them that `/` follows, in

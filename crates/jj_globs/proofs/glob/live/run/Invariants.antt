@@ -5,12 +5,12 @@ use Rattle.jj_globs.specs.GlobPlain.{Test}
 use Rattle.jj_globs.specs.GlobPlaces.{IsLive, AnyLive, Solves}
 use Rattle.jj_globs.proofs.glob.live.run.Given as goal
 
-abbrev pub invariant-loop-byte : goal.invariant-loop-byte
-invariant-loop-byte g l = record {
+abbrev pub invariant-loop-rest : goal.invariant-loop-rest
+invariant-loop-rest g l = record {
   same : (P : ℕ → Test) → Solves l.options l.below l.steps P → AnyLive P l.now l.left ↔ IsTrue (P 0 l.bytes);
   next_none : (j : ℕ) → IsLive l.next j → ⊥;
   within : (j : ℕ) → IsLive l.now j → j ≤ length l.steps;
 }
 
-abbrev pub decreases-loop-byte : goal.decreases-loop-byte
-decreases-loop-byte g l = length l.left
+abbrev pub decreases-loop-rest : goal.decreases-loop-rest
+decreases-loop-rest g l = length l.left

@@ -1,7 +1,8 @@
-use Rattle.std.proofs.Common.{◌≡◌, ◌+◌, ◌∙◌, ◌∷◌, ◌<◌, ap, false, None, Some, List, length, arith, subst}
+use Rattle.std.proofs.Common.{◌≡◌, ◌+◌, ◌∙◌, ◌∷◌, ◌<◌, ap, sym, refl, false, None, Some, List, length, arith, subst}
 use Rattle.jj_globs.specs.declared.glob.step.Step.{Step}
 use Rattle.jj_globs.specs.GlobPlaces.{answers, StaysInside}
 use Rattle.jj_globs.proofs.GlobLowers.{inside_behind}
+use Rattle.jj_globs.proofs.GlobSolved.{at_step, later}
 use Rattle.jj_globs.proofs.glob.pattern.stand_for.Goals as goal
 
 pub loop-step-preserved : goal.loop-step-preserved
@@ -15,12 +16,25 @@ loop-step-preserved c =
     let known = c.loop-step.invariant in
     let taken : answers o c.args.below (step ∷ behind) 0 c.loop-step.text.now
     ≡ answers o c.args.below behind 0 c.in-Some-taken.rest.now =
-    c.in-Some-take_byte.ensures c.args.below behind
-    ∙ ap (λ t. elim t [ None ↦ false | Some rest ↦ answers o c.args.below behind 0 rest.now ])
-    c.in-Some-taken.is in
+    at_step o c.args.below (step ∷ behind) 0 step refl c.loop-step.text.now
+    ∙ c.in-Some-take_byte.ensures.same (answers o c.args.below (step ∷ behind)) 0
+    ∙ ap (λ t. elim t [ None ↦ false | Some rest ↦ answers o c.args.below (step ∷ behind) (0 + 1) rest.now ])
+    c.in-Some-taken.is
+    ∙ later o c.args.below step behind (0 + 1) 0 (omega arith) c.in-Some-taken.rest.now in
     record {
       same = known.same
           ∙ ap (λ (ss : List Step). answers o c.args.below ss 0 c.loop-step.text.now) split ∙ taken;
       inside = inside_behind step behind (subst (λ (ss : List Step). StaysInside ss) split known.inside);
       size = omega (arith, shorter, size);
     }
+
+pub returns-in_default-taken : goal.returns-in_default-taken
+returns-in_default-taken c =
+    let o = c.args.options in
+    let step = c.in-Some.step.now in
+    let behind = c.in-Some.behind.now in
+    let text = c.loop-step.text.now in
+    sym (c.loop-step.invariant.same ∙ ap (λ (ss : List Step). answers o c.args.below ss 0 text) c.in-Some.ensures.cases.0
+    ∙ at_step o c.args.below (step ∷ behind) 0 step refl text
+    ∙ c.in-Some-take_byte.ensures.same (answers o c.args.below (step ∷ behind)) 0
+    ∙ ap (λ t. elim t [ None ↦ false | Some rest ↦ answers o c.args.below (step ∷ behind) (0 + 1) rest.now ]) c.in_default-taken.is)

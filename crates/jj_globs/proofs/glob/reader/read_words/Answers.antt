@@ -1,4 +1,4 @@
-use Rattle.std.proofs.Common.{reverse, map, arith, refl, ap, Ok, ◌∷◌, ◌∙◌, sym}
+use Rattle.std.proofs.Common.{reverse, map, arith, refl, ap, Ok, ◌∷◌, ◌∙◌}
 use Rattle.std.proofs.lemmas.List.{reverse-reverse}
 use Rattle.jj_globs.specs.GlobText.{sign_of, words, tokens_of}
 use Rattle.jj_globs.specs.declared.glob.token.Token.TheVariants.{Part as part, Open}
