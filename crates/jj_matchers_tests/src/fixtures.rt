@@ -1,8 +1,6 @@
 //! Paths, patterns and trees of marks of literal texts, and what each test asks of a matcher.
 //
-// A row of expected answers is a directory, the children that are worth a look as directories, and
-// those that are worth a look as files. The names of children are joined by `/`; `*` stands for
-// every child, `**` for everything below, and two empty texts for nothing.
+// A list in a text is joined by blanks, and in it `.` is the root.
 use jj_globs::glob::GlobError;
 use jj_matchers::matchers::{
     FilesMatcher, GlobsMatcher, Matcher, PathGlobPattern, PrefixMatcher, Visit, VisitDirs,
@@ -14,42 +12,66 @@ use std::alloc::{AllocError, Global};
 use std::collections::HashSet;
 use std::process::Abort;
 
+/// Runs a test. Where it was refused memory, it runs once more.
+pub fn passes<R: AllocGlobal + Abort, T: Fn(&R, Global) -> Result<(), AllocError>>(rt: &R, test: T)
+    requires { T.IsAlwaysCallable test }
+{
+    let alloc = rt.alloc();
+    if test(rt, alloc).is_err() {
+        assert!(rt; test(rt, alloc).is_ok());
+    }
+}
+
 /// A path of this text, which takes no memory.
 pub fn path<'a, R: Abort>(rt: &R, alloc: Global, text: &'a str) -> RepoPath<'a> {
-    match RepoPath::from_internal_string(alloc, text) {
+    match RepoPath::from_internal_string(alloc, if text == "." { "" } else { text }) {
         Ok(path) => path,
         Err(_) => panic!(rt; "{text} is a path"),
     }
 }
 
-// The paths of these texts.
+// The items of a list.
+fn listed<'a>(alloc: Global, list: &'a str) -> Result<Vec<&'a str>, AllocError> {
+    let mut items = Vec::new(alloc);
+    for item in list.split(' ') {
+        if !item.is_empty() {
+            items.push(item)?;
+        }
+    }
+    Ok(items)
+}
+
+// The paths of a list.
 fn paths<'a, R: Abort>(
     rt: &R,
     alloc: Global,
-    texts: &[&'a str],
+    list: &'a str,
 ) -> Result<Vec<RepoPath<'a>>, AllocError> {
     let mut paths = Vec::new(alloc);
-    for text in texts {
+    for text in listed(alloc, list)? {
         paths.push(path(rt, alloc, text))?;
     }
     Ok(paths)
 }
 
-/// The set of the names that the text joins.
+/// The set of the names that the text joins by `/`; `-` is the empty set.
 pub fn names<R: Abort>(
     rt: &R,
     alloc: Global,
     joined: &str,
 ) -> Result<HashSet<RepoPathComponentBuf>, AllocError> {
     let mut names = HashSet::new(alloc);
-    for name in path(rt, alloc, joined).components() {
-        names.insert(name.to_owned(alloc)?)?;
+    if joined != "-" {
+        for name in path(rt, alloc, joined).components() {
+            names.insert(name.to_owned(alloc)?)?;
+        }
     }
     Ok(names)
 }
 
-/// The answer of a row.
-pub fn expected<R: Abort>(
+/// The answer with these children as directories and as files: sets of names, or `*` for every
+/// child. `**` stands for everything below, and two empty sets for nothing.
+pub fn answer<R: Abort>(
     rt: &R,
     alloc: Global,
     dirs: &str,
@@ -58,7 +80,7 @@ pub fn expected<R: Abort>(
     if dirs == "**" {
         return Ok(Visit::AllRecursively);
     }
-    if dirs == "" && files == "" {
+    if dirs == "-" && files == "-" {
         return Ok(Visit::Nothing);
     }
     let dirs = if dirs == "*" {
@@ -74,46 +96,59 @@ pub fn expected<R: Abort>(
     Ok(Visit::Specific { dirs, files })
 }
 
-/// Checks which paths a matcher accepts and which it refuses, and its answers for directories.
+/// Checks which paths a matcher accepts and which it refuses, and its answers. A row of them is a
+/// directory, and its children that are worth a look as directories and as files, as `answer` takes
+/// them.
 pub fn answers<R: Abort, M: Matcher>(
     rt: &R,
     alloc: Global,
     matcher: M,
-    accepted: &[&str],
-    refused: &[&str],
-    rows: &[(&str, &str, &str)],
+    accepted: &str,
+    refused: &str,
+    rows: &[&str],
 ) -> Result<(), AllocError> {
-    for text in accepted {
-        assert!(rt;
-            matcher.matches(path(rt, alloc, text)),
-            "{text} is accepted"
-        );
+    for file in paths(rt, alloc, accepted)? {
+        assert!(rt; matcher.matches(file), "{file:?} is accepted");
     }
-    for text in refused {
-        assert!(rt;
-            !matcher.matches(path(rt, alloc, text)),
-            "{text} is refused"
-        );
+    for file in paths(rt, alloc, refused)? {
+        assert!(rt; !matcher.matches(file), "{file:?} is refused");
     }
-    for (dir, dirs, files) in rows {
-        let answer = matcher.visit(alloc, path(rt, alloc, dir))?;
-        assert!(rt; answer == expected(rt, alloc, dirs, files)?, "at {dir}");
+    for row in rows {
+        let Some((dir, children)) = row.split_once(' ') else {
+            panic!(rt; "three columns: {row}");
+        };
+        visits(rt, alloc, &matcher, dir, children)?;
     }
     Ok(())
 }
 
+/// Checks the answer for a directory, by its children as directories and as files.
+pub fn visits<R: Abort, M: Matcher>(
+    rt: &R,
+    alloc: Global,
+    matcher: &M,
+    dir: &str,
+    children: &str,
+) -> Result<(), AllocError> {
+    let Some((dirs, files)) = children.split_once(' ') else {
+        panic!(rt; "directories and files: {children}");
+    };
+    let visit = matcher.visit(alloc, path(rt, alloc, dir))?;
+    assert!(rt;
+        visit == answer(rt, alloc, dirs, files)?,
+        "{children} at {dir}"
+    );
+    Ok(())
+}
+
 /// The matcher of these files.
-pub fn files<R: Abort>(rt: &R, alloc: Global, texts: &[&str]) -> Result<FilesMatcher, AllocError> {
-    FilesMatcher::new(alloc, paths(rt, alloc, texts)?.as_slice())
+pub fn files<R: Abort>(rt: &R, alloc: Global, list: &str) -> Result<FilesMatcher, AllocError> {
+    FilesMatcher::new(alloc, paths(rt, alloc, list)?.as_slice())
 }
 
 /// The matcher of these prefixes.
-pub fn prefix<R: Abort>(
-    rt: &R,
-    alloc: Global,
-    texts: &[&str],
-) -> Result<PrefixMatcher, AllocError> {
-    PrefixMatcher::new(alloc, paths(rt, alloc, texts)?.as_slice())
+pub fn prefix<R: Abort>(rt: &R, alloc: Global, list: &str) -> Result<PrefixMatcher, AllocError> {
+    PrefixMatcher::new(alloc, paths(rt, alloc, list)?.as_slice())
 }
 
 /// The pattern of this text.
@@ -125,22 +160,27 @@ pub fn pattern<R: Abort>(rt: &R, alloc: Global, text: &str) -> Result<PathGlobPa
     }
 }
 
-/// The matcher of these globs; a row is a directory and the glob of a tail below it.
+/// The matcher of these globs, each behind its directory and a colon.
 pub fn globs<R: Abort>(
     rt: &R,
     alloc: Global,
     prefix_paths: bool,
-    rows: &[(&str, &str)],
+    list: &str,
 ) -> Result<GlobsMatcher, AllocError> {
+    let mut dirs = Vec::new(alloc);
     let mut patterns = Vec::new(alloc);
-    for (_, text) in rows {
+    for item in listed(alloc, list)? {
+        let Some((dir, text)) = item.split_once(':') else {
+            panic!(rt; "a directory and a glob: {item}");
+        };
+        dirs.push(path(rt, alloc, dir))?;
         patterns.push(pattern(rt, alloc, text)?)?;
     }
     let mut builder = GlobsMatcher::builder(alloc).prefix_paths(prefix_paths);
-    for ((dir, _), pattern) in rows.iter().zip(patterns.as_slice()) {
-        builder.add(path(rt, alloc, dir), pattern)?;
+    for (dir, pattern) in dirs.iter().zip(patterns.as_slice()) {
+        builder.add(*dir, pattern)?;
     }
-    assert_eq!(rt; builder.is_empty(), rows.is_empty());
+    assert_eq!(rt; builder.is_empty(), list.is_empty());
     builder.build()
 }
 
@@ -150,23 +190,30 @@ pub fn walks<R: Abort, M: Matcher>(
     rt: &R,
     alloc: Global,
     matcher: M,
-    marks: &[&str],
-    files: &[&str],
-    entered: &[&str],
+    marks: &str,
+    files: &str,
+    entered: &str,
 ) -> Result<(), AllocError> {
     let mut tree: RepoPathTree<bool> = RepoPathTree::default(alloc);
-    for mark in marks {
-        tree.set(path(rt, alloc, mark), true)?;
+    for mark in paths(rt, alloc, marks)? {
+        tree.set(mark, true)?;
     }
     let walk = walk_matching(alloc, &tree, &matcher)?;
-    assert!(rt; are_paths(walk.files.as_slice(), files));
-    assert!(rt; are_paths(walk.entered.as_slice(), entered));
+    assert!(rt; are_paths(walk.files.as_slice(), paths(rt, alloc, files)?.as_slice()));
+    assert!(rt;
+        are_paths(
+            walk.entered.as_slice(),
+            paths(rt, alloc, entered)?.as_slice()
+        )
+    );
     Ok(())
 }
 
 // Whether these are just the paths, in this order.
-fn are_paths(paths: &[RepoPathBuf], texts: &[&str]) -> bool {
-    paths.len() == texts.len()
-        && paths.iter().zip(texts).all(|(path, text)| path.as_path().as_internal_file_string()
-            == *text)
+fn are_paths(paths: &[RepoPathBuf], wanted: &[RepoPath<'_>]) -> bool {
+    paths.len() == wanted.len()
+        && paths
+            .iter()
+            .zip(wanted)
+            .all(|(path, other)| path.as_path() == *other)
 }
