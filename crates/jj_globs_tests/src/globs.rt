@@ -1,5 +1,6 @@
 //! Which texts are globs, and which bytes they stand for. The expected answers are those of
 //! globset's documented syntax, as the specification narrows it.
+use crate::fixtures::passes;
 use jj_globs::glob::{Glob, GlobError, escape, is_special};
 use std::alloc::{AllocError, Global};
 use std::process::Abort;
@@ -351,10 +352,7 @@ fn fronts<R: Abort>(rt: &R, alloc: Global) -> Result<(), AllocError> {
 
 #[test]
 fn literal_fronts(rt: HostRuntime) {
-    let alloc = rt.alloc();
-    if fronts(&rt, alloc).is_err() {
-        assert!(rt; fronts(&rt, alloc).is_ok());
-    }
+    passes(&rt, fronts);
 }
 
 // The texts are those that globset's translation gives, with each byte past ASCII and each sign of
@@ -469,92 +467,54 @@ fn long<R: Abort>(rt: &R, alloc: Global) -> Result<(), AllocError> {
 
 #[test]
 fn stars_stand_for_bytes(rt: HostRuntime) {
-    let alloc = rt.alloc();
-    if stars(&rt, alloc).is_err() {
-        assert!(rt; stars(&rt, alloc).is_ok());
-    }
+    passes(&rt, stars);
 }
 
 #[test]
 fn classes_hold_bytes(rt: HostRuntime) {
-    let alloc = rt.alloc();
-    if classes(&rt, alloc).is_err() {
-        assert!(rt; classes(&rt, alloc).is_ok());
-    }
+    passes(&rt, classes);
 }
 
 #[test]
 fn groups_have_alternatives(rt: HostRuntime) {
-    let alloc = rt.alloc();
-    if groups(&rt, alloc).is_err() {
-        assert!(rt; groups(&rt, alloc).is_ok());
-    }
-    if runs_beside_empty_groups(&rt, alloc).is_err() {
-        assert!(rt; runs_beside_empty_groups(&rt, alloc).is_ok());
-    }
-    if groups_of_words(&rt, alloc).is_err() {
-        assert!(rt; groups_of_words(&rt, alloc).is_ok());
-    }
-    if groups_of_words_in_either_case(&rt, alloc).is_err() {
-        assert!(rt; groups_of_words_in_either_case(&rt, alloc).is_ok());
-    }
+    passes(&rt, groups);
+    passes(&rt, runs_beside_empty_groups);
+    passes(&rt, groups_of_words);
+    passes(&rt, groups_of_words_in_either_case);
 }
 
 #[test]
 fn groups_of_many_words(rt: HostRuntime) {
-    let alloc = rt.alloc();
-    if many_words(&rt, alloc).is_err() {
-        assert!(rt; many_words(&rt, alloc).is_ok());
-    }
+    passes(&rt, many_words);
 }
 
 #[test]
 fn escapes_stand_for_themselves(rt: HostRuntime) {
-    let alloc = rt.alloc();
-    if escapes(&rt, alloc).is_err() {
-        assert!(rt; escapes(&rt, alloc).is_ok());
-    }
+    passes(&rt, escapes);
 }
 
 #[test]
 fn options_of_globs(rt: HostRuntime) {
-    let alloc = rt.alloc();
-    if options(&rt, alloc).is_err() {
-        assert!(rt; options(&rt, alloc).is_ok());
-    }
+    passes(&rt, options);
 }
 
 #[test]
 fn prefixes_match(rt: HostRuntime) {
-    let alloc = rt.alloc();
-    if prefixes(&rt, alloc).is_err() {
-        assert!(rt; prefixes(&rt, alloc).is_ok());
-    }
+    passes(&rt, prefixes);
 }
 
 #[test]
 fn regular_expressions(rt: HostRuntime) {
-    let alloc = rt.alloc();
-    if regex_texts(&rt, alloc).is_err() {
-        assert!(rt; regex_texts(&rt, alloc).is_ok());
-    }
+    passes(&rt, regex_texts);
 }
 
 #[test]
 fn first_faults(rt: HostRuntime) {
-    let alloc = rt.alloc();
-    if faults(&rt, alloc).is_err() {
-        assert!(rt; faults(&rt, alloc).is_ok());
-    }
+    passes(&rt, faults);
 }
 
 #[test]
 fn hostile_globs_end(rt: HostRuntime) {
-    let alloc = rt.alloc();
-    if hostile(&rt, alloc).is_err() {
-        assert!(rt; hostile(&rt, alloc).is_ok());
-    }
-    if long(&rt, alloc).is_err() {
-        assert!(rt; long(&rt, alloc).is_ok());
-    }
+    passes(&rt, hostile);
+    passes(&rt, long);
 }

@@ -5,6 +5,8 @@
 #![tactic(auto)]
 
 #[cfg(test)]
+mod fixtures;
+#[cfg(test)]
 mod globs;
 #[cfg(test)]
 mod random_globs;

@@ -3,6 +3,7 @@
 //! the syntax in docs/SPECIFICATION.md.
 ghost use Rattle.std.specs.Prelude.{◌<◌, ◌≤◌, length};
 
+use crate::fixtures::passes;
 use jj_globs::glob::{Glob, GlobError};
 use std::alloc::{AllocError, Global};
 use std::process::Abort;
@@ -398,8 +399,5 @@ fn compare_all<R: Abort>(rt: &R, alloc: Global) -> Result<(), AllocError> {
 
 #[test]
 fn random_globs_stand_for_what_the_table_says(rt: HostRuntime) {
-    let alloc = rt.alloc();
-    if compare_all(&rt, alloc).is_err() {
-        assert!(rt; compare_all(&rt, alloc).is_ok());
-    }
+    passes(&rt, compare_all);
 }
