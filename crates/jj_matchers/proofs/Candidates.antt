@@ -3,7 +3,7 @@ use Rattle.std.proofs.Common.{◌≡◌, Bool, true, false, ◌&&◌, ◌||◌, 
 use mathlib.Core.Bool.{false≢true}
 use Rattle.std.specs.Str.{bytes_eq}
 use Rattle.std.specs.List.{list_any}
-use Rattle.std.proofs.lemmas.Bool.{and_parts, or_cases, or_right}
+use Rattle.std.proofs.lemmas.Bool.{and_from, and_parts, or_cases, or_left, or_right}
 use Rattle.std.proofs.lemmas.List.Folds.{list_any-append}
 use Rattle.std.proofs.lemmas.Slice.Eq.{bytes_eq-Decides}
 use Rattle.jj_paths.specs.Paths.{Name, Path}
@@ -13,7 +13,7 @@ use Rattle.jj_matchers.specs.Visits.{is_among, sets_answer}
 use Rattle.jj_matchers.specs.Wanted.{is_at_or_below, is_below, is_wanted, leads_to_wanted, leads_to_prefix, has_prefix, files_answer, prefix_answer}
 use Rattle.jj_matchers.specs.Candidates.{IsAllOrAmong, ChoosesFrom, any_passes, names_of}
 use Rattle.jj_matchers.specs.Combined.{named_answer, union_answer, difference_answer, intersection_answer}
-use Rattle.jj_matchers.proofs.Wanted.{or_left, any_implies, both_true, is_at_or_below-append, below_dir}
+use Rattle.jj_matchers.proofs.Wanted.{any_implies, is_at_or_below-append, below_dir}
 
 -- a test that a name passes is passed by some name
 found_among : (test : Name → Bool) (name : Name) → test name ≡ true → (names : List Name) → is_among names name ≡ true → list_any test names ≡ true
@@ -86,7 +86,7 @@ module _ (names : List Name) where
   pub both_listed : (f g : Name → Bool) → IsAllOrAmong names f → IsAllOrAmong names g → IsAllOrAmong names (λ name. f name && g name)
   both_listed f g one other = elim one [
     | inl all ↦ elim other [
-      | inl others ↦ inl (λ name. both_true (f name) (g name) (all name) (others name))
+      | inl others ↦ inl (λ name. and_from (f name) (g name) (all name) (others name))
       | inr others ↦ inr (λ name e. others name (and_parts (f name) (g name) e).1)
     ]
     | inr among ↦ inr (λ name e. among name (and_parts (f name) (g name) e).0)
@@ -147,7 +147,7 @@ wanted_leads paths path = any_implies (path_eq path) (is_at_or_below path) at pa
   where
     at_itself : (path : Path) → is_at_or_below path path ≡ true
     at_itself [] = refl
-    at_itself (name ∷ path) = both_true (bytes_eq name name) _ ((bytes_eq-Decides name name).1 refl) (at_itself path)
+    at_itself (name ∷ path) = and_from (bytes_eq name name) _ ((bytes_eq-Decides name name).1 refl) (at_itself path)
 
     at : (wanted : Path) → path_eq path wanted ≡ true → is_at_or_below path wanted ≡ true
     at wanted e = ap (is_at_or_below path) (sym ((path_eq-Decides path wanted).0 e)) ∙ at_itself path

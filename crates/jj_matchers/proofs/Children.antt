@@ -3,7 +3,7 @@ use Rattle.std.proofs.Common.{◌≡◌, Bool, true, false, ◌&&◌, ◌||◌, 
 use mathlib.Core.Bool.{false≢true}
 use Rattle.std.specs.Cmp.{both_ways}
 use Rattle.std.specs.declared.cmp.Ordering.TheVariants.{Less, Equal}
-use Rattle.std.proofs.lemmas.Bool.{and_parts, or_cases, or_right}
+use Rattle.std.proofs.lemmas.Bool.{and_parts, false_from_ne_true, or_cases, or_left, or_right}
 use Rattle.std.specs.Str.{bytes_eq}
 use Rattle.std.specs.List.{list_any}
 use Rattle.std.specs.FinMap.{is_sorted}
@@ -15,7 +15,7 @@ use Rattle.jj_matchers.specs.Answers.{specific}
 use Rattle.jj_matchers.specs.Marks.{named_by, any_child, children_answer}
 use Rattle.jj_matchers.specs.Visits.{is_among, sets_answer}
 use Rattle.jj_paths.proofs.PathOrders.{name_cmp-itself, less_from_is_lt}
-use Rattle.jj_matchers.proofs.Wanted.{or_left, false_if, any_implies}
+use Rattle.jj_matchers.proofs.Wanted.{any_implies}
 
 -- whether a node of that name passes a test
 abbrev pub any_named : (Tree Bool → Bool) → Name → List (Name × Tree Bool) → Bool
@@ -29,7 +29,7 @@ none_named : (test : Tree Bool → Bool) (name : Name) (nodes : List (Name × Tr
 none_named test name [] e = refl
 none_named test name (node ∷ nodes) e =
     let parts = and_parts _ _ e in
-    let differs : bytes_eq name node.0 ≡ false = false_if (bytes_eq name node.0) (λ same. let equal : Less ≡ Equal = sym (less_from_is_lt _ parts.0) ∙ ap (name_cmp name) (sym ((bytes_eq-Decides name node.0).0 same)) ∙ name_cmp-itself name in cc) in
+    let differs : bytes_eq name node.0 ≡ false = false_from_ne_true (bytes_eq name node.0) (λ same. let equal : Less ≡ Equal = sym (less_from_is_lt _ parts.0) ∙ ap (name_cmp name) (sym ((bytes_eq-Decides name node.0).0 same)) ∙ name_cmp-itself name in cc) in
     ap (λ b. (b && test node.1) || any_named test name nodes) differs ∙ none_named test name nodes parts.1
 
 -- names that rise are found once
@@ -66,7 +66,7 @@ keys_tell : (test : Tree Bool → Bool) (nodes : List (Name × Tree Bool)) (name
 keys_tell test nodes name names same = named_some test name nodes (sym (same name) ∙ or_left _ _ ((bytes_eq-Decides name name).1 refl))
 
 no_keys_tell : (test : Tree Bool → Bool) (nodes : List (Name × Tree Bool)) → ((n : Name) → is_among [] n ≡ any_named test n nodes) → list_any (λ (c : Name × Tree Bool). test c.1) nodes ≡ false
-no_keys_tell test nodes same = false_if _ (λ h. let found = some_named test nodes h in false≢true (same found.0 ∙ found.1))
+no_keys_tell test nodes same = false_from_ne_true _ (λ h. let found = some_named test nodes h in false≢true (same found.0 ∙ found.1))
 
 module _ (dirs files : Tree Bool → Bool) (b : Branches Bool) (sorted : is_sorted name_cmp (children b) ≡ true) where
   -- the answer of the two sets

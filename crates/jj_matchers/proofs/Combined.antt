@@ -2,12 +2,11 @@
 use Rattle.std.proofs.Common.{◌≡◌, Bool, true, false, not, ◌&&◌, ◌||◌, List, [], ◌∷◌, ◌++◌, refl, ap, sym, ◌∙◌, inl, inr, if◌then◌else◌}
 use mathlib.Core.Bool.{false≢true}
 use Rattle.std.proofs.Math.Bool.{and-false}
-use Rattle.std.proofs.lemmas.Bool.{and_parts, or_cases, or_right}
+use Rattle.std.proofs.lemmas.Bool.{and_from, and_parts, false_from_ne_true, or_cases, or_left, or_right}
 use Rattle.jj_paths.specs.Paths.{Name, Path}
 use Rattle.jj_matchers.specs.Answers.{Answer, all_recursively, specific, nothing, IsSound, NamesAll}
 use Rattle.jj_matchers.specs.Candidates.{IsAllOrAmong, ChoosesFrom, any_passes}
 use Rattle.jj_matchers.specs.Combined.{union_answer, difference_answer, named_answer, intersection_answer}
-use Rattle.jj_matchers.proofs.Wanted.{or_left, false_if, both_true}
 use Rattle.jj_matchers.proofs.Candidates.{passes_some, both_listed}
 
 -- the paths of either set, of both, and of one without those of the other
@@ -83,7 +82,7 @@ module _ (f g o p : Path → Bool) (dir : Path) where
 
   pub difference_sound : (a b : Answer) → IsSound f o dir a → IsSound g p dir b → IsSound (less f g) o dir (difference_answer a b)
   difference_sound a all_recursively sound more = none_left more
-  difference_sound all_recursively nothing sound more = λ name rest. (both_true (f (dir ++ name ∷ rest)) (not (g (dir ++ name ∷ rest))) (sound name rest).0 (ap not (more name rest)), (sound name rest).1)
+  difference_sound all_recursively nothing sound more = λ name rest. (and_from (f (dir ++ name ∷ rest)) (not (g (dir ++ name ∷ rest))) (sound name rest).0 (ap not (more name rest)), (sound name rest).1)
   difference_sound (specific wanted_dirs wanted_files) nothing sound more = less_names wanted_dirs wanted_files sound
   difference_sound nothing nothing sound more = λ name rest. false_and (f (dir ++ name ∷ rest)) _ (sound name rest)
   difference_sound all_recursively (specific dirs files) sound more = all_names sound
@@ -92,20 +91,20 @@ module _ (f g o p : Path → Bool) (dir : Path) where
 
   -- everything on one side leaves the other's answer
   all_left : (b : Answer) → IsSound f o dir all_recursively → IsSound g p dir b → IsSound (both f g) (both o p) dir b
-  all_left all_recursively all sound = λ name rest. (both_true _ _ (all name rest).0 (sound name rest).0, both_true _ _ (all name rest).1 (sound name rest).1)
+  all_left all_recursively all sound = λ name rest. (and_from _ _ (all name rest).0 (sound name rest).0, and_from _ _ (all name rest).1 (sound name rest).1)
   all_left (specific dirs files) all sound = record {
     files_named = λ name e. sound.files_named name (and_parts _ _ e).1;
     dirs_named = λ name next rest e. sound.dirs_named name next rest (and_parts _ _ e).1;
-    dirs_open = λ name e. both_true _ _ (all name []).1 (sound.dirs_open name e);
+    dirs_open = λ name e. and_from _ _ (all name []).1 (sound.dirs_open name e);
   }
   all_left nothing all sound = λ name rest. and_false (f (dir ++ name ∷ rest)) (g (dir ++ name ∷ rest)) (sound name rest)
 
   both_names : (dirs files other_dirs other_files : Name → Bool) → NamesAll f o dir dirs files → NamesAll g p dir other_dirs other_files →
       NamesAll (both f g) (both o p) dir (λ name. dirs name && other_dirs name) (λ name. files name && other_files name)
   both_names dirs files other_dirs other_files sound more = record {
-    files_named = λ name e. both_true _ _ (sound.files_named name (and_parts _ _ e).0) (more.files_named name (and_parts _ _ e).1);
-    dirs_named = λ name next rest e. both_true _ _ (sound.dirs_named name next rest (and_parts _ _ e).0) (more.dirs_named name next rest (and_parts _ _ e).1);
-    dirs_open = λ name e. both_true _ _ (sound.dirs_open name (and_parts _ _ e).0) (more.dirs_open name (and_parts _ _ e).1);
+    files_named = λ name e. and_from _ _ (sound.files_named name (and_parts _ _ e).0) (more.files_named name (and_parts _ _ e).1);
+    dirs_named = λ name next rest e. and_from _ _ (sound.dirs_named name next rest (and_parts _ _ e).0) (more.dirs_named name next rest (and_parts _ _ e).1);
+    dirs_open = λ name e. and_from _ _ (sound.dirs_open name (and_parts _ _ e).0) (more.dirs_open name (and_parts _ _ e).1);
   }
 
 -- an answer that names all may be `nothing` where no name passes either test
@@ -118,8 +117,8 @@ named_sound accepts opens dir names dirs files sound d f = by_cases (any_passes 
     by_cases false e = refused
       where
         refused : (name : Name) (rest : Path) → accepts (dir ++ name ∷ rest) ≡ false
-        refused name [] = false_if _ (λ h. false≢true (sym e ∙ or_right (any_passes names dirs) (any_passes names files) (passes_some names files f name (sound.files_named name h))))
-        refused name (next ∷ rest) = false_if _ (λ h. false≢true (sym e ∙ or_left (any_passes names dirs) (any_passes names files) (passes_some names dirs d name (sound.dirs_named name next rest h))))
+        refused name [] = false_from_ne_true _ (λ h. false≢true (sym e ∙ or_right (any_passes names dirs) (any_passes names files) (passes_some names files f name (sound.files_named name h))))
+        refused name (next ∷ rest) = false_from_ne_true _ (λ h. false≢true (sym e ∙ or_left (any_passes names dirs) (any_passes names files) (passes_some names dirs d name (sound.dirs_named name next rest h))))
 
 module _ (f g o p : Path → Bool) (dir : Path) (names : List Name) where
   pub intersection_sound : (a b : Answer) → IsSound f o dir a → IsSound g p dir b → ChoosesFrom names a → ChoosesFrom names b → IsSound (both f g) (both o p) dir (intersection_answer names a b)
@@ -128,7 +127,7 @@ module _ (f g o p : Path → Bool) (dir : Path) (names : List Name) where
   intersection_sound (specific dirs files) all_recursively sound more one other = record {
     files_named = λ name e. sound.files_named name (and_parts _ _ e).0;
     dirs_named = λ name next rest e. sound.dirs_named name next rest (and_parts _ _ e).0;
-    dirs_open = λ name e. both_true _ _ (sound.dirs_open name e) (more name []).1;
+    dirs_open = λ name e. and_from _ _ (sound.dirs_open name e) (more name []).1;
   }
   intersection_sound (specific dirs files) nothing sound more one other = λ name rest. and_false (f (dir ++ name ∷ rest)) (g (dir ++ name ∷ rest)) (more name rest)
   intersection_sound (specific dirs files) (specific other_dirs other_files) sound more one other =

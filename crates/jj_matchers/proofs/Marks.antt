@@ -3,7 +3,7 @@ use Rattle.std.proofs.Common.{◌≡◌, Bool, true, false, ◌||◌, List, [], 
 use mathlib.Core.Bool.{false≢true}
 use Rattle.std.specs.Cmp.{both_ways}
 use Rattle.std.specs.Option.{option_and_then, option_map}
-use Rattle.std.proofs.lemmas.Bool.{or_cases, or_right}
+use Rattle.std.proofs.lemmas.Bool.{false_from_ne_true, or_cases, or_left, or_right}
 use Rattle.std.specs.Str.{bytes_eq}
 use Rattle.std.specs.List.{list_any, filter}
 use Rattle.std.proofs.lemmas.List.Folds.{list_any-append}
@@ -16,7 +16,7 @@ use Rattle.jj_paths.specs.Nodes.{NodeAt, nodes_under}
 use Rattle.jj_matchers.specs.Answers.{Answer, all_recursively, specific, nothing}
 use Rattle.jj_matchers.specs.Wanted.{is_at_or_below, is_below, is_wanted, leads_to_wanted, files_answer, has_prefix, leads_to_prefix, prefix_answer}
 use Rattle.jj_matchers.specs.Marks.{is_some_true, is_marked, marked_paths, LeadsToMarks, passes, named_by, any_child, children_answer, has_children, has_mark, any_node}
-use Rattle.jj_matchers.proofs.Wanted.{or_left, false_if, is_below-append, is_at_or_below-append, below_base, below_dir}
+use Rattle.jj_matchers.proofs.Wanted.{is_below-append, is_at_or_below-append, below_base, below_dir}
 
 module _ {V : Type 0} where
   -- the node at a path below another
@@ -164,7 +164,7 @@ module _ (tree : Tree Bool) (leads : LeadsToMarks tree) where
   missing_below dir rest e = marked_at tree (dir ++ rest) None (get-append tree dir rest ∙ ap (option_and_then (λ n. get n rest)) e)
 
   pub leads-none : (dir : Path) → get tree dir ≡ None → leads_to_wanted (marked_paths tree) dir ≡ false
-  leads-none dir e = false_if _ (λ h.
+  leads-none dir e = false_from_ne_true _ (λ h.
       let found = any_marked tree (is_below dir) h in let below = below_dir dir found.0 found.1.1 in
       false≢true (sym (missing_below dir (below.0 ∷ below.1.0) e) ∙ ap (is_marked tree) (sym below.1.1) ∙ found.1.0))
 
@@ -191,7 +191,7 @@ module _ (tree : Tree Bool) (leads : LeadsToMarks tree) where
       there false (branch n u x y) is = let found = mark_below (branch n u x y) p false is refl in marked_any tree (is_at_or_below p) (p ++ found.0 ∷ found.1.0) found.1.1 (is_at_or_below-append p (found.0 ∷ found.1.0))
 
       by_child : (o : Option (Tree Bool)) → get tree p ≡ o → passes any_node o ≡ leads_to_prefix (marked_paths tree) p
-      by_child None is = sym (false_if _ (λ h.
+      by_child None is = sym (false_from_ne_true _ (λ h.
           let found = any_marked tree (is_at_or_below p) h in let below = below_base p found.0 found.1.1 in
           false≢true (sym (missing_below p below.0 is) ∙ ap (is_marked tree) (sym below.1) ∙ found.1.0)))
       by_child (Some sub) is = sym (there sub.value sub.branches is)

@@ -5,7 +5,7 @@ use mathlib.Core.Bool.{false≢true}
 use Rattle.std.specs.List.{list_any, list_all, filter, common_prefix_len}
 use Rattle.std.specs.Cmp.{both_ways}
 use Rattle.std.specs.List.Sorted.{IsPartitionedBy, IsPartitionPoint}
-use Rattle.std.proofs.lemmas.Bool.{and_parts}
+use Rattle.std.proofs.lemmas.Bool.{and_from, and_parts, false_from_ne_true}
 use Rattle.std.proofs.lemmas.Bool.Decides.{Decides-eqb}
 use Rattle.std.proofs.lemmas.List.Folds.{list_any-append}
 use Rattle.jj_globs.specs.GlobMeaning.{GlobSpec}
@@ -14,7 +14,6 @@ use Rattle.jj_globs.proofs.GlobFront.{BeginsWith}
 use Rattle.jj_globs.proofs.GlobFront.{prefix_match_fronted}
 use Rattle.jj_matchers.specs.PatternOrder.{is_at_most, is_in_order, fits_text}
 use Rattle.jj_matchers.proofs.PatternTexts.{Tells-is_match, Tells-is_prefix_match}
-use Rattle.jj_matchers.proofs.Wanted.{both_true, false_if}
 
 -- 1. Bytes in their order.
 
@@ -138,7 +137,7 @@ order_last : (before : List GlobSpec) (last : GlobSpec) → is_in_order (before 
 order_last [] last h = refl
 order_last (g ∷ before) last h =
     let parts = and_parts _ _ h in
-    both_true _ _ (last_all before parts.0) (order_last before last parts.1)
+    and_from _ _ (last_all before parts.0) (order_last before last parts.1)
   where
     last_all : (gs : List GlobSpec) → list_all (λ later. is_at_most (front_of g) (front_of later)) (gs ++ last ∷ []) ≡ true → is_at_most (front_of g) (front_of last) ≡ true
     last_all [] h = (and_parts _ _ h).0
@@ -151,33 +150,33 @@ order-filter keep (g ∷ globs) h = by_test (order-filter keep globs (and_parts 
     all-filter : (p : GlobSpec → Bool) (gs : List GlobSpec) → list_all p gs ≡ true → list_all p (filter keep gs) ≡ true
     all-filter p [] all = refl
     all-filter p (x ∷ gs) all = elim (keep x) as (λ t. list_all p (cond t (x ∷ filter keep gs) (filter keep gs)) ≡ true) [
-      | true ↦ both_true _ _ (and_parts _ _ all).0 (all-filter p gs (and_parts _ _ all).1)
+      | true ↦ and_from _ _ (and_parts _ _ all).0 (all-filter p gs (and_parts _ _ all).1)
       | false ↦ all-filter p gs (and_parts _ _ all).1
     ]
 
     by_test : is_in_order (filter keep globs) ≡ true → (t : Bool) → keep g ≡ t → is_in_order (cond (keep g) (g ∷ filter keep globs) (filter keep globs)) ≡ true
     by_test later true e =
-        ap (λ t. is_in_order (cond t (g ∷ filter keep globs) (filter keep globs))) e ∙ both_true _ _ (all-filter _ globs (and_parts _ _ h).0) later
+        ap (λ t. is_in_order (cond t (g ∷ filter keep globs) (filter keep globs))) e ∙ and_from _ _ (all-filter _ globs (and_parts _ _ h).0) later
     by_test later false e = ap (λ t. is_in_order (cond t (g ∷ filter keep globs) (filter keep globs))) e ∙ later
 
 pub order_before : (before : List GlobSpec) (last : GlobSpec) → is_in_order (before ++ last ∷ []) ≡ true → is_in_order before ≡ true
 order_before [] last h = refl
 order_before (g ∷ before) last h =
-    both_true _ _ (front_all before (and_parts _ _ h).0) (order_before before last (and_parts _ _ h).1)
+    and_from _ _ (front_all before (and_parts _ _ h).0) (order_before before last (and_parts _ _ h).1)
   where
     front_all : (gs : List GlobSpec) → list_all (λ later. is_at_most (front_of g) (front_of later)) (gs ++ last ∷ []) ≡ true → list_all (λ later. is_at_most (front_of g) (front_of later)) gs ≡ true
     front_all [] h = refl
-    front_all (x ∷ gs) h = both_true _ _ (and_parts _ _ h).0 (front_all gs (and_parts _ _ h).1)
+    front_all (x ∷ gs) h = and_from _ _ (and_parts _ _ h).0 (front_all gs (and_parts _ _ h).1)
 
 pub order_push : (before : List GlobSpec) (last more : GlobSpec) → is_in_order (before ++ last ∷ []) ≡ true → is_at_most (front_of last) (front_of more) ≡ true → is_in_order ((before ++ last ∷ []) ++ more ∷ []) ≡ true
-order_push [] last more h le = both_true _ _ (both_true _ _ le refl) refl
+order_push [] last more h le = and_from _ _ (and_from _ _ le refl) refl
 order_push (g ∷ before) last more h le =
-    both_true _ _ (more_all before (and_parts _ _ h).0) (order_push before last more (and_parts _ _ h).1 le)
+    and_from _ _ (more_all before (and_parts _ _ h).0) (order_push before last more (and_parts _ _ h).1 le)
   where
     more_all : (gs : List GlobSpec) → list_all (λ later. is_at_most (front_of g) (front_of later)) (gs ++ last ∷ []) ≡ true → list_all (λ later. is_at_most (front_of g) (front_of later)) ((gs ++ last ∷ []) ++ more ∷ []) ≡ true
     more_all [] h =
-        both_true _ _ (and_parts _ _ h).0 (both_true _ _ (at_most_by (front_of g) (front_of last) (front_of more) (and_parts _ _ h).0 le) refl)
-    more_all (x ∷ gs) h = both_true _ _ (and_parts _ _ h).0 (more_all gs (and_parts _ _ h).1)
+        and_from _ _ (and_parts _ _ h).0 (and_from _ _ (at_most_by (front_of g) (front_of last) (front_of more) (and_parts _ _ h).0 le) refl)
+    more_all (x ∷ gs) h = and_from _ _ (and_parts _ _ h).0 (more_all gs (and_parts _ _ h).1)
 
 -- one more glob leaves them in order exactly where its front is not before the last one's
 pub order_with : (before : List GlobSpec) (last more : GlobSpec) → is_in_order (before ++ last ∷ []) ≡ true → is_at_most (front_of last) (front_of more) ≡ is_in_order ((before ++ last ∷ []) ++ more ∷ [])
@@ -211,7 +210,7 @@ module _ (test : GlobSpec → Bool) where
       by_front later false e =
           ap (λ t. list_any test (cond t (g ∷ filter (is_up_to bytes) globs) (filter (is_up_to bytes) globs))) e
           ∙ later
-          ∙ sym (ap (λ b. b || list_any test globs) (false_if (test g) (λ h. false≢true (sym e ∙ begins_at_most (front_of g) bytes (near.0 h)))))
+          ∙ sym (ap (λ b. b || list_any test globs) (false_from_ne_true (test g) (λ h. false≢true (sym e ∙ begins_at_most (front_of g) bytes (near.0 h)))))
 
   near-filter : (keep : GlobSpec → Bool) (bytes : List ℕ) (globs : List GlobSpec) → AreNear bytes globs → AreNear bytes (filter keep globs)
   near-filter keep bytes [] near = tt
@@ -264,7 +263,7 @@ module _ (test : GlobSpec → Bool) where
     pub narrows_before : is_up_to bytes last ≡ true → (test last ≡ true → common_prefix_len nat_eq (front_of last) bytes ≡ length (front_of last) → ⊥) →
         Narrows all before (take (common_prefix_len nat_eq (front_of last) bytes) bytes)
     narrows_before upto fails = record {
-      same = same_before (false_if (test last) (λ h. fails h (begins_shared (front_of last) bytes (near_last bytes before last near h))));
+      same = same_before (false_from_ne_true (test last) (λ h. fails h (begins_shared (front_of last) bytes (near_last bytes before last near h))));
       order = order_before before last order;
       near = near_before bytes before last (order_last before last order) upto near;
     }
@@ -280,7 +279,7 @@ module _ (test : GlobSpec → Bool) where
     pub narrows_up_to : is_up_to bytes last ≡ false → Narrows all (filter (is_up_to bytes) before) bytes
     narrows_up_to past = record {
       same = any_up_to bytes before front_near
-          ∙ same_before (false_if (test last) (λ h. false≢true (sym past ∙ begins_at_most (front_of last) bytes (near_last bytes before last near h))));
+          ∙ same_before (false_from_ne_true (test last) (λ h. false≢true (sym past ∙ begins_at_most (front_of last) bytes (near_last bytes before last near h))));
       order = order-filter (is_up_to bytes) before (order_before before last order);
       near = near-filter (is_up_to bytes) bytes before front_near;
     }

@@ -4,7 +4,7 @@ use mathlib.Core.Bool.{false≢true}
 use Rattle.std.specs.List.{list_any}
 use Rattle.std.specs.Bool.{Decides}
 use Rattle.std.specs.Str.{bytes_eq}
-use Rattle.std.proofs.lemmas.Bool.{and_parts, or_right}
+use Rattle.std.proofs.lemmas.Bool.{and_from, and_parts, false_from_ne_true, or_left, or_right}
 use Rattle.std.proofs.lemmas.List.Folds.{Any-from_list_any, list_any-from_Any}
 use Rattle.std.proofs.lemmas.Slice.Eq.{bytes_eq-Decides}
 use Rattle.jj_paths.specs.Paths.{Name, Path, path_text}
@@ -15,7 +15,7 @@ use Rattle.jj_matchers.specs.Wanted.{is_at_or_below, has_prefix, leads_to_wanted
 use Rattle.jj_matchers.specs.Patterns.{Patterns, is_prefix_match, accepts_tail, covers_tail, tail_passes, pattern_dirs, is_accepted, is_covered, opens_to_patterns, patterns_answer, AcceptsText, IsAccepted, TellsAccepted}
 use Rattle.jj_matchers.proofs.PatternTexts.{Tells-is_match, Tells-is_prefix_match, prefix_match_below, stars_fit}
 use Rattle.jj_matchers.proofs.Candidates.{leads_among}
-use Rattle.jj_matchers.proofs.Wanted.{or_left, false_if, both_true, any_implies, list_any-map, is_at_or_below-append, at_or_below_more, prefix_below, prefix_deeper}
+use Rattle.jj_matchers.proofs.Wanted.{any_implies, list_any-map, is_at_or_below-append, at_or_below_more, prefix_below, prefix_deeper}
 
 -- 1. Tails.
 
@@ -61,7 +61,7 @@ child_within (b ∷ base) [] name first tail e = absurd (too_long base (let rest
 child_within (b ∷ base) (d ∷ dir) name first tail e =
     let same : b ≡ d = cc in
     let rest : dir ++ name ∷ [] ≡ base ++ first ∷ tail = cc in
-    both_true (bytes_eq b d) (is_at_or_below base dir) ((bytes_eq-Decides b d).1 same) (child_within base dir name first tail rest)
+    and_from (bytes_eq b d) (is_at_or_below base dir) ((bytes_eq-Decides b d).1 same) (child_within base dir name first tail rest)
 
 -- 2. Sets.
 
@@ -124,7 +124,7 @@ module _ (set : Patterns) where
         dirs_named = λ name next rest h. prefix_deeper (pattern_dirs set) dir name next rest w (accepted_below (dir ++ name ∷ next ∷ rest) h);
         dirs_open = λ name h. or_right (has_prefix (pattern_dirs set) (dir ++ name ∷ [])) _ h;
       }
-      by_cases false false false c w l = λ name rest. false_if _ (λ h. false≢true (sym l ∙ prefix_below (pattern_dirs set) dir name rest w (accepted_below (dir ++ name ∷ rest) h)))
+      by_cases false false false c w l = λ name rest. false_from_ne_true _ (λ h. false≢true (sym l ∙ prefix_below (pattern_dirs set) dir name rest w (accepted_below (dir ++ name ∷ rest) h)))
 
 module _ (set : Patterns) where
   -- the answer below a directory that no pattern covers and that has none above

@@ -1,10 +1,11 @@
 -- The tests of globs, prefix matches among them, answer what the globs stand for; stars alone fit every text.
-use Rattle.std.proofs.Common.{◌≡◌, ◌∙◌, ap, sym, subst, refl, ℕ, Bool, true, false, not, ◌==◌, ◌&&◌, ◌||◌, ◌⊎◌, inl, inr, List, [], ◌∷◌, ◌++◌, map, reverse, Result, Ok, Err, append_assoc, append-nil, zero}
+use Rattle.std.proofs.Common.{◌≡◌, ◌∙◌, ◌↔◌, IsTrue, ap, sym, subst, refl, ℕ, Bool, true, false, not, ◌==◌, ◌&&◌, ◌||◌, ◌⊎◌, inl, inr, List, [], ◌∷◌, ◌++◌, map, reverse, Result, Ok, Err, append_assoc, append-nil, zero}
 use mathlib.Core.Bool.{false≢true}
 use mathlib.Core.List.{reverse_aux}
 use Rattle.std.specs.Bool.{Decides}
+use Rattle.std.specs.Cmp.{both_ways}
 use Rattle.std.specs.List.{list_all}
-use Rattle.std.proofs.lemmas.Bool.{and_parts, or_cases, or_right}
+use Rattle.std.proofs.lemmas.Bool.{and_from, and_parts, or_cases, or_left, or_right}
 use Rattle.std.proofs.lemmas.Bool.Decides.{Decides-eqb}
 use Rattle.jj_globs.specs.declared.glob.token.Part.TheVariants.{Star, Everything}
 use Rattle.jj_globs.specs.declared.glob.token.Token.{Token}
@@ -20,7 +21,6 @@ use Rattle.jj_matchers.specs.Patterns.{is_yes, is_match, is_prefix_match, passes
 use Rattle.jj_globs.proofs.GlobSound.{Tells, Tells-glob}
 use Rattle.jj_globs.proofs.GlobClosed.{closed-tokens_of}
 use Rattle.jj_globs.proofs.GlobSteps.{tokens_of-read, tokens_of-only_dirs}
-use Rattle.jj_matchers.proofs.Wanted.{or_left, both_true}
 
 -- 1. Matches.
 
@@ -156,7 +156,7 @@ many_all : (p : ℕ → Bool) (next : Test) (bytes : List ℕ) → list_all p by
 many_all p next [] h e = e
 many_all p next (b ∷ bytes) h e =
     let parts = and_parts (p b) (list_all p bytes) h in
-    or_right (next (b ∷ bytes)) (p b && many p next bytes) (both_true (p b) (many p next bytes) parts.0 (many_all p next bytes parts.1 e))
+    or_right (next (b ∷ bytes)) (p b && many p next bytes) (and_from (p b) (many p next bytes) parts.0 (many_all p next bytes parts.1 e))
 
 stars_of_nothing : (o : Options) (stars : List ℕ) → (tests_of o (star_tokens stars)).here [] ≡ true
 stars_of_nothing o [] = refl
@@ -173,7 +173,7 @@ all_plain : (o : Options) (bytes : List ℕ) → list_all is_no_slash bytes ≡ 
 all_plain o [] h = refl
 all_plain o (b ∷ bytes) h =
     let parts = and_parts (is_no_slash b) (list_all is_no_slash bytes) h in
-    both_true (is_plain o b) (list_all (is_plain o) bytes) (plain_if o.separator (b == 47) parts.0) (all_plain o bytes parts.1)
+    and_from (is_plain o b) (list_all (is_plain o) bytes) (plain_if o.separator (b == 47) parts.0) (all_plain o bytes parts.1)
 
 all_any : (bytes : List ℕ) → list_all any_byte bytes ≡ true
 all_any [] = refl
@@ -199,7 +199,7 @@ up_to_slash (b ∷ bytes) = by_byte (b == 47) refl (up_to_slash bytes)
     by_byte false e later = (
       b ∷ later.0,
       (
-        both_true (is_no_slash b) (list_all is_no_slash later.0) (ap not e) later.1.0,
+        and_from (is_no_slash b) (list_all is_no_slash later.0) (ap not e) later.1.0,
         elim later.1.1 [
           | inl all ↦ inl (ap (λ l. b ∷ l) all)
           | inr w ↦ inr (w.0, ap (λ l. b ∷ l) w.1)
@@ -216,3 +216,10 @@ stars_fit g stars bytes =
       | inl all ↦ inl (subst (IsMatch g) (sym all) m)
       | inr w ↦ inr (up.0, w.0, w.1, m)
     ])
+
+-- what a test of a glob and bytes means, asked of the same glob and the same bytes
+pub told : (test : GlobSpec → List ℕ → Bool) (M : GlobSpec → List ℕ → Type 0) (answer : Bool) (glob glob' : GlobSpec) (bytes bytes' : List ℕ)
+    → Decides (test glob bytes) (M glob bytes) → (IsTrue answer ↔ M glob bytes) → glob ≡ glob' → bytes ≡ bytes' → answer ≡ test glob' bytes'
+told test M answer glob glob' bytes bytes' tells asked same_glob same_bytes =
+    both_ways answer (test glob bytes) (λ h. tells.1 (asked.0 h)) (λ h. asked.1 (tells.0 h))
+    ∙ ap (λ g. test g bytes) same_glob ∙ ap (test glob') same_bytes

@@ -5,7 +5,7 @@ use Rattle.std.specs.Cmp.{both_ways}
 use Rattle.std.specs.Option.{option_and_then, option_map}
 use Rattle.std.specs.List.{list_any, flat_map}
 use Rattle.std.specs.Str.{bytes_eq}
-use Rattle.std.proofs.lemmas.Bool.{and_parts, or_cases, or_right}
+use Rattle.std.proofs.lemmas.Bool.{and_from, and_parts, or_cases, or_left, or_right}
 use Rattle.std.specs.FinMap.{is_sorted}
 use Rattle.std.specs.FinMap.Entries.{below_all}
 use Rattle.std.specs.Ordering.{is_lt}
@@ -25,7 +25,7 @@ use Rattle.jj_matchers.proofs.PatternSound.{tail_passes-append, passed, passes a
 use Rattle.jj_matchers.specs.Visits.{is_among, sets_answer}
 use Rattle.jj_matchers.proofs.Children.{any_named, sets_are}
 use Rattle.jj_matchers.proofs.Marked.{leads-blank}
-use Rattle.jj_matchers.proofs.Wanted.{or_left, both_true, any_implies, same_members}
+use Rattle.jj_matchers.proofs.Wanted.{any_implies, same_members}
 
 -- 1. Lists.
 
@@ -337,7 +337,7 @@ module _ {X : Type 0} where
             let dir = dir_of one.item in
             pattern_any tree test dir
             (known dir (λ glob. test (dir, glob))
-            ∙ one.found (λ x. path_eq dir (dir_of x) && test (dir, glob_of x)) (both_true (path_eq dir dir) (test (dir, glob_of one.item)) ((path_eq-Decides dir dir).1 refl) one.passes))
+            ∙ one.found (λ x. path_eq dir (dir_of x) && test (dir, glob_of x)) (and_from (path_eq dir dir) (test (dir, glob_of one.item)) ((path_eq-Decides dir dir).1 refl) one.passes))
 
 -- 7. The names of the children.
 

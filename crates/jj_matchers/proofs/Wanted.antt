@@ -1,7 +1,7 @@
 -- The answers for sets of paths that are given by a list are sound.
-use Rattle.std.proofs.Common.{◌≡◌, Bool, true, false, ◌&&◌, ◌||◌, List, [], ◌∷◌, ◌++◌, map, Contains, Decides, get_or, refl, ap, sym, subst, ◌∙◌, append_assoc, inl, inr, if◌then◌else◌}
+use Rattle.std.proofs.Common.{◌≡◌, Bool, true, false, ◌||◌, List, [], ◌∷◌, ◌++◌, map, Contains, Decides, get_or, refl, ap, sym, subst, ◌∙◌, append_assoc, inl, inr, if◌then◌else◌}
 use mathlib.Core.Bool.{false≢true}
-use Rattle.std.proofs.lemmas.Bool.{and_parts, or_cases, or_right}
+use Rattle.std.proofs.lemmas.Bool.{and_from, and_parts, false_from_ne_true, or_cases, or_left, or_right}
 use Rattle.std.specs.Str.{bytes_eq}
 use Rattle.std.specs.Cmp.{both_ways}
 use Rattle.std.specs.List.{list_any}
@@ -11,13 +11,6 @@ use Rattle.jj_paths.specs.Paths.{Name, Path}
 use Rattle.jj_paths.specs.Orders.{path_eq, path_eq-Decides}
 use Rattle.jj_matchers.specs.Answers.{all_recursively, specific, nothing, IsSound}
 use Rattle.jj_matchers.specs.Wanted.{is_at_or_below, is_below, is_wanted, HasSamePaths, leads_to_wanted, files_answer, has_prefix, leads_to_prefix, prefix_answer}
-
-pub or_left : (a b : Bool) → a ≡ true → (a || b) ≡ true
-or_left a b e = ap (λ x. x || b) e
-
-pub false_if : (b : Bool) → (b ≡ true → ⊥) → b ≡ false
-false_if true refused = absurd (refused refl)
-false_if false refused = refl
 
 module _ {X : Type 0} where
   -- what passes one test passes another, so does something of a list
@@ -29,29 +22,26 @@ module _ {X : Type 0} where
   pub any_beyond : (p q r : X → Bool) → ((x : X) → p x ≡ true → q x ≡ false → r x ≡ true) → (xs : List X) → list_any q xs ≡ false → list_any p xs ≡ true → list_any r xs ≡ true
   any_beyond p q r f [] none_pass h = absurd (false≢true h)
   any_beyond p q r f (x ∷ xs) none_pass h =
-      let here : q x ≡ false = false_if (q x) (λ e. false≢true (sym none_pass ∙ or_left (q x) (list_any q xs) e)) in
-      let later : list_any q xs ≡ false = false_if (list_any q xs) (λ e. false≢true (sym none_pass ∙ or_right (q x) (list_any q xs) e)) in
+      let here : q x ≡ false = false_from_ne_true (q x) (λ e. false≢true (sym none_pass ∙ or_left (q x) (list_any q xs) e)) in
+      let later : list_any q xs ≡ false = false_from_ne_true (list_any q xs) (λ e. false≢true (sym none_pass ∙ or_right (q x) (list_any q xs) e)) in
       elim (or_cases (p x) (list_any p xs) h) [ inl e ↦ or_left (r x) (list_any r xs) (f x e here) | inr e ↦ or_right (r x) (list_any r xs) (any_beyond p q r f xs later e) ]
 
 bytes_eq-same : (name : Name) → bytes_eq name name ≡ true
 bytes_eq-same name = (bytes_eq-Decides name name).1 refl
 
-pub both_true : (a b : Bool) → a ≡ true → b ≡ true → (a && b) ≡ true
-both_true a b e f = ap (λ x. x && b) e ∙ f
-
 -- what is below a directory
 pub is_below-append : (dir : Path) (name : Name) (rest : Path) → is_below dir (dir ++ name ∷ rest) ≡ true
 is_below-append [] name rest = refl
-is_below-append (d ∷ dir) name rest = both_true (bytes_eq d d) _ (bytes_eq-same d) (is_below-append dir name rest)
+is_below-append (d ∷ dir) name rest = and_from (bytes_eq d d) _ (bytes_eq-same d) (is_below-append dir name rest)
 
 pub is_at_or_below-append : (base rest : Path) → is_at_or_below base (base ++ rest) ≡ true
 is_at_or_below-append [] rest = refl
-is_at_or_below-append (d ∷ base) rest = both_true (bytes_eq d d) _ (bytes_eq-same d) (is_at_or_below-append base rest)
+is_at_or_below-append (d ∷ base) rest = and_from (bytes_eq d d) _ (bytes_eq-same d) (is_at_or_below-append base rest)
 
 pub at_or_below_more : (base path rest : Path) → is_at_or_below base path ≡ true → is_at_or_below base (path ++ rest) ≡ true
 at_or_below_more [] path rest h = refl
 at_or_below_more (d ∷ base) [] rest h = absurd (false≢true h)
-at_or_below_more (d ∷ base) (p ∷ path) rest h = both_true (bytes_eq d p) _ (and_parts (bytes_eq d p) (is_at_or_below base path) h).0 (at_or_below_more base path rest (and_parts (bytes_eq d p) (is_at_or_below base path) h).1)
+at_or_below_more (d ∷ base) (p ∷ path) rest h = and_from (bytes_eq d p) _ (and_parts (bytes_eq d p) (is_at_or_below base path) h).0 (at_or_below_more base path rest (and_parts (bytes_eq d p) (is_at_or_below base path) h).1)
 
 -- the rest of a path below a base
 pub below_base : (base path : Path) → is_at_or_below base path ≡ true → (rest : Path) × (path ≡ base ++ rest)
@@ -86,7 +76,7 @@ reaches_below (p ∷ prefix) [] rest h refused =
     record { name = p; middle = prefix; end = below.0; is = refl; of = below.1 }
 reaches_below (p ∷ prefix) (d ∷ dir) rest h refused =
     let parts = and_parts (bytes_eq p d) (is_at_or_below prefix (dir ++ rest)) h in
-    let further = reaches_below prefix dir rest parts.1 (false_if _ (λ e. false≢true (sym refused ∙ both_true (bytes_eq p d) (is_at_or_below prefix dir) parts.0 e))) in
+    let further = reaches_below prefix dir rest parts.1 (false_from_ne_true _ (λ e. false≢true (sym refused ∙ and_from (bytes_eq p d) (is_at_or_below prefix dir) parts.0 e))) in
     record { name = further.name; middle = further.middle; end = further.end; is = ap (λ x. x ∷ prefix) ((bytes_eq-Decides p d).0 parts.0) ∙ ap (λ l. d ∷ l) further.is; of = further.of }
 
 module _ (wanted : List Path) where
@@ -103,7 +93,7 @@ module _ (wanted : List Path) where
         dirs_named = λ name next rest h. wanted_below (dir ++ name ∷ []) next rest (ap (is_wanted wanted) (append_assoc dir (name ∷ []) (next ∷ rest)) ∙ h);
         dirs_open = λ name h. h;
       }
-      by_cases false e = λ name rest. false_if _ (λ h. false≢true (sym e ∙ wanted_below dir name rest h))
+      by_cases false e = λ name rest. false_from_ne_true _ (λ h. false≢true (sym e ∙ wanted_below dir name rest h))
 
 module _ (prefixes : List Path) where
   abbrev pub prefix_opens : Path → Bool
@@ -148,7 +138,7 @@ module _ (prefixes : List Path) where
         dirs_named = λ name next rest h. prefix_deeper dir name next rest e h;
         dirs_open = λ name h. or_right _ _ h;
       }
-      by_cases false false e f = λ name rest. false_if _ (λ h. false≢true (sym f ∙ prefix_below dir name rest e h))
+      by_cases false false e f = λ name rest. false_from_ne_true _ (λ h. false≢true (sym f ∙ prefix_below dir name rest e h))
 
   -- the answer at or below a prefix
   pub prefix_inside : (dir : Path) → has_prefix prefixes dir ≡ true → all_recursively ≡ prefix_answer prefixes dir

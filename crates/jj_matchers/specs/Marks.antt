@@ -63,3 +63,7 @@ has_mark node = node.value
 
 abbrev pub any_node : Tree Bool → Bool
 any_node node = true
+
+-- whether a child is worth a look as a directory: any is, or those with children
+abbrev pub counts_as_dir : Bool → Tree Bool → Bool
+counts_as_dir all_dirs node = all_dirs || has_children node

@@ -5,7 +5,7 @@ ghost use Rattle.jj_paths.specs.Names.{path_of};
 ghost use Rattle.jj_matchers.specs.Candidates.{names_of};
 ghost use Rattle.jj_matchers.specs.Wanted.{HasSamePaths, is_wanted, leads_to_wanted, files_answer};
 
-use crate::matchers::children_visit::visit_files;
+use crate::matchers::children_visit::visit_children;
 use crate::matchers::{Matcher, Visit, marked_tree};
 use jj_paths::repo_path::RepoPath;
 use jj_paths::repo_path_tree::RepoPathTree;
@@ -60,7 +60,7 @@ impl Matcher for FilesMatcher {
     fn visit(&self, alloc: Global, dir: RepoPath<'_>) -> Result<Visit, AllocError> {
         match self.tree.get(dir) {
             Some(node) => {
-                let visit = visit_files(alloc, node)?;
+                let visit = visit_children(alloc, node, false)?;
                 Ok(visit)
             }
             None => Ok(Visit::Nothing),

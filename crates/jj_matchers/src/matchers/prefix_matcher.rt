@@ -5,7 +5,7 @@ ghost use Rattle.jj_paths.specs.Names.{path_of};
 ghost use Rattle.jj_matchers.specs.Candidates.{names_of};
 ghost use Rattle.jj_matchers.specs.Wanted.{HasSamePaths, has_prefix, leads_to_prefix, prefix_answer};
 
-use crate::matchers::children_visit::visit_prefixes;
+use crate::matchers::children_visit::visit_children;
 use crate::matchers::{Matcher, Visit, marked_tree};
 use jj_paths::repo_path::RepoPath;
 use jj_paths::repo_path_tree::RepoPathTree;
@@ -60,7 +60,7 @@ impl Matcher for PrefixMatcher {
         }
         match self.tree.get(dir) {
             Some(node) => {
-                let visit = visit_prefixes(alloc, node)?;
+                let visit = visit_children(alloc, node, true)?;
                 Ok(visit)
             }
             None => Ok(Visit::Nothing),
