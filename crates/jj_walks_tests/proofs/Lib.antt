@@ -6,4 +6,3 @@ pub mod Sound
 pub mod Grouping
 pub mod Ranks
 pub mod Newest
-pub mod Showing

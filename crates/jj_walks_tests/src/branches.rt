@@ -136,6 +136,11 @@ mod tests {
 
     #[test]
     fn the_wanted_branch_comes_first(rt: HostRuntime) -> Result<(), Fail> {
-        Ok(wanted_first(&rt, rt.alloc()).or_else(|_| wanted_first(&rt, rt.alloc()))?)
+        let alloc = rt.alloc();
+        let first = wanted_first(&rt, alloc);
+        if first.is_err() {
+            wanted_first(&rt, alloc)?;
+        }
+        Ok(())
     }
 }

@@ -122,6 +122,11 @@ mod tests {
 
     #[test]
     fn newest_commits_come_first(rt: HostRuntime) -> Result<(), Fail> {
-        Ok(newest_of_five(&rt, rt.alloc()).or_else(|_| newest_of_five(&rt, rt.alloc()))?)
+        let alloc = rt.alloc();
+        let first = newest_of_five(&rt, alloc);
+        if first.is_err() {
+            newest_of_five(&rt, alloc)?;
+        }
+        Ok(())
     }
 }

@@ -189,7 +189,12 @@ fn rows<R: Abort>(rt: &R, alloc: Global) -> Result<(), AllocError> {
 
 #[test]
 fn grouped_orders(rt: HostRuntime) -> Result<(), Fail> {
-    Ok(rows(&rt, rt.alloc()).or_else(|_| rows(&rt, rt.alloc()))?)
+    let alloc = rt.alloc();
+    let first = rows(&rt, alloc);
+    if first.is_err() {
+        rows(&rt, alloc)?;
+    }
+    Ok(())
 }
 
 // A run that ends with an error, and is asked again.
@@ -211,5 +216,10 @@ fn asks_after_the_end<R: Abort>(rt: &R, alloc: Global) -> Result<(), AllocError>
 
 #[test]
 fn an_ended_run_answers_none(rt: HostRuntime) -> Result<(), Fail> {
-    Ok(asks_after_the_end(&rt, rt.alloc()).or_else(|_| asks_after_the_end(&rt, rt.alloc()))?)
+    let alloc = rt.alloc();
+    let first = asks_after_the_end(&rt, alloc);
+    if first.is_err() {
+        asks_after_the_end(&rt, alloc)?;
+    }
+    Ok(())
 }

@@ -16,8 +16,6 @@ mod closest_common_tests;
 pub mod commits;
 pub mod failing_callers;
 #[cfg(test)]
-mod graphs;
-#[cfg(test)]
 mod grouped;
 #[cfg(test)]
 mod hostile;
@@ -41,5 +39,3 @@ mod texts;
 mod topo_order_reverse_ord_tests;
 #[cfg(test)]
 mod walk_errors;
-#[cfg(test)]
-pub mod walked;

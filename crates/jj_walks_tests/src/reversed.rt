@@ -131,7 +131,12 @@ fn turns_graphs<R: Abort>(rt: &R, alloc: Global) -> Result<(), AllocError> {
 
 #[test]
 fn graphs_are_turned_round(rt: HostRuntime) -> Result<(), Fail> {
-    Ok(turns_graphs(&rt, rt.alloc()).or_else(|_| turns_graphs(&rt, rt.alloc()))?)
+    let alloc = rt.alloc();
+    let first = turns_graphs(&rt, alloc);
+    if first.is_err() {
+        turns_graphs(&rt, alloc)?;
+    }
+    Ok(())
 }
 
 fn answers_failed_node<R: Abort>(rt: &R, alloc: Global) -> Result<(), AllocError> {
@@ -147,5 +152,10 @@ fn answers_failed_node<R: Abort>(rt: &R, alloc: Global) -> Result<(), AllocError
 
 #[test]
 fn a_failed_node_is_answered(rt: HostRuntime) -> Result<(), Fail> {
-    Ok(answers_failed_node(&rt, rt.alloc()).or_else(|_| answers_failed_node(&rt, rt.alloc()))?)
+    let alloc = rt.alloc();
+    let first = answers_failed_node(&rt, alloc);
+    if first.is_err() {
+        answers_failed_node(&rt, alloc)?;
+    }
+    Ok(())
 }
