@@ -17,13 +17,11 @@ use Rattle.jj_walks.proofs.CandidateLists.{and_left, and_right}
 use Rattle.jj_walks.proofs.Histories.{cons-cases, cons-first, cons-later}
 use Rattle.jj_walks.proofs.HistoryLists.{congr-right}
 use Rattle.jj_walks.proofs.KeptHistories.{has_id-append, positive-count}
+use Rattle.jj_walks.proofs.Plain.{no-false}
 
 no-push : {A : Type 0} (xs : List A) (x : A) → [] ≡ xs ++ x ∷ [] → ⊥
 no-push [] x e = cc
 no-push (y ∷ ys) x e = cc
-
-no-false : {A : Type 0} → false ≡ true → A
-no-false e = absurd (true≢false (sym e))
 
 abbrev one-if : Bool → ℕ
 one-if b = cond b 1 0

@@ -14,6 +14,7 @@ use Rattle.jj_walks.proofs.LookingAhead.{copies_short}
 use Rattle.jj_walks.proofs.Reaching.{Contains-reached, Reaches-trans, edge_then_Reaches}
 use Rattle.jj_walks.proofs.ReadyOrders.{twice, tail_distinct, here, later, at_split}
 use Rattle.jj_walks.proofs.Walking.{has, has-from_Contains, Contains-from_has}
+use Rattle.jj_walks.proofs.Plain.{nothing, one_distinct, only}
 
 -- ---- lists
 
@@ -238,9 +239,6 @@ module _ {T ID K : Type 0} (w : Numbered T ID) (items : FailingGraph K) (starts 
         let out : Contains explored c.0 → ⊥ = λ k. nothing c.0 (behind z.0 [] z.1 c.0 z.2 k c.1) in
         (z.1, c.0, in_z, c.1, ⊎_elim (λ l. absurd (out l)) (λ k. k) (goes z.1 c.0 in_z c.1), out)
       where
-        nothing : (b : ℕ) → Contains [] b → ⊥
-        nothing b (k, lt, e) = omega arith
-
         no_given : (l : List T) → ((a : ℕ) → Contains (map w.node l) a → ⊥) → l ≡ []
         no_given [] none = refl
         no_given (x ∷ l) none = absurd (none (w.node x) (0, omega arith, refl))
@@ -342,17 +340,9 @@ module _ {T ID K : Type 0} (w : Numbered T ID) (items : FailingGraph K) (starts 
 
 -- ---- the next chunk of any starts
 
-one_distinct : (a : ℕ) → IsDistinct eqb (a ∷ [])
-unfolding IsDistinct
-one_distinct a = (tt, tt)
-
 none_distinct : IsDistinct eqb []
 unfolding IsDistinct
 none_distinct = tt
-
-only : (a b : ℕ) → Contains (a ∷ []) b → a ≡ b
-only a b (zero, lt, e) = e
-only a b (suc k, lt, e) = absurd (omega arith)
 
 pub none_next : (g : Graph) → IsNextChunk g [] [] []
 none_next g = record {

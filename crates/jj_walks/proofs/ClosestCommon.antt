@@ -21,6 +21,7 @@ use Rattle.jj_walks.proofs.Collecting.{are_nodes}
 use Rattle.jj_walks.proofs.CommonMarks.{IsBoth, Passes, IsMarking, IsAtEnd, at_mark, marks_more, marking_more, marking_asked, passes_marked, passes_kept, is_common, end_common, end_maximal, maximal_ends}
 use Rattle.jj_walks.proofs.Reaching.{ReachedFrom-edge}
 use Rattle.jj_walks.proofs.Walking.{has, has-push, has-from_Contains, Contains-from_has, Decides-has, eqb-flip}
+use Rattle.jj_walks.proofs.Plain.{nothing}
 
 -- ---- tests
 
@@ -51,9 +52,6 @@ true_not_false : {b : Bool} → b ≡ true → b ≡ false → ⊥
 true_not_false e f = true≢false (sym e ∙ f)
 
 -- ---- lists
-
-nothing : (b : ℕ) → Contains [] b → ⊥
-nothing b (k, lt, e) = omega arith
 
 has-permutation : (xs ys : List ℕ) → IsPermutation xs ys → (b : ℕ) → has ys b ≡ has xs b
 has-permutation xs ys p b = one_answer (has ys b) (has xs b) (Decides-has ys b) ((λ e. Contains-permutation xs ys b p (Contains-from_has xs b e)), (λ h. has-from_Contains xs b (Contains-permutation ys xs b (IsPermutation-sym xs ys p) h)))

@@ -12,6 +12,7 @@ use Rattle.jj_walks.specs.declared.closest_common.Reach.{Reach}
 use Rattle.jj_walks.specs.Marks.{joined, grows, handed_on}
 use Rattle.jj_walks.proofs.Walking.{has, has-from_Contains, Contains-from_has}
 use Rattle.jj_walks.proofs.Reaching.{Reaches-trans, Reaches-then_strictly, edge_then_Reaches, ReachedFrom-edge}
+use Rattle.jj_walks.proofs.Plain.{neither}
 
 -- ---- tests
 
@@ -195,10 +196,6 @@ module _ (g : Graph) (set1 set2 : List ℕ) where
   head_or_rest a todo c (zero, lt, e) = inl e
   head_or_rest a todo c (suc n, lt, e) = inr (n, omega arith, e)
 
-  or_false : (a b : Bool) → (a || b) ≡ false → (a ≡ false) × (b ≡ false)
-  or_false true b e = absurd (true≢false e)
-  or_false false b e = (refl, e)
-
   pub marking_asked : {m : ℕ → Reach} {todo found : List ℕ} {rooted : Bool} (a : ℕ) (found2 : List ℕ) (is_root : Bool) → IsMarking m (a ∷ todo) found rooted
       → (Contains todo a → ⊥) → ((b : ℕ) → HasEdge g a b → Passes (m a) (m b))
       → ((c : ℕ) → Contains found2 c ↔ (Contains found c ⊎ ((c ≡ a) × IsBoth (m a)))) → IsDistinct eqb found2
@@ -221,7 +218,7 @@ module _ (g : Graph) (set1 set2 : List ℕ) where
         );
         once = once;
         leads = λ none acyclic c both.
-            let parts = or_false rooted is_root none in
+            let parts = neither rooted is_root none in
             let w = s.leads parts.0 acyclic c both in
             ⊎_elim (λ at. goes_on parts.0 parts.1 acyclic c w.0 at w.2 w.3) (λ rest. (w.0, rest, w.2, w.3)) (head_or_rest a todo w.0 w.1);
       }

@@ -1,5 +1,5 @@
 -- Lemmas about depth-first walks over items that may fail.
-use Rattle.std.proofs.Common.{◌≡◌, ℕ, zero, suc, Bool, true, false, cond, ◌||◌, List, [], ◌∷◌, ◌++◌, map, reverse, refl, sym, ◌∙◌, ap, subst, arith, ◌==◌, append-nil, ⊎_elim, true≢false, Option, Result, Ok, Err}
+use Rattle.std.proofs.Common.{◌≡◌, ℕ, zero, suc, Bool, true, false, cond, List, [], ◌∷◌, ◌++◌, map, reverse, refl, sym, ◌∙◌, ap, subst, arith, ◌==◌, append-nil, ⊎_elim, true≢false, Option, Result, Ok, Err}
 use Rattle.std.proofs.lemmas.List.{reverse-append}
 use Rattle.std.proofs.lemmas.List.Elements.{Contains-push, Contains-append_left, Contains-append_right, Contains-append_cases, filter_map-append}
 use Rattle.std.specs.Iterator.{Yields, AlwaysYields}
@@ -11,6 +11,7 @@ use Rattle.jj_walks.specs.Failing.Fault.{exactly}
 use Rattle.jj_walks.specs.Failing.FailingPreorder.{ended, failed, passed, entered}
 use Rattle.jj_walks.specs.Walk.{Numbered, AreNodes}
 use Rattle.jj_walks.proofs.Walking.{has, has-push, has-from_Contains, Contains-from_has, eqb-flip}
+use Rattle.jj_walks.proofs.Plain.{or_cond}
 
 -- ---- items that did not fail
 
@@ -195,10 +196,6 @@ module _ {T ID K : Type 0} (w : Numbered T ID) (items : FailingGraph K) where
             (subst (λ (l : List (Result ℕ K)). FailingPreorder items l (given ++ Ok a ∷ []) out) (reverse-append rest (items a)) p) in
             continues starts work given rest (Ok a) e k.rest out (entered fresh all.1 all.2);
       }
-    where
-      or_cond : (b d : Bool) → cond b true d ≡ (b || d)
-      or_cond true d = refl
-      or_cond false d = refl
 
   -- where nothing is left to do, what was given is the whole walk
   pub walked_items : {starts : List (Result ℕ K)} {test : ID → Bool} {work given : List (Result ℕ K)} → IsWalkingItems w items starts test work given → work ≡ []

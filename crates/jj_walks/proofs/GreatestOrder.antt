@@ -18,6 +18,7 @@ use Rattle.jj_walks.proofs.Collecting.{are_nodes}
 use Rattle.jj_walks.proofs.FailingOrders.{ReachedFrom-same}
 use Rattle.jj_walks.proofs.ReadyOrders.{here, later, IsChildFirst-from_taken, IsGreatest-from_taken, HasNoCycle-from_child_first, cycle_from_stuck}
 use Rattle.jj_walks.proofs.Relabelled.{Contains-map, AtPlaces, relabelled, StrictlyReaches-up}
+use Rattle.jj_walks.proofs.Plain.{nothing}
 
 -- ---- places of a list
 
@@ -52,9 +53,6 @@ linked_within {X} find ids ts n e places a b h =
           absurd (nothing b (subst (λ (l : List ℕ). Contains l b) past q))
     ]
   where
-    nothing : (b : ℕ) → Contains [] b → ⊥
-    nothing b (k, lt, e) = absurd (omega arith)
-
     cases_lt : (a n : ℕ) → (a < n) ⊎ (n ≤ a)
     cases_lt a n = grind arith
 

@@ -13,6 +13,7 @@ use Rattle.jj_walks.specs.Walk.{Numbered, AreNodes, StandsForNodes}
 use Rattle.jj_walks.proofs.Walking.{has, has-push, has-from_Contains, Contains-from_has, eqb-flip, numbers}
 use Rattle.jj_walks.proofs.Reaching.{ReachedFrom-edge}
 use Rattle.jj_walks.proofs.Searching.{Seen, IsSearching, search_met, search_asked, search_maximal, met_not_maximal}
+use Rattle.jj_walks.proofs.Plain.{nothing, only, or_cond}
 
 -- ---- lists
 
@@ -41,11 +42,7 @@ found_at p xs x (k, lt, e) t = list_any_at p xs k x lt (subst (λ y. p y ≡ tru
 -- a key that was put, or was there
 Contains-put : {K : Type 0} (old new : List K) (k : K) (added : Bool) → MatchBool added (IsPermutation (k ∷ old) new) (new ≡ old) → (x : K) → Contains new x → Contains old x ⊎ (k ≡ x)
 Contains-put old new k true moved x h =
-    ⊎_elim (λ first. inr (only first)) (λ rest. inl rest) (Contains-append_cases (k ∷ []) old x (Contains-permutation new (k ∷ old) x (IsPermutation-sym (k ∷ old) new moved) h))
-  where
-    only : Contains (k ∷ []) x → k ≡ x
-    only (zero, lt, e) = e
-    only (suc n, lt, e) = absurd (omega arith)
+    ⊎_elim (λ first. inr (only k x first)) (λ rest. inl rest) (Contains-append_cases (k ∷ []) old x (Contains-permutation new (k ∷ old) x (IsPermutation-sym (k ∷ old) new moved) h))
 Contains-put {K} old new k false same x h = inl (subst (λ (l : List K). Contains l x) same h)
 
 pub none_contained : {T : Type 0} (xs : List T) → xs ≡ [] → (x : T) → Contains xs x → ⊥
@@ -62,10 +59,6 @@ has-again : (xs : List ℕ) (a : ℕ) → has xs a ≡ true → (b : ℕ) → ha
 has-again xs a seen b =
     let P : Bool → Type 0 = λ t. b == a ≡ t → (t || has xs b) ≡ has xs b in
     has-push xs a b ∙ elim (b == a) as (λ t. b == a ≡ t → (t || has xs b) ≡ has xs b) [ true ↦ λ e. sym (subst (λ (n : ℕ). has xs n ≡ true) (sym ((Decides-eqb b a).0 e)) seen) | false ↦ λ e. refl ] refl
-
-or_cond : (b d : Bool) → cond b true d ≡ (b || d)
-or_cond true d = refl
-or_cond false d = refl
 
 or_false : (b : Bool) → b ≡ (b || false)
 or_false true = refl
@@ -121,9 +114,6 @@ module _ {T ID : Type 0} (w : Numbered T ID) where
     waits = λ a h. h;
     all = λ a h. h;
   }
-    where
-      nothing : (x : T) → Contains [] x → ⊥
-      nothing x (k, lt, e) = omega arith
 
   pub started_again : {starts : List ℕ} {keys : List T} {in_heads : T → Bool} {test : ID → Bool} {waiting : List ℕ} (x : T) → IsStarted starts keys in_heads test waiting
       → w.is_node (w.node x) ≡ true → in_heads x ≡ true → IsStarted (starts ++ w.node x ∷ []) keys in_heads test waiting
@@ -180,9 +170,6 @@ module _ {T ID : Type 0} (w : Numbered T ID) where
     knows = λ i h. k.knows i h ∙ or_false (has starts (w.id i));
   }
     where
-      nothing : (b : ℕ) → Contains [] b → ⊥
-      nothing b (n, lt, e) = omega arith
-
       waits_now : (a : ℕ) → Seen starts [] a → Contains waiting a
       waits_now a (inl h) = k.all a h
       waits_now a (inr h) = absurd (nothing a h)
@@ -346,10 +333,6 @@ pub adds_more : {T : Type 0} (first ys old new : List T) (y : T) → ((b : T) �
     → (b : T) → Contains new b → Contains first b ⊎ Contains (ys ++ y ∷ []) b
 adds_more {T} first ys old new y before one b h =
     ⊎_elim (λ o. ⊎_elim (λ l. inl l) (λ r. inr (Contains-append_left ys (y ∷ []) b r)) (before b o)) (λ same. inr (subst (λ (z : T). Contains (ys ++ y ∷ []) z) same (Contains-push ys y))) (one b h)
-
-pub neither : (a b : Bool) → (a || b) ≡ false → (a ≡ false) × (b ≡ false)
-neither true b e = absurd (true≢false e)
-neither false b e = (refl, e)
 
 -- where the waiting list grew, more ids were visited
 pub search_falls : (v v2 rest all all2 : ℕ) → v < 2 ^ 63 → all2 < 2 ^ 63 → all ≡ suc rest → v2 + rest ≡ v + all2 → rest ≤ all2

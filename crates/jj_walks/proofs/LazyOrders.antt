@@ -1,5 +1,5 @@
 -- How an order grows chunk by chunk, and what it is at its end.
-use Rattle.std.proofs.Common.{◌≡◌, ℕ, zero, suc, List, [], ◌∷◌, ◌++◌, refl, sym, ◌∙◌, ap, subst, arith, inl, inr, ◌⊎◌, ⊎_elim, append_assoc, eqb}
+use Rattle.std.proofs.Common.{◌≡◌, ℕ, zero, suc, List, [], ◌∷◌, ◌++◌, refl, sym, ◌∙◌, ap, subst, inl, inr, ◌⊎◌, ⊎_elim, append_assoc, eqb}
 use Rattle.std.specs.List.{Contains, IsDistinct}
 use Rattle.std.proofs.lemmas.List.Elements.{Contains-append_left, Contains-append_right, Contains-append_cases}
 use Rattle.jj_walks.specs.Chunks.{IsStretch, IsBegun, LeadsOn, LeadsForward, NoneFailed}
@@ -8,13 +8,7 @@ use Rattle.jj_walks.specs.Graph.{Graph, HasEdge, Path, Reaches, StrictlyReaches,
 use Rattle.jj_walks.proofs.FailingOrders.{ReachedFrom-same}
 use Rattle.jj_walks.proofs.Reaching.{Contains-split, Contains-reached, Reaches-trans, edge_then_Reaches}
 use Rattle.jj_walks.proofs.ReadyOrders.{here, at_split, twice}
-
-nothing : (b : ℕ) → Contains [] b → ⊥
-nothing b (k, lt, e) = omega arith
-
-only : (a b : ℕ) → Contains (a ∷ []) b → a ≡ b
-only a b (zero, lt, e) = e
-only a b (suc k, lt, e) = absurd (omega arith)
+use Rattle.jj_walks.proofs.Plain.{nothing, one_distinct, only}
 
 -- a place in two lists, one after the other, is in the first or in the second
 split_append : (xs ys front back : List ℕ) (a : ℕ) → xs ++ ys ≡ front ++ a ∷ back
@@ -96,10 +90,6 @@ leads_more g starts order left chunk left2 leads stretch = record {
       (λ old. let from = stretch.reached b (inr r) in strictly_then g a from.0 b (leads.above a from.0 old from.1) from.2)
       (λ new. stretch.above a b new r) (Contains-append_cases order chunk a h);
 }
-
-pub one_distinct : (a : ℕ) → IsDistinct eqb (a ∷ [])
-unfolding IsDistinct
-one_distinct a = (tt, tt)
 
 -- a chunk of one node leaves its neighbours
 pub one_stretch : (g : Graph) (a : ℕ) → IsStretch g (a ∷ []) (a ∷ []) (g a)

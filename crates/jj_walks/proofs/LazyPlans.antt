@@ -1,5 +1,5 @@
 -- What is left of a lazy order, step by step.
-use Rattle.std.proofs.Common.{◌≡◌, ℕ, zero, suc, ◌==◌, ◌||◌, ◌<◌, length, not, true≢false, Bool, true, false, cond, List, [], ◌∷◌, ◌++◌, map, reverse, refl, sym, ◌∙◌, ap, subst, arith, inl, append_assoc, append-nil, eqb, Option, Some, None, Result, Ok, Err, MatchOption}
+use Rattle.std.proofs.Common.{◌≡◌, ℕ, ◌==◌, ◌||◌, ◌<◌, length, Bool, true, false, cond, List, [], ◌∷◌, ◌++◌, map, reverse, refl, sym, ◌∙◌, ap, subst, arith, inl, append_assoc, append-nil, eqb, Option, Some, None, Result, Ok, Err, MatchOption}
 use Rattle.std.specs.Fn.{Shared, Mut}
 use Rattle.std.specs.HashSet.{contains}
 use Rattle.std.specs.List.{Contains, IsDistinct}
@@ -16,10 +16,11 @@ use Rattle.jj_walks.specs.LazySteps.{IsPlanOf, HasNothing, ordered}
 use Rattle.jj_walks.specs.Walk.{Numbered, AreNodes}
 use Rattle.jj_walks.proofs.Collecting.{are_nodes}
 use Rattle.jj_walks.proofs.FailingOrders.{ReachedFrom-same, none_of_nodes}
-use Rattle.jj_walks.proofs.LazyOrders.{begun_none, leads_none, begun_more, leads_more, one_distinct, one_stretch, sound_more, ended_acyclic, ended_order, ended_sound, again_cycle}
+use Rattle.jj_walks.proofs.LazyOrders.{begun_none, leads_none, begun_more, leads_more, one_stretch, sound_more, ended_acyclic, ended_order, ended_sound, again_cycle}
 use Rattle.jj_walks.proofs.Reaching.{Reaches-trans}
 use Rattle.jj_walks.proofs.ReadyOrders.{at_split}
 use Rattle.jj_walks.proofs.Walking.{has, has-push, eqb-flip, Contains-from_has}
+use Rattle.jj_walks.proofs.Plain.{nothing, one_distinct, only, or_cond}
 
 reached_through : (g : Graph) (starts left : List ℕ) → ((b : ℕ) → Contains left b → ReachedFrom g starts b) → (a : ℕ) → ReachedFrom g left a → ReachedFrom g starts a
 reached_through g starts left through a (s, at, (n, p)) =
@@ -35,10 +36,6 @@ pub failure_through : {E : Type 0} (g : Graph) (items : FailingGraph (Fault E)) 
 failure_through g items starts left e same through (a, fault, reached, at, is) =
     let out = reached_through g starts left through a (ReachedFrom-same (sound items) g (λ b. sym (same b)) left a reached) in
     (a, fault, ReachedFrom-same g (sound items) same starts a out, at, is)
-
-or_cond : (b d : Bool) → cond b true d ≡ (b || d)
-or_cond true d = refl
-or_cond false d = refl
 
 module _ {T ID E F N C U S : Type 0} (ids : Shared F (Bor T × Unit {0}) ID) (lists : Mut N (Bor T × Unit {0}) U) (eq : ID → ID → Bool) (becomes : U → S → Type 0)
     (steps : S → Option (Result T E) → S → Type 0) (w : Numbered T ID) (items : FailingGraph (Fault E)) (on_cycle : C) (starts : List ℕ) (given : List T) (s t : Plan T ID E F N C) where
@@ -96,10 +93,6 @@ module _ {T ID E F N C U S : Type 0} (ids : Shared F (Bor T × Unit {0}) ID) (li
       plan_more (node ∷ []) left k empty whole shown cycle same (ap reverse ready) start none
       (subst (λ (l : List T). IsStretch w.graph (map w.node l) (w.node node ∷ []) (map w.node left)) (sym alone) stretch)
       (λ a h fault bad. none_of_nodes w.node left fault (subst (λ (l : List (Result ℕ (Fault E))). Contains l (Err fault)) answered (subst (λ (n : ℕ). Contains (items n) (Err fault)) (sym (only (w.node node) a h)) bad)))
-    where
-      only : (a b : ℕ) → Contains (a ∷ []) b → a ≡ b
-      only a b (zero, lt, e) = e
-      only a b (suc k, lt, e) = absurd (omega arith)
 
   pub plan_failed : (node : T) (error : E) → IsPlanOf ids lists w items eq becomes steps on_cycle starts given s → s.ready.items ≡ [] → s.failed ≡ None → s.start.items ≡ node ∷ []
       → ShowsItems w items eq ids lists becomes steps t.graph.id_fn t.graph.neighbors_fn → t.cycle_fn ≡ s.cycle_fn → t.emitted ≡ s.emitted
@@ -239,18 +232,7 @@ pub chunk_some : {T : Type 0} (node : T → ℕ) (starts nodes turned : List T) 
 chunk_some node [] nodes turned two has e none = omega arith
 chunk_some {T} node (x ∷ starts) nodes turned two has e none =
     let empty : nodes ≡ [] = sym (reverse-reverse nodes) ∙ ap reverse (sym e ∙ none) in
-    gone (node x) (subst (λ (l : List T). Contains (map node l) (node x)) empty (has (node x) (0, omega arith, refl)))
-  where
-    gone : (b : ℕ) → Contains [] b → ⊥
-    gone b (k, lt, q) = omega arith
-
-pub un_not : (b : Bool) → true ≡ not b → b ≡ false
-un_not true e = absurd (true≢false e)
-un_not false e = refl
-
-pub un_not_false : (b : Bool) → false ≡ not b → b ≡ true
-un_not_false true e = refl
-un_not_false false e = absurd (true≢false (sym e))
+    nothing (node x) (subst (λ (l : List T). Contains (map node l) (node x)) empty (has (node x) (0, omega arith, refl)))
 
 -- what holds of an `Ok` for one reason holds for another
 pub ok_weaker : {A B : Type 0} (r : Result A B) (P Q : Type 0) → (P → Q) → OnOk r P → OnOk r Q

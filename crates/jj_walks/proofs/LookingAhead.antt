@@ -13,6 +13,7 @@ use Rattle.jj_walks.specs.Failing.{FailingGraph, sound}
 use Rattle.jj_walks.specs.LookingAhead.{copies, IsLooking, HasLooked}
 use Rattle.jj_walks.specs.Walk.{Numbered, AreNodes}
 use Rattle.jj_walks.proofs.Collecting.{at_place, collecting_starts, collecting_passed, collecting_entered}
+use Rattle.jj_walks.proofs.Plain.{at_most_one, nothing}
 
 copies_cons : {T : Type 0} (node : T → ℕ) (x : T) (xs : List T) (a : ℕ) → copies node (x ∷ xs) a ≡ cond (node x == a) 1 0 + copies node xs a
 copies_cons node x xs a = sum_by-cons (λ y. cond (node y == a) 1 0) x xs
@@ -27,10 +28,6 @@ copies_some node (x ∷ xs) a (suc k, lt, e) =
     let rest : 1 ≤ copies node xs a = copies_some node xs a (k, omega arith, e) in
     let sum = copies_cons node x xs a in
     omega arith
-
-at_most_one : (b : Bool) → cond b 1 0 ≤ 1
-at_most_one true = omega arith
-at_most_one false = omega arith
 
 pub copies_short : {T : Type 0} (node : T → ℕ) (xs : List T) (a : ℕ) → copies node xs a ≤ length xs
 copies_short node [] a = omega arith
@@ -60,14 +57,11 @@ module _ {T ID K : Type 0} (w : Numbered T ID) (items : FailingGraph K) where
       }
 
   pub looking_starts : (xs work given : List T) (ids : List (List ID)) (find : ID → Option ℕ) → IsPermutation xs work → given ≡ [] → ids ≡ [] → ((i : ID) → find i ≡ None) → IsLooking w items (map w.node xs) find false work given ids
-  looking_starts xs work given ids find p none no_ids nothing = record {
-    collecting = collecting_permuted xs work p (collecting_starts w items xs xs given ids find refl none no_ids nothing);
-    twice = λ a b s out in_b e. absurd (no_node b (subst (λ (l : List T). Contains (map w.node l) b) none in_b));
-    rootless = λ f b in_b. absurd (no_node b (subst (λ (l : List T). Contains (map w.node l) b) none in_b));
+  looking_starts xs work given ids find p none no_ids unset = record {
+    collecting = collecting_permuted xs work p (collecting_starts w items xs xs given ids find refl none no_ids unset);
+    twice = λ a b s out in_b e. absurd (nothing b (subst (λ (l : List T). Contains (map w.node l) b) none in_b));
+    rootless = λ f b in_b. absurd (nothing b (subst (λ (l : List T). Contains (map w.node l) b) none in_b));
   }
-    where
-      no_node : (b : ℕ) → Contains [] b → ⊥
-      no_node b (k, lt, e) = omega arith
 
   -- the top was taken, so the other copies of a node still wait
   others : (work rest : List T) (x : T) (a : ℕ) → IsPermutation work (x ∷ rest) → (w.node x ≡ a → ⊥) → copies w.node rest a ≡ copies w.node work a

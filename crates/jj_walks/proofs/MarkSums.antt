@@ -10,6 +10,7 @@ use Rattle.std.proofs.lemmas.Bool.{and_parts, or_cases}
 use Rattle.jj_walks.specs.declared.closest_common.Reach.{Reach}
 use Rattle.jj_walks.specs.declared.closest_common.Mark.{Mark}
 use Rattle.jj_walks.specs.Marks.{mark_at, mark_of, grows, marked, starts_waiting, sides, sides_met}
+use Rattle.jj_walks.proofs.Plain.{at_most_one}
 
 one_more : (k r : Bool) → cond k 1 0 ≤ cond (k || r) 1 0
 one_more true r = omega arith
@@ -40,10 +41,6 @@ sides_start mark added e =
 sides_of : (o : Option Mark) → unwrap_or (option_map sides o) 0 ≡ sides (mark_of o)
 sides_of None = refl
 sides_of (Some mark) = refl
-
-at_most_one : (b : Bool) → cond b 1 0 ≤ 1
-at_most_one true = omega arith
-at_most_one false = omega arith
 
 sides_small : (marks : List Mark) → sum_by sides marks ≤ 2 * length marks
 sides_small [] = omega arith

@@ -1,11 +1,24 @@
 -- What is known of nodes that were collected by a walk, each with the ids of its neighbours.
 -- Machinery of private functions and fields.
-use Rattle.std.specs.Prelude.{◌≡◌, ℕ, ◌<◌, true, Option, MatchOption, List, map, length, slice_index, ◌⊎◌}
+use Rattle.std.specs.Prelude.{◌≡◌, ℕ, ◌<◌, Bool, true, Option, Some, MatchOption, List, map, length, slice_index, ◌⊎◌}
 use Rattle.std.specs.declared.result.Result.TheVariants.{Err}
-use Rattle.std.specs.List.{Contains}
+use Rattle.std.specs.HashMap.{get}
+use Rattle.std.specs.List.{Contains, filter_map}
+use Rattle.jj_walks.specs.declared.greatest_order.Collected.{Collected}
 use Rattle.jj_walks.specs.Graph.{HasEdge, ReachedFrom}
 use Rattle.jj_walks.specs.Failing.{FailingGraph}
 use Rattle.jj_walks.specs.Walk.{Numbered}
+
+-- as many lists of ids as nodes, none of which was taken, and each place is that of a node
+pub record IsFilled {T ID : Type 0} (eq : ID → ID → Bool) (found : Collected T ID) : Type 0 where
+  pub given : List T
+  pub nodes : found.nodes.items ≡ map (λ x. Some x) given
+  pub ids : length found.neighbor_ids.items ≡ length given
+  pub places : (i : ID) (k : ℕ) → get eq found.index_of i ≡ Some k → k < length given
+
+-- the places of the neighbours of each node
+abbrev pub linked : {T ID : Type 0} → (ID → ID → Bool) → Collected T ID → List (List ℕ)
+linked eq found = map (λ v. filter_map (get eq found.index_of) v.items) found.neighbor_ids.items
 
 -- distinct numbers stand at distinct places
 abbrev pub IsInjective : List ℕ → Type 0

@@ -1,8 +1,7 @@
 -- What is known after nodes were asked for their neighbours: one node, the nodes that several
 -- starts reach as far as one node that all of them reach, and these in child-first order.
 -- Machinery of private functions and fields.
-use Rattle.std.specs.Prelude.{◌≡◌, ℕ, ◌<◌, ◌≤◌, Bool, true, List, [], ◌∷◌, map, length, Result, MatchOption}
-use Rattle.std.specs.declared.option.Option.TheVariants.{Some}
+use Rattle.std.specs.Prelude.{◌≡◌, ◌≤◌, Bool, true, List, [], ◌∷◌, map, length, Result, IfOk, MatchOption}
 use Rattle.std.specs.declared.result.Result.TheVariants.{Ok}
 use Rattle.std.specs.Fn.{Shared, Mut}
 use Rattle.std.specs.Global.{Global}
@@ -14,11 +13,14 @@ use denote.Ref.{Bor}
 use Rattle.jj_walks.specs.declared.greatest_order.Collected.{Collected}
 use Rattle.jj_walks.specs.declared.look_ahead.Chunk.{Chunk}
 use Rattle.jj_walks.specs.declared.look_ahead.Shown.{Shown}
+use Rattle.jj_walks.specs.declared.walk_error.WalkError.{WalkError}
 use Rattle.jj_walks.specs.Chunks.{IsChunkOfMany, IsStretch, NoneFailed}
+use Rattle.jj_walks.specs.Collecting.{IsCollecting, IsFilled}
 use Rattle.jj_walks.specs.Failing.{FailingGraph, Fault, ReachesFailure, ShowsItems}
 use Rattle.jj_walks.specs.Graph.{ReachedFrom, ReachesCycle}
 use Rattle.jj_walks.specs.LookingAhead.{HasLooked}
-use Rattle.jj_walks.specs.Outcomes.{InItems}
+use Rattle.jj_walks.specs.Outcomes.{IfFails, InItems}
+use Rattle.jj_walks.specs.Owed.{CanShow}
 use Rattle.jj_walks.specs.Walk.{Numbered}
 
 module _ {T ID E F N U J : Type 0} (eq : ID → ID → Bool) (ids : Shared F (Bor T × Unit {0}) ID)
@@ -33,6 +35,12 @@ module _ {T ID E F N U J : Type 0} (eq : ID → ID → Bool) (ids : Shared F (Bo
   abbrev pub KeepsShowing : Shown F N → Shown F N → Type 0
   KeepsShowing s t = (walk : Numbered T ID) (shown : FailingGraph (Fault E))
       → ShowsBy s.id_fn s.neighbors_fn walk shown → ShowsBy s.id_fn t.neighbors_fn walk shown
+
+  -- the closures go on showing what they showed, and may be called again
+  pub record GoesOn (s t : Shown F N) : Type 0 where
+    pub id_fn : t.id_fn ≡ s.id_fn
+    pub can_show : CanShow ids lists value items t.id_fn t.neighbors_fn
+    pub shown : KeepsShowing s t
 
   -- these are the neighbours of the node, of which none failed
   abbrev pub ListsNeighbors : Shown F N → T → Vec T Global → Type 0
@@ -52,26 +60,53 @@ module _ {T ID E F N U J : Type 0} (eq : ID → ID → Bool) (ids : Shared F (Bo
   ItemBelowFails s starts error = InItems eq ids lists value items s.id_fn s.neighbors_fn starts
       (λ walk shown nodes. ReachesFailure shown nodes error)
 
+  -- the neighbours of the node, or the error of one that failed
+  pub record ListsNode (s t : Shown F N) (node : T) (r : Result (Vec T Global) (WalkError E))
+      : Type 0 where
+    pub graph : GoesOn s t
+    pub listed : IfOk r (ListsNeighbors s node)
+    pub failed : IfFails r (NeighborFails s node)
+
+  -- the nodes that these reach were collected, with the ids of the neighbours of each
+  abbrev pub HasCollected : Shown F N → List T → Collected T ID → Type 0
+  HasCollected s starts found = (filled : IsFilled eq found)
+      × InItems eq ids lists value items s.id_fn s.neighbors_fn starts (λ walk shown nodes.
+      IsCollecting walk shown nodes (get eq found.index_of) [] filled.given
+      (map (λ v. v.items) found.neighbor_ids.items))
+
+  pub record CollectsFrom (s : Shown F N) (starts : List T)
+      (r : Result (Collected T ID) (WalkError E)) : Type 0 where
+    pub collected : IfOk r (HasCollected s starts)
+    pub failed : IfFails r (ItemBelowFails s starts)
+
   -- the nodes that were explored, with the ids of the neighbours of each, and at most one that
   -- waits
-  abbrev pub HasExplored : Shown F N → Shown F N → List T → Collected T ID × Vec T Global → Type 0
-  HasExplored s t starts r = (given : List T) × (r.0.nodes.items ≡ map (λ x. Some x) given)
-      × (length r.0.neighbor_ids.items ≡ length given)
-      × ((i : ID) (k : ℕ) → get eq r.0.index_of i ≡ Some k → k < length given)
-      × (given ≡ [] → r.1.items ≡ []) × (length r.1.items ≤ 1)
+  abbrev pub HasExplored : Shown F N → List T → Collected T ID × Vec T Global → Type 0
+  HasExplored s starts r = (filled : IsFilled eq r.0)
+      × (filled.given ≡ [] → r.1.items ≡ []) × (length r.1.items ≤ 1)
       × InItems eq ids lists value items s.id_fn s.neighbors_fn starts (λ walk shown nodes.
-      ShowsBy s.id_fn t.neighbors_fn walk shown
-      × HasLooked walk shown nodes (get eq r.0.index_of) r.1.items given
+      HasLooked walk shown nodes (get eq r.0.index_of) r.1.items filled.given
       (map (λ v. v.items) r.0.neighbor_ids.items))
 
+  pub record ExploresFrom (s t : Shown F N) (starts : List T)
+      (r : Result (Collected T ID × Vec T Global) (WalkError E)) : Type 0 where
+    pub graph : GoesOn s t
+    pub explored : IfOk r (HasExplored s starts)
+    pub failed : IfFails r (ItemBelowFails s starts)
+
   -- a chunk of what these reach; or a node that they reach, and they reach a cycle
-  abbrev pub HasChunk : Shown F N → Shown F N → List T → Chunk T → Type 0
-  HasChunk s t starts chunk = InItems eq ids lists value items s.id_fn s.neighbors_fn starts
-      (λ walk shown nodes. ShowsBy s.id_fn t.neighbors_fn walk shown
-      × MatchOption chunk.stuck
+  abbrev pub HasChunk : Shown F N → List T → Chunk T → Type 0
+  HasChunk s starts chunk = InItems eq ids lists value items s.id_fn s.neighbors_fn starts
+      (λ walk shown nodes. MatchOption chunk.stuck
       (IsChunkOfMany walk.graph nodes (map walk.node chunk.nodes.items)
       (map walk.node chunk.left.items)
       × IsStretch walk.graph nodes (map walk.node chunk.nodes.items)
       (map walk.node chunk.left.items)
       × NoneFailed shown (map walk.node chunk.nodes.items))
       (λ x. ReachedFrom walk.graph nodes (walk.node x) × ReachesCycle walk.graph nodes))
+
+  pub record TakesChunk (s t : Shown F N) (starts : List T) (r : Result (Chunk T) (WalkError E))
+      : Type 0 where
+    pub graph : GoesOn s t
+    pub chunk : IfOk r (HasChunk s starts)
+    pub failed : IfFails r (ItemBelowFails s starts)

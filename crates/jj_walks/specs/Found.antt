@@ -1,16 +1,17 @@
 -- What searches for nodes give: for heads, and for the closest common nodes of two sets.
--- Cited by contracts of public items: GivesClosestCommon, GivesHeads, GivesHeadsOfItems,
--- GivesHeadsOfLists, ListFails, ListOfSetsFails.
-use Rattle.std.specs.Prelude.{ℕ, Bool, List, ◌++◌, map, Result}
+-- Cited by contracts of public items: FindsClosestCommon, FindsHeadsOfItems, FindsHeadsOfLists,
+-- GivesHeads.
+use Rattle.std.specs.Prelude.{ℕ, Bool, List, ◌++◌, map, Result, IfOk}
 use Rattle.std.specs.Fn.{Shared, Mut}
 use Rattle.std.specs.HashSet.{HashSet}
 use Rattle.std.specs.declared.iter.IntoIterator as into
 use Rattle.std.specs.declared.iter.Iterator as iter
 use denote.Ref.{Bor}
+use Rattle.jj_walks.specs.declared.walk_error.WalkError.{WalkError}
 use Rattle.jj_walks.specs.CommonNodes.{AreClosestCommon, HasNoCommonCycle}
 use Rattle.jj_walks.specs.Failing.{ReachesFailure}
 use Rattle.jj_walks.specs.Graph.{HasNoCycle, IsMaximalIn}
-use Rattle.jj_walks.specs.Outcomes.{OverItems, OverLists, OverNodes, OverTwoSets}
+use Rattle.jj_walks.specs.Outcomes.{IfFails, ItemFails, OverItems, OverLists, OverNodes, OverTwoSets}
 use Rattle.jj_walks.specs.Walk.{Numbered, StandsForNodes}
 
 -- where the starts reach no cycle, and equal values are one node, these are the maximal starts
@@ -37,6 +38,12 @@ module _ {T ID E II I F N U J S : Type 0} (same : T → T → Bool) (eq : ID →
   GivesHeadsOfItems heads = OverItems eq ids lists starts start_items value items id_fn neighbors_fn
       start (λ walk shown nodes. AreHeads same walk nodes heads.keys)
 
+  -- the heads, or the error of a start or an item that failed
+  pub record FindsHeadsOfItems (r : Result (HashSet T S) (WalkError E)) : Type 0 where
+    pub heads : IfOk r GivesHeadsOfItems
+    pub refused : IfFails r
+        (ItemFails eq ids lists starts start_items value items id_fn neighbors_fn start)
+
 -- Over lists that may fail as a whole.
 module _ {T ID E II I F N U J S : Type 0} (same : T → T → Bool) (eq : ID → ID → Bool)
     (ids : Shared F (Bor T × Unit {0}) ID) (lists : Mut N (Bor T × Unit {0}) (Result U E))
@@ -46,14 +53,15 @@ module _ {T ID E II I F N U J S : Type 0} (same : T → T → Bool) (eq : ID →
   GivesHeadsOfLists heads = OverLists eq ids lists value items id_fn neighbors_fn starts start_items
       start (λ walk shown nodes. AreHeads same walk nodes heads.keys)
 
+  -- the heads, or the error with which the list of a node that the starts reach failed
+  pub record FindsHeadsOfLists (r : Result (HashSet T S) (WalkError E)) : Type 0 where
+    pub heads : IfOk r GivesHeadsOfLists
+    pub refused : IfFails r (λ error. OverLists eq ids lists value items id_fn neighbors_fn starts
+        start_items start (λ walk shown nodes. ReachesFailure shown nodes error))
+
 module _ {T ID E F N U J : Type 0} (eq : ID → ID → Bool) (ids : Shared F (Bor T × Unit {0}) ID)
     (lists : Mut N (Bor T × Unit {0}) (Result U E)) (value : into.Ghosts U T J)
     (items : iter.Ghosts J T) (id_fn : F) (neighbors_fn : N) where
-  -- the list of a node that the starts reach failed with this error
-  abbrev pub ListFails : {II I : Type 0} → into.Ghosts II T I → iter.Ghosts I T → II → E → Type 0
-  ListFails starts start_items start error = OverLists eq ids lists value items id_fn neighbors_fn
-      starts start_items start (λ walk shown nodes. ReachesFailure shown nodes error)
-
   module _ {II I JJ K : Type 0} (first : into.Ghosts II T I) (first_items : iter.Ghosts I T)
       (second : into.Ghosts JJ T K) (second_items : iter.Ghosts K T) (set1 : II) (set2 : JJ) where
     -- where no cycle is reached from both sets, these are their closest common nodes
@@ -68,3 +76,9 @@ module _ {T ID E F N U J : Type 0} (eq : ID → ID → Bool) (ids : Shared F (Bo
     ListOfSetsFails error = OverTwoSets eq ids lists value items id_fn neighbors_fn first
         first_items second second_items set1 set2 (λ walk shown nodes1 nodes2.
         ReachesFailure shown (nodes1 ++ nodes2) error)
+
+    -- the closest common nodes, as the list that is read off what was found, or such an error
+    pub record FindsClosestCommon {V : Type 0} (r : Result V (WalkError E)) (list : V → List T)
+        : Type 0 where
+      pub closest : IfOk r (λ found. GivesClosestCommon (list found))
+      pub refused : IfFails r ListOfSetsFails

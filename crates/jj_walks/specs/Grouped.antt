@@ -1,6 +1,6 @@
 -- The order of a grouped graph, told by its history: which ids were prioritised, and which nodes
 -- read and given.
--- Cited by contracts of public items: History, Prioritized.
+-- Cited by contracts of public items: Prioritized.
 use Rattle.std.specs.Prelude.{◌≡◌, ℕ, zero, suc, ◌==◌, Bool, true, false, not, ◌&&◌, ◌||◌, count_by, List, [], ◌∷◌, map, filter, reverse, find, is_some, Option, None, Some, MatchOption, ⊤}
 use Rattle.std.specs.List.{Contains, list_any, sum_by}
 use Rattle.jj_walks.specs.declared.graph.GraphEdge.{GraphEdge}

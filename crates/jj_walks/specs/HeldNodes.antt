@@ -1,5 +1,5 @@
 -- What the held nodes of a grouped graph keep of its history.
--- Cited by contracts of public items: Keeps.
+-- Cited by contracts of public items: Adds, Keeps, KeepsOn.
 use Rattle.std.specs.Prelude.{◌≡◌, ◌+◌, ℕ, Bool, true, List, ◌∷◌, is_some, Option, None}
 use Rattle.std.specs.Option.{option_map}
 use Rattle.std.specs.HashMap.{get}
@@ -12,7 +12,7 @@ use Rattle.jj_walks.specs.declared.held_nodes.Ready.{Ready}
 use Rattle.jj_walks.specs.declared.held_nodes.Ready.TheVariants.{Node, Unread, Nothing}
 use Rattle.jj_walks.specs.Candidates.{AreToFollow, count_of, is_listed, is_zero}
 use Rattle.jj_walks.specs.Branches.{KeepsBranch}
-use Rattle.jj_walks.specs.Grouped.{Entry, History, Gave, IsHistory, edges_to, held_at, is_known, is_wanted, last_edges, targets_of}
+use Rattle.jj_walks.specs.Grouped.{Entry, Event, History, Gave, IsHistory, edges_to, held_at, is_known, is_wanted, last_edges, targets_of}
 
 module _ {N ID : Type 0} where
   -- a node with its edges
@@ -39,6 +39,14 @@ module _ {N ID : Type 0} where
       pub history : KeepsHistory h (λ i. option_map listed_item (get eq s.nodes i))
           (get eq s.counts) s.candidates.ids.items (deque_items s.candidates.heads)
       pub branch : KeepsBranch eq h s.candidates
+
+    -- of whatever history s keeps, t keeps the same
+    abbrev pub KeepsOn : HeldNodes N ID → HeldNodes N ID → Type 0
+    KeepsOn s t = (h : History N ID) → Keeps h s → Keeps h t
+
+    -- of whatever history s keeps, t keeps the same with this event
+    abbrev pub Adds : Event N ID → HeldNodes N ID → HeldNodes N ID → Type 0
+    Adds event s t = (h : History N ID) → Keeps h s → Keeps (event ∷ h) t
 
     -- what is taken next: the node, or what is known where none can be
     abbrev pub TakesNext : History N ID → Ready N ID → HeldNodes N ID → Type 0

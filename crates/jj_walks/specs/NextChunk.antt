@@ -1,6 +1,6 @@
 -- What a chunk of a child-first order is to the starts, and what its error tells.
--- Cited by contracts of public items: FailsAtChunk, GivesNextChunk.
-use Rattle.std.specs.Prelude.{◌⊎◌, Bool, List, map, Result}
+-- Cited by contracts of public items: FindsNextChunk.
+use Rattle.std.specs.Prelude.{◌≡◌, ◌⊎◌, Bool, List, [], map, Result, IfOk, OnErr}
 use Rattle.std.specs.Fn.{Shared, Mut}
 use Rattle.std.specs.declared.iter.IntoIterator as into
 use Rattle.std.specs.declared.iter.Iterator as iter
@@ -18,15 +18,18 @@ module _ {T ID E F N U J : Type 0} (eq : ID → ID → Bool) (ids : Shared F (Bo
   GivesNextChunk starts chunk left = InItems eq ids lists value items id_fn neighbors_fn starts
       (λ walk shown nodes. IsNextChunk walk.graph nodes (map walk.node chunk) (map walk.node left))
 
-module _ {V T ID E F N U J : Type 0} (r : Result V (WalkError E)) (made : T → E → Type 0)
-    (eq : ID → ID → Bool) (ids : Shared F (Bor T × Unit {0}) ID)
-    (lists : Mut N (Bor T × Unit {0}) U) (value : into.Ghosts U (Result T E) J)
-    (items : iter.Ghosts J (Result T E)) (id_fn : F) (neighbors_fn : N) where
   -- the error is that of an item of a node that these starts reach, or it was made of such a node,
   -- and they reach a cycle
-  abbrev pub FailsAtChunk : List T → Type 0
-  FailsAtChunk starts = IfFails r (λ error.
+  abbrev pub FailsAtChunk : (T → E → Type 0) → List T → E → Type 0
+  FailsAtChunk made starts error =
       InItems eq ids lists value items id_fn neighbors_fn starts
       (λ walk shown nodes. ReachesFailure shown nodes error)
       ⊎ ((x : T) × made x error × InItems eq ids lists value items id_fn neighbors_fn starts
-      (λ walk shown nodes. IsReachedBesideCycle walk.graph nodes (walk.node x))))
+      (λ walk shown nodes. IsReachedBesideCycle walk.graph nodes (walk.node x)))
+
+  -- the next chunk, as the list that is read off the result; or such an error, and none is left
+  pub record FindsNextChunk {V : Type 0} (made : T → E → Type 0) (starts left : List T)
+      (r : Result V (WalkError E)) (list : V → List T) : Type 0 where
+    pub chunk : IfOk r (λ chunk. GivesNextChunk starts (list chunk) left)
+    pub refused_start : OnErr r (left ≡ [])
+    pub node : IfFails r (FailsAtChunk made starts)

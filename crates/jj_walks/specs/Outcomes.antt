@@ -1,7 +1,7 @@
 -- What is asked of the closures of a walk, and what a walk gives over whatever they show.
--- Cited by contracts of public items: ClonesAreEqual, Ends, IfFails, ItemFails.
-use Rattle.std.specs.Prelude.{◌⊎◌, ℕ, Bool, IsTrue, List, [], ◌∷◌, ◌++◌, map, Result, IfOk, IfErr}
-use Rattle.std.specs.declared.result.Result.TheVariants.{Ok, Err}
+-- Cited by contracts of public items: ClonesAreEqual, Ends, IfFails.
+use Rattle.std.specs.Prelude.{◌⊎◌, ℕ, Bool, IsTrue, List, map, Result, IfOk, IfErr}
+use Rattle.std.specs.declared.result.Result.TheVariants.{Ok}
 use Rattle.std.specs.Fn.{Shared, Mut, AlwaysReturns}
 use Rattle.std.specs.Iterator.{IsFiniteIterable}
 use Rattle.std.specs.declared.iter.IntoIterator as into
@@ -9,7 +9,7 @@ use Rattle.std.specs.declared.iter.Iterator as iter
 use denote.Ref.{Bor}
 use Rattle.jj_walks.specs.declared.walk_error.WalkError.{WalkError}
 use Rattle.jj_walks.specs.Errors.{IfNode}
-use Rattle.jj_walks.specs.Failing.{BeginsWith, FailingGraph, Fault, ReachesFailure, ShowsItems, ShowsLists}
+use Rattle.jj_walks.specs.Failing.{FailingGraph, FailsAfterNodes, Fault, ReachesFailure, ShowsItems, ShowsLists}
 use Rattle.jj_walks.specs.Graph.{Graph, ReachedFrom, ReachesCycle}
 use Rattle.jj_walks.specs.Walk.{Numbered, AreNodes, DrainsTo, IsShownBy}
 
@@ -83,8 +83,7 @@ module _ {T ID E II I F N U J : Type 0} (eq : ID → ID → Bool) (ids : Shared 
 
   -- a start failed with this error
   abbrev pub StartFails : E → Type 0
-  StartFails error = (xs : List T) × BeginsWith starts.into_iter_gives start_items.next_gives start
-      (map Ok xs ++ Err error ∷ [])
+  StartFails error = FailsAfterNodes starts.into_iter_gives start_items.next_gives start error
 
   -- or an item of a node that the starts reach
   abbrev pub ItemFails : E → Type 0

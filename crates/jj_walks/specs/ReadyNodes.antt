@@ -1,10 +1,12 @@
 -- Orders of some nodes of a graph that are taken one by one, each the greatest whose children were
 -- all taken before.
 -- Machinery of private functions and fields.
-use Rattle.std.specs.Prelude.{◌≡◌, ℕ, ◌∷◌, ◌++◌, List, [], slice_index_or, false, eqb}
+use Rattle.std.specs.Prelude.{◌≡◌, ℕ, ◌<◌, ◌∷◌, ◌++◌, List, [], length, map, MatchOption, slice_index_or, false, eqb}
 use Rattle.std.specs.declared.option.Option.{Option}
 use Rattle.std.specs.declared.option.Option.TheVariants.{None, Some}
 use Rattle.std.specs.declared.cmp.Ordering.{Ordering}
+use Rattle.std.specs.declared.vec.Vec.{Vec}
+use Rattle.std.specs.Global.{Global}
 use Rattle.std.specs.Ordering.{is_lt}
 use Rattle.std.specs.List.{Contains, count_by, sum_by}
 use Rattle.jj_walks.specs.Graph.{Graph, HasEdge}
@@ -39,3 +41,14 @@ edges_to targets k = sum_by (λ ts. count_by (eqb k) ts) targets
 abbrev pub IsNotBelow : {T : Type 0} → (T → T → Ordering) → List (Option T) → ℕ → ℕ → Type 0
 IsNotBelow {T} cmp slots a b = (x y : T) → slice_index_or slots a None ≡ Some x
     → slice_index_or slots b None ≡ Some y → is_lt (cmp x y) ≡ false
+
+-- the values that were taken are those at the places of such an order; beside them stands one of
+-- those that are left, if some are, and these are stuck
+abbrev pub TakesGreatestFirst : {T : Type 0} → (T → T → Ordering) → List (Option T) → List (List ℕ)
+    → Vec T Global × Option T → Type 0
+TakesGreatestFirst cmp slots targets r = (order : List ℕ)
+    × (map (λ x. Some x) r.0.items ≡ map (λ k. slice_index_or slots k None) order)
+    × TakesGreatestReady (places_graph targets) (λ k. k < length slots) (IsNotBelow cmp slots) order
+    × MatchOption r.1 ((k : ℕ) → k < length slots → Contains order k)
+    (λ x. (k : ℕ) × (k < length slots) × (slice_index_or slots k None ≡ Some x)
+    × (Contains order k → ⊥) × IsStuck (places_graph targets) (λ k. k < length slots) order)

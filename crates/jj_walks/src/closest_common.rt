@@ -2,9 +2,9 @@
 ghost use Rattle.std.specs.Prelude.{◌≡◌, ◌+◌, ◌≤◌, ◌<◌, ◌^◌, ◌&&◌, ◌∷◌, ◌++◌, [], IfOk, IsTrue, OnOk, MatchBool, cond, map};
 ghost use Rattle.std.specs.BinaryHeap.{heap_items, heap_len};
 ghost use Rattle.std.specs.List.Sorted.{IsPermutation};
-ghost use Rattle.jj_walks.specs.Found.{GivesClosestCommon, ListOfSetsFails};
+ghost use Rattle.jj_walks.specs.Found.{FindsClosestCommon};
 ghost use Rattle.jj_walks.specs.Marks.{mark_at, joined, grows, marked, starts_waiting, asked, handed_on, sides_met, closest_of};
-ghost use Rattle.jj_walks.specs.Outcomes.{Ends, IfFails};
+ghost use Rattle.jj_walks.specs.Outcomes.{Ends};
 ghost use Rattle.jj_walks.specs.Owed.{MayShow};
 
 use crate::walk_error::WalkError;
@@ -203,7 +203,7 @@ fn closest<T: Drop, ID: Hash + Eq + Drop>(
 /// The nodes that both sets reach and no other such node reaches, each once. The greatest of the
 /// nodes that wait is asked for its neighbours, once for one set and once for both; the search ends
 /// early where one node waits, both sets reach it, and no root, a node without neighbours, was met.
-pub fn closest_common_nodes<T, ID, E, II1, II2, NI, F, N>(
+pub fn closest_common_nodes<T: Ord + Drop, ID: Hash + Eq + Drop, E: Drop, II1, II2, NI, F, N>(
     alloc: Global,
     set1: II1,
     set2: II2,
@@ -211,33 +211,24 @@ pub fn closest_common_nodes<T, ID, E, II1, II2, NI, F, N>(
     neighbors_fn: N,
 ) -> Result<Vec<T>, WalkError<E>>
 where
-    T: Ord + Drop,
-    ID: Hash + Eq + Drop,
-    E: Drop,
-    II1: IntoIterator<Item = T>,
-    II1::IntoIter: Drop,
-    II2: IntoIterator<Item = T> + Drop,
-    II2::IntoIter: Drop,
-    NI: IntoIterator<Item = T>,
-    NI::IntoIter: Drop,
+    II1: IntoIterator<Item = T, IntoIter: Drop>,
+    II2: IntoIterator<Item = T, IntoIter: Drop> + Drop,
+    NI: IntoIterator<Item = T, IntoIter: Drop>,
     F: Fn(&T) -> ID + Drop,
     N: FnMut(&T) -> Result<NI, E> + Drop,
     requires graph { MayShow F.Fn N.FnMut NI.IntoIterator NI.IntoIter.Iterator id_fn neighbors_fn }
     requires set1 { Ends II1.IntoIterator II1.IntoIter.Iterator set1 }
     requires set2 { Ends II2.IntoIterator II2.IntoIter.Iterator set2 }
-    ensures closest { IfOk result (λ v. GivesClosestCommon ID.eq F.Fn N.FnMut NI.IntoIterator
-        NI.IntoIter.Iterator id_fn neighbors_fn II1.IntoIterator II1.IntoIter.Iterator
-        II2.IntoIterator II2.IntoIter.Iterator set1 set2 v.items) }
-    ensures refused { IfFails result (ListOfSetsFails ID.eq F.Fn N.FnMut NI.IntoIterator
-        NI.IntoIter.Iterator id_fn neighbors_fn II1.IntoIterator II1.IntoIter.Iterator
-        II2.IntoIterator II2.IntoIter.Iterator set1 set2) }
+    ensures { FindsClosestCommon ID.eq F.Fn N.FnMut NI.IntoIterator NI.IntoIter.Iterator id_fn
+        neighbors_fn II1.IntoIterator II1.IntoIter.Iterator II2.IntoIterator II2.IntoIter.Iterator
+        set1 set2 result (λ v. v.items) }
 {
     let met = common_nodes(alloc, set1, set2, id_fn, neighbors_fn)?;
     Ok(closest(alloc, met)?)
 }
 
 // The common nodes that a search for the closest meets.
-fn common_nodes<T, ID, E, II1, II2, NI, F, N>(
+fn common_nodes<T: Ord + Drop, ID: Hash + Eq + Drop, E: Drop, II1, II2, NI, F, N>(
     alloc: Global,
     set1: II1,
     set2: II2,
@@ -245,27 +236,17 @@ fn common_nodes<T, ID, E, II1, II2, NI, F, N>(
     mut neighbors_fn: N,
 ) -> Result<Met<T, ID>, WalkError<E>>
 where
-    T: Ord + Drop,
-    ID: Hash + Eq + Drop,
-    E: Drop,
-    II1: IntoIterator<Item = T>,
-    II1::IntoIter: Drop,
-    II2: IntoIterator<Item = T> + Drop,
-    II2::IntoIter: Drop,
-    NI: IntoIterator<Item = T>,
-    NI::IntoIter: Drop,
+    II1: IntoIterator<Item = T, IntoIter: Drop>,
+    II2: IntoIterator<Item = T, IntoIter: Drop> + Drop,
+    NI: IntoIterator<Item = T, IntoIter: Drop>,
     F: Fn(&T) -> ID + Drop,
     N: FnMut(&T) -> Result<NI, E> + Drop,
     requires graph { MayShow F.Fn N.FnMut NI.IntoIterator NI.IntoIter.Iterator id_fn neighbors_fn }
     requires set1 { Ends II1.IntoIterator II1.IntoIter.Iterator set1 }
     requires set2 { Ends II2.IntoIterator II2.IntoIter.Iterator set2 }
-    ensures closest { IfOk result (λ met. GivesClosestCommon ID.eq F.Fn N.FnMut NI.IntoIterator
-        NI.IntoIter.Iterator id_fn neighbors_fn II1.IntoIterator II1.IntoIter.Iterator
-        II2.IntoIterator II2.IntoIter.Iterator set1 set2
-        (closest_of (mark_at ID.eq met.known) met.common.items)) }
-    ensures refused { IfFails result (ListOfSetsFails ID.eq F.Fn N.FnMut NI.IntoIterator
-        NI.IntoIter.Iterator id_fn neighbors_fn II1.IntoIterator II1.IntoIter.Iterator
-        II2.IntoIterator II2.IntoIter.Iterator set1 set2) }
+    ensures { FindsClosestCommon ID.eq F.Fn N.FnMut NI.IntoIterator NI.IntoIter.Iterator id_fn
+        neighbors_fn II1.IntoIterator II1.IntoIter.Iterator II2.IntoIterator II2.IntoIter.Iterator
+        set1 set2 result (λ met. closest_of (mark_at ID.eq met.known) met.common.items) }
 {
     let mut known = HashMap::new(alloc);
     let mut waiting = BinaryHeap::new(alloc);

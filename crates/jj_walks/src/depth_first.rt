@@ -23,8 +23,7 @@ pub struct DepthFirst<T, ID: Hash + Eq, F, N> {
 
 impl<T: Drop, ID: Hash + Eq + Drop, NI, F, N> Iterator for DepthFirst<T, ID, F, N>
 where
-    NI: IntoIterator<Item = T>,
-    NI::IntoIter: Drop,
+    NI: IntoIterator<Item = T, IntoIter: Drop>,
     F: Fn(&T) -> ID,
     N: FnMut(&T) -> NI,
 {
@@ -60,19 +59,15 @@ where
 }
 
 /// A depth-first walk from these starts, the last of them first.
-pub fn dfs<T, ID, II, NI, F, N>(
+pub fn dfs<T: Drop, ID: Hash + Eq + Drop, II, NI, F, N>(
     alloc: Global,
     start: II,
     id_fn: F,
     neighbors_fn: N,
 ) -> Result<DepthFirst<T, ID, F, N>, AllocError>
 where
-    T: Drop,
-    ID: Hash + Eq + Drop,
-    II: IntoIterator<Item = T>,
-    II::IntoIter: Drop,
-    NI: IntoIterator<Item = T>,
-    NI::IntoIter: Drop,
+    II: IntoIterator<Item = T, IntoIter: Drop>,
+    NI: IntoIterator<Item = T, IntoIter: Drop>,
     F: Fn(&T) -> ID + Drop,
     N: FnMut(&T) -> NI + Drop,
     requires graph { CanShow F.Fn N.FnMut NI.IntoIterator NI.IntoIter.Iterator id_fn neighbors_fn }

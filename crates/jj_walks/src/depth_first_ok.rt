@@ -22,8 +22,7 @@ pub struct DepthFirstOk<T, ID: Hash + Eq, E, F, N> {
 
 impl<T: Drop, ID: Hash + Eq + Drop, E: Drop, NI, F, N> Iterator for DepthFirstOk<T, ID, E, F, N>
 where
-    NI: IntoIterator<Item = Result<T, E>>,
-    NI::IntoIter: Drop,
+    NI: IntoIterator<Item = Result<T, E>, IntoIter: Drop>,
     F: Fn(&T) -> ID,
     N: FnMut(&T) -> NI,
 {
@@ -53,20 +52,15 @@ where
 
 /// A depth-first walk from these starts, the last of them first. A failed item is given in its
 /// place as `Node`, and the walk goes on; after `Memory` it has ended.
-pub fn dfs_ok<T, ID, E, II, NI, F, N>(
+pub fn dfs_ok<T: Drop, ID: Hash + Eq + Drop, E: Drop, II, NI, F, N>(
     alloc: Global,
     start: II,
     id_fn: F,
     neighbors_fn: N,
 ) -> Result<DepthFirstOk<T, ID, E, F, N>, AllocError>
 where
-    T: Drop,
-    ID: Hash + Eq + Drop,
-    E: Drop,
-    II: IntoIterator<Item = Result<T, E>>,
-    II::IntoIter: Drop,
-    NI: IntoIterator<Item = Result<T, E>>,
-    NI::IntoIter: Drop,
+    II: IntoIterator<Item = Result<T, E>, IntoIter: Drop>,
+    NI: IntoIterator<Item = Result<T, E>, IntoIter: Drop>,
     F: Fn(&T) -> ID + Drop,
     N: FnMut(&T) -> NI + Drop,
     requires graph { CanShow F.Fn N.FnMut NI.IntoIterator NI.IntoIter.Iterator id_fn neighbors_fn }

@@ -10,7 +10,7 @@ use std::collections::HashSet;
 use std::hash::Hash;
 
 /// Lets the neighbours of the node wait above all that waits, and makes its id a visited one.
-pub fn enter<X, T, ID, NI, N>(
+pub fn enter<X: Drop, T, ID: Hash + Eq + Drop, NI, N>(
     work: &mut Vec<X>,
     visited: &mut HashSet<ID>,
     neighbors_fn: &mut N,
@@ -18,10 +18,7 @@ pub fn enter<X, T, ID, NI, N>(
     id: ID,
 ) -> Result<(), AllocError>
 where
-    X: Drop,
-    ID: Hash + Eq + Drop,
-    NI: IntoIterator<Item = X>,
-    NI::IntoIter: Drop,
+    NI: IntoIterator<Item = X, IntoIter: Drop>,
     N: FnMut(&T) -> NI,
     requires neighbors_fn { N.IsAlwaysCallable neighbors_fn.old }
     requires ends { ListsEnd N.FnMut NI.IntoIterator NI.IntoIter.Iterator neighbors_fn.old }

@@ -1,9 +1,7 @@
 //! The walk that gives a node after its neighbours, over items that may fail.
-ghost use Rattle.std.specs.Prelude.{IfOk};
-ghost use Rattle.jj_walks.specs.Orders.{GivesSoundPostorder};
 ghost use Rattle.jj_walks.specs.Outcomes.{ClonesAreEqual, Ends};
 ghost use Rattle.jj_walks.specs.Owed.{CanShow};
-ghost use Rattle.jj_walks.specs.Stops.{StopsAtFailure, StopsOnCycle};
+ghost use Rattle.jj_walks.specs.Stops.{WalksForward};
 
 use std::alloc::{AllocError, AllocFailed, Global};
 use std::collections::HashSet;
@@ -43,31 +41,22 @@ impl<X: Drop, T, E> From<AllocFailed<X>> for Stop<T, E> {
 
 /// The nodes that the starts reach, each once and after its neighbours; later starts and later
 /// neighbours come first. It stops at the first failed item and at the first cycle that it meets.
-pub fn walk_forward<T, ID, E, II, NI, F, N>(
+pub fn walk_forward<T: Drop, ID: Hash + Eq + Clone + Drop, E: Drop, II, NI, F, N>(
     alloc: Global,
     start: II,
     id_fn: F,
     mut neighbors_fn: N,
 ) -> Result<Vec<T>, Stop<T, E>>
 where
-    T: Drop,
-    E: Drop,
-    ID: Hash + Eq + Clone + Drop,
-    II: IntoIterator<Item = Result<T, E>> + Drop,
-    II::IntoIter: Drop,
-    NI: IntoIterator<Item = Result<T, E>>,
-    NI::IntoIter: Drop,
+    II: IntoIterator<Item = Result<T, E>, IntoIter: Drop> + Drop,
+    NI: IntoIterator<Item = Result<T, E>, IntoIter: Drop>,
     F: Fn(&T) -> ID + Drop,
     N: FnMut(&T) -> NI + Drop,
     requires graph { CanShow F.Fn N.FnMut NI.IntoIterator NI.IntoIter.Iterator id_fn neighbors_fn }
     requires start { Ends II.IntoIterator II.IntoIter.Iterator start }
     requires clones { ClonesAreEqual ID.is_clone ID.eq }
-    ensures order { IfOk result (GivesSoundPostorder ID.eq F.Fn N.FnMut II.IntoIterator
-        II.IntoIter.Iterator NI.IntoIterator NI.IntoIter.Iterator id_fn neighbors_fn start) }
-    ensures failed { StopsAtFailure result ID.eq F.Fn N.FnMut II.IntoIterator II.IntoIter.Iterator
-        NI.IntoIterator NI.IntoIter.Iterator id_fn neighbors_fn start }
-    ensures cycle { StopsOnCycle result ID.eq F.Fn N.FnMut II.IntoIterator II.IntoIter.Iterator
-        NI.IntoIterator NI.IntoIter.Iterator id_fn neighbors_fn start }
+    ensures { WalksForward ID.eq F.Fn N.FnMut II.IntoIterator II.IntoIter.Iterator NI.IntoIterator
+        NI.IntoIter.Iterator id_fn neighbors_fn start result }
 {
     let mut stack: Vec<(T, bool)> = Vec::new(alloc);
     for item in start {

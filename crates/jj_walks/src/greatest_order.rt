@@ -1,15 +1,18 @@
 //! The greatest of the orders in which each node stands before its neighbours.
-ghost use Rattle.std.specs.Prelude.{◌≡◌, ℕ, ◌+◌, ◌<◌, ◌∷◌, List, map, length, slice_index, slice_index_or, slice_set, IfOk, IsSome, OnOk, MatchOption};
+ghost use Rattle.std.specs.Prelude.{◌≡◌, ℕ, ◌<◌, ◌∷◌, ◌++◌, [], cond, map, length, slice_index, slice_index_or, slice_set, IfOk, IsSome, OnOk, MatchOption};
 ghost use Rattle.std.specs.HashMap.{get};
 ghost use Rattle.std.specs.List.{Contains, filter_map};
 ghost use Rattle.std.specs.List.Sorted.{IsPermutation};
 ghost use Rattle.std.specs.BinaryHeap.{heap_items, KeepsHeap};
 ghost use Rattle.std.specs.Ordering.{nat_cmp, ordering_then};
-ghost use Rattle.jj_walks.specs.GreatestOrder.{FailsOrBesideCycle, GivesGreatestOrder, HasCollected};
-ghost use Rattle.jj_walks.specs.Outcomes.{Ends, IfFails, ItemFails};
+ghost use Rattle.jj_walks.specs.Collecting.{IsFilled, linked};
+ghost use Rattle.jj_walks.specs.GreatestOrder.{FindsGreatestOrder};
+ghost use Rattle.jj_walks.specs.Outcomes.{Ends};
 ghost use Rattle.jj_walks.specs.Owed.{CanShow};
-ghost use Rattle.jj_walks.specs.ReadyNodes.{IsStuck, IsNotBelow, TakesGreatestReady, edges_to, places_graph};
+ghost use Rattle.jj_walks.specs.ReadyNodes.{TakesGreatestFirst, edges_to, places_graph};
 
+use crate::look_ahead::Shown;
+use crate::sound_nodes::sound_nodes;
 use crate::walk_error::WalkError;
 use std::alloc::{AllocError, Global};
 use std::collections::{BinaryHeap, HashMap};
@@ -19,7 +22,7 @@ use std::mem;
 /// The nodes that the starts reach, each before its neighbours: at each place the greatest node
 /// whose children stand before it. A failed start or neighbour that is met is `Node` of its error;
 /// where a cycle is reached, `cycle_fn` makes the error of a node that the starts reach.
-pub fn topo_order_reverse_ord<T, ID, E, II, NI, F, N, C>(
+pub fn topo_order_reverse_ord<T: Ord + Drop, ID: Hash + Eq + Drop, E: Drop, II, NI, F, N, C>(
     alloc: Global,
     start: II,
     id_fn: F,
@@ -27,27 +30,30 @@ pub fn topo_order_reverse_ord<T, ID, E, II, NI, F, N, C>(
     cycle_fn: C,
 ) -> Result<Vec<T>, WalkError<E>>
 where
-    T: Ord + Drop,
-    E: Drop,
-    ID: Hash + Eq + Drop,
-    II: IntoIterator<Item = Result<T, E>>,
-    II::IntoIter: Drop,
-    NI: IntoIterator<Item = Result<T, E>>,
-    NI::IntoIter: Drop,
+    II: IntoIterator<Item = Result<T, E>, IntoIter: Drop>,
+    NI: IntoIterator<Item = Result<T, E>, IntoIter: Drop>,
     F: Fn(&T) -> ID + Drop,
     N: FnMut(&T) -> NI + Drop,
     C: FnOnce(T) -> E + Drop,
     requires graph { CanShow F.Fn N.FnMut NI.IntoIterator NI.IntoIter.Iterator id_fn neighbors_fn }
     requires cycle_fn { C.IsAlwaysCallable cycle_fn }
     requires start { Ends II.IntoIterator II.IntoIter.Iterator start }
-    ensures order { IfOk result (GivesGreatestOrder T.cmp ID.eq F.Fn N.FnMut II.IntoIterator
-        II.IntoIter.Iterator NI.IntoIterator NI.IntoIter.Iterator id_fn neighbors_fn start) }
-    ensures node { FailsOrBesideCycle result (C.post cycle_fn) ID.eq F.Fn N.FnMut II.IntoIterator
-        II.IntoIter.Iterator NI.IntoIterator NI.IntoIter.Iterator id_fn neighbors_fn start }
+    ensures { FindsGreatestOrder T.cmp ID.eq F.Fn N.FnMut II.IntoIterator II.IntoIter.Iterator
+        NI.IntoIterator NI.IntoIter.Iterator id_fn neighbors_fn start (C.post cycle_fn) result }
 {
-    let found = collect_nodes(alloc, start, id_fn, neighbors_fn)?;
-    let (targets, indegrees) = link(alloc, &found.index_of, &found.neighbor_ids)?;
-    let (order, left) = take_greatest_first(alloc, found.nodes, &targets, indegrees)?;
+    let nodes = match sound_nodes(alloc, start) {
+        Ok(nodes) => nodes,
+        Err(refused) => return Err(refused),
+    };
+    let mut graph = Shown {
+        id_fn,
+        neighbors_fn,
+    };
+    let found = match graph.collect(alloc, nodes) {
+        Ok(found) => found,
+        Err(refused) => return Err(refused),
+    };
+    let (order, left) = found.greatest_first(alloc)?;
     match left {
         Some(node) => Err(WalkError::Node(cycle_fn(node))),
         None => Ok(order),
@@ -75,7 +81,7 @@ fn make_ready<T: Ord + Drop>(
     Ok(())
 }
 
-/// The nodes that the starts reach, in the order in which they were visited.
+/// The nodes that a walk visited, in that order, with the ids of the neighbours of each.
 #[derive(Drop)]
 pub struct Collected<T, ID: Hash + Eq> {
     pub nodes: Vec<Option<T>>,
@@ -83,67 +89,53 @@ pub struct Collected<T, ID: Hash + Eq> {
     pub index_of: HashMap<ID, usize>,
 }
 
-// Visits all nodes that the starts reach, the last start and the last neighbour first.
-fn collect_nodes<T, ID, E, II, NI, F, N>(
-    alloc: Global,
-    start: II,
-    id_fn: F,
-    mut neighbors_fn: N,
-) -> Result<Collected<T, ID>, WalkError<E>>
-where
-    T: Drop,
-    E: Drop,
-    ID: Hash + Eq + Drop,
-    II: IntoIterator<Item = Result<T, E>>,
-    II::IntoIter: Drop,
-    NI: IntoIterator<Item = Result<T, E>>,
-    NI::IntoIter: Drop,
-    F: Fn(&T) -> ID + Drop,
-    N: FnMut(&T) -> NI + Drop,
-    requires graph { CanShow F.Fn N.FnMut NI.IntoIterator NI.IntoIter.Iterator id_fn neighbors_fn }
-    requires start { Ends II.IntoIterator II.IntoIter.Iterator start }
-    ensures collected { IfOk result (HasCollected ID.eq F.Fn N.FnMut II.IntoIterator
-        II.IntoIter.Iterator NI.IntoIterator NI.IntoIter.Iterator id_fn neighbors_fn start) }
-    ensures failed { IfFails result (ItemFails ID.eq F.Fn N.FnMut II.IntoIterator
-        II.IntoIter.Iterator NI.IntoIterator NI.IntoIter.Iterator id_fn neighbors_fn start) }
-{
-    let mut stack = Vec::new(alloc);
-    for item in start {
-        match item {
-            Ok(node) => stack.push(node)?,
-            Err(error) => return Err(WalkError::Node(error)),
+impl<T: Drop, ID: Hash + Eq + Drop> Collected<T, ID> {
+    /// No nodes.
+    pub fn new(alloc: Global) -> Self
+        ensures nodes { result.nodes.items ≡ [] }
+        ensures ids { result.neighbor_ids.items ≡ [] }
+        ensures places { (i : ID) → get ID.eq result.index_of i ≡ None }
+    {
+        Collected {
+            nodes: Vec::new(alloc),
+            neighbor_ids: Vec::new(alloc),
+            index_of: HashMap::new(alloc),
         }
     }
-    let mut nodes = Vec::new(alloc);
-    let mut neighbor_ids = Vec::new(alloc);
-    let mut index_of = HashMap::new(alloc);
-    while let Some(node) = stack.pop() {
-        let id = id_fn(&node);
-        if index_of.contains_key(&id) {
-            continue;
-        }
-        let mut ids = Vec::new(alloc);
-        for neighbor in neighbors_fn(&node) {
-            let neighbor = match neighbor {
-                Ok(neighbor) => neighbor,
-                Err(error) => return Err(WalkError::Node(error)),
-            };
-            ids.push(id_fn(&neighbor))?;
-            stack.push(neighbor)?;
-        }
-        index_of.insert(id, nodes.len())?;
-        nodes.push(Some(node))?;
-        neighbor_ids.push(ids)?;
+
+    /// Puts a node behind the others.
+    pub fn keep(&mut self, node: T, id: ID, neighbor_ids: Vec<ID>) -> Result<(), AllocError>
+        ensures nodes { OnOk result (self.new.nodes.items ≡ self.old.nodes.items ++ Some node ∷ []) }
+        ensures ids { OnOk result (self.new.neighbor_ids.items
+            ≡ self.old.neighbor_ids.items ++ neighbor_ids ∷ []) }
+        ensures places { OnOk result ((i : ID) → get ID.eq self.new.index_of i
+            ≡ cond (ID.eq id i) (Some (length self.old.nodes.items)) (get ID.eq self.old.index_of i)) }
+    {
+        self.index_of.insert(id, self.nodes.len())?;
+        self.nodes.push(Some(node))?;
+        self.neighbor_ids.push(neighbor_ids)?;
+        Ok(())
     }
-    Ok(Collected {
-        nodes,
-        neighbor_ids,
-        index_of,
-    })
 }
 
-/// The places of the neighbours of each node, and how many edges lead to each place.
-pub fn link<ID: Hash + Eq + Drop>(
+impl<T: Ord + Drop, ID: Hash + Eq + Drop> Collected<T, ID> {
+    /// The nodes, as `take_greatest_first` takes them.
+    pub fn greatest_first(self, alloc: Global) -> Result<(Vec<T>, Option<T>), AllocError>
+        requires { IsFilled ID.eq self }
+        ensures { IfOk result (TakesGreatestFirst T.cmp self.nodes.items (linked ID.eq self)) }
+    {
+        let Collected {
+            nodes,
+            neighbor_ids,
+            index_of,
+        } = self;
+        let (targets, indegrees) = link(alloc, &index_of, &neighbor_ids)?;
+        take_greatest_first(alloc, nodes, &targets, indegrees)
+    }
+}
+
+// The places of the neighbours of each node, and how many edges lead to each place.
+fn link<ID: Hash + Eq + Drop>(
     alloc: Global,
     index_of: &HashMap<ID, usize>,
     neighbor_ids: &[Vec<ID>],
@@ -175,9 +167,9 @@ pub fn link<ID: Hash + Eq + Drop>(
     Ok((targets, indegrees))
 }
 
-/// Takes the greatest node all of whose children were taken, as long as there is one. Beside the
-/// nodes taken stands one of those left, which all are on or below a cycle.
-pub fn take_greatest_first<T: Ord + Drop>(
+// Takes the greatest node all of whose children were taken, as long as there is one. Beside the
+// nodes taken stands one of those left, which all are on or below a cycle.
+fn take_greatest_first<T: Ord + Drop>(
     alloc: Global,
     mut waiting: Vec<Option<T>>,
     targets: &[Vec<usize>],
@@ -191,14 +183,8 @@ pub fn take_greatest_first<T: Ord + Drop>(
         → b < length waiting.items }
     requires indegrees { (k : ℕ) → k < length waiting.items
         → slice_index indegrees.items k ≡ edges_to (map (λ ts. ts.items) targets.now) k }
-    ensures { IfOk result (λ r. (order : List ℕ)
-        × (map (λ x. Some x) r.0.items ≡ map (λ k. slice_index_or waiting.items k None) order)
-        × TakesGreatestReady (places_graph (map (λ ts. ts.items) targets.now))
-        (λ k. k < length waiting.items) (IsNotBelow T.cmp waiting.items) order
-        × MatchOption r.1 ((k : ℕ) → k < length waiting.items → Contains order k)
-        (λ x. (k : ℕ) × (k < length waiting.items) × (slice_index_or waiting.items k None ≡ Some x)
-        × (Contains order k → ⊥) × IsStuck (places_graph (map (λ ts. ts.items) targets.now))
-        (λ k. k < length waiting.items) order)) }
+    ensures { IfOk result (TakesGreatestFirst T.cmp waiting.items
+        (map (λ ts. ts.items) targets.now)) }
 {
     let mut ready = BinaryHeap::new(alloc);
     for index in 0..indegrees.len() {

@@ -4,7 +4,7 @@ ghost use Rattle.std.specs.HashMap.{hash_map_len};
 ghost use Rattle.std.specs.Iterator.{at_most, size};
 ghost use Rattle.jj_walks.specs.Grouped.{Entry, History, Prioritized, Read};
 ghost use Rattle.jj_walks.specs.GroupedSteps.{CanRead, GivesNext, IsCause, IsEntryOf, Item, answer_of};
-ghost use Rattle.jj_walks.specs.HeldNodes.{Keeps};
+ghost use Rattle.jj_walks.specs.HeldNodes.{Adds, Keeps, KeepsOn};
 
 use crate::graph::GraphNode;
 use crate::held_nodes::{HeldNodes, Ready};
@@ -67,10 +67,8 @@ where
     /// Gives the branch that leads to this id first, or after those that were prioritised before.
     pub fn prioritize_branch(&mut self, id: ID) -> Result<(), AllocError>
         requires clones { (i j : ID) → ID.is_clone i j → IsTrue (ID.eq i j) }
-        ensures prioritized { OnOk result ((h : History N ID) → Keeps ID.eq h self.old.held
-            → Keeps ID.eq (Prioritized id ∷ h) self.new.held) }
-        ensures refused { OnErr result ((h : History N ID) → Keeps ID.eq h self.old.held
-            → Keeps ID.eq h self.new.held) }
+        ensures prioritized { OnOk result (Adds ID.eq (Prioritized id) self.old.held self.new.held) }
+        ensures refused { OnErr result (KeepsOn ID.eq self.old.held self.new.held) }
         ensures input { self.new.input ≡ self.old.input }
         ensures as_id { self.new.as_id ≡ self.old.as_id }
     {
@@ -126,8 +124,7 @@ where
         ensures read { IfOk result (λ more. more ≡ true → (item : Item N ID) × (e : Entry N ID)
             × S.next_gives self.old.input (Some (Ok item)) self.new.input
             × IsEntryOf F.Fn ID.eq self.old.as_id item e
-            × ((h : History N ID) → Keeps ID.eq h self.old.held
-            → Keeps ID.eq (Read e ∷ h) self.new.held)) }
+            × Adds ID.eq (Read e) self.old.held self.new.held) }
         ensures ended { IfOk result (λ more. more ≡ false
             → S.next_gives self.old.input None self.new.input × (self.new.held ≡ self.old.held)) }
         ensures refused { IfErr result (λ error.

@@ -5,7 +5,7 @@ ghost use Rattle.std.specs.List.{list_any};
 ghost use Rattle.std.specs.VecDeque.{deque_items};
 ghost use Rattle.jj_walks.specs.Candidates.{count_at, has_id};
 ghost use Rattle.jj_walks.specs.Grouped.{History, Prioritized, Read, held, leads_to};
-ghost use Rattle.jj_walks.specs.HeldNodes.{Keeps, TakesNext, len_after};
+ghost use Rattle.jj_walks.specs.HeldNodes.{Adds, Keeps, KeepsOn, TakesNext, len_after};
 
 use crate::candidates::Candidates;
 use crate::graph::{GraphEdge, GraphNode};
@@ -62,10 +62,8 @@ impl<N: Drop, ID: Hash + Eq + Clone + Drop> HeldNodes<N, ID> {
     /// Makes the id a wanted one.
     pub fn prioritize(&mut self, id: ID) -> Result<(), AllocError>
         requires clones { (i j : ID) → ID.is_clone i j → IsTrue (ID.eq i j) }
-        ensures prioritized { OnOk result ((h : History N ID) → Keeps ID.eq h self.old
-            → Keeps ID.eq (Prioritized id ∷ h) self.new) }
-        ensures refused { OnErr result ((h : History N ID) → Keeps ID.eq h self.old
-            → Keeps ID.eq h self.new) }
+        ensures prioritized { OnOk result (Adds ID.eq (Prioritized id) self.old self.new) }
+        ensures refused { OnErr result (KeepsOn ID.eq self.old self.new) }
         ensures nodes { self.new.nodes ≡ self.old.nodes }
     {
         self.candidates.push_head(id.clone()?)?;
@@ -80,12 +78,11 @@ impl<N: Drop, ID: Hash + Eq + Clone + Drop> HeldNodes<N, ID> {
     pub fn hold(&mut self, id: ID, node: N, edges: Vec<GraphEdge<ID>>) -> Result<(), AllocError>
         requires clones { (i j : ID) → ID.is_clone i j → IsTrue (ID.eq i j) }
         requires absent { get ID.eq self.old.nodes id ≡ None }
-        ensures held { OnOk result ((h : History N ID) → Keeps ID.eq h self.old
-            → Keeps ID.eq (Read (record {
-              id = id;
-              node = node;
-              edges = edges.items;
-            }) ∷ h) self.new) }
+        ensures held { OnOk result (Adds ID.eq (Read (record {
+          id = id;
+          node = node;
+          edges = edges.items;
+        })) self.old self.new) }
         ensures len { OnOk result (hash_map_len self.new.nodes ≡ hash_map_len self.old.nodes + 1) }
     {
         count_edges(&mut self.counts, &edges)?;

@@ -29,8 +29,7 @@ pub struct Plan<T, ID: Hash + Eq, E, F, N, C> {
 
 impl<T: Ord + Drop, ID: Hash + Eq + Drop, E: Drop, NI, F, N, C> Plan<T, ID, E, F, N, C>
 where
-    NI: IntoIterator<Item = Result<T, E>>,
-    NI::IntoIter: Drop,
+    NI: IntoIterator<Item = Result<T, E>, IntoIter: Drop>,
     F: Fn(&T) -> ID,
     N: FnMut(&T) -> NI,
     C: FnMut(T) -> E,

@@ -23,6 +23,7 @@ mod maximal_lists;
 mod maximal_ok;
 mod next_item;
 mod reversed;
+mod sound_nodes;
 mod topo_order;
 mod topo_order_chunked;
 mod topo_order_lazy;

@@ -1,15 +1,18 @@
-//! Looking ahead from several starts, as far as one node that all explored nodes reach, or to the
-//! roots.
+//! Collecting nodes by the closures that show a graph: all that starts reach, or as far as one node
+//! that all explored nodes reach.
 ghost use Rattle.std.specs.Prelude.{◌≡◌, ◌≤◌, ◌∷◌, [], length, true, IfOk, IfSome, IfNone};
 ghost use Rattle.std.specs.List.Sorted.{IsPermutation};
 ghost use Rattle.std.specs.BinaryHeap.{heap_items};
-ghost use Rattle.jj_walks.specs.Exploring.{HasChunk, HasExplored, ItemBelowFails, KeepsShowing, ListsNeighbors, NeighborFails};
-ghost use Rattle.jj_walks.specs.Outcomes.{IfFails, ListsEnd};
+ghost use Rattle.std.specs.Fn.{FnReturnsAt};
+ghost use Rattle.std.specs.List.{AllZip};
+ghost use Rattle.jj_walks.specs.Exploring.{CollectsFrom, ExploresFrom, ListsNode, TakesChunk};
+ghost use Rattle.jj_walks.specs.Owed.{CanShow};
 
-use crate::greatest_order::{Collected, link, take_greatest_first};
+use crate::greatest_order::Collected;
+use crate::sound_nodes::sound_nodes;
 use crate::walk_error::WalkError;
-use std::alloc::Global;
-use std::collections::{BinaryHeap, HashMap};
+use std::alloc::{AllocError, Global};
+use std::collections::BinaryHeap;
 use std::hash::Hash;
 
 // The next node to explore: there is none where no node waits, or where one waits after some were
@@ -48,134 +51,128 @@ pub struct Shown<F, N> {
     pub neighbors_fn: N,
 }
 
+// The ids of these nodes, in their order.
+fn ids_of<T, ID: Drop, F: Fn(&T) -> ID>(
+    alloc: Global,
+    id_fn: &F,
+    nodes: &[T],
+) -> Result<Vec<ID>, AllocError>
+    requires { F.IsAlwaysCallable id_fn.now }
+    ensures { IfOk result (λ ids. AllZip (FnReturnsAt F.Fn id_fn.now) nodes.now ids.items) }
+{
+    let mut ids = Vec::new(alloc);
+    for node in nodes {
+        ids.push(id_fn(node))?;
+    }
+    Ok(ids)
+}
+
 impl<F, N> Shown<F, N> {
     /// The neighbours of a node.
-    pub fn neighbors<T, ID, E, NI>(
+    pub fn neighbors<T: Drop, ID: Hash + Eq + Drop, E: Drop, NI>(
         &mut self,
         alloc: Global,
         node: &T,
     ) -> Result<Vec<T>, WalkError<E>>
     where
-        T: Drop,
-        ID: Hash + Eq + Drop,
-        E: Drop,
-        NI: IntoIterator<Item = Result<T, E>>,
-        NI::IntoIter: Drop,
+        NI: IntoIterator<Item = Result<T, E>, IntoIter: Drop>,
         F: Fn(&T) -> ID,
         N: FnMut(&T) -> NI,
-        requires neighbors_fn { N.IsAlwaysCallable self.old.neighbors_fn }
-        requires lists { ListsEnd N.FnMut NI.IntoIterator NI.IntoIter.Iterator
+        requires { CanShow F.Fn N.FnMut NI.IntoIterator NI.IntoIter.Iterator self.old.id_fn
             self.old.neighbors_fn }
-        ensures id_fn { self.new.id_fn ≡ self.old.id_fn }
-        ensures neighbors_fn { N.IsAlwaysCallable self.new.neighbors_fn }
-        ensures lists { ListsEnd N.FnMut NI.IntoIterator NI.IntoIter.Iterator
-            self.new.neighbors_fn }
-        ensures shown { KeepsShowing ID.eq F.Fn N.FnMut NI.IntoIterator NI.IntoIter.Iterator
-            self.old self.new }
-        ensures listed { IfOk result (ListsNeighbors ID.eq F.Fn N.FnMut NI.IntoIterator
-            NI.IntoIter.Iterator self.old node.now) }
-        ensures failed { IfFails result (NeighborFails ID.eq F.Fn N.FnMut NI.IntoIterator
-            NI.IntoIter.Iterator self.old node.now) }
+        ensures { ListsNode ID.eq F.Fn N.FnMut NI.IntoIterator NI.IntoIter.Iterator self.old
+            self.new node.now result }
     {
-        let mut list = Vec::new(alloc);
-        for neighbor in (self.neighbors_fn)(node) {
-            match neighbor {
-                Ok(neighbor) => list.push(neighbor)?,
-                Err(error) => return Err(WalkError::Node(error)),
+        sound_nodes(alloc, (self.neighbors_fn)(node))
+    }
+
+    /// All nodes that the starts reach, in the order in which they are visited: the last start and
+    /// the last neighbour first.
+    pub fn collect<T: Drop, ID: Hash + Eq + Drop, E: Drop, NI>(
+        &mut self,
+        alloc: Global,
+        start: Vec<T>,
+    ) -> Result<Collected<T, ID>, WalkError<E>>
+    where
+        NI: IntoIterator<Item = Result<T, E>, IntoIter: Drop>,
+        F: Fn(&T) -> ID,
+        N: FnMut(&T) -> NI,
+        requires { CanShow F.Fn N.FnMut NI.IntoIterator NI.IntoIter.Iterator self.old.id_fn
+            self.old.neighbors_fn }
+        ensures { CollectsFrom ID.eq F.Fn N.FnMut NI.IntoIterator NI.IntoIter.Iterator self.old
+            start.items result }
+    {
+        let mut stack = start;
+        let mut found = Collected::new(alloc);
+        while let Some(node) = stack.pop() {
+            let id = (self.id_fn)(&node);
+            if found.index_of.contains_key(&id) {
+                continue;
             }
+            let mut neighbors = match self.neighbors(alloc, &node) {
+                Ok(neighbors) => neighbors,
+                Err(refused) => return Err(refused),
+            };
+            let ids = ids_of(alloc, &self.id_fn, &neighbors)?;
+            found.keep(node, id, ids)?;
+            stack.append(&mut neighbors)?;
         }
-        Ok(list)
+        Ok(found)
     }
 
     // Explores the greatest waiting node, again and again.
-    fn explore<T, ID, E, NI>(
+    fn explore<T: Ord + Drop, ID: Hash + Eq + Drop, E: Drop, NI>(
         &mut self,
         alloc: Global,
         start: Vec<T>,
     ) -> Result<(Collected<T, ID>, Vec<T>), WalkError<E>>
     where
-        T: Ord + Drop,
-        ID: Hash + Eq + Drop,
-        E: Drop,
-        NI: IntoIterator<Item = Result<T, E>>,
-        NI::IntoIter: Drop,
+        NI: IntoIterator<Item = Result<T, E>, IntoIter: Drop>,
         F: Fn(&T) -> ID,
         N: FnMut(&T) -> NI,
-        requires id_fn { F.IsAlwaysCallable self.old.id_fn }
-        requires neighbors_fn { N.IsAlwaysCallable self.old.neighbors_fn }
-        requires lists { ListsEnd N.FnMut NI.IntoIterator NI.IntoIter.Iterator
+        requires { CanShow F.Fn N.FnMut NI.IntoIterator NI.IntoIter.Iterator self.old.id_fn
             self.old.neighbors_fn }
-        ensures id_fn { self.new.id_fn ≡ self.old.id_fn }
-        ensures neighbors_fn { N.IsAlwaysCallable self.new.neighbors_fn }
-        ensures lists { ListsEnd N.FnMut NI.IntoIterator NI.IntoIter.Iterator
-            self.new.neighbors_fn }
-        ensures explored { IfOk result (HasExplored ID.eq F.Fn N.FnMut NI.IntoIterator
-            NI.IntoIter.Iterator self.old self.new start.items) }
-        ensures failed { IfFails result (ItemBelowFails ID.eq F.Fn N.FnMut NI.IntoIterator
-            NI.IntoIter.Iterator self.old start.items) }
+        ensures { ExploresFrom ID.eq F.Fn N.FnMut NI.IntoIterator NI.IntoIter.Iterator self.old
+            self.new start.items result }
     {
         let mut waiting = BinaryHeap::from(start);
-        let mut nodes = Vec::new(alloc);
-        let mut neighbor_ids = Vec::new(alloc);
-        let mut index_of = HashMap::new(alloc);
+        let mut found = Collected::new(alloc);
         let mut root_met = false;
-        while let Some(node) = next_to_explore(&mut waiting, nodes.len(), root_met) {
+        while let Some(node) = next_to_explore(&mut waiting, found.nodes.len(), root_met) {
             let id = (self.id_fn)(&node);
-            if index_of.contains_key(&id) {
+            if found.index_of.contains_key(&id) {
                 continue;
             }
-            let mut ids = Vec::new(alloc);
-            for neighbor in (self.neighbors_fn)(&node) {
-                let neighbor = match neighbor {
-                    Ok(neighbor) => neighbor,
-                    Err(error) => return Err(WalkError::Node(error)),
-                };
-                ids.push((self.id_fn)(&neighbor))?;
-                waiting.push(neighbor)?;
-            }
+            let neighbors = match self.neighbors(alloc, &node) {
+                Ok(neighbors) => neighbors,
+                Err(refused) => return Err(refused),
+            };
+            let ids = ids_of(alloc, &self.id_fn, &neighbors)?;
             root_met |= ids.is_empty();
-            index_of.insert(id, nodes.len())?;
-            nodes.push(Some(node))?;
-            neighbor_ids.push(ids)?;
+            found.keep(node, id, ids)?;
+            waiting.append(&mut BinaryHeap::from(neighbors))?;
         }
-        let found = Collected {
-            nodes,
-            neighbor_ids,
-            index_of,
-        };
         Ok((found, waiting.into_vec()))
     }
+
     /// Some of what several starts reach: all starts, and every node that is explored before one
     /// node waits that they all reach.
-    pub fn chunk<T, ID, E, NI>(
+    pub fn chunk<T: Ord + Drop, ID: Hash + Eq + Drop, E: Drop, NI>(
         &mut self,
         alloc: Global,
         start: Vec<T>,
     ) -> Result<Chunk<T>, WalkError<E>>
     where
-        T: Ord + Drop,
-        ID: Hash + Eq + Drop,
-        E: Drop,
-        NI: IntoIterator<Item = Result<T, E>>,
-        NI::IntoIter: Drop,
+        NI: IntoIterator<Item = Result<T, E>, IntoIter: Drop>,
         F: Fn(&T) -> ID,
         N: FnMut(&T) -> NI,
-        requires id_fn { F.IsAlwaysCallable self.old.id_fn }
-        requires neighbors_fn { N.IsAlwaysCallable self.old.neighbors_fn }
-        requires lists { ListsEnd N.FnMut NI.IntoIterator NI.IntoIter.Iterator
+        requires { CanShow F.Fn N.FnMut NI.IntoIterator NI.IntoIter.Iterator self.old.id_fn
             self.old.neighbors_fn }
-        ensures id_fn { self.new.id_fn ≡ self.old.id_fn }
-        ensures neighbors_fn { N.IsAlwaysCallable self.new.neighbors_fn }
-        ensures lists { ListsEnd N.FnMut NI.IntoIterator NI.IntoIter.Iterator
-            self.new.neighbors_fn }
-        ensures chunk { IfOk result (HasChunk ID.eq F.Fn N.FnMut NI.IntoIterator
-            NI.IntoIter.Iterator self.old self.new start.items) }
-        ensures failed { IfFails result (ItemBelowFails ID.eq F.Fn N.FnMut NI.IntoIterator
-            NI.IntoIter.Iterator self.old start.items) }
+        ensures { TakesChunk ID.eq F.Fn N.FnMut NI.IntoIterator NI.IntoIter.Iterator self.old
+            self.new start.items result }
     {
         let (found, left) = self.explore(alloc, start)?;
-        let (targets, indegrees) = link(alloc, &found.index_of, &found.neighbor_ids)?;
-        let (nodes, stuck) = take_greatest_first(alloc, found.nodes, &targets, indegrees)?;
+        let (nodes, stuck) = found.greatest_first(alloc)?;
         Ok(Chunk { nodes, left, stuck })
     }
 }

@@ -62,19 +62,15 @@ pub fn next_to_ask<T>(waiting: &mut VecDeque<T>, level: &mut usize, root_met: bo
 
 /// The nodes of `start` that no other of them reaches. A walk by levels ends early where one node
 /// waits and no root, a node without neighbours, was met.
-pub fn heads<T, ID, II, NI, F, N>(
+pub fn heads<T: Hash + Eq + Clone + Drop, ID: Hash + Eq + Drop, II, NI, F, N>(
     alloc: Global,
     start: II,
     id_fn: F,
     mut neighbors_fn: N,
 ) -> Result<HashSet<T>, AllocError>
 where
-    T: Hash + Eq + Clone + Drop,
-    ID: Hash + Eq + Drop,
-    II: IntoIterator<Item = T> + Drop,
-    II::IntoIter: Drop,
-    NI: IntoIterator<Item = T>,
-    NI::IntoIter: Drop,
+    II: IntoIterator<Item = T, IntoIter: Drop> + Drop,
+    NI: IntoIterator<Item = T, IntoIter: Drop>,
     F: Fn(&T) -> ID + Drop,
     N: FnMut(&T) -> NI + Drop,
     requires graph { CanShow F.Fn N.FnMut NI.IntoIterator NI.IntoIter.Iterator id_fn neighbors_fn }

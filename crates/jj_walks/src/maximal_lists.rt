@@ -1,8 +1,8 @@
 //! The maximal nodes of a set, where a list of neighbours may fail as a whole.
-ghost use Rattle.std.specs.Prelude.{Result, IfOk};
-ghost use Rattle.jj_walks.specs.Found.{GivesHeadsOfLists, ListFails};
+ghost use Rattle.std.specs.Prelude.{Result};
+ghost use Rattle.jj_walks.specs.Found.{FindsHeadsOfLists};
 ghost use Rattle.jj_walks.specs.ListOrError.{StandsFor};
-ghost use Rattle.jj_walks.specs.Outcomes.{ClonesAreEqual, Ends, IfFails};
+ghost use Rattle.jj_walks.specs.Outcomes.{ClonesAreEqual, Ends};
 ghost use Rattle.jj_walks.specs.Owed.{MayShow};
 
 use crate::all_ok::AllOk;
@@ -15,29 +15,22 @@ use std::hash::Hash;
 use std::marker::PhantomData;
 
 /// `heads` where a list of neighbours may fail as a whole: `Node` of the first that is met to fail.
-pub fn heads<T, ID, E, II, NI, F, N>(
+pub fn heads<T: Hash + Eq + Clone + Drop, ID: Hash + Eq + Drop, E: Drop, II, NI, F, N>(
     alloc: Global,
     start: II,
     id_fn: F,
     mut neighbors_fn: N,
 ) -> Result<HashSet<T>, WalkError<E>>
 where
-    T: Hash + Eq + Clone + Drop,
-    ID: Hash + Eq + Drop,
-    E: Drop,
-    II: IntoIterator<Item = T> + Drop,
-    II::IntoIter: Drop,
-    NI: IntoIterator<Item = T>,
-    NI::IntoIter: Drop,
+    II: IntoIterator<Item = T, IntoIter: Drop> + Drop,
+    NI: IntoIterator<Item = T, IntoIter: Drop>,
     F: Fn(&T) -> ID + Drop,
     N: FnMut(&T) -> Result<NI, E> + Drop,
     requires graph { MayShow F.Fn N.FnMut NI.IntoIterator NI.IntoIter.Iterator id_fn neighbors_fn }
     requires start { Ends II.IntoIterator II.IntoIter.Iterator start }
     requires clones { ClonesAreEqual T.is_clone T.eq }
-    ensures heads { IfOk result (GivesHeadsOfLists T.eq ID.eq F.Fn N.FnMut NI.IntoIterator
-        NI.IntoIter.Iterator id_fn neighbors_fn II.IntoIterator II.IntoIter.Iterator start) }
-    ensures refused { IfFails result (ListFails ID.eq F.Fn N.FnMut NI.IntoIterator
-        NI.IntoIter.Iterator id_fn neighbors_fn II.IntoIterator II.IntoIter.Iterator start) }
+    ensures { FindsHeadsOfLists T.eq ID.eq F.Fn N.FnMut NI.IntoIterator NI.IntoIter.Iterator id_fn
+        neighbors_fn II.IntoIterator II.IntoIter.Iterator start result }
 {
     let start = AllOk {
         items: start.into_iter(),

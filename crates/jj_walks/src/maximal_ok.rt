@@ -1,7 +1,6 @@
 //! The maximal nodes of a set, over items that may fail.
-ghost use Rattle.std.specs.Prelude.{IfOk};
-ghost use Rattle.jj_walks.specs.Found.{GivesHeadsOfItems};
-ghost use Rattle.jj_walks.specs.Outcomes.{ClonesAreEqual, Ends, IfFails, ItemFails};
+ghost use Rattle.jj_walks.specs.Found.{FindsHeadsOfItems};
+ghost use Rattle.jj_walks.specs.Outcomes.{ClonesAreEqual, Ends};
 ghost use Rattle.jj_walks.specs.Owed.{CanShow};
 
 use crate::maximal::{meet, next_to_ask};
@@ -12,29 +11,22 @@ use std::hash::Hash;
 
 /// `heads` over items that may fail: `Node` of the first failed item that is met. Failed items
 /// below the place where the walk ends early are not met.
-pub fn heads_ok<T, ID, E, II, NI, F, N>(
+pub fn heads_ok<T: Hash + Eq + Clone + Drop, ID: Hash + Eq + Drop, E: Drop, II, NI, F, N>(
     alloc: Global,
     start: II,
     id_fn: F,
     mut neighbors_fn: N,
 ) -> Result<HashSet<T>, WalkError<E>>
 where
-    T: Hash + Eq + Clone + Drop,
-    ID: Hash + Eq + Drop,
-    E: Drop,
-    II: IntoIterator<Item = Result<T, E>> + Drop,
-    II::IntoIter: Drop,
-    NI: IntoIterator<Item = Result<T, E>>,
-    NI::IntoIter: Drop,
+    II: IntoIterator<Item = Result<T, E>, IntoIter: Drop> + Drop,
+    NI: IntoIterator<Item = Result<T, E>, IntoIter: Drop>,
     F: Fn(&T) -> ID + Drop,
     N: FnMut(&T) -> NI + Drop,
     requires graph { CanShow F.Fn N.FnMut NI.IntoIterator NI.IntoIter.Iterator id_fn neighbors_fn }
     requires start { Ends II.IntoIterator II.IntoIter.Iterator start }
     requires clones { ClonesAreEqual T.is_clone T.eq }
-    ensures heads { IfOk result (GivesHeadsOfItems T.eq ID.eq F.Fn N.FnMut II.IntoIterator
-        II.IntoIter.Iterator NI.IntoIterator NI.IntoIter.Iterator id_fn neighbors_fn start) }
-    ensures refused { IfFails result (ItemFails ID.eq F.Fn N.FnMut II.IntoIterator
-        II.IntoIter.Iterator NI.IntoIterator NI.IntoIter.Iterator id_fn neighbors_fn start) }
+    ensures { FindsHeadsOfItems T.eq ID.eq F.Fn N.FnMut II.IntoIterator II.IntoIter.Iterator
+        NI.IntoIterator NI.IntoIter.Iterator id_fn neighbors_fn start result }
 {
     let mut heads = HashSet::new(alloc);
     let mut visited = HashSet::new(alloc);

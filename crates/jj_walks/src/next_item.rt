@@ -12,7 +12,7 @@ use std::hash::Hash;
 /// Takes the topmost item of `work` that is not a visited node. `node_of` tells what an item is. A
 /// node is entered: its neighbours wait in its place. A failed item is `Node` of its error. After
 /// `Memory` nothing waits.
-pub fn next_item<X, T, E, ID, NI, P, F, N>(
+pub fn next_item<X: Drop, T: Drop, E: Drop, ID: Hash + Eq + Drop, NI, P, F, N>(
     work: &mut Vec<X>,
     visited: &mut HashSet<ID>,
     node_of: &P,
@@ -20,12 +20,7 @@ pub fn next_item<X, T, E, ID, NI, P, F, N>(
     neighbors_fn: &mut N,
 ) -> Option<Result<T, WalkError<E>>>
 where
-    X: Drop,
-    T: Drop,
-    E: Drop,
-    ID: Hash + Eq + Drop,
-    NI: IntoIterator<Item = X>,
-    NI::IntoIter: Drop,
+    NI: IntoIterator<Item = X, IntoIter: Drop>,
     P: Fn(X) -> Result<T, E>,
     F: Fn(&T) -> ID,
     N: FnMut(&T) -> NI,

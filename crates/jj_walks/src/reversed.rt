@@ -18,15 +18,13 @@ type Incoming<ID> = HashMap<ID, Vec<GraphEdge<ID>>>;
 /// The nodes from the last to the first, each with the edges that lead to it: to the id of each
 /// node that has an edge to it, in the order of the input. Edges to ids that no node has are left
 /// out, and of nodes with one id the last has all edges.
-pub fn reverse_graph<N, ID, E, I, F>(
+pub fn reverse_graph<N, ID: Hash + Eq + Clone + Drop, E: Drop, I, F>(
     alloc: Global,
     input: I,
     as_id: F,
 ) -> Result<Vec<GraphNode<N, ID>>, WalkError<E>>
 where
     N: Drop,
-    ID: Hash + Eq + Clone + Drop,
-    E: Drop,
     I: Iterator<Item = Result<GraphNode<N, ID>, E>> + Drop,
     F: Fn(&N) -> &ID + Drop,
     requires as_id { F.IsAlwaysCallable as_id }

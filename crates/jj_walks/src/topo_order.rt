@@ -13,7 +13,7 @@ use std::marker::PhantomData;
 
 /// The nodes that the starts reach, each once and after its neighbours; later starts and later
 /// neighbours come first. A cycle is `Node(cycle_fn(node))` of some node on it.
-pub fn topo_order_forward<T, ID, E, II, NI, F, N, C>(
+pub fn topo_order_forward<T: Drop, ID: Hash + Eq + Clone + Drop, E, II, NI, F, N, C>(
     alloc: Global,
     start: II,
     id_fn: F,
@@ -21,12 +21,8 @@ pub fn topo_order_forward<T, ID, E, II, NI, F, N, C>(
     cycle_fn: C,
 ) -> Result<Vec<T>, WalkError<E>>
 where
-    T: Drop,
-    ID: Hash + Eq + Clone + Drop,
-    II: IntoIterator<Item = T> + Drop,
-    II::IntoIter: Drop,
-    NI: IntoIterator<Item = T>,
-    NI::IntoIter: Drop,
+    II: IntoIterator<Item = T, IntoIter: Drop> + Drop,
+    NI: IntoIterator<Item = T, IntoIter: Drop>,
     F: Fn(&T) -> ID + Drop,
     N: FnMut(&T) -> NI + Drop,
     C: FnOnce(T) -> E + Drop,
@@ -62,7 +58,7 @@ where
 
 /// The nodes that the starts reach, each once and before its neighbours: `topo_order_forward`'s
 /// list from its end. A cycle is `Node(cycle_fn(node))` of some node on it.
-pub fn topo_order_reverse<T, ID, E, II, NI, F, N, C>(
+pub fn topo_order_reverse<T: Drop, ID: Hash + Eq + Clone + Drop, E, II, NI, F, N, C>(
     alloc: Global,
     start: II,
     id_fn: F,
@@ -70,12 +66,8 @@ pub fn topo_order_reverse<T, ID, E, II, NI, F, N, C>(
     cycle_fn: C,
 ) -> Result<Vec<T>, WalkError<E>>
 where
-    T: Drop,
-    ID: Hash + Eq + Clone + Drop,
-    II: IntoIterator<Item = T> + Drop,
-    II::IntoIter: Drop,
-    NI: IntoIterator<Item = T>,
-    NI::IntoIter: Drop,
+    II: IntoIterator<Item = T, IntoIter: Drop> + Drop,
+    NI: IntoIterator<Item = T, IntoIter: Drop>,
     F: Fn(&T) -> ID + Drop,
     N: FnMut(&T) -> NI + Drop,
     C: FnOnce(T) -> E + Drop,

@@ -1,6 +1,5 @@
 //! A child-first order, a chunk at a time.
-ghost use Rattle.std.specs.Prelude.{◌≡◌, [], IfOk, OnErr};
-ghost use Rattle.jj_walks.specs.NextChunk.{FailsAtChunk, GivesNextChunk};
+ghost use Rattle.jj_walks.specs.NextChunk.{FindsNextChunk};
 ghost use Rattle.jj_walks.specs.Owed.{CanShow};
 
 use crate::look_ahead::{Chunk, Shown};
@@ -17,7 +16,7 @@ use std::mem;
 /// on, until one node waits that all explored nodes reach. A failed item that is met is `Node` of
 /// its error; where a cycle is met, `cycle_fn` makes the error of a node that the starts reach.
 /// After an error `start` is empty.
-pub fn topo_order_reverse_chunked<T, ID, E, NI, F, N, C>(
+pub fn topo_order_reverse_chunked<T, ID: Hash + Eq + Drop, E: Drop, NI, F, N, C>(
     alloc: Global,
     start: &mut Vec<T>,
     id_fn: F,
@@ -26,20 +25,14 @@ pub fn topo_order_reverse_chunked<T, ID, E, NI, F, N, C>(
 ) -> Result<SmallVec<T, 1>, WalkError<E>>
 where
     T: Ord + MadeWith<Global> + Drop,
-    ID: Hash + Eq + Drop,
-    E: Drop,
-    NI: IntoIterator<Item = Result<T, E>>,
-    NI::IntoIter: Drop,
+    NI: IntoIterator<Item = Result<T, E>, IntoIter: Drop>,
     F: Fn(&T) -> ID + Drop,
     N: FnMut(&T) -> NI + Drop,
     C: FnOnce(T) -> E + Drop,
     requires graph { CanShow F.Fn N.FnMut NI.IntoIterator NI.IntoIter.Iterator id_fn neighbors_fn }
     requires cycle_fn { C.IsAlwaysCallable cycle_fn }
-    ensures chunk { IfOk result (λ chunk. GivesNextChunk ID.eq F.Fn N.FnMut NI.IntoIterator
-        NI.IntoIter.Iterator id_fn neighbors_fn start.old.items chunk.items start.new.items) }
-    ensures refused_start { OnErr result (start.new.items ≡ []) }
-    ensures node { FailsAtChunk result (C.post cycle_fn) ID.eq F.Fn N.FnMut NI.IntoIterator
-        NI.IntoIter.Iterator id_fn neighbors_fn start.old.items }
+    ensures { FindsNextChunk ID.eq F.Fn N.FnMut NI.IntoIterator NI.IntoIter.Iterator id_fn
+        neighbors_fn (C.post cycle_fn) start.old.items start.new.items result (λ v. v.items) }
 {
     let mut graph = Shown {
         id_fn,

@@ -24,8 +24,7 @@ where
     T: Ord + Drop,
     ID: Hash + Eq + Drop,
     E: Drop,
-    NI: IntoIterator<Item = Result<T, E>>,
-    NI::IntoIter: Drop,
+    NI: IntoIterator<Item = Result<T, E>, IntoIter: Drop>,
     F: Fn(&T) -> ID,
     N: FnMut(&T) -> NI,
     C: FnMut(T) -> E,
@@ -65,7 +64,7 @@ where
 /// several starts are left, they are explored from the greatest node on, until one node waits that
 /// all explored nodes reach. A failed start or neighbour that is met is `Node` of its error; where
 /// a cycle is met, `cycle_fn` makes the error of a node that the starts reach.
-pub fn topo_order_reverse_lazy<T, ID, E, II, NI, F, N, C>(
+pub fn topo_order_reverse_lazy<T: Ord + Drop, ID: Hash + Eq + Drop, E: Drop, II, NI, F, N, C>(
     alloc: Global,
     start: II,
     id_fn: F,
@@ -73,13 +72,8 @@ pub fn topo_order_reverse_lazy<T, ID, E, II, NI, F, N, C>(
     cycle_fn: C,
 ) -> Result<TopoOrderReverseLazy<T, ID, E, F, N, C>, AllocError>
 where
-    T: Ord + Drop,
-    ID: Hash + Eq + Drop,
-    E: Drop,
-    II: IntoIterator<Item = Result<T, E>>,
-    II::IntoIter: Drop,
-    NI: IntoIterator<Item = Result<T, E>>,
-    NI::IntoIter: Drop,
+    II: IntoIterator<Item = Result<T, E>, IntoIter: Drop>,
+    NI: IntoIterator<Item = Result<T, E>, IntoIter: Drop>,
     F: Fn(&T) -> ID + Drop,
     N: FnMut(&T) -> NI + Drop,
     C: FnMut(T) -> E + Drop,

@@ -11,7 +11,7 @@ use std::hash::Hash;
 /// The nodes that the starts reach, each once and after its neighbours; later starts and later
 /// neighbours come first. A failed item that is met is `Node` of its error, and a cycle is
 /// `Node(cycle_fn(node))` of some node on it.
-pub fn topo_order_forward_ok<T, ID, E, II, NI, F, N, C>(
+pub fn topo_order_forward_ok<T: Drop, ID: Hash + Eq + Clone + Drop, E: Drop, II, NI, F, N, C>(
     alloc: Global,
     start: II,
     id_fn: F,
@@ -19,13 +19,8 @@ pub fn topo_order_forward_ok<T, ID, E, II, NI, F, N, C>(
     cycle_fn: C,
 ) -> Result<Vec<T>, WalkError<E>>
 where
-    T: Drop,
-    E: Drop,
-    ID: Hash + Eq + Clone + Drop,
-    II: IntoIterator<Item = Result<T, E>> + Drop,
-    II::IntoIter: Drop,
-    NI: IntoIterator<Item = Result<T, E>>,
-    NI::IntoIter: Drop,
+    II: IntoIterator<Item = Result<T, E>, IntoIter: Drop> + Drop,
+    NI: IntoIterator<Item = Result<T, E>, IntoIter: Drop>,
     F: Fn(&T) -> ID + Drop,
     N: FnMut(&T) -> NI + Drop,
     C: FnOnce(T) -> E + Drop,
@@ -49,7 +44,7 @@ where
 /// The nodes that the starts reach, each once and before its neighbours: `topo_order_forward_ok`'s
 /// list from its end. A failed item that is met is `Node` of its error, and a cycle is
 /// `Node(cycle_fn(node))` of some node on it.
-pub fn topo_order_reverse_ok<T, ID, E, II, NI, F, N, C>(
+pub fn topo_order_reverse_ok<T: Drop, ID: Hash + Eq + Clone + Drop, E: Drop, II, NI, F, N, C>(
     alloc: Global,
     start: II,
     id_fn: F,
@@ -57,13 +52,8 @@ pub fn topo_order_reverse_ok<T, ID, E, II, NI, F, N, C>(
     cycle_fn: C,
 ) -> Result<Vec<T>, WalkError<E>>
 where
-    T: Drop,
-    E: Drop,
-    ID: Hash + Eq + Clone + Drop,
-    II: IntoIterator<Item = Result<T, E>> + Drop,
-    II::IntoIter: Drop,
-    NI: IntoIterator<Item = Result<T, E>>,
-    NI::IntoIter: Drop,
+    II: IntoIterator<Item = Result<T, E>, IntoIter: Drop> + Drop,
+    NI: IntoIterator<Item = Result<T, E>, IntoIter: Drop>,
     F: Fn(&T) -> ID + Drop,
     N: FnMut(&T) -> NI + Drop,
     C: FnOnce(T) -> E + Drop,

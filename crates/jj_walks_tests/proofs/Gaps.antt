@@ -1,25 +1,27 @@
 -- The numbering of a list of commits that may lack parents of its commits.
-use Rattle.std.proofs.Common.{◌≡◌, ℕ, zero, suc, ◌&&◌, Bool, true, false, cond, List, [], ◌∷◌, map, Option, None, Some, is_some, Result, Ok, Err, refl, sym, ◌∙◌, ap, subst, arith, true≢false}
+use Rattle.std.proofs.Common.{◌≡◌, ℕ, zero, suc, true, false, cond, List, [], ◌∷◌, map, Option, None, Some, is_some, Result, Ok, Err, refl, sym, ◌∙◌, ap, subst, arith}
 use Rattle.std.specs.Prelude.{IfOk, IfErr, eqb}
 use Rattle.std.specs.List.{Contains, IsDistinct, filter_map}
 use Rattle.jj_walks.specs.Graph.{IsMaximalIn}
 use Rattle.jj_walks.proofs.Heads.{Contains-map}
+use Rattle.std.specs.Fn.{Called, FnReturnsAt, Mut, Shared}
 use Rattle.std.specs.Iterator.{YieldsFirstRef}
 use Rattle.std.specs.String.{string_bytes, string_eq}
 use Rattle.std.specs.Bool.{Decides}
 use Rattle.std.proofs.lemmas.Bool.Decides.{Decides-eqb}
+use Rattle.std.proofs.lemmas.Fn.{always_returns_same}
 use Rattle.std.proofs.lemmas.Slice.Eq.{slice_eq-Decides}
 use Rattle.std.proofs.lemmas.Iterator.Consumers.{YieldsList-from_first}
 use denote.Ref.{Bor}
-use Rattle.jj_walks.specs.Walk.{Numbered, AreNodes, DrainsTo}
-use Rattle.jj_walks.specs.Failing.{Fault, IsFault, AnswersItems, sound_items}
+use Rattle.jj_walks.specs.Walk.{Numbered, AreNodes}
+use Rattle.jj_walks.specs.Failing.{Fault, IsFault, AnswersItems, ShowsLists, sound_items}
 use Rattle.jj_walks.specs.Failing.Fault.{passing}
 use Rattle.jj_walks.proofs.Walking.{drained_are}
 use Rattle.jj_walks_tests.specs.declared.commits.Commit.{Commit}
 use Rattle.jj_walks_tests.specs.declared.commits.Parents.{Parents}
 use Rattle.jj_walks_tests.specs.declared.failing_callers.Gap.{Gap}
 use Rattle.jj_walks_tests.specs.declared.failing_callers.Gap.TheVariants.{Memory, Text}
-use Rattle.jj_walks_tests.specs.Commits.{ids_of, commit_with, parents_in, parent_graph, has_commit}
+use Rattle.jj_walks_tests.specs.Commits.{ids_of, commit_with, parents_in, parent_graph}
 use Rattle.jj_walks_tests.specs.Parents.{parents_left}
 use Rattle.jj_walks_tests.specs.Gaps.{has_ids, whole_graph, tells_gap, HasTextOf, IsGapIn}
 use Rattle.jj_walks_tests.proofs.Numbering.{walk_closed, walk_neighbors, node, node_has, node_stands, has_found, found_has, found_id, ids_are, starts_are_nodes}
@@ -101,6 +103,22 @@ module _ (commits : List Commit) where
       let f = has_found commits x.now (node_has commits x here) in
       let found = ap (commit_with commits) (sym (node_stands commits x here)) ∙ f.1 in
       (passing (tells_gap f.0), lacking_list (node commits x) f.0 found (ap (has_ids commits) f.2.2 ∙ lacks), text_same f.0 x.now gap f.2.3 tells)
+
+  -- Closures that tell a commit's id and list its parents, or its text where one is not there, show the graph of the commits.
+  module _ {F N : Type 0} (ids : Shared F (Bor (Bor Commit) × Unit {0}) ℕ) (lists : Mut N (Bor (Bor Commit) × Unit {0}) (Result Parents Gap)) (id_fn : F) (neighbors_fn : N)
+      (tells : (x : Bor Commit) (i : ℕ) → FnReturnsAt ids id_fn x i → i ≡ x.now.id)
+      (looks : (a : Bor (Bor Commit) × Unit {0}) (r : Result Parents Gap) (after : N) → Called lists neighbors_fn a r after
+      → IfOk r (λ parents. has_ids commits a.0.now.now.parents.items ≡ true)
+      × IfOk r (λ parents. (parents.commits.now ≡ commits) × (parents.ids.now ≡ a.0.now.now.parents.items))
+      × IfErr r (λ gap. (has_ids commits a.0.now.now.parents.items ≡ false) × (tells_gap a.0.now.now gap ≡ true)) × (after ≡ neighbors_fn)) where
+    pub whole_shown : ShowsLists walk_whole whole_items eqb ids lists (λ s t. t ≡ s) (YieldsFirstRef parents_left) id_fn neighbors_fn
+    whole_shown = record {
+      sound_graph = whole_sound;
+      closed = whole_closed;
+      apart = λ i j a b. refl;
+      ids_stand = λ x i is h. tells x i h ∙ node_stands commits x is;
+      neighbors = always_returns_same lists _ neighbors_fn (λ a r after h. let k = looks a r after h in (λ here. whole_answers a.0.now r here k.0 k.1 k.2, k.3));
+    }
 
   no_fault : (ns : List ℕ) (fault : Fault Gap) → Contains (map {B = Result ℕ (Fault Gap)} (λ n. Ok n) ns) (Err fault) → ⊥
   no_fault [] fault (k, lt, e) = absurd (omega arith)

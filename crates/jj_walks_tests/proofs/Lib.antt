@@ -6,3 +6,4 @@ pub mod Sound
 pub mod Grouping
 pub mod Ranks
 pub mod Newest
+pub mod Showing

@@ -1,5 +1,5 @@
 -- What a postorder of the ids says of the commits.
-use Rattle.std.proofs.Common.{◌≡◌, ℕ, true, List, [], map, refl, sym, ◌∙◌, ap, subst, arith, ⊎_elim, reverse, eqb, is_some}
+use Rattle.std.proofs.Common.{◌≡◌, ℕ, true, List, [], map, refl, sym, ◌∙◌, subst, ⊎_elim, reverse, eqb, is_some}
 use Rattle.std.specs.List.{Contains, IsDistinct}
 use denote.Ref.{Bor}
 use Rattle.jj_walks.specs.Graph.{IsPostorder, HasNoCycle, ReachedFrom, OnCycleFrom, StandsBefore}
@@ -7,9 +7,10 @@ use Rattle.jj_walks.proofs.Relabelled.{Contains-map, Contains-unmap}
 use Rattle.jj_walks.proofs.Reaching.{Contains-postorder}
 use Rattle.jj_walks.proofs.Collecting.{are_nodes}
 use Rattle.jj_walks_tests.specs.declared.commits.Commit.{Commit}
-use Rattle.jj_walks_tests.specs.Commits.{ids_of, commit_with, parents_in, parent_graph, has_commit, IsParentsFirst, IsOnCycle}
+use Rattle.jj_walks_tests.specs.Commits.{ids_of, commit_with, parent_graph, has_commit, IsParentsFirst, IsOnCycle}
 use Rattle.jj_walks_tests.proofs.Numbering.{walk_of, walk_closed, starts_are_nodes, node, node_has, node_stands, numbers_had, found_edge}
-use Rattle.jj_walks.proofs.Postorders.{nothing, from_reverse, Postorder-reached, Postorder-once, Postorder-before}
+use Rattle.jj_walks.proofs.Postorders.{from_reverse, Postorder-reached, Postorder-once, Postorder-before}
+use Rattle.jj_walks.proofs.Plain.{nothing}
 
 module _ (commits : List Commit) (once : IsDistinct eqb (ids_of commits)) where
   reached_are_nodes : (a : ℕ) → ReachedFrom (parent_graph commits) (ids_of commits) a → is_some (commit_with commits a) ≡ true

@@ -14,7 +14,7 @@ use Rattle.jj_walks.specs.Graph.{IsChildFirst, IsPreorder, ReachedFrom}
 use Rattle.jj_walks.proofs.Collecting.{are_nodes}
 use Rattle.jj_walks.proofs.FailingOrders.{none_of_nodes}
 use Rattle.jj_walks.proofs.FailingWalks.{begun_are}
-use Rattle.jj_walks.proofs.Postorders.{nothing, from_reverse}
+use Rattle.jj_walks.proofs.Postorders.{from_reverse}
 use Rattle.jj_walks.proofs.Relabelled.{Contains-map}
 use Rattle.jj_walks.proofs.Walking.{drained_are}
 use Rattle.jj_walks_tests.specs.declared.commits.Commit.{Commit}
@@ -24,6 +24,7 @@ use Rattle.jj_walks_tests.specs.declared.commits.SoundIds.{SoundIds}
 use Rattle.jj_walks_tests.specs.Parents.{shown_item, ids_left, items_left}
 use Rattle.jj_walks_tests.proofs.Preorders.{Preorder-reached}
 use Rattle.jj_walks_tests.proofs.Numbering.{walk_of, node, node_has, node_id, has_found, parents_had, items_of, items_sound, node_stands, ids_are, set_are_nodes, set_starts, walk_closed}
+use Rattle.jj_walks.proofs.Plain.{nothing}
 
 abbrev pub becomes : SoundCommits → SoundCommits → Type 0
 becomes s t = t ≡ s

@@ -3,6 +3,7 @@ ghost use Rattle.std.specs.Prelude.{◌≡◌, IfOk};
 ghost use Rattle.jj_walks.specs.Graph.{IsPreorder};
 ghost use Rattle.jj_walks_tests.specs.Listed.{graph_of, neighbors_in};
 
+use crate::walked::nodes_of;
 use jj_walks::dag_walk::dfs;
 use std::alloc::{AllocError, Global};
 use std::collections::HashMap;
@@ -31,9 +32,5 @@ pub fn preorder_of_map(
         |id: &u64| *id,
         |id: &u64| listed(graph, *id).iter().copied(),
     )?;
-    let mut nodes = Vec::new(alloc);
-    for node in walk {
-        nodes.push(node?)?;
-    }
-    Ok(nodes)
+    nodes_of(alloc, walk)
 }

@@ -102,22 +102,15 @@ fn chunks_from_two_starts<R: Abort>(rt: &R, alloc: Global) -> Result<(), AllocEr
 
 #[test]
 fn orders_from_two_starts_come_in_chunks(rt: HostRuntime) -> Result<(), Fail> {
-    let alloc = rt.alloc();
-    let first = chunks_from_two_starts(&rt, alloc);
-    if first.is_err() {
-        chunks_from_two_starts(&rt, alloc)?;
-    }
-    Ok(())
+    Ok(chunks_from_two_starts(&rt, rt.alloc()).or_else(|_| chunks_from_two_starts(
+        &rt,
+        rt.alloc(),
+    ))?)
 }
 
 #[test]
 fn orders_come_in_chunks(rt: HostRuntime) -> Result<(), Fail> {
-    let alloc = rt.alloc();
-    let first = chunks(&rt, alloc);
-    if first.is_err() {
-        chunks(&rt, alloc)?;
-    }
-    Ok(())
+    Ok(chunks(&rt, rt.alloc()).or_else(|_| chunks(&rt, rt.alloc()))?)
 }
 
 fn refusals<R: Abort>(rt: &R, alloc: Global) -> Result<(), AllocError> {
@@ -138,10 +131,5 @@ fn refusals<R: Abort>(rt: &R, alloc: Global) -> Result<(), AllocError> {
 
 #[test]
 fn refused_chunks_leave_no_start(rt: HostRuntime) -> Result<(), Fail> {
-    let alloc = rt.alloc();
-    let first = refusals(&rt, alloc);
-    if first.is_err() {
-        refusals(&rt, alloc)?;
-    }
-    Ok(())
+    Ok(refusals(&rt, rt.alloc()).or_else(|_| refusals(&rt, rt.alloc()))?)
 }

@@ -10,37 +10,22 @@ use std::process::Abort;
 use std::test::Fail;
 
 // D and E over B and C, those over A.
-const CROSSED: Table<'static> = &[
-    ('D', &['B', 'C']),
-    ('E', &['B', 'C']),
-    ('B', &['A']),
-    ('C', &['A']),
-];
+const CROSSED: Table<'static> = &[('D', "BC"), ('E', "BC"), ('B', "A"), ('C', "A")];
 
 // 1 and 2 over 9, and 9 over 5.
-const JOINED: Table<'static> = &[('1', &['9']), ('2', &['9']), ('9', &['5'])];
+const JOINED: Table<'static> = &[('1', "9"), ('2', "9"), ('9', "5")];
 
 // Each of the two leads to the other.
-const PAIR: Table<'static> = &[('A', &['B']), ('B', &['A'])];
+const PAIR: Table<'static> = &[('A', "B"), ('B', "A")];
 
 // A cycle above the other set, and one below a common node.
-const ROUNDS: Table<'static> = &[
-    ('A', &['B']),
-    ('B', &['C', 'A']),
-    ('C', &['D']),
-    ('D', &['E']),
-    ('E', &['D']),
-];
+const ROUNDS: Table<'static> = &[('A', "B"), ('B', "CA"), ('C', "D"), ('D', "E"), ('E', "D")];
 
 // X and Y each lead to the other through the lesser of two common nodes, which is above the
 // greater.
-const STEEP: Table<'static> = &[
-    ('X', &['P', 'B']),
-    ('Y', &['P', 'B']),
-    ('B', &['P']),
-    ('P', &[]),
-];
+const STEEP: Table<'static> = &[('X', "PB"), ('Y', "PB"), ('B', "P"), ('P', "")];
 
+// Asserts what the closest nodes of two sets are, whichever of the sets comes first.
 fn is<R: Abort>(
     rt: &R,
     alloc: Global,
@@ -49,20 +34,11 @@ fn is<R: Abort>(
     wanted: &[char],
 ) -> Result<(), AllocError> {
     let (first, second) = sets;
-    is_one_way(rt, alloc, table, (first, second), wanted)?;
-    is_one_way(rt, alloc, table, (second, first), wanted)
-}
-
-fn is_one_way<R: Abort>(
-    rt: &R,
-    alloc: Global,
-    table: Table<'_>,
-    sets: (&[char], &[char]),
-    wanted: &[char],
-) -> Result<(), AllocError> {
-    let mut nodes = found(rt, closest(alloc, table, &[], sets.0, sets.1))?;
-    nodes.sort()?;
-    assert_eq!(rt; nodes.as_slice(), wanted);
+    for (set1, set2) in [(first, second), (second, first)] {
+        let mut nodes = found(rt, closest(alloc, table, &[], set1, set2))?;
+        nodes.sort()?;
+        assert_eq!(rt; nodes.as_slice(), wanted);
+    }
     Ok(())
 }
 
@@ -78,36 +54,24 @@ fn small_graphs<R: Abort>(rt: &R, alloc: Global) -> Result<(), AllocError> {
     is(rt, alloc, JOINED, (&['1'], &['9']), &['9'])?;
     is(rt, alloc, JOINED, (&['1'], &['5']), &['5'])?;
     is(rt, alloc, JOINED, (&['1'], &['1']), &['1'])?;
-    is(rt, alloc, STEEP, (&['X'], &['Y']), &['B'])?;
-    Ok(())
+    is(rt, alloc, STEEP, (&['X'], &['Y']), &['B'])
 }
 
 #[test]
 fn closest_in_small_graphs(rt: HostRuntime) -> Result<(), Fail> {
-    let alloc = rt.alloc();
-    let first = small_graphs(&rt, alloc);
-    if first.is_err() {
-        small_graphs(&rt, alloc)?;
-    }
-    Ok(())
+    Ok(small_graphs(&rt, rt.alloc()).or_else(|_| small_graphs(&rt, rt.alloc()))?)
 }
 
 fn cycles<R: Abort>(rt: &R, alloc: Global) -> Result<(), AllocError> {
     let _nodes = found(rt, closest(alloc, PAIR, &[], &['A'], &['B']))?;
     let _nodes = found(rt, closest(alloc, ROUNDS, &[], &['A'], &['E']))?;
     // The cycle of A and B is on one side alone.
-    is(rt, alloc, ROUNDS, (&['A'], &['C']), &['C'])?;
-    Ok(())
+    is(rt, alloc, ROUNDS, (&['A'], &['C']), &['C'])
 }
 
 #[test]
 fn closest_end_on_cycles(rt: HostRuntime) -> Result<(), Fail> {
-    let alloc = rt.alloc();
-    let first = cycles(&rt, alloc);
-    if first.is_err() {
-        cycles(&rt, alloc)?;
-    }
-    Ok(())
+    Ok(cycles(&rt, rt.alloc()).or_else(|_| cycles(&rt, rt.alloc()))?)
 }
 
 fn failing<R: Abort>(rt: &R, alloc: Global) -> Result<(), AllocError> {
@@ -123,12 +87,7 @@ fn failing<R: Abort>(rt: &R, alloc: Global) -> Result<(), AllocError> {
 
 #[test]
 fn closest_of_failing_lists(rt: HostRuntime) -> Result<(), Fail> {
-    let alloc = rt.alloc();
-    let first = failing(&rt, alloc);
-    if first.is_err() {
-        failing(&rt, alloc)?;
-    }
-    Ok(())
+    Ok(failing(&rt, rt.alloc()).or_else(|_| failing(&rt, rt.alloc()))?)
 }
 
 // Where the two sides of a chain part.
@@ -209,10 +168,5 @@ fn counts<R: Abort>(rt: &R, alloc: Global) -> Result<(), AllocError> {
 
 #[test]
 fn closest_ask_for_few_lists(rt: HostRuntime) -> Result<(), Fail> {
-    let alloc = rt.alloc();
-    let first = counts(&rt, alloc);
-    if first.is_err() {
-        counts(&rt, alloc)?;
-    }
-    Ok(())
+    Ok(counts(&rt, rt.alloc()).or_else(|_| counts(&rt, rt.alloc()))?)
 }

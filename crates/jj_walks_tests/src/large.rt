@@ -62,10 +62,7 @@ pub fn lazy(alloc: Global, shape: Shape, head: u64) -> Result<Vec<u64>, WalkErro
     )?;
     let mut order = Vec::new(alloc);
     for node in nodes {
-        match node {
-            Ok(node) => order.push(node)?,
-            Err(refused) => return Err(refused),
-        }
+        order.push(node?)?;
     }
     Ok(order)
 }
@@ -133,10 +130,8 @@ pub fn grouped(
     let graph = TopoGroupedGraph::new(alloc, input.into_iter(), number);
     let mut order = Vec::new(alloc);
     for item in graph.stream() {
-        match item {
-            Ok((node, _edges)) => order.push(node)?,
-            Err(error) => return Err(error),
-        }
+        let (node, _edges) = item?;
+        order.push(node)?;
     }
     Ok(order)
 }
@@ -212,23 +207,13 @@ mod tests {
     }
 
     #[test]
-    fn long_lazy_orders(rt: HostRuntime) -> Result<(), Fail> {
+    fn long_lazy_and_chunked_orders(rt: HostRuntime) -> Result<(), Fail> {
         let alloc = rt.alloc();
         for shape in SHAPES {
             let order = lazy(alloc, *shape, HEAD).or_else(|_| lazy(alloc, *shape, HEAD));
-            let order = found(&rt, order)?;
-            is_whole(&rt, *shape, &order);
-        }
-        Ok(())
-    }
-
-    #[test]
-    fn long_chunked_orders(rt: HostRuntime) -> Result<(), Fail> {
-        let alloc = rt.alloc();
-        for shape in SHAPES {
+            is_whole(&rt, *shape, &found(&rt, order)?);
             let order = chunked(alloc, *shape, HEAD).or_else(|_| chunked(alloc, *shape, HEAD));
-            let order = found(&rt, order)?;
-            is_whole(&rt, *shape, &order);
+            is_whole(&rt, *shape, &found(&rt, order)?);
         }
         Ok(())
     }

@@ -1,5 +1,8 @@
 //! Child-first orders of small graphs, a node at a time.
-use crate::tables::{FailingTable, items};
+ghost use Rattle.std.specs.Iterator.{IsFinite};
+
+use crate::graphs::{FORK, GREAT_ROOT, LINEAR, MERGE, NESTED_MIXED, TWO_HEADS, TWO_ROOTS};
+use crate::tables::{FailingTable, Table, error, id, is_memory, items, neighbors};
 use jj_walks::dag_walk::WalkError;
 use jj_walks::dag_walk_async::topo_order_reverse_lazy;
 use std::alloc::{AllocError, Global};
@@ -7,107 +10,37 @@ use std::process::Abort;
 use std::test::Fail;
 
 // D over B and C, those over A.
-const SQUARE: FailingTable<'static> = &[
-    ('D', &[Ok('B'), Ok('C')]),
-    ('B', &[Ok('A')]),
-    ('C', &[Ok('A')]),
-];
-
-// C to B to A.
-const LINEAR: FailingTable<'static> = &[('B', &[Ok('A')]), ('C', &[Ok('B')])];
+const SQUARE: Table<'static> = &[('D', "BC"), ('B', "A"), ('C', "A")];
 
 // Each is its own neighbour.
-const ROUND: FailingTable<'static> = &[('a', &[Ok('a')]), ('x', &[Ok('x')])];
+const ROUND: Table<'static> = &[('a', "a"), ('x', "x")];
 
 // A leads back to C, and D to the cycle.
-const CYCLE: FailingTable<'static> = &[
-    ('A', &[Ok('C')]),
-    ('B', &[Ok('A')]),
-    ('C', &[Ok('B')]),
-    ('D', &[Ok('B'), Ok('C')]),
-];
+const CYCLE: Table<'static> = &[('A', "C"), ('B', "A"), ('C', "B"), ('D', "BC")];
 
 // B to A and to a failed item, C to B.
 const BROKEN: FailingTable<'static> = &[('B', &[Ok('A'), Err('X')]), ('C', &[Ok('B')])];
 
 // z is its own neighbour, x has none.
-const GREAT_ROUND: FailingTable<'static> = &[('z', &[Ok('z')])];
+const GREAT_ROUND: Table<'static> = &[('z', "z")];
 
-// F to E to A, and F to D to C to B to A.
-const MERGE: FailingTable<'static> = &[
-    ('B', &[Ok('A')]),
-    ('C', &[Ok('B')]),
-    ('D', &[Ok('C')]),
-    ('E', &[Ok('A')]),
-    ('F', &[Ok('E'), Ok('D')]),
+// Two ways from G to c, which is greater than its children, and one from there.
+const TURNED_FORK: Table<'static> = &[
+    ('B', "A"),
+    ('c', "B"),
+    ('d', "c"),
+    ('e', "c"),
+    ('f', "e"),
+    ('G', "fd"),
 ];
-
-// Nested merges whose letters do not follow the order.
-const NESTED: FailingTable<'static> = &[
-    ('b', &[Ok('A')]),
-    ('C', &[Ok('A')]),
-    ('D', &[Ok('b')]),
-    ('e', &[Ok('C'), Ok('b')]),
-    ('f', &[Ok('D')]),
-    ('G', &[Ok('e'), Ok('D')]),
-    ('h', &[Ok('G'), Ok('f')]),
-    ('I', &[Ok('C'), Ok('e'), Ok('G'), Ok('h')]),
-];
-
-// Two heads over one root.
-const TWO_HEADS: FailingTable<'static> = &[
-    ('B', &[Ok('A')]),
-    ('C', &[Ok('B')]),
-    ('D', &[Ok('A')]),
-    ('E', &[Ok('A')]),
-    ('F', &[Ok('E'), Ok('D')]),
-];
-
-// One head over two roots.
-const TWO_ROOTS: FailingTable<'static> = &[('B', &[Ok('A')]), ('D', &[Ok('C'), Ok('B')])];
 
 // The nodes that an order gives, and the error with which it ends.
-// The root is greater than its children.
-const GREATER_ROOT: FailingTable<'static> = &[
-    ('B', &[Ok('a')]),
-    ('C', &[Ok('B')]),
-    ('D', &[Ok('a')]),
-    ('E', &[Ok('D'), Ok('C')]),
-];
-
-// Two ways from G to C, and one from there.
-const FORK: FailingTable<'static> = &[
-    ('B', &[Ok('A')]),
-    ('C', &[Ok('B')]),
-    ('D', &[Ok('C')]),
-    ('E', &[Ok('C')]),
-    ('F', &[Ok('D')]),
-    ('G', &[Ok('E'), Ok('F')]),
-];
-
-// The same with a fork that is greater than its children, and a merge that is less than its
-// parents.
-const TURNED_FORK: FailingTable<'static> = &[
-    ('B', &[Ok('A')]),
-    ('c', &[Ok('B')]),
-    ('d', &[Ok('c')]),
-    ('e', &[Ok('c')]),
-    ('f', &[Ok('e')]),
-    ('G', &[Ok('f'), Ok('d')]),
-];
-
-fn ordered(
-    alloc: Global,
-    table: FailingTable<'_>,
-    start: &[Result<char, char>],
-) -> Result<(Vec<char>, Option<char>), AllocError> {
-    let order = topo_order_reverse_lazy(
-        alloc,
-        start.iter().copied(),
-        |node: &char| *node,
-        |node: &char| items(table, *node).iter().copied(),
-        |node: char| node,
-    )?;
+fn all_of<W>(alloc: Global, order: W) -> Result<(Vec<char>, Option<char>), AllocError>
+where
+    W: Iterator<Item = Result<char, WalkError<char>>> + Drop,
+    requires callable { W.can_next order }
+    requires finite { IsFinite (W.remaining order) }
+{
     let mut given = Vec::new(alloc);
     let mut error = None;
     for item in order {
@@ -118,6 +51,39 @@ fn ordered(
         }
     }
     Ok((given, error))
+}
+
+// A letter, as an item that did not fail.
+fn sound(node: char) -> Result<char, char> {
+    Ok(node)
+}
+
+fn ordered(
+    alloc: Global,
+    table: Table<'_>,
+    start: &str,
+) -> Result<(Vec<char>, Option<char>), AllocError> {
+    let starts = start.chars().map(|node: char| sound(node));
+    let below = |node: &char| neighbors(table, *node)
+        .chars()
+        .map(|other: char| sound(other));
+    all_of(
+        alloc,
+        topo_order_reverse_lazy(alloc, starts, id, below, error)?,
+    )
+}
+
+// The same over items that may fail.
+fn ordered_ok(
+    alloc: Global,
+    table: FailingTable<'_>,
+    start: &[Result<char, char>],
+) -> Result<(Vec<char>, Option<char>), AllocError> {
+    let below = |node: &char| items(table, *node).iter().copied();
+    all_of(
+        alloc,
+        topo_order_reverse_lazy(alloc, start.iter().copied(), id, below, error)?,
+    )
 }
 
 // Whether the node stands in the list behind this index.
@@ -134,107 +100,86 @@ fn stands_behind(order: &[char], index: usize, node: char) -> bool {
 fn orders_all<R: Abort>(
     rt: &R,
     alloc: Global,
-    table: FailingTable<'_>,
-    start: &[Result<char, char>],
+    table: Table<'_>,
+    start: &str,
     count: usize,
 ) -> Result<(), AllocError> {
     let (order, error) = ordered(alloc, table, start)?;
     assert_eq!(rt; error, None);
     assert_eq!(rt; order.len(), count);
     for (index, node) in order.iter().enumerate() {
-        for item in items(table, *node) {
-            if let Ok(neighbor) = item {
-                assert!(rt;
-                    stands_behind(&order, index, *neighbor),
-                    "{neighbor} before {node}"
-                );
-            }
+        for neighbor in neighbors(table, *node).chars() {
+            assert!(rt;
+                stands_behind(&order, index, neighbor),
+                "{neighbor} before {node}"
+            );
         }
     }
     Ok(())
 }
 
 fn whole_orders<R: Abort>(rt: &R, alloc: Global) -> Result<(), AllocError> {
-    orders_all(rt, alloc, SQUARE, &[Ok('D')], 4)?;
-    orders_all(rt, alloc, MERGE, &[Ok('F')], 6)?;
-    orders_all(rt, alloc, MERGE, &[Ok('F'), Ok('E'), Ok('C')], 6)?;
-    orders_all(rt, alloc, MERGE, &[Ok('F'), Ok('D'), Ok('E')], 6)?;
-    orders_all(rt, alloc, NESTED, &[Ok('I')], 9)?;
-    orders_all(rt, alloc, TWO_HEADS, &[Ok('F'), Ok('C')], 6)?;
-    orders_all(rt, alloc, TWO_ROOTS, &[Ok('D')], 4)?;
-    orders_all(rt, alloc, GREATER_ROOT, &[Ok('E')], 5)?;
-    orders_all(rt, alloc, FORK, &[Ok('G')], 7)?;
-    orders_all(rt, alloc, TURNED_FORK, &[Ok('G')], 7)?;
-    orders_all(rt, alloc, TWO_ROOTS, &[], 0)
+    let cases: &[(Table<'static>, &str, usize)] = &[
+        (SQUARE, "D", 4),
+        (MERGE, "F", 6),
+        (MERGE, "FEC", 6),
+        (MERGE, "FDE", 6),
+        (NESTED_MIXED, "I", 9),
+        (TWO_HEADS, "FC", 6),
+        (TWO_ROOTS, "D", 4),
+        (GREAT_ROOT, "E", 5),
+        (FORK, "G", 7),
+        (TURNED_FORK, "G", 7),
+        (TWO_ROOTS, "", 0),
+    ];
+    for (table, start, count) in cases {
+        orders_all(rt, alloc, *table, *start, *count)?;
+    }
+    Ok(())
 }
 
 #[test]
 fn each_node_comes_before_its_neighbors(rt: HostRuntime) -> Result<(), Fail> {
-    let alloc = rt.alloc();
-    let first = whole_orders(&rt, alloc);
-    if first.is_err() {
-        whole_orders(&rt, alloc)?;
-    }
-    Ok(())
+    Ok(whole_orders(&rt, rt.alloc()).or_else(|_| whole_orders(&rt, rt.alloc()))?)
 }
 
-// Asserts what an order gives, where there is one such order, and its error.
-fn gives<R: Abort>(
-    rt: &R,
-    alloc: Global,
-    table: FailingTable<'_>,
-    start: &[Result<char, char>],
-    wanted: (&[char], Option<char>),
-) -> Result<(), AllocError> {
-    let (given, error) = ordered(alloc, table, start)?;
-    assert_eq!(rt; given.as_slice(), wanted.0);
-    assert_eq!(rt; error, wanted.1);
-    Ok(())
-}
+// Graphs, starts, what an order gives, where there is one such order, and its error.
+const KNOWN: &[(Table<'static>, &str, &[char], Option<char>)] = &[
+    (LINEAR, "C", &['C', 'B', 'A'], None),
+    (LINEAR, "CB", &['C', 'B', 'A'], None),
+    (LINEAR, "BC", &['C', 'B', 'A'], None),
+    (ROUND, "x", &['x'], Some('x')),
+    (GREAT_ROUND, "zx", &[], Some('z')),
+    (CYCLE, "C", &['C', 'B', 'A'], Some('C')),
+];
 
 fn known_orders<R: Abort>(rt: &R, alloc: Global) -> Result<(), AllocError> {
-    gives(rt, alloc, LINEAR, &[Ok('C')], (&['C', 'B', 'A'], None))?;
-    gives(
-        rt,
-        alloc,
-        LINEAR,
-        &[Ok('C'), Ok('B')],
-        (&['C', 'B', 'A'], None),
-    )?;
-    gives(
-        rt,
-        alloc,
-        LINEAR,
-        &[Ok('B'), Ok('C')],
-        (&['C', 'B', 'A'], None),
-    )?;
-    gives(rt, alloc, ROUND, &[Ok('x')], (&['x'], Some('x')))?;
-    gives(
-        rt,
-        alloc,
-        GREAT_ROUND,
-        &[Ok('z'), Ok('x')],
-        (&[], Some('z')),
-    )?;
-    gives(rt, alloc, BROKEN, &[Ok('C')], (&['C', 'B'], Some('X')))?;
-    gives(rt, alloc, BROKEN, &[Ok('C'), Ok('A')], (&[], Some('X')))?;
-    gives(rt, alloc, BROKEN, &[Ok('C'), Err('X')], (&[], Some('X')))?;
-    gives(rt, alloc, CYCLE, &[Ok('C')], (&['C', 'B', 'A'], Some('C')))
+    for (table, start, wanted, error) in KNOWN {
+        let given = ordered(alloc, *table, *start)?;
+        assert_eq!(rt; given.0.as_slice(), *wanted);
+        assert_eq!(rt; given.1, *error);
+    }
+    let starts: &[(&[Result<char, char>], &[char])] = &[
+        (&[Ok('C')], &['C', 'B']),
+        (&[Ok('C'), Ok('A')], &[]),
+        (&[Ok('C'), Err('X')], &[]),
+    ];
+    for (start, wanted) in starts {
+        let given = ordered_ok(alloc, BROKEN, *start)?;
+        assert_eq!(rt; given.0.as_slice(), *wanted);
+        assert_eq!(rt; given.1, Some('X'));
+    }
+    Ok(())
 }
 
 #[test]
 fn orders_end_with_their_errors(rt: HostRuntime) -> Result<(), Fail> {
-    let alloc = rt.alloc();
-    let first = known_orders(&rt, alloc);
-    if first.is_err() {
-        known_orders(&rt, alloc)?;
-    }
-    Ok(())
+    Ok(known_orders(&rt, rt.alloc()).or_else(|_| known_orders(&rt, rt.alloc()))?)
 }
 
 // D leads to a cycle, but is not on it.
 fn cycle_below<R: Abort>(rt: &R, alloc: Global) -> Result<(), AllocError> {
-    let (given, error) = ordered(alloc, CYCLE, &[Ok('D')])?;
+    let (given, error) = ordered(alloc, CYCLE, "D")?;
     assert!(rt; given.contains(&'D'));
     assert!(rt; error.is_some());
     assert!(rt; error != Some('D'));
@@ -243,26 +188,14 @@ fn cycle_below<R: Abort>(rt: &R, alloc: Global) -> Result<(), AllocError> {
 
 #[test]
 fn cycles_end_an_order(rt: HostRuntime) -> Result<(), Fail> {
-    let alloc = rt.alloc();
-    let first = cycle_below(&rt, alloc);
-    if first.is_err() {
-        cycle_below(&rt, alloc)?;
-    }
-    Ok(())
-}
-
-fn is_memory(item: &Option<Result<char, WalkError<char>>>) -> bool {
-    matches!(item, Some(Err(WalkError::Memory)))
+    Ok(cycle_below(&rt, rt.alloc()).or_else(|_| cycle_below(&rt, rt.alloc()))?)
 }
 
 fn asks_after_the_end<R: Abort>(rt: &R, alloc: Global) -> Result<(), AllocError> {
-    let mut order = topo_order_reverse_lazy(
-        alloc,
-        [Ok('x')].iter().copied(),
-        |node: &char| *node,
-        |node: &char| items(ROUND, *node).iter().copied(),
-        |node: char| node,
-    )?;
+    let below = |node: &char| neighbors(ROUND, *node)
+        .chars()
+        .map(|other: char| sound(other));
+    let mut order = topo_order_reverse_lazy(alloc, [Ok('x')].iter().copied(), id, below, error)?;
     let first = order.next();
     let second = order.next();
     assert!(rt; order.next().is_none());
@@ -277,10 +210,5 @@ fn asks_after_the_end<R: Abort>(rt: &R, alloc: Global) -> Result<(), AllocError>
 
 #[test]
 fn an_ended_order_answers_none(rt: HostRuntime) -> Result<(), Fail> {
-    let alloc = rt.alloc();
-    let first = asks_after_the_end(&rt, alloc);
-    if first.is_err() {
-        asks_after_the_end(&rt, alloc)?;
-    }
-    Ok(())
+    Ok(asks_after_the_end(&rt, rt.alloc()).or_else(|_| asks_after_the_end(&rt, rt.alloc()))?)
 }

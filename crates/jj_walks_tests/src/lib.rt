@@ -16,6 +16,8 @@ mod closest_common_tests;
 pub mod commits;
 pub mod failing_callers;
 #[cfg(test)]
+mod graphs;
+#[cfg(test)]
 mod grouped;
 #[cfg(test)]
 mod hostile;
@@ -39,3 +41,5 @@ mod texts;
 mod topo_order_reverse_ord_tests;
 #[cfg(test)]
 mod walk_errors;
+#[cfg(test)]
+pub mod walked;

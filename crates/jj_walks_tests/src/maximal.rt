@@ -1,28 +1,17 @@
 //! The heads of sets in small graphs.
-use crate::tables::{found, maximal, maximal_lists, maximal_ok, met};
+use crate::tables::{Table, found, maximal, maximal_lists, maximal_ok, met};
 use std::alloc::{AllocError, Global};
 use std::process::Abort;
 use std::test::Fail;
 
 // D and F over C, F over e, and both over b and A.
-const MIXED: &[(char, &[char])] = &[
-    ('b', &['A']),
-    ('C', &['b']),
-    ('D', &['C']),
-    ('e', &['b']),
-    ('F', &['C', 'e']),
-];
+const MIXED: Table<'static> = &[('b', "A"), ('C', "b"), ('D', "C"), ('e', "b"), ('F', "Ce")];
 
 // D and E over B and C, those over A.
-const CROSSED: &[(char, &[char])] = &[
-    ('D', &['B', 'C']),
-    ('E', &['B', 'C']),
-    ('B', &['A']),
-    ('C', &['A']),
-];
+const CROSSED: Table<'static> = &[('D', "BC"), ('E', "BC"), ('B', "A"), ('C', "A")];
 
 // 3 and 4 over 1, and 2 over 5.
-const TWO_ROOTS: &[(char, &[char])] = &[('3', &['1']), ('4', &['1']), ('2', &['5'])];
+const TWO_ROOTS: Table<'static> = &[('3', "1"), ('4', "1"), ('2', "5")];
 
 // B to A and to a failed item, C to B.
 const BROKEN: &[(char, &[Result<char, char>])] = &[('B', &[Ok('A'), Err('X')]), ('C', &[Ok('B')])];
@@ -48,12 +37,7 @@ fn sets<R: Abort>(rt: &R, alloc: Global) -> Result<(), AllocError> {
 
 #[test]
 fn heads_of_sets(rt: HostRuntime) -> Result<(), Fail> {
-    let alloc = rt.alloc();
-    let first = sets(&rt, alloc);
-    if first.is_err() {
-        sets(&rt, alloc)?;
-    }
-    Ok(())
+    Ok(sets(&rt, rt.alloc()).or_else(|_| sets(&rt, rt.alloc()))?)
 }
 
 fn failing_graphs<R: Abort>(rt: &R, alloc: Global) -> Result<(), AllocError> {
@@ -73,12 +57,7 @@ fn failing_graphs<R: Abort>(rt: &R, alloc: Global) -> Result<(), AllocError> {
 
 #[test]
 fn heads_of_failing_graphs(rt: HostRuntime) -> Result<(), Fail> {
-    let alloc = rt.alloc();
-    let first = failing_graphs(&rt, alloc);
-    if first.is_err() {
-        failing_graphs(&rt, alloc)?;
-    }
-    Ok(())
+    Ok(failing_graphs(&rt, rt.alloc()).or_else(|_| failing_graphs(&rt, rt.alloc()))?)
 }
 
 fn failing_lists<R: Abort>(rt: &R, alloc: Global) -> Result<(), AllocError> {
@@ -92,10 +71,5 @@ fn failing_lists<R: Abort>(rt: &R, alloc: Global) -> Result<(), AllocError> {
 
 #[test]
 fn heads_of_failing_lists(rt: HostRuntime) -> Result<(), Fail> {
-    let alloc = rt.alloc();
-    let first = failing_lists(&rt, alloc);
-    if first.is_err() {
-        failing_lists(&rt, alloc)?;
-    }
-    Ok(())
+    Ok(failing_lists(&rt, rt.alloc()).or_else(|_| failing_lists(&rt, rt.alloc()))?)
 }

@@ -1,98 +1,45 @@
 //! Orders and depth-first walks of small graphs.
+use crate::graphs::{FORK, GREAT_ROOT, LINEAR, MERGE, NESTED_MIXED, TWO_HEADS, TWO_ROOTS};
 use crate::tables::{
-    Table, forward, forward_ok, found, items, met, neighbors, preorder, preorder_ok, reverse,
-    reverse_ok,
+    Table, forward, forward_ok, found, id, is_memory, items, met, neighbors, preorder, preorder_ok,
+    reverse, reverse_ok,
 };
 use jj_walks::dag_walk::{WalkError, dfs, dfs_ok};
 use std::alloc::{AllocError, Global};
 use std::process::Abort;
 use std::test::Fail;
 
-// C to B to A.
-const LINEAR: &[(char, &[char])] = &[('B', &['A']), ('C', &['B'])];
-
-// F to E to A, and F to D to C to B to A.
-const MERGE: &[(char, &[char])] = &[
-    ('B', &['A']),
-    ('C', &['B']),
-    ('D', &['C']),
-    ('E', &['A']),
-    ('F', &['E', 'D']),
-];
-
 // A merge in one arm of a merge.
-const NESTED: &[(char, &[char])] = &[
-    ('B', &['A']),
-    ('C', &['A']),
-    ('D', &['B']),
-    ('E', &['C']),
-    ('F', &['C']),
-    ('G', &['E']),
-    ('H', &['F', 'G']),
-    ('I', &['D', 'H']),
-];
-
-// Nested merges whose letters do not follow the order.
-const NESTED_MIXED: &[(char, &[char])] = &[
-    ('b', &['A']),
-    ('C', &['A']),
-    ('D', &['b']),
-    ('e', &['C', 'b']),
-    ('f', &['D']),
-    ('G', &['e', 'D']),
-    ('h', &['G', 'f']),
-    ('I', &['C', 'e', 'G', 'h']),
-];
-
-// The root is greater than its children.
-const GREAT_ROOT: &[(char, &[char])] = &[
-    ('B', &['a']),
-    ('C', &['B']),
-    ('D', &['a']),
-    ('E', &['D', 'C']),
-];
-
-// Two ways from G to C, and one from there.
-const FORK: &[(char, &[char])] = &[
-    ('B', &['A']),
-    ('C', &['B']),
-    ('D', &['C']),
-    ('E', &['C']),
-    ('F', &['D']),
-    ('G', &['E', 'F']),
+const NESTED: Table<'static> = &[
+    ('B', "A"),
+    ('C', "A"),
+    ('D', "B"),
+    ('E', "C"),
+    ('F', "C"),
+    ('G', "E"),
+    ('H', "FG"),
+    ('I', "DH"),
 ];
 
 // The same with a fork that is greater than its children.
-const GREAT_FORK: &[(char, &[char])] = &[
-    ('B', &['A']),
-    ('c', &['B']),
-    ('D', &['c']),
-    ('E', &['c']),
-    ('F', &['E']),
-    ('G', &['F', 'D']),
+const GREAT_FORK: Table<'static> = &[
+    ('B', "A"),
+    ('c', "B"),
+    ('D', "c"),
+    ('E', "c"),
+    ('F', "E"),
+    ('G', "FD"),
 ];
 
 // The same with a merge that is less than its parents.
-const LESSER_MERGE: &[(char, &[char])] = &[
-    ('B', &['A']),
-    ('C', &['B']),
-    ('d', &['C']),
-    ('e', &['C']),
-    ('f', &['e']),
-    ('G', &['f', 'd']),
+const LESSER_MERGE: Table<'static> = &[
+    ('B', "A"),
+    ('C', "B"),
+    ('d', "C"),
+    ('e', "C"),
+    ('f', "e"),
+    ('G', "fd"),
 ];
-
-// Two heads over one root.
-const TWO_HEADS: &[(char, &[char])] = &[
-    ('B', &['A']),
-    ('C', &['B']),
-    ('D', &['A']),
-    ('E', &['A']),
-    ('F', &['E', 'D']),
-];
-
-// One head over two roots.
-const TWO_ROOTS: &[(char, &[char])] = &[('B', &['A']), ('D', &['C', 'B'])];
 
 // Graphs, starts, and the order in which each node stands before its neighbours.
 const REVERSE: &[(Table<'static>, &[char], &[char])] = &[
@@ -130,12 +77,7 @@ fn orders_of_rows<R: Abort>(rt: &R, alloc: Global) -> Result<(), AllocError> {
 
 #[test]
 fn reverse_orders(rt: HostRuntime) -> Result<(), Fail> {
-    let alloc = rt.alloc();
-    let first = orders_of_rows(&rt, alloc);
-    if first.is_err() {
-        orders_of_rows(&rt, alloc)?;
-    }
-    Ok(())
+    Ok(orders_of_rows(&rt, rt.alloc()).or_else(|_| orders_of_rows(&rt, rt.alloc()))?)
 }
 
 fn other_orders<R: Abort>(rt: &R, alloc: Global) -> Result<(), AllocError> {
@@ -148,12 +90,7 @@ fn other_orders<R: Abort>(rt: &R, alloc: Global) -> Result<(), AllocError> {
 
 #[test]
 fn forward_order_and_preorder(rt: HostRuntime) -> Result<(), Fail> {
-    let alloc = rt.alloc();
-    let first = other_orders(&rt, alloc);
-    if first.is_err() {
-        other_orders(&rt, alloc)?;
-    }
-    Ok(())
+    Ok(other_orders(&rt, rt.alloc()).or_else(|_| other_orders(&rt, rt.alloc()))?)
 }
 
 // B to A and to a failed item, C to B.
@@ -179,21 +116,12 @@ fn meets_failed_items<R: Abort>(rt: &R, alloc: Global) -> Result<(), AllocError>
 
 #[test]
 fn failed_items(rt: HostRuntime) -> Result<(), Fail> {
-    let alloc = rt.alloc();
-    let first = meets_failed_items(&rt, alloc);
-    if first.is_err() {
-        meets_failed_items(&rt, alloc)?;
-    }
-    Ok(())
+    Ok(meets_failed_items(&rt, rt.alloc()).or_else(|_| meets_failed_items(&rt, rt.alloc()))?)
 }
 
 fn asks_after_the_end<R: Abort>(rt: &R, alloc: Global) -> Result<(), AllocError> {
-    let mut walk = dfs(
-        alloc,
-        ['B'].iter().copied(),
-        |node: &char| *node,
-        |node: &char| neighbors(LINEAR, *node).iter().copied(),
-    )?;
+    let below = |node: &char| neighbors(LINEAR, *node).chars();
+    let mut walk = dfs(alloc, ['B'].iter().copied(), id, below)?;
     let first = walk.next();
     let second = walk.next();
     if let Some(Err(refused)) = first {
@@ -214,26 +142,13 @@ fn asks_after_the_end<R: Abort>(rt: &R, alloc: Global) -> Result<(), AllocError>
 
 #[test]
 fn ended_walks_answer_none(rt: HostRuntime) -> Result<(), Fail> {
-    let alloc = rt.alloc();
-    let first = asks_after_the_end(&rt, alloc);
-    if first.is_err() {
-        asks_after_the_end(&rt, alloc)?;
-    }
-    Ok(())
-}
-
-fn is_memory(item: &Option<Result<char, WalkError<char>>>) -> bool {
-    matches!(item, Some(Err(WalkError::Memory)))
+    Ok(asks_after_the_end(&rt, rt.alloc()).or_else(|_| asks_after_the_end(&rt, rt.alloc()))?)
 }
 
 // A failed start, which does not end the walk, and a node without neighbours.
 fn asks_a_failing_walk<R: Abort>(rt: &R, alloc: Global) -> Result<(), AllocError> {
-    let mut walk = dfs_ok(
-        alloc,
-        [Ok('A'), Err('X')].iter().copied(),
-        |node: &char| *node,
-        |node: &char| items(BROKEN, *node).iter().copied(),
-    )?;
+    let below = |node: &char| items(BROKEN, *node).iter().copied();
+    let mut walk = dfs_ok(alloc, [Ok('A'), Err('X')].iter().copied(), id, below)?;
     let first = walk.next();
     let second = walk.next();
     assert!(rt; walk.next().is_none());
@@ -248,10 +163,5 @@ fn asks_a_failing_walk<R: Abort>(rt: &R, alloc: Global) -> Result<(), AllocError
 
 #[test]
 fn ended_failing_walks_answer_none(rt: HostRuntime) -> Result<(), Fail> {
-    let alloc = rt.alloc();
-    let first = asks_a_failing_walk(&rt, alloc);
-    if first.is_err() {
-        asks_a_failing_walk(&rt, alloc)?;
-    }
-    Ok(())
+    Ok(asks_a_failing_walk(&rt, rt.alloc()).or_else(|_| asks_a_failing_walk(&rt, rt.alloc()))?)
 }

@@ -2,20 +2,28 @@
 //
 // In a run in which one request for memory is refused, a test answers that, and is then run once
 // more, when there is memory.
+use crate::walked::nodes_of;
 use jj_walks::dag_walk::{
     WalkError, dfs, dfs_ok, heads, heads_ok, topo_order_forward, topo_order_forward_ok,
     topo_order_reverse, topo_order_reverse_ok,
 };
-use jj_walks::dag_walk_async;
+use jj_walks::dag_walk_async::{self, closest_common_nodes};
 use std::alloc::{AllocError, Global};
 use std::collections::HashSet;
 use std::process::Abort;
+use std::str::Chars;
 
 /// Each letter with its neighbours.
-pub type Table<'a> = &'a [(char, &'a [char])];
+pub type Table<'a> = &'a [(char, &'a str)];
 
 /// Each letter with its items: neighbours, or errors in their place.
 pub type FailingTable<'a> = &'a [(char, &'a [Result<char, char>])];
+
+/// An order of letters, or the letter that is the error.
+pub type Order = Result<Vec<char>, WalkError<char>>;
+
+/// The heads of a set of letters, or such a letter.
+pub type Heads = Result<HashSet<char>, WalkError<char>>;
 
 /// What a walk found, where no error of a node is wanted.
 pub fn found<R: Abort, V: Drop, E: Drop>(
@@ -46,13 +54,18 @@ pub fn met<R: Abort, V: Drop, E: Drop>(
     }
 }
 
-pub fn neighbors<'a>(table: Table<'a>, node: char) -> &'a [char] {
+/// Whether a walk told want of memory.
+pub fn is_memory(item: &Option<Result<char, WalkError<char>>>) -> bool {
+    matches!(item, Some(Err(WalkError::Memory)))
+}
+
+pub fn neighbors<'a>(table: Table<'a>, node: char) -> &'a str {
     for (letter, list) in table {
         if *letter == node {
-            return list;
+            return *list;
         }
     }
-    &[]
+    ""
 }
 
 pub fn items<'a>(table: FailingTable<'a>, node: char) -> &'a [Result<char, char>] {
@@ -64,45 +77,29 @@ pub fn items<'a>(table: FailingTable<'a>, node: char) -> &'a [Result<char, char>
     &[]
 }
 
+/// The id of a letter: the letter.
+pub fn id(node: &char) -> char {
+    *node
+}
+
+/// The error that is made of a letter on a cycle.
+pub fn error(node: char) -> char {
+    node
+}
+
 pub fn preorder(alloc: Global, table: Table<'_>, start: &[char]) -> Result<Vec<char>, AllocError> {
-    let mut given = Vec::new(alloc);
-    for node in dfs(
-        alloc,
-        start.iter().copied(),
-        |node: &char| *node,
-        |node: &char| neighbors(table, *node).iter().copied(),
-    )? {
-        given.push(node?)?;
-    }
-    Ok(given)
+    let below = |node: &char| neighbors(table, *node).chars();
+    nodes_of(alloc, dfs(alloc, start.iter().copied(), id, below)?)
 }
 
-pub fn forward(
-    alloc: Global,
-    table: Table<'_>,
-    start: &[char],
-) -> Result<Vec<char>, WalkError<char>> {
-    topo_order_forward(
-        alloc,
-        start.iter().copied(),
-        |node: &char| *node,
-        |node: &char| neighbors(table, *node).iter().copied(),
-        |node: char| node,
-    )
+pub fn forward(alloc: Global, table: Table<'_>, start: &[char]) -> Order {
+    let below = |node: &char| neighbors(table, *node).chars();
+    topo_order_forward(alloc, start.iter().copied(), id, below, error)
 }
 
-pub fn reverse(
-    alloc: Global,
-    table: Table<'_>,
-    start: &[char],
-) -> Result<Vec<char>, WalkError<char>> {
-    topo_order_reverse(
-        alloc,
-        start.iter().copied(),
-        |node: &char| *node,
-        |node: &char| neighbors(table, *node).iter().copied(),
-        |node: char| node,
-    )
+pub fn reverse(alloc: Global, table: Table<'_>, start: &[char]) -> Order {
+    let below = |node: &char| neighbors(table, *node).chars();
+    topo_order_reverse(alloc, start.iter().copied(), id, below, error)
 }
 
 pub fn maximal(
@@ -110,12 +107,8 @@ pub fn maximal(
     table: Table<'_>,
     start: &[char],
 ) -> Result<HashSet<char>, AllocError> {
-    heads(
-        alloc,
-        start.iter().copied(),
-        |node: &char| *node,
-        |node: &char| neighbors(table, *node).iter().copied(),
-    )
+    let below = |node: &char| neighbors(table, *node).chars();
+    heads(alloc, start.iter().copied(), id, below)
 }
 
 /// The items of a walk that may fail; `None` where memory was refused.
@@ -124,13 +117,9 @@ pub fn preorder_ok(
     table: FailingTable<'_>,
     start: &[Result<char, char>],
 ) -> Result<Vec<Result<char, char>>, AllocError> {
+    let below = |node: &char| items(table, *node).iter().copied();
     let mut given = Vec::new(alloc);
-    for item in dfs_ok(
-        alloc,
-        start.iter().copied(),
-        |node: &char| *node,
-        |node: &char| items(table, *node).iter().copied(),
-    )? {
+    for item in dfs_ok(alloc, start.iter().copied(), id, below)? {
         match item {
             Ok(node) => given.push(Ok(node))?,
             Err(WalkError::Node(error)) => given.push(Err(error))?,
@@ -140,66 +129,33 @@ pub fn preorder_ok(
     Ok(given)
 }
 
-pub fn forward_ok(
-    alloc: Global,
-    table: FailingTable<'_>,
-    start: &[Result<char, char>],
-) -> Result<Vec<char>, WalkError<char>> {
-    topo_order_forward_ok(
-        alloc,
-        start.iter().copied(),
-        |node: &char| *node,
-        |node: &char| items(table, *node).iter().copied(),
-        |node: char| node,
-    )
+pub fn forward_ok(alloc: Global, table: FailingTable<'_>, start: &[Result<char, char>]) -> Order {
+    let below = |node: &char| items(table, *node).iter().copied();
+    topo_order_forward_ok(alloc, start.iter().copied(), id, below, error)
 }
 
-pub fn reverse_ok(
-    alloc: Global,
-    table: FailingTable<'_>,
-    start: &[Result<char, char>],
-) -> Result<Vec<char>, WalkError<char>> {
-    topo_order_reverse_ok(
-        alloc,
-        start.iter().copied(),
-        |node: &char| *node,
-        |node: &char| items(table, *node).iter().copied(),
-        |node: char| node,
-    )
+pub fn reverse_ok(alloc: Global, table: FailingTable<'_>, start: &[Result<char, char>]) -> Order {
+    let below = |node: &char| items(table, *node).iter().copied();
+    topo_order_reverse_ok(alloc, start.iter().copied(), id, below, error)
 }
 
-pub fn maximal_ok(
-    alloc: Global,
-    table: FailingTable<'_>,
-    start: &[Result<char, char>],
-) -> Result<HashSet<char>, WalkError<char>> {
-    heads_ok(
-        alloc,
-        start.iter().copied(),
-        |node: &char| *node,
-        |node: &char| items(table, *node).iter().copied(),
-    )
+pub fn maximal_ok(alloc: Global, table: FailingTable<'_>, start: &[Result<char, char>]) -> Heads {
+    let below = |node: &char| items(table, *node).iter().copied();
+    heads_ok(alloc, start.iter().copied(), id, below)
+}
+
+// The neighbours of a letter, unless its list is broken.
+fn whole<'a>(table: Table<'a>, broken: &[char], node: char) -> Result<Chars<'a>, char> {
+    if broken.contains(&node) {
+        return Err(node);
+    }
+    Ok(neighbors(table, node).chars())
 }
 
 /// The heads where the lists of the letters in `broken` fail.
-pub fn maximal_lists(
-    alloc: Global,
-    table: Table<'_>,
-    broken: &[char],
-    start: &[char],
-) -> Result<HashSet<char>, WalkError<char>> {
-    dag_walk_async::heads(
-        alloc,
-        start.iter().copied(),
-        |node: &char| *node,
-        |node: &char| {
-            if broken.contains(node) {
-                Err(*node)
-            } else {
-                Ok(neighbors(table, *node).iter().copied())
-            }
-        },
-    )
+pub fn maximal_lists(alloc: Global, table: Table<'_>, broken: &[char], start: &[char]) -> Heads {
+    let below = |node: &char| whole(table, broken, *node);
+    dag_walk_async::heads(alloc, start.iter().copied(), id, below)
 }
 
 /// The closest common nodes of two sets where the lists of the letters in `broken` fail.
@@ -209,18 +165,7 @@ pub fn closest(
     broken: &[char],
     set1: &[char],
     set2: &[char],
-) -> Result<Vec<char>, WalkError<char>> {
-    dag_walk_async::closest_common_nodes(
-        alloc,
-        set1.iter().copied(),
-        set2.iter().copied(),
-        |node: &char| *node,
-        |node: &char| {
-            if broken.contains(node) {
-                Err(*node)
-            } else {
-                Ok(neighbors(table, *node).iter().copied())
-            }
-        },
-    )
+) -> Order {
+    let below = |node: &char| whole(table, broken, *node);
+    closest_common_nodes(alloc, set1.iter().copied(), set2.iter().copied(), id, below)
 }

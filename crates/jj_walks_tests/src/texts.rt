@@ -50,10 +50,5 @@ fn walks_texts<R: Abort>(rt: &R, alloc: Global) -> Result<(), AllocError> {
 
 #[test]
 fn texts_are_nodes_and_ids(rt: HostRuntime) -> Result<(), Fail> {
-    let alloc = rt.alloc();
-    let first = walks_texts(&rt, alloc);
-    if first.is_err() {
-        walks_texts(&rt, alloc)?;
-    }
-    Ok(())
+    Ok(walks_texts(&rt, rt.alloc()).or_else(|_| walks_texts(&rt, rt.alloc()))?)
 }

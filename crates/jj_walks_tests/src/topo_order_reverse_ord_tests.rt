@@ -84,20 +84,17 @@ fn greatest_orders<R: Abort>(rt: &R, alloc: Global) -> Result<(), AllocError> {
         (FAILING, &[], &[]),
     ];
     for (rows, start, want) in cases {
-        let order = found(rt, greatest(alloc, *rows, *start))?;
-        assert_eq!(rt; order.as_slice(), *want);
+        assert_eq!(rt;
+            found(rt, greatest(alloc, *rows, *start))?.as_slice(),
+            *want
+        );
     }
     Ok(())
 }
 
 #[test]
 fn takes_the_greatest_ready_node(rt: HostRuntime) -> Result<(), Fail> {
-    let alloc = rt.alloc();
-    let first = greatest_orders(&rt, alloc);
-    if first.is_err() {
-        greatest_orders(&rt, alloc)?;
-    }
-    Ok(())
+    Ok(greatest_orders(&rt, rt.alloc()).or_else(|_| greatest_orders(&rt, rt.alloc()))?)
 }
 
 fn refusals<R: Abort>(rt: &R, alloc: Global) -> Result<(), AllocError> {
@@ -119,10 +116,5 @@ fn refusals<R: Abort>(rt: &R, alloc: Global) -> Result<(), AllocError> {
 
 #[test]
 fn refuses_cycles_and_failed_items(rt: HostRuntime) -> Result<(), Fail> {
-    let alloc = rt.alloc();
-    let first = refusals(&rt, alloc);
-    if first.is_err() {
-        refusals(&rt, alloc)?;
-    }
-    Ok(())
+    Ok(refusals(&rt, rt.alloc()).or_else(|_| refusals(&rt, rt.alloc()))?)
 }

@@ -10,12 +10,8 @@ fn printed<E: Error>(alloc: Global, error: &E) -> Result<String, AllocError> {
     format!(in alloc; "{error}")
 }
 
-fn prints<R: Abort, E: Error>(
-    rt: &R,
-    alloc: Global,
-    error: &E,
-    wanted: &str,
-) -> Result<(), AllocError> {
+fn prints<R: Abort, E: Error>(rt: &R, alloc: Global, row: (&E, &str)) -> Result<(), AllocError> {
+    let (error, wanted) = row;
     let text = printed(alloc, error).or_else(|_| printed(alloc, error))?;
     assert_eq!(rt; text.as_str(), wanted);
     Ok(())
@@ -24,8 +20,8 @@ fn prints<R: Abort, E: Error>(
 #[test]
 fn errors_print_and_compare(rt: HostRuntime) -> Result<(), Fail> {
     let alloc = rt.alloc();
-    prints(&rt, alloc, &WalkError::<u32>::Memory, "out of memory")?;
-    prints(&rt, alloc, &WalkError::Node(7u32), "7")?;
+    prints(&rt, alloc, (&WalkError::<u32>::Memory, "out of memory"))?;
+    prints(&rt, alloc, (&WalkError::Node(7u32), "7"))?;
     assert!(rt; WalkError::Node(7) == WalkError::Node(7u32));
     assert!(rt; WalkError::Node(7) != WalkError::Node(8u32));
     assert!(rt; WalkError::Memory != WalkError::Node(7u32));
@@ -52,7 +48,7 @@ fn grouped_errors_print_and_compare(rt: HostRuntime) -> Result<(), Fail> {
         (GroupedGraphError::Memory, "out of memory"),
     ];
     for (error, wanted) in &texts {
-        prints(&rt, alloc, error, *wanted)?;
+        prints(&rt, alloc, (error, *wanted))?;
         assert!(rt; *error == *error);
         assert!(rt; *error != GroupedGraphError::Input(8));
     }

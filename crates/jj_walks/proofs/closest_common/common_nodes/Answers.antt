@@ -197,75 +197,84 @@ loop-node-3-preserved g c =
       );
     }
 
-pub returns-in-Err-clause-refused : goal.returns-in-Err-clause-refused
-returns-in-Err-clause-refused g c =
-    let before = c.loop-node-3.invariant in
-    let node = c.in-Some-pop.node in
-    let popped : IsPermutation (heap_items c.loop-node-3.waiting) (node ∷ heap_items c.pop.new.self) = c.in-Some-pop.ensures.permutation in
-    let failed : c.neighbors_fn.result ≡ Err c.in-Err.error = c.in-Err.is in (
-      before.walking.0,
-      before.walking.1,
-      before.walking.2,
-      before.walking.3,
-      λ walk items shown first second.
-          let set1 = map walk.node before.walking.0 in
-          let set2 = map walk.node before.walking.1 in
-          let known = before.walking.4 walk items shown first second in
-          let at = was_reached walk (heap_items c.pop.new.self) node shown.closed first second known.1.1 popped in
-          let turn = AlwaysReturns-call g.N.FnMut _ known.0.neighbors c.neighbors_fn.ensures in
-          let one = failed_list (items (walk.node node)) c.in-Err.error (rw failed at (turn.0 at.1)) in (
-            walk.node node,
-            one.0,
-            ReachedFrom-same walk.graph (sound_graph items) shown.sound_graph (set1 ++ set2) (walk.node node) at.0,
-            one.1,
-            one.2,
-          ),
-    )
+pub returns-in-Err : goal.returns-in-Err
+returns-in-Err g c = record {
+  closest = tt;
+  refused =
+      let before = c.loop-node-3.invariant in
+      let node = c.in-Some-pop.node in
+      let popped : IsPermutation (heap_items c.loop-node-3.waiting) (node ∷ heap_items c.pop.new.self) = c.in-Some-pop.ensures.permutation in
+      let failed : c.neighbors_fn.result ≡ Err c.in-Err.error = c.in-Err.is in (
+        before.walking.0,
+        before.walking.1,
+        before.walking.2,
+        before.walking.3,
+        λ walk items shown first second.
+            let set1 = map walk.node before.walking.0 in
+            let set2 = map walk.node before.walking.1 in
+            let known = before.walking.4 walk items shown first second in
+            let at = was_reached walk (heap_items c.pop.new.self) node shown.closed first second known.1.1 popped in
+            let turn = AlwaysReturns-call g.N.FnMut _ known.0.neighbors c.neighbors_fn.ensures in
+            let one = failed_list (items (walk.node node)) c.in-Err.error (rw failed at (turn.0 at.1)) in (
+              walk.node node,
+              one.0,
+              ReachedFrom-same walk.graph (sound_graph items) shown.sound_graph (set1 ++ set2) (walk.node node) at.0,
+              one.1,
+              one.2,
+            ),
+      );
+}
 
-pub returns-then-not-root_met-clause-closest : goal.returns-then-not-root_met-clause-closest
-returns-then-not-root_met-clause-closest g c =
-    let before = c.loop-node-3.invariant in
-    let node = c.in-Some-pop.node in
-    let id = c.id_fn-id-in-Some-pop.result in
-    let popped : IsPermutation (heap_items c.loop-node-3.waiting) (node ∷ heap_items c.pop.new.self) = c.in-Some-pop.ensures.permutation in
-    let more : c.push.new.self.items ≡ c.loop-node-3.common.items ++ (node, id) ∷ [] = c.in_ok-push.ensures.items in
-    let ok = c.pop.new.self.data.ok in
-    let none : heap_len c.pop.new.self ≡ 0 = search rules in
-    let nothing : length c.pop.new.self.data.items ≡ 0 = omega (arith, ok, none) in
-    let empty : heap_items c.pop.new.self ≡ [] = nil_from_length _ nothing in (
-      before.walking.0,
-      before.walking.1,
-      before.walking.2,
-      before.walking.3,
-      λ walk items shown first second acyclic.
-          let set1 = map walk.node before.walking.0 in
-          let set2 = map walk.node before.walking.1 in
-          let known = before.walking.4 walk items shown first second in
-          let held = known.1.1 in
-          let at = asks walk g.ID.PartialEq.eq set1 set2 known.1.0 (heap_items c.loop-node-3.waiting) (heap_items c.pop.new.self) c.loop-node-3.common.items c.loop-node-3.root_met
-          (mark_at g.ID.PartialEq.eq c.loop-node-3.known) (mark_at g.ID.PartialEq.eq c.ask-reach.new.known) node id c.ask-reach.result shown.closed shown.apart first second held popped
-          (λ here. shown.ids_stand node id here (returned g.F.Fn c.id_fn-id-in-Some-pop.ensures)) c.ask-reach.ensures.reach c.ask-reach.ensures.known in
-          let end = ends_early walk node id at.2 empty (and_parts _ _ (sym c.is_common.ensures ∙ c.if-is_common.true)) c.if-not-root_met.true in
-          rw more (closest_at_end walk set1 set2 (walk.node node ∷ []) known.1.0 (heap_items c.pop.new.self) (map (λ entry. walk.node entry.0) c.loop-node-3.common.items) (c.loop-node-3.common.items ++ (node, id) ∷ []) c.loop-node-3.root_met
-          (mark_at g.ID.PartialEq.eq c.ask-reach.new.known) end at.2.marks (ids_more walk c.loop-node-3.common.items node id held.ids at.1) shown.closed first acyclic),
-    )
+pub returns-then-not-root_met : goal.returns-then-not-root_met
+returns-then-not-root_met g c = record {
+  closest =
+      let before = c.loop-node-3.invariant in
+      let node = c.in-Some-pop.node in
+      let id = c.id_fn-id-in-Some-pop.result in
+      let popped : IsPermutation (heap_items c.loop-node-3.waiting) (node ∷ heap_items c.pop.new.self) = c.in-Some-pop.ensures.permutation in
+      let more : c.push.new.self.items ≡ c.loop-node-3.common.items ++ (node, id) ∷ [] = c.in_ok-push.ensures.items in
+      let ok = c.pop.new.self.data.ok in
+      let none : heap_len c.pop.new.self ≡ 0 = search rules in
+      let nothing : length c.pop.new.self.data.items ≡ 0 = omega (arith, ok, none) in
+      let empty : heap_items c.pop.new.self ≡ [] = nil_from_length _ nothing in (
+        before.walking.0,
+        before.walking.1,
+        before.walking.2,
+        before.walking.3,
+        λ walk items shown first second acyclic.
+            let set1 = map walk.node before.walking.0 in
+            let set2 = map walk.node before.walking.1 in
+            let known = before.walking.4 walk items shown first second in
+            let held = known.1.1 in
+            let at = asks walk g.ID.PartialEq.eq set1 set2 known.1.0 (heap_items c.loop-node-3.waiting) (heap_items c.pop.new.self) c.loop-node-3.common.items c.loop-node-3.root_met
+            (mark_at g.ID.PartialEq.eq c.loop-node-3.known) (mark_at g.ID.PartialEq.eq c.ask-reach.new.known) node id c.ask-reach.result shown.closed shown.apart first second held popped
+            (λ here. shown.ids_stand node id here (returned g.F.Fn c.id_fn-id-in-Some-pop.ensures)) c.ask-reach.ensures.reach c.ask-reach.ensures.known in
+            let end = ends_early walk node id at.2 empty (and_parts _ _ (sym c.is_common.ensures ∙ c.if-is_common.true)) c.if-not-root_met.true in
+            rw more (closest_at_end walk set1 set2 (walk.node node ∷ []) known.1.0 (heap_items c.pop.new.self) (map (λ entry. walk.node entry.0) c.loop-node-3.common.items) (c.loop-node-3.common.items ++ (node, id) ∷ []) c.loop-node-3.root_met
+            (mark_at g.ID.PartialEq.eq c.ask-reach.new.known) end at.2.marks (ids_more walk c.loop-node-3.common.items node id held.ids at.1) shown.closed first acyclic),
+      );
+  refused = tt;
+}
 
-pub returns-clause-closest : goal.returns-clause-closest
-returns-clause-closest g c =
-    let before = c.loop-node-3.invariant in
-    let none : c.loop-node-3.waiting.data.len ≡ 0 = c.in_default.ensures.none in
-    let ok = c.loop-node-3.waiting.data.ok in
-    let nothing : length c.loop-node-3.waiting.data.items ≡ 0 = omega arith in
-    let empty : heap_items c.loop-node-3.waiting ≡ [] = nil_from_length _ nothing in (
-      before.walking.0,
-      before.walking.1,
-      before.walking.2,
-      before.walking.3,
-      λ walk items shown first second acyclic.
-          let set1 = map walk.node before.walking.0 in
-          let set2 = map walk.node before.walking.1 in
-          let known = before.walking.4 walk items shown first second in
-          let held = known.1.1 in
-          closest_at_end walk set1 set2 [] known.1.0 (heap_items c.loop-node-3.waiting) (map (λ entry. walk.node entry.0) c.loop-node-3.common.items) c.loop-node-3.common.items c.loop-node-3.root_met
-          (mark_at g.ID.PartialEq.eq c.loop-node-3.known) (ends walk held empty) held.marks held.ids shown.closed first acyclic,
-    )
+pub returns : goal.returns
+returns g c = record {
+  closest =
+      let before = c.loop-node-3.invariant in
+      let none : c.loop-node-3.waiting.data.len ≡ 0 = c.in_default.ensures.none in
+      let ok = c.loop-node-3.waiting.data.ok in
+      let nothing : length c.loop-node-3.waiting.data.items ≡ 0 = omega arith in
+      let empty : heap_items c.loop-node-3.waiting ≡ [] = nil_from_length _ nothing in (
+        before.walking.0,
+        before.walking.1,
+        before.walking.2,
+        before.walking.3,
+        λ walk items shown first second acyclic.
+            let set1 = map walk.node before.walking.0 in
+            let set2 = map walk.node before.walking.1 in
+            let known = before.walking.4 walk items shown first second in
+            let held = known.1.1 in
+            closest_at_end walk set1 set2 [] known.1.0 (heap_items c.loop-node-3.waiting) (map (λ entry. walk.node entry.0) c.loop-node-3.common.items) c.loop-node-3.common.items c.loop-node-3.root_met
+            (mark_at g.ID.PartialEq.eq c.loop-node-3.known) (ends walk held empty) held.marks held.ids shown.closed first acyclic,
+      );
+  refused = tt;
+}

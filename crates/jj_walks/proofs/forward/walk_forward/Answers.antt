@@ -1,4 +1,4 @@
-use Rattle.std.proofs.Common.{rules, of_calls, arith, append-nil, append_assoc, ◌≡◌, true, false, ◌++◌, ◌∷◌, [], map, not, Bool, true≢false, refl, sym, ◌∙◌, ap, Ok, Err, inl, inr, reverse}
+use Rattle.std.proofs.Common.{rules, of_calls, arith, append-nil, append_assoc, ◌≡◌, true, false, ◌++◌, ◌∷◌, [], map, not, refl, sym, ◌∙◌, ap, Ok, Err, inl, inr, reverse}
 use Rattle.std.specs.HashSet.{contains}
 use Rattle.jj_walks.specs.Walk.{DrainsTo}
 use Rattle.jj_walks.proofs.FailingWalks.{AreItems-nodes, failed_first}
@@ -10,6 +10,7 @@ use Rattle.jj_walks.proofs.Unwinding.{unwinding_starts, unwinding_passed, unwind
 use Rattle.jj_walks.proofs.Unwinding.Unwinds.{ended}
 use Rattle.jj_walks.proofs.FailingOrders.{none_fails_yet, none_fails_below, none_fails_finished, none_fails_entered, none_fails_starts, HasNoFailure-from_postorder, sound_items-nodes, none_of_nodes, ok-push, waiting-push, Yields-push, ReachedFrom-same}
 use Rattle.std.proofs.lemmas.Grind.{common_steps}
+use Rattle.jj_walks.proofs.Plain.{un_not, un_not_false}
 use Rattle.jj_walks.proofs.forward.walk_forward.Goals as goal
 
 pub loop-item-init : goal.loop-item-init
@@ -32,13 +33,17 @@ loop-item-preserved g c =
       );
     }
 
-pub returns-in-Err-clause-failed : goal.returns-in-Err-clause-failed
-returns-in-Err-clause-failed g c =
-    let before = c.loop-item.invariant.sound in
-    let is : c.in-Some.item ≡ Err c.in-Err.error = c.in-Err.is in
-    let all : c.loop-item.yielded ++ c.in-Some.item ∷ [] ≡ map (λ x. Ok x) before.0 ++ Err c.in-Err.error ∷ [] = ap (λ x. c.loop-item.yielded ++ x ∷ []) is ∙ ap (λ l. l ++ Err c.in-Err.error ∷ []) before.1 in
-    let run = Yields-push g.II.IntoIter.Iterator.next_gives c.loop-item.yielded c.in-Some.item c.into_iter-item-iterator.result c.loop-item.item-iterator c.next.new.self c.loop-item.yielded_by c.in-Some.ensures.steps in
-    inl (before.0, (c.into_iter-item-iterator.result, c.into_iter-item-iterator.ensures.into_iter_gives, (c.next.new.self, rw all at run)))
+pub returns-in-Err : goal.returns-in-Err
+returns-in-Err g c = record {
+  order = tt;
+  failed =
+      let before = c.loop-item.invariant.sound in
+      let is : c.in-Some.item ≡ Err c.in-Err.error = c.in-Err.is in
+      let all : c.loop-item.yielded ++ c.in-Some.item ∷ [] ≡ map (λ x. Ok x) before.0 ++ Err c.in-Err.error ∷ [] = ap (λ x. c.loop-item.yielded ++ x ∷ []) is ∙ ap (λ l. l ++ Err c.in-Err.error ∷ []) before.1 in
+      let run = Yields-push g.II.IntoIter.Iterator.next_gives c.loop-item.yielded c.in-Some.item c.into_iter-item-iterator.result c.loop-item.item-iterator c.next.new.self c.loop-item.yielded_by c.in-Some.ensures.steps in
+      inl (before.0, (c.into_iter-item-iterator.result, c.into_iter-item-iterator.ensures.into_iter_gives, (c.next.new.self, rw all at run)));
+  cycle = tt;
+}
 
 pub loop-node-init : goal.loop-node-init
 loop-node-init g c =
@@ -110,32 +115,28 @@ loop-node-preserved-in_ok-push g c =
       );
     }
 
-not_true : (a b : Bool) → a ≡ not b → a ≡ true → b ≡ false
-not_true a true e y = absurd (true≢false (sym y ∙ e))
-not_true a false e y = refl
-
-not_false : (a b : Bool) → a ≡ not b → a ≡ false → b ≡ true
-not_false a true e y = refl
-not_false a false e y = absurd (true≢false (sym e ∙ y))
-
-pub returns-then-not-branch-clause-cycle : goal.returns-then-not-branch-clause-cycle
-returns-then-not-branch-clause-cycle g c =
-    let before = c.loop-node.invariant in
-    let e : c.loop-node.stack.items ≡ c.pop.new.self.items ++ (c.in-Some-pop.node, c.in-Some-pop.neighbors_visited) ∷ [] = c.in-Some-pop.ensures.items in
-    let flag : c.in-Some-pop.neighbors_visited ≡ false = c.if-neighbors_visited.false in
-    let same : g.ID.PartialEq.eq c.id_fn-id.result c.in_ok-clone.field-0 ≡ true = c.requires.clones c.id_fn-id.result c.in_ok-clone.field-0 c.in_ok-clone.ensures.cases in
-    let added : c.in_ok-insert-2.field-0 ≡ not (contains g.ID.PartialEq.eq c.loop-node.visiting c.in_ok-clone.field-0) = c.in_ok-insert-2.ensures.added in
-    let again : contains g.ID.PartialEq.eq c.loop-node.visiting c.in_ok-clone.field-0 ≡ true =
-    let no : c.in_ok-insert-2.field-0 ≡ false = first_of (search rules, grind (arith, common_steps)) in
-    not_false _ _ added no in (
-      before.walking.0,
-      before.walking.1,
-      λ walk items shown nodes.
-          let known = before.walking.2 walk items shown nodes in
-          unwinding_cycle walk (walk.node c.in-Some-pop.node) c.id_fn-id.result (rw (e, from_top-push walk, flag) at known.1)
-          (shown.ids_stand c.in-Some-pop.node c.id_fn-id.result (top_is_node walk (walk.node c.in-Some-pop.node) false (rw (e, from_top-push walk, flag) at known.1)) (returned g.F.Fn c.id_fn-id.ensures))
-          (contains-clone g.met.ID.Eq.laws c.loop-node.visiting c.id_fn-id.result c.in_ok-clone.field-0 same ∙ again),
-    )
+pub returns-then-not-branch : goal.returns-then-not-branch
+returns-then-not-branch g c = record {
+  order = tt;
+  failed = tt;
+  cycle =
+      let before = c.loop-node.invariant in
+      let e : c.loop-node.stack.items ≡ c.pop.new.self.items ++ (c.in-Some-pop.node, c.in-Some-pop.neighbors_visited) ∷ [] = c.in-Some-pop.ensures.items in
+      let flag : c.in-Some-pop.neighbors_visited ≡ false = c.if-neighbors_visited.false in
+      let same : g.ID.PartialEq.eq c.id_fn-id.result c.in_ok-clone.field-0 ≡ true = c.requires.clones c.id_fn-id.result c.in_ok-clone.field-0 c.in_ok-clone.ensures.cases in
+      let added : c.in_ok-insert-2.field-0 ≡ not (contains g.ID.PartialEq.eq c.loop-node.visiting c.in_ok-clone.field-0) = c.in_ok-insert-2.ensures.added in
+      let again : contains g.ID.PartialEq.eq c.loop-node.visiting c.in_ok-clone.field-0 ≡ true =
+      let no : c.in_ok-insert-2.field-0 ≡ false = first_of (search rules, grind (arith, common_steps)) in
+      un_not_false _ (sym no ∙ added) in (
+        before.walking.0,
+        before.walking.1,
+        λ walk items shown nodes.
+            let known = before.walking.2 walk items shown nodes in
+            unwinding_cycle walk (walk.node c.in-Some-pop.node) c.id_fn-id.result (rw (e, from_top-push walk, flag) at known.1)
+            (shown.ids_stand c.in-Some-pop.node c.id_fn-id.result (top_is_node walk (walk.node c.in-Some-pop.node) false (rw (e, from_top-push walk, flag) at known.1)) (returned g.F.Fn c.id_fn-id.ensures))
+            (contains-clone g.met.ID.Eq.laws c.loop-node.visiting c.id_fn-id.result c.in_ok-clone.field-0 same ∙ again),
+      );
+}
 
 pub loop-neighbor-init : goal.loop-neighbor-init
 loop-neighbor-init g c =
@@ -160,34 +161,38 @@ loop-neighbor-preserved g c =
       );
     }
 
-pub returns-in-Err-neighbor-clause-failed : goal.returns-in-Err-neighbor-clause-failed
-returns-in-Err-neighbor-clause-failed g c =
-    let before = c.loop-node.invariant in
-    let sound = c.loop-neighbor.invariant.sound in
-    let e : c.loop-node.stack.items ≡ c.pop.new.self.items ++ (c.in-Some-pop.node, c.in-Some-pop.neighbors_visited) ∷ [] = c.in-Some-pop.ensures.items in
-    let flag : c.in-Some-pop.neighbors_visited ≡ false = c.if-neighbors_visited.false in
-    let is : c.in-Some-neighbor.neighbor ≡ Err c.in-Err-neighbor.error = c.in-Err-neighbor.is in
-    let all : c.loop-neighbor.yielded ++ c.in-Some-neighbor.neighbor ∷ [] ≡ map (λ x. Ok x) sound.0 ++ Err c.in-Err-neighbor.error ∷ [] = ap (λ x. c.loop-neighbor.yielded ++ x ∷ []) is ∙ ap (λ l. l ++ Err c.in-Err-neighbor.error ∷ []) sound.1 in
-    let source : c.into_iter-neighbor-iterator.result ≡ c.into_iter-neighbors.result = c.into_iter-neighbor-iterator.ensures.into_iter_gives in
-    let run = Yields-push g.NI.IntoIter.Iterator.next_gives c.loop-neighbor.yielded c.in-Some-neighbor.neighbor c.into_iter-neighbors.result c.loop-neighbor.neighbor-iterator c.next-in-loop-neighbor.new.self
-    (rw source at c.loop-neighbor.yielded_by) c.in-Some-neighbor.ensures.steps in
-    inr (
-      before.walking.0,
-      before.walking.1,
-      λ walk items shown nodes.
-          let known = before.walking.2 walk items shown nodes in
-          let turn = AlwaysReturns-call g.N.FnMut _ known.0.neighbors c.neighbors_fn.ensures in
-          let top = rw (e, from_top-push walk, flag) at known.1 in
-          let begun = (turn.0 (top_is_node walk (walk.node c.in-Some-pop.node) false top)).first (map (λ x. Ok x) sound.0) c.in-Err-neighbor.error
-          (c.into_iter-neighbors.result, c.into_iter-neighbors.ensures.into_iter_gives, (c.next-in-loop-neighbor.new.self, rw all at run)) in
-          let failed = failed_first walk.node (items (walk.node c.in-Some-pop.node)) begun.0 begun.1 (map (λ x. Ok x) sound.0) c.in-Err-neighbor.error begun.2 begun.3 in (
-            walk.node c.in-Some-pop.node,
-            failed.0,
-            ReachedFrom-same walk.graph (sound_graph items) shown.sound_graph (numbers walk before.walking.0) (walk.node c.in-Some-pop.node) (here_reached walk top),
-            failed.1,
-            failed.2,
-          ),
-    )
+pub returns-in-Err-neighbor : goal.returns-in-Err-neighbor
+returns-in-Err-neighbor g c = record {
+  order = tt;
+  failed =
+      let before = c.loop-node.invariant in
+      let sound = c.loop-neighbor.invariant.sound in
+      let e : c.loop-node.stack.items ≡ c.pop.new.self.items ++ (c.in-Some-pop.node, c.in-Some-pop.neighbors_visited) ∷ [] = c.in-Some-pop.ensures.items in
+      let flag : c.in-Some-pop.neighbors_visited ≡ false = c.if-neighbors_visited.false in
+      let is : c.in-Some-neighbor.neighbor ≡ Err c.in-Err-neighbor.error = c.in-Err-neighbor.is in
+      let all : c.loop-neighbor.yielded ++ c.in-Some-neighbor.neighbor ∷ [] ≡ map (λ x. Ok x) sound.0 ++ Err c.in-Err-neighbor.error ∷ [] = ap (λ x. c.loop-neighbor.yielded ++ x ∷ []) is ∙ ap (λ l. l ++ Err c.in-Err-neighbor.error ∷ []) sound.1 in
+      let source : c.into_iter-neighbor-iterator.result ≡ c.into_iter-neighbors.result = c.into_iter-neighbor-iterator.ensures.into_iter_gives in
+      let run = Yields-push g.NI.IntoIter.Iterator.next_gives c.loop-neighbor.yielded c.in-Some-neighbor.neighbor c.into_iter-neighbors.result c.loop-neighbor.neighbor-iterator c.next-in-loop-neighbor.new.self
+      (rw source at c.loop-neighbor.yielded_by) c.in-Some-neighbor.ensures.steps in
+      inr (
+        before.walking.0,
+        before.walking.1,
+        λ walk items shown nodes.
+            let known = before.walking.2 walk items shown nodes in
+            let turn = AlwaysReturns-call g.N.FnMut _ known.0.neighbors c.neighbors_fn.ensures in
+            let top = rw (e, from_top-push walk, flag) at known.1 in
+            let begun = (turn.0 (top_is_node walk (walk.node c.in-Some-pop.node) false top)).first (map (λ x. Ok x) sound.0) c.in-Err-neighbor.error
+            (c.into_iter-neighbors.result, c.into_iter-neighbors.ensures.into_iter_gives, (c.next-in-loop-neighbor.new.self, rw all at run)) in
+            let failed = failed_first walk.node (items (walk.node c.in-Some-pop.node)) begun.0 begun.1 (map (λ x. Ok x) sound.0) c.in-Err-neighbor.error begun.2 begun.3 in (
+              walk.node c.in-Some-pop.node,
+              failed.0,
+              ReachedFrom-same walk.graph (sound_graph items) shown.sound_graph (numbers walk before.walking.0) (walk.node c.in-Some-pop.node) (here_reached walk top),
+              failed.1,
+              failed.2,
+            ),
+      );
+  cycle = tt;
+}
 
 pub loop-node-preserved : goal.loop-node-preserved
 loop-node-preserved g c =
@@ -202,7 +207,7 @@ loop-node-preserved g c =
     let added : c.in_ok-insert-2.field-0 ≡ not (contains g.ID.PartialEq.eq c.loop-node.visiting c.in_ok-clone.field-0) = c.in_ok-insert-2.ensures.added in
     let first : contains g.ID.PartialEq.eq c.loop-node.visiting c.in_ok-clone.field-0 ≡ false =
     let yes : c.in_ok-insert-2.field-0 ≡ true = first_of (search rules, grind (arith, common_steps)) in
-    not_true _ _ added yes in
+    un_not _ (sym yes ∙ added) in
     let source : c.into_iter-neighbor-iterator.result ≡ c.into_iter-neighbors.result = c.into_iter-neighbor-iterator.ensures.into_iter_gives in
     let drained : DrainsTo g.NI.IntoIterator.into_iter_gives g.NI.IntoIter.Iterator.next_gives c.neighbors_fn.result (map (λ x. Ok x) sound.0) =
     rw (← sound.1) (c.into_iter-neighbors.result, c.into_iter-neighbors.ensures.into_iter_gives, (c.next-in-loop-neighbor.new.self, (c.loop-neighbor.neighbor-iterator, rw source at c.loop-neighbor.yielded_by, c.in-None-neighbor.ensures.steps))) in
@@ -233,18 +238,22 @@ loop-node-preserved g c =
       );
     }
 
-pub returns-clause-order : goal.returns-clause-order
-returns-clause-order g c =
-    let before = c.loop-node.invariant in
-    let empty : c.loop-node.stack.items ≡ [] = first_of (search rules, grind (arith, common_steps)) in (
-      before.walking.0,
-      before.walking.1,
-      λ walk items shown nodes.
-          let known = before.walking.2 walk items shown nodes in
-          let whole = (rw empty at known.1).rest (numbers walk c.loop-node.result.items) ended in
-          record {
-            postorder = whole;
-            no_cycle = HasNoCycle-from_postorder walk.graph (numbers walk before.walking.0) (numbers walk c.loop-node.result.items) whole;
-            no_failure = HasNoFailure-from_postorder items walk.graph shown.sound_graph (numbers walk before.walking.0) (numbers walk c.loop-node.result.items) whole known.2;
-          },
-    )
+pub returns : goal.returns
+returns g c = record {
+  order =
+      let before = c.loop-node.invariant in
+      let empty : c.loop-node.stack.items ≡ [] = first_of (search rules, grind (arith, common_steps)) in (
+        before.walking.0,
+        before.walking.1,
+        λ walk items shown nodes.
+            let known = before.walking.2 walk items shown nodes in
+            let whole = (rw empty at known.1).rest (numbers walk c.loop-node.result.items) ended in
+            record {
+              postorder = whole;
+              no_cycle = HasNoCycle-from_postorder walk.graph (numbers walk before.walking.0) (numbers walk c.loop-node.result.items) whole;
+              no_failure = HasNoFailure-from_postorder items walk.graph shown.sound_graph (numbers walk before.walking.0) (numbers walk c.loop-node.result.items) whole known.2;
+            },
+      );
+  failed = tt;
+  cycle = tt;
+}

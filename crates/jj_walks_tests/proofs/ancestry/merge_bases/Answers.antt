@@ -1,4 +1,4 @@
-use Rattle.std.proofs.Common.{rules, of_calls, ◌≡◌, ℕ, List, [], ◌∷◌, Result, Ok, Err, is_some, refl, sym, ◌∙◌, ap, subst, map, true}
+use Rattle.std.proofs.Common.{rules, of_calls, ◌≡◌, ℕ, List, [], ◌∷◌, Result, Ok, Err, is_some, refl, sym, ◌∙◌, ap, map, true}
 use Rattle.std.specs.Prelude.{IsOkAnd}
 use Rattle.std.specs.Iterator.{YieldsFirstRef}
 use Rattle.std.specs.List.{filter_map}
@@ -7,9 +7,9 @@ use Rattle.std.proofs.lemmas.Iterator.{YieldsList-from_slice}
 use Rattle.std.proofs.lemmas.Iterator.Consumers.{YieldsList-from_first}
 use Rattle.std.proofs.lemmas.Result.{IfOk-weaker}
 use denote.Ref.{Bor}
-use Rattle.jj_walks.specs.Walk.{DrainsTo}
 use Rattle.jj_walks.specs.Failing.{Fault, AnswersItems}
 use Rattle.jj_walks.proofs.Walking.{drained_are}
+use Rattle.jj_walks.proofs.Owing.{may_show}
 use Rattle.jj_walks_tests.specs.declared.commits.Commit.{Commit}
 use Rattle.jj_walks_tests.specs.declared.commits.Parents.{Parents}
 use Rattle.jj_walks_tests.specs.Commits.{commit_with, ids_of, parents_in, parent_graph}
@@ -32,11 +32,7 @@ lists_parents commits x (Ok list) here (same, ids) = λ xs d.
 lists_parents commits x (Err e) here none = absurd none
 
 pub closest_common_nodes-requires-clause-graph : goal.closest_common_nodes-requires-clause-graph
-closest_common_nodes-requires-clause-graph c = record {
-  id_fn = search rules;
-  neighbors_fn = search (rules, of_calls);
-  lists = always_returns_same _ _ _ (λ a r f h. (first_of (search rules, search (rules, of_calls, h)), search (rules, of_calls, h)));
-}
+closest_common_nodes-requires-clause-graph c = may_show (search rules) (search (rules, of_calls)) (λ a r f h. (first_of (search rules, search (rules, of_calls, h)), search (rules, of_calls, h)))
 
 pub returns : goal.returns
 returns c =

@@ -1,25 +1,17 @@
-use Rattle.std.proofs.Common.{rules, of_calls, ◌≡◌, ℕ, List, [], refl, sym, ◌∙◌, ap, subst, map, Ok, Err, ⊎_elim}
-use Rattle.std.proofs.lemmas.Fn.{always_returns_same}
-use Rattle.jj_walks.specs.Graph.{IsChildFirst, HasNoCycle, ReachesCycle}
+use Rattle.std.proofs.Common.{rules, of_calls, map, Ok, ⊎_elim}
 use Rattle.jj_walks.proofs.Errors.{node_weaker}
 use Rattle.jj_walks.proofs.LazyRuns.{IsChildFirst-from_drains, IsCause-from_yields}
-use Rattle.jj_walks_tests.specs.Commits.{known_ids, parent_graph}
-use Rattle.jj_walks_tests.proofs.Numbering.{walk_of, walk_closed, items_of, items_sound, node_stands}
+use Rattle.jj_walks.proofs.Owing.{can_show}
+use Rattle.jj_walks_tests.specs.Commits.{known_ids}
+use Rattle.jj_walks_tests.proofs.Numbering.{walk_of, items_of}
 use Rattle.jj_walks_tests.proofs.Sound.{commits_drained, shown_are, never_fails, commits_shown, known_starts, known_are_nodes, child_first_ids, no_failure}
 use Rattle.jj_walks_tests.proofs.children_first.children_first.Goals as goal
 
 pub topo_order_reverse_lazy-requires-clause-graph : goal.topo_order_reverse_lazy-requires-clause-graph
-topo_order_reverse_lazy-requires-clause-graph c = record {
-  id_fn = search rules;
-  neighbors_fn = search (rules, of_calls);
-  lists = always_returns_same _ _ _ (λ a r f h. (λ it b. (search rules, search rules), search (rules, of_calls, h)));
-}
+topo_order_reverse_lazy-requires-clause-graph c = can_show (search rules) (search (rules, of_calls)) (λ a r f h. (λ it b. (search rules, search rules), search (rules, of_calls, h)))
 
 pub loop-commit-init : goal.loop-commit-init
-loop-commit-init c =
-    let e = c.into_iter-commit-iterator.ensures.into_iter_gives in
-    let n = c.new-order.ensures.items in
-    record { can = rw e (λ _. c.in_ok-walk.ensures.can_go); nodes = rw n }
+loop-commit-init c = record { can = rw c.into_iter-commit-iterator.ensures.into_iter_gives (λ _. c.in_ok-walk.ensures.can_go); nodes = rw c.new-order.ensures.items }
 
 pub returns-clause-order : goal.returns-clause-order
 returns-clause-order c =
@@ -32,9 +24,7 @@ returns-clause-order c =
     let k = p.2 (walk_of commits) (items_of commits)
     (commits_shown commits _ _ _ _ (λ x i h. search (rules, h.says.met, h.shows)) (λ a r f h. (search (rules, of_calls, h), search (rules, of_calls, h), search (rules, of_calls, h))))
     (rw given (known_are_nodes commits ids)) in
-    let it = c.into_iter-commit-iterator.ensures.into_iter_gives in
-    let nodes = c.loop-commit.invariant.nodes in
-    let run = rw (it, nodes) at c.loop-commit.yielded_by in
+    let run = rw (c.into_iter-commit-iterator.ensures.into_iter_gives, c.loop-commit.invariant.nodes) at c.loop-commit.yielded_by in
     let all = IsChildFirst-from_drains _ _ _ _ _ _ _ _ (walk_of commits) (items_of commits) _ _ c.loop-commit.order.items c.in_ok-walk.walk c.in_ok-walk.ensures.has_ended k (c.next.new.self, (c.loop-commit.commit-iterator, run, c.in-None.ensures.steps)) in
     child_first_ids commits (known_ids commits ids) (known_are_nodes commits ids) c.loop-commit.order.items (rw given at all.0))
     (λ (xs, error, begins, fails). absurd (never_fails commits ids starts (map (λ x. Ok x) xs) error c.sound_commits.ensures.commits c.sound_commits.ensures.ids begins))
@@ -51,9 +41,7 @@ returns-in-Err-clause-cycle c =
     let k = p.2 (walk_of commits) (items_of commits)
     (commits_shown commits _ _ _ _ (λ x i h. search (rules, h.says.met, h.shows)) (λ a r f h. (search (rules, of_calls, h), search (rules, of_calls, h), search (rules, of_calls, h))))
     (rw given (known_are_nodes commits ids)) in
-    let it = c.into_iter-commit-iterator.ensures.into_iter_gives in
-    let nodes = c.loop-commit.invariant.nodes in
-    let run = rw (it, nodes) at c.loop-commit.yielded_by in
+    let run = rw (c.into_iter-commit-iterator.ensures.into_iter_gives, c.loop-commit.invariant.nodes) at c.loop-commit.yielded_by in
     let step = rw c.in-Err.is at c.in-Some.ensures.steps in
     let all = IsCause-from_yields _ _ _ _ _ _ _ _ (walk_of commits) (items_of commits) _ _ c.loop-commit.order.items c.in-Err.refused c.in_ok-walk.walk c.loop-commit.commit-iterator c.next.new.self c.in_ok-walk.ensures.has_ended k run step in
     node_weaker c.in-Err.refused _ _ (λ error q. ⊎_elim (λ failure. absurd (no_failure commits failure.0 failure.1 failure.3)) (λ (x, after, called, reached, cycle). rw given at cycle) q) all)

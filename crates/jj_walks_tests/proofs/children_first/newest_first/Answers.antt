@@ -1,20 +1,16 @@
-use Rattle.std.proofs.Common.{rules, of_calls, ◌≡◌, ℕ, List, refl, sym, ◌∙◌, ap, subst, map, Ok, Err, ⊎_elim}
-use Rattle.std.proofs.lemmas.Fn.{always_returns_same}
+use Rattle.std.proofs.Common.{rules, of_calls, ◌≡◌, ◌∙◌, ap, map, Ok, ⊎_elim}
 use Rattle.std.proofs.lemmas.Result.{IfOk-weaker, IfErr-weaker}
 use Rattle.jj_walks.proofs.Errors.{node_weaker}
-use Rattle.jj_walks_tests.specs.Commits.{known_ids, parent_graph}
-use Rattle.jj_walks_tests.proofs.Numbering.{walk_of, walk_closed, items_of, items_sound, node_stands}
+use Rattle.jj_walks.proofs.Owing.{can_show}
+use Rattle.jj_walks_tests.specs.Commits.{known_ids}
+use Rattle.jj_walks_tests.proofs.Numbering.{walk_of, walk_closed, items_of}
 use Rattle.jj_walks_tests.proofs.Sound.{commits_drained, shown_are, never_fails, commits_shown, known_starts, known_are_nodes, no_failure}
 use Rattle.jj_walks.proofs.Renumbered.{renumbered_shows, renumbered_nodes}
 use Rattle.jj_walks_tests.proofs.Newest.{back, commits_compare, free, newest_ids, ranked_items, ranked_walk, ranks_are, to, undo, unused}
 use Rattle.jj_walks_tests.proofs.children_first.newest_first.Goals as goal
 
 pub topo_order_reverse_ord-requires-clause-graph : goal.topo_order_reverse_ord-requires-clause-graph
-topo_order_reverse_ord-requires-clause-graph c = record {
-  id_fn = search rules;
-  neighbors_fn = search (rules, of_calls);
-  lists = always_returns_same _ _ _ (λ a r f h. (λ it b. (search rules, search rules), search (rules, of_calls, h)));
-}
+topo_order_reverse_ord-requires-clause-graph c = can_show (search rules) (search (rules, of_calls)) (λ a r f h. (λ it b. (search rules, search rules), search (rules, of_calls, h)))
 
 pub returns-clause-order : goal.returns-clause-order
 returns-clause-order c =

@@ -1,21 +1,17 @@
-use Rattle.std.proofs.Common.{rules, of_calls, ◌≡◌, ℕ, List, refl, sym, ◌∙◌, ap, subst, map}
-use Rattle.std.proofs.lemmas.Fn.{always_returns_same}
+use Rattle.std.proofs.Common.{rules, of_calls, ◌≡◌}
 use Rattle.std.proofs.lemmas.Iterator.{YieldsList-from_slice}
 use Rattle.std.proofs.lemmas.Result.{IfOk-weaker, IfErr-weaker}
 use denote.Param.Always.{mut_total}
 use Rattle.jj_walks.proofs.Walking.{drained_are}
 use Rattle.jj_walks.proofs.Errors.{node_weaker}
+use Rattle.jj_walks.proofs.Owing.{may_show}
 use Rattle.jj_walks_tests.specs.Gaps.{IsGapIn}
-use Rattle.jj_walks_tests.proofs.Numbering.{walk_starts, walk_stands, starts_are_nodes, node_stands}
-use Rattle.jj_walks_tests.proofs.Gaps.{walk_whole, whole_items, whole_sound, whole_closed, whole_answers, whole_maximal, gap_found}
+use Rattle.jj_walks_tests.proofs.Numbering.{walk_starts, walk_stands, starts_are_nodes}
+use Rattle.jj_walks_tests.proofs.Gaps.{walk_whole, whole_items, whole_shown, whole_maximal, gap_found}
 use Rattle.jj_walks_tests.proofs.failing_callers.whole_tips.Goals as goal
 
 pub heads-requires-clause-graph : goal.heads-requires-clause-graph
-heads-requires-clause-graph c = record {
-  id_fn = search rules;
-  neighbors_fn = mut_total _ _ (λ s a. search rules);
-  lists = always_returns_same _ _ _ (λ a r f h. (first_of (search rules, search (rules, of_calls, h)), search (rules, of_calls, h)));
-}
+heads-requires-clause-graph c = may_show (search rules) (mut_total _ _ (λ s a. search rules)) (λ a r f h. (first_of (search rules, search (rules, of_calls, h)), search (rules, of_calls, h)))
 
 pub returns-clause-tips : goal.returns-clause-tips
 returns-clause-tips c =
@@ -23,16 +19,8 @@ returns-clause-tips c =
     IfOk-weaker c.heads.result _ _ (λ found p.
     let starts = walk_starts commits c.requires.once p.0 (drained_are (λ s r. r ≡ s) _ c.iter.result p.0 (λ y. y.now) commits (λ it b. YieldsList-from_slice _ (search (rules, c.iter.ensures, b))) p.1) in
     let k = p.2 (walk_whole commits) (whole_items commits)
-    (record {
-      sound_graph = whole_sound commits;
-      closed = whole_closed commits;
-      apart = λ i j a b. refl;
-      ids_stand = λ x i is h. let e : i ≡ x.now.id = search (rules, h.says.met, h.shows) in e ∙ node_stands commits x is;
-      neighbors = always_returns_same _ _ _ (λ a r f h. (
-        λ here. whole_answers commits a.0.now r here (search (rules, of_calls, h)) (search (rules, of_calls, h)) (search (rules, of_calls, h)),
-        search (rules, of_calls, h),
-      ));
-    })
+    (whole_shown commits _ _ _ _ (λ x i h. search (rules, h.says.met, h.shows))
+    (λ a r f h. (search (rules, of_calls, h), search (rules, of_calls, h), search (rules, of_calls, h), search (rules, of_calls, h))))
     (rw starts (starts_are_nodes commits c.requires.once)) (rw starts c.requires.acyclic) (walk_stands commits) in
     whole_maximal commits c.requires.once found.keys (rw starts at k)) c.heads.ensures.heads
 
@@ -42,15 +30,7 @@ returns-clause-gap c =
     IfErr-weaker c.heads.result _ _ (λ refused. node_weaker refused _ (IsGapIn commits) (λ gap p.
     let starts = walk_starts commits c.requires.once p.0 (drained_are (λ s r. r ≡ s) _ c.iter.result p.0 (λ y. y.now) commits (λ it b. YieldsList-from_slice _ (search (rules, c.iter.ensures, b))) p.1) in
     let k = p.2 (walk_whole commits) (whole_items commits)
-    (record {
-      sound_graph = whole_sound commits;
-      closed = whole_closed commits;
-      apart = λ i j a b. refl;
-      ids_stand = λ x i is h. let e : i ≡ x.now.id = search (rules, h.says.met, h.shows) in e ∙ node_stands commits x is;
-      neighbors = always_returns_same _ _ _ (λ a r f h. (
-        λ here. whole_answers commits a.0.now r here (search (rules, of_calls, h)) (search (rules, of_calls, h)) (search (rules, of_calls, h)),
-        search (rules, of_calls, h),
-      ));
-    })
+    (whole_shown commits _ _ _ _ (λ x i h. search (rules, h.says.met, h.shows))
+    (λ a r f h. (search (rules, of_calls, h), search (rules, of_calls, h), search (rules, of_calls, h), search (rules, of_calls, h))))
     (rw starts (starts_are_nodes commits c.requires.once)) in
     gap_found commits k.0 k.1 gap k.3 k.4)) c.heads.ensures.refused

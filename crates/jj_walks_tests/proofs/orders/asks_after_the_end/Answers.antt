@@ -1,10 +1,6 @@
 use Rattle.std.proofs.Common.{rules, of_calls}
-use Rattle.std.proofs.lemmas.Fn.{always_returns_same}
+use Rattle.jj_walks.proofs.Owing.{can_show}
 use Rattle.jj_walks_tests.proofs.orders.asks_after_the_end.Goals as goal
 
 pub dfs-requires-clause-graph : goal.dfs-requires-clause-graph
-dfs-requires-clause-graph g c = record {
-  id_fn = search rules;
-  neighbors_fn = search (rules, of_calls);
-  lists = always_returns_same _ _ _ (λ a r f h. (λ it b. (search rules, search rules), search (rules, of_calls, h)));
-}
+dfs-requires-clause-graph g c = can_show (search rules) (search (rules, of_calls)) (λ a r f h. (λ it b. (search rules, search rules), search (rules, of_calls, h)))

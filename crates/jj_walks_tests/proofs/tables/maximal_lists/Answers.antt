@@ -1,12 +1,6 @@
-use Rattle.std.proofs.Common.{rules, of_calls, Ok, Err, Result}
-use Rattle.std.specs.Prelude.{IfOk}
-use Rattle.std.proofs.lemmas.Fn.{always_returns_same}
-use Rattle.std.specs.Iterator.{IsFiniteIterable}
+use Rattle.std.proofs.Common.{rules, of_calls}
+use Rattle.jj_walks.proofs.Owing.{may_show}
 use Rattle.jj_walks_tests.proofs.tables.maximal_lists.Goals as goal
 
 pub heads-requires-clause-graph : goal.heads-requires-clause-graph
-heads-requires-clause-graph c = record {
-  id_fn = search rules;
-  neighbors_fn = search (rules, of_calls);
-  lists = always_returns_same _ _ _ (λ a r f h. (first_of (search rules, search (rules, of_calls, h)), search (rules, of_calls, h)));
-}
+heads-requires-clause-graph c = may_show (search rules) (search (rules, of_calls)) (λ a r f h. (first_of (search rules, search (rules, of_calls, h)), search (rules, of_calls, h)))

@@ -1,15 +1,8 @@
 use Rattle.std.proofs.Common.{rules, of_calls}
-use Rattle.std.proofs.lemmas.Fn.{always_returns_same}
+use Rattle.jj_walks.proofs.Owing.{can_be_ordered, can_show}
 use Rattle.jj_walks_tests.proofs.texts.order_by_one_id.Goals as goal
 
 pub topo_order_forward-requires : goal.topo_order_forward-requires
-topo_order_forward-requires c = record {
-  graph = record {
-    id_fn = search rules;
-    neighbors_fn = search (rules, of_calls);
-    lists = always_returns_same _ _ _ (λ a r f h. (λ it b. (search rules, search rules), search (rules, of_calls, h)));
-  };
-  cycle_fn = search rules;
-  start = search rules;
-  clones = search rules;
-}
+topo_order_forward-requires c = can_be_ordered
+    (can_show (search rules) (search (rules, of_calls)) (λ a r f h. (λ it b. (search rules, search rules), search (rules, of_calls, h))))
+    (search rules) (search rules) (search rules)

@@ -1,10 +1,6 @@
 use Rattle.std.proofs.Common.{rules, of_calls}
-use Rattle.std.proofs.lemmas.Fn.{always_returns_same}
+use Rattle.jj_walks.proofs.Owing.{can_show}
 use Rattle.jj_walks_tests.proofs.topo_order_reverse_ord_tests.greatest.Goals as goal
 
 pub topo_order_reverse_ord-requires-clause-graph : goal.topo_order_reverse_ord-requires-clause-graph
-topo_order_reverse_ord-requires-clause-graph c = record {
-  id_fn = search rules;
-  neighbors_fn = search (rules, of_calls);
-  lists = always_returns_same _ _ _ (λ a r f h. (λ it b. (search rules, search rules), search (rules, of_calls, h)));
-}
+topo_order_reverse_ord-requires-clause-graph c = can_show (search rules) (search (rules, of_calls)) (λ a r f h. (λ it b. (search rules, search rules), search (rules, of_calls, h)))

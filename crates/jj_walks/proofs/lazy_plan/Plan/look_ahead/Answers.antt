@@ -21,7 +21,7 @@ returns-in-Some-clause-cause g c =
     λ w items on_cycle starts given k.
     let nodes = left_nodes g.F.Fn g.N.FnMut g.ID.PartialEq.eq g.NI.IntoIterator.into_iter_gives g.NI.IntoIter.Iterator.next_gives w items on_cycle starts given s s k c.requires.failed in
     let reached = left_reached g.F.Fn g.N.FnMut g.ID.PartialEq.eq g.NI.IntoIterator.into_iter_gives g.NI.IntoIter.Iterator.next_gives w items on_cycle starts given s s k c.requires.failed in
-    let stuck = rw (c.in-Some.is, taken) at (c.in-Ok.ensures.chunk w items k.shown (rw taken nodes)).1 in
+    let stuck = rw (c.in-Some.is, taken) at (c.in-Ok.ensures.chunk w items k.shown (rw taken nodes)) in
     let whole = cycle_through w.graph starts (map w.node s.start.items) reached (w.node c.in-Some.node) stuck in
     inr (c.in-Some.node, c.cycle_fn.new.self, subst (λ f. Called g.C.FnMut f (c.in-Some.node, tt) c.cycle_fn.result c.cycle_fn.new.self) k.cycle_fn c.cycle_fn.ensures, whole.0, whole.1)
 
@@ -32,9 +32,8 @@ returns-in-None-clause-plan g c =
     let turned : c.reverse.new.self.items ≡ reverse c.in-Ok.chunk.nodes.items = c.reverse.ensures.items in
     λ w items on_cycle starts given k.
     let nodes = left_nodes g.F.Fn g.N.FnMut g.ID.PartialEq.eq g.NI.IntoIterator.into_iter_gives g.NI.IntoIter.Iterator.next_gives w items on_cycle starts given s s k c.requires.failed in
-    let found = c.in-Ok.ensures.chunk w items k.shown (rw taken nodes) in
-    let chunk = rw (c.in-None.is, taken) at found.1 in (
+    let chunk = rw (c.in-None.is, taken) at (c.in-Ok.ensures.chunk w items k.shown (rw taken nodes)) in (
       plan_more g.F.Fn g.N.FnMut g.ID.PartialEq.eq g.NI.IntoIterator.into_iter_gives g.NI.IntoIter.Iterator.next_gives w items on_cycle starts given s _ c.in-Ok.chunk.nodes.items c.in-Ok.chunk.left.items
-          k c.requires.ready c.requires.failed (rw c.chunk.ensures.id_fn found.0) refl refl (ap reverse turned ∙ reverse-reverse c.in-Ok.chunk.nodes.items) refl c.requires.failed chunk.1 chunk.2,
+          k c.requires.ready c.requires.failed (rw c.chunk.ensures.graph.id_fn (c.chunk.ensures.graph.shown w items k.shown)) refl refl (ap reverse turned ∙ reverse-reverse c.in-Ok.chunk.nodes.items) refl c.requires.failed chunk.1 chunk.2,
       λ none. absurd (chunk_some w.node s.start.items c.in-Ok.chunk.nodes.items c.reverse.new.self.items c.requires.start chunk.1.has_starts turned none),
     )

@@ -1,0 +1,29 @@
+-- What callers owe to a walk whose closure of neighbours stays as it is from call to call.
+use Rattle.std.proofs.Common.{◌≡◌, Bool, Result}
+use Rattle.std.specs.Prelude.{IfOk}
+use Rattle.std.specs.Fn.{Called, Mut, Once, Shared}
+use Rattle.std.specs.declared.iter.IntoIterator as into
+use Rattle.std.specs.declared.iter.Iterator as iter
+use Rattle.std.proofs.lemmas.Fn.{always_returns_same}
+use denote.Ref.{Bor}
+use denote.Param.Always.{always_fn, always_mut, always_once}
+use Rattle.jj_walks.specs.Outcomes.{ClonesAreEqual, Ends}
+use Rattle.jj_walks.specs.Owed.{CanBeOrdered, CanShow, MayShow}
+
+module _ {T ID F N U X J : Type 0} {ids : Shared F (Bor T × Unit {0}) ID} {lists_of : Mut N (Bor T × Unit {0}) U}
+    {value : into.Ghosts U X J} {items : iter.Ghosts J X} {id_of : F} {neighbors_of : N} where
+  pub can_show : always_fn ids id_of → always_mut lists_of neighbors_of
+      → ((a : Bor T × Unit {0}) (r : U) (f : N) → Called lists_of neighbors_of a r f → Ends value items r × (f ≡ neighbors_of))
+      → CanShow ids lists_of value items id_of neighbors_of
+  can_show id_fn neighbors_fn ends = record { id_fn = id_fn; neighbors_fn = neighbors_fn; lists = always_returns_same _ _ _ ends }
+
+  pub can_be_ordered : {C E II I : Type 0} {cycles : Once C (T × Unit {0}) E} {starts : into.Ghosts II X I} {start_items : iter.Ghosts I X} {clone : ID → ID → Type 0} {eq : ID → ID → Bool}
+      {cycle_of : C} {from : II} → CanShow ids lists_of value items id_of neighbors_of → always_once cycles cycle_of → Ends starts start_items from → ClonesAreEqual clone eq
+      → CanBeOrdered ids lists_of cycles starts start_items value items clone eq id_of neighbors_of cycle_of from
+  can_be_ordered graph cycle_fn start clones = record { graph = graph; cycle_fn = cycle_fn; start = start; clones = clones }
+
+pub may_show : {T ID E F N U J : Type 0} {ids : Shared F (Bor T × Unit {0}) ID} {lists_of : Mut N (Bor T × Unit {0}) (Result U E)} {value : into.Ghosts U T J} {items : iter.Ghosts J T}
+    {id_of : F} {neighbors_of : N} → always_fn ids id_of → always_mut lists_of neighbors_of
+    → ((a : Bor T × Unit {0}) (r : Result U E) (f : N) → Called lists_of neighbors_of a r f → IfOk r (Ends value items) × (f ≡ neighbors_of))
+    → MayShow ids lists_of value items id_of neighbors_of
+may_show id_fn neighbors_fn ends = record { id_fn = id_fn; neighbors_fn = neighbors_fn; lists = always_returns_same _ _ _ ends }

@@ -1,0 +1,30 @@
+use Rattle.std.proofs.Common.{rules, ◌≡◌, ◌++◌, ◌∷◌, [], Ok, Err, map, refl, sym, ◌∙◌, ap}
+use Rattle.jj_walks.proofs.FailingOrders.{ok-push, Yields-push}
+use Rattle.jj_walks.proofs.sound_nodes.sound_nodes.Goals as goal
+
+pub loop-item-init : goal.loop-item-init
+loop-item-init g c =
+    let ends = c.requires c.into_iter-item-iterator.result c.into_iter-item-iterator.ensures.into_iter_gives in
+    record { can = ends.0; finite = ends.1; sound = rw c.new-nodes.ensures.items refl }
+
+pub loop-item-preserved : goal.loop-item-preserved
+loop-item-preserved g c =
+    let is : c.in-Some.item ≡ Ok c.in-Ok.node = c.in-Ok.is in
+    record {
+      can = search rules;
+      finite = search rules;
+      sound = ap (λ x. c.loop-item.yielded ++ x ∷ []) is ∙ ok-push c.loop-item.yielded c.loop-item.nodes.items c.in-Ok.node c.loop-item.invariant.sound
+          ∙ ap (map (λ x. Ok x)) (sym c.in_ok-push-in-Ok.ensures.items);
+    }
+
+pub returns-in-Err-clause-failed : goal.returns-in-Err-clause-failed
+returns-in-Err-clause-failed g c =
+    let is : c.in-Some.item ≡ Err c.in-Err.error = c.in-Err.is in
+    let all : c.loop-item.yielded ++ c.in-Some.item ∷ [] ≡ map (λ x. Ok x) c.loop-item.nodes.items ++ Err c.in-Err.error ∷ [] =
+    ap (λ x. c.loop-item.yielded ++ x ∷ []) is ∙ ap (λ l. l ++ Err c.in-Err.error ∷ []) c.loop-item.invariant.sound in
+    let run = Yields-push g.L.IntoIter.Iterator.next_gives c.loop-item.yielded c.in-Some.item c.into_iter-item-iterator.result c.loop-item.item-iterator c.next.new.self c.loop-item.yielded_by c.in-Some.ensures.steps in
+    (c.loop-item.nodes.items, (c.into_iter-item-iterator.result, c.into_iter-item-iterator.ensures.into_iter_gives, (c.next.new.self, rw all at run)))
+
+pub returns-clause-nodes : goal.returns-clause-nodes
+returns-clause-nodes g c =
+    rw (← c.loop-item.invariant.sound) (c.into_iter-item-iterator.result, c.into_iter-item-iterator.ensures.into_iter_gives, (c.next.new.self, (c.loop-item.item-iterator, c.loop-item.yielded_by, c.in-None.ensures.steps)))
