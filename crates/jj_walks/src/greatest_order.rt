@@ -105,11 +105,13 @@ impl<T: Drop, ID: Hash + Eq + Drop> Collected<T, ID> {
 
     /// Puts a node behind the others.
     pub fn keep(&mut self, node: T, id: ID, neighbor_ids: Vec<ID>) -> Result<(), AllocError>
-        ensures nodes { OnOk result (self.new.nodes.items ≡ self.old.nodes.items ++ Some node ∷ []) }
+        ensures nodes { OnOk result (self.new.nodes.items
+            ≡ self.old.nodes.items ++ Some node ∷ []) }
         ensures ids { OnOk result (self.new.neighbor_ids.items
             ≡ self.old.neighbor_ids.items ++ neighbor_ids ∷ []) }
         ensures places { OnOk result ((i : ID) → get ID.eq self.new.index_of i
-            ≡ cond (ID.eq id i) (Some (length self.old.nodes.items)) (get ID.eq self.old.index_of i)) }
+            ≡ cond (ID.eq id i) (Some (length self.old.nodes.items))
+            (get ID.eq self.old.index_of i)) }
     {
         self.index_of.insert(id, self.nodes.len())?;
         self.nodes.push(Some(node))?;

@@ -67,7 +67,8 @@ where
     /// Gives the branch that leads to this id first, or after those that were prioritised before.
     pub fn prioritize_branch(&mut self, id: ID) -> Result<(), AllocError>
         requires clones { (i j : ID) → ID.is_clone i j → IsTrue (ID.eq i j) }
-        ensures prioritized { OnOk result (Adds ID.eq (Prioritized id) self.old.held self.new.held) }
+        ensures prioritized { OnOk result (Adds ID.eq (Prioritized id) self.old.held
+            self.new.held) }
         ensures refused { OnErr result (KeepsOn ID.eq self.old.held self.new.held) }
         ensures input { self.new.input ≡ self.old.input }
         ensures as_id { self.new.as_id ≡ self.old.as_id }

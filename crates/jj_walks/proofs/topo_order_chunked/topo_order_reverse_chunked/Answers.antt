@@ -1,4 +1,4 @@
-use Rattle.std.proofs.Common.{rules, arith, ◌≡◌, ◌≤◌, ◌++◌, ◌∷◌, [], ◌+◌, refl, sym, ◌∙◌, true, ap, map, length, inl, inr}
+use Rattle.std.proofs.Common.{rules, arith, ◌≡◌, ◌≤◌, ◌++◌, ◌∷◌, [], refl, sym, ◌∙◌, true, ap, map, length, inl, inr}
 use Rattle.std.proofs.lemmas.Grind.{common_steps}
 use Rattle.std.proofs.lemmas.List.{length-map}
 use Rattle.jj_walks.proofs.Chunks.{none_next, one_next, many_next}

@@ -1,4 +1,4 @@
-use Rattle.std.proofs.Common.{rules, arith, ◌≡◌, ◌≤◌, ◌+◌, ◌++◌, [], ◌∷◌, true, None, length, sym, ◌∙◌, ap, refl}
+use Rattle.std.proofs.Common.{rules, arith, ◌≡◌, ◌≤◌, ◌++◌, [], ◌∷◌, true, None, length, sym, ◌∙◌, ap, refl}
 use Rattle.std.proofs.lemmas.Grind.{common_steps}
 use Rattle.jj_walks.proofs.LazyPlans.{left_nodes, plan_same, plan_one, plan_failed, ok_weaker}
 use Rattle.jj_walks.proofs.Plain.{lone}
