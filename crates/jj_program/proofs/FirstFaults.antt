@@ -1,37 +1,27 @@
 -- A line's fault is that of the first faulty line.
 use Rattle.std.proofs.Common.{◌≡◌, ◌∙◌, ℕ, ◌+◌, ◌-◌, ◌<◌, ◌≤◌, zero, suc, Bool, true, false, List, [], ◌∷◌, length, take, drop, Result, Ok, Err, is_ok, refl, ap, sym, subst, arith, true≢false}
 use Rattle.jj_program.specs.declared.fault.Fault.{Fault}
-use Rattle.jj_program.specs.declared.fault.Fault.TheVariants.{ReadInput, NotUtf8, Memory, WriteOutput, Matchers, Line}
+use Rattle.jj_program.specs.declared.fault.Fault.TheVariants.{Memory, Line}
 use Rattle.jj_program.specs.declared.fault.LineFault.{LineFault}
-use Rattle.jj_program.specs.declared.program.Command.{Command}
 use Rattle.jj_program.specs.declared.program.Command.TheVariants.{Walk, Merge, Graph, Hash}
-use Rattle.jj_program.specs.FirstFaults.{BeginAlike, IsFirstFault, GivesFirstFault}
+use Rattle.jj_program.specs.FirstFaults.{BeginAlike, GivesFirstFault}
 use Rattle.jj_program.specs.GraphCommand.{graph_step, graph_start}
 use Rattle.jj_program.specs.HashCommand.{hash_step}
 use Rattle.jj_program.specs.Lines.{lines_of, fields_of, at_line, after_line, after_lines, result_and_then}
 use Rattle.jj_program.specs.MergeCommand.{merge_step}
-use Rattle.jj_program.specs.Program.{GivesText}
 use Rattle.jj_program.specs.SetTrees.{SetTree}
 use Rattle.jj_paths.specs.Paths.{Path}
-use Rattle.jj_program.specs.WalkCommand.{WalkState, WalkRequest, NamedSet, walk_step, walk_start, walk_end, only_set}
+use Rattle.jj_program.specs.WalkCommand.{WalkState, NamedSet, walk_step, walk_start, walk_end, only_set}
 
 -- 1. What tells faults apart.
 
 abbrev names_line : Fault → Bool
-names_line ReadInput = false
-names_line NotUtf8 = false
-names_line Memory = false
-names_line WriteOutput = false
-names_line (Matchers count) = false
 names_line (Line number kind) = true
+names_line other = false
 
 abbrev line_named : Fault → ℕ
-line_named ReadInput = 0
-line_named NotUtf8 = 0
-line_named Memory = 0
-line_named WriteOutput = 0
-line_named (Matchers count) = 0
 line_named (Line number kind) = number
+line_named other = 0
 
 abbrev fault_or : {S : Type 0} → Fault → Result S Fault → Fault
 fault_or fault (Ok state) = fault

@@ -1,6 +1,6 @@
 pub mod Steps
 pub mod Requests
-pub mod Fields
+pub mod FieldValues
 pub mod DecidedTerms
 pub mod TextMerges
 pub mod PairCounts

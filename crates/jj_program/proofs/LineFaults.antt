@@ -1,5 +1,5 @@
 -- A command's fault is the first kind of the first line that has one.
-use Rattle.std.proofs.Common.{◌≡◌, ◌≢◌, ◌∙◌, ◌==◌, ◌&&◌, ◌||◌, ℕ, ◌+◌, ◌-◌, ◌%◌, ◌^◌, ◌<◌, ◌≤◌, Bool, true, false, not, cond, nat_lt, map, List, [], ◌∷◌, ◌++◌, length, codes, Option, Some, None, is_some, Result, Ok, Err, is_ok, refl, ap, sym, subst, arith, rules, true≢false, append_assoc, append-nil}
+use Rattle.std.proofs.Common.{◌≡◌, ◌∙◌, ◌==◌, ◌&&◌, ◌||◌, ℕ, ◌+◌, ◌%◌, ◌^◌, ◌≤◌, Bool, true, false, cond, nat_lt, map, List, [], ◌∷◌, ◌++◌, length, codes, Option, Some, None, is_some, Result, Ok, Err, refl, ap, sym, subst, arith, append_assoc, append-nil}
 use Rattle.std.specs.List.{after_first, before_first, count_by, list_all, list_any}
 use Rattle.std.specs.Option.{option_map, option_or}
 use Rattle.std.specs.Fmt.{decimal}
@@ -12,7 +12,7 @@ use Rattle.std.proofs.lemmas.Slice.Eq.{bytes_eq-Decides}
 use Rattle.jj_program.specs.declared.fault.Fault.{Fault}
 use Rattle.jj_program.specs.declared.fault.Fault.TheVariants.{ReadInput, NotUtf8, Memory, WriteOutput, Matchers, Line}
 use Rattle.jj_program.specs.declared.fault.LineFault.{LineFault}
-use Rattle.jj_program.specs.declared.fault.LineFault.TheVariants.{UnknownCommand, BadFieldCount, BadPath, BadGlob, EmptyStack, BadNumber, RepeatedNode, BadHex}
+use Rattle.jj_program.specs.declared.fault.LineFault.TheVariants.{UnknownCommand}
 use Rattle.jj_program.specs.declared.file_set.Combination.{Combination}
 use Rattle.jj_program.specs.declared.file_set.Combination.TheVariants.{Union, Difference, Intersection}
 use Rattle.jj_program.specs.declared.merge_command.Question.{Question}
@@ -24,20 +24,19 @@ use Rattle.jj_program.specs.declared.program.Command.TheVariants.{Walk, Merge, G
 use Rattle.jj_paths.specs.Paths.{Path, is_path_text}
 use Rattle.jj_program.specs.FieldPairs.{is_paired, firsts, seconds}
 use Rattle.jj_program.specs.GraphCommand.{GraphRequest, GraphState, graph_start, graph_step, graph_state, node_step, common_step, with_request, numbers_of, is_dash, Order, Heads}
-use Rattle.jj_program.specs.HashCommand.{bytes_of_hex, hash_step, hash_output, with_digest, raw_bytes, content_of_one, content_of_merge}
-use Rattle.jj_program.specs.LineFaults.{LineForm, one_path, any_paths, dirs_and_globs, set_alone, two_sets, node_line, any_numbers, two_lists, odd_texts, one_hex, one_text, any_texts, unknown, walk_form, graph_form, merge_form, hash_form, form_of_fields, form_of_line, first_kind, kind_of_fields, kind_of_line, first_fault, pushes, combines, sets_left, lists_node, is_listed, LeavesOneSet, IsToldBy, AnswersFirstFault}
-use Rattle.jj_program.specs.Lines.{lines_of, fields_of, at_line, after_line, after_lines, result_and_then}
+use Rattle.jj_program.specs.HashCommand.{bytes_of_hex, hash_step, hash_output, digest_of, with_digest, raw_bytes, content_of_one, content_of_merge}
+use Rattle.jj_program.specs.LineFaults.{LineForm, one_path, any_paths, dirs_and_globs, set_alone, two_sets, node_line, any_numbers, two_lists, odd_texts, one_hex, one_text, any_texts, unknown, walk_form, graph_form, form_of_fields, form_of_line, first_kind, kind_of_fields, first_fault, pushes, combines, sets_left, lists_node, LeavesOneSet, IsToldBy, AnswersFirstFault}
+use Rattle.jj_program.specs.Lines.{lines_of, fields_of, at_line, after_lines, result_and_then}
 use Rattle.jj_program.specs.MergeCommand.{MergeRequest, merge_step, merge_requests, request_step}
 use Rattle.jj_program.specs.Numbers.{is_number}
-use Rattle.jj_program.specs.Program.{GivesText}
 use Rattle.jj_program.specs.SetTrees.{SetTree}
-use Rattle.jj_program.specs.WalkCommand.{NamedSet, WalkState, WalkRequest, Everything, Nothing, Files, Prefix, walk_start, walk_step, walk_end, walk_request, only_set, mark_step, pushed_alone, pushed_paths, paths_of, globs_step, combined_step, is_glob_text}
+use Rattle.jj_program.specs.WalkCommand.{NamedSet, WalkState, Everything, Nothing, Files, Prefix, walk_start, walk_step, walk_end, walk_request, only_set, mark_step, pushed_alone, pushed_paths, paths_of, globs_step, combined_step, is_glob_text}
 
 -- 1. A step's answer, and the kind of fault that the line is said to have.
 
-abbrev Agrees : {S : Type 0} → Result S LineFault → Option LineFault → Type 0
-Agrees (Ok state) kind = kind ≡ None
-Agrees (Err own) kind = kind ≡ Some own
+abbrev HasKind : {S : Type 0} → Result S LineFault → Option LineFault → Type 0
+HasKind (Ok state) kind = kind ≡ None
+HasKind (Err own) kind = kind ≡ Some own
 
 -- what is known of the state after a step that had no fault
 abbrev After : {S : Type 0} → Result S LineFault → (S → Type 0) → Type 0
@@ -59,9 +58,9 @@ Told P (Err (Line line kind)) found = found ≡ Some (Line line kind)
 module _ {S : Type 0} (command : Command) (step : S → List (List ℕ) → Result S LineFault) (Keeps : List (List ℕ) → S → Type 0)
     (skips : (earlier : List (List ℕ)) (state : S) → Keeps earlier state → Keeps (earlier ++ [] ∷ []) state)
     (steps : (earlier : List (List ℕ)) (state : S) (line : List ℕ) → Keeps earlier state
-    → Agrees (step state (fields_of line)) (kind_of_fields command earlier (fields_of line)) × After (step state (fields_of line)) (Keeps (earlier ++ line ∷ []))) where
+    → HasKind (step state (fields_of line)) (kind_of_fields command earlier (fields_of line)) × After (step state (fields_of line)) (Keeps (earlier ++ line ∷ []))) where
   -- the first line's answer, and then that of the others
-  at_first : (number : ℕ) (earlier lines : List (List ℕ)) (r : Result S LineFault) (kind : Option LineFault) (line : List ℕ) → Agrees r kind → After r (Keeps (earlier ++ line ∷ []))
+  at_first : (number : ℕ) (earlier lines : List (List ℕ)) (r : Result S LineFault) (kind : Option LineFault) (line : List ℕ) → HasKind r kind → After r (Keeps (earlier ++ line ∷ []))
       → ((next : S) → Keeps (earlier ++ line ∷ []) next → Told (Keeps ((earlier ++ line ∷ []) ++ lines)) (after_lines step (number + 1) next lines) (first_fault command (earlier ++ line ∷ []) (number + 1) lines))
       → Told (Keeps ((earlier ++ line ∷ []) ++ lines)) (result_and_then (at_line number r) (λ next. after_lines step (number + 1) next lines))
       (option_or (option_map (Line number) kind) (first_fault command (earlier ++ line ∷ []) (number + 1) lines))
@@ -93,7 +92,7 @@ Grows state form (Ok next) = length next.stack + cond (combines form) 1 0 ≡ le
 Grows state form (Err kind) = Unit {0}
 
 abbrev WalkTells : List (List ℕ) → WalkState → List (List ℕ) → LineForm → Result WalkState LineFault → Type 0
-WalkTells earlier state fields form r = Agrees r (first_kind form earlier fields) × Grows state form r
+WalkTells earlier state fields form r = HasKind r (first_kind form earlier fields) × Grows state form r
 
 not_below_two : (n : ℕ) → 2 ≤ n → nat_lt n 2 ≡ false
 not_below_two n h = le-ltb n 2 h
@@ -178,10 +177,10 @@ higher earlier state line form (Ok next) is high grows =
     omega (arith, ups, downs, up, down, high, grows)
 
 walk_steps : (earlier : List (List ℕ)) (state : WalkState) (line : List ℕ) → IsHigh earlier state
-    → Agrees (walk_step state (fields_of line)) (kind_of_fields Walk earlier (fields_of line)) × After (walk_step state (fields_of line)) (IsHigh (earlier ++ line ∷ []))
+    → HasKind (walk_step state (fields_of line)) (kind_of_fields Walk earlier (fields_of line)) × After (walk_step state (fields_of line)) (IsHigh (earlier ++ line ∷ []))
 walk_steps earlier state line high = by (fields_of line) refl
   where
-    by : (fields : List (List ℕ)) → fields_of line ≡ fields → Agrees (walk_step state fields) (kind_of_fields Walk earlier fields) × After (walk_step state fields) (IsHigh (earlier ++ line ∷ []))
+    by : (fields : List (List ℕ)) → fields_of line ≡ fields → HasKind (walk_step state fields) (kind_of_fields Walk earlier fields) × After (walk_step state fields) (IsHigh (earlier ++ line ∷ []))
     by [] is = (refl, tt)
     by (name ∷ fields) is =
         let height : sets_left earlier ≡ length state.stack = omega (arith, high) in
@@ -239,7 +238,7 @@ Lists state is_node fields (Ok next) = (id : List ℕ) → is_number id ≡ true
 Lists state is_node fields (Err kind) = Unit {0}
 
 abbrev GraphTells : List (List ℕ) → GraphState → Bool → List (List ℕ) → LineForm → Result GraphState LineFault → Type 0
-GraphTells earlier state is_node fields form r = Agrees r (first_kind form earlier fields) × Lists state is_node fields r
+GraphTells earlier state is_node fields form r = HasKind r (first_kind form earlier fields) × Lists state is_node fields r
 
 or_false : (b : Bool) → b ≡ (b || false)
 or_false true = refl
@@ -320,10 +319,10 @@ longer earlier state line name fields (Ok next) is listing lists = λ id number.
     own id (first ∷ others) = or_false _
 
 graph_steps : (earlier : List (List ℕ)) (state : GraphState) (line : List ℕ) → IsListing earlier state
-    → Agrees (graph_step state (fields_of line)) (kind_of_fields Graph earlier (fields_of line)) × After (graph_step state (fields_of line)) (IsListing (earlier ++ line ∷ []))
+    → HasKind (graph_step state (fields_of line)) (kind_of_fields Graph earlier (fields_of line)) × After (graph_step state (fields_of line)) (IsListing (earlier ++ line ∷ []))
 graph_steps earlier state line listing = by (fields_of line) refl
   where
-    by : (fields : List (List ℕ)) → fields_of line ≡ fields → Agrees (graph_step state fields) (kind_of_fields Graph earlier fields) × After (graph_step state fields) (IsListing (earlier ++ line ∷ []))
+    by : (fields : List (List ℕ)) → fields_of line ≡ fields → HasKind (graph_step state fields) (kind_of_fields Graph earlier fields) × After (graph_step state fields) (IsListing (earlier ++ line ∷ []))
     by [] is = (refl, tt)
     by (name ∷ fields) is =
         let tells = graph_names earlier state fields listing name in
@@ -342,47 +341,47 @@ after_any : {S : Type 0} (r : Result S LineFault) → After r (λ state. Unit {0
 after_any (Ok state) = tt
 after_any (Err kind) = tt
 
-merge_agrees : (earlier : List (List ℕ)) (requests : List MergeRequest) (fields : List (List ℕ)) → Agrees (merge_step requests fields) (kind_of_fields Merge earlier fields)
+merge_agrees : (earlier : List (List ℕ)) (requests : List MergeRequest) (fields : List (List ℕ)) → HasKind (merge_step requests fields) (kind_of_fields Merge earlier fields)
 merge_agrees earlier requests [] = refl
 merge_agrees earlier requests (name ∷ terms) = by (bytes_eq name (codes "simplify")) (bytes_eq name (codes "keep")) (bytes_eq name (codes "accept"))
   where
-    asked : (question : Question) → Agrees (request_step requests (Some question) terms) (first_kind odd_texts earlier terms)
+    asked : (question : Question) → HasKind (request_step requests (Some question) terms) (first_kind odd_texts earlier terms)
     asked question = odd (length terms % 2 == 1) refl
       where
-        odd : (b : Bool) → (length terms % 2 == 1) ≡ b → Agrees (request_step requests (Some question) terms) (first_kind odd_texts earlier terms)
+        odd : (b : Bool) → (length terms % 2 == 1) ≡ b → HasKind (request_step requests (Some question) terms) (first_kind odd_texts earlier terms)
         odd true e = rw e refl
         odd false e = rw e refl
 
-    by : (a b c : Bool) → Agrees (request_step requests (cond a (Some Simplify) (cond b (Some (Resolve Keep)) (cond c (Some (Resolve Accept)) None))) terms)
+    by : (a b c : Bool) → HasKind (request_step requests (cond a (Some Simplify) (cond b (Some (Resolve Keep)) (cond c (Some (Resolve Accept)) None))) terms)
         (first_kind (cond a odd_texts (cond b odd_texts (cond c odd_texts unknown))) earlier terms)
     by true b c = asked Simplify
     by false true c = asked (Resolve Keep)
     by false false true = asked (Resolve Accept)
     by false false false = refl
 
-hash_agrees : (earlier : List (List ℕ)) (output : List ℕ) (fields : List (List ℕ)) → Agrees (hash_step output fields) (kind_of_fields Hash earlier fields)
+hash_agrees : (earlier : List (List ℕ)) (output : List ℕ) (fields : List (List ℕ)) → HasKind (hash_step output fields) (kind_of_fields Hash earlier fields)
 hash_agrees earlier output [] = refl
 hash_agrees earlier output (name ∷ fields) = by (bytes_eq name (codes "raw")) (bytes_eq name (codes "text")) (bytes_eq name (codes "list")) (bytes_eq name (codes "merge"))
   where
-    raw : (texts : List (List ℕ)) → Agrees (with_digest output (raw_bytes texts)) (first_kind one_hex earlier texts)
+    raw : (texts : List (List ℕ)) → HasKind (with_digest output (digest_of (raw_bytes texts))) (first_kind one_hex earlier texts)
     raw [] = refl
     raw (text ∷ other ∷ texts) = refl
     raw (text ∷ []) = read (bytes_of_hex text) refl
       where
-        read : (bytes : Option (List ℕ)) → bytes_of_hex text ≡ bytes → Agrees (with_digest output (raw_bytes (text ∷ []))) (first_kind one_hex earlier (text ∷ []))
+        read : (bytes : Option (List ℕ)) → bytes_of_hex text ≡ bytes → HasKind (with_digest output (digest_of (raw_bytes (text ∷ [])))) (first_kind one_hex earlier (text ∷ []))
         read (Some bytes) e = rw e refl
         read None e = rw e refl
 
-    one : (texts : List (List ℕ)) → Agrees (with_digest output (content_of_one texts)) (first_kind one_text earlier texts)
+    one : (texts : List (List ℕ)) → HasKind (with_digest output (digest_of (content_of_one texts))) (first_kind one_text earlier texts)
     one [] = refl
     one (text ∷ []) = refl
     one (text ∷ other ∷ texts) = refl
 
-    odd : (b : Bool) → (length fields % 2 == 1) ≡ b → Agrees (with_digest output (content_of_merge fields)) (first_kind odd_texts earlier fields)
+    odd : (b : Bool) → (length fields % 2 == 1) ≡ b → HasKind (with_digest output (digest_of (content_of_merge fields))) (first_kind odd_texts earlier fields)
     odd true e = rw e refl
     odd false e = rw e refl
 
-    by : (a b c d : Bool) → Agrees (with_digest output (cond a (raw_bytes fields) (cond b (content_of_one fields) (cond c (Ok (list_content text_content fields)) (cond d (content_of_merge fields) (Err UnknownCommand))))))
+    by : (a b c d : Bool) → HasKind (with_digest output (digest_of (cond a (raw_bytes fields) (cond b (content_of_one fields) (cond c (Ok (list_content text_content fields)) (cond d (content_of_merge fields) (Err UnknownCommand)))))))
         (first_kind (cond a one_hex (cond b one_text (cond c any_texts (cond d odd_texts unknown)))) earlier fields)
     by true b c d = raw fields
     by false true c d = one fields

@@ -9,7 +9,7 @@ use Rattle.jj_program.specs.declared.file_set.parts.Part.{Part}
 use Rattle.jj_program.specs.declared.file_set.parts.Part.TheVariants.{Leaf, BeforeSecond, AfterBoth}
 use Rattle.jj_program.specs.SetTrees.{SetTree, one, both, combined_stack, steps_to, steps_to_all}
 use Rattle.jj_program.specs.SetParts.{parts_of, parts_along, sets_of}
-use Rattle.jj_program.specs.SetsRead.{step_of, part_of}
+use Rattle.jj_program.specs.SetViews.{step_of, part_of}
 
 module _ {A : Type 0} where
   along_wanting : (k : Combination) (wanting : List Combination) (set : SetTree A) (rest : List (SetStep A)) →

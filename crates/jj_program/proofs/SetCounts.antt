@@ -8,7 +8,7 @@ use Rattle.jj_program.specs.declared.file_set.FileSet.{FileSet}
 use Rattle.jj_program.specs.declared.file_set.SetStep.{SetStep}
 use Rattle.jj_program.specs.declared.file_set.SetStep.TheVariants.{Push, Combine}
 use Rattle.jj_program.specs.SetTrees.{SetTree, combined_stack, stack_of, steps_to_all}
-use Rattle.jj_program.specs.SetsRead.{has_two, is_whole, sets_by, step_of, steps_back}
+use Rattle.jj_program.specs.SetViews.{has_two, is_whole, sets_by, step_of, steps_back}
 use Rattle.jj_program.specs.WalkCommand.{NamedSet}
 use Rattle.jj_program.proofs.SetBuilds.{whole_joined}
 

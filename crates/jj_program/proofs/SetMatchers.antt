@@ -17,7 +17,7 @@ use Rattle.jj_program.specs.Leaves.{StandsFor, leaf_names}
 use Rattle.jj_program.specs.Matching.{IsTold, StandsForPart, StandForParts, set_accepts, set_answer, made_by, top_set}
 use Rattle.jj_program.specs.SetTrees.{SetTree, one, both, combined_test, combined_answer, combined_names, names_by, passes, steps_to_all}
 use Rattle.jj_program.specs.SetParts.{parts_of, parts_along, pass_at, pass_over}
-use Rattle.jj_program.specs.SetsRead.{are_whole, part_of, sets_by, steps_back}
+use Rattle.jj_program.specs.SetViews.{are_whole, part_of, sets_by, steps_back}
 use Rattle.jj_program.specs.WalkCommand.{NamedSet}
 use Rattle.jj_program.specs.Walked.{accepted_by, answered_by, named_names}
 use Rattle.jj_program.proofs.SetBuilds.{parts_along-map, parts_of_steps, sets_of_parts}

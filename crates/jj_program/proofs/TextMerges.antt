@@ -17,32 +17,33 @@ use Rattle.jj_program.specs.declared.merge_command.Question.TheVariants.{Simplif
 use Rattle.jj_program.specs.Lines.{line_text}
 use Rattle.jj_program.proofs.DecidedTerms.{decided_stands}
 use Rattle.jj_program.specs.MergeCommand.{AnswersQuestion, outcome_line}
-use Rattle.jj_program.specs.TextMerges.{Text, bytes_of, text_eq, IsTextOutcome}
+use Rattle.jj_program.specs.Texts.{Text, texts_of}
+use Rattle.jj_program.specs.TextMerges.{text_eq, IsTextOutcome}
 
 -- a text of these bytes
 abbrev text_of : List ℕ → Text
 text_of bytes = record { ref_ptr = (0, 0); now = bytes }
 
 mutual
-  adds-bytes : (m : List Text) → adds (bytes_of m) ≡ bytes_of (adds m)
+  adds-bytes : (m : List Text) → adds (texts_of m) ≡ texts_of (adds m)
   adds-bytes [] = refl
   adds-bytes (x ∷ xs) = ap (λ l. x.now ∷ l) (removes-bytes xs)
 
-  removes-bytes : (m : List Text) → removes (bytes_of m) ≡ bytes_of (removes m)
+  removes-bytes : (m : List Text) → removes (texts_of m) ≡ texts_of (removes m)
   removes-bytes [] = refl
   removes-bytes (x ∷ xs) = adds-bytes xs
 
-count-bytes : (p : List ℕ → Bool) (xs : List Text) → count_by p (bytes_of xs) ≡ count_by (λ x. p x.now) xs
+count-bytes : (p : List ℕ → Bool) (xs : List Text) → count_by p (texts_of xs) ≡ count_by (λ x. p x.now) xs
 count-bytes p xs = fold-map (λ a x. a + cond (p x) 1 0) (λ (x : Text). x.now) 0 xs
 
-signed-bytes : (m : List Text) (v : Text) → signed_count bytes_eq (bytes_of m) v.now ≡ signed_count text_eq m v
+signed-bytes : (m : List Text) (v : Text) → signed_count bytes_eq (texts_of m) v.now ≡ signed_count text_eq m v
 signed-bytes m v =
     let added = ap (count_by (bytes_eq v.now)) (adds-bytes m) ∙ count-bytes (bytes_eq v.now) (adds m) in
     let removed = ap (count_by (bytes_eq v.now)) (removes-bytes m) ∙ count-bytes (bytes_eq v.now) (removes m) in
     λ i. pos (added i) -ℤ pos (removed i)
 
 -- a decided text's bytes are decided
-pub decided_bytes : (same_change : SameChange) (m : List Text) (v : Text) → IsDecided text_eq same_change m v → IsDecided bytes_eq same_change (bytes_of m) v.now
+pub decided_bytes : (same_change : SameChange) (m : List Text) (v : Text) → IsDecided text_eq same_change m v → IsDecided bytes_eq same_change (texts_of m) v.now
 decided_bytes Keep m v d = (signed-bytes m v ∙ d.0, λ w some. d.1 (text_of w) (λ none. some (signed-bytes m (text_of w) ∙ none)))
 decided_bytes Accept m v d = (
   subst (λ n. pos 0 <ℤ n) (sym (signed-bytes m v)) d.0,
@@ -51,7 +52,7 @@ decided_bytes Accept m v d = (
 )
 
 -- and the other way round
-pub decided_text : (same_change : SameChange) (m : List Text) (v : List ℕ) → IsDecided bytes_eq same_change (bytes_of m) v → IsDecided text_eq same_change m (text_of v)
+pub decided_text : (same_change : SameChange) (m : List Text) (v : List ℕ) → IsDecided bytes_eq same_change (texts_of m) v → IsDecided text_eq same_change m (text_of v)
 decided_text Keep m v d = (sym (signed-bytes m (text_of v)) ∙ d.0, λ w some. d.1 w.now (λ none. some (sym (signed-bytes m w) ∙ none)))
 decided_text Accept m v d = (
   subst (λ n. pos 0 <ℤ n) (signed-bytes m (text_of v)) d.0,
@@ -59,7 +60,7 @@ decided_text Accept m v d = (
   λ w x down down'. d.2 w.now x.now (subst (λ n. n <ℤ pos 0) (sym (signed-bytes m w)) down) (subst (λ n. n <ℤ pos 0) (sym (signed-bytes m x)) down'),
 )
 
-pub none_decided : (same_change : SameChange) (m : List Text) → ((v : Text) → IsDecided text_eq same_change m v → ⊥) → (v : List ℕ) → IsDecided bytes_eq same_change (bytes_of m) v → ⊥
+pub none_decided : (same_change : SameChange) (m : List Text) → ((v : Text) → IsDecided text_eq same_change m v → ⊥) → (v : List ℕ) → IsDecided bytes_eq same_change (texts_of m) v → ⊥
 none_decided same_change m none v d = none (text_of v) (decided_text same_change m v d)
 
 both_equal-bytes : (o p : Option Text) → both_equal bytes_eq (option_map (λ text. text.now) o) (option_map (λ text. text.now) p) ≡ both_equal text_eq o p
@@ -67,65 +68,65 @@ both_equal-bytes None p = refl
 both_equal-bytes (Some x) None = refl
 both_equal-bytes (Some x) (Some y) = refl
 
-same_term-bytes : (m : List Text) (p q : ℕ) → same_term bytes_eq (bytes_of m) p q ≡ same_term text_eq m p q
+same_term-bytes : (m : List Text) (p q : ℕ) → same_term bytes_eq (texts_of m) p q ≡ same_term text_eq m p q
 same_term-bytes m p q =
     let at_p = slice_get-map (λ (text : Text). text.now) m p in
     let at_q = slice_get-map (λ (text : Text). text.now) m q in
-    ap (λ o. both_equal bytes_eq o (slice_get (bytes_of m) q)) at_p
+    ap (λ o. both_equal bytes_eq o (slice_get (texts_of m) q)) at_p
     ∙ ap (λ o. both_equal bytes_eq (option_map (λ text. text.now) (slice_get m p)) o) at_q
     ∙ both_equal-bytes (slice_get m p) (slice_get m q)
 
-kept_places-bytes : (m : List Text) → kept_places bytes_eq (bytes_of m) ≡ kept_places text_eq m
+kept_places-bytes : (m : List Text) → kept_places bytes_eq (texts_of m) ≡ kept_places text_eq m
 unfolding kept_places
 kept_places-bytes m =
-    let same : ◌≡◌ {A = ℕ → ℕ → Bool} (same_term bytes_eq (bytes_of m)) (same_term text_eq m) = λ i p q. (same_term-bytes m p q) i in
+    let same : ◌≡◌ {A = ℕ → ℕ → Bool} (same_term bytes_eq (texts_of m)) (same_term text_eq m) = λ i p q. (same_term-bytes m p q) i in
     let sides = ap length (adds-bytes m) ∙ length-map (adds m) (λ text. text.now) in
     let len = length-map m (λ text. text.now) in
-    let kept : kept_sides bytes_eq (bytes_of m) ≡ kept_sides text_eq m = λ i. simplified_from (same i) (sides i) 0 (all_sides (len i)) in
+    let kept : kept_sides bytes_eq (texts_of m) ≡ kept_sides text_eq m = λ i. simplified_from (same i) (sides i) 0 (all_sides (len i)) in
     ap (λ s. by_turns s.adds s.removes) kept
 
-cons-bytes : (o : Option Text) (xs : List Text) → cons_option (option_map (λ text. text.now) o) (bytes_of xs) ≡ bytes_of (cons_option o xs)
+cons-bytes : (o : Option Text) (xs : List Text) → cons_option (option_map (λ text. text.now) o) (texts_of xs) ≡ texts_of (cons_option o xs)
 cons-bytes None xs = refl
 cons-bytes (Some x) xs = refl
 
-at_places-bytes : (m : List Text) (places : List ℕ) → at_places (bytes_of m) places ≡ bytes_of (at_places m places)
+at_places-bytes : (m : List Text) (places : List ℕ) → at_places (texts_of m) places ≡ texts_of (at_places m places)
 at_places-bytes m [] = refl
 at_places-bytes m (p ∷ ps) =
     let at_p = slice_get-map (λ (text : Text). text.now) m p in
     let rest = at_places-bytes m ps in
     (λ i. cons_option (at_p i) (rest i)) ∙ cons-bytes (slice_get m p) (at_places m ps)
 
-same_texts : (xs ys : List Text) → AllZip (λ x y. y ≡ x) xs ys → bytes_of ys ≡ bytes_of xs
+same_texts : (xs ys : List Text) → AllZip (λ x y. y ≡ x) xs ys → texts_of ys ≡ texts_of xs
 same_texts [] [] h = refl
 same_texts [] (y ∷ ys) h = absurd h
 same_texts (x ∷ xs) [] h = absurd h
 same_texts (x ∷ xs) (y ∷ ys) h = let first : y.now ≡ x.now = ap (λ (text : Text). text.now) h.0 in let rest = same_texts xs ys h.1 in λ i. (first i) ∷ (rest i)
 
 -- the bytes of what is left of a merge of texts
-pub left_bytes : (m left : List Text) → AllZip (λ x y. y ≡ x) (at_places m (kept_places text_eq m)) left → bytes_of left ≡ at_places (bytes_of m) (kept_places bytes_eq (bytes_of m))
+pub left_bytes : (m left : List Text) → AllZip (λ x y. y ≡ x) (at_places m (kept_places text_eq m)) left → texts_of left ≡ at_places (texts_of m) (kept_places bytes_eq (texts_of m))
 left_bytes m left h =
     same_texts (at_places m (kept_places text_eq m)) left h
     ∙ sym (at_places-bytes m (kept_places text_eq m))
-    ∙ ap (at_places (bytes_of m)) (sym (kept_places-bytes m))
+    ∙ ap (at_places (texts_of m)) (sym (kept_places-bytes m))
 
 member_bytes : (same_change : SameChange) (m : List Text) (v : Text)
-    → IsDecided text_eq same_change m v → Contains (bytes_of m) v.now
+    → IsDecided text_eq same_change m v → Contains (texts_of m) v.now
 member_bytes same_change m v decided =
-    decided_stands same_change (bytes_of m) v.now (decided_bytes same_change m v decided)
+    decided_stands same_change (texts_of m) v.now (decided_bytes same_change m v decided)
 
 -- what is left answers a request to simplify
 pub answers_simplify : (question : Question) (m left : List Text) → question ≡ Simplify → AllZip (λ x y. y ≡ x) (at_places m (kept_places text_eq m)) left
-    → AnswersQuestion question (bytes_of m) (line_text (codes "terms") (bytes_of left))
+    → AnswersQuestion question (texts_of m) (line_text (codes "terms") (texts_of left))
 answers_simplify question m left asked kept =
-    subst (λ q. AnswersQuestion q (bytes_of m) (line_text (codes "terms") (bytes_of left))) (sym asked) (ap (line_text (codes "terms")) (left_bytes m left kept))
+    subst (λ q. AnswersQuestion q (texts_of m) (line_text (codes "terms") (texts_of left))) (sym asked) (ap (line_text (codes "terms")) (left_bytes m left kept))
 
 -- the text that the counts decide, or none, answers a request for the outcome
 pub answers_outcome : (question : Question) (same_change : SameChange) (m : List Text)
     (o : Option Text) → question ≡ Resolve same_change → IsTextOutcome same_change m o
-    → AnswersQuestion question (bytes_of m) (outcome_line (option_map (λ text. text.now) o))
+    → AnswersQuestion question (texts_of m) (outcome_line (option_map (λ text. text.now) o))
 answers_outcome question same_change m (Some v) asked decided =
-    subst (λ q. AnswersQuestion q (bytes_of m) (outcome_line (Some v.now))) (sym asked)
+    subst (λ q. AnswersQuestion q (texts_of m) (outcome_line (Some v.now))) (sym asked)
     (Some v.now, (member_bytes same_change m v decided, decided_bytes same_change m v decided), refl)
 answers_outcome question same_change m None asked none =
-    subst (λ q. AnswersQuestion q (bytes_of m) (outcome_line None)) (sym asked)
+    subst (λ q. AnswersQuestion q (texts_of m) (outcome_line None)) (sym asked)
     (None, none_decided same_change m none, refl)

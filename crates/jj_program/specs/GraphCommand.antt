@@ -5,7 +5,7 @@ use Rattle.std.specs.Prelude.{◌≡◌, ◌⊎◌, ℕ, ◌==◌, Bool, List, [
 use Rattle.std.specs.Str.{bytes_eq}
 use Rattle.std.specs.Str.Parse.{digits_value}
 use Rattle.std.specs.Fmt.{decimal}
-use Rattle.std.specs.List.{after_first, before_first, count_by, list_all}
+use Rattle.std.specs.List.{after_first, before_first, count_by}
 use Rattle.std.specs.List.Sorted.{IsStrictlyIncreasing}
 use Rattle.jj_walks.specs.Graph.{Graph, StrictlyReaches, IsGreatestChildFirst, IsMaximalIn}
 use Rattle.jj_walks.specs.CommonNodes.{AreClosestCommon}
@@ -14,6 +14,7 @@ use Rattle.jj_program.specs.declared.fault.LineFault.{LineFault}
 use Rattle.jj_program.specs.declared.fault.LineFault.TheVariants.{UnknownCommand, BadFieldCount, BadNumber, RepeatedNode}
 use Rattle.jj_program.specs.Numbers.{is_number}
 use Rattle.jj_program.specs.Lines.{line_text, lines_of, after_lines}
+use Rattle.jj_program.specs.Steps.{value_at, values_at}
 use Rattle.jj_program.specs.Requests.{AnswersEach}
 
 -- what a line asks
@@ -39,12 +40,11 @@ graph_start = record { listed = λ id. None; requests = [] }
 
 -- the number of a text
 abbrev pub number_at : List ℕ → Result ℕ LineFault
-number_at text = cond (is_number text) (Ok (digits_value 10 text)) (Err BadNumber)
+number_at text = value_at is_number (digits_value 10) BadNumber text
 
 -- the numbers of these texts, where all are numbers
 abbrev pub numbers_of : List (List ℕ) → Result (List ℕ) LineFault
-numbers_of texts = cond (list_all is_number texts) (Ok (map (digits_value 10) texts))
-    (Err BadNumber)
+numbers_of texts = values_at is_number (digits_value 10) BadNumber texts
 
 -- the state with the neighbours of one more node
 abbrev pub listed_more : GraphState → ℕ → List ℕ → GraphState

@@ -60,21 +60,21 @@ named_bytes (name ∷ fields) =
     (Err UnknownCommand))))
 
 -- the digest of these bytes, or the same fault
-abbrev pub IsDigestOf : Result (List ℕ) LineFault → Result (List ℕ) LineFault → Type 0
-IsDigestOf (Ok bytes) answer = answer ≡ Ok (blake2b bytes)
-IsDigestOf (Err kind) answer = answer ≡ Err kind
+abbrev pub digest_of : Result (List ℕ) LineFault → Result (List ℕ) LineFault
+digest_of (Ok bytes) = Ok (blake2b bytes)
+digest_of (Err kind) = Err kind
 
 -- a digest as a line: 128 hex digits
 abbrev pub digest_line : List ℕ → List ℕ
 digest_line digest = hex digest ++ 10 ∷ []
 
--- the output with one more answer, or what is wrong with the line
+-- the output with one more digest, or what is wrong with the line
 abbrev pub with_digest : List ℕ → Result (List ℕ) LineFault → Result (List ℕ) LineFault
-with_digest output (Ok bytes) = Ok (output ++ digest_line (blake2b bytes))
+with_digest output (Ok digest) = Ok (output ++ digest_line digest)
 with_digest output (Err kind) = Err kind
 
 abbrev pub hash_step : List ℕ → List (List ℕ) → Result (List ℕ) LineFault
-hash_step output fields = with_digest output (named_bytes fields)
+hash_step output fields = with_digest output (digest_of (named_bytes fields))
 
 -- the digests of a text's lines in turn, or its first fault
 abbrev pub hash_output : List ℕ → Result (List ℕ) Fault

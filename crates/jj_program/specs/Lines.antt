@@ -5,7 +5,7 @@ use Rattle.std.specs.Prelude.{ℕ, ◌≡◌, ◌==◌, ◌+◌, List, [], ◌�
 use Rattle.std.specs.List.{slice_split}
 use Rattle.jj_program.specs.declared.fault.LineFault.{LineFault}
 use Rattle.jj_program.specs.declared.fault.Fault.{Fault}
-use Rattle.jj_program.specs.declared.fault.Fault.TheVariants.{ReadInput, NotUtf8, Memory, WriteOutput, Matchers, Line}
+use Rattle.jj_program.specs.declared.fault.Fault.TheVariants.{ReadInput, Memory, WriteOutput, Line}
 
 -- the lines of an input, which LF ends; what follows the last LF is a line too, and may be empty
 abbrev pub lines_of : List ℕ → List (List ℕ)
@@ -48,6 +48,4 @@ abbrev pub IsFaultOf : {A : Type 0} → Fault → Result A Fault → Type 0
 IsFaultOf Memory expected = Unit {0}
 IsFaultOf ReadInput expected = ⊥
 IsFaultOf WriteOutput expected = ⊥
-IsFaultOf NotUtf8 expected = expected ≡ Err NotUtf8
-IsFaultOf (Matchers count) expected = expected ≡ Err (Matchers count)
-IsFaultOf (Line line kind) expected = expected ≡ Err (Line line kind)
+IsFaultOf fault expected = expected ≡ Err fault

@@ -7,7 +7,7 @@ use Rattle.std.specs.Str.{bytes_eq, is_utf8}
 use Rattle.std.specs.Io.KnownBytes.{Appends, Consumes, IsAtEnd, Keeps}
 use Rattle.jj_paths.specs.Streams.{AppendsFrontOf, Streams}
 use Rattle.jj_program.specs.declared.fault.Fault.{Fault}
-use Rattle.jj_program.specs.declared.fault.Fault.TheVariants.{ReadInput, NotUtf8, Memory, WriteOutput, Matchers, Line}
+use Rattle.jj_program.specs.declared.fault.Fault.TheVariants.{ReadInput, NotUtf8, Memory, WriteOutput}
 use Rattle.jj_program.specs.declared.program.Command.{Command}
 use Rattle.jj_program.specs.declared.program.Command.TheVariants.{Walk, Merge, Graph, Hash}
 use Rattle.jj_program.specs.Walked.{GivesWalk}
@@ -45,20 +45,12 @@ Gives command input answer = MatchBool (is_utf8 input) (GivesText command input 
 -- a read failed
 abbrev pub is_read_failure : Fault → Bool
 is_read_failure ReadInput = true
-is_read_failure NotUtf8 = false
-is_read_failure Memory = false
-is_read_failure WriteOutput = false
-is_read_failure (Matchers count) = false
-is_read_failure (Line line kind) = false
+is_read_failure other = false
 
 -- a write failed
 abbrev pub is_write_failure : Fault → Bool
-is_write_failure ReadInput = false
-is_write_failure NotUtf8 = false
-is_write_failure Memory = false
 is_write_failure WriteOutput = true
-is_write_failure (Matchers count) = false
-is_write_failure (Line line kind) = false
+is_write_failure other = false
 
 -- whether a run failed by a read
 abbrev pub is_read_fault : {A : Type 0} → Result A Fault → Bool
@@ -91,15 +83,11 @@ FailsBy command before after ReadInput = Keeps before.written after.written
 FailsBy command before after Memory = Keeps before.written after.written
 FailsBy command before after WriteOutput = (output : List ℕ)
     × Answers command before after (Ok output) × AppendsFrontOf before.written after.written output
-FailsBy command before after NotUtf8 = GivesFault command before after NotUtf8
-FailsBy command before after (Matchers count) = GivesFault command before after (Matchers count)
-FailsBy command before after (Line line kind) = GivesFault command before after (Line line kind)
+FailsBy command before after fault = GivesFault command before after fault
 
 -- the input has this fault, or memory ran out
 abbrev pub IsFaultOfInput : Command → List ℕ → Fault → Type 0
 IsFaultOfInput command input Memory = Unit {0}
 IsFaultOfInput command input ReadInput = ⊥
 IsFaultOfInput command input WriteOutput = ⊥
-IsFaultOfInput command input NotUtf8 = Gives command input (Err NotUtf8)
-IsFaultOfInput command input (Matchers count) = Gives command input (Err (Matchers count))
-IsFaultOfInput command input (Line line kind) = Gives command input (Err (Line line kind))
+IsFaultOfInput command input fault = Gives command input (Err fault)

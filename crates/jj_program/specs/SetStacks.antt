@@ -3,7 +3,7 @@
 use Rattle.std.specs.Prelude.{List}
 use Rattle.jj_program.specs.declared.file_set.stack.SetStack.{SetStack}
 use Rattle.jj_program.specs.SetTrees.{SetTree}
-use Rattle.jj_program.specs.SetsRead.{sets_by}
+use Rattle.jj_program.specs.SetViews.{sets_by}
 use Rattle.jj_program.specs.WalkCommand.{NamedSet}
 
 -- its sets, the last first

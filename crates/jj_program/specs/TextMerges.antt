@@ -1,17 +1,10 @@
 -- Merges of borrowed texts, which are equal where their bytes are.
 -- Machinery of private functions and fields.
-use Rattle.std.specs.Prelude.{◌≡◌, ◌+◌, ℕ, Bool, List, Option, Some, None, map, count_by}
-use Rattle.std.specs.Borrow.{Bor}
+use Rattle.std.specs.Prelude.{◌≡◌, ◌+◌, Bool, List, Option, Some, None, count_by}
 use Rattle.std.specs.Str.{bytes_eq}
 use Rattle.jj_merges.specs.declared.merge.SameChange.{SameChange}
 use Rattle.jj_merges.specs.Decided.{IsDecided}
-
-abbrev pub Text : Type 0
-Text = Bor (List ℕ)
-
--- the bytes of texts
-abbrev pub bytes_of : List Text → List (List ℕ)
-bytes_of texts = map (λ text. text.now) texts
+use Rattle.jj_program.specs.Texts.{Text}
 
 -- whether two texts have the same bytes
 abbrev pub text_eq : Text → Text → Bool

@@ -1,9 +1,9 @@
 -- The command `walk`: lines that mark paths, and lines that put file sets on a stack, of which one
 -- has to be left.
 -- Cited by contracts of public items through FoundFiles, LineFaults, Walked.
-use Rattle.std.specs.Prelude.{ℕ, Bool, true, false, List, [], ◌∷◌, ◌++◌, cond, codes, length, map, is_ok, Result, Ok, Err}
+use Rattle.std.specs.Prelude.{ℕ, Bool, true, false, List, [], ◌∷◌, ◌++◌, cond, codes, length, is_ok, Result, Ok, Err}
 use Rattle.std.specs.Str.{bytes_eq}
-use Rattle.std.specs.List.{list_all, zip}
+use Rattle.std.specs.List.{zip}
 use Rattle.jj_paths.specs.Paths.{Path, components, is_path_text}
 use Rattle.jj_globs.specs.GlobText.{tokens_of}
 use Rattle.jj_globs.specs.GlobMeaning.{GlobSpec}
@@ -15,6 +15,7 @@ use Rattle.jj_program.specs.declared.fault.LineFault.TheVariants.{UnknownCommand
 use Rattle.jj_program.specs.declared.fault.Fault.{Fault}
 use Rattle.jj_program.specs.declared.fault.Fault.TheVariants.{Matchers}
 use Rattle.jj_program.specs.Lines.{lines_of, after_lines}
+use Rattle.jj_program.specs.Steps.{value_at, values_at}
 use Rattle.jj_program.specs.FieldPairs.{is_paired, firsts, seconds}
 use Rattle.jj_program.specs.SetTrees.{SetTree, one, both}
 
@@ -46,11 +47,11 @@ pushed state set = record { marks = state.marks; stack = one set ∷ state.stack
 
 -- the path of a text
 abbrev pub path_at : List ℕ → Result Path LineFault
-path_at text = cond (is_path_text text) (Ok (components text)) (Err BadPath)
+path_at text = value_at is_path_text components BadPath text
 
 -- the paths of these texts, where all are paths
 abbrev pub paths_of : List (List ℕ) → Result (List Path) LineFault
-paths_of texts = cond (list_all is_path_text texts) (Ok (map components texts)) (Err BadPath)
+paths_of texts = values_at is_path_text components BadPath texts
 
 -- the state with a set of the paths of these texts on the stack
 abbrev pub pushed_paths : WalkState → (List Path → NamedSet) → Result (List Path) LineFault
@@ -70,12 +71,9 @@ glob_of text = record { text = text; options = record { separator = true; icase 
 unfoldable pub is_glob_text : List ℕ → Bool
 is_glob_text text = is_ok (tokens_of text)
 
-abbrev pub glob_at : List ℕ → Result GlobSpec LineFault
-glob_at text = cond (is_glob_text text) (Ok (glob_of text)) (Err BadGlob)
-
 -- the globs of these texts, where all are globs
 abbrev pub globs_of : List (List ℕ) → Result (List GlobSpec) LineFault
-globs_of texts = cond (list_all is_glob_text texts) (Ok (map glob_of texts)) (Err BadGlob)
+globs_of texts = values_at is_glob_text glob_of BadGlob texts
 
 -- the state with a set of globs in directories on the stack; a bad path comes before a bad glob
 abbrev pub pushed_globs : WalkState → Bool → Result (List Path) LineFault

@@ -1,6 +1,7 @@
 //! Why a run of the program fails.
 ghost use Rattle.std.specs.Prelude.{◌≡◌, ◌++◌, Some};
 ghost use Rattle.jj_program.specs.declared.fault.Fault.TheVariants.{Memory};
+ghost use Rattle.jj_program.specs.declared.fault.StepFault.TheVariants.{Memory as NoMemory};
 ghost use Rattle.jj_program.specs.Faults.{line_fault_text, fault_text};
 
 use itoa::Buffer;
@@ -19,6 +20,13 @@ pub enum LineFault {
     BadNumber,
     RepeatedNode,
     BadHex,
+}
+
+// Why the fields of a line were not taken.
+#[derive(Clone, Copy)]
+pub(crate) enum StepFault {
+    Memory,
+    Line(LineFault),
 }
 
 /// Why a run of the program failed.
@@ -101,5 +109,21 @@ impl<T: Drop> From<AllocFailed<T>> for Fault {
 
     fn from(_error: AllocFailed<T>) -> Fault {
         Fault::Memory
+    }
+}
+
+impl From<AllocError> for StepFault {
+    ghost from_gives = { λ _ fault. fault ≡ NoMemory };
+
+    fn from(_error: AllocError) -> StepFault {
+        StepFault::Memory
+    }
+}
+
+impl<T: Drop> From<AllocFailed<T>> for StepFault {
+    ghost from_gives = { λ _ fault. fault ≡ NoMemory };
+
+    fn from(_error: AllocFailed<T>) -> StepFault {
+        StepFault::Memory
     }
 }

@@ -3,12 +3,17 @@
 ghost use Rattle.std.specs.Prelude.{◌≡◌, ◌==◌, ◌<◌, ◌++◌, ℕ, All, List, length, map, true, false, Ok, MatchOption, MatchResult, IfOk, IfErr, OnOk, string_bytes};
 ghost use Rattle.std.specs.List.{Contains, after_first, before_first, count_by, position_or_len};
 ghost use Rattle.std.specs.Str.Parse.{digits_value};
-ghost use Rattle.jj_program.specs.Lines.{at_line, IsFaultOf};
+ghost use Rattle.jj_program.specs.declared.fault.LineFault.TheVariants.{BadNumber};
+ghost use Rattle.jj_program.specs.Lines.{IsFaultOf};
+ghost use Rattle.jj_program.specs.Numbers.{is_number};
+ghost use Rattle.jj_program.specs.Steps.{Agrees};
+ghost use Rattle.jj_program.specs.Texts.{texts_of};
 ghost use Rattle.jj_program.specs.ListedGraphs.{named_by, shown_by};
-ghost use Rattle.jj_program.specs.GraphCommand.{GraphState, Order, Heads, HasCycle, AnswersRequest, GivesGraph, graph_state, ids_of, graph_step, common_step, is_dash, node_step, number_at, numbers_of, numbers_line, with_request};
-ghost use Rattle.jj_program.specs.GraphRead.{graph_request_of, graph_state_of};
+ghost use Rattle.jj_program.specs.GraphCommand.{GraphState, Order, Heads, HasCycle, AnswersRequest, GivesGraph, graph_state, ids_of, graph_step, common_step, is_dash, node_step, numbers_of, numbers_line, with_request};
+ghost use Rattle.jj_program.specs.GraphViews.{graph_request_of, graph_state_of};
 
-use crate::fault::{Fault, LineFault};
+use crate::fault::{Fault, LineFault, StepFault};
+use crate::fields::{Field, parse_fields};
 use crate::graph_walks::{ascending_common, ascending_heads, greatest_order, has_cycle};
 use crate::listed_graph::ListedGraph;
 use crate::number::parse_number;
@@ -31,34 +36,23 @@ pub(crate) struct GraphReading {
     requests: Vec<GraphRequest>,
 }
 
-// The number that a field of a line is.
-fn number_field(line: usize, text: &str) -> Result<u64, Fault>
-    ensures { MatchResult result
-        (λ id. at_line line (number_at text.now) ≡ Ok id)
-        (λ fault. IsFaultOf fault (at_line line (number_at text.now))) }
-{
-    match parse_number(text) {
-        Some(id) => Ok(id),
-        None => Err(Fault::Line {
-            line,
-            kind: LineFault::BadNumber,
-        }),
-    }
-}
+impl<'t> Field<'t> for u64 {
+    ghost Value = { ℕ };
 
-// The numbers of the fields of a line.
-fn numbers(alloc: Global, line: usize, fields: &[&str]) -> Result<Vec<u64>, Fault>
-    ensures { MatchResult result
-        (λ ids. at_line line (numbers_of (map (λ field. field.now) fields.now)) ≡ Ok ids.items)
-        (λ fault. IsFaultOf fault (at_line line
-        (numbers_of (map (λ field. field.now) fields.now)))) }
-{
-    let mut ids = Vec::new(alloc);
-    for field in fields {
-        let id = number_field(line, field)?;
-        ids.push(id)?;
+    ghost value = { λ number. number };
+
+    ghost is_one = { is_number };
+
+    ghost value_of = { digits_value 10 };
+
+    ghost otherwise = { BadNumber };
+
+    fn parse(_alloc: Global, text: &'t str) -> Result<u64, StepFault> {
+        match parse_number(text) {
+            Some(number) => Ok(number),
+            None => Err(StepFault::Line(LineFault::BadNumber)),
+        }
     }
-    Ok(ids)
 }
 
 // Whether a field parts two sets.
@@ -69,7 +63,7 @@ fn is_dash(field: &str) -> bool
 }
 
 fn dash_count(fields: &[&str]) -> usize
-    ensures { result ≡ count_by is_dash (map (λ field. field.now) fields.now) }
+    ensures { result ≡ count_by is_dash (texts_of fields.now) }
 {
     let mut dashes = 0;
     for field in fields {
@@ -82,8 +76,8 @@ fn dash_count(fields: &[&str]) -> usize
 
 // The place of the first field `-`, or the number of fields.
 fn dash_place(fields: &[&str]) -> usize
-    ensures place { result ≡ position_or_len is_dash (map (λ field. field.now) fields.now) }
-    ensures within { count_by is_dash (map (λ field. field.now) fields.now) ≡ 1
+    ensures place { result ≡ position_or_len is_dash (texts_of fields.now) }
+    ensures within { count_by is_dash (texts_of fields.now) ≡ 1
         → result < length fields.now }
 {
     let mut place = 0;
@@ -98,13 +92,13 @@ fn dash_place(fields: &[&str]) -> usize
 
 // The fields before the field `-`, and those after it, where there is one.
 fn split_sets<'a, 't>(fields: &'a [&'t str]) -> Option<(&'a [&'t str], &'a [&'t str])>
-    ensures { MatchOption result ((count_by is_dash (map (λ field. field.now) fields.now) == 1)
+    ensures { MatchOption result ((count_by is_dash (texts_of fields.now) == 1)
         ≡ false)
-        (λ sets. ((count_by is_dash (map (λ field. field.now) fields.now) == 1) ≡ true)
-        × (map (λ field. field.now) sets.0.now
-        ≡ before_first is_dash (map (λ field. field.now) fields.now))
-        × (map (λ field. field.now) sets.1.now
-        ≡ after_first is_dash (map (λ field. field.now) fields.now))) }
+        (λ sets. ((count_by is_dash (texts_of fields.now) == 1) ≡ true)
+        × (texts_of sets.0.now
+        ≡ before_first is_dash (texts_of fields.now))
+        × (texts_of sets.1.now
+        ≡ after_first is_dash (texts_of fields.now))) }
 {
     if dash_count(fields) != 1 {
         return None;
@@ -115,78 +109,53 @@ fn split_sets<'a, 't>(fields: &'a [&'t str]) -> Option<(&'a [&'t str], &'a [&'t 
 
 impl GraphReading {
     // Lists the neighbours of the node of the first field.
-    fn list(&mut self, alloc: Global, line: usize, fields: &[&str]) -> Result<(), Fault>
-        ensures { MatchResult result
-            (λ _. at_line line (node_step (graph_state_of self.old)
-            (map (λ field. field.now) fields.now)) ≡ Ok (graph_state_of self.new))
-            (λ fault. IsFaultOf fault (at_line line
-            (node_step (graph_state_of self.old) (map (λ field. field.now) fields.now)))) }
+    fn list(&mut self, alloc: Global, fields: &[&str]) -> Result<(), StepFault>
+        ensures { Agrees result (λ _. graph_state_of self.new)
+            (node_step (graph_state_of self.old) (texts_of fields.now)) }
     {
         let [id, neighbors @ ..] = fields else {
-            return Err(Fault::Line {
-                line,
-                kind: LineFault::BadFieldCount,
-            });
+            return Err(StepFault::Line(LineFault::BadFieldCount));
         };
-        let id = number_field(line, id)?;
-        let neighbors = numbers(alloc, line, neighbors)?;
+        let id = u64::parse(alloc, id)?;
+        let neighbors = parse_fields(alloc, neighbors)?;
         if self.neighbors.contains_key(&id) {
-            return Err(Fault::Line {
-                line,
-                kind: LineFault::RepeatedNode,
-            });
+            return Err(StepFault::Line(LineFault::RepeatedNode));
         }
         self.neighbors.insert(id, neighbors)?;
         Ok(())
     }
 
     // Takes a request for the order of the ids of the fields.
-    fn ask_order(&mut self, alloc: Global, line: usize, fields: &[&str]) -> Result<(), Fault>
-        ensures { MatchResult result
-            (λ _. at_line line (with_request (graph_state_of self.old) Order
-            (numbers_of (map (λ field. field.now) fields.now))) ≡ Ok (graph_state_of self.new))
-            (λ fault. IsFaultOf fault (at_line line
-            (with_request (graph_state_of self.old) Order
-            (numbers_of (map (λ field. field.now) fields.now))))) }
+    fn ask_order(&mut self, alloc: Global, fields: &[&str]) -> Result<(), StepFault>
+        ensures { Agrees result (λ _. graph_state_of self.new)
+            (with_request (graph_state_of self.old) Order (numbers_of (texts_of fields.now))) }
     {
-        let ids = numbers(alloc, line, fields)?;
+        let ids = parse_fields(alloc, fields)?;
         self.requests.push(GraphRequest::Order(ids))?;
         Ok(())
     }
 
     // Takes a request for the heads of the ids of the fields.
-    fn ask_heads(&mut self, alloc: Global, line: usize, fields: &[&str]) -> Result<(), Fault>
-        ensures { MatchResult result
-            (λ _. at_line line (with_request (graph_state_of self.old) Heads
-            (numbers_of (map (λ field. field.now) fields.now))) ≡ Ok (graph_state_of self.new))
-            (λ fault. IsFaultOf fault (at_line line
-            (with_request (graph_state_of self.old) Heads
-            (numbers_of (map (λ field. field.now) fields.now))))) }
+    fn ask_heads(&mut self, alloc: Global, fields: &[&str]) -> Result<(), StepFault>
+        ensures { Agrees result (λ _. graph_state_of self.new)
+            (with_request (graph_state_of self.old) Heads (numbers_of (texts_of fields.now))) }
     {
-        let ids = numbers(alloc, line, fields)?;
+        let ids = parse_fields(alloc, fields)?;
         self.requests.push(GraphRequest::Heads(ids))?;
         Ok(())
     }
-}
 
-impl GraphReading {
     // Takes a request for the closest common nodes of the ids before the field `-` and those after
     // it.
-    fn ask_common(&mut self, alloc: Global, line: usize, fields: &[&str]) -> Result<(), Fault>
-        ensures { MatchResult result
-            (λ _. at_line line (common_step (graph_state_of self.old)
-            (map (λ field. field.now) fields.now)) ≡ Ok (graph_state_of self.new))
-            (λ fault. IsFaultOf fault (at_line line
-            (common_step (graph_state_of self.old) (map (λ field. field.now) fields.now)))) }
+    fn ask_common(&mut self, alloc: Global, fields: &[&str]) -> Result<(), StepFault>
+        ensures { Agrees result (λ _. graph_state_of self.new)
+            (common_step (graph_state_of self.old) (texts_of fields.now)) }
     {
         let Some((first, second)) = split_sets(fields) else {
-            return Err(Fault::Line {
-                line,
-                kind: LineFault::BadFieldCount,
-            });
+            return Err(StepFault::Line(LineFault::BadFieldCount));
         };
-        let set1 = numbers(alloc, line, first)?;
-        let set2 = numbers(alloc, line, second)?;
+        let set1 = parse_fields(alloc, first)?;
+        let set2 = parse_fields(alloc, second)?;
         self.requests.push(GraphRequest::Common(set1, set2))?;
         Ok(())
     }
@@ -199,22 +168,16 @@ impl<'t> Reading<'t> for GraphReading {
 
     ghost step = { graph_step };
 
-    fn take(&mut self, alloc: Global, line: usize, fields: &[&'t str]) -> Result<(), Fault> {
+    fn take(&mut self, alloc: Global, fields: &[&'t str]) -> Result<(), StepFault> {
         let [name, rest @ ..] = fields else {
-            return Err(Fault::Line {
-                line,
-                kind: LineFault::UnknownCommand,
-            });
+            return Err(StepFault::Line(LineFault::UnknownCommand));
         };
         match *name {
-            "node" => self.list(alloc, line, rest),
-            "order" => self.ask_order(alloc, line, rest),
-            "heads" => self.ask_heads(alloc, line, rest),
-            "common" => self.ask_common(alloc, line, rest),
-            _ => Err(Fault::Line {
-                line,
-                kind: LineFault::UnknownCommand,
-            }),
+            "node" => self.list(alloc, rest),
+            "order" => self.ask_order(alloc, rest),
+            "heads" => self.ask_heads(alloc, rest),
+            "common" => self.ask_common(alloc, rest),
+            _ => Err(StepFault::Line(LineFault::UnknownCommand)),
         }
     }
 }

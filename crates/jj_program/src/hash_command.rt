@@ -1,18 +1,17 @@
 //! The command `hash`: each line names bytes, and is answered by their digest.
-ghost use Rattle.std.specs.Prelude.{◌≡◌, ◌++◌, map, ℕ, List, Ok, IfOk, IfErr, OnOk};
+ghost use Rattle.std.specs.Prelude.{◌≡◌, ◌++◌, ℕ, List, Ok, IfOk, IfErr, OnOk};
 ghost use Rattle.jj_program.specs.Lines.{IsFaultOf};
-ghost use Rattle.jj_program.specs.HashCommand.{named_bytes, raw_bytes, content_of_one, content_of_merge, IsDigestOf, digest_line, hash_step, hash_output, GivesHash};
+ghost use Rattle.jj_program.specs.Steps.{Agrees};
+ghost use Rattle.jj_program.specs.Texts.{texts_of};
+ghost use Rattle.jj_program.specs.HashCommand.{named_bytes, raw_bytes, content_of_one, content_of_merge, digest_of, digest_line, hash_step, hash_output, GivesHash};
 
-use crate::fault::{Fault, LineFault};
+use crate::fault::{Fault, LineFault, StepFault};
 use crate::merge_command::merge_of;
 use crate::reading::{Reading, take_lines};
 use jj_content::blake2b::Blake2b512;
 use jj_content::content_hash::blake2b_hash;
 use jj_content::hex_util::{decode_hex, encode_hex};
 use std::alloc::{AllocError, Global};
-
-// A digest of 64 bytes, or what is wrong with the line that asks for it.
-type LineDigest = Result<[u8; 64], LineFault>;
 
 // The answers to the lines so far.
 #[derive(Drop)]
@@ -27,14 +26,10 @@ impl<'t> Reading<'t> for HashReading {
 
     ghost step = { hash_step };
 
-    fn take(&mut self, alloc: Global, line: usize, fields: &[&'t str]) -> Result<(), Fault> {
-        match line_digest(alloc, fields)? {
-            Ok(digest) => {
-                push_digest(alloc, &mut self.output, &digest)?;
-                Ok(())
-            }
-            Err(kind) => Err(Fault::Line { line, kind }),
-        }
+    fn take(&mut self, alloc: Global, fields: &[&'t str]) -> Result<(), StepFault> {
+        let digest = line_digest(alloc, fields)?;
+        push_digest(alloc, &mut self.output, &digest)?;
+        Ok(())
     }
 }
 
@@ -51,59 +46,56 @@ pub(crate) fn hash_lines(alloc: Global, text: &str) -> Result<Vec<u8>, Fault>
 }
 
 // The digest of the bytes that a line's fields name.
-fn line_digest(alloc: Global, fields: &[&str]) -> Result<LineDigest, AllocError>
-    ensures { IfOk result (λ answer. IsDigestOf
-        (named_bytes (map (λ field. field.now) fields.now)) answer) }
+fn line_digest(alloc: Global, fields: &[&str]) -> Result<[u8; 64], StepFault>
+    ensures { Agrees result (λ digest. digest) (digest_of (named_bytes (texts_of fields.now))) }
 {
     let [name, fields @ ..] = fields else {
-        return Ok(Err(LineFault::UnknownCommand));
+        return Err(StepFault::Line(LineFault::UnknownCommand));
     };
     match *name {
         "raw" => raw_digest(alloc, fields),
         "text" => text_digest(alloc, fields),
-        "list" => Ok(Ok(blake2b_hash(alloc, &fields)?)),
+        "list" => Ok(blake2b_hash(alloc, &fields)?),
         "merge" => merge_digest(alloc, fields),
-        _ => Ok(Err(LineFault::UnknownCommand)),
+        _ => Err(StepFault::Line(LineFault::UnknownCommand)),
     }
 }
 
 // The digest of the bytes of one field's hex text.
-fn raw_digest(alloc: Global, fields: &[&str]) -> Result<LineDigest, AllocError>
-    ensures { IfOk result (λ answer. IsDigestOf
-        (raw_bytes (map (λ field. field.now) fields.now)) answer) }
+fn raw_digest(alloc: Global, fields: &[&str]) -> Result<[u8; 64], StepFault>
+    ensures { Agrees result (λ digest. digest) (digest_of (raw_bytes (texts_of fields.now))) }
 {
     let [text] = fields else {
-        return Ok(Err(LineFault::BadFieldCount));
+        return Err(StepFault::Line(LineFault::BadFieldCount));
     };
     let Some(bytes) = decode_hex(alloc, text.as_bytes())? else {
-        return Ok(Err(LineFault::BadHex));
+        return Err(StepFault::Line(LineFault::BadHex));
     };
     let mut hasher = Blake2b512::new();
     hasher.update(&bytes);
-    Ok(Ok(hasher.finalize()))
+    Ok(hasher.finalize())
 }
 
 // The digest of the content of one field.
-fn text_digest(alloc: Global, fields: &[&str]) -> Result<LineDigest, AllocError>
-    ensures { IfOk result (λ answer. IsDigestOf
-        (content_of_one (map (λ field. field.now) fields.now)) answer) }
+fn text_digest(alloc: Global, fields: &[&str]) -> Result<[u8; 64], StepFault>
+    ensures { Agrees result (λ digest. digest) (digest_of (content_of_one (texts_of fields.now))) }
 {
     let [text] = fields else {
-        return Ok(Err(LineFault::BadFieldCount));
+        return Err(StepFault::Line(LineFault::BadFieldCount));
     };
-    Ok(Ok(blake2b_hash(alloc, text)?))
+    Ok(blake2b_hash(alloc, text)?)
 }
 
 // The digest of the content of the merge of the fields.
-fn merge_digest(alloc: Global, fields: &[&str]) -> Result<LineDigest, AllocError>
-    ensures { IfOk result (λ answer. IsDigestOf
-        (content_of_merge (map (λ field. field.now) fields.now)) answer) }
+fn merge_digest(alloc: Global, fields: &[&str]) -> Result<[u8; 64], StepFault>
+    ensures { Agrees result (λ digest. digest)
+        (digest_of (content_of_merge (texts_of fields.now))) }
 {
     if fields.len() % 2 != 1 {
-        return Ok(Err(LineFault::BadFieldCount));
+        return Err(StepFault::Line(LineFault::BadFieldCount));
     }
     let terms = merge_of(alloc, fields)?;
-    Ok(Ok(blake2b_hash(alloc, &terms)?))
+    Ok(blake2b_hash(alloc, &terms)?)
 }
 
 // Adds a line with a digest to the output.

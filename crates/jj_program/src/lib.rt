@@ -2,6 +2,7 @@
 #![tactic(auto)]
 
 mod fault;
+mod fields;
 mod file_set;
 mod graph_command;
 mod graph_walks;

@@ -3,9 +3,9 @@ ghost use Rattle.std.specs.Prelude.{◌≡◌, ◌++◌, map, ℕ, List, Ok, IfO
 ghost use Rattle.jj_merges.specs.Odd.{IsOdd};
 ghost use Rattle.jj_program.specs.Lines.{IsFaultOf};
 ghost use Rattle.jj_program.specs.MergeCommand.{MergeRequest, question_named, merge_step, merge_requests, IsMergeAnswer, GivesMerge};
-ghost use Rattle.jj_program.specs.MergeRead.{merge_request_of, merge_requests_of};
+ghost use Rattle.jj_program.specs.MergeViews.{merge_request_of, merge_requests_of};
 
-use crate::fault::{Fault, LineFault};
+use crate::fault::{Fault, LineFault, StepFault};
 use crate::merge_outcome::outcome;
 use crate::output_lines::push_line;
 use crate::reading::{Reading, take_lines};
@@ -63,24 +63,15 @@ impl<'t> Reading<'t> for MergeReading<'t> {
 
     ghost step = { merge_step };
 
-    fn take(&mut self, alloc: Global, line: usize, fields: &[&'t str]) -> Result<(), Fault> {
+    fn take(&mut self, alloc: Global, fields: &[&'t str]) -> Result<(), StepFault> {
         let [name, terms @ ..] = fields else {
-            return Err(Fault::Line {
-                line,
-                kind: LineFault::UnknownCommand,
-            });
+            return Err(StepFault::Line(LineFault::UnknownCommand));
         };
         let Some(question) = Question::from_name(name) else {
-            return Err(Fault::Line {
-                line,
-                kind: LineFault::UnknownCommand,
-            });
+            return Err(StepFault::Line(LineFault::UnknownCommand));
         };
         if terms.len() % 2 != 1 {
-            return Err(Fault::Line {
-                line,
-                kind: LineFault::BadFieldCount,
-            });
+            return Err(StepFault::Line(LineFault::BadFieldCount));
         }
         let terms = merge_of(alloc, terms)?;
         self.requests.push(MergeRequest { question, terms })?;

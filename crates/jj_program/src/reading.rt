@@ -1,9 +1,11 @@
 //! Input as lines, which a command takes one after the other.
-ghost use Rattle.std.specs.Prelude.{◌≡◌, ◌+◌, map, List, ℕ, Result, Ok, MatchResult, OnOk};
+ghost use Rattle.std.specs.Prelude.{◌≡◌, ◌+◌, List, ℕ, Result, Ok, MatchResult, OnOk};
 ghost use Rattle.jj_program.specs.declared.fault.LineFault.{LineFault};
-ghost use Rattle.jj_program.specs.Lines.{lines_of, fields_of, at_line, after_line, after_lines, IsFaultOf};
+ghost use Rattle.jj_program.specs.Lines.{lines_of, fields_of, after_line, after_lines, IsFaultOf};
+ghost use Rattle.jj_program.specs.Steps.{Agrees};
+ghost use Rattle.jj_program.specs.Texts.{texts_of};
 
-use crate::fault::Fault;
+use crate::fault::{Fault, StepFault};
 use std::alloc::{AllocError, Global};
 
 /// What a command has read so far, which each line's fields change.
@@ -16,13 +18,10 @@ pub trait Reading<'t> {
     /// What a line's fields make of it, or the line's fault.
     ghost step: { State → List (List ℕ) → Result State LineFault };
 
-    /// Takes the fields of the line with this number. After a fault the value is not used again.
-    fn take(&mut self, alloc: Global, line: usize, fields: &[&'t str]) -> Result<(), Fault>
-        ensures { MatchResult result
-            (λ _. at_line line (step (state self.old) (map (λ field. field.now) fields.now))
-            ≡ Ok (state self.new))
-            (λ fault. IsFaultOf fault (at_line line
-            (step (state self.old) (map (λ field. field.now) fields.now)))) };
+    /// Takes the fields of a line. After a fault the value is not used again.
+    fn take(&mut self, alloc: Global, fields: &[&'t str]) -> Result<(), StepFault>
+        ensures { Agrees result (λ _. state self.new)
+            (step (state self.old) (texts_of fields.now)) };
 }
 
 // Takes a line: an empty one is skipped. The list is for its fields, so that each line takes no
@@ -41,8 +40,12 @@ fn take_line<'t, M: Reading<'t>>(
     if line.is_empty() {
         return Ok(());
     }
-    read_fields(fields, line)?;
-    reading.take(alloc, number, fields)
+    split_fields(fields, line)?;
+    match reading.take(alloc, fields) {
+        Ok(()) => Ok(()),
+        Err(StepFault::Memory) => Err(Fault::Memory),
+        Err(StepFault::Line(kind)) => Err(Fault::Line { line: number, kind }),
+    }
 }
 
 /// Takes the lines of a text as they come, up to the first fault.
@@ -69,8 +72,8 @@ pub fn take_lines<'t, M: Reading<'t>>(
 }
 
 // Puts the fields of a line in the place of those that a list has.
-fn read_fields<'t>(fields: &mut Vec<&'t str>, line: &'t str) -> Result<(), AllocError>
-    ensures { OnOk result (map (λ field. field.now) fields.new.items ≡ fields_of line.now) }
+fn split_fields<'t>(fields: &mut Vec<&'t str>, line: &'t str) -> Result<(), AllocError>
+    ensures { OnOk result (texts_of fields.new.items ≡ fields_of line.now) }
 {
     fields.clear();
     fields.extend(line.split('\t'))

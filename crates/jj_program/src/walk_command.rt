@@ -1,20 +1,24 @@
 //! The command `walk`: it marks paths, builds one set of files, and writes what a walk by the set
 //! finds.
-ghost use Rattle.std.specs.Prelude.{◌≡◌, ◌++◌, ℕ, List, [], ◌∷◌, length, map, Bool, Ok, MatchResult, IfOk, IfErr, OnOk};
+ghost use Rattle.std.specs.Prelude.{◌≡◌, ◌++◌, List, [], ◌∷◌, length, map, Bool, Ok, MatchResult, IfOk, IfErr, OnOk};
 ghost use Rattle.jj_paths.specs.Names.{path_of};
-ghost use Rattle.jj_globs.specs.GlobText.{tokens_of};
-ghost use Rattle.jj_globs.specs.GlobReads.{IsReadingFault};
+ghost use Rattle.jj_paths.specs.Paths.{Path, components, is_path_text};
 ghost use Rattle.jj_paths.specs.Tree.{Tree};
+ghost use Rattle.jj_globs.specs.GlobMeaning.{GlobSpec};
 ghost use Rattle.jj_matchers.specs.Marks.{IsMarkedTree};
-ghost use Rattle.jj_program.specs.Lines.{at_line, IsFaultOf};
+ghost use Rattle.jj_program.specs.declared.fault.LineFault.TheVariants.{BadPath, BadGlob};
+ghost use Rattle.jj_program.specs.Lines.{IsFaultOf};
 ghost use Rattle.jj_program.specs.SetTrees.{SetTree};
-ghost use Rattle.jj_program.specs.WalkCommand.{NamedSet, WalkState, WalkRequest, Files, Prefix, path_at, paths_of, glob_at, globs_of, globs_step, paired_fields, combined_step, pushed_alone, pushed_paths, mark_step, walk_step, walk_request};
-ghost use Rattle.jj_program.specs.SetsRead.{set_of};
+ghost use Rattle.jj_program.specs.WalkCommand.{NamedSet, WalkState, Files, Prefix, paths_of, is_glob_text, glob_of, globs_step, paired_fields, combined_step, pushed_alone, pushed_paths, mark_step, walk_step, walk_request};
+ghost use Rattle.jj_program.specs.SetViews.{set_of};
 ghost use Rattle.jj_program.specs.SetStacks.{sets_in};
-ghost use Rattle.jj_program.specs.WalkRead.{state_of};
+ghost use Rattle.jj_program.specs.Steps.{Agrees};
+ghost use Rattle.jj_program.specs.Texts.{texts_of};
+ghost use Rattle.jj_program.specs.WalkViews.{state_of};
 ghost use Rattle.jj_program.specs.Walked.{GivesWalk, walk_lines, path_lines};
 
-use crate::fault::{Fault, LineFault};
+use crate::fault::{Fault, LineFault, StepFault};
+use crate::fields::{Field, parse_fields};
 use crate::file_set::{Combination, FileSet, SetStack, walk_set};
 use crate::output_lines::push_line;
 use crate::reading::{Reading, take_lines};
@@ -30,49 +34,54 @@ pub(crate) struct WalkReading<'t> {
     sets: SetStack<'t>,
 }
 
-// The path that a field of a line is.
-fn path_field<'t>(alloc: Global, line: usize, text: &'t str) -> Result<RepoPath<'t>, Fault>
-    ensures { MatchResult result
-        (λ path. at_line line (path_at text.now) ≡ Ok (path_of path))
-        (λ fault. IsFaultOf fault (at_line line (path_at text.now))) }
-{
-    match RepoPath::from_internal_string(alloc, text) {
-        Ok(path) => Ok(path),
-        Err(InvalidNewRepoPathError::Memory) => Err(Fault::Memory),
-        Err(InvalidNewRepoPathError::Invalid { value: _ }) => Err(Fault::Line {
-            line,
-            kind: LineFault::BadPath,
-        }),
+impl<'t> Field<'t> for RepoPath<'t> {
+    ghost Value = { Path };
+
+    ghost value = { path_of };
+
+    ghost is_one = { is_path_text };
+
+    ghost value_of = { components };
+
+    ghost otherwise = { BadPath };
+
+    fn parse(alloc: Global, text: &'t str) -> Result<RepoPath<'t>, StepFault> {
+        match RepoPath::from_internal_string(alloc, text) {
+            Ok(path) => Ok(path),
+            Err(InvalidNewRepoPathError::Memory) => Err(StepFault::Memory),
+            Err(InvalidNewRepoPathError::Invalid { value: _ }) => {
+                Err(StepFault::Line(LineFault::BadPath))
+            }
+        }
     }
 }
 
-// The paths of the fields of a line.
-fn paths<'t>(alloc: Global, line: usize, fields: &[&'t str]) -> Result<Vec<RepoPath<'t>>, Fault>
-    ensures { MatchResult result
-        (λ paths. at_line line (paths_of (map (λ field. field.now) fields.now))
-        ≡ Ok (map path_of paths.items))
-        (λ fault. IsFaultOf fault (at_line line
-        (paths_of (map (λ field. field.now) fields.now)))) }
-{
-    let mut paths = Vec::new(alloc);
-    for field in fields {
-        let path = path_field(alloc, line, field)?;
-        paths.push(path)?;
+impl<'t> Field<'t> for PathGlobPattern {
+    ghost Value = { GlobSpec };
+
+    ghost value = { λ glob. glob };
+
+    ghost is_one = { is_glob_text };
+
+    ghost value_of = { glob_of };
+
+    ghost otherwise = { BadGlob };
+
+    fn parse(alloc: Global, text: &'t str) -> Result<PathGlobPattern, StepFault> {
+        match PathGlobPattern::parse(alloc, text) {
+            Ok(glob) => Ok(glob),
+            Err(error) => match error {
+                GlobError::Memory => Err(StepFault::Memory),
+                _ => Err(StepFault::Line(LineFault::BadGlob)),
+            },
+        }
     }
-    Ok(paths)
 }
 
 // The directories and the globs of fields that come in pairs.
-fn pairs<'t>(
-    alloc: Global,
-    line: usize,
-    fields: &[&'t str],
-) -> Result<(Vec<&'t str>, Vec<&'t str>), Fault>
-    ensures { MatchResult result
-        (λ pairs. at_line line (paired_fields (map (λ field. field.now) fields.now))
-        ≡ Ok (map (λ dir. dir.now) pairs.0.items, map (λ glob. glob.now) pairs.1.items))
-        (λ fault. IsFaultOf fault (at_line line
-        (paired_fields (map (λ field. field.now) fields.now)))) }
+fn pairs<'t>(alloc: Global, fields: &[&'t str]) -> Result<(Vec<&'t str>, Vec<&'t str>), StepFault>
+    ensures { Agrees result (λ pairs. (texts_of pairs.0.items, texts_of pairs.1.items))
+        (paired_fields (texts_of fields.now)) }
 {
     let mut dirs = Vec::new(alloc);
     let mut globs = Vec::new(alloc);
@@ -83,118 +92,53 @@ fn pairs<'t>(
         rest = more;
     }
     if !rest.is_empty() {
-        return Err(Fault::Line {
-            line,
-            kind: LineFault::BadFieldCount,
-        });
+        return Err(StepFault::Line(LineFault::BadFieldCount));
     }
     Ok((dirs, globs))
 }
 
-// The glob that a field of a line is.
-fn glob_field(alloc: Global, line: usize, text: &str) -> Result<PathGlobPattern, Fault>
-    ensures { MatchResult result
-        (λ glob. at_line line (glob_at text.now) ≡ Ok glob)
-        (λ fault. IsFaultOf fault (at_line line (glob_at text.now))) }
-{
-    match PathGlobPattern::parse(alloc, text) {
-        Ok(glob) => Ok(glob),
-        Err(error) => Err(glob_fault(line, error)),
-    }
-}
-
-// The fault of a field that is no glob.
-fn glob_fault(line: usize, error: GlobError) -> Fault
-    ensures { (text : List ℕ) → IsReadingFault error (tokens_of text)
-        → IsFaultOf result (at_line line (glob_at text)) }
-{
-    match error {
-        GlobError::Memory => Fault::Memory,
-        _ => Fault::Line {
-            line,
-            kind: LineFault::BadGlob,
-        },
-    }
-}
-
-// The globs of the fields of a line.
-fn path_globs(alloc: Global, line: usize, fields: &[&str]) -> Result<Vec<PathGlobPattern>, Fault>
-    ensures { MatchResult result
-        (λ globs. at_line line (globs_of (map (λ field. field.now) fields.now)) ≡ Ok globs.items)
-        (λ fault. IsFaultOf fault (at_line line
-        (globs_of (map (λ field. field.now) fields.now)))) }
-{
-    let mut globs = Vec::new(alloc);
-    for field in fields {
-        let glob = glob_field(alloc, line, field)?;
-        globs.push(glob)?;
-    }
-    Ok(globs)
-}
-
 impl<'t> WalkReading<'t> {
     // Marks the path of the one field.
-    fn mark(&mut self, alloc: Global, line: usize, fields: &[&'t str]) -> Result<(), Fault>
-        ensures { MatchResult result
-            (λ _. at_line line (mark_step (state_of self.old)
-            (map (λ field. field.now) fields.now)) ≡ Ok (state_of self.new))
-            (λ fault. IsFaultOf fault (at_line line
-            (mark_step (state_of self.old) (map (λ field. field.now) fields.now)))) }
+    fn mark(&mut self, alloc: Global, fields: &[&'t str]) -> Result<(), StepFault>
+        ensures { Agrees result (λ _. state_of self.new)
+            (mark_step (state_of self.old) (texts_of fields.now)) }
     {
         let [text] = fields else {
-            return Err(Fault::Line {
-                line,
-                kind: LineFault::BadFieldCount,
-            });
+            return Err(StepFault::Line(LineFault::BadFieldCount));
         };
-        let path = path_field(alloc, line, text)?;
+        let path = RepoPath::parse(alloc, text)?;
         self.marks.push(path)?;
         Ok(())
     }
 
     // Puts a set on the stack, where no field is left.
-    fn push_alone(&mut self, line: usize, fields: &[&'t str], set: FileSet<'t>) -> Result<(), Fault>
-        ensures { MatchResult result
-            (λ _. at_line line (pushed_alone (state_of self.old) (set_of set.entry)
-            (map (λ field. field.now) fields.now)) ≡ Ok (state_of self.new))
-            (λ fault. IsFaultOf fault (at_line line
-            (pushed_alone (state_of self.old) (set_of set.entry)
-            (map (λ field. field.now) fields.now)))) }
+    fn push_alone(&mut self, fields: &[&'t str], set: FileSet<'t>) -> Result<(), StepFault>
+        ensures { Agrees result (λ _. state_of self.new)
+            (pushed_alone (state_of self.old) (set_of set.entry) (texts_of fields.now)) }
     {
         if !fields.is_empty() {
-            return Err(Fault::Line {
-                line,
-                kind: LineFault::BadFieldCount,
-            });
+            return Err(StepFault::Line(LineFault::BadFieldCount));
         }
         self.sets.push(set)?;
         Ok(())
     }
 
     // Puts the set of these files on the stack.
-    fn push_files(&mut self, alloc: Global, line: usize, fields: &[&'t str]) -> Result<(), Fault>
-        ensures { MatchResult result
-            (λ _. at_line line (pushed_paths (state_of self.old) Files
-            (paths_of (map (λ field. field.now) fields.now))) ≡ Ok (state_of self.new))
-            (λ fault. IsFaultOf fault (at_line line
-            (pushed_paths (state_of self.old) Files
-            (paths_of (map (λ field. field.now) fields.now))))) }
+    fn push_files(&mut self, alloc: Global, fields: &[&'t str]) -> Result<(), StepFault>
+        ensures { Agrees result (λ _. state_of self.new)
+            (pushed_paths (state_of self.old) Files (paths_of (texts_of fields.now))) }
     {
-        let paths = paths(alloc, line, fields)?;
+        let paths = parse_fields(alloc, fields)?;
         self.sets.push(FileSet::Files(paths))?;
         Ok(())
     }
 
     // Puts the set of what is at and below these paths on the stack.
-    fn push_prefix(&mut self, alloc: Global, line: usize, fields: &[&'t str]) -> Result<(), Fault>
-        ensures { MatchResult result
-            (λ _. at_line line (pushed_paths (state_of self.old) Prefix
-            (paths_of (map (λ field. field.now) fields.now))) ≡ Ok (state_of self.new))
-            (λ fault. IsFaultOf fault (at_line line
-            (pushed_paths (state_of self.old) Prefix
-            (paths_of (map (λ field. field.now) fields.now))))) }
+    fn push_prefix(&mut self, alloc: Global, fields: &[&'t str]) -> Result<(), StepFault>
+        ensures { Agrees result (λ _. state_of self.new)
+            (pushed_paths (state_of self.old) Prefix (paths_of (texts_of fields.now))) }
     {
-        let paths = paths(alloc, line, fields)?;
+        let paths = parse_fields(alloc, fields)?;
         self.sets.push(FileSet::Prefix(paths))?;
         Ok(())
     }
@@ -203,19 +147,15 @@ impl<'t> WalkReading<'t> {
     fn push_globs(
         &mut self,
         alloc: Global,
-        line: usize,
         fields: &[&'t str],
         prefix_paths: bool,
-    ) -> Result<(), Fault>
-        ensures { MatchResult result
-            (λ _. at_line line (globs_step (state_of self.old) prefix_paths
-            (map (λ field. field.now) fields.now)) ≡ Ok (state_of self.new))
-            (λ fault. IsFaultOf fault (at_line line
-            (globs_step (state_of self.old) prefix_paths (map (λ field. field.now) fields.now)))) }
+    ) -> Result<(), StepFault>
+        ensures { Agrees result (λ _. state_of self.new)
+            (globs_step (state_of self.old) prefix_paths (texts_of fields.now)) }
     {
-        let (dirs, globs) = pairs(alloc, line, fields)?;
-        let dirs = paths(alloc, line, &dirs)?;
-        let globs = path_globs(alloc, line, &globs)?;
+        let (dirs, globs) = pairs(alloc, fields)?;
+        let dirs = parse_fields(alloc, &dirs)?;
+        let globs = parse_fields(alloc, &globs)?;
         self.sets.push(FileSet::Globs {
             prefix_paths,
             dirs,
@@ -225,30 +165,15 @@ impl<'t> WalkReading<'t> {
     }
 
     // Combines the two sets on top of the stack, where no field is left.
-    fn combine(
-        &mut self,
-        line: usize,
-        fields: &[&'t str],
-        combination: Combination,
-    ) -> Result<(), Fault>
-        ensures { MatchResult result
-            (λ _. at_line line (combined_step (state_of self.old) combination
-            (map (λ field. field.now) fields.now)) ≡ Ok (state_of self.new))
-            (λ fault. IsFaultOf fault (at_line line
-            (combined_step (state_of self.old) combination
-            (map (λ field. field.now) fields.now)))) }
+    fn combine(&mut self, fields: &[&'t str], combination: Combination) -> Result<(), StepFault>
+        ensures { Agrees result (λ _. state_of self.new)
+            (combined_step (state_of self.old) combination (texts_of fields.now)) }
     {
         if !fields.is_empty() {
-            return Err(Fault::Line {
-                line,
-                kind: LineFault::BadFieldCount,
-            });
+            return Err(StepFault::Line(LineFault::BadFieldCount));
         }
         if self.sets.height() < 2 {
-            return Err(Fault::Line {
-                line,
-                kind: LineFault::EmptyStack,
-            });
+            return Err(StepFault::Line(LineFault::EmptyStack));
         }
         self.sets.combine(combination)?;
         Ok(())
@@ -262,28 +187,22 @@ impl<'t> Reading<'t> for WalkReading<'t> {
 
     ghost step = { walk_step };
 
-    fn take(&mut self, alloc: Global, line: usize, fields: &[&'t str]) -> Result<(), Fault> {
+    fn take(&mut self, alloc: Global, fields: &[&'t str]) -> Result<(), StepFault> {
         let [name, rest @ ..] = fields else {
-            return Err(Fault::Line {
-                line,
-                kind: LineFault::UnknownCommand,
-            });
+            return Err(StepFault::Line(LineFault::UnknownCommand));
         };
         match *name {
-            "mark" => self.mark(alloc, line, rest),
-            "everything" => self.push_alone(line, rest, FileSet::Everything),
-            "nothing" => self.push_alone(line, rest, FileSet::Nothing),
-            "files" => self.push_files(alloc, line, rest),
-            "prefix" => self.push_prefix(alloc, line, rest),
-            "globs" => self.push_globs(alloc, line, rest, false),
-            "prefix-globs" => self.push_globs(alloc, line, rest, true),
-            "union" => self.combine(line, rest, Combination::Union),
-            "difference" => self.combine(line, rest, Combination::Difference),
-            "intersection" => self.combine(line, rest, Combination::Intersection),
-            _ => Err(Fault::Line {
-                line,
-                kind: LineFault::UnknownCommand,
-            }),
+            "mark" => self.mark(alloc, rest),
+            "everything" => self.push_alone(rest, FileSet::Everything),
+            "nothing" => self.push_alone(rest, FileSet::Nothing),
+            "files" => self.push_files(alloc, rest),
+            "prefix" => self.push_prefix(alloc, rest),
+            "globs" => self.push_globs(alloc, rest, false),
+            "prefix-globs" => self.push_globs(alloc, rest, true),
+            "union" => self.combine(rest, Combination::Union),
+            "difference" => self.combine(rest, Combination::Difference),
+            "intersection" => self.combine(rest, Combination::Intersection),
+            _ => Err(StepFault::Line(LineFault::UnknownCommand)),
         }
     }
 }

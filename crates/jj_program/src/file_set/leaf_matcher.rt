@@ -3,7 +3,7 @@ ghost use Rattle.std.specs.Prelude.{IfOk, map};
 ghost use Rattle.std.specs.List.{zip};
 ghost use Rattle.jj_paths.specs.Names.{path_of};
 ghost use Rattle.jj_matchers.specs.Patterns.{HasSamePatterns};
-ghost use Rattle.jj_program.specs.SetsRead.{set_of};
+ghost use Rattle.jj_program.specs.SetViews.{set_of};
 
 use crate::file_set::FileSet;
 use jj_matchers::matchers::{

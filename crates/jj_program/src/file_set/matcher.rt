@@ -10,7 +10,7 @@ ghost use Rattle.jj_program.specs.declared.file_set.parts.Part.{Part};
 ghost use Rattle.jj_program.specs.Leaves.{leaf_accepts};
 ghost use Rattle.jj_program.specs.SetTrees.{SetTree, combined_stack, combined_answer};
 ghost use Rattle.jj_program.specs.SetParts.{after_part, pass_at, pass_over, sets_of};
-ghost use Rattle.jj_program.specs.SetsRead.{part_of, sets_by};
+ghost use Rattle.jj_program.specs.SetViews.{part_of, sets_by};
 ghost use Rattle.jj_program.specs.Walked.{accepted_by, answered_by};
 ghost use Rattle.jj_program.specs.WalkCommand.{NamedSet};
 ghost use Rattle.jj_program.specs.Matching.{AnswerAll, IsAnswerOf, IsTold, StandForParts, StandsForPart, made_by};

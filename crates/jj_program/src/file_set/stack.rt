@@ -1,7 +1,7 @@
 //! The stack of the sets that lines have built.
 ghost use Rattle.std.specs.Prelude.{◌≡◌, ◌≤◌, [], ◌∷◌, true, length, MatchResult};
 ghost use Rattle.jj_program.specs.SetTrees.{one, combined_stack};
-ghost use Rattle.jj_program.specs.SetsRead.{are_whole, set_of, sets_by};
+ghost use Rattle.jj_program.specs.SetViews.{are_whole, set_of, sets_by};
 
 use crate::file_set::{Combination, FileSet, SetStep};
 use std::alloc::{AllocError, Global};

@@ -7,7 +7,7 @@ use Rattle.jj_program.specs.Lines.{after_lines, line_text, lines_of}
 use Rattle.jj_program.specs.Requests.{AnswersEach}
 use Rattle.jj_program.specs.ListedGraphs.{named_by, shown_by}
 use Rattle.jj_program.specs.GraphCommand.{GraphState, IsGraphAnswer, graph_of, graph_start, graph_step, ids_of}
-use Rattle.jj_program.specs.GraphRead.{graph_request_of, graph_state_of}
+use Rattle.jj_program.specs.GraphViews.{graph_request_of, graph_state_of}
 use Rattle.jj_program.proofs.ListedGraphs.{listed_in-empty}
 use Rattle.jj_program.proofs.Requests.{AnswersEach-more}
 use Rattle.jj_program.proofs.graph_command.graph_output.Goals as goal

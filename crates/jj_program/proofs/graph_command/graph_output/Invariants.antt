@@ -4,7 +4,7 @@ use Rattle.std.specs.Prelude.{string_bytes}
 use Rattle.jj_program.specs.ListedGraphs.{shown_by}
 use Rattle.jj_program.specs.Requests.{AnswersEach}
 use Rattle.jj_program.specs.GraphCommand.{IsGraphAnswer}
-use Rattle.jj_program.specs.GraphRead.{graph_request_of}
+use Rattle.jj_program.specs.GraphViews.{graph_request_of}
 use Rattle.jj_program.proofs.graph_command.graph_output.Given as goal
 
 abbrev pub invariant-loop-request : goal.invariant-loop-request

@@ -7,7 +7,7 @@ use Rattle.jj_walks.specs.CommonNodes.{AreClosestCommon}
 use Rattle.jj_walks.specs.Graph.{IsGreatestChildFirst, IsMaximalIn}
 use Rattle.jj_program.specs.ListedGraphs.{named_by, shown_by}
 use Rattle.jj_program.specs.GraphCommand.{AnswersRequest, ids_of, numbers_line}
-use Rattle.jj_program.specs.GraphRead.{graph_request_of}
+use Rattle.jj_program.specs.GraphViews.{graph_request_of}
 use Rattle.jj_program.proofs.AskedIds.{back_held, front_held}
 use Rattle.jj_program.proofs.graph_command.push_answer.Goals as goal
 

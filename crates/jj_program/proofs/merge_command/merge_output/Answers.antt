@@ -1,6 +1,6 @@
 use Rattle.std.proofs.Common.{◌<◌, length, arith}
 use Rattle.jj_program.specs.MergeCommand.{IsMergeAnswer}
-use Rattle.jj_program.specs.MergeRead.{merge_request_of}
+use Rattle.jj_program.specs.MergeViews.{merge_request_of}
 use Rattle.jj_program.proofs.Requests.{AnswersEach-more}
 use Rattle.jj_program.proofs.merge_command.merge_output.Goals as goal
 

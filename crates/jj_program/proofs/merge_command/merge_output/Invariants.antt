@@ -2,7 +2,7 @@
 use Rattle.std.proofs.Common.{map, take}
 use Rattle.jj_program.specs.Requests.{AnswersEach}
 use Rattle.jj_program.specs.MergeCommand.{IsMergeAnswer}
-use Rattle.jj_program.specs.MergeRead.{merge_request_of}
+use Rattle.jj_program.specs.MergeViews.{merge_request_of}
 use Rattle.jj_program.proofs.merge_command.merge_output.Given as goal
 
 abbrev pub invariant-loop-request : goal.invariant-loop-request

@@ -3,8 +3,9 @@ use Rattle.std.specs.Prelude.{codes}
 use Rattle.std.proofs.lemmas.Result.{IfOk-weaker}
 use Rattle.jj_program.specs.Lines.{line_text}
 use Rattle.jj_program.specs.MergeCommand.{IsMergeAnswer, outcome_line}
-use Rattle.jj_program.specs.TextMerges.{bytes_of, IsTextOutcome}
-use Rattle.jj_program.specs.MergeRead.{merge_request_of}
+use Rattle.jj_program.specs.Texts.{texts_of}
+use Rattle.jj_program.specs.TextMerges.{IsTextOutcome}
+use Rattle.jj_program.specs.MergeViews.{merge_request_of}
 use Rattle.jj_program.proofs.TextMerges.{answers_simplify, answers_outcome}
 use Rattle.jj_program.proofs.merge_command.push_answer.Goals as goal
 
@@ -13,9 +14,9 @@ returns-in_ok-left-in-Simplify c =
     let old = c.args.output.now.items in
     let left = c.in_ok-left-in-Simplify.left in
     let answered = answers_simplify c.args.request.now.question c.args.request.now.terms left c.in-Simplify.is c.in_ok-left-in-Simplify.ensures.terms in
-    IfOk-weaker c.push_line.result (λ _. c.push_line.new.output.items ≡ old ++ line_text (codes "terms") (bytes_of c.as_slice.result.now))
+    IfOk-weaker c.push_line.result (λ _. c.push_line.new.output.items ≡ old ++ line_text (codes "terms") (texts_of c.as_slice.result.now))
     (λ _. (answer : List ℕ) × IsMergeAnswer (merge_request_of c.args.request.now) answer × (c.push_line.new.output.items ≡ old ++ answer))
-    (λ done written. (line_text (codes "terms") (bytes_of left), answered, written ∙ ap (λ terms. old ++ line_text (codes "terms") (bytes_of terms)) c.as_slice.ensures.terms)) c.push_line.ensures
+    (λ done written. (line_text (codes "terms") (texts_of left), answered, written ∙ ap (λ terms. old ++ line_text (codes "terms") (texts_of terms)) c.as_slice.ensures.terms)) c.push_line.ensures
 
 pub returns-in-Some : goal.returns-in-Some
 returns-in-Some c =

@@ -1,6 +1,7 @@
 use Rattle.std.proofs.Common.{◌≡◌, ◌+◌, ◌-◌, ◌≤◌, length, take}
 use Rattle.std.specs.Prelude.{count_by}
-use Rattle.jj_program.specs.TextMerges.{Text, text_eq}
+use Rattle.jj_program.specs.Texts.{Text}
+use Rattle.jj_program.specs.TextMerges.{text_eq}
 use Rattle.jj_program.proofs.merge_outcome.without_pairs.Given as goal
 
 abbrev pub invariant-loop-i : goal.invariant-loop-i

@@ -3,7 +3,7 @@ use Rattle.jj_paths.specs.Names.{path_of}
 use Rattle.jj_program.specs.Lines.{after_lines, lines_of}
 use Rattle.jj_program.specs.SetStacks.{sets_in}
 use Rattle.jj_program.specs.WalkCommand.{WalkRequest, walk_start, walk_step, walk_end, only_set, walk_request}
-use Rattle.jj_program.specs.WalkRead.{state_of}
+use Rattle.jj_program.specs.WalkViews.{state_of}
 use Rattle.jj_program.proofs.SetCounts.{only_item}
 use Rattle.jj_program.proofs.walk_command.walk_output.Goals as goal
 

@@ -1,7 +1,7 @@
 use Rattle.std.proofs.Common.{◌≡◌, ◌∙◌, ◌+◌, ◌++◌, [], ◌∷◌, ap, sym, subst, map, take}
 use Rattle.std.proofs.lemmas.List.{map-append, take_more}
 use Rattle.jj_program.specs.Matching.{StandForParts}
-use Rattle.jj_program.specs.SetsRead.{part_of}
+use Rattle.jj_program.specs.SetViews.{part_of}
 use Rattle.jj_program.proofs.SetMatchers.{stand_more}
 use Rattle.jj_program.proofs.file_set.matcher.part_matchers.Goals as goal
 

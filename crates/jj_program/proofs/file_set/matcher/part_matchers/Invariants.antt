@@ -1,7 +1,7 @@
 -- The matchers so far stand for the parts so far.
 use Rattle.std.proofs.Common.{map, take}
 use Rattle.jj_program.specs.Matching.{StandForParts}
-use Rattle.jj_program.specs.SetsRead.{part_of}
+use Rattle.jj_program.specs.SetViews.{part_of}
 use Rattle.jj_program.proofs.file_set.matcher.part_matchers.Given as goal
 
 abbrev pub invariant-loop-part : goal.invariant-loop-part

@@ -5,7 +5,7 @@ use Rattle.jj_matchers.specs.Answers.{Answer}
 use Rattle.jj_matchers.specs.Walk.{files_of, entered_by}
 use Rattle.jj_program.specs.SetMatching.{accepts_of, answers_of}
 use Rattle.jj_program.specs.SetTrees.{SetTree}
-use Rattle.jj_program.specs.SetsRead.{sets_by}
+use Rattle.jj_program.specs.SetViews.{sets_by}
 use Rattle.jj_program.specs.WalkCommand.{NamedSet}
 use Rattle.jj_program.specs.Walked.{accepted_by, answered_by}
 use Rattle.jj_program.proofs.file_set.matcher.walk_set.Goals as goal

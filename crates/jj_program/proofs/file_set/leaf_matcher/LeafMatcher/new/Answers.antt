@@ -7,7 +7,7 @@ use Rattle.jj_paths.specs.Names.{path_of}
 use Rattle.jj_matchers.specs.Wanted.{HasSamePaths}
 use Rattle.jj_program.specs.declared.file_set.leaf_matcher.LeafMatcher.TheVariants.{Everything, Nothing, Files, Prefix, Globs}
 use Rattle.jj_program.specs.Leaves.{StandsFor}
-use Rattle.jj_program.specs.SetsRead.{set_of}
+use Rattle.jj_program.specs.SetViews.{set_of}
 use Rattle.jj_program.proofs.Stands.{everything_stands, nothing_stands, files_stand, prefixes_stand, globs_stand}
 use Rattle.jj_program.proofs.file_set.leaf_matcher.LeafMatcher.new.Goals as goal
 

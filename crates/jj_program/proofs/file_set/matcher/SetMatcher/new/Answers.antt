@@ -1,6 +1,6 @@
 use Rattle.std.proofs.Common.{◌∙◌, ap, length, map, subst}
 use Rattle.jj_program.specs.Matching.{StandForParts}
-use Rattle.jj_program.specs.SetsRead.{part_of}
+use Rattle.jj_program.specs.SetViews.{part_of}
 use Rattle.jj_program.proofs.SetMatchers.{new_matcher}
 use Rattle.jj_program.proofs.file_set.matcher.SetMatcher.new.Goals as goal
 

@@ -2,7 +2,7 @@ use Rattle.std.proofs.Common.{◌++◌, ◌∙◌, ap, lit<, map}
 use Rattle.std.specs.Str.Iter.{split_text, split_has_more, split_pattern}
 use Rattle.std.proofs.lemmas.Iterator.Adapters.{fact_from_extend}
 use Rattle.std.proofs.lemmas.Iterator.Splits.{YieldsList-from_str_split}
-use Rattle.jj_program.proofs.reading.read_fields.Goals as goal
+use Rattle.jj_program.proofs.reading.split_fields.Goals as goal
 
 pub returns : goal.returns
 returns c =

@@ -1,0 +1,11 @@
+-- The values are those of the fields so far, and so it is for the others to tell whether all have one.
+use Rattle.std.proofs.Common.{◌≡◌, map, take, drop}
+use Rattle.std.specs.List.{list_all}
+use Rattle.jj_program.specs.Texts.{texts_of}
+use Rattle.jj_program.proofs.fields.parse_fields.Given as goal
+
+abbrev pub invariant-loop-field : goal.invariant-loop-field
+invariant-loop-field g l = record {
+  values : map g.F.Field.value l.values.items ≡ map g.F.Field.value_of (take l.field-index (texts_of l.fields));
+  others : list_all g.F.Field.is_one (drop l.field-index (texts_of l.fields)) ≡ list_all g.F.Field.is_one (texts_of l.fields);
+}

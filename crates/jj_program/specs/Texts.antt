@@ -1,0 +1,11 @@
+-- Borrowed texts, as the fields of a line are.
+-- Machinery of private functions and fields.
+use Rattle.std.specs.Prelude.{ℕ, List, map}
+use Rattle.std.specs.Borrow.{Bor}
+
+abbrev pub Text : Type 0
+Text = Bor (List ℕ)
+
+-- what the texts are, wherever they stand
+abbrev pub texts_of : List Text → List (List ℕ)
+texts_of texts = map (λ text. text.now) texts
