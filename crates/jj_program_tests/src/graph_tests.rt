@@ -2,12 +2,12 @@
 
 #[cfg(test)]
 mod tests {
-    use crate::runs::{at, fails, reads_fail, writes, writes_fail};
+    use crate::runs::{at, fail_each, fails, write_each, writes};
     use jj_program::program::{Command, Fault, LineFault};
 
     #[test]
     fn orders_are_the_greatest(rt: HostRuntime) {
-        for (input, output) in [
+        let rows = [
             (
                 "node\t1\t9\nnode\t5\t2\norder\t1\t5\n",
                 "order\t5\t2\t1\t9\n",
@@ -34,14 +34,13 @@ mod tests {
                 "order\t0\t18446744073709551615",
                 "order\t18446744073709551615\t0\n",
             ),
-        ] {
-            writes(&rt, Command::Graph, input, output);
-        }
+        ];
+        write_each(&rt, Command::Graph, &rows);
     }
 
     #[test]
     fn heads_are_ascending(rt: HostRuntime) {
-        for (input, output) in [
+        let rows = [
             (
                 "node\t3\t1\nnode\t4\t1\nnode\t2\t5\nheads\t1\t3\t4",
                 "heads\t3\t4\n",
@@ -55,14 +54,13 @@ mod tests {
                 "node\t4\t2\t3\nnode\t2\t1\nnode\t3\t1\nheads\t1\t3\t4",
                 "heads\t4\n",
             ),
-        ] {
-            writes(&rt, Command::Graph, input, output);
-        }
+        ];
+        write_each(&rt, Command::Graph, &rows);
     }
 
     #[test]
     fn closest_common_nodes_are_ascending(rt: HostRuntime) {
-        for (input, output) in [
+        let rows = [
             (
                 "node\t1\t9\nnode\t2\t9\nnode\t9\t5\ncommon\t1\t-\t2\ncommon\t1\t-\t9",
                 "common\t9\ncommon\t9\n",
@@ -81,32 +79,25 @@ mod tests {
             ("common\t1\t-\t2", "common\n"),
             ("common\t-", "common\n"),
             ("common\t1\t-", "common\n"),
-        ] {
-            writes(&rt, Command::Graph, input, output);
-        }
+        ];
+        write_each(&rt, Command::Graph, &rows);
     }
 
     #[test]
     fn a_cycle_anywhere_is_every_answer(rt: HostRuntime) {
-        for (input, output) in [
+        let rows = [
             (
                 "node\t1\t1\norder\t5\nheads\t5\ncommon\t5\t-\t6\n",
                 "cycle\ncycle\ncycle\n",
             ),
             ("order\t5\nnode\t1\t2\nnode\t2\t3\nnode\t3\t1\n", "cycle\n"),
             ("node\t1\t2\nnode\t2\t1\n", ""),
-        ] {
-            writes(&rt, Command::Graph, input, output);
-        }
+        ];
+        write_each(&rt, Command::Graph, &rows);
     }
-
-    const INPUT: &str = "node\t1\t9\nnode\t5\t2\norder\t1\t5\nheads\t1\t9\t5\ncommon\t1\t-\t5\n";
-
-    const OUTPUT: &str = "order\t5\t2\t1\t9\nheads\t1\t5\ncommon\n";
 
     #[test]
     fn requests_are_answered_after_all_nodes(rt: HostRuntime) {
-        writes(&rt, Command::Graph, INPUT, OUTPUT);
         writes(&rt, Command::Graph, "", "");
         writes(
             &rt,
@@ -118,7 +109,7 @@ mod tests {
 
     #[test]
     fn the_first_fault_is_answered(rt: HostRuntime) {
-        for (input, fault) in [
+        let rows = [
             ("node\t01", at(1, LineFault::BadNumber)),
             ("node\t18446744073709551616", at(1, LineFault::BadNumber)),
             ("node\t+1", at(1, LineFault::BadNumber)),
@@ -144,19 +135,8 @@ mod tests {
             ("\tnode", at(1, LineFault::UnknownCommand)),
             // A cycle is no fault, and so the fault of a line comes first.
             ("node\t1\t1\norder\t1\nx", at(3, LineFault::UnknownCommand)),
-        ] {
-            fails(&rt, Command::Graph, input.as_bytes(), fault);
-        }
+        ];
+        fail_each(&rt, Command::Graph, &rows);
         fails(&rt, Command::Graph, b"x\nnode\t\xff", Fault::NotUtf8);
-    }
-
-    #[test]
-    fn each_read_fails_in_turn(rt: HostRuntime) {
-        reads_fail(&rt, Command::Graph, INPUT, OUTPUT);
-    }
-
-    #[test]
-    fn each_write_fails_in_turn(rt: HostRuntime) {
-        writes_fail(&rt, Command::Graph, INPUT, OUTPUT);
     }
 }

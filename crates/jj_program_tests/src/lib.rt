@@ -12,6 +12,8 @@ mod merge_tests;
 #[cfg(test)]
 mod runs;
 #[cfg(test)]
+mod sample_tests;
+#[cfg(test)]
 mod start_tests;
 #[cfg(test)]
 mod walk_tests;

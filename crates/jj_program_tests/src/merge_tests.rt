@@ -2,21 +2,20 @@
 
 #[cfg(test)]
 mod tests {
-    use crate::runs::{at, fails, reads_fail, writes, writes_fail};
+    use crate::runs::{at, fail_each, fails, write_each, writes};
     use jj_program::program::{Command, Fault, LineFault};
     use std::alloc::{AllocError, Global};
 
     #[test]
     fn merges_are_simplified(rt: HostRuntime) {
-        for (input, output) in [
+        let rows = [
             ("simplify\t0\t1\t2\t2\t3\n", "terms\t0\t1\t3\n"),
             ("simplify\t0\t0\t2", "terms\t2\n"),
             ("simplify\t7", "terms\t7\n"),
             ("simplify\ta\t\tb", "terms\ta\t\tb\n"),
             ("simplify\t\ta\t\t\t\n", "terms\t\ta\t\n"),
-        ] {
-            writes(&rt, Command::Merge, input, output);
-        }
+        ];
+        write_each(&rt, Command::Merge, &rows);
     }
 
     #[test]
@@ -72,20 +71,15 @@ mod tests {
         }
     }
 
-    const INPUT: &str = "simplify\t0\t1\t2\t2\t3\naccept\t0\t1\t0\nkeep\t0\t1\t0\n";
-
-    const OUTPUT: &str = "terms\t0\t1\t3\nresolved\t0\nconflict\n";
-
     #[test]
     fn lines_are_answered_in_order(rt: HostRuntime) {
-        writes(&rt, Command::Merge, INPUT, OUTPUT);
         writes(&rt, Command::Merge, "", "");
         writes(&rt, Command::Merge, "\n\nkeep\ta\n\n", "resolved\ta\n");
     }
 
     #[test]
     fn the_first_fault_is_answered(rt: HostRuntime) {
-        for (input, fault) in [
+        let rows = [
             ("keep\ta\tb", at(1, LineFault::BadFieldCount)),
             ("keep", at(1, LineFault::BadFieldCount)),
             ("simplify\n", at(1, LineFault::BadFieldCount)),
@@ -93,19 +87,8 @@ mod tests {
             ("join\ta\tb", at(1, LineFault::UnknownCommand)),
             ("\tkeep", at(1, LineFault::UnknownCommand)),
             ("keep\ta\nKeep\ta\nkeep", at(2, LineFault::UnknownCommand)),
-        ] {
-            fails(&rt, Command::Merge, input.as_bytes(), fault);
-        }
+        ];
+        fail_each(&rt, Command::Merge, &rows);
         fails(&rt, Command::Merge, b"x\nkeep\t\xff", Fault::NotUtf8);
-    }
-
-    #[test]
-    fn each_read_fails_in_turn(rt: HostRuntime) {
-        reads_fail(&rt, Command::Merge, INPUT, OUTPUT);
-    }
-
-    #[test]
-    fn each_write_fails_in_turn(rt: HostRuntime) {
-        writes_fail(&rt, Command::Merge, INPUT, OUTPUT);
     }
 }

@@ -57,6 +57,20 @@ pub fn fails(rt: &(impl Abort + AllocGlobal), command: Command, input: &[u8], ex
     assert!(rt; kept.as_slice().is_empty());
 }
 
+/// Each input writes the output beside it.
+pub fn write_each(rt: &(impl Abort + AllocGlobal), command: Command, rows: &[(&str, &str)]) {
+    for &(input, output) in rows {
+        writes(rt, command, input, output);
+    }
+}
+
+/// Each input has the fault beside it.
+pub fn fail_each(rt: &(impl Abort + AllocGlobal), command: Command, rows: &[(&str, Fault)]) {
+    for &(input, fault) in rows {
+        fails(rt, command, input.as_bytes(), fault);
+    }
+}
+
 pub const fn at(line: usize, kind: LineFault) -> Fault {
     Fault::Line { line, kind }
 }

@@ -2,12 +2,12 @@
 
 #[cfg(test)]
 mod tests {
-    use crate::runs::{at, fails, reads_fail, writes, writes_fail};
+    use crate::runs::{at, fail_each, fails, write_each};
     use jj_program::program::{Command, Fault, LineFault};
 
     #[test]
     fn finds_what_the_sets_accept(rt: HostRuntime) {
-        for (input, output) in [
+        let rows = [
             (
                 "mark\ta/x\nmark\tab\nprefix\ta\n",
                 "file\ta/x\nenter\t\nenter\ta\n",
@@ -34,14 +34,13 @@ mod tests {
                 "\nmark\tc\nprefix\tb\t\n\nmark\ta\nmark\tb\nmark\ta\n\n",
                 "file\ta\nfile\tb\nfile\tc\nenter\t\n",
             ),
-        ] {
-            writes(&rt, Command::Walk, input, output);
-        }
+        ];
+        write_each(&rt, Command::Walk, &rows);
     }
 
     #[test]
     fn the_first_fault_is_answered(rt: HostRuntime) {
-        for (input, fault) in [
+        let rows = [
             ("", Fault::Matchers(0)),
             ("mark\ta\nnothing\neverything\n", Fault::Matchers(2)),
             ("\nx", at(2, LineFault::UnknownCommand)),
@@ -55,14 +54,13 @@ mod tests {
             ("mark\ta/\n", at(1, LineFault::BadPath)),
             ("files\ta\ta//b\n", at(1, LineFault::BadPath)),
             ("mark\ta\n\nprefix\t/\nx\n", at(3, LineFault::BadPath)),
-        ] {
-            fails(&rt, Command::Walk, input.as_bytes(), fault);
-        }
+        ];
+        fail_each(&rt, Command::Walk, &rows);
     }
 
     #[test]
     fn globs_stand_in_directories(rt: HostRuntime) {
-        for (input, output) in [
+        let rows = [
             // The empty glob stands for no file, yet in prefix mode the directory is one of a
             // pattern, and is entered.
             ("mark\td/x\nprefix-globs\td\t\n", "enter\t\nenter\td\n"),
@@ -91,14 +89,13 @@ mod tests {
                 "mark\ta/x/y\nprefix-globs\ta\tx\n",
                 "file\ta/x/y\nenter\t\nenter\ta\nenter\ta/x\n",
             ),
-        ] {
-            writes(&rt, Command::Walk, input, output);
-        }
+        ];
+        write_each(&rt, Command::Walk, &rows);
     }
 
     #[test]
     fn sets_combine(rt: HostRuntime) {
-        for (input, output) in [
+        let rows = [
             (
                 "mark\ta/x\nmark\tb\neverything\nprefix\ta\ndifference\n",
                 "file\tb\nenter\t\n",
@@ -133,14 +130,13 @@ mod tests {
                 "mark\ta\nmark\tb\nmark\tc\nnothing\neverything\nintersection\nfiles\tc\tb\nunion\nfiles\tb\ndifference\n",
                 "file\tc\nenter\t\n",
             ),
-        ] {
-            writes(&rt, Command::Walk, input, output);
-        }
+        ];
+        write_each(&rt, Command::Walk, &rows);
     }
 
     #[test]
     fn faults_of_globs_and_combinations(rt: HostRuntime) {
-        for (input, fault) in [
+        let rows = [
             ("globs\ta\n", at(1, LineFault::BadFieldCount)),
             ("prefix-globs\t/\t[\tb\n", at(1, LineFault::BadFieldCount)),
             // The path comes first, wherever the glob stands.
@@ -165,9 +161,8 @@ mod tests {
                 at(4, LineFault::EmptyStack),
             ),
             ("nothing\nnothing\nnothing\nunion\n", Fault::Matchers(2)),
-        ] {
-            fails(&rt, Command::Walk, input.as_bytes(), fault);
-        }
+        ];
+        fail_each(&rt, Command::Walk, &rows);
     }
 
     #[test]
@@ -175,19 +170,5 @@ mod tests {
         // The byte comes before the fault of a line.
         fails(&rt, Command::Walk, b"x\n\xff", Fault::NotUtf8);
         fails(&rt, Command::Walk, b"mark\t\xc3\nnothing\n", Fault::NotUtf8);
-    }
-
-    const INPUT: &str = "mark\ta/x\nmark\tab\nprefix\ta\n";
-
-    const OUTPUT: &str = "file\ta/x\nenter\t\nenter\ta\n";
-
-    #[test]
-    fn each_read_fails_in_turn(rt: HostRuntime) {
-        reads_fail(&rt, Command::Walk, INPUT, OUTPUT);
-    }
-
-    #[test]
-    fn each_write_fails_in_turn(rt: HostRuntime) {
-        writes_fail(&rt, Command::Walk, INPUT, OUTPUT);
     }
 }
