@@ -90,14 +90,8 @@ module _ {D : Type 0} (sf : D → List ℕ → Type 0) where
   pub front_2 : (s0 s1 s2 new : D) (a b c : List ℕ) → Takes sf s0 s1 a → Takes sf s1 s2 b → TakesFront sf s2 new c → TakesFront sf s0 new (a ++ (b ++ c))
   front_2 s0 s1 s2 new a b c t u f = front_next sf s0 s1 new a (b ++ c) t (front_next sf s1 s2 new b c u f)
 
-  pub front_2_rest : (s0 s1 s2 new : D) (a b c rest : List ℕ) → Takes sf s0 s1 a → Takes sf s1 s2 b → TakesFront sf s2 new c → TakesFront sf s0 new (a ++ (b ++ (c ++ rest)))
-  front_2_rest s0 s1 s2 new a b c rest t u f = front_2 s0 s1 s2 new a b (c ++ rest) t u (front_first sf s2 new c rest f)
-
   -- the same for parts that are joined from the left, as a tuple's
   pub front_left_2 : (s0 s1 s2 new : D) (a b c : List ℕ) → Takes sf s0 s1 a → Takes sf s1 s2 b → TakesFront sf s2 new c → TakesFront sf s0 new (a ++ b ++ c)
   front_left_2 s0 s1 s2 new a b c t u f = front_next sf s0 s2 new (a ++ b) c (takes_next sf s0 s1 s2 a b t u) f
 
-  pub front_left_3 : (s0 s1 s2 s3 new : D) (a b c d : List ℕ) → Takes sf s0 s1 a → Takes sf s1 s2 b → Takes sf s2 s3 c → TakesFront sf s3 new d → TakesFront sf s0 new (a ++ b ++ c ++ d)
-  front_left_3 s0 s1 s2 s3 new a b c d t u v f = front_next sf s0 s3 new (a ++ b ++ c) d (takes_next sf s0 s2 s3 (a ++ b) c (takes_next sf s0 s1 s2 a b t u) v) f
-
-pub ruleset fronts = (front_first, front_next, front_1, front_2, front_2_rest)
+pub ruleset fronts = (front_first, front_next, front_1, front_2)

@@ -246,22 +246,42 @@ impl<T: ContentHash> ContentHash for Option<T> {
     }
 }
 
-// An entry of a map: the key, and then the value.
+/// Appends the content of a value, and then that of another.
 #[tactic(auto, using(crate::proofs::Fronts::fronts))]
-fn hash_entry<K: ContentHash, V: ContentHash, D: DigestUpdate>(
+pub fn hash_both<A: ContentHash, B: ContentHash, D: DigestUpdate>(
     alloc: Global,
-    key: &K,
-    value: &V,
+    first: &A,
+    second: &B,
     state: &mut D,
 ) -> Result<(), AllocError>
     ensures ok { OnOk result (Takes D.stands_for state.old state.new
-        (entry_content K.content V.content (key.now, value.now))) }
-    ensures value { OnOk result (K.is_value key.now × V.is_value value.now) }
+        (A.content first.now ++ B.content second.now)) }
+    ensures value { OnOk result (A.is_value first.now × B.is_value second.now) }
     ensures err { OnErr result (TakesFront D.stands_for state.old state.new
-        (entry_content K.content V.content (key.now, value.now))) }
+        (A.content first.now ++ B.content second.now)) }
 {
-    key.hash(alloc, state)?;
-    value.hash(alloc, state)
+    first.hash(alloc, state)?;
+    second.hash(alloc, state)
+}
+
+/// Appends the content of three values, one after another.
+#[tactic(auto, using(crate::proofs::Fronts::fronts))]
+pub fn hash_three<A: ContentHash, B: ContentHash, C: ContentHash, D: DigestUpdate>(
+    alloc: Global,
+    first: &A,
+    second: &B,
+    third: &C,
+    state: &mut D,
+) -> Result<(), AllocError>
+    ensures ok { OnOk result (Takes D.stands_for state.old state.new
+        (A.content first.now ++ (B.content second.now ++ C.content third.now))) }
+    ensures value { OnOk result (A.is_value first.now
+        × (B.is_value second.now × C.is_value third.now)) }
+    ensures err { OnErr result (TakesFront D.stands_for state.old state.new
+        (A.content first.now ++ (B.content second.now ++ C.content third.now))) }
+{
+    first.hash(alloc, state)?;
+    hash_both(alloc, second, third, state)
 }
 
 impl<K: ContentHash + Ord, V: ContentHash> ContentHash for BTreeMap<K, V> {
@@ -277,7 +297,7 @@ impl<K: ContentHash + Ord, V: ContentHash> ContentHash for BTreeMap<K, V> {
     fn hash<D: DigestUpdate>(&self, alloc: Global, state: &mut D) -> Result<(), AllocError> {
         state.update(&(self.len() as u64).to_le_bytes());
         for (key, value) in self.iter() {
-            hash_entry(alloc, key, value, state)?;
+            hash_both(alloc, key, value, state)?;
         }
         Ok(())
     }
@@ -324,7 +344,7 @@ fn hash_pairs<K: ContentHash, V: ContentHash, D: DigestUpdate>(
 {
     state.update(&(pairs.len() as u64).to_le_bytes());
     for pair in pairs {
-        hash_entry(alloc, pair.0, pair.1, state)?;
+        hash_both(alloc, pair.0, pair.1, state)?;
     }
     Ok(())
 }
@@ -422,10 +442,8 @@ impl<T: ContentHash, U: ContentHash> ContentHash for (T, U) {
 
     ghost lawful = { both_lawful (on_lawful (λ p. p.0) T.lawful) (on_lawful (λ p. p.1) U.lawful) };
 
-    #[tactic(auto, using(crate::proofs::Fronts::fronts))]
     fn hash<D: DigestUpdate>(&self, alloc: Global, state: &mut D) -> Result<(), AllocError> {
-        self.0.hash(alloc, state)?;
-        self.1.hash(alloc, state)
+        hash_both(alloc, &self.0, &self.1, state)
     }
 }
 
@@ -439,10 +457,8 @@ impl<A: ContentHash, B: ContentHash, C: ContentHash> ContentHash for (A, B, C) {
 
     #[tactic(auto, using(crate::proofs::Fronts::fronts))]
     fn hash<D: DigestUpdate>(&self, alloc: Global, state: &mut D) -> Result<(), AllocError> {
-        self.0.hash(alloc, state)?;
-        self.1.hash(alloc, state)?;
-        self.2.hash(alloc, state)?;
-        Ok(())
+        hash_both(alloc, &self.0, &self.1, state)?;
+        self.2.hash(alloc, state)
     }
 }
 
@@ -457,11 +473,9 @@ impl<A: ContentHash, B: ContentHash, C: ContentHash, D: ContentHash> ContentHash
 
     #[tactic(auto, using(crate::proofs::Fronts::fronts))]
     fn hash<S: DigestUpdate>(&self, alloc: Global, state: &mut S) -> Result<(), AllocError> {
-        self.0.hash(alloc, state)?;
-        self.1.hash(alloc, state)?;
+        hash_both(alloc, &self.0, &self.1, state)?;
         self.2.hash(alloc, state)?;
-        self.3.hash(alloc, state)?;
-        Ok(())
+        self.3.hash(alloc, state)
     }
 }
 

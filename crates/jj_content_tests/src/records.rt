@@ -3,7 +3,7 @@ ghost use Rattle.std.specs.Prelude.{◌≡◌, ℕ, ◌++◌, List, OnOk, OnErr}
 ghost use Rattle.jj_content.specs.Content.{Takes, TakesFront, IsLawful};
 ghost use Rattle.jj_content.specs.Lawful.{on_lawful, both_lawful, list_lawful, option_lawful, i32_lawful, i64_lawful};
 
-use jj_content::content_hash::{ContentHash, DigestUpdate};
+use jj_content::content_hash::{ContentHash, DigestUpdate, hash_both, hash_three};
 use std::alloc::{AllocError, Global};
 
 /// A list of options, and a number.
@@ -23,10 +23,8 @@ impl ContentHash for Foo {
     ghost lawful = { both_lawful (on_lawful (λ r. r.x.items)
         (list_lawful (option_lawful i32_lawful))) (on_lawful (λ r. r.y) i64_lawful) };
 
-    #[tactic(auto, using(jj_content::proofs::Fronts::fronts))]
     fn hash<D: DigestUpdate>(&self, alloc: Global, state: &mut D) -> Result<(), AllocError> {
-        self.x.hash(alloc, state)?;
-        self.y.hash(alloc, state)
+        hash_both(alloc, &self.x, &self.y, state)
     }
 }
 
@@ -44,10 +42,8 @@ impl<X: ContentHash, Y: ContentHash> ContentHash for GenericFoo<X, Y> {
 
     ghost lawful = { both_lawful (on_lawful (λ r. r.x) X.lawful) (on_lawful (λ r. r.y) Y.lawful) };
 
-    #[tactic(auto, using(jj_content::proofs::Fronts::fronts))]
     fn hash<D: DigestUpdate>(&self, alloc: Global, state: &mut D) -> Result<(), AllocError> {
-        self.x.hash(alloc, state)?;
-        self.y.hash(alloc, state)
+        hash_both(alloc, &self.x, &self.y, state)
     }
 }
 
@@ -81,12 +77,8 @@ impl ContentHash for Triple {
     ghost lawful = { both_lawful (on_lawful (λ r. r.0) i32_lawful)
         (both_lawful (on_lawful (λ r. r.1) i32_lawful) (on_lawful (λ r. r.2) i32_lawful)) };
 
-    #[tactic(auto, using(jj_content::proofs::Fronts::fronts))]
     fn hash<D: DigestUpdate>(&self, alloc: Global, state: &mut D) -> Result<(), AllocError> {
-        self.0.hash(alloc, state)?;
-        self.1.hash(alloc, state)?;
-        self.2.hash(alloc, state)?;
-        Ok(())
+        hash_three(alloc, &self.0, &self.1, &self.2, state)
     }
 }
 
@@ -110,10 +102,7 @@ impl ContentHash for Quadruple {
     #[tactic(auto, using(jj_content::proofs::Fronts::fronts))]
     fn hash<D: DigestUpdate>(&self, alloc: Global, state: &mut D) -> Result<(), AllocError> {
         self.0.hash(alloc, state)?;
-        self.1.hash(alloc, state)?;
-        self.2.hash(alloc, state)?;
-        self.3.hash(alloc, state)?;
-        Ok(())
+        hash_three(alloc, &self.1, &self.2, &self.3, state)
     }
 }
 
@@ -171,8 +160,7 @@ impl ContentHash for Kind {
         match self {
             Kind::File { id, executable } => {
                 0u32.hash(alloc, state)?;
-                id.hash(alloc, state)?;
-                executable.hash(alloc, state)
+                hash_both(alloc, id, executable, state)
             }
             Kind::Symlink(target) => {
                 1u32.hash(alloc, state)?;

@@ -9,14 +9,14 @@ use Rattle.jj_content.specs.Content.{Takes, u64_content, list_content, entry_con
 use Rattle.jj_content.proofs.Fronts.{takes_more, front_more, on_err_from}
 use Rattle.jj_content.proofs.content_hash.BTreeMapContentHash.hash.Goals as goal
 
-pub returns-in_err-hash_entry-clause-err : goal.returns-in_err-hash_entry-clause-err
+pub returns-in_err-hash_both-clause-err : goal.returns-in_err-hash_both-clause-err
 unfolding list_content
-returns-in_err-hash_entry-clause-err g c =
+returns-in_err-hash_both-clause-err g c =
     let left = rest_more deref_pair c.loop-key.key-iterator c.next.new.self c.next.result (c.in-Some.key, c.in-Some.value) c.in-Some.is c.next.ensures.steps in
     on_err_from c.from_residual.result
-    (front_more g.D.DigestUpdate.stands_for (entry_content g.K.ContentHash.content g.V.ContentHash.content) c.args.state.now c.loop-key.state c.hash_entry.new.state
+    (front_more g.D.DigestUpdate.stands_for (entry_content g.K.ContentHash.content g.V.ContentHash.content) c.args.state.now c.loop-key.state c.hash_both.new.state
     (u64_content (length c.args.self.now.entries)) (map deref_pair c.loop-key.yielded) (c.in-Some.key.now, c.in-Some.value.now) c.next.new.self c.args.self.now.entries
-    (ap (λ z. map deref_pair c.loop-key.yielded ++ z) (sym left) ∙ c.loop-key.invariant.left) c.loop-key.invariant.taken c.in_err-hash_entry.ensures.err)
+    (ap (λ z. map deref_pair c.loop-key.yielded ++ z) (sym left) ∙ c.loop-key.invariant.left) c.loop-key.invariant.taken c.in_err-hash_both.ensures.err)
 
 pub loop-key-preserved : goal.loop-key-preserved
 loop-key-preserved g c =
@@ -26,12 +26,12 @@ loop-key-preserved g c =
     let more : map deref_pair (c.loop-key.yielded ++ x ∷ []) ≡ done ++ deref_pair x ∷ [] = map-append deref_pair c.loop-key.yielded (x ∷ []) in
     let is_value : g.row.K.Denot × g.row.V.Denot → Type 0 = λ e. g.K.ContentHash.is_value e.0 × g.V.ContentHash.is_value e.1 in
     let content = entry_content g.K.ContentHash.content g.V.ContentHash.content in
-    let taken = takes_more g.D.DigestUpdate.stands_for content c.args.state.now c.loop-key.state c.hash_entry.new.state
-    (u64_content (length c.args.self.now.entries)) done (deref_pair x) c.loop-key.invariant.taken c.in_ok-hash_entry.ensures.ok in
+    let taken = takes_more g.D.DigestUpdate.stands_for content c.args.state.now c.loop-key.state c.hash_both.new.state
+    (u64_content (length c.args.self.now.entries)) done (deref_pair x) c.loop-key.invariant.taken c.in_ok-hash_both.ensures.ok in
     record {
       can = tt;
       ends = tt;
       left = ap (λ z. z ++ c.next.new.self) more ∙ append_assoc done (deref_pair x ∷ []) c.next.new.self ∙ ap (λ z. done ++ z) (sym left) ∙ c.loop-key.invariant.left;
-      taken = subst (λ z. Takes g.D.DigestUpdate.stands_for c.args.state.now c.hash_entry.new.state (u64_content (length c.args.self.now.entries) ++ flat_map content z)) (sym more) taken;
-      values = subst (All is_value) (sym more) (All-push is_value done (deref_pair x) c.loop-key.invariant.values c.in_ok-hash_entry.ensures.value);
+      taken = subst (λ z. Takes g.D.DigestUpdate.stands_for c.args.state.now c.hash_both.new.state (u64_content (length c.args.self.now.entries) ++ flat_map content z)) (sym more) taken;
+      values = subst (All is_value) (sym more) (All-push is_value done (deref_pair x) c.loop-key.invariant.values c.in_ok-hash_both.ensures.value);
     }
