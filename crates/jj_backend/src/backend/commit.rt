@@ -2,13 +2,13 @@
 ghost use Rattle.std.specs.Prelude.{◌≡◌, ◌++◌, map, IfOk, OnOk, OnErr, string_bytes};
 ghost use Rattle.std.specs.Cmp;
 ghost use Rattle.jj_content.specs.Content.{Takes, TakesFront, IsLawful};
-ghost use Rattle.jj_backend.specs.Contents.{IsOrigin, origin_content, IsMessage, message_content, AreSigners, signers_content, IsCommit, commit_content};
+ghost use Rattle.jj_backend.specs.Contents.{IsMessage, message_content, IsCommit, commit_content};
 ghost use Rattle.jj_backend.specs.RecordLaws.{commit_equiv, commit_lawful};
 ghost use Rattle.jj_backend.specs.Records.{CommitValue, origin_eq, message_eq, signers_eq, commit_eq, no_signature, root_commit};
 
 use super::merged_parts::{are_same_texts, copied_texts, copied_trees, hash_texts};
 use super::{MillisSinceEpoch, SecureSig, Signature, Timestamp};
-use jj_content::content_hash::{ContentHash, DigestUpdate};
+use jj_content::content_hash::{ContentHash, DigestUpdate, hash_both, hash_three};
 use jj_ids::object_id::{ChangeId, CommitId, TreeId};
 use jj_merges::merge::Merge;
 use std::alloc::{AllocError, Global};
@@ -71,20 +71,6 @@ impl Commit {
     }
 
     #[tactic(auto, using(jj_content::proofs::Fronts::fronts))]
-    fn hash_origin<D: DigestUpdate>(&self, alloc: Global, state: &mut D) -> Result<(), AllocError>
-        ensures ok { OnOk result (Takes D.stands_for state.old state.new
-            (origin_content self.now)) }
-        ensures value { OnOk result (IsOrigin self.now) }
-        ensures err { OnErr result (TakesFront D.stands_for state.old state.new
-            (origin_content self.now)) }
-    {
-        ContentHash::hash(&self.parents, alloc, state)?;
-        ContentHash::hash(&self.predecessors, alloc, state)?;
-        ContentHash::hash(&self.root_tree, alloc, state)?;
-        Ok(())
-    }
-
-    #[tactic(auto, using(jj_content::proofs::Fronts::fronts))]
     fn hash_message<D: DigestUpdate>(&self, alloc: Global, state: &mut D) -> Result<(), AllocError>
         ensures ok { OnOk result (Takes D.stands_for state.old state.new
             (message_content self.now)) }
@@ -93,23 +79,7 @@ impl Commit {
             (message_content self.now)) }
     {
         hash_texts(alloc, state, &self.conflict_labels)?;
-        ContentHash::hash(&self.change_id, alloc, state)?;
-        ContentHash::hash(&self.description, alloc, state)?;
-        Ok(())
-    }
-
-    #[tactic(auto, using(jj_content::proofs::Fronts::fronts))]
-    fn hash_signers<D: DigestUpdate>(&self, alloc: Global, state: &mut D) -> Result<(), AllocError>
-        ensures ok { OnOk result (Takes D.stands_for state.old state.new
-            (signers_content self.now)) }
-        ensures value { OnOk result (AreSigners self.now) }
-        ensures err { OnErr result (TakesFront D.stands_for state.old state.new
-            (signers_content self.now)) }
-    {
-        ContentHash::hash(&self.author, alloc, state)?;
-        ContentHash::hash(&self.committer, alloc, state)?;
-        ContentHash::hash(&self.secure_sig, alloc, state)?;
-        Ok(())
+        hash_both(alloc, &self.change_id, &self.description, state)
     }
 }
 
@@ -174,10 +144,21 @@ impl ContentHash for Commit {
 
     #[tactic(auto, using(jj_content::proofs::Fronts::fronts))]
     fn hash<D: DigestUpdate>(&self, alloc: Global, state: &mut D) -> Result<(), AllocError> {
-        self.hash_origin(alloc, state)?;
+        hash_three(
+            alloc,
+            &self.parents,
+            &self.predecessors,
+            &self.root_tree,
+            state,
+        )?;
         self.hash_message(alloc, state)?;
-        self.hash_signers(alloc, state)?;
-        Ok(())
+        hash_three(
+            alloc,
+            &self.author,
+            &self.committer,
+            &self.secure_sig,
+            state,
+        )
     }
 }
 

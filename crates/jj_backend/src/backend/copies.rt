@@ -7,7 +7,7 @@ ghost use Rattle.jj_backend.specs.CopyHistoryOrder.{copy_history_cmp, copy_histo
 ghost use Rattle.jj_backend.specs.RecordLaws.{copy_history_equiv, copy_history_lawful};
 ghost use Rattle.jj_backend.specs.Records.{CopyHistoryValue, copy_history_eq};
 
-use jj_content::content_hash::{ContentHash, DigestUpdate};
+use jj_content::content_hash::{ContentHash, DigestUpdate, hash_three};
 use jj_ids::object_id::{CommitId, CopyId, FileId};
 use jj_paths::repo_path::RepoPathBuf;
 use std::alloc::{AllocError, Global};
@@ -133,12 +133,8 @@ impl ContentHash for CopyHistory {
 
     ghost lawful = { copy_history_lawful };
 
-    #[tactic(auto, using(jj_content::proofs::Fronts::fronts))]
     fn hash<D: DigestUpdate>(&self, alloc: Global, state: &mut D) -> Result<(), AllocError> {
-        ContentHash::hash(&self.current_path, alloc, state)?;
-        ContentHash::hash(&self.parents, alloc, state)?;
-        ContentHash::hash(&self.salt, alloc, state)?;
-        Ok(())
+        hash_three(alloc, &self.current_path, &self.parents, &self.salt, state)
     }
 }
 

@@ -10,7 +10,7 @@ ghost use Rattle.jj_backend.specs.RecordLaws.{signature_equiv, secure_sig_equiv,
 ghost use Rattle.jj_backend.specs.Records.{SignatureValue, SecureSigValue, signature_eq, secure_sig_eq};
 
 use super::Timestamp;
-use jj_content::content_hash::{ContentHash, DigestUpdate};
+use jj_content::content_hash::{ContentHash, DigestUpdate, hash_both, hash_three};
 use std::alloc::{AllocError, Global};
 use std::hash::{Hash, Hasher};
 use std::marker::Model;
@@ -79,12 +79,8 @@ impl ContentHash for Signature {
 
     ghost lawful = { signature_lawful };
 
-    #[tactic(auto, using(jj_content::proofs::Fronts::fronts))]
     fn hash<D: DigestUpdate>(&self, alloc: Global, state: &mut D) -> Result<(), AllocError> {
-        ContentHash::hash(&self.name, alloc, state)?;
-        ContentHash::hash(&self.email, alloc, state)?;
-        ContentHash::hash(&self.timestamp, alloc, state)?;
-        Ok(())
+        hash_three(alloc, &self.name, &self.email, &self.timestamp, state)
     }
 }
 
@@ -133,9 +129,7 @@ impl ContentHash for SecureSig {
 
     ghost lawful = { secure_sig_lawful };
 
-    #[tactic(auto, using(jj_content::proofs::Fronts::fronts))]
     fn hash<D: DigestUpdate>(&self, alloc: Global, state: &mut D) -> Result<(), AllocError> {
-        ContentHash::hash(&self.signed_data, alloc, state)?;
-        ContentHash::hash(&self.sig, alloc, state)
+        hash_both(alloc, &self.signed_data, &self.sig, state)
     }
 }

@@ -9,7 +9,7 @@ ghost use Rattle.jj_backend.specs.Contents.{millis_content, timestamp_content, I
 
 use jiff::Zoned;
 use jiff::tz::{Offset, TimeZone};
-use jj_content::content_hash::{ContentHash, DigestUpdate};
+use jj_content::content_hash::{ContentHash, DigestUpdate, hash_both};
 use std::alloc::{AllocError, Global};
 use thiserror::Error;
 
@@ -105,9 +105,7 @@ impl ContentHash for Timestamp {
         (on_lawful (λ time. time.timestamp.0) i64_lawful)
         (on_lawful (λ time. time.tz_offset) i32_lawful) };
 
-    #[tactic(auto, using(jj_content::proofs::Fronts::fronts))]
     fn hash<D: DigestUpdate>(&self, alloc: Global, state: &mut D) -> Result<(), AllocError> {
-        ContentHash::hash(&self.timestamp, alloc, state)?;
-        ContentHash::hash(&self.tz_offset, alloc, state)
+        hash_both(alloc, &self.timestamp, &self.tz_offset, state)
     }
 }

@@ -1,12 +1,11 @@
 //! What stands at a name of a tree.
-ghost use Rattle.std.specs.Prelude.{◌≡◌, OnOk, OnErr, ⊤};
+ghost use Rattle.std.specs.Prelude.{◌≡◌, OnOk, OnErr};
 ghost use Rattle.std.specs.Option.{option_copied, option_and_then};
 ghost use Rattle.jj_content.specs.Content.{Takes, TakesFront, IsLawful};
-ghost use Rattle.jj_backend.specs.Contents.{AreBytes};
-ghost use Rattle.jj_backend.specs.TreeValues.{copy_id_of, file_content, IsTreeValue, tree_value_content};
+ghost use Rattle.jj_backend.specs.TreeValues.{copy_id_of, IsTreeValue, tree_value_content};
 ghost use Rattle.jj_backend.specs.TreeValueLaws.{tree_value_lawful};
 
-use jj_content::content_hash::{ContentHash, DigestUpdate};
+use jj_content::content_hash::{ContentHash, DigestUpdate, hash_both, hash_three};
 use jj_ids::object_id::{CommitId, CopyId, FileId, SymlinkId, TreeId};
 use std::alloc::{AllocError, Global};
 
@@ -33,27 +32,6 @@ impl TreeValue {
             _ => None,
         }
     }
-}
-
-// Appends the content of a file's fields.
-#[tactic(auto, using(jj_content::proofs::Fronts::fronts))]
-fn hash_file<D: DigestUpdate>(
-    alloc: Global,
-    state: &mut D,
-    id: &FileId,
-    executable: bool,
-    copy_id: &CopyId,
-) -> Result<(), AllocError>
-    ensures ok { OnOk result (Takes D.stands_for state.old state.new
-        (file_content id.now executable copy_id.now)) }
-    ensures value { OnOk result (AreBytes id.now × (⊤ × AreBytes copy_id.now)) }
-    ensures err { OnErr result (TakesFront D.stands_for state.old state.new
-        (file_content id.now executable copy_id.now)) }
-{
-    ContentHash::hash(id, alloc, state)?;
-    ContentHash::hash(&executable, alloc, state)?;
-    ContentHash::hash(copy_id, alloc, state)?;
-    Ok(())
 }
 
 impl Clone for TreeValue {
@@ -93,20 +71,11 @@ impl ContentHash for TreeValue {
                 copy_id,
             } => {
                 ContentHash::hash(&0u32, alloc, state)?;
-                hash_file(alloc, state, id, *executable, copy_id)
+                hash_three(alloc, id, executable, copy_id, state)
             }
-            TreeValue::Symlink(id) => {
-                ContentHash::hash(&1u32, alloc, state)?;
-                ContentHash::hash(id, alloc, state)
-            }
-            TreeValue::Tree(id) => {
-                ContentHash::hash(&2u32, alloc, state)?;
-                ContentHash::hash(id, alloc, state)
-            }
-            TreeValue::GitSubmodule(id) => {
-                ContentHash::hash(&3u32, alloc, state)?;
-                ContentHash::hash(id, alloc, state)
-            }
+            TreeValue::Symlink(id) => hash_both(alloc, &1u32, id, state),
+            TreeValue::Tree(id) => hash_both(alloc, &2u32, id, state),
+            TreeValue::GitSubmodule(id) => hash_both(alloc, &3u32, id, state),
         }
     }
 }
