@@ -2,7 +2,7 @@
 -- Cited by contracts of public items: bool_lawful, both_lawful, i32_lawful, i64_lawful,
 -- list_lawful, on_lawful, option_lawful, text_lawful, u32_lawful, u64_lawful, u8_lawful,
 -- unit_lawful.
-use Rattle.std.proofs.Common.{◌≡◌, ℕ, ◌<◌, ◌^◌, List, [], ◌∷◌, ◌++◌, length, take, drop, Bool, true, false, refl, sym, ap, ◌∙◌, arith, Option, Some, None, eq-eqb}
+use Rattle.std.proofs.Common.{◌≡◌, ◌&&◌, ℕ, ◌<◌, ◌^◌, List, [], ◌∷◌, ◌++◌, length, take, drop, Bool, true, false, refl, sym, ap, ◌∙◌, arith, Option, Some, None, eq-eqb}
 use Rattle.std.proofs.lemmas.List.{append_assoc, append_cancel_left}
 use Rattle.std.proofs.lemmas.List.Elements.{recursion_from_All}
 use Rattle.std.proofs.lemmas.Bool.{eqb-true, and_parts, and_from}
@@ -14,6 +14,7 @@ use Rattle.std.specs.Prelude.{nat_eq, ⊤, ℤ, FitsSigned}
 use Rattle.std.specs.Bool.{beq}
 use Rattle.std.specs.List.{flat_map, AllByRecursion}
 use Rattle.std.specs.Cmp.Lexicographic.{pointwise, as_long, same_text}
+use Rattle.std.proofs.Math.Bool.{and_assoc}
 use Rattle.std.proofs.Math.Seq.{take-append_seam}
 use Rattle.std.proofs.lemmas.Cmp.{nat_list_eq_equiv}
 use Rattle.std.specs.Option.{option_eq}
@@ -91,6 +92,30 @@ both_lawful {X} {v} {w} {e} {f} {c} {d} l m = record {
       (h' ∙ ap (λ (z : List ℕ). z ++ (d y ++ t)) (sym here)) in
       and_from (e x y) (f x y) first (m.decides x y s t p.1 q.1 rest);
 }
+
+-- by a test of equality that answers the same
+same_lawful : {X : Type 0} {v : X → Type 0} {e f : X → X → Bool} {c : X → List ℕ}
+    → ((x y : X) → f x y ≡ e x y) → IsLawful v e c → IsLawful v f c
+same_lawful alike l = record {
+  same = λ x y p q h. l.same x y p q (sym (alike x y) ∙ h);
+  decides = λ x y s t p q h. alike x y ∙ l.decides x y s t p q h;
+}
+
+-- two or three parts together and then what follows them, where equality goes part by part
+module _ {X : Type 0} {u v w : X → Type 0} {e f g : X → X → Bool} {a b c : X → List ℕ}
+    (first : IsLawful u e a) (second : IsLawful v f b) (third : IsLawful w g c) where
+  pub two_then_lawful : IsLawful (λ x. (u x × v x) × w x) (eq_of_both e (eq_of_both f g))
+      (λ x. (a x ++ b x) ++ c x)
+  two_then_lawful = same_lawful (λ x y. sym (and_assoc (e x y) (f x y) (g x y)))
+      (both_lawful (both_lawful first second) third)
+
+  pub three_then_lawful : {y : X → Type 0} {h : X → X → Bool} {d : X → List ℕ} → IsLawful y h d
+      → IsLawful (λ x. (u x × (v x × w x)) × y x) (eq_of_both e (eq_of_both f (eq_of_both g h)))
+      (λ x. (a x ++ (b x ++ c x)) ++ d x)
+  three_then_lawful {h = h} fourth = same_lawful
+      (λ x y. ap (λ rest. e x y && rest) (sym (and_assoc (f x y) (g x y) (h x y)))
+      ∙ sym (and_assoc (e x y) (f x y && g x y) (h x y)))
+      (both_lawful (both_lawful first (both_lawful second third)) fourth)
 
 module _ {X : Type 0} {v : X → Type 0} {e : X → X → Bool} {c : X → List ℕ}
     (l : IsLawful v e c) where

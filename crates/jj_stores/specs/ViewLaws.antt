@@ -1,19 +1,19 @@
--- That views are equal by parts, and that content tells them apart, from the laws of their parts.
+-- When views are equal, part by part, and that content tells them apart, from the laws of their
+-- parts.
 -- Cited by contracts of public items: remote_view_eq, remote_view_equiv, remote_view_lawful,
 -- view_eq, view_equiv, view_lawful.
 use Rattle.std.specs.Prelude.{ℕ, List, Bool}
 use Rattle.std.specs.Cmp.{IsEquivalence, and_equiv, on_equiv}
 use Rattle.std.specs.Cmp.Lexicographic.{pointwise, nat_list_eq_equiv, nat_list_cmp_total, texts_ties, lists_equiv, options_equiv}
 use Rattle.std.specs.HashSet.{hash_set_eq}
-use Rattle.std.specs.HashSet.Eq.{hash_set_eq_equiv}
 use Rattle.std.specs.Ordering.{eq_of_both, on}
 use Rattle.std.specs.Str.{bytes_eq}
 use Rattle.jj_content.specs.Content.{IsLawful}
-use Rattle.jj_content.specs.Lawful.{on_lawful, both_lawful, list_lawful, text_lawful}
+use Rattle.jj_content.specs.Lawful.{on_lawful, both_lawful, two_then_lawful, three_then_lawful, list_lawful, text_lawful}
 use Rattle.jj_content.specs.Tables.{hash_set_lawful}
 use Rattle.jj_backend.specs.RecordLaws.{bytes_lawful}
-use Rattle.jj_stores.specs.RefTargetLaws.{target_eq, target_lawful, remote_ref_eq, remote_ref_equiv, remote_ref_lawful}
-use Rattle.jj_stores.specs.Views.{AreNamed, named_content, IsRemoteView, remote_view_content, IsLocal, local_content, IsElsewhere, elsewhere_content, AreWorkspaces, workspaces_content, IsView, view_content}
+use Rattle.jj_stores.specs.RefTargetLaws.{target_eq, target_lawful, remote_ref_eq, remote_ref_lawful}
+use Rattle.jj_stores.specs.Views.{AreNamed, named_content, IsRemoteView, remote_view_content, IsView, view_content}
 use Rattle.jj_stores.specs.declared.op_store.view.RemoteView.{RemoteView}
 use Rattle.jj_stores.specs.declared.op_store.view.View.{View}
 
@@ -41,10 +41,6 @@ abbrev pub remote_view_eq : RemoteView → RemoteView → Bool
 remote_view_eq = eq_of_both (on (λ v. v.bookmarks.entries) (named_eq remote_ref_eq))
     (on (λ v. v.tags.entries) (named_eq remote_ref_eq))
 
-pub remote_view_equiv : IsEquivalence remote_view_eq
-remote_view_equiv = and_equiv (on_equiv (λ v. v.bookmarks.entries) (named_equiv remote_ref_equiv))
-    (on_equiv (λ v. v.tags.entries) (named_equiv remote_ref_equiv))
-
 pub remote_view_lawful : IsLawful IsRemoteView remote_view_eq remote_view_content
 remote_view_lawful = both_lawful (on_lawful (λ v. v.bookmarks.entries)
     (named_lawful remote_ref_lawful)) (on_lawful (λ v. v.tags.entries)
@@ -52,55 +48,24 @@ remote_view_lawful = both_lawful (on_lawful (λ v. v.bookmarks.entries)
 
 -- ---- views
 
-abbrev pub local_eq : View → View → Bool
-local_eq =
+-- all parts are equal
+abbrev pub view_eq : View → View → Bool
+view_eq =
     eq_of_both (on (λ v. v.head_ids) (hash_set_eq bytes_eq))
     (eq_of_both (on (λ v. v.local_bookmarks.entries) (named_eq target_eq))
-    (on (λ v. v.local_tags.entries) (named_eq target_eq)))
-
-abbrev pub elsewhere_eq : View → View → Bool
-elsewhere_eq = eq_of_both (on (λ v. v.remote_views.entries) (named_eq remote_view_eq))
-    (on (λ v. v.git_refs.entries) (named_eq target_eq))
-
-abbrev pub workspaces_eq : View → View → Bool
-workspaces_eq = eq_of_both (on (λ v. v.git_heads.entries) (named_eq target_eq))
-    (on (λ v. v.wc_commit_ids.entries) (named_eq bytes_eq))
-
-abbrev pub view_eq : View → View → Bool
-view_eq = eq_of_both local_eq (eq_of_both elsewhere_eq workspaces_eq)
-
-local_equiv : IsEquivalence local_eq
-local_equiv =
-    and_equiv (on_equiv (λ v. v.head_ids) (hash_set_eq_equiv nat_list_eq_equiv))
-    (and_equiv (on_equiv (λ v. v.local_bookmarks.entries) (named_equiv target_equiv))
-    (on_equiv (λ v. v.local_tags.entries) (named_equiv target_equiv)))
-
-elsewhere_equiv : IsEquivalence elsewhere_eq
-elsewhere_equiv = and_equiv (on_equiv (λ v. v.remote_views.entries) (named_equiv remote_view_equiv))
-    (on_equiv (λ v. v.git_refs.entries) (named_equiv target_equiv))
-
-workspaces_equiv : IsEquivalence workspaces_eq
-workspaces_equiv = and_equiv (on_equiv (λ v. v.git_heads.entries) (named_equiv target_equiv))
-    (on_equiv (λ v. v.wc_commit_ids.entries) (named_equiv nat_list_eq_equiv))
-
-pub view_equiv : IsEquivalence view_eq
-view_equiv = and_equiv local_equiv (and_equiv elsewhere_equiv workspaces_equiv)
-
-local_lawful : IsLawful IsLocal local_eq local_content
-local_lawful =
-    both_lawful (on_lawful (λ v. v.head_ids)
-    (hash_set_lawful nat_list_cmp_total nat_list_eq_equiv texts_ties bytes_lawful))
-    (both_lawful (on_lawful (λ v. v.local_bookmarks.entries) (named_lawful target_lawful))
-    (on_lawful (λ v. v.local_tags.entries) (named_lawful target_lawful)))
-
-elsewhere_lawful : IsLawful IsElsewhere elsewhere_eq elsewhere_content
-elsewhere_lawful = both_lawful (on_lawful (λ v. v.remote_views.entries)
-    (named_lawful remote_view_lawful)) (on_lawful (λ v. v.git_refs.entries)
-    (named_lawful target_lawful))
-
-workspaces_lawful : IsLawful AreWorkspaces workspaces_eq workspaces_content
-workspaces_lawful = both_lawful (on_lawful (λ v. v.git_heads.entries) (named_lawful target_lawful))
-    (on_lawful (λ v. v.wc_commit_ids.entries) (named_lawful bytes_lawful))
+    (eq_of_both (on (λ v. v.local_tags.entries) (named_eq target_eq))
+    (eq_of_both (on (λ v. v.remote_views.entries) (named_eq remote_view_eq))
+    (eq_of_both (on (λ v. v.git_refs.entries) (named_eq target_eq))
+    (eq_of_both (on (λ v. v.git_heads.entries) (named_eq target_eq))
+    (on (λ v. v.wc_commit_ids.entries) (named_eq bytes_eq)))))))
 
 pub view_lawful : IsLawful IsView view_eq view_content
-view_lawful = both_lawful local_lawful (both_lawful elsewhere_lawful workspaces_lawful)
+view_lawful =
+    three_then_lawful (on_lawful (λ v. v.head_ids)
+    (hash_set_lawful nat_list_cmp_total nat_list_eq_equiv texts_ties bytes_lawful))
+    (on_lawful (λ v. v.local_bookmarks.entries) (named_lawful target_lawful))
+    (on_lawful (λ v. v.local_tags.entries) (named_lawful target_lawful))
+    (two_then_lawful (on_lawful (λ v. v.remote_views.entries) (named_lawful remote_view_lawful))
+    (on_lawful (λ v. v.git_refs.entries) (named_lawful target_lawful))
+    (both_lawful (on_lawful (λ v. v.git_heads.entries) (named_lawful target_lawful))
+    (on_lawful (λ v. v.wc_commit_ids.entries) (named_lawful bytes_lawful))))

@@ -1,13 +1,12 @@
 //! Operations on a repository, and what is known of how they were done.
 ghost use Rattle.std.specs.Prelude.{◌≡◌, ◌++◌, ◌∷◌, [], true, IfOk, OnOk, OnErr};
-ghost use Rattle.std.specs.Cmp;
 ghost use Rattle.jj_content.specs.Content.{Takes, TakesFront, IsLawful};
-ghost use Rattle.jj_stores.specs.Operations.{IsRange, range_content, IsAct, act_content, IsActor, actor_content, IsSetting, setting_content, IsMetadata, metadata_content, AreLinks, links_content, IsAccount, account_content, IsOperation, operation_content, IsRootOperation};
-ghost use Rattle.jj_stores.specs.OperationLaws.{range_lawful, act_eq, actor_eq, setting_eq, metadata_eq, metadata_equiv, metadata_lawful, links_eq, account_eq, operation_eq, operation_equiv, operation_lawful};
+ghost use Rattle.jj_stores.specs.Operations.{IsRange, range_content, IsMetadata, metadata_content, IsOperation, operation_content, IsRootOperation};
+ghost use Rattle.jj_stores.specs.OperationLaws.{range_lawful, metadata_eq, metadata_lawful, operation_eq, operation_lawful};
 
 use super::{OperationId, ViewId};
 use jj_backend::backend::{CommitId, MillisSinceEpoch, Timestamp};
-use jj_content::content_hash::{ContentHash, DigestUpdate};
+use jj_content::content_hash::{ContentHash, DigestUpdate, hash_both, hash_three};
 use jj_ids::ref_name::WorkspaceNameBuf;
 use std::alloc::{AllocError, Global};
 use std::collections::BTreeMap;
@@ -26,16 +25,14 @@ impl ContentHash for TimestampRange {
 
     ghost lawful = { range_lawful };
 
-    #[tactic(auto, using(jj_content::proofs::Fronts::fronts))]
     fn hash<D: DigestUpdate>(&self, alloc: Global, state: &mut D) -> Result<(), AllocError> {
-        ContentHash::hash(&self.start, alloc, state)?;
-        ContentHash::hash(&self.end, alloc, state)
+        hash_both(alloc, &self.start, &self.end, state)
     }
 }
 
 /// What is known of how an operation was done: when, what and where, by whom, and what else is
 /// said of it.
-#[derive(Debug, Drop)]
+#[derive(Debug, PartialEq, Eq, Drop)]
 pub struct OperationMetadata {
     pub time: TimestampRange,
     pub description: String,
@@ -44,66 +41,6 @@ pub struct OperationMetadata {
     pub is_snapshot: bool,
     pub workspace_name: Option<WorkspaceNameBuf>,
     pub attributes: BTreeMap<String, String>,
-}
-
-impl OperationMetadata {
-    // Whether the same was done at the same time.
-    fn has_same_act(&self, other: &OperationMetadata) -> bool
-        ensures { result ≡ act_eq self.now other.now }
-    {
-        self.time == other.time && self.description == other.description
-    }
-
-    // Whether it was done by the same user of the same host.
-    fn has_same_actor(&self, other: &OperationMetadata) -> bool
-        ensures { result ≡ actor_eq self.now other.now }
-    {
-        self.hostname == other.hostname && self.username == other.username
-    }
-
-    // Whether it was done in the same workspace, and the same else is said of it.
-    fn has_same_setting(&self, other: &OperationMetadata) -> bool
-        ensures { result ≡ setting_eq self.now other.now }
-    {
-        self.is_snapshot == other.is_snapshot
-            && (self.workspace_name == other.workspace_name && self.attributes == other.attributes)
-    }
-
-    #[tactic(auto, using(jj_content::proofs::Fronts::fronts))]
-    fn hash_act<D: DigestUpdate>(&self, alloc: Global, state: &mut D) -> Result<(), AllocError>
-        ensures ok { OnOk result (Takes D.stands_for state.old state.new (act_content self.now)) }
-        ensures value { OnOk result (IsAct self.now) }
-        ensures err { OnErr result (TakesFront D.stands_for state.old state.new
-            (act_content self.now)) }
-    {
-        ContentHash::hash(&self.time, alloc, state)?;
-        ContentHash::hash(&self.description, alloc, state)
-    }
-
-    #[tactic(auto, using(jj_content::proofs::Fronts::fronts))]
-    fn hash_actor<D: DigestUpdate>(&self, alloc: Global, state: &mut D) -> Result<(), AllocError>
-        ensures ok { OnOk result (Takes D.stands_for state.old state.new (actor_content self.now)) }
-        ensures value { OnOk result (IsActor self.now) }
-        ensures err { OnErr result (TakesFront D.stands_for state.old state.new
-            (actor_content self.now)) }
-    {
-        ContentHash::hash(&self.hostname, alloc, state)?;
-        ContentHash::hash(&self.username, alloc, state)
-    }
-
-    #[tactic(auto, using(jj_content::proofs::Fronts::fronts))]
-    fn hash_setting<D: DigestUpdate>(&self, alloc: Global, state: &mut D) -> Result<(), AllocError>
-        ensures ok { OnOk result (Takes D.stands_for state.old state.new
-            (setting_content self.now)) }
-        ensures value { OnOk result (IsSetting self.now) }
-        ensures err { OnErr result (TakesFront D.stands_for state.old state.new
-            (setting_content self.now)) }
-    {
-        ContentHash::hash(&self.is_snapshot, alloc, state)?;
-        ContentHash::hash(&self.workspace_name, alloc, state)?;
-        ContentHash::hash(&self.attributes, alloc, state)?;
-        Ok(())
-    }
 }
 
 /// A copy equals its source.
@@ -123,20 +60,6 @@ impl Clone for OperationMetadata {
     }
 }
 
-impl PartialEq for OperationMetadata {
-    ghost eq = { metadata_eq };
-
-    ghost laws = { Cmp.partial_equiv_from_equiv metadata_equiv };
-
-    fn eq(&self, other: &OperationMetadata) -> bool {
-        self.has_same_act(other) && (self.has_same_actor(other) && self.has_same_setting(other))
-    }
-}
-
-impl Eq for OperationMetadata {
-    ghost laws = { metadata_equiv };
-}
-
 impl ContentHash for OperationMetadata {
     ghost is_value = { IsMetadata };
 
@@ -146,16 +69,21 @@ impl ContentHash for OperationMetadata {
 
     #[tactic(auto, using(jj_content::proofs::Fronts::fronts))]
     fn hash<D: DigestUpdate>(&self, alloc: Global, state: &mut D) -> Result<(), AllocError> {
-        self.hash_act(alloc, state)?;
-        self.hash_actor(alloc, state)?;
-        self.hash_setting(alloc, state)?;
-        Ok(())
+        hash_both(alloc, &self.time, &self.description, state)?;
+        hash_both(alloc, &self.hostname, &self.username, state)?;
+        hash_three(
+            alloc,
+            &self.is_snapshot,
+            &self.workspace_name,
+            &self.attributes,
+            state,
+        )
     }
 }
 
 /// An operation on a repository: the view that it led to, the operations that it followed, and the
 /// predecessors of the commits that it made, if they are known.
-#[derive(Debug, Drop)]
+#[derive(Debug, PartialEq, Eq, Drop)]
 pub struct Operation {
     pub view_id: ViewId,
     pub parents: Vec<OperationId>,
@@ -177,20 +105,6 @@ impl Clone for Operation {
     }
 }
 
-impl PartialEq for Operation {
-    ghost eq = { operation_eq };
-
-    ghost laws = { Cmp.partial_equiv_from_equiv operation_equiv };
-
-    fn eq(&self, other: &Operation) -> bool {
-        self.has_same_links(other) && self.has_same_account(other)
-    }
-}
-
-impl Eq for Operation {
-    ghost laws = { operation_equiv };
-}
-
 impl ContentHash for Operation {
     ghost is_value = { IsOperation };
 
@@ -200,8 +114,8 @@ impl ContentHash for Operation {
 
     #[tactic(auto, using(jj_content::proofs::Fronts::fronts))]
     fn hash<D: DigestUpdate>(&self, alloc: Global, state: &mut D) -> Result<(), AllocError> {
-        self.hash_links(alloc, state)?;
-        self.hash_account(alloc, state)
+        hash_both(alloc, &self.view_id, &self.parents, state)?;
+        hash_both(alloc, &self.metadata, &self.commit_predecessors, state)
     }
 }
 
@@ -232,43 +146,6 @@ impl Operation {
             metadata,
             commit_predecessors: Some(BTreeMap::new(alloc)),
         }
-    }
-
-    // Whether two operations led to the same view, from the same operations.
-    fn has_same_links(&self, other: &Operation) -> bool
-        ensures { result ≡ links_eq self.now other.now }
-    {
-        self.view_id == other.view_id && self.parents == other.parents
-    }
-
-    // Whether the same is known of how two operations were done.
-    fn has_same_account(&self, other: &Operation) -> bool
-        ensures { result ≡ account_eq self.now other.now }
-    {
-        self.metadata == other.metadata && self.commit_predecessors == other.commit_predecessors
-    }
-
-    #[tactic(auto, using(jj_content::proofs::Fronts::fronts))]
-    fn hash_links<D: DigestUpdate>(&self, alloc: Global, state: &mut D) -> Result<(), AllocError>
-        ensures ok { OnOk result (Takes D.stands_for state.old state.new (links_content self.now)) }
-        ensures value { OnOk result (AreLinks self.now) }
-        ensures err { OnErr result (TakesFront D.stands_for state.old state.new
-            (links_content self.now)) }
-    {
-        ContentHash::hash(&self.view_id, alloc, state)?;
-        ContentHash::hash(&self.parents, alloc, state)
-    }
-
-    #[tactic(auto, using(jj_content::proofs::Fronts::fronts))]
-    fn hash_account<D: DigestUpdate>(&self, alloc: Global, state: &mut D) -> Result<(), AllocError>
-        ensures ok { OnOk result (Takes D.stands_for state.old state.new
-            (account_content self.now)) }
-        ensures value { OnOk result (IsAccount self.now) }
-        ensures err { OnErr result (TakesFront D.stands_for state.old state.new
-            (account_content self.now)) }
-    {
-        ContentHash::hash(&self.metadata, alloc, state)?;
-        ContentHash::hash(&self.commit_predecessors, alloc, state)
     }
 }
 

@@ -8,7 +8,7 @@ ghost use Rattle.jj_stores.specs.RefTargetLaws.{state_lawful, remote_ref_lawful}
 
 use super::copies::CloneIn;
 use jj_backend::backend::CommitId;
-use jj_content::content_hash::{ContentHash, DigestUpdate};
+use jj_content::content_hash::{ContentHash, DigestUpdate, hash_both};
 use jj_merges::merge::Merge;
 use std::alloc::{AllocError, Global};
 
@@ -123,10 +123,8 @@ impl ContentHash for RemoteRef {
 
     ghost lawful = { remote_ref_lawful };
 
-    #[tactic(auto, using(jj_content::proofs::Fronts::fronts))]
     fn hash<D: DigestUpdate>(&self, alloc: Global, state: &mut D) -> Result<(), AllocError> {
-        ContentHash::hash(&self.target, alloc, state)?;
-        ContentHash::hash(&self.state, alloc, state)
+        hash_both(alloc, &self.target, &self.state, state)
     }
 }
 

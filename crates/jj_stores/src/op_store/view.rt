@@ -1,20 +1,19 @@
 //! Views of a repository: where its refs point to, here and at remotes.
 ghost use Rattle.std.specs.Prelude.{◌≡◌, ◌++◌, ◌∷◌, [], true, IfOk, OnOk, OnErr};
-ghost use Rattle.std.specs.Cmp;
 ghost use Rattle.jj_content.specs.Content.{Takes, TakesFront, IsLawful};
-ghost use Rattle.jj_stores.specs.Views.{IsRemoteView, remote_view_content, IsLocal, local_content, IsElsewhere, elsewhere_content, AreWorkspaces, workspaces_content, IsView, view_content, IsRootView};
-ghost use Rattle.jj_stores.specs.ViewLaws.{remote_view_eq, remote_view_equiv, remote_view_lawful, local_eq, elsewhere_eq, workspaces_eq, view_eq, view_equiv, view_lawful};
+ghost use Rattle.jj_stores.specs.Views.{IsRemoteView, remote_view_content, IsView, view_content, IsRootView};
+ghost use Rattle.jj_stores.specs.ViewLaws.{remote_view_eq, remote_view_lawful, view_eq, view_lawful};
 
 use super::copies::{CloneIn, copied_map};
 use super::{RefTarget, RemoteRef};
 use jj_backend::backend::CommitId;
-use jj_content::content_hash::{ContentHash, DigestUpdate};
+use jj_content::content_hash::{ContentHash, DigestUpdate, hash_both, hash_three};
 use jj_ids::ref_name::{GitRefNameBuf, RefNameBuf, RemoteNameBuf, WorkspaceNameBuf};
 use std::alloc::{AllocError, Global};
 use std::collections::{BTreeMap, HashSet};
 
 /// Where the refs of a remote point to, by their names.
-#[derive(Debug, Drop)]
+#[derive(Debug, PartialEq, Eq, Drop)]
 pub struct RemoteView {
     pub bookmarks: BTreeMap<RefNameBuf, RemoteRef>,
     pub tags: BTreeMap<RefNameBuf, RemoteRef>,
@@ -49,20 +48,6 @@ impl CloneIn for RemoteView {
     }
 }
 
-impl PartialEq for RemoteView {
-    ghost eq = { remote_view_eq };
-
-    ghost laws = { Cmp.partial_equiv_from_equiv remote_view_equiv };
-
-    fn eq(&self, other: &RemoteView) -> bool {
-        self.bookmarks == other.bookmarks && self.tags == other.tags
-    }
-}
-
-impl Eq for RemoteView {
-    ghost laws = { remote_view_equiv };
-}
-
 impl ContentHash for RemoteView {
     ghost is_value = { IsRemoteView };
 
@@ -70,16 +55,14 @@ impl ContentHash for RemoteView {
 
     ghost lawful = { remote_view_lawful };
 
-    #[tactic(auto, using(jj_content::proofs::Fronts::fronts))]
     fn hash<D: DigestUpdate>(&self, alloc: Global, state: &mut D) -> Result<(), AllocError> {
-        ContentHash::hash(&self.bookmarks, alloc, state)?;
-        ContentHash::hash(&self.tags, alloc, state)
+        hash_both(alloc, &self.bookmarks, &self.tags, state)
     }
 }
 
 /// A repository at an operation: its heads, where its refs point to, and the commits of its
 /// workspaces. Names are in order, and heads in none.
-#[derive(Debug, Drop)]
+#[derive(Debug, PartialEq, Eq, Drop)]
 pub struct View {
     pub head_ids: HashSet<CommitId>,
     pub local_bookmarks: BTreeMap<RefNameBuf, RefTarget>,
@@ -122,89 +105,6 @@ impl View {
             wc_commit_ids: self.wc_commit_ids.clone()?,
         })
     }
-
-    // Whether two views have the same heads and local refs.
-    fn has_same_local(&self, other: &View) -> bool
-        ensures { result ≡ local_eq self.now other.now }
-    {
-        self.head_ids == other.head_ids
-            && (self.local_bookmarks == other.local_bookmarks
-                && self.local_tags == other.local_tags)
-    }
-
-    // Whether two views have the same refs of remotes and of Git.
-    fn has_same_elsewhere(&self, other: &View) -> bool
-        ensures { result ≡ elsewhere_eq self.now other.now }
-    {
-        self.remote_views == other.remote_views && self.git_refs == other.git_refs
-    }
-
-    // Whether two views have the same workspaces.
-    fn has_same_workspaces(&self, other: &View) -> bool
-        ensures { result ≡ workspaces_eq self.now other.now }
-    {
-        self.git_heads == other.git_heads && self.wc_commit_ids == other.wc_commit_ids
-    }
-
-    #[tactic(auto, using(jj_content::proofs::Fronts::fronts))]
-    fn hash_local<D: DigestUpdate>(&self, alloc: Global, state: &mut D) -> Result<(), AllocError>
-        ensures ok { OnOk result (Takes D.stands_for state.old state.new (local_content self.now)) }
-        ensures value { OnOk result (IsLocal self.now) }
-        ensures err { OnErr result (TakesFront D.stands_for state.old state.new
-            (local_content self.now)) }
-    {
-        ContentHash::hash(&self.head_ids, alloc, state)?;
-        ContentHash::hash(&self.local_bookmarks, alloc, state)?;
-        ContentHash::hash(&self.local_tags, alloc, state)?;
-        Ok(())
-    }
-
-    #[tactic(auto, using(jj_content::proofs::Fronts::fronts))]
-    fn hash_elsewhere<D: DigestUpdate>(
-        &self,
-        alloc: Global,
-        state: &mut D,
-    ) -> Result<(), AllocError>
-        ensures ok { OnOk result (Takes D.stands_for state.old state.new
-            (elsewhere_content self.now)) }
-        ensures value { OnOk result (IsElsewhere self.now) }
-        ensures err { OnErr result (TakesFront D.stands_for state.old state.new
-            (elsewhere_content self.now)) }
-    {
-        ContentHash::hash(&self.remote_views, alloc, state)?;
-        ContentHash::hash(&self.git_refs, alloc, state)
-    }
-
-    #[tactic(auto, using(jj_content::proofs::Fronts::fronts))]
-    fn hash_workspaces<D: DigestUpdate>(
-        &self,
-        alloc: Global,
-        state: &mut D,
-    ) -> Result<(), AllocError>
-        ensures ok { OnOk result (Takes D.stands_for state.old state.new
-            (workspaces_content self.now)) }
-        ensures value { OnOk result (AreWorkspaces self.now) }
-        ensures err { OnErr result (TakesFront D.stands_for state.old state.new
-            (workspaces_content self.now)) }
-    {
-        ContentHash::hash(&self.git_heads, alloc, state)?;
-        ContentHash::hash(&self.wc_commit_ids, alloc, state)
-    }
-}
-
-impl PartialEq for View {
-    ghost eq = { view_eq };
-
-    ghost laws = { Cmp.partial_equiv_from_equiv view_equiv };
-
-    fn eq(&self, other: &View) -> bool {
-        self.has_same_local(other)
-            && (self.has_same_elsewhere(other) && self.has_same_workspaces(other))
-    }
-}
-
-impl Eq for View {
-    ghost laws = { view_equiv };
 }
 
 impl ContentHash for View {
@@ -216,9 +116,14 @@ impl ContentHash for View {
 
     #[tactic(auto, using(jj_content::proofs::Fronts::fronts))]
     fn hash<D: DigestUpdate>(&self, alloc: Global, state: &mut D) -> Result<(), AllocError> {
-        self.hash_local(alloc, state)?;
-        self.hash_elsewhere(alloc, state)?;
-        self.hash_workspaces(alloc, state)?;
-        Ok(())
+        hash_three(
+            alloc,
+            &self.head_ids,
+            &self.local_bookmarks,
+            &self.local_tags,
+            state,
+        )?;
+        hash_both(alloc, &self.remote_views, &self.git_refs, state)?;
+        hash_both(alloc, &self.git_heads, &self.wc_commit_ids, state)
     }
 }

@@ -19,5 +19,5 @@ returns c =
     let view_id = equal_same nat_list_eq_equiv operation.view_id c.in_ok-clone.field-0
     c.in_ok-clone.ensures.cases in
     record {
-      cases = both (both view_id parents) (both c.in_ok-clone-3.ensures.cases predecessors);
+      cases = both view_id (both parents (both c.in_ok-clone-3.ensures.cases predecessors));
     }

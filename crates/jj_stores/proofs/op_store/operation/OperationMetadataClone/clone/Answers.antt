@@ -3,7 +3,7 @@ use Rattle.std.specs.Cmp.{bool_eq_equiv}
 use Rattle.std.specs.Cmp.Lexicographic.{nat_list_eq_equiv}
 use Rattle.std.specs.Option.{option_eq}
 use Rattle.std.specs.Str.{bytes_eq}
-use Rattle.jj_stores.specs.OperationLaws.{range_equiv}
+use Rattle.jj_stores.specs.contracts.op_store.operation.TimestampRangeEq.TheImpl.Laws.{laws-law}
 use Rattle.jj_stores.proofs.CopiedEntries.{both, equal_same, option_copied, texts_copied}
 use Rattle.jj_stores.proofs.op_store.operation.OperationMetadataClone.clone.Goals as goal
 
@@ -19,7 +19,6 @@ returns c =
     let attributes = texts_copied metadata.attributes.entries c.in_ok-clone-5.field-0.entries
     c.in_ok-clone-5.ensures.cases in
     record {
-      cases = both (both (range_equiv.refl metadata.time) description)
-          (both (both hostname username)
-          (both (bool_eq_equiv.refl metadata.is_snapshot) (both name attributes)));
+      cases = both (laws-law.refl metadata.time) (both description (both hostname (both username
+          (both (bool_eq_equiv.refl metadata.is_snapshot) (both name attributes)))));
     }

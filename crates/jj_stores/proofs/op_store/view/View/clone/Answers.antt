@@ -7,8 +7,8 @@ returns c =
     let view = c.args.self.now in
     let heads = set_copied view.head_ids c.in_ok-clone.field-0
     (each_same view.head_ids.keys c.in_ok-clone.field-0.keys c.in_ok-clone.ensures.cases) in
-    let local = both heads (both c.in_ok-copied_map.ensures c.in_ok-copied_map-2.ensures) in
-    let elsewhere = both c.in_ok-copied_map-3.ensures c.in_ok-copied_map-4.ensures in
     let ids = ids_copied view.wc_commit_ids.entries c.in_ok-clone-2.field-0.entries
     c.in_ok-clone-2.ensures.cases in
-    both local (both elsewhere (both c.in_ok-copied_map-5.ensures ids))
+    both heads (both c.in_ok-copied_map.ensures (both c.in_ok-copied_map-2.ensures
+    (both c.in_ok-copied_map-3.ensures (both c.in_ok-copied_map-4.ensures
+    (both c.in_ok-copied_map-5.ensures ids)))))
