@@ -237,7 +237,7 @@ pub struct Signer {
 }
 
 impl Signer {
-    ghost use Rattle.jj_stores.specs.Signer.{cached, capacity_of};
+    ghost use Rattle.jj_stores.specs.Signer.{cached, capacity_of, usual_capacity};
 
     /// A signer that remembers this many verified commits; `new` remembers 100.
     pub fn with_capacity(
@@ -266,7 +266,7 @@ impl Signer {
     ) -> Result<Self, AllocError>
         ensures backends { IfOk result (λ s. (s.main ≡ main) × (s.others ≡ others)) }
         ensures cached { IfOk result (λ s. cached s ≡ []) }
-        ensures capacity { IfOk result (λ s. capacity_of s ≡ 100) }
+        ensures capacity { IfOk result (λ s. capacity_of s ≡ usual_capacity) }
     {
         match NonZeroUsize::new(COMMIT_CACHE_CAPACITY) {
             Some(capacity) => Signer::with_capacity(alloc, main, others, capacity),

@@ -1,14 +1,17 @@
 -- What a backend in memory keeps, and under which ids.
--- Cited by contracts of public items: MemoryBackendValue, StandsForOther, new_backend, object_id,
--- objects_of.
-use Rattle.std.specs.Prelude.{◌≡◌, ◌≢◌, ℕ, List, [], ◌∷◌, take, replicate, Some}
+-- Cited by contracts of public items: FailsToKeep, MemoryBackendValue, change_id_length,
+-- digest_length, new_backend, object_id, objects_of.
+use Rattle.std.specs.Prelude.{◌≡◌, ◌≢◌, ◌⊎◌, ℕ, true, List, [], ◌∷◌, take, replicate, Some}
 use Rattle.std.specs.Map.{lookup}
 use Rattle.std.specs.Str.{bytes_eq}
 use Rattle.jj_content.specs.Blake2b.{blake2b}
+use Rattle.jj_backend.specs.Errors.{is_other}
 use Rattle.jj_backend.specs.Objects.{ById, Objects}
 use Rattle.jj_backend.specs.Records.{CopyHistoryValue, CommitValue, root_commit}
 use Rattle.jj_backend.specs.TreeLaws.{tree_content}
 use Rattle.jj_backend.specs.Trees.{Entries}
+use Rattle.jj_backend.specs.declared.backend.errors.BackendError.{BackendError}
+use Rattle.jj_backend.specs.declared.backend.errors.BackendError.TheVariants.{Memory}
 
 -- values with their ids
 abbrev pub Kept : Type 0 → Type 0
@@ -22,6 +25,10 @@ module _ {V : Type 0} where
   -- the id stands for another value
   abbrev pub StandsForOther : Kept V → List ℕ → V → Type 0
   StandsForOther kept id value = (other : V) × (by_id kept id ≡ Some other) × (other ≢ value)
+
+  -- why a value is not kept under the id: for want of memory, or since that stands for another
+  abbrev pub FailsToKeep : Kept V → List ℕ → V → BackendError → Type 0
+  FailsToKeep kept id value e = (e ≡ Memory) ⊎ ((is_other e ≡ true) × StandsForOther kept id value)
 
 -- a backend in memory: how long ids are, those that it has from the start, and what it keeps
 pub record MemoryBackendValue : Type 0 where
@@ -45,6 +52,13 @@ objects_of backend = record {
   commits = by_id backend.commits;
 }
 
+-- how many bytes a digest has, and the id of a change
+abbrev pub digest_length : ℕ
+digest_length = 64
+
+abbrev pub change_id_length : ℕ
+change_id_length = 16
+
 -- the id of an object with this content: the front of the digest
 abbrev pub object_id : ℕ → List ℕ → List ℕ
 object_id id_length content = take id_length (blake2b content)
@@ -53,7 +67,7 @@ object_id id_length content = take id_length (blake2b content)
 abbrev pub new_backend : ℕ → MemoryBackendValue
 new_backend id_length =
     let root_commit_id = replicate id_length 0 in
-    let root_change_id = replicate 16 0 in
+    let root_change_id = replicate change_id_length 0 in
     let empty_tree_id = object_id id_length (tree_content []) in
     record {
       id_length = id_length;

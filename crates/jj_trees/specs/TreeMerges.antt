@@ -1,5 +1,6 @@
 -- What trees merge to, path by path.
--- Cited by contracts of public items: IsMerge, IsRefused, IsWithin, conflict_entries, root_values.
+-- Cited by contracts of public items: IsMerge, IsRefused, IsWithin, conflict_entries, most_levels,
+-- root_values.
 use Rattle.std.specs.Prelude.{◌≡◌, ◌↔◌, ◌⊎◌, ⊤, ℕ, ◌<◌, Bool, true, false, List, [], ◌∷◌, ◌++◌, map}
 use Rattle.std.specs.Prelude.{length, Option, Some, None, option_and_then, unwrap_or, All, Any}
 use Rattle.std.specs.Prelude.{AllPairs, Contains}
@@ -173,3 +174,7 @@ module _ (trees : ById (List (Name × TreeValue))) where
         × ((path : Path) × IsOpen values path × Any (λ v. IsThere v → ⊥) (values_at values path)))
         ⊎ ((is_unsupported e ≡ true)
         × ((path : Path) × IsOpen values path × (length path ≡ levels)))
+
+-- how many levels are merged where the caller does not say
+abbrev pub most_levels : ℕ
+most_levels = 1024

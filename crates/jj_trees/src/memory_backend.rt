@@ -9,7 +9,8 @@ ghost use Rattle.jj_backend.specs.Objects.{AddsFile, AddsSymlink, AddsCopy, Adds
 ghost use Rattle.jj_backend.specs.Objects.{AddsCommit, IsSigned};
 ghost use Rattle.jj_backend.specs.Records.{root_commit};
 ghost use Rattle.jj_backend.specs.TreeLaws.{tree_content};
-ghost use Rattle.jj_trees.specs.Kept.{new_backend, object_id, objects_of, StandsForOther};
+ghost use Rattle.jj_trees.specs.Kept.{new_backend, change_id_length, digest_length};
+ghost use Rattle.jj_trees.specs.Kept.{object_id, objects_of, FailsToKeep};
 ghost use Rattle.jj_trees.specs.Signing.{FailsToSign, StandsForOtherCommit, signer_left};
 
 mod contents;
@@ -29,6 +30,9 @@ use signing::{rootless_error, sign_commit};
 use std::alloc::{AllocError, Global};
 use std::collections::BTreeMap;
 use std::marker::Model;
+
+// How many bytes digests have.
+const DIGEST_LENGTH: usize = 64;
 
 // How many bytes the ids of changes have.
 const CHANGE_ID_LENGTH: usize = 16;
@@ -61,7 +65,7 @@ pub struct MemoryBackend {
 impl Model for MemoryBackend {
     ghost use Rattle.std.specs.Prelude.{◌≡◌, ◌≤◌, [], Some};
     ghost use Rattle.jj_backend.specs.Records.{root_commit};
-    ghost use Rattle.jj_trees.specs.Kept.{MemoryBackendValue, by_id};
+    ghost use Rattle.jj_trees.specs.Kept.{MemoryBackendValue, by_id, digest_length};
 
     ghost Value = { MemoryBackendValue };
 
@@ -77,7 +81,7 @@ impl Model for MemoryBackend {
       commits = b.commits.entries;
     } };
 
-    ghost invariant = { λ b. (b.id_length ≤ 64)
+    ghost invariant = { λ b. (b.id_length ≤ digest_length)
         × (by_id b.trees.entries b.empty_tree_id ≡ Some [])
         × (by_id b.commits.entries b.root_commit_id
         ≡ Some (root_commit b.root_change_id b.empty_tree_id)) };
@@ -86,15 +90,15 @@ impl Model for MemoryBackend {
 impl MemoryBackend {
     /// A backend with whole digests, of 64 bytes, as ids.
     pub fn new(alloc: Global) -> Result<Self, AllocError>
-        ensures { IfOk result (λ backend. backend ≡ new_backend 64) }
+        ensures { IfOk result (λ backend. backend ≡ new_backend digest_length) }
     {
-        MemoryBackend::with_id_length(alloc, 64)
+        MemoryBackend::with_id_length(alloc, DIGEST_LENGTH)
     }
 
     /// A backend with ids of that many bytes. The ids of changes have 16.
     pub fn with_id_length(alloc: Global, id_length: usize) -> Result<Self, AllocError>
         requires least { 1 ≤ id_length }
-        requires greatest { id_length ≤ 64 }
+        requires greatest { id_length ≤ digest_length }
         ensures { IfOk result (λ backend. backend ≡ new_backend id_length) }
     {
         let root_commit_id: CommitId = zeros(alloc, id_length)?;
@@ -123,9 +127,8 @@ impl MemoryBackend {
             kept.0 ≡ object_id self.old.id_length (commit_content commit)) }
         ensures same { self.new ≡ record self.old { commits = self.new.commits } }
         ensures kept { OnErr result (self.new ≡ self.old) }
-        ensures refused { IfErr result (λ e. (e ≡ BackendError.Memory)
-            ⊎ ((is_other e ≡ true) × StandsForOther self.old.commits
-            (object_id self.old.id_length (commit_content commit)) commit)) }
+        ensures refused { IfErr result (FailsToKeep self.old.commits
+            (object_id self.old.id_length (commit_content commit)) commit) }
     {
         let id = id_of(alloc, self.id_length, &commit)?;
         keep_copied(alloc, &mut self.commits, id, commit)
@@ -154,7 +157,7 @@ impl Backend for MemoryBackend {
     }
 
     fn change_id_length(&self) -> usize
-        ensures { result ≡ 16 }
+        ensures { result ≡ change_id_length }
     {
         CHANGE_ID_LENGTH
     }
@@ -202,9 +205,8 @@ impl Backend for MemoryBackend {
             id ≡ object_id self.old.id_length (bytes_content contents.now)) }
         ensures same { self.new ≡ record self.old { files = self.new.files } }
         ensures kept { OnErr result (self.new ≡ self.old) }
-        ensures refused { IfErr result (λ e. (e ≡ BackendError.Memory)
-            ⊎ ((is_other e ≡ true) × StandsForOther self.old.files
-            (object_id self.old.id_length (bytes_content contents.now)) contents.now)) }
+        ensures refused { IfErr result (FailsToKeep self.old.files
+            (object_id self.old.id_length (bytes_content contents.now)) contents.now) }
     {
         let bytes = Vec::from_slice(alloc, contents)?;
         let id = id_of(alloc, self.id_length, &bytes)?;
@@ -232,9 +234,8 @@ impl Backend for MemoryBackend {
             id ≡ object_id self.old.id_length (text_content target.now)) }
         ensures same { self.new ≡ record self.old { symlinks = self.new.symlinks } }
         ensures kept { OnErr result (self.new ≡ self.old) }
-        ensures refused { IfErr result (λ e. (e ≡ BackendError.Memory)
-            ⊎ ((is_other e ≡ true) × StandsForOther self.old.symlinks
-            (object_id self.old.id_length (text_content target.now)) target.now)) }
+        ensures refused { IfErr result (FailsToKeep self.old.symlinks
+            (object_id self.old.id_length (text_content target.now)) target.now) }
     {
         let text = String::from_str(alloc, target)?;
         let id = id_of(alloc, self.id_length, &text)?;
@@ -252,9 +253,8 @@ impl Backend for MemoryBackend {
             id ≡ object_id self.old.id_length (copy_history_content copy.now)) }
         ensures same { self.new ≡ record self.old { copies = self.new.copies } }
         ensures kept { OnErr result (self.new ≡ self.old) }
-        ensures refused { IfErr result (λ e. (e ≡ BackendError.Memory)
-            ⊎ ((is_other e ≡ true) × StandsForOther self.old.copies
-            (object_id self.old.id_length (copy_history_content copy.now)) copy.now)) }
+        ensures refused { IfErr result (FailsToKeep self.old.copies
+            (object_id self.old.id_length (copy_history_content copy.now)) copy.now) }
     {
         let id = id_of(alloc, self.id_length, copy)?;
         let copy = copy.clone()?;
@@ -288,9 +288,8 @@ impl Backend for MemoryBackend {
             id ≡ object_id self.old.id_length (tree_content contents.now)) }
         ensures same { self.new ≡ record self.old { trees = self.new.trees } }
         ensures kept { OnErr result (self.new ≡ self.old) }
-        ensures refused { IfErr result (λ e. (e ≡ BackendError.Memory)
-            ⊎ ((is_other e ≡ true) × StandsForOther self.old.trees
-            (object_id self.old.id_length (tree_content contents.now)) contents.now)) }
+        ensures refused { IfErr result (FailsToKeep self.old.trees
+            (object_id self.old.id_length (tree_content contents.now)) contents.now) }
     {
         let id = id_of(alloc, self.id_length, contents)?;
         let tree = contents.clone()?;

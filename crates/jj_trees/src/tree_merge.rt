@@ -8,7 +8,7 @@ ghost use Rattle.jj_backend.specs.Errors.{is_not_found, is_unsupported};
 ghost use Rattle.jj_trees.specs.Steps.{IsStep};
 ghost use Rattle.jj_trees.specs.TreeMerges.{entries_of, root_values, conflict_entries};
 ghost use Rattle.jj_trees.specs.TreeMerges.{is_tree_or_absent, IsThere, IsEntered, IsHere};
-ghost use Rattle.jj_trees.specs.TreeMerges.{IsMerge, IsAppended, IsWithin, IsRefused};
+ghost use Rattle.jj_trees.specs.TreeMerges.{IsMerge, IsAppended, IsWithin, IsRefused, most_levels};
 
 mod rows;
 
@@ -264,6 +264,9 @@ pub fn merge_trees_within<B: Backend>(
     Ok(merged)
 }
 
+// How many levels are merged where the caller does not say.
+const MOST_LEVELS: usize = 1024;
+
 /// The merge of trees, as [`merge_trees_within`] gives it for 1,024 levels.
 pub fn merge_trees<B: Backend>(
     alloc: Global,
@@ -278,12 +281,12 @@ pub fn merge_trees<B: Backend>(
         m.resolved.items (conflict_entries m.conflicts.items)) }
     ensures within { OnOk result (IsWithin (B.objects backend.now).trees
         ⟦<Option<TreeValue> as PartialEq>⟧.eq same_change (root_values trees.now)
-        1024) }
+        most_levels) }
     ensures refused { IfErr result (IsRefused (B.objects backend.now).trees
         ⟦<Option<TreeValue> as PartialEq>⟧.eq same_change (B.may_fail backend.now)
-        (root_values trees.now) 1024) }
+        (root_values trees.now) most_levels) }
 {
-    let Some(levels) = NonZeroUsize::new(1024) else {
+    let Some(levels) = NonZeroUsize::new(MOST_LEVELS) else {
         unreachable!();
     };
     merge_trees_within(alloc, backend, trees, labels, same_change, levels)

@@ -2,7 +2,7 @@
 ghost use Rattle.std.specs.Prelude.{◌≡◌, ◌≤◌, [], ◌∷◌, IfOk, replicate};
 ghost use Rattle.jj_backend.specs.Records.{root_commit};
 ghost use Rattle.jj_backend.specs.TreeLaws.{tree_content};
-ghost use Rattle.jj_trees.specs.Kept.{object_id};
+ghost use Rattle.jj_trees.specs.Kept.{digest_length, object_id};
 
 use super::shelf::{id_of, one_object};
 use jj_backend::backend::{ChangeId, Commit, CommitId, Tree, TreeId, make_root_commit};
@@ -22,7 +22,7 @@ pub(super) fn keep_empty_tree(
     alloc: Global,
     id_length: usize,
 ) -> Result<(TreeId, BTreeMap<TreeId, Tree>), AllocError>
-    requires { id_length ≤ 64 }
+    requires { id_length ≤ digest_length }
     ensures id { IfOk result (λ kept. kept.0 ≡ object_id id_length (tree_content [])) }
     ensures tree { IfOk result (λ kept. kept.1.entries ≡ (kept.0, []) ∷ []) }
 {

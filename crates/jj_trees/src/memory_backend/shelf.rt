@@ -3,7 +3,7 @@ ghost use Rattle.std.specs.Prelude.{◌≡◌, ◌≤◌, ◌⊎◌, [], ◌∷�
 ghost use Rattle.std.specs.Bool.{Decides};
 ghost use Rattle.jj_backend.specs.Errors.{is_not_found, is_other};
 ghost use Rattle.jj_backend.specs.Objects.{IsRead, IsFree, put};
-ghost use Rattle.jj_trees.specs.Kept.{by_id, object_id, StandsForOther};
+ghost use Rattle.jj_trees.specs.Kept.{by_id, digest_length, object_id, FailsToKeep};
 
 use jj_backend::backend::{BackendError, BackendResult};
 use jj_content::content_hash::{ContentHash, blake2b_hash};
@@ -50,7 +50,7 @@ pub(super) fn id_of<K, T: ContentHash>(
     id_length: usize,
     value: &T,
 ) -> Result<Id<K>, AllocError>
-    requires { id_length ≤ 64 }
+    requires { id_length ≤ digest_length }
     ensures { IfOk result (λ id. id ≡ object_id id_length (T.content value.now)) }
 {
     let digest = blake2b_hash(alloc, value)?;
@@ -98,8 +98,7 @@ pub(super) fn keep<K: IdKind, V: PartialEq + Drop>(
     ensures free { OnOk result (IsFree (by_id kept.old.entries) id value) }
     ensures added { OnOk result (by_id kept.new.entries ≡ put (by_id kept.old.entries) id value) }
     ensures kept { OnErr result (kept.new.entries ≡ kept.old.entries) }
-    ensures refused { IfErr result (λ e. (e ≡ BackendError.Memory)
-        ⊎ ((is_other e ≡ true) × StandsForOther kept.old.entries id value)) }
+    ensures refused { IfErr result (FailsToKeep kept.old.entries id value) }
 {
     match kept.get(&id) {
         Some(other) => {
@@ -131,8 +130,7 @@ pub(super) fn keep_copied<K: IdKind, V: Clone + PartialEq + Drop>(
     ensures free { OnOk result (IsFree (by_id kept.old.entries) id value) }
     ensures added { OnOk result (by_id kept.new.entries ≡ put (by_id kept.old.entries) id value) }
     ensures kept { OnErr result (kept.new.entries ≡ kept.old.entries) }
-    ensures refused { IfErr result (λ e. (e ≡ BackendError.Memory)
-        ⊎ ((is_other e ≡ true) × StandsForOther kept.old.entries id value)) }
+    ensures refused { IfErr result (FailsToKeep kept.old.entries id value) }
 {
     let answer = value.clone()?;
     match keep(alloc, kept, id, value) {
