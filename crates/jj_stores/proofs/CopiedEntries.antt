@@ -13,6 +13,7 @@ use Rattle.std.specs.Ordering.{ordering_reverse, match_ordering}
 use Rattle.std.specs.declared.cmp.Ordering.{Ordering}
 use Rattle.std.specs.declared.cmp.Ordering.TheVariants.{Less, Greater}
 use Rattle.std.specs.Str.{bytes_eq}
+use Rattle.std.proofs.lemmas.Bool.{and_from}
 use Rattle.std.proofs.lemmas.List.{map-append}
 use Rattle.std.proofs.lemmas.List.Elements.{AllZip-push}
 use Rattle.std.specs.Vec.{vec_len}
@@ -21,10 +22,6 @@ use Rattle.std.specs.declared.vec.Vec.{Vec}
 use Rattle.jj_merges.specs.Options.{IsOptionClone}
 use Rattle.jj_stores.specs.OperationLaws.{attributes_eq, predecessors_eq}
 use Rattle.jj_stores.specs.ViewLaws.{named_eq}
-
--- two facts at once
-pub both : {a b : Bool} → a ≡ true → b ≡ true → (a && b) ≡ true
-both first second = ap₂ (λ (a b : Bool). a && b) first second
 
 module _ {X : Type 0} where
   -- the same value is equal
@@ -39,7 +36,7 @@ module _ {X : Type 0} where
   pointwise_copied R eq equal [] (y ∷ ys) z = absurd z
   pointwise_copied R eq equal (x ∷ xs) [] z = absurd z
   pointwise_copied R eq equal (x ∷ xs) (y ∷ ys) z =
-      both (equal x y z.0) (pointwise_copied R eq equal xs ys z.1)
+      and_from _ _ (equal x y z.0) (pointwise_copied R eq equal xs ys z.1)
 
 -- what holds of all keys holds of one among them
 at_key : {K : Type 0} (P : K → Type 0) (before after : List K) (k : K)
@@ -94,13 +91,13 @@ module _ {K X : Type 0} where
 pub named_copied : {V : Type 0} (eq : V → V → Bool) (es fs : List (List ℕ × V))
     → AllZip (IsCopied (λ v w. eq w v ≡ true)) es fs → named_eq eq fs es ≡ true
 named_copied eq es fs copied = pointwise_copied (IsCopied (λ v w. eq w v ≡ true)) _
-    (λ e f same. both (equal_same nat_list_eq_equiv e.0 f.0 same.0) same.1) es fs copied
+    (λ e f same. and_from _ _ (equal_same nat_list_eq_equiv e.0 f.0 same.0) same.1) es fs copied
 
 -- copies of ids by names
 pub ids_copied : (es fs : List (List ℕ × List ℕ))
     → AllZip (λ e f. (f.0 ≡ e.0) × (f.1 ≡ e.1)) es fs → named_eq bytes_eq fs es ≡ true
 ids_copied es fs copied = pointwise_copied _ _
-    (λ e f same. both (equal_same nat_list_eq_equiv e.0 f.0 same.0)
+    (λ e f same. and_from _ _ (equal_same nat_list_eq_equiv e.0 f.0 same.0)
     (equal_same nat_list_eq_equiv e.1 f.1 same.1)) es fs copied
 
 -- copies of texts by texts
@@ -109,7 +106,7 @@ pub texts_copied : {A : Type 0} (es fs : List (String A × String A))
     × (string_bytes f.1 ≡ string_bytes e.1)) es fs
     → attributes_eq fs es ≡ true
 texts_copied es fs copied = pointwise_copied _ _
-    (λ e f same. both (equal_same nat_list_eq_equiv (string_bytes e.0) (string_bytes f.0) same.0)
+    (λ e f same. and_from _ _ (equal_same nat_list_eq_equiv (string_bytes e.0) (string_bytes f.0) same.0)
     (equal_same nat_list_eq_equiv (string_bytes e.1) (string_bytes f.1) same.1)) es fs copied
 
 -- a set of the same keys
@@ -136,6 +133,6 @@ pub predecessors_copied : {A : Type 0} (m n : BTreeMap (List ℕ) (Vec (List ℕ
     m.entries n.entries
     → predecessors_eq n m ≡ true
 predecessors_copied m n copied = pointwise_copied _ _
-    (λ e f same. both (equal_same nat_list_eq_equiv e.0 f.0 same.0)
+    (λ e f same. and_from _ _ (equal_same nat_list_eq_equiv e.0 f.0 same.0)
     (pointwise_copied _ bytes_eq (equal_same nat_list_eq_equiv) e.1.items f.1.items same.1.0))
     m.entries n.entries copied

@@ -1,6 +1,7 @@
 -- What a directory's values merge to, put together from what stands at its names.
 use Rattle.std.proofs.Common.{◌≡◌, ◌<◌, ◌+◌, ℕ, suc, zero, Bool, true, false, ◌⊎◌, inl, inr, List, [], ◌∷◌, ◌++◌, length, get_or, map, Option, Some, None, unwrap_or, refl, sym, ap, subst, ◌∙◌, arith, true≢false}
 use Rattle.std.specs.Prelude.{All, Contains, ◌↔◌}
+use Rattle.std.proofs.lemmas.Option.{none-some}
 use Rattle.std.proofs.lemmas.Int.{ints}
 use Rattle.std.proofs.lemmas.Bool.{and_parts}
 use Rattle.std.specs.Str.{bytes_eq}
@@ -53,13 +54,6 @@ module _ {E : Type 0} where
     in_order = λ i j d lt within. absurd (omega arith);
     exactly = λ p f. (λ c. let lt = c.1 in absurd (omega arith), λ h. absurd (never p f h));
   }
-
-some_none : (v : TreeValue) → Some v ≡ None → ⊥
-some_none v h = true≢false (ap (λ o. is_there o) h)
-  where
-    is_there : Option TreeValue → Bool
-    is_there None = false
-    is_there (Some v) = true
 
 module _ (eq : Option TreeValue → Option TreeValue → Bool) (same : (v w : Option TreeValue) → eq v w ≡ true → v ≡ w) where
   -- no two outcomes
@@ -187,7 +181,7 @@ module _ (eq : Option TreeValue → Option TreeValue → Bool) (same : (v w : Op
                 ⊎ ((conflict : Conflict) × IsConflictOf eq same_change here labels conflict × (last_r ≡ new_r) × (last_c ≡ new_c ++ (dir ++ name ∷ [], conflict) ∷ []))
                 → Passed levels values dir (names ++ name ∷ []) old_r last_r old_c last_c
             by (inl d) = step (([], d.0) ∷ []) [] (resolved_here here d.0 h.0 d.1) (no_conflict_here here (Some d.0) h.0 d.1) (one_under d.0 new_r last_r d.2) (none_under new_c last_c d.3) (λ e. absurd (h.0 e))
-            by (inr (inl d)) = step [] [] (nothing_here here h.0 (λ v s. some_none v (decided_same same_change here (Some v) None s d.0))) (no_conflict_here here None h.0 d.0) (none_under new_r last_r d.1) (none_under new_c last_c d.2) (λ e. absurd (h.0 e))
+            by (inr (inl d)) = step [] [] (nothing_here here h.0 (λ v s. none-some v (sym (decided_same same_change here (Some v) None s d.0)))) (no_conflict_here here None h.0 d.0) (none_under new_r last_r d.1) (none_under new_c last_c d.2) (λ e. absurd (h.0 e))
             by (inr (inr d)) = step [] (([], d.0) ∷ []) (nothing_here here h.0 (λ v s. d.1.0 (Some v) s)) (conflict_here here d.0 h.0 d.1) (none_under new_r last_r d.2) (one_under d.0 new_c last_c d.3) (λ e. absurd (h.0 e))
 
       module _ (names : List Name) (old_r new_r : List (Path × TreeValue)) (old_c new_c : List (Path × Conflict)) (passed : Passed levels values dir names old_r new_r old_c new_c)
@@ -206,7 +200,7 @@ module _ (eq : Option TreeValue → Option TreeValue → Bool) (same : (v w : Op
         }
           where
             not_r : (n : Name) (p : Path) (v : TreeValue) → IsDecided eq same_change (map (child trees n) values) None → ResolvedFrom (map (child trees n) values) p v → ⊥
-            not_r n [] v d h = some_none v (decided_same same_change (map (child trees n) values) (Some v) None h.1 d)
+            not_r n [] v d h = none-some v (sym (decided_same same_change (map (child trees n) values) (Some v) None h.1 d))
             not_r n (m ∷ p) v d h = h.0.0.0 None d
 
             not_c : (n : Name) (p : Path) (c : Conflict) → IsDecided eq same_change (map (child trees n) values) None → ConflictFrom (map (child trees n) values) p c → ⊥

@@ -1,9 +1,10 @@
+use Rattle.std.proofs.lemmas.Bool.{and_from}
 use Rattle.std.proofs.Common.{◌≡◌, true}
 use Rattle.std.specs.Cmp.Lexicographic.{pointwise, nat_list_eq_equiv}
 use Rattle.std.specs.Option.{option_eq}
 use Rattle.std.specs.Str.{bytes_eq}
 use Rattle.jj_stores.specs.OperationLaws.{predecessors_eq}
-use Rattle.jj_stores.proofs.CopiedEntries.{both, equal_same, option_copied, pointwise_copied, predecessors_copied}
+use Rattle.jj_stores.proofs.CopiedEntries.{equal_same, option_copied, pointwise_copied, predecessors_copied}
 use Rattle.jj_stores.proofs.op_store.operation.OperationClone.clone.Goals as goal
 
 pub returns : goal.returns
@@ -19,5 +20,5 @@ returns c =
     let view_id = equal_same nat_list_eq_equiv operation.view_id c.in_ok-clone.field-0
     c.in_ok-clone.ensures.cases in
     record {
-      cases = both view_id (both parents (both c.in_ok-clone-3.ensures.cases predecessors));
+      cases = and_from _ _ view_id (and_from _ _ parents (and_from _ _ c.in_ok-clone-3.ensures.cases predecessors));
     }

@@ -1,10 +1,11 @@
+use Rattle.std.proofs.lemmas.Bool.{and_from}
 use Rattle.std.proofs.Common.{◌≡◌, true}
 use Rattle.std.specs.Cmp.{bool_eq_equiv}
 use Rattle.std.specs.Cmp.Lexicographic.{nat_list_eq_equiv}
 use Rattle.std.specs.Option.{option_eq}
 use Rattle.std.specs.Str.{bytes_eq}
 use Rattle.jj_stores.specs.contracts.op_store.operation.TimestampRangeEq.TheImpl.Laws.{laws-law}
-use Rattle.jj_stores.proofs.CopiedEntries.{both, equal_same, option_copied, texts_copied}
+use Rattle.jj_stores.proofs.CopiedEntries.{equal_same, option_copied, texts_copied}
 use Rattle.jj_stores.proofs.op_store.operation.OperationMetadataClone.clone.Goals as goal
 
 pub returns : goal.returns
@@ -19,6 +20,6 @@ returns c =
     let attributes = texts_copied metadata.attributes.entries c.in_ok-clone-5.field-0.entries
     c.in_ok-clone-5.ensures.cases in
     record {
-      cases = both (laws-law.refl metadata.time) (both description (both hostname (both username
-          (both (bool_eq_equiv.refl metadata.is_snapshot) (both name attributes)))));
+      cases = and_from _ _ (laws-law.refl metadata.time) (and_from _ _ description (and_from _ _ hostname (and_from _ _ username
+          (and_from _ _ (bool_eq_equiv.refl metadata.is_snapshot) (and_from _ _ name attributes)))));
     }
