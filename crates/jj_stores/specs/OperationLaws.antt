@@ -1,7 +1,7 @@
 -- When operations are equal, part by part, and that content tells them apart, from the laws of
 -- their parts.
--- Cited by contracts of public items: metadata_eq, metadata_equiv, metadata_lawful, operation_eq,
--- operation_equiv, operation_lawful, range_lawful.
+-- Cited by contracts of public items: metadata_eq, metadata_lawful, operation_eq, operation_lawful,
+-- range_lawful.
 use Rattle.std.specs.Prelude.{ℕ, List, Bool, string_bytes}
 use Rattle.std.specs.BTreeMap.{BTreeMap}
 use Rattle.std.specs.Bool.{beq}

@@ -1,7 +1,6 @@
 -- When views are equal, part by part, and that content tells them apart, from the laws of their
 -- parts.
--- Cited by contracts of public items: remote_view_eq, remote_view_equiv, remote_view_lawful,
--- view_eq, view_equiv, view_lawful.
+-- Cited by contracts of public items: remote_view_eq, remote_view_lawful, view_eq, view_lawful.
 use Rattle.std.specs.Prelude.{ℕ, List, Bool}
 use Rattle.std.specs.Cmp.{IsEquivalence, and_equiv, on_equiv}
 use Rattle.std.specs.Cmp.Lexicographic.{pointwise, nat_list_eq_equiv, nat_list_cmp_total, texts_ties, lists_equiv, options_equiv}
