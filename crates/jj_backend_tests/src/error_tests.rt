@@ -1,36 +1,11 @@
 //! Texts of errors.
+use crate::error_texts::{cause, parts, printed, text};
 use jj_backend::backend::{
     BackendError, BackendInitError, BackendLoadError, FileId, TimestampOutOfRange,
 };
 use jj_backend::signing::SignError;
-use jj_paths::file_util::{SourceError, SourceKind};
 use jj_paths::repo_path::RepoPathBuf;
-use std::alloc::{AllocError, Global};
-use std::fmt::Display;
-use std::process::Abort;
 use std::test::Fail;
-
-fn text(alloc: Global, text: &str) -> Result<String, AllocError> {
-    String::from_str(alloc, text).or_else(|_| String::from_str(alloc, text))
-}
-
-fn cause(alloc: Global) -> Result<SourceError, AllocError> {
-    Ok(SourceError {
-        kind: SourceKind::Other,
-        message: text(alloc, "the cause")?,
-    })
-}
-
-fn prints<E: Display, R: Abort>(
-    rt: &R,
-    alloc: Global,
-    error: &E,
-    expected: &str,
-) -> Result<(), AllocError> {
-    let printed = error.to_string(alloc).or_else(|_| error.to_string(alloc))?;
-    assert_eq!(rt; printed.as_str(), expected);
-    Ok(())
-}
 
 #[test]
 fn invalid_lengths_of_hashes(rt: HostRuntime) -> Result<(), Fail> {
@@ -41,12 +16,10 @@ fn invalid_lengths_of_hashes(rt: HostRuntime) -> Result<(), Fail> {
         object_type: text(alloc, "file")?,
         hash: text(alloc, "ab")?,
     };
-    prints(
-        &rt,
-        alloc,
-        &error,
-        "Invalid hash length for object of type file (expected 2 bytes, got 1 bytes): ab",
-    )?;
+    assert_eq!(rt;
+        printed(alloc, &error)?.as_str(),
+        "Invalid hash length for object of type file (expected 2 bytes, got 1 bytes): ab"
+    );
     Ok(())
 }
 
@@ -58,41 +31,42 @@ fn missing_objects(rt: HostRuntime) -> Result<(), Fail> {
         hash: text(alloc, "ab")?,
         source: None,
     };
-    prints(&rt, alloc, &error, "Object ab of type tree not found")?;
+    assert_eq!(rt;
+        printed(alloc, &error)?.as_str(),
+        "Object ab of type tree not found"
+    );
     Ok(())
 }
 
 #[test]
 fn objects_that_cannot_be_read(rt: HostRuntime) -> Result<(), Fail> {
     let alloc = rt.alloc();
+    let (object_type, hash, source) = parts(alloc, "tree")?;
     let error = BackendError::ReadObject {
-        object_type: text(alloc, "tree")?,
-        hash: text(alloc, "ab")?,
-        source: cause(alloc)?,
+        object_type,
+        hash,
+        source,
     };
-    prints(
-        &rt,
-        alloc,
-        &error,
-        "Error when reading object ab of type tree",
-    )?;
+    assert_eq!(rt;
+        printed(alloc, &error)?.as_str(),
+        "Error when reading object ab of type tree"
+    );
     Ok(())
 }
 
 #[test]
 fn objects_that_may_not_be_read(rt: HostRuntime) -> Result<(), Fail> {
     let alloc = rt.alloc();
+    let (object_type, hash, source) = parts(alloc, "tree")?;
     let error = BackendError::ReadAccessDenied {
-        object_type: text(alloc, "tree")?,
-        hash: text(alloc, "ab")?,
-        source: cause(alloc)?,
+        object_type,
+        hash,
+        source,
     };
-    prints(
-        &rt,
-        alloc,
-        &error,
-        "Access denied to read object ab of type tree",
-    )?;
+    assert_eq!(rt;
+        printed(alloc, &error)?.as_str(),
+        "Access denied to read object ab of type tree"
+    );
     Ok(())
 }
 
@@ -103,7 +77,10 @@ fn objects_that_cannot_be_written(rt: HostRuntime) -> Result<(), Fail> {
         object_type: "commit",
         source: cause(alloc)?,
     };
-    prints(&rt, alloc, &error, "Could not write object of type commit")?;
+    assert_eq!(rt;
+        printed(alloc, &error)?.as_str(),
+        "Could not write object of type commit"
+    );
     Ok(())
 }
 
@@ -111,7 +88,7 @@ fn objects_that_cannot_be_written(rt: HostRuntime) -> Result<(), Fail> {
 fn other_causes(rt: HostRuntime) -> Result<(), Fail> {
     let alloc = rt.alloc();
     let error = BackendError::Other(cause(alloc)?);
-    prints(&rt, alloc, &error, "the cause")?;
+    assert_eq!(rt; printed(alloc, &error)?.as_str(), "the cause");
     Ok(())
 }
 
@@ -119,7 +96,7 @@ fn other_causes(rt: HostRuntime) -> Result<(), Fail> {
 fn what_is_not_done(rt: HostRuntime) -> Result<(), Fail> {
     let alloc = rt.alloc();
     let error = BackendError::Unsupported(text(alloc, "no copies")?);
-    prints(&rt, alloc, &error, "no copies")?;
+    assert_eq!(rt; printed(alloc, &error)?.as_str(), "no copies");
     Ok(())
 }
 
@@ -127,7 +104,7 @@ fn what_is_not_done(rt: HostRuntime) -> Result<(), Fail> {
 fn causes_of_backends_not_made(rt: HostRuntime) -> Result<(), Fail> {
     let alloc = rt.alloc();
     let error = BackendInitError(cause(alloc)?);
-    prints(&rt, alloc, &error, "the cause")?;
+    assert_eq!(rt; printed(alloc, &error)?.as_str(), "the cause");
     Ok(())
 }
 
@@ -135,7 +112,7 @@ fn causes_of_backends_not_made(rt: HostRuntime) -> Result<(), Fail> {
 fn causes_of_backends_not_opened(rt: HostRuntime) -> Result<(), Fail> {
     let alloc = rt.alloc();
     let error = BackendLoadError(cause(alloc)?);
-    prints(&rt, alloc, &error, "the cause")?;
+    assert_eq!(rt; printed(alloc, &error)?.as_str(), "the cause");
     Ok(())
 }
 
@@ -143,7 +120,7 @@ fn causes_of_backends_not_opened(rt: HostRuntime) -> Result<(), Fail> {
 fn signatures_that_could_not_be_made(rt: HostRuntime) -> Result<(), Fail> {
     let alloc = rt.alloc();
     let error = SignError::Backend(cause(alloc)?);
-    prints(&rt, alloc, &error, "Signing error")?;
+    assert_eq!(rt; printed(alloc, &error)?.as_str(), "Signing error");
     Ok(())
 }
 
@@ -157,7 +134,7 @@ fn files_that_cannot_be_read(rt: HostRuntime) -> Result<(), Fail> {
             source: cause(alloc)?,
         };
         let expected = "Error when reading file content for file a/b with id ab";
-        prints(&rt, alloc, &error, expected)?;
+        assert_eq!(rt; printed(alloc, &error)?.as_str(), expected);
     }
     Ok(())
 }
@@ -165,9 +142,15 @@ fn files_that_cannot_be_read(rt: HostRuntime) -> Result<(), Fail> {
 #[test]
 fn errors_without_parts(rt: HostRuntime) -> Result<(), Fail> {
     let alloc = rt.alloc();
-    prints(&rt, alloc, &BackendError::Memory, "out of memory")?;
+    assert_eq!(rt;
+        printed(alloc, &BackendError::Memory)?.as_str(),
+        "out of memory"
+    );
     let invalid = SignError::InvalidSignatureFormat;
-    prints(&rt, alloc, &invalid, "Invalid signature")?;
-    prints(&rt, alloc, &TimestampOutOfRange, "Out-of-range date")?;
+    assert_eq!(rt; printed(alloc, &invalid)?.as_str(), "Invalid signature");
+    assert_eq!(rt;
+        printed(alloc, &TimestampOutOfRange)?.as_str(),
+        "Out-of-range date"
+    );
     Ok(())
 }

@@ -14,6 +14,7 @@ mod content_tests;
 mod copy_tests;
 #[cfg(test)]
 mod error_tests;
+pub mod error_texts;
 #[cfg(test)]
 mod json_tests;
 #[cfg(test)]

@@ -1,31 +1,7 @@
 //! Texts of errors.
-use jj_paths::file_util::{SourceError, SourceKind};
+use jj_backend_tests::error_texts::{cause, parts, printed, text};
 use jj_stores::op_store::OpStoreError;
-use std::alloc::{AllocError, Global};
-use std::process::Abort;
 use std::test::Fail;
-
-fn text(alloc: Global, text: &str) -> Result<String, AllocError> {
-    String::from_str(alloc, text).or_else(|_| String::from_str(alloc, text))
-}
-
-fn cause(alloc: Global) -> Result<SourceError, AllocError> {
-    Ok(SourceError {
-        kind: SourceKind::Other,
-        message: text(alloc, "the cause")?,
-    })
-}
-
-fn prints<R: Abort>(
-    rt: &R,
-    alloc: Global,
-    error: &OpStoreError,
-    expected: &str,
-) -> Result<(), AllocError> {
-    let printed = error.to_string(alloc).or_else(|_| error.to_string(alloc))?;
-    assert_eq!(rt; printed.as_str(), expected);
-    Ok(())
-}
 
 #[test]
 fn missing_objects(rt: HostRuntime) -> Result<(), Fail> {
@@ -35,20 +11,24 @@ fn missing_objects(rt: HostRuntime) -> Result<(), Fail> {
         hash: text(alloc, "ab")?,
         source: None,
     };
-    prints(&rt, alloc, &error, "Object ab of type view not found")?;
+    assert_eq!(rt;
+        printed(alloc, &error)?.as_str(),
+        "Object ab of type view not found"
+    );
     Ok(())
 }
 
 #[test]
 fn objects_that_cannot_be_read(rt: HostRuntime) -> Result<(), Fail> {
     let alloc = rt.alloc();
+    let (object_type, hash, source) = parts(alloc, "operation")?;
     let error = OpStoreError::ReadObject {
-        object_type: text(alloc, "operation")?,
-        hash: text(alloc, "ab")?,
-        source: cause(alloc)?,
+        object_type,
+        hash,
+        source,
     };
     let expected = "Error when reading object ab of type operation";
-    prints(&rt, alloc, &error, expected)?;
+    assert_eq!(rt; printed(alloc, &error)?.as_str(), expected);
     Ok(())
 }
 
@@ -59,7 +39,10 @@ fn objects_that_cannot_be_written(rt: HostRuntime) -> Result<(), Fail> {
         object_type: "view",
         source: cause(alloc)?,
     };
-    prints(&rt, alloc, &error, "Could not write object of type view")?;
+    assert_eq!(rt;
+        printed(alloc, &error)?.as_str(),
+        "Could not write object of type view"
+    );
     Ok(())
 }
 
@@ -67,7 +50,10 @@ fn objects_that_cannot_be_written(rt: HostRuntime) -> Result<(), Fail> {
 fn other_causes(rt: HostRuntime) -> Result<(), Fail> {
     let alloc = rt.alloc();
     let error = OpStoreError::Other(cause(alloc)?);
-    prints(&rt, alloc, &error, "the cause")?;
-    prints(&rt, alloc, &OpStoreError::Memory, "out of memory")?;
+    assert_eq!(rt; printed(alloc, &error)?.as_str(), "the cause");
+    assert_eq!(rt;
+        printed(alloc, &OpStoreError::Memory)?.as_str(),
+        "out of memory"
+    );
     Ok(())
 }
