@@ -14,6 +14,7 @@ pub mod ListedGraphs
 pub mod ListedNeighbors
 pub mod Numberings
 pub mod NumberedWalks
+pub mod GraphClosures
 pub mod OneGraph
 pub mod HexBytes
 pub mod HashContent

@@ -52,12 +52,14 @@ none_failed E ids e (k, within, is) =
     let sound : get_or (map sound_item ids) k (Err e) ≡ Ok (get_or ids k 0) = get_or-map sound_item ids k 0 (Err e) inside in
     let both : Ok (get_or ids k 0) ≡ Err e = sym sound ∙ is in cc
 
+-- ids that an iterator over a slice copies
+pub copied_ids : (value : Copied (Iter ℕ)) (xs ids : List ℕ) → iter_rest (copied_source value) ≡ ids → DrainsTo (λ s t. t ≡ s) (copies fronts) value xs → map (λ x. x) xs ≡ ids
+copied_ids value xs ids rest d = drained_are (λ s t. t ≡ s) (copies fronts) value xs (λ x. x) ids (λ it b. YieldsList-from_copied (YieldsList-from_slice ids (ap (λ s. iter_rest (copied_source s)) b ∙ rest))) d
+
 -- what such a list drains to
 pub lists_neighbors : (r : Result (Copied (Iter ℕ)) ℕ) (ids : List ℕ) → IsOkAnd r (λ list. iter_rest (copied_source list) ≡ ids)
     → AnswersItems (λ x. x) (λ s t. t ≡ s) (copies fronts) r (map (λ id. Ok id) ids)
-lists_neighbors (Ok list) ids rest = λ xs d.
-    let given = drained_are (λ s t. t ≡ s) (copies fronts) list xs (λ x. x) ids (λ it b. YieldsList-from_copied (YieldsList-from_slice ids (ap (λ s. iter_rest (copied_source s)) b ∙ rest))) d in
-    ap (map {B = Result ℕ (Fault ℕ)} (λ id. Ok id)) (sym given ∙ map-id xs)
+lists_neighbors (Ok list) ids rest = λ xs d. ap (map {B = Result ℕ (Fault ℕ)} (λ id. Ok id)) (sym (copied_ids list xs ids rest d) ∙ map-id xs)
 lists_neighbors (Err e) ids none = absurd none
 
 -- ids as items: each is the node of that number

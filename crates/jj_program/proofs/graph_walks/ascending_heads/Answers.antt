@@ -9,8 +9,9 @@ use Rattle.jj_walks.specs.Graph.{IsMaximalIn}
 use Rattle.jj_walks.specs.Walk.{Numbered}
 use Rattle.jj_walks.proofs.Walking.{drained_are}
 use Rattle.jj_program.specs.ListedGraphs.{named_by, shown_by}
-use Rattle.jj_program.proofs.NumberedWalks.{numbered, numbers_apart, number_stands, nodes_among}
-use Rattle.jj_program.proofs.ListedGraphs.{none_reached, maximal_permuted, maximal_rising}
+use Rattle.jj_program.proofs.GraphClosures.{shows_lists, walk_over}
+use Rattle.jj_program.proofs.NumberedWalks.{nodes_among}
+use Rattle.jj_program.proofs.ListedGraphs.{copied_ids, none_reached, maximal_permuted, maximal_rising}
 use Rattle.jj_program.proofs.graph_walks.ascending_heads.Goals as goal
 
 pub heads-requires-clause-graph : goal.heads-requires-clause-graph
@@ -24,19 +25,10 @@ pub returns-clause-maximal : goal.returns-clause-maximal
 returns-clause-maximal c =
     let graph = shown_by c.args.graph.now in
     let ids = named_by c.args.graph.now in
-    let walk : Numbered ℕ ℕ = numbered graph ids in
     let p = c.in_ok-found.ensures.heads in
-    let starts : map (λ x. x) p.0 ≡ c.args.ids.now = drained_are (λ s r. r ≡ s) _ c.copied.result p.0 (λ x. x) c.args.ids.now (λ it b. YieldsList-from_copied (YieldsList-from_slice _ (search (rules, c.copied.ensures, c.iter.ensures, b)))) p.1 in
-    let found = p.2 walk
-    (record {
-      closed = λ a s b h. c.args.graph.now.named a b h;
-      apart = numbers_apart ids c.args.graph.now.numbering.ascending;
-      ids_stand = λ x i is h. number_stands ids x i is (search (rules, of_calls, h.says.met, h.shows));
-      neighbors = always_returns_same _ _ _ (λ a r f h. (
-        λ xs here d. drained_are (λ s k. k ≡ s) _ r xs (λ x. x) (graph a.0.now) (λ it b. YieldsList-from_copied (YieldsList-from_slice _ (search (rules, of_calls, h, b)))) d,
-        search (rules, of_calls, h),
-      ));
-    })
+    let starts : map (λ x. x) p.0 ≡ c.args.ids.now = copied_ids c.copied.result p.0 c.args.ids.now (search (rules, c.copied.ensures, c.iter.ensures)) p.1 in
+    let found = p.2 (walk_over c.args.graph.now)
+    (shows_lists c.args.graph.now _ _ _ (λ x i h. search (rules, of_calls, h.says.met, h.shows)) _ (λ a r f h. (search (rules, of_calls, h), search (rules, of_calls, h))))
     (nodes_among ids (map (λ x. x) p.0) c.args.ids.now starts c.requires.named) (none_reached graph (map (λ x. x) p.0) c.requires.acyclic) (λ x y a. refl) in
     let of_ids : IsMaximalIn graph c.args.ids.now c.in_ok-found.found.keys = subst (λ ids. IsMaximalIn graph ids c.in_ok-found.found.keys) starts (subst (λ keys. IsMaximalIn graph (map (λ x. x) p.0) keys) (map-id c.in_ok-found.found.keys) found) in
     let collected : c.in_ok-ascending.ascending.items ≡ c.in_ok-found.found.keys =

@@ -8,8 +8,9 @@ use Rattle.jj_walks.specs.Walk.{Numbered}
 use Rattle.jj_walks.proofs.Walking.{drained_are}
 use Rattle.jj_walks.proofs.Errors.{node_says}
 use Rattle.jj_program.specs.ListedGraphs.{named_by, shown_by}
-use Rattle.jj_program.proofs.NumberedWalks.{numbered, numbers_apart, number_stands, nodes_among}
-use Rattle.jj_program.proofs.ListedGraphs.{none_listed}
+use Rattle.jj_program.proofs.GraphClosures.{shows_lists, walk_over}
+use Rattle.jj_program.proofs.NumberedWalks.{nodes_among}
+use Rattle.jj_program.proofs.ListedGraphs.{copied_ids, none_listed}
 use Rattle.jj_program.proofs.graph_walks.has_cycle.Goals as goal
 
 pub topo_order_forward-order-requires : goal.topo_order_forward-order-requires
@@ -26,40 +27,22 @@ topo_order_forward-order-requires c = record {
 
 pub returns-in-Ok : goal.returns-in-Ok
 returns-in-Ok c =
-    let graph = shown_by c.args.graph.now in
-    let ids = named_by c.args.graph.now in
-    let walk : Numbered ℕ ℕ = numbered graph ids in
+    let graph = c.args.graph.now in
+    let ids = named_by graph in
     let p = c.in-Ok.ensures.order in
-    let starts : map (λ x. x) p.0 ≡ ids = drained_are (λ s r. r ≡ s) _ c.copied.result p.0 (λ x. x) ids (λ it b. YieldsList-from_copied (YieldsList-from_slice _ (search (rules, c.copied.ensures, c.iter.ensures, c.ids.ensures, b)))) p.1 in
-    let k = p.2 walk
-    (record {
-      closed = λ a s b h. c.args.graph.now.named a b h;
-      apart = numbers_apart ids c.args.graph.now.numbering.ascending;
-      ids_stand = λ x i is h. number_stands ids x i is (search (rules, of_calls, h.says.met, h.shows));
-      neighbors = always_returns_same _ _ _ (λ a r f h. (
-        λ xs here d. drained_are (λ s k. k ≡ s) _ r xs (λ x. x) (graph a.0.now) (λ it b. YieldsList-from_copied (YieldsList-from_slice _ (search (rules, of_calls, h, b)))) d,
-        search (rules, of_calls, h),
-      ));
-    })
+    let starts : map (λ x. x) p.0 ≡ ids = copied_ids c.copied.result p.0 ids (search (rules, c.copied.ensures, c.iter.ensures, c.ids.ensures)) p.1 in
+    let k = p.2 (walk_over graph)
+    (shows_lists graph _ _ _ (λ x i h. search (rules, of_calls, h.says.met, h.shows)) _ (λ a r f h. (search (rules, of_calls, h), search (rules, of_calls, h))))
     (nodes_among ids (map (λ x. x) p.0) ids starts (All-contains_itself ids)) in
-    none_listed graph ids c.args.graph.now.named (subst (HasNoCycle graph) starts k.no_cycle)
+    none_listed (shown_by graph) ids graph.named (subst (HasNoCycle (shown_by graph)) starts k.no_cycle)
 
 pub returns-in-Node : goal.returns-in-Node
 returns-in-Node c =
-    let graph = shown_by c.args.graph.now in
-    let ids = named_by c.args.graph.now in
-    let walk : Numbered ℕ ℕ = numbered graph ids in
+    let graph = c.args.graph.now in
+    let ids = named_by graph in
     let (x, xs, post, drains, shown) = node_says _ c.in-Err.error c.in-Node.field-0 c.in-Node.is c.in-Err.ensures.cycle in
-    let starts : map (λ x. x) xs ≡ ids = drained_are (λ s r. r ≡ s) _ c.copied.result xs (λ x. x) ids (λ it b. YieldsList-from_copied (YieldsList-from_slice _ (search (rules, c.copied.ensures, c.iter.ensures, c.ids.ensures, b)))) drains in
-    let k = shown walk
-    (record {
-      closed = λ a s b h. c.args.graph.now.named a b h;
-      apart = numbers_apart ids c.args.graph.now.numbering.ascending;
-      ids_stand = λ x i is h. number_stands ids x i is (search (rules, of_calls, h.says.met, h.shows));
-      neighbors = always_returns_same _ _ _ (λ a r f h. (
-        λ xs here d. drained_are (λ s k. k ≡ s) _ r xs (λ x. x) (graph a.0.now) (λ it b. YieldsList-from_copied (YieldsList-from_slice _ (search (rules, of_calls, h, b)))) d,
-        search (rules, of_calls, h),
-      ));
-    })
+    let starts : map (λ x. x) xs ≡ ids = copied_ids c.copied.result xs ids (search (rules, c.copied.ensures, c.iter.ensures, c.ids.ensures)) drains in
+    let k = shown (walk_over graph)
+    (shows_lists graph _ _ _ (λ x i h. search (rules, of_calls, h.says.met, h.shows)) _ (λ a r f h. (search (rules, of_calls, h), search (rules, of_calls, h))))
     (nodes_among ids (map (λ x. x) xs) ids starts (All-contains_itself ids)) in
     (x, k.1)
