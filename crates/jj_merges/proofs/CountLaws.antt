@@ -1,6 +1,6 @@
 -- The signed counts of images, of clones, of diffs, and of what loses or gains a pair.
-use Rattle.std.proofs.Common.{◌≡◌, ℕ, suc, ◌+◌, ◌<◌, Bool, true, false, not, ◌||◌, cond, List, [], ◌∷◌, ◌++◌, length, All, refl, ap, arith, sym, ◌∙◌, get_or, true≢false}
-use Rattle.std.specs.Prelude.{count_by, sum_by, filter, Contains, ℤ, pos, ◌+ℤ◌, ◌-ℤ◌}
+use Rattle.std.proofs.Common.{◌≡◌, ℕ, suc, ◌+◌, Bool, true, false, not, ◌||◌, cond, List, [], ◌∷◌, All, refl, ap, arith, sym, ◌∙◌, get_or, true≢false}
+use Rattle.std.specs.Prelude.{count_by, sum_by, filter, Contains, pos, ◌-ℤ◌}
 use Rattle.std.specs.Cmp.{IsEquivalence, IsPartialEquivalence}
 use Rattle.std.specs.List.{AllZip, list_any}
 use Rattle.std.proofs.lemmas.Int.{ints}
@@ -9,9 +9,9 @@ use Rattle.std.proofs.lemmas.List.Folds.{list_any_at}
 use Rattle.std.proofs.lemmas.List.Sums.{sum_by-cons}
 use Rattle.jj_merges.specs.Merge.{adds, removes, signed_count}
 use Rattle.jj_merges.specs.Maps.{MapsTo}
-use Rattle.jj_merges.specs.Counts.{distinct, sum_of, GivesImages, HaveCountsOfImages}
+use Rattle.jj_merges.specs.Counts.{distinct, sum_of, HaveCountsOfImages}
 use Rattle.jj_merges.proofs.CloneLaws.{AllZip-adds, AllZip-removes, equal_alike}
-use Rattle.jj_merges.proofs.Kept.{All-adds, All-removes, same_answer}
+use Rattle.jj_merges.proofs.Kept.{All-adds, All-removes}
 
 sum_by-split : {X : Type 0} (f g h : X → ℕ) → ((x : X) → f x ≡ g x + h x) → (xs : List X) → sum_by f xs ≡ sum_by g xs + sum_by h xs
 sum_by-split f g h e [] = refl

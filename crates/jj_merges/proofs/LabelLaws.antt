@@ -1,5 +1,5 @@
 -- Labels as texts: those of a merge, of its adds and removes, and of places.
-use Rattle.std.proofs.Common.{◌≡◌, ℕ, ◌<◌, suc, zero, true, false, cond, List, [], ◌∷◌, length, map, Some, None, refl, ap, arith, ◌∙◌}
+use Rattle.std.proofs.Common.{◌≡◌, ℕ, ◌<◌, suc, zero, true, false, cond, List, [], ◌∷◌, length, map, Some, None, refl, ap, arith, sym, ◌∙◌}
 use Rattle.std.specs.Prelude.{slice_get}
 use Rattle.std.specs.List.{cons_option, AllZip}
 use Rattle.std.specs.Option.{option_map}
@@ -35,6 +35,11 @@ nonempty-removes texts i h =
       | true ↦ λ e. ap (λ ts. nonempty (slice_get (removes ts) i)) (h e)
       | false ↦ λ e. refl
     ] refl
+
+-- the text of a label on one side, where that of the texts on that side is known
+pub nonempty-at : {L : Type 0} (f : L → List ℕ) (labels : List L) (i : ℕ) (texts shown : List (List ℕ)) → texts ≡ map f labels
+    → nonempty (slice_get texts i) ≡ nonempty (slice_get shown i) → nonempty (option_map f (slice_get labels i)) ≡ nonempty (slice_get shown i)
+nonempty-at f labels i texts shown same e = ap nonempty (sym (slice_get-map f labels i) ∙ ap (λ xs. slice_get xs i) (sym same)) ∙ e
 
 -- labels that are shown are all of them
 pub labels_of-shown : (texts : List (List ℕ)) → 0 < length (labels_of texts) → labels_of texts ≡ texts

@@ -1,13 +1,13 @@
 -- The signed counts of clones, of one value repeated, of diffs, of values that may be absent, and of
 -- what loses a pair.
-use Rattle.std.proofs.Common.{◌≡◌, ℕ, ◌+◌, ◌%◌, ◌<◌, Bool, true, false, cond, List, [], ◌∷◌, ◌++◌, length, map, Some, None, Option, Ok, Err, Result, OnOk, length-append, ◌*◌, refl, ap, arith, sym, ◌∙◌, get_or, inl, inr, ◌⊎◌}
-use Rattle.std.specs.Prelude.{count_by, sum_by, slice_get, ℤ, pos, ◌+ℤ◌, ◌-ℤ◌}
+use Rattle.std.proofs.Common.{◌≡◌, ℕ, ◌+◌, ◌%◌, ◌<◌, Bool, true, false, cond, List, [], ◌∷◌, length, map, Some, None, Option, Ok, Err, Result, OnOk, length-append, ◌*◌, refl, ap, arith, sym, ◌∙◌, get_or, inl, inr, ◌⊎◌}
+use Rattle.std.specs.Prelude.{count_by, slice_get, pos, ◌+ℤ◌, ◌-ℤ◌}
 use Rattle.std.specs.Cmp.{IsPartialEquivalence}
 use Rattle.std.specs.List.{AllZip, AllClonesOf, AppendsClonesOf, swap_remove}
 use Rattle.std.proofs.lemmas.Int.{ints}
 use Rattle.std.proofs.lemmas.List.Sums.{sum_by-cons, sum_by-swap_remove}
 use Rattle.jj_merges.specs.declared.merge.diffs.Diff.{Diff}
-use Rattle.jj_merges.specs.Merge.{adds, removes, signed_count, AreEqual}
+use Rattle.jj_merges.specs.Merge.{adds, removes, signed_count}
 use Rattle.jj_merges.specs.Made.{diff_terms}
 use Rattle.jj_merges.specs.Options.{present}
 use Rattle.jj_merges.specs.Counts.{count_less, count_of_one, HaveCountsOfClones, IsOnOptions}

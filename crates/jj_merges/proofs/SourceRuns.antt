@@ -1,7 +1,7 @@
 -- What comes of a source, item by item.
 use Rattle.std.proofs.Common.{◌≡◌, ◌+◌, ◌%◌, ◌≤◌, List, [], ◌∷◌, ◌++◌, length, refl, subst, sym, ap, arith, ◌∙◌, length-append, append-nil}
 use Rattle.std.specs.Prelude.{Option, Some, None, MatchOption}
-use Rattle.std.specs.Iterator.{Yields, Drains, Count, IsFinite, MakesProgress}
+use Rattle.std.specs.Iterator.{Yields, Drains, Count, IsFinite, IsFiniteIterable, MakesProgress}
 use Rattle.std.proofs.iter.Next.{Yields-more, on}
 use Rattle.jj_merges.specs.Made.{Gives}
 use Rattle.jj_merges.specs.Merge.{adds, removes}
@@ -18,6 +18,11 @@ pub Yields-append : {S A : Type 0} (steps : S → Option A → S → Type 0) (s 
 Yields-append steps s [] t ys u p q = subst (λ r. Yields steps r ys u) (sym p) q
 Yields-append steps s (x ∷ xs) t ys u p q = (p.0, p.1, Yields-append steps p.0 xs t ys u p.2 q)
 
+-- what a loop over all that is left of an iterator was given
+pub Drains-loop : {S A : Type 0} (steps : S → Option A → S → Type 0) (it looped s u : S) (xs : List A)
+    → looped ≡ it → Yields steps looped xs s → steps s None u → Drains steps it xs
+Drains-loop steps it looped s u xs e came step = (u, (s, subst (λ r. Yields steps r xs s) e came, step))
+
 module _ {U S A : Type 0} (becomes : U → S → Type 0) (steps : S → Option A → S → Type 0) (can : S → Type 0) (left : S → Count) (source : U) where
   -- these items came of the source, which is now at `state`, and more may come
   pub record Goes (state : S) (items : List A) : Type 0 where
@@ -27,8 +32,10 @@ module _ {U S A : Type 0} (becomes : U → S → Type 0) (steps : S → Option A
     pub may_go_on : can state
     pub ends : IsFinite (left state)
 
-  pub Goes-start : (it : S) → becomes source it → can it → IsFinite (left it) → Goes it []
-  Goes-start it m c f = record { from = it; made = m; came = refl; may_go_on = c; ends = f }
+  pub Goes-start : IsFiniteIterable becomes can left source → (it : S) → becomes source it → Goes it []
+  Goes-start finite it m =
+      let end = finite it m in
+      record { from = it; made = m; came = refl; may_go_on = end.0; ends = end.1 }
 
   -- one item more
   pub Goes-more : (s : S) (xs : List A) (x : A) (t : S) → Goes s xs → steps s (Some x) t → MakesProgress can left s (Some x) t → Goes t (xs ++ x ∷ [])

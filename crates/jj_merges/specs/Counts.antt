@@ -1,7 +1,7 @@
 -- The signed counts of merges that are made of other values.
 -- Cited by contracts of public items: HaveCountsOfClones, HaveCountsOfDiffs, HaveCountsOfImages,
 -- HaveCountsOfPresent, count_of_one.
-use Rattle.std.specs.Prelude.{◌≡◌, ℕ, Bool, true, false, not, cond, List, [], ◌∷◌, map, count_by, filter, Contains, Option, Some, None, ℤ, pos, ◌+ℤ◌, ◌-ℤ◌}
+use Rattle.std.specs.Prelude.{◌≡◌, Bool, true, false, not, cond, List, [], ◌∷◌, map, count_by, filter, Contains, Option, Some, None, ℤ, pos, ◌+ℤ◌, ◌-ℤ◌}
 use Rattle.std.specs.Cmp.{IsEquivalence, IsPartialEquivalence}
 use Rattle.jj_merges.specs.declared.merge.diffs.Diff.{Diff}
 use Rattle.jj_merges.specs.Merge.{adds, removes, signed_count, HaveSameCounts}

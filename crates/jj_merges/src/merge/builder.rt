@@ -1,12 +1,12 @@
 //! Merges made of the items of iterators.
 ghost use Rattle.std.specs.Prelude.{◌≡◌, ◌+◌, ◌++◌, [], ◌∷◌, List, length, IfOk, OnOk, OnErr};
 ghost use Rattle.std.specs.Cmp.Lexicographic.{pointwise, lists_per, lists_equiv};
-ghost use Rattle.std.specs.Iterator.{Drains, IsFinite};
+ghost use Rattle.std.specs.Iterator.{Drains};
 ghost use Rattle.std.specs.List.{AllZip};
 ghost use Rattle.jj_merges.specs.Counts.{HaveCountsOfDiffs};
 ghost use Rattle.jj_merges.specs.Odd.{IsOdd};
 ghost use Rattle.jj_merges.specs.Terms.{items};
-ghost use Rattle.jj_merges.specs.Made.{Gives, diff_terms};
+ghost use Rattle.jj_merges.specs.Made.{Ends, Gives, diff_terms};
 ghost use Rattle.jj_merges.specs.Merge as merge;
 
 use super::storage::Terms;
@@ -52,8 +52,7 @@ impl<T: Drop> MergeBuilder<T> {
         alloc: Global,
         iter: U,
     ) -> Result<(), AllocError>
-        requires { (it : U.IntoIter) → U.into_iter_gives iter it → U.IntoIter.can_next it
-            × IsFinite (U.IntoIter.remaining it) }
+        requires { Ends U.IntoIterator U.IntoIter.Iterator iter }
         ensures ok { OnOk result ((xs : List T)
             × Gives U.into_iter_gives U.IntoIter.next_gives iter xs × (self.new ≡ self.old ++ xs)) }
         ensures err { OnErr result (self.new ≡ self.old) }
@@ -118,10 +117,8 @@ impl<T: Drop> Merge<T> {
         removes: R,
         adds: A,
     ) -> Result<Self, AllocError>
-        requires removes_end { (it : R.IntoIter) → R.into_iter_gives removes it
-            → R.IntoIter.can_next it × IsFinite (R.IntoIter.remaining it) }
-        requires adds_end { (it : A.IntoIter) → A.into_iter_gives adds it → A.IntoIter.can_next it
-            × IsFinite (A.IntoIter.remaining it) }
+        requires removes_end { Ends R.IntoIterator R.IntoIter.Iterator removes }
+        requires adds_end { Ends A.IntoIterator A.IntoIter.Iterator adds }
         requires one_more { (xs ys : List T)
             → Gives R.into_iter_gives R.IntoIter.next_gives removes xs
             → Gives A.into_iter_gives A.IntoIter.next_gives adds ys → length ys ≡ length xs + 1 }
@@ -157,8 +154,7 @@ impl<T: Drop> Merge<T> {
         first_side: T,
         diffs: U,
     ) -> Result<Self, AllocError>
-        requires { (it : U.IntoIter) → U.into_iter_gives diffs it → U.IntoIter.can_next it
-            × IsFinite (U.IntoIter.remaining it) }
+        requires { Ends U.IntoIterator U.IntoIter.Iterator diffs }
         ensures { IfOk result (λ m. (it : U.IntoIter) × (ds : List (Diff T))
             × U.into_iter_gives diffs it × Drains U.IntoIter.next_gives it ds
             × (m ≡ first_side ∷ diff_terms ds) × HaveCountsOfDiffs first_side ds m) }

@@ -1,10 +1,9 @@
 //! Merges of values that may be absent, as a list of removed values and a list of added ones.
 ghost use Rattle.std.specs.Prelude.{◌≡◌, ◌++◌, List, IfOk, OnOk};
-ghost use Rattle.std.specs.Iterator.{Drains, IsFinite};
 ghost use Rattle.std.specs.Option.{option_to_list};
 ghost use Rattle.jj_merges.specs.Counts.{HaveCountsOfPresent};
 ghost use Rattle.jj_merges.specs.Flatten.{legacy_terms};
-ghost use Rattle.jj_merges.specs.Made.{Gives};
+ghost use Rattle.jj_merges.specs.Made.{Ends, Gives};
 ghost use Rattle.jj_merges.specs.Merge as merge;
 ghost use Rattle.jj_merges.specs.Options.{present};
 
@@ -20,10 +19,8 @@ impl<T: Drop> Merge<Option<T>> {
         removes: R,
         adds: A,
     ) -> Result<Self, AllocError>
-        requires removes_end { (it : R.IntoIter) → R.into_iter_gives removes it
-            → R.IntoIter.can_next it × IsFinite (R.IntoIter.remaining it) }
-        requires adds_end { (it : A.IntoIter) → A.into_iter_gives adds it → A.IntoIter.can_next it
-            × IsFinite (A.IntoIter.remaining it) }
+        requires removes_end { Ends R.IntoIterator R.IntoIter.Iterator removes }
+        requires adds_end { Ends A.IntoIterator A.IntoIter.Iterator adds }
 
         // The values that are there are those of both lists, as `into_legacy_form` gives them back.
         ensures terms { IfOk result (λ m. (xs : List T) × (ys : List T)

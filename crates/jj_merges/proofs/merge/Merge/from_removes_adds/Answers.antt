@@ -1,19 +1,16 @@
 use Rattle.std.proofs.Common.{◌∙◌, ◌++◌, ◌∷◌, [], List, sym, ap, subst, arith, length, length-append}
-use Rattle.std.specs.Iterator.{Yields, Drains}
 use Rattle.jj_merges.specs.Made.{Gives}
 use Rattle.jj_merges.specs.Terms.{items}
 use Rattle.jj_merges.proofs.Sound.{sound}
-use Rattle.jj_merges.proofs.SourceRuns.{Goes-start, Holds-start, Holds-more, Holds-end, even_terms}
+use Rattle.jj_merges.proofs.SourceRuns.{Drains-loop, Goes-start, Holds-start, Holds-more, Holds-end, even_terms}
 use Rattle.jj_merges.proofs.merge.Merge.from_removes_adds.Goals as goal
 
 pub loop-remove-init : goal.loop-remove-init
 loop-remove-init g c =
-    let it = c.into_iter-adds.result in
-    let made = c.into_iter-adds.ensures.into_iter_gives in
-    let ends = c.requires.adds_end it made in (
+    let it = c.into_iter-adds.result in (
       c.in_ok-terms.ensures.1,
       Holds-start g.A.IntoIterator.into_iter_gives g.A.IntoIter.Iterator.next_gives g.A.IntoIter.Iterator.can_next g.A.IntoIter.Iterator.remaining c.args.adds it (items c.in_ok-terms.terms) c.next-add.result c.next-add.new.self c.in_ok-terms.ensures.0
-          (Goes-start g.A.IntoIterator.into_iter_gives g.A.IntoIter.Iterator.next_gives g.A.IntoIter.Iterator.can_next g.A.IntoIter.Iterator.remaining c.args.adds it made ends.0 ends.1)
+          (Goes-start g.A.IntoIterator.into_iter_gives g.A.IntoIter.Iterator.next_gives g.A.IntoIter.Iterator.can_next g.A.IntoIter.Iterator.remaining c.args.adds c.requires.adds_end it c.into_iter-adds.ensures.into_iter_gives)
           c.next-add.ensures.steps c.next-add.ensures.goes,
     )
 
@@ -30,7 +27,7 @@ pub unreachable-requires : goal.unreachable-requires
 unreachable-requires g c =
     let now = rw c.in-None-add.is at c.loop-remove.invariant in
     let all : Gives g.R.IntoIterator.into_iter_gives g.R.IntoIter.Iterator.next_gives c.args.removes c.loop-remove.yielded =
-    (c.into_iter-removes.result, c.into_iter-removes.ensures.into_iter_gives, (c.next.new.self, (c.loop-remove.remove-iterator, subst (λ (s : g.row.R-IntoIter.Denot). Yields g.R.IntoIter.Iterator.next_gives s c.loop-remove.yielded c.loop-remove.remove-iterator) c.into_iter-remove-iterator.ensures.into_iter_gives c.loop-remove.yielded_by, c.in-None.ensures.steps))) in
+    (c.into_iter-removes.result, c.into_iter-removes.ensures.into_iter_gives, Drains-loop g.R.IntoIter.Iterator.next_gives _ _ _ _ _ c.into_iter-remove-iterator.ensures.into_iter_gives c.loop-remove.yielded_by c.in-None.ensures.steps) in
     omega (arith, c.requires.one_more c.loop-remove.yielded now.1.0 all now.1.1, now.1.2)
 
 pub invariant_of-result : goal.invariant_of-result
@@ -39,24 +36,15 @@ invariant_of-result g c =
     sound c.push-in-Some-add-2.new.self c.in_ok-push-in-Some-add-2.ensures.holds_one
     (omega (arith, ap length c.in_ok-push-in-Some-add-2.ensures.ok, length-append (items c.loop-remove.terms) (c.in-Some-add-2.value ∷ []), even_terms c.loop-remove.yielded (items c.loop-remove.terms) now.1.1 now.1.2))
 
-pub returns-clause-removes : goal.returns-clause-removes
-returns-clause-removes g c =
+pub returns : goal.returns
+returns g c =
     let all : Gives g.R.IntoIterator.into_iter_gives g.R.IntoIter.Iterator.next_gives c.args.removes c.loop-remove.yielded =
-    (c.into_iter-removes.result, c.into_iter-removes.ensures.into_iter_gives, (c.next.new.self, (c.loop-remove.remove-iterator, subst (λ (s : g.row.R-IntoIter.Denot). Yields g.R.IntoIter.Iterator.next_gives s c.loop-remove.yielded c.loop-remove.remove-iterator) c.into_iter-remove-iterator.ensures.into_iter_gives c.loop-remove.yielded_by, c.in-None.ensures.steps))) in
+    (c.into_iter-removes.result, c.into_iter-removes.ensures.into_iter_gives, Drains-loop g.R.IntoIter.Iterator.next_gives _ _ _ _ _ c.into_iter-remove-iterator.ensures.into_iter_gives c.loop-remove.yielded_by c.in-None.ensures.steps) in
     let now = rw c.in-Some-add-2.is at c.loop-remove.invariant in
-    let rest : Drains g.A.IntoIter.Iterator.next_gives c.loop-remove.adds c.loop-none.yielded =
-    (c.next-in-loop-none.new.self, (c.loop-none._none-iterator, subst (λ (s : g.row.A-IntoIter.Denot). Yields g.A.IntoIter.Iterator.next_gives s c.loop-none.yielded c.loop-none._none-iterator) c.into_iter-none-iterator.ensures.into_iter_gives c.loop-none.yielded_by, c.in-None-_none.ensures.steps)) in
+    let rest = Drains-loop g.A.IntoIter.Iterator.next_gives c.loop-remove.adds _ _ _ c.loop-none.yielded c.into_iter-none-iterator.ensures.into_iter_gives c.loop-none.yielded_by c.in-None-_none.ensures.steps in
     let both = Holds-end g.A.IntoIterator.into_iter_gives g.A.IntoIter.Iterator.next_gives g.A.IntoIter.Iterator.can_next g.A.IntoIter.Iterator.remaining c.args.adds c.loop-remove.adds c.in-Some-add-2.value c.loop-remove.yielded (items c.loop-remove.terms) (items c.push-in-Some-add-2.new.self) c.loop-none.yielded now.1 c.in_ok-push-in-Some-add-2.ensures.ok rest
     (λ ys came. c.requires.one_more c.loop-remove.yielded ys all came) in
-    subst (λ (xs : List g.row.T.Denot). Gives g.R.IntoIterator.into_iter_gives g.R.IntoIter.Iterator.next_gives c.args.removes xs) (sym both.1) all
-
-pub returns-clause-adds : goal.returns-clause-adds
-returns-clause-adds g c =
-    let all : Gives g.R.IntoIterator.into_iter_gives g.R.IntoIter.Iterator.next_gives c.args.removes c.loop-remove.yielded =
-    (c.into_iter-removes.result, c.into_iter-removes.ensures.into_iter_gives, (c.next.new.self, (c.loop-remove.remove-iterator, subst (λ (s : g.row.R-IntoIter.Denot). Yields g.R.IntoIter.Iterator.next_gives s c.loop-remove.yielded c.loop-remove.remove-iterator) c.into_iter-remove-iterator.ensures.into_iter_gives c.loop-remove.yielded_by, c.in-None.ensures.steps))) in
-    let now = rw c.in-Some-add-2.is at c.loop-remove.invariant in
-    let rest : Drains g.A.IntoIter.Iterator.next_gives c.loop-remove.adds c.loop-none.yielded =
-    (c.next-in-loop-none.new.self, (c.loop-none._none-iterator, subst (λ (s : g.row.A-IntoIter.Denot). Yields g.A.IntoIter.Iterator.next_gives s c.loop-none.yielded c.loop-none._none-iterator) c.into_iter-none-iterator.ensures.into_iter_gives c.loop-none.yielded_by, c.in-None-_none.ensures.steps)) in
-    let both = Holds-end g.A.IntoIterator.into_iter_gives g.A.IntoIter.Iterator.next_gives g.A.IntoIter.Iterator.can_next g.A.IntoIter.Iterator.remaining c.args.adds c.loop-remove.adds c.in-Some-add-2.value c.loop-remove.yielded (items c.loop-remove.terms) (items c.push-in-Some-add-2.new.self) c.loop-none.yielded now.1 c.in_ok-push-in-Some-add-2.ensures.ok rest
-    (λ ys came. c.requires.one_more c.loop-remove.yielded ys all came) in
-    both.0
+    record {
+      removes = subst (λ (xs : List g.row.T.Denot). Gives g.R.IntoIterator.into_iter_gives g.R.IntoIter.Iterator.next_gives c.args.removes xs) (sym both.1) all;
+      adds = both.0;
+    }

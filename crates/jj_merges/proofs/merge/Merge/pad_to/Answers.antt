@@ -1,4 +1,4 @@
-use Rattle.std.proofs.Common.{◌≡◌, ◌%◌, ap, arith, length}
+use Rattle.std.proofs.Common.{◌≡◌, ◌%◌, arith, length}
 use Rattle.jj_merges.specs.Terms.{items}
 use Rattle.jj_merges.proofs.MadeCounts.{on_ok_both, padded_counts}
 use Rattle.jj_merges.proofs.merge.Merge.pad_to.Goals as goal

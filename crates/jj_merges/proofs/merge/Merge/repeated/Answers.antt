@@ -1,4 +1,4 @@
-use Rattle.std.proofs.Common.{◌≡◌, ◌∙◌, ◌++◌, List, [], ◌∷◌, take, ap, sym, subst, arith, ℕ}
+use Rattle.std.proofs.Common.{◌≡◌, ◌∙◌, ◌++◌, List, [], take, ap, sym, subst, arith, ℕ}
 use Rattle.std.specs.List.{AllClonesOf}
 use Rattle.std.proofs.Math.Seq.{take-nil}
 use Rattle.jj_merges.proofs.MadeCounts.{repeated_counts}

@@ -1,32 +1,25 @@
-use Rattle.std.proofs.Common.{ap, arith, length, map, take}
+use Rattle.std.proofs.Common.{ap, arith, length}
 use Rattle.std.specs.Option.{option_copied}
 use Rattle.jj_merges.specs.Options.{IsOptionClone}
-use Rattle.std.proofs.lemmas.List.{take_more, take_all, map-append, length-map}
-use Rattle.std.proofs.lemmas.List.Elements.{AllZip-push, length_all_zip}
 use Rattle.jj_merges.specs.Terms.{items}
+use Rattle.jj_merges.proofs.Clones.{image_clones_more, image_clones_all, length_image_clones}
 use Rattle.jj_merges.proofs.Sound.{sound}
 use Rattle.jj_merges.proofs.MadeCounts.{clones_counts}
 use Rattle.jj_merges.proofs.merge.images.Merge+Option+ref+T.cloned.Goals as goal
 
 pub loop-term-preserved : goal.loop-term-preserved
-loop-term-preserved g c =
-    let xs = c.as_slice-values.result.now in
-    let i = c.loop-term.term-index in (
-      c.in_ok-push.ensures.holds_one,
-      rw (take_more xs i c.term-item.result c.loop-term-test.true, c.in_ok-push.ensures.ok, ← c.term-item.is, map-append)
-          (AllZip-push (IsOptionClone g.T.Clone.is_clone) (map option_copied (take i xs)) (items c.loop-term.terms) (option_copied c.term-item.result) c.in_ok-clone_of.field-0 c.loop-term.invariant.1 c.in_ok-clone_of.ensures),
-    )
+loop-term-preserved g c = (
+  c.in_ok-push.ensures.holds_one,
+  image_clones_more option_copied (IsOptionClone g.T.Clone.is_clone) _ _ _ c.loop-term.invariant.1 c.term-item.result c.in_ok-clone_of.field-0 _ c.loop-term-test.true c.term-item.is
+      c.in_ok-clone_of.ensures c.in_ok-push.ensures.ok,
+)
 
 pub invariant_of-result : goal.invariant_of-result
 invariant_of-result g c =
-    let n = length_all_zip (IsOptionClone g.T.Clone.is_clone) _ _ c.loop-term.invariant.1 in
-    let all = ap length (take_all c.loop-term.term-index c.as_slice-values.result.now (omega arith)) in
-    let images = length-map (take c.loop-term.term-index c.as_slice-values.result.now) option_copied in
-    sound c.loop-term.terms c.loop-term.invariant.0
-    (omega (arith, n, images, all, ap length c.as_slice-values.ensures.terms, c.as_slice-values.ensures.odd))
+    let n = length_image_clones option_copied (IsOptionClone g.T.Clone.is_clone) _ _ _ c.loop-term.invariant.1 (omega arith) in
+    sound c.loop-term.terms c.loop-term.invariant.0 (omega (arith, n, ap length c.as_slice-values.ensures.terms, c.as_slice-values.ensures.odd))
 
 pub returns-clause-counts : goal.returns-clause-counts
 returns-clause-counts g c =
-    let all = take_all c.loop-term.term-index c.as_slice-values.result.now (omega arith) in
-    rw (← c.as_slice-values.ensures.terms, ← all)
-    (clones_counts (IsOptionClone g.T.Clone.is_clone) _ (items c.loop-term.terms) c.loop-term.invariant.1)
+    rw (← c.as_slice-values.ensures.terms)
+    (clones_counts (IsOptionClone g.T.Clone.is_clone) _ (items c.loop-term.terms) (image_clones_all option_copied (IsOptionClone g.T.Clone.is_clone) _ _ _ c.loop-term.invariant.1 (omega arith)))

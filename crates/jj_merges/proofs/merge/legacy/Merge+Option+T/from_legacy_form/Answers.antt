@@ -1,11 +1,10 @@
-use Rattle.std.proofs.Common.{◌∙◌, ◌%◌, ◌++◌, ◌∷◌, [], sym, ap, subst, length, append_assoc}
+use Rattle.std.proofs.Common.{◌∙◌, ◌%◌, ◌++◌, ◌∷◌, [], sym, ap, length, append_assoc}
 use Rattle.std.specs.Prelude.{Some, None}
-use Rattle.std.specs.Iterator.{Yields, Drains}
 use Rattle.jj_merges.specs.Flatten.{legacy_rest}
 use Rattle.jj_merges.specs.Made.{Gives}
 use Rattle.jj_merges.specs.Terms.{items}
 use Rattle.jj_merges.proofs.Sound.{sound}
-use Rattle.jj_merges.proofs.SourceRuns.{Goes-start}
+use Rattle.jj_merges.proofs.SourceRuns.{Drains-loop, Goes-start}
 use Rattle.jj_merges.proofs.LegacyLaws.{legacy_rest-push, odd_legacy_terms, restored}
 use Rattle.jj_merges.proofs.LegacyRuns.{HoldsNext-start, HoldsNext-more, HoldsNext-ended, HoldsNext-short, HoldsNext-long}
 use Rattle.jj_merges.proofs.MadeCounts.{legacy_counts}
@@ -13,12 +12,11 @@ use Rattle.jj_merges.proofs.merge.legacy.Merge+Option+T.from_legacy_form.Goals a
 
 pub loop-remove-init : goal.loop-remove-init
 loop-remove-init g c =
-    let it = c.into_iter-adds.result in
-    let made = c.into_iter-adds.ensures.into_iter_gives in
-    let ends = c.requires.adds_end it made in (
+    let it = c.into_iter-adds.result in (
       c.none-terms.ensures.1,
       HoldsNext-start g.A.IntoIterator.into_iter_gives g.A.IntoIter.Iterator.next_gives g.A.IntoIter.Iterator.can_next g.A.IntoIter.Iterator.remaining c.args.adds it (items c.none-terms.result) c.next-add.result c.next-add.new.self c.none-terms.ensures.0
-          (Goes-start g.A.IntoIterator.into_iter_gives g.A.IntoIter.Iterator.next_gives g.A.IntoIter.Iterator.can_next g.A.IntoIter.Iterator.remaining c.args.adds it made ends.0 ends.1) c.next-add.ensures.steps c.next-add.ensures.goes,
+          (Goes-start g.A.IntoIterator.into_iter_gives g.A.IntoIter.Iterator.next_gives g.A.IntoIter.Iterator.can_next g.A.IntoIter.Iterator.remaining c.args.adds c.requires.adds_end it c.into_iter-adds.ensures.into_iter_gives)
+          c.next-add.ensures.steps c.next-add.ensures.goes,
     )
 
 pub loop-remove-preserved-then-has_more : goal.loop-remove-preserved-then-has_more
@@ -44,7 +42,7 @@ invariant_of-result g c =
 pub returns-then-not-has_more : goal.returns-then-not-has_more
 returns-then-not-has_more g c =
     let all : Gives g.R.IntoIterator.into_iter_gives g.R.IntoIter.Iterator.next_gives c.args.removes c.loop-remove.yielded =
-    (c.into_iter-removes.result, c.into_iter-removes.ensures.into_iter_gives, (c.next.new.self, (c.loop-remove.remove-iterator, subst (λ (s : g.row.R-IntoIter.Denot). Yields g.R.IntoIter.Iterator.next_gives s c.loop-remove.yielded c.loop-remove.remove-iterator) c.into_iter-remove-iterator.ensures.into_iter_gives c.loop-remove.yielded_by, c.in-None.ensures.steps))) in
+    (c.into_iter-removes.result, c.into_iter-removes.ensures.into_iter_gives, Drains-loop g.R.IntoIter.Iterator.next_gives _ _ _ _ _ c.into_iter-remove-iterator.ensures.into_iter_gives c.loop-remove.yielded_by c.in-None.ensures.steps) in
     let short = HoldsNext-short g.A.IntoIterator.into_iter_gives g.A.IntoIter.Iterator.next_gives g.A.IntoIter.Iterator.can_next g.A.IntoIter.Iterator.remaining c.args.adds c.loop-remove.adds c.loop-remove.add c.loop-remove.yielded (items c.loop-remove.terms) (items c.push-2.new.self) (sym c.is_some-has_more-2.ensures ∙ c.if-not-has_more.true) c.loop-remove.invariant.1 c.in_ok-push-3.ensures.ok in
     let both = restored c.loop-remove.yielded short.0 (items c.push-2.new.self) short.2 in
     record {
@@ -63,17 +61,15 @@ loop-add-preserved g c = (
 
 pub invariant_of-result-2 : goal.invariant_of-result-2
 invariant_of-result-2 g c =
-    let rest : Drains g.A.IntoIter.Iterator.next_gives c.loop-remove.adds c.loop-add.yielded =
-    (c.next-in-loop-add.new.self, (c.loop-add.add-iterator, subst (λ (s : g.row.A-IntoIter.Denot). Yields g.A.IntoIter.Iterator.next_gives s c.loop-add.yielded c.loop-add.add-iterator) c.into_iter-add-iterator.ensures.into_iter_gives c.loop-add.yielded_by, c.in-None-add.ensures.steps)) in
+    let rest = Drains-loop g.A.IntoIter.Iterator.next_gives c.loop-remove.adds _ _ _ c.loop-add.yielded c.into_iter-add-iterator.ensures.into_iter_gives c.loop-add.yielded_by c.in-None-add.ensures.steps in
     let long = HoldsNext-long g.A.IntoIterator.into_iter_gives g.A.IntoIter.Iterator.next_gives g.A.IntoIter.Iterator.can_next g.A.IntoIter.Iterator.remaining c.args.adds c.loop-remove.adds c.loop-remove.add c.loop-remove.yielded (items c.loop-remove.terms) (items c.push-2.new.self) c.loop-add.yielded (items c.loop-add.terms) (sym c.is_some-has_more-2.ensures ∙ c.if-not-has_more.false) c.loop-remove.invariant.1 c.in_ok-push-3.ensures.ok rest c.loop-add.invariant.1 in
     sound c.loop-add.terms c.loop-add.invariant.0 (ap (λ ts. length ts % 2) long.2 ∙ odd_legacy_terms c.loop-remove.yielded long.0)
 
 pub returns : goal.returns
 returns g c =
     let all : Gives g.R.IntoIterator.into_iter_gives g.R.IntoIter.Iterator.next_gives c.args.removes c.loop-remove.yielded =
-    (c.into_iter-removes.result, c.into_iter-removes.ensures.into_iter_gives, (c.next.new.self, (c.loop-remove.remove-iterator, subst (λ (s : g.row.R-IntoIter.Denot). Yields g.R.IntoIter.Iterator.next_gives s c.loop-remove.yielded c.loop-remove.remove-iterator) c.into_iter-remove-iterator.ensures.into_iter_gives c.loop-remove.yielded_by, c.in-None.ensures.steps))) in
-    let rest : Drains g.A.IntoIter.Iterator.next_gives c.loop-remove.adds c.loop-add.yielded =
-    (c.next-in-loop-add.new.self, (c.loop-add.add-iterator, subst (λ (s : g.row.A-IntoIter.Denot). Yields g.A.IntoIter.Iterator.next_gives s c.loop-add.yielded c.loop-add.add-iterator) c.into_iter-add-iterator.ensures.into_iter_gives c.loop-add.yielded_by, c.in-None-add.ensures.steps)) in
+    (c.into_iter-removes.result, c.into_iter-removes.ensures.into_iter_gives, Drains-loop g.R.IntoIter.Iterator.next_gives _ _ _ _ _ c.into_iter-remove-iterator.ensures.into_iter_gives c.loop-remove.yielded_by c.in-None.ensures.steps) in
+    let rest = Drains-loop g.A.IntoIter.Iterator.next_gives c.loop-remove.adds _ _ _ c.loop-add.yielded c.into_iter-add-iterator.ensures.into_iter_gives c.loop-add.yielded_by c.in-None-add.ensures.steps in
     let long = HoldsNext-long g.A.IntoIterator.into_iter_gives g.A.IntoIter.Iterator.next_gives g.A.IntoIter.Iterator.can_next g.A.IntoIter.Iterator.remaining c.args.adds c.loop-remove.adds c.loop-remove.add c.loop-remove.yielded (items c.loop-remove.terms) (items c.push-2.new.self) c.loop-add.yielded (items c.loop-add.terms) (sym c.is_some-has_more-2.ensures ∙ c.if-not-has_more.false) c.loop-remove.invariant.1 c.in_ok-push-3.ensures.ok rest c.loop-add.invariant.1 in
     let both = restored c.loop-remove.yielded long.0 (items c.loop-add.terms) long.2 in
     record {
