@@ -1,5 +1,5 @@
 //! Expressions of patterns: how they are put together, and which strings they hold.
-use crate::fixtures::{pattern, shows};
+use crate::fixtures::{passes, pattern, shows};
 use jj_strings::str_util::StringExpression;
 use std::alloc::{AllocError, Global};
 use std::process::Abort;
@@ -40,10 +40,7 @@ fn unions<R: Abort>(rt: &R, alloc: Global) -> Result<(), AllocError> {
 
 #[test]
 fn unions_of_halves(rt: HostRuntime) {
-    let alloc = rt.alloc();
-    if unions(&rt, alloc).is_err() {
-        assert!(rt; unions(&rt, alloc).is_ok());
-    }
+    passes(&rt, unions);
 }
 
 // Checks which of the strings an expression holds.
@@ -100,10 +97,7 @@ fn compounds<R: Abort>(rt: &R, alloc: Global) -> Result<(), AllocError> {
 
 #[test]
 fn sets_of_expressions(rt: HostRuntime) {
-    let alloc = rt.alloc();
-    if compounds(&rt, alloc).is_err() {
-        assert!(rt; compounds(&rt, alloc).is_ok());
-    }
+    passes(&rt, compounds);
 }
 
 // A regular expression takes memory on the left and on the right.
@@ -128,13 +122,9 @@ fn regex_compounds<R: Abort>(rt: &R, alloc: Global) -> Result<(), AllocError> {
 
 #[test]
 fn sets_of_regex_expressions(rt: HostRuntime) {
-    let alloc = rt.alloc();
-    if regex_compounds(&rt, alloc).is_err() {
-        assert!(rt; regex_compounds(&rt, alloc).is_ok());
-    }
+    passes(&rt, regex_compounds);
 }
 
-// A lone pattern has the matcher of the pattern, all others own the expression.
 // Checks the debug form of an expression's matcher.
 fn shows_matcher<R: Abort>(
     rt: &R,
@@ -145,6 +135,7 @@ fn shows_matcher<R: Abort>(
     shows(rt, alloc, &expression.to_matcher(alloc)?, shown)
 }
 
+// A lone pattern has the matcher of the pattern, all others own the expression.
 fn matchers<R: Abort>(rt: &R, alloc: Global) -> Result<(), AllocError> {
     shows_matcher(rt, alloc, StringExpression::all(alloc)?, "All")?;
     shows_matcher(rt, alloc, exact(alloc, "x")?, "Exact(\"x\")")?;
@@ -164,10 +155,7 @@ fn matchers<R: Abort>(rt: &R, alloc: Global) -> Result<(), AllocError> {
 
 #[test]
 fn expressions_to_matchers(rt: HostRuntime) {
-    let alloc = rt.alloc();
-    if matchers(&rt, alloc).is_err() {
-        assert!(rt; matchers(&rt, alloc).is_ok());
-    }
+    passes(&rt, matchers);
 }
 
 // The text `a`, what has `b` in it, and the text `c` if it is not `d`.
@@ -194,8 +182,5 @@ fn exact_texts<R: Abort>(rt: &R, alloc: Global) -> Result<(), AllocError> {
 
 #[test]
 fn texts_in_an_expression(rt: HostRuntime) {
-    let alloc = rt.alloc();
-    if exact_texts(&rt, alloc).is_err() {
-        assert!(rt; exact_texts(&rt, alloc).is_ok());
-    }
+    passes(&rt, exact_texts);
 }

@@ -1,4 +1,5 @@
-//! Patterns of literal texts, and what their debug forms and iterators give.
+//! Patterns of literal texts, what their debug forms and iterators give, and tests that take
+//! memory.
 ghost use Rattle.std.specs.Iterator.{IsFinite};
 
 use jj_strings::str_util::{StringMatcher, StringPattern, StringPatternParseError};
@@ -63,4 +64,17 @@ pub fn items<R: Abort, T: Drop, I: Iterator<Item = Result<T, AllocError>> + Drop
         return Err(AllocError);
     }
     Ok(items)
+}
+
+/// Runs a test. Where it was refused memory, it runs once more.
+pub fn passes<R, F>(rt: &R, test: F)
+where
+    R: Abort + AllocGlobal,
+    F: Fn(&R, Global) -> Result<(), AllocError>,
+    requires { F.IsAlwaysCallable test }
+{
+    let alloc = rt.alloc();
+    if test(rt, alloc).is_err() {
+        assert!(rt; test(rt, alloc).is_ok());
+    }
 }

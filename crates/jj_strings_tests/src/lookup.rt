@@ -5,7 +5,7 @@ ghost use Rattle.std.specs.Cmp;
 ghost use Rattle.std.specs.Ordering.{nat_cmp};
 ghost use Rattle.std.specs.Cmp.Lexicographic.{slice_cmp, nat_list_eq_equiv, nat_list_cmp_total, texts_po, texts_ties};
 
-use crate::fixtures::{items, matcher};
+use crate::fixtures::{items, matcher, passes};
 use jj_strings::str_util::{StringMatcher, TextKey};
 use std::alloc::{AllocError, Global};
 use std::cell::Cell;
@@ -111,8 +111,5 @@ fn look_up<R: Abort>(rt: &R, alloc: Global) -> Result<(), AllocError> {
 
 #[test]
 fn exact_texts_are_looked_up(rt: HostRuntime) {
-    let alloc = rt.alloc();
-    if look_up(&rt, alloc).is_err() {
-        assert!(rt; look_up(&rt, alloc).is_ok());
-    }
+    passes(&rt, look_up);
 }

@@ -1,6 +1,8 @@
 //! The entries of a map that a matcher finds, by keys of each type, and predicates that a caller
 //! brings.
-use crate::fixtures::{items, matcher, shows};
+ghost use Rattle.std.specs.Iterator.{IsFinite};
+
+use crate::fixtures::{items, matcher, passes, shows};
 use jj_ids::ref_name::{GitRefNameBuf, RefNameBuf, RemoteNameBuf, WorkspaceNameBuf};
 use jj_strings::str_util::{BytePredicate, ByteTest, StringMatcher, TextKey};
 use std::alloc::{AllocError, Global};
@@ -16,7 +18,28 @@ fn numbered<K: TextKey>(alloc: Global, texts: &[&str]) -> Result<BTreeMap<K, usi
     Ok(map)
 }
 
-// Checks that the entries of these keys are found, in this order.
+// Checks that an iterator gives the entries of these keys, in this order.
+fn gives<'a, R: Abort, K: TextKey + 'a, I>(
+    rt: &R,
+    alloc: Global,
+    found: I,
+    wanted: &[(&str, usize)],
+) -> Result<(), AllocError>
+where
+    I: Iterator<Item = Result<(&'a K, &'a usize), AllocError>> + Drop,
+    requires callable { I.can_next found }
+    requires finite { IsFinite (I.remaining found) }
+{
+    let found = items(rt, alloc, found)?;
+    assert_eq!(rt; found.len(), wanted.len());
+    for (entry, (text, place)) in found.iter().zip(wanted) {
+        assert_eq!(rt; entry.0.as_text(), *text);
+        assert_eq!(rt; *entry.1, *place);
+    }
+    Ok(())
+}
+
+// Checks that the matcher finds these entries, also by what the keys are dereferenced to.
 fn finds<R: Abort, K: TextKey>(
     rt: &R,
     alloc: Global,
@@ -24,30 +47,13 @@ fn finds<R: Abort, K: TextKey>(
     map: &BTreeMap<K, usize>,
     wanted: &[(&str, usize)],
 ) -> Result<(), AllocError> {
-    let found = items(rt, alloc, matcher.filter_btree_map(alloc, map))?;
-    assert_eq!(rt; found.len(), wanted.len(), "by {matcher:?}");
-    for (entry, (text, place)) in found.iter().zip(wanted) {
-        assert_eq!(rt; entry.0.as_text(), *text);
-        assert_eq!(rt; *entry.1, *place);
-    }
-    finds_derefs(rt, alloc, matcher, map, wanted)
-}
-
-// The same by what the keys are dereferenced to.
-fn finds_derefs<R: Abort, K: TextKey>(
-    rt: &R,
-    alloc: Global,
-    matcher: &StringMatcher,
-    map: &BTreeMap<K, usize>,
-    wanted: &[(&str, usize)],
-) -> Result<(), AllocError> {
-    let found = items(rt, alloc, matcher.filter_btree_map_as_deref(alloc, map))?;
-    assert_eq!(rt; found.len(), wanted.len(), "by {matcher:?}");
-    for (entry, (text, place)) in found.iter().zip(wanted) {
-        assert_eq!(rt; entry.0.as_text(), *text);
-        assert_eq!(rt; *entry.1, *place);
-    }
-    Ok(())
+    gives(rt, alloc, matcher.filter_btree_map(alloc, map), wanted)?;
+    gives(
+        rt,
+        alloc,
+        matcher.filter_btree_map_as_deref(alloc, map),
+        wanted,
+    )
 }
 
 fn filters<R: Abort, K: TextKey>(rt: &R, alloc: Global) -> Result<(), AllocError> {
@@ -76,10 +82,7 @@ fn filters<R: Abort, K: TextKey>(rt: &R, alloc: Global) -> Result<(), AllocError
 
 #[test]
 fn maps_by_texts(rt: HostRuntime) {
-    let alloc = rt.alloc();
-    if filters::<_, String>(&rt, alloc).is_err() {
-        assert!(rt; filters::<_, String>(&rt, alloc).is_ok());
-    }
+    passes(&rt, filters::<_, String>);
 }
 
 fn name_filters<R: Abort>(rt: &R, alloc: Global) -> Result<(), AllocError> {
@@ -91,10 +94,7 @@ fn name_filters<R: Abort>(rt: &R, alloc: Global) -> Result<(), AllocError> {
 
 #[test]
 fn maps_by_names(rt: HostRuntime) {
-    let alloc = rt.alloc();
-    if name_filters(&rt, alloc).is_err() {
-        assert!(rt; name_filters(&rt, alloc).is_ok());
-    }
+    passes(&rt, name_filters);
 }
 
 // A predicate that the caller brings is asked of the bytes themselves.
@@ -116,8 +116,5 @@ fn predicates<R: Abort>(rt: &R, alloc: Global) -> Result<(), AllocError> {
 
 #[test]
 fn predicates_of_callers(rt: HostRuntime) {
-    let alloc = rt.alloc();
-    if predicates(&rt, alloc).is_err() {
-        assert!(rt; predicates(&rt, alloc).is_ok());
-    }
+    passes(&rt, predicates);
 }

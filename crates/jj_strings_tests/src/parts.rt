@@ -1,5 +1,5 @@
 //! Parts without regard to case that are long, overlap themselves, or stand late in a long text.
-use crate::fixtures::matcher;
+use crate::fixtures::{matcher, passes};
 use std::alloc::{AllocError, Global};
 use std::process::Abort;
 
@@ -27,10 +27,7 @@ fn around_seams<R: Abort>(rt: &R, alloc: Global) -> Result<(), AllocError> {
 
 #[test]
 fn parts_around_seams(rt: HostRuntime) {
-    let alloc = rt.alloc();
-    if around_seams(&rt, alloc).is_err() {
-        assert!(rt; around_seams(&rt, alloc).is_ok());
-    }
+    passes(&rt, around_seams);
 }
 
 // Parts of so many letters and one more.
@@ -55,10 +52,7 @@ fn long_parts<R: Abort>(rt: &R, alloc: Global) -> Result<(), AllocError> {
 
 #[test]
 fn parts_that_are_long(rt: HostRuntime) {
-    let alloc = rt.alloc();
-    if long_parts(&rt, alloc).is_err() {
-        assert!(rt; long_parts(&rt, alloc).is_ok());
-    }
+    passes(&rt, long_parts);
 }
 
 // What a part repeats and what it ends with, both also in capitals, and another end. In texts of
@@ -113,8 +107,5 @@ fn very_long_parts<R: Abort>(rt: &R, alloc: Global) -> Result<(), AllocError> {
 
 #[test]
 fn parts_that_are_very_long(rt: HostRuntime) {
-    let alloc = rt.alloc();
-    if very_long_parts(&rt, alloc).is_err() {
-        assert!(rt; very_long_parts(&rt, alloc).is_ok());
-    }
+    passes(&rt, very_long_parts);
 }

@@ -1,5 +1,5 @@
 //! Patterns of each kind: how a text is read as one, and which strings its set holds.
-use crate::fixtures::{matcher, pattern, shows};
+use crate::fixtures::{matcher, passes, pattern, shows};
 use jj_strings::str_util::{StringPattern, StringPatternParseError};
 use std::alloc::{AllocError, Global};
 use std::process::Abort;
@@ -59,10 +59,7 @@ fn kinds<R: Abort>(rt: &R, alloc: Global) -> Result<(), AllocError> {
 
 #[test]
 fn texts_of_a_kind(rt: HostRuntime) {
-    let alloc = rt.alloc();
-    if kinds(&rt, alloc).is_err() {
-        assert!(rt; kinds(&rt, alloc).is_ok());
-    }
+    passes(&rt, kinds);
 }
 
 // Kind, text, and how the debug form and the text of the error begin.
@@ -134,10 +131,7 @@ fn faults<R: Abort>(rt: &R, alloc: Global) -> Result<(), AllocError> {
 
 #[test]
 fn texts_of_no_kind(rt: HostRuntime) {
-    let alloc = rt.alloc();
-    if faults(&rt, alloc).is_err() {
-        assert!(rt; faults(&rt, alloc).is_ok());
-    }
+    passes(&rt, faults);
 }
 
 // Kind, text, a string, and whether the set holds it.
@@ -186,10 +180,7 @@ const TEXTS: [Row; 21] = [
 
 #[test]
 fn sets_of_texts(rt: HostRuntime) {
-    let alloc = rt.alloc();
-    if sets(&rt, alloc, &TEXTS).is_err() {
-        assert!(rt; sets(&rt, alloc, &TEXTS).is_ok());
-    }
+    passes(&rt, |rt, alloc| sets(rt, alloc, &TEXTS));
 }
 
 const GLOBS: [Row; 31] = [
@@ -228,10 +219,7 @@ const GLOBS: [Row; 31] = [
 
 #[test]
 fn sets_of_globs(rt: HostRuntime) {
-    let alloc = rt.alloc();
-    if sets(&rt, alloc, &GLOBS).is_err() {
-        assert!(rt; sets(&rt, alloc, &GLOBS).is_ok());
-    }
+    passes(&rt, |rt, alloc| sets(rt, alloc, &GLOBS));
 }
 
 // Regular expressions are read as Unicode unless they say otherwise.
@@ -252,10 +240,7 @@ const REGEXES: [Row; 12] = [
 
 #[test]
 fn sets_of_regexes(rt: HostRuntime) {
-    let alloc = rt.alloc();
-    if sets(&rt, alloc, &REGEXES).is_err() {
-        assert!(rt; sets(&rt, alloc, &REGEXES).is_ok());
-    }
+    passes(&rt, |rt, alloc| sets(rt, alloc, &REGEXES));
 }
 
 // Bytes, some of which are no text.
@@ -285,8 +270,5 @@ fn bytes<R: Abort>(rt: &R, alloc: Global) -> Result<(), AllocError> {
 
 #[test]
 fn sets_of_bytes(rt: HostRuntime) {
-    let alloc = rt.alloc();
-    if bytes(&rt, alloc).is_err() {
-        assert!(rt; bytes(&rt, alloc).is_ok());
-    }
+    passes(&rt, bytes);
 }
