@@ -2,9 +2,8 @@
 use crate::callers::{are_equal, copied};
 use crate::records::{BEGINNING, signature, signed_commit};
 use jj_backend::backend::{ChangeId, Commit, TreeId, make_root_commit};
+use jj_content_tests::once_more::holds;
 use std::alloc::{AllocError, Global};
-use std::process::Abort;
-use std::test::Fail;
 
 fn root(alloc: Global) -> Result<Commit, AllocError> {
     let change = ChangeId::from_bytes(alloc, &[0; 16])?;
@@ -27,24 +26,30 @@ fn is_unsigned(alloc: Global, commit: &Commit) -> Result<bool, AllocError> {
     Ok(commit.author == nobody && commit.committer == nobody && commit.secure_sig.is_none())
 }
 
+fn is_empty_root(alloc: Global) -> Result<bool, AllocError> {
+    let root = root(alloc)?;
+    Ok(has_no_origin(&root) && is_unsigned(alloc, &root)?)
+}
+
 #[test]
-fn the_root_commit_is_empty(rt: HostRuntime) -> Result<(), Fail> {
-    let alloc = rt.alloc();
-    let root = root(alloc).or_else(|_| root(alloc))?;
-    assert!(rt; has_no_origin(&root));
-    assert!(rt; is_unsigned(alloc, &root).or_else(|_| is_unsigned(alloc, &root))?);
-    Ok(())
+fn the_root_commit_is_empty(rt: HostRuntime) {
+    assert!(rt; holds(&rt, is_empty_root));
+}
+
+fn is_its_copy(commit: &Commit) -> Result<bool, AllocError> {
+    Ok(are_equal(&copied(commit)?, commit))
+}
+
+fn is_root(alloc: Global, commit: &Commit) -> Result<bool, AllocError> {
+    Ok(are_equal(&root(alloc)?, commit))
 }
 
 fn is_copied(alloc: Global) -> Result<bool, AllocError> {
     let signed = signed_commit(alloc)?;
-    let copy = copied(&signed)?;
-    Ok(are_equal(&copy, &signed) && !are_equal(&copy, &root(alloc)?))
+    Ok(is_its_copy(&signed)? && !is_root(alloc, &signed)?)
 }
 
 #[test]
-fn a_copy_of_a_commit_is_equal(rt: HostRuntime) -> Result<(), Fail> {
-    let alloc = rt.alloc();
-    assert!(rt; is_copied(alloc).or_else(|_| is_copied(alloc))?);
-    Ok(())
+fn a_copy_of_a_commit_is_equal(rt: HostRuntime) {
+    assert!(rt; holds(&rt, is_copied));
 }

@@ -5,10 +5,9 @@ use jj_backend::backend::{
     TreeValue,
 };
 use jj_content_tests::content_texts::content_text;
+use jj_content_tests::once_more::{holds, tells};
 use jj_paths::repo_path::RepoPathBuf;
 use std::alloc::{AllocError, Global};
-use std::process::Abort;
-use std::test::Fail;
 
 fn time_content(alloc: Global) -> Result<String, AllocError> {
     let time = Timestamp {
@@ -19,13 +18,14 @@ fn time_content(alloc: Global) -> Result<String, AllocError> {
 }
 
 #[test]
-fn a_signature_is_its_texts_and_its_moment(rt: HostRuntime) -> Result<(), Fail> {
-    let text = time_content(rt.alloc()).or_else(|_| time_content(rt.alloc()))?;
-    assert_eq!(rt;
-        text.as_str(),
-        "01000000000000006102000000000000006263feffffffffffffffc4ffffff"
+fn a_signature_is_its_texts_and_its_moment(rt: HostRuntime) {
+    assert!(rt;
+        tells(
+            &rt,
+            time_content,
+            "01000000000000006102000000000000006263feffffffffffffffc4ffffff",
+        )
     );
-    Ok(())
 }
 
 fn sig_content(alloc: Global) -> Result<String, AllocError> {
@@ -37,10 +37,8 @@ fn sig_content(alloc: Global) -> Result<String, AllocError> {
 }
 
 #[test]
-fn a_signature_of_data_is_both(rt: HostRuntime) -> Result<(), Fail> {
-    let text = sig_content(rt.alloc()).or_else(|_| sig_content(rt.alloc()))?;
-    assert_eq!(rt; text.as_str(), "02000000000000000102010000000000000003");
-    Ok(())
+fn a_signature_of_data_is_both(rt: HostRuntime) {
+    assert!(rt; tells(&rt, sig_content, "02000000000000000102010000000000000003"));
 }
 
 fn file_content(alloc: Global) -> Result<String, AllocError> {
@@ -53,15 +51,15 @@ fn link_content(alloc: Global) -> Result<String, AllocError> {
 }
 
 #[test]
-fn files_and_links(rt: HostRuntime) -> Result<(), Fail> {
-    let text = file_content(rt.alloc()).or_else(|_| file_content(rt.alloc()))?;
-    assert_eq!(rt;
-        text.as_str(),
-        "00000000010000000000000001010000000000000000"
+fn files_and_links(rt: HostRuntime) {
+    assert!(rt;
+        tells(
+            &rt,
+            file_content,
+            "00000000010000000000000001010000000000000000",
+        )
     );
-    let text = link_content(rt.alloc()).or_else(|_| link_content(rt.alloc()))?;
-    assert_eq!(rt; text.as_str(), "01000000010000000000000002");
-    Ok(())
+    assert!(rt; tells(&rt, link_content, "01000000010000000000000002"));
 }
 
 fn tree_content(alloc: Global) -> Result<String, AllocError> {
@@ -75,12 +73,9 @@ fn submodule_content(alloc: Global) -> Result<String, AllocError> {
 }
 
 #[test]
-fn trees_and_submodules(rt: HostRuntime) -> Result<(), Fail> {
-    let text = tree_content(rt.alloc()).or_else(|_| tree_content(rt.alloc()))?;
-    assert_eq!(rt; text.as_str(), "02000000010000000000000003");
-    let text = submodule_content(rt.alloc()).or_else(|_| submodule_content(rt.alloc()))?;
-    assert_eq!(rt; text.as_str(), "03000000010000000000000004");
-    Ok(())
+fn trees_and_submodules(rt: HostRuntime) {
+    assert!(rt; tells(&rt, tree_content, "02000000010000000000000003"));
+    assert!(rt; tells(&rt, submodule_content, "03000000010000000000000004"));
 }
 
 fn history_content(alloc: Global) -> Result<String, AllocError> {
@@ -95,13 +90,14 @@ fn history_content(alloc: Global) -> Result<String, AllocError> {
 }
 
 #[test]
-fn a_copy_history_is_its_parts(rt: HostRuntime) -> Result<(), Fail> {
-    let text = history_content(rt.alloc()).or_else(|_| history_content(rt.alloc()))?;
-    assert_eq!(rt;
-        text.as_str(),
-        "00000000000000000100000000000000010000000000000009010000000000000007"
+fn a_copy_history_is_its_parts(rt: HostRuntime) {
+    assert!(rt;
+        tells(
+            &rt,
+            history_content,
+            "00000000000000000100000000000000010000000000000009010000000000000007",
+        )
     );
-    Ok(())
 }
 
 fn commit_content(alloc: Global) -> Result<String, AllocError> {
@@ -110,11 +106,12 @@ fn commit_content(alloc: Global) -> Result<String, AllocError> {
 
 // Parents, predecessors, tree, label; change, description; author, committer; no signature.
 #[test]
-fn a_commit_is_its_parts(rt: HostRuntime) -> Result<(), Fail> {
-    let text = commit_content(rt.alloc()).or_else(|_| commit_content(rt.alloc()))?;
-    assert_eq!(rt;
-        text.as_str(),
-        "010000000000000001000000000000000a\
+fn a_commit_is_its_parts(rt: HostRuntime) {
+    assert!(rt;
+        tells(
+            &rt,
+            commit_content,
+            "010000000000000001000000000000000a\
          010000000000000001000000000000000b\
          010000000000000001000000000000000c\
          01000000000000000000000000000000\
@@ -122,24 +119,25 @@ fn a_commit_is_its_parts(rt: HostRuntime) -> Result<(), Fail> {
          010000000000000064\
          0100000000000000610000000000000000000000000000000000000000\
          0100000000000000620000000000000000000000000000000000000000\
-         00000000"
+         00000000",
+        )
     );
-    Ok(())
 }
 
-fn signed_content(alloc: Global) -> Result<(String, String), AllocError> {
-    let signed = content_text(alloc, &signed_commit(alloc)?)?;
-    Ok((commit_content(alloc)?, signed))
+fn signed_content(alloc: Global) -> Result<String, AllocError> {
+    content_text(alloc, &signed_commit(alloc)?)
 }
 
 // The signature comes last, after the number of its variant.
-#[test]
-fn a_signed_commit_ends_with_its_signature(rt: HostRuntime) -> Result<(), Fail> {
-    let alloc = rt.alloc();
-    let (plain, signed) = signed_content(alloc).or_else(|_| signed_content(alloc))?;
+fn ends_with_signature(alloc: Global) -> Result<bool, AllocError> {
+    let plain = commit_content(alloc)?;
+    let signed = signed_content(alloc)?;
     let sig = "0100000001000000000000000e01000000000000000f";
     let front = signed.as_str().strip_suffix(sig);
-    assert!(rt; front.is_some());
-    assert!(rt; front == plain.as_str().strip_suffix("00000000"));
-    Ok(())
+    Ok(front.is_some() && front == plain.as_str().strip_suffix("00000000"))
+}
+
+#[test]
+fn a_signed_commit_ends_with_its_signature(rt: HostRuntime) {
+    assert!(rt; holds(&rt, ends_with_signature));
 }

@@ -1,9 +1,8 @@
 //! Copies of records that tell of copies and of signatures.
 use jj_backend::backend::{CommitId, CopyHistory, CopyId, CopyRecord, FileId, SecureSig};
+use jj_content_tests::once_more::holds;
 use jj_paths::repo_path::RepoPathBuf;
 use std::alloc::{AllocError, Global};
-use std::process::Abort;
-use std::test::Fail;
 
 fn record(alloc: Global) -> Result<CopyRecord, AllocError> {
     Ok(CopyRecord {
@@ -38,10 +37,8 @@ fn are_copied(alloc: Global) -> Result<bool, AllocError> {
 }
 
 #[test]
-fn copies_are_equal(rt: HostRuntime) -> Result<(), Fail> {
-    let alloc = rt.alloc();
-    assert!(rt; are_copied(alloc).or_else(|_| are_copied(alloc))?);
-    Ok(())
+fn copies_are_equal(rt: HostRuntime) {
+    assert!(rt; holds(&rt, are_copied));
 }
 
 fn are_told_apart(alloc: Global) -> Result<bool, AllocError> {
@@ -59,8 +56,6 @@ fn are_told_apart(alloc: Global) -> Result<bool, AllocError> {
 }
 
 #[test]
-fn the_last_part_counts(rt: HostRuntime) -> Result<(), Fail> {
-    let alloc = rt.alloc();
-    assert!(rt; are_told_apart(alloc).or_else(|_| are_told_apart(alloc))?);
-    Ok(())
+fn the_last_part_counts(rt: HostRuntime) {
+    assert!(rt; holds(&rt, are_told_apart));
 }

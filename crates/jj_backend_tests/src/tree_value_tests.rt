@@ -6,12 +6,12 @@ use jj_backend::backend::{
     CommitId, CopyId, FileId, MergedTreeVal, MergedTreeValue, MergedTreeValueExt, SymlinkId,
     TreeId, TreeValue, borrow_tree_value,
 };
+use jj_content_tests::once_more::{holds, tells};
 use jj_merges::conflict_labels::ConflictLabels;
 use jj_merges::merge::Merge;
 use smallvec::SmallVec;
 use std::alloc::{AllocError, Global};
 use std::process::Abort;
-use std::test::Fail;
 
 type Term = Option<TreeValue>;
 
@@ -54,13 +54,14 @@ fn told<R: Abort>(rt: &R, alloc: Global) -> Result<String, AllocError> {
 }
 
 #[test]
-fn a_conflict_in_words(rt: HostRuntime) -> Result<(), Fail> {
-    let text = told(&rt, rt.alloc()).or_else(|_| told(&rt, rt.alloc()))?;
-    assert_eq!(rt;
-        text.as_str(),
-        "Conflict:\n  Adding file with id 01 (left)\n  Adding symlink with id 02 (right)\n"
+fn a_conflict_in_words(rt: HostRuntime) {
+    assert!(rt;
+        tells(
+            &rt,
+            |alloc| told(&rt, alloc),
+            "Conflict:\n  Adding file with id 01 (left)\n  Adding symlink with id 02 (right)\n",
+        )
     );
-    Ok(())
 }
 
 fn told_of_removed<R: Abort>(rt: &R, alloc: Global) -> Result<String, AllocError> {
@@ -70,14 +71,14 @@ fn told_of_removed<R: Abort>(rt: &R, alloc: Global) -> Result<String, AllocError
 }
 
 #[test]
-fn removed_terms_come_first(rt: HostRuntime) -> Result<(), Fail> {
-    let alloc = rt.alloc();
-    let text = told_of_removed(&rt, alloc).or_else(|_| told_of_removed(&rt, alloc))?;
-    assert_eq!(rt;
-        text.as_str(),
-        "Conflict:\n  Removing executable file with id 01\n  Adding tree with id 03\n"
+fn removed_terms_come_first(rt: HostRuntime) {
+    assert!(rt;
+        tells(
+            &rt,
+            |alloc| told_of_removed(&rt, alloc),
+            "Conflict:\n  Removing executable file with id 01\n  Adding tree with id 03\n",
+        )
     );
-    Ok(())
 }
 
 fn told_of_submodule<R: Abort>(rt: &R, alloc: Global) -> Result<String, AllocError> {
@@ -94,15 +95,15 @@ fn told_of_submodule<R: Abort>(rt: &R, alloc: Global) -> Result<String, AllocErr
 
 // The base has an empty label, which is not told.
 #[test]
-fn submodules_in_words(rt: HostRuntime) -> Result<(), Fail> {
-    let alloc = rt.alloc();
-    let text = told_of_submodule(&rt, alloc).or_else(|_| told_of_submodule(&rt, alloc))?;
-    assert_eq!(rt;
-        text.as_str(),
-        "Conflict:\n  Removing Git submodule with id 04\n\
-         \x20 Adding executable file with id 01 (right)\n"
+fn submodules_in_words(rt: HostRuntime) {
+    assert!(rt;
+        tells(
+            &rt,
+            |alloc| told_of_submodule(&rt, alloc),
+            "Conflict:\n  Removing Git submodule with id 04\n\
+         \x20 Adding executable file with id 01 (right)\n",
+        )
     );
-    Ok(())
 }
 
 fn kinds(merge: &MergedTreeValue) -> (bool, bool) {
@@ -127,12 +128,10 @@ fn kinds_of_resolved(alloc: Global) -> Result<bool, AllocError> {
 }
 
 #[test]
-fn trees_and_files(rt: HostRuntime) -> Result<(), Fail> {
-    let alloc = rt.alloc();
-    assert!(rt; kinds_of_resolved(alloc).or_else(|_| kinds_of_resolved(alloc))?);
-    assert!(rt; kinds_of_conflicts(&rt, alloc).or_else(|_| kinds_of_conflicts(&rt, alloc))?);
-    assert!(rt; kinds(&MergedTreeValue::absent(alloc)) == (false, false));
-    Ok(())
+fn trees_and_files(rt: HostRuntime) {
+    assert!(rt; holds(&rt, kinds_of_resolved));
+    assert!(rt; holds(&rt, |alloc| kinds_of_conflicts(&rt, alloc)));
+    assert!(rt; kinds(&MergedTreeValue::absent(rt.alloc())) == (false, false));
 }
 
 fn ids_of_files<R: Abort>(rt: &R, alloc: Global) -> Result<bool, AllocError> {
@@ -147,10 +146,8 @@ fn ids_of_files<R: Abort>(rt: &R, alloc: Global) -> Result<bool, AllocError> {
 }
 
 #[test]
-fn ids_place_by_place(rt: HostRuntime) -> Result<(), Fail> {
-    let alloc = rt.alloc();
-    assert!(rt; ids_of_files(&rt, alloc).or_else(|_| ids_of_files(&rt, alloc))?);
-    Ok(())
+fn ids_place_by_place(rt: HostRuntime) {
+    assert!(rt; holds(&rt, |alloc| ids_of_files(&rt, alloc)));
 }
 
 fn flags_and_copies<R: Abort>(rt: &R, alloc: Global) -> Result<bool, AllocError> {
@@ -170,10 +167,8 @@ fn flags_and_copies<R: Abort>(rt: &R, alloc: Global) -> Result<bool, AllocError>
 }
 
 #[test]
-fn flags_and_copies_place_by_place(rt: HostRuntime) -> Result<(), Fail> {
-    let alloc = rt.alloc();
-    assert!(rt; flags_and_copies(&rt, alloc).or_else(|_| flags_and_copies(&rt, alloc))?);
-    Ok(())
+fn flags_and_copies_place_by_place(rt: HostRuntime) {
+    assert!(rt; holds(&rt, |alloc| flags_and_copies(&rt, alloc)));
 }
 
 fn files_with_new_ids(alloc: Global) -> Result<bool, AllocError> {
@@ -188,10 +183,8 @@ fn files_with_new_ids(alloc: Global) -> Result<bool, AllocError> {
 }
 
 #[test]
-fn files_take_new_ids(rt: HostRuntime) -> Result<(), Fail> {
-    let alloc = rt.alloc();
-    assert!(rt; files_with_new_ids(alloc).or_else(|_| files_with_new_ids(alloc))?);
-    Ok(())
+fn files_take_new_ids(rt: HostRuntime) {
+    assert!(rt; holds(&rt, files_with_new_ids));
 }
 
 fn has_no_parts<R: Abort>(rt: &R, alloc: Global) -> Result<bool, AllocError> {
@@ -203,10 +196,8 @@ fn has_no_parts<R: Abort>(rt: &R, alloc: Global) -> Result<bool, AllocError> {
 }
 
 #[test]
-fn a_symlink_has_no_parts_of_a_file(rt: HostRuntime) -> Result<(), Fail> {
-    let alloc = rt.alloc();
-    assert!(rt; has_no_parts(&rt, alloc).or_else(|_| has_no_parts(&rt, alloc))?);
-    Ok(())
+fn a_symlink_has_no_parts_of_a_file(rt: HostRuntime) {
+    assert!(rt; holds(&rt, |alloc| has_no_parts(&rt, alloc)));
 }
 
 fn borrowed_file(alloc: Global) -> Result<bool, AllocError> {
@@ -217,8 +208,6 @@ fn borrowed_file(alloc: Global) -> Result<bool, AllocError> {
 }
 
 #[test]
-fn borrowed_values(rt: HostRuntime) -> Result<(), Fail> {
-    let alloc = rt.alloc();
-    assert!(rt; borrowed_file(alloc).or_else(|_| borrowed_file(alloc))?);
-    Ok(())
+fn borrowed_values(rt: HostRuntime) {
+    assert!(rt; holds(&rt, borrowed_file));
 }

@@ -14,6 +14,7 @@ mod json;
 mod known_answers;
 #[cfg(test)]
 mod maps;
+pub mod once_more;
 #[cfg(test)]
 mod recorder;
 pub mod records;

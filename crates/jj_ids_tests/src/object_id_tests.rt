@@ -1,5 +1,6 @@
-//! Ids, prefixes of them, and resolutions. A refused call is made once more, when there is memory.
+//! Ids, prefixes of them, and resolutions.
 use jj_content::content_hash::{ToJson, ToJsonError};
+use jj_content_tests::once_more::{passes, succeeds};
 use jj_ids::object_id::{
     ChangeId, CommitId, CommitKind, CopyId, CopyKind, FileKind, HexPrefix, Id, IdKind, ObjectId,
     OperationKind, PrefixResolution, SymlinkKind, TreeKind, ViewKind,
@@ -11,21 +12,19 @@ use std::test::Fail;
 const BYTES: [u8; 6] = [0xde, 0xad, 0xbe, 0xef, 0x01, 0x23];
 
 fn commit(alloc: Global, bytes: &[u8]) -> Result<CommitId, AllocError> {
-    CommitId::from_bytes(alloc, bytes).or_else(|_| CommitId::from_bytes(alloc, bytes))
+    CommitId::from_bytes(alloc, bytes)
 }
 
 fn change(alloc: Global, bytes: &[u8]) -> Result<ChangeId, AllocError> {
-    ChangeId::from_bytes(alloc, bytes).or_else(|_| ChangeId::from_bytes(alloc, bytes))
+    ChangeId::from_bytes(alloc, bytes)
 }
 
 fn prefix(alloc: Global, text: &str) -> Result<Option<HexPrefix>, AllocError> {
-    HexPrefix::try_from_hex(alloc, text).or_else(|_| HexPrefix::try_from_hex(alloc, text))
+    HexPrefix::try_from_hex(alloc, text)
 }
 
 fn reversed(alloc: Global, text: &str) -> Result<Option<HexPrefix>, AllocError> {
-    HexPrefix::try_from_reverse_hex(alloc, text).or_else(|_| HexPrefix::try_from_reverse_hex(
-        alloc, text,
-    ))
+    HexPrefix::try_from_reverse_hex(alloc, text)
 }
 
 // Whether the prefix was read and matches the id.
@@ -35,38 +34,38 @@ fn is_match(prefix: &Option<HexPrefix>, id: &CommitId) -> Option<bool> {
 
 #[test]
 fn ids_print(rt: HostRuntime) -> Result<(), Fail> {
-    let alloc = rt.alloc();
-    let id = commit(alloc, &BYTES)?;
-    let text = format!(in alloc; "{id}").or_else(|_| format!(in alloc; "{id}"))?;
-    assert_eq!(rt; text.as_str(), "deadbeef0123");
-    let text = format!(in alloc; "{id:.6}").or_else(|_| format!(in alloc; "{id:.6}"))?;
-    assert_eq!(rt; text.as_str(), "deadbe");
-    let text = format!(in alloc; "{id:>8.6}").or_else(|_| format!(in alloc; "{id:>8.6}"))?;
-    assert_eq!(rt; text.as_str(), "  deadbe");
-    let text = format!(in alloc; "{id:?}").or_else(|_| format!(in alloc; "{id:?}"))?;
-    assert_eq!(rt; text.as_str(), "CommitId(\"deadbeef0123\")");
-    Ok(())
+    passes(&rt, |rt, alloc| {
+        let id = commit(alloc, &BYTES)?;
+        let text = format!(in alloc; "{id}")?;
+        assert_eq!(rt; text.as_str(), "deadbeef0123");
+        let text = format!(in alloc; "{id:.6}")?;
+        assert_eq!(rt; text.as_str(), "deadbe");
+        let text = format!(in alloc; "{id:>8.6}")?;
+        assert_eq!(rt; text.as_str(), "  deadbe");
+        let text = format!(in alloc; "{id:?}")?;
+        assert_eq!(rt; text.as_str(), "CommitId(\"deadbeef0123\")");
+        Ok(())
+    })
 }
 
 #[test]
 fn change_ids_print_reversed(rt: HostRuntime) -> Result<(), Fail> {
-    let alloc = rt.alloc();
-    let id = change(alloc, &BYTES)?;
-    let text = format!(in alloc; "{id}").or_else(|_| format!(in alloc; "{id}"))?;
-    assert_eq!(rt; text.as_str(), "mlpmollkzyxw");
-    let text = format!(in alloc; "{id:.6}").or_else(|_| format!(in alloc; "{id:.6}"))?;
-    assert_eq!(rt; text.as_str(), "mlpmol");
-    let text = format!(in alloc; "{id:?}").or_else(|_| format!(in alloc; "{id:?}"))?;
-    assert_eq!(rt; text.as_str(), "ChangeId(\"deadbeef0123\")");
-    let text = id.reverse_hex().or_else(|_| id.reverse_hex())?;
-    assert_eq!(rt; text.as_str(), "mlpmollkzyxw");
-    let text = id.hex(alloc).or_else(|_| id.hex(alloc))?;
-    assert_eq!(rt; text.as_str(), "deadbeef0123");
-    let read = ChangeId::try_from_reverse_hex(alloc, "MLPMollkzyxw").or_else(
-        |_| ChangeId::try_from_reverse_hex(alloc, "MLPMollkzyxw"),
-    )?;
-    assert!(rt; read == Some(id));
-    Ok(())
+    passes(&rt, |rt, alloc| {
+        let id = change(alloc, &BYTES)?;
+        let text = format!(in alloc; "{id}")?;
+        assert_eq!(rt; text.as_str(), "mlpmollkzyxw");
+        let text = format!(in alloc; "{id:.6}")?;
+        assert_eq!(rt; text.as_str(), "mlpmol");
+        let text = format!(in alloc; "{id:?}")?;
+        assert_eq!(rt; text.as_str(), "ChangeId(\"deadbeef0123\")");
+        let text = id.reverse_hex()?;
+        assert_eq!(rt; text.as_str(), "mlpmollkzyxw");
+        let text = id.hex(alloc)?;
+        assert_eq!(rt; text.as_str(), "deadbeef0123");
+        let read = ChangeId::try_from_reverse_hex(alloc, "MLPMollkzyxw")?;
+        assert!(rt; read == Some(id));
+        Ok(())
+    })
 }
 
 // Checks the debug text and the type's name of an id of a kind.
@@ -76,66 +75,59 @@ fn shows<K: IdKind, R: Abort>(
     debug: &str,
     object_type: &str,
 ) -> Result<(), AllocError> {
-    let id = Id::<K>::from_bytes(alloc, &BYTES).or_else(|_| Id::<K>::from_bytes(alloc, &BYTES))?;
-    let text = format!(in alloc; "{id:?}").or_else(|_| format!(in alloc; "{id:?}"))?;
+    let id = Id::<K>::from_bytes(alloc, &BYTES)?;
+    let text = format!(in alloc; "{id:?}")?;
     assert_eq!(rt; text.as_str(), debug);
-    let text = format!(in alloc; "{id}").or_else(|_| format!(in alloc; "{id}"))?;
+    let text = format!(in alloc; "{id}")?;
     assert_eq!(rt; text.as_str(), "deadbeef0123");
-    let text = id.object_type(alloc).or_else(|_| id.object_type(alloc))?;
+    let text = id.object_type(alloc)?;
     assert_eq!(rt; text.as_str(), object_type);
     Ok(())
 }
 
 #[test]
 fn ids_of_each_kind_show_their_type(rt: HostRuntime) -> Result<(), Fail> {
-    let alloc = rt.alloc();
-    shows::<CommitKind, _>(&rt, alloc, "CommitId(\"deadbeef0123\")", "commit")?;
-    shows::<TreeKind, _>(&rt, alloc, "TreeId(\"deadbeef0123\")", "tree")?;
-    shows::<FileKind, _>(&rt, alloc, "FileId(\"deadbeef0123\")", "file")?;
-    shows::<SymlinkKind, _>(&rt, alloc, "SymlinkId(\"deadbeef0123\")", "symlink")?;
-    shows::<CopyKind, _>(&rt, alloc, "CopyId(\"deadbeef0123\")", "copy")?;
-    shows::<ViewKind, _>(&rt, alloc, "ViewId(\"deadbeef0123\")", "view")?;
-    shows::<OperationKind, _>(&rt, alloc, "OperationId(\"deadbeef0123\")", "operation")?;
-    Ok(())
+    passes(&rt, |rt, alloc| {
+        shows::<CommitKind, _>(rt, alloc, "CommitId(\"deadbeef0123\")", "commit")?;
+        shows::<TreeKind, _>(rt, alloc, "TreeId(\"deadbeef0123\")", "tree")?;
+        shows::<FileKind, _>(rt, alloc, "FileId(\"deadbeef0123\")", "file")?;
+        shows::<SymlinkKind, _>(rt, alloc, "SymlinkId(\"deadbeef0123\")", "symlink")?;
+        shows::<CopyKind, _>(rt, alloc, "CopyId(\"deadbeef0123\")", "copy")?;
+        shows::<ViewKind, _>(rt, alloc, "ViewId(\"deadbeef0123\")", "view")?;
+        shows::<OperationKind, _>(rt, alloc, "OperationId(\"deadbeef0123\")", "operation")?;
+        Ok(())
+    })
 }
 
 #[test]
 fn ids_are_their_bytes(rt: HostRuntime) -> Result<(), Fail> {
-    let alloc = rt.alloc();
-    let id = commit(alloc, &BYTES)?;
-    assert_eq!(rt; id.as_bytes(), BYTES.as_slice());
-    let bytes = id.to_bytes(alloc).or_else(|_| id.to_bytes(alloc))?;
-    assert_eq!(rt; bytes.as_slice(), BYTES.as_slice());
-    let name = id.object_type(alloc).or_else(|_| id.object_type(alloc))?;
-    assert_eq!(rt; name.as_str(), "commit");
-    let read = CommitId::from_hex(alloc, "DEADbeef0123").or_else(|_| CommitId::from_hex(
-        alloc,
-        "DEADbeef0123",
-    ))?;
-    assert!(rt; read == id);
-    let empty = CommitId::from_hex(alloc, "").or_else(|_| CommitId::from_hex(alloc, ""))?;
-    assert!(rt; empty < id);
-    let odd = CommitId::try_from_hex(alloc, "dea").or_else(|_| CommitId::try_from_hex(
-        alloc, "dea",
-    ))?;
-    assert!(rt; odd.is_none());
-    let copy = id.clone().or_else(|_| id.clone())?;
-    assert!(rt; copy == id);
-    let made = CommitId::new(bytes);
-    assert!(rt; made == id);
-    Ok(())
+    passes(&rt, |rt, alloc| {
+        let id = commit(alloc, &BYTES)?;
+        assert_eq!(rt; id.as_bytes(), BYTES.as_slice());
+        let bytes = id.to_bytes(alloc)?;
+        assert_eq!(rt; bytes.as_slice(), BYTES.as_slice());
+        let name = id.object_type(alloc)?;
+        assert_eq!(rt; name.as_str(), "commit");
+        let read = CommitId::from_hex(alloc, "DEADbeef0123")?;
+        assert!(rt; read == id);
+        let empty = CommitId::from_hex(alloc, "")?;
+        assert!(rt; empty < id);
+        let odd = CommitId::try_from_hex(alloc, "dea")?;
+        assert!(rt; odd.is_none());
+        let copy = id.clone()?;
+        assert!(rt; copy == id);
+        let made = CommitId::new(bytes);
+        assert!(rt; made == id);
+        Ok(())
+    })
 }
 
 // The compact text of a value's JSON.
 fn json_text<T: ToJson>(alloc: Global, value: &T) -> Result<String, ToJsonError> {
-    let json = value.to_json(alloc).or_else(|_| value.to_json(alloc))?;
-    let text = json.to_string(alloc).or_else(|_| json.to_string(alloc))?;
-    Ok(text)
+    Ok(value.to_json(alloc)?.to_string(alloc)?)
 }
 
-#[test]
-fn ids_in_json_are_their_texts(rt: HostRuntime) -> Result<(), Fail> {
-    let alloc = rt.alloc();
+fn tell_json<R: Abort>(rt: &R, alloc: Global) -> Result<(), ToJsonError> {
     assert_eq!(rt;
         json_text(alloc, &commit(alloc, &BYTES)?)?.as_str(),
         "\"deadbeef0123\""
@@ -148,95 +140,102 @@ fn ids_in_json_are_their_texts(rt: HostRuntime) -> Result<(), Fail> {
 }
 
 #[test]
+fn ids_in_json_are_their_texts(rt: HostRuntime) -> Result<(), Fail> {
+    succeeds(&rt, tell_json)
+}
+
+#[test]
 fn prefixes_are_read(rt: HostRuntime) -> Result<(), Fail> {
-    let alloc = rt.alloc();
-    for (text, bytes, full) in [
-        ("", [].as_slice(), true),
-        ("1", [0x10].as_slice(), false),
-        ("12", [0x12].as_slice(), true),
-        ("123", [0x12, 0x30].as_slice(), false),
-        ("AbC", [0xab, 0xc0].as_slice(), false),
-    ] {
-        let Some(read) = prefix(alloc, text)? else {
-            return Err(Fail::new("not read"));
-        };
-        assert_eq!(rt; read.min_prefix_bytes(), bytes);
-        assert_eq!(rt; read.as_full_bytes().is_some(), full);
-        let copy = read.clone().or_else(|_| read.clone())?;
-        assert!(rt; copy == read);
-    }
-    assert!(rt; prefix(alloc, "0x123")?.is_none());
-    assert!(rt; prefix(alloc, "foobar")?.is_none());
-    Ok(())
+    passes(&rt, |rt, alloc| {
+        for (text, bytes, full) in [
+            ("", [].as_slice(), true),
+            ("1", [0x10].as_slice(), false),
+            ("12", [0x12].as_slice(), true),
+            ("123", [0x12, 0x30].as_slice(), false),
+            ("AbC", [0xab, 0xc0].as_slice(), false),
+        ] {
+            let Some(read) = prefix(alloc, text)? else {
+                panic!(rt; "a prefix is read");
+            };
+            assert_eq!(rt; read.min_prefix_bytes(), bytes);
+            assert_eq!(rt; read.as_full_bytes().is_some(), full);
+            let copy = read.clone()?;
+            assert!(rt; copy == read);
+        }
+        assert!(rt; prefix(alloc, "0x123")?.is_none());
+        assert!(rt; prefix(alloc, "foobar")?.is_none());
+        Ok(())
+    })
 }
 
 #[test]
 fn prefixes_show_their_texts(rt: HostRuntime) -> Result<(), Fail> {
-    let alloc = rt.alloc();
-    let Some(read) = reversed(alloc, "mlp")? else {
-        return Err(Fail::new("not read"));
-    };
-    let text = read.hex().or_else(|_| read.hex())?;
-    assert_eq!(rt; text.as_str(), "dea");
-    let text = read.reverse_hex().or_else(|_| read.reverse_hex())?;
-    assert_eq!(rt; text.as_str(), "mlp");
-    let text = format!(in alloc; "{read:?}").or_else(|_| format!(in alloc; "{read:?}"))?;
-    assert_eq!(rt; text.as_str(), "HexPrefix(\"dea\")");
-    let whole = HexPrefix::from_bytes(alloc, &[0xde, 0xa0]).or_else(|_| HexPrefix::from_bytes(
-        alloc,
-        &[0xde, 0xa0],
-    ))?;
-    assert!(rt; whole != read);
-    let id = commit(alloc, &[0xde, 0xa0])?;
-    let same = HexPrefix::from_id(alloc, &id).or_else(|_| HexPrefix::from_id(alloc, &id))?;
-    assert!(rt; same == whole);
-    assert!(rt; reversed(alloc, "jj")?.is_none());
-    Ok(())
+    passes(&rt, |rt, alloc| {
+        let Some(read) = reversed(alloc, "mlp")? else {
+            panic!(rt; "a prefix is read");
+        };
+        let text = read.hex()?;
+        assert_eq!(rt; text.as_str(), "dea");
+        let text = read.reverse_hex()?;
+        assert_eq!(rt; text.as_str(), "mlp");
+        let text = format!(in alloc; "{read:?}")?;
+        assert_eq!(rt; text.as_str(), "HexPrefix(\"dea\")");
+        let whole = HexPrefix::from_bytes(alloc, &[0xde, 0xa0])?;
+        assert!(rt; whole != read);
+        let id = commit(alloc, &[0xde, 0xa0])?;
+        let same = HexPrefix::from_id(alloc, &id)?;
+        assert!(rt; same == whole);
+        assert!(rt; reversed(alloc, "jj")?.is_none());
+        Ok(())
+    })
 }
 
 #[test]
 fn prefixes_match(rt: HostRuntime) -> Result<(), Fail> {
-    let alloc = rt.alloc();
-    let id = commit(alloc, &[0x12, 0x34])?;
-    for (text, expected) in [
-        ("", true),
-        ("1", true),
-        ("12", true),
-        ("123", true),
-        ("1234", true),
-        ("12345", false),
-        ("a", false),
-        ("1a", false),
-        ("12a", false),
-        ("123a", false),
-    ] {
-        assert!(rt;
-            is_match(&prefix(alloc, text)?, &id) == Some(expected),
-            "at {text}"
-        );
-    }
-    Ok(())
+    passes(&rt, |rt, alloc| {
+        let id = commit(alloc, &[0x12, 0x34])?;
+        for (text, expected) in [
+            ("", true),
+            ("1", true),
+            ("12", true),
+            ("123", true),
+            ("1234", true),
+            ("12345", false),
+            ("a", false),
+            ("1a", false),
+            ("12a", false),
+            ("123a", false),
+        ] {
+            assert!(rt;
+                is_match(&prefix(alloc, text)?, &id) == Some(expected),
+                "at {text}"
+            );
+        }
+        Ok(())
+    })
 }
 
 fn plus(
     a: &PrefixResolution<u8>,
     b: &PrefixResolution<u8>,
 ) -> Result<PrefixResolution<u8>, AllocError> {
-    a.plus(b).or_else(|_| a.plus(b))
+    a.plus(b)
 }
 
 #[test]
 fn resolutions_add_up(rt: HostRuntime) -> Result<(), Fail> {
-    let none = PrefixResolution::NoMatch;
-    let one = PrefixResolution::SingleMatch(1u8);
-    let many = PrefixResolution::AmbiguousMatch;
-    assert!(rt; plus(&one, &one)? == PrefixResolution::AmbiguousMatch);
-    assert!(rt; plus(&none, &one)? == PrefixResolution::SingleMatch(1));
-    assert!(rt; plus(&one, &none)? == PrefixResolution::SingleMatch(1));
-    assert!(rt; plus(&none, &none)? == PrefixResolution::NoMatch);
-    assert!(rt; plus(&none, &many)? == PrefixResolution::AmbiguousMatch);
-    assert!(rt; plus(&many, &one)? == PrefixResolution::AmbiguousMatch);
-    Ok(())
+    passes(&rt, |rt, alloc| {
+        let none = PrefixResolution::NoMatch;
+        let one = PrefixResolution::SingleMatch(1u8);
+        let many = PrefixResolution::AmbiguousMatch;
+        assert!(rt; plus(&one, &one)? == PrefixResolution::AmbiguousMatch);
+        assert!(rt; plus(&none, &one)? == PrefixResolution::SingleMatch(1));
+        assert!(rt; plus(&one, &none)? == PrefixResolution::SingleMatch(1));
+        assert!(rt; plus(&none, &none)? == PrefixResolution::NoMatch);
+        assert!(rt; plus(&none, &many)? == PrefixResolution::AmbiguousMatch);
+        assert!(rt; plus(&many, &one)? == PrefixResolution::AmbiguousMatch);
+        Ok(())
+    })
 }
 
 #[test]
@@ -261,24 +260,20 @@ fn resolutions_map(rt: HostRuntime) {
 
 #[test]
 fn resolutions_show_their_cases(rt: HostRuntime) -> Result<(), Fail> {
-    let alloc = rt.alloc();
-    for (resolution, expected) in [
-        (PrefixResolution::NoMatch, "NoMatch"),
-        (PrefixResolution::SingleMatch(1u8), "SingleMatch(1)"),
-        (PrefixResolution::AmbiguousMatch, "AmbiguousMatch"),
-    ] {
-        let text = format!(in alloc; "{resolution:?}").or_else(|_| format!(in alloc;
-            "{resolution:?}"
-        ))?;
-        assert_eq!(rt; text.as_str(), expected);
-    }
-    Ok(())
+    passes(&rt, |rt, alloc| {
+        for (resolution, expected) in [
+            (PrefixResolution::NoMatch, "NoMatch"),
+            (PrefixResolution::SingleMatch(1u8), "SingleMatch(1)"),
+            (PrefixResolution::AmbiguousMatch, "AmbiguousMatch"),
+        ] {
+            let text = format!(in alloc; "{resolution:?}")?;
+            assert_eq!(rt; text.as_str(), expected);
+        }
+        Ok(())
+    })
 }
 
 #[test]
-fn the_placeholder_of_a_copy_is_empty(rt: HostRuntime) -> Result<(), Fail> {
-    let alloc = rt.alloc();
-    let id = CopyId::placeholder(alloc);
-    assert!(rt; id.as_bytes().is_empty());
-    Ok(())
+fn the_placeholder_of_a_copy_is_empty(rt: HostRuntime) {
+    assert!(rt; CopyId::placeholder(rt.alloc()).as_bytes().is_empty());
 }

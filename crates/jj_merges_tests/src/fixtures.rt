@@ -1,7 +1,4 @@
-//! Merges of digits, written as texts.
-//
-// In a run in which one request for memory is refused, a call answers that or the right value, and
-// is then made once more, when there is memory.
+//! Merges of digits, written as texts, and the columns of rows.
 use jj_merges::merge::Merge;
 use smallvec::SmallVec;
 use std::alloc::{AllocError, Global};
@@ -25,4 +22,12 @@ pub fn of_terms<R: Abort>(rt: &R, terms: Vec<u32>) -> Merge<u32> {
 /// A merge of the digits of a text.
 pub fn merge<R: Abort>(rt: &R, alloc: Global, text: &str) -> Result<Merge<u32>, AllocError> {
     Ok(of_terms(rt, digits(alloc, text)?))
+}
+
+/// What stands before a mark in the row of a table, and what stands behind it.
+pub fn columns<'a, R: Abort>(rt: &R, row: &'a str, mark: char) -> (&'a str, &'a str) {
+    match row.split_once(mark) {
+        Some(columns) => columns,
+        None => panic!(rt; "{row} has one column"),
+    }
 }

@@ -1,5 +1,6 @@
 //! Making merges of iterators, and their legacy form.
-use crate::fixtures::{digits, merge};
+use crate::fixtures::{columns, digits, merge};
+use jj_content_tests::once_more::passes;
 use jj_merges::merge::{Diff, Merge, MergeBuilder};
 use std::alloc::{AllocError, Global};
 use std::process::Abort;
@@ -52,16 +53,15 @@ fn made_of_sides<R: Abort>(
 
 #[test]
 fn removes_and_adds(rt: HostRuntime) -> Result<(), Fail> {
-    let alloc = rt.alloc();
-    for row in SIDES {
-        let (removes, columns) = row.split_once('/').ok_or("three columns")?;
-        let (adds, wanted) = columns.split_once('/').ok_or("three columns")?;
-        let same = made_of_sides(&rt, alloc, removes, adds, wanted).or_else(|_| made_of_sides(
-            &rt, alloc, removes, adds, wanted,
-        ))?;
-        assert!(rt; same, "{row}");
-    }
-    Ok(())
+    passes(&rt, |rt, alloc| {
+        for row in SIDES {
+            let (removes, others) = columns(rt, row, '/');
+            let (adds, wanted) = columns(rt, others, '/');
+            let same = made_of_sides(rt, alloc, removes, adds, wanted)?;
+            assert!(rt; same, "{row}");
+        }
+        Ok(())
+    })
 }
 
 fn trivial_sides<R: Abort>(rt: &R, alloc: Global) -> Result<Merge<Option<u32>>, AllocError> {
@@ -71,11 +71,12 @@ fn trivial_sides<R: Abort>(rt: &R, alloc: Global) -> Result<Merge<Option<u32>>, 
 // A merge with a trivial outcome is not resolved.
 #[test]
 fn as_resolved(rt: HostRuntime) -> Result<(), Fail> {
-    let alloc = rt.alloc();
-    let whole = trivial_sides(&rt, alloc).or_else(|_| trivial_sides(&rt, alloc))?;
-    assert!(rt; whole.as_resolved().is_none());
-    assert!(rt; Merge::resolved(alloc, 0u32).as_resolved().copied() == Some(0));
-    Ok(())
+    passes(&rt, |rt, alloc| {
+        let whole = trivial_sides(rt, alloc)?;
+        assert!(rt; whole.as_resolved().is_none());
+        assert!(rt; Merge::resolved(alloc, 0u32).as_resolved().copied() == Some(0));
+        Ok(())
+    })
 }
 
 // Removed values, added values, and their legacy form.
@@ -105,16 +106,15 @@ fn is_legacy_form(
 
 #[test]
 fn legacy_form(rt: HostRuntime) -> Result<(), Fail> {
-    let alloc = rt.alloc();
-    for row in LEGACY {
-        let (removes, columns) = row.split_once('/').ok_or("three columns")?;
-        let (adds, wanted) = columns.split_once('/').ok_or("three columns")?;
-        let same = is_legacy_form(alloc, removes, adds, wanted).or_else(|_| is_legacy_form(
-            alloc, removes, adds, wanted,
-        ))?;
-        assert!(rt; same, "{row}");
-    }
-    Ok(())
+    passes(&rt, |rt, alloc| {
+        for row in LEGACY {
+            let (removes, others) = columns(rt, row, '/');
+            let (adds, wanted) = columns(rt, others, '/');
+            let same = is_legacy_form(alloc, removes, adds, wanted)?;
+            assert!(rt; same, "{row}");
+        }
+        Ok(())
+    })
 }
 
 // A merge of a first side and of diffs of these values.
@@ -128,18 +128,19 @@ fn of_diffs(alloc: Global, first: u32, pairs: &[(u32, u32)]) -> Result<Merge<u32
 
 #[test]
 fn from_diffs(rt: HostRuntime) -> Result<(), Fail> {
-    let alloc = rt.alloc();
-    let rows: [(&[(u32, u32)], &str); 3] = [
-        (&[], "1"),
-        (&[(2, 3)], "123"),
-        (&[(2, 3), (4, 5)], "12345"),
-    ];
-    for (pairs, wanted) in rows {
-        let whole = of_diffs(alloc, 1, pairs).or_else(|_| of_diffs(alloc, 1, pairs))?;
-        let wanted = merge(&rt, alloc, wanted).or_else(|_| merge(&rt, alloc, wanted))?;
-        assert!(rt; whole == wanted, "{whole:?}");
-    }
-    Ok(())
+    passes(&rt, |rt, alloc| {
+        let rows: [(&[(u32, u32)], &str); 3] = [
+            (&[], "1"),
+            (&[(2, 3)], "123"),
+            (&[(2, 3), (4, 5)], "12345"),
+        ];
+        for (pairs, wanted) in rows {
+            let whole = of_diffs(alloc, 1, pairs)?;
+            let wanted = merge(rt, alloc, wanted)?;
+            assert!(rt; whole == wanted, "{whole:?}");
+        }
+        Ok(())
+    })
 }
 
 fn built<R: Abort>(rt: &R, alloc: Global, text: &str) -> Result<Merge<u32>, AllocError> {
@@ -152,13 +153,14 @@ fn built<R: Abort>(rt: &R, alloc: Global, text: &str) -> Result<Merge<u32>, Allo
 
 #[test]
 fn builder(rt: HostRuntime) -> Result<(), Fail> {
-    let alloc = rt.alloc();
-    for text in ["1", "12345"] {
-        let whole = built(&rt, alloc, text).or_else(|_| built(&rt, alloc, text))?;
-        let wanted = merge(&rt, alloc, text).or_else(|_| merge(&rt, alloc, text))?;
-        assert!(rt; whole == wanted, "{whole:?}");
-    }
-    Ok(())
+    passes(&rt, |rt, alloc| {
+        for text in ["1", "12345"] {
+            let whole = built(rt, alloc, text)?;
+            let wanted = merge(rt, alloc, text)?;
+            assert!(rt; whole == wanted, "{whole:?}");
+        }
+        Ok(())
+    })
 }
 
 // A builder that holds these terms, beside a clone.
@@ -175,11 +177,12 @@ fn printed(alloc: Global, builder: &MergeBuilder<u32>) -> Result<String, AllocEr
 
 #[test]
 fn builders_compare(rt: HostRuntime) -> Result<(), Fail> {
-    let alloc = rt.alloc();
-    let (two, clone) = twins(alloc, "12").or_else(|_| twins(alloc, "12"))?;
-    assert!(rt; two == clone);
-    assert!(rt; two != MergeBuilder::default(alloc));
-    let text = printed(alloc, &clone).or_else(|_| printed(alloc, &clone))?;
-    assert_eq!(rt; text.as_str(), "MergeBuilder { values: [1, 2] }");
-    Ok(())
+    passes(&rt, |rt, alloc| {
+        let (two, clone) = twins(alloc, "12")?;
+        assert!(rt; two == clone);
+        assert!(rt; two != MergeBuilder::default(alloc));
+        let text = printed(alloc, &clone)?;
+        assert_eq!(rt; text.as_str(), "MergeBuilder { values: [1, 2] }");
+        Ok(())
+    })
 }

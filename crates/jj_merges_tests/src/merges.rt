@@ -1,5 +1,6 @@
 //! Making, reading and changing merges.
 use crate::fixtures::{digits, merge, of_terms};
+use jj_content_tests::once_more::passes;
 use jj_merges::merge::{Diff, Merge};
 use std::alloc::{AllocError, Global};
 use std::process::Abort;
@@ -21,29 +22,30 @@ fn diffs(rt: HostRuntime) {
 
 #[test]
 fn sides(rt: HostRuntime) -> Result<(), Fail> {
-    let alloc = rt.alloc();
-    let whole = merge(&rt, alloc, "12345").or_else(|_| merge(&rt, alloc, "12345"))?;
-    assert_eq!(rt; whole.num_sides(), 3);
-    assert_eq!(rt; *whole.first(), 1);
-    assert_eq!(rt; whole.get_add(1).copied(), Some(3));
-    assert_eq!(rt; whole.get_add(3).copied(), None);
-    assert_eq!(rt; whole.get_add(usize::MAX).copied(), None);
-    assert_eq!(rt; whole.get_remove(1).copied(), Some(4));
-    assert_eq!(rt; whole.get_remove(2).copied(), None);
-    assert_eq!(rt; whole.get_remove(usize::MAX).copied(), None);
-    assert_eq!(rt; whole.adds().len(), 3);
-    assert_eq!(rt; whole.removes().len(), 2);
-    assert!(rt; whole.as_resolved().is_none());
-    assert!(rt; !whole.is_resolved());
-    let mut sum = 0u32;
-    for add in whole.adds() {
-        sum = sum.wrapping_add(*add);
-    }
-    for remove in whole.removes() {
-        sum = sum.wrapping_sub(*remove);
-    }
-    assert_eq!(rt; sum, 3);
-    Ok(())
+    passes(&rt, |rt, alloc| {
+        let whole = merge(rt, alloc, "12345")?;
+        assert_eq!(rt; whole.num_sides(), 3);
+        assert_eq!(rt; *whole.first(), 1);
+        assert_eq!(rt; whole.get_add(1).copied(), Some(3));
+        assert_eq!(rt; whole.get_add(3).copied(), None);
+        assert_eq!(rt; whole.get_add(usize::MAX).copied(), None);
+        assert_eq!(rt; whole.get_remove(1).copied(), Some(4));
+        assert_eq!(rt; whole.get_remove(2).copied(), None);
+        assert_eq!(rt; whole.get_remove(usize::MAX).copied(), None);
+        assert_eq!(rt; whole.adds().len(), 3);
+        assert_eq!(rt; whole.removes().len(), 2);
+        assert!(rt; whole.as_resolved().is_none());
+        assert!(rt; !whole.is_resolved());
+        let mut sum = 0u32;
+        for add in whole.adds() {
+            sum = sum.wrapping_add(*add);
+        }
+        for remove in whole.removes() {
+            sum = sum.wrapping_sub(*remove);
+        }
+        assert_eq!(rt; sum, 3);
+        Ok(())
+    })
 }
 
 // A resolved merge lies in the value, so all of this is done with every request for memory
@@ -83,38 +85,40 @@ fn padded_with_twos<R: Abort>(rt: &R, alloc: Global) -> Result<Merge<u32>, Alloc
 
 #[test]
 fn pad_and_repeat(rt: HostRuntime) -> Result<(), Fail> {
-    let alloc = rt.alloc();
-    let long = padded(&rt, alloc).or_else(|_| padded(&rt, alloc))?;
-    assert_eq!(rt; long.as_slice(), [1, 0, 0, 0, 0].as_slice());
-    let long = padded_with_twos(&rt, alloc).or_else(|_| padded_with_twos(&rt, alloc))?;
-    assert_eq!(rt; long.as_slice(), [1, 2, 2, 2, 2].as_slice());
-    let four = Merge::repeated(alloc, 4u32, 2).or_else(|_| Merge::repeated(alloc, 4u32, 2))?;
-    assert_eq!(rt; four.as_slice(), [4, 4, 4].as_slice());
-    Ok(())
+    passes(&rt, |rt, alloc| {
+        let long = padded(rt, alloc)?;
+        assert_eq!(rt; long.as_slice(), [1, 0, 0, 0, 0].as_slice());
+        let long = padded_with_twos(rt, alloc)?;
+        assert_eq!(rt; long.as_slice(), [1, 2, 2, 2, 2].as_slice());
+        let four = Merge::repeated(alloc, 4u32, 2)?;
+        assert_eq!(rt; four.as_slice(), [4, 4, 4].as_slice());
+        Ok(())
+    })
 }
 
 #[test]
 fn swap_remove(rt: HostRuntime) -> Result<(), Fail> {
-    let alloc = rt.alloc();
-    let mut terms = merge(&rt, alloc, "0123456").or_else(|_| merge(&rt, alloc, "0123456"))?;
-    assert_eq!(rt; terms.adds().len(), 4);
-    assert_eq!(rt; terms.removes().len(), 3);
-    assert_eq!(rt; terms.swap_remove(0, 1), (1, 2));
-    assert_eq!(rt; terms.as_slice(), [0, 5, 6, 3, 4].as_slice());
-    assert_eq!(rt; terms.adds().len(), 3);
-    assert_eq!(rt; terms.removes().len(), 2);
-    assert_eq!(rt; terms.swap_remove(1, 0), (3, 0));
-    assert_eq!(rt; terms.as_slice(), [4, 5, 6].as_slice());
-    assert_eq!(rt; terms.adds().len(), 2);
-    assert_eq!(rt; terms.removes().len(), 1);
-    assert_eq!(rt; terms.swap_remove(0, 1), (5, 6));
-    assert_eq!(rt; terms.as_slice(), [4].as_slice());
-    let mut five = merge(&rt, alloc, "01234").or_else(|_| merge(&rt, alloc, "01234"))?;
-    assert_eq!(rt; five.adds().len(), 3);
-    assert_eq!(rt; five.removes().len(), 2);
-    assert_eq!(rt; five.swap_remove(0, 0), (1, 0));
-    assert_eq!(rt; five.as_slice(), [4, 3, 2].as_slice());
-    Ok(())
+    passes(&rt, |rt, alloc| {
+        let mut terms = merge(rt, alloc, "0123456")?;
+        assert_eq!(rt; terms.adds().len(), 4);
+        assert_eq!(rt; terms.removes().len(), 3);
+        assert_eq!(rt; terms.swap_remove(0, 1), (1, 2));
+        assert_eq!(rt; terms.as_slice(), [0, 5, 6, 3, 4].as_slice());
+        assert_eq!(rt; terms.adds().len(), 3);
+        assert_eq!(rt; terms.removes().len(), 2);
+        assert_eq!(rt; terms.swap_remove(1, 0), (3, 0));
+        assert_eq!(rt; terms.as_slice(), [4, 5, 6].as_slice());
+        assert_eq!(rt; terms.adds().len(), 2);
+        assert_eq!(rt; terms.removes().len(), 1);
+        assert_eq!(rt; terms.swap_remove(0, 1), (5, 6));
+        assert_eq!(rt; terms.as_slice(), [4].as_slice());
+        let mut five = merge(rt, alloc, "01234")?;
+        assert_eq!(rt; five.adds().len(), 3);
+        assert_eq!(rt; five.removes().len(), 2);
+        assert_eq!(rt; five.swap_remove(0, 0), (1, 0));
+        assert_eq!(rt; five.as_slice(), [4, 3, 2].as_slice());
+        Ok(())
+    })
 }
 
 // The images of a merge by each way to make them, as one text.
@@ -135,18 +139,19 @@ fn images<R: Abort>(rt: &R, alloc: Global, text: &str) -> Result<String, AllocEr
 
 #[test]
 fn place_by_place(rt: HostRuntime) -> Result<(), Fail> {
-    let alloc = rt.alloc();
-    let text = images(&rt, alloc, "124").or_else(|_| images(&rt, alloc, "124"))?;
-    assert_eq!(rt;
-        text.as_str(),
-        "Conflicted([2, 4, 8]) Conflicted([2, 3, 5]) Conflicted([1, 2, 4]) Conflicted([1, 2, 4]) Conflicted([0, 1, 2])"
-    );
-    let text = images(&rt, alloc, "6").or_else(|_| images(&rt, alloc, "6"))?;
-    assert_eq!(rt;
-        text.as_str(),
-        "Resolved(12) Resolved(7) Resolved(6) Resolved(6) Resolved(3)"
-    );
-    Ok(())
+    passes(&rt, |rt, alloc| {
+        let text = images(rt, alloc, "124")?;
+        assert_eq!(rt;
+            text.as_str(),
+            "Conflicted([2, 4, 8]) Conflicted([2, 3, 5]) Conflicted([1, 2, 4]) Conflicted([1, 2, 4]) Conflicted([0, 1, 2])"
+        );
+        let text = images(rt, alloc, "6")?;
+        assert_eq!(rt;
+            text.as_str(),
+            "Resolved(12) Resolved(7) Resolved(6) Resolved(6) Resolved(3)"
+        );
+        Ok(())
+    })
 }
 
 fn split<R: Abort>(rt: &R, alloc: Global) -> Result<(Vec<u32>, Vec<u32>), AllocError> {
@@ -156,11 +161,12 @@ fn split<R: Abort>(rt: &R, alloc: Global) -> Result<(Vec<u32>, Vec<u32>), AllocE
 
 #[test]
 fn removes_and_adds(rt: HostRuntime) -> Result<(), Fail> {
-    let alloc = rt.alloc();
-    let (removes, adds) = split(&rt, alloc).or_else(|_| split(&rt, alloc))?;
-    assert_eq!(rt; removes.as_slice(), [2, 4].as_slice());
-    assert_eq!(rt; adds.as_slice(), [1, 3, 5].as_slice());
-    Ok(())
+    passes(&rt, |rt, alloc| {
+        let (removes, adds) = split(rt, alloc)?;
+        assert_eq!(rt; removes.as_slice(), [2, 4].as_slice());
+        assert_eq!(rt; adds.as_slice(), [1, 3, 5].as_slice());
+        Ok(())
+    })
 }
 
 fn collected<R: Abort>(rt: &R, alloc: Global, text: &str) -> Result<Vec<u32>, AllocError> {
@@ -169,15 +175,16 @@ fn collected<R: Abort>(rt: &R, alloc: Global, text: &str) -> Result<Vec<u32>, Al
 
 #[test]
 fn iterators(rt: HostRuntime) -> Result<(), Fail> {
-    let alloc = rt.alloc();
-    for text in ["1", "12345"] {
-        let terms = collected(&rt, alloc, text).or_else(|_| collected(&rt, alloc, text))?;
-        let wanted = digits(alloc, text).or_else(|_| digits(alloc, text))?;
-        assert!(rt; terms == wanted);
-        let whole = of_terms(&rt, terms);
-        assert_eq!(rt; whole.iter().count(), wanted.len());
-    }
-    Ok(())
+    passes(&rt, |rt, alloc| {
+        for text in ["1", "12345"] {
+            let terms = collected(rt, alloc, text)?;
+            let wanted = digits(alloc, text)?;
+            assert!(rt; terms == wanted);
+            let whole = of_terms(rt, terms);
+            assert_eq!(rt; whole.iter().count(), wanted.len());
+        }
+        Ok(())
+    })
 }
 
 fn flattened<R: Abort>(rt: &R, alloc: Global, texts: [&str; 3]) -> Result<Merge<u32>, AllocError> {
@@ -193,15 +200,16 @@ fn flattened<R: Abort>(rt: &R, alloc: Global, texts: [&str; 3]) -> Result<Merge<
 
 #[test]
 fn flatten(rt: HostRuntime) -> Result<(), Fail> {
-    let alloc = rt.alloc();
-    for (texts, wanted) in [
-        (["012", "345", "678"], "012543678"),
-        (["0", "1", "2"], "012"),
-        (["0", "34567", "1"], "0547631"),
-    ] {
-        let whole = flattened(&rt, alloc, texts).or_else(|_| flattened(&rt, alloc, texts))?;
-        let wanted = merge(&rt, alloc, wanted).or_else(|_| merge(&rt, alloc, wanted))?;
-        assert!(rt; whole == wanted, "{whole:?}");
-    }
-    Ok(())
+    passes(&rt, |rt, alloc| {
+        for (texts, wanted) in [
+            (["012", "345", "678"], "012543678"),
+            (["0", "1", "2"], "012"),
+            (["0", "34567", "1"], "0547631"),
+        ] {
+            let whole = flattened(rt, alloc, texts)?;
+            let wanted = merge(rt, alloc, wanted)?;
+            assert!(rt; whole == wanted, "{whole:?}");
+        }
+        Ok(())
+    })
 }

@@ -1,5 +1,6 @@
 //! What `simplify` leaves of merges, and writing back into them.
-use crate::fixtures::{digits, merge, of_terms};
+use crate::fixtures::{columns, digits, merge, of_terms};
+use jj_content_tests::once_more::passes;
 use jj_merges::merge::{Merge, SameChange};
 use smallvec::SmallVec;
 use std::alloc::{AllocError, Global};
@@ -34,16 +35,17 @@ fn simplified<R: Abort>(rt: &R, alloc: Global, terms: &str) -> Result<Merge<u32>
 
 #[test]
 fn simplify(rt: HostRuntime) -> Result<(), Fail> {
-    let alloc = rt.alloc();
-    for rows in SIMPLIFIED {
-        for row in rows.split(',') {
-            let (terms, wanted) = row.split_once(' ').ok_or("two columns")?;
-            let left = simplified(&rt, alloc, terms).or_else(|_| simplified(&rt, alloc, terms))?;
-            let wanted = merge(&rt, alloc, wanted).or_else(|_| merge(&rt, alloc, wanted))?;
-            assert!(rt; left == wanted, "{terms} leaves {left:?}");
+    passes(&rt, |rt, alloc| {
+        for rows in SIMPLIFIED {
+            for row in rows.split(',') {
+                let (terms, wanted) = columns(rt, row, ' ');
+                let left = simplified(rt, alloc, terms)?;
+                let wanted = merge(rt, alloc, wanted)?;
+                assert!(rt; left == wanted, "{terms} leaves {left:?}");
+            }
         }
-    }
-    Ok(())
+        Ok(())
+    })
 }
 
 // Terms, those of an update, and the terms with the update.
@@ -67,19 +69,18 @@ fn updated<R: Abort>(
 
 #[test]
 fn update_from_simplified(rt: HostRuntime) -> Result<(), Fail> {
-    let alloc = rt.alloc();
-    for rows in UPDATED {
-        for row in rows.split(',') {
-            let (terms, columns) = row.split_once(' ').ok_or("three columns")?;
-            let (update, wanted) = columns.split_once(' ').ok_or("three columns")?;
-            let whole = updated(&rt, alloc, terms, update).or_else(|_| updated(
-                &rt, alloc, terms, update,
-            ))?;
-            let wanted = merge(&rt, alloc, wanted).or_else(|_| merge(&rt, alloc, wanted))?;
-            assert!(rt; whole == wanted, "{terms} with {update} is {whole:?}");
+    passes(&rt, |rt, alloc| {
+        for rows in UPDATED {
+            for row in rows.split(',') {
+                let (terms, others) = columns(rt, row, ' ');
+                let (update, wanted) = columns(rt, others, ' ');
+                let whole = updated(rt, alloc, terms, update)?;
+                let wanted = merge(rt, alloc, wanted)?;
+                assert!(rt; whole == wanted, "{terms} with {update} is {whole:?}");
+            }
         }
-    }
-    Ok(())
+        Ok(())
+    })
 }
 
 fn again<R: Abort>(rt: &R, alloc: Global, terms: &str) -> Result<Merge<u32>, AllocError> {
@@ -88,24 +89,25 @@ fn again<R: Abort>(rt: &R, alloc: Global, terms: &str) -> Result<Merge<u32>, All
 
 #[test]
 fn simplify_keeps_outcomes(rt: HostRuntime) -> Result<(), Fail> {
-    let alloc = rt.alloc();
-    for rows in SIMPLIFIED {
-        for row in rows.split(',') {
-            let (terms, _) = row.split_once(' ').ok_or("two columns")?;
-            let whole = merge(&rt, alloc, terms).or_else(|_| merge(&rt, alloc, terms))?;
-            let left = simplified(&rt, alloc, terms).or_else(|_| simplified(&rt, alloc, terms))?;
-            let twice = again(&rt, alloc, terms).or_else(|_| again(&rt, alloc, terms))?;
-            assert!(rt; twice == left, "{terms} simplified twice leaves {twice:?}");
-            for change in [SameChange::Keep, SameChange::Accept] {
-                assert_eq!(rt;
-                    left.resolve_trivial(change),
-                    whole.resolve_trivial(change),
-                    "{terms}"
-                );
+    passes(&rt, |rt, alloc| {
+        for rows in SIMPLIFIED {
+            for row in rows.split(',') {
+                let (terms, _) = columns(rt, row, ' ');
+                let whole = merge(rt, alloc, terms)?;
+                let left = simplified(rt, alloc, terms)?;
+                let twice = again(rt, alloc, terms)?;
+                assert!(rt; twice == left, "{terms} simplified twice leaves {twice:?}");
+                for change in [SameChange::Keep, SameChange::Accept] {
+                    assert_eq!(rt;
+                        left.resolve_trivial(change),
+                        whole.resolve_trivial(change),
+                        "{terms}"
+                    );
+                }
             }
         }
-    }
-    Ok(())
+        Ok(())
+    })
 }
 
 // The places that `simplify_by` keeps, where each term is paired with its place and the key is the
@@ -125,16 +127,17 @@ fn kept_places<R: Abort>(rt: &R, alloc: Global, terms: &str) -> Result<Vec<u32>,
 
 #[test]
 fn simplify_by_keys(rt: HostRuntime) -> Result<(), Fail> {
-    let alloc = rt.alloc();
-    for rows in KEPT {
-        for row in rows.split(',') {
-            let (terms, wanted) = row.split_once(' ').ok_or("two columns")?;
-            let kept = kept_places(&rt, alloc, terms).or_else(|_| kept_places(&rt, alloc, terms))?;
-            let wanted = digits(alloc, wanted).or_else(|_| digits(alloc, wanted))?;
-            assert!(rt; kept == wanted, "{terms} keeps {kept:?}");
+    passes(&rt, |rt, alloc| {
+        for rows in KEPT {
+            for row in rows.split(',') {
+                let (terms, wanted) = columns(rt, row, ' ');
+                let kept = kept_places(rt, alloc, terms)?;
+                let wanted = digits(alloc, wanted)?;
+                assert!(rt; kept == wanted, "{terms} keeps {kept:?}");
+            }
         }
-    }
-    Ok(())
+        Ok(())
+    })
 }
 
 // `count` numbers from 0 on, each twice, and then `count`.
@@ -150,20 +153,19 @@ fn doubled(alloc: Global, count: u32) -> Result<Vec<u32>, AllocError> {
 
 #[test]
 fn long_merges(rt: HostRuntime) -> Result<(), Fail> {
-    let alloc = rt.alloc();
-    let sevens = Merge::repeated(alloc, 7u32, 1001).or_else(|_| Merge::repeated(
-        alloc, 7u32, 1001,
-    ))?;
-    let left = sevens.simplify(alloc).or_else(|_| sevens.simplify(alloc))?;
-    assert_eq!(rt; left.as_slice(), [7].as_slice());
+    passes(&rt, |rt, alloc| {
+        let sevens = Merge::repeated(alloc, 7u32, 1001)?;
+        let left = sevens.simplify(alloc)?;
+        assert_eq!(rt; left.as_slice(), [7].as_slice());
 
-    let terms = doubled(alloc, 1000).or_else(|_| doubled(alloc, 1000))?;
-    let whole = of_terms(&rt, terms);
-    assert_eq!(rt;
-        whole.resolve_trivial(SameChange::Keep).copied(),
-        Some(1000)
-    );
-    let left = whole.simplify(alloc).or_else(|_| whole.simplify(alloc))?;
-    assert_eq!(rt; left.as_slice(), [1000].as_slice());
-    Ok(())
+        let terms = doubled(alloc, 1000)?;
+        let whole = of_terms(rt, terms);
+        assert_eq!(rt;
+            whole.resolve_trivial(SameChange::Keep).copied(),
+            Some(1000)
+        );
+        let left = whole.simplify(alloc)?;
+        assert_eq!(rt; left.as_slice(), [1000].as_slice());
+        Ok(())
+    })
 }

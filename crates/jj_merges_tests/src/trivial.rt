@@ -1,6 +1,8 @@
 //! Whether the terms of a merge have one outcome.
-use crate::fixtures::digits;
+use crate::fixtures::{columns, digits};
+use jj_content_tests::once_more::passes;
 use jj_merges::merge::{SameChange, trivial_merge};
+use std::alloc::{AllocError, Global};
 use std::process::Abort;
 use std::test::Fail;
 
@@ -34,17 +36,18 @@ fn assert_outcome<R: Abort>(rt: &R, terms: &[u32], change: SameChange, wanted: O
 
 #[test]
 fn outcomes(rt: HostRuntime) -> Result<(), Fail> {
-    let alloc = rt.alloc();
-    for rows in OUTCOMES {
-        for row in rows.split(',') {
-            let (terms, wanted) = row.split_once(' ').ok_or("three columns")?;
-            let (keep, accept) = wanted.split_once(' ').ok_or("three columns")?;
-            let terms = digits(alloc, terms).or_else(|_| digits(alloc, terms))?;
-            assert_outcome(&rt, &terms, SameChange::Keep, outcome(keep));
-            assert_outcome(&rt, &terms, SameChange::Accept, outcome(accept));
+    passes(&rt, |rt, alloc| {
+        for rows in OUTCOMES {
+            for row in rows.split(',') {
+                let (terms, wanted) = columns(rt, row, ' ');
+                let (keep, accept) = columns(rt, wanted, ' ');
+                let terms = digits(alloc, terms)?;
+                assert_outcome(rt, &terms, SameChange::Keep, outcome(keep));
+                assert_outcome(rt, &terms, SameChange::Accept, outcome(accept));
+            }
         }
-    }
-    Ok(())
+        Ok(())
+    })
 }
 
 // These terms are in the test's own memory, so every request for memory may be refused.

@@ -1,59 +1,51 @@
 //! Texts of errors.
-use jj_backend_tests::error_texts::{cause, parts, printed, text};
+use jj_backend_tests::error_texts::{cause, parts, text};
+use jj_content_tests::once_more::tells;
 use jj_stores::op_store::OpStoreError;
-use std::test::Fail;
+use std::alloc::{AllocError, Global};
 
-#[test]
-fn missing_objects(rt: HostRuntime) -> Result<(), Fail> {
-    let alloc = rt.alloc();
+fn missing(alloc: Global) -> Result<String, AllocError> {
     let error = OpStoreError::ObjectNotFound {
         object_type: text(alloc, "view")?,
         hash: text(alloc, "ab")?,
         source: None,
     };
-    assert_eq!(rt;
-        printed(alloc, &error)?.as_str(),
-        "Object ab of type view not found"
-    );
-    Ok(())
+    error.to_string(alloc)
 }
 
-#[test]
-fn objects_that_cannot_be_read(rt: HostRuntime) -> Result<(), Fail> {
-    let alloc = rt.alloc();
+fn unreadable(alloc: Global) -> Result<String, AllocError> {
     let (object_type, hash, source) = parts(alloc, "operation")?;
     let error = OpStoreError::ReadObject {
         object_type,
         hash,
         source,
     };
-    let expected = "Error when reading object ab of type operation";
-    assert_eq!(rt; printed(alloc, &error)?.as_str(), expected);
-    Ok(())
+    error.to_string(alloc)
 }
 
-#[test]
-fn objects_that_cannot_be_written(rt: HostRuntime) -> Result<(), Fail> {
-    let alloc = rt.alloc();
+fn unwritable(alloc: Global) -> Result<String, AllocError> {
     let error = OpStoreError::WriteObject {
         object_type: "view",
         source: cause(alloc)?,
     };
-    assert_eq!(rt;
-        printed(alloc, &error)?.as_str(),
-        "Could not write object of type view"
-    );
-    Ok(())
+    error.to_string(alloc)
 }
 
 #[test]
-fn other_causes(rt: HostRuntime) -> Result<(), Fail> {
-    let alloc = rt.alloc();
-    let error = OpStoreError::Other(cause(alloc)?);
-    assert_eq!(rt; printed(alloc, &error)?.as_str(), "the cause");
-    assert_eq!(rt;
-        printed(alloc, &OpStoreError::Memory)?.as_str(),
-        "out of memory"
-    );
-    Ok(())
+fn objects_out_of_reach(rt: HostRuntime) {
+    assert!(rt; tells(&rt, missing, "Object ab of type view not found"));
+    let wanted = "Error when reading object ab of type operation";
+    assert!(rt; tells(&rt, unreadable, wanted));
+    assert!(rt; tells(&rt, unwritable, "Could not write object of type view"));
+}
+
+fn other(alloc: Global) -> Result<String, AllocError> {
+    OpStoreError::Other(cause(alloc)?).to_string(alloc)
+}
+
+#[test]
+fn other_causes(rt: HostRuntime) {
+    assert!(rt; tells(&rt, other, "the cause"));
+    let out_of_memory = |alloc: Global| OpStoreError::Memory.to_string(alloc);
+    assert!(rt; tells(&rt, out_of_memory, "out of memory"));
 }

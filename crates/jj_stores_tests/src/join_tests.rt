@@ -2,6 +2,7 @@
 //! has here, and with the remotes that have it and theirs.
 use crate::callers::joined_bookmarks;
 use jj_backend::backend::CommitId;
+use jj_content_tests::once_more::{holds, tells};
 use jj_ids::object_id::ObjectId;
 use jj_ids::ref_name::{RefName, RefNameBuf, RemoteNameBuf};
 use jj_merges::merge::Merge;
@@ -10,8 +11,6 @@ use jj_stores::op_store::{
     flatten_remote_refs, merge_join_ref_views,
 };
 use std::alloc::{AllocError, Global};
-use std::process::Abort;
-use std::test::Fail;
 
 fn target(alloc: Global, byte: u8) -> Result<RefTarget, AllocError> {
     Ok(Merge::normal(alloc, CommitId::from_bytes(alloc, &[byte])?))
@@ -98,10 +97,8 @@ fn remote_alone(alloc: Global) -> Result<String, AllocError> {
 }
 
 #[test]
-fn a_remote_ref_without_a_local_one(rt: HostRuntime) -> Result<(), Fail> {
-    let text = remote_alone(rt.alloc()).or_else(|_| remote_alone(rt.alloc()))?;
-    assert_eq!(rt; text.as_str(), "bookmark1: remote1=01;");
-    Ok(())
+fn a_remote_ref_without_a_local_one(rt: HostRuntime) {
+    assert!(rt; tells(&rt, remote_alone, "bookmark1: remote1=01;"));
 }
 
 fn local_alone(alloc: Global) -> Result<String, AllocError> {
@@ -111,10 +108,8 @@ fn local_alone(alloc: Global) -> Result<String, AllocError> {
 }
 
 #[test]
-fn a_local_ref_without_remotes(rt: HostRuntime) -> Result<(), Fail> {
-    let text = local_alone(rt.alloc()).or_else(|_| local_alone(rt.alloc()))?;
-    assert_eq!(rt; text.as_str(), "bookmark1:11;");
-    Ok(())
+fn a_local_ref_without_remotes(rt: HostRuntime) {
+    assert!(rt; tells(&rt, local_alone, "bookmark1:11;"));
 }
 
 fn two_bookmarks(alloc: Global) -> Result<String, AllocError> {
@@ -133,13 +128,14 @@ fn two_bookmarks(alloc: Global) -> Result<String, AllocError> {
 }
 
 #[test]
-fn refs_of_one_name_go_by_remote(rt: HostRuntime) -> Result<(), Fail> {
-    let text = two_bookmarks(rt.alloc()).or_else(|_| two_bookmarks(rt.alloc()))?;
-    assert_eq!(rt;
-        text.as_str(),
-        "bookmark1:11 git=33 remote1=55;bookmark2:22 git=44 remote2=66;"
+fn refs_of_one_name_go_by_remote(rt: HostRuntime) {
+    assert!(rt;
+        tells(
+            &rt,
+            two_bookmarks,
+            "bookmark1:11 git=33 remote1=55;bookmark2:22 git=44 remote2=66;",
+        )
     );
-    Ok(())
 }
 
 fn scattered(alloc: Global) -> Result<String, AllocError> {
@@ -153,19 +149,17 @@ fn scattered(alloc: Global) -> Result<String, AllocError> {
 }
 
 #[test]
-fn names_ascend_over_all_maps(rt: HostRuntime) -> Result<(), Fail> {
-    let text = scattered(rt.alloc()).or_else(|_| scattered(rt.alloc()))?;
-    assert_eq!(rt; text.as_str(), "a: x=01;b:02;c: y=03;d:04 x=05;e: y=06;");
-    Ok(())
+fn names_ascend_over_all_maps(rt: HostRuntime) {
+    assert!(rt; tells(&rt, scattered, "a: x=01;b:02;c: y=03;d:04 x=05;e: y=06;"));
+}
+
+fn no_refs(alloc: Global) -> Result<String, AllocError> {
+    joined(alloc, &empty_view(alloc)?)
 }
 
 #[test]
-fn views_without_refs_have_no_rows(rt: HostRuntime) -> Result<(), Fail> {
-    let alloc = rt.alloc();
-    let view = empty_view(alloc).or_else(|_| empty_view(alloc))?;
-    let text = joined(alloc, &view).or_else(|_| joined(alloc, &view))?;
-    assert!(rt; text.is_empty());
-    Ok(())
+fn views_without_refs_have_no_rows(rt: HostRuntime) {
+    assert!(rt; tells(&rt, no_refs, ""));
 }
 
 fn rows_are_copied(alloc: Global) -> Result<bool, AllocError> {
@@ -182,10 +176,8 @@ fn rows_are_copied(alloc: Global) -> Result<bool, AllocError> {
 }
 
 #[test]
-fn a_copy_of_a_row_is_equal(rt: HostRuntime) -> Result<(), Fail> {
-    let alloc = rt.alloc();
-    assert!(rt; rows_are_copied(alloc).or_else(|_| rows_are_copied(alloc))?);
-    Ok(())
+fn a_copy_of_a_row_is_equal(rt: HostRuntime) {
+    assert!(rt; holds(&rt, rows_are_copied));
 }
 
 fn flat(alloc: Global, view: &View) -> Result<String, AllocError> {
@@ -210,8 +202,6 @@ fn flat_bookmarks(alloc: Global) -> Result<String, AllocError> {
 }
 
 #[test]
-fn refs_of_all_remotes_go_by_name(rt: HostRuntime) -> Result<(), Fail> {
-    let text = flat_bookmarks(rt.alloc()).or_else(|_| flat_bookmarks(rt.alloc()))?;
-    assert_eq!(rt; text.as_str(), "a@x=01;a@y=02;b@x=03;d@y=04;");
-    Ok(())
+fn refs_of_all_remotes_go_by_name(rt: HostRuntime) {
+    assert!(rt; tells(&rt, flat_bookmarks, "a@x=01;a@y=02;b@x=03;d@y=04;"));
 }

@@ -1,6 +1,7 @@
 //! Views and operations: root records, tracked refs, equality, and content bytes as hex texts.
 use jj_backend::backend::CommitId;
 use jj_content_tests::content_texts::content_text;
+use jj_content_tests::once_more::{holds, tells};
 use jj_ids::object_id::ObjectId;
 use jj_ids::ref_name::RefNameBuf;
 use jj_merges::merge::Merge;
@@ -9,8 +10,6 @@ use jj_stores::op_store::{
     RootOperationData, View, ViewId,
 };
 use std::alloc::{AllocError, Global};
-use std::process::Abort;
-use std::test::Fail;
 
 fn commit(alloc: Global, byte: u8) -> Result<CommitId, AllocError> {
     CommitId::from_bytes(alloc, &[byte])
@@ -42,10 +41,8 @@ fn tracked_targets(alloc: Global) -> Result<bool, AllocError> {
 }
 
 #[test]
-fn tracked_refs(rt: HostRuntime) -> Result<(), Fail> {
-    let alloc = rt.alloc();
-    assert!(rt; tracked_targets(alloc).or_else(|_| tracked_targets(alloc))?);
-    Ok(())
+fn tracked_refs(rt: HostRuntime) {
+    assert!(rt; holds(&rt, tracked_targets));
 }
 
 #[test]
@@ -64,13 +61,14 @@ fn ref_content(alloc: Global) -> Result<String, AllocError> {
 }
 
 #[test]
-fn content_of_a_remote_ref(rt: HostRuntime) -> Result<(), Fail> {
-    let text = ref_content(rt.alloc()).or_else(|_| ref_content(rt.alloc()))?;
-    assert_eq!(rt;
-        text.as_str(),
-        "01000000000000000100000001000000000000000501000000"
+fn content_of_a_remote_ref(rt: HostRuntime) {
+    assert!(rt;
+        tells(
+            &rt,
+            ref_content,
+            "01000000000000000100000001000000000000000501000000",
+        )
     );
-    Ok(())
 }
 
 fn bookmark(alloc: Global, view: &mut RemoteView) -> Result<(), AllocError> {
@@ -86,31 +84,30 @@ fn view_content(alloc: Global) -> Result<String, AllocError> {
 }
 
 #[test]
-fn content_of_a_remote_view(rt: HostRuntime) -> Result<(), Fail> {
-    let text = view_content(rt.alloc()).or_else(|_| view_content(rt.alloc()))?;
-    assert_eq!(rt;
-        text.as_str(),
-        "0100000000000000010000000000000061010000000000000000000000000000000000000000000000"
+fn content_of_a_remote_view(rt: HostRuntime) {
+    assert!(rt;
+        tells(
+            &rt,
+            view_content,
+            "0100000000000000010000000000000061010000000000000000000000000000000000000000000000",
+        )
     );
-    Ok(())
 }
 
 fn root_view(alloc: Global) -> Result<View, AllocError> {
     View::make_root(alloc, commit(alloc, 7)?)
 }
 
-fn root_content(alloc: Global) -> Result<String, AllocError> {
-    content_text(alloc, &root_view(alloc)?)
+// One head of one byte, and six empty maps.
+fn has_one_head(alloc: Global) -> Result<bool, AllocError> {
+    let text = content_text(alloc, &root_view(alloc)?)?;
+    let head = "0100000000000000010000000000000007";
+    Ok(text.as_str().starts_with(head) && text.len() == 34 + 6 * 16)
 }
 
-// One head of one byte, and six empty maps.
 #[test]
-fn content_of_the_root_view(rt: HostRuntime) -> Result<(), Fail> {
-    let text = root_content(rt.alloc()).or_else(|_| root_content(rt.alloc()))?;
-    let head = "0100000000000000010000000000000007";
-    assert!(rt; text.as_str().starts_with(head));
-    assert_eq!(rt; text.len(), 34 + 6 * 16);
-    Ok(())
+fn content_of_the_root_view(rt: HostRuntime) {
+    assert!(rt; holds(&rt, has_one_head));
 }
 
 fn views_differ(alloc: Global) -> Result<bool, AllocError> {
@@ -123,34 +120,35 @@ fn views_differ(alloc: Global) -> Result<bool, AllocError> {
 }
 
 #[test]
-fn views_are_equal_in_all_parts(rt: HostRuntime) -> Result<(), Fail> {
-    let alloc = rt.alloc();
-    assert!(rt; views_differ(alloc).or_else(|_| views_differ(alloc))?);
-    Ok(())
+fn views_are_equal_in_all_parts(rt: HostRuntime) {
+    assert!(rt; holds(&rt, views_differ));
 }
 
 fn root(alloc: Global) -> Result<Operation, AllocError> {
     Ok(Operation::make_root(alloc, ViewId::from_bytes(alloc, &[3])?))
 }
 
-fn has_root_parts(operation: &Operation) -> bool {
+// Whether the root operation has nothing but its view.
+fn is_empty_root(alloc: Global) -> Result<bool, AllocError> {
+    let operation = root(alloc)?;
     let metadata = &operation.metadata;
-    operation.parents.is_empty()
-        && operation.view_id.as_bytes() == [3].as_slice()
-        && metadata.description.is_empty()
-        && metadata.workspace_name.is_none()
-        && !metadata.is_snapshot
+    let has_no_predecessors = match &operation.commit_predecessors {
+        Some(predecessors) => predecessors.is_empty(),
+        None => false,
+    };
+    Ok(
+        has_no_predecessors
+            && operation.parents.is_empty()
+            && operation.view_id.as_bytes() == [3].as_slice()
+            && metadata.description.is_empty()
+            && metadata.workspace_name.is_none()
+            && !metadata.is_snapshot,
+    )
 }
 
 #[test]
-fn the_root_operation_is_empty(rt: HostRuntime) -> Result<(), Fail> {
-    let operation = root(rt.alloc()).or_else(|_| root(rt.alloc()))?;
-    assert!(rt; has_root_parts(&operation));
-    match &operation.commit_predecessors {
-        Some(predecessors) => assert!(rt; predecessors.is_empty()),
-        None => assert!(rt; false),
-    }
-    Ok(())
+fn the_root_operation_is_empty(rt: HostRuntime) {
+    assert!(rt; holds(&rt, is_empty_root));
 }
 
 fn child(alloc: Global) -> Result<Operation, AllocError> {
@@ -170,18 +168,19 @@ fn child_content(alloc: Global) -> Result<String, AllocError> {
 
 // View, parents; start, end; description, host, user; snapshot, workspace, attributes; predecessors.
 #[test]
-fn content_of_an_operation(rt: HostRuntime) -> Result<(), Fail> {
-    let text = child_content(rt.alloc()).or_else(|_| child_content(rt.alloc()))?;
-    assert_eq!(rt;
-        text.as_str(),
-        "010000000000000003\
+fn content_of_an_operation(rt: HostRuntime) {
+    assert!(rt;
+        tells(
+            &rt,
+            child_content,
+            "010000000000000003\
          0100000000000000010000000000000009\
          000000000000000000000000000000000000000000000000\
          0000000000000000010000000000000068000000000000000001\
          000000000000000000000000\
-         00000000"
+         00000000",
+        )
     );
-    Ok(())
 }
 
 fn operations_differ(alloc: Global) -> Result<bool, AllocError> {
@@ -191,10 +190,8 @@ fn operations_differ(alloc: Global) -> Result<bool, AllocError> {
 }
 
 #[test]
-fn operations_are_equal_in_all_parts(rt: HostRuntime) -> Result<(), Fail> {
-    let alloc = rt.alloc();
-    assert!(rt; operations_differ(alloc).or_else(|_| operations_differ(alloc))?);
-    Ok(())
+fn operations_are_equal_in_all_parts(rt: HostRuntime) {
+    assert!(rt; holds(&rt, operations_differ));
 }
 
 fn is_copied(alloc: Global) -> Result<bool, AllocError> {
@@ -206,10 +203,8 @@ fn is_copied(alloc: Global) -> Result<bool, AllocError> {
 }
 
 #[test]
-fn a_copy_of_an_operation_is_equal(rt: HostRuntime) -> Result<(), Fail> {
-    let alloc = rt.alloc();
-    assert!(rt; is_copied(alloc).or_else(|_| is_copied(alloc))?);
-    Ok(())
+fn a_copy_of_an_operation_is_equal(rt: HostRuntime) {
+    assert!(rt; holds(&rt, is_copied));
 }
 
 fn root_data_is_copied(alloc: Global) -> Result<bool, AllocError> {
@@ -220,8 +215,6 @@ fn root_data_is_copied(alloc: Global) -> Result<bool, AllocError> {
 }
 
 #[test]
-fn a_copy_of_root_data_is_equal(rt: HostRuntime) -> Result<(), Fail> {
-    let alloc = rt.alloc();
-    assert!(rt; root_data_is_copied(alloc).or_else(|_| root_data_is_copied(alloc))?);
-    Ok(())
+fn a_copy_of_root_data_is_equal(rt: HostRuntime) {
+    assert!(rt; holds(&rt, root_data_is_copied));
 }

@@ -1,5 +1,6 @@
 //! Signers over backends in memory that count how often they are asked.
 use jj_backend::signing::SignError;
+use jj_content_tests::once_more::succeeds;
 use jj_ids::object_id::CommitId;
 use jj_paths::file_util::{SourceError, SourceKind};
 use jj_stores::signing::{SigStatus, SignResult, Signer, SigningBackend, Verification};
@@ -8,6 +9,7 @@ use std::cell::Cell;
 use std::num::NonZeroUsize;
 use std::process::Abort;
 use std::rc::Rc;
+use std::test::Fail;
 
 // What a backend in memory does with a signature.
 #[derive(Clone, Copy)]
@@ -117,13 +119,8 @@ fn asks_in_turn<R: Abort>(rt: &R, alloc: Global) -> Result<(), SignError> {
 }
 
 #[test]
-fn backends_in_turn(rt: HostRuntime) {
-    let alloc = rt.alloc();
-    assert!(rt;
-        asks_in_turn(&rt, alloc)
-            .or_else(|_| asks_in_turn(&rt, alloc))
-            .is_ok()
-    );
+fn backends_in_turn(rt: HostRuntime) -> Result<(), Fail> {
+    succeeds(&rt, asks_in_turn)
 }
 
 // A backend whose failure is the answer, and is not remembered.
@@ -146,13 +143,8 @@ fn hands_failures_on<R: Abort>(rt: &R, alloc: Global) -> Result<(), SignError> {
 }
 
 #[test]
-fn failures_are_not_remembered(rt: HostRuntime) {
-    let alloc = rt.alloc();
-    assert!(rt;
-        hands_failures_on(&rt, alloc)
-            .or_else(|_| hands_failures_on(&rt, alloc))
-            .is_ok()
-    );
+fn failures_are_not_remembered(rt: HostRuntime) -> Result<(), Fail> {
+    succeeds(&rt, hands_failures_on)
 }
 
 // How often a good backend is asked about these commits, one after the other.
@@ -194,13 +186,8 @@ fn remembers<R: Abort>(rt: &R, alloc: Global) -> Result<(), SignError> {
 }
 
 #[test]
-fn as_many_as_there_is_room_for(rt: HostRuntime) {
-    let alloc = rt.alloc();
-    assert!(rt;
-        remembers(&rt, alloc)
-            .or_else(|_| remembers(&rt, alloc))
-            .is_ok()
-    );
+fn as_many_as_there_is_room_for(rt: HostRuntime) -> Result<(), Fail> {
+    succeeds(&rt, remembers)
 }
 
 fn signs<R: Abort>(rt: &R, alloc: Global) -> Result<(), SignError> {
@@ -220,7 +207,6 @@ fn signs<R: Abort>(rt: &R, alloc: Global) -> Result<(), SignError> {
 }
 
 #[test]
-fn the_main_backend_signs(rt: HostRuntime) {
-    let alloc = rt.alloc();
-    assert!(rt; signs(&rt, alloc).or_else(|_| signs(&rt, alloc)).is_ok());
+fn the_main_backend_signs(rt: HostRuntime) -> Result<(), Fail> {
+    succeeds(&rt, signs)
 }

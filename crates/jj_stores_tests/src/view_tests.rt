@@ -1,13 +1,12 @@
 //! A view with something in each part: its content bytes, and its copies.
 use jj_backend::backend::CommitId;
 use jj_content_tests::content_texts::content_text;
+use jj_content_tests::once_more::{holds, tells};
 use jj_ids::ref_name::{GitRefNameBuf, RefNameBuf, RemoteNameBuf, WorkspaceNameBuf};
 use jj_merges::merge::Merge;
 use jj_stores::op_store::{RefTarget, RemoteRef, RemoteRefState, RemoteView, View};
 use std::alloc::{AllocError, Global};
 use std::collections::BTreeMap;
-use std::process::Abort;
-use std::test::Fail;
 
 fn commit(alloc: Global, byte: u8) -> Result<CommitId, AllocError> {
     CommitId::from_bytes(alloc, &[byte])
@@ -67,11 +66,12 @@ fn content(alloc: Global) -> Result<String, AllocError> {
 // Heads; local bookmarks, local tags; views of remotes, each with its bookmarks and tags; refs of
 // Git; heads of Git, commits of workspaces.
 #[test]
-fn a_view_is_its_parts(rt: HostRuntime) -> Result<(), Fail> {
-    let text = content(rt.alloc()).or_else(|_| content(rt.alloc()))?;
-    assert_eq!(rt;
-        text.as_str(),
-        "0100000000000000010000000000000007\
+fn a_view_is_its_parts(rt: HostRuntime) {
+    assert!(rt;
+        tells(
+            &rt,
+            content,
+            "0100000000000000010000000000000007\
          010000000000000001000000000000006101000000000000000100000001000000000000000\
          1\
          010000000000000001000000000000006201000000000000000100000001000000000000000\
@@ -84,9 +84,9 @@ fn a_view_is_its_parts(rt: HostRuntime) -> Result<(), Fail> {
          4\
          010000000000000001000000000000006601000000000000000100000001000000000000000\
          5\
-         0100000000000000010000000000000067010000000000000006"
+         0100000000000000010000000000000067010000000000000006",
+        )
     );
-    Ok(())
 }
 
 fn is_copied(alloc: Global) -> Result<bool, AllocError> {
@@ -98,8 +98,6 @@ fn is_copied(alloc: Global) -> Result<bool, AllocError> {
 }
 
 #[test]
-fn a_copy_of_a_view_is_equal(rt: HostRuntime) -> Result<(), Fail> {
-    let alloc = rt.alloc();
-    assert!(rt; is_copied(alloc).or_else(|_| is_copied(alloc))?);
-    Ok(())
+fn a_copy_of_a_view_is_equal(rt: HostRuntime) {
+    assert!(rt; holds(&rt, is_copied));
 }

@@ -1,0 +1,52 @@
+//! Tests that take memory: what memory was refused to is done once more.
+use std::alloc::{AllocError, Global};
+use std::fmt::Debug;
+use std::test::Fail;
+
+/// Whether the text that is made is the wanted one.
+pub fn tells<R, F>(rt: &R, made: F, wanted: &str) -> bool
+where
+    R: AllocGlobal,
+    F: Fn(Global) -> Result<String, AllocError>,
+    requires { F.IsAlwaysCallable made }
+{
+    let alloc = rt.alloc();
+    match made(alloc).or_else(|_| made(alloc)) {
+        Ok(text) => text.as_str() == wanted,
+        Err(AllocError) => false,
+    }
+}
+
+/// Whether a claim is true.
+pub fn holds<R, F>(rt: &R, claim: F) -> bool
+where
+    R: AllocGlobal,
+    F: Fn(Global) -> Result<bool, AllocError>,
+    requires { F.IsAlwaysCallable claim }
+{
+    let alloc = rt.alloc();
+    claim(alloc).or_else(|_| claim(alloc)) == Ok(true)
+}
+
+/// Runs a test.
+pub fn passes<R, F>(rt: &R, test: F) -> Result<(), Fail>
+where
+    R: AllocGlobal,
+    F: Fn(&R, Global) -> Result<(), AllocError>,
+    requires { F.IsAlwaysCallable test }
+{
+    succeeds(rt, test)
+}
+
+/// Runs a test that has an error of its own.
+pub fn succeeds<R, E, F>(rt: &R, test: F) -> Result<(), Fail>
+where
+    R: AllocGlobal,
+    E: Debug + Drop,
+    F: Fn(&R, Global) -> Result<(), E>,
+    requires { F.IsAlwaysCallable test }
+{
+    let alloc = rt.alloc();
+    test(rt, alloc).or_else(|_| test(rt, alloc))?;
+    Ok(())
+}
