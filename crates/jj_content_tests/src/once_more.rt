@@ -18,14 +18,15 @@ where
 }
 
 /// Whether a claim is true.
-pub fn holds<R, F>(rt: &R, claim: F) -> bool
+pub fn holds<R, E, F>(rt: &R, claim: F) -> bool
 where
     R: AllocGlobal,
-    F: Fn(Global) -> Result<bool, AllocError>,
+    E: Drop,
+    F: Fn(Global) -> Result<bool, E>,
     requires { F.IsAlwaysCallable claim }
 {
     let alloc = rt.alloc();
-    claim(alloc).or_else(|_| claim(alloc)) == Ok(true)
+    claim(alloc).or_else(|_| claim(alloc)).unwrap_or(false)
 }
 
 /// Runs a test.

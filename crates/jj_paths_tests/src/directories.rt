@@ -1,7 +1,7 @@
 //! Directories in memory, one call of which fails.
 ghost use Rattle.std.specs.Prelude.{◌≡◌, ℕ, Bool, List, Result, Ok, Err, IsTrue};
 
-use crate::fixtures::holds;
+use jj_content_tests::once_more::passes;
 use jj_paths::file_util::{
     DirAccess, IoResultExt, PathError, create_or_reuse_dir, is_empty_dir, remove_dir_contents,
 };
@@ -10,6 +10,7 @@ use std::cell::Cell;
 use std::io;
 use std::io::ErrorKind;
 use std::process::Abort;
+use std::test::Fail;
 
 // One directory, `dir`, with files in it. The call of this number, counted from 0, fails.
 #[derive(Drop)]
@@ -130,8 +131,8 @@ fn creates<R: Abort>(rt: &R, alloc: Global) -> Result<(), AllocError> {
 }
 
 #[test]
-fn directories_are_made_or_used(rt: HostRuntime) {
-    holds(&rt, creates);
+fn directories_are_made_or_used(rt: HostRuntime) -> Result<(), Fail> {
+    passes(&rt, creates)
 }
 
 fn empties_full<R: Abort>(rt: &R, alloc: Global) -> Result<(), AllocError> {
@@ -170,8 +171,8 @@ fn empties<R: Abort>(rt: &R, alloc: Global) -> Result<(), AllocError> {
 }
 
 #[test]
-fn entries_are_removed_up_to_the_first_fault(rt: HostRuntime) {
-    holds(&rt, empties);
+fn entries_are_removed_up_to_the_first_fault(rt: HostRuntime) -> Result<(), Fail> {
+    passes(&rt, empties)
 }
 
 fn tells_empty<R: Abort>(rt: &R, alloc: Global) -> Result<(), AllocError> {
@@ -192,6 +193,6 @@ fn tells_empty<R: Abort>(rt: &R, alloc: Global) -> Result<(), AllocError> {
 }
 
 #[test]
-fn empty_directories(rt: HostRuntime) {
-    holds(&rt, tells_empty);
+fn empty_directories(rt: HostRuntime) -> Result<(), Fail> {
+    passes(&rt, tells_empty)
 }

@@ -1,10 +1,12 @@
 //! Texts of errors that other tests do not show, and errors that become others.
-use crate::fixtures::{holds, name};
+use crate::fixtures::name;
+use jj_content_tests::once_more::passes;
 use jj_paths::repo_path::{
     InvalidNewRepoPathError, InvalidRepoPathComponentError, RepoPathBuf, RepoPathComponent,
 };
 use std::alloc::{AllocError, Global};
 use std::process::Abort;
+use std::test::Fail;
 
 // A path in a box, or why there is none: two requests for memory beside the text's fault.
 fn boxed_path(alloc: Global, text: &str) -> Result<Box<RepoPathBuf>, InvalidNewRepoPathError> {
@@ -29,8 +31,8 @@ fn boxes_paths<R: Abort>(rt: &R, alloc: Global) -> Result<(), AllocError> {
 }
 
 #[test]
-fn paths_in_boxes(rt: HostRuntime) {
-    holds(&rt, boxes_paths);
+fn paths_in_boxes(rt: HostRuntime) -> Result<(), Fail> {
+    passes(&rt, boxes_paths)
 }
 
 // A name as a file's, in a box.
@@ -59,8 +61,8 @@ fn boxes_names<R: Abort>(rt: &R, alloc: Global) -> Result<(), AllocError> {
 }
 
 #[test]
-fn names_in_boxes(rt: HostRuntime) {
-    holds(&rt, boxes_names);
+fn names_in_boxes(rt: HostRuntime) -> Result<(), Fail> {
+    passes(&rt, boxes_names)
 }
 
 #[test]

@@ -27,16 +27,3 @@ pub fn owned<R: Abort>(
 ) -> Result<RepoPathBuf, AllocError> {
     path(rt, alloc, text).to_owned(alloc)
 }
-
-/// A test holds, or, where memory was refused, holds once there is memory.
-pub fn holds<R, F>(rt: &R, test: F)
-where
-    R: Abort + AllocGlobal,
-    F: Fn(&R, Global) -> Result<(), AllocError>,
-    requires { F.IsAlwaysCallable test }
-{
-    let alloc = rt.alloc();
-    if test(rt, alloc).is_err() {
-        assert!(rt; test(rt, alloc).is_ok());
-    }
-}

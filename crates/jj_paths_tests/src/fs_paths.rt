@@ -1,12 +1,14 @@
 //! Repo paths below directories of the file system, and relative paths of the file system as repo
 //! paths.
-use crate::fixtures::{holds, path};
+use crate::fixtures::path;
+use jj_content_tests::once_more::passes;
 use jj_paths::repo_path::{
     InvalidRepoPathComponentError, InvalidRepoPathError, RelativePathParseError, RepoPath,
     RepoPathBuf,
 };
 use std::alloc::{AllocError, Global};
 use std::process::Abort;
+use std::test::Fail;
 
 // a repo path, a base, and the path below it
 const BELOW: [[&str; 3]; 5] = [
@@ -58,8 +60,8 @@ fn goes_below<R: Abort>(rt: &R, alloc: Global) -> Result<(), AllocError> {
 }
 
 #[test]
-fn below_a_base(rt: HostRuntime) {
-    holds(&rt, goes_below);
+fn below_a_base(rt: HostRuntime) -> Result<(), Fail> {
+    passes(&rt, goes_below)
 }
 
 fn refuses_dots<R: Abort>(rt: &R, alloc: Global) -> Result<(), AllocError> {
@@ -84,8 +86,8 @@ fn refuses_dots<R: Abort>(rt: &R, alloc: Global) -> Result<(), AllocError> {
 }
 
 #[test]
-fn names_that_are_dots(rt: HostRuntime) {
-    holds(&rt, refuses_dots);
+fn names_that_are_dots(rt: HostRuntime) -> Result<(), Fail> {
+    passes(&rt, refuses_dots)
 }
 
 // a relative path, and the repo path
@@ -112,8 +114,8 @@ fn reads_relative<R: Abort>(rt: &R, alloc: Global) -> Result<(), AllocError> {
 }
 
 #[test]
-fn relative_paths(rt: HostRuntime) {
-    holds(&rt, reads_relative);
+fn relative_paths(rt: HostRuntime) -> Result<(), Fail> {
+    passes(&rt, reads_relative)
 }
 
 // a path that is refused, and the component that is no name, or nothing where a name is no text
@@ -159,6 +161,6 @@ fn refuses_relative<R: Abort>(rt: &R, alloc: Global) -> Result<(), AllocError> {
 }
 
 #[test]
-fn no_relative_paths(rt: HostRuntime) {
-    holds(&rt, refuses_relative);
+fn no_relative_paths(rt: HostRuntime) -> Result<(), Fail> {
+    passes(&rt, refuses_relative)
 }

@@ -1,10 +1,12 @@
 //! Equality, order and hashes of names and paths.
-use crate::fixtures::{holds, name, owned, path};
+use crate::fixtures::{name, owned, path};
+use jj_content_tests::once_more::passes;
 use jj_paths::repo_path::RepoPathComponent;
 use std::alloc::{AllocError, Global};
 use std::cmp::Ordering;
 use std::collections::HashSet;
 use std::process::Abort;
+use std::test::Fail;
 
 #[test]
 fn paths_name_by_name(rt: HostRuntime) {
@@ -74,8 +76,8 @@ fn owned_as_borrowed<R: Abort>(rt: &R, alloc: Global) -> Result<(), AllocError> 
 }
 
 #[test]
-fn owned_paths_and_names(rt: HostRuntime) {
-    holds(&rt, owned_as_borrowed);
+fn owned_paths_and_names(rt: HostRuntime) -> Result<(), Fail> {
+    passes(&rt, owned_as_borrowed)
 }
 
 fn sets_of_paths<R: Abort>(rt: &R, alloc: Global) -> Result<(), AllocError> {
@@ -108,6 +110,6 @@ fn sets_of_borrowed_paths<R: Abort>(rt: &R, alloc: Global) -> Result<(), AllocEr
 }
 
 #[test]
-fn hashed_paths_and_names(rt: HostRuntime) {
-    holds(&rt, sets_of_paths);
+fn hashed_paths_and_names(rt: HostRuntime) -> Result<(), Fail> {
+    passes(&rt, sets_of_paths)
 }

@@ -1,8 +1,9 @@
 //! Paths of the file system made of the components of others: normal forms, and ways between two.
-use crate::fixtures::holds;
+use jj_content_tests::once_more::passes;
 use jj_paths::file_util::{normalize_path, relative_path};
 use std::alloc::{AllocError, Global};
 use std::process::Abort;
+use std::test::Fail;
 
 // a path, and the path without what falls out of it
 const NORMAL_FORMS: [(&str, &str); 16] = [
@@ -33,8 +34,8 @@ fn normalizes<R: Abort>(rt: &R, alloc: Global) -> Result<(), AllocError> {
 }
 
 #[test]
-fn normal_forms(rt: HostRuntime) {
-    holds(&rt, normalizes);
+fn normal_forms(rt: HostRuntime) -> Result<(), Fail> {
+    passes(&rt, normalizes)
 }
 
 // a directory, a path, and the way from the one to the other
@@ -74,6 +75,6 @@ fn leads<R: Abort>(rt: &R, alloc: Global) -> Result<(), AllocError> {
 }
 
 #[test]
-fn ways(rt: HostRuntime) {
-    holds(&rt, leads);
+fn ways(rt: HostRuntime) -> Result<(), Fail> {
+    passes(&rt, leads)
 }

@@ -1,10 +1,11 @@
 //! Texts of paths of the file system: their bytes, and paths below the home directory.
-use crate::fixtures::holds;
+use jj_content_tests::once_more::passes;
 use jj_paths::file_util::{
     BadPathEncoding, expand_home_path, path_from_bytes, path_to_bytes, slash_path,
 };
 use std::alloc::{AllocError, Global};
 use std::process::Abort;
+use std::test::Fail;
 
 #[test]
 fn bytes_of_paths(rt: HostRuntime) {
@@ -53,6 +54,6 @@ fn expands<R: Abort>(rt: &R, alloc: Global) -> Result<(), AllocError> {
 }
 
 #[test]
-fn homes(rt: HostRuntime) {
-    holds(&rt, expands);
+fn homes(rt: HostRuntime) -> Result<(), Fail> {
+    passes(&rt, expands)
 }

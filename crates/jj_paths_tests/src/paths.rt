@@ -1,8 +1,10 @@
 //! Paths as lists of names: joined, split, stripped and walked.
-use crate::fixtures::{holds, name, owned, path};
+use crate::fixtures::{name, owned, path};
+use jj_content_tests::once_more::passes;
 use jj_paths::repo_path::{RepoPath, RepoPathBuf, RepoPathComponent};
 use std::alloc::{AllocError, Global};
 use std::process::Abort;
+use std::test::Fail;
 
 #[test]
 fn roots(rt: HostRuntime) {
@@ -104,8 +106,8 @@ fn joins_names<R: Abort>(rt: &R, alloc: Global) -> Result<(), AllocError> {
 }
 
 #[test]
-fn joins(rt: HostRuntime) {
-    holds(&rt, joins_names);
+fn joins(rt: HostRuntime) -> Result<(), Fail> {
+    passes(&rt, joins_names)
 }
 
 // The names are added, or the path is as it was.
@@ -248,6 +250,6 @@ fn copies_of<R: Abort>(rt: &R, alloc: Global) -> Result<(), AllocError> {
 }
 
 #[test]
-fn copies(rt: HostRuntime) {
-    holds(&rt, copies_of);
+fn copies(rt: HostRuntime) -> Result<(), Fail> {
+    passes(&rt, copies_of)
 }

@@ -1,10 +1,12 @@
 //! Texts that are paths and names, texts that are not, and how all are shown.
-use crate::fixtures::{holds, name, owned, path};
+use crate::fixtures::{name, owned, path};
+use jj_content_tests::once_more::passes;
 use jj_paths::repo_path::{
     InvalidNewRepoPathError, RepoPath, RepoPathBuf, RepoPathComponent, RepoPathComponentBuf,
 };
 use std::alloc::{AllocError, Global};
 use std::process::Abort;
+use std::test::Fail;
 
 const NO_PATHS: [&str; 8] = ["/", "/x", "x/", "x//y", "/a", "a/", "a//b", "//"];
 
@@ -36,8 +38,8 @@ fn refuses_paths<R: Abort>(rt: &R, alloc: Global) -> Result<(), AllocError> {
 }
 
 #[test]
-fn no_paths(rt: HostRuntime) {
-    holds(&rt, refuses_paths);
+fn no_paths(rt: HostRuntime) -> Result<(), Fail> {
+    passes(&rt, refuses_paths)
 }
 
 fn refuses_names<R: Abort>(rt: &R, alloc: Global) -> Result<(), AllocError> {
@@ -50,8 +52,8 @@ fn refuses_names<R: Abort>(rt: &R, alloc: Global) -> Result<(), AllocError> {
 }
 
 #[test]
-fn no_names(rt: HostRuntime) {
-    holds(&rt, refuses_names);
+fn no_names(rt: HostRuntime) -> Result<(), Fail> {
+    passes(&rt, refuses_names)
 }
 
 fn reads_paths<R: Abort>(rt: &R, alloc: Global) -> Result<(), AllocError> {
@@ -72,8 +74,8 @@ fn reads_paths<R: Abort>(rt: &R, alloc: Global) -> Result<(), AllocError> {
 }
 
 #[test]
-fn paths_and_names(rt: HostRuntime) {
-    holds(&rt, reads_paths);
+fn paths_and_names(rt: HostRuntime) -> Result<(), Fail> {
+    passes(&rt, reads_paths)
 }
 
 fn writes_directories<R: Abort>(rt: &R, alloc: Global) -> Result<(), AllocError> {
@@ -90,8 +92,8 @@ fn writes_directories<R: Abort>(rt: &R, alloc: Global) -> Result<(), AllocError>
 }
 
 #[test]
-fn directories(rt: HostRuntime) {
-    holds(&rt, writes_directories);
+fn directories(rt: HostRuntime) -> Result<(), Fail> {
+    passes(&rt, writes_directories)
 }
 
 fn shows_errors<R: Abort>(rt: &R, alloc: Global) -> Result<(), AllocError> {
@@ -110,8 +112,8 @@ fn shows_errors<R: Abort>(rt: &R, alloc: Global) -> Result<(), AllocError> {
 }
 
 #[test]
-fn errors_shown(rt: HostRuntime) {
-    holds(&rt, shows_errors);
+fn errors_shown(rt: HostRuntime) -> Result<(), Fail> {
+    passes(&rt, shows_errors)
 }
 
 fn shows_paths<R: Abort>(rt: &R, alloc: Global) -> Result<(), AllocError> {
@@ -136,6 +138,6 @@ fn shows_paths<R: Abort>(rt: &R, alloc: Global) -> Result<(), AllocError> {
 }
 
 #[test]
-fn paths_shown(rt: HostRuntime) {
-    holds(&rt, shows_paths);
+fn paths_shown(rt: HostRuntime) -> Result<(), Fail> {
+    passes(&rt, shows_paths)
 }

@@ -1,9 +1,11 @@
 //! Trees of values at paths.
-use crate::fixtures::{holds, name, path};
+use crate::fixtures::{name, path};
+use jj_content_tests::once_more::passes;
 use jj_paths::repo_path::{RepoPath, RepoPathBuf, RepoPathComponentBuf};
 use jj_paths::repo_path_tree::RepoPathTree;
 use std::alloc::{AllocError, Global};
 use std::process::Abort;
+use std::test::Fail;
 
 // A tree with 1 at `a`, 2 at `a/b` and 3 at `c/d`, and so 0 at the root and at `c`.
 fn small_tree<R: Abort>(rt: &R, alloc: Global) -> Result<RepoPathTree<u32>, AllocError> {
@@ -61,8 +63,8 @@ fn reads_values<R: Abort>(rt: &R, alloc: Global) -> Result<(), AllocError> {
 }
 
 #[test]
-fn values(rt: HostRuntime) {
-    holds(&rt, reads_values);
+fn values(rt: HostRuntime) -> Result<(), Fail> {
+    passes(&rt, reads_values)
 }
 
 fn lists_children<R: Abort>(rt: &R, alloc: Global) -> Result<(), AllocError> {
@@ -94,12 +96,12 @@ fn lists_children<R: Abort>(rt: &R, alloc: Global) -> Result<(), AllocError> {
 }
 
 #[test]
-fn children(rt: HostRuntime) {
-    holds(&rt, lists_children);
+fn children(rt: HostRuntime) -> Result<(), Fail> {
+    passes(&rt, lists_children)
 }
 
 // A walk to a path passes these values, each with the rest of the way, and goes on answering none.
-fn passes<R: Abort>(
+fn walk_passes<R: Abort>(
     rt: &R,
     alloc: Global,
     tree: &RepoPathTree<u32>,
@@ -122,14 +124,14 @@ fn passes<R: Abort>(
 
 fn walks_to_paths<R: Abort>(rt: &R, alloc: Global) -> Result<(), AllocError> {
     let tree = small_tree(rt, alloc)?;
-    passes(rt, alloc, &tree, "a/b", &[(0, "a/b"), (1, "b"), (2, "")]);
-    passes(rt, alloc, &tree, "c/x/y", &[(0, "c/x/y"), (0, "x/y")]);
+    walk_passes(rt, alloc, &tree, "a/b", &[(0, "a/b"), (1, "b"), (2, "")]);
+    walk_passes(rt, alloc, &tree, "c/x/y", &[(0, "c/x/y"), (0, "x/y")]);
     Ok(())
 }
 
 #[test]
-fn walks(rt: HostRuntime) {
-    holds(&rt, walks_to_paths);
+fn walks(rt: HostRuntime) -> Result<(), Fail> {
+    passes(&rt, walks_to_paths)
 }
 
 fn copies_trees<R: Abort>(rt: &R, alloc: Global) -> Result<(), AllocError> {
@@ -141,8 +143,8 @@ fn copies_trees<R: Abort>(rt: &R, alloc: Global) -> Result<(), AllocError> {
 }
 
 #[test]
-fn copies(rt: HostRuntime) {
-    holds(&rt, copies_trees);
+fn copies(rt: HostRuntime) -> Result<(), Fail> {
+    passes(&rt, copies_trees)
 }
 
 fn shows_trees<R: Abort>(rt: &R, alloc: Global) -> Result<(), AllocError> {
@@ -156,8 +158,8 @@ fn shows_trees<R: Abort>(rt: &R, alloc: Global) -> Result<(), AllocError> {
 }
 
 #[test]
-fn trees_shown(rt: HostRuntime) {
-    holds(&rt, shows_trees);
+fn trees_shown(rt: HostRuntime) -> Result<(), Fail> {
+    passes(&rt, shows_trees)
 }
 
 // Where `add` is refused, each value is kept, and what is new on the way has the default value.
@@ -200,8 +202,8 @@ fn compares_trees<R: Abort>(rt: &R, alloc: Global) -> Result<(), AllocError> {
 
 // Trees are equal by their paths and values, however they were made.
 #[test]
-fn equality(rt: HostRuntime) {
-    holds(&rt, compares_trees);
+fn equality(rt: HostRuntime) -> Result<(), Fail> {
+    passes(&rt, compares_trees)
 }
 
 fn clones_texts<R: Abort>(rt: &R, alloc: Global) -> Result<(), AllocError> {
@@ -223,8 +225,8 @@ fn clones_texts<R: Abort>(rt: &R, alloc: Global) -> Result<(), AllocError> {
 
 // Values may be texts, which are equal to their clones and not the same.
 #[test]
-fn clones_of_texts(rt: HostRuntime) {
-    holds(&rt, clones_texts);
+fn clones_of_texts(rt: HostRuntime) -> Result<(), Fail> {
+    passes(&rt, clones_texts)
 }
 
 // A name of four digits, written by the caller's number.
@@ -284,8 +286,8 @@ fn finds_even_alone<R: Abort>(
 }
 
 #[test]
-fn two_thousand_children(rt: HostRuntime) {
-    holds(&rt, adds_in_descending_order);
+fn two_thousand_children(rt: HostRuntime) -> Result<(), Fail> {
+    passes(&rt, adds_in_descending_order)
 }
 
 fn drops_a_deep_tree<R: Abort>(rt: &R, alloc: Global) -> Result<(), AllocError> {
@@ -309,6 +311,6 @@ fn drops_a_deep_tree<R: Abort>(rt: &R, alloc: Global) -> Result<(), AllocError> 
 
 // A tree is dropped by a loop, and not by a recursion as deep as the tree.
 #[test]
-fn deep_trees(rt: HostRuntime) {
-    holds(&rt, drops_a_deep_tree);
+fn deep_trees(rt: HostRuntime) -> Result<(), Fail> {
+    passes(&rt, drops_a_deep_tree)
 }

@@ -1,8 +1,10 @@
 //! Expressions of patterns: how they are put together, and which strings they hold.
-use crate::fixtures::{passes, pattern, shows};
+use crate::fixtures::{pattern, shows};
+use jj_content_tests::once_more::passes;
 use jj_strings::str_util::StringExpression;
 use std::alloc::{AllocError, Global};
 use std::process::Abort;
+use std::test::Fail;
 
 fn exact(alloc: Global, text: &str) -> Result<StringExpression, AllocError> {
     StringExpression::exact(alloc, String::from_str(alloc, text)?)
@@ -39,8 +41,8 @@ fn unions<R: Abort>(rt: &R, alloc: Global) -> Result<(), AllocError> {
 }
 
 #[test]
-fn unions_of_halves(rt: HostRuntime) {
-    passes(&rt, unions);
+fn unions_of_halves(rt: HostRuntime) -> Result<(), Fail> {
+    passes(&rt, unions)
 }
 
 // Checks which of the strings an expression holds.
@@ -96,8 +98,8 @@ fn compounds<R: Abort>(rt: &R, alloc: Global) -> Result<(), AllocError> {
 }
 
 #[test]
-fn sets_of_expressions(rt: HostRuntime) {
-    passes(&rt, compounds);
+fn sets_of_expressions(rt: HostRuntime) -> Result<(), Fail> {
+    passes(&rt, compounds)
 }
 
 // A regular expression takes memory on the left and on the right.
@@ -121,8 +123,8 @@ fn regex_compounds<R: Abort>(rt: &R, alloc: Global) -> Result<(), AllocError> {
 }
 
 #[test]
-fn sets_of_regex_expressions(rt: HostRuntime) {
-    passes(&rt, regex_compounds);
+fn sets_of_regex_expressions(rt: HostRuntime) -> Result<(), Fail> {
+    passes(&rt, regex_compounds)
 }
 
 // Checks the debug form of an expression's matcher.
@@ -154,8 +156,8 @@ fn matchers<R: Abort>(rt: &R, alloc: Global) -> Result<(), AllocError> {
 }
 
 #[test]
-fn expressions_to_matchers(rt: HostRuntime) {
-    passes(&rt, matchers);
+fn expressions_to_matchers(rt: HostRuntime) -> Result<(), Fail> {
+    passes(&rt, matchers)
 }
 
 // The text `a`, what has `b` in it, and the text `c` if it is not `d`.
@@ -181,6 +183,6 @@ fn exact_texts<R: Abort>(rt: &R, alloc: Global) -> Result<(), AllocError> {
 }
 
 #[test]
-fn texts_in_an_expression(rt: HostRuntime) {
-    passes(&rt, exact_texts);
+fn texts_in_an_expression(rt: HostRuntime) -> Result<(), Fail> {
+    passes(&rt, exact_texts)
 }

@@ -1,5 +1,4 @@
-//! Patterns of literal texts, what their debug forms and iterators give, and tests that take
-//! memory.
+//! Patterns of literal texts, and what their debug forms and iterators give.
 ghost use Rattle.std.specs.Iterator.{IsFinite};
 
 use jj_strings::str_util::{StringMatcher, StringPattern, StringPatternParseError};
@@ -64,17 +63,4 @@ pub fn items<R: Abort, T: Drop, I: Iterator<Item = Result<T, AllocError>> + Drop
         return Err(AllocError);
     }
     Ok(items)
-}
-
-/// Runs a test. Where it was refused memory, it runs once more.
-pub fn passes<R, F>(rt: &R, test: F)
-where
-    R: Abort + AllocGlobal,
-    F: Fn(&R, Global) -> Result<(), AllocError>,
-    requires { F.IsAlwaysCallable test }
-{
-    let alloc = rt.alloc();
-    if test(rt, alloc).is_err() {
-        assert!(rt; test(rt, alloc).is_ok());
-    }
 }

@@ -1,8 +1,10 @@
 //! Patterns as matchers, as globs and as regular expressions.
-use crate::fixtures::{matcher, passes, pattern, shows};
+use crate::fixtures::{matcher, pattern, shows};
+use jj_content_tests::once_more::passes;
 use jj_strings::str_util::{StringMatcher, StringPattern};
 use std::alloc::{AllocError, Global};
 use std::process::Abort;
+use std::test::Fail;
 
 // Kind, text, and the debug form of the matcher.
 const MATCHERS: [(&str, &str, &str); 23] = [
@@ -43,8 +45,8 @@ fn matchers<R: Abort>(rt: &R, alloc: Global) -> Result<(), AllocError> {
 }
 
 #[test]
-fn patterns_to_matchers(rt: HostRuntime) {
-    passes(&rt, matchers);
+fn patterns_to_matchers(rt: HostRuntime) -> Result<(), Fail> {
+    passes(&rt, matchers)
 }
 
 // Strings on which two sets are compared.
@@ -118,8 +120,8 @@ fn agree<R: Abort>(
 }
 
 #[test]
-fn patterns_to_globs(rt: HostRuntime) {
-    passes(&rt, to_globs);
+fn patterns_to_globs(rt: HostRuntime) -> Result<(), Fail> {
+    passes(&rt, to_globs)
 }
 
 // Whether the regular expression of the pattern has a match in the string.
@@ -170,8 +172,8 @@ fn to_regexes<R: Abort>(rt: &R, alloc: Global) -> Result<(), AllocError> {
 }
 
 #[test]
-fn patterns_to_regexes(rt: HostRuntime) {
-    passes(&rt, to_regexes);
+fn patterns_to_regexes(rt: HostRuntime) -> Result<(), Fail> {
+    passes(&rt, to_regexes)
 }
 
 // On these strings a pattern and its regular expression agree.
@@ -210,6 +212,6 @@ fn same_sets<R: Abort>(rt: &R, alloc: Global) -> Result<(), AllocError> {
 }
 
 #[test]
-fn regexes_match_as_patterns(rt: HostRuntime) {
-    passes(&rt, same_sets);
+fn regexes_match_as_patterns(rt: HostRuntime) -> Result<(), Fail> {
+    passes(&rt, same_sets)
 }

@@ -1,7 +1,9 @@
 //! The lines that a matcher finds.
-use crate::fixtures::{items, matcher, passes};
+use crate::fixtures::{items, matcher};
+use jj_content_tests::once_more::passes;
 use std::alloc::{AllocError, Global};
 use std::process::Abort;
+use std::test::Fail;
 
 // Kind and text of a pattern, a text, and the lines that are found in it.
 type Row = (
@@ -41,8 +43,8 @@ const LINES: [Row; 14] = [
 ];
 
 #[test]
-fn lines_of_a_text(rt: HostRuntime) {
-    passes(&rt, |rt, alloc| lines(rt, alloc, &LINES));
+fn lines_of_a_text(rt: HostRuntime) -> Result<(), Fail> {
+    passes(&rt, |rt, alloc| lines(rt, alloc, &LINES))
 }
 
 // Memory may be refused at each line.
@@ -53,6 +55,6 @@ const REGEX_LINES: [Row; 3] = [
 ];
 
 #[test]
-fn lines_of_a_regex(rt: HostRuntime) {
-    passes(&rt, |rt, alloc| lines(rt, alloc, &REGEX_LINES));
+fn lines_of_a_regex(rt: HostRuntime) -> Result<(), Fail> {
+    passes(&rt, |rt, alloc| lines(rt, alloc, &REGEX_LINES))
 }

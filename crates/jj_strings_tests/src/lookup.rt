@@ -5,7 +5,8 @@ ghost use Rattle.std.specs.Cmp;
 ghost use Rattle.std.specs.Ordering.{nat_cmp};
 ghost use Rattle.std.specs.Cmp.Lexicographic.{slice_cmp, nat_list_eq_equiv, nat_list_cmp_total, texts_po, texts_ties};
 
-use crate::fixtures::{items, matcher, passes};
+use crate::fixtures::{items, matcher};
+use jj_content_tests::once_more::passes;
 use jj_strings::str_util::{StringMatcher, TextKey};
 use std::alloc::{AllocError, Global};
 use std::cell::Cell;
@@ -13,6 +14,7 @@ use std::cmp::Ordering;
 use std::collections::BTreeMap;
 use std::marker::Model;
 use std::process::Abort;
+use std::test::Fail;
 
 // A text, and how often it was asked for.
 #[derive(Drop)]
@@ -110,6 +112,6 @@ fn look_up<R: Abort>(rt: &R, alloc: Global) -> Result<(), AllocError> {
 }
 
 #[test]
-fn exact_texts_are_looked_up(rt: HostRuntime) {
-    passes(&rt, look_up);
+fn exact_texts_are_looked_up(rt: HostRuntime) -> Result<(), Fail> {
+    passes(&rt, look_up)
 }

@@ -2,12 +2,14 @@
 //! brings.
 ghost use Rattle.std.specs.Iterator.{IsFinite};
 
-use crate::fixtures::{items, matcher, passes, shows};
+use crate::fixtures::{items, matcher, shows};
+use jj_content_tests::once_more::passes;
 use jj_ids::ref_name::{GitRefNameBuf, RefNameBuf, RemoteNameBuf, WorkspaceNameBuf};
 use jj_strings::str_util::{BytePredicate, ByteTest, StringMatcher, TextKey};
 use std::alloc::{AllocError, Global};
 use std::collections::BTreeMap;
 use std::process::Abort;
+use std::test::Fail;
 
 // A map with these texts as keys, each with its place among them.
 fn numbered<K: TextKey>(alloc: Global, texts: &[&str]) -> Result<BTreeMap<K, usize>, AllocError> {
@@ -81,8 +83,8 @@ fn filters<R: Abort, K: TextKey>(rt: &R, alloc: Global) -> Result<(), AllocError
 }
 
 #[test]
-fn maps_by_texts(rt: HostRuntime) {
-    passes(&rt, filters::<_, String>);
+fn maps_by_texts(rt: HostRuntime) -> Result<(), Fail> {
+    passes(&rt, filters::<_, String>)
 }
 
 fn name_filters<R: Abort>(rt: &R, alloc: Global) -> Result<(), AllocError> {
@@ -93,8 +95,8 @@ fn name_filters<R: Abort>(rt: &R, alloc: Global) -> Result<(), AllocError> {
 }
 
 #[test]
-fn maps_by_names(rt: HostRuntime) {
-    passes(&rt, name_filters);
+fn maps_by_names(rt: HostRuntime) -> Result<(), Fail> {
+    passes(&rt, name_filters)
 }
 
 // A predicate that the caller brings is asked of the bytes themselves.
@@ -115,6 +117,6 @@ fn predicates<R: Abort>(rt: &R, alloc: Global) -> Result<(), AllocError> {
 }
 
 #[test]
-fn predicates_of_callers(rt: HostRuntime) {
-    passes(&rt, predicates);
+fn predicates_of_callers(rt: HostRuntime) -> Result<(), Fail> {
+    passes(&rt, predicates)
 }

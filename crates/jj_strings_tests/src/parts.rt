@@ -1,7 +1,9 @@
 //! Parts without regard to case that are long, overlap themselves, or stand late in a long text.
-use crate::fixtures::{matcher, passes};
+use crate::fixtures::matcher;
+use jj_content_tests::once_more::passes;
 use std::alloc::{AllocError, Global};
 use std::process::Abort;
+use std::test::Fail;
 
 // So many times the letter, and then an end.
 fn letters(alloc: Global, letter: &str, times: u32, end: &str) -> Result<String, AllocError> {
@@ -26,8 +28,8 @@ fn around_seams<R: Abort>(rt: &R, alloc: Global) -> Result<(), AllocError> {
 }
 
 #[test]
-fn parts_around_seams(rt: HostRuntime) {
-    passes(&rt, around_seams);
+fn parts_around_seams(rt: HostRuntime) -> Result<(), Fail> {
+    passes(&rt, around_seams)
 }
 
 // Parts of so many letters and one more.
@@ -51,8 +53,8 @@ fn long_parts<R: Abort>(rt: &R, alloc: Global) -> Result<(), AllocError> {
 }
 
 #[test]
-fn parts_that_are_long(rt: HostRuntime) {
-    passes(&rt, long_parts);
+fn parts_that_are_long(rt: HostRuntime) -> Result<(), Fail> {
+    passes(&rt, long_parts)
 }
 
 // What a part repeats and what it ends with, both also in capitals, and another end. In texts of
@@ -106,6 +108,6 @@ fn very_long_parts<R: Abort>(rt: &R, alloc: Global) -> Result<(), AllocError> {
 }
 
 #[test]
-fn parts_that_are_very_long(rt: HostRuntime) {
-    passes(&rt, very_long_parts);
+fn parts_that_are_very_long(rt: HostRuntime) -> Result<(), Fail> {
+    passes(&rt, very_long_parts)
 }

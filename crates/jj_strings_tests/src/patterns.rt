@@ -1,8 +1,10 @@
 //! Patterns of each kind: how a text is read as one, and which strings its set holds.
-use crate::fixtures::{matcher, passes, pattern, shows};
+use crate::fixtures::{matcher, pattern, shows};
+use jj_content_tests::once_more::passes;
 use jj_strings::str_util::{StringPattern, StringPatternParseError};
 use std::alloc::{AllocError, Global};
 use std::process::Abort;
+use std::test::Fail;
 
 // Kind, text, the debug form of the pattern, whether its set is seen to be everything, and the one
 // text of an exact pattern.
@@ -58,8 +60,8 @@ fn kinds<R: Abort>(rt: &R, alloc: Global) -> Result<(), AllocError> {
 }
 
 #[test]
-fn texts_of_a_kind(rt: HostRuntime) {
-    passes(&rt, kinds);
+fn texts_of_a_kind(rt: HostRuntime) -> Result<(), Fail> {
+    passes(&rt, kinds)
 }
 
 // Kind, text, and how the debug form and the text of the error begin.
@@ -130,8 +132,8 @@ fn faults<R: Abort>(rt: &R, alloc: Global) -> Result<(), AllocError> {
 }
 
 #[test]
-fn texts_of_no_kind(rt: HostRuntime) {
-    passes(&rt, faults);
+fn texts_of_no_kind(rt: HostRuntime) -> Result<(), Fail> {
+    passes(&rt, faults)
 }
 
 // Kind, text, a string, and whether the set holds it.
@@ -179,8 +181,8 @@ const TEXTS: [Row; 21] = [
 ];
 
 #[test]
-fn sets_of_texts(rt: HostRuntime) {
-    passes(&rt, |rt, alloc| sets(rt, alloc, &TEXTS));
+fn sets_of_texts(rt: HostRuntime) -> Result<(), Fail> {
+    passes(&rt, |rt, alloc| sets(rt, alloc, &TEXTS))
 }
 
 const GLOBS: [Row; 31] = [
@@ -218,8 +220,8 @@ const GLOBS: [Row; 31] = [
 ];
 
 #[test]
-fn sets_of_globs(rt: HostRuntime) {
-    passes(&rt, |rt, alloc| sets(rt, alloc, &GLOBS));
+fn sets_of_globs(rt: HostRuntime) -> Result<(), Fail> {
+    passes(&rt, |rt, alloc| sets(rt, alloc, &GLOBS))
 }
 
 // Regular expressions are read as Unicode unless they say otherwise.
@@ -239,8 +241,8 @@ const REGEXES: [Row; 12] = [
 ];
 
 #[test]
-fn sets_of_regexes(rt: HostRuntime) {
-    passes(&rt, |rt, alloc| sets(rt, alloc, &REGEXES));
+fn sets_of_regexes(rt: HostRuntime) -> Result<(), Fail> {
+    passes(&rt, |rt, alloc| sets(rt, alloc, &REGEXES))
 }
 
 // Bytes, some of which are no text.
@@ -269,6 +271,6 @@ fn bytes<R: Abort>(rt: &R, alloc: Global) -> Result<(), AllocError> {
 }
 
 #[test]
-fn sets_of_bytes(rt: HostRuntime) {
-    passes(&rt, bytes);
+fn sets_of_bytes(rt: HostRuntime) -> Result<(), Fail> {
+    passes(&rt, bytes)
 }

@@ -1,8 +1,10 @@
 //! Matchers that are asked string after string.
-use crate::fixtures::{passes, pattern};
+use crate::fixtures::pattern;
+use jj_content_tests::once_more::passes;
 use jj_strings::str_util::{StringExpression, StringMatcher, StringSearcher};
 use std::alloc::{AllocError, Global};
 use std::process::Abort;
+use std::test::Fail;
 
 // What begins with `a` and does not end in `b`, in either case.
 fn starts_alone<R: Abort>(rt: &R, alloc: Global) -> Result<StringMatcher, AllocError> {
@@ -46,6 +48,6 @@ fn asks<R: Abort>(rt: &R, alloc: Global) -> Result<(), AllocError> {
 }
 
 #[test]
-fn strings_one_after_another(rt: HostRuntime) {
-    passes(&rt, asks);
+fn strings_one_after_another(rt: HostRuntime) -> Result<(), Fail> {
+    passes(&rt, asks)
 }

@@ -1,15 +1,14 @@
 //! Commits in memory: signed, unsigned and refused. Contents and ids are those that another program
 //! gives for the same commits.
-use crate::once_more::holds;
 use crate::signers::{Does, Fake, SIGNATURE, new_fake};
 use jj_backend::backend::{Backend, BackendError, BackendResult, Commit, CommitId, SecureSig};
 use jj_content::hex_util::encode_hex;
+use jj_content_tests::once_more::holds;
 use jj_ids::object_id::ObjectId;
 use jj_paths::file_util::SourceKind;
 use jj_trees::memory_backend::MemoryBackend;
 use std::alloc::{AllocError, Global};
 use std::process::Abort;
-use std::test::Fail;
 
 // What is signed of the commit `first` of nobody, on the root commit, in hex digits: one parent,
 // no predecessor, the tree, no label, the change, the description, both signatures, no third.
@@ -89,9 +88,8 @@ fn keeps_commits(alloc: Global) -> BackendResult<bool> {
 }
 
 #[test]
-fn unsigned_commits(rt: HostRuntime) -> Result<(), Fail> {
-    assert!(rt; holds!(keeps_commits, rt.alloc()));
-    Ok(())
+fn unsigned_commits(rt: HostRuntime) {
+    assert!(rt; holds(&rt, keeps_commits));
 }
 
 // Whether a commit has the fake signer's signature, of what it was asked to sign.
@@ -139,9 +137,8 @@ fn keeps_signed_commits(alloc: Global) -> BackendResult<bool> {
 }
 
 #[test]
-fn signed_commits(rt: HostRuntime) -> Result<(), Fail> {
-    assert!(rt; holds!(keeps_signed_commits, rt.alloc()));
-    Ok(())
+fn signed_commits(rt: HostRuntime) {
+    assert!(rt; holds(&rt, keeps_signed_commits));
 }
 
 // Whether an error is `Other` of this kind; another error stays one.
@@ -182,9 +179,8 @@ fn hands_failures_on(alloc: Global) -> BackendResult<bool> {
 }
 
 #[test]
-fn failures_to_sign(rt: HostRuntime) -> Result<(), Fail> {
-    assert!(rt; holds!(hands_failures_on, rt.alloc()));
-    Ok(())
+fn failures_to_sign(rt: HostRuntime) {
+    assert!(rt; holds(&rt, hands_failures_on));
 }
 
 fn refuses_rootless(alloc: Global) -> BackendResult<bool> {
@@ -201,7 +197,6 @@ fn refuses_rootless(alloc: Global) -> BackendResult<bool> {
 }
 
 #[test]
-fn a_commit_without_parents(rt: HostRuntime) -> Result<(), Fail> {
-    assert!(rt; holds!(refuses_rootless, rt.alloc()));
-    Ok(())
+fn a_commit_without_parents(rt: HostRuntime) {
+    assert!(rt; holds(&rt, refuses_rootless));
 }

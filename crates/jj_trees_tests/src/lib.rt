@@ -19,8 +19,6 @@ mod memory;
 #[cfg(test)]
 mod memory_backend_tests;
 #[cfg(test)]
-mod once_more;
-#[cfg(test)]
 mod one_byte_tests;
 #[cfg(test)]
 mod signers;

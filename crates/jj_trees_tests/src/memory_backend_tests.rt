@@ -1,17 +1,16 @@
 //! Files, links, copies and trees in memory. The ids are those that another program gives for the
 //! same contents.
 use crate::building::{ascending_tree, component, path, plain_file};
-use crate::once_more::holds;
 use jj_backend::backend::{
     Backend, BackendError, BackendResult, ChangeId, Commit, CommitId, CopyHistory, CopyId, FileId,
     SymlinkId, Tree, TreeId, TreeValue,
 };
+use jj_content_tests::once_more::holds;
 use jj_ids::object_id::{Id, IdKind, ObjectId};
 use jj_paths::repo_path::RepoPath;
 use jj_trees::memory_backend::MemoryBackend;
 use std::alloc::{AllocError, Global};
 use std::process::Abort;
-use std::test::Fail;
 
 // The id of 32 bytes of the file `abc`, and of a link to it: a front of the digest of 3 in 8 bytes
 // and then the text.
@@ -45,9 +44,8 @@ fn finds_empty_tree(alloc: Global) -> BackendResult<bool> {
 }
 
 #[test]
-fn the_tree_without_entries(rt: HostRuntime) -> Result<(), Fail> {
-    assert!(rt; holds!(finds_empty_tree, rt.alloc()));
-    Ok(())
+fn the_tree_without_entries(rt: HostRuntime) {
+    assert!(rt; holds(&rt, finds_empty_tree));
 }
 
 // Whether a commit says nothing, and has no one before it.
@@ -74,9 +72,8 @@ fn finds_root_commit(alloc: Global) -> BackendResult<bool> {
 }
 
 #[test]
-fn the_root_commit(rt: HostRuntime) -> Result<(), Fail> {
-    assert!(rt; holds!(finds_root_commit, rt.alloc()));
-    Ok(())
+fn the_root_commit(rt: HostRuntime) {
+    assert!(rt; holds(&rt, finds_root_commit));
 }
 
 // Lengths of ids that stand for nothing.
@@ -162,9 +159,8 @@ fn finds_nothing(alloc: Global) -> BackendResult<bool> {
 }
 
 #[test]
-fn absent_objects(rt: HostRuntime) -> Result<(), Fail> {
-    assert!(rt; holds!(finds_nothing, rt.alloc()));
-    Ok(())
+fn absent_objects(rt: HostRuntime) {
+    assert!(rt; holds(&rt, finds_nothing));
 }
 
 // Whether an id stands for the file `abc`.
@@ -180,9 +176,8 @@ fn keeps_files(alloc: Global) -> BackendResult<bool> {
 }
 
 #[test]
-fn files(rt: HostRuntime) -> Result<(), Fail> {
-    assert!(rt; holds!(keeps_files, rt.alloc()));
-    Ok(())
+fn files(rt: HostRuntime) {
+    assert!(rt; holds(&rt, keeps_files));
 }
 
 // A link with the id of a file, which is no link before, and a file after.
@@ -202,9 +197,8 @@ fn keeps_link(alloc: Global, backend: &mut MemoryBackend, id: &[u8]) -> BackendR
 }
 
 #[test]
-fn links(rt: HostRuntime) -> Result<(), Fail> {
-    assert!(rt; holds!(keeps_links, rt.alloc()));
-    Ok(())
+fn links(rt: HostRuntime) {
+    assert!(rt; holds(&rt, keeps_links));
 }
 
 // Bytes of ids and of a salt.
@@ -253,9 +247,8 @@ fn is_history(
 }
 
 #[test]
-fn copies(rt: HostRuntime) -> Result<(), Fail> {
-    assert!(rt; holds!(keeps_copies, rt.alloc()));
-    Ok(())
+fn copies(rt: HostRuntime) {
+    assert!(rt; holds(&rt, keeps_copies));
 }
 
 // Whether an error says that a call is not supported; another error stays one.
@@ -288,9 +281,8 @@ fn refuses_copies(alloc: Global) -> BackendResult<bool> {
 }
 
 #[test]
-fn copies_that_are_looked_for(rt: HostRuntime) -> Result<(), Fail> {
-    assert!(rt; holds!(refuses_copies, rt.alloc()));
-    Ok(())
+fn copies_that_are_looked_for(rt: HostRuntime) {
+    assert!(rt; holds(&rt, refuses_copies));
 }
 
 // A file and a link.
@@ -318,7 +310,6 @@ fn keeps_trees(alloc: Global) -> BackendResult<bool> {
 }
 
 #[test]
-fn trees(rt: HostRuntime) -> Result<(), Fail> {
-    assert!(rt; holds!(keeps_trees, rt.alloc()));
-    Ok(())
+fn trees(rt: HostRuntime) {
+    assert!(rt; holds(&rt, keeps_trees));
 }

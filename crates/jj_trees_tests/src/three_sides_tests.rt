@@ -1,15 +1,14 @@
 //! The example of three sides as a whole: what it tells, and that the merge that is written back
 //! tells the same.
 use crate::kept::labels_of;
-use crate::once_more::holds;
 use crate::three_sides::{merge_labelled, sides_of, told, write_back, write_files};
 use jj_backend::backend::{BackendResult, TreeId};
+use jj_content_tests::once_more::holds;
 use jj_merges::conflict_labels::ConflictLabels;
 use jj_merges::merge::Merge;
 use jj_trees::memory_backend::MemoryBackend;
 use std::alloc::Global;
 use std::process::Abort;
-use std::test::Fail;
 
 // The left side changes the first two files.
 const LEFT: &[(&str, &str)] = &[("README", "two\n"), ("main", "b\n"), ("old", "x\n")];
@@ -69,7 +68,6 @@ fn example_tells_twice(alloc: Global) -> BackendResult<bool> {
 }
 
 #[test]
-fn three_sides(rt: HostRuntime) -> Result<(), Fail> {
-    assert!(rt; holds!(example_tells_twice, rt.alloc()));
-    Ok(())
+fn three_sides(rt: HostRuntime) {
+    assert!(rt; holds(&rt, example_tells_twice));
 }
