@@ -1,9 +1,10 @@
 //! Which texts are globs, and which bytes they stand for. The expected answers are those of
 //! globset's documented syntax, as the specification narrows it.
-use crate::fixtures::passes;
+use jj_content_tests::once_more::passes;
 use jj_globs::glob::{Glob, GlobError, escape, is_special};
 use std::alloc::{AllocError, Global};
 use std::process::Abort;
+use std::test::Fail;
 
 // A glob of the text.
 fn glob<R: Abort>(
@@ -351,8 +352,8 @@ fn fronts<R: Abort>(rt: &R, alloc: Global) -> Result<(), AllocError> {
 }
 
 #[test]
-fn literal_fronts(rt: HostRuntime) {
-    passes(&rt, fronts);
+fn literal_fronts(rt: HostRuntime) -> Result<(), Fail> {
+    passes(&rt, fronts)
 }
 
 // The texts are those that globset's translation gives, with each byte past ASCII and each sign of
@@ -466,55 +467,55 @@ fn long<R: Abort>(rt: &R, alloc: Global) -> Result<(), AllocError> {
 }
 
 #[test]
-fn stars_stand_for_bytes(rt: HostRuntime) {
-    passes(&rt, stars);
+fn stars_stand_for_bytes(rt: HostRuntime) -> Result<(), Fail> {
+    passes(&rt, stars)
 }
 
 #[test]
-fn classes_hold_bytes(rt: HostRuntime) {
-    passes(&rt, classes);
+fn classes_hold_bytes(rt: HostRuntime) -> Result<(), Fail> {
+    passes(&rt, classes)
 }
 
 #[test]
-fn groups_have_alternatives(rt: HostRuntime) {
-    passes(&rt, groups);
-    passes(&rt, runs_beside_empty_groups);
-    passes(&rt, groups_of_words);
-    passes(&rt, groups_of_words_in_either_case);
+fn groups_have_alternatives(rt: HostRuntime) -> Result<(), Fail> {
+    passes(&rt, groups)?;
+    passes(&rt, runs_beside_empty_groups)?;
+    passes(&rt, groups_of_words)?;
+    passes(&rt, groups_of_words_in_either_case)
 }
 
 #[test]
-fn groups_of_many_words(rt: HostRuntime) {
-    passes(&rt, many_words);
+fn groups_of_many_words(rt: HostRuntime) -> Result<(), Fail> {
+    passes(&rt, many_words)
 }
 
 #[test]
-fn escapes_stand_for_themselves(rt: HostRuntime) {
-    passes(&rt, escapes);
+fn escapes_stand_for_themselves(rt: HostRuntime) -> Result<(), Fail> {
+    passes(&rt, escapes)
 }
 
 #[test]
-fn options_of_globs(rt: HostRuntime) {
-    passes(&rt, options);
+fn options_of_globs(rt: HostRuntime) -> Result<(), Fail> {
+    passes(&rt, options)
 }
 
 #[test]
-fn prefixes_match(rt: HostRuntime) {
-    passes(&rt, prefixes);
+fn prefixes_match(rt: HostRuntime) -> Result<(), Fail> {
+    passes(&rt, prefixes)
 }
 
 #[test]
-fn regular_expressions(rt: HostRuntime) {
-    passes(&rt, regex_texts);
+fn regular_expressions(rt: HostRuntime) -> Result<(), Fail> {
+    passes(&rt, regex_texts)
 }
 
 #[test]
-fn first_faults(rt: HostRuntime) {
-    passes(&rt, faults);
+fn first_faults(rt: HostRuntime) -> Result<(), Fail> {
+    passes(&rt, faults)
 }
 
 #[test]
-fn hostile_globs_end(rt: HostRuntime) {
-    passes(&rt, hostile);
-    passes(&rt, long);
+fn hostile_globs_end(rt: HostRuntime) -> Result<(), Fail> {
+    passes(&rt, hostile)?;
+    passes(&rt, long)
 }

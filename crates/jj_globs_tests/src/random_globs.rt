@@ -3,10 +3,11 @@
 //! the syntax in docs/SPECIFICATION.md.
 ghost use Rattle.std.specs.Prelude.{◌<◌, ◌≤◌, length};
 
-use crate::fixtures::passes;
+use jj_content_tests::once_more::passes;
 use jj_globs::glob::{Glob, GlobError};
 use std::alloc::{AllocError, Global};
 use std::process::Abort;
+use std::test::Fail;
 
 // How deep groups are nested.
 const DEEPEST: u32 = 3;
@@ -398,6 +399,6 @@ fn compare_all<R: Abort>(rt: &R, alloc: Global) -> Result<(), AllocError> {
 }
 
 #[test]
-fn random_globs_stand_for_what_the_table_says(rt: HostRuntime) {
-    passes(&rt, compare_all);
+fn random_globs_stand_for_what_the_table_says(rt: HostRuntime) -> Result<(), Fail> {
+    passes(&rt, compare_all)
 }

@@ -1,8 +1,10 @@
 //! Which paths a matcher of files or of prefixes accepts, and its answers for directories.
-use crate::fixtures::{answers, files, names, passes, prefix};
+use crate::fixtures::{answers, files, names, prefix};
+use jj_content_tests::once_more::passes;
 use jj_matchers::matchers::{EverythingMatcher, NothingMatcher, Visit, VisitDirs, VisitFiles};
 use std::alloc::{AllocError, Global};
 use std::process::Abort;
+use std::test::Fail;
 
 fn constant<R: Abort>(rt: &R, alloc: Global) -> Result<(), AllocError> {
     answers(
@@ -87,8 +89,8 @@ fn files_or_prefixes<R: Abort>(rt: &R, alloc: Global) -> Result<(), AllocError> 
 }
 
 #[test]
-fn files_and_prefixes(rt: HostRuntime) {
-    passes(&rt, files_or_prefixes);
+fn files_and_prefixes(rt: HostRuntime) -> Result<(), Fail> {
+    passes(&rt, files_or_prefixes)
 }
 
 // Two empty sets are no answer with names.
@@ -110,7 +112,7 @@ fn sets<R: Abort>(rt: &R, alloc: Global) -> Result<(), AllocError> {
 }
 
 #[test]
-fn constants_and_sets(rt: HostRuntime) {
-    passes(&rt, constant);
-    passes(&rt, sets);
+fn constants_and_sets(rt: HostRuntime) -> Result<(), Fail> {
+    passes(&rt, constant)?;
+    passes(&rt, sets)
 }

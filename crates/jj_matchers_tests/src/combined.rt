@@ -1,11 +1,13 @@
 //! Unions, differences and intersections of matchers: which paths they accept, and their answers
 //! for directories.
-use crate::fixtures::{answers, files, globs, passes, prefix};
+use crate::fixtures::{answers, files, globs, prefix};
+use jj_content_tests::once_more::passes;
 use jj_matchers::matchers::{
     DifferenceMatcher, EverythingMatcher, IntersectionMatcher, NothingMatcher, UnionMatcher,
 };
 use std::alloc::{AllocError, Global};
 use std::process::Abort;
+use std::test::Fail;
 
 // Two lists of paths, which paths the matcher of their two matchers accepts and refuses, and its
 // answers.
@@ -97,9 +99,9 @@ fn unions_of_kinds<R: Abort>(rt: &R, alloc: Global) -> Result<(), AllocError> {
 }
 
 #[test]
-fn either(rt: HostRuntime) {
-    passes(&rt, unions);
-    passes(&rt, unions_of_kinds);
+fn either(rt: HostRuntime) -> Result<(), Fail> {
+    passes(&rt, unions)?;
+    passes(&rt, unions_of_kinds)
 }
 
 const DIFFERENCES: [Row; 2] = [
@@ -166,9 +168,9 @@ fn differences_of_kinds<R: Abort>(rt: &R, alloc: Global) -> Result<(), AllocErro
 }
 
 #[test]
-fn the_one_alone(rt: HostRuntime) {
-    passes(&rt, differences);
-    passes(&rt, differences_of_kinds);
+fn the_one_alone(rt: HostRuntime) -> Result<(), Fail> {
+    passes(&rt, differences)?;
+    passes(&rt, differences_of_kinds)
 }
 
 const INTERSECTIONS: [Row; 2] = [
@@ -278,9 +280,9 @@ fn nested<R: Abort>(rt: &R, alloc: Global) -> Result<(), AllocError> {
 }
 
 #[test]
-fn both(rt: HostRuntime) {
-    passes(&rt, intersections);
-    passes(&rt, intersections_of_kinds);
-    passes(&rt, intersections_with_globs);
-    passes(&rt, nested);
+fn both(rt: HostRuntime) -> Result<(), Fail> {
+    passes(&rt, intersections)?;
+    passes(&rt, intersections_of_kinds)?;
+    passes(&rt, intersections_with_globs)?;
+    passes(&rt, nested)
 }

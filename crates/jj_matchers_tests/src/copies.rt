@@ -1,8 +1,10 @@
 //! Copies, comparisons and texts of matchers.
-use crate::fixtures::{passes, path, pattern};
+use crate::fixtures::{path, pattern};
+use jj_content_tests::once_more::passes;
 use jj_matchers::matchers::{EverythingMatcher, GlobsMatcher, Matcher, NothingMatcher};
 use std::alloc::{AllocError, Global};
 use std::process::Abort;
+use std::test::Fail;
 
 // A copy of a builder has its patterns, and goes its own way from then on.
 fn copies<R: Abort>(rt: &R, alloc: Global) -> Result<(), AllocError> {
@@ -27,8 +29,8 @@ fn copies<R: Abort>(rt: &R, alloc: Global) -> Result<(), AllocError> {
 }
 
 #[test]
-fn copies_of_globs(rt: HostRuntime) {
-    passes(&rt, copies);
+fn copies_of_globs(rt: HostRuntime) -> Result<(), Fail> {
+    passes(&rt, copies)
 }
 
 fn texts<R: Abort>(rt: &R, alloc: Global) -> Result<(), AllocError> {
@@ -42,6 +44,6 @@ fn texts<R: Abort>(rt: &R, alloc: Global) -> Result<(), AllocError> {
 }
 
 #[test]
-fn texts_of_matchers(rt: HostRuntime) {
-    passes(&rt, texts);
+fn texts_of_matchers(rt: HostRuntime) -> Result<(), Fail> {
+    passes(&rt, texts)
 }

@@ -12,16 +12,6 @@ use std::alloc::{AllocError, Global};
 use std::collections::HashSet;
 use std::process::Abort;
 
-/// Runs a test. Where it was refused memory, it runs once more.
-pub fn passes<R: AllocGlobal + Abort, T: Fn(&R, Global) -> Result<(), AllocError>>(rt: &R, test: T)
-    requires { T.IsAlwaysCallable test }
-{
-    let alloc = rt.alloc();
-    if test(rt, alloc).is_err() {
-        assert!(rt; test(rt, alloc).is_ok());
-    }
-}
-
 /// A path of this text, which takes no memory.
 pub fn path<'a, R: Abort>(rt: &R, alloc: Global, text: &'a str) -> RepoPath<'a> {
     match RepoPath::from_internal_string(alloc, if text == "." { "" } else { text }) {

@@ -1,9 +1,11 @@
 //! Globs of paths, and matchers of globs in directories.
-use crate::fixtures::{answers, globs, passes, path, pattern, visits};
+use crate::fixtures::{answers, globs, path, pattern, visits};
+use jj_content_tests::once_more::passes;
 use jj_globs::glob::GlobError;
 use jj_matchers::matchers::{GlobsMatcher, Matcher, PathGlobPattern};
 use std::alloc::{AllocError, Global};
 use std::process::Abort;
+use std::test::Fail;
 
 // Whether what lies below a match is accepted too, globs, each behind its directory, which paths
 // their matcher accepts and refuses, and its answers.
@@ -239,9 +241,9 @@ fn at_own_directory<R: Abort>(rt: &R, alloc: Global) -> Result<(), AllocError> {
 }
 
 #[test]
-fn globs_of_directories(rt: HostRuntime) {
-    passes(&rt, in_directories);
-    passes(&rt, at_own_directory);
+fn globs_of_directories(rt: HostRuntime) -> Result<(), Fail> {
+    passes(&rt, in_directories)?;
+    passes(&rt, at_own_directory)
 }
 
 // What was built before stays as it is when the builder goes on.
@@ -316,7 +318,7 @@ fn path_patterns<R: Abort>(rt: &R, alloc: Global) -> Result<(), AllocError> {
 }
 
 #[test]
-fn builders_and_patterns(rt: HostRuntime) {
-    passes(&rt, builds);
-    passes(&rt, path_patterns);
+fn builders_and_patterns(rt: HostRuntime) -> Result<(), Fail> {
+    passes(&rt, builds)?;
+    passes(&rt, path_patterns)
 }

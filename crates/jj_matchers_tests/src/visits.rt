@@ -1,8 +1,10 @@
 //! The answers of a union, a difference and an intersection, from the answers of both.
-use crate::fixtures::{answer, passes};
+use crate::fixtures::answer;
+use jj_content_tests::once_more::passes;
 use jj_matchers::matchers::{Visit, difference_visit, intersection_visit, union_visit};
 use std::alloc::{AllocError, Global};
 use std::process::Abort;
+use std::test::Fail;
 
 // The directories and the files of an answer, as in a row of answers.
 type Named = (&'static str, &'static str);
@@ -55,6 +57,6 @@ fn combines<R: Abort>(rt: &R, alloc: Global) -> Result<(), AllocError> {
 }
 
 #[test]
-fn answers_of_two(rt: HostRuntime) {
-    passes(&rt, combines);
+fn answers_of_two(rt: HostRuntime) -> Result<(), Fail> {
+    passes(&rt, combines)
 }

@@ -1,5 +1,6 @@
 //! What a walk finds and where it goes.
-use crate::fixtures::{answers, files, globs, passes, prefix, walks};
+use crate::fixtures::{answers, files, globs, prefix, walks};
+use jj_content_tests::once_more::passes;
 use jj_matchers::matchers::{
     DifferenceMatcher, EverythingMatcher, IntersectionMatcher, Matcher, NothingMatcher,
     PrefixMatcher, UnionMatcher, Visit,
@@ -7,6 +8,7 @@ use jj_matchers::matchers::{
 use jj_paths::repo_path::RepoPath;
 use std::alloc::{AllocError, Global};
 use std::process::Abort;
+use std::test::Fail;
 
 // Marks, the files that a walk through everything finds, and the directories that it enters. A path
 // is ordered by its names: what is in `dir` comes before `dir#`. The root is never a file, and a root
@@ -48,9 +50,9 @@ fn walks_prefixes<R: Abort>(rt: &R, alloc: Global) -> Result<(), AllocError> {
 }
 
 #[test]
-fn constants_files_and_prefixes(rt: HostRuntime) {
-    passes(&rt, walks_files);
-    passes(&rt, walks_prefixes);
+fn constants_files_and_prefixes(rt: HostRuntime) -> Result<(), Fail> {
+    passes(&rt, walks_files)?;
+    passes(&rt, walks_prefixes)
 }
 
 fn walks_combined<R: Abort>(rt: &R, alloc: Global) -> Result<(), AllocError> {
@@ -127,7 +129,7 @@ fn walks_boxed<R: Abort>(rt: &R, alloc: Global) -> Result<(), AllocError> {
 }
 
 #[test]
-fn combined_and_boxed(rt: HostRuntime) {
-    passes(&rt, walks_combined);
-    passes(&rt, walks_boxed);
+fn combined_and_boxed(rt: HostRuntime) -> Result<(), Fail> {
+    passes(&rt, walks_combined)?;
+    passes(&rt, walks_boxed)
 }
