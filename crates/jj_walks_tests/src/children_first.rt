@@ -87,6 +87,7 @@ pub fn next_ids(
 #[cfg(test)]
 mod tests {
     use super::*;
+    use jj_content_tests::once_more::passes;
     use std::alloc::AllocError;
     use std::process::Abort;
     use std::test::Fail;
@@ -122,6 +123,6 @@ mod tests {
 
     #[test]
     fn newest_commits_come_first(rt: HostRuntime) -> Result<(), Fail> {
-        Ok(newest_of_five(&rt, rt.alloc()).or_else(|_| newest_of_five(&rt, rt.alloc()))?)
+        passes(&rt, newest_of_five)
     }
 }

@@ -1,5 +1,6 @@
 //! Child-first orders of small graphs, a chunk at a time.
 use crate::tables::{FailingTable, items, met};
+use jj_content_tests::once_more::passes;
 use jj_walks::dag_walk::WalkError;
 use jj_walks::dag_walk_async::topo_order_reverse_chunked;
 use smallvec::SmallVec;
@@ -102,15 +103,12 @@ fn chunks_from_two_starts<R: Abort>(rt: &R, alloc: Global) -> Result<(), AllocEr
 
 #[test]
 fn orders_from_two_starts_come_in_chunks(rt: HostRuntime) -> Result<(), Fail> {
-    Ok(chunks_from_two_starts(&rt, rt.alloc()).or_else(|_| chunks_from_two_starts(
-        &rt,
-        rt.alloc(),
-    ))?)
+    passes(&rt, chunks_from_two_starts)
 }
 
 #[test]
 fn orders_come_in_chunks(rt: HostRuntime) -> Result<(), Fail> {
-    Ok(chunks(&rt, rt.alloc()).or_else(|_| chunks(&rt, rt.alloc()))?)
+    passes(&rt, chunks)
 }
 
 fn refusals<R: Abort>(rt: &R, alloc: Global) -> Result<(), AllocError> {
@@ -131,5 +129,5 @@ fn refusals<R: Abort>(rt: &R, alloc: Global) -> Result<(), AllocError> {
 
 #[test]
 fn refused_chunks_leave_no_start(rt: HostRuntime) -> Result<(), Fail> {
-    Ok(refusals(&rt, rt.alloc()).or_else(|_| refusals(&rt, rt.alloc()))?)
+    passes(&rt, refusals)
 }

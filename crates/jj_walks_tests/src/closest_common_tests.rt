@@ -1,6 +1,7 @@
 //! The closest common nodes of two sets, in small graphs, on cycles, and in graphs whose calls are
 //! counted.
 use crate::tables::{Table, closest, found, met};
+use jj_content_tests::once_more::passes;
 use jj_walks::dag_walk::WalkError;
 use jj_walks::dag_walk_async::closest_common_nodes;
 use std::alloc::{AllocError, Global};
@@ -59,7 +60,7 @@ fn small_graphs<R: Abort>(rt: &R, alloc: Global) -> Result<(), AllocError> {
 
 #[test]
 fn closest_in_small_graphs(rt: HostRuntime) -> Result<(), Fail> {
-    Ok(small_graphs(&rt, rt.alloc()).or_else(|_| small_graphs(&rt, rt.alloc()))?)
+    passes(&rt, small_graphs)
 }
 
 fn cycles<R: Abort>(rt: &R, alloc: Global) -> Result<(), AllocError> {
@@ -71,7 +72,7 @@ fn cycles<R: Abort>(rt: &R, alloc: Global) -> Result<(), AllocError> {
 
 #[test]
 fn closest_end_on_cycles(rt: HostRuntime) -> Result<(), Fail> {
-    Ok(cycles(&rt, rt.alloc()).or_else(|_| cycles(&rt, rt.alloc()))?)
+    passes(&rt, cycles)
 }
 
 fn failing<R: Abort>(rt: &R, alloc: Global) -> Result<(), AllocError> {
@@ -87,7 +88,7 @@ fn failing<R: Abort>(rt: &R, alloc: Global) -> Result<(), AllocError> {
 
 #[test]
 fn closest_of_failing_lists(rt: HostRuntime) -> Result<(), Fail> {
-    Ok(failing(&rt, rt.alloc()).or_else(|_| failing(&rt, rt.alloc()))?)
+    passes(&rt, failing)
 }
 
 // Where the two sides of a chain part.
@@ -168,5 +169,5 @@ fn counts<R: Abort>(rt: &R, alloc: Global) -> Result<(), AllocError> {
 
 #[test]
 fn closest_ask_for_few_lists(rt: HostRuntime) -> Result<(), Fail> {
-    Ok(counts(&rt, rt.alloc()).or_else(|_| counts(&rt, rt.alloc()))?)
+    passes(&rt, counts)
 }

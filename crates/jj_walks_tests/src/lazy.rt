@@ -3,6 +3,7 @@ ghost use Rattle.std.specs.Iterator.{IsFinite};
 
 use crate::graphs::{FORK, GREAT_ROOT, LINEAR, MERGE, NESTED_MIXED, TWO_HEADS, TWO_ROOTS};
 use crate::tables::{FailingTable, Table, error, id, is_memory, items, neighbors};
+use jj_content_tests::once_more::passes;
 use jj_walks::dag_walk::WalkError;
 use jj_walks::dag_walk_async::topo_order_reverse_lazy;
 use std::alloc::{AllocError, Global};
@@ -140,7 +141,7 @@ fn whole_orders<R: Abort>(rt: &R, alloc: Global) -> Result<(), AllocError> {
 
 #[test]
 fn each_node_comes_before_its_neighbors(rt: HostRuntime) -> Result<(), Fail> {
-    Ok(whole_orders(&rt, rt.alloc()).or_else(|_| whole_orders(&rt, rt.alloc()))?)
+    passes(&rt, whole_orders)
 }
 
 // Graphs, starts, what an order gives, where there is one such order, and its error.
@@ -174,7 +175,7 @@ fn known_orders<R: Abort>(rt: &R, alloc: Global) -> Result<(), AllocError> {
 
 #[test]
 fn orders_end_with_their_errors(rt: HostRuntime) -> Result<(), Fail> {
-    Ok(known_orders(&rt, rt.alloc()).or_else(|_| known_orders(&rt, rt.alloc()))?)
+    passes(&rt, known_orders)
 }
 
 // D leads to a cycle, but is not on it.
@@ -188,7 +189,7 @@ fn cycle_below<R: Abort>(rt: &R, alloc: Global) -> Result<(), AllocError> {
 
 #[test]
 fn cycles_end_an_order(rt: HostRuntime) -> Result<(), Fail> {
-    Ok(cycle_below(&rt, rt.alloc()).or_else(|_| cycle_below(&rt, rt.alloc()))?)
+    passes(&rt, cycle_below)
 }
 
 fn asks_after_the_end<R: Abort>(rt: &R, alloc: Global) -> Result<(), AllocError> {
@@ -210,5 +211,5 @@ fn asks_after_the_end<R: Abort>(rt: &R, alloc: Global) -> Result<(), AllocError>
 
 #[test]
 fn an_ended_order_answers_none(rt: HostRuntime) -> Result<(), Fail> {
-    Ok(asks_after_the_end(&rt, rt.alloc()).or_else(|_| asks_after_the_end(&rt, rt.alloc()))?)
+    passes(&rt, asks_after_the_end)
 }

@@ -1,5 +1,6 @@
 //! The heads of sets in small graphs.
 use crate::tables::{Table, found, maximal, maximal_lists, maximal_ok, met};
+use jj_content_tests::once_more::passes;
 use std::alloc::{AllocError, Global};
 use std::process::Abort;
 use std::test::Fail;
@@ -37,7 +38,7 @@ fn sets<R: Abort>(rt: &R, alloc: Global) -> Result<(), AllocError> {
 
 #[test]
 fn heads_of_sets(rt: HostRuntime) -> Result<(), Fail> {
-    Ok(sets(&rt, rt.alloc()).or_else(|_| sets(&rt, rt.alloc()))?)
+    passes(&rt, sets)
 }
 
 fn failing_graphs<R: Abort>(rt: &R, alloc: Global) -> Result<(), AllocError> {
@@ -57,7 +58,7 @@ fn failing_graphs<R: Abort>(rt: &R, alloc: Global) -> Result<(), AllocError> {
 
 #[test]
 fn heads_of_failing_graphs(rt: HostRuntime) -> Result<(), Fail> {
-    Ok(failing_graphs(&rt, rt.alloc()).or_else(|_| failing_graphs(&rt, rt.alloc()))?)
+    passes(&rt, failing_graphs)
 }
 
 fn failing_lists<R: Abort>(rt: &R, alloc: Global) -> Result<(), AllocError> {
@@ -71,5 +72,5 @@ fn failing_lists<R: Abort>(rt: &R, alloc: Global) -> Result<(), AllocError> {
 
 #[test]
 fn heads_of_failing_lists(rt: HostRuntime) -> Result<(), Fail> {
-    Ok(failing_lists(&rt, rt.alloc()).or_else(|_| failing_lists(&rt, rt.alloc()))?)
+    passes(&rt, failing_lists)
 }

@@ -1,5 +1,6 @@
 //! Shown graphs turned round.
 use crate::tables::{found, met};
+use jj_content_tests::once_more::passes;
 use jj_walks::graph::{GraphEdge, GraphEdgeType, GraphNode, reverse_graph};
 use std::alloc::{AllocError, Global};
 use std::process::Abort;
@@ -131,7 +132,7 @@ fn turns_graphs<R: Abort>(rt: &R, alloc: Global) -> Result<(), AllocError> {
 
 #[test]
 fn graphs_are_turned_round(rt: HostRuntime) -> Result<(), Fail> {
-    Ok(turns_graphs(&rt, rt.alloc()).or_else(|_| turns_graphs(&rt, rt.alloc()))?)
+    passes(&rt, turns_graphs)
 }
 
 fn answers_failed_node<R: Abort>(rt: &R, alloc: Global) -> Result<(), AllocError> {
@@ -147,5 +148,5 @@ fn answers_failed_node<R: Abort>(rt: &R, alloc: Global) -> Result<(), AllocError
 
 #[test]
 fn a_failed_node_is_answered(rt: HostRuntime) -> Result<(), Fail> {
-    Ok(answers_failed_node(&rt, rt.alloc()).or_else(|_| answers_failed_node(&rt, rt.alloc()))?)
+    passes(&rt, answers_failed_node)
 }

@@ -1,5 +1,6 @@
 //! The greatest child-first order of small graphs.
 use crate::tables::{found, met};
+use jj_content_tests::once_more::passes;
 use jj_walks::dag_walk::WalkError;
 use jj_walks::dag_walk_async::topo_order_reverse_ord;
 use std::alloc::{AllocError, Global};
@@ -94,7 +95,7 @@ fn greatest_orders<R: Abort>(rt: &R, alloc: Global) -> Result<(), AllocError> {
 
 #[test]
 fn takes_the_greatest_ready_node(rt: HostRuntime) -> Result<(), Fail> {
-    Ok(greatest_orders(&rt, rt.alloc()).or_else(|_| greatest_orders(&rt, rt.alloc()))?)
+    passes(&rt, greatest_orders)
 }
 
 fn refusals<R: Abort>(rt: &R, alloc: Global) -> Result<(), AllocError> {
@@ -116,5 +117,5 @@ fn refusals<R: Abort>(rt: &R, alloc: Global) -> Result<(), AllocError> {
 
 #[test]
 fn refuses_cycles_and_failed_items(rt: HostRuntime) -> Result<(), Fail> {
-    Ok(refusals(&rt, rt.alloc()).or_else(|_| refusals(&rt, rt.alloc()))?)
+    passes(&rt, refusals)
 }
