@@ -8,7 +8,7 @@ use Rattle.jj_strings.specs.Folded.{folded}
 use Rattle.jj_strings.proofs.Occurrences.{length-window, folded-window, occurs_outside, occurs_inside}
 
 -- the front of a window that holds so many bytes in lower case
-pub window_is : (bytes window : List ℕ) (n m from : ℕ) → m ≡ n → from + n ≤ length bytes
+window_is : (bytes window : List ℕ) (n m from : ℕ) → m ≡ n → from + n ≤ length bytes
     → take (length (take m (drop from bytes))) window ≡ folded (take m (drop from bytes))
     → take n window ≡ take n (drop from (folded bytes))
 window_is bytes window n m from same h front =
@@ -17,8 +17,14 @@ window_is bytes window n m from same h front =
     ap (λ (k : ℕ). take k window) (sym len) ∙ front ∙ sym (folded-window bytes m from)
     ∙ ap (λ (k : ℕ). take k (drop from (folded bytes))) same
 
-module _ (bytes text here lower : List ℕ) (n from : ℕ) (within : from + n ≤ length bytes)
-    (is_here : here ≡ take n (drop from (folded bytes))) (is_lower : lower ≡ folded text) where
+module _ (bytes text window lower : List ℕ) (n m from : ℕ) (within : from + n ≤ length bytes) (same : m ≡ n)
+    (front : take (length (take m (drop from bytes))) window ≡ folded (take m (drop from bytes))) (is_lower : lower ≡ folded text) where
+  abbrev here : List ℕ
+  here = take n window
+
+  is_here : here ≡ take n (drop from (folded bytes))
+  is_here = window_is bytes window n m from same within front
+
   whole : from + n ≤ length (folded bytes)
   whole = omega (arith, within, length-map {A = ℕ} {B = ℕ})
 

@@ -1,42 +1,33 @@
-use Rattle.std.proofs.Common.{◌∙◌, ℕ, ◌+◌, ◌≤◌, length, refl, sym, arith}
+use Rattle.std.proofs.Common.{◌∙◌, ℕ, length, refl, sym, arith}
 use Rattle.std.proofs.lemmas.List.{length-map}
 use Rattle.std.proofs.lemmas.Bool.{false≢true}
-use Rattle.jj_strings.proofs.Windows.{window_is, found_in_window, none_in_window}
+use Rattle.jj_strings.proofs.Windows.{found_in_window, none_in_window}
 use Rattle.jj_strings.proofs.str_util.folding.stands_in_windows.Goals as goal
 
 pub returns-then-contains_str : goal.returns-then-contains_str
 returns-then-contains_str c =
-    let bytes = c.args.bytes.now in
     let n : ℕ = c.min-len.result in
-    let within : c.loop-from.from + n ≤ length bytes = omega (arith, c.min-len.ensures) in
-    let here = window_is bytes c.fold_into-in-loop-from.new.folds n _ c.loop-from.from
-    (omega arith) within c.fold_into-in-loop-from.ensures.front in
-    let found = found_in_window bytes c.args.text.now _ _ n c.loop-from.from within here
-    c.loop-from.invariant.lower (c.contains_str.ensures.0 c.if-contains_str.true) in
+    let found = found_in_window c.args.bytes.now c.args.text.now c.fold_into-in-loop-from.new.folds _ n _ c.loop-from.from
+    (omega (arith, c.min-len.ensures)) (omega arith) c.fold_into-in-loop-from.ensures.front c.loop-from.invariant.lower
+    (c.contains_str.ensures.0 c.if-contains_str.true) in
     ((λ _. found), (λ _. refl))
 
 pub loop-from-preserved : goal.loop-from-preserved
-loop-from-preserved c =
-    let bytes = c.args.bytes.now in
-    let n : ℕ = c.min-len.result in
-    let within : c.loop-from.from + n ≤ length bytes = omega (arith, c.min-len.ensures) in
-    let here = window_is bytes c.fold_into-in-loop-from.new.folds n _ c.loop-from.from
-    (omega arith) within c.fold_into-in-loop-from.ensures.front in
-    record {
-      none = none_in_window bytes c.args.text.now _ _ n c.loop-from.from within here
-          c.loop-from.invariant.lower
-          (λ found. false≢true (sym c.if-contains_str.false ∙ c.contains_str.ensures.1 found))
-          (omega (
-            arith,
-            c.min-len.ensures,
-            c.if-text-bytes.true,
-            c.loop-from.invariant.window,
-            c.requires.window,
-          ))
-          c.loop-from.invariant.none;
-      lower = c.loop-from.invariant.lower;
-      window = c.fold_into-in-loop-from.ensures.len ∙ c.loop-from.invariant.window;
-    }
+loop-from-preserved c = record {
+  none = none_in_window c.args.bytes.now c.args.text.now c.fold_into-in-loop-from.new.folds _ c.min-len.result _ c.loop-from.from
+      (omega (arith, c.min-len.ensures)) (omega arith) c.fold_into-in-loop-from.ensures.front c.loop-from.invariant.lower
+      (λ found. false≢true (sym c.if-contains_str.false ∙ c.contains_str.ensures.1 found))
+      (omega (
+        arith,
+        c.min-len.ensures,
+        c.if-text-bytes.true,
+        c.loop-from.invariant.window,
+        c.requires.window,
+      ))
+      c.loop-from.invariant.none;
+  lower = c.loop-from.invariant.lower;
+  window = c.fold_into-in-loop-from.ensures.len ∙ c.loop-from.invariant.window;
+}
 
 pub returns-else-text-bytes : goal.returns-else-text-bytes
 returns-else-text-bytes c = (
