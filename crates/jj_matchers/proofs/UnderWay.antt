@@ -6,6 +6,7 @@ use Rattle.std.proofs.lemmas.Bool.{and_parts}
 use Rattle.std.specs.FinMap.{is_sorted}
 use Rattle.std.specs.List.{AllByRecursion}
 use Rattle.std.specs.List.Sorted.{IsStrictlySortedBy}
+use denote.Ref.{Bor}
 use Rattle.jj_paths.specs.Paths.{Name, Path, name_cmp, path_cmp}
 use Rattle.jj_paths.specs.Tree.{Tree, branches_of, branch_count, children, has_branches}
 use Rattle.jj_paths.specs.Nodes.{NodeAt, node_at, nodes_under}
@@ -20,6 +21,14 @@ use Rattle.jj_matchers.proofs.Walks.{path_if_true, path_if_false, branches_of-ch
 
 false_and : (a b : Bool) → b ≡ false → (a && b) ≡ false
 false_and a b e = rw e (and-false a)
+
+-- a directory, once its next child is taken and these are left
+abbrev pub with_left : Entered → Bor (List (Name × Tree Bool)) → Entered
+with_left directory left = record { dir = directory.dir; answer = directory.answer; left = left }
+
+-- the path that a name makes with a directory, each known by other names
+pub joined_at : (dir at : Path) (name here : Name) (path : Path) → path ≡ at ++ here ∷ [] → at ≡ dir → here ≡ name → path ≡ dir ++ name ∷ []
+joined_at dir at name here path joined d n = joined ∙ ap (λ p. p ++ here ∷ []) d ∙ ap (λ x. dir ++ x ∷ []) n
 
 module _ (accepts opens : Path → Bool) (answer : Path → Answer) where
   -- a walk goes on at the root by the root's answer
@@ -41,7 +50,7 @@ module _ (accepts opens : Path → Bool) (answer : Path → Answer) where
   pub entered_itself : (dir : Path) (tree : Tree Bool) (known : Answer) → GoesOnBy accepts opens answer dir known → has_branches tree.branches ≡ true → is_entered_directory answer (node_at dir tree) ≡ is_entered known
   entered_itself dir tree known on e = ap (λ b. b && enters answer [] dir) e ∙ on.itself
 
-  pub not_without_children : (dir : Path) (tree : Tree Bool) → has_branches tree.branches ≡ false → is_entered_directory answer (node_at dir tree) ≡ false
+  not_without_children : (dir : Path) (tree : Tree Bool) → has_branches tree.branches ≡ false → is_entered_directory answer (node_at dir tree) ≡ false
   not_without_children dir tree e = ap (λ b. b && enters answer [] dir) e
 
   pub opened_is_under_way : (dir : Path) (known : Answer) (tree : Tree Bool) (directory : Entered) → GoesOnBy accepts opens answer dir known → IsOpened dir known tree directory → IsUnderWay accepts opens answer directory
@@ -151,7 +160,7 @@ module _ (accepts opens : Path → Bool) (answer : Path → Answer) (tree : Tree
           deep = ap (λ d. paths_where test (nodes_under d (branches_of below.left.now))) at ∙ ap (λ b. paths_where test (nodes_under (directory.dir ++ name ∷ []) b)) (ap branches_of all_left ∙ branches_of-children sub.branches)
 
     module _ (new_files new_entered : List Path) (file_is : new_files ≡ files ++ path_if (is_file accepts (node_at (directory.dir ++ name ∷ []) sub)) (directory.dir ++ name ∷ [])) where
-      pub way_past : (is_entered_directory answer (node_at (directory.dir ++ name ∷ []) sub)) ≡ false → new_entered ≡ entered →
+      way_past : (is_entered_directory answer (node_at (directory.dir ++ name ∷ []) sub)) ≡ false → new_entered ≡ entered →
           paths_below (is_file accepts) (directory.dir ++ name ∷ []) sub ≡ [] → paths_below (is_entered_directory answer) (directory.dir ++ name ∷ []) sub ≡ [] →
           IsOnTheWay accepts opens answer tree files entered (further ++ directory ∷ []) → IsOnTheWay accepts opens answer tree new_files new_entered (further ++ next ∷ [])
       way_past not_entered same no_file none way =
@@ -248,29 +257,42 @@ module _ (accepts opens : Path → Bool) (answer : Path → Answer) (tree : Tree
       by_entry (inl h) = same_way [] new_files [] new_entered [] new_unfinished (same ∙ f) (h.1 ∙ e) (h.2 ∙ u) (way_past_root known on has h.0)
       by_entry (inr h) = same_way [] new_files new_entered new_entered (h.0 ∷ []) new_unfinished (same ∙ f) refl (h.3 ∙ ap (λ l. l ++ h.0 ∷ []) u) (way_at_root known on has h.0 new_entered (h.2 ∙ ap (λ l. l ++ [] ∷ []) e) h.1)
 
-  -- a walk goes on with a child that has children, by the child's answer
-  pub goes_on_below : (files entered : List Path) (further : List Entered) (directory next : Entered) (name : Name) (sub : Tree Bool) (after : List (Name × Tree Bool)) → directory.left.now ≡ (name, sub) ∷ after →
-      next.dir ≡ directory.dir → next.answer ≡ directory.answer → next.left.now ≡ after → (new_files old_entered new_entered : List Path) (unfinished new_unfinished : List Entered) (path asked : Path) (known : Answer) →
-      new_files ≡ files ++ path_if (is_file accepts (node_at (directory.dir ++ name ∷ []) sub)) (directory.dir ++ name ∷ []) → old_entered ≡ entered → unfinished ≡ further ++ next ∷ [] → path ≡ directory.dir ++ name ∷ [] → asked ≡ path →
-      has_branches sub.branches ≡ true → GoesOnBy accepts opens answer asked known → (is_entered known ≡ true → opens asked ≡ true) → Enters path known sub old_entered new_entered unfinished new_unfinished →
-      IsOnTheWay accepts opens answer tree files entered (further ++ directory ∷ []) → IsOnTheWay accepts opens answer tree new_files new_entered new_unfinished
-  goes_on_below files entered further directory next name sub after left d a l new_files old_entered new_entered unfinished new_unfinished path asked known file_is e u at at' has goes open_there enters way =
-      by_entry (subst (λ p. Enters p known sub old_entered new_entered unfinished new_unfinished) at enters)
-    where
-      on : GoesOnBy accepts opens answer (directory.dir ++ name ∷ []) known
-      on = subst (λ p. GoesOnBy accepts opens answer p known) (at' ∙ at) goes
+  module _ (files entered : List Path) (further : List Entered) (directory : Entered) (name : Name) (sub : Tree Bool) (after : Bor (List (Name × Tree Bool))) (left : directory.left.now ≡ (name, sub) ∷ after.now)
+      (path asked : Path) (new_files old_entered : List Path) (at : path ≡ directory.dir ++ name ∷ []) (same : asked ≡ path)
+      (file_is : new_files ≡ files ++ path_if (is_file accepts (node_at asked sub)) asked) (e : old_entered ≡ entered) where
+    own_file : new_files ≡ files ++ path_if (is_file accepts (node_at (directory.dir ++ name ∷ []) sub)) (directory.dir ++ name ∷ [])
+    own_file = subst (λ (p : Path). new_files ≡ files ++ path_if (is_file accepts (node_at p sub)) p) (same ∙ at) file_is
 
-      by_entry : Enters (directory.dir ++ name ∷ []) known sub old_entered new_entered unfinished new_unfinished → IsOnTheWay accepts opens answer tree new_files new_entered new_unfinished
-      by_entry (inl h) =
-          let none : GoesOnBy accepts opens answer (directory.dir ++ name ∷ []) nothing = subst (GoesOnBy accepts opens answer (directory.dir ++ name ∷ [])) (no_entry known h.0) on in
-          same_way new_files new_files new_entered new_entered (further ++ next ∷ []) new_unfinished refl refl (h.2 ∙ u)
-          (way_past accepts opens answer tree files entered further directory next name sub after left d a l new_files new_entered file_is
-          (entered_itself accepts opens answer (directory.dir ++ name ∷ []) sub known on has ∙ h.0) (h.1 ∙ e)
-          (no_files accepts opens answer (directory.dir ++ name ∷ []) sub none) (none_entered accepts opens answer (directory.dir ++ name ∷ []) sub none) way)
-      by_entry (inr h) =
-          same_way new_files new_files new_entered new_entered ((further ++ next ∷ []) ++ h.0 ∷ []) new_unfinished refl refl (h.3 ∙ ap (λ s. s ++ h.0 ∷ []) u)
-          (way_below accepts opens answer tree files entered further directory next name sub after left d a l new_files new_entered file_is
-          h.0 known on h.1 has (ap opens (sym (at' ∙ at)) ∙ open_there h.1.entered) (h.2 ∙ ap (λ s. s ++ (directory.dir ++ name ∷ []) ∷ []) e) way)
+    -- a walk goes on past a child that has no children
+    pub goes_on_past : (unfinished : List Entered) → unfinished ≡ further ++ with_left directory after ∷ [] → has_branches sub.branches ≡ false →
+        IsOnTheWay accepts opens answer tree files entered (further ++ directory ∷ []) → IsOnTheWay accepts opens answer tree new_files old_entered unfinished
+    goes_on_past unfinished u none way =
+        subst (IsOnTheWay accepts opens answer tree new_files old_entered) (sym u)
+        (way_past accepts opens answer tree files entered further directory (with_left directory after) name sub after.now left refl refl refl new_files old_entered own_file
+        (not_without_children accepts opens answer (directory.dir ++ name ∷ []) sub none) e
+        (nothing_below (is_file accepts) (directory.dir ++ name ∷ []) sub.branches none) (nothing_below (is_entered_directory answer) (directory.dir ++ name ∷ []) sub.branches none) way)
+
+    -- and with a child that has children, by the child's answer
+    pub goes_on_below : (new_entered : List Path) (unfinished new_unfinished : List Entered) (below : Path) (known : Answer) → unfinished ≡ further ++ with_left directory after ∷ [] → below ≡ path →
+        has_branches sub.branches ≡ true → GoesOnBy accepts opens answer below known → (is_entered known ≡ true → opens below ≡ true) → Enters path known sub old_entered new_entered unfinished new_unfinished →
+        IsOnTheWay accepts opens answer tree files entered (further ++ directory ∷ []) → IsOnTheWay accepts opens answer tree new_files new_entered new_unfinished
+    goes_on_below new_entered unfinished new_unfinished below known u at' has goes open_there enters way =
+        by_entry (subst (λ p. Enters p known sub old_entered new_entered unfinished new_unfinished) at enters)
+      where
+        on : GoesOnBy accepts opens answer (directory.dir ++ name ∷ []) known
+        on = subst (λ p. GoesOnBy accepts opens answer p known) (at' ∙ at) goes
+
+        by_entry : Enters (directory.dir ++ name ∷ []) known sub old_entered new_entered unfinished new_unfinished → IsOnTheWay accepts opens answer tree new_files new_entered new_unfinished
+        by_entry (inl h) =
+            let none : GoesOnBy accepts opens answer (directory.dir ++ name ∷ []) nothing = subst (GoesOnBy accepts opens answer (directory.dir ++ name ∷ [])) (no_entry known h.0) on in
+            same_way new_files new_files new_entered new_entered (further ++ with_left directory after ∷ []) new_unfinished refl refl (h.2 ∙ u)
+            (way_past accepts opens answer tree files entered further directory (with_left directory after) name sub after.now left refl refl refl new_files new_entered own_file
+            (entered_itself accepts opens answer (directory.dir ++ name ∷ []) sub known on has ∙ h.0) (h.1 ∙ e)
+            (no_files accepts opens answer (directory.dir ++ name ∷ []) sub none) (none_entered accepts opens answer (directory.dir ++ name ∷ []) sub none) way)
+        by_entry (inr h) =
+            same_way new_files new_files new_entered new_entered ((further ++ with_left directory after ∷ []) ++ h.0 ∷ []) new_unfinished refl refl (h.3 ∙ ap (λ s. s ++ h.0 ∷ []) u)
+            (way_below accepts opens answer tree files entered further directory (with_left directory after) name sub after.now left refl refl refl new_files new_entered own_file
+            h.0 known on h.1 has (ap opens (sym (at' ∙ at)) ∙ open_there h.1.entered) (h.2 ∙ ap (λ s. s ++ (directory.dir ++ name ∷ []) ∷ []) e) way)
 
 -- each step of a walk leaves less to do
 pub less_finished : (further : List Entered) (directory : Entered) → work_left further < work_left (further ++ directory ∷ [])
