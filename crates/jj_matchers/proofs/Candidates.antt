@@ -1,5 +1,5 @@
 -- Which names an answer chooses from.
-use Rattle.std.proofs.Common.{◌≡◌, Bool, true, false, ◌&&◌, ◌||◌, List, [], ◌∷◌, ◌++◌, refl, ap, sym, ◌∙◌, inl, inr, if◌then◌else◌}
+use Rattle.std.proofs.Common.{◌≡◌, Bool, true, false, ◌&&◌, ◌||◌, List, [], ◌∷◌, ◌++◌, refl, ap, sym, subst, ◌∙◌, inl, inr, if◌then◌else◌}
 use mathlib.Core.Bool.{false≢true}
 use Rattle.std.specs.Str.{bytes_eq}
 use Rattle.std.specs.List.{list_any}
@@ -8,12 +8,12 @@ use Rattle.std.proofs.lemmas.List.Folds.{list_any-append}
 use Rattle.std.proofs.lemmas.Slice.Eq.{bytes_eq-Decides}
 use Rattle.jj_paths.specs.Paths.{Name, Path}
 use Rattle.jj_paths.specs.Orders.{path_eq, path_eq-Decides}
-use Rattle.jj_matchers.specs.Answers.{Answer, all_recursively, specific, nothing}
+use Rattle.jj_matchers.specs.Answers.{Answer, all_recursively, specific, nothing, IsSound}
 use Rattle.jj_matchers.specs.Visits.{is_among, sets_answer}
 use Rattle.jj_matchers.specs.Wanted.{is_at_or_below, is_below, is_wanted, leads_to_wanted, leads_to_prefix, has_prefix, files_answer, prefix_answer}
 use Rattle.jj_matchers.specs.Candidates.{IsAllOrAmong, ChoosesFrom, any_passes, names_of}
 use Rattle.jj_matchers.specs.Combined.{named_answer, union_answer, difference_answer, intersection_answer}
-use Rattle.jj_matchers.proofs.Wanted.{any_implies, is_at_or_below-append, below_dir}
+use Rattle.jj_matchers.proofs.Wanted.{any_implies, is_at_or_below-append, below_dir, files_sound, prefix_opens, prefix_sound}
 
 -- a test that a name passes is passed by some name
 found_among : (test : Name → Bool) (name : Name) → test name ≡ true → (names : List Name) → is_among names name ≡ true → list_any test names ≡ true
@@ -152,17 +152,30 @@ wanted_leads paths path = any_implies (path_eq path) (is_at_or_below path) at pa
     at : (wanted : Path) → path_eq path wanted ≡ true → is_at_or_below path wanted ≡ true
     at wanted e = ap (is_at_or_below path) (sym ((path_eq-Decides path wanted).0 e)) ∙ at_itself path
 
-pub files_choose : (wanted : List Path) (dir : Path) → ChoosesFrom (names_of wanted) (files_answer wanted dir)
+files_choose : (wanted : List Path) (dir : Path) → ChoosesFrom (names_of wanted) (files_answer wanted dir)
 files_choose wanted dir = by_cases (leads_to_wanted wanted dir)
   where
     by_cases : (t : Bool) → ChoosesFrom (names_of wanted) (if t then specific (λ name. leads_to_wanted wanted (dir ++ name ∷ [])) (λ name. is_wanted wanted (dir ++ name ∷ [])) else nothing)
     by_cases true = (inr (λ name e. leads_among wanted dir name (below_leads wanted (dir ++ name ∷ []) e)), inr (λ name e. leads_among wanted dir name (wanted_leads wanted (dir ++ name ∷ []) e)))
     by_cases false = tt
 
-pub prefixes_choose : (prefixes : List Path) (dir : Path) → ChoosesFrom (names_of prefixes) (prefix_answer prefixes dir)
+prefixes_choose : (prefixes : List Path) (dir : Path) → ChoosesFrom (names_of prefixes) (prefix_answer prefixes dir)
 prefixes_choose prefixes dir = by_cases (has_prefix prefixes dir) (leads_to_wanted prefixes dir)
   where
     by_cases : (t u : Bool) → ChoosesFrom (names_of prefixes) (if t then all_recursively else (if u then specific (λ name. leads_to_prefix prefixes (dir ++ name ∷ [])) (λ name. is_wanted prefixes (dir ++ name ∷ [])) else nothing))
     by_cases true u = tt
     by_cases false true = (inr (λ name e. leads_among prefixes dir name e), inr (λ name e. leads_among prefixes dir name (wanted_leads prefixes (dir ++ name ∷ []) e)))
     by_cases false false = tt
+
+-- an answer that is that of the wanted files, or of the prefixes, is sound, and chooses from their names
+pub files_answered : (marks wanted : List Path) (dir : Path) (answer : Answer) → marks ≡ wanted → answer ≡ files_answer marks dir
+    → (answer ≡ files_answer wanted dir) × IsSound (is_wanted wanted) (leads_to_wanted wanted) dir answer × ChoosesFrom (names_of wanted) answer
+files_answered marks wanted dir answer same is =
+    let own = is ∙ ap (λ files. files_answer files dir) same in
+    (own, subst (IsSound (is_wanted wanted) (leads_to_wanted wanted) dir) (sym own) (files_sound wanted dir), subst (ChoosesFrom (names_of wanted)) (sym own) (files_choose wanted dir))
+
+pub prefixes_answered : (marks prefixes : List Path) (dir : Path) (answer : Answer) → marks ≡ prefixes → answer ≡ prefix_answer marks dir
+    → (answer ≡ prefix_answer prefixes dir) × IsSound (has_prefix prefixes) (prefix_opens prefixes) dir answer × ChoosesFrom (names_of prefixes) answer
+prefixes_answered marks prefixes dir answer same is =
+    let own = is ∙ ap (λ paths. prefix_answer paths dir) same in
+    (own, subst (IsSound (has_prefix prefixes) (prefix_opens prefixes) dir) (sym own) (prefix_sound prefixes dir), subst (ChoosesFrom (names_of prefixes)) (sym own) (prefixes_choose prefixes dir))
