@@ -53,12 +53,15 @@ Told P (Err WriteOutput) found = ⊥
 Told P (Err (Matchers count)) found = ⊥
 Told P (Err (Line line kind)) found = found ≡ Some (Line line kind)
 
+-- a step at these fields of a line has the kind of fault that they have, and keeps what is known
+abbrev StepAgrees : {S : Type 0} → Command → (S → List (List ℕ) → Result S LineFault) → (List (List ℕ) → S → Type 0) → List (List ℕ) → S → List ℕ → List (List ℕ) → Type 0
+StepAgrees command step Keeps earlier state line fields = HasKind (step state fields) (kind_of_fields command earlier fields) × After (step state fields) (Keeps (earlier ++ line ∷ []))
+
 -- 2. Over lines, for any command.
 
 module _ {S : Type 0} (command : Command) (step : S → List (List ℕ) → Result S LineFault) (Keeps : List (List ℕ) → S → Type 0)
     (skips : (earlier : List (List ℕ)) (state : S) → Keeps earlier state → Keeps (earlier ++ [] ∷ []) state)
-    (steps : (earlier : List (List ℕ)) (state : S) (line : List ℕ) → Keeps earlier state
-    → HasKind (step state (fields_of line)) (kind_of_fields command earlier (fields_of line)) × After (step state (fields_of line)) (Keeps (earlier ++ line ∷ []))) where
+    (steps : (earlier : List (List ℕ)) (state : S) (line : List ℕ) → Keeps earlier state → StepAgrees command step Keeps earlier state line (fields_of line)) where
   -- the first line's answer, and then that of the others
   at_first : (number : ℕ) (earlier lines : List (List ℕ)) (r : Result S LineFault) (kind : Option LineFault) (line : List ℕ) → HasKind r kind → After r (Keeps (earlier ++ line ∷ []))
       → ((next : S) → Keeps (earlier ++ line ∷ []) next → Told (Keeps ((earlier ++ line ∷ []) ++ lines)) (after_lines step (number + 1) next lines) (first_fault command (earlier ++ line ∷ []) (number + 1) lines))
@@ -83,6 +86,15 @@ module _ {S : Type 0} (command : Command) (step : S → List (List ℕ) → Resu
       let P : List (List ℕ) → Type 0 = λ all. Told (Keeps all) (result_and_then (at_line number (step state (fields_of line))) (λ next. after_lines step (number + 1) next lines))
       (option_or (option_map (Line number) (kind_of_fields command earlier (fields_of line))) (first_fault command (earlier ++ line ∷ []) (number + 1) lines)) in
       subst P (append_assoc earlier (line ∷ []) lines) deep
+
+-- a line begins with a name, or has no field
+by_name : {S : Type 0} (command : Command) (step : S → List (List ℕ) → Result S LineFault) (Keeps : List (List ℕ) → S → Type 0) (earlier : List (List ℕ)) (state : S) (line : List ℕ) → step state [] ≡ Err UnknownCommand
+    → ((name : List ℕ) (fields : List (List ℕ)) → fields_of line ≡ name ∷ fields → StepAgrees command step Keeps earlier state line (name ∷ fields)) → StepAgrees command step Keeps earlier state line (fields_of line)
+by_name command step Keeps earlier state line none named = by (fields_of line) refl
+  where
+    by : (fields : List (List ℕ)) → fields_of line ≡ fields → StepAgrees command step Keeps earlier state line fields
+    by [] is = rw none (refl, tt)
+    by (name ∷ fields) is = named name fields is
 
 -- 3. The command `walk`: the height of the stack is the number of sets that are left.
 
@@ -176,16 +188,11 @@ higher earlier state line form (Ok next) is high grows =
     let down : cond {A = ℕ} (combines (form_of_line Walk line)) 1 0 ≡ cond {A = ℕ} (combines form) 1 0 = ap (λ f. cond {A = ℕ} (combines f) 1 0) is in
     omega (arith, ups, downs, up, down, high, grows)
 
-walk_steps : (earlier : List (List ℕ)) (state : WalkState) (line : List ℕ) → IsHigh earlier state
-    → HasKind (walk_step state (fields_of line)) (kind_of_fields Walk earlier (fields_of line)) × After (walk_step state (fields_of line)) (IsHigh (earlier ++ line ∷ []))
-walk_steps earlier state line high = by (fields_of line) refl
-  where
-    by : (fields : List (List ℕ)) → fields_of line ≡ fields → HasKind (walk_step state fields) (kind_of_fields Walk earlier fields) × After (walk_step state fields) (IsHigh (earlier ++ line ∷ []))
-    by [] is = (refl, tt)
-    by (name ∷ fields) is =
-        let height : sets_left earlier ≡ length state.stack = omega (arith, high) in
-        let tells = walk_names earlier state fields height name in
-        (tells.0, higher earlier state line (walk_form name) (walk_step state (name ∷ fields)) (ap (form_of_fields Walk) is) high tells.1)
+walk_steps : (earlier : List (List ℕ)) (state : WalkState) (line : List ℕ) → IsHigh earlier state → StepAgrees Walk walk_step IsHigh earlier state line (fields_of line)
+walk_steps earlier state line high = by_name Walk walk_step IsHigh earlier state line refl (λ name fields is.
+    let height : sets_left earlier ≡ length state.stack = omega (arith, high) in
+    let tells = walk_names earlier state fields height name in
+    (tells.0, higher earlier state line (walk_form name) (walk_step state (name ∷ fields)) (ap (form_of_fields Walk) is) high tells.1))
 
 walk_told : (text : List ℕ) → IsToldBy Walk (lines_of text) (walk_request text)
 walk_told text = by (after_lines walk_step 1 walk_start (lines_of text)) (told Walk walk_step IsHigh (λ earlier state high. higher earlier state [] unknown (Ok state) refl high refl) walk_steps 1 [] (lines_of text) walk_start refl)
@@ -318,15 +325,10 @@ longer earlier state line name fields (Ok next) is listing lists = λ id number.
     own id [] = refl
     own id (first ∷ others) = or_false _
 
-graph_steps : (earlier : List (List ℕ)) (state : GraphState) (line : List ℕ) → IsListing earlier state
-    → HasKind (graph_step state (fields_of line)) (kind_of_fields Graph earlier (fields_of line)) × After (graph_step state (fields_of line)) (IsListing (earlier ++ line ∷ []))
-graph_steps earlier state line listing = by (fields_of line) refl
-  where
-    by : (fields : List (List ℕ)) → fields_of line ≡ fields → HasKind (graph_step state fields) (kind_of_fields Graph earlier fields) × After (graph_step state fields) (IsListing (earlier ++ line ∷ []))
-    by [] is = (refl, tt)
-    by (name ∷ fields) is =
-        let tells = graph_names earlier state fields listing name in
-        (tells.0, longer earlier state line name fields (graph_step state (name ∷ fields)) is listing tells.1)
+graph_steps : (earlier : List (List ℕ)) (state : GraphState) (line : List ℕ) → IsListing earlier state → StepAgrees Graph graph_step IsListing earlier state line (fields_of line)
+graph_steps earlier state line listing = by_name Graph graph_step IsListing earlier state line refl (λ name fields is.
+    let tells = graph_names earlier state fields listing name in
+    (tells.0, longer earlier state line name fields (graph_step state (name ∷ fields)) is listing tells.1))
 
 graph_skips : (earlier : List (List ℕ)) (state : GraphState) → IsListing earlier state → IsListing (earlier ++ [] ∷ []) state
 graph_skips earlier state listing = λ id number.
