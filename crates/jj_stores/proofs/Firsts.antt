@@ -12,7 +12,7 @@ use Rattle.std.specs.declared.cmp.Ordering.{Ordering}
 use Rattle.std.specs.declared.cmp.Ordering.TheVariants.{Less, Equal, Greater}
 use Rattle.std.specs.Str.{bytes_eq}
 use Rattle.std.proofs.lemmas.Bool.Decides.{Decides-eqb}
-use Rattle.std.proofs.lemmas.List.{get_or-map, length-map, length-take, take_more}
+use Rattle.std.proofs.lemmas.List.{get_or-map, get_or-set_same, length-map, length-take, take_more}
 use Rattle.std.proofs.lemmas.List.Elements.{All-nil, All-head, All-tail, All-cons, All-more, All-set}
 use Rattle.std.proofs.lemmas.List.Sorted.{IsPermutation-map, sum_by-IsPermutation}
 use Rattle.std.proofs.lemmas.List.Sums.{sum_by-cons, get_or-le-sum_by}
@@ -238,6 +238,10 @@ module _ {X R : Type 0} (shows : X → List ℕ × ℕ) (remotes : Named (Named 
       let here : h.0 ≡ (shows x).1 = omega (arith, h.1) in
       subst (StandsAt (shows x).0 remotes) here h.2
 
+  -- the place of the top is that of a remote
+  pub top_below : (x : X) → 0 < length xs → x ≡ get_or xs 0 x → (shows x).1 < length remotes
+  top_below x some top = (top_stands x some top).0
+
   pub top_earliest : (x : X) → IsUpperBound (λ a b. earlier_cmp (shows a) (shows b)) x xs
       → IsEarliest (shows x).0 (shows x).1 0 remotes
   top_earliest x bound = earliest (shows x).0 (shows x).1 0 remotes
@@ -263,7 +267,7 @@ pub not_pushed : (o : Option (List ℕ × ℕ)) → None ≡ o → (firsts : Lis
     → sum_by count firsts ≡ sum_by count (option_to_list o) + sum_by count firsts
 not_pushed o is firsts count = let e = ap (λ p. sum_by count (option_to_list p)) is in omega (arith, e)
 
-pub popped : {X : Type 0} (shows : X → List ℕ × ℕ) (x : X) (xs ys : List X) → IsPermutation xs (x ∷ ys)
+popped : {X : Type 0} (shows : X → List ℕ × ℕ) (x : X) (xs ys : List X) → IsPermutation xs (x ∷ ys)
     → (count : List ℕ × ℕ → ℕ) → sum_by count (map shows ys) + count (shows x) ≡ sum_by count (map shows xs)
 popped shows x xs ys moved count =
     let a = sum_by-IsPermutation count (map shows xs) (shows x ∷ map shows ys) (IsPermutation-map shows xs (x ∷ ys) moved) in
@@ -289,7 +293,7 @@ module _ {R : Type 0} (remotes : Named (Named R)) where
         ascending = All-more (λ r. IsAscending r.1) remotes i remote below are.ascending (subst (λ r. IsAscending r.1) here up);
       }
 
-  pub firsts_taken : (name : List ℕ) (place : ℕ) (new : List ℕ × Named R) (old mid now : List (List ℕ × ℕ))
+  firsts_taken : (name : List ℕ) (place : ℕ) (new : List ℕ × Named R) (old mid now : List (List ℕ × ℕ))
       → StandsAt name remotes place → AreFirsts remotes old
       → ((count : List ℕ × ℕ → ℕ) → sum_by count mid + count (name, place) ≡ sum_by count old)
       → ((count : List ℕ × ℕ → ℕ) → sum_by count now ≡ sum_by count (option_to_list (first_at place new.1)) + sum_by count mid)
@@ -305,6 +309,19 @@ module _ {R : Type 0} (remotes : Named (Named R)) where
         omega (arith, a, b, d, e, f, g);
     ascending = All-set (λ r. IsAscending r.1) remotes place new up are.ascending;
   }
+
+  -- the top is gone, and its remote is a new one: with the first of that one, the firsts are those of the remotes again
+  pub firsts_left : {X : Type 0} (shows : X → List ℕ × ℕ) (xs ys : List X) (x : X) (new there : List ℕ × Named R) (now : List (List ℕ × ℕ))
+      → AreFirsts remotes (map shows xs) → 0 < length xs → x ≡ get_or xs 0 x → IsPermutation xs (x ∷ ys)
+      → there ≡ get_or (set remotes (shows x).1 new) (shows x).1 there
+      → ((count : List ℕ × ℕ → ℕ) → sum_by count now ≡ sum_by count (option_to_list (first_at (shows x).1 there.1)) + sum_by count (map shows ys))
+      → IsAscending there.1 → AreFirsts (set remotes (shows x).1 new) now
+  firsts_left shows xs ys x new there now are some top moved at come up =
+      let stands = top_stands shows remotes xs are x some top in
+      let is : there ≡ new = at ∙ get_or-set_same remotes (shows x).1 new there stands.0 in
+      firsts_taken (shows x).0 (shows x).1 new (map shows xs) (map shows ys) now stands are (popped shows x xs ys moved)
+      (λ count. come count ∙ ap (λ r. sum_by count (option_to_list (first_at (shows x).1 r.1)) + sum_by count (map shows ys)) is)
+      (subst (λ r. IsAscending r.1) is up)
 
   -- ---- a name that is above none, and is not the first
 

@@ -3,14 +3,13 @@ use Rattle.std.specs.BinaryHeap.{heap_items}
 use Rattle.std.specs.List.{All}
 use Rattle.std.specs.Map.{lookup}
 use Rattle.std.specs.Option.{option_copied, option_map}
-use Rattle.std.proofs.lemmas.List.{get_or-set_same}
 use Rattle.std.specs.Str.{bytes_eq}
 use Rattle.std.proofs.lemmas.List.Elements.{All-get_or}
 use Rattle.jj_ids.specs.Names.{name_of}
 use Rattle.jj_stores.specs.Firsts.{first_at, first_of}
 use Rattle.jj_stores.specs.ViewJoins.{IsAscending, IsLeast, LosesAt, remotes_with}
 use Rattle.jj_stores.specs.JoinRows.{ref_of}
-use Rattle.jj_stores.proofs.Firsts.{no_firsts, top_stands, top_earliest, first_of_remotes, absent_name, named_top, never_missed, firsts_taken, pushed, not_pushed, popped}
+use Rattle.jj_stores.proofs.Firsts.{no_firsts, top_stands, top_below, top_earliest, first_of_remotes, absent_name, named_top, never_missed, firsts_left, pushed, not_pushed}
 use Rattle.jj_stores.proofs.FlatTaken.{ref_taken}
 use Rattle.jj_stores.proofs.JoinSteps.{no_remotes}
 use Rattle.jj_stores.proofs.op_store.remotes_left.RemotesLeft.take_ref.Goals.{in-Some-first_name+in-Ok, in_default-first_name}
@@ -37,24 +36,19 @@ returns-then-ne c =
 
 pub index_mut-requires : goal.index_mut-requires
 index_mut-requires c =
-    let below = (top_stands first_of c.self.inside.remotes.items _ c.self.invariant.0 c.in_ok-place.field-0
-    c.in_ok-first.ensures.item.3.0 c.in_ok-place.ensures.top).0 in
-    omega (arith, below, c.self.inside.remotes.ok)
+    omega (arith, top_below first_of c.self.inside.remotes.items _ c.self.invariant.0 c.in_ok-place.field-0 c.in_ok-first.ensures.item.3.0 c.in_ok-place.ensures.top, c.self.inside.remotes.ok)
 
 pub take_at-requires : goal.take_at-requires
 take_at-requires c =
     let remotes = c.self.inside.remotes.items in
-    let below = (top_stands first_of remotes _ c.self.invariant.0 c.in_ok-place.field-0
-    c.in_ok-first.ensures.item.3.0 c.in_ok-place.ensures.top).0 in
+    let below = top_below first_of remotes _ c.self.invariant.0 c.in_ok-place.field-0 c.in_ok-first.ensures.item.3.0 c.in_ok-place.ensures.top in
     let least = subst (λ v. All (λ r. IsLeast c.args.name.now r.1) v) (sym c.self.view_is) c.requires in
     subst (λ r. IsLeast c.args.name.now r.1) (sym c.index_mut.ensures.value)
     (All-get_or (λ r. IsLeast c.args.name.now r.1) remotes c.in_ok-place.field-0.0.1 c.index_mut.result.now below least)
 
 pub index-requires : goal.index-requires
 index-requires c =
-    let below = (top_stands first_of c.self.inside.remotes.items _ c.self.invariant.0 c.in_ok-place.field-0
-    c.in_ok-first.ensures.item.3.0 c.in_ok-place.ensures.top).0 in
-    omega (arith, below, c.self.inside.remotes.ok)
+    omega (arith, top_below first_of c.self.inside.remotes.items _ c.self.invariant.0 c.in_ok-place.field-0 c.in_ok-first.ensures.item.3.0 c.in_ok-place.ensures.top, c.self.inside.remotes.ok)
 
 pub unreachable-requires : goal.unreachable-requires
 unreachable-requires c =
@@ -66,36 +60,23 @@ unreachable-requires c =
 
 pub invariant_of-self-in-Ok : goal.invariant_of-self-in-Ok
 invariant_of-self-in-Ok c =
-    let remotes = c.self.inside.remotes.items in
     let top = c.in_ok-place.field-0 in
     let place = top.0.1 in
-    let stands = top_stands first_of remotes _ c.self.invariant.0 top c.in_ok-first.ensures.item.3.0 c.in_ok-place.ensures.top in
-    let left : c.index.result.now ≡ c.take_at.new.self = c.index.ensures ∙ get_or-set_same remotes place c.take_at.new.self c.index.result.now stands.0 in
-    let come : Some (name_of c.as_name-in-Some-first_name.result, place) ≡ first_at place c.take_at.new.self.1 =
+    let come : Some (name_of c.as_name-in-Some-first_name.result, place) ≡ first_at place c.index.result.now.1 =
     ap (λ n. Some (n, place)) c.as_name-in-Some-first_name.ensures
-    ∙ ap (option_map (λ n. (n, place))) (sym (ap option_copied c.in-Some-first_name.is) ∙ c.first_name.ensures.first)
-    ∙ ap (λ r. first_at place r.1) left in
-    let left_over = map first_of (heap_items c.pop.new.self) in (
-      firsts_taken remotes (name_of top.0.0) place c.take_at.new.self _ left_over _ stands c.self.invariant.0
-          (popped first_of top _ _ c.in_ok-place.ensures.permutation)
-          (pushed first_of _ _ _ c.in-Ok.ensures.permutation _ come) (subst (λ r. IsAscending r.1) left c.first_name.ensures.ascending),
+    ∙ ap (option_map (λ n. (n, place))) (sym (ap option_copied c.in-Some-first_name.is) ∙ c.first_name.ensures.first) in (
+      firsts_left c.self.inside.remotes.items first_of _ _ top c.take_at.new.self c.index.result.now _ c.self.invariant.0 c.in_ok-first.ensures.item.3.0 c.in_ok-place.ensures.top
+          c.in_ok-place.ensures.permutation c.index.ensures (pushed first_of _ _ _ c.in-Ok.ensures.permutation _ come) c.first_name.ensures.ascending,
       c.in-Ok.ensures.heap_order (c.in_ok-place.ensures.heap_order c.self.invariant.1).0,
     )
 
 pub invariant_of-self-in_default-first_name : goal.invariant_of-self-in_default-first_name
 invariant_of-self-in_default-first_name c =
-    let remotes = c.self.inside.remotes.items in
     let top = c.in_ok-place.field-0 in
-    let place = top.0.1 in
-    let stands = top_stands first_of remotes _ c.self.invariant.0 top c.in_ok-first.ensures.item.3.0 c.in_ok-place.ensures.top in
-    let left : c.index.result.now ≡ c.take_at.new.self = c.index.ensures ∙ get_or-set_same remotes place c.take_at.new.self c.index.result.now stands.0 in
-    let none : None ≡ first_at place c.take_at.new.self.1 =
-    ap (option_map (λ n. (n, place))) (sym (ap option_copied c.in_default-first_name.is) ∙ c.first_name.ensures.first)
-    ∙ ap (λ r. first_at place r.1) left in
-    let left_over = map first_of (heap_items c.pop.new.self) in (
-      firsts_taken remotes (name_of top.0.0) place c.take_at.new.self _ left_over _ stands c.self.invariant.0
-          (popped first_of top _ _ c.in_ok-place.ensures.permutation)
-          (not_pushed _ none left_over) (subst (λ r. IsAscending r.1) left c.first_name.ensures.ascending),
+    let none : None ≡ first_at top.0.1 c.index.result.now.1 =
+    ap (option_map (λ n. (n, top.0.1))) (sym (ap option_copied c.in_default-first_name.is) ∙ c.first_name.ensures.first) in (
+      firsts_left c.self.inside.remotes.items first_of _ _ top c.take_at.new.self c.index.result.now _ c.self.invariant.0 c.in_ok-first.ensures.item.3.0 c.in_ok-place.ensures.top
+          c.in_ok-place.ensures.permutation c.index.ensures (not_pushed _ none (map first_of (heap_items c.pop.new.self))) c.first_name.ensures.ascending,
       (c.in_ok-place.ensures.heap_order c.self.invariant.1).0,
     )
 
