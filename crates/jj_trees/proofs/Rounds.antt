@@ -93,8 +93,10 @@ module _ (eq : Option TreeValue → Option TreeValue → Bool) (same : (v w : Op
             let there = image_of f ys a.1 (a.0, a.2, a.3) in
             inl (subst (Contains (map (λ y. (f y).0) ys)) (ap (λ r. r.0) there.2 ∙ a.4) (into_image (λ y. (f y).0) ys there.0 there.1))
 
-    pub all_merged : IsAppended trees eq same_change values labels dir old_r new_r old_c new_c
-    all_merged = merged eq same trees same_change labels levels values dir (map (λ y. (f y).0) ys) old_r new_r old_c new_c passed every
-
-    pub all_rows_within : All (IsThere trees) values → (upto : ℕ) → upto ≡ levels + 1 → IsWithin trees eq same_change values upto
-    all_rows_within = all_within eq same trees same_change labels levels values dir (map (λ y. (f y).0) ys) old_r new_r old_c new_c passed every
+    -- so all is merged, and within one level more than what is below, where all trees are there
+    pub all_rows : IsAppended trees eq same_change values labels dir old_r new_r old_c new_c
+        × (All (IsThere trees) values → (upto : ℕ) → upto ≡ levels + 1 → IsWithin trees eq same_change values upto)
+    all_rows = (
+      merged eq same trees same_change labels levels values dir (map (λ y. (f y).0) ys) old_r new_r old_c new_c passed every,
+      all_within eq same trees same_change labels levels values dir (map (λ y. (f y).0) ys) old_r new_r old_c new_c passed every,
+    )

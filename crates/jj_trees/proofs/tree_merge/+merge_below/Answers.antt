@@ -10,7 +10,7 @@ use Rattle.jj_trees.specs.TreeMerges.{Values, conflict_entries}
 use Rattle.jj_backend.specs.contracts.backend.tree_value.TreeValuePartialEq.TheImpl as tree_values
 use Rattle.jj_trees.proofs.Merging.{same_values, passed_none}
 use Rattle.jj_trees.proofs.Passing.{rows_start, rows_next, next_row, row_length, same_sides}
-use Rattle.jj_trees.proofs.Rounds.{rows_passed, row_here, row_entered, row_refused, rows_ended, no_row, all_merged, all_rows_within}
+use Rattle.jj_trees.proofs.Rounds.{rows_passed, row_here, row_entered, row_refused, rows_ended, no_row, all_rows}
 use Rattle.jj_trees.proofs.tree_merge.+merge_below.Goals as goal
 use Rattle.jj_trees.proofs.tree_merge.+merge_below.Goals.{in-None-entered, in-Some-entered+in_ok-merge_below-in-Some-entered}
 
@@ -93,19 +93,11 @@ loop-row-preserved g t c =
       ];
     }
 
-pub returns-clause-merge : goal.returns-clause-merge
-returns-clause-merge g t c =
-    all_merged (option_eq tree_values.eq-value.it) same_values (g.B.Backend.objects c.args.backend.now).trees c.args.same_change c.args.labels.now
+pub returns : goal.returns
+returns g t c =
+    let merged = all_rows (option_eq tree_values.eq-value.it) same_values (g.B.Backend.objects c.args.backend.now).trees c.args.same_change c.args.labels.now
     (c.args.levels - 1) c.args.values.now (path_of c.args.dir) parts refl c.requires.odd c.loop-row.yielded
     (rows_ended parts _ c.loop-row.yielded _ (no_row c.loop-row.row-iterator c.next.result c.next.new.self c.in-None.is c.next.ensures.steps) c.loop-row.invariant.rows)
     c.args.merged.now.resolved.items c.loop-row.merged.resolved.items
-    (conflict_entries c.args.merged.now.conflicts.items) (conflict_entries c.loop-row.merged.conflicts.items) c.loop-row.invariant.passed
-
-pub returns-clause-within : goal.returns-clause-within
-returns-clause-within g t c =
-    all_rows_within (option_eq tree_values.eq-value.it) same_values (g.B.Backend.objects c.args.backend.now).trees c.args.same_change c.args.labels.now
-    (c.args.levels - 1) c.args.values.now (path_of c.args.dir) parts refl c.requires.odd c.loop-row.yielded
-    (rows_ended parts _ c.loop-row.yielded _ (no_row c.loop-row.row-iterator c.next.result c.next.new.self c.in-None.is c.next.ensures.steps) c.loop-row.invariant.rows)
-    c.args.merged.now.resolved.items c.loop-row.merged.resolved.items
-    (conflict_entries c.args.merged.now.conflicts.items) (conflict_entries c.loop-row.merged.conflicts.items) c.loop-row.invariant.passed
-    c.in_ok-trees.ensures.there c.args.levels (omega arith)
+    (conflict_entries c.args.merged.now.conflicts.items) (conflict_entries c.loop-row.merged.conflicts.items) c.loop-row.invariant.passed in
+    record { merge = merged.0; within = merged.1 c.in_ok-trees.ensures.there c.args.levels (omega arith); refused = tt }
