@@ -1,9 +1,9 @@
-use Rattle.std.proofs.Common.{◌++◌, ◌∷◌, [], ◌∙◌, Some, map, ap, sym, subst, rules, append-nil}
-use Rattle.std.proofs.lemmas.List.{map-append, append_assoc}
+use Rattle.std.proofs.Common.{◌∙◌, Some, ap, subst, rules}
 use Rattle.jj_stores.specs.JoinRows.{AreLeft}
 use Rattle.jj_stores.specs.JoinSteps.{row_of, GivesRow}
 use Rattle.jj_stores.specs.ViewJoins.{IsViewJoin}
 use Rattle.jj_stores.proofs.ShownRefs.{remotes_shown}
+use Rattle.jj_stores_tests.proofs.TakenItems.{one_taken, all_taken}
 use Rattle.jj_stores_tests.proofs.callers.joined_bookmarks.Goals as goal
 
 pub loop-row-init : goal.loop-row-init
@@ -22,20 +22,16 @@ loop-row-init c =
 
 pub loop-row-preserved : goal.loop-row-preserved
 loop-row-preserved c =
-    let row = c.in_ok-row.field-0 in
-    let items = c.loop-row.rows.items in
     let gave = subst (λ r. GivesRow c.loop-row.row-iterator r c.next.new.self) (c.in-Some.is ∙ ap Some c.in_ok-row.was)
     c.next.ensures.steps in
     record {
       can = tt;
       ends = tt;
-      join = λ rest left.
-          let more = sym (ap (λ l. map row_of l ++ rest) c.in_ok-push.ensures.items
-          ∙ ap (λ l. l ++ rest) (map-append row_of items (row ∷ [])) ∙ append_assoc (map row_of items) (row_of row ∷ []) rest) in
-          rw (← more) (c.loop-row.invariant.join (row_of row ∷ rest) (gave rest left));
+      join = one_taken row_of (IsViewJoin c.args.view.now.local_bookmarks.entries _) _ (AreLeft c.loop-row.row-iterator) c.loop-row.invariant.join
+          _ c.in_ok-row.field-0 (AreLeft c.next.new.self) c.in_ok-push.ensures.items gave;
     }
 
 pub returns : goal.returns
 returns c =
-    let gave = subst (λ r. GivesRow c.loop-row.row-iterator r c.next.new.self) c.in-None.is c.next.ensures.steps in
-    rw (← append-nil (map row_of c.loop-row.rows.items)) (c.loop-row.invariant.join [] gave.0)
+    all_taken row_of (IsViewJoin c.args.view.now.local_bookmarks.entries _) _ (AreLeft c.loop-row.row-iterator) c.loop-row.invariant.join
+    (subst (λ r. GivesRow c.loop-row.row-iterator r c.next.new.self) c.in-None.is c.next.ensures.steps).0
