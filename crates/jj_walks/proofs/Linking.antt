@@ -1,12 +1,11 @@
 -- The counts of edges to each place, while lists of neighbours become lists of places.
-use Rattle.std.proofs.Common.{◌≡◌, ℕ, ◌+◌, ◌<◌, cond, Option, None, Some, List, [], ◌∷◌, ◌++◌, length, map, get_or, set, take, refl, ◌∙◌, ap, arith, eqb, inl, inr, append-nil, get_or-set_same, get_or-set_other}
+use Rattle.std.proofs.Common.{◌≡◌, ℕ, ◌+◌, ◌<◌, cond, Option, None, Some, List, [], ◌∷◌, ◌++◌, length, map, get_or, set, take, refl, arith, eqb, ⊎_elim, append-nil}
 use Rattle.std.specs.List.{count_by, filter_map}
-use Rattle.std.proofs.lemmas.Bool.{cases_eq}
 use Rattle.std.proofs.lemmas.List.{map_push, take_more}
 use Rattle.std.proofs.lemmas.List.Elements.{filter_map-append}
 use Rattle.std.proofs.lemmas.List.Sums.{sum_by_push}
 use Rattle.jj_walks.specs.ReadyNodes.{edges_to}
-use Rattle.jj_walks.proofs.TakingReady.{one_at, zero_at, read_is}
+use Rattle.jj_walks.proofs.TakingReady.{at_set, read_is}
 
 -- the counts are those of the lists that are linked, and of what there is of the next
 abbrev pub AreCounts : ℕ → List ℕ → List (List ℕ) → List ℕ → Type 0
@@ -18,17 +17,7 @@ counts_edge n degrees places targets p r c before lt e more k below =
     let was = before k below in
     let one_more : count_by (eqb k) (places ++ p ∷ []) ≡ count_by (eqb k) places + cond (eqb k p) 1 0 = sum_by_push (λ y. cond (eqb k y) 1 0) places p in
     let is = read_is degrees p r lt e in
-    elim (cases_eq k p) [
-      | inl q ↦
-          let one : cond {A = ℕ} (eqb k p) 1 0 ≡ 1 = ap (λ n. cond {A = ℕ} (eqb n p) 1 0) q ∙ one_at p in
-          let new : get_or (set degrees p c) k 0 ≡ c = ap (λ n. get_or (set degrees p c) n 0) q ∙ get_or-set_same degrees p c 0 lt in
-          let old : get_or degrees k 0 ≡ get_or degrees p 0 = ap (λ n. get_or degrees n 0) q in
-          omega arith
-      | inr ne ↦
-          let none = zero_at k p ne in
-          let other : get_or (set degrees p c) k 0 ≡ get_or degrees k 0 = get_or-set_other degrees p k c 0 ne in
-          omega arith
-    ]
+    ⊎_elim (λ (one, new, old). omega arith) (λ (none, other). omega arith) (at_set degrees p c k lt)
 
 pub counts_list : (n : ℕ) (degrees places : List ℕ) (targets : List (List ℕ)) → AreCounts n degrees targets places → AreCounts n degrees (targets ++ places ∷ []) []
 counts_list n degrees places targets before k below =

@@ -99,6 +99,14 @@ then_first Greater p h = refl
 pub read_is : (xs : List ℕ) (i r : ℕ) → i < length xs → r ≡ get_or xs i r → get_or xs i 0 ≡ r
 read_is xs i r lt e = get_or_default xs i 0 r lt ∙ sym e
 
+-- a count that is set anew changes at its own place alone, which is where an edge to it counts
+pub at_set : (xs : List ℕ) (i new k : ℕ) → i < length xs → ((cond {A = ℕ} (eqb k i) 1 0 ≡ 1) × (get_or (set xs i new) k 0 ≡ new) × (get_or xs k 0 ≡ get_or xs i 0))
+    ⊎ ((cond {A = ℕ} (eqb k i) 1 0 ≡ 0) × (get_or (set xs i new) k 0 ≡ get_or xs k 0))
+at_set xs i new k lt = elim (cases_eq k i) [
+  | inl e ↦ inl (ap (λ n. cond {A = ℕ} (eqb n i) 1 0) e ∙ one_at i, ap (λ n. get_or (set xs i new) n 0) e ∙ get_or-set_same xs i new 0 lt, ap (λ n. get_or xs n 0) e)
+  | inr ne ↦ inr (zero_at k i ne, get_or-set_other xs i k new 0 ne)
+]
+
 pub none_is : {X : Type 0} (o : Option X) → is_some o ≡ false → o ≡ None
 none_is None h = refl
 none_is (Some x) h = absurd (true≢false h)
@@ -116,12 +124,23 @@ module _ {T : Type 0} (cmp : T → T → Ordering) (slots : List (Option T)) (ts
       ((get_or degrees k 0 ≡ 0) × (get_or waiting k None ≡ None) × (placed order ready k ≡ 1))
       ⊎ ((0 < get_or degrees k 0) × (get_or waiting k None ≡ get_or slots k None) × (placed order ready k ≡ 0))
 
+  -- each node that is ready stands in the slot of its place
+  abbrev pub AreInSlots : List (T × ℕ) → Type 0
+  AreInSlots ready = (x : T) (k : ℕ) → Contains ready (x, k) → (k < length slots) × (get_or slots k None ≡ Some x)
+
+  in_slots_push : (x : T) (i : ℕ) (ready ready2 : List (T × ℕ)) → AreInSlots ready → i < length slots → get_or slots i None ≡ Some x → IsPermutation ((x, i) ∷ ready) ready2 → AreInSlots ready2
+  in_slots_push x i ready ready2 before lt value perm = λ y j h.
+      elim (Contains-append_cases {X = T × ℕ} ((x, i) ∷ []) ready (y, j) (Contains-permutation {X = T × ℕ} ready2 ((x, i) ∷ ready) (y, j) (IsPermutation-sym ((x, i) ∷ ready) ready2 perm) h)) [
+        | inl l ↦ subst (λ (p : T × ℕ). (p.1 < length slots) × (get_or slots p.1 None ≡ Some p.0)) (only_one {X = T × ℕ} (x, i) (y, j) l) (lt, value)
+        | inr r ↦ before y j r
+      ]
+
   -- `live` has the lists of the nodes not taken, `extra` what is left of the last one's
   pub record IsTaking (waiting : List (Option T)) (degrees extra : List ℕ) (live : List (List ℕ)) (order : List ℕ) (ready : List (T × ℕ)) : Type 0 where
     pub waits : length waiting ≡ length slots
     pub counters : length degrees ≡ length slots
     pub lists : length live ≡ length slots
-    pub heaped : (x : T) (k : ℕ) → Contains ready (x, k) → (k < length slots) × (get_or slots k None ≡ Some x)
+    pub heaped : AreInSlots ready
     pub status : (k : ℕ) → k < length slots → HasStatus waiting degrees order ready k
     pub counts : (k : ℕ) → k < length slots → get_or degrees k 0 ≡ count_by (eqb k) extra + edges_to live k
     pub live_is : (k : ℕ) → k < length slots → get_or live k [] ≡ cond (has order k) [] (get_or ts k [])
@@ -260,18 +279,7 @@ module _ {T : Type 0} (cmp : T → T → Ordering) (slots : List (Option T)) (ts
   counts_less {degrees = degrees} {extra} {live} t d k lt less j below =
       let total : get_or degrees j 0 ≡ count_by (eqb j) (t ∷ extra) + edges_to live j = k.counts j below in
       let more : count_by (eqb j) (t ∷ extra) ≡ cond (eqb j t) 1 0 + count_by (eqb j) extra = sum_by-cons (λ y. cond (eqb j y) 1 0) t extra in
-      let within : t < length degrees = rw (k.counters) lt in
-      elim (cases_eq j t) [
-        | inl e ↦
-            let one : cond {A = ℕ} (eqb j t) 1 0 ≡ 1 = ap (λ n. cond {A = ℕ} (eqb n t) 1 0) e ∙ one_at t in
-            let new : get_or (set degrees t d) j 0 ≡ d = ap (λ n. get_or (set degrees t d) n 0) e ∙ get_or-set_same degrees t d 0 within in
-            let old : get_or degrees j 0 ≡ get_or degrees t 0 = ap (λ n. get_or degrees n 0) e in
-            omega arith
-        | inr ne ↦
-            let none = zero_at j t ne in
-            let other : get_or (set degrees t d) j 0 ≡ get_or degrees j 0 = get_or-set_other degrees t j d 0 ne in
-            omega arith
-      ]
+      ⊎_elim (λ (one, new, old). omega arith) (λ (none, other). omega arith) (at_set degrees t d j (rw (k.counters) lt))
 
   -- an edge is counted off, and others to its target are left
   pub taking_kept : {waiting : List (Option T)} {degrees extra : List ℕ} {live : List (List ℕ)} {order : List ℕ} {ready : List (T × ℕ)} (t d : ℕ) → IsTaking waiting degrees (t ∷ extra) live order ready
@@ -307,13 +315,7 @@ module _ {T : Type 0} (cmp : T → T → Ordering) (slots : List (Option T)) (ts
         waits = length-set waiting t None ∙ k.waits;
         counters = length-set degrees t 0 ∙ k.counters;
         lists = k.lists;
-        heaped = λ y j h. elim (Contains-append_cases {X = T × ℕ} ((x, t) ∷ []) ready (y, j) (Contains-permutation {X = T × ℕ} ready2 ((x, t) ∷ ready) (y, j) (IsPermutation-sym ((x, t) ∷ ready) ready2 perm) h)) [
-          | inl l ↦
-              let e : (x, t) ≡ (y, j) = only_one {X = T × ℕ} (x, t) (y, j) l in
-              let value : get_or slots t None ≡ Some x = sym was.1 ∙ is in
-              subst (λ (p : T × ℕ). (p.1 < length slots) × (get_or slots p.1 None ≡ Some p.0)) e (lt, value)
-          | inr r ↦ k.heaped y j r
-        ];
+        heaped = in_slots_push x t ready ready2 k.heaped lt (sym was.1 ∙ is) perm;
         status = λ j below. elim (cases_eq j t) [
           | inl e ↦ subst (λ (n : ℕ). HasStatus (set waiting t None) (set degrees t 0) order ready2 n) (sym e)
               (inl (
@@ -341,7 +343,7 @@ module _ {T : Type 0} (cmp : T → T → Ordering) (slots : List (Option T)) (ts
 
   pub record IsSorting (degrees : List ℕ) (index : ℕ) (waiting : List (Option T)) (ready : List (T × ℕ)) : Type 0 where
     pub waits : length waiting ≡ length slots
-    pub heaped : (x : T) (k : ℕ) → Contains ready (x, k) → (k < length slots) × (get_or slots k None ≡ Some x)
+    pub heaped : AreInSlots ready
     pub done : (k : ℕ) → k < index → HasStatus waiting degrees [] ready k
     pub rest : (k : ℕ) → index ≤ k → k < length slots → (get_or waiting k None ≡ get_or slots k None) × (placed [] ready k ≡ 0)
 
@@ -377,13 +379,7 @@ module _ {T : Type 0} (cmp : T → T → Ordering) (slots : List (Option T)) (ts
       (get_or-set_other waiting index j None None ne, omega arith) in
       record {
         waits = length-set waiting index None ∙ k.waits;
-        heaped = λ y j h. elim (Contains-append_cases {X = T × ℕ} ((x, index) ∷ []) ready (y, j) (Contains-permutation {X = T × ℕ} ready2 ((x, index) ∷ ready) (y, j) (IsPermutation-sym ((x, index) ∷ ready) ready2 perm) h)) [
-          | inl l ↦
-              let e : (x, index) ≡ (y, j) = only_one {X = T × ℕ} (x, index) (y, j) l in
-              let value : get_or slots index None ≡ Some x = sym was.0 ∙ is in
-              subst (λ (p : T × ℕ). (p.1 < length slots) × (get_or slots p.1 None ≡ Some p.0)) e (lt, value)
-          | inr r ↦ k.heaped y j r
-        ];
+        heaped = in_slots_push x index ready ready2 k.heaped lt (sym was.0 ∙ is) perm;
         done = λ j below. elim (cases_eq j index) [
           | inl e ↦ subst (λ (n : ℕ). HasStatus (set waiting index None) degrees [] ready2 n) (sym e)
               (inl (
