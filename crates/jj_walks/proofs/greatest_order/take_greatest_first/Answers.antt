@@ -110,35 +110,29 @@ pub loop-target-preserved : goal.loop-target-preserved
 loop-target-preserved g c =
     let before = c.loop-target.invariant in
     let lt = next_target c.deref-target-items.result.now c.loop-target.target-index (length c.args.waiting.items) (omega arith) (λ b h. c.requires.within c.in-Some.index b (rw before.list at h)) in
-    elim c.if-index-eq0-2.branch [
-      | then-index-eq0-2+in_ok-make_ready-2 w ↦
-          let a = w.in_ok-make_ready-2.ensures in
-          record {
-            heap_order = rw (w.ready-is) (a.heap_order before.heap_order);
-            list = before.list;
-            taking = (
-              before.taking.0,
-              before.taking.1,
-              before.taking.2,
+    record {
+      heap_order = elim c.if-index-eq0-2.branch [
+        | then-index-eq0-2+in_ok-make_ready-2 w ↦ rw (w.ready-is) (w.in_ok-make_ready-2.ensures.heap_order before.heap_order)
+        | else-index-eq0-2 w ↦ rw (w.ready-is) before.heap_order
+      ];
+      list = before.list;
+      taking = (
+        before.taking.0,
+        before.taking.1,
+        before.taking.2,
+        elim c.if-index-eq0-2.branch [
+          | then-index-eq0-2+in_ok-make_ready-2 w ↦
+              let a = w.in_ok-make_ready-2.ensures in
               rw (w.waiting-is, w.ready-is)
-                  (edge_readied g.T.Ord.cmp c.args.waiting.items (map (λ ts. ts.items) c.args.targets.now) c.deref-target-items.result.now c.loop-target.target-index c.index_mut.result.now c.index-in-loop-target.result.now _ _ before.taking.3 (omega arith) lt
-                  c.index_mut.ensures.value c.index-in-loop-target.ensures w.if-index-eq0-2.true (c.requires.present _ lt) a.waiting a.ready),
-            );
-          }
-      | else-index-eq0-2 w ↦
-          record {
-            heap_order = rw (w.ready-is) before.heap_order;
-            list = before.list;
-            taking = (
-              before.taking.0,
-              before.taking.1,
-              before.taking.2,
+              (edge_readied g.T.Ord.cmp c.args.waiting.items (map (λ ts. ts.items) c.args.targets.now) c.deref-target-items.result.now c.loop-target.target-index c.index_mut.result.now c.index-in-loop-target.result.now _ _ before.taking.3 (omega arith) lt
+              c.index_mut.ensures.value c.index-in-loop-target.ensures w.if-index-eq0-2.true (c.requires.present _ lt) a.waiting a.ready)
+          | else-index-eq0-2 w ↦
               rw (w.waiting-is, w.ready-is)
-                  (edge_kept g.T.Ord.cmp c.args.waiting.items (map (λ ts. ts.items) c.args.targets.now) c.deref-target-items.result.now c.loop-target.target-index c.index_mut.result.now c.index-in-loop-target.result.now before.taking.3 (omega arith) lt
-                  c.index_mut.ensures.value c.index-in-loop-target.ensures w.if-index-eq0-2.false),
-            );
-          }
-    ]
+              (edge_kept g.T.Ord.cmp c.args.waiting.items (map (λ ts. ts.items) c.args.targets.now) c.deref-target-items.result.now c.loop-target.target-index c.index_mut.result.now c.index-in-loop-target.result.now before.taking.3 (omega arith) lt
+              c.index_mut.ensures.value c.index-in-loop-target.ensures w.if-index-eq0-2.false)
+        ],
+      );
+    }
 
 pub returns-then-is_some : goal.returns-then-is_some
 returns-then-is_some g c =
