@@ -1,5 +1,4 @@
-use Rattle.std.proofs.Common.{◌≡◌, true, false, true≢false, sym, ◌∙◌, ap}
-use Rattle.jj_walks.specs.Branches.{has_child}
+use Rattle.std.proofs.Common.{◌≡◌, true, false, true≢false, sym, ◌∙◌}
 use Rattle.jj_walks.specs.Grouped.{is_shown}
 use Rattle.jj_walks.specs.Listed.{items_at}
 use Rattle.jj_walks.proofs.CandidateLists.{is_shown-missing, is_shown-other}
@@ -15,27 +14,23 @@ loop-edge-preserved g c =
     elim c.if-not-is_missing.branch [
       | then-not-is_missing+in_ok-clone+in_ok-clone-2+in_ok-push_at w ↦
           let shown : is_shown edge.edge_type ≡ true = is_shown-other edge.edge_type (λ e. absurd (true≢false (sym (c.is_missing.ensures.1 e) ∙ w.if-not-is_missing.true))) in
-          record {
-            ids = ap (λ s. s.ids) w.self-is ∙ before.ids;
-            heads = ap (λ s. s.heads) w.self-is ∙ before.heads;
-            blocked = ap (λ s. s.blocked) w.self-is ∙ before.blocked;
-            children = λ j i.
-                ap (λ s. has_child eq s.children j i) w.self-is
-                ∙ child-put g.met.ID.Eq.laws c.args.edges.now c.loop-edge.edge-index edge w.in_ok-clone.field-0 c.args.id.now w.in_ok-clone-2.field-0
+          rw (w.self-is) (record {
+            ids = before.ids;
+            heads = before.heads;
+            blocked = before.blocked;
+            children = child-put g.met.ID.Eq.laws c.args.edges.now c.loop-edge.edge-index edge w.in_ok-clone.field-0 c.args.id.now w.in_ok-clone-2.field-0
                 (items_at eq c.args.self.now.children) (items_at eq c.loop-edge.self.children) (items_at eq w.push_at.new.lists) c.loop-edge-test.true c.edge-item.is shown
                 (c.requires.clones edge.target w.in_ok-clone.field-0 w.in_ok-clone.ensures.cases)
                 (c.requires.clones c.args.id.now w.in_ok-clone-2.field-0 w.in_ok-clone-2.ensures.cases)
-                w.in_ok-push_at.ensures before.children j i;
-          }
+                w.in_ok-push_at.ensures before.children;
+          })
       | else-not-is_missing w ↦
           let missing : is_shown edge.edge_type ≡ false = is_shown-missing edge.edge_type (c.is_missing.ensures.0 w.if-not-is_missing.false) in
-          record {
-            ids = ap (λ s. s.ids) w.self-is ∙ before.ids;
-            heads = ap (λ s. s.heads) w.self-is ∙ before.heads;
-            blocked = ap (λ s. s.blocked) w.self-is ∙ before.blocked;
-            children = λ j i.
-                ap (λ s. has_child eq s.children j i) w.self-is
-                ∙ child-missing g.met.ID.Eq.laws c.args.edges.now c.loop-edge.edge-index edge c.args.id.now (items_at eq c.args.self.now.children) (items_at eq c.loop-edge.self.children)
-                c.loop-edge-test.true c.edge-item.is missing before.children j i;
-          }
+          rw (w.self-is) (record {
+            ids = before.ids;
+            heads = before.heads;
+            blocked = before.blocked;
+            children = child-missing g.met.ID.Eq.laws c.args.edges.now c.loop-edge.edge-index edge c.args.id.now (items_at eq c.args.self.now.children) (items_at eq c.loop-edge.self.children)
+                c.loop-edge-test.true c.edge-item.is missing before.children;
+          })
     ]
