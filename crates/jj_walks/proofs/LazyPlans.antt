@@ -39,11 +39,14 @@ failure_through g items starts left e same through (a, fault, reached, at, is) =
 
 module _ {T ID E F N C U S : Type 0} (ids : Shared F (Bor T × Unit {0}) ID) (lists : Mut N (Bor T × Unit {0}) U) (eq : ID → ID → Bool) (becomes : U → S → Type 0)
     (steps : S → Option (Result T E) → S → Type 0) (w : Numbered T ID) (items : FailingGraph (Fault E)) (on_cycle : C) (starts : List ℕ) (given : List T) (s t : Plan T ID E F N C) where
+  -- what comes after these nodes: those of the starts that are left, or the error of a failed item
+  abbrev Follows : List ℕ → List T → Option E → Type 0
+  Follows order left failed = MatchOption failed (LeadsOn w.graph starts order (map w.node left) × NoneFailed items order) (λ error. (left ≡ []) × ReachesFailure items starts error)
+
   -- what is known where no failed item waits
   pub goes_on : IsPlanOf ids lists w items eq becomes steps on_cycle starts given s → s.failed ≡ None
       → LeadsOn w.graph starts (ordered w.node given s) (map w.node s.start.items) × NoneFailed items (ordered w.node given s)
-  goes_on k none = subst (λ (o : Option E). MatchOption o (LeadsOn w.graph starts (ordered w.node given s) (map w.node s.start.items) × NoneFailed items (ordered w.node given s))
-      (λ error. (s.start.items ≡ []) × ReachesFailure items starts error)) none k.rest
+  goes_on k none = subst (λ (o : Option E). Follows (ordered w.node given s) s.start.items o) none k.rest
 
   pub left_reached : IsPlanOf ids lists w items eq becomes steps on_cycle starts given s → s.failed ≡ None → (b : ℕ) → Contains (map w.node s.start.items) b → ReachedFrom w.graph starts b
   left_reached k none = (goes_on k none).0.left_reached
@@ -53,6 +56,12 @@ module _ {T ID E F N C U S : Type 0} (ids : Shared F (Bor T × Unit {0}) ID) (li
 
   given_alone : s.ready.items ≡ [] → ordered w.node given s ≡ map w.node given
   given_alone empty = ap (λ (l : List T). map w.node (given ++ reverse l)) empty ∙ ap (map w.node) (append-nil given)
+
+  -- what was given stays, and more nodes are ready, or the error of a failed item waits
+  plan_on : IsPlanOf ids lists w items eq becomes steps on_cycle starts given s → ShowsItems w items eq ids lists becomes steps t.graph.id_fn t.graph.neighbors_fn → t.cycle_fn ≡ s.cycle_fn → t.emitted ≡ s.emitted
+      → IsBegun w.graph starts (ordered w.node given t) → Follows (ordered w.node given t) t.start.items t.failed → IsPlanOf ids lists w items eq becomes steps on_cycle starts given t
+  plan_on k shown cycle same begun rest =
+      record { shown = shown; cycle_fn = cycle ∙ k.cycle_fn; nodes = k.nodes; knows = λ i h. ap (λ e. contains eq e i) same ∙ k.knows i h; once = k.once; begun = begun; rest = rest }
 
   pub plan_more : (nodes left : List T) → IsPlanOf ids lists w items eq becomes steps on_cycle starts given s → s.ready.items ≡ [] → s.failed ≡ None
       → ShowsItems w items eq ids lists becomes steps t.graph.id_fn t.graph.neighbors_fn → t.cycle_fn ≡ s.cycle_fn → t.emitted ≡ s.emitted
@@ -72,17 +81,10 @@ module _ {T ID E F N C U S : Type 0} (ids : Shared F (Bor T × Unit {0}) ID) (li
             (subst (λ (l : List T). LeadsOn w.graph starts (map w.node given ++ map w.node nodes) (map w.node l)) (sym start) on),
         subst (λ (l : List ℕ). NoneFailed items l) (sym after) (sound_more items (map w.node given) (map w.node nodes) clean fine),
       ) in
-      record {
-        shown = shown;
-        cycle_fn = cycle ∙ k.cycle_fn;
-        nodes = k.nodes;
-        knows = λ i h. ap (λ e. contains eq e i) same ∙ k.knows i h;
-        once = k.once;
-        begun = subst (λ (l : List ℕ). IsBegun w.graph starts l) (sym after)
-            (begun_more w.graph starts (map w.node given) (map w.node s.start.items) (map w.node nodes) begun leads stretch.once (λ a h. stretch.reached a (inl h)));
-        rest = subst (λ (o : Option E). MatchOption o (LeadsOn w.graph starts (ordered w.node given t) (map w.node t.start.items) × NoneFailed items (ordered w.node given t))
-            (λ error. (t.start.items ≡ []) × ReachesFailure items starts error)) (sym none) rest;
-      }
+      plan_on k shown cycle same
+      (subst (λ (l : List ℕ). IsBegun w.graph starts l) (sym after)
+      (begun_more w.graph starts (map w.node given) (map w.node s.start.items) (map w.node nodes) begun leads stretch.once (λ a h. stretch.reached a (inl h))))
+      (subst (λ (o : Option E). Follows (ordered w.node given t) t.start.items o) (sym none) rest)
 
   pub plan_one : (node : T) (left : List T) → IsPlanOf ids lists w items eq becomes steps on_cycle starts given s → s.ready.items ≡ [] → s.failed ≡ None → s.start.items ≡ node ∷ []
       → ShowsItems w items eq ids lists becomes steps t.graph.id_fn t.graph.neighbors_fn → t.cycle_fn ≡ s.cycle_fn → t.emitted ≡ s.emitted
@@ -105,18 +107,11 @@ module _ {T ID E F N C U S : Type 0} (ids : Shared F (Bor T × Unit {0}) ID) (li
       let known = (goes_on k whole).0 in
       let leads : LeadsOn w.graph starts (map w.node given) (w.node node ∷ []) =
       subst (λ (l : List T). LeadsOn w.graph starts (map w.node given) (map w.node l)) alone (subst (λ (l : List ℕ). LeadsOn w.graph starts l (map w.node s.start.items)) before known) in
-      record {
-        shown = shown;
-        cycle_fn = cycle ∙ k.cycle_fn;
-        nodes = k.nodes;
-        knows = λ i h. ap (λ e. contains eq e i) same ∙ k.knows i h;
-        once = k.once;
-        begun = subst (λ (l : List ℕ). IsBegun w.graph starts l) (sym after)
-            (begun_more w.graph starts (map w.node given) (w.node node ∷ []) (w.node node ∷ []) begun leads (one_distinct (w.node node)) (λ a h. (a, h, (0, refl))));
-        rest = subst (λ (o : Option E). MatchOption o (LeadsOn w.graph starts (ordered w.node given t) (map w.node t.start.items) × NoneFailed items (ordered w.node given t))
-            (λ e. (t.start.items ≡ []) × ReachesFailure items starts e)) (sym some)
-            (start, failure_through w.graph items starts (w.node node ∷ []) error shown.sound_graph leads.left_reached failure);
-      }
+      plan_on k shown cycle same
+      (subst (λ (l : List ℕ). IsBegun w.graph starts l) (sym after)
+      (begun_more w.graph starts (map w.node given) (w.node node ∷ []) (w.node node ∷ []) begun leads (one_distinct (w.node node)) (λ a h. (a, h, (0, refl)))))
+      (subst (λ (o : Option E). Follows (ordered w.node given t) t.start.items o) (sym some)
+      (start, failure_through w.graph items starts (w.node node ∷ []) error shown.sound_graph leads.left_reached failure))
 
   -- the next node comes after those that were given
   turned : (rest : List T) (node : T) → s.ready.items ≡ rest ++ node ∷ [] → ordered w.node given s ≡ map w.node given ++ w.node node ∷ map w.node (reverse rest)
@@ -139,6 +134,9 @@ module _ {T ID E F N C U S : Type 0} (ids : Shared F (Bor T × Unit {0}) ID) (li
   plan_again rest node i k e same is =
       again_cycle w.graph starts (ordered w.node given s) (map w.node given) (map w.node (reverse rest)) (w.node node) k.begun (turned rest node e)
       (Contains-from_has (map w.node given) (w.node node) (told rest node i true k e same is))
+
+  same_follows : IsPlanOf ids lists w items eq becomes steps on_cycle starts given s → t.start ≡ s.start → t.failed ≡ s.failed → Follows (ordered w.node given s) t.start.items t.failed
+  same_follows k start failed = subst (λ v. Follows (ordered w.node given s) v.items t.failed) (sym start) (subst (λ (o : Option E). Follows (ordered w.node given s) s.start.items o) (sym failed) k.rest)
 
   pub plan_gave : (rest : List T) (node : T) (i : ID) → IsPlanOf ids lists w items eq becomes steps on_cycle starts given s → s.ready.items ≡ rest ++ node ∷ [] → w.id i ≡ w.node node → contains eq s.emitted i ≡ false
       → ((q : ID) → contains eq t.emitted q ≡ cond (eq i q) true (contains eq s.emitted q))
@@ -163,9 +161,7 @@ module _ {T ID E F N C U S : Type 0} (ids : Shared F (Bor T × Unit {0}) ID) (li
             updates j ∙ ap (λ b. cond b true (contains eq s.emitted j)) (compared ∙ flip) ∙ ap (λ b. cond (w.id j == a) true b) known ∙ or_cond (w.id j == a) (has (map w.node given) (w.id j)) ∙ sym more ∙ sym (ap (λ l. has l (w.id j)) pushed);
         once = subst (λ (l : List ℕ). IsDistinct eqb l) (sym pushed) (IsDistinct-push nat_eq_equiv (map w.node given) a k.once fresh);
         begun = subst (λ (l : List ℕ). IsBegun w.graph starts l) kept k.begun;
-        rest = subst (λ (l : List ℕ). MatchOption t.failed (LeadsOn w.graph starts l (map w.node t.start.items) × NoneFailed items l) (λ error. (t.start.items ≡ []) × ReachesFailure items starts error)) kept
-            (subst (λ v. MatchOption t.failed (LeadsOn w.graph starts (ordered w.node given s) (map w.node v.items) × NoneFailed items (ordered w.node given s)) (λ error. (v.items ≡ []) × ReachesFailure items starts error)) (sym start)
-            (subst (λ (o : Option E). MatchOption o (LeadsOn w.graph starts (ordered w.node given s) (map w.node s.start.items) × NoneFailed items (ordered w.node given s)) (λ error. (s.start.items ≡ []) × ReachesFailure items starts error)) (sym failed) k.rest));
+        rest = subst (λ (l : List ℕ). Follows l t.start.items t.failed) kept (same_follows k start failed);
       }
 
   pub plan_ended : IsPlanOf ids lists w items eq becomes steps on_cycle starts given s → HasNothing s
@@ -184,22 +180,14 @@ module _ {T ID E F N C U S : Type 0} (ids : Shared F (Bor T × Unit {0}) ID) (li
 
   pub plan_same : IsPlanOf ids lists w items eq becomes steps on_cycle starts given s → t.graph ≡ s.graph → t.cycle_fn ≡ s.cycle_fn → t.emitted ≡ s.emitted
       → t.ready ≡ s.ready → t.start ≡ s.start → t.failed ≡ s.failed → IsPlanOf ids lists w items eq becomes steps on_cycle starts given t
-  plan_same k graph cycle same ready start failed = record {
-    shown = subst (λ h. ShowsItems w items eq ids lists becomes steps h.id_fn h.neighbors_fn) (sym graph) k.shown;
-    cycle_fn = cycle ∙ k.cycle_fn;
-    nodes = k.nodes;
-    knows = λ i h. ap (λ e. contains eq e i) same ∙ k.knows i h;
-    once = k.once;
-    begun = subst (λ v. IsBegun w.graph starts (map w.node (given ++ reverse v.items))) (sym ready) k.begun;
-    rest = subst (λ r. MatchOption t.failed (LeadsOn w.graph starts (map w.node (given ++ reverse r.items)) (map w.node t.start.items) × NoneFailed items (map w.node (given ++ reverse r.items))) (λ error. (t.start.items ≡ []) × ReachesFailure items starts error)) (sym ready)
-        (subst (λ v. MatchOption t.failed (LeadsOn w.graph starts (ordered w.node given s) (map w.node v.items) × NoneFailed items (ordered w.node given s)) (λ error. (v.items ≡ []) × ReachesFailure items starts error)) (sym start)
-        (subst (λ (o : Option E). MatchOption o (LeadsOn w.graph starts (ordered w.node given s) (map w.node s.start.items) × NoneFailed items (ordered w.node given s)) (λ error. (s.start.items ≡ []) × ReachesFailure items starts error)) (sym failed) k.rest));
-  }
+  plan_same k graph cycle same ready start failed =
+      plan_on k (subst (λ h. ShowsItems w items eq ids lists becomes steps h.id_fn h.neighbors_fn) (sym graph) k.shown) cycle same
+      (subst (λ v. IsBegun w.graph starts (map w.node (given ++ reverse v.items))) (sym ready) k.begun)
+      (subst (λ r. Follows (map w.node (given ++ reverse r.items)) t.start.items t.failed) (sym ready) (same_follows k start failed))
 
   -- an error that waits behind no node is that of a failed item
   pub plan_fails : (error : E) → IsPlanOf ids lists w items eq becomes steps on_cycle starts given s → s.failed ≡ Some error → ReachesFailure items starts error
-  plan_fails error k some = (subst (λ (o : Option E). MatchOption o (LeadsOn w.graph starts (ordered w.node given s) (map w.node s.start.items) × NoneFailed items (ordered w.node given s))
-      (λ e. (s.start.items ≡ []) × ReachesFailure items starts e)) some k.rest).1
+  plan_fails error k some = (subst (λ (o : Option E). Follows (ordered w.node given s) s.start.items o) some k.rest).1
 
 none_distinct : IsDistinct eqb []
 unfolding IsDistinct
