@@ -1,11 +1,15 @@
 -- What is true of items is true of the items in an `Ok`.
 use Rattle.std.proofs.Common.{◌≡◌, ℕ, Bool, List, [], ◌∷◌, ◌++◌, map, Option, Result, Ok, Err, refl, sym, ap, subst}
 use Rattle.std.specs.Fn.{Shared, Mut, Called, AlwaysReturns, ReturnsEach}
-use Rattle.std.specs.Iterator.{Count, IsFinite, IsFiniteIterable, Yields}
+use Rattle.std.specs.Iterator.{IsFinite, IsFiniteIterable, Yields}
+use Rattle.std.specs.declared.iter.IntoIterator as into
+use Rattle.std.specs.declared.iter.Iterator as iter
 use denote.Param.Always.{always_mut, mut_by, mut_next}
 use denote.Ref.{Bor}
 use Rattle.jj_walks.specs.AllOk.{GivesOk}
 use Rattle.jj_walks.specs.Failing.{AreItems, BeginsWith, Fault, ListsItems, ShowsItems, sound_items}
+use Rattle.jj_walks.specs.Outcomes.{Ends}
+use Rattle.jj_walks.specs.Owed.{CanShow}
 use Rattle.jj_walks.specs.Stops.{IfFailed, IfCycle}
 use Rattle.jj_walks.specs.Walk.{DrainsTo, IsShownBy, Numbered}
 use Rattle.jj_walks.specs.declared.all_ok.AllOk.{AllOk}
@@ -100,16 +104,6 @@ drains_ok E becomes steps value s b xs d =
 module _ {T ID E F N G U I : Type 0} (eq : ID → ID → Bool) (ids : Shared F (Bor T × Unit {0}) ID) (lists : Mut N (Bor T × Unit {0}) U) (becomes : U → I → Type 0) (steps : I → Option T → I → Type 0)
     (outer : Mut G (Bor T × Unit {0}) (AllOk I E)) (inner : G → N)
     (hands_on : (f : G) (a : Bor T × Unit {0}) (r : AllOk I E) (f' : G) → Called outer f a r f' → (n : U) × Called lists (inner f) a n (inner f') × becomes n r.items) where
-  -- what may be called still may
-  pub callable_wrapped : ((f : G) (a : Bor T × Unit {0}) → always_mut lists (inner f) → outer.pre f a) → (f : G) → always_mut lists (inner f) → always_mut outer f
-  callable_wrapped asks = always_mut-through outer lists inner asks (λ f a r after h. let q = hands_on f a r after h in (q.0, q.1))
-
-  -- what ends still ends
-  pub ends_wrapped : (can : I → Type 0) (left : I → Count) (f : G) → AlwaysReturns lists (λ a r. IsFiniteIterable becomes can left r) (inner f)
-      → AlwaysReturns outer (λ a r. IsFiniteIterable (λ v k. k ≡ v) (λ k. can k.items) (λ k. left k.items) r) f
-  ends_wrapped can left f k = AlwaysReturns-through outer lists _ _ inner (λ f a r after h.
-      let q = hands_on f a r after h in (q.0, q.1, λ ends it is. subst (λ v. can v.items × IsFinite (left v.items)) (sym is) (ends r.items q.2))) f k
-
   -- the graph that is shown is shown by items none of which fails
   pub shows_wrapped : (w : Numbered T ID) (id_fn : F) (f : G) → IsShownBy w eq ids lists becomes steps id_fn (inner f)
       → ShowsItems {E = E} w (λ n. map (λ a. Ok a) (w.graph n)) eq ids outer (λ v k. k ≡ v) (wrapped steps) id_fn f
@@ -121,6 +115,20 @@ module _ {T ID E F N G U I : Type 0} (eq : ID → ID → Bool) (ids : Shared F (
     neighbors = AlwaysReturns-through outer lists _ _ inner (λ f a r after h.
         let q = hands_on f a r after h in (q.0, q.1, λ listed is. lists_wrapped becomes steps w.node q.0 r q.2 (w.graph (w.node a.0.now)) (λ xs d. listed xs is d))) f shown.neighbors;
   }
+
+-- what a walk asks of the inner closure, the outer one meets
+pub can_show_wrapped : {T ID E F N G U I : Type 0} (ids : Shared F (Bor T × Unit {0}) ID) (lists : Mut N (Bor T × Unit {0}) U) (value : into.Ghosts U T I) (items : iter.Ghosts I T)
+    (outer : Mut G (Bor T × Unit {0}) (AllOk I E)) (inner : G → N) (whole : into.Ghosts (AllOk I E) (Result T E) (AllOk I E)) (whole_items : iter.Ghosts (AllOk I E) (Result T E))
+    → ((f : G) (a : Bor T × Unit {0}) (r : AllOk I E) (f' : G) → Called outer f a r f' → (n : U) × Called lists (inner f) a n (inner f') × value.into_iter_gives n r.items)
+    → ((f : G) (a : Bor T × Unit {0}) → always_mut lists (inner f) → outer.pre f a)
+    → ((r : AllOk I E) → IsFiniteIterable (λ v k. k ≡ v) (λ k. items.can_next k.items) (λ k. items.remaining k.items) r → Ends whole whole_items r)
+    → (id_fn : F) (f : G) → CanShow ids lists value items id_fn (inner f) → CanShow ids outer whole whole_items id_fn f
+can_show_wrapped ids lists value items outer inner whole whole_items hands_on asks ends id_fn f k = record {
+  id_fn = k.id_fn;
+  neighbors_fn = always_mut-through outer lists inner asks (λ f a r after h. let q = hands_on f a r after h in (q.0, q.1)) f k.neighbors_fn;
+  lists = AlwaysReturns-through outer lists _ _ inner (λ f a r after h.
+      let q = hands_on f a r after h in (q.0, q.1, λ left. ends r (λ it is. subst (λ v. items.can_next v.items × IsFinite (items.remaining v.items)) (sym is) (left r.items q.2)))) f k.lists;
+}
 
 -- what is known of the node on a cycle
 pub cycle_says : {T E : Type 0} (P : T → Type 0) (stop : Stop T E) (x : T) → stop ≡ Cycle x → IfCycle stop P → P x
