@@ -1,11 +1,13 @@
 -- What orders over items that may fail know of the failed ones.
-use Rattle.std.proofs.Common.{◌≡◌, ℕ, zero, suc, Bool, true, false, List, [], ◌∷◌, ◌++◌, map, reverse, refl, sym, ◌∙◌, ap, subst, arith, ⊎_elim, append-nil, Option, Result, Ok, Err, Some}
+use Rattle.std.proofs.Common.{◌≡◌, ℕ, zero, suc, Bool, true, false, List, [], ◌∷◌, ◌++◌, map, reverse, refl, sym, ◌∙◌, ap, subst, arith, ⊎_elim, append-nil, Option, Result, Ok, Err, Some, None}
 use Rattle.std.proofs.lemmas.List.{map-append}
 use Rattle.std.proofs.lemmas.List.Elements.{Contains-append_right, Contains-push_cases}
 use Rattle.std.specs.Iterator.{Yields}
 use Rattle.std.specs.List.{Contains}
 use Rattle.jj_walks.specs.Graph.{Graph, Path, ReachedFrom, IsPostorder}
-use Rattle.jj_walks.specs.Failing.{FailingGraph, Fault, IsFault, HasNoFailure, sound, sound_items}
+use Rattle.jj_walks.specs.Failing.{BeginsWith, FailingGraph, Fault, IsFault, HasNoFailure, ListsItems, ReachesFailure, sound, sound_items}
+use Rattle.jj_walks.specs.Walk.{DrainsTo}
+use Rattle.jj_walks.proofs.FailingWalks.{failed_first}
 use Rattle.jj_walks.proofs.Reaching.{Contains-postorder}
 use Rattle.jj_walks.proofs.Unwinding.{visited_above, visited_above-waits, waits}
 
@@ -82,6 +84,26 @@ ok-push {T} {E} ys xs x e = ap (λ l. l ++ Ok x ∷ []) e ∙ sym (map-append ok
   where
     ok : T → Result T E
     ok z = Ok z
+
+-- a run that has ended gave all that its value gives
+pub drained_nodes : {U S T E : Type 0} (becomes : U → S → Type 0) (steps : S → Option (Result T E) → S → Type 0) (value : U) (xs : List T) {s t u : S} {ys : List (Result T E)}
+    → becomes value s → Yields steps s ys t → steps t None u → ys ≡ map (λ z. Ok z) xs → DrainsTo becomes steps value (map (λ z. Ok z) xs)
+drained_nodes {T = T} {E} becomes steps value xs {s} {t} {u} {ys} is run last same = subst (λ (l : List (Result T E)). DrainsTo becomes steps value l) same (s, is, (u, (t, run, last)))
+
+-- one that meets a failed item gave the nodes before it
+pub begins_failed : {U S T E : Type 0} (becomes : U → S → Type 0) (steps : S → Option (Result T E) → S → Type 0) (value : U) (xs : List T) (e : E) {s t u : S} {ys : List (Result T E)} {x : Result T E}
+    → becomes value s → Yields steps s ys t → steps t (Some x) u → ys ≡ map (λ z. Ok z) xs → x ≡ Err e → BeginsWith becomes steps value (map (λ z. Ok z) xs ++ Err e ∷ [])
+begins_failed {T = T} {E} becomes steps value xs e {s} {t} {u} {ys} {x} is run last same failed =
+    let all : ys ++ x ∷ [] ≡ map (λ z. Ok z) xs ++ Err e ∷ [] = ap (λ z. ys ++ z ∷ []) failed ∙ ap (λ l. l ++ Err e ∷ []) same in
+    (s, is, (u, subst (λ (l : List (Result T E)). Yields steps s l u) all (Yields-push steps ys x s t u run last)))
+
+-- so its error is that of a failed item, where the starts reach the node whose items they are
+pub reaches_failed : {U S T E : Type 0} (node : T → ℕ) (becomes : U → S → Type 0) (steps : S → Option (Result T E) → S → Type 0) (value : U) (g : Graph) (items : FailingGraph (Fault E)) (starts : List ℕ) (a : ℕ) (xs : List T) (e : E)
+    → ((b : ℕ) → g b ≡ sound items b) → ReachedFrom g starts a → ListsItems node becomes steps value (items a) → BeginsWith becomes steps value (map (λ z. Ok z) xs ++ Err e ∷ []) → ReachesFailure items starts e
+reaches_failed node becomes steps value g items starts a xs e same reached listed begins =
+    let begun = listed.first (map (λ z. Ok z) xs) e begins in
+    let failed = failed_first node (items a) begun.0 begun.1 (map (λ z. Ok z) xs) e begun.2 begun.3 in
+    (a, failed.0, ReachedFrom-same g (sound items) same starts a reached, failed.1, failed.2)
 
 pub waiting-push : {T : Type 0} (xs : List T) (x : T) → map {B = T × Bool} (λ z. (z, false)) (xs ++ x ∷ []) ≡ map (λ z. (z, false)) xs ++ (x, false) ∷ []
 waiting-push {T} xs x = map-append {B = T × Bool} (λ (z : T). (z, false)) xs (x ∷ [])

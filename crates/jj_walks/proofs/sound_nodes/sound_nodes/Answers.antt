@@ -1,5 +1,5 @@
-use Rattle.std.proofs.Common.{rules, ◌≡◌, ◌++◌, ◌∷◌, [], Ok, Err, map, refl, sym, ◌∙◌, ap}
-use Rattle.jj_walks.proofs.FailingOrders.{ok-push, Yields-push}
+use Rattle.std.proofs.Common.{rules, ◌≡◌, ◌++◌, ◌∷◌, [], Ok, map, refl, sym, ◌∙◌, ap}
+use Rattle.jj_walks.proofs.FailingOrders.{begins_failed, drained_nodes, ok-push}
 use Rattle.jj_walks.proofs.sound_nodes.sound_nodes.Goals as goal
 
 pub loop-item-init : goal.loop-item-init
@@ -19,12 +19,9 @@ loop-item-preserved g c =
 
 pub returns-in-Err-clause-failed : goal.returns-in-Err-clause-failed
 returns-in-Err-clause-failed g c =
-    let is : c.in-Some.item ≡ Err c.in-Err.error = c.in-Err.is in
-    let all : c.loop-item.yielded ++ c.in-Some.item ∷ [] ≡ map (λ x. Ok x) c.loop-item.nodes.items ++ Err c.in-Err.error ∷ [] =
-    ap (λ x. c.loop-item.yielded ++ x ∷ []) is ∙ ap (λ l. l ++ Err c.in-Err.error ∷ []) c.loop-item.invariant.sound in
-    let run = Yields-push g.L.IntoIter.Iterator.next_gives c.loop-item.yielded c.in-Some.item c.into_iter-item-iterator.result c.loop-item.item-iterator c.next.new.self c.loop-item.yielded_by c.in-Some.ensures.steps in
-    (c.loop-item.nodes.items, (c.into_iter-item-iterator.result, c.into_iter-item-iterator.ensures.into_iter_gives, (c.next.new.self, rw all at run)))
+    let nodes = c.loop-item.nodes.items in
+    (nodes, begins_failed g.L.IntoIterator.into_iter_gives g.L.IntoIter.Iterator.next_gives c.args.items nodes c.in-Err.error c.into_iter-item-iterator.ensures.into_iter_gives c.loop-item.yielded_by c.in-Some.ensures.steps c.loop-item.invariant.sound c.in-Err.is)
 
 pub returns-clause-nodes : goal.returns-clause-nodes
 returns-clause-nodes g c =
-    rw (← c.loop-item.invariant.sound) (c.into_iter-item-iterator.result, c.into_iter-item-iterator.ensures.into_iter_gives, (c.next.new.self, (c.loop-item.item-iterator, c.loop-item.yielded_by, c.in-None.ensures.steps)))
+    drained_nodes g.L.IntoIterator.into_iter_gives g.L.IntoIter.Iterator.next_gives c.args.items c.loop-item.nodes.items c.into_iter-item-iterator.ensures.into_iter_gives c.loop-item.yielded_by c.in-None.ensures.steps c.loop-item.invariant.sound

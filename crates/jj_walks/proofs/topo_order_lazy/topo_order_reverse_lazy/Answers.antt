@@ -1,6 +1,5 @@
-use Rattle.std.proofs.Common.{◌≡◌, ◌++◌, ◌∷◌, [], Ok, Err, map, refl, ◌∙◌, ap, inl, inr}
-use Rattle.jj_walks.specs.Walk.{DrainsTo}
-use Rattle.jj_walks.proofs.FailingOrders.{Yields-push}
+use Rattle.std.proofs.Common.{◌≡◌, [], refl, ◌∙◌, ap, inl, inr}
+use Rattle.jj_walks.proofs.FailingOrders.{begins_failed, drained_nodes}
 use Rattle.jj_walks.proofs.LazyPlans.{plan_starts}
 use Rattle.jj_walks.proofs.topo_order_lazy.topo_order_reverse_lazy.Goals as goal
 use Rattle.jj_walks.proofs.topo_order_lazy.topo_order_reverse_lazy.Goals.{in-None, in-Some+in-Err}
@@ -15,19 +14,18 @@ returns g c =
       left =
           elim c.match-next.branch [
             | in-None w ↦
-                let drained : DrainsTo g.II.IntoIterator.into_iter_gives g.II.IntoIter.Iterator.next_gives c.args.start (map (λ x. Ok x) xs) =
-                rw (← c.loop-item.invariant.sound) (c.into_iter-item-iterator.result, c.into_iter-item-iterator.ensures.into_iter_gives, (c.next.new.self, (c.loop-item.item-iterator, c.loop-item.yielded_by, w.in-None.ensures.steps))) in
                 inl (
                   xs,
-                  drained,
+                  drained_nodes g.II.IntoIterator.into_iter_gives g.II.IntoIter.Iterator.next_gives c.args.start xs c.into_iter-item-iterator.ensures.into_iter_gives c.loop-item.yielded_by w.in-None.ensures.steps c.loop-item.invariant.sound,
                   λ walk items shown nodes.
                       plan_starts g.F.Fn g.N.FnMut g.ID.PartialEq.eq g.NI.IntoIterator.into_iter_gives g.NI.IntoIter.Iterator.next_gives walk items _ xs shown nodes c.new.ensures.items (ap (λ v. v.items) w.nodes-is) (w.failed-is ∙ c.loop-item.invariant.failed) (λ i. rw unread refl),
                 )
             | in-Some+in-Err w ↦
-                let is : w.in-Some.item ≡ Err w.in-Err.error = w.in-Err.is in
-                let all : c.loop-item.yielded ++ w.in-Some.item ∷ [] ≡ map (λ x. Ok x) xs ++ Err w.in-Err.error ∷ [] =
-                ap (λ x. c.loop-item.yielded ++ x ∷ []) is ∙ ap (λ l. l ++ Err w.in-Err.error ∷ []) c.loop-item.invariant.sound in
-                let run = Yields-push g.II.IntoIter.Iterator.next_gives c.loop-item.yielded w.in-Some.item c.into_iter-item-iterator.result c.loop-item.item-iterator c.next.new.self c.loop-item.yielded_by w.in-Some.ensures.steps in
-                inr (xs, w.in-Err.error, (c.into_iter-item-iterator.result, c.into_iter-item-iterator.ensures.into_iter_gives, (c.next.new.self, rw all at run)), (c.new.ensures.items, w.failed-is))
+                inr (
+                  xs,
+                  w.in-Err.error,
+                  begins_failed g.II.IntoIterator.into_iter_gives g.II.IntoIter.Iterator.next_gives c.args.start xs w.in-Err.error c.into_iter-item-iterator.ensures.into_iter_gives c.loop-item.yielded_by w.in-Some.ensures.steps c.loop-item.invariant.sound w.in-Err.is,
+                  (c.new.ensures.items, w.failed-is),
+                )
           ];
     }

@@ -1,4 +1,4 @@
-use Rattle.std.proofs.Common.{of_calls, arith, refl, sym, ◌∙◌, ap, map, Ok}
+use Rattle.std.proofs.Common.{of_calls, arith, ◌∷◌, [], refl, sym, ◌∙◌, ap, map, Ok}
 use Rattle.std.proofs.lemmas.Result.{IfOk-weaker, IfErr-weaker}
 use Rattle.std.specs.List.{filter_map}
 use Rattle.std.specs.Result.{result_ok}
@@ -6,7 +6,8 @@ use Rattle.jj_walks.specs.Failing.{Fault}
 use Rattle.jj_walks.proofs.Collecting.{sound_items}
 use Rattle.jj_walks.proofs.Errors.{node_weaker}
 use Rattle.jj_walks.proofs.Exploring.{goes_on-call}
-use Rattle.jj_walks.proofs.FailingWalks.{AreItems-nodes, failed_first}
+use Rattle.jj_walks.proofs.FailingOrders.{reaches_failed}
+use Rattle.jj_walks.proofs.FailingWalks.{AreItems-nodes}
 use Rattle.jj_walks.proofs.Walking.{AlwaysReturns-call}
 use Rattle.jj_walks.proofs.look_ahead.Shown.neighbors.Goals as goal
 
@@ -23,8 +24,6 @@ returns g c = record {
       (sym (shown.sound_graph a ∙ ap (filter_map result_ok) listed ∙ sound_items (Fault g.row.E.Denot) walk.node v.items), listed)) c.sound_nodes.ensures.nodes;
   failed = IfErr-weaker c.sound_nodes.result _ _ (λ refused. node_weaker refused _ _ (λ error (xs, begins). λ walk items shown is_node.
       let turn = AlwaysReturns-call g.N.FnMut _ shown.neighbors c.neighbors_fn.ensures in
-      let begun = (turn.0 is_node).first (map (λ x. Ok x) xs) error begins in
       let a = walk.node c.args.node.now in
-      let failed = failed_first walk.node (items a) begun.0 begun.1 (map (λ x. Ok x) xs) error begun.2 begun.3 in
-      (a, failed.0, (a, (0, omega arith, refl), (0, refl)), failed.1, failed.2))) c.sound_nodes.ensures.failed;
+      reaches_failed walk.node _ _ _ walk.graph items (a ∷ []) a xs error shown.sound_graph (a, (0, omega arith, refl), (0, refl)) (turn.0 is_node) begins)) c.sound_nodes.ensures.failed;
 }
