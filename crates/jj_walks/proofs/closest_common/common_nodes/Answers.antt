@@ -13,6 +13,7 @@ use Rattle.jj_walks.proofs.ClosestCommon.{HandsOn, starting_none, starting_left,
 use Rattle.jj_walks.proofs.CommonMarks.{marks_more}
 use Rattle.jj_walks.proofs.FailingOrders.{ReachedFrom-same, sound_items-nodes, failed_list}
 use Rattle.jj_walks.proofs.Heads.{Contains-map}
+use Rattle.jj_walks.proofs.Starts.{of_two_sets}
 use Rattle.jj_walks.proofs.Walking.{numbers-push, returned, AlwaysReturns-call}
 use Rattle.jj_walks.proofs.closest_common.common_nodes.Goals as goal
 
@@ -164,37 +165,31 @@ loop-node-3-preserved g c =
       callable = search of_calls;
       lists = (AlwaysReturns-call g.N.FnMut _ before.lists called).1;
       small = c.loop-neighbor.invariant.small;
-      walking = (
-        before.walking.0,
-        before.walking.1,
-        before.walking.2,
-        before.walking.3,
-        λ walk items shown first second.
-            let set1 = map walk.node before.walking.0 in
-            let set2 = map walk.node before.walking.1 in
-            let known = before.walking.4 walk items shown first second in
-            let held = known.1.1 in
-            let at = asks walk g.ID.PartialEq.eq set1 set2 known.1.0 (heap_items c.loop-node-3.waiting) (heap_items c.pop.new.self) c.loop-node-3.common.items c.loop-node-3.root_met
-            (mark_at g.ID.PartialEq.eq c.loop-node-3.known) (mark_at g.ID.PartialEq.eq c.ask-reach.new.known) node id c.ask-reach.result shown.closed shown.apart first second held popped
-            (λ here. shown.ids_stand node id here (returned g.F.Fn c.id_fn-id-in-Some-pop.ensures)) c.ask-reach.ensures.reach c.ask-reach.ensures.known in
-            let turn = AlwaysReturns-call g.N.FnMut _ known.0.neighbors called in
-            let after : ShowsLists walk items g.ID.PartialEq.eq g.F.Fn g.N.FnMut g.NI.IntoIterator.into_iter_gives g.NI.IntoIter.Iterator.next_gives c.args.id_fn c.neighbors_fn.new.self =
-            record { sound_graph = shown.sound_graph; closed = shown.closed; apart = shown.apart; ids_stand = shown.ids_stand; neighbors = turn.1 } in
-            let whole = (rw ok at (turn.0 at.0)) c.loop-neighbor.yielded drained in
-            let listed : map walk.node c.loop-neighbor.yielded ≡ walk.graph (walk.node node) =
-            sym (shown.sound_graph (walk.node node) ∙ ap sound_items whole ∙ sound_items-nodes (Fault g.row.E.Denot) walk.node c.loop-neighbor.yielded) in
-            let inner = c.loop-neighbor.invariant.walking walk items c.neighbors_fn.new.self set1 set2 [] known.1.0 c.loop-node-3.root_met (walk.node node) after at.0 at.2 (append-nil (map walk.node c.loop-neighbor.yielded) ∙ listed) in (
-              after,
-              (
-                inner.0,
-                hands_over walk node id c.loop-neighbor.is_root inner.1 at.1 c.in_ok-keep_common.ensures
-                    (λ b h. subst (λ (l : List ℕ). Contains l b) (sym listed) h)
-                    (λ none.
-                    let some = c.loop-neighbor.invariant.asked none in
-                    (walk.node some.0, subst (λ (l : List ℕ). Contains l (walk.node some.0)) listed (Contains-map walk.node c.loop-neighbor.yielded some.0 some.1))),
-              ),
+      walking = of_two_sets before.walking (λ from walk items shown first second.
+          let set1 = map walk.node before.walking.0 in
+          let set2 = map walk.node before.walking.1 in
+          let known = from walk items shown first second in
+          let held = known.1.1 in
+          let at = asks walk g.ID.PartialEq.eq set1 set2 known.1.0 (heap_items c.loop-node-3.waiting) (heap_items c.pop.new.self) c.loop-node-3.common.items c.loop-node-3.root_met
+          (mark_at g.ID.PartialEq.eq c.loop-node-3.known) (mark_at g.ID.PartialEq.eq c.ask-reach.new.known) node id c.ask-reach.result shown.closed shown.apart first second held popped
+          (λ here. shown.ids_stand node id here (returned g.F.Fn c.id_fn-id-in-Some-pop.ensures)) c.ask-reach.ensures.reach c.ask-reach.ensures.known in
+          let turn = AlwaysReturns-call g.N.FnMut _ known.0.neighbors called in
+          let after : ShowsLists walk items g.ID.PartialEq.eq g.F.Fn g.N.FnMut g.NI.IntoIterator.into_iter_gives g.NI.IntoIter.Iterator.next_gives c.args.id_fn c.neighbors_fn.new.self =
+          record { sound_graph = shown.sound_graph; closed = shown.closed; apart = shown.apart; ids_stand = shown.ids_stand; neighbors = turn.1 } in
+          let whole = (rw ok at (turn.0 at.0)) c.loop-neighbor.yielded drained in
+          let listed : map walk.node c.loop-neighbor.yielded ≡ walk.graph (walk.node node) =
+          sym (shown.sound_graph (walk.node node) ∙ ap sound_items whole ∙ sound_items-nodes (Fault g.row.E.Denot) walk.node c.loop-neighbor.yielded) in
+          let inner = c.loop-neighbor.invariant.walking walk items c.neighbors_fn.new.self set1 set2 [] known.1.0 c.loop-node-3.root_met (walk.node node) after at.0 at.2 (append-nil (map walk.node c.loop-neighbor.yielded) ∙ listed) in (
+            after,
+            (
+              inner.0,
+              hands_over walk node id c.loop-neighbor.is_root inner.1 at.1 c.in_ok-keep_common.ensures
+                  (λ b h. subst (λ (l : List ℕ). Contains l b) (sym listed) h)
+                  (λ none.
+                  let some = c.loop-neighbor.invariant.asked none in
+                  (walk.node some.0, subst (λ (l : List ℕ). Contains l (walk.node some.0)) listed (Contains-map walk.node c.loop-neighbor.yielded some.0 some.1))),
             ),
-      );
+          ));
     }
 
 pub returns-in-Err : goal.returns-in-Err
@@ -204,25 +199,20 @@ returns-in-Err g c = record {
       let before = c.loop-node-3.invariant in
       let node = c.in-Some-pop.node in
       let popped : IsPermutation (heap_items c.loop-node-3.waiting) (node ∷ heap_items c.pop.new.self) = c.in-Some-pop.ensures.permutation in
-      let failed : c.neighbors_fn.result ≡ Err c.in-Err.error = c.in-Err.is in (
-        before.walking.0,
-        before.walking.1,
-        before.walking.2,
-        before.walking.3,
-        λ walk items shown first second.
-            let set1 = map walk.node before.walking.0 in
-            let set2 = map walk.node before.walking.1 in
-            let known = before.walking.4 walk items shown first second in
-            let at = was_reached walk (heap_items c.pop.new.self) node shown.closed first second known.1.1 popped in
-            let turn = AlwaysReturns-call g.N.FnMut _ known.0.neighbors c.neighbors_fn.ensures in
-            let one = failed_list (items (walk.node node)) c.in-Err.error (rw failed at (turn.0 at.1)) in (
-              walk.node node,
-              one.0,
-              ReachedFrom-same walk.graph (sound_graph items) shown.sound_graph (set1 ++ set2) (walk.node node) at.0,
-              one.1,
-              one.2,
-            ),
-      );
+      let failed : c.neighbors_fn.result ≡ Err c.in-Err.error = c.in-Err.is in
+      of_two_sets before.walking (λ from walk items shown first second.
+      let set1 = map walk.node before.walking.0 in
+      let set2 = map walk.node before.walking.1 in
+      let known = from walk items shown first second in
+      let at = was_reached walk (heap_items c.pop.new.self) node shown.closed first second known.1.1 popped in
+      let turn = AlwaysReturns-call g.N.FnMut _ known.0.neighbors c.neighbors_fn.ensures in
+      let one = failed_list (items (walk.node node)) c.in-Err.error (rw failed at (turn.0 at.1)) in (
+        walk.node node,
+        one.0,
+        ReachedFrom-same walk.graph (sound_graph items) shown.sound_graph (set1 ++ set2) (walk.node node) at.0,
+        one.1,
+        one.2,
+      ));
 }
 
 pub returns-then-not-root_met : goal.returns-then-not-root_met
@@ -236,23 +226,18 @@ returns-then-not-root_met g c = record {
       let ok = c.pop.new.self.data.ok in
       let none : heap_len c.pop.new.self ≡ 0 = search rules in
       let nothing : length c.pop.new.self.data.items ≡ 0 = omega (arith, ok, none) in
-      let empty : heap_items c.pop.new.self ≡ [] = nil_from_length _ nothing in (
-        before.walking.0,
-        before.walking.1,
-        before.walking.2,
-        before.walking.3,
-        λ walk items shown first second acyclic.
-            let set1 = map walk.node before.walking.0 in
-            let set2 = map walk.node before.walking.1 in
-            let known = before.walking.4 walk items shown first second in
-            let held = known.1.1 in
-            let at = asks walk g.ID.PartialEq.eq set1 set2 known.1.0 (heap_items c.loop-node-3.waiting) (heap_items c.pop.new.self) c.loop-node-3.common.items c.loop-node-3.root_met
-            (mark_at g.ID.PartialEq.eq c.loop-node-3.known) (mark_at g.ID.PartialEq.eq c.ask-reach.new.known) node id c.ask-reach.result shown.closed shown.apart first second held popped
-            (λ here. shown.ids_stand node id here (returned g.F.Fn c.id_fn-id-in-Some-pop.ensures)) c.ask-reach.ensures.reach c.ask-reach.ensures.known in
-            let end = ends_early walk node id at.2 empty (and_parts _ _ (sym c.is_common.ensures ∙ c.if-is_common.true)) c.if-not-root_met.true in
-            rw more (closest_at_end walk set1 set2 (walk.node node ∷ []) known.1.0 (heap_items c.pop.new.self) (map (λ entry. walk.node entry.0) c.loop-node-3.common.items) (c.loop-node-3.common.items ++ (node, id) ∷ []) c.loop-node-3.root_met
-            (mark_at g.ID.PartialEq.eq c.ask-reach.new.known) end at.2.marks (ids_more walk c.loop-node-3.common.items node id held.ids at.1) shown.closed first acyclic),
-      );
+      let empty : heap_items c.pop.new.self ≡ [] = nil_from_length _ nothing in
+      of_two_sets before.walking (λ from walk items shown first second acyclic.
+      let set1 = map walk.node before.walking.0 in
+      let set2 = map walk.node before.walking.1 in
+      let known = from walk items shown first second in
+      let held = known.1.1 in
+      let at = asks walk g.ID.PartialEq.eq set1 set2 known.1.0 (heap_items c.loop-node-3.waiting) (heap_items c.pop.new.self) c.loop-node-3.common.items c.loop-node-3.root_met
+      (mark_at g.ID.PartialEq.eq c.loop-node-3.known) (mark_at g.ID.PartialEq.eq c.ask-reach.new.known) node id c.ask-reach.result shown.closed shown.apart first second held popped
+      (λ here. shown.ids_stand node id here (returned g.F.Fn c.id_fn-id-in-Some-pop.ensures)) c.ask-reach.ensures.reach c.ask-reach.ensures.known in
+      let end = ends_early walk node id at.2 empty (and_parts _ _ (sym c.is_common.ensures ∙ c.if-is_common.true)) c.if-not-root_met.true in
+      rw more (closest_at_end walk set1 set2 (walk.node node ∷ []) known.1.0 (heap_items c.pop.new.self) (map (λ entry. walk.node entry.0) c.loop-node-3.common.items) (c.loop-node-3.common.items ++ (node, id) ∷ []) c.loop-node-3.root_met
+      (mark_at g.ID.PartialEq.eq c.ask-reach.new.known) end at.2.marks (ids_more walk c.loop-node-3.common.items node id held.ids at.1) shown.closed first acyclic));
   refused = tt;
 }
 
@@ -263,18 +248,13 @@ returns g c = record {
       let none : c.loop-node-3.waiting.data.len ≡ 0 = c.in_default.ensures.none in
       let ok = c.loop-node-3.waiting.data.ok in
       let nothing : length c.loop-node-3.waiting.data.items ≡ 0 = omega arith in
-      let empty : heap_items c.loop-node-3.waiting ≡ [] = nil_from_length _ nothing in (
-        before.walking.0,
-        before.walking.1,
-        before.walking.2,
-        before.walking.3,
-        λ walk items shown first second acyclic.
-            let set1 = map walk.node before.walking.0 in
-            let set2 = map walk.node before.walking.1 in
-            let known = before.walking.4 walk items shown first second in
-            let held = known.1.1 in
-            closest_at_end walk set1 set2 [] known.1.0 (heap_items c.loop-node-3.waiting) (map (λ entry. walk.node entry.0) c.loop-node-3.common.items) c.loop-node-3.common.items c.loop-node-3.root_met
-            (mark_at g.ID.PartialEq.eq c.loop-node-3.known) (ends walk held empty) held.marks held.ids shown.closed first acyclic,
-      );
+      let empty : heap_items c.loop-node-3.waiting ≡ [] = nil_from_length _ nothing in
+      of_two_sets before.walking (λ from walk items shown first second acyclic.
+      let set1 = map walk.node before.walking.0 in
+      let set2 = map walk.node before.walking.1 in
+      let known = from walk items shown first second in
+      let held = known.1.1 in
+      closest_at_end walk set1 set2 [] known.1.0 (heap_items c.loop-node-3.waiting) (map (λ entry. walk.node entry.0) c.loop-node-3.common.items) c.loop-node-3.common.items c.loop-node-3.root_met
+      (mark_at g.ID.PartialEq.eq c.loop-node-3.known) (ends walk held empty) held.marks held.ids shown.closed first acyclic);
   refused = tt;
 }

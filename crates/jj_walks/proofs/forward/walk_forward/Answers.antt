@@ -1,14 +1,14 @@
-use Rattle.std.proofs.Common.{rules, of_calls, arith, append-nil, append_assoc, ◌≡◌, true, false, ◌++◌, ◌∷◌, [], map, not, refl, sym, ◌∙◌, ap, Ok, Err, inl, inr, reverse}
+use Rattle.std.proofs.Common.{rules, of_calls, arith, append-nil, append_assoc, ◌≡◌, true, false, ◌++◌, ◌∷◌, [], map, not, refl, sym, ◌∙◌, ap, Ok, inl, inr, reverse}
 use Rattle.std.specs.HashSet.{contains}
-use Rattle.jj_walks.specs.Walk.{DrainsTo}
-use Rattle.jj_walks.proofs.FailingWalks.{AreItems-nodes, failed_first}
-use Rattle.jj_walks.specs.Failing.{Fault, sound_items, sound as sound_graph}
+use Rattle.jj_walks.proofs.FailingWalks.{AreItems-nodes}
+use Rattle.jj_walks.specs.Failing.{Fault, sound_items}
 use Rattle.jj_walks.proofs.Clones.{contains-clone, contains-put_clone}
+use Rattle.jj_walks.proofs.Starts.{of_starts}
 use Rattle.jj_walks.proofs.Walking.{numbers, numbers-push, returned, AlwaysReturns-call}
 use Rattle.jj_walks.proofs.Reaching.{HasNoCycle-from_postorder}
 use Rattle.jj_walks.proofs.Unwinding.{unwinding_starts, unwinding_passed, unwinding_finished, unwinding_entered, unwinding_cycle, top_is_node, here_reached, from_top, from_top-push, from_top-neighbors}
 use Rattle.jj_walks.proofs.Unwinding.Unwinds.{ended}
-use Rattle.jj_walks.proofs.FailingOrders.{none_fails_yet, none_fails_below, none_fails_finished, none_fails_entered, none_fails_starts, HasNoFailure-from_postorder, sound_items-nodes, none_of_nodes, ok-push, waiting-push, Yields-push, ReachedFrom-same}
+use Rattle.jj_walks.proofs.FailingOrders.{none_fails_yet, none_fails_below, none_fails_finished, none_fails_entered, none_fails_starts, HasNoFailure-from_postorder, sound_items-nodes, none_of_nodes, begins_failed, drained_nodes, reaches_failed, ok-push, waiting-push}
 use Rattle.std.proofs.lemmas.Grind.{common_steps}
 use Rattle.jj_walks.proofs.Plain.{un_not, un_not_false}
 use Rattle.jj_walks.proofs.forward.walk_forward.Goals as goal
@@ -36,20 +36,14 @@ loop-item-preserved g c =
 pub returns-in-Err : goal.returns-in-Err
 returns-in-Err g c = record {
   order = tt;
-  failed =
-      let before = c.loop-item.invariant.sound in
-      let is : c.in-Some.item ≡ Err c.in-Err.error = c.in-Err.is in
-      let all : c.loop-item.yielded ++ c.in-Some.item ∷ [] ≡ map (λ x. Ok x) before.0 ++ Err c.in-Err.error ∷ [] = ap (λ x. c.loop-item.yielded ++ x ∷ []) is ∙ ap (λ l. l ++ Err c.in-Err.error ∷ []) before.1 in
-      let run = Yields-push g.II.IntoIter.Iterator.next_gives c.loop-item.yielded c.in-Some.item c.into_iter-item-iterator.result c.loop-item.item-iterator c.next.new.self c.loop-item.yielded_by c.in-Some.ensures.steps in
-      inl (before.0, (c.into_iter-item-iterator.result, c.into_iter-item-iterator.ensures.into_iter_gives, (c.next.new.self, rw all at run)));
+  failed = inl (c.loop-item.invariant.sound.0, begins_failed g.II.IntoIterator.into_iter_gives g.II.IntoIter.Iterator.next_gives c.args.start c.loop-item.invariant.sound.0 c.in-Err.error c.into_iter-item-iterator.ensures.into_iter_gives c.loop-item.yielded_by c.in-Some.ensures.steps c.loop-item.invariant.sound.1 c.in-Err.is);
   cycle = tt;
 }
 
 pub loop-node-init : goal.loop-node-init
 loop-node-init g c =
     let sound = c.loop-item.invariant.sound in
-    let drained : DrainsTo g.II.IntoIterator.into_iter_gives g.II.IntoIter.Iterator.next_gives c.args.start (map (λ x. Ok x) sound.0) =
-    rw (← sound.1) (c.into_iter-item-iterator.result, c.into_iter-item-iterator.ensures.into_iter_gives, (c.next.new.self, (c.loop-item.item-iterator, c.loop-item.yielded_by, c.in-None.ensures.steps))) in
+    let drained = drained_nodes g.II.IntoIterator.into_iter_gives g.II.IntoIter.Iterator.next_gives c.args.start sound.0 c.into_iter-item-iterator.ensures.into_iter_gives c.loop-item.yielded_by c.in-None.ensures.steps sound.1 in
     let visiting : c.new-visiting.result.keys ≡ [] = c.new-visiting.ensures.empty in
     let emitted : c.new-emitted.result.keys ≡ [] = c.new-emitted.ensures.empty in
     record {
@@ -75,19 +69,15 @@ loop-node-preserved-then-contains g c =
     record {
       callable = before.callable;
       lists = before.lists;
-      walking = (
-        before.walking.0,
-        before.walking.1,
-        λ walk items shown nodes.
-            let known = before.walking.2 walk items shown nodes in (
-              known.0,
-              unwinding_passed walk (walk.node c.in-Some-pop.node) c.in-Some-pop.neighbors_visited c.id_fn-id.result
-                  (rw (e, from_top-push walk) at known.1)
-                  (shown.ids_stand c.in-Some-pop.node c.id_fn-id.result (top_is_node walk (walk.node c.in-Some-pop.node) c.in-Some-pop.neighbors_visited (rw (e, from_top-push walk) at known.1)) (returned g.F.Fn c.id_fn-id.ensures)) c.if-contains.ensures,
-              known.2,
-              none_fails_below items (walk.node c.in-Some-pop.node) c.in-Some-pop.neighbors_visited (from_top walk c.pop.new.self.items) (rw (e, from_top-push walk) at known.3),
-            ),
-      );
+      walking = of_starts before.walking (λ from walk items shown nodes.
+          let known = from walk items shown nodes in (
+            known.0,
+            unwinding_passed walk (walk.node c.in-Some-pop.node) c.in-Some-pop.neighbors_visited c.id_fn-id.result
+                (rw (e, from_top-push walk) at known.1)
+                (shown.ids_stand c.in-Some-pop.node c.id_fn-id.result (top_is_node walk (walk.node c.in-Some-pop.node) c.in-Some-pop.neighbors_visited (rw (e, from_top-push walk) at known.1)) (returned g.F.Fn c.id_fn-id.ensures)) c.if-contains.ensures,
+            known.2,
+            none_fails_below items (walk.node c.in-Some-pop.node) c.in-Some-pop.neighbors_visited (from_top walk c.pop.new.self.items) (rw (e, from_top-push walk) at known.3),
+          ));
     }
 
 pub loop-node-preserved-in_ok-push : goal.loop-node-preserved-in_ok-push
@@ -99,20 +89,16 @@ loop-node-preserved-in_ok-push g c =
     record {
       callable = before.callable;
       lists = before.lists;
-      walking = (
-        before.walking.0,
-        before.walking.1,
-        λ walk items shown nodes.
-            let known = before.walking.2 walk items shown nodes in
-            let failed = rw (e, from_top-push walk, flag) at known.3 in (
-              known.0,
-              rw (more, numbers-push walk) (unwinding_finished walk g.ID.PartialEq.eq _ _ (walk.node c.in-Some-pop.node) c.id_fn-id.result shown.apart
-                  (rw (e, from_top-push walk, flag) at known.1)
-                  (shown.ids_stand c.in-Some-pop.node c.id_fn-id.result (top_is_node walk (walk.node c.in-Some-pop.node) true (rw (e, from_top-push walk, flag) at known.1)) (returned g.F.Fn c.id_fn-id.ensures)) c.remove.ensures.updates.0 c.in_ok-insert.ensures.updates.0),
-              rw (more, numbers-push walk) (none_fails_finished items (walk.node c.in-Some-pop.node) (from_top walk c.pop.new.self.items) (numbers walk c.loop-node.result.items) known.2 failed),
-              none_fails_below items (walk.node c.in-Some-pop.node) true (from_top walk c.pop.new.self.items) failed,
-            ),
-      );
+      walking = of_starts before.walking (λ from walk items shown nodes.
+          let known = from walk items shown nodes in
+          let failed = rw (e, from_top-push walk, flag) at known.3 in (
+            known.0,
+            rw (more, numbers-push walk) (unwinding_finished walk g.ID.PartialEq.eq _ _ (walk.node c.in-Some-pop.node) c.id_fn-id.result shown.apart
+                (rw (e, from_top-push walk, flag) at known.1)
+                (shown.ids_stand c.in-Some-pop.node c.id_fn-id.result (top_is_node walk (walk.node c.in-Some-pop.node) true (rw (e, from_top-push walk, flag) at known.1)) (returned g.F.Fn c.id_fn-id.ensures)) c.remove.ensures.updates.0 c.in_ok-insert.ensures.updates.0),
+            rw (more, numbers-push walk) (none_fails_finished items (walk.node c.in-Some-pop.node) (from_top walk c.pop.new.self.items) (numbers walk c.loop-node.result.items) known.2 failed),
+            none_fails_below items (walk.node c.in-Some-pop.node) true (from_top walk c.pop.new.self.items) failed,
+          ));
     }
 
 pub returns-then-not-branch : goal.returns-then-not-branch
@@ -127,15 +113,12 @@ returns-then-not-branch g c = record {
       let added : c.in_ok-insert-2.field-0 ≡ not (contains g.ID.PartialEq.eq c.loop-node.visiting c.in_ok-clone.field-0) = c.in_ok-insert-2.ensures.added in
       let again : contains g.ID.PartialEq.eq c.loop-node.visiting c.in_ok-clone.field-0 ≡ true =
       let no : c.in_ok-insert-2.field-0 ≡ false = first_of (search rules, grind (arith, common_steps)) in
-      un_not_false _ (sym no ∙ added) in (
-        before.walking.0,
-        before.walking.1,
-        λ walk items shown nodes.
-            let known = before.walking.2 walk items shown nodes in
-            unwinding_cycle walk (walk.node c.in-Some-pop.node) c.id_fn-id.result (rw (e, from_top-push walk, flag) at known.1)
-            (shown.ids_stand c.in-Some-pop.node c.id_fn-id.result (top_is_node walk (walk.node c.in-Some-pop.node) false (rw (e, from_top-push walk, flag) at known.1)) (returned g.F.Fn c.id_fn-id.ensures))
-            (contains-clone g.met.ID.Eq.laws c.loop-node.visiting c.id_fn-id.result c.in_ok-clone.field-0 same ∙ again),
-      );
+      un_not_false _ (sym no ∙ added) in
+      of_starts before.walking (λ from walk items shown nodes.
+      let known = from walk items shown nodes in
+      unwinding_cycle walk (walk.node c.in-Some-pop.node) c.id_fn-id.result (rw (e, from_top-push walk, flag) at known.1)
+      (shown.ids_stand c.in-Some-pop.node c.id_fn-id.result (top_is_node walk (walk.node c.in-Some-pop.node) false (rw (e, from_top-push walk, flag) at known.1)) (returned g.F.Fn c.id_fn-id.ensures))
+      (contains-clone g.met.ID.Eq.laws c.loop-node.visiting c.id_fn-id.result c.in_ok-clone.field-0 same ∙ again));
 }
 
 pub loop-neighbor-init : goal.loop-neighbor-init
@@ -169,28 +152,14 @@ returns-in-Err-neighbor g c = record {
       let sound = c.loop-neighbor.invariant.sound in
       let e : c.loop-node.stack.items ≡ c.pop.new.self.items ++ (c.in-Some-pop.node, c.in-Some-pop.neighbors_visited) ∷ [] = c.in-Some-pop.ensures.items in
       let flag : c.in-Some-pop.neighbors_visited ≡ false = c.if-neighbors_visited.false in
-      let is : c.in-Some-neighbor.neighbor ≡ Err c.in-Err-neighbor.error = c.in-Err-neighbor.is in
-      let all : c.loop-neighbor.yielded ++ c.in-Some-neighbor.neighbor ∷ [] ≡ map (λ x. Ok x) sound.0 ++ Err c.in-Err-neighbor.error ∷ [] = ap (λ x. c.loop-neighbor.yielded ++ x ∷ []) is ∙ ap (λ l. l ++ Err c.in-Err-neighbor.error ∷ []) sound.1 in
       let source : c.into_iter-neighbor-iterator.result ≡ c.into_iter-neighbors.result = c.into_iter-neighbor-iterator.ensures.into_iter_gives in
-      let run = Yields-push g.NI.IntoIter.Iterator.next_gives c.loop-neighbor.yielded c.in-Some-neighbor.neighbor c.into_iter-neighbors.result c.loop-neighbor.neighbor-iterator c.next-in-loop-neighbor.new.self
-      (rw source at c.loop-neighbor.yielded_by) c.in-Some-neighbor.ensures.steps in
-      inr (
-        before.walking.0,
-        before.walking.1,
-        λ walk items shown nodes.
-            let known = before.walking.2 walk items shown nodes in
-            let turn = AlwaysReturns-call g.N.FnMut _ known.0.neighbors c.neighbors_fn.ensures in
-            let top = rw (e, from_top-push walk, flag) at known.1 in
-            let begun = (turn.0 (top_is_node walk (walk.node c.in-Some-pop.node) false top)).first (map (λ x. Ok x) sound.0) c.in-Err-neighbor.error
-            (c.into_iter-neighbors.result, c.into_iter-neighbors.ensures.into_iter_gives, (c.next-in-loop-neighbor.new.self, rw all at run)) in
-            let failed = failed_first walk.node (items (walk.node c.in-Some-pop.node)) begun.0 begun.1 (map (λ x. Ok x) sound.0) c.in-Err-neighbor.error begun.2 begun.3 in (
-              walk.node c.in-Some-pop.node,
-              failed.0,
-              ReachedFrom-same walk.graph (sound_graph items) shown.sound_graph (numbers walk before.walking.0) (walk.node c.in-Some-pop.node) (here_reached walk top),
-              failed.1,
-              failed.2,
-            ),
-      );
+      let begins = begins_failed g.NI.IntoIterator.into_iter_gives g.NI.IntoIter.Iterator.next_gives c.neighbors_fn.result sound.0 c.in-Err-neighbor.error c.into_iter-neighbors.ensures.into_iter_gives (rw source at c.loop-neighbor.yielded_by) c.in-Some-neighbor.ensures.steps sound.1 c.in-Err-neighbor.is in
+      inr (of_starts before.walking (λ from walk items shown nodes.
+      let known = from walk items shown nodes in
+      let turn = AlwaysReturns-call g.N.FnMut _ known.0.neighbors c.neighbors_fn.ensures in
+      let top = rw (e, from_top-push walk, flag) at known.1 in
+      let a = walk.node c.in-Some-pop.node in
+      reaches_failed walk.node _ _ _ walk.graph items (numbers walk before.walking.0) a sound.0 c.in-Err-neighbor.error shown.sound_graph (here_reached walk top) (turn.0 (top_is_node walk a false top)) begins));
   cycle = tt;
 }
 
@@ -209,51 +178,43 @@ loop-node-preserved g c =
     let yes : c.in_ok-insert-2.field-0 ≡ true = first_of (search rules, grind (arith, common_steps)) in
     un_not _ (sym yes ∙ added) in
     let source : c.into_iter-neighbor-iterator.result ≡ c.into_iter-neighbors.result = c.into_iter-neighbor-iterator.ensures.into_iter_gives in
-    let drained : DrainsTo g.NI.IntoIterator.into_iter_gives g.NI.IntoIter.Iterator.next_gives c.neighbors_fn.result (map (λ x. Ok x) sound.0) =
-    rw (← sound.1) (c.into_iter-neighbors.result, c.into_iter-neighbors.ensures.into_iter_gives, (c.next-in-loop-neighbor.new.self, (c.loop-neighbor.neighbor-iterator, rw source at c.loop-neighbor.yielded_by, c.in-None-neighbor.ensures.steps))) in
+    let drained = drained_nodes g.NI.IntoIterator.into_iter_gives g.NI.IntoIter.Iterator.next_gives c.neighbors_fn.result sound.0 c.into_iter-neighbors.ensures.into_iter_gives (rw source at c.loop-neighbor.yielded_by) c.in-None-neighbor.ensures.steps sound.1 in
     record {
       callable = search of_calls;
       lists = (AlwaysReturns-call g.N.FnMut _ before.lists called).1;
-      walking = (
-        before.walking.0,
-        before.walking.1,
-        λ walk items shown nodes.
-            let known = before.walking.2 walk items shown nodes in
-            let turn = AlwaysReturns-call g.N.FnMut _ known.0.neighbors called in
-            let top = rw (e, from_top-push walk, flag) at known.1 in
-            let whole = AreItems-nodes walk.node sound.0 (items (walk.node c.in-Some-pop.node)) ((turn.0 (top_is_node walk (walk.node c.in-Some-pop.node) false top)).whole (map (λ x. Ok x) sound.0) drained) in
-            let listed : numbers walk sound.0 ≡ walk.graph (walk.node c.in-Some-pop.node) =
-            sym (sound_items-nodes (Fault g.row.E.Denot) walk.node sound.0) ∙ ap sound_items (sym whole) ∙ sym (shown.sound_graph (walk.node c.in-Some-pop.node)) in (
-              record { sound_graph = shown.sound_graph; closed = shown.closed; apart = shown.apart; ids_stand = shown.ids_stand; neighbors = turn.1 },
-              rw (above, again, from_top-neighbors walk, from_top-push walk, listed)
-                  (unwinding_entered walk g.ID.PartialEq.eq _ (walk.node c.in-Some-pop.node) c.id_fn-id.result shown.closed shown.apart top
-                  (shown.ids_stand c.in-Some-pop.node c.id_fn-id.result (top_is_node walk (walk.node c.in-Some-pop.node) false top) (returned g.F.Fn c.id_fn-id.ensures)) c.if-contains.ensures
-                  (contains-clone g.met.ID.Eq.laws c.loop-node.visiting c.id_fn-id.result c.in_ok-clone.field-0 same ∙ first)
-                  (contains-put_clone g.met.ID.Eq.laws c.loop-node.visiting c.insert-else-neighbors_visited.new.self c.id_fn-id.result c.in_ok-clone.field-0 same c.in_ok-insert-2.ensures.updates.0)),
-              known.2,
-              rw (above, again, from_top-neighbors walk, from_top-push walk)
-                  (none_fails_entered items (walk.node c.in-Some-pop.node) (from_top walk c.pop.new.self.items) (reverse (numbers walk sound.0)) (λ fault at_fault. none_of_nodes walk.node sound.0 fault (rw (← whole) at_fault))
-                  (none_fails_below items (walk.node c.in-Some-pop.node) false (from_top walk c.pop.new.self.items) (rw (e, from_top-push walk, flag) at known.3))),
-            ),
-      );
+      walking = of_starts before.walking (λ from walk items shown nodes.
+          let known = from walk items shown nodes in
+          let turn = AlwaysReturns-call g.N.FnMut _ known.0.neighbors called in
+          let top = rw (e, from_top-push walk, flag) at known.1 in
+          let whole = AreItems-nodes walk.node sound.0 (items (walk.node c.in-Some-pop.node)) ((turn.0 (top_is_node walk (walk.node c.in-Some-pop.node) false top)).whole (map (λ x. Ok x) sound.0) drained) in
+          let listed : numbers walk sound.0 ≡ walk.graph (walk.node c.in-Some-pop.node) =
+          sym (sound_items-nodes (Fault g.row.E.Denot) walk.node sound.0) ∙ ap sound_items (sym whole) ∙ sym (shown.sound_graph (walk.node c.in-Some-pop.node)) in (
+            record { sound_graph = shown.sound_graph; closed = shown.closed; apart = shown.apart; ids_stand = shown.ids_stand; neighbors = turn.1 },
+            rw (above, again, from_top-neighbors walk, from_top-push walk, listed)
+                (unwinding_entered walk g.ID.PartialEq.eq _ (walk.node c.in-Some-pop.node) c.id_fn-id.result shown.closed shown.apart top
+                (shown.ids_stand c.in-Some-pop.node c.id_fn-id.result (top_is_node walk (walk.node c.in-Some-pop.node) false top) (returned g.F.Fn c.id_fn-id.ensures)) c.if-contains.ensures
+                (contains-clone g.met.ID.Eq.laws c.loop-node.visiting c.id_fn-id.result c.in_ok-clone.field-0 same ∙ first)
+                (contains-put_clone g.met.ID.Eq.laws c.loop-node.visiting c.insert-else-neighbors_visited.new.self c.id_fn-id.result c.in_ok-clone.field-0 same c.in_ok-insert-2.ensures.updates.0)),
+            known.2,
+            rw (above, again, from_top-neighbors walk, from_top-push walk)
+                (none_fails_entered items (walk.node c.in-Some-pop.node) (from_top walk c.pop.new.self.items) (reverse (numbers walk sound.0)) (λ fault at_fault. none_of_nodes walk.node sound.0 fault (rw (← whole) at_fault))
+                (none_fails_below items (walk.node c.in-Some-pop.node) false (from_top walk c.pop.new.self.items) (rw (e, from_top-push walk, flag) at known.3))),
+          ));
     }
 
 pub returns : goal.returns
 returns g c = record {
   order =
       let before = c.loop-node.invariant in
-      let empty : c.loop-node.stack.items ≡ [] = first_of (search rules, grind (arith, common_steps)) in (
-        before.walking.0,
-        before.walking.1,
-        λ walk items shown nodes.
-            let known = before.walking.2 walk items shown nodes in
-            let whole = (rw empty at known.1).rest (numbers walk c.loop-node.result.items) ended in
-            record {
-              postorder = whole;
-              no_cycle = HasNoCycle-from_postorder walk.graph (numbers walk before.walking.0) (numbers walk c.loop-node.result.items) whole;
-              no_failure = HasNoFailure-from_postorder items walk.graph shown.sound_graph (numbers walk before.walking.0) (numbers walk c.loop-node.result.items) whole known.2;
-            },
-      );
+      let empty : c.loop-node.stack.items ≡ [] = first_of (search rules, grind (arith, common_steps)) in
+      of_starts before.walking (λ from walk items shown nodes.
+      let known = from walk items shown nodes in
+      let whole = (rw empty at known.1).rest (numbers walk c.loop-node.result.items) ended in
+      record {
+        postorder = whole;
+        no_cycle = HasNoCycle-from_postorder walk.graph (numbers walk before.walking.0) (numbers walk c.loop-node.result.items) whole;
+        no_failure = HasNoFailure-from_postorder items walk.graph shown.sound_graph (numbers walk before.walking.0) (numbers walk c.loop-node.result.items) whole known.2;
+      });
   failed = tt;
   cycle = tt;
 }
