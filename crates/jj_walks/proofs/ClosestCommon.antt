@@ -415,12 +415,12 @@ module _ {T ID : Type 0} (w : Numbered T ID) where
       (reached, are_nodes {E = ℕ} w (λ a. []) (set1 ++ set2) closed (both_nodes set1 set2 first second) (w.node x) reached)
 
   -- it is asked: its neighbours are to be met
-  pub asks : (eq : ID → ID → Bool) (set1 set2 : List ℕ) (m : ℕ → Reach) (waiting waiting2 : List T) (common : List (T × ID)) (rooted : Bool) (find find2 : ID → Mark) (x : T) (i : ID) (known : Reach)
+  pub asks : {set1 set2 : List ℕ} {m : ℕ → Reach} {waiting waiting2 : List T} {common : List (T × ID)} {rooted : Bool} {find : ID → Mark} (eq : ID → ID → Bool) (find2 : ID → Mark) (x : T) (i : ID) (known : Reach)
       → ((a : ℕ) → w.is_node a ≡ true → AreNodes w (w.graph a)) → Apart eq → AreNodes w set1 → AreNodes w set2 → HoldsMarks set1 set2 m waiting common rooted find
       → IsPermutation waiting (x ∷ waiting2) → (w.is_node (w.node x) ≡ true → w.id i ≡ w.node x) → known ≡ (find i).reach
       → (IsTrue (find i).waits → (q : ID) → find2 q ≡ cond (eq i q) (asked (find i)) (find q))
       → (w.is_node (w.node x) ≡ true) × (w.id i ≡ w.node x) × HandsOn set1 set2 m (w.node x) known waiting2 common rooted find2 []
-  asks eq set1 set2 m waiting waiting2 common rooted find find2 x i known closed apart first second k popped named is updates =
+  asks {set1} {set2} {m} {waiting} {waiting2} {common} {rooted} {find} eq find2 x i known closed apart first second k popped named is updates =
       let here = (was_reached waiting2 x closed first second k popped).1 in
       let same = named here in
       (here, same, hands_none eq set1 set2 m waiting waiting2 common rooted find find2 x i known apart k popped here same is updates)
@@ -595,11 +595,11 @@ module _ {T ID : Type 0} (w : Numbered T ID) where
   }
 
   -- so the nodes without a common one above them are the closest ones
-  pub closest_at_end : (set1 set2 todo : List ℕ) (m : ℕ → Reach) (waiting : List T) (found : List ℕ) (all : List (T × ID)) (rooted : Bool) (find : ID → Mark)
+  pub closest_at_end : {set1 set2 : List ℕ} {m : ℕ → Reach} {waiting : List T} {rooted : Bool} {find : ID → Mark} (todo found : List ℕ) (all : List (T × ID))
       → IsAtEnd w.graph set1 set2 m todo found (map (λ entry. w.node entry.0) all) rooted → KnowsMarks m waiting find → ((entry : T × ID) → Contains all entry → w.id entry.1 ≡ w.node entry.0)
       → ((a : ℕ) → w.is_node a ≡ true → AreNodes w (w.graph a)) → AreNodes w set1 → HasNoCommonCycle w.graph set1 set2
       → AreClosestCommon w.graph set1 set2 (map w.node (closest_of find all))
-  closest_at_end set1 set2 todo m waiting found all rooted find k marks ids closed nodes acyclic =
+  closest_at_end {set1} {set2} {m} {waiting} {rooted} {find} todo found all k marks ids closed nodes acyclic =
       let number : T × ID → ℕ = λ entry. w.node entry.0 in
       let passes : ℕ → Bool = λ a. not (m a).below in
       let listed : (entry : T × ID) → Contains all entry → Contains (map number all) (w.node entry.0) = λ entry h. in_map entry all h in

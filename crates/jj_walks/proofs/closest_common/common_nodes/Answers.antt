@@ -166,12 +166,9 @@ loop-node-3-preserved g c =
       lists = (AlwaysReturns-call g.N.FnMut _ before.lists called).1;
       small = c.loop-neighbor.invariant.small;
       walking = of_two_sets before.walking (λ from walk items shown first second.
-          let set1 = map walk.node before.walking.0 in
-          let set2 = map walk.node before.walking.1 in
           let known = from walk items shown first second in
           let held = known.1.1 in
-          let at = asks walk g.ID.PartialEq.eq set1 set2 known.1.0 (heap_items c.loop-node-3.waiting) (heap_items c.pop.new.self) c.loop-node-3.common.items c.loop-node-3.root_met
-          (mark_at g.ID.PartialEq.eq c.loop-node-3.known) (mark_at g.ID.PartialEq.eq c.ask-reach.new.known) node id c.ask-reach.result shown.closed shown.apart first second held popped
+          let at = asks walk g.ID.PartialEq.eq (mark_at g.ID.PartialEq.eq c.ask-reach.new.known) node id c.ask-reach.result shown.closed shown.apart first second held popped
           (λ here. shown.ids_stand node id here (returned g.F.Fn c.id_fn-id-in-Some-pop.ensures)) c.ask-reach.ensures.reach c.ask-reach.ensures.known in
           let turn = AlwaysReturns-call g.N.FnMut _ known.0.neighbors called in
           let after : ShowsLists walk items g.ID.PartialEq.eq g.F.Fn g.N.FnMut g.NI.IntoIterator.into_iter_gives g.NI.IntoIter.Iterator.next_gives c.args.id_fn c.neighbors_fn.new.self =
@@ -179,7 +176,7 @@ loop-node-3-preserved g c =
           let whole = (rw ok at (turn.0 at.0)) c.loop-neighbor.yielded drained in
           let listed : map walk.node c.loop-neighbor.yielded ≡ walk.graph (walk.node node) =
           sym (shown.sound_graph (walk.node node) ∙ ap sound_items whole ∙ sound_items-nodes (Fault g.row.E.Denot) walk.node c.loop-neighbor.yielded) in
-          let inner = c.loop-neighbor.invariant.walking walk items c.neighbors_fn.new.self set1 set2 [] known.1.0 c.loop-node-3.root_met (walk.node node) after at.0 at.2 (append-nil (map walk.node c.loop-neighbor.yielded) ∙ listed) in (
+          let inner = c.loop-neighbor.invariant.walking walk items c.neighbors_fn.new.self _ _ [] known.1.0 c.loop-node-3.root_met (walk.node node) after at.0 at.2 (append-nil (map walk.node c.loop-neighbor.yielded) ∙ listed) in (
             after,
             (
               inner.0,
@@ -201,15 +198,13 @@ returns-in-Err g c = record {
       let popped : IsPermutation (heap_items c.loop-node-3.waiting) (node ∷ heap_items c.pop.new.self) = c.in-Some-pop.ensures.permutation in
       let failed : c.neighbors_fn.result ≡ Err c.in-Err.error = c.in-Err.is in
       of_two_sets before.walking (λ from walk items shown first second.
-      let set1 = map walk.node before.walking.0 in
-      let set2 = map walk.node before.walking.1 in
       let known = from walk items shown first second in
       let at = was_reached walk (heap_items c.pop.new.self) node shown.closed first second known.1.1 popped in
       let turn = AlwaysReturns-call g.N.FnMut _ known.0.neighbors c.neighbors_fn.ensures in
       let one = failed_list (items (walk.node node)) c.in-Err.error (rw failed at (turn.0 at.1)) in (
         walk.node node,
         one.0,
-        ReachedFrom-same walk.graph (sound_graph items) shown.sound_graph (set1 ++ set2) (walk.node node) at.0,
+        ReachedFrom-same walk.graph (sound_graph items) shown.sound_graph _ (walk.node node) at.0,
         one.1,
         one.2,
       ));
@@ -228,16 +223,13 @@ returns-then-not-root_met g c = record {
       let nothing : length c.pop.new.self.data.items ≡ 0 = omega (arith, ok, none) in
       let empty : heap_items c.pop.new.self ≡ [] = nil_from_length _ nothing in
       of_two_sets before.walking (λ from walk items shown first second acyclic.
-      let set1 = map walk.node before.walking.0 in
-      let set2 = map walk.node before.walking.1 in
       let known = from walk items shown first second in
       let held = known.1.1 in
-      let at = asks walk g.ID.PartialEq.eq set1 set2 known.1.0 (heap_items c.loop-node-3.waiting) (heap_items c.pop.new.self) c.loop-node-3.common.items c.loop-node-3.root_met
-      (mark_at g.ID.PartialEq.eq c.loop-node-3.known) (mark_at g.ID.PartialEq.eq c.ask-reach.new.known) node id c.ask-reach.result shown.closed shown.apart first second held popped
+      let at = asks walk g.ID.PartialEq.eq (mark_at g.ID.PartialEq.eq c.ask-reach.new.known) node id c.ask-reach.result shown.closed shown.apart first second held popped
       (λ here. shown.ids_stand node id here (returned g.F.Fn c.id_fn-id-in-Some-pop.ensures)) c.ask-reach.ensures.reach c.ask-reach.ensures.known in
       let end = ends_early walk node id at.2 empty (and_parts _ _ (sym c.is_common.ensures ∙ c.if-is_common.true)) c.if-not-root_met.true in
-      rw more (closest_at_end walk set1 set2 (walk.node node ∷ []) known.1.0 (heap_items c.pop.new.self) (map (λ entry. walk.node entry.0) c.loop-node-3.common.items) (c.loop-node-3.common.items ++ (node, id) ∷ []) c.loop-node-3.root_met
-      (mark_at g.ID.PartialEq.eq c.ask-reach.new.known) end at.2.marks (ids_more walk c.loop-node-3.common.items node id held.ids at.1) shown.closed first acyclic));
+      rw more (closest_at_end walk (walk.node node ∷ []) (map (λ entry. walk.node entry.0) c.loop-node-3.common.items) (c.loop-node-3.common.items ++ (node, id) ∷ []) end at.2.marks
+      (ids_more walk c.loop-node-3.common.items node id held.ids at.1) shown.closed first acyclic));
   refused = tt;
 }
 
@@ -250,11 +242,8 @@ returns g c = record {
       let nothing : length c.loop-node-3.waiting.data.items ≡ 0 = omega arith in
       let empty : heap_items c.loop-node-3.waiting ≡ [] = nil_from_length _ nothing in
       of_two_sets before.walking (λ from walk items shown first second acyclic.
-      let set1 = map walk.node before.walking.0 in
-      let set2 = map walk.node before.walking.1 in
       let known = from walk items shown first second in
       let held = known.1.1 in
-      closest_at_end walk set1 set2 [] known.1.0 (heap_items c.loop-node-3.waiting) (map (λ entry. walk.node entry.0) c.loop-node-3.common.items) c.loop-node-3.common.items c.loop-node-3.root_met
-      (mark_at g.ID.PartialEq.eq c.loop-node-3.known) (ends walk held empty) held.marks held.ids shown.closed first acyclic);
+      closest_at_end walk [] (map (λ entry. walk.node entry.0) c.loop-node-3.common.items) c.loop-node-3.common.items (ends walk held empty) held.marks held.ids shown.closed first acyclic);
   refused = tt;
 }
