@@ -5,6 +5,7 @@ use Rattle.std.specs.HashMap.{get}
 use Rattle.jj_walks.proofs.Collecting.{are_nodes, collecting_entered, collecting_passed, collecting_starts, some_of, top_reached}
 use Rattle.jj_walks.proofs.Errors.{node_weaker}
 use Rattle.jj_walks.proofs.Exploring.{failed_below, filled_more, goes_on-more, goes_on-none, ids_told}
+use Rattle.jj_walks.proofs.Starts.{of_collected}
 use Rattle.jj_walks.proofs.TakingReady.{none_is}
 use Rattle.jj_walks.proofs.Walking.{left-given, returned}
 use Rattle.jj_walks.proofs.look_ahead.Shown.collect.Goals as goal
@@ -22,46 +23,37 @@ loop-node-init g c = record {
 pub loop-node-preserved-then-contains_key : goal.loop-node-preserved-then-contains_key
 loop-node-preserved-then-contains_key g c =
     let before = c.loop-node.invariant in
-    let p = before.found in
     let node = c.in-Some.node in
     let found = some_of (get g.ID.PartialEq.eq c.loop-node.found.index_of c.id_fn-id.result) c.if-contains_key.ensures in
-    let told = rw before.graph.id_fn at (returned g.F.Fn c.id_fn-id.ensures) in
     record {
       graph = before.graph;
-      found = (
-        p.0,
-        λ walk items shown nodes.
-            let known = p.1 walk items shown nodes in
-            let is = are_nodes walk items (map walk.node c.args.start.items) shown.closed nodes _ (top_reached walk items c.pop.new.self.items node known c.in-Some.ensures.items) in
-            collecting_passed walk items c.pop.new.self.items node c.id_fn-id.result known c.in-Some.ensures.items is (shown.ids_stand node c.id_fn-id.result is told) found.0 found.1,
-      );
+      found = of_collected before.found (λ from walk items shown nodes.
+          let known = from walk items shown nodes in
+          let is = are_nodes walk items (map walk.node c.args.start.items) shown.closed nodes _ (top_reached walk items c.pop.new.self.items node known c.in-Some.ensures.items) in
+          collecting_passed walk items c.pop.new.self.items node c.id_fn-id.result known c.in-Some.ensures.items is (shown.ids_stand node c.id_fn-id.result is (rw before.graph.id_fn at (returned g.F.Fn c.id_fn-id.ensures))) found.0 found.1);
     }
 
 pub loop-node-preserved : goal.loop-node-preserved
 loop-node-preserved g c =
     let before = c.loop-node.invariant in
-    let p = before.found in
     let node = c.in-Some.node in
     let id = c.id_fn-id.result in
     let told = rw before.graph.id_fn at (returned g.F.Fn c.id_fn-id.ensures) in
     let below = c.in-Ok.neighbors.items in
     let missed = none_is (get g.ID.PartialEq.eq c.loop-node.found.index_of id) (sym c.if-contains_key.ensures) in
-    let more = filled_more g.ID.PartialEq.eq c.loop-node.found c.keep.new.self node id c.in_ok-ids.ids p.0 c.in_ok-keep.ensures.nodes c.in_ok-keep.ensures.ids c.in_ok-keep.ensures.places in
+    let more = filled_more g.ID.PartialEq.eq c.loop-node.found c.keep.new.self node id c.in_ok-ids.ids before.found.0 c.in_ok-keep.ensures.nodes c.in_ok-keep.ensures.ids c.in_ok-keep.ensures.places in
     let graph = goes_on-more g.ID.PartialEq.eq g.F.Fn g.N.FnMut g.NI.IntoIterator g.NI.IntoIter.Iterator c.args.self.now c.loop-node.self c.neighbors.new.self before.graph c.neighbors.ensures.graph in
     record {
       graph = graph;
-      found = (
-        more.0,
-        λ walk items shown nodes.
-            let known = p.1 walk items shown nodes in
-            let is = are_nodes walk items (map walk.node c.args.start.items) shown.closed nodes _ (top_reached walk items c.pop.new.self.items node known c.in-Some.ensures.items) in
-            let listed = c.in-Ok.ensures.listed walk items (rw before.graph.id_fn (before.graph.shown walk items shown)) is in
-            let same_ids = ids_told walk _ (rw (← graph.id_fn) at shown.ids_stand) below c.in_ok-ids.ids.items (rw c.deref.ensures.value at c.in_ok-ids.ensures) (λ b h. shown.closed (walk.node node) is b (rw listed.0 at h)) in
-            collecting_entered walk items g.ID.PartialEq.eq _ c.pop.new.self.items node id below _ _ c.in_ok-ids.ids.items _ (length c.loop-node.found.nodes.items)
-            shown.sound_graph shown.closed shown.apart known c.in-Some.ensures.items is (shown.ids_stand node id is told) missed
-            listed.1 same_ids c.in_ok-append.ensures.items more.1 (ap (map (λ v. v.items)) c.in_ok-keep.ensures.ids ∙ map_push (λ v. v.items) c.loop-node.found.neighbor_ids.items c.in_ok-ids.ids)
-            (ap length p.0.nodes ∙ length-map p.0.given (λ x. Some x)) c.in_ok-keep.ensures.places,
-      );
+      found = of_collected more (λ given walk items shown nodes.
+          let known = before.found.1 walk items shown nodes in
+          let is = are_nodes walk items (map walk.node c.args.start.items) shown.closed nodes _ (top_reached walk items c.pop.new.self.items node known c.in-Some.ensures.items) in
+          let listed = c.in-Ok.ensures.listed walk items (rw before.graph.id_fn (before.graph.shown walk items shown)) is in
+          let same_ids = ids_told walk _ (rw (← graph.id_fn) at shown.ids_stand) below c.in_ok-ids.ids.items (rw c.deref.ensures.value at c.in_ok-ids.ensures) (λ b h. shown.closed (walk.node node) is b (rw listed.0 at h)) in
+          collecting_entered walk items g.ID.PartialEq.eq _ c.pop.new.self.items node id below _ _ c.in_ok-ids.ids.items _ (length c.loop-node.found.nodes.items)
+          shown.sound_graph shown.closed shown.apart known c.in-Some.ensures.items is (shown.ids_stand node id is told) missed
+          listed.1 same_ids c.in_ok-append.ensures.items given (ap (map (λ v. v.items)) c.in_ok-keep.ensures.ids ∙ map_push (λ v. v.items) c.loop-node.found.neighbor_ids.items c.in_ok-ids.ids)
+          (ap length before.found.0.nodes ∙ length-map before.found.0.given (λ x. Some x)) c.in_ok-keep.ensures.places);
     }
 
 pub loop-node-smaller : goal.loop-node-smaller
