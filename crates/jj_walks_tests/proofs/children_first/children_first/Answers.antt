@@ -1,10 +1,10 @@
-use Rattle.std.proofs.Common.{rules, of_calls, map, Ok, ⊎_elim}
+use Rattle.std.proofs.Common.{rules, of_calls, ⊎_elim}
 use Rattle.jj_walks.proofs.Errors.{node_weaker}
 use Rattle.jj_walks.proofs.LazyRuns.{IsChildFirst-from_drains, IsCause-from_yields}
 use Rattle.jj_walks.proofs.Owing.{can_show}
 use Rattle.jj_walks_tests.specs.Commits.{known_ids}
 use Rattle.jj_walks_tests.proofs.Numbering.{walk_of, items_of}
-use Rattle.jj_walks_tests.proofs.Sound.{commits_drained, shown_are, never_fails, commits_shown, known_starts, known_are_nodes, child_first_ids, no_failure}
+use Rattle.jj_walks_tests.proofs.Sound.{commits_shown, known_are_nodes, known_plan, child_first_ids, no_failure}
 use Rattle.jj_walks_tests.proofs.children_first.children_first.Goals as goal
 
 pub topo_order_reverse_lazy-requires-clause-graph : goal.topo_order_reverse_lazy-requires-clause-graph
@@ -17,33 +17,18 @@ pub returns-clause-order : goal.returns-clause-order
 returns-clause-order c =
     let commits = c.args.commits.now in
     let ids = c.args.ids.now in
-    let starts = c.sound_commits.result in
-    ⊎_elim
-    (λ p.
-    let given = known_starts commits ids p.0 (shown_are p.0 _ (commits_drained commits ids starts (map (λ x. Ok x) p.0) c.sound_commits.ensures.commits c.sound_commits.ensures.ids p.1)) in
-    let k = p.2 (walk_of commits) (items_of commits)
-    (commits_shown commits _ _ _ _ (λ x i h. search (rules, h.says.met, h.shows)) (λ a r f h. (search (rules, of_calls, h), search (rules, of_calls, h), search (rules, of_calls, h))))
-    (rw given (known_are_nodes commits ids)) in
+    let plan = known_plan commits ids c.sound_commits.result c.sound_commits.ensures.commits c.sound_commits.ensures.ids c.in_ok-walk.ensures.left
+    (commits_shown commits _ _ _ _ (λ x i h. search (rules, h.says.met, h.shows)) (λ a r f h. (search (rules, of_calls, h), search (rules, of_calls, h), search (rules, of_calls, h)))) in
     let run = rw (c.into_iter-commit-iterator.ensures.into_iter_gives, c.loop-commit.invariant.nodes) at c.loop-commit.yielded_by in
-    let all = IsChildFirst-from_drains _ _ _ _ _ _ _ _ (walk_of commits) (items_of commits) _ _ c.loop-commit.order.items c.in_ok-walk.walk c.in_ok-walk.ensures.has_ended k (c.next.new.self, (c.loop-commit.commit-iterator, run, c.in-None.ensures.steps)) in
-    child_first_ids commits (known_ids commits ids) (known_are_nodes commits ids) c.loop-commit.order.items (rw given at all.0))
-    (λ (xs, error, begins, fails). absurd (never_fails commits ids starts (map (λ x. Ok x) xs) error c.sound_commits.ensures.commits c.sound_commits.ensures.ids begins))
-    c.in_ok-walk.ensures.left
+    let all = IsChildFirst-from_drains _ _ _ _ _ _ _ _ (walk_of commits) (items_of commits) _ _ c.loop-commit.order.items c.in_ok-walk.walk c.in_ok-walk.ensures.has_ended plan (c.next.new.self, (c.loop-commit.commit-iterator, run, c.in-None.ensures.steps)) in
+    child_first_ids commits (known_ids commits ids) (known_are_nodes commits ids) c.loop-commit.order.items all.0
 
 pub returns-in-Err-clause-cycle : goal.returns-in-Err-clause-cycle
 returns-in-Err-clause-cycle c =
     let commits = c.args.commits.now in
-    let ids = c.args.ids.now in
-    let starts = c.sound_commits.result in
-    ⊎_elim
-    (λ p.
-    let given = known_starts commits ids p.0 (shown_are p.0 _ (commits_drained commits ids starts (map (λ x. Ok x) p.0) c.sound_commits.ensures.commits c.sound_commits.ensures.ids p.1)) in
-    let k = p.2 (walk_of commits) (items_of commits)
-    (commits_shown commits _ _ _ _ (λ x i h. search (rules, h.says.met, h.shows)) (λ a r f h. (search (rules, of_calls, h), search (rules, of_calls, h), search (rules, of_calls, h))))
-    (rw given (known_are_nodes commits ids)) in
+    let plan = known_plan commits c.args.ids.now c.sound_commits.result c.sound_commits.ensures.commits c.sound_commits.ensures.ids c.in_ok-walk.ensures.left
+    (commits_shown commits _ _ _ _ (λ x i h. search (rules, h.says.met, h.shows)) (λ a r f h. (search (rules, of_calls, h), search (rules, of_calls, h), search (rules, of_calls, h)))) in
     let run = rw (c.into_iter-commit-iterator.ensures.into_iter_gives, c.loop-commit.invariant.nodes) at c.loop-commit.yielded_by in
     let step = rw c.in-Err.is at c.in-Some.ensures.steps in
-    let all = IsCause-from_yields _ _ _ _ _ _ _ _ (walk_of commits) (items_of commits) _ _ c.loop-commit.order.items c.in-Err.refused c.in_ok-walk.walk c.loop-commit.commit-iterator c.next.new.self c.in_ok-walk.ensures.has_ended k run step in
-    node_weaker c.in-Err.refused _ _ (λ error q. ⊎_elim (λ failure. absurd (no_failure commits failure.0 failure.1 failure.3)) (λ (x, after, called, reached, cycle). rw given at cycle) q) all)
-    (λ (xs, error, begins, fails). absurd (never_fails commits ids starts (map (λ x. Ok x) xs) error c.sound_commits.ensures.commits c.sound_commits.ensures.ids begins))
-    c.in_ok-walk.ensures.left
+    let all = IsCause-from_yields _ _ _ _ _ _ _ _ (walk_of commits) (items_of commits) _ _ c.loop-commit.order.items c.in-Err.refused c.in_ok-walk.walk c.loop-commit.commit-iterator c.next.new.self c.in_ok-walk.ensures.has_ended plan run step in
+    node_weaker c.in-Err.refused _ _ (λ error q. ⊎_elim (λ failure. absurd (no_failure commits failure.0 failure.1 failure.3)) (λ (x, after, called, reached, cycle). cycle) q) all

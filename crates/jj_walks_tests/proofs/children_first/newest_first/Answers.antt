@@ -4,7 +4,7 @@ use Rattle.jj_walks.proofs.Errors.{node_weaker}
 use Rattle.jj_walks.proofs.Owing.{can_show}
 use Rattle.jj_walks_tests.specs.Commits.{known_ids}
 use Rattle.jj_walks_tests.proofs.Numbering.{walk_of, walk_closed, items_of}
-use Rattle.jj_walks_tests.proofs.Sound.{commits_drained, shown_are, never_fails, commits_shown, known_starts, known_are_nodes, no_failure}
+use Rattle.jj_walks_tests.proofs.Sound.{never_fails, commits_shown, drained_starts, known_are_nodes, no_failure}
 use Rattle.jj_walks.proofs.Renumbered.{renumbered_shows, renumbered_nodes}
 use Rattle.jj_walks_tests.proofs.Newest.{back, commits_compare, free, newest_ids, ranked_items, ranked_walk, ranks_are, to, undo, unused}
 use Rattle.jj_walks_tests.proofs.children_first.newest_first.Goals as goal
@@ -18,7 +18,7 @@ returns-clause-order c =
     let ids = c.args.ids.now in
     let nodes = known_are_nodes commits ids in
     IfOk-weaker c.topo_order_reverse_ord.result _ _ (λ order p.
-    let given = known_starts commits ids p.0 (shown_are p.0 _ (commits_drained commits ids c.sound_commits.result (map (λ x. Ok x) p.0) c.sound_commits.ensures.commits c.sound_commits.ensures.ids p.1)) in
+    let given = drained_starts commits ids c.sound_commits.result p.0 c.sound_commits.ensures.commits c.sound_commits.ensures.ids p.1 in
     let first = p.2 (walk_of commits) (items_of commits)
     (commits_shown commits _ _ _ _ (λ x i h. search (rules, h.says.met, h.shows)) (λ a r f h. (search (rules, of_calls, h), search (rules, of_calls, h), search (rules, of_calls, h))))
     (rw given nodes) in
@@ -38,13 +38,13 @@ returns-clause-cycle c =
     (λ (xs, begins). absurd (never_fails commits ids starts (map (λ x. Ok x) xs) error c.sound_commits.ensures.commits c.sound_commits.ensures.ids begins))
     (λ more. ⊎_elim
     (λ p.
-    let given = known_starts commits ids p.0 (shown_are p.0 _ (commits_drained commits ids starts (map (λ x. Ok x) p.0) c.sound_commits.ensures.commits c.sound_commits.ensures.ids p.1)) in
+    let given = drained_starts commits ids starts p.0 c.sound_commits.ensures.commits c.sound_commits.ensures.ids p.1 in
     let k = p.2 (walk_of commits) (items_of commits)
     (commits_shown commits _ _ _ _ (λ x i h. search (rules, h.says.met, h.shows)) (λ a r f h. (search (rules, of_calls, h), search (rules, of_calls, h), search (rules, of_calls, h))))
     (rw given (known_are_nodes commits ids)) in
     absurd (no_failure commits k.0 k.1 k.3))
     (λ p.
-    let given = known_starts commits ids p.1 (shown_are p.1 _ (commits_drained commits ids starts (map (λ x. Ok x) p.1) c.sound_commits.ensures.commits c.sound_commits.ensures.ids p.3)) in
+    let given = drained_starts commits ids starts p.1 c.sound_commits.ensures.commits c.sound_commits.ensures.ids p.3 in
     let k = p.4 (walk_of commits) (items_of commits)
     (commits_shown commits _ _ _ _ (λ x i h. search (rules, h.says.met, h.shows)) (λ a r f h. (search (rules, of_calls, h), search (rules, of_calls, h), search (rules, of_calls, h))))
     (rw given (known_are_nodes commits ids)) in
