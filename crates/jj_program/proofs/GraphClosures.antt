@@ -1,5 +1,5 @@
 -- Closures over a listed graph: one that numbers ids, and one that lists the neighbours of a node.
-use Rattle.std.proofs.Common.{◌≡◌, ℕ, List, Iter, Result, Ok, map, eqb}
+use Rattle.std.proofs.Common.{◌≡◌, ℕ, Iter, Result, Ok, map, eqb}
 use Rattle.std.specs.Prelude.{IsOkAnd}
 use Rattle.std.specs.Fn.{Called, FnReturnsAt, Mut, Shared}
 use Rattle.std.specs.Iterator.{YieldsFirst}

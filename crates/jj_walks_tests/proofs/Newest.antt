@@ -1,9 +1,8 @@
 -- The commits of a list numbered by rank, so that the greatest child-first order has the newest first.
-use Rattle.std.proofs.Common.{◌≡◌, ◌≢◌, ◌<◌, ◌==◌, ℕ, suc, Bool, true, false, cond, Option, None, Some, is_some, List, [], ◌∷◌, ◌++◌, length, map, refl, sym, ◌∙◌, ap, subst, true≢false, inl, inr, ◌⊎◌}
+use Rattle.std.proofs.Common.{◌≡◌, ◌≢◌, ◌<◌, ◌==◌, ℕ, suc, Bool, true, false, cond, Option, None, Some, is_some, List, [], ◌∷◌, length, map, refl, sym, ◌∙◌, ap, subst, true≢false, inl, inr, ◌⊎◌}
 use Rattle.std.specs.List.{Contains}
 use Rattle.std.specs.Cmp.Lexicographic.{slice_cmp}
 use Rattle.std.specs.String.{string_bytes}
-use Rattle.std.specs.declared.cmp.Ordering.{Ordering}
 use Rattle.std.specs.declared.cmp.Ordering.TheVariants.{Equal}
 use Rattle.std.specs.Ordering.{nat_cmp, ordering_then}
 use Rattle.std.proofs.lemmas.Bool.Decides.{Decides-eqb}
@@ -21,7 +20,7 @@ use Rattle.jj_walks_tests.specs.declared.commits.Commit.{Commit}
 use Rattle.jj_walks_tests.specs.Commits.{ids_of, commit_with, parent_graph}
 use Rattle.jj_walks_tests.specs.Newest.{IsNewer, IsNewestFirst}
 use Rattle.jj_walks_tests.proofs.Numbering.{walk_of, walk_closed, node, node_has, node_id, has_found, found_id, ids_are, items_of}
-use Rattle.jj_walks_tests.proofs.Ranks.{IsBefore, rank, rank_apart, rank_below, rank_tells, rank_compares, number_ranked, ranked_back}
+use Rattle.jj_walks_tests.proofs.Ranks.{IsBefore, rank, rank_below, rank_tells, rank_compares, number_ranked, ranked_back}
 
 found_in : (cs : List Commit) (n : ℕ) → is_some (commit_with cs n) ≡ true → Contains (ids_of cs) n
 found_in [] n h = absurd (true≢false (sym h))

@@ -1,5 +1,5 @@
 -- The numbering under which a walk sees a list of commits: a commit of the list has its id for its number, and any other value a number that is no id.
-use Rattle.std.proofs.Common.{◌≡◌, ℕ, zero, suc, ◌+◌, ◌≤◌, Bool, true, false, cond, ◌&&◌, ◌==◌, List, [], ◌∷◌, ◌++◌, map, Option, None, Some, is_some, Result, Ok, refl, sym, ◌∙◌, ap, subst, arith, true≢false, eqb, append_assoc}
+use Rattle.std.proofs.Common.{◌≡◌, ℕ, zero, suc, ◌+◌, ◌≤◌, Bool, true, false, cond, ◌&&◌, ◌==◌, List, [], ◌∷◌, map, Option, None, Some, is_some, Result, Ok, refl, sym, ◌∙◌, ap, subst, arith, true≢false, eqb}
 use Rattle.std.specs.List.{Contains, IsDistinct, AllByRecursion, filter_map, cons_option}
 use Rattle.std.proofs.lemmas.Bool.Decides.{Decides-eqb}
 use Rattle.std.proofs.lemmas.Slice.Eq.{slice_eq-Decides}
@@ -9,13 +9,12 @@ use Rattle.std.specs.Cmp.Lexicographic.{pointwise}
 use Rattle.std.proofs.lemmas.Map.Keys.{IsDistinct-tail, IsDistinct-head}
 use Rattle.std.proofs.lemmas.List.Elements.{Contains-append_right}
 use denote.Ref.{Bor}
-use Rattle.jj_walks.specs.Graph.{Graph, Postorder, IsPostorder, StandsBefore, ReachedFrom, HasEdge, IsMaximalIn}
+use Rattle.jj_walks.specs.Graph.{HasEdge, IsMaximalIn}
 use Rattle.jj_walks.specs.CommonNodes.{AreClosestCommon}
 use Rattle.jj_walks.specs.Failing.{Fault, sound_items}
 use Rattle.jj_walks.specs.Walk.{Numbered, AreNodes}
 use Rattle.jj_walks.proofs.Collecting.{are_nodes}
 use Rattle.jj_walks.proofs.Heads.{Contains-from_map, Contains-map}
-use Rattle.jj_walks.proofs.Reaching.{Contains-split, Postorder-gives, Contains-postorder}
 use Rattle.jj_walks_tests.specs.declared.commits.Commit.{Commit}
 use Rattle.jj_walks_tests.specs.Commits.{ids_of, commit_with, parents_in, parent_graph, is_same, has_commit}
 

@@ -1,5 +1,5 @@
 -- What a preorder gives: nothing that its starts do not reach.
-use Rattle.std.proofs.Common.{◌≡◌, ℕ, suc, List, [], ◌∷◌, ◌++◌, reverse, refl, arith, subst, inl, inr, ◌⊎◌, ⊎_elim}
+use Rattle.std.proofs.Common.{ℕ, suc, List, [], ◌∷◌, ◌++◌, reverse, refl, arith, subst, inl, inr, ◌⊎◌, ⊎_elim}
 use Rattle.std.specs.List.{Contains}
 use Rattle.std.proofs.lemmas.List.Elements.{Contains-append_right, Contains-push_cases}
 use Rattle.jj_walks.specs.Graph.{Graph, Preorder, ReachedFrom}

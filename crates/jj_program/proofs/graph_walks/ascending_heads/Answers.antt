@@ -1,13 +1,11 @@
-use Rattle.std.proofs.Common.{rules, of_calls, ◌≡◌, ℕ, refl, subst, map}
+use Rattle.std.proofs.Common.{rules, of_calls, ◌≡◌, refl, subst, map}
 use Rattle.std.specs.Prelude.{IfOk}
 use Rattle.std.specs.List.Sorted.{IsPermutation}
 use Rattle.std.proofs.lemmas.Fn.{always_returns_same}
-use Rattle.std.proofs.lemmas.Iterator.{YieldsList-from_slice, items_from_collect}
+use Rattle.std.proofs.lemmas.Iterator.{items_from_collect}
 use Rattle.std.proofs.lemmas.Iterator.Consumers.{YieldsList-from_copied, YieldsList-from_rest}
 use Rattle.std.proofs.lemmas.List.{map-id}
 use Rattle.jj_walks.specs.Graph.{IsMaximalIn}
-use Rattle.jj_walks.specs.Walk.{Numbered}
-use Rattle.jj_walks.proofs.Walking.{drained_are}
 use Rattle.jj_program.specs.ListedGraphs.{named_by, shown_by}
 use Rattle.jj_program.proofs.GraphClosures.{shows_lists, walk_over}
 use Rattle.jj_program.proofs.NumberedWalks.{nodes_among}

@@ -1,11 +1,7 @@
-use Rattle.std.proofs.Common.{rules, of_calls, ◌≡◌, ℕ, subst, map}
+use Rattle.std.proofs.Common.{rules, of_calls, ◌≡◌, subst, map}
 use Rattle.std.proofs.lemmas.Fn.{always_returns_same}
-use Rattle.std.proofs.lemmas.Iterator.{YieldsList-from_slice}
-use Rattle.std.proofs.lemmas.Iterator.Consumers.{YieldsList-from_copied}
 use Rattle.std.proofs.lemmas.List.Elements.{All-contains_itself}
 use Rattle.jj_walks.specs.Graph.{HasNoCycle}
-use Rattle.jj_walks.specs.Walk.{Numbered}
-use Rattle.jj_walks.proofs.Walking.{drained_are}
 use Rattle.jj_walks.proofs.Errors.{node_says}
 use Rattle.jj_program.specs.ListedGraphs.{named_by, shown_by}
 use Rattle.jj_program.proofs.GraphClosures.{shows_lists, walk_over}

@@ -1,4 +1,4 @@
-use Rattle.std.proofs.Common.{◌∙◌, ℕ, length, refl, sym, arith}
+use Rattle.std.proofs.Common.{◌∙◌, ℕ, refl, sym, arith}
 use Rattle.std.proofs.lemmas.List.{length-map}
 use Rattle.std.proofs.lemmas.Bool.{false≢true}
 use Rattle.jj_strings.proofs.Windows.{found_in_window, none_in_window}
