@@ -16,6 +16,8 @@ mod known_answers;
 mod maps;
 pub mod once_more;
 #[cfg(test)]
+mod once_more_tests;
+#[cfg(test)]
 mod recorder;
 pub mod records;
 #[cfg(test)]

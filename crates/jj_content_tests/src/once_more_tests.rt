@@ -1,0 +1,47 @@
+//! What is done once more, and what is then said of it.
+use crate::once_more::{holds, passes, tells};
+use std::alloc::{AllocError, Global};
+use std::cell::Cell;
+use std::process::Abort;
+use std::test::Fail;
+
+fn letter(alloc: Global) -> Result<String, AllocError> {
+    String::from_str(alloc, "a")
+}
+
+fn refused<T>(_alloc: Global) -> Result<T, AllocError> {
+    Err(AllocError)
+}
+
+#[test]
+fn texts_are_compared(rt: HostRuntime) {
+    assert!(rt; tells(&rt, letter, "a"));
+    assert!(rt; !tells(&rt, letter, "b"));
+    assert!(rt; !tells(&rt, refused, "a"));
+}
+
+#[test]
+fn claims_have_to_be_true(rt: HostRuntime) {
+    assert!(rt; holds(&rt, |_| Ok::<bool, AllocError>(true)));
+    assert!(rt; !holds(&rt, |_| Ok::<bool, AllocError>(false)));
+    assert!(rt; !holds(&rt, refused));
+}
+
+// Whether this is the second try.
+fn second(tried: &Cell<bool>) -> Result<bool, AllocError> {
+    if tried.replace(true) {
+        Ok(true)
+    } else {
+        Err(AllocError)
+    }
+}
+
+#[test]
+fn what_was_refused_once_is_done_again(rt: HostRuntime) -> Result<(), Fail> {
+    let tried = Cell::new(false);
+    assert!(rt; holds(&rt, |_| second(&tried)));
+    let tried = Cell::new(false);
+    passes(&rt, |_, _| second(&tried).map(|_| ()))?;
+    assert!(rt; tried.get());
+    Ok(())
+}
