@@ -82,40 +82,6 @@ fn stars<R: Abort>(rt: &R, alloc: Global) -> Result<(), AllocError> {
     )
 }
 
-fn classes<R: Abort>(rt: &R, alloc: Global) -> Result<(), AllocError> {
-    matches(
-        rt,
-        alloc,
-        false,
-        &[
-            ("[abc]", &["a", "c"], &["d", "", "ab"]),
-            ("[!a]", &["b", "/", "\n"], &["a", ""]),
-            ("[^a]", &["b", "/"], &["a"]),
-            ("[]a]", &["]", "a"], &["b"]),
-            ("[!]a]", &["b", "["], &["]", "a"]),
-            ("[!!]", &["a", "^"], &["!"]),
-            ("[^^]", &["a", "!"], &["^"]),
-            ("[a^!]", &["a", "^", "!"], &["b"]),
-            ("[a-]", &["a", "-"], &["b"]),
-            ("[-a]", &["a", "-"], &["b"]),
-            ("[!-]", &["a"], &["-"]),
-            ("[a-c]", &["a", "b", "c"], &["d", "-"]),
-            ("[a-a]", &["a"], &["b", "-"]),
-            ("[a-c-e]", &["a", "d", "e"], &["-", "f"]),
-            ("[a-c-]", &["b", "-"], &["d"]),
-            ("[+--]", &["+", ",", "-"], &["."]),
-            ("[a-ce-g]", &["a", "c", "e", "g"], &["d", "h"]),
-            ("[\\]", &["\\"], &["]"]),
-            ("[*?{}]", &["*", "?", "{", "}"], &["a", ""]),
-            ("[&&a~~[^$.#]", &["&", "~", "[", "^", "$", ".", "#"], &["b"]),
-            ("[/]", &["/"], &["a"]),
-            ("[é]", &[], &["é", "e"]),
-            ("[é][é]", &["é"], &["e"]),
-            ("*[!a]*c", &["x/yc"], &["c"]),
-        ],
-    )
-}
-
 fn groups<R: Abort>(rt: &R, alloc: Global) -> Result<(), AllocError> {
     matches(
         rt,
@@ -194,28 +160,6 @@ fn groups_of_words_in_either_case<R: Abort>(rt: &R, alloc: Global) -> Result<(),
     )
 }
 
-// The names with the numbers below a count, in any directory: as many as fill each size of row.
-fn many_words<R: Abort>(rt: &R, alloc: Global) -> Result<(), AllocError> {
-    for count in [20u32, 500, 2_000, 9_000, 20_000] {
-        let mut text = String::from_str(alloc, "**/{")?;
-        for number in 0..count {
-            text.push_str(format!(in alloc; "n{number}.rs,")?.as_str())?;
-        }
-        text.push_str("other}")?;
-        let glob = glob(rt, alloc, text.as_str(), true, false)?;
-        let last = count.saturating_sub(1);
-        let yes = format!(in alloc; "x/n/n{last}.rs")?;
-        let no = format!(in alloc; "x/n/n{count}.rs")?;
-        stands_for(
-            rt,
-            &glob,
-            &["n0.rs", "n/other", "n1.rs/n19.rs", yes.as_str()],
-            &["n.rs", "n0.rs/n", "n19.r", no.as_str()],
-        );
-    }
-    Ok(())
-}
-
 // Any bytes only where the whole text is a run of `**` joined by `/`: beside a group that leaves
 // nothing it is not.
 fn runs_beside_empty_groups<R: Abort>(rt: &R, alloc: Global) -> Result<(), AllocError> {
@@ -241,176 +185,32 @@ fn runs_beside_empty_groups<R: Abort>(rt: &R, alloc: Global) -> Result<(), Alloc
     )
 }
 
-fn escapes<R: Abort>(rt: &R, alloc: Global) -> Result<(), AllocError> {
-    matches(
-        rt,
-        alloc,
-        false,
-        &[
-            ("\\*", &["*"], &["a", "\\*"]),
-            ("\\a\\\\", &["a\\"], &["\\a\\"]),
-            ("a\\/**", &["a/x", "a/x/y"], &["a"]),
-            ("**\\/a", &["/a", "x/a"], &["a", "x/y/a"]),
-            ("\\{a,b\\}", &["{a,b}"], &["a"]),
-            ("\\[a]", &["[a]"], &["a"]),
-            ("\\é", &["é"], &["e"]),
-            ("]", &["]"], &[""]),
-            ("a.+()|^$#&-~", &["a.+()|^$#&-~"], &["ab"]),
-            (
-                "a[?][*][[][]][{][}][\\]é/",
-                &["a?*[]{}\\é/"],
-                &["ab*[]{}\\é/"],
-            ),
-        ],
-    )?;
-    let escaped = escape(alloc, "a?*[]{}\\é/")?;
-    assert_eq!(rt; escaped.as_str(), "a[?][*][[][]][{][}][\\]é/");
-    assert_eq!(rt; escape(alloc, "")?.as_str(), "");
-    for byte in b"a?b*c[d]e{f}g\\h/,!^-" {
-        assert_eq!(rt; is_special(*byte), b"?*[]{}\\".contains(byte), "of {byte}");
-    }
-    Ok(())
-}
-
-// Letters past ASCII are bytes: they match in their own case alone, and the bytes of one may stand
-// apart.
-fn options<R: Abort>(rt: &R, alloc: Global) -> Result<(), AllocError> {
-    matches(
-        rt,
-        alloc,
-        true,
-        &[
-            ("[a-c]É*", &["BÉx", "cÉ"], &["Béx", "dÉ"]),
-            ("[A-C]x", &["bX", "Cx"], &["d"]),
-            ("[!a]", &["b", "B", "/"], &["A", "a", "é"]),
-            ("{ab,CD}?", &["ABc", "cdE"], &["a", "abc/"]),
-            ("\\a[K]", &["Ak", "aK"], &["a\u{212a}"]),
-        ],
-    )?;
-    let plain = glob(rt, alloc, "*/?", false, false)?;
-    stands_for(rt, &plain, &["foo/b", "a/b/c", "a/b//"], &["a", "A"]);
-    let class = glob(rt, alloc, "[é]", true, false)?;
-    assert!(rt; class.is_match(b"\xc3") && class.is_match(b"\xa9"));
-    assert!(rt; !class.is_match(b"\xc2"));
-    let any = glob(rt, alloc, "?", true, false)?;
-    assert!(rt; any.is_match(b"\xff"));
-    Ok(())
-}
-
-fn prefixes<R: Abort>(rt: &R, alloc: Global) -> Result<(), AllocError> {
-    for (text, yes, no) in [
-        (
-            "a/*",
-            ["a/b", "a/b/", "a/b/c/d", "a/", "a//x"].as_slice(),
-            ["", "a", "b/a/b"].as_slice(),
-        ),
-        ("a", &["a", "a/", "a/b/c"], &["", "ab", "ab/a", "/a"]),
-        ("", &["", "/", "/x"], &["x", "x/"]),
-        ("**", &["", "x", "x/y"], &[]),
-        ("{a,b/c}", &["a/x", "b/c", "b/c/x"], &["b", "b/x", "b/cx"]),
-    ] {
-        let glob = glob(rt, alloc, text, true, false)?;
-        for bytes in yes {
-            assert!(rt;
-                glob.is_prefix_match(bytes.as_bytes()),
-                "{text} matches a front of {bytes}"
-            );
-        }
-        for bytes in no {
-            assert!(rt;
-                !glob.is_prefix_match(bytes.as_bytes()),
-                "{text} matches no front of {bytes}"
-            );
-        }
-    }
-    Ok(())
-}
-
 // The bytes before the first sign; none where letters match in either case.
-fn fronts<R: Abort>(rt: &R, alloc: Global) -> Result<(), AllocError> {
-    for (text, front) in [
-        ("", ""),
-        ("src/*.rs", "src/"),
-        ("src/**/x", "src"),
-        ("src/é?", "src/é"),
-        ("a\\*b[c]d", "a*b"),
-        ("a{}b{c,d}", "ab"),
-        ("**", ""),
-        ("*a", ""),
-    ] {
-        assert_eq!(rt;
-            glob(rt, alloc, text, true, false)?.front(),
-            front.as_bytes(),
-            "of {text}"
-        );
-    }
-    assert_eq!(rt;
-        glob(rt, alloc, "src/x", true, true)?.front(),
-        "".as_bytes()
-    );
-    Ok(())
-}
-
 #[test]
 fn literal_fronts(rt: HostRuntime) -> Result<(), Fail> {
-    passes(&rt, fronts)
-}
-
-// The texts are those that globset's translation gives, with each byte past ASCII and each sign of
-// a class written out.
-fn regex_texts<R: Abort>(rt: &R, alloc: Global) -> Result<(), AllocError> {
-    for (text, separator, icase, regex) in [
-        ("", true, false, "(?-u)^$"),
-        ("*.rs", true, false, "(?-u)^[^/]*\\.rs$"),
-        ("a?*", false, false, "(?-u)^a..*$"),
-        ("a?", true, true, "(?-u)(?i)^a[^/]$"),
-        ("**", true, false, "(?-u)^.*$"),
-        (
-            "**/a/**/b/**",
-            true,
-            false,
-            "(?-u)^(?:/?|.*/)a(?:/|/.*/)b/.*$",
-        ),
-        ("{a,{b,}c}", true, false, "(?-u)^(?:a|(?:b)c)$"),
-        ("[!a-c^]", true, false, "(?-u)^[^a-c\\^]$"),
-        ("[]-]", true, false, "(?-u)^[\\]\\-]$"),
-        ("é\\*", true, false, "(?-u)^\\xc3\\xa9\\*$"),
-    ] {
-        let glob = glob(rt, alloc, text, separator, icase)?;
-        assert_eq!(rt; glob.regex_text(alloc)?.as_str(), regex, "of {text}");
-    }
-    Ok(())
-}
-
-// Checks the first fault of each text.
-fn faults<R: Abort>(rt: &R, alloc: Global) -> Result<(), AllocError> {
-    for (text, fault) in [
-        ("[", GlobError::UnclosedClass),
-        ("[]", GlobError::UnclosedClass),
-        ("[!]", GlobError::UnclosedClass),
-        ("[a-", GlobError::UnclosedClass),
-        ("[a\\", GlobError::UnclosedClass),
-        ("{[a", GlobError::UnclosedClass),
-        ("[z-a]", GlobError::InvalidRange),
-        ("[z-a", GlobError::InvalidRange),
-        ("[b-c-a]", GlobError::InvalidRange),
-        ("[z-a]}", GlobError::InvalidRange),
-        ("[é-z]", GlobError::NonAsciiRange),
-        ("[a-é]", GlobError::NonAsciiRange),
-        ("{a", GlobError::UnclosedAlternates),
-        ("{a,{b}", GlobError::UnclosedAlternates),
-        ("a}", GlobError::UnopenedAlternates),
-        ("{a}}[", GlobError::UnopenedAlternates),
-        ("a\\", GlobError::DanglingEscape),
-        ("{\\", GlobError::DanglingEscape),
-    ] {
-        match Glob::parse(alloc, text, true, false) {
-            Ok(_) => panic!(rt; "{text} is no glob"),
-            Err(GlobError::Memory) => return Err(AllocError),
-            Err(error) => assert_eq!(rt; error, fault, "of {text}"),
+    passes(&rt, |rt, alloc| {
+        for (text, front) in [
+            ("", ""),
+            ("src/*.rs", "src/"),
+            ("src/**/x", "src"),
+            ("src/é?", "src/é"),
+            ("a\\*b[c]d", "a*b"),
+            ("a{}b{c,d}", "ab"),
+            ("**", ""),
+            ("*a", ""),
+        ] {
+            assert_eq!(rt;
+                glob(rt, alloc, text, true, false)?.front(),
+                front.as_bytes(),
+                "of {text}"
+            );
         }
-    }
-    Ok(())
+        assert_eq!(rt;
+            glob(rt, alloc, "src/x", true, true)?.front(),
+            "".as_bytes()
+        );
+        Ok(())
+    })
 }
 
 // The glob of a text so many times, and then another text.
@@ -473,7 +273,39 @@ fn stars_stand_for_bytes(rt: HostRuntime) -> Result<(), Fail> {
 
 #[test]
 fn classes_hold_bytes(rt: HostRuntime) -> Result<(), Fail> {
-    passes(&rt, classes)
+    passes(&rt, |rt, alloc| {
+        matches(
+            rt,
+            alloc,
+            false,
+            &[
+                ("[abc]", &["a", "c"], &["d", "", "ab"]),
+                ("[!a]", &["b", "/", "\n"], &["a", ""]),
+                ("[^a]", &["b", "/"], &["a"]),
+                ("[]a]", &["]", "a"], &["b"]),
+                ("[!]a]", &["b", "["], &["]", "a"]),
+                ("[!!]", &["a", "^"], &["!"]),
+                ("[^^]", &["a", "!"], &["^"]),
+                ("[a^!]", &["a", "^", "!"], &["b"]),
+                ("[a-]", &["a", "-"], &["b"]),
+                ("[-a]", &["a", "-"], &["b"]),
+                ("[!-]", &["a"], &["-"]),
+                ("[a-c]", &["a", "b", "c"], &["d", "-"]),
+                ("[a-a]", &["a"], &["b", "-"]),
+                ("[a-c-e]", &["a", "d", "e"], &["-", "f"]),
+                ("[a-c-]", &["b", "-"], &["d"]),
+                ("[+--]", &["+", ",", "-"], &["."]),
+                ("[a-ce-g]", &["a", "c", "e", "g"], &["d", "h"]),
+                ("[\\]", &["\\"], &["]"]),
+                ("[*?{}]", &["*", "?", "{", "}"], &["a", ""]),
+                ("[&&a~~[^$.#]", &["&", "~", "[", "^", "$", ".", "#"], &["b"]),
+                ("[/]", &["/"], &["a"]),
+                ("[é]", &[], &["é", "e"]),
+                ("[é][é]", &["é"], &["e"]),
+                ("*[!a]*c", &["x/yc"], &["c"]),
+            ],
+        )
+    })
 }
 
 #[test]
@@ -484,34 +316,186 @@ fn groups_have_alternatives(rt: HostRuntime) -> Result<(), Fail> {
     passes(&rt, groups_of_words_in_either_case)
 }
 
+// The names with the numbers below a count, in any directory: as many as fill each size of row.
 #[test]
 fn groups_of_many_words(rt: HostRuntime) -> Result<(), Fail> {
-    passes(&rt, many_words)
+    passes(&rt, |rt, alloc| {
+        for count in [20u32, 500, 2_000, 9_000, 20_000] {
+            let mut text = String::from_str(alloc, "**/{")?;
+            for number in 0..count {
+                text.push_str(format!(in alloc; "n{number}.rs,")?.as_str())?;
+            }
+            text.push_str("other}")?;
+            let glob = glob(rt, alloc, text.as_str(), true, false)?;
+            let last = count.saturating_sub(1);
+            let yes = format!(in alloc; "x/n/n{last}.rs")?;
+            let no = format!(in alloc; "x/n/n{count}.rs")?;
+            stands_for(
+                rt,
+                &glob,
+                &["n0.rs", "n/other", "n1.rs/n19.rs", yes.as_str()],
+                &["n.rs", "n0.rs/n", "n19.r", no.as_str()],
+            );
+        }
+        Ok(())
+    })
 }
 
 #[test]
 fn escapes_stand_for_themselves(rt: HostRuntime) -> Result<(), Fail> {
-    passes(&rt, escapes)
+    passes(&rt, |rt, alloc| {
+        matches(
+            rt,
+            alloc,
+            false,
+            &[
+                ("\\*", &["*"], &["a", "\\*"]),
+                ("\\a\\\\", &["a\\"], &["\\a\\"]),
+                ("a\\/**", &["a/x", "a/x/y"], &["a"]),
+                ("**\\/a", &["/a", "x/a"], &["a", "x/y/a"]),
+                ("\\{a,b\\}", &["{a,b}"], &["a"]),
+                ("\\[a]", &["[a]"], &["a"]),
+                ("\\é", &["é"], &["e"]),
+                ("]", &["]"], &[""]),
+                ("a.+()|^$#&-~", &["a.+()|^$#&-~"], &["ab"]),
+                (
+                    "a[?][*][[][]][{][}][\\]é/",
+                    &["a?*[]{}\\é/"],
+                    &["ab*[]{}\\é/"],
+                ),
+            ],
+        )?;
+        let escaped = escape(alloc, "a?*[]{}\\é/")?;
+        assert_eq!(rt; escaped.as_str(), "a[?][*][[][]][{][}][\\]é/");
+        assert_eq!(rt; escape(alloc, "")?.as_str(), "");
+        for byte in b"a?b*c[d]e{f}g\\h/,!^-" {
+            assert_eq!(rt; is_special(*byte), b"?*[]{}\\".contains(byte), "of {byte}");
+        }
+        Ok(())
+    })
 }
 
+// Letters past ASCII are bytes: they match in their own case alone, and the bytes of one may stand
+// apart.
 #[test]
 fn options_of_globs(rt: HostRuntime) -> Result<(), Fail> {
-    passes(&rt, options)
+    passes(&rt, |rt, alloc| {
+        matches(
+            rt,
+            alloc,
+            true,
+            &[
+                ("[a-c]É*", &["BÉx", "cÉ"], &["Béx", "dÉ"]),
+                ("[A-C]x", &["bX", "Cx"], &["d"]),
+                ("[!a]", &["b", "B", "/"], &["A", "a", "é"]),
+                ("{ab,CD}?", &["ABc", "cdE"], &["a", "abc/"]),
+                ("\\a[K]", &["Ak", "aK"], &["a\u{212a}"]),
+            ],
+        )?;
+        let plain = glob(rt, alloc, "*/?", false, false)?;
+        stands_for(rt, &plain, &["foo/b", "a/b/c", "a/b//"], &["a", "A"]);
+        let class = glob(rt, alloc, "[é]", true, false)?;
+        assert!(rt; class.is_match(b"\xc3") && class.is_match(b"\xa9"));
+        assert!(rt; !class.is_match(b"\xc2"));
+        let any = glob(rt, alloc, "?", true, false)?;
+        assert!(rt; any.is_match(b"\xff"));
+        Ok(())
+    })
 }
 
 #[test]
 fn prefixes_match(rt: HostRuntime) -> Result<(), Fail> {
-    passes(&rt, prefixes)
+    passes(&rt, |rt, alloc| {
+        for (text, yes, no) in [
+            (
+                "a/*",
+                ["a/b", "a/b/", "a/b/c/d", "a/", "a//x"].as_slice(),
+                ["", "a", "b/a/b"].as_slice(),
+            ),
+            ("a", &["a", "a/", "a/b/c"], &["", "ab", "ab/a", "/a"]),
+            ("", &["", "/", "/x"], &["x", "x/"]),
+            ("**", &["", "x", "x/y"], &[]),
+            ("{a,b/c}", &["a/x", "b/c", "b/c/x"], &["b", "b/x", "b/cx"]),
+        ] {
+            let glob = glob(rt, alloc, text, true, false)?;
+            for bytes in yes {
+                assert!(rt;
+                    glob.is_prefix_match(bytes.as_bytes()),
+                    "{text} matches a front of {bytes}"
+                );
+            }
+            for bytes in no {
+                assert!(rt;
+                    !glob.is_prefix_match(bytes.as_bytes()),
+                    "{text} matches no front of {bytes}"
+                );
+            }
+        }
+        Ok(())
+    })
 }
 
+// The texts are those that globset's translation gives, with each byte past ASCII and each sign of
+// a class written out.
 #[test]
 fn regular_expressions(rt: HostRuntime) -> Result<(), Fail> {
-    passes(&rt, regex_texts)
+    passes(&rt, |rt, alloc| {
+        for (text, separator, icase, regex) in [
+            ("", true, false, "(?-u)^$"),
+            ("*.rs", true, false, "(?-u)^[^/]*\\.rs$"),
+            ("a?*", false, false, "(?-u)^a..*$"),
+            ("a?", true, true, "(?-u)(?i)^a[^/]$"),
+            ("**", true, false, "(?-u)^.*$"),
+            (
+                "**/a/**/b/**",
+                true,
+                false,
+                "(?-u)^(?:/?|.*/)a(?:/|/.*/)b/.*$",
+            ),
+            ("{a,{b,}c}", true, false, "(?-u)^(?:a|(?:b)c)$"),
+            ("[!a-c^]", true, false, "(?-u)^[^a-c\\^]$"),
+            ("[]-]", true, false, "(?-u)^[\\]\\-]$"),
+            ("é\\*", true, false, "(?-u)^\\xc3\\xa9\\*$"),
+        ] {
+            let glob = glob(rt, alloc, text, separator, icase)?;
+            assert_eq!(rt; glob.regex_text(alloc)?.as_str(), regex, "of {text}");
+        }
+        Ok(())
+    })
 }
 
+// Checks the first fault of each text.
 #[test]
 fn first_faults(rt: HostRuntime) -> Result<(), Fail> {
-    passes(&rt, faults)
+    passes(&rt, |rt, alloc| {
+        for (text, fault) in [
+            ("[", GlobError::UnclosedClass),
+            ("[]", GlobError::UnclosedClass),
+            ("[!]", GlobError::UnclosedClass),
+            ("[a-", GlobError::UnclosedClass),
+            ("[a\\", GlobError::UnclosedClass),
+            ("{[a", GlobError::UnclosedClass),
+            ("[z-a]", GlobError::InvalidRange),
+            ("[z-a", GlobError::InvalidRange),
+            ("[b-c-a]", GlobError::InvalidRange),
+            ("[z-a]}", GlobError::InvalidRange),
+            ("[é-z]", GlobError::NonAsciiRange),
+            ("[a-é]", GlobError::NonAsciiRange),
+            ("{a", GlobError::UnclosedAlternates),
+            ("{a,{b}", GlobError::UnclosedAlternates),
+            ("a}", GlobError::UnopenedAlternates),
+            ("{a}}[", GlobError::UnopenedAlternates),
+            ("a\\", GlobError::DanglingEscape),
+            ("{\\", GlobError::DanglingEscape),
+        ] {
+            match Glob::parse(alloc, text, true, false) {
+                Ok(_) => panic!(rt; "{text} is no glob"),
+                Err(GlobError::Memory) => return Err(AllocError),
+                Err(error) => assert_eq!(rt; error, fault, "of {text}"),
+            }
+        }
+        Ok(())
+    })
 }
 
 #[test]

@@ -127,21 +127,19 @@ fn json_text<T: ToJson>(alloc: Global, value: &T) -> Result<String, ToJsonError>
     Ok(value.to_json(alloc)?.to_string(alloc)?)
 }
 
-fn tell_json<R: Abort>(rt: &R, alloc: Global) -> Result<(), ToJsonError> {
-    assert_eq!(rt;
-        json_text(alloc, &commit(alloc, &BYTES)?)?.as_str(),
-        "\"deadbeef0123\""
-    );
-    assert_eq!(rt;
-        json_text(alloc, &change(alloc, &BYTES)?)?.as_str(),
-        "\"mlpmollkzyxw\""
-    );
-    Ok(())
-}
-
 #[test]
 fn ids_in_json_are_their_texts(rt: HostRuntime) -> Result<(), Fail> {
-    succeeds(&rt, tell_json)
+    succeeds(&rt, |rt, alloc| {
+        assert_eq!(rt;
+            json_text(alloc, &commit(alloc, &BYTES)?)?.as_str(),
+            "\"deadbeef0123\""
+        );
+        assert_eq!(rt;
+            json_text(alloc, &change(alloc, &BYTES)?)?.as_str(),
+            "\"mlpmollkzyxw\""
+        );
+        Ok(())
+    })
 }
 
 #[test]

@@ -78,19 +78,17 @@ const PREFIXES: [Row; 4] = [
     ),
 ];
 
-fn files_or_prefixes<R: Abort>(rt: &R, alloc: Global) -> Result<(), AllocError> {
-    for (list, accepted, refused, rows) in FILES {
-        answers(rt, alloc, files(rt, alloc, list)?, accepted, refused, rows)?;
-    }
-    for (list, accepted, refused, rows) in PREFIXES {
-        answers(rt, alloc, prefix(rt, alloc, list)?, accepted, refused, rows)?;
-    }
-    Ok(())
-}
-
 #[test]
 fn files_and_prefixes(rt: HostRuntime) -> Result<(), Fail> {
-    passes(&rt, files_or_prefixes)
+    passes(&rt, |rt, alloc| {
+        for (list, accepted, refused, rows) in FILES {
+            answers(rt, alloc, files(rt, alloc, list)?, accepted, refused, rows)?;
+        }
+        for (list, accepted, refused, rows) in PREFIXES {
+            answers(rt, alloc, prefix(rt, alloc, list)?, accepted, refused, rows)?;
+        }
+        Ok(())
+    })
 }
 
 // Two empty sets are no answer with names.

@@ -7,43 +7,39 @@ use std::process::Abort;
 use std::test::Fail;
 
 // A copy of a builder has its patterns, and goes its own way from then on.
-fn copies<R: Abort>(rt: &R, alloc: Global) -> Result<(), AllocError> {
-    let sources = pattern(rt, alloc, "*.rs")?;
-    let pages = pattern(rt, alloc, "*.md")?;
-    let mut builder = GlobsMatcher::builder(alloc).prefix_paths(true);
-    builder.add(path(rt, alloc, "src"), &sources)?;
-    let copied = builder.clone()?.build()?;
-    builder.add(path(rt, alloc, "docs"), &pages)?;
-    let matcher = builder.build()?.clone()?;
-    for (file, in_copy, in_matcher) in [
-        ("src/lib.rs", true, true),
-        ("src/lib.rs/below", true, true),
-        ("docs/index.md", false, true),
-        ("src/index.md", false, false),
-    ] {
-        let file = path(rt, alloc, file);
-        assert_eq!(rt; copied.matches(file), in_copy);
-        assert_eq!(rt; matcher.matches(file), in_matcher);
-    }
-    Ok(())
-}
-
 #[test]
 fn copies_of_globs(rt: HostRuntime) -> Result<(), Fail> {
-    passes(&rt, copies)
-}
-
-fn texts<R: Abort>(rt: &R, alloc: Global) -> Result<(), AllocError> {
-    let sources = pattern(rt, alloc, "*.rs")?;
-    let shown = format!(in alloc; "{sources:?}")?;
-    assert_eq!(rt; shown.as_str(), "PathGlobPattern { glob: \"*.rs\", .. }");
-    let shown = format!(in alloc; "{:?} {:?}", NothingMatcher, EverythingMatcher)?;
-    assert_eq!(rt; shown.as_str(), "NothingMatcher EverythingMatcher");
-    assert!(rt; NothingMatcher == NothingMatcher);
-    Ok(())
+    passes(&rt, |rt, alloc| {
+        let sources = pattern(rt, alloc, "*.rs")?;
+        let pages = pattern(rt, alloc, "*.md")?;
+        let mut builder = GlobsMatcher::builder(alloc).prefix_paths(true);
+        builder.add(path(rt, alloc, "src"), &sources)?;
+        let copied = builder.clone()?.build()?;
+        builder.add(path(rt, alloc, "docs"), &pages)?;
+        let matcher = builder.build()?.clone()?;
+        for (file, in_copy, in_matcher) in [
+            ("src/lib.rs", true, true),
+            ("src/lib.rs/below", true, true),
+            ("docs/index.md", false, true),
+            ("src/index.md", false, false),
+        ] {
+            let file = path(rt, alloc, file);
+            assert_eq!(rt; copied.matches(file), in_copy);
+            assert_eq!(rt; matcher.matches(file), in_matcher);
+        }
+        Ok(())
+    })
 }
 
 #[test]
 fn texts_of_matchers(rt: HostRuntime) -> Result<(), Fail> {
-    passes(&rt, texts)
+    passes(&rt, |rt, alloc| {
+        let sources = pattern(rt, alloc, "*.rs")?;
+        let shown = format!(in alloc; "{sources:?}")?;
+        assert_eq!(rt; shown.as_str(), "PathGlobPattern { glob: \"*.rs\", .. }");
+        let shown = format!(in alloc; "{:?} {:?}", NothingMatcher, EverythingMatcher)?;
+        assert_eq!(rt; shown.as_str(), "NothingMatcher EverythingMatcher");
+        assert!(rt; NothingMatcher == NothingMatcher);
+        Ok(())
+    })
 }

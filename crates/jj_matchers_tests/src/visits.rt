@@ -44,19 +44,20 @@ fn visit<R: Abort>(rt: &R, alloc: Global, named: Named) -> Result<Visit, AllocEr
     answer(rt, alloc, dirs, files)
 }
 
-fn combines<R: Abort>(rt: &R, alloc: Global) -> Result<(), AllocError> {
-    for (first, second, either, rest, both) in ROWS {
-        let union = union_visit(visit(rt, alloc, first)?, visit(rt, alloc, second)?)?;
-        assert!(rt; union == visit(rt, alloc, either)?);
-        let difference = difference_visit(visit(rt, alloc, first)?, visit(rt, alloc, second)?);
-        assert!(rt; difference == visit(rt, alloc, rest)?);
-        let intersection = intersection_visit(visit(rt, alloc, first)?, visit(rt, alloc, second)?);
-        assert!(rt; intersection == visit(rt, alloc, both)?);
-    }
-    Ok(())
-}
-
 #[test]
 fn answers_of_two(rt: HostRuntime) -> Result<(), Fail> {
-    passes(&rt, combines)
+    passes(&rt, |rt, alloc| {
+        for (first, second, either, rest, both) in ROWS {
+            let union = union_visit(visit(rt, alloc, first)?, visit(rt, alloc, second)?)?;
+            assert!(rt; union == visit(rt, alloc, either)?);
+            let difference = difference_visit(visit(rt, alloc, first)?, visit(rt, alloc, second)?);
+            assert!(rt; difference == visit(rt, alloc, rest)?);
+            let intersection = intersection_visit(
+                visit(rt, alloc, first)?,
+                visit(rt, alloc, second)?,
+            );
+            assert!(rt; intersection == visit(rt, alloc, both)?);
+        }
+        Ok(())
+    })
 }

@@ -39,15 +39,13 @@ fn json<R: Abort>(rt: &R, alloc: Global, text: &str) -> Result<String, ToJsonErr
     Ok(texts(rt, alloc, text)?.to_json(alloc)?.to_string(alloc)?)
 }
 
-fn tell_lists<R: Abort>(rt: &R, alloc: Global) -> Result<(), ToJsonError> {
-    for (text, wanted) in [("a", "[\"a\"]"), ("a,,b", "[\"a\",\"\",\"b\"]")] {
-        let text = json(rt, alloc, text)?;
-        assert_eq!(rt; text.as_str(), wanted);
-    }
-    Ok(())
-}
-
 #[test]
 fn json_is_the_list(rt: HostRuntime) -> Result<(), Fail> {
-    succeeds(&rt, tell_lists)
+    succeeds(&rt, |rt, alloc| {
+        for (text, wanted) in [("a", "[\"a\"]"), ("a,,b", "[\"a\",\"\",\"b\"]")] {
+            let text = json(rt, alloc, text)?;
+            assert_eq!(rt; text.as_str(), wanted);
+        }
+        Ok(())
+    })
 }

@@ -118,21 +118,19 @@ fn is_fault<R: Abort>(
     }
 }
 
-fn creates<R: Abort>(rt: &R, alloc: Global) -> Result<(), AllocError> {
-    let mut new = Memory::new(false, [false; 3], 9);
-    assert!(rt; create_or_reuse_dir(alloc, &mut new, "dir").is_ok());
-    assert!(rt; new.is_there);
-    assert!(rt; create_or_reuse_dir(alloc, &mut new, "dir").is_ok());
-    let mut failing = Memory::new(false, [false; 3], 0);
-    match create_or_reuse_dir(alloc, &mut failing, "dir") {
-        Ok(()) => panic!(rt; "made"),
-        Err(fault) => is_fault(rt, fault, "dir", ErrorKind::PermissionDenied),
-    }
-}
-
 #[test]
 fn directories_are_made_or_used(rt: HostRuntime) -> Result<(), Fail> {
-    passes(&rt, creates)
+    passes(&rt, |rt, alloc| {
+        let mut new = Memory::new(false, [false; 3], 9);
+        assert!(rt; create_or_reuse_dir(alloc, &mut new, "dir").is_ok());
+        assert!(rt; new.is_there);
+        assert!(rt; create_or_reuse_dir(alloc, &mut new, "dir").is_ok());
+        let mut failing = Memory::new(false, [false; 3], 0);
+        match create_or_reuse_dir(alloc, &mut failing, "dir") {
+            Ok(()) => panic!(rt; "made"),
+            Err(fault) => is_fault(rt, fault, "dir", ErrorKind::PermissionDenied),
+        }
+    })
 }
 
 fn empties_full<R: Abort>(rt: &R, alloc: Global) -> Result<(), AllocError> {
@@ -161,38 +159,34 @@ fn stops_at<R: Abort>(
     Ok(())
 }
 
-fn empties<R: Abort>(rt: &R, alloc: Global) -> Result<(), AllocError> {
-    empties_full(rt, alloc)?;
-    stops_at(rt, alloc, 0, "dir", 3)?;
-    for (i, path) in PATHS.iter().enumerate() {
-        stops_at(rt, alloc, i as u32 + 1, path, 3 - i)?;
-    }
-    Ok(())
-}
-
 #[test]
 fn entries_are_removed_up_to_the_first_fault(rt: HostRuntime) -> Result<(), Fail> {
-    passes(&rt, empties)
-}
-
-fn tells_empty<R: Abort>(rt: &R, alloc: Global) -> Result<(), AllocError> {
-    for (is_there, files, empty) in [
-        (true, [false; 3], true),
-        (true, [false, true, false], false),
-        (false, [false; 3], false),
-    ] {
-        match is_empty_dir(alloc, &Memory::new(is_there, files, 9), "dir") {
-            Ok(answer) => assert_eq!(rt; answer, empty),
-            Err(fault) => return is_fault(rt, fault, "", ErrorKind::Other),
+    passes(&rt, |rt, alloc| {
+        empties_full(rt, alloc)?;
+        stops_at(rt, alloc, 0, "dir", 3)?;
+        for (i, path) in PATHS.iter().enumerate() {
+            stops_at(rt, alloc, i as u32 + 1, path, 3 - i)?;
         }
-    }
-    match is_empty_dir(alloc, &Memory::new(true, [false; 3], 0), "dir") {
-        Ok(_) => panic!(rt; "listed"),
-        Err(fault) => is_fault(rt, fault, "dir", ErrorKind::PermissionDenied),
-    }
+        Ok(())
+    })
 }
 
 #[test]
 fn empty_directories(rt: HostRuntime) -> Result<(), Fail> {
-    passes(&rt, tells_empty)
+    passes(&rt, |rt, alloc| {
+        for (is_there, files, empty) in [
+            (true, [false; 3], true),
+            (true, [false, true, false], false),
+            (false, [false; 3], false),
+        ] {
+            match is_empty_dir(alloc, &Memory::new(is_there, files, 9), "dir") {
+                Ok(answer) => assert_eq!(rt; answer, empty),
+                Err(fault) => return is_fault(rt, fault, "", ErrorKind::Other),
+            }
+        }
+        match is_empty_dir(alloc, &Memory::new(true, [false; 3], 0), "dir") {
+            Ok(_) => panic!(rt; "listed"),
+            Err(fault) => is_fault(rt, fault, "dir", ErrorKind::PermissionDenied),
+        }
+    })
 }

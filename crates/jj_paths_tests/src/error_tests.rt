@@ -14,25 +14,23 @@ fn boxed_path(alloc: Global, text: &str) -> Result<Box<RepoPathBuf>, InvalidNewR
     Ok(Box::new(alloc, path)?)
 }
 
-fn boxes_paths<R: Abort>(rt: &R, alloc: Global) -> Result<(), AllocError> {
-    match boxed_path(alloc, "a/b") {
-        Ok(path) => assert_eq!(rt; path.as_path().as_internal_file_string(), "a/b"),
-        Err(InvalidNewRepoPathError::Memory) => return Err(AllocError),
-        Err(error) => panic!(rt; "{error}"),
-    }
-    match boxed_path(alloc, "a//b") {
-        Ok(_) => panic!(rt; "a//b is no path"),
-        Err(InvalidNewRepoPathError::Memory) => Err(AllocError),
-        Err(InvalidNewRepoPathError::Invalid { value }) => {
-            assert_eq!(rt; value.as_str(), "a//b");
-            Ok(())
-        }
-    }
-}
-
 #[test]
 fn paths_in_boxes(rt: HostRuntime) -> Result<(), Fail> {
-    passes(&rt, boxes_paths)
+    passes(&rt, |rt, alloc| {
+        match boxed_path(alloc, "a/b") {
+            Ok(path) => assert_eq!(rt; path.as_path().as_internal_file_string(), "a/b"),
+            Err(InvalidNewRepoPathError::Memory) => return Err(AllocError),
+            Err(error) => panic!(rt; "{error}"),
+        }
+        match boxed_path(alloc, "a//b") {
+            Ok(_) => panic!(rt; "a//b is no path"),
+            Err(InvalidNewRepoPathError::Memory) => Err(AllocError),
+            Err(InvalidNewRepoPathError::Invalid { value }) => {
+                assert_eq!(rt; value.as_str(), "a//b");
+                Ok(())
+            }
+        }
+    })
 }
 
 // A name as a file's, in a box.
@@ -44,25 +42,23 @@ fn boxed_name(
     Ok(Box::new(alloc, name)?)
 }
 
-fn boxes_names<R: Abort>(rt: &R, alloc: Global) -> Result<(), AllocError> {
-    match boxed_name(alloc, name(rt, alloc, "a")) {
-        Ok(name) => assert_eq!(rt; name.as_str(), "a"),
-        Err(InvalidRepoPathComponentError::Memory) => return Err(AllocError),
-        Err(error) => panic!(rt; "{error}"),
-    }
-    match boxed_name(alloc, name(rt, alloc, "..")) {
-        Ok(_) => panic!(rt; ".. is no file's name"),
-        Err(InvalidRepoPathComponentError::Memory) => Err(AllocError),
-        Err(InvalidRepoPathComponentError::Invalid { component }) => {
-            assert_eq!(rt; component.as_str(), "..");
-            Ok(())
-        }
-    }
-}
-
 #[test]
 fn names_in_boxes(rt: HostRuntime) -> Result<(), Fail> {
-    passes(&rt, boxes_names)
+    passes(&rt, |rt, alloc| {
+        match boxed_name(alloc, name(rt, alloc, "a")) {
+            Ok(name) => assert_eq!(rt; name.as_str(), "a"),
+            Err(InvalidRepoPathComponentError::Memory) => return Err(AllocError),
+            Err(error) => panic!(rt; "{error}"),
+        }
+        match boxed_name(alloc, name(rt, alloc, "..")) {
+            Ok(_) => panic!(rt; ".. is no file's name"),
+            Err(InvalidRepoPathComponentError::Memory) => Err(AllocError),
+            Err(InvalidRepoPathComponentError::Invalid { component }) => {
+                assert_eq!(rt; component.as_str(), "..");
+                Ok(())
+            }
+        }
+    })
 }
 
 #[test]

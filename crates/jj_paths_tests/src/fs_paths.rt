@@ -49,45 +49,41 @@ fn made_below<R: Abort>(
     }
 }
 
-fn goes_below<R: Abort>(rt: &R, alloc: Global) -> Result<(), AllocError> {
-    for [text, base, below] in BELOW {
-        let made = made_below(rt, alloc, path(rt, alloc, text), base)?;
-        assert_eq!(rt; made.as_str(), below);
-        let made = path(rt, alloc, text).to_fs_path_unchecked(alloc, base)?;
-        assert_eq!(rt; made.as_str(), below);
-    }
-    Ok(())
-}
-
 #[test]
 fn below_a_base(rt: HostRuntime) -> Result<(), Fail> {
-    passes(&rt, goes_below)
-}
-
-fn refuses_dots<R: Abort>(rt: &R, alloc: Global) -> Result<(), AllocError> {
-    for [text, name, unchecked] in WITH_DOTS {
-        match path(rt, alloc, text).to_fs_path(alloc, "base") {
-            Ok(made) => panic!(rt; "{made}"),
-            Err(InvalidRepoPathError::Memory) => return Err(AllocError),
-            Err(InvalidRepoPathError::Invalid { path, source }) => {
-                assert_eq!(rt; path.as_path().as_internal_file_string(), text);
-                match source {
-                    InvalidRepoPathComponentError::Invalid { component } => {
-                        assert_eq!(rt; component.as_str(), name);
-                    }
-                    InvalidRepoPathComponentError::Memory => return Err(AllocError),
-                }
-            }
+    passes(&rt, |rt, alloc| {
+        for [text, base, below] in BELOW {
+            let made = made_below(rt, alloc, path(rt, alloc, text), base)?;
+            assert_eq!(rt; made.as_str(), below);
+            let made = path(rt, alloc, text).to_fs_path_unchecked(alloc, base)?;
+            assert_eq!(rt; made.as_str(), below);
         }
-        let made = path(rt, alloc, text).to_fs_path_unchecked(alloc, "base")?;
-        assert_eq!(rt; made.as_str(), unchecked);
-    }
-    Ok(())
+        Ok(())
+    })
 }
 
 #[test]
 fn names_that_are_dots(rt: HostRuntime) -> Result<(), Fail> {
-    passes(&rt, refuses_dots)
+    passes(&rt, |rt, alloc| {
+        for [text, name, unchecked] in WITH_DOTS {
+            match path(rt, alloc, text).to_fs_path(alloc, "base") {
+                Ok(made) => panic!(rt; "{made}"),
+                Err(InvalidRepoPathError::Memory) => return Err(AllocError),
+                Err(InvalidRepoPathError::Invalid { path, source }) => {
+                    assert_eq!(rt; path.as_path().as_internal_file_string(), text);
+                    match source {
+                        InvalidRepoPathComponentError::Invalid { component } => {
+                            assert_eq!(rt; component.as_str(), name);
+                        }
+                        InvalidRepoPathComponentError::Memory => return Err(AllocError),
+                    }
+                }
+            }
+            let made = path(rt, alloc, text).to_fs_path_unchecked(alloc, "base")?;
+            assert_eq!(rt; made.as_str(), unchecked);
+        }
+        Ok(())
+    })
 }
 
 // a relative path, and the repo path
@@ -102,20 +98,18 @@ const RELATIVE: [[&str; 2]; 8] = [
     ["a/.b/...", "a/.b/..."],
 ];
 
-fn reads_relative<R: Abort>(rt: &R, alloc: Global) -> Result<(), AllocError> {
-    for [text, made] in RELATIVE {
-        match RepoPathBuf::from_relative_path(alloc, text.as_bytes()) {
-            Ok(path) => assert_eq!(rt; path.as_path().as_internal_file_string(), made),
-            Err(RelativePathParseError::Memory) => return Err(AllocError),
-            Err(e) => panic!(rt; "{text}: {e}"),
-        }
-    }
-    Ok(())
-}
-
 #[test]
 fn relative_paths(rt: HostRuntime) -> Result<(), Fail> {
-    passes(&rt, reads_relative)
+    passes(&rt, |rt, alloc| {
+        for [text, made] in RELATIVE {
+            match RepoPathBuf::from_relative_path(alloc, text.as_bytes()) {
+                Ok(path) => assert_eq!(rt; path.as_path().as_internal_file_string(), made),
+                Err(RelativePathParseError::Memory) => return Err(AllocError),
+                Err(e) => panic!(rt; "{text}: {e}"),
+            }
+        }
+        Ok(())
+    })
 }
 
 // a path that is refused, and the component that is no name, or nothing where a name is no text
@@ -153,14 +147,12 @@ fn refuses_bytes<R: Abort>(
     Ok(())
 }
 
-fn refuses_relative<R: Abort>(rt: &R, alloc: Global) -> Result<(), AllocError> {
-    for (bytes, named) in refused_relative() {
-        refuses_bytes(rt, alloc, bytes, named)?;
-    }
-    Ok(())
-}
-
 #[test]
 fn no_relative_paths(rt: HostRuntime) -> Result<(), Fail> {
-    passes(&rt, refuses_relative)
+    passes(&rt, |rt, alloc| {
+        for (bytes, named) in refused_relative() {
+            refuses_bytes(rt, alloc, bytes, named)?;
+        }
+        Ok(())
+    })
 }

@@ -62,34 +62,20 @@ fn names_by_bytes(rt: HostRuntime) {
     assert!(rt; name(&rt, alloc, "dir") == name(&rt, alloc, "dir"));
 }
 
-fn owned_as_borrowed<R: Abort>(rt: &R, alloc: Global) -> Result<(), AllocError> {
-    let sub = owned(rt, alloc, "dir/sub")?;
-    let hash = owned(rt, alloc, "dir#")?;
-    assert!(rt; sub < hash);
-    assert!(rt; sub != hash);
-    assert_eq!(rt; hash.cmp(&sub), Ordering::Greater);
-    let dir = name(rt, alloc, "dir").to_owned(alloc)?;
-    let other = name(rt, alloc, "dir#").to_owned(alloc)?;
-    assert!(rt; dir < other);
-    assert!(rt; dir != other);
-    Ok(())
-}
-
 #[test]
 fn owned_paths_and_names(rt: HostRuntime) -> Result<(), Fail> {
-    passes(&rt, owned_as_borrowed)
-}
-
-fn sets_of_paths<R: Abort>(rt: &R, alloc: Global) -> Result<(), AllocError> {
-    let mut paths = HashSet::new(alloc);
-    paths.insert(owned(rt, alloc, "dir/sub")?)?;
-    paths.insert(owned(rt, alloc, "")?)?;
-    paths.insert(owned(rt, alloc, "dir/sub")?)?;
-    assert_eq!(rt; paths.len(), 2);
-    assert!(rt; paths.contains(&owned(rt, alloc, "")?));
-    assert!(rt; !paths.contains(&owned(rt, alloc, "dir")?));
-    sets_of_names(rt, alloc)?;
-    sets_of_borrowed_paths(rt, alloc)
+    passes(&rt, |rt, alloc| {
+        let sub = owned(rt, alloc, "dir/sub")?;
+        let hash = owned(rt, alloc, "dir#")?;
+        assert!(rt; sub < hash);
+        assert!(rt; sub != hash);
+        assert_eq!(rt; hash.cmp(&sub), Ordering::Greater);
+        let dir = name(rt, alloc, "dir").to_owned(alloc)?;
+        let other = name(rt, alloc, "dir#").to_owned(alloc)?;
+        assert!(rt; dir < other);
+        assert!(rt; dir != other);
+        Ok(())
+    })
 }
 
 fn sets_of_names<R: Abort>(rt: &R, alloc: Global) -> Result<(), AllocError> {
@@ -111,5 +97,15 @@ fn sets_of_borrowed_paths<R: Abort>(rt: &R, alloc: Global) -> Result<(), AllocEr
 
 #[test]
 fn hashed_paths_and_names(rt: HostRuntime) -> Result<(), Fail> {
-    passes(&rt, sets_of_paths)
+    passes(&rt, |rt, alloc| {
+        let mut paths = HashSet::new(alloc);
+        paths.insert(owned(rt, alloc, "dir/sub")?)?;
+        paths.insert(owned(rt, alloc, "")?)?;
+        paths.insert(owned(rt, alloc, "dir/sub")?)?;
+        assert_eq!(rt; paths.len(), 2);
+        assert!(rt; paths.contains(&owned(rt, alloc, "")?));
+        assert!(rt; !paths.contains(&owned(rt, alloc, "dir")?));
+        sets_of_names(rt, alloc)?;
+        sets_of_borrowed_paths(rt, alloc)
+    })
 }

@@ -25,17 +25,15 @@ const NORMAL_FORMS: [(&str, &str); 16] = [
     ("../a/..", ".."),
 ];
 
-fn normalizes<R: Abort>(rt: &R, alloc: Global) -> Result<(), AllocError> {
-    for (path, meant) in NORMAL_FORMS {
-        let made = normalize_path(alloc, path)?;
-        assert_eq!(rt; made.as_str(), meant);
-    }
-    Ok(())
-}
-
 #[test]
 fn normal_forms(rt: HostRuntime) -> Result<(), Fail> {
-    passes(&rt, normalizes)
+    passes(&rt, |rt, alloc| {
+        for (path, meant) in NORMAL_FORMS {
+            let made = normalize_path(alloc, path)?;
+            assert_eq!(rt; made.as_str(), meant);
+        }
+        Ok(())
+    })
 }
 
 // a directory, a path, and the way from the one to the other
@@ -66,15 +64,13 @@ const WAYS: [(&str, &str, &str); 24] = [
     ("./a", "./b", "../b"),
 ];
 
-fn leads<R: Abort>(rt: &R, alloc: Global) -> Result<(), AllocError> {
-    for (from, to, meant) in WAYS {
-        let made = relative_path(alloc, from, to)?;
-        assert_eq!(rt; made.as_str(), meant);
-    }
-    Ok(())
-}
-
 #[test]
 fn ways(rt: HostRuntime) -> Result<(), Fail> {
-    passes(&rt, leads)
+    passes(&rt, |rt, alloc| {
+        for (from, to, meant) in WAYS {
+            let made = relative_path(alloc, from, to)?;
+            assert_eq!(rt; made.as_str(), meant);
+        }
+        Ok(())
+    })
 }

@@ -45,15 +45,13 @@ const HOMES: [(&str, Option<&str>, &str); 8] = [
     ("x/~/y", Some("/h"), "x/~/y"),
 ];
 
-fn expands<R: Abort>(rt: &R, alloc: Global) -> Result<(), AllocError> {
-    for (path, home, meant) in HOMES {
-        let made = expand_home_path(alloc, path, home)?;
-        assert_eq!(rt; made.as_str(), meant);
-    }
-    Ok(())
-}
-
 #[test]
 fn homes(rt: HostRuntime) -> Result<(), Fail> {
-    passes(&rt, expands)
+    passes(&rt, |rt, alloc| {
+        for (path, home, meant) in HOMES {
+            let made = expand_home_path(alloc, path, home)?;
+            assert_eq!(rt; made.as_str(), meant);
+        }
+        Ok(())
+    })
 }

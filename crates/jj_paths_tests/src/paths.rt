@@ -95,19 +95,17 @@ fn splits_the_common_front(rt: HostRuntime) {
     }
 }
 
-fn joins_names<R: Abort>(rt: &R, alloc: Global) -> Result<(), AllocError> {
-    let dir = RepoPath::root().join(alloc, name(rt, alloc, "dir"))?;
-    assert!(rt; dir.as_path() == path(rt, alloc, "dir"));
-    let subdir = dir.as_path().join(alloc, name(rt, alloc, "subdir"))?;
-    assert!(rt; subdir.as_path() == path(rt, alloc, "dir/subdir"));
-    let file = subdir.as_path().join(alloc, name(rt, alloc, "file"))?;
-    assert!(rt; file.as_path() == path(rt, alloc, "dir/subdir/file"));
-    Ok(())
-}
-
 #[test]
 fn joins(rt: HostRuntime) -> Result<(), Fail> {
-    passes(&rt, joins_names)
+    passes(&rt, |rt, alloc| {
+        let dir = RepoPath::root().join(alloc, name(rt, alloc, "dir"))?;
+        assert!(rt; dir.as_path() == path(rt, alloc, "dir"));
+        let subdir = dir.as_path().join(alloc, name(rt, alloc, "subdir"))?;
+        assert!(rt; subdir.as_path() == path(rt, alloc, "dir/subdir"));
+        let file = subdir.as_path().join(alloc, name(rt, alloc, "file"))?;
+        assert!(rt; file.as_path() == path(rt, alloc, "dir/subdir/file"));
+        Ok(())
+    })
 }
 
 // The names are added, or the path is as it was.
@@ -235,21 +233,19 @@ fn ancestors_up_to_the_root(rt: HostRuntime) {
     assert!(rt; of_subdir.next() == None);
 }
 
-fn copies_of<R: Abort>(rt: &R, alloc: Global) -> Result<(), AllocError> {
-    let file = owned(rt, alloc, "dir/file")?;
-    let copy = file.clone()?;
-    assert!(rt; copy == file);
-    assert!(rt; copy.into_internal_string().as_str() == "dir/file");
-    let dir = name(rt, alloc, "dir").to_owned(alloc)?;
-    let same = dir.clone()?;
-    assert!(rt; same == dir);
-    assert!(rt; same.as_component() == name(rt, alloc, "dir"));
-    assert_eq!(rt; same.as_internal_str(), "dir");
-    assert_eq!(rt; name(rt, alloc, "dir").as_internal_str(), "dir");
-    Ok(())
-}
-
 #[test]
 fn copies(rt: HostRuntime) -> Result<(), Fail> {
-    passes(&rt, copies_of)
+    passes(&rt, |rt, alloc| {
+        let file = owned(rt, alloc, "dir/file")?;
+        let copy = file.clone()?;
+        assert!(rt; copy == file);
+        assert!(rt; copy.into_internal_string().as_str() == "dir/file");
+        let dir = name(rt, alloc, "dir").to_owned(alloc)?;
+        let same = dir.clone()?;
+        assert!(rt; same == dir);
+        assert!(rt; same.as_component() == name(rt, alloc, "dir"));
+        assert_eq!(rt; same.as_internal_str(), "dir");
+        assert_eq!(rt; name(rt, alloc, "dir").as_internal_str(), "dir");
+        Ok(())
+    })
 }

@@ -46,58 +46,54 @@ fn has_values<R: Abort>(
     }
 }
 
-fn reads_values<R: Abort>(rt: &R, alloc: Global) -> Result<(), AllocError> {
-    let mut tree = small_tree(rt, alloc)?;
-    has_values(rt, alloc, &tree, &SMALL);
-    has_values(rt, alloc, &tree, &[("a/b/c", 99), ("ab", 99)]);
-    assert!(rt; tree.has_children());
-    tree.set_value(7);
-    *tree.value_mut() += 1;
-    assert_eq!(rt; *tree.value(), 8);
-    assert_eq!(rt; value_at(rt, alloc, &tree, "c/d"), 3);
-    match tree.get(path(rt, alloc, "a/b")) {
-        Some(leaf) => assert!(rt; !leaf.has_children() && leaf.children().next().is_none()),
-        None => panic!(rt; "a/b was added"),
-    }
-    Ok(())
-}
-
 #[test]
 fn values(rt: HostRuntime) -> Result<(), Fail> {
-    passes(&rt, reads_values)
-}
-
-fn lists_children<R: Abort>(rt: &R, alloc: Global) -> Result<(), AllocError> {
-    let tree = small_tree(rt, alloc)?;
-    let mut children = tree.children();
-    match (children.next(), children.next(), children.next()) {
-        (Some((first, a)), Some((second, c)), None) => {
-            assert!(rt; first == name(rt, alloc, "a") && second == name(rt, alloc, "c"));
-            assert_eq!(rt; (*a.value(), *c.value()), (1, 0));
+    passes(&rt, |rt, alloc| {
+        let mut tree = small_tree(rt, alloc)?;
+        has_values(rt, alloc, &tree, &SMALL);
+        has_values(rt, alloc, &tree, &[("a/b/c", 99), ("ab", 99)]);
+        assert!(rt; tree.has_children());
+        tree.set_value(7);
+        *tree.value_mut() += 1;
+        assert_eq!(rt; *tree.value(), 8);
+        assert_eq!(rt; value_at(rt, alloc, &tree, "c/d"), 3);
+        match tree.get(path(rt, alloc, "a/b")) {
+            Some(leaf) => assert!(rt; !leaf.has_children() && leaf.children().next().is_none()),
+            None => panic!(rt; "a/b was added"),
         }
-        _ => panic!(rt; "there are two children"),
-    }
-    match tree.entries() {
-        [(first, _), (second, c)] => {
-            assert_eq!(rt;
-                (first.as_internal_str(), second.as_internal_str()),
-                ("a", "c")
-            );
-            assert!(rt; c.has_children());
-        }
-        _ => panic!(rt; "there are two children"),
-    }
-    match tree.child(name(rt, alloc, "c")) {
-        Some(c) => assert_eq!(rt; value_at(rt, alloc, c, "d"), 3),
-        None => panic!(rt; "c was added"),
-    }
-    assert!(rt; tree.child(name(rt, alloc, "d")).is_none());
-    Ok(())
+        Ok(())
+    })
 }
 
 #[test]
 fn children(rt: HostRuntime) -> Result<(), Fail> {
-    passes(&rt, lists_children)
+    passes(&rt, |rt, alloc| {
+        let tree = small_tree(rt, alloc)?;
+        let mut children = tree.children();
+        match (children.next(), children.next(), children.next()) {
+            (Some((first, a)), Some((second, c)), None) => {
+                assert!(rt; first == name(rt, alloc, "a") && second == name(rt, alloc, "c"));
+                assert_eq!(rt; (*a.value(), *c.value()), (1, 0));
+            }
+            _ => panic!(rt; "there are two children"),
+        }
+        match tree.entries() {
+            [(first, _), (second, c)] => {
+                assert_eq!(rt;
+                    (first.as_internal_str(), second.as_internal_str()),
+                    ("a", "c")
+                );
+                assert!(rt; c.has_children());
+            }
+            _ => panic!(rt; "there are two children"),
+        }
+        match tree.child(name(rt, alloc, "c")) {
+            Some(c) => assert_eq!(rt; value_at(rt, alloc, c, "d"), 3),
+            None => panic!(rt; "c was added"),
+        }
+        assert!(rt; tree.child(name(rt, alloc, "d")).is_none());
+        Ok(())
+    })
 }
 
 // A walk to a path passes these values, each with the rest of the way, and goes on answering none.
@@ -122,44 +118,38 @@ fn walk_passes<R: Abort>(
     assert!(rt; walk.next().is_none());
 }
 
-fn walks_to_paths<R: Abort>(rt: &R, alloc: Global) -> Result<(), AllocError> {
-    let tree = small_tree(rt, alloc)?;
-    walk_passes(rt, alloc, &tree, "a/b", &[(0, "a/b"), (1, "b"), (2, "")]);
-    walk_passes(rt, alloc, &tree, "c/x/y", &[(0, "c/x/y"), (0, "x/y")]);
-    Ok(())
-}
-
 #[test]
 fn walks(rt: HostRuntime) -> Result<(), Fail> {
-    passes(&rt, walks_to_paths)
-}
-
-fn copies_trees<R: Abort>(rt: &R, alloc: Global) -> Result<(), AllocError> {
-    let mut tree = small_tree(rt, alloc)?;
-    let copy = tree.clone()?;
-    tree.set(path(rt, alloc, "a/b"), 5)?;
-    has_values(rt, alloc, &copy, &SMALL);
-    Ok(())
+    passes(&rt, |rt, alloc| {
+        let tree = small_tree(rt, alloc)?;
+        walk_passes(rt, alloc, &tree, "a/b", &[(0, "a/b"), (1, "b"), (2, "")]);
+        walk_passes(rt, alloc, &tree, "c/x/y", &[(0, "c/x/y"), (0, "x/y")]);
+        Ok(())
+    })
 }
 
 #[test]
 fn copies(rt: HostRuntime) -> Result<(), Fail> {
-    passes(&rt, copies_trees)
-}
-
-fn shows_trees<R: Abort>(rt: &R, alloc: Global) -> Result<(), AllocError> {
-    let tree = small_tree(rt, alloc)?;
-    let shown = format!(in alloc; "{:?}", tree)?;
-    assert_eq!(rt;
-        shown.as_str(),
-        "0 {\"a\": 1 {\"b\": 2 {}}, \"c\": 0 {\"d\": 3 {}}}"
-    );
-    Ok(())
+    passes(&rt, |rt, alloc| {
+        let mut tree = small_tree(rt, alloc)?;
+        let copy = tree.clone()?;
+        tree.set(path(rt, alloc, "a/b"), 5)?;
+        has_values(rt, alloc, &copy, &SMALL);
+        Ok(())
+    })
 }
 
 #[test]
 fn trees_shown(rt: HostRuntime) -> Result<(), Fail> {
-    passes(&rt, shows_trees)
+    passes(&rt, |rt, alloc| {
+        let tree = small_tree(rt, alloc)?;
+        let shown = format!(in alloc; "{:?}", tree)?;
+        assert_eq!(rt;
+            shown.as_str(),
+            "0 {\"a\": 1 {\"b\": 2 {}}, \"c\": 0 {\"d\": 3 {}}}"
+        );
+        Ok(())
+    })
 }
 
 // Where `add` is refused, each value is kept, and what is new on the way has the default value.
@@ -184,66 +174,50 @@ fn refused_adds(rt: HostRuntime) {
     has_values(&rt, alloc, &tree, &[("a/b/c", 0), ("a/b/c/d", 4)]);
 }
 
-fn compares_trees<R: Abort>(rt: &R, alloc: Global) -> Result<(), AllocError> {
-    let tree = small_tree(rt, alloc)?;
-    let mut other: RepoPathTree<u32> = RepoPathTree::default(alloc);
-    other.set(path(rt, alloc, "c/d"), 3)?;
-    other.set(path(rt, alloc, "a"), 1)?;
-    assert!(rt; tree != other);
-    other.set(path(rt, alloc, "a/b"), 2)?;
-    assert!(rt; tree == other);
-    other.set(path(rt, alloc, "c"), 1)?;
-    assert!(rt; tree != other);
-    other.set(path(rt, alloc, "c"), 0)?;
-    other.add(path(rt, alloc, "c/d/e"))?;
-    assert!(rt; tree != other);
-    Ok(())
-}
-
 // Trees are equal by their paths and values, however they were made.
 #[test]
 fn equality(rt: HostRuntime) -> Result<(), Fail> {
-    passes(&rt, compares_trees)
-}
-
-fn clones_texts<R: Abort>(rt: &R, alloc: Global) -> Result<(), AllocError> {
-    let mut tree: RepoPathTree<Option<String>> = RepoPathTree::default(alloc);
-    let text = String::from_str(alloc, "text")?;
-    tree.set(path(rt, alloc, "a/b"), Some(text))?;
-    let copy = tree.clone()?;
-    tree.set(path(rt, alloc, "a/b"), None)?;
-    match copy.get(path(rt, alloc, "a/b")) {
-        Some(node) => match node.value() {
-            Some(text) => assert_eq!(rt; text.as_str(), "text"),
-            None => panic!(rt; "the copy has texts of its own"),
-        },
-        None => panic!(rt; "the copy holds a/b"),
-    }
-    assert!(rt; copy.value().is_none());
-    Ok(())
+    passes(&rt, |rt, alloc| {
+        let tree = small_tree(rt, alloc)?;
+        let mut other: RepoPathTree<u32> = RepoPathTree::default(alloc);
+        other.set(path(rt, alloc, "c/d"), 3)?;
+        other.set(path(rt, alloc, "a"), 1)?;
+        assert!(rt; tree != other);
+        other.set(path(rt, alloc, "a/b"), 2)?;
+        assert!(rt; tree == other);
+        other.set(path(rt, alloc, "c"), 1)?;
+        assert!(rt; tree != other);
+        other.set(path(rt, alloc, "c"), 0)?;
+        other.add(path(rt, alloc, "c/d/e"))?;
+        assert!(rt; tree != other);
+        Ok(())
+    })
 }
 
 // Values may be texts, which are equal to their clones and not the same.
 #[test]
 fn clones_of_texts(rt: HostRuntime) -> Result<(), Fail> {
-    passes(&rt, clones_texts)
+    passes(&rt, |rt, alloc| {
+        let mut tree: RepoPathTree<Option<String>> = RepoPathTree::default(alloc);
+        let text = String::from_str(alloc, "text")?;
+        tree.set(path(rt, alloc, "a/b"), Some(text))?;
+        let copy = tree.clone()?;
+        tree.set(path(rt, alloc, "a/b"), None)?;
+        match copy.get(path(rt, alloc, "a/b")) {
+            Some(node) => match node.value() {
+                Some(text) => assert_eq!(rt; text.as_str(), "text"),
+                None => panic!(rt; "the copy has texts of its own"),
+            },
+            None => panic!(rt; "the copy holds a/b"),
+        }
+        assert!(rt; copy.value().is_none());
+        Ok(())
+    })
 }
 
 // A name of four digits, written by the caller's number.
 fn numbered(alloc: Global, number: u32) -> Result<String, AllocError> {
     format!(in alloc; "{number:04}")
-}
-
-fn adds_in_descending_order<R: Abort>(rt: &R, alloc: Global) -> Result<(), AllocError> {
-    let mut tree: RepoPathTree<u32> = RepoPathTree::default(alloc);
-    for number in (0u32..2000).rev() {
-        match RepoPathBuf::from_internal_string(numbered(alloc, 2 * number)?) {
-            Ok(added) => tree.set(added.as_path(), number)?,
-            Err(_) => panic!(rt; "digits are a path"),
-        }
-    }
-    lists_all(rt, alloc, &tree)?;
-    finds_even_alone(rt, alloc, &tree)
 }
 
 // Checks that the children are the even names, in order.
@@ -287,30 +261,38 @@ fn finds_even_alone<R: Abort>(
 
 #[test]
 fn two_thousand_children(rt: HostRuntime) -> Result<(), Fail> {
-    passes(&rt, adds_in_descending_order)
-}
-
-fn drops_a_deep_tree<R: Abort>(rt: &R, alloc: Global) -> Result<(), AllocError> {
-    let mut text = String::from_str(alloc, "a")?;
-    for _ in 0u32..8000 {
-        text.push_str("/a")?;
-    }
-    match RepoPathBuf::from_internal_string(text) {
-        Ok(deep) => {
-            let mut tree: RepoPathTree<u32> = RepoPathTree::default(alloc);
-            tree.set(deep.as_path(), 3)?;
-            match tree.get(deep.as_path()) {
-                Some(leaf) => assert_eq!(rt; *leaf.value(), 3),
-                None => panic!(rt; "the path was added"),
+    passes(&rt, |rt, alloc| {
+        let mut tree: RepoPathTree<u32> = RepoPathTree::default(alloc);
+        for number in (0u32..2000).rev() {
+            match RepoPathBuf::from_internal_string(numbered(alloc, 2 * number)?) {
+                Ok(added) => tree.set(added.as_path(), number)?,
+                Err(_) => panic!(rt; "digits are a path"),
             }
         }
-        Err(_) => panic!(rt; "the names are joined by slashes"),
-    }
-    Ok(())
+        lists_all(rt, alloc, &tree)?;
+        finds_even_alone(rt, alloc, &tree)
+    })
 }
 
 // A tree is dropped by a loop, and not by a recursion as deep as the tree.
 #[test]
 fn deep_trees(rt: HostRuntime) -> Result<(), Fail> {
-    passes(&rt, drops_a_deep_tree)
+    passes(&rt, |rt, alloc| {
+        let mut text = String::from_str(alloc, "a")?;
+        for _ in 0u32..8000 {
+            text.push_str("/a")?;
+        }
+        match RepoPathBuf::from_internal_string(text) {
+            Ok(deep) => {
+                let mut tree: RepoPathTree<u32> = RepoPathTree::default(alloc);
+                tree.set(deep.as_path(), 3)?;
+                match tree.get(deep.as_path()) {
+                    Some(leaf) => assert_eq!(rt; *leaf.value(), 3),
+                    None => panic!(rt; "the path was added"),
+                }
+            }
+            Err(_) => panic!(rt; "the names are joined by slashes"),
+        }
+        Ok(())
+    })
 }

@@ -107,44 +107,43 @@ fn asked_twice<R: Abort>(
     Ok(())
 }
 
-fn asks_in_turn<R: Abort>(rt: &R, alloc: Global) -> Result<(), SignError> {
-    let (none, unknown) = (Does::CannotRead, Does::Says(SigStatus::Unknown));
-    let (good, bad) = (Does::Says(SigStatus::Good), Does::Says(SigStatus::Bad));
-    asked_twice(rt, alloc, none, none, SigStatus::Unknown, (0, 0))?;
-    asked_twice(rt, alloc, unknown, good, SigStatus::Good, (1, 1))?;
-    asked_twice(rt, alloc, none, unknown, SigStatus::Unknown, (0, 2))?;
-    asked_twice(rt, alloc, unknown, none, SigStatus::Unknown, (2, 0))?;
-    asked_twice(rt, alloc, Does::FindsFault, bad, SigStatus::Bad, (1, 1))?;
-    asked_twice(rt, alloc, good, bad, SigStatus::Good, (1, 0))
-}
-
 #[test]
 fn backends_in_turn(rt: HostRuntime) -> Result<(), Fail> {
-    succeeds(&rt, asks_in_turn)
+    succeeds(&rt, |rt, alloc| {
+        let (none, unknown) = (Does::CannotRead, Does::Says(SigStatus::Unknown));
+        let (good, bad) = (Does::Says(SigStatus::Good), Does::Says(SigStatus::Bad));
+        asked_twice(rt, alloc, none, none, SigStatus::Unknown, (0, 0))?;
+        asked_twice(rt, alloc, unknown, good, SigStatus::Good, (1, 1))?;
+        asked_twice(rt, alloc, none, unknown, SigStatus::Unknown, (0, 2))?;
+        asked_twice(rt, alloc, unknown, none, SigStatus::Unknown, (2, 0))?;
+        asked_twice(rt, alloc, Does::FindsFault, bad, SigStatus::Bad, (1, 1))?;
+        asked_twice(rt, alloc, good, bad, SigStatus::Good, (1, 0))
+    })
 }
 
 // A backend whose failure is the answer, and is not remembered.
-fn hands_failures_on<R: Abort>(rt: &R, alloc: Global) -> Result<(), SignError> {
-    let counter = Rc::new(alloc, Cell::new(0))?;
-    let main: Box<dyn SigningBackend> = Box::new(alloc, Fake::new(Does::Fails, counter.clone()?))?;
-    let mut signer = Signer::new(alloc, Some(main), Vec::new(alloc))?;
-    let id = id_of(alloc, 1)?;
-    for _ in 0..2u8 {
-        match signer.verify(&id, b"data", b"signature") {
-            Err(SignError::Backend(source)) => {
-                assert_eq!(rt; source.message.as_str(), "no answer");
-            }
-            Err(e) => return Err(e),
-            Ok(_) => panic!(rt; "an answer"),
-        }
-    }
-    assert_eq!(rt; counter.get(), 2);
-    Ok(())
-}
-
 #[test]
 fn failures_are_not_remembered(rt: HostRuntime) -> Result<(), Fail> {
-    succeeds(&rt, hands_failures_on)
+    succeeds(&rt, |rt, alloc| {
+        let counter = Rc::new(alloc, Cell::new(0))?;
+        let main: Box<dyn SigningBackend> = Box::new(
+            alloc,
+            Fake::new(Does::Fails, counter.clone()?),
+        )?;
+        let mut signer = Signer::new(alloc, Some(main), Vec::new(alloc))?;
+        let id = id_of(alloc, 1)?;
+        for _ in 0..2u8 {
+            match signer.verify(&id, b"data", b"signature") {
+                Err(SignError::Backend(source)) => {
+                    assert_eq!(rt; source.message.as_str(), "no answer");
+                }
+                Err(e) => return Err(e),
+                Ok(_) => panic!(rt; "an answer"),
+            }
+        }
+        assert_eq!(rt; counter.get(), 2);
+        Ok(())
+    })
 }
 
 // How often a good backend is asked about these commits, one after the other.
@@ -169,44 +168,40 @@ fn times_asked(
     Ok(counter.get())
 }
 
-fn remembers<R: Abort>(rt: &R, alloc: Global) -> Result<(), SignError> {
-    let one = NonZeroUsize::new(1);
-    assert_eq!(rt; times_asked(alloc, one, b"pqp")?, 3);
-    assert_eq!(rt; times_asked(alloc, one, b"ppqq")?, 2);
-    let mut commits = Vec::new(alloc);
-    for commit in 0..101u8 {
-        commits.push(commit)?;
-    }
-    commits.push(0)?;
-    assert_eq!(rt; times_asked(alloc, None, commits.as_slice())?, 102);
-    commits.truncate(100);
-    commits.extend_from_slice(&[0, 200, 0])?;
-    assert_eq!(rt; times_asked(alloc, None, commits.as_slice())?, 101);
-    Ok(())
-}
-
 #[test]
 fn as_many_as_there_is_room_for(rt: HostRuntime) -> Result<(), Fail> {
-    succeeds(&rt, remembers)
-}
-
-fn signs<R: Abort>(rt: &R, alloc: Global) -> Result<(), SignError> {
-    let main: Box<dyn SigningBackend> = Box::new(
-        alloc,
-        Fake::new(Does::CannotRead, Rc::new(alloc, Cell::new(0))?),
-    )?;
-    let signer = Signer::new(alloc, Some(main), Vec::new(alloc))?;
-    assert!(rt; signer.can_sign());
-    if signer.can_sign() {
-        let signature = signer.sign(b"data", Some(" key"))?;
-        assert_eq!(rt; signature.as_slice(), b"signed data key".as_slice());
-    }
-    let nobody = Signer::new(alloc, None, Vec::new(alloc))?;
-    assert!(rt; !nobody.can_sign());
-    Ok(())
+    succeeds(&rt, |rt, alloc| {
+        let one = NonZeroUsize::new(1);
+        assert_eq!(rt; times_asked(alloc, one, b"pqp")?, 3);
+        assert_eq!(rt; times_asked(alloc, one, b"ppqq")?, 2);
+        let mut commits = Vec::new(alloc);
+        for commit in 0..101u8 {
+            commits.push(commit)?;
+        }
+        commits.push(0)?;
+        assert_eq!(rt; times_asked(alloc, None, commits.as_slice())?, 102);
+        commits.truncate(100);
+        commits.extend_from_slice(&[0, 200, 0])?;
+        assert_eq!(rt; times_asked(alloc, None, commits.as_slice())?, 101);
+        Ok(())
+    })
 }
 
 #[test]
 fn the_main_backend_signs(rt: HostRuntime) -> Result<(), Fail> {
-    succeeds(&rt, signs)
+    succeeds(&rt, |rt, alloc| {
+        let main: Box<dyn SigningBackend> = Box::new(
+            alloc,
+            Fake::new(Does::CannotRead, Rc::new(alloc, Cell::new(0))?),
+        )?;
+        let signer = Signer::new(alloc, Some(main), Vec::new(alloc))?;
+        assert!(rt; signer.can_sign());
+        if signer.can_sign() {
+            let signature = signer.sign(b"data", Some(" key"))?;
+            assert_eq!(rt; signature.as_slice(), b"signed data key".as_slice());
+        }
+        let nobody = Signer::new(alloc, None, Vec::new(alloc))?;
+        assert!(rt; !nobody.can_sign());
+        Ok(())
+    })
 }

@@ -37,16 +37,14 @@ const MATCHERS: [(&str, &str, &str); 23] = [
     ("regex-i", ".", "Expr(Pattern(RegexI(Regex(\".\"))))"),
 ];
 
-fn matchers<R: Abort>(rt: &R, alloc: Global) -> Result<(), AllocError> {
-    for (kind, text, shown) in MATCHERS {
-        shows(rt, alloc, &matcher(rt, alloc, kind, text)?, shown)?;
-    }
-    Ok(())
-}
-
 #[test]
 fn patterns_to_matchers(rt: HostRuntime) -> Result<(), Fail> {
-    passes(&rt, matchers)
+    passes(&rt, |rt, alloc| {
+        for (kind, text, shown) in MATCHERS {
+            shows(rt, alloc, &matcher(rt, alloc, kind, text)?, shown)?;
+        }
+        Ok(())
+    })
 }
 
 // Strings on which two sets are compared.
@@ -80,20 +78,6 @@ const GLOBS: [(&str, &str, Option<&str>); 21] = [
     ("regex-i", "a", None),
 ];
 
-fn to_globs<R: Abort>(rt: &R, alloc: Global) -> Result<(), AllocError> {
-    for (kind, text, wanted) in GLOBS {
-        let pattern = pattern(rt, alloc, kind, text)?;
-        match pattern.to_glob(alloc)? {
-            Some(glob) => {
-                assert!(rt; wanted == Some(glob.as_str()), "{kind}:{text}");
-                reads_back(rt, alloc, &pattern, glob.as_str())?;
-            }
-            None => assert!(rt; wanted.is_none(), "{kind}:{text}"),
-        }
-    }
-    Ok(())
-}
-
 // Checks that the pattern and the glob of this text hold the same strings.
 fn reads_back<R: Abort>(
     rt: &R,
@@ -121,7 +105,19 @@ fn agree<R: Abort>(
 
 #[test]
 fn patterns_to_globs(rt: HostRuntime) -> Result<(), Fail> {
-    passes(&rt, to_globs)
+    passes(&rt, |rt, alloc| {
+        for (kind, text, wanted) in GLOBS {
+            let pattern = pattern(rt, alloc, kind, text)?;
+            match pattern.to_glob(alloc)? {
+                Some(glob) => {
+                    assert!(rt; wanted == Some(glob.as_str()), "{kind}:{text}");
+                    reads_back(rt, alloc, &pattern, glob.as_str())?;
+                }
+                None => assert!(rt; wanted.is_none(), "{kind}:{text}"),
+            }
+        }
+        Ok(())
+    })
 }
 
 // Whether the regular expression of the pattern has a match in the string.
@@ -160,20 +156,18 @@ const REGEXES: [(&str, &str, &str, bool); 17] = [
     ("regex-i", "^a{1,3}", "Abcde", true),
 ];
 
-fn to_regexes<R: Abort>(rt: &R, alloc: Global) -> Result<(), AllocError> {
-    for (kind, text, string, is_found) in REGEXES {
-        assert_eq!(rt;
-            regex_finds(rt, alloc, kind, text, string)?,
-            is_found,
-            "{kind}:{text} and {string}"
-        );
-    }
-    Ok(())
-}
-
 #[test]
 fn patterns_to_regexes(rt: HostRuntime) -> Result<(), Fail> {
-    passes(&rt, to_regexes)
+    passes(&rt, |rt, alloc| {
+        for (kind, text, string, is_found) in REGEXES {
+            assert_eq!(rt;
+                regex_finds(rt, alloc, kind, text, string)?,
+                is_found,
+                "{kind}:{text} and {string}"
+            );
+        }
+        Ok(())
+    })
 }
 
 // On these strings a pattern and its regular expression agree.
@@ -197,21 +191,19 @@ const AGREEING: [(&str, &str); 17] = [
     ("glob-i", "{A,é}"),
 ];
 
-fn same_sets<R: Abort>(rt: &R, alloc: Global) -> Result<(), AllocError> {
-    for (kind, text) in AGREEING {
-        let matcher = matcher(rt, alloc, kind, text)?;
-        for string in STRINGS {
-            assert_eq!(rt;
-                regex_finds(rt, alloc, kind, text, string)?,
-                matcher.is_match(alloc, string)?,
-                "{kind}:{text} and {string}"
-            );
-        }
-    }
-    Ok(())
-}
-
 #[test]
 fn regexes_match_as_patterns(rt: HostRuntime) -> Result<(), Fail> {
-    passes(&rt, same_sets)
+    passes(&rt, |rt, alloc| {
+        for (kind, text) in AGREEING {
+            let matcher = matcher(rt, alloc, kind, text)?;
+            for string in STRINGS {
+                assert_eq!(rt;
+                    regex_finds(rt, alloc, kind, text, string)?,
+                    matcher.is_match(alloc, string)?,
+                    "{kind}:{text} and {string}"
+                );
+            }
+        }
+        Ok(())
+    })
 }

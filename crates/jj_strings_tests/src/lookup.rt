@@ -103,15 +103,13 @@ fn asked<R: Abort>(rt: &R, alloc: Global, matcher: &StringMatcher) -> Result<u32
 }
 
 // Where there is no memory for a key to look up, each key is asked.
-fn look_up<R: Abort>(rt: &R, alloc: Global) -> Result<(), AllocError> {
-    assert_eq!(rt; asked(rt, alloc, &matcher(rt, alloc, "exact-i", "d")?)?, 5);
-    match asked(rt, alloc, &matcher(rt, alloc, "exact", "d")?)? {
-        1 => Ok(()),
-        _ => Err(AllocError),
-    }
-}
-
 #[test]
 fn exact_texts_are_looked_up(rt: HostRuntime) -> Result<(), Fail> {
-    passes(&rt, look_up)
+    passes(&rt, |rt, alloc| {
+        assert_eq!(rt; asked(rt, alloc, &matcher(rt, alloc, "exact-i", "d")?)?, 5);
+        match asked(rt, alloc, &matcher(rt, alloc, "exact", "d")?)? {
+            1 => Ok(()),
+            _ => Err(AllocError),
+        }
+    })
 }

@@ -87,36 +87,32 @@ fn maps_by_texts(rt: HostRuntime) -> Result<(), Fail> {
     passes(&rt, filters::<_, String>)
 }
 
-fn name_filters<R: Abort>(rt: &R, alloc: Global) -> Result<(), AllocError> {
-    filters::<R, GitRefNameBuf>(rt, alloc)?;
-    filters::<R, RefNameBuf>(rt, alloc)?;
-    filters::<R, RemoteNameBuf>(rt, alloc)?;
-    filters::<R, WorkspaceNameBuf>(rt, alloc)
-}
-
 #[test]
 fn maps_by_names(rt: HostRuntime) -> Result<(), Fail> {
-    passes(&rt, name_filters)
+    passes(&rt, |rt, alloc| {
+        filters::<R, GitRefNameBuf>(rt, alloc)?;
+        filters::<R, RefNameBuf>(rt, alloc)?;
+        filters::<R, RemoteNameBuf>(rt, alloc)?;
+        filters::<R, WorkspaceNameBuf>(rt, alloc)
+    })
 }
 
 // A predicate that the caller brings is asked of the bytes themselves.
-fn predicates<R: Abort>(rt: &R, alloc: Global) -> Result<(), AllocError> {
-    let test: ByteTest = Box::new(alloc, |bytes: &[u8]| bytes.len() == 3)?;
-    let matcher = StringMatcher::Fn(BytePredicate::new(test));
-    for (string, is_in) in [
-        ("foo", true),
-        ("\u{c0}", false),
-        ("\u{c0}b", true),
-        ("", false),
-    ] {
-        assert_eq!(rt; matcher.is_match(alloc, string)?, is_in, "{string}");
-    }
-    shows(rt, alloc, &matcher, "Fn(..)")?;
-    let map: BTreeMap<String, usize> = numbered(alloc, &["foo", "ba", "bar"])?;
-    finds(rt, alloc, &matcher, &map, &[("bar", 2), ("foo", 0)])
-}
-
 #[test]
 fn predicates_of_callers(rt: HostRuntime) -> Result<(), Fail> {
-    passes(&rt, predicates)
+    passes(&rt, |rt, alloc| {
+        let test: ByteTest = Box::new(alloc, |bytes: &[u8]| bytes.len() == 3)?;
+        let matcher = StringMatcher::Fn(BytePredicate::new(test));
+        for (string, is_in) in [
+            ("foo", true),
+            ("\u{c0}", false),
+            ("\u{c0}b", true),
+            ("", false),
+        ] {
+            assert_eq!(rt; matcher.is_match(alloc, string)?, is_in, "{string}");
+        }
+        shows(rt, alloc, &matcher, "Fn(..)")?;
+        let map: BTreeMap<String, usize> = numbered(alloc, &["foo", "ba", "bar"])?;
+        finds(rt, alloc, &matcher, &map, &[("bar", 2), ("foo", 0)])
+    })
 }

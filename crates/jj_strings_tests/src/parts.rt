@@ -16,45 +16,41 @@ fn letters(alloc: Global, letter: &str, times: u32, end: &str) -> Result<String,
 }
 
 // A part stands at each place around the seams of windows of 512 bytes.
-fn around_seams<R: Abort>(rt: &R, alloc: Global) -> Result<(), AllocError> {
-    let part = matcher(rt, alloc, "substring-i", "XyZ")?;
-    for before in 505..517u32 {
-        let text = letters(alloc, "x", before, "XYZxyxyxy")?;
-        assert!(rt; part.is_match(alloc, text.as_str())?, "{before}");
-        let text = letters(alloc, "x", before, "XYxZ")?;
-        assert!(rt; !part.is_match(alloc, text.as_str())?, "{before}");
-    }
-    Ok(())
-}
-
 #[test]
 fn parts_around_seams(rt: HostRuntime) -> Result<(), Fail> {
-    passes(&rt, around_seams)
+    passes(&rt, |rt, alloc| {
+        let part = matcher(rt, alloc, "substring-i", "XyZ")?;
+        for before in 505..517u32 {
+            let text = letters(alloc, "x", before, "XYZxyxyxy")?;
+            assert!(rt; part.is_match(alloc, text.as_str())?, "{before}");
+            let text = letters(alloc, "x", before, "XYxZ")?;
+            assert!(rt; !part.is_match(alloc, text.as_str())?, "{before}");
+        }
+        Ok(())
+    })
 }
 
 // Parts of so many letters and one more.
 const LENGTHS: [u32; 7] = [254, 255, 256, 4_094, 4_095, 4_096, 70_000];
 
-fn long_parts<R: Abort>(rt: &R, alloc: Global) -> Result<(), AllocError> {
-    for length in LENGTHS {
-        let text = letters(alloc, "a", length, "b")?;
-        let part = matcher(rt, alloc, "substring-i", text.as_str())?;
-        let found = letters(alloc, "A", length.saturating_add(40), "B")?;
-        assert!(rt; part.is_match(alloc, found.as_str())?, "{length}");
-        let missed = letters(alloc, "A", length.saturating_add(40), "C")?;
-        assert!(rt; !part.is_match(alloc, missed.as_str())?, "{length}");
-        let found = letters(alloc, "A", length, "AB")?;
-        assert!(rt; part.is_match(alloc, found.as_str())?, "{length}");
-        let missed = letters(alloc, "A", length, "AC")?;
-        assert!(rt; !part.is_match(alloc, missed.as_str())?, "{length}");
-        assert!(rt; !part.is_match(alloc, "ab")?, "{length}");
-    }
-    Ok(())
-}
-
 #[test]
 fn parts_that_are_long(rt: HostRuntime) -> Result<(), Fail> {
-    passes(&rt, long_parts)
+    passes(&rt, |rt, alloc| {
+        for length in LENGTHS {
+            let text = letters(alloc, "a", length, "b")?;
+            let part = matcher(rt, alloc, "substring-i", text.as_str())?;
+            let found = letters(alloc, "A", length.saturating_add(40), "B")?;
+            assert!(rt; part.is_match(alloc, found.as_str())?, "{length}");
+            let missed = letters(alloc, "A", length.saturating_add(40), "C")?;
+            assert!(rt; !part.is_match(alloc, missed.as_str())?, "{length}");
+            let found = letters(alloc, "A", length, "AB")?;
+            assert!(rt; part.is_match(alloc, found.as_str())?, "{length}");
+            let missed = letters(alloc, "A", length, "AC")?;
+            assert!(rt; !part.is_match(alloc, missed.as_str())?, "{length}");
+            assert!(rt; !part.is_match(alloc, "ab")?, "{length}");
+        }
+        Ok(())
+    })
 }
 
 // What a part repeats and what it ends with, both also in capitals, and another end. In texts of
@@ -97,17 +93,15 @@ fn parts_that_overlap_themselves(rt: HostRuntime) {
 }
 
 // A part of 100,001 bytes in texts of a million.
-fn very_long_parts<R: Abort>(rt: &R, alloc: Global) -> Result<(), AllocError> {
-    let text = letters(alloc, "aB", 50_000, "c")?;
-    let part = matcher(rt, alloc, "substring-i", text.as_str())?;
-    let found = letters(alloc, "Ab", 500_000, "C")?;
-    assert!(rt; part.is_match(alloc, found.as_str())?);
-    let missed = letters(alloc, "Ab", 500_000, "d")?;
-    assert!(rt; !part.is_match(alloc, missed.as_str())?);
-    Ok(())
-}
-
 #[test]
 fn parts_that_are_very_long(rt: HostRuntime) -> Result<(), Fail> {
-    passes(&rt, very_long_parts)
+    passes(&rt, |rt, alloc| {
+        let text = letters(alloc, "aB", 50_000, "c")?;
+        let part = matcher(rt, alloc, "substring-i", text.as_str())?;
+        let found = letters(alloc, "Ab", 500_000, "C")?;
+        assert!(rt; part.is_match(alloc, found.as_str())?);
+        let missed = letters(alloc, "Ab", 500_000, "d")?;
+        assert!(rt; !part.is_match(alloc, missed.as_str())?);
+        Ok(())
+    })
 }

@@ -49,19 +49,17 @@ fn says<R: Abort>(rt: &R, pattern: &StringPattern, text: &str, is_all: bool, exa
     assert!(rt; pattern.as_exact() == exact, "the exact text of {text}");
 }
 
-fn kinds<R: Abort>(rt: &R, alloc: Global) -> Result<(), AllocError> {
-    for (kind, text, shown, is_all, exact) in KINDS {
-        let pattern = pattern(rt, alloc, kind, text)?;
-        shows(rt, alloc, &pattern, shown)?;
-        shows(rt, alloc, &pattern.clone()?, shown)?;
-        says(rt, &pattern, text, is_all, exact);
-    }
-    shows(rt, alloc, &StringPattern::all(alloc), "Substring(\"\")")
-}
-
 #[test]
 fn texts_of_a_kind(rt: HostRuntime) -> Result<(), Fail> {
-    passes(&rt, kinds)
+    passes(&rt, |rt, alloc| {
+        for (kind, text, shown, is_all, exact) in KINDS {
+            let pattern = pattern(rt, alloc, kind, text)?;
+            shows(rt, alloc, &pattern, shown)?;
+            shows(rt, alloc, &pattern.clone()?, shown)?;
+            says(rt, &pattern, text, is_all, exact);
+        }
+        shows(rt, alloc, &StringPattern::all(alloc), "Substring(\"\")")
+    })
 }
 
 // Kind, text, and how the debug form and the text of the error begin.
@@ -120,20 +118,18 @@ fn begins<R: Abort>(
     Ok(())
 }
 
-fn faults<R: Abort>(rt: &R, alloc: Global) -> Result<(), AllocError> {
-    for (kind, text, shown, message) in FAULTS {
-        match StringPattern::from_str_kind(alloc, text, kind) {
-            Ok(_) => panic!(rt; "{kind}:{text} is no pattern"),
-            Err(StringPatternParseError::Memory) => return Err(AllocError),
-            Err(error) => begins(rt, alloc, &error, (shown, message))?,
-        }
-    }
-    Ok(())
-}
-
 #[test]
 fn texts_of_no_kind(rt: HostRuntime) -> Result<(), Fail> {
-    passes(&rt, faults)
+    passes(&rt, |rt, alloc| {
+        for (kind, text, shown, message) in FAULTS {
+            match StringPattern::from_str_kind(alloc, text, kind) {
+                Ok(_) => panic!(rt; "{kind}:{text} is no pattern"),
+                Err(StringPatternParseError::Memory) => return Err(AllocError),
+                Err(error) => begins(rt, alloc, &error, (shown, message))?,
+            }
+        }
+        Ok(())
+    })
 }
 
 // Kind, text, a string, and whether the set holds it.

@@ -38,16 +38,14 @@ fn answer(searcher: &mut StringSearcher<'_>, text: &str) -> Result<bool, AllocEr
 }
 
 // A searcher that was refused memory is asked for the same text again.
-fn asks<R: Abort>(rt: &R, alloc: Global) -> Result<(), AllocError> {
-    let matcher = starts_alone(rt, alloc)?;
-    let mut searcher = matcher.searcher(alloc);
-    for (text, holds) in ASKED {
-        assert_eq!(rt; answer(&mut searcher, text)?, holds, "{text:?}");
-    }
-    Ok(())
-}
-
 #[test]
 fn strings_one_after_another(rt: HostRuntime) -> Result<(), Fail> {
-    passes(&rt, asks)
+    passes(&rt, |rt, alloc| {
+        let matcher = starts_alone(rt, alloc)?;
+        let mut searcher = matcher.searcher(alloc);
+        for (text, holds) in ASKED {
+            assert_eq!(rt; answer(&mut searcher, text)?, holds, "{text:?}");
+        }
+        Ok(())
+    })
 }

@@ -117,26 +117,24 @@ mod tests {
     }
 
     /// The branch of 3 comes first, where 3 is wanted.
-    fn wanted_first<R: Abort>(rt: &R, alloc: Global) -> Result<(), AllocError> {
-        let commits = two_branches(alloc)?;
-        let order = match grouped_commits(alloc, &commits, 3) {
-            Ok(order) => order,
-            Err(GroupedGraphError::Memory) => return Err(AllocError),
-            Err(_) => {
-                assert!(rt; false, "an error of a graph without fault");
-                return Ok(());
-            }
-        };
-        let mut ids = Vec::new(alloc);
-        for commit in &order {
-            ids.push(commit.id)?;
-        }
-        assert_eq!(rt; ids.as_slice(), [3, 4, 2, 1].as_slice());
-        Ok(())
-    }
-
     #[test]
     fn the_wanted_branch_comes_first(rt: HostRuntime) -> Result<(), Fail> {
-        passes(&rt, wanted_first)
+        passes(&rt, |rt, alloc| {
+            let commits = two_branches(alloc)?;
+            let order = match grouped_commits(alloc, &commits, 3) {
+                Ok(order) => order,
+                Err(GroupedGraphError::Memory) => return Err(AllocError),
+                Err(_) => {
+                    assert!(rt; false, "an error of a graph without fault");
+                    return Ok(());
+                }
+            };
+            let mut ids = Vec::new(alloc);
+            for commit in &order {
+                ids.push(commit.id)?;
+            }
+            assert_eq!(rt; ids.as_slice(), [3, 4, 2, 1].as_slice());
+            Ok(())
+        })
     }
 }

@@ -101,28 +101,26 @@ mod tests {
         })
     }
 
-    fn newest_of_five<R: Abort>(rt: &R, alloc: Global) -> Result<(), AllocError> {
-        let mut commits = Vec::new(alloc);
-        commits.push(commit(alloc, 1, 1, &[])?)?;
-        commits.push(commit(alloc, 9, 2, &[1])?)?;
-        commits.push(commit(alloc, 5, 3, &[1])?)?;
-        commits.push(commit(alloc, 5, 4, &[1])?)?;
-        commits.push(commit(alloc, 6, 5, &[2, 3])?)?;
-        let order = match newest_first(alloc, &commits, &[4, 5]) {
-            Ok(order) => order,
-            Err(WalkError::Memory) => return Err(AllocError),
-            Err(WalkError::Node(_id)) => Vec::new(alloc),
-        };
-        let mut ids = Vec::new(alloc);
-        for commit in order.iter() {
-            ids.push(commit.id)?;
-        }
-        assert_eq!(rt; ids.as_slice(), [5, 2, 4, 3, 1].as_slice());
-        Ok(())
-    }
-
     #[test]
     fn newest_commits_come_first(rt: HostRuntime) -> Result<(), Fail> {
-        passes(&rt, newest_of_five)
+        passes(&rt, |rt, alloc| {
+            let mut commits = Vec::new(alloc);
+            commits.push(commit(alloc, 1, 1, &[])?)?;
+            commits.push(commit(alloc, 9, 2, &[1])?)?;
+            commits.push(commit(alloc, 5, 3, &[1])?)?;
+            commits.push(commit(alloc, 5, 4, &[1])?)?;
+            commits.push(commit(alloc, 6, 5, &[2, 3])?)?;
+            let order = match newest_first(alloc, &commits, &[4, 5]) {
+                Ok(order) => order,
+                Err(WalkError::Memory) => return Err(AllocError),
+                Err(WalkError::Node(_id)) => Vec::new(alloc),
+            };
+            let mut ids = Vec::new(alloc);
+            for commit in order.iter() {
+                ids.push(commit.id)?;
+            }
+            assert_eq!(rt; ids.as_slice(), [5, 2, 4, 3, 1].as_slice());
+            Ok(())
+        })
     }
 }

@@ -71,63 +71,57 @@ fn gives<R: Abort>(
     Ok(())
 }
 
-fn chunks<R: Abort>(rt: &R, alloc: Global) -> Result<(), AllocError> {
-    let mut start = Vec::new(alloc);
-    start.push('D')?;
-    gives(rt, alloc, SQUARE, &mut start, (&['D'], &['B', 'C']))?;
-    gives(rt, alloc, SQUARE, &mut start, (&['B', 'C', 'A'], &[]))?;
-    gives(rt, alloc, SQUARE, &mut start, (&[], &[]))
-}
-
-fn chunks_from_two_starts<R: Abort>(rt: &R, alloc: Global) -> Result<(), AllocError> {
-    let mut start = Vec::new(alloc);
-    start.push('2')?;
-    start.push('3')?;
-    gives(rt, alloc, JOINED, &mut start, (&['2', '3', '1'], &['0']))?;
-    gives(rt, alloc, JOINED, &mut start, (&['0'], &[]))?;
-    // The greater start is the lesser one's root, so all is explored.
-    start.push('B')?;
-    start.push('a')?;
-    gives(
-        rt,
-        alloc,
-        GREAT_ROOT,
-        &mut start,
-        (&['B', 'A', 'b', 'a'], &[]),
-    )?;
-    // A start that comes twice is given once.
-    start.push('A')?;
-    start.push('A')?;
-    gives(rt, alloc, SQUARE, &mut start, (&['A'], &[]))
-}
-
 #[test]
 fn orders_from_two_starts_come_in_chunks(rt: HostRuntime) -> Result<(), Fail> {
-    passes(&rt, chunks_from_two_starts)
+    passes(&rt, |rt, alloc| {
+        let mut start = Vec::new(alloc);
+        start.push('2')?;
+        start.push('3')?;
+        gives(rt, alloc, JOINED, &mut start, (&['2', '3', '1'], &['0']))?;
+        gives(rt, alloc, JOINED, &mut start, (&['0'], &[]))?;
+        // The greater start is the lesser one's root, so all is explored.
+        start.push('B')?;
+        start.push('a')?;
+        gives(
+            rt,
+            alloc,
+            GREAT_ROOT,
+            &mut start,
+            (&['B', 'A', 'b', 'a'], &[]),
+        )?;
+        // A start that comes twice is given once.
+        start.push('A')?;
+        start.push('A')?;
+        gives(rt, alloc, SQUARE, &mut start, (&['A'], &[]))
+    })
 }
 
 #[test]
 fn orders_come_in_chunks(rt: HostRuntime) -> Result<(), Fail> {
-    passes(&rt, chunks)
-}
-
-fn refusals<R: Abort>(rt: &R, alloc: Global) -> Result<(), AllocError> {
-    let cases: &[(FailingTable<'static>, &[char], &[char])] = &[
-        (ROUND, &['x', 'a'], &['a', 'x']),
-        (ROUND, &['A', 'a'], &['a']),
-        (BROKEN, &['B'], &['X']),
-        (BROKEN, &['C', 'A'], &['X']),
-    ];
-    for (table, starts, errors) in cases {
-        let mut start = starts.to_vec(alloc)?;
-        let error = met(rt, next_chunk(alloc, *table, &mut start))?;
-        assert!(rt; errors.contains(&error), "the error {error}");
-        assert!(rt; start.is_empty());
-    }
-    Ok(())
+    passes(&rt, |rt, alloc| {
+        let mut start = Vec::new(alloc);
+        start.push('D')?;
+        gives(rt, alloc, SQUARE, &mut start, (&['D'], &['B', 'C']))?;
+        gives(rt, alloc, SQUARE, &mut start, (&['B', 'C', 'A'], &[]))?;
+        gives(rt, alloc, SQUARE, &mut start, (&[], &[]))
+    })
 }
 
 #[test]
 fn refused_chunks_leave_no_start(rt: HostRuntime) -> Result<(), Fail> {
-    passes(&rt, refusals)
+    passes(&rt, |rt, alloc| {
+        let cases: &[(FailingTable<'static>, &[char], &[char])] = &[
+            (ROUND, &['x', 'a'], &['a', 'x']),
+            (ROUND, &['A', 'a'], &['a']),
+            (BROKEN, &['B'], &['X']),
+            (BROKEN, &['C', 'A'], &['X']),
+        ];
+        for (table, starts, errors) in cases {
+            let mut start = starts.to_vec(alloc)?;
+            let error = met(rt, next_chunk(alloc, *table, &mut start))?;
+            assert!(rt; errors.contains(&error), "the error {error}");
+            assert!(rt; start.is_empty());
+        }
+        Ok(())
+    })
 }

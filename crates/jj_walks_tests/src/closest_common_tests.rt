@@ -43,52 +43,46 @@ fn is<R: Abort>(
     Ok(())
 }
 
-fn small_graphs<R: Abort>(rt: &R, alloc: Global) -> Result<(), AllocError> {
-    is(rt, alloc, CROSSED, (&['D'], &['E']), &['B', 'C'])?;
-    is(rt, alloc, CROSSED, (&['D', 'D'], &['E', 'A']), &['B', 'C'])?;
-    is(rt, alloc, CROSSED, (&['D'], &['B']), &['B'])?;
-    is(rt, alloc, CROSSED, (&['D', 'E'], &['D']), &['D'])?;
-    is(rt, alloc, CROSSED, (&['D', 'B'], &['E', 'A']), &['B', 'C'])?;
-    is(rt, alloc, CROSSED, (&['D'], &['F']), &[])?;
-    is(rt, alloc, CROSSED, (&[], &['D']), &[])?;
-    is(rt, alloc, JOINED, (&['1'], &['2']), &['9'])?;
-    is(rt, alloc, JOINED, (&['1'], &['9']), &['9'])?;
-    is(rt, alloc, JOINED, (&['1'], &['5']), &['5'])?;
-    is(rt, alloc, JOINED, (&['1'], &['1']), &['1'])?;
-    is(rt, alloc, STEEP, (&['X'], &['Y']), &['B'])
-}
-
 #[test]
 fn closest_in_small_graphs(rt: HostRuntime) -> Result<(), Fail> {
-    passes(&rt, small_graphs)
-}
-
-fn cycles<R: Abort>(rt: &R, alloc: Global) -> Result<(), AllocError> {
-    let _nodes = found(rt, closest(alloc, PAIR, &[], &['A'], &['B']))?;
-    let _nodes = found(rt, closest(alloc, ROUNDS, &[], &['A'], &['E']))?;
-    // The cycle of A and B is on one side alone.
-    is(rt, alloc, ROUNDS, (&['A'], &['C']), &['C'])
+    passes(&rt, |rt, alloc| {
+        is(rt, alloc, CROSSED, (&['D'], &['E']), &['B', 'C'])?;
+        is(rt, alloc, CROSSED, (&['D', 'D'], &['E', 'A']), &['B', 'C'])?;
+        is(rt, alloc, CROSSED, (&['D'], &['B']), &['B'])?;
+        is(rt, alloc, CROSSED, (&['D', 'E'], &['D']), &['D'])?;
+        is(rt, alloc, CROSSED, (&['D', 'B'], &['E', 'A']), &['B', 'C'])?;
+        is(rt, alloc, CROSSED, (&['D'], &['F']), &[])?;
+        is(rt, alloc, CROSSED, (&[], &['D']), &[])?;
+        is(rt, alloc, JOINED, (&['1'], &['2']), &['9'])?;
+        is(rt, alloc, JOINED, (&['1'], &['9']), &['9'])?;
+        is(rt, alloc, JOINED, (&['1'], &['5']), &['5'])?;
+        is(rt, alloc, JOINED, (&['1'], &['1']), &['1'])?;
+        is(rt, alloc, STEEP, (&['X'], &['Y']), &['B'])
+    })
 }
 
 #[test]
 fn closest_end_on_cycles(rt: HostRuntime) -> Result<(), Fail> {
-    passes(&rt, cycles)
-}
-
-fn failing<R: Abort>(rt: &R, alloc: Global) -> Result<(), AllocError> {
-    for broken in ['B', 'C', 'E'] {
-        let error = met(rt, closest(alloc, CROSSED, &[broken], &['D'], &['E']))?;
-        assert_eq!(rt; error, broken);
-    }
-    // The search ends where A alone waits, before its list is asked for.
-    let nodes = found(rt, closest(alloc, CROSSED, &['A'], &['D'], &['B']))?;
-    assert_eq!(rt; nodes.as_slice(), ['B'].as_slice());
-    Ok(())
+    passes(&rt, |rt, alloc| {
+        let _nodes = found(rt, closest(alloc, PAIR, &[], &['A'], &['B']))?;
+        let _nodes = found(rt, closest(alloc, ROUNDS, &[], &['A'], &['E']))?;
+        // The cycle of A and B is on one side alone.
+        is(rt, alloc, ROUNDS, (&['A'], &['C']), &['C'])
+    })
 }
 
 #[test]
 fn closest_of_failing_lists(rt: HostRuntime) -> Result<(), Fail> {
-    passes(&rt, failing)
+    passes(&rt, |rt, alloc| {
+        for broken in ['B', 'C', 'E'] {
+            let error = met(rt, closest(alloc, CROSSED, &[broken], &['D'], &['E']))?;
+            assert_eq!(rt; error, broken);
+        }
+        // The search ends where A alone waits, before its list is asked for.
+        let nodes = found(rt, closest(alloc, CROSSED, &['A'], &['D'], &['B']))?;
+        assert_eq!(rt; nodes.as_slice(), ['B'].as_slice());
+        Ok(())
+    })
 }
 
 // Where the two sides of a chain part.
@@ -153,21 +147,19 @@ fn counted_squares(alloc: Global) -> Result<(Vec<u64>, usize), WalkError<u64>> {
     Ok((nodes, calls.get()))
 }
 
-fn counts<R: Abort>(rt: &R, alloc: Global) -> Result<(), AllocError> {
-    let (nodes, calls) = found(rt, counted_chain(alloc, BASE + 19, BASE + 20))?;
-    assert_eq!(rt; nodes.as_slice(), [BASE].as_slice());
-    assert!(rt;
-        calls <= 40,
-        "{calls} lists for two heads ten nodes above their base"
-    );
-    let (mut nodes, calls) = found(rt, counted_squares(alloc))?;
-    nodes.sort()?;
-    assert_eq!(rt; nodes.as_slice(), [1, 2].as_slice());
-    assert!(rt; calls <= 242, "{calls} lists for 121 nodes");
-    Ok(())
-}
-
 #[test]
 fn closest_ask_for_few_lists(rt: HostRuntime) -> Result<(), Fail> {
-    passes(&rt, counts)
+    passes(&rt, |rt, alloc| {
+        let (nodes, calls) = found(rt, counted_chain(alloc, BASE + 19, BASE + 20))?;
+        assert_eq!(rt; nodes.as_slice(), [BASE].as_slice());
+        assert!(rt;
+            calls <= 40,
+            "{calls} lists for two heads ten nodes above their base"
+        );
+        let (mut nodes, calls) = found(rt, counted_squares(alloc))?;
+        nodes.sort()?;
+        assert_eq!(rt; nodes.as_slice(), [1, 2].as_slice());
+        assert!(rt; calls <= 242, "{calls} lists for 121 nodes");
+        Ok(())
+    })
 }

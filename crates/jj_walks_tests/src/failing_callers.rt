@@ -104,31 +104,29 @@ mod tests {
         )
     }
 
-    fn tips_and_gaps<R: Abort>(rt: &R, alloc: Global) -> Result<(), AllocError> {
-        let mut commits = Vec::new(alloc);
-        commits.push(commit(alloc, 1, &[], "root")?)?;
-        commits.push(commit(alloc, 2, &[1], "left")?)?;
-        commits.push(commit(alloc, 3, &[1], "right")?)?;
-        let tips = match found_tips(alloc, &commits) {
-            Ok(tips) => tips.len(),
-            Err(WalkError::Memory) => return Err(AllocError),
-            Err(WalkError::Node(_gap)) => 0,
-        };
-        assert_eq!(rt; tips, 2);
-        commits.push(commit(alloc, 4, &[2, 9], "merge of what is not there")?)?;
-        match found_tips(alloc, &commits) {
-            Ok(_tips) => assert!(rt; false, "commit 4 lacks a parent"),
-            Err(WalkError::Memory) => return Err(AllocError),
-            Err(WalkError::Node(Gap::Memory)) => return Err(AllocError),
-            Err(WalkError::Node(Gap::Text(text))) => {
-                assert!(rt; text.as_str() == "merge of what is not there");
-            }
-        }
-        Ok(())
-    }
-
     #[test]
     fn errors_own_texts(rt: HostRuntime) -> Result<(), Fail> {
-        passes(&rt, tips_and_gaps)
+        passes(&rt, |rt, alloc| {
+            let mut commits = Vec::new(alloc);
+            commits.push(commit(alloc, 1, &[], "root")?)?;
+            commits.push(commit(alloc, 2, &[1], "left")?)?;
+            commits.push(commit(alloc, 3, &[1], "right")?)?;
+            let tips = match found_tips(alloc, &commits) {
+                Ok(tips) => tips.len(),
+                Err(WalkError::Memory) => return Err(AllocError),
+                Err(WalkError::Node(_gap)) => 0,
+            };
+            assert_eq!(rt; tips, 2);
+            commits.push(commit(alloc, 4, &[2, 9], "merge of what is not there")?)?;
+            match found_tips(alloc, &commits) {
+                Ok(_tips) => assert!(rt; false, "commit 4 lacks a parent"),
+                Err(WalkError::Memory) => return Err(AllocError),
+                Err(WalkError::Node(Gap::Memory)) => return Err(AllocError),
+                Err(WalkError::Node(Gap::Text(text))) => {
+                    assert!(rt; text.as_str() == "merge of what is not there");
+                }
+            }
+            Ok(())
+        })
     }
 }

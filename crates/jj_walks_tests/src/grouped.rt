@@ -179,18 +179,16 @@ fn grouped(alloc: Global, row: &Row) -> Result<(Vec<char>, End), AllocError> {
     Ok((order, end))
 }
 
-fn rows<R: Abort>(rt: &R, alloc: Global) -> Result<(), AllocError> {
-    for row in ROWS {
-        let (order, end) = grouped(alloc, row)?;
-        assert_eq!(rt; order.as_slice(), row.order);
-        assert_eq!(rt; end, row.end);
-    }
-    Ok(())
-}
-
 #[test]
 fn grouped_orders(rt: HostRuntime) -> Result<(), Fail> {
-    passes(&rt, rows)
+    passes(&rt, |rt, alloc| {
+        for row in ROWS {
+            let (order, end) = grouped(alloc, row)?;
+            assert_eq!(rt; order.as_slice(), row.order);
+            assert_eq!(rt; end, row.end);
+        }
+        Ok(())
+    })
 }
 
 // A run that ends with an error, and is asked again.

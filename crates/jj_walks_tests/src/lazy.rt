@@ -119,29 +119,27 @@ fn orders_all<R: Abort>(
     Ok(())
 }
 
-fn whole_orders<R: Abort>(rt: &R, alloc: Global) -> Result<(), AllocError> {
-    let cases: &[(Table<'static>, &str, usize)] = &[
-        (SQUARE, "D", 4),
-        (MERGE, "F", 6),
-        (MERGE, "FEC", 6),
-        (MERGE, "FDE", 6),
-        (NESTED_MIXED, "I", 9),
-        (TWO_HEADS, "FC", 6),
-        (TWO_ROOTS, "D", 4),
-        (GREAT_ROOT, "E", 5),
-        (FORK, "G", 7),
-        (TURNED_FORK, "G", 7),
-        (TWO_ROOTS, "", 0),
-    ];
-    for (table, start, count) in cases {
-        orders_all(rt, alloc, *table, *start, *count)?;
-    }
-    Ok(())
-}
-
 #[test]
 fn each_node_comes_before_its_neighbors(rt: HostRuntime) -> Result<(), Fail> {
-    passes(&rt, whole_orders)
+    passes(&rt, |rt, alloc| {
+        let cases: &[(Table<'static>, &str, usize)] = &[
+            (SQUARE, "D", 4),
+            (MERGE, "F", 6),
+            (MERGE, "FEC", 6),
+            (MERGE, "FDE", 6),
+            (NESTED_MIXED, "I", 9),
+            (TWO_HEADS, "FC", 6),
+            (TWO_ROOTS, "D", 4),
+            (GREAT_ROOT, "E", 5),
+            (FORK, "G", 7),
+            (TURNED_FORK, "G", 7),
+            (TWO_ROOTS, "", 0),
+        ];
+        for (table, start, count) in cases {
+            orders_all(rt, alloc, *table, *start, *count)?;
+        }
+        Ok(())
+    })
 }
 
 // Graphs, starts, what an order gives, where there is one such order, and its error.
@@ -154,42 +152,38 @@ const KNOWN: &[(Table<'static>, &str, &[char], Option<char>)] = &[
     (CYCLE, "C", &['C', 'B', 'A'], Some('C')),
 ];
 
-fn known_orders<R: Abort>(rt: &R, alloc: Global) -> Result<(), AllocError> {
-    for (table, start, wanted, error) in KNOWN {
-        let given = ordered(alloc, *table, *start)?;
-        assert_eq!(rt; given.0.as_slice(), *wanted);
-        assert_eq!(rt; given.1, *error);
-    }
-    let starts: &[(&[Result<char, char>], &[char])] = &[
-        (&[Ok('C')], &['C', 'B']),
-        (&[Ok('C'), Ok('A')], &[]),
-        (&[Ok('C'), Err('X')], &[]),
-    ];
-    for (start, wanted) in starts {
-        let given = ordered_ok(alloc, BROKEN, *start)?;
-        assert_eq!(rt; given.0.as_slice(), *wanted);
-        assert_eq!(rt; given.1, Some('X'));
-    }
-    Ok(())
-}
-
 #[test]
 fn orders_end_with_their_errors(rt: HostRuntime) -> Result<(), Fail> {
-    passes(&rt, known_orders)
+    passes(&rt, |rt, alloc| {
+        for (table, start, wanted, error) in KNOWN {
+            let given = ordered(alloc, *table, *start)?;
+            assert_eq!(rt; given.0.as_slice(), *wanted);
+            assert_eq!(rt; given.1, *error);
+        }
+        let starts: &[(&[Result<char, char>], &[char])] = &[
+            (&[Ok('C')], &['C', 'B']),
+            (&[Ok('C'), Ok('A')], &[]),
+            (&[Ok('C'), Err('X')], &[]),
+        ];
+        for (start, wanted) in starts {
+            let given = ordered_ok(alloc, BROKEN, *start)?;
+            assert_eq!(rt; given.0.as_slice(), *wanted);
+            assert_eq!(rt; given.1, Some('X'));
+        }
+        Ok(())
+    })
 }
 
 // D leads to a cycle, but is not on it.
-fn cycle_below<R: Abort>(rt: &R, alloc: Global) -> Result<(), AllocError> {
-    let (given, error) = ordered(alloc, CYCLE, "D")?;
-    assert!(rt; given.contains(&'D'));
-    assert!(rt; error.is_some());
-    assert!(rt; error != Some('D'));
-    Ok(())
-}
-
 #[test]
 fn cycles_end_an_order(rt: HostRuntime) -> Result<(), Fail> {
-    passes(&rt, cycle_below)
+    passes(&rt, |rt, alloc| {
+        let (given, error) = ordered(alloc, CYCLE, "D")?;
+        assert!(rt; given.contains(&'D'));
+        assert!(rt; error.is_some());
+        assert!(rt; error != Some('D'));
+        Ok(())
+    })
 }
 
 fn asks_after_the_end<R: Abort>(rt: &R, alloc: Global) -> Result<(), AllocError> {

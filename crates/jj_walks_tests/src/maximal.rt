@@ -17,60 +17,54 @@ const TWO_ROOTS: Table<'static> = &[('3', "1"), ('4', "1"), ('2', "5")];
 // B to A and to a failed item, C to B.
 const BROKEN: &[(char, &[Result<char, char>])] = &[('B', &[Ok('A'), Err('X')]), ('C', &[Ok('B')])];
 
-fn sets<R: Abort>(rt: &R, alloc: Global) -> Result<(), AllocError> {
-    for start in [&['A', 'C', 'D', 'F'], &['F', 'D', 'C', 'A']] {
-        let heads = maximal(alloc, MIXED, start)?;
-        assert_eq!(rt; heads.len(), 2);
-        assert!(rt; heads.contains(&'D') && heads.contains(&'F'));
-    }
-    let heads = maximal(alloc, MIXED, &['A', 'C'])?;
-    assert_eq!(rt; heads.len(), 1);
-    assert!(rt; heads.contains(&'C'));
-    let heads = maximal(alloc, CROSSED, &['A', 'C', 'D'])?;
-    assert_eq!(rt; heads.len(), 1);
-    assert!(rt; heads.contains(&'D'));
-    let heads = maximal(alloc, TWO_ROOTS, &['1', '3', '4'])?;
-    assert_eq!(rt; heads.len(), 2);
-    assert!(rt; heads.contains(&'3') && heads.contains(&'4'));
-    assert_eq!(rt; maximal(alloc, CROSSED, &[])?.len(), 0);
-    Ok(())
-}
-
 #[test]
 fn heads_of_sets(rt: HostRuntime) -> Result<(), Fail> {
-    passes(&rt, sets)
-}
-
-fn failing_graphs<R: Abort>(rt: &R, alloc: Global) -> Result<(), AllocError> {
-    for node in ['A', 'B', 'C'] {
-        let heads = found(rt, maximal_ok(alloc, BROKEN, &[Ok(node)]))?;
+    passes(&rt, |rt, alloc| {
+        for start in [&['A', 'C', 'D', 'F'], &['F', 'D', 'C', 'A']] {
+            let heads = maximal(alloc, MIXED, start)?;
+            assert_eq!(rt; heads.len(), 2);
+            assert!(rt; heads.contains(&'D') && heads.contains(&'F'));
+        }
+        let heads = maximal(alloc, MIXED, &['A', 'C'])?;
         assert_eq!(rt; heads.len(), 1);
-        assert!(rt; heads.contains(&node));
-    }
-    for second in ['B', 'A'] {
-        let error = met(rt, maximal_ok(alloc, BROKEN, &[Ok('C'), Ok(second)]))?;
-        assert_eq!(rt; error, 'X');
-    }
-    let error = met(rt, maximal_ok(alloc, BROKEN, &[Ok('C'), Err('Z')]))?;
-    assert_eq!(rt; error, 'Z');
-    Ok(())
+        assert!(rt; heads.contains(&'C'));
+        let heads = maximal(alloc, CROSSED, &['A', 'C', 'D'])?;
+        assert_eq!(rt; heads.len(), 1);
+        assert!(rt; heads.contains(&'D'));
+        let heads = maximal(alloc, TWO_ROOTS, &['1', '3', '4'])?;
+        assert_eq!(rt; heads.len(), 2);
+        assert!(rt; heads.contains(&'3') && heads.contains(&'4'));
+        assert_eq!(rt; maximal(alloc, CROSSED, &[])?.len(), 0);
+        Ok(())
+    })
 }
 
 #[test]
 fn heads_of_failing_graphs(rt: HostRuntime) -> Result<(), Fail> {
-    passes(&rt, failing_graphs)
-}
-
-fn failing_lists<R: Abort>(rt: &R, alloc: Global) -> Result<(), AllocError> {
-    let heads = found(rt, maximal_lists(alloc, MIXED, &['A'], &['C', 'b']))?;
-    assert_eq!(rt; heads.len(), 1);
-    assert!(rt; heads.contains(&'C'));
-    let error = met(rt, maximal_lists(alloc, MIXED, &['b'], &['C', 'b']))?;
-    assert_eq!(rt; error, 'b');
-    Ok(())
+    passes(&rt, |rt, alloc| {
+        for node in ['A', 'B', 'C'] {
+            let heads = found(rt, maximal_ok(alloc, BROKEN, &[Ok(node)]))?;
+            assert_eq!(rt; heads.len(), 1);
+            assert!(rt; heads.contains(&node));
+        }
+        for second in ['B', 'A'] {
+            let error = met(rt, maximal_ok(alloc, BROKEN, &[Ok('C'), Ok(second)]))?;
+            assert_eq!(rt; error, 'X');
+        }
+        let error = met(rt, maximal_ok(alloc, BROKEN, &[Ok('C'), Err('Z')]))?;
+        assert_eq!(rt; error, 'Z');
+        Ok(())
+    })
 }
 
 #[test]
 fn heads_of_failing_lists(rt: HostRuntime) -> Result<(), Fail> {
-    passes(&rt, failing_lists)
+    passes(&rt, |rt, alloc| {
+        let heads = found(rt, maximal_lists(alloc, MIXED, &['A'], &['C', 'b']))?;
+        assert_eq!(rt; heads.len(), 1);
+        assert!(rt; heads.contains(&'C'));
+        let error = met(rt, maximal_lists(alloc, MIXED, &['b'], &['C', 'b']))?;
+        assert_eq!(rt; error, 'b');
+        Ok(())
+    })
 }

@@ -68,30 +68,26 @@ const REVERSE: &[(Table<'static>, &[char], &[char])] = &[
     (TWO_ROOTS, &['D'], &['D', 'C', 'B', 'A']),
 ];
 
-fn orders_of_rows<R: Abort>(rt: &R, alloc: Global) -> Result<(), AllocError> {
-    for (table, start, wanted) in REVERSE {
-        let order = found(rt, reverse(alloc, *table, *start))?;
-        assert_eq!(rt; order.as_slice(), *wanted);
-    }
-    Ok(())
-}
-
 #[test]
 fn reverse_orders(rt: HostRuntime) -> Result<(), Fail> {
-    passes(&rt, orders_of_rows)
-}
-
-fn other_orders<R: Abort>(rt: &R, alloc: Global) -> Result<(), AllocError> {
-    let order = found(rt, forward(alloc, TWO_ROOTS, &['D']))?;
-    assert_eq!(rt; order.as_slice(), ['A', 'B', 'C', 'D'].as_slice());
-    let order = preorder(alloc, MERGE, &['F'])?;
-    assert_eq!(rt; order.as_slice(), ['F', 'D', 'C', 'B', 'A', 'E'].as_slice());
-    Ok(())
+    passes(&rt, |rt, alloc| {
+        for (table, start, wanted) in REVERSE {
+            let order = found(rt, reverse(alloc, *table, *start))?;
+            assert_eq!(rt; order.as_slice(), *wanted);
+        }
+        Ok(())
+    })
 }
 
 #[test]
 fn forward_order_and_preorder(rt: HostRuntime) -> Result<(), Fail> {
-    passes(&rt, other_orders)
+    passes(&rt, |rt, alloc| {
+        let order = found(rt, forward(alloc, TWO_ROOTS, &['D']))?;
+        assert_eq!(rt; order.as_slice(), ['A', 'B', 'C', 'D'].as_slice());
+        let order = preorder(alloc, MERGE, &['F'])?;
+        assert_eq!(rt; order.as_slice(), ['F', 'D', 'C', 'B', 'A', 'E'].as_slice());
+        Ok(())
+    })
 }
 
 // B to A and to a failed item, C to B.
@@ -104,20 +100,18 @@ const BROKEN_TWICE: &[(char, &[Result<char, char>])] = &[
     ('C', &[Ok('B')]),
 ];
 
-fn meets_failed_items<R: Abort>(rt: &R, alloc: Global) -> Result<(), AllocError> {
-    let given = preorder_ok(alloc, BROKEN, &[Ok('C')])?;
-    assert_eq!(rt;
-        given.as_slice(),
-        [Ok('C'), Ok('B'), Err('X'), Ok('A')].as_slice()
-    );
-    assert_eq!(rt; met(rt, forward_ok(alloc, BROKEN_TWICE, &[Ok('C')]))?, 'X');
-    assert_eq!(rt; met(rt, reverse_ok(alloc, BROKEN_TWICE, &[Ok('C')]))?, 'X');
-    Ok(())
-}
-
 #[test]
 fn failed_items(rt: HostRuntime) -> Result<(), Fail> {
-    passes(&rt, meets_failed_items)
+    passes(&rt, |rt, alloc| {
+        let given = preorder_ok(alloc, BROKEN, &[Ok('C')])?;
+        assert_eq!(rt;
+            given.as_slice(),
+            [Ok('C'), Ok('B'), Err('X'), Ok('A')].as_slice()
+        );
+        assert_eq!(rt; met(rt, forward_ok(alloc, BROKEN_TWICE, &[Ok('C')]))?, 'X');
+        assert_eq!(rt; met(rt, reverse_ok(alloc, BROKEN_TWICE, &[Ok('C')]))?, 'X');
+        Ok(())
+    })
 }
 
 fn asks_after_the_end<R: Abort>(rt: &R, alloc: Global) -> Result<(), AllocError> {

@@ -119,34 +119,30 @@ fn is_shown(nodes: &[GraphNode<Numbered, char>], rows: Rows<'_>) -> bool {
         })
 }
 
-fn turns_graphs<R: Abort>(rt: &R, alloc: Global) -> Result<(), AllocError> {
-    for (graph, want) in TURNED {
-        let turned = found(
-            rt,
-            reverse_graph(alloc, shown(alloc, *graph)?.into_iter(), letter),
-        )?;
-        assert!(rt; is_shown(turned.as_slice(), *want), "turned to {turned:?}");
-    }
-    Ok(())
-}
-
 #[test]
 fn graphs_are_turned_round(rt: HostRuntime) -> Result<(), Fail> {
-    passes(&rt, turns_graphs)
-}
-
-fn answers_failed_node<R: Abort>(rt: &R, alloc: Global) -> Result<(), AllocError> {
-    let mut nodes = Vec::new(alloc);
-    nodes.push(Ok((('A', 0), Vec::new(alloc))))?;
-    nodes.push(Err('X'))?;
-    nodes.push(Ok((('B', 0), Vec::new(alloc))))?;
-    nodes.push(Err('Y'))?;
-    let error = met(rt, reverse_graph(alloc, nodes.into_iter(), letter))?;
-    assert_eq!(rt; error, 'X');
-    Ok(())
+    passes(&rt, |rt, alloc| {
+        for (graph, want) in TURNED {
+            let turned = found(
+                rt,
+                reverse_graph(alloc, shown(alloc, *graph)?.into_iter(), letter),
+            )?;
+            assert!(rt; is_shown(turned.as_slice(), *want), "turned to {turned:?}");
+        }
+        Ok(())
+    })
 }
 
 #[test]
 fn a_failed_node_is_answered(rt: HostRuntime) -> Result<(), Fail> {
-    passes(&rt, answers_failed_node)
+    passes(&rt, |rt, alloc| {
+        let mut nodes = Vec::new(alloc);
+        nodes.push(Ok((('A', 0), Vec::new(alloc))))?;
+        nodes.push(Err('X'))?;
+        nodes.push(Ok((('B', 0), Vec::new(alloc))))?;
+        nodes.push(Err('Y'))?;
+        let error = met(rt, reverse_graph(alloc, nodes.into_iter(), letter))?;
+        assert_eq!(rt; error, 'X');
+        Ok(())
+    })
 }

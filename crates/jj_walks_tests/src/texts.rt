@@ -39,17 +39,15 @@ fn order_by_one_id(alloc: Global, words: &[&str]) -> Result<Vec<String>, WalkErr
     )
 }
 
-fn walks_texts<R: Abort>(rt: &R, alloc: Global) -> Result<(), AllocError> {
-    let heads = heads_of_texts(alloc, &["a", "bb", "a"])?;
-    assert_eq!(rt; heads.len(), 2);
-    assert!(rt; heads.contains("a") && heads.contains("bb"));
-    let order = found(rt, order_by_one_id(alloc, &["a", "b"]))?;
-    assert_eq!(rt; order.len(), 1);
-    assert!(rt; order[0].as_str() == "b");
-    Ok(())
-}
-
 #[test]
 fn texts_are_nodes_and_ids(rt: HostRuntime) -> Result<(), Fail> {
-    passes(&rt, walks_texts)
+    passes(&rt, |rt, alloc| {
+        let heads = heads_of_texts(alloc, &["a", "bb", "a"])?;
+        assert_eq!(rt; heads.len(), 2);
+        assert!(rt; heads.contains("a") && heads.contains("bb"));
+        let order = found(rt, order_by_one_id(alloc, &["a", "b"]))?;
+        assert_eq!(rt; order.len(), 1);
+        assert!(rt; order[0].as_str() == "b");
+        Ok(())
+    })
 }

@@ -71,51 +71,47 @@ fn greatest(
     )
 }
 
-fn greatest_orders<R: Abort>(rt: &R, alloc: Global) -> Result<(), AllocError> {
-    let cases: &[(Rows<'static>, &[Result<u64, u64>], &[u64])] = &[
-        (TWO_CHAINS, &[Ok(1), Ok(5)], &[5, 2, 1, 9]),
-        (TWO_CHAINS, &[Ok(5), Ok(1)], &[5, 2, 1, 9]),
-        (TWO_CHAINS, &[Ok(1), Ok(1), Ok(5)], &[5, 2, 1, 9]),
-        (EDGE_TWICE, &[Ok(1), Ok(5)], &[5, 2, 1, 9]),
-        (SHARED, &[Ok(1), Ok(2)], &[2, 1, 9, 5]),
-        (SHARED, &[Ok(5), Ok(9), Ok(2), Ok(1)], &[2, 1, 9, 5]),
-        (TWO_ROOTS, &[Ok(2), Ok(3), Ok(4)], &[4, 3, 2, 5, 1]),
-        (LATE, &[Ok(7), Ok(8)], &[8, 20, 7, 3, 2, 1]),
-        (FAILING, &[Ok(4)], &[4, 3]),
-        (FAILING, &[], &[]),
-    ];
-    for (rows, start, want) in cases {
-        assert_eq!(rt;
-            found(rt, greatest(alloc, *rows, *start))?.as_slice(),
-            *want
-        );
-    }
-    Ok(())
-}
-
 #[test]
 fn takes_the_greatest_ready_node(rt: HostRuntime) -> Result<(), Fail> {
-    passes(&rt, greatest_orders)
-}
-
-fn refusals<R: Abort>(rt: &R, alloc: Global) -> Result<(), AllocError> {
-    let cases: &[(Rows<'static>, &[Result<u64, u64>], &[u64])] = &[
-        (CYCLES, &[Ok(1)], &[1, 2]),
-        (CYCLES, &[Ok(3)], &[3]),
-        (CYCLES, &[Ok(9), Ok(4)], &[5, 6]),
-        (FAILING, &[Ok(1)], &[102]),
-        (FAILING, &[Ok(4), Ok(7)], &[107]),
-        (FAILING, &[Ok(4), Err(100)], &[100]),
-        (FAILING, &[Err(100), Ok(7)], &[100]),
-    ];
-    for (rows, start, errors) in cases {
-        let error = met(rt, greatest(alloc, *rows, *start))?;
-        assert!(rt; errors.contains(&error), "the error {error}");
-    }
-    Ok(())
+    passes(&rt, |rt, alloc| {
+        let cases: &[(Rows<'static>, &[Result<u64, u64>], &[u64])] = &[
+            (TWO_CHAINS, &[Ok(1), Ok(5)], &[5, 2, 1, 9]),
+            (TWO_CHAINS, &[Ok(5), Ok(1)], &[5, 2, 1, 9]),
+            (TWO_CHAINS, &[Ok(1), Ok(1), Ok(5)], &[5, 2, 1, 9]),
+            (EDGE_TWICE, &[Ok(1), Ok(5)], &[5, 2, 1, 9]),
+            (SHARED, &[Ok(1), Ok(2)], &[2, 1, 9, 5]),
+            (SHARED, &[Ok(5), Ok(9), Ok(2), Ok(1)], &[2, 1, 9, 5]),
+            (TWO_ROOTS, &[Ok(2), Ok(3), Ok(4)], &[4, 3, 2, 5, 1]),
+            (LATE, &[Ok(7), Ok(8)], &[8, 20, 7, 3, 2, 1]),
+            (FAILING, &[Ok(4)], &[4, 3]),
+            (FAILING, &[], &[]),
+        ];
+        for (rows, start, want) in cases {
+            assert_eq!(rt;
+                found(rt, greatest(alloc, *rows, *start))?.as_slice(),
+                *want
+            );
+        }
+        Ok(())
+    })
 }
 
 #[test]
 fn refuses_cycles_and_failed_items(rt: HostRuntime) -> Result<(), Fail> {
-    passes(&rt, refusals)
+    passes(&rt, |rt, alloc| {
+        let cases: &[(Rows<'static>, &[Result<u64, u64>], &[u64])] = &[
+            (CYCLES, &[Ok(1)], &[1, 2]),
+            (CYCLES, &[Ok(3)], &[3]),
+            (CYCLES, &[Ok(9), Ok(4)], &[5, 6]),
+            (FAILING, &[Ok(1)], &[102]),
+            (FAILING, &[Ok(4), Ok(7)], &[107]),
+            (FAILING, &[Ok(4), Err(100)], &[100]),
+            (FAILING, &[Err(100), Ok(7)], &[100]),
+        ];
+        for (rows, start, errors) in cases {
+            let error = met(rt, greatest(alloc, *rows, *start))?;
+            assert!(rt; errors.contains(&error), "the error {error}");
+        }
+        Ok(())
+    })
 }
