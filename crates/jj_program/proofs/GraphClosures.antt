@@ -10,8 +10,8 @@ use Rattle.std.specs.declared.iter.Copied.{Copied}
 use Rattle.std.proofs.iter.Yields.{copies, fronts}
 use Rattle.std.proofs.lemmas.Fn.{always_returns_same}
 use denote.Ref.{Bor}
-use Rattle.jj_walks.specs.Failing.{Fault, FailingGraph, ShowsItems, ShowsLists}
-use Rattle.jj_walks.specs.Walk.{IsShownBy, Numbered}
+use Rattle.jj_dag.specs.Failing.{Fault, FailingGraph, ShowsItems, ShowsLists}
+use Rattle.jj_dag.specs.Walk.{IsShownBy, Numbered}
 use Rattle.jj_program.specs.declared.graph_walks.SoundIds.{SoundIds}
 use Rattle.jj_program.specs.declared.listed_graph.ListedGraph.{ListedGraph}
 use Rattle.jj_program.specs.ListedGraphs.{named_by, shown_by}

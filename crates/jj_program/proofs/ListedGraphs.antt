@@ -19,14 +19,14 @@ use Rattle.std.proofs.lemmas.List.{get_or-map, length-map, map-id}
 use Rattle.std.specs.declared.vec.Vec.{Vec}
 use Rattle.std.proofs.lemmas.List.Sorted.{Contains-permutation, IsPermutation-sym, IsNonDecreasingBy-from_sort}
 use Rattle.std.proofs.lemmas.Map.Keys.{IsDistinct-IsPermutation, IsStrictlyIncreasing-from_distinct}
-use Rattle.jj_walks.specs.CommonNodes.{AreClosestCommon}
-use Rattle.jj_walks.specs.Graph.{Graph, HasNoCycle, IsMaximalIn}
-use Rattle.jj_walks.specs.Failing.{Fault, AreItems, AnswersItems, BeginsWith, ListsItems, sound_items}
-use Rattle.jj_walks.proofs.FailingWalks.{begun_are}
+use Rattle.jj_dag.specs.CommonNodes.{AreClosestCommon}
+use Rattle.jj_dag.specs.Graph.{Graph, HasNoCycle, IsMaximalIn}
+use Rattle.jj_dag.specs.Failing.{Fault, AreItems, AnswersItems, BeginsWith, ListsItems, sound_items}
+use Rattle.jj_dag.proofs.FailingWalks.{begun_are}
 use Rattle.jj_program.specs.declared.graph_walks.SoundIds.{SoundIds}
 use Rattle.jj_program.specs.SoundIds.{sound_left}
-use Rattle.jj_walks.specs.Walk.{DrainsTo}
-use Rattle.jj_walks.proofs.Walking.{drained_are, eqb-flip, Contains-from_has}
+use Rattle.jj_dag.specs.Walk.{DrainsTo}
+use Rattle.jj_dag.proofs.Walking.{drained_are, eqb-flip, Contains-from_has}
 use Rattle.jj_program.specs.Neighbors.{listed_in, HoldsNeighbors}
 use Rattle.jj_program.specs.GraphCommand.{HasCycle}
 

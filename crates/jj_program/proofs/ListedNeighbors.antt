@@ -9,7 +9,7 @@ use Rattle.std.specs.Option.{option_map}
 use Rattle.std.specs.Ordering.{nat_cmp}
 use Rattle.std.specs.declared.vec.Vec.{Vec}
 use Rattle.std.proofs.lemmas.List.Elements.{All-contains, Contains-append_right}
-use Rattle.jj_walks.proofs.Walking.{has-from_Contains}
+use Rattle.jj_dag.proofs.Walking.{has-from_Contains}
 use Rattle.jj_program.specs.GraphCommand.{graph_of}
 use Rattle.jj_program.specs.Neighbors.{listed_in, HoldsNeighbors}
 

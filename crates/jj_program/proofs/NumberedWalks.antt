@@ -9,9 +9,9 @@ use Rattle.std.proofs.lemmas.Bool.Decides.{Decides-eqb}
 use Rattle.std.proofs.lemmas.List.Elements.{All-contains}
 use Rattle.std.proofs.lemmas.List.Kept.{AllPairs-from_increasing}
 use Rattle.std.proofs.lemmas.List.Sums.{get_or-le-sum_by}
-use Rattle.jj_walks.specs.Graph.{Graph}
-use Rattle.jj_walks.specs.Walk.{Numbered}
-use Rattle.jj_walks.proofs.Walking.{has, has-from_Contains, Contains-from_has}
+use Rattle.jj_dag.specs.Graph.{Graph}
+use Rattle.jj_dag.specs.Walk.{Numbered}
+use Rattle.jj_dag.proofs.Walking.{has, has-from_Contains, Contains-from_has}
 use Rattle.jj_program.specs.Numbering.{IsNumberOf}
 
 -- the id of a number; a number of no id has one that is none of them

@@ -9,9 +9,9 @@ use Rattle.std.proofs.lemmas.Cmp.{nat_eq_equiv}
 use Rattle.std.proofs.lemmas.List.{get_or_at, get_or_append_left}
 use Rattle.std.proofs.lemmas.List.Kept.{AllPairs-from_increasing}
 use Rattle.std.proofs.lemmas.Map.Made.{length-from_same_keys}
-use Rattle.jj_walks.specs.CommonNodes.{AreClosestCommon}
-use Rattle.jj_walks.specs.Graph.{Graph, IsGreatestChildFirst, IsMaximalIn}
-use Rattle.jj_walks.proofs.Walking.{has, Decides-has}
+use Rattle.jj_dag.specs.CommonNodes.{AreClosestCommon}
+use Rattle.jj_dag.specs.Graph.{Graph, IsGreatestChildFirst, IsMaximalIn}
+use Rattle.jj_dag.proofs.Walking.{has, Decides-has}
 use Rattle.jj_program.specs.declared.fault.Fault.{Fault}
 use Rattle.jj_program.specs.Requests.{AnswersEach}
 use Rattle.jj_program.specs.GraphCommand.{GraphRequest, Order, Heads, Common, numbers_line, AnswersRequest, IsGraphAnswer, GivesGraph, graph_of}

@@ -7,8 +7,8 @@ use Rattle.std.specs.Str.Parse.{digits_value}
 use Rattle.std.specs.Fmt.{decimal}
 use Rattle.std.specs.List.{after_first, before_first, count_by}
 use Rattle.std.specs.List.Sorted.{IsStrictlyIncreasing}
-use Rattle.jj_walks.specs.Graph.{Graph, StrictlyReaches, IsGreatestChildFirst, IsMaximalIn}
-use Rattle.jj_walks.specs.CommonNodes.{AreClosestCommon}
+use Rattle.jj_dag.specs.Graph.{Graph, StrictlyReaches, IsGreatestChildFirst, IsMaximalIn}
+use Rattle.jj_dag.specs.CommonNodes.{AreClosestCommon}
 use Rattle.jj_program.specs.declared.fault.Fault.{Fault}
 use Rattle.jj_program.specs.declared.fault.LineFault.{LineFault}
 use Rattle.jj_program.specs.declared.fault.LineFault.TheVariants.{UnknownCommand, BadFieldCount, BadNumber, RepeatedNode}

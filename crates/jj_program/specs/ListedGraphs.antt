@@ -1,7 +1,7 @@
 -- What is seen of a graph whose edges a map lists.
 -- Machinery of private functions and fields.
 use Rattle.std.specs.Prelude.{ℕ, List}
-use Rattle.jj_walks.specs.Graph.{Graph}
+use Rattle.jj_dag.specs.Graph.{Graph}
 use Rattle.jj_program.specs.declared.listed_graph.ListedGraph.{ListedGraph}
 use Rattle.jj_program.specs.GraphCommand.{graph_of}
 use Rattle.jj_program.specs.Neighbors.{listed_in}

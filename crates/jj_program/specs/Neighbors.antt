@@ -8,7 +8,7 @@ use Rattle.std.specs.BTreeMap.{BTreeMap, get}
 use Rattle.std.specs.Global.{Global}
 use Rattle.std.specs.List.{Contains, list_any}
 use Rattle.std.specs.declared.vec.Vec.{Vec}
-use Rattle.jj_walks.specs.Graph.{Graph}
+use Rattle.jj_dag.specs.Graph.{Graph}
 
 -- the neighbours of an id, if the map has them
 abbrev pub listed_in : BTreeMap ℕ (Vec ℕ Global) → ℕ → Option (List ℕ)

@@ -5,14 +5,14 @@ ghost use Rattle.std.specs.Iterator.{YieldsFirst, item_count};
 ghost use Rattle.std.specs.Iterator.Adapters.{copied_source};
 ghost use Rattle.std.specs.List.Sorted.{IsStrictlyIncreasing};
 ghost use Rattle.std.specs.Slice.Iter.{iter_rest};
-ghost use Rattle.jj_walks.specs.CommonNodes.{AreClosestCommon};
-ghost use Rattle.jj_walks.specs.Graph.{IsGreatestChildFirst, IsMaximalIn};
+ghost use Rattle.jj_dag.specs.CommonNodes.{AreClosestCommon};
+ghost use Rattle.jj_dag.specs.Graph.{IsGreatestChildFirst, IsMaximalIn};
 ghost use Rattle.jj_program.specs.ListedGraphs.{named_by, shown_by};
 ghost use Rattle.jj_program.specs.GraphCommand.{HasCycle};
 
 use crate::listed_graph::ListedGraph;
-use jj_walks::dag_walk::{WalkError, heads, topo_order_forward};
-use jj_walks::dag_walk_async::{closest_common_nodes, topo_order_reverse_ord};
+use jj_dag::dag_walk::{WalkError, heads, topo_order_forward};
+use jj_dag::dag_walk_async::{closest_common_nodes, topo_order_reverse_ord};
 use std::alloc::{AllocError, Global};
 use std::iter::Copied;
 use std::slice;

@@ -17,7 +17,7 @@ use Rattle.jj_walks.proofs.CandidateLists.{and_left, and_right}
 use Rattle.jj_walks.proofs.Histories.{cons-cases, cons-first, cons-later}
 use Rattle.jj_walks.proofs.HistoryLists.{congr-right}
 use Rattle.jj_walks.proofs.KeptHistories.{has_id-append, positive-count}
-use Rattle.jj_walks.proofs.Plain.{no-false}
+use Rattle.jj_dag.proofs.Plain.{no-false}
 
 no-push : {A : Type 0} (xs : List A) (x : A) → [] ≡ xs ++ x ∷ [] → ⊥
 no-push [] x e = cc

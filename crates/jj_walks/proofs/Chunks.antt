@@ -4,17 +4,17 @@ use Rattle.std.specs.List.{Contains, IsDistinct, filter, filter_map, cons_option
 use Rattle.std.specs.Result.{result_ok}
 use Rattle.std.proofs.lemmas.List.{length-map}
 use Rattle.jj_walks.specs.Chunks.{IsChunkOfMany, IsNextChunk, IsStretch, NoneFailed}
-use Rattle.jj_walks.specs.Collecting.{IsCollecting}
-use Rattle.jj_walks.specs.Failing.{FailingGraph, sound}
-use Rattle.jj_walks.specs.Graph.{Graph, HasEdge, Path, Reaches, StrictlyReaches, ReachedFrom, ReachesCycle, HasNoCycle, IsChildFirst}
+use Rattle.jj_dag.specs.Collecting.{IsCollecting}
+use Rattle.jj_dag.specs.Failing.{FailingGraph, sound}
+use Rattle.jj_dag.specs.Graph.{Graph, HasEdge, Path, Reaches, StrictlyReaches, ReachedFrom, ReachesCycle, HasNoCycle, IsChildFirst}
 use Rattle.jj_walks.specs.LookingAhead.{HasLooked, copies}
-use Rattle.jj_walks.specs.Walk.{Numbered, AreNodes}
-use Rattle.jj_walks.proofs.Collecting.{are_nodes, at_place}
+use Rattle.jj_dag.specs.Walk.{Numbered, AreNodes}
+use Rattle.jj_dag.proofs.Collecting.{are_nodes, at_place}
 use Rattle.jj_walks.proofs.LookingAhead.{copies_short}
-use Rattle.jj_walks.proofs.Reaching.{Contains-reached, Reaches-trans, edge_then_Reaches}
-use Rattle.jj_walks.proofs.ReadyOrders.{twice, tail_distinct, here, later, at_split}
-use Rattle.jj_walks.proofs.Walking.{has, has-from_Contains, Contains-from_has}
-use Rattle.jj_walks.proofs.Plain.{nothing, one_distinct, only}
+use Rattle.jj_dag.proofs.Reaching.{Contains-reached, Reaches-trans, edge_then_Reaches}
+use Rattle.jj_dag.proofs.ReadyOrders.{twice, tail_distinct, here, later, at_split}
+use Rattle.jj_dag.proofs.Walking.{has, has-from_Contains, Contains-from_has}
+use Rattle.jj_dag.proofs.Plain.{nothing, one_distinct, only}
 
 -- ---- lists
 

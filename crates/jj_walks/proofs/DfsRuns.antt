@@ -5,11 +5,11 @@ use Rattle.std.specs.Iterator.{Count, Drains}
 use denote.Ref.{Bor}
 use Rattle.jj_walks.specs.declared.depth_first.DepthFirst.{DepthFirst}
 use Rattle.jj_walks.specs.declared.depth_first_ok.DepthFirstOk.{DepthFirstOk}
-use Rattle.jj_walks.specs.declared.walk_error.WalkError.{WalkError}
-use Rattle.jj_walks.specs.declared.walk_error.WalkError.TheVariants.{Node}
-use Rattle.jj_walks.specs.Failing.{FailingGraph, Fault, AreFailingPreorder}
-use Rattle.jj_walks.specs.Graph.{IsPreorder}
-use Rattle.jj_walks.specs.Walk.{Numbered}
+use Rattle.jj_dag.specs.declared.walk_error.WalkError.{WalkError}
+use Rattle.jj_dag.specs.declared.walk_error.WalkError.TheVariants.{Node}
+use Rattle.jj_dag.specs.Failing.{FailingGraph, Fault, AreFailingPreorder}
+use Rattle.jj_dag.specs.Graph.{IsPreorder}
+use Rattle.jj_dag.specs.Walk.{Numbered}
 use Rattle.jj_walks.specs.DfsSteps.{IsLeftOf, Steps}
 use Rattle.jj_walks.specs.DfsOkSteps.{IsLeftOf as IsLeftOfItems, Steps as StepsOfItems}
 

@@ -13,7 +13,7 @@ use Rattle.jj_walks.proofs.Branches.{circle-free, edge-counted, edge-entry, reac
 use Rattle.jj_walks.proofs.CandidateLists.{and_left, and_right}
 use Rattle.jj_walks.proofs.Histories.{cons-cases, cons-first, cons-later, edge-counts, none-found, read-given, read-given_or_held}
 use Rattle.jj_walks.proofs.HistoryLists.{congr-right, find-others, find-passes}
-use Rattle.jj_walks.proofs.Plain.{no-false}
+use Rattle.jj_dag.proofs.Plain.{no-false}
 
 nothing : {A B : Type 0} {x : A} → Contains [] x → B
 nothing (i, less, e) = absurd (omega arith)

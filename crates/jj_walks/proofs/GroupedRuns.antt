@@ -7,13 +7,8 @@ use Rattle.std.proofs.lemmas.List.{map-append}
 use denote.Ref.{Bor}
 use Rattle.jj_walks.specs.Grouped.{Entry, History, Read}
 use Rattle.jj_walks.specs.GroupedSteps.{IsEntryOf, Item, ReadsTo, read_on}
-use Rattle.jj_walks.proofs.FailingOrders.{Yields-push}
-
-pub zip-push : {A B : Type 0} (R : A → B → Type 0) (xs : List A) (ys : List B) (x : A) (y : B) → AllZip R xs ys → R x y → AllZip R (xs ++ x ∷ []) (ys ++ y ∷ [])
-zip-push R [] [] x y k r = (r, tt)
-zip-push R [] (b ∷ ys) x y k r = absurd k
-zip-push R (a ∷ xs) [] x y k r = absurd k
-zip-push R (a ∷ xs) (b ∷ ys) x y k r = (k.0, zip-push R xs ys x y k.1 r)
+use Rattle.jj_dag.proofs.Asking.{zip-push}
+use Rattle.jj_dag.proofs.FailingOrders.{Yields-push}
 
 -- one node more was read
 pub read_on-push : {N ID : Type 0} (es : List (Entry N ID)) (e : Entry N ID) (h : History N ID) → read_on (es ++ e ∷ []) h ≡ Read e ∷ read_on es h

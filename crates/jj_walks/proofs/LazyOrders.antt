@@ -3,12 +3,12 @@ use Rattle.std.proofs.Common.{◌≡◌, ℕ, zero, suc, List, [], ◌∷◌, �
 use Rattle.std.specs.List.{Contains, IsDistinct}
 use Rattle.std.proofs.lemmas.List.Elements.{Contains-append_left, Contains-append_right, Contains-append_cases}
 use Rattle.jj_walks.specs.Chunks.{IsStretch, IsBegun, LeadsOn, LeadsForward, NoneFailed}
-use Rattle.jj_walks.specs.Failing.{FailingGraph, HasNoFailure, sound}
-use Rattle.jj_walks.specs.Graph.{Graph, HasEdge, Path, Reaches, StrictlyReaches, ReachedFrom, ReachesCycle, HasNoCycle, IsChildFirst}
-use Rattle.jj_walks.proofs.FailingOrders.{ReachedFrom-same}
-use Rattle.jj_walks.proofs.Reaching.{Contains-split, Contains-reached, Reaches-trans, edge_then_Reaches}
-use Rattle.jj_walks.proofs.ReadyOrders.{here, at_split, twice}
-use Rattle.jj_walks.proofs.Plain.{nothing, one_distinct, only}
+use Rattle.jj_dag.specs.Failing.{FailingGraph, HasNoFailure, sound}
+use Rattle.jj_dag.specs.Graph.{Graph, HasEdge, Path, Reaches, StrictlyReaches, ReachedFrom, ReachesCycle, HasNoCycle, IsChildFirst}
+use Rattle.jj_dag.proofs.FailingOrders.{ReachedFrom-same}
+use Rattle.jj_dag.proofs.Reaching.{Contains-split, Contains-reached, Reaches-trans, edge_then_Reaches}
+use Rattle.jj_dag.proofs.ReadyOrders.{here, at_split, twice}
+use Rattle.jj_dag.proofs.Plain.{nothing, one_distinct, only}
 
 -- a place in two lists, one after the other, is in the first or in the second
 split_append : (xs ys front back : List ℕ) (a : ℕ) → xs ++ ys ≡ front ++ a ∷ back

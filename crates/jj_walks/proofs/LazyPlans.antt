@@ -10,32 +10,21 @@ use Rattle.std.proofs.lemmas.Map.Keys.{IsDistinct-push}
 use denote.Ref.{Bor}
 use Rattle.jj_walks.specs.declared.lazy_plan.Plan.{Plan}
 use Rattle.jj_walks.specs.Chunks.{IsStretch, IsBegun, LeadsOn, NoneFailed}
-use Rattle.jj_walks.specs.Failing.{FailingGraph, Fault, HasNoFailure, ReachesFailure, ShowsItems, sound}
-use Rattle.jj_walks.specs.Graph.{Graph, ReachedFrom, ReachesCycle, HasNoCycle, IsChildFirst}
+use Rattle.jj_dag.specs.Failing.{FailingGraph, Fault, HasNoFailure, ReachesFailure, ShowsItems, sound}
+use Rattle.jj_dag.specs.Graph.{Graph, ReachedFrom, ReachesCycle, HasNoCycle, IsChildFirst}
 use Rattle.jj_walks.specs.LazySteps.{IsPlanOf, HasNothing, ordered}
-use Rattle.jj_walks.specs.Walk.{Numbered, AreNodes}
-use Rattle.jj_walks.proofs.Collecting.{are_nodes}
-use Rattle.jj_walks.proofs.FailingOrders.{ReachedFrom-same, none_of_nodes}
+use Rattle.jj_dag.specs.Walk.{Numbered, AreNodes}
+use Rattle.jj_dag.proofs.Asking.{failure_through, reached_through}
+use Rattle.jj_dag.proofs.Collecting.{are_nodes}
+use Rattle.jj_dag.proofs.FailingOrders.{ReachedFrom-same, none_of_nodes}
 use Rattle.jj_walks.proofs.LazyOrders.{begun_none, leads_none, begun_more, leads_more, one_stretch, sound_more, ended_acyclic, ended_order, ended_sound, again_cycle}
-use Rattle.jj_walks.proofs.Reaching.{Reaches-trans}
-use Rattle.jj_walks.proofs.ReadyOrders.{at_split}
-use Rattle.jj_walks.proofs.Walking.{has, has-push, eqb-flip, Contains-from_has}
-use Rattle.jj_walks.proofs.Plain.{nothing, one_distinct, only, or_cond}
-
-reached_through : (g : Graph) (starts left : List ℕ) → ((b : ℕ) → Contains left b → ReachedFrom g starts b) → (a : ℕ) → ReachedFrom g left a → ReachedFrom g starts a
-reached_through g starts left through a (s, at, (n, p)) =
-    let first = through s at in
-    (first.0, first.1, Reaches-trans g first.0 s a first.2.0 first.2.1 (n, p))
+use Rattle.jj_dag.proofs.ReadyOrders.{at_split}
+use Rattle.jj_dag.proofs.Walking.{has, has-push, eqb-flip, Contains-from_has}
+use Rattle.jj_dag.proofs.Plain.{nothing, one_distinct, only, or_cond}
 
 pub cycle_through : (g : Graph) (starts left : List ℕ) → ((b : ℕ) → Contains left b → ReachedFrom g starts b) → (a : ℕ) → ReachedFrom g left a × ReachesCycle g left → ReachedFrom g starts a × ReachesCycle g starts
 cycle_through g starts left through a (reached, (b, (on, round))) =
     (reached_through g starts left through a reached, (b, (reached_through g starts left through b on, round)))
-
-pub failure_through : {E : Type 0} (g : Graph) (items : FailingGraph (Fault E)) (starts left : List ℕ) (e : E) → ((a : ℕ) → g a ≡ sound items a) → ((b : ℕ) → Contains left b → ReachedFrom g starts b)
-    → ReachesFailure items left e → ReachesFailure items starts e
-failure_through g items starts left e same through (a, fault, reached, at, is) =
-    let out = reached_through g starts left through a (ReachedFrom-same (sound items) g (λ b. sym (same b)) left a reached) in
-    (a, fault, ReachedFrom-same g (sound items) same starts a out, at, is)
 
 module _ {T ID E F N C U S : Type 0} (ids : Shared F (Bor T × Unit {0}) ID) (lists : Mut N (Bor T × Unit {0}) U) (eq : ID → ID → Bool) (becomes : U → S → Type 0)
     (steps : S → Option (Result T E) → S → Type 0) (w : Numbered T ID) (items : FailingGraph (Fault E)) (on_cycle : C) (starts : List ℕ) (given : List T) (s t : Plan T ID E F N C) where

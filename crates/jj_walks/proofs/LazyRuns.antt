@@ -4,12 +4,12 @@ use Rattle.std.specs.Fn.{Shared, Mut}
 use Rattle.std.specs.Iterator.{Count, Drains, Yields}
 use denote.Ref.{Bor}
 use Rattle.jj_walks.specs.declared.topo_order_lazy.TopoOrderReverseLazy.{TopoOrderReverseLazy}
-use Rattle.jj_walks.specs.declared.walk_error.WalkError.{WalkError}
-use Rattle.jj_walks.specs.Errors.{IfNode}
-use Rattle.jj_walks.specs.Failing.{FailingGraph, Fault, HasNoFailure}
-use Rattle.jj_walks.specs.Graph.{HasNoCycle, IsChildFirst}
+use Rattle.jj_dag.specs.declared.walk_error.WalkError.{WalkError}
+use Rattle.jj_dag.specs.Errors.{IfNode}
+use Rattle.jj_dag.specs.Failing.{FailingGraph, Fault, HasNoFailure}
+use Rattle.jj_dag.specs.Graph.{HasNoCycle, IsChildFirst}
 use Rattle.jj_walks.specs.LazySteps.{IsCause, IsPlanOf, Steps}
-use Rattle.jj_walks.specs.Walk.{Numbered}
+use Rattle.jj_dag.specs.Walk.{Numbered}
 
 module _ {T ID E F N C U S : Type 0} (ids : Shared F (Bor T × Unit {0}) ID) (lists : Mut N (Bor T × Unit {0}) U) (cycles : Mut C (T × Unit {0}) E) (eq : ID → ID → Bool) (becomes : U → S → Type 0)
     (steps : S → Option (Result T E) → S → Type 0) (can : S → Type 0) (left : S → Count) (w : Numbered T ID) (items : FailingGraph (Fault E)) (on_cycle : C) (starts : List ℕ) where

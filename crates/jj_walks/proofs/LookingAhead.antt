@@ -7,13 +7,13 @@ use Rattle.std.proofs.lemmas.List.Sums.{sum_by-append, sum_by-cons}
 use Rattle.std.proofs.lemmas.List.Sorted.{Contains-permutation, IsPermutation-sym, IsPermutation-trans, IsPermutation-map, IsPermutation-to_front, sum_by-IsPermutation, sum_by_popped}
 use Rattle.std.proofs.lemmas.List.{map_push}
 use Rattle.std.proofs.lemmas.List.Elements.{Contains-append_left, Contains-push, Contains-push_cases}
-use Rattle.jj_walks.specs.Collecting.{IsCollecting}
-use Rattle.jj_walks.specs.Graph.{HasEdge}
-use Rattle.jj_walks.specs.Failing.{FailingGraph, sound}
+use Rattle.jj_dag.specs.Collecting.{IsCollecting}
+use Rattle.jj_dag.specs.Graph.{HasEdge}
+use Rattle.jj_dag.specs.Failing.{FailingGraph, sound}
 use Rattle.jj_walks.specs.LookingAhead.{copies, IsLooking, HasLooked}
-use Rattle.jj_walks.specs.Walk.{Numbered, AreNodes}
-use Rattle.jj_walks.proofs.Collecting.{at_place, collecting_starts, collecting_passed, collecting_entered}
-use Rattle.jj_walks.proofs.Plain.{at_most_one, nothing}
+use Rattle.jj_dag.specs.Walk.{Numbered, AreNodes}
+use Rattle.jj_dag.proofs.Collecting.{at_place, collecting_starts, collecting_passed, collecting_entered}
+use Rattle.jj_dag.proofs.Plain.{at_most_one, nothing}
 
 copies_cons : {T : Type 0} (node : T → ℕ) (x : T) (xs : List T) (a : ℕ) → copies node (x ∷ xs) a ≡ cond (node x == a) 1 0 + copies node xs a
 copies_cons node x xs a = sum_by-cons (λ y. cond (node y == a) 1 0) x xs

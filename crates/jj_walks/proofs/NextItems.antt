@@ -8,17 +8,17 @@ use Rattle.std.proofs.lemmas.List.Elements.{Contains-append_left, Contains-appen
 use denote.Ref.{Bor}
 use Rattle.jj_walks.specs.declared.depth_first.DepthFirst.{DepthFirst}
 use Rattle.jj_walks.specs.declared.depth_first_ok.DepthFirstOk.{DepthFirstOk}
-use Rattle.jj_walks.specs.declared.walk_error.WalkError.{WalkError}
-use Rattle.jj_walks.specs.declared.walk_error.WalkError.TheVariants.{Memory, Node}
-use Rattle.jj_walks.specs.Errors.{IfMemory, IfNode}
-use Rattle.jj_walks.specs.Failing.{AreFailingPreorder, AreItems, FailingGraph, Fault, IsWalkingItems}
-use Rattle.jj_walks.specs.Graph.{IsPreorder}
+use Rattle.jj_dag.specs.declared.walk_error.WalkError.{WalkError}
+use Rattle.jj_dag.specs.declared.walk_error.WalkError.TheVariants.{Memory, Node}
+use Rattle.jj_dag.specs.Errors.{IfMemory, IfNode}
+use Rattle.jj_dag.specs.Failing.{AreFailingPreorder, AreItems, FailingGraph, Fault, IsWalkingItems}
+use Rattle.jj_dag.specs.Graph.{IsPreorder}
 use Rattle.jj_walks.specs.NextItem.{Enters, Fails, IsNode, Passes, WasVisited}
-use Rattle.jj_walks.specs.Walk.{AreNodes, IsWalking, Numbered}
+use Rattle.jj_dag.specs.Walk.{AreNodes, IsWalking, Numbered}
 use Rattle.jj_walks.specs.DfsSteps.{IsLeftOf}
 use Rattle.jj_walks.specs.DfsOkSteps.{CanWalk, IsLeftOf as IsLeftOfItems, Steps}
-use Rattle.jj_walks.proofs.Walking.{AlwaysReturns-call, is_node_on_top, walked, walking_entered, walking_passed}
-use Rattle.jj_walks.proofs.FailingWalks.{AreItems-append, AreItems-last_node, AreItems-last_failed, AreItems-none, item_is_node, walked_items, walking_item_entered, walking_item_failed, walking_item_passed}
+use Rattle.jj_dag.proofs.Walking.{AlwaysReturns-call, is_node_on_top, walked, walking_entered, walking_passed}
+use Rattle.jj_dag.proofs.FailingWalks.{AreItems-append, AreItems-last_node, AreItems-last_failed, AreItems-none, item_is_node, walked_items, walking_item_entered, walking_item_failed, walking_item_passed}
 
 -- ---- nodes alone
 

@@ -7,8 +7,8 @@ use Rattle.std.specs.declared.iter.Iterator as iter
 use Rattle.std.proofs.lemmas.Fn.{always_returns_same}
 use denote.Ref.{Bor}
 use denote.Param.Always.{always_fn, always_mut, always_once}
-use Rattle.jj_walks.specs.Outcomes.{ClonesAreEqual, Ends}
-use Rattle.jj_walks.specs.Owed.{CanBeOrdered, CanShow, MayShow}
+use Rattle.jj_dag.specs.Outcomes.{ClonesAreEqual, Ends}
+use Rattle.jj_dag.specs.Owed.{CanBeOrdered, CanShow, MayShow}
 
 module _ {T ID F N U X J : Type 0} {ids : Shared F (Bor T × Unit {0}) ID} {lists_of : Mut N (Bor T × Unit {0}) U}
     {value : into.Ghosts U X J} {items : iter.Ghosts J X} {id_of : F} {neighbors_of : N} where

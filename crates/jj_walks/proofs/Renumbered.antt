@@ -9,13 +9,13 @@ use Rattle.std.proofs.lemmas.List.{map-append}
 use Rattle.std.proofs.lemmas.List.Elements.{Contains-append_left}
 use Rattle.std.proofs.lemmas.Bool.{and_from, and_parts}
 use denote.Ref.{Bor}
-use Rattle.jj_walks.specs.Graph.{HasEdge, Path, ReachedFrom, StandsBefore, IsChildFirst, IsGreatestChildFirst}
-use Rattle.jj_walks.specs.Walk.{Numbered, AreNodes}
-use Rattle.jj_walks.specs.Failing.{AreItems, FailingGraph, Fault, IsItem, ListsItems, ShowsItems, sound_items}
-use Rattle.jj_walks.proofs.Collecting.{are_nodes}
-use Rattle.jj_walks.proofs.Reaching.{Contains-split}
-use Rattle.jj_walks.proofs.ReadyOrders.{at_split, distinct, here, later, twice}
-use Rattle.jj_walks.proofs.Relabelled.{Contains-map, Contains-unmap, split_map}
+use Rattle.jj_dag.specs.Graph.{HasEdge, Path, ReachedFrom, StandsBefore, IsChildFirst, IsGreatestChildFirst}
+use Rattle.jj_dag.specs.Walk.{Numbered, AreNodes}
+use Rattle.jj_dag.specs.Failing.{AreItems, FailingGraph, Fault, IsItem, ListsItems, ShowsItems, sound_items}
+use Rattle.jj_dag.proofs.Collecting.{are_nodes}
+use Rattle.jj_dag.proofs.Reaching.{Contains-split}
+use Rattle.jj_dag.proofs.ReadyOrders.{at_split, distinct, here, later, twice}
+use Rattle.jj_dag.proofs.Relabelled.{Contains-map, Contains-unmap, split_map}
 
 -- ---- tests, and calls
 

@@ -4,8 +4,8 @@
 use Rattle.std.specs.Prelude.{◌≡◌, ◌↔◌, ◌⊎◌, ℕ, ◌≤◌, List, [], ◌∷◌, ◌++◌, length, eqb}
 use Rattle.std.specs.declared.result.Result.TheVariants.{Err}
 use Rattle.std.specs.List.{Contains, IsDistinct}
-use Rattle.jj_walks.specs.Failing.{FailingGraph}
-use Rattle.jj_walks.specs.Graph.{Graph, HasEdge, ReachedFrom, HasNoCycle, StrictlyReaches, StandsBefore}
+use Rattle.jj_dag.specs.Failing.{FailingGraph}
+use Rattle.jj_dag.specs.Graph.{Graph, HasEdge, ReachedFrom, HasNoCycle, StrictlyReaches, StandsBefore}
 
 -- The chunk has no node twice, and what the starts reach is the chunk and what is reached from what
 -- is left. Where the starts reach no cycle, the chunk is child-first, and nothing of it is reached

@@ -8,11 +8,11 @@ use Rattle.std.specs.HashSet.{contains, hash_set_len}
 use denote.Ref.{Bor}
 use denote.Param.Always.{always_fn, always_mut}
 use Rattle.jj_walks.specs.declared.depth_first_ok.DepthFirstOk.{DepthFirstOk}
-use Rattle.jj_walks.specs.declared.walk_error.WalkError.{WalkError}
-use Rattle.jj_walks.specs.declared.walk_error.WalkError.TheVariants.{Memory, Node}
-use Rattle.jj_walks.specs.Walk.{Numbered}
-use Rattle.jj_walks.specs.Errors.{IfMemory}
-use Rattle.jj_walks.specs.Failing.{FailingGraph, Fault, AreItems, AreFailingPreorder, ShowsItems, IsWalkingItems}
+use Rattle.jj_dag.specs.declared.walk_error.WalkError.{WalkError}
+use Rattle.jj_dag.specs.declared.walk_error.WalkError.TheVariants.{Memory, Node}
+use Rattle.jj_dag.specs.Walk.{Numbered}
+use Rattle.jj_dag.specs.Errors.{IfMemory}
+use Rattle.jj_dag.specs.Failing.{FailingGraph, Fault, AreItems, AreFailingPreorder, ShowsItems, IsWalkingItems}
 
 -- more items cannot come: a node puts one more id into a set of fewer than 2^63, and a failed item
 -- leaves fewer to do

@@ -8,8 +8,8 @@ use Rattle.std.specs.declared.alloc.AllocError.{AllocError}
 use denote.Ref.{Bor}
 use denote.Param.Always.{always_fn, always_mut}
 use Rattle.jj_walks.specs.declared.depth_first.DepthFirst.{DepthFirst}
-use Rattle.jj_walks.specs.Graph.{IsPreorder}
-use Rattle.jj_walks.specs.Walk.{Numbered, IsShownBy, IsWalking}
+use Rattle.jj_dag.specs.Graph.{IsPreorder}
+use Rattle.jj_dag.specs.Walk.{Numbered, IsShownBy, IsWalking}
 
 -- more items cannot come: an error ends the walk, and each other item puts one more id into a set
 -- of fewer than 2^63

@@ -1,8 +1,7 @@
--- What is known after nodes were asked for their neighbours: one node, the nodes that several
--- starts reach as far as one node that all of them reach, and these in child-first order.
+-- What is known after nodes were explored: the nodes that several starts reach, as far as one node
+-- that all of them reach, and these in child-first order.
 -- Machinery of private functions and fields.
-use Rattle.std.specs.Prelude.{◌≡◌, ◌≤◌, Bool, true, List, [], ◌∷◌, map, length, Result, IfOk, MatchOption}
-use Rattle.std.specs.declared.result.Result.TheVariants.{Ok}
+use Rattle.std.specs.Prelude.{◌≡◌, ◌≤◌, Bool, List, [], map, length, Result, IfOk, MatchOption}
 use Rattle.std.specs.Fn.{Shared, Mut}
 use Rattle.std.specs.Global.{Global}
 use Rattle.std.specs.HashMap.{get}
@@ -10,75 +9,20 @@ use Rattle.std.specs.declared.iter.IntoIterator as into
 use Rattle.std.specs.declared.iter.Iterator as iter
 use Rattle.std.specs.declared.vec.Vec.{Vec}
 use denote.Ref.{Bor}
-use Rattle.jj_walks.specs.declared.greatest_order.Collected.{Collected}
+use Rattle.jj_dag.specs.declared.greatest_order.Collected.{Collected}
 use Rattle.jj_walks.specs.declared.look_ahead.Chunk.{Chunk}
-use Rattle.jj_walks.specs.declared.look_ahead.Shown.{Shown}
-use Rattle.jj_walks.specs.declared.walk_error.WalkError.{WalkError}
+use Rattle.jj_dag.specs.declared.shown.Shown.{Shown}
+use Rattle.jj_dag.specs.declared.walk_error.WalkError.{WalkError}
 use Rattle.jj_walks.specs.Chunks.{IsChunkOfMany, IsStretch, NoneFailed}
-use Rattle.jj_walks.specs.Collecting.{IsCollecting, IsFilled}
-use Rattle.jj_walks.specs.Failing.{FailingGraph, Fault, ReachesFailure, ShowsItems}
-use Rattle.jj_walks.specs.Graph.{ReachedFrom, ReachesCycle}
+use Rattle.jj_dag.specs.Asking.{GoesOn, ItemBelowFails}
+use Rattle.jj_dag.specs.Collecting.{IsFilled}
+use Rattle.jj_dag.specs.Graph.{ReachedFrom, ReachesCycle}
 use Rattle.jj_walks.specs.LookingAhead.{HasLooked}
-use Rattle.jj_walks.specs.Outcomes.{IfFails, InItems}
-use Rattle.jj_walks.specs.Owed.{CanShow}
-use Rattle.jj_walks.specs.Walk.{Numbered}
+use Rattle.jj_dag.specs.Outcomes.{IfFails, InItems}
 
 module _ {T ID E F N U J : Type 0} (eq : ID → ID → Bool) (ids : Shared F (Bor T × Unit {0}) ID)
     (lists : Mut N (Bor T × Unit {0}) U) (value : into.Ghosts U (Result T E) J)
     (items : iter.Ghosts J (Result T E)) where
-  -- the closures show this graph, when `neighbors_fn` is this
-  abbrev pub ShowsBy : F → N → Numbered T ID → FailingGraph (Fault E) → Type 0
-  ShowsBy id_fn neighbors_fn walk shown =
-      ShowsItems walk shown eq ids lists value.into_iter_gives items.next_gives id_fn neighbors_fn
-
-  -- each graph that the closures showed before a call they show after it
-  abbrev pub KeepsShowing : Shown F N → Shown F N → Type 0
-  KeepsShowing s t = (walk : Numbered T ID) (shown : FailingGraph (Fault E))
-      → ShowsBy s.id_fn s.neighbors_fn walk shown → ShowsBy s.id_fn t.neighbors_fn walk shown
-
-  -- the closures go on showing what they showed, and may be called again
-  pub record GoesOn (s t : Shown F N) : Type 0 where
-    pub id_fn : t.id_fn ≡ s.id_fn
-    pub can_show : CanShow ids lists value items t.id_fn t.neighbors_fn
-    pub shown : KeepsShowing s t
-
-  -- these are the neighbours of the node, of which none failed
-  abbrev pub ListsNeighbors : Shown F N → T → Vec T Global → Type 0
-  ListsNeighbors s node v = (walk : Numbered T ID) (shown : FailingGraph (Fault E))
-      → ShowsBy s.id_fn s.neighbors_fn walk shown → walk.is_node (walk.node node) ≡ true
-      → (map walk.node v.items ≡ walk.graph (walk.node node))
-      × (shown (walk.node node) ≡ map (λ x. Ok (walk.node x)) v.items)
-
-  -- a neighbour of the node failed with this error
-  abbrev pub NeighborFails : Shown F N → T → E → Type 0
-  NeighborFails s node error = (walk : Numbered T ID) (shown : FailingGraph (Fault E))
-      → ShowsBy s.id_fn s.neighbors_fn walk shown → walk.is_node (walk.node node) ≡ true
-      → ReachesFailure shown (walk.node node ∷ []) error
-
-  -- a neighbour of a node that these reach failed with this error
-  abbrev pub ItemBelowFails : Shown F N → List T → E → Type 0
-  ItemBelowFails s starts error = InItems eq ids lists value items s.id_fn s.neighbors_fn starts
-      (λ walk shown nodes. ReachesFailure shown nodes error)
-
-  -- the neighbours of the node, or the error of one that failed
-  pub record ListsNode (s t : Shown F N) (node : T) (r : Result (Vec T Global) (WalkError E))
-      : Type 0 where
-    pub graph : GoesOn s t
-    pub listed : IfOk r (ListsNeighbors s node)
-    pub failed : IfFails r (NeighborFails s node)
-
-  -- the nodes that these reach were collected, with the ids of the neighbours of each
-  abbrev pub HasCollected : Shown F N → List T → Collected T ID → Type 0
-  HasCollected s starts found = (filled : IsFilled eq found)
-      × InItems eq ids lists value items s.id_fn s.neighbors_fn starts (λ walk shown nodes.
-      IsCollecting walk shown nodes (get eq found.index_of) [] filled.given
-      (map (λ v. v.items) found.neighbor_ids.items))
-
-  pub record CollectsFrom (s : Shown F N) (starts : List T)
-      (r : Result (Collected T ID) (WalkError E)) : Type 0 where
-    pub collected : IfOk r (HasCollected s starts)
-    pub failed : IfFails r (ItemBelowFails s starts)
-
   -- the nodes that were explored, with the ids of the neighbours of each, and at most one that
   -- waits
   abbrev pub HasExplored : Shown F N → List T → Collected T ID × Vec T Global → Type 0
@@ -90,9 +34,9 @@ module _ {T ID E F N U J : Type 0} (eq : ID → ID → Bool) (ids : Shared F (Bo
 
   pub record ExploresFrom (s t : Shown F N) (starts : List T)
       (r : Result (Collected T ID × Vec T Global) (WalkError E)) : Type 0 where
-    pub graph : GoesOn s t
+    pub graph : GoesOn eq ids lists value items s t
     pub explored : IfOk r (HasExplored s starts)
-    pub failed : IfFails r (ItemBelowFails s starts)
+    pub failed : IfFails r (ItemBelowFails eq ids lists value items s starts)
 
   -- a chunk of what these reach; or a node that they reach, and they reach a cycle
   abbrev pub HasChunk : Shown F N → List T → Chunk T → Type 0
@@ -107,6 +51,6 @@ module _ {T ID E F N U J : Type 0} (eq : ID → ID → Bool) (ids : Shared F (Bo
 
   pub record TakesChunk (s t : Shown F N) (starts : List T) (r : Result (Chunk T) (WalkError E))
       : Type 0 where
-    pub graph : GoesOn s t
+    pub graph : GoesOn eq ids lists value items s t
     pub chunk : IfOk r (HasChunk s starts)
-    pub failed : IfFails r (ItemBelowFails s starts)
+    pub failed : IfFails r (ItemBelowFails eq ids lists value items s starts)

@@ -9,14 +9,14 @@ use denote.Ref.{Bor}
 use denote.Param.Always.{always_fn, always_mut}
 use Rattle.jj_walks.specs.declared.lazy_plan.Plan.{Plan}
 use Rattle.jj_walks.specs.declared.topo_order_lazy.TopoOrderReverseLazy.{TopoOrderReverseLazy}
-use Rattle.jj_walks.specs.declared.walk_error.WalkError.{WalkError}
-use Rattle.jj_walks.specs.declared.walk_error.WalkError.TheVariants.{Node}
+use Rattle.jj_dag.specs.declared.walk_error.WalkError.{WalkError}
+use Rattle.jj_dag.specs.declared.walk_error.WalkError.TheVariants.{Node}
 use Rattle.jj_walks.specs.Chunks.{IsBegun, LeadsOn, NoneFailed}
-use Rattle.jj_walks.specs.Errors.{IfNode}
-use Rattle.jj_walks.specs.Failing.{FailingGraph, Fault, HasNoFailure, ReachesFailure, ShowsItems}
-use Rattle.jj_walks.specs.Graph.{HasNoCycle, IsChildFirst, ReachedFrom, ReachesCycle}
+use Rattle.jj_dag.specs.Errors.{IfNode}
+use Rattle.jj_dag.specs.Failing.{FailingGraph, Fault, HasNoFailure, ReachesFailure, ShowsItems}
+use Rattle.jj_dag.specs.Graph.{HasNoCycle, IsChildFirst, ReachedFrom, ReachesCycle}
 use Rattle.jj_walks.specs.GroupedSteps.{is_last}
-use Rattle.jj_walks.specs.Walk.{Numbered, AreNodes}
+use Rattle.jj_dag.specs.Walk.{Numbered, AreNodes}
 
 -- more items cannot come: each node puts one more id into a set of fewer than 2^63, and an error
 -- ends the order

@@ -2,10 +2,10 @@
 -- Machinery of private functions and fields.
 use Rattle.std.specs.Prelude.{◌≡◌, ℕ, ◌==◌, ◌≤◌, Bool, false, cond, Option, List, [], map}
 use Rattle.std.specs.List.{Contains, sum_by}
-use Rattle.jj_walks.specs.Collecting.{IsCollecting}
-use Rattle.jj_walks.specs.Graph.{HasEdge}
-use Rattle.jj_walks.specs.Failing.{FailingGraph}
-use Rattle.jj_walks.specs.Walk.{Numbered}
+use Rattle.jj_dag.specs.Collecting.{IsCollecting}
+use Rattle.jj_dag.specs.Graph.{HasEdge}
+use Rattle.jj_dag.specs.Failing.{FailingGraph}
+use Rattle.jj_dag.specs.Walk.{Numbered}
 
 -- how often the list has the node of this number
 abbrev pub copies : {T : Type 0} → (T → ℕ) → List T → ℕ → ℕ

@@ -5,10 +5,10 @@ use Rattle.std.specs.Fn.{Shared, Mut}
 use Rattle.std.specs.declared.iter.IntoIterator as into
 use Rattle.std.specs.declared.iter.Iterator as iter
 use denote.Ref.{Bor}
-use Rattle.jj_walks.specs.declared.walk_error.WalkError.{WalkError}
+use Rattle.jj_dag.specs.declared.walk_error.WalkError.{WalkError}
 use Rattle.jj_walks.specs.Chunks.{IsNextChunk}
-use Rattle.jj_walks.specs.Failing.{ReachesFailure}
-use Rattle.jj_walks.specs.Outcomes.{IfFails, InItems, IsReachedBesideCycle}
+use Rattle.jj_dag.specs.Failing.{ReachesFailure}
+use Rattle.jj_dag.specs.Outcomes.{IfFails, InItems, IsReachedBesideCycle}
 
 module _ {T ID E F N U J : Type 0} (eq : ID → ID → Bool) (ids : Shared F (Bor T × Unit {0}) ID)
     (lists : Mut N (Bor T × Unit {0}) U) (value : into.Ghosts U (Result T E) J)

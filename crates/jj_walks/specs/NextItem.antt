@@ -6,7 +6,7 @@ use Rattle.std.specs.Fn.{Shared, Mut, CalledAt, FnReturns, FnReturnsAt}
 use Rattle.std.specs.HashSet.{HashSet, contains, Updates, hash_set_len}
 use Rattle.std.specs.List.{Contains}
 use denote.Ref.{Bor}
-use Rattle.jj_walks.specs.Walk.{DrainsTo}
+use Rattle.jj_dag.specs.Walk.{DrainsTo}
 
 module _ {X T E ID H F P : Type 0} (finds : Shared P (X × Unit {0}) (Result T E))
     (ids : Shared F (Bor T × Unit {0}) ID) (eq : ID → ID → Bool) (node_of : P) (id_fn : F)

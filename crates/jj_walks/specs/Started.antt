@@ -11,10 +11,10 @@ use Rattle.jj_walks.specs.declared.depth_first_ok.DepthFirstOk.{DepthFirstOk}
 use Rattle.jj_walks.specs.declared.topo_order_lazy.TopoOrderReverseLazy.{TopoOrderReverseLazy}
 use Rattle.jj_walks.specs.DfsSteps.{CanWalk, IsLeftOf}
 use Rattle.jj_walks.specs.DfsOkSteps.{CanWalk as CanWalkItems, IsLeftOf as AreLeftOf}
-use Rattle.jj_walks.specs.Failing.{AreItems, AreSoundNodes, BeginsWith, FailingGraph, Fault, ShowsItems}
+use Rattle.jj_dag.specs.Failing.{AreItems, AreSoundNodes, BeginsWith, FailingGraph, Fault, ShowsItems}
 use Rattle.jj_walks.specs.LazySteps.{CanGo, FailsNext, IsPlanOf}
-use Rattle.jj_walks.specs.Outcomes.{OverItems, OverNodes}
-use Rattle.jj_walks.specs.Walk.{DrainsTo, Numbered}
+use Rattle.jj_dag.specs.Outcomes.{OverItems, OverNodes}
+use Rattle.jj_dag.specs.Walk.{DrainsTo, Numbered}
 
 -- it may be asked, and what is left is the whole depth-first walk from the starts
 pub record StartsWalk {T ID II I F N U J : Type 0} (eq : ID → ID → Bool)

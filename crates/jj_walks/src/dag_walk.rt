@@ -1,8 +1,7 @@
 //! Walks over a directed graph that two closures show: the id of a node, and its neighbours.
 pub use crate::depth_first::{DepthFirst, dfs};
 pub use crate::depth_first_ok::{DepthFirstOk, dfs_ok};
-pub use crate::maximal::heads;
-pub use crate::maximal_ok::heads_ok;
-pub use crate::topo_order::{topo_order_forward, topo_order_reverse};
-pub use crate::topo_order_ok::{topo_order_forward_ok, topo_order_reverse_ok};
-pub use crate::walk_error::WalkError;
+pub use jj_dag::dag_walk::{
+    WalkError, heads, heads_ok, topo_order_forward, topo_order_forward_ok, topo_order_reverse,
+    topo_order_reverse_ok,
+};

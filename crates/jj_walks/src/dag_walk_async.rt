@@ -1,12 +1,9 @@
 //! Walks over items that may fail, under the names that callers of asynchronous graphs know. They
 //! are plain functions.
-pub use crate::closest_common::closest_common_nodes;
 pub use crate::depth_first_ok::{DepthFirstOk, dfs_ok as dfs};
-pub use crate::greatest_order::topo_order_reverse_ord;
-pub use crate::maximal_lists::heads;
 pub use crate::topo_order_chunked::topo_order_reverse_chunked;
 pub use crate::topo_order_lazy::{TopoOrderReverseLazy, topo_order_reverse_lazy};
-pub use crate::topo_order_ok::{
-    topo_order_forward_ok as topo_order_forward, topo_order_reverse_ok as topo_order_reverse,
+pub use jj_dag::dag_walk_async::{
+    WalkError, closest_common_nodes, heads, topo_order_forward, topo_order_reverse,
+    topo_order_reverse_ord,
 };
-pub use crate::walk_error::WalkError;

@@ -1,12 +1,12 @@
 //! The depth-first walk over items that may fail, as an iterator.
 ghost use Rattle.std.specs.Prelude.{IfOk};
 ghost use Rattle.std.specs.Iterator.{at_most};
-ghost use Rattle.jj_walks.specs.Outcomes.{Ends};
-ghost use Rattle.jj_walks.specs.Owed.{CanShow};
+ghost use Rattle.jj_dag.specs.Outcomes.{Ends};
+ghost use Rattle.jj_dag.specs.Owed.{CanShow};
 ghost use Rattle.jj_walks.specs.Started.{StartsWalkOfItems};
 
 use crate::next_item::next_item;
-use crate::walk_error::WalkError;
+use jj_dag::walk_error::WalkError;
 use std::alloc::{AllocError, Global};
 use std::collections::HashSet;
 use std::hash::Hash;

@@ -3,7 +3,7 @@ ghost use Rattle.std.specs.Prelude.{◌≡◌, ◌↔◌, IsTrue};
 
 pub use crate::grouped::{GroupedGraphError, GroupedNodes, TopoGroupedGraph};
 pub use crate::reversed::reverse_graph;
-pub use crate::walk_error::WalkError;
+pub use jj_dag::walk_error::WalkError;
 
 /// A node and its edges to ids.
 pub type GraphNode<N, ID = N> = (N, Vec<GraphEdge<ID>>);

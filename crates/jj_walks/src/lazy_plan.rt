@@ -1,13 +1,14 @@
 //! What is left of a child-first order whose nodes come as they are asked for.
 ghost use Rattle.std.specs.Prelude.{◌≡◌, ◌+◌, ◌<◌, ◌^◌, ◌++◌, ◌∷◌, length, [], None, Some, Err, IfOk, IfErr, IsSome, OnOk};
 ghost use Rattle.std.specs.HashSet.{hash_set_len};
-ghost use Rattle.jj_walks.specs.declared.walk_error.WalkError.TheVariants.{Memory, Node};
-ghost use Rattle.jj_walks.specs.Errors.{IfNode};
+ghost use Rattle.jj_dag.specs.declared.walk_error.WalkError.TheVariants.{Memory, Node};
+ghost use Rattle.jj_dag.specs.Errors.{IfNode};
 ghost use Rattle.jj_walks.specs.GroupedSteps.{answer_of};
 ghost use Rattle.jj_walks.specs.LazySteps.{CanGo, FailsNext, GivesOn, Refills, TellsCause};
 
-use crate::look_ahead::{Chunk, Shown};
-use crate::walk_error::WalkError;
+use crate::look_ahead::{Chunk, take_chunk};
+use jj_dag::shown::Shown;
+use jj_dag::walk_error::WalkError;
 use std::alloc::Global;
 use std::collections::HashSet;
 use std::hash::Hash;
@@ -129,7 +130,7 @@ where
             NI.into_iter_gives NI.IntoIter.next_gives self.old)) }
     {
         let start = mem::replace(&mut self.start, Vec::new(self.alloc));
-        let Chunk { nodes, left, stuck } = match self.graph.chunk(self.alloc, start) {
+        let Chunk { nodes, left, stuck } = match take_chunk(&mut self.graph, self.alloc, start) {
             Ok(chunk) => chunk,
             Err(refused) => return Err(refused),
         };

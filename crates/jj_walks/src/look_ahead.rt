@@ -1,17 +1,15 @@
-//! Collecting nodes by the closures that show a graph: all that starts reach, or as far as one node
-//! that all explored nodes reach.
-ghost use Rattle.std.specs.Prelude.{◌≡◌, ◌≤◌, ◌∷◌, [], length, true, IfOk, IfSome, IfNone};
+//! Exploring nodes by the closures that show a graph, as far as one node that all explored nodes
+//! reach.
+ghost use Rattle.std.specs.Prelude.{◌≡◌, ◌≤◌, ◌∷◌, [], length, true, IfSome, IfNone};
 ghost use Rattle.std.specs.List.Sorted.{IsPermutation};
 ghost use Rattle.std.specs.BinaryHeap.{heap_items};
-ghost use Rattle.std.specs.Fn.{FnReturnsAt};
-ghost use Rattle.std.specs.List.{AllZip};
-ghost use Rattle.jj_walks.specs.Exploring.{CollectsFrom, ExploresFrom, ListsNode, TakesChunk};
-ghost use Rattle.jj_walks.specs.Owed.{CanShow};
+ghost use Rattle.jj_walks.specs.Exploring.{ExploresFrom, TakesChunk};
+ghost use Rattle.jj_dag.specs.Owed.{CanShow};
 
-use crate::greatest_order::Collected;
-use crate::sound_nodes::sound_nodes;
-use crate::walk_error::WalkError;
-use std::alloc::{AllocError, Global};
+use jj_dag::greatest_order::Collected;
+use jj_dag::shown::{Shown, ids_of};
+use jj_dag::walk_error::WalkError;
+use std::alloc::Global;
 use std::collections::BinaryHeap;
 use std::hash::Hash;
 
@@ -44,135 +42,58 @@ pub struct Chunk<T> {
     pub stuck: Option<T>,
 }
 
-/// The closures that show a graph.
-#[derive(Drop)]
-pub struct Shown<F, N> {
-    pub id_fn: F,
-    pub neighbors_fn: N,
-}
-
-// The ids of these nodes, in their order.
-fn ids_of<T, ID: Drop, F: Fn(&T) -> ID>(
+// Explores the greatest waiting node, again and again.
+fn explore<F, N, T: Ord + Drop, ID: Hash + Eq + Drop, E: Drop, NI>(
+    shown: &mut Shown<F, N>,
     alloc: Global,
-    id_fn: &F,
-    nodes: &[T],
-) -> Result<Vec<ID>, AllocError>
-    requires { F.IsAlwaysCallable id_fn.now }
-    ensures { IfOk result (λ ids. AllZip (FnReturnsAt F.Fn id_fn.now) nodes.now ids.items) }
+    start: Vec<T>,
+) -> Result<(Collected<T, ID>, Vec<T>), WalkError<E>>
+where
+    NI: IntoIterator<Item = Result<T, E>, IntoIter: Drop>,
+    F: Fn(&T) -> ID,
+    N: FnMut(&T) -> NI,
+    requires { CanShow F.Fn N.FnMut NI.IntoIterator NI.IntoIter.Iterator shown.old.id_fn
+        shown.old.neighbors_fn }
+    ensures { ExploresFrom ID.eq F.Fn N.FnMut NI.IntoIterator NI.IntoIter.Iterator shown.old
+        shown.new start.items result }
 {
-    let mut ids = Vec::new(alloc);
-    for node in nodes {
-        ids.push(id_fn(node))?;
+    let mut waiting = BinaryHeap::from(start);
+    let mut found = Collected::new(alloc);
+    let mut root_met = false;
+    while let Some(node) = next_to_explore(&mut waiting, found.nodes.len(), root_met) {
+        let id = (shown.id_fn)(&node);
+        if found.index_of.contains_key(&id) {
+            continue;
+        }
+        let neighbors = match shown.neighbors(alloc, &node) {
+            Ok(neighbors) => neighbors,
+            Err(refused) => return Err(refused),
+        };
+        let ids = ids_of(alloc, &shown.id_fn, &neighbors)?;
+        root_met |= ids.is_empty();
+        found.keep(node, id, ids)?;
+        waiting.append(&mut BinaryHeap::from(neighbors))?;
     }
-    Ok(ids)
+    Ok((found, waiting.into_vec()))
 }
 
-impl<F, N> Shown<F, N> {
-    /// The neighbours of a node.
-    pub fn neighbors<T: Drop, ID: Hash + Eq + Drop, E: Drop, NI>(
-        &mut self,
-        alloc: Global,
-        node: &T,
-    ) -> Result<Vec<T>, WalkError<E>>
-    where
-        NI: IntoIterator<Item = Result<T, E>, IntoIter: Drop>,
-        F: Fn(&T) -> ID,
-        N: FnMut(&T) -> NI,
-        requires { CanShow F.Fn N.FnMut NI.IntoIterator NI.IntoIter.Iterator self.old.id_fn
-            self.old.neighbors_fn }
-        ensures { ListsNode ID.eq F.Fn N.FnMut NI.IntoIterator NI.IntoIter.Iterator self.old
-            self.new node.now result }
-    {
-        sound_nodes(alloc, (self.neighbors_fn)(node))
-    }
-
-    /// All nodes that the starts reach, in the order in which they are visited: the last start and
-    /// the last neighbour first.
-    pub fn collect<T: Drop, ID: Hash + Eq + Drop, E: Drop, NI>(
-        &mut self,
-        alloc: Global,
-        start: Vec<T>,
-    ) -> Result<Collected<T, ID>, WalkError<E>>
-    where
-        NI: IntoIterator<Item = Result<T, E>, IntoIter: Drop>,
-        F: Fn(&T) -> ID,
-        N: FnMut(&T) -> NI,
-        requires { CanShow F.Fn N.FnMut NI.IntoIterator NI.IntoIter.Iterator self.old.id_fn
-            self.old.neighbors_fn }
-        ensures { CollectsFrom ID.eq F.Fn N.FnMut NI.IntoIterator NI.IntoIter.Iterator self.old
-            start.items result }
-    {
-        let mut stack = start;
-        let mut found = Collected::new(alloc);
-        while let Some(node) = stack.pop() {
-            let id = (self.id_fn)(&node);
-            if found.index_of.contains_key(&id) {
-                continue;
-            }
-            let mut neighbors = match self.neighbors(alloc, &node) {
-                Ok(neighbors) => neighbors,
-                Err(refused) => return Err(refused),
-            };
-            let ids = ids_of(alloc, &self.id_fn, &neighbors)?;
-            found.keep(node, id, ids)?;
-            stack.append(&mut neighbors)?;
-        }
-        Ok(found)
-    }
-
-    // Explores the greatest waiting node, again and again.
-    fn explore<T: Ord + Drop, ID: Hash + Eq + Drop, E: Drop, NI>(
-        &mut self,
-        alloc: Global,
-        start: Vec<T>,
-    ) -> Result<(Collected<T, ID>, Vec<T>), WalkError<E>>
-    where
-        NI: IntoIterator<Item = Result<T, E>, IntoIter: Drop>,
-        F: Fn(&T) -> ID,
-        N: FnMut(&T) -> NI,
-        requires { CanShow F.Fn N.FnMut NI.IntoIterator NI.IntoIter.Iterator self.old.id_fn
-            self.old.neighbors_fn }
-        ensures { ExploresFrom ID.eq F.Fn N.FnMut NI.IntoIterator NI.IntoIter.Iterator self.old
-            self.new start.items result }
-    {
-        let mut waiting = BinaryHeap::from(start);
-        let mut found = Collected::new(alloc);
-        let mut root_met = false;
-        while let Some(node) = next_to_explore(&mut waiting, found.nodes.len(), root_met) {
-            let id = (self.id_fn)(&node);
-            if found.index_of.contains_key(&id) {
-                continue;
-            }
-            let neighbors = match self.neighbors(alloc, &node) {
-                Ok(neighbors) => neighbors,
-                Err(refused) => return Err(refused),
-            };
-            let ids = ids_of(alloc, &self.id_fn, &neighbors)?;
-            root_met |= ids.is_empty();
-            found.keep(node, id, ids)?;
-            waiting.append(&mut BinaryHeap::from(neighbors))?;
-        }
-        Ok((found, waiting.into_vec()))
-    }
-
-    /// Some of what several starts reach: all starts, and every node that is explored before one
-    /// node waits that they all reach.
-    pub fn chunk<T: Ord + Drop, ID: Hash + Eq + Drop, E: Drop, NI>(
-        &mut self,
-        alloc: Global,
-        start: Vec<T>,
-    ) -> Result<Chunk<T>, WalkError<E>>
-    where
-        NI: IntoIterator<Item = Result<T, E>, IntoIter: Drop>,
-        F: Fn(&T) -> ID,
-        N: FnMut(&T) -> NI,
-        requires { CanShow F.Fn N.FnMut NI.IntoIterator NI.IntoIter.Iterator self.old.id_fn
-            self.old.neighbors_fn }
-        ensures { TakesChunk ID.eq F.Fn N.FnMut NI.IntoIterator NI.IntoIter.Iterator self.old
-            self.new start.items result }
-    {
-        let (found, left) = self.explore(alloc, start)?;
-        let (nodes, stuck) = found.greatest_first(alloc)?;
-        Ok(Chunk { nodes, left, stuck })
-    }
+/// Some of what several starts reach: all starts, and every node that is explored before one
+/// node waits that they all reach.
+pub fn take_chunk<F, N, T: Ord + Drop, ID: Hash + Eq + Drop, E: Drop, NI>(
+    shown: &mut Shown<F, N>,
+    alloc: Global,
+    start: Vec<T>,
+) -> Result<Chunk<T>, WalkError<E>>
+where
+    NI: IntoIterator<Item = Result<T, E>, IntoIter: Drop>,
+    F: Fn(&T) -> ID,
+    N: FnMut(&T) -> NI,
+    requires { CanShow F.Fn N.FnMut NI.IntoIterator NI.IntoIter.Iterator shown.old.id_fn
+        shown.old.neighbors_fn }
+    ensures { TakesChunk ID.eq F.Fn N.FnMut NI.IntoIterator NI.IntoIter.Iterator shown.old
+        shown.new start.items result }
+{
+    let (found, left) = explore(shown, alloc, start)?;
+    let (nodes, stuck) = found.greatest_first(alloc)?;
+    Ok(Chunk { nodes, left, stuck })
 }

@@ -1,11 +1,11 @@
 //! The step of a depth-first walk, over items that are nodes or failed.
 ghost use Rattle.std.specs.Prelude.{◌≡◌, [], IfOk, IfErr, IfSome, IfNone, IsNone};
-ghost use Rattle.jj_walks.specs.Errors.{IfMemory, IfNode};
+ghost use Rattle.jj_dag.specs.Errors.{IfMemory, IfNode};
 ghost use Rattle.jj_walks.specs.NextItem.{Enters, Fails, Passes};
-ghost use Rattle.jj_walks.specs.Outcomes.{ListsEnd};
+ghost use Rattle.jj_dag.specs.Outcomes.{ListsEnd};
 
 use crate::entering::enter;
-use crate::walk_error::WalkError;
+use jj_dag::walk_error::WalkError;
 use std::collections::HashSet;
 use std::hash::Hash;
 

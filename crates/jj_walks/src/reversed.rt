@@ -2,12 +2,12 @@
 ghost use Rattle.std.specs.Prelude.{◌≡◌, [], IfOk, if◌then◌else◌};
 ghost use Rattle.std.specs.Iterator.{IsFinite};
 ghost use Rattle.jj_walks.specs.Listed.{items_at};
-ghost use Rattle.jj_walks.specs.Outcomes.{IfFails};
+ghost use Rattle.jj_dag.specs.Outcomes.{IfFails};
 ghost use Rattle.jj_walks.specs.Reversing.{GivesReversed, InputFails};
 
 use crate::graph::{GraphEdge, GraphNode};
 use crate::lists::push_at;
-use crate::walk_error::WalkError;
+use jj_dag::walk_error::WalkError;
 use std::alloc::Global;
 use std::collections::HashMap;
 use std::hash::Hash;

@@ -1,9 +1,10 @@
 //! A child-first order, a chunk at a time.
 ghost use Rattle.jj_walks.specs.NextChunk.{FindsNextChunk};
-ghost use Rattle.jj_walks.specs.Owed.{CanShow};
+ghost use Rattle.jj_dag.specs.Owed.{CanShow};
 
-use crate::look_ahead::{Chunk, Shown};
-use crate::walk_error::WalkError;
+use crate::look_ahead::{Chunk, take_chunk};
+use jj_dag::shown::Shown;
+use jj_dag::walk_error::WalkError;
 use smallvec::SmallVec;
 use std::alloc::Global;
 use std::default::MadeWith;
@@ -40,7 +41,7 @@ where
     };
     let mut taken = mem::replace(start, Vec::new(alloc));
     if taken.len() > 1 {
-        let Chunk { nodes, left, stuck } = match graph.chunk(alloc, taken) {
+        let Chunk { nodes, left, stuck } = match take_chunk(&mut graph, alloc, taken) {
             Ok(chunk) => chunk,
             Err(refused) => return Err(refused),
         };

@@ -1,13 +1,13 @@
 //! A child-first order whose nodes come as they are asked for.
 ghost use Rattle.std.specs.Prelude.{IfOk};
 ghost use Rattle.std.specs.Iterator.{at_most};
-ghost use Rattle.jj_walks.specs.Outcomes.{Ends};
-ghost use Rattle.jj_walks.specs.Owed.{CanShow};
+ghost use Rattle.jj_dag.specs.Outcomes.{Ends};
+ghost use Rattle.jj_dag.specs.Owed.{CanShow};
 ghost use Rattle.jj_walks.specs.Started.{StartsOrder};
 
 use crate::lazy_plan::Plan;
-use crate::look_ahead::Shown;
-use crate::walk_error::WalkError;
+use jj_dag::shown::Shown;
+use jj_dag::walk_error::WalkError;
 use std::alloc::{AllocError, Global};
 use std::collections::HashSet;
 use std::hash::Hash;

@@ -2,8 +2,8 @@
 use Rattle.std.proofs.Common.{◌≡◌, ℕ, zero, suc, true, false, cond, List, [], ◌∷◌, map, Option, None, Some, is_some, Result, Ok, Err, refl, sym, ◌∙◌, ap, subst, arith}
 use Rattle.std.specs.Prelude.{IfOk, IfErr, eqb}
 use Rattle.std.specs.List.{Contains, IsDistinct, filter_map}
-use Rattle.jj_walks.specs.Graph.{IsMaximalIn}
-use Rattle.jj_walks.proofs.Heads.{Contains-map}
+use Rattle.jj_dag.specs.Graph.{IsMaximalIn}
+use Rattle.jj_dag.proofs.Heads.{Contains-map}
 use Rattle.std.specs.Fn.{Called, FnReturnsAt, Mut, Shared}
 use Rattle.std.specs.Iterator.{YieldsFirstRef}
 use Rattle.std.specs.String.{string_bytes, string_eq}
@@ -13,10 +13,10 @@ use Rattle.std.proofs.lemmas.Fn.{always_returns_same}
 use Rattle.std.proofs.lemmas.Slice.Eq.{slice_eq-Decides}
 use Rattle.std.proofs.lemmas.Iterator.Consumers.{YieldsList-from_first}
 use denote.Ref.{Bor}
-use Rattle.jj_walks.specs.Walk.{Numbered, AreNodes}
-use Rattle.jj_walks.specs.Failing.{Fault, IsFault, AnswersItems, ShowsLists, sound_items}
-use Rattle.jj_walks.specs.Failing.Fault.{passing}
-use Rattle.jj_walks.proofs.Walking.{drained_are}
+use Rattle.jj_dag.specs.Walk.{Numbered, AreNodes}
+use Rattle.jj_dag.specs.Failing.{Fault, IsFault, AnswersItems, ShowsLists, sound_items}
+use Rattle.jj_dag.specs.Failing.Fault.{passing}
+use Rattle.jj_dag.proofs.Walking.{drained_are}
 use Rattle.jj_walks_tests.specs.declared.commits.Commit.{Commit}
 use Rattle.jj_walks_tests.specs.declared.commits.Parents.{Parents}
 use Rattle.jj_walks_tests.specs.declared.failing_callers.Gap.{Gap}

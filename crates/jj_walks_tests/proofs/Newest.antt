@@ -8,13 +8,13 @@ use Rattle.std.specs.Ordering.{nat_cmp, ordering_then}
 use Rattle.std.proofs.lemmas.Bool.Decides.{Decides-eqb}
 use Rattle.std.proofs.lemmas.Cmp.{nat_list_cmp_total, tied_itself}
 use denote.Ref.{Bor}
-use Rattle.jj_walks.specs.Graph.{ReachedFrom, IsChildFirst, IsGreatestChildFirst}
-use Rattle.jj_walks.specs.Failing.{FailingGraph, Fault}
-use Rattle.jj_walks.specs.Walk.{Numbered, AreNodes}
-use Rattle.jj_walks.proofs.Collecting.{are_nodes}
-use Rattle.jj_walks.proofs.GreatestOrder.{map_twice}
-use Rattle.jj_walks.proofs.Relabelled.{Contains-map}
-use Rattle.jj_walks.proofs.ReadyOrders.{at_split, here, later}
+use Rattle.jj_dag.specs.Graph.{ReachedFrom, IsChildFirst, IsGreatestChildFirst}
+use Rattle.jj_dag.specs.Failing.{FailingGraph, Fault}
+use Rattle.jj_dag.specs.Walk.{Numbered, AreNodes}
+use Rattle.jj_dag.proofs.Collecting.{are_nodes}
+use Rattle.jj_dag.proofs.GreatestOrder.{map_twice}
+use Rattle.jj_dag.proofs.Relabelled.{Contains-map}
+use Rattle.jj_dag.proofs.ReadyOrders.{at_split, here, later}
 use Rattle.jj_walks.proofs.Renumbered.{renumbered, renumbered_item, number_is, is_node_of, numbers_are, greater_there}
 use Rattle.jj_walks_tests.specs.declared.commits.Commit.{Commit}
 use Rattle.jj_walks_tests.specs.Commits.{ids_of, commit_with, parent_graph}

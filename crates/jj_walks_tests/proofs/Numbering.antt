@@ -9,12 +9,12 @@ use Rattle.std.specs.Cmp.Lexicographic.{pointwise}
 use Rattle.std.proofs.lemmas.Map.Keys.{IsDistinct-tail, IsDistinct-head}
 use Rattle.std.proofs.lemmas.List.Elements.{Contains-append_right}
 use denote.Ref.{Bor}
-use Rattle.jj_walks.specs.Graph.{HasEdge, IsMaximalIn}
-use Rattle.jj_walks.specs.CommonNodes.{AreClosestCommon}
-use Rattle.jj_walks.specs.Failing.{Fault, sound_items}
-use Rattle.jj_walks.specs.Walk.{Numbered, AreNodes}
-use Rattle.jj_walks.proofs.Collecting.{are_nodes}
-use Rattle.jj_walks.proofs.Heads.{Contains-from_map, Contains-map}
+use Rattle.jj_dag.specs.Graph.{HasEdge, IsMaximalIn}
+use Rattle.jj_dag.specs.CommonNodes.{AreClosestCommon}
+use Rattle.jj_dag.specs.Failing.{Fault, sound_items}
+use Rattle.jj_dag.specs.Walk.{Numbered, AreNodes}
+use Rattle.jj_dag.proofs.Collecting.{are_nodes}
+use Rattle.jj_dag.proofs.Heads.{Contains-from_map, Contains-map}
 use Rattle.jj_walks_tests.specs.declared.commits.Commit.{Commit}
 use Rattle.jj_walks_tests.specs.Commits.{ids_of, commit_with, parents_in, parent_graph, is_same, has_commit}
 

@@ -2,15 +2,15 @@
 use Rattle.std.proofs.Common.{◌≡◌, ℕ, true, List, [], map, refl, sym, ◌∙◌, subst, ⊎_elim, reverse, eqb, is_some}
 use Rattle.std.specs.List.{Contains, IsDistinct}
 use denote.Ref.{Bor}
-use Rattle.jj_walks.specs.Graph.{IsPostorder, HasNoCycle, ReachedFrom, OnCycleFrom, StandsBefore}
-use Rattle.jj_walks.proofs.Relabelled.{Contains-map, Contains-unmap}
-use Rattle.jj_walks.proofs.Reaching.{Contains-postorder}
-use Rattle.jj_walks.proofs.Collecting.{are_nodes}
+use Rattle.jj_dag.specs.Graph.{IsPostorder, HasNoCycle, ReachedFrom, OnCycleFrom, StandsBefore}
+use Rattle.jj_dag.proofs.Relabelled.{Contains-map, Contains-unmap}
+use Rattle.jj_dag.proofs.Reaching.{Contains-postorder}
+use Rattle.jj_dag.proofs.Collecting.{are_nodes}
 use Rattle.jj_walks_tests.specs.declared.commits.Commit.{Commit}
 use Rattle.jj_walks_tests.specs.Commits.{ids_of, commit_with, parent_graph, has_commit, IsParentsFirst, IsOnCycle}
 use Rattle.jj_walks_tests.proofs.Numbering.{walk_of, walk_closed, starts_are_nodes, node, node_has, node_stands, numbers_had, found_edge}
 use Rattle.jj_walks.proofs.Postorders.{from_reverse, Postorder-reached, Postorder-once, Postorder-before}
-use Rattle.jj_walks.proofs.Plain.{nothing}
+use Rattle.jj_dag.proofs.Plain.{nothing}
 
 module _ (commits : List Commit) (once : IsDistinct eqb (ids_of commits)) where
   reached_are_nodes : (a : ℕ) → ReachedFrom (parent_graph commits) (ids_of commits) a → is_some (commit_with commits a) ≡ true

@@ -2,8 +2,8 @@
 use Rattle.std.proofs.Common.{ℕ, suc, List, [], ◌∷◌, ◌++◌, reverse, refl, arith, subst, inl, inr, ◌⊎◌, ⊎_elim}
 use Rattle.std.specs.List.{Contains}
 use Rattle.std.proofs.lemmas.List.Elements.{Contains-append_right, Contains-push_cases}
-use Rattle.jj_walks.specs.Graph.{Graph, Preorder, ReachedFrom}
-use Rattle.jj_walks.specs.Graph.Preorder.{ended, passed, entered}
+use Rattle.jj_dag.specs.Graph.{Graph, Preorder, ReachedFrom}
+use Rattle.jj_dag.specs.Graph.Preorder.{ended, passed, entered}
 use Rattle.jj_walks.proofs.Postorders.{from_reverse}
 
 later : (g : Graph) (a : ℕ) (todo : List ℕ) (b : ℕ) → ReachedFrom g todo b → ReachedFrom g (a ∷ todo) b

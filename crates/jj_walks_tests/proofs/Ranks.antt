@@ -7,7 +7,7 @@ use Rattle.std.specs.declared.cmp.Ordering.TheVariants.{Less, Equal, Greater}
 use Rattle.std.specs.Ordering.{nat_cmp, ordering_then}
 use Rattle.std.proofs.lemmas.Bool.Decides.{Decides-eqb, nat_tests}
 use Rattle.std.proofs.lemmas.List.Sums.{sum_by-cons, count_by-le-length}
-use Rattle.jj_walks.proofs.ReadyOrders.{here, later}
+use Rattle.jj_dag.proofs.ReadyOrders.{here, later}
 
 module _ (time : ℕ → ℕ) where
   -- a has an earlier time than b, or one time and a smaller number

@@ -6,9 +6,9 @@ use Rattle.std.specs.List.{filter_map}
 use Rattle.std.proofs.lemmas.Fn.{always_returns_same}
 use Rattle.std.proofs.lemmas.Iterator.Consumers.{YieldsList-from_first}
 use denote.Ref.{Bor}
-use Rattle.jj_walks.specs.Failing.{ShowsItems}
-use Rattle.jj_walks.specs.Walk.{IsShownBy}
-use Rattle.jj_walks.proofs.Walking.{drained_are}
+use Rattle.jj_dag.specs.Failing.{ShowsItems}
+use Rattle.jj_dag.specs.Walk.{IsShownBy}
+use Rattle.jj_dag.proofs.Walking.{drained_are}
 use Rattle.jj_walks_tests.specs.declared.commits.Commit.{Commit}
 use Rattle.jj_walks_tests.specs.declared.commits.Parents.{Parents}
 use Rattle.jj_walks_tests.specs.declared.commits.SoundIds.{SoundIds}

@@ -9,16 +9,16 @@ use Rattle.std.proofs.lemmas.List.{map-id}
 use Rattle.std.proofs.lemmas.List.Elements.{Contains-append_right}
 use denote.Ref.{Bor}
 use Rattle.jj_walks.specs.declared.lazy_plan.Plan.{Plan}
-use Rattle.jj_walks.specs.Failing.{AreItems, BeginsWith, FailingGraph, Fault, ListsItems, ShowsItems}
+use Rattle.jj_dag.specs.Failing.{AreItems, BeginsWith, FailingGraph, Fault, ListsItems, ShowsItems}
 use Rattle.jj_walks.specs.LazySteps.{FailsNext, IsPlanOf}
-use Rattle.jj_walks.specs.Walk.{Numbered, AreNodes, DrainsTo}
-use Rattle.jj_walks.specs.Graph.{IsChildFirst, IsPreorder, ReachedFrom}
-use Rattle.jj_walks.proofs.Collecting.{are_nodes}
-use Rattle.jj_walks.proofs.FailingOrders.{none_of_nodes}
-use Rattle.jj_walks.proofs.FailingWalks.{begun_are}
+use Rattle.jj_dag.specs.Walk.{Numbered, AreNodes, DrainsTo}
+use Rattle.jj_dag.specs.Graph.{IsChildFirst, IsPreorder, ReachedFrom}
+use Rattle.jj_dag.proofs.Collecting.{are_nodes}
+use Rattle.jj_dag.proofs.FailingOrders.{none_of_nodes}
+use Rattle.jj_dag.proofs.FailingWalks.{begun_are}
 use Rattle.jj_walks.proofs.Postorders.{from_reverse}
-use Rattle.jj_walks.proofs.Relabelled.{Contains-map}
-use Rattle.jj_walks.proofs.Walking.{drained_are}
+use Rattle.jj_dag.proofs.Relabelled.{Contains-map}
+use Rattle.jj_dag.proofs.Walking.{drained_are}
 use Rattle.jj_walks_tests.specs.declared.commits.Commit.{Commit}
 use Rattle.jj_walks_tests.specs.declared.commits.SoundCommits.{SoundCommits}
 use Rattle.jj_walks_tests.specs.Commits.{commit_with, has_commit, ids_of, known_ids, parents_in, parent_graph}
@@ -26,7 +26,7 @@ use Rattle.jj_walks_tests.specs.declared.commits.SoundIds.{SoundIds}
 use Rattle.jj_walks_tests.specs.Parents.{shown_item, ids_left, items_left}
 use Rattle.jj_walks_tests.proofs.Preorders.{Preorder-reached}
 use Rattle.jj_walks_tests.proofs.Numbering.{walk_of, node, node_has, node_id, has_found, parents_had, items_of, items_sound, node_stands, ids_are, set_are_nodes, set_starts, walk_closed}
-use Rattle.jj_walks.proofs.Plain.{nothing}
+use Rattle.jj_dag.proofs.Plain.{nothing}
 
 abbrev pub becomes : SoundCommits → SoundCommits → Type 0
 becomes s t = t ≡ s

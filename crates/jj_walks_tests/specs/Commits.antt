@@ -6,7 +6,7 @@ use Rattle.std.specs.List.{Contains, IsDistinct, filter_map}
 use Rattle.std.specs.Cmp.Lexicographic.{pointwise}
 use Rattle.std.specs.String.{string_eq}
 use Rattle.jj_walks_tests.specs.declared.commits.Commit.{Commit}
-use Rattle.jj_walks.specs.Graph.{Graph, StandsBefore, OnCycleFrom}
+use Rattle.jj_dag.specs.Graph.{Graph, StandsBefore, OnCycleFrom}
 
 abbrev pub ids_of : List Commit → List ℕ
 ids_of commits = map (λ c. c.id) commits

@@ -5,7 +5,7 @@ use Rattle.std.specs.String.{string_bytes, string_eq}
 use Rattle.jj_walks_tests.specs.declared.commits.Commit.{Commit}
 use Rattle.jj_walks_tests.specs.declared.failing_callers.Gap.{Gap}
 use Rattle.jj_walks_tests.specs.declared.failing_callers.Gap.TheVariants.{Memory, Text}
-use Rattle.jj_walks.specs.Graph.{Graph}
+use Rattle.jj_dag.specs.Graph.{Graph}
 use Rattle.jj_walks_tests.specs.Commits.{ids_of, commit_with, parents_in, has_commit}
 
 -- the list has a commit of each of these ids

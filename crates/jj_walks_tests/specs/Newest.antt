@@ -1,7 +1,7 @@
 -- A list of commits with the newest first, as far as each stands before its parents.
 -- Cited by contracts of public items: IsNewestFirst.
 use Rattle.std.specs.Prelude.{◌≡◌, ◌≢◌, ◌<◌, ◌⊎◌, ℕ, List, ◌∷◌, ◌++◌, Some}
-use Rattle.jj_walks.specs.Graph.{IsChildFirst}
+use Rattle.jj_dag.specs.Graph.{IsChildFirst}
 use Rattle.jj_walks_tests.specs.declared.commits.Commit.{Commit}
 use Rattle.jj_walks_tests.specs.Commits.{commit_with, parent_graph}
 

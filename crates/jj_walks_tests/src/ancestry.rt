@@ -2,9 +2,9 @@
 //! proved by the walk's contract.
 ghost use Rattle.std.specs.Prelude.{◌≡◌, true, IfOk, IfErr, eqb, map};
 ghost use Rattle.std.specs.List.{Contains, IsDistinct};
-ghost use Rattle.jj_walks.specs.CommonNodes.{AreClosestCommon};
-ghost use Rattle.jj_walks.specs.Errors.{IfNode};
-ghost use Rattle.jj_walks.specs.Graph.{HasNoCycle, IsMaximalIn, IsPreorder};
+ghost use Rattle.jj_dag.specs.CommonNodes.{AreClosestCommon};
+ghost use Rattle.jj_dag.specs.Errors.{IfNode};
+ghost use Rattle.jj_dag.specs.Graph.{HasNoCycle, IsMaximalIn, IsPreorder};
 ghost use Rattle.jj_walks_tests.specs.declared.commits.Commit.{Commit};
 ghost use Rattle.jj_walks_tests.specs.Commits.{has_commit, ids_of, known_ids, parent_graph, IsParentsFirst, IsOnCycle};
 

@@ -1,8 +1,8 @@
 //! Callers over a list of commits that put each commit before its parents.
 ghost use Rattle.std.specs.Prelude.{◌≡◌, IfOk, IfErr, map};
 ghost use Rattle.jj_walks.specs.Chunks.{IsNextChunk};
-ghost use Rattle.jj_walks.specs.Errors.{IfNode};
-ghost use Rattle.jj_walks.specs.Graph.{IsChildFirst, ReachesCycle};
+ghost use Rattle.jj_dag.specs.Errors.{IfNode};
+ghost use Rattle.jj_dag.specs.Graph.{IsChildFirst, ReachesCycle};
 ghost use Rattle.jj_walks_tests.specs.Commits.{known_ids, parent_graph};
 ghost use Rattle.jj_walks_tests.specs.Newest.{IsNewestFirst};
 

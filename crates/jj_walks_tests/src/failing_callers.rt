@@ -2,8 +2,8 @@
 //! with the same words.
 ghost use Rattle.std.specs.Prelude.{◌≡◌, true, false, IfOk, IfErr, eqb, map};
 ghost use Rattle.std.specs.List.{IsDistinct};
-ghost use Rattle.jj_walks.specs.Errors.{IfNode};
-ghost use Rattle.jj_walks.specs.Graph.{HasNoCycle, IsMaximalIn};
+ghost use Rattle.jj_dag.specs.Errors.{IfNode};
+ghost use Rattle.jj_dag.specs.Graph.{HasNoCycle, IsMaximalIn};
 ghost use Rattle.jj_walks_tests.specs.Commits.{ids_of};
 ghost use Rattle.jj_walks_tests.specs.Gaps.{has_ids, tells_gap, whole_graph, IsGapIn};
 

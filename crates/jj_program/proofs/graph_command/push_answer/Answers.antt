@@ -2,8 +2,8 @@ use Rattle.std.proofs.Common.{◌≡◌, ◌∙◌, ◌++◌, ℕ, List, Result,
 use Rattle.std.specs.Prelude.{All, codes, string_bytes}
 use Rattle.std.specs.List.{Contains}
 use Rattle.std.proofs.lemmas.Result.{IfOk-weaker}
-use Rattle.jj_walks.specs.CommonNodes.{AreClosestCommon}
-use Rattle.jj_walks.specs.Graph.{Graph, IsGreatestChildFirst, IsMaximalIn}
+use Rattle.jj_dag.specs.CommonNodes.{AreClosestCommon}
+use Rattle.jj_dag.specs.Graph.{Graph, IsGreatestChildFirst, IsMaximalIn}
 use Rattle.jj_program.specs.ListedGraphs.{named_by, shown_by}
 use Rattle.jj_program.specs.GraphCommand.{GraphRequest, Order, Heads, Common, AnswersRequest, ids_of, numbers_line}
 use Rattle.jj_program.specs.GraphViews.{graph_request_of}

@@ -1,9 +1,9 @@
 use Rattle.std.proofs.Common.{rules, of_calls, ◌≡◌, ℕ, subst, map}
 use Rattle.std.proofs.lemmas.Fn.{always_returns_same}
 use Rattle.std.proofs.lemmas.List.{map-id}
-use Rattle.jj_walks.specs.CommonNodes.{AreClosestCommon}
-use Rattle.jj_walks.specs.Failing.{Fault}
-use Rattle.jj_walks.proofs.Errors.{node_says}
+use Rattle.jj_dag.specs.CommonNodes.{AreClosestCommon}
+use Rattle.jj_dag.specs.Failing.{Fault}
+use Rattle.jj_dag.proofs.Errors.{node_says}
 use Rattle.jj_program.specs.ListedGraphs.{named_by, shown_by}
 use Rattle.jj_program.proofs.GraphClosures.{items_over, shows_sound_lists, walk_over}
 use Rattle.jj_program.proofs.NumberedWalks.{nodes_among}

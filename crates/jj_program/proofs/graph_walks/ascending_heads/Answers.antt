@@ -5,7 +5,7 @@ use Rattle.std.proofs.lemmas.Fn.{always_returns_same}
 use Rattle.std.proofs.lemmas.Iterator.{items_from_collect}
 use Rattle.std.proofs.lemmas.Iterator.Consumers.{YieldsList-from_copied, YieldsList-from_rest}
 use Rattle.std.proofs.lemmas.List.{map-id}
-use Rattle.jj_walks.specs.Graph.{IsMaximalIn}
+use Rattle.jj_dag.specs.Graph.{IsMaximalIn}
 use Rattle.jj_program.specs.ListedGraphs.{named_by, shown_by}
 use Rattle.jj_program.proofs.GraphClosures.{shows_lists, walk_over}
 use Rattle.jj_program.proofs.NumberedWalks.{nodes_among}

@@ -1,8 +1,8 @@
 use Rattle.std.proofs.Common.{rules, of_calls, ◌≡◌, subst, map}
 use Rattle.std.proofs.lemmas.Fn.{always_returns_same}
 use Rattle.std.proofs.lemmas.List.Elements.{All-contains_itself}
-use Rattle.jj_walks.specs.Graph.{HasNoCycle}
-use Rattle.jj_walks.proofs.Errors.{node_says}
+use Rattle.jj_dag.specs.Graph.{HasNoCycle}
+use Rattle.jj_dag.proofs.Errors.{node_says}
 use Rattle.jj_program.specs.ListedGraphs.{named_by, shown_by}
 use Rattle.jj_program.proofs.GraphClosures.{shows_lists, walk_over}
 use Rattle.jj_program.proofs.NumberedWalks.{nodes_among}

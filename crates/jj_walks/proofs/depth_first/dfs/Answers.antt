@@ -1,6 +1,6 @@
 use Rattle.std.proofs.Common.{◌≡◌, []}
-use Rattle.jj_walks.specs.Walk.{DrainsTo}
-use Rattle.jj_walks.proofs.Walking.{walking_starts}
+use Rattle.jj_dag.specs.Walk.{DrainsTo}
+use Rattle.jj_dag.proofs.Walking.{walking_starts}
 use Rattle.std.proofs.Common.{refl}
 use Rattle.jj_walks.proofs.depth_first.dfs.Goals as goal
 

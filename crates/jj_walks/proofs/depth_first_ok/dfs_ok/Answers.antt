@@ -1,6 +1,6 @@
 use Rattle.std.proofs.Common.{◌≡◌, []}
-use Rattle.jj_walks.specs.Walk.{DrainsTo}
-use Rattle.jj_walks.proofs.FailingWalks.{walking_items_start}
+use Rattle.jj_dag.specs.Walk.{DrainsTo}
+use Rattle.jj_dag.proofs.FailingWalks.{walking_items_start}
 use Rattle.std.proofs.Common.{refl}
 use Rattle.jj_walks.proofs.depth_first_ok.dfs_ok.Goals as goal
 

@@ -2,7 +2,7 @@ use Rattle.std.proofs.Common.{rules, true, false, ◌≡◌, List, [], ◌∷◌
 use Rattle.std.specs.HashSet.{contains}
 use Rattle.std.specs.List.{Contains}
 use Rattle.std.proofs.lemmas.List.Elements.{Contains-append_cases, Contains-push_cases}
-use Rattle.jj_walks.proofs.Walking.{returned}
+use Rattle.jj_dag.proofs.Walking.{returned}
 use Rattle.jj_walks.proofs.next_item.next_item.Goals as goal
 
 -- what is true of the first and of each other is true of each

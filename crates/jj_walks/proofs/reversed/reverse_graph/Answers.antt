@@ -5,9 +5,9 @@ use Rattle.std.proofs.lemmas.Iterator.Adapters.{YieldsList-from_vec}
 use Rattle.std.proofs.lemmas.List.{map-append, map-id}
 use Rattle.jj_walks.specs.Listed.{items_at}
 use Rattle.jj_walks.specs.Reversed.{incoming_edges, shown_graph}
-use Rattle.jj_walks.proofs.FailingOrders.{ok-push, Yields-push}
+use Rattle.jj_dag.proofs.FailingOrders.{ok-push, Yields-push}
 use Rattle.jj_walks.proofs.Reversing.{leads_turned, leads_nothing, leads_entered, leads_left, shows_more, shows_all}
-use Rattle.jj_walks.proofs.Walking.{returned}
+use Rattle.jj_dag.proofs.Walking.{returned}
 use Rattle.jj_walks.proofs.reversed.reverse_graph.Goals as goal
 
 pub loop-item-init : goal.loop-item-init

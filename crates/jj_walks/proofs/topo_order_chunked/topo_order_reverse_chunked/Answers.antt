@@ -2,8 +2,8 @@ use Rattle.std.proofs.Common.{rules, arith, ◌≡◌, ◌≤◌, ◌++◌, ◌�
 use Rattle.std.proofs.lemmas.Grind.{common_steps}
 use Rattle.std.proofs.lemmas.List.{length-map}
 use Rattle.jj_walks.proofs.Chunks.{none_next, one_next, many_next}
-use Rattle.jj_walks.proofs.Errors.{node_weaker}
-use Rattle.jj_walks.proofs.Plain.{lone}
+use Rattle.jj_dag.proofs.Errors.{node_weaker}
+use Rattle.jj_dag.proofs.Plain.{lone}
 use Rattle.jj_walks.proofs.topo_order_chunked.topo_order_reverse_chunked.Goals as goal
 
 pub returns-in-Err : goal.returns-in-Err

@@ -1,5 +1,5 @@
 use Rattle.std.proofs.Common.{◌≡◌, [], refl, ◌∙◌, ap, inl, inr}
-use Rattle.jj_walks.proofs.FailingOrders.{begins_failed, drained_nodes}
+use Rattle.jj_dag.proofs.FailingOrders.{begins_failed, drained_nodes}
 use Rattle.jj_walks.proofs.LazyPlans.{plan_starts}
 use Rattle.jj_walks.proofs.topo_order_lazy.topo_order_reverse_lazy.Goals as goal
 use Rattle.jj_walks.proofs.topo_order_lazy.topo_order_reverse_lazy.Goals.{in-None, in-Some+in-Err}

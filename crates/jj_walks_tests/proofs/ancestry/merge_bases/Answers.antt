@@ -7,8 +7,8 @@ use Rattle.std.proofs.lemmas.Iterator.{YieldsList-from_slice}
 use Rattle.std.proofs.lemmas.Iterator.Consumers.{YieldsList-from_first}
 use Rattle.std.proofs.lemmas.Result.{IfOk-weaker}
 use denote.Ref.{Bor}
-use Rattle.jj_walks.specs.Failing.{Fault, AnswersItems}
-use Rattle.jj_walks.proofs.Walking.{drained_are}
+use Rattle.jj_dag.specs.Failing.{Fault, AnswersItems}
+use Rattle.jj_dag.proofs.Walking.{drained_are}
 use Rattle.jj_walks.proofs.Owing.{may_show}
 use Rattle.jj_walks_tests.specs.declared.commits.Commit.{Commit}
 use Rattle.jj_walks_tests.specs.declared.commits.Parents.{Parents}

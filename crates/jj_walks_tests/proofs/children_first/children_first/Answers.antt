@@ -1,5 +1,5 @@
 use Rattle.std.proofs.Common.{rules, of_calls, ⊎_elim}
-use Rattle.jj_walks.proofs.Errors.{node_weaker}
+use Rattle.jj_dag.proofs.Errors.{node_weaker}
 use Rattle.jj_walks.proofs.LazyRuns.{IsChildFirst-from_drains, IsCause-from_yields}
 use Rattle.jj_walks.proofs.Owing.{can_show}
 use Rattle.jj_walks_tests.specs.Commits.{known_ids}

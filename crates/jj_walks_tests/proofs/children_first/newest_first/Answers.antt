@@ -1,6 +1,6 @@
 use Rattle.std.proofs.Common.{rules, of_calls, ◌≡◌, ◌∙◌, ap, map, Ok, ⊎_elim}
 use Rattle.std.proofs.lemmas.Result.{IfOk-weaker, IfErr-weaker}
-use Rattle.jj_walks.proofs.Errors.{node_weaker}
+use Rattle.jj_dag.proofs.Errors.{node_weaker}
 use Rattle.jj_walks.proofs.Owing.{can_show}
 use Rattle.jj_walks_tests.specs.Commits.{known_ids}
 use Rattle.jj_walks_tests.proofs.Numbering.{walk_of, walk_closed, items_of}

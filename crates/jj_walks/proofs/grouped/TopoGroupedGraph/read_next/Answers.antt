@@ -4,7 +4,7 @@ use Rattle.jj_walks.specs.Grouped.{Entry, held_at}
 use Rattle.jj_walks.specs.GroupedSteps.{IsEntryOf}
 use Rattle.jj_walks.specs.HeldNodes.{item_of, listed_item}
 use Rattle.jj_walks.proofs.KeptHistories.{is_some-mapped}
-use Rattle.jj_walks.proofs.Walking.{returned}
+use Rattle.jj_dag.proofs.Walking.{returned}
 use Rattle.jj_walks.proofs.grouped.TopoGroupedGraph.read_next.Goals as goal
 
 pub returns-then-is_held-clause-refused : goal.returns-then-is_held-clause-refused

@@ -1,8 +1,9 @@
 use Rattle.std.proofs.Common.{◌≡◌, map, reverse, ◌∙◌, ap, subst, refl, inl, inr}
 use Rattle.std.specs.Fn.{Called}
 use Rattle.std.proofs.lemmas.List.{reverse-reverse}
-use Rattle.jj_walks.proofs.Errors.{node_weaker}
-use Rattle.jj_walks.proofs.LazyPlans.{left_nodes, left_reached, plan_more, chunk_some, cycle_through, failure_through}
+use Rattle.jj_dag.proofs.Errors.{node_weaker}
+use Rattle.jj_walks.proofs.LazyPlans.{left_nodes, left_reached, plan_more, chunk_some, cycle_through}
+use Rattle.jj_dag.proofs.Asking.{failure_through}
 use Rattle.jj_walks.proofs.lazy_plan.Plan.look_ahead.Goals as goal
 
 pub returns-in-Err-clause-cause : goal.returns-in-Err-clause-cause
@@ -34,6 +35,6 @@ returns-in-None-clause-plan g c =
     let nodes = left_nodes g.F.Fn g.N.FnMut g.ID.PartialEq.eq g.NI.IntoIterator.into_iter_gives g.NI.IntoIter.Iterator.next_gives w items on_cycle starts given s s k c.requires.failed in
     let chunk = rw (c.in-None.is, taken) at (c.in-Ok.ensures.chunk w items k.shown (rw taken nodes)) in (
       plan_more g.F.Fn g.N.FnMut g.ID.PartialEq.eq g.NI.IntoIterator.into_iter_gives g.NI.IntoIter.Iterator.next_gives w items on_cycle starts given s _ c.in-Ok.chunk.nodes.items c.in-Ok.chunk.left.items
-          k c.requires.ready c.requires.failed (rw c.chunk.ensures.graph.id_fn (c.chunk.ensures.graph.shown w items k.shown)) refl refl (ap reverse turned ∙ reverse-reverse c.in-Ok.chunk.nodes.items) refl c.requires.failed chunk.1 chunk.2,
+          k c.requires.ready c.requires.failed (rw c.take_chunk.ensures.graph.id_fn (c.take_chunk.ensures.graph.shown w items k.shown)) refl refl (ap reverse turned ∙ reverse-reverse c.in-Ok.chunk.nodes.items) refl c.requires.failed chunk.1 chunk.2,
       λ none. absurd (chunk_some w.node s.start.items c.in-Ok.chunk.nodes.items c.reverse.new.self.items c.requires.start chunk.1.has_starts turned none),
     )

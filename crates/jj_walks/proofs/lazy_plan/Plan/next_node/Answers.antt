@@ -2,10 +2,10 @@ use Rattle.std.proofs.Common.{rules, arith, ◌≡◌, [], true, false, sym, ◌
 use Rattle.std.specs.Fn.{Called}
 use Rattle.std.specs.HashSet.{contains}
 use Rattle.std.proofs.lemmas.Grind.{common_steps}
-use Rattle.jj_walks.proofs.Errors.{node_weaker}
+use Rattle.jj_dag.proofs.Errors.{node_weaker}
 use Rattle.jj_walks.proofs.LazyPlans.{next_is_node, plan_gave, plan_again, plan_ended}
-use Rattle.jj_walks.proofs.Walking.{returned}
-use Rattle.jj_walks.proofs.Plain.{un_not, un_not_false}
+use Rattle.jj_dag.proofs.Walking.{returned}
+use Rattle.jj_dag.proofs.Plain.{un_not, un_not_false}
 use Rattle.jj_walks.proofs.lazy_plan.Plan.next_node.Goals as goal
 
 pub returns-in-Err-clause-gives : goal.returns-in-Err-clause-gives

@@ -1,7 +1,7 @@
 use Rattle.std.proofs.Common.{rules, arith, ◌≡◌, ◌≤◌, ◌++◌, [], ◌∷◌, true, None, length, sym, ◌∙◌, ap, refl}
 use Rattle.std.proofs.lemmas.Grind.{common_steps}
 use Rattle.jj_walks.proofs.LazyPlans.{left_nodes, plan_same, plan_one, plan_failed, ok_weaker}
-use Rattle.jj_walks.proofs.Plain.{lone}
+use Rattle.jj_dag.proofs.Plain.{lone}
 use Rattle.jj_walks.proofs.lazy_plan.Plan.refill.Goals as goal
 
 pub returns-then-len-gt1-clause-plan : goal.returns-then-len-gt1-clause-plan

@@ -1,0 +1,104 @@
+-- How nodes are collected by the closures that show a graph.
+use Rattle.std.proofs.Common.{◌≡◌, ℕ, ◌+◌, ◌<◌, get_or, take, Bool, true, List, [], ◌∷◌, ◌++◌, map, length, Some, Result, cond, refl, sym, ◌∙◌, ap, subst, arith}
+use Rattle.std.specs.Fn.{Called, Mut, Shared}
+use Rattle.std.specs.Global.{Global}
+use Rattle.std.specs.HashMap.{get}
+use Rattle.std.specs.List.{AllZip, Contains}
+use Rattle.std.proofs.lemmas.List.{length-map, length_push, map_push, take_more}
+use Rattle.std.proofs.lemmas.List.Elements.{Contains-append_right}
+use Rattle.std.specs.declared.iter.IntoIterator as into
+use Rattle.std.specs.declared.iter.Iterator as iter
+use Rattle.std.specs.declared.vec.Vec.{Vec}
+use denote.Ref.{Bor}
+use denote.Param.Always.{always_mut}
+use Rattle.jj_dag.specs.declared.greatest_order.Collected.{Collected}
+use Rattle.jj_dag.specs.declared.shown.Shown.{Shown}
+use Rattle.jj_dag.specs.Collecting.{IsFilled}
+use Rattle.jj_dag.specs.Asking.{GoesOn}
+use Rattle.jj_dag.specs.Failing.{FailingGraph, Fault, ReachesFailure, sound}
+use Rattle.jj_dag.specs.Graph.{Graph, ReachedFrom}
+use Rattle.jj_dag.specs.Owed.{CanShow}
+use Rattle.jj_dag.specs.Walk.{AreNodes, Numbered}
+use Rattle.jj_dag.proofs.Collecting.{places_more}
+use Rattle.jj_dag.proofs.FailingOrders.{ReachedFrom-same}
+use Rattle.jj_dag.proofs.Plain.{only}
+use Rattle.jj_dag.proofs.Reaching.{Reaches-trans}
+use Rattle.jj_dag.proofs.Walking.{AlwaysReturns-call}
+
+module _ {T ID E F N U J : Type 0} (eq : ID → ID → Bool) (ids : Shared F (Bor T × Unit {0}) ID) (lists : Mut N (Bor T × Unit {0}) U) (value : into.Ghosts U (Result T E) J)
+    (items : iter.Ghosts J (Result T E)) where
+  -- closures that have not been called
+  pub goes_on-none : (s : Shown F N) → CanShow ids lists value items s.id_fn s.neighbors_fn → GoesOn eq ids lists value items s s
+  goes_on-none s k = record { id_fn = refl; can_show = k; shown = λ walk shown q. q }
+
+  -- one call
+  pub goes_on-call : (s t : Shown F N) {a : Bor T × Unit {0}} {r : U} → CanShow ids lists value items s.id_fn s.neighbors_fn → t.id_fn ≡ s.id_fn → always_mut lists t.neighbors_fn
+      → Called lists s.neighbors_fn a r t.neighbors_fn → GoesOn eq ids lists value items s t
+  goes_on-call s t k same callable called = record {
+    id_fn = same;
+    can_show = record { id_fn = rw same k.id_fn; neighbors_fn = callable; lists = (AlwaysReturns-call lists _ k.lists called).1 };
+    shown = λ walk shown q. record { sound_graph = q.sound_graph; closed = q.closed; apart = q.apart; ids_stand = q.ids_stand; neighbors = (AlwaysReturns-call lists _ q.neighbors called).1 };
+  }
+
+  -- more calls
+  pub goes_on-more : (s t u : Shown F N) → GoesOn eq ids lists value items s t → GoesOn eq ids lists value items t u → GoesOn eq ids lists value items s u
+  goes_on-more s t u first second = record {
+    id_fn = second.id_fn ∙ first.id_fn;
+    can_show = second.can_show;
+    shown = λ walk shown q. rw first.id_fn at (second.shown walk shown (rw first.id_fn (first.shown walk shown q)));
+  }
+
+-- one node more is kept
+pub filled_more : {T ID : Type 0} (eq : ID → ID → Bool) (s t : Collected T ID) (node : T) (id : ID) (kept : Vec ID Global) (filled : IsFilled eq s) → t.nodes.items ≡ s.nodes.items ++ Some node ∷ []
+    → t.neighbor_ids.items ≡ s.neighbor_ids.items ++ kept ∷ [] → ((i : ID) → get eq t.index_of i ≡ cond (eq id i) (Some (length s.nodes.items)) (get eq s.index_of i))
+    → (more : IsFilled eq t) × (more.given ≡ filled.given ++ node ∷ [])
+filled_more eq s t node id kept filled nodes lists places = (
+  record {
+    given = filled.given ++ node ∷ [];
+    nodes = nodes ∙ ap (λ l. l ++ Some node ∷ []) filled.nodes ∙ sym (map_push (λ x. Some x) filled.given node);
+    ids = ap length lists ∙ length_push s.neighbor_ids.items kept ∙ ap (λ n. n + 1) filled.ids ∙ sym (length_push filled.given node);
+    places = λ i k found. rw (length_push filled.given node)
+        (places_more eq (get eq s.index_of) _ id (length filled.given) (length s.nodes.items) filled.places (ap length filled.nodes ∙ length-map filled.given (λ x. Some x)) places i k found);
+  },
+  refl,
+)
+
+-- two lists stand for each other item by item, and so they do with one more
+pub zip-push : {A B : Type 0} (R : A → B → Type 0) (xs : List A) (ys : List B) (x : A) (y : B) → AllZip R xs ys → R x y → AllZip R (xs ++ x ∷ []) (ys ++ y ∷ [])
+zip-push R [] [] x y k r = (r, tt)
+zip-push R [] (b ∷ ys) x y k r = absurd k
+zip-push R (a ∷ xs) [] x y k r = absurd k
+zip-push R (a ∷ xs) (b ∷ ys) x y k r = (k.0, zip-push R xs ys x y k.1 r)
+
+-- one id more was told
+pub told_more : {T ID : Type 0} (tells : T → ID → Type 0) (nodes : List T) (n : ℕ) (ids more : List ID) (node : T) (id : ID) → n < length nodes → node ≡ get_or nodes n node → tells node id
+    → AllZip tells (take n nodes) ids → more ≡ ids ++ id ∷ [] → AllZip tells (take (n + 1) nodes) more
+told_more tells nodes n ids more node id lt at told before pushed = rw (take_more nodes n node lt, sym at, pushed) (zip-push tells (take n nodes) ids node id before told)
+
+-- ids that a closure told of nodes stand for them
+pub ids_told : {T ID : Type 0} (w : Numbered T ID) (tells : T → ID → Type 0) → ((x : T) (i : ID) → w.is_node (w.node x) ≡ true → tells x i → w.id i ≡ w.node x)
+    → (xs : List T) (is : List ID) → AllZip tells xs is → AreNodes w (map w.node xs) → map w.id is ≡ map w.node xs
+ids_told w tells stand [] [] told nodes = refl
+ids_told w tells stand [] (i ∷ is) told nodes = absurd told
+ids_told w tells stand (x ∷ xs) [] told nodes = absurd told
+ids_told w tells stand (x ∷ xs) (i ∷ is) told nodes =
+    ap (λ n. n ∷ map w.id is) (stand x i (nodes (w.node x) (0, omega arith, refl)) told.0)
+    ∙ ap (λ l. w.node x ∷ l) (ids_told w tells stand xs is told.1 (λ a h. nodes a (Contains-append_right (w.node x ∷ []) (map w.node xs) a h)))
+
+-- what is reached from nodes that are reached
+pub reached_through : (g : Graph) (starts left : List ℕ) → ((b : ℕ) → Contains left b → ReachedFrom g starts b) → (a : ℕ) → ReachedFrom g left a → ReachedFrom g starts a
+reached_through g starts left through a (s, at, (n, p)) =
+    let first = through s at in
+    (first.0, first.1, Reaches-trans g first.0 s a first.2.0 first.2.1 (n, p))
+
+-- and what fails below them
+pub failure_through : {E : Type 0} (g : Graph) (items : FailingGraph (Fault E)) (starts left : List ℕ) (e : E) → ((a : ℕ) → g a ≡ sound items a) → ((b : ℕ) → Contains left b → ReachedFrom g starts b)
+    → ReachesFailure items left e → ReachesFailure items starts e
+failure_through g items starts left e same through (a, fault, reached, at, is) =
+    let out = reached_through g starts left through a (ReachedFrom-same (sound items) g (λ b. sym (same b)) left a reached) in
+    (a, fault, ReachedFrom-same g (sound items) same starts a out, at, is)
+
+-- what fails below a node that is reached fails below the starts
+pub failed_below : {E : Type 0} (g : Graph) (items : FailingGraph (Fault E)) (starts : List ℕ) (a : ℕ) (e : E) → ((b : ℕ) → g b ≡ sound items b) → ReachedFrom g starts a → ReachesFailure items (a ∷ []) e
+    → ReachesFailure items starts e
+failed_below g items starts a e same reached failure = failure_through g items starts (a ∷ []) e same (λ b h. subst (ReachedFrom g starts) (only a b h) reached) failure

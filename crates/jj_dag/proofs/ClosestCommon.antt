@@ -1,0 +1,622 @@
+-- What the map and the heap of a search for the closest common nodes hold.
+use Rattle.std.proofs.Common.{◌≡◌, ℕ, zero, suc, ◌==◌, Bool, true, false, not, cond, ◌&&◌, ◌||◌, List, [], ◌∷◌, ◌++◌, map, refl, sym, ◌∙◌, ap, subst, arith, inl, inr, ◌⊎◌, ⊎_elim, true≢false, eqb}
+use Rattle.std.specs.Prelude.{IsTrue}
+use Rattle.std.specs.Bool.{MatchBool, one_answer}
+use Rattle.std.specs.Cmp.{nat_eq_equiv}
+use Rattle.std.specs.List.{Contains, IsDistinct, AllByRecursion, filter}
+use Rattle.std.specs.List.Sorted.{IsPermutation}
+use Rattle.std.proofs.lemmas.Bool.Decides.{Decides-eqb}
+use Rattle.std.proofs.lemmas.List.{map-append}
+use Rattle.std.proofs.lemmas.List.Elements.{Contains-append_left, Contains-append_right, Contains-append_cases, Contains-push, Contains-push_cases}
+use Rattle.std.proofs.lemmas.List.Sorted.{IsPermutation-sym, IsPermutation-trans, IsPermutation-map, IsPermutation-to_front, Contains-permutation}
+use Rattle.std.proofs.lemmas.Map.Keys.{IsDistinct-push, IsDistinct-head, IsDistinct-tail, IsDistinct-cons, IsDistinct-IsPermutation}
+use Rattle.std.proofs.lemmas.Bool.{and_parts}
+use Rattle.jj_dag.specs.declared.closest_common.Reach.{Reach}
+use Rattle.jj_dag.specs.declared.closest_common.Mark.{Mark}
+use Rattle.jj_dag.specs.CommonNodes.{HasNoCommonCycle, AreClosestCommon}
+use Rattle.jj_dag.specs.Graph.{HasEdge, ReachedFrom}
+use Rattle.jj_dag.specs.Marks.{unmarked, joined, grows, handed_on, marked, starts_waiting, asked, closest_of}
+use Rattle.jj_dag.specs.Walk.{Numbered, AreNodes}
+use Rattle.jj_dag.proofs.Collecting.{are_nodes}
+use Rattle.jj_dag.proofs.CommonMarks.{IsBoth, Passes, IsMarking, IsAtEnd, at_mark, marks_more, marking_more, marking_asked, passes_marked, passes_kept, is_common, end_common, end_maximal, maximal_ends}
+use Rattle.jj_dag.proofs.Reaching.{ReachedFrom-edge}
+use Rattle.jj_dag.proofs.Walking.{has, has-push, has-from_Contains, Contains-from_has, Decides-has, eqb-flip}
+use Rattle.jj_dag.proofs.Plain.{nothing}
+
+-- ---- tests
+
+or_false : (b : Bool) → (b || false) ≡ b
+or_false true = refl
+or_false false = refl
+
+moved : (t h g : Bool) → g ≡ true → (t || h) ≡ (h || (t && g))
+moved true true g e = refl
+moved true false g e = sym e
+moved false true g e = refl
+moved false false g e = refl
+
+absorbed : (h t g : Bool) → h ≡ true → h ≡ (h || (t && g))
+absorbed true t g e = refl
+absorbed false t g e = absurd (true≢false (sym e))
+
+must_wait : (g v : Bool) → (g && not v) ≡ false → g ≡ true → v ≡ true
+must_wait g true e f = refl
+must_wait true false e f = absurd (true≢false e)
+must_wait false false e f = absurd (true≢false (sym f))
+
+is_false : (b : Bool) → not b ≡ true → b ≡ false
+is_false true e = absurd (true≢false (sym e))
+is_false false e = refl
+
+true_not_false : {b : Bool} → b ≡ true → b ≡ false → ⊥
+true_not_false e f = true≢false (sym e ∙ f)
+
+-- ---- lists
+
+has-permutation : (xs ys : List ℕ) → IsPermutation xs ys → (b : ℕ) → has ys b ≡ has xs b
+has-permutation xs ys p b = one_answer (has ys b) (has xs b) (Decides-has ys b) ((λ e. Contains-permutation xs ys b p (Contains-from_has xs b e)), (λ h. has-from_Contains xs b (Contains-permutation ys xs b (IsPermutation-sym xs ys p) h)))
+
+distinct_put : (xs ys : List ℕ) (y : ℕ) → IsPermutation (y ∷ xs) ys → IsDistinct eqb xs → has xs y ≡ false → IsDistinct eqb ys
+distinct_put xs ys y p once fresh =
+    IsDistinct-IsPermutation eqb eqb-flip (xs ++ y ∷ []) ys (IsPermutation-trans (xs ++ y ∷ []) (y ∷ xs) ys (IsPermutation-to_front xs y) p) (IsDistinct-push nat_eq_equiv xs y once fresh)
+
+none_has : (y : ℕ) (xs : List ℕ) → AllByRecursion (λ z. eqb y z ≡ false) xs → has xs y ≡ false
+none_has y [] a = refl
+none_has y (x ∷ xs) a = ap (λ b. b || has xs y) a.0 ∙ none_has y xs a.1
+
+all_apart : (y : ℕ) (p : ℕ → Bool) (xs : List ℕ) → AllByRecursion (λ z. eqb y z ≡ false) xs → AllByRecursion (λ z. eqb y z ≡ false) (filter p xs)
+all_apart y p [] a = a
+all_apart y p (x ∷ xs) a =
+    let P : Bool → Type 0 = λ b. AllByRecursion (λ z. eqb y z ≡ false) (cond b (x ∷ filter p xs) (filter p xs)) in
+    elim (p x) as P [ true ↦ (a.0, all_apart y p xs a.1) | false ↦ all_apart y p xs a.1 ]
+
+distinct_filter : (p : ℕ → Bool) (xs : List ℕ) → IsDistinct eqb xs → IsDistinct eqb (filter p xs)
+distinct_filter p [] once = once
+distinct_filter p (x ∷ xs) once =
+    let rest = distinct_filter p xs (IsDistinct-tail eqb x xs once) in
+    let P : Bool → Type 0 = λ b. IsDistinct eqb (cond b (x ∷ filter p xs) (filter p xs)) in
+    elim (p x) as P [ true ↦ IsDistinct-cons eqb x (filter p xs) (all_apart x p xs (IsDistinct-head eqb x xs once)) rest | false ↦ rest ]
+
+head_or_rest : {A : Type 0} (x : A) (xs : List A) (a : A) → Contains (x ∷ xs) a → (x ≡ a) ⊎ Contains xs a
+head_or_rest x xs a (zero, lt, e) = inl e
+head_or_rest x xs a (suc n, lt, e) = inr (n, omega arith, e)
+
+Contains-filtered : (p : ℕ → Bool) (xs : List ℕ) (a : ℕ) → Contains (filter p xs) a → Contains xs a × (p a ≡ true)
+Contains-filtered p [] a (k, lt, e) = absurd (omega arith)
+Contains-filtered p (x ∷ xs) a h =
+    let later : Contains (filter p xs) a → Contains (x ∷ xs) a × (p a ≡ true) = λ l. let r = Contains-filtered p xs a l in (Contains-append_right (x ∷ []) xs a r.0, r.1) in
+    let P : Bool → Type 0 = λ b. p x ≡ b → Contains (cond b (x ∷ filter p xs) (filter p xs)) a → Contains (x ∷ xs) a × (p a ≡ true) in
+    elim (p x) as P [
+      | true ↦ λ e l. ⊎_elim (λ same. ((0, omega arith, same), subst (λ n. p n ≡ true) same e)) later (head_or_rest x (filter p xs) a l)
+      | false ↦ λ e l. later l
+    ] refl h
+
+Contains-passed : (p : ℕ → Bool) (xs : List ℕ) (a : ℕ) → Contains xs a → p a ≡ true → Contains (filter p xs) a
+Contains-passed p [] a h e = h
+Contains-passed p (x ∷ xs) a h e =
+    let P : Bool → Type 0 = λ b. p x ≡ b → Contains (cond b (x ∷ filter p xs) (filter p xs)) a in
+    elim (p x) as P [
+      | true ↦ λ t. ⊎_elim (λ same. (0, omega arith, same)) (λ l. Contains-append_right (x ∷ []) (filter p xs) a (Contains-passed p xs a l e)) (head_or_rest x xs a h)
+      | false ↦ λ t. ⊎_elim (λ same. absurd (true_not_false e (subst (λ n. p n ≡ false) same t))) (λ l. Contains-passed p xs a l e) (head_or_rest x xs a h)
+    ] refl
+
+-- a filter of values by what their numbers pass
+filter_numbers : {A B : Type 0} (value : A → B) (number : B → ℕ) (p : A → Bool) (q : ℕ → Bool) (xs : List A) → ((x : A) → Contains xs x → p x ≡ q (number (value x)))
+    → map number (map value (filter p xs)) ≡ filter q (map (λ x. number (value x)) xs)
+filter_numbers value number p q [] same = refl
+filter_numbers {A} value number p q (x ∷ xs) same =
+    let rest = filter_numbers value number p q xs (λ y h. same y (Contains-append_right (x ∷ []) xs y h)) in
+    let split : (b : Bool) → map number (map value (cond b (x ∷ filter p xs) (filter p xs))) ≡ cond b (number (value x) ∷ map number (map value (filter p xs))) (map number (map value (filter p xs))) =
+    λ b. elim b as (λ b. map number (map value (cond b (x ∷ filter p xs) (filter p xs))) ≡ cond b (number (value x) ∷ map number (map value (filter p xs))) (map number (map value (filter p xs)))) [ true ↦ refl | false ↦ refl ] in
+    split (p x) ∙ ap (λ b. cond b (number (value x) ∷ map number (map value (filter p xs))) (map number (map value (filter p xs)))) (same x (0, omega arith, refl))
+    ∙ ap (λ l. cond (q (number (value x))) (number (value x) ∷ l) l) rest
+
+module _ {T ID : Type 0} (w : Numbered T ID) where
+  abbrev pub Apart : (ID → ID → Bool) → Type 0
+  Apart eq = (i j : ID) → w.is_node (w.id i) ≡ true → w.is_node (w.id j) ≡ true → eq i j ≡ (w.id i == w.id j)
+
+  abbrev Numbers : List T → List ℕ
+  Numbers xs = map w.node xs
+
+  abbrev pub both_nodes : (xs ys : List ℕ) → AreNodes w xs → AreNodes w ys → AreNodes w (xs ++ ys)
+  both_nodes xs ys first second = λ a h. ⊎_elim (first a) (second a) (Contains-append_cases xs ys a h)
+
+  -- the map has these marks for the nodes, and those that are said to wait do, each once
+  pub record KnowsMarks (m : ℕ → Reach) (waiting : List T) (find : ID → Mark) : Type 0 where
+    pub knows : (i : ID) → w.is_node (w.id i) ≡ true → find i ≡ record { reach = m (w.id i); waits = has (map w.node waiting) (w.id i) }
+    pub distinct : IsDistinct eqb (map w.node waiting)
+
+  -- ---- a node is marked
+
+  -- by which one more may wait
+  abbrev pub Joins : (waiting waiting2 : List T) (y : ℕ) (known added : Reach) → Type 0
+  Joins waiting waiting2 y known added = (b : ℕ) → has (map w.node waiting2) b ≡ (has (map w.node waiting) b || ((b == y) && grows known added))
+
+  joins : (waiting waiting2 : List T) (x : T) (known added : Reach) (mark : Mark) → mark ≡ record { reach = known; waits = has (map w.node waiting) (w.node x) }
+      → MatchBool (starts_waiting mark added) (IsPermutation (x ∷ waiting) waiting2) (waiting2 ≡ waiting) → IsDistinct eqb (map w.node waiting)
+      → Joins waiting waiting2 (w.node x) known added × IsDistinct eqb (map w.node waiting2)
+  joins waiting waiting2 x known added mark is puts once =
+      let y = w.node x in
+      let old = map w.node waiting in
+      let result : Type 0 = ((b : ℕ) → has (map w.node waiting2) b ≡ (has old b || ((b == y) && grows known added))) × IsDistinct eqb (map w.node waiting2) in
+      let P : Bool → Type 0 = λ t. (grows known added && not (has old y)) ≡ t → MatchBool t (IsPermutation (x ∷ waiting) waiting2) (waiting2 ≡ waiting) → result in
+      elim (grows known added && not (has old y)) as P [
+        | true ↦ λ e p.
+            let parts = and_parts (grows known added) (not (has old y)) e in
+            let q = IsPermutation-map w.node (x ∷ waiting) waiting2 p in (
+              (λ b. has-permutation (y ∷ old) (map w.node waiting2) q b ∙ moved (b == y) (has old b) (grows known added) parts.0),
+              distinct_put old (map w.node waiting2) y q once (is_false (has old y) parts.1),
+            )
+        | false ↦ λ e same. (
+          (λ b. ap (λ l. has (map w.node l) b) same ∙ stays b (b == y) (grows known added) refl refl e),
+          subst (λ l. IsDistinct eqb (map w.node l)) (sym same) once,
+        )
+      ] refl (subst (λ k. MatchBool (starts_waiting k added) (IsPermutation (x ∷ waiting) waiting2) (waiting2 ≡ waiting)) is puts)
+    where
+      stays : (b : ℕ) (t g : Bool) → b == w.node x ≡ t → grows known added ≡ g → (grows known added && not (has (map w.node waiting) (w.node x))) ≡ false
+          → has (map w.node waiting) b ≡ (has (map w.node waiting) b || (t && g))
+      stays b false g at is none = sym (or_false (has (map w.node waiting) b))
+      stays b true false at is none = sym (or_false (has (map w.node waiting) b))
+      stays b true true at is none =
+          absorbed (has (map w.node waiting) b) true true
+          (subst (λ n. has (map w.node waiting) n ≡ true) (sym ((Decides-eqb b (w.node x)).0 at)) (must_wait (grows known added) (has (map w.node waiting) (w.node x)) none is))
+
+  same_mark : (a b : Reach) (u v : Bool) → a ≡ b → u ≡ v → (let left : Mark = record { reach = a; waits = u } in let right : Mark = record { reach = b; waits = v } in left ≡ right)
+  same_mark a b u v e f = let make : Reach → Bool → Mark = λ r t. record { reach = r; waits = t } in ap (λ r. make r u) e ∙ ap (make b) f
+
+  pub knows_more : (eq : ID → ID → Bool) (m : ℕ → Reach) (waiting waiting2 : List T) (find find2 : ID → Mark) (x : T) (i : ID) (added : Reach) → Apart eq → KnowsMarks m waiting find
+      → w.is_node (w.node x) ≡ true → w.id i ≡ w.node x → ((q : ID) → find2 q ≡ cond (eq i q) (marked (find i) added) (find q))
+      → MatchBool (starts_waiting (find i) added) (IsPermutation (x ∷ waiting) waiting2) (waiting2 ≡ waiting)
+      → KnowsMarks (marks_more m (w.node x) added) waiting2 find2 × Joins waiting waiting2 (w.node x) (m (w.node x)) added
+  knows_more eq m waiting waiting2 find find2 x i added apart k here same updates puts =
+      let y = w.node x in
+      let here_id : w.is_node (w.id i) ≡ true = subst (λ n. w.is_node n ≡ true) (sym same) here in
+      let old = map w.node waiting in
+      let is : find i ≡ record { reach = m y; waits = has old y } = k.knows i here_id ∙ ap (λ n. record { reach = m n; waits = has old n }) same in
+      let more = joins waiting waiting2 x (m y) added (find i) is puts k.distinct in (
+        record {
+          knows = λ q there.
+              let told : eq i q ≡ (w.id q == y) = apart i q here_id there ∙ ap (λ n. n == w.id q) same ∙ eqb-flip y (w.id q) in
+              let new : Mark = marked (find i) added in
+              let P : Bool → Type 0 = λ t. w.id q == y ≡ t
+              → cond t new (find q) ≡ record { reach = cond t (joined (m (w.id q)) added) (m (w.id q)); waits = has (map w.node waiting2) (w.id q) } in
+              updates q ∙ ap (λ b. cond b new (find q)) told
+              ∙ elim (w.id q == y) as P [
+                | true ↦ λ e.
+                    let at : w.id q ≡ y = (Decides-eqb (w.id q) y).0 e in
+                    ap (λ mark. marked mark added) is
+                    ∙ same_mark (joined (m y) added) (joined (m (w.id q)) added) (has old y || grows (m y) added) (has (map w.node waiting2) (w.id q)) (ap (λ n. joined (m n) added) (sym at))
+                    (ap (λ n. has old n || grows (m y) added) (sym at) ∙ ap (λ t. has old (w.id q) || (t && grows (m y) added)) (sym e) ∙ sym (more.0 (w.id q)))
+                | false ↦ λ e.
+                    k.knows q there
+                    ∙ same_mark (m (w.id q)) (m (w.id q)) (has old (w.id q)) (has (map w.node waiting2) (w.id q)) refl
+                    (sym (or_false (has old (w.id q))) ∙ ap (λ t. has old (w.id q) || (t && grows (m y) added)) (sym e) ∙ sym (more.0 (w.id q)))
+              ] refl;
+          distinct = more.1;
+        },
+        more.0,
+      )
+
+  -- ---- the sets are marked
+
+  abbrev pub started : List ℕ → List ℕ → ℕ → Reach
+  started set1 set2 b = record { left = has set1 b; right = has set2 b; below = false }
+
+  abbrev pub on_left : Reach
+  on_left = record { left = true; right = false; below = false }
+
+  abbrev pub on_right : Reach
+  on_right = record { left = false; right = true; below = false }
+
+  pub record IsStarting (set1 set2 : List ℕ) (waiting : List T) (find : ID → Mark) : Type 0 where
+    pub marks : KnowsMarks (started set1 set2) waiting find
+    pub waits : (b : ℕ) → has (map w.node waiting) b ≡ (has set1 b || has set2 b)
+
+  pub starting_none : (waiting : List T) (find : ID → Mark) → waiting ≡ [] → ((i : ID) → find i ≡ unmarked) → IsStarting [] [] waiting find
+  unfolding IsDistinct
+  starting_none waiting find none unknown = rw none (record { marks = record { knows = λ i h. unknown i; distinct = tt }; waits = λ b. refl })
+
+  at_same : (b y : ℕ) (F : ℕ → Bool) → ((b == y) && F y) ≡ ((b == y) && F b)
+  at_same b y F =
+      let P : Bool → Type 0 = λ t. b == y ≡ t → (t && F y) ≡ (t && F b) in
+      elim (b == y) as P [ true ↦ λ e. ap F (sym ((Decides-eqb b y).0 e)) | false ↦ λ e. refl ] refl
+
+  left_mark : (t h g : Bool) → (let known : Reach = record { left = h; right = g; below = false } in let more : Reach = record { left = t || h; right = g; below = false } in cond t (joined known on_left) known ≡ more)
+  left_mark true true true = refl
+  left_mark true true false = refl
+  left_mark true false true = refl
+  left_mark true false false = refl
+  left_mark false h g = refl
+
+  right_mark : (t h g : Bool) → (let known : Reach = record { left = h; right = g; below = false } in let more : Reach = record { left = h; right = t || g; below = false } in cond t (joined known on_right) known ≡ more)
+  right_mark true true true = refl
+  right_mark true true false = refl
+  right_mark true false true = refl
+  right_mark true false false = refl
+  right_mark false h g = refl
+
+  left_waits : (t h g : Bool) → ((h || g) || (t && ((true && not h) || (false && not g)))) ≡ ((t || h) || g)
+  left_waits true true g = refl
+  left_waits true false true = refl
+  left_waits true false false = refl
+  left_waits false h g = or_false (h || g)
+
+  right_waits : (t h g : Bool) → ((h || g) || (t && ((false && not h) || (true && not g)))) ≡ (h || (t || g))
+  right_waits true true g = refl
+  right_waits true false true = refl
+  right_waits true false false = refl
+  right_waits false h g = or_false (h || g)
+
+  other_marks : (m m2 : ℕ → Reach) (waiting : List T) (find : ID → Mark) → ((b : ℕ) → m b ≡ m2 b) → KnowsMarks m waiting find → KnowsMarks m2 waiting find
+  other_marks m m2 waiting find same k = record {
+    knows = λ i h. k.knows i h ∙ ap (λ r. record { reach = r; waits = has (map w.node waiting) (w.id i) }) (same (w.id i));
+    distinct = k.distinct;
+  }
+
+  pub starting_left : (eq : ID → ID → Bool) (set1 set2 : List ℕ) (waiting waiting2 : List T) (find find2 : ID → Mark) (x : T) (i : ID) → Apart eq → IsStarting set1 set2 waiting find
+      → w.is_node (w.node x) ≡ true → w.id i ≡ w.node x → ((q : ID) → find2 q ≡ cond (eq i q) (marked (find i) on_left) (find q))
+      → MatchBool (starts_waiting (find i) on_left) (IsPermutation (x ∷ waiting) waiting2) (waiting2 ≡ waiting) → IsStarting (set1 ++ w.node x ∷ []) set2 waiting2 find2
+  starting_left eq set1 set2 waiting waiting2 find find2 x i apart k here same updates puts =
+      let y = w.node x in
+      let more = knows_more eq (started set1 set2) waiting waiting2 find find2 x i on_left apart k.marks here same updates puts in
+      record {
+        marks = other_marks (marks_more (started set1 set2) y on_left) (started (set1 ++ y ∷ []) set2) waiting2 find2
+            (λ b. left_mark (b == y) (has set1 b) (has set2 b) ∙ ap (λ t. record { left = t; right = has set2 b; below = false }) (sym (has-push set1 y b))) more.0;
+        waits = λ b.
+            more.1 b ∙ ap (λ t. t || ((b == y) && grows (started set1 set2 y) on_left)) (k.waits b)
+            ∙ ap (λ t. (has set1 b || has set2 b) || t) (at_same b y (λ n. grows (started set1 set2 n) on_left))
+            ∙ left_waits (b == y) (has set1 b) (has set2 b) ∙ ap (λ t. t || has set2 b) (sym (has-push set1 y b));
+      }
+
+  pub starting_right : (eq : ID → ID → Bool) (set1 set2 : List ℕ) (waiting waiting2 : List T) (find find2 : ID → Mark) (x : T) (i : ID) → Apart eq → IsStarting set1 set2 waiting find
+      → w.is_node (w.node x) ≡ true → w.id i ≡ w.node x → ((q : ID) → find2 q ≡ cond (eq i q) (marked (find i) on_right) (find q))
+      → MatchBool (starts_waiting (find i) on_right) (IsPermutation (x ∷ waiting) waiting2) (waiting2 ≡ waiting) → IsStarting set1 (set2 ++ w.node x ∷ []) waiting2 find2
+  starting_right eq set1 set2 waiting waiting2 find find2 x i apart k here same updates puts =
+      let y = w.node x in
+      let more = knows_more eq (started set1 set2) waiting waiting2 find find2 x i on_right apart k.marks here same updates puts in
+      record {
+        marks = other_marks (marks_more (started set1 set2) y on_right) (started set1 (set2 ++ y ∷ [])) waiting2 find2
+            (λ b. right_mark (b == y) (has set1 b) (has set2 b) ∙ ap (λ t. record { left = has set1 b; right = t; below = false }) (sym (has-push set2 y b))) more.0;
+        waits = λ b.
+            more.1 b ∙ ap (λ t. t || ((b == y) && grows (started set1 set2 y) on_right)) (k.waits b)
+            ∙ ap (λ t. (has set1 b || has set2 b) || t) (at_same b y (λ n. grows (started set1 set2 n) on_right))
+            ∙ right_waits (b == y) (has set1 b) (has set2 b) ∙ ap (λ t. has set1 b || t) (sym (has-push set2 y b));
+      }
+
+  -- ---- the search
+
+  abbrev pair_node : T × ID → ℕ
+  pair_node entry = w.node entry.0
+
+  pub record HoldsMarks (set1 set2 : List ℕ) (m : ℕ → Reach) (waiting : List T) (common : List (T × ID)) (rooted : Bool) (find : ID → Mark) : Type 0 where
+    pub marking : IsMarking w.graph set1 set2 m (map w.node waiting) (map (λ entry. w.node entry.0) common) rooted
+    pub marks : KnowsMarks m waiting find
+    pub ids : (entry : T × ID) → Contains common entry → w.id entry.1 ≡ w.node entry.0
+    pub reached : (a : ℕ) → Contains (map w.node waiting) a → ReachedFrom w.graph (set1 ++ set2) a
+
+  or_true : (a b : Bool) → a ≡ true → (a || b) ≡ true
+  or_true true b e = refl
+  or_true false b e = absurd (true≢false (sym e))
+
+  or_other : (a b : Bool) → b ≡ true → (a || b) ≡ true
+  or_other true b e = refl
+  or_other false b e = e
+
+  or_one : (a b : Bool) → (a || b) ≡ true → (a ≡ true) ⊎ (b ≡ true)
+  or_one true b e = inl refl
+  or_one false b e = inr e
+
+  pub started_holds : (set1 set2 : List ℕ) (waiting : List T) (common : List (T × ID)) (find : ID → Mark) → common ≡ [] → IsStarting set1 set2 waiting find
+      → HoldsMarks set1 set2 (started set1 set2) waiting common false find
+  unfolding IsDistinct
+  started_holds set1 set2 waiting common find none k =
+      let W = map w.node waiting in
+      let waits : (b : ℕ) → (has set1 b || has set2 b) ≡ true → Contains W b = λ b h. Contains-from_has W b (k.waits b ∙ h) in
+      let nobody : (entry : T × ID) → Contains [] entry → ⊥ = λ entry (n, lt, e). omega arith in
+      rw none (record {
+        marking = record {
+          left = λ a h. (a, Contains-from_has set1 a h, (0, refl));
+          right = λ a h. (a, Contains-from_has set2 a h, (0, refl));
+          below = λ a h. absurd (true≢false (sym h));
+          first = λ a h. has-from_Contains set1 a h;
+          second = λ a h. has-from_Contains set2 a h;
+          passed = λ a b closed e. record {
+            left = λ h. absurd (closed (waits a (or_true (has set1 a) (has set2 a) h)));
+            right = λ h. absurd (closed (waits a (or_other (has set1 a) (has set2 a) h)));
+            below = λ (l, h). absurd (closed (waits a (or_true (has set1 a) (has set2 a) l)));
+          };
+          common = λ a. ((λ h. absurd (nothing a h)), (λ (both, closed). absurd (closed (waits a (or_true (has set1 a) (has set2 a) both.0)))));
+          once = tt;
+          leads = λ rootless acyclic a both. (a, waits a (or_true (has set1 a) (has set2 a) both.0), both, (0, refl));
+        };
+        marks = k.marks;
+        ids = λ entry h. absurd (nobody entry h);
+        reached = λ a h. (
+          a,
+          ⊎_elim (λ l. Contains-append_left set1 set2 a (Contains-from_has set1 a l)) (λ r. Contains-append_right set1 set2 a (Contains-from_has set2 a r))
+              (or_one (has set1 a) (has set2 a) (sym (k.waits a) ∙ has-from_Contains W a h)),
+          (0, refl),
+        );
+      })
+
+  -- the node a has been taken from those that wait, and hands on what is known of it to its neighbours, as far as they were given
+  pub record HandsOn (set1 set2 : List ℕ) (m : ℕ → Reach) (a : ℕ) (known : Reach) (waiting : List T) (common : List (T × ID)) (rooted : Bool) (find : ID → Mark) (given : List ℕ) : Type 0 where
+    pub marking : IsMarking w.graph set1 set2 m (a ∷ map w.node waiting) (map (λ entry. w.node entry.0) common) rooted
+    pub marks : KnowsMarks m waiting find
+    pub ids : (entry : T × ID) → Contains common entry → w.id entry.1 ≡ w.node entry.0
+    pub reached : (b : ℕ) → Contains (a ∷ map w.node waiting) b → ReachedFrom w.graph (set1 ++ set2) b
+    pub apart : has (map w.node waiting) a ≡ false
+    pub same_left : (m a).left ≡ known.left
+    pub same_right : (m a).right ≡ known.right
+    pub handed : (b : ℕ) → Contains given b → Passes known (m b)
+
+  -- it waits no longer
+  hands_none : (eq : ID → ID → Bool) (set1 set2 : List ℕ) (m : ℕ → Reach) (waiting waiting2 : List T) (common : List (T × ID)) (rooted : Bool) (find find2 : ID → Mark) (x : T) (i : ID) (known : Reach)
+      → Apart eq → HoldsMarks set1 set2 m waiting common rooted find → IsPermutation waiting (x ∷ waiting2) → w.is_node (w.node x) ≡ true → w.id i ≡ w.node x → known ≡ (find i).reach
+      → (IsTrue (find i).waits → (q : ID) → find2 q ≡ cond (eq i q) (asked (find i)) (find q)) → HandsOn set1 set2 m (w.node x) known waiting2 common rooted find2 []
+  hands_none eq set1 set2 m waiting waiting2 common rooted find find2 x i known apart k popped here same is updates =
+      let y = w.node x in
+      let W = map w.node waiting in
+      let later = map w.node waiting2 in
+      let moves : IsPermutation W (y ∷ later) = IsPermutation-map w.node waiting (x ∷ waiting2) popped in
+      let to : (b : ℕ) → Contains W b → Contains (y ∷ later) b = λ b h. Contains-permutation W (y ∷ later) b moves h in
+      let back : (b : ℕ) → Contains (y ∷ later) b → Contains W b = λ b h. Contains-permutation (y ∷ later) W b (IsPermutation-sym W (y ∷ later) moves) h in
+      let once : IsDistinct eqb (y ∷ later) = IsDistinct-IsPermutation eqb eqb-flip W (y ∷ later) moves k.marks.distinct in
+      let fresh : has later y ≡ false = none_has y later (IsDistinct-head eqb y later once) in
+      let here_id : w.is_node (w.id i) ≡ true = subst (λ n. w.is_node n ≡ true) (sym same) here in
+      let mark : find i ≡ record { reach = m y; waits = has W y } = k.marks.knows i here_id ∙ ap (λ n. record { reach = m n; waits = has W n }) same in
+      let waited : has W y ≡ true = has-from_Contains W y (back y (0, omega arith, refl)) in
+      let told = updates (ap (λ mark. mark.waits) mark ∙ waited) in
+      let reach : known ≡ m y = is ∙ ap (λ mark. mark.reach) mark in
+      record {
+        marking = record {
+          left = k.marking.left;
+          right = k.marking.right;
+          below = k.marking.below;
+          first = k.marking.first;
+          second = k.marking.second;
+          passed = λ c d closed e. k.marking.passed c d (λ h. closed (to c h)) e;
+          common = λ c. ((λ h. let r = (k.marking.common c).0 h in (r.0, (λ at. r.1 (back c at)))), (λ (both, closed). (k.marking.common c).1 (both, (λ at. closed (to c at)))));
+          once = k.marking.once;
+          leads = λ rootless acyclic c both. let v = k.marking.leads rootless acyclic c both in (v.0, to v.0 v.1, v.2, v.3);
+        };
+        marks = record {
+          knows = λ q there.
+              let equal : eq i q ≡ (w.id q == y) = apart i q here_id there ∙ ap (λ n. n == w.id q) same ∙ eqb-flip y (w.id q) in
+              let new : Mark = asked (find i) in
+              let P : Bool → Type 0 = λ t. w.id q == y ≡ t → cond t new (find q) ≡ record { reach = m (w.id q); waits = has later (w.id q) } in
+              told q ∙ ap (λ b. cond b new (find q)) equal
+              ∙ elim (w.id q == y) as P [
+                | true ↦ λ e.
+                    let at : w.id q ≡ y = (Decides-eqb (w.id q) y).0 e in
+                    ap asked mark ∙ same_mark (m y) (m (w.id q)) false (has later (w.id q)) (ap m (sym at)) (sym fresh ∙ ap (has later) (sym at))
+                | false ↦ λ e.
+                    k.marks.knows q there ∙ same_mark (m (w.id q)) (m (w.id q)) (has W (w.id q)) (has later (w.id q)) refl (sym (has-permutation W (y ∷ later) moves (w.id q)) ∙ ap (λ t. t || has later (w.id q)) e)
+              ] refl;
+          distinct = IsDistinct-tail eqb y later once;
+        };
+        ids = k.ids;
+        reached = λ b h. k.reached b (back b h);
+        apart = fresh;
+        same_left = ap (λ r. r.left) (sym reach);
+        same_right = ap (λ r. r.right) (sym reach);
+        handed = λ b h. absurd (nothing b h);
+      }
+
+  -- a node that waited is reached
+  pub was_reached : {set1 set2 : List ℕ} {m : ℕ → Reach} {waiting : List T} {common : List (T × ID)} {rooted : Bool} {find : ID → Mark} (waiting2 : List T) (x : T)
+      → ((a : ℕ) → w.is_node a ≡ true → AreNodes w (w.graph a)) → AreNodes w set1 → AreNodes w set2 → HoldsMarks set1 set2 m waiting common rooted find → IsPermutation waiting (x ∷ waiting2)
+      → ReachedFrom w.graph (set1 ++ set2) (w.node x) × (w.is_node (w.node x) ≡ true)
+  was_reached {set1} {set2} {waiting = waiting} waiting2 x closed first second k popped =
+      let W = map w.node waiting in
+      let moves : IsPermutation W (w.node x ∷ map w.node waiting2) = IsPermutation-map w.node waiting (x ∷ waiting2) popped in
+      let waited = Contains-permutation (w.node x ∷ map w.node waiting2) W (w.node x) (IsPermutation-sym W (w.node x ∷ map w.node waiting2) moves) (0, omega arith, refl) in
+      let reached = k.reached (w.node x) waited in
+      (reached, are_nodes {E = ℕ} w (λ a. []) (set1 ++ set2) closed (both_nodes set1 set2 first second) (w.node x) reached)
+
+  -- it is asked: its neighbours are to be met
+  pub asks : {set1 set2 : List ℕ} {m : ℕ → Reach} {waiting waiting2 : List T} {common : List (T × ID)} {rooted : Bool} {find : ID → Mark} (eq : ID → ID → Bool) (find2 : ID → Mark) (x : T) (i : ID) (known : Reach)
+      → ((a : ℕ) → w.is_node a ≡ true → AreNodes w (w.graph a)) → Apart eq → AreNodes w set1 → AreNodes w set2 → HoldsMarks set1 set2 m waiting common rooted find
+      → IsPermutation waiting (x ∷ waiting2) → (w.is_node (w.node x) ≡ true → w.id i ≡ w.node x) → known ≡ (find i).reach
+      → (IsTrue (find i).waits → (q : ID) → find2 q ≡ cond (eq i q) (asked (find i)) (find q))
+      → (w.is_node (w.node x) ≡ true) × (w.id i ≡ w.node x) × HandsOn set1 set2 m (w.node x) known waiting2 common rooted find2 []
+  asks {set1} {set2} {m} {waiting} {waiting2} {common} {rooted} {find} eq find2 x i known closed apart first second k popped named is updates =
+      let here = (was_reached waiting2 x closed first second k popped).1 in
+      let same = named here in
+      (here, same, hands_none eq set1 set2 m waiting waiting2 common rooted find find2 x i known apart k popped here same is updates)
+
+  or_self : (b : Bool) → (b || b) ≡ b
+  or_self true = refl
+  or_self false = refl
+
+  not_self : (b : Bool) → (b && not b) ≡ false
+  not_self true = refl
+  not_self false = refl
+
+  and_false : (b : Bool) → (b && false) ≡ false
+  and_false true = refl
+  and_false false = refl
+
+  full : (known added : Reach) → known.left ≡ added.left → known.right ≡ added.right → grows known (handed_on added) ≡ false
+  full known added l r =
+      ap (λ t. (added.left && not t) || (added.right && not known.right)) l ∙ ap (λ t. (added.left && not added.left) || (added.right && not t)) r
+      ∙ ap (λ t. t || (added.right && not added.right)) (not_self added.left) ∙ not_self added.right
+
+  -- one neighbour more has it
+  pub hands_more : (eq : ID → ID → Bool) (set1 set2 : List ℕ) (m : ℕ → Reach) (a : ℕ) (known : Reach) (waiting waiting2 : List T) (common : List (T × ID)) (rooted : Bool) (find find2 : ID → Mark) (given : List ℕ) (x : T) (i : ID)
+      → Apart eq → HandsOn set1 set2 m a known waiting common rooted find given → HasEdge w.graph a (w.node x) → w.is_node (w.node x) ≡ true → w.id i ≡ w.node x
+      → ((q : ID) → find2 q ≡ cond (eq i q) (marked (find i) (handed_on known)) (find q))
+      → MatchBool (starts_waiting (find i) (handed_on known)) (IsPermutation (x ∷ waiting) waiting2) (waiting2 ≡ waiting)
+      → HandsOn set1 set2 (marks_more m (w.node x) (handed_on known)) a known waiting2 common rooted find2 (given ++ w.node x ∷ [])
+  hands_more eq set1 set2 m a known waiting waiting2 common rooted find find2 given x i apart k edge here same updates puts =
+      let y = w.node x in
+      let r = handed_on known in
+      let W = map w.node waiting in
+      let later = map w.node waiting2 in
+      let more = knows_more eq m waiting waiting2 find find2 x i r apart k.marks here same updates puts in
+      let keeps : (b : ℕ) → Contains (a ∷ W) b → Contains (a ∷ later) b = λ b h.
+      ⊎_elim (λ first. (0, omega arith, first))
+      (λ rest. Contains-append_right (a ∷ []) later b (Contains-from_has later b (more.1 b ∙ or_true (has W b) ((b == y) && grows (m y) r) (has-from_Contains W b rest))))
+      (head_or_rest a W b h) in
+      let adds : (b : ℕ) → Contains (a ∷ later) b → Contains (a ∷ W) b ⊎ ((b ≡ y) × (grows (m y) r ≡ true)) = λ b h.
+      ⊎_elim (λ first. inl (0, omega arith, first))
+      (λ rest. ⊎_elim (λ old. inl (Contains-append_right (a ∷ []) W b (Contains-from_has W b old)))
+      (λ new. let parts = and_parts (b == y) (grows (m y) r) new in inr ((Decides-eqb b y).0 parts.0, parts.1))
+      (or_one (has W b) ((b == y) && grows (m y) r) (sym (more.1 b) ∙ has-from_Contains later b rest)))
+      (head_or_rest a later b h) in
+      let grown : grows (m y) r ≡ true → Contains (a ∷ later) y = λ e.
+      let t : (y == y) ≡ true = (Decides-eqb y y).1 refl in
+      let f : ((y == y) && grows (m y) r) ≡ true = ap (λ b. b && grows (m y) r) t ∙ e in
+      Contains-append_right (a ∷ []) later y (Contains-from_has later y (more.1 y ∙ or_other (has W y) ((y == y) && grows (m y) r) f)) in
+      record {
+        marking = marking_more w.graph set1 set2 (a ∷ later) known a y k.marking (λ h. k.same_left ∙ h) (λ h. k.same_right ∙ h) edge keeps adds grown;
+        marks = more.0;
+        ids = k.ids;
+        reached = λ b h. ⊎_elim (λ old. k.reached b old) (λ new. subst (λ n. ReachedFrom w.graph (set1 ++ set2) n) (sym new.0) (ReachedFrom-edge w.graph (set1 ++ set2) a y (k.reached a (0, omega arith, refl)) edge)) (adds b h);
+        apart =
+            more.1 a ∙ ap (λ t. t || ((a == y) && grows (m y) r)) k.apart ∙ at_same a y (λ n. grows (m n) r)
+            ∙ ap (λ t. (a == y) && t) (full (m a) known k.same_left k.same_right) ∙ and_false (a == y);
+        same_left = at_mark m y r a (λ l. l.left ≡ known.left) (λ at. ap (λ t. t || known.left) k.same_left ∙ or_self known.left) (λ ne. k.same_left);
+        same_right = at_mark m y r a (λ l. l.right ≡ known.right) (λ at. ap (λ t. t || known.right) k.same_right ∙ or_self known.right) (λ ne. k.same_right);
+        handed = λ b h. ⊎_elim (λ old. passes_kept m y r known b (k.handed b old)) (λ new. subst (λ n. Passes known (marks_more m y r n)) new (passes_marked m known y)) (Contains-push_cases given y b h);
+      }
+
+  not_waiting : {set1 set2 : List ℕ} {m : ℕ → Reach} {a : ℕ} {known : Reach} {waiting : List T} {common : List (T × ID)} {rooted : Bool} {find : ID → Mark} {given : List ℕ}
+      → HandsOn set1 set2 m a known waiting common rooted find given → Contains (map w.node waiting) a → ⊥
+  not_waiting {a = a} {waiting = waiting} k h = true≢false (sym (has-from_Contains (map w.node waiting) a h) ∙ k.apart)
+
+  passes_all : {set1 set2 : List ℕ} {m : ℕ → Reach} {a : ℕ} {known : Reach} {waiting : List T} {common : List (T × ID)} {rooted : Bool} {find : ID → Mark} {given : List ℕ}
+      → HandsOn set1 set2 m a known waiting common rooted find given → ((b : ℕ) → HasEdge w.graph a b → Contains given b) → (b : ℕ) → HasEdge w.graph a b → Passes (m a) (m b)
+  passes_all k all b edge =
+      let p = k.handed b (all b edge) in
+      record { left = λ h. p.left (sym k.same_left ∙ h); right = λ h. p.right (sym k.same_right ∙ h); below = λ (l, r). p.below (sym k.same_left ∙ l, sym k.same_right ∙ r) }
+
+  not_found : {set1 set2 : List ℕ} {m : ℕ → Reach} {a : ℕ} {known : Reach} {waiting : List T} {common : List (T × ID)} {rooted : Bool} {find : ID → Mark} {given : List ℕ}
+      → HandsOn set1 set2 m a known waiting common rooted find given → has (map (λ entry. w.node entry.0) common) a ≡ false
+  not_found {a = a} {common = common} k =
+      let found = map (λ (entry : T × ID). w.node entry.0) common in
+      let P : Bool → Type 0 = λ t. has found a ≡ t → t ≡ false in
+      elim (has found a) as P [ true ↦ λ e. absurd (((k.marking.common a).0 (Contains-from_has found a e)).1 (0, omega arith, refl)) | false ↦ λ e. refl ] refl
+
+  found_more : (common : List (T × ID)) (x : T) (i : ID) → map (λ (entry : T × ID). w.node entry.0) (common ++ (x, i) ∷ []) ≡ map (λ entry. w.node entry.0) common ++ w.node x ∷ []
+  found_more common x i = map-append (λ (entry : T × ID). w.node entry.0) common ((x, i) ∷ [])
+
+  pub ids_more : (common : List (T × ID)) (x : T) (i : ID) → ((entry : T × ID) → Contains common entry → w.id entry.1 ≡ w.node entry.0) → w.id i ≡ w.node x
+      → (entry : T × ID) → Contains (common ++ (x, i) ∷ []) entry → w.id entry.1 ≡ w.node entry.0
+  ids_more common x i ids same entry h = ⊎_elim (λ old. ids entry old) (λ new. subst (λ (e : T × ID). w.id e.1 ≡ w.node e.0) new same) (Contains-push_cases common (x, i) entry h)
+
+  -- all its neighbours have it, and the node is common
+  hands_common : {set1 set2 : List ℕ} {m : ℕ → Reach} {known : Reach} {waiting : List T} {common : List (T × ID)} {rooted : Bool} {find : ID → Mark} {given : List ℕ} (x : T) (i : ID) (is_root : Bool)
+      → HandsOn set1 set2 m (w.node x) known waiting common rooted find given → w.id i ≡ w.node x → IsBoth known
+      → ((b : ℕ) → HasEdge w.graph (w.node x) b → Contains given b) → (is_root ≡ false → (b : ℕ) × HasEdge w.graph (w.node x) b)
+      → HoldsMarks set1 set2 m waiting (common ++ (x, i) ∷ []) (rooted || is_root) find
+  hands_common {set1} {set2} {m} {known} {waiting} {common} {rooted} {find} {given} x i is_root k same both all asked =
+      let y = w.node x in
+      let found = map (λ (entry : T × ID). w.node entry.0) common in
+      let W = map w.node waiting in
+      let here : IsBoth (m y) = (k.same_left ∙ both.0, k.same_right ∙ both.1) in
+      record {
+        marking = rw (found_more common x i) (marking_asked w.graph set1 set2 y (found ++ y ∷ []) is_root k.marking (not_waiting k) (passes_all k all)
+            (λ c. (
+              (λ h. ⊎_elim (λ old. inl old) (λ new. inr (sym new, here)) (Contains-push_cases found y c h)),
+              (λ h. ⊎_elim (λ old. Contains-append_left found (y ∷ []) c old) (λ new. subst (λ n. Contains (found ++ y ∷ []) n) (sym new.0) (Contains-push found y)) h),
+            ))
+            (IsDistinct-push nat_eq_equiv found y k.marking.once (not_found k)) asked);
+        marks = k.marks;
+        ids = ids_more common x i k.ids same;
+        reached = λ b h. k.reached b (Contains-append_right (y ∷ []) W b h);
+      }
+
+  -- all its neighbours have it, and the node is on one side
+  hands_side : {set1 set2 : List ℕ} {m : ℕ → Reach} {a : ℕ} {known : Reach} {waiting : List T} {common : List (T × ID)} {rooted : Bool} {find : ID → Mark} {given : List ℕ} (is_root : Bool)
+      → HandsOn set1 set2 m a known waiting common rooted find given → (known.left && known.right) ≡ false
+      → ((b : ℕ) → HasEdge w.graph a b → Contains given b) → (is_root ≡ false → (b : ℕ) × HasEdge w.graph a b)
+      → HoldsMarks set1 set2 m waiting common (rooted || is_root) find
+  hands_side {set1} {set2} {m} {a} {known} {waiting} {common} {rooted} {find} {given} is_root k side all asked =
+      let found = map (λ (entry : T × ID). w.node entry.0) common in
+      let W = map w.node waiting in
+      let not_both : (c : ℕ) → c ≡ a → IsBoth (m c) → ⊥ = λ c at (l, r).
+      let left : known.left ≡ true = sym k.same_left ∙ subst (λ n. (m n).left ≡ true) at l in
+      let right : known.right ≡ true = sym k.same_right ∙ subst (λ n. (m n).right ≡ true) at r in
+      true≢false (sym (ap (λ t. t && known.right) left ∙ right) ∙ side) in
+      record {
+        marking = marking_asked w.graph set1 set2 a found is_root k.marking (not_waiting k) (passes_all k all)
+            (λ c. ((λ h. inl h), (λ h. ⊎_elim (λ old. old) (λ new. absurd (not_both c new.0 (subst (λ n. IsBoth (m n)) (sym new.0) new.1))) h)))
+            k.marking.once asked;
+        marks = k.marks;
+        ids = k.ids;
+        reached = λ b h. k.reached b (Contains-append_right (a ∷ []) W b h);
+      }
+
+  -- an asked node whose neighbours were all met is kept where both sets reach it
+  pub hands_over : {set1 set2 : List ℕ} {m : ℕ → Reach} {known : Reach} {waiting : List T} {common common2 : List (T × ID)} {rooted : Bool} {find : ID → Mark} {given : List ℕ} (x : T) (i : ID) (is_root : Bool)
+      → HandsOn set1 set2 m (w.node x) known waiting common rooted find given → w.id i ≡ w.node x → common2 ≡ cond (known.left && known.right) (common ++ (x, i) ∷ []) common
+      → ((b : ℕ) → HasEdge w.graph (w.node x) b → Contains given b) → (is_root ≡ false → (b : ℕ) × HasEdge w.graph (w.node x) b)
+      → HoldsMarks set1 set2 m waiting common2 (rooted || is_root) find
+  hands_over {set1} {set2} {m} {known} {waiting} {common} {common2} {rooted} {find} {given} x i is_root k same kept all asked = by (known.left && known.right) refl kept
+    where
+      Holds : List (T × ID) → Type 0
+      Holds l = HoldsMarks set1 set2 m waiting l (rooted || is_root) find
+
+      by : (both : Bool) → (known.left && known.right) ≡ both → common2 ≡ cond both (common ++ (x, i) ∷ []) common → Holds common2
+      by true e is = subst Holds (sym is) (hands_common x i is_root k same (and_parts known.left known.right e) all asked)
+      by false e is = subst Holds (sym is) (hands_side is_root k e all asked)
+
+  -- ---- the end
+
+  -- one node was left, which both sets reach
+  pub ends_early : {set1 set2 : List ℕ} {m : ℕ → Reach} {known : Reach} {waiting : List T} {common : List (T × ID)} {rooted : Bool} {find : ID → Mark} {given : List ℕ} (x : T) (i : ID)
+      → HandsOn set1 set2 m (w.node x) known waiting common rooted find given → waiting ≡ [] → IsBoth known → rooted ≡ false
+      → IsAtEnd w.graph set1 set2 m (w.node x ∷ []) (map (λ entry. w.node entry.0) common) (map (λ entry. w.node entry.0) (common ++ (x, i) ∷ [])) rooted
+  ends_early {set1} {set2} {m} {known} {waiting} {common} {rooted} {find} {given} x i k none both rootless =
+      let y = w.node x in
+      let found = map (λ (entry : T × ID). w.node entry.0) common in
+      let alone : (b : ℕ) → Contains (y ∷ []) b → y ≡ b = λ b h. ⊎_elim (λ e. e) (λ r. absurd (nothing b r)) (head_or_rest y [] b h) in
+      rw (found_more common x i) (record {
+        marking = subst (λ l. IsMarking w.graph set1 set2 m (y ∷ map w.node l) found rooted) none k.marking;
+        one = λ a b h g. sym (alone a h) ∙ alone b g;
+        last = λ a h. (subst (λ n. IsBoth (m n)) (alone a h) (k.same_left ∙ both.0, k.same_right ∙ both.1), rootless);
+        either = λ a. (
+          (λ h. ⊎_elim (λ old. inl old) (λ new. inr (0, omega arith, new)) (Contains-push_cases found y a h)),
+          (λ h. ⊎_elim (λ old. Contains-append_left found (y ∷ []) a old) (λ new. Contains-append_right found (y ∷ []) a new) h),
+        );
+        each_once = IsDistinct-push nat_eq_equiv found y k.marking.once (not_found k);
+      })
+
+  -- no node waits
+  pub ends : {set1 set2 : List ℕ} {m : ℕ → Reach} {waiting : List T} {common : List (T × ID)} {rooted : Bool} {find : ID → Mark} → HoldsMarks set1 set2 m waiting common rooted find → waiting ≡ []
+      → IsAtEnd w.graph set1 set2 m [] (map (λ entry. w.node entry.0) common) (map (λ entry. w.node entry.0) common) rooted
+  ends {set1} {set2} {m} {waiting} {common} {rooted} {find} k none = record {
+    marking = subst (λ l. IsMarking w.graph set1 set2 m (map w.node l) (map (λ (entry : T × ID). w.node entry.0) common) rooted) none k.marking;
+    one = λ a b h. absurd (nothing a h);
+    last = λ a h. absurd (nothing a h);
+    either = λ a. ((λ h. inl h), (λ h. ⊎_elim (λ old. old) (λ new. absurd (nothing a new)) h));
+    each_once = k.marking.once;
+  }
+
+  -- so the nodes without a common one above them are the closest ones
+  pub closest_at_end : {set1 set2 : List ℕ} {m : ℕ → Reach} {waiting : List T} {rooted : Bool} {find : ID → Mark} (todo found : List ℕ) (all : List (T × ID))
+      → IsAtEnd w.graph set1 set2 m todo found (map (λ entry. w.node entry.0) all) rooted → KnowsMarks m waiting find → ((entry : T × ID) → Contains all entry → w.id entry.1 ≡ w.node entry.0)
+      → ((a : ℕ) → w.is_node a ≡ true → AreNodes w (w.graph a)) → AreNodes w set1 → HasNoCommonCycle w.graph set1 set2
+      → AreClosestCommon w.graph set1 set2 (map w.node (closest_of find all))
+  closest_at_end {set1} {set2} {m} {waiting} {rooted} {find} todo found all k marks ids closed nodes acyclic =
+      let number : T × ID → ℕ = λ entry. w.node entry.0 in
+      let passes : ℕ → Bool = λ a. not (m a).below in
+      let listed : (entry : T × ID) → Contains all entry → Contains (map number all) (w.node entry.0) = λ entry h. in_map entry all h in
+      let is : (entry : T × ID) → Contains all entry → w.is_node (w.node entry.0) ≡ true = λ entry h.
+      are_nodes {E = ℕ} w (λ a. []) set1 closed nodes (w.node entry.0) (is_common w.graph set1 set2 k.marking (w.node entry.0) (end_common w.graph set1 set2 k (w.node entry.0) (listed entry h))).0 in
+      let same : (entry : T × ID) → Contains all entry → not (find entry.1).reach.below ≡ passes (w.node entry.0) = λ entry h.
+      let here : w.is_node (w.id entry.1) ≡ true = subst (λ n. w.is_node n ≡ true) (sym (ids entry h)) (is entry h) in
+      ap (λ mark. not mark.reach.below) (marks.knows entry.1 here) ∙ ap passes (ids entry h) in
+      let whole : map w.node (closest_of find all) ≡ filter passes (map number all) = filter_numbers (λ (entry : T × ID). entry.0) w.node (λ entry. not (find entry.1).reach.below) passes all same in
+      rw whole (record {
+        all = λ a. (
+          (λ h. let r = Contains-filtered passes (map number all) a h in end_maximal w.graph set1 set2 k acyclic a r.0 (is_false (m a).below r.1)),
+          (λ h. let r = maximal_ends w.graph set1 set2 k acyclic a h in Contains-passed passes (map number all) a r.0 (ap not r.1)),
+        );
+        once = distinct_filter passes (map number all) k.each_once;
+      })
+    where
+      in_map : (entry : T × ID) (xs : List (T × ID)) → Contains xs entry → Contains (map (λ (e : T × ID). w.node e.0) xs) (w.node entry.0)
+      in_map entry [] (n, lt, e) = absurd (omega arith)
+      in_map entry (x ∷ xs) h = ⊎_elim (λ first. (0, omega arith, ap (λ (e : T × ID). w.node e.0) first)) (λ rest. Contains-append_right (w.node x.0 ∷ []) (map (λ (e : T × ID). w.node e.0) xs) (w.node entry.0) (in_map entry xs rest)) (head_or_rest x xs entry h)

@@ -1,0 +1,117 @@
+-- What an iterator gives that has the items of a list, or one failed item in its place.
+use Rattle.std.proofs.Common.{◌≡◌, ℕ, Bool, List as list, [], ◌∷◌, ◌++◌, map, Option, None, Some, Result, Ok, Err, IfOk, append-nil, is_some, true≢false, refl, sym, ◌∙◌, ap, subst}
+use Rattle.std.specs.Fn.{Shared, Mut, Called, AlwaysReturns}
+use Rattle.std.specs.Iterator.{Count, Drains, IsFinite, IsFiniteIterable, Yields}
+use denote.Param.Always.{always_mut}
+use denote.Ref.{Bor}
+use Rattle.jj_dag.specs.Failing.{AnswersItems, AreItems, FailingGraph, Fault, ListsItems, ShowsItems, ShowsLists}
+use Rattle.jj_dag.specs.ListOrError.{CanList, GivesListed, StandsFor, listed_left}
+use Rattle.jj_dag.specs.Walk.{DrainsTo, Numbered}
+use Rattle.jj_dag.specs.declared.list_or_error.ListOrError.{ListOrError}
+use Rattle.jj_dag.specs.declared.list_or_error.ListOrError.TheVariants.{List, Error}
+use Rattle.jj_dag.proofs.Wrapped.{AlwaysReturns-through, always_mut-through, no_error}
+
+module _ {I T E : Type 0} (steps : I → Option T → I → Type 0) where
+  -- the items of a list come in an `Ok`
+  from_list : (ys : list (Result T E)) (it : I) (t : ListOrError I E) → Yields (GivesListed steps) (List it) ys t
+      → (xs : list T) × (after : I) × (ys ≡ map (λ x. Ok x) xs) × (t ≡ List after) × Yields steps it xs after
+  from_list [] it t e = ([], it, refl, sym e, refl)
+  from_list (y ∷ ys) it t (Error o, first, more) = absurd first
+  from_list (Err e ∷ ys) it t (List next, first, more) = absurd first
+  from_list (Ok y ∷ ys) it t (List next, first, more) = let r = from_list ys next t more in (y ∷ r.0, r.1, ap (λ l. Ok y ∷ l) r.2, r.3, (next, first, r.4))
+
+  -- nothing comes after the error
+  nothing_after : (ys : list (Result T E)) (t : ListOrError I E) → Yields (GivesListed steps) (Error None) ys t → ys ≡ []
+  nothing_after [] t e = refl
+  nothing_after (y ∷ ys) t (List it, first, more) = absurd first
+  nothing_after (y ∷ ys) t (Error o, first, more) = let no : Some y ≡ None = first.0 in absurd cc
+
+  from_error : (y : Result T E) (ys : list (Result T E)) (e : E) (t : ListOrError I E) → Yields (GivesListed steps) (Error (Some e)) (y ∷ ys) t → y ∷ ys ≡ Err e ∷ []
+  from_error y ys e t (List it, first, more) = absurd first
+  from_error y ys e t (Error o, first, more) =
+      let same : Some y ≡ Some (Err e) = first.0 in
+      let is : y ≡ Err e = cc in
+      ap (λ z. z ∷ ys) is ∙ ap (λ l. Err e ∷ l) (nothing_after ys t (subst (λ p. Yields (GivesListed steps) (Error p) ys t) first.1 more))
+
+  -- the error comes before the end
+  no_end : (e : E) (u : ListOrError I E) → GivesListed steps (Error (Some e)) None u → ⊥
+  no_end e (List it) h = h
+  no_end e (Error o) h = absurd (true≢false (sym (ap (is_some {T = Result T E}) h.0)))
+
+  drained_error : (ys : list (Result T E)) (e : E) → Drains (GivesListed steps) (Error (Some e)) ys → ys ≡ Err e ∷ []
+  drained_error [] e (u, (t, run, end)) = absurd (no_end e u (subst (λ s. GivesListed steps s None u) (sym run) end))
+  drained_error (y ∷ ys) e (u, (t, run, end)) = from_error y ys e t run
+
+  begun_error : (front : list (Result T E)) (x e : E) (t : ListOrError I E) → Yields (GivesListed steps) (Error (Some e)) (front ++ Err x ∷ []) t → front ++ Err x ∷ [] ≡ Err e ∷ []
+  begun_error [] x e t run = from_error (Err x) [] e t run
+  begun_error (y ∷ front) x e t run = from_error y (front ++ Err x ∷ []) e t run
+
+ok_items : {T : Type 0} (E : Type 0) (node : T → ℕ) (xs : list T) → AreItems {E = E} node (map (λ x. Ok x) xs) (map (λ x. Ok (node x)) xs)
+ok_items E node [] = tt
+ok_items E node (x ∷ xs) = (refl, ok_items E node xs)
+
+module _ {U I T E : Type 0} (becomes : U → I → Type 0) (steps : I → Option T → I → Type 0) (node : T → ℕ) where
+  -- what stands for an answer lists the same items
+  pub lists_answered : (answer : Result U E) (s : ListOrError I E) → StandsFor becomes answer s → (items : list (Result ℕ (Fault E))) → AnswersItems node becomes steps answer items
+      → ListsItems node (λ v k. k ≡ v) (GivesListed steps) s items
+  unfolding StandsFor
+  lists_answered (Ok value) (Error o) h items k = absurd h
+  lists_answered (Err e) (List it) h items k = absurd h
+  lists_answered (Ok value) (List it) h items k = record {
+    whole = λ ys (j, same, (u, (t, run, end))).
+        let r = from_list steps ys it t (subst (λ v. Yields (GivesListed steps) v ys t) same run) in
+        let drained : DrainsTo becomes steps value r.0 = (it, h, ended r.0 r.1 u r.4 (subst (λ v. GivesListed steps v None u) r.3 end)) in
+        subst (λ (l : list (Result T E)). AreItems node l items) (sym r.2) (subst (λ (l : list (Result ℕ (Fault E))). AreItems node (map (λ x. Ok x) r.0) l) (sym (k r.0 drained)) (ok_items E node r.0));
+    first = λ xs e (j, same, (t, run)).
+        let r = from_list steps (xs ++ Err e ∷ []) it t (subst (λ v. Yields (GivesListed steps) v (xs ++ Err e ∷ []) t) same run) in
+        absurd (no_error xs e [] r.0 r.2);
+  }
+    where
+      ended : (xs : list T) (after : I) (u : ListOrError I E) → Yields steps it xs after → GivesListed steps (List after) None u → Drains steps it xs
+      ended xs after (List last) run end = (last, (after, run, end))
+      ended xs after (Error o) run end = absurd end
+  lists_answered (Err e) (Error o) h items (fault, is_list, is) = record {
+    whole = λ ys (j, same, d).
+        let all = drained_error steps ys e (subst (λ v. Drains (GivesListed steps) v ys) (same ∙ ap (λ p. Error p) h) d) in
+        subst (λ (l : list (Result T E)). AreItems node l items) (sym all) one;
+    first = λ xs x (j, same, (t, run)).
+        let all = begun_error steps xs x e t (subst (λ v. Yields (GivesListed steps) v (xs ++ Err x ∷ []) t) (same ∙ ap (λ p. Error p) h) run) in
+        (items, [], sym (append-nil items), subst (λ (l : list (Result T E)). AreItems node l items) (sym all) one);
+  }
+    where
+      one : AreItems node (Err e ∷ []) items
+      one = subst (λ (l : list (Result ℕ (Fault E))). AreItems {T = T} node (Err e ∷ []) l) (sym is_list) (is, tt)
+
+-- A closure that hands on the answers of another one.
+module _ {T ID E F N G U I : Type 0} (eq : ID → ID → Bool) (ids : Shared F (Bor T × Unit {0}) ID) (lists : Mut N (Bor T × Unit {0}) (Result U E)) (becomes : U → I → Type 0) (steps : I → Option T → I → Type 0)
+    (outer : Mut G (Bor T × Unit {0}) (ListOrError I E)) (inner : G → N)
+    (hands_on : (f : G) (a : Bor T × Unit {0}) (r : ListOrError I E) (f' : G) → Called outer f a r f' → (n : Result U E) × Called lists (inner f) a n (inner f') × StandsFor becomes n r) where
+  -- what may be called still may
+  pub callable_listed : ((f : G) (a : Bor T × Unit {0}) → always_mut lists (inner f) → outer.pre f a) → (f : G) → always_mut lists (inner f) → always_mut outer f
+  callable_listed asks = always_mut-through outer lists inner asks (λ f a r after h. let q = hands_on f a r after h in (q.0, q.1))
+
+  -- what ends still ends
+  pub ends_listed : (can : I → Type 0) (left : I → Count) (f : G) → AlwaysReturns lists (λ a r. IfOk r (IsFiniteIterable becomes can left)) (inner f)
+      → AlwaysReturns outer (λ a r. IsFiniteIterable (λ v k. k ≡ v) (CanList can) (listed_left left) r) f
+  unfolding StandsFor
+  ends_listed can left f k = AlwaysReturns-through outer lists _ _ inner (λ f a r after h.
+      let q = hands_on f a r after h in (q.0, q.1, λ ends it is. subst (λ v. CanList can v × IsFinite (listed_left left v)) (sym is) (ends_of q.0 r q.2 ends))) f k
+    where
+      ends_of : (n : Result U E) (r : ListOrError I E) → StandsFor becomes n r → IfOk n (IsFiniteIterable becomes can left) → CanList can r × IsFinite (listed_left left r)
+      ends_of (Ok value) (List it) h ends = ends it h
+      ends_of (Ok value) (Error o) h ends = absurd h
+      ends_of (Err e) (List it) h ends = absurd h
+      ends_of (Err e) (Error None) h ends = (tt, tt)
+      ends_of (Err e) (Error (Some x)) h ends = (tt, tt)
+
+  -- the lists that are shown are shown by items
+  pub shows_listed : (w : Numbered T ID) (items : FailingGraph (Fault E)) (id_fn : F) (f : G) → ShowsLists w items eq ids lists becomes steps id_fn (inner f)
+      → ShowsItems w items eq ids outer (λ v k. k ≡ v) (GivesListed steps) id_fn f
+  shows_listed w items id_fn f shown = record {
+    sound_graph = shown.sound_graph;
+    closed = shown.closed;
+    apart = shown.apart;
+    ids_stand = shown.ids_stand;
+    neighbors = AlwaysReturns-through outer lists _ _ inner (λ f a r after h.
+        let q = hands_on f a r after h in (q.0, q.1, λ answers is. lists_answered becomes steps w.node q.0 r q.2 (items (w.node a.0.now)) (answers is))) f shown.neighbors;
+  }

@@ -1,0 +1,80 @@
+use Rattle.std.proofs.Common.{rules, arith, ◌≡◌, [], refl, sym, ◌∙◌, ap, map, length, Some}
+use Rattle.std.proofs.lemmas.Grind.{common_steps}
+use Rattle.std.proofs.lemmas.List.{length-map, map_push}
+use Rattle.std.specs.HashMap.{get}
+use Rattle.jj_dag.proofs.Collecting.{are_nodes, collecting_entered, collecting_passed, collecting_starts, some_of, top_reached}
+use Rattle.jj_dag.proofs.Errors.{node_weaker}
+use Rattle.jj_dag.proofs.Asking.{failed_below, filled_more, goes_on-more, goes_on-none, ids_told}
+use Rattle.jj_dag.proofs.Starts.{of_collected}
+use Rattle.jj_dag.proofs.TakingReady.{none_is}
+use Rattle.jj_dag.proofs.Walking.{left-given, returned}
+use Rattle.jj_dag.proofs.shown.Shown.collect.Goals as goal
+
+pub loop-node-init : goal.loop-node-init
+loop-node-init g c = record {
+  graph = goes_on-none g.ID.PartialEq.eq g.F.Fn g.N.FnMut g.NI.IntoIterator g.NI.IntoIter.Iterator _ c.requires;
+  found = (
+    record { given = []; nodes = c.new-found.ensures.nodes; ids = ap length c.new-found.ensures.ids; places = λ i k found. let none = rw (c.new-found.ensures.places i) at found in absurd cc },
+    λ walk items shown nodes. collecting_starts walk items c.args.start.items c.args.start.items [] (map (λ v. v.items) c.new-found.result.neighbor_ids.items) _ refl refl
+        (ap (map (λ v. v.items)) c.new-found.ensures.ids) c.new-found.ensures.places,
+  );
+}
+
+pub loop-node-preserved-then-contains_key : goal.loop-node-preserved-then-contains_key
+loop-node-preserved-then-contains_key g c =
+    let before = c.loop-node.invariant in
+    let node = c.in-Some.node in
+    let found = some_of (get g.ID.PartialEq.eq c.loop-node.found.index_of c.id_fn-id.result) c.if-contains_key.ensures in
+    record {
+      graph = before.graph;
+      found = of_collected before.found (λ from walk items shown nodes.
+          let known = from walk items shown nodes in
+          let is = are_nodes walk items (map walk.node c.args.start.items) shown.closed nodes _ (top_reached walk items c.pop.new.self.items node known c.in-Some.ensures.items) in
+          collecting_passed walk items c.pop.new.self.items node c.id_fn-id.result known c.in-Some.ensures.items is (shown.ids_stand node c.id_fn-id.result is (rw before.graph.id_fn at (returned g.F.Fn c.id_fn-id.ensures))) found.0 found.1);
+    }
+
+pub loop-node-preserved : goal.loop-node-preserved
+loop-node-preserved g c =
+    let before = c.loop-node.invariant in
+    let node = c.in-Some.node in
+    let id = c.id_fn-id.result in
+    let told = rw before.graph.id_fn at (returned g.F.Fn c.id_fn-id.ensures) in
+    let below = c.in-Ok.neighbors.items in
+    let missed = none_is (get g.ID.PartialEq.eq c.loop-node.found.index_of id) (sym c.if-contains_key.ensures) in
+    let more = filled_more g.ID.PartialEq.eq c.loop-node.found c.keep.new.self node id c.in_ok-ids.ids before.found.0 c.in_ok-keep.ensures.nodes c.in_ok-keep.ensures.ids c.in_ok-keep.ensures.places in
+    let graph = goes_on-more g.ID.PartialEq.eq g.F.Fn g.N.FnMut g.NI.IntoIterator g.NI.IntoIter.Iterator c.args.self.now c.loop-node.self c.neighbors.new.self before.graph c.neighbors.ensures.graph in
+    record {
+      graph = graph;
+      found = of_collected more (λ given walk items shown nodes.
+          let known = before.found.1 walk items shown nodes in
+          let is = are_nodes walk items (map walk.node c.args.start.items) shown.closed nodes _ (top_reached walk items c.pop.new.self.items node known c.in-Some.ensures.items) in
+          let listed = c.in-Ok.ensures.listed walk items (rw before.graph.id_fn (before.graph.shown walk items shown)) is in
+          let same_ids = ids_told walk _ (rw (← graph.id_fn) at shown.ids_stand) below c.in_ok-ids.ids.items (rw c.deref.ensures.value at c.in_ok-ids.ensures) (λ b h. shown.closed (walk.node node) is b (rw listed.0 at h)) in
+          collecting_entered walk items g.ID.PartialEq.eq _ c.pop.new.self.items node id below _ _ c.in_ok-ids.ids.items _ (length c.loop-node.found.nodes.items)
+          shown.sound_graph shown.closed shown.apart known c.in-Some.ensures.items is (shown.ids_stand node id is told) missed
+          listed.1 same_ids c.in_ok-append.ensures.items given (ap (map (λ v. v.items)) c.in_ok-keep.ensures.ids ∙ map_push (λ v. v.items) c.loop-node.found.neighbor_ids.items c.in_ok-ids.ids)
+          (ap length before.found.0.nodes ∙ length-map before.found.0.given (λ x. Some x)) c.in_ok-keep.ensures.places);
+    }
+
+pub loop-node-smaller : goal.loop-node-smaller
+loop-node-smaller g c =
+    let r = c.loop-node.found.nodes.ok in
+    let v = c.append.new.self.ok in
+    left-given c.loop-node.stack.items c.append.new.self.items c.loop-node.found.nodes.items c.keep.new.self.nodes.items (Some c.in-Some.node)
+    c.loop-node.found.nodes.cap c.append.new.self.cap c.in_ok-keep.ensures.nodes (omega arith) c.loop-node.found.nodes.small (omega arith) c.append.new.self.small
+
+pub returns-in-Err : goal.returns-in-Err
+returns-in-Err g c = record {
+  collected = tt;
+  failed = node_weaker c.in-Err.refused _ _ (λ error failure. λ walk items shown nodes.
+      let before = c.loop-node.invariant in
+      let reached = top_reached walk items c.pop.new.self.items c.in-Some.node (before.found.1 walk items shown nodes) c.in-Some.ensures.items in
+      let is = are_nodes walk items (map walk.node c.args.start.items) shown.closed nodes _ reached in
+      failed_below walk.graph items _ _ error shown.sound_graph reached (failure walk items (rw before.graph.id_fn (before.graph.shown walk items shown)) is)) c.in-Err.ensures.failed;
+}
+
+pub returns : goal.returns
+returns g c =
+    let p = c.loop-node.invariant.found in
+    let empty : c.loop-node.stack.items ≡ [] = first_of (search rules, grind (arith, common_steps)) in
+    record { collected = (p.0, λ walk items shown nodes. rw empty at (p.1 walk items shown nodes)); failed = tt }

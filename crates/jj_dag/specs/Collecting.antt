@@ -1,0 +1,48 @@
+-- What is known of nodes that were collected by a walk, each with the ids of its neighbours.
+-- Machinery of private functions and fields.
+use Rattle.std.specs.Prelude.{◌≡◌, ℕ, ◌<◌, Bool, true, Option, Some, MatchOption, List, map, length, slice_index, ◌⊎◌}
+use Rattle.std.specs.declared.result.Result.TheVariants.{Err}
+use Rattle.std.specs.HashMap.{get}
+use Rattle.std.specs.List.{Contains, filter_map}
+use Rattle.jj_dag.specs.declared.greatest_order.Collected.{Collected}
+use Rattle.jj_dag.specs.Graph.{HasEdge, ReachedFrom}
+use Rattle.jj_dag.specs.Failing.{FailingGraph}
+use Rattle.jj_dag.specs.Walk.{Numbered}
+
+-- as many lists of ids as nodes, none of which was taken, and each place is that of a node
+pub record IsFilled {T ID : Type 0} (eq : ID → ID → Bool) (found : Collected T ID) : Type 0 where
+  pub given : List T
+  pub nodes : found.nodes.items ≡ map (λ x. Some x) given
+  pub ids : length found.neighbor_ids.items ≡ length given
+  pub places : (i : ID) (k : ℕ) → get eq found.index_of i ≡ Some k → k < length given
+
+-- the places of the neighbours of each node
+abbrev pub linked : {T ID : Type 0} → (ID → ID → Bool) → Collected T ID → List (List ℕ)
+linked eq found = map (λ v. filter_map (get eq found.index_of) v.items) found.neighbor_ids.items
+
+-- distinct numbers stand at distinct places
+abbrev pub IsInjective : List ℕ → Type 0
+IsInjective ns = (i j : ℕ) → i < length ns → j < length ns → slice_index ns i ≡ slice_index ns j
+    → i ≡ j
+
+module _ {T ID E : Type 0} (w : Numbered T ID) (items : FailingGraph E) where
+  -- a look-up of an id gives the place of its node
+  abbrev pub Finds : (ID → Option ℕ) → List ℕ → Type 0
+  Finds find ns = (i : ID) → w.is_node (w.id i) ≡ true
+      → MatchOption (find i) (Contains ns (w.id i) → ⊥)
+      (λ k. (k < length ns) × (slice_index ns k ≡ w.id i))
+
+  -- `work` waits, `given` was visited, and `ids` has the ids of the neighbours of each of these
+  pub record IsCollecting (starts : List ℕ) (find : ID → Option ℕ) (work given : List T)
+      (ids : List (List ID)) : Type 0 where
+    pub waiting_reached : (a : ℕ) → Contains (map w.node work) a → ReachedFrom w.graph starts a
+    pub given_reached : (a : ℕ) → Contains (map w.node given) a → ReachedFrom w.graph starts a
+    pub starts_met : (a : ℕ) → Contains starts a → Contains (map w.node given) a
+        ⊎ Contains (map w.node work) a
+    pub closed : (a b : ℕ) → Contains (map w.node given) a → HasEdge w.graph a b
+        → Contains (map w.node given) b ⊎ Contains (map w.node work) b
+    pub injective : IsInjective (map w.node given)
+    pub finds : Finds find (map w.node given)
+    pub lists : map (λ is. map w.id is) ids ≡ map w.graph (map w.node given)
+    pub none_failed : (a : ℕ) (e : E) → Contains (map w.node given) a → Contains (items a) (Err e)
+        → ⊥

@@ -1,0 +1,17 @@
+pub mod Graph
+pub mod Walk
+pub mod Failing
+pub mod Errors
+pub mod ReadyNodes
+pub mod Collecting
+pub mod CommonNodes
+pub mod Marks
+pub mod AllOk
+pub mod Stops
+pub mod ListOrError
+pub mod Outcomes
+pub mod Owed
+pub mod Orders
+pub mod Found
+pub mod GreatestOrder
+pub mod Asking

@@ -1,0 +1,41 @@
+-- What the walk that gives a node after its neighbours gives, and why it stopped.
+-- Machinery of private functions and fields.
+use Rattle.std.specs.Prelude.{Bool, Result, IfOk, IfErr}
+use Rattle.std.specs.Fn.{Shared, Mut}
+use Rattle.std.specs.Global.{Global}
+use Rattle.std.specs.declared.iter.IntoIterator as into
+use Rattle.std.specs.declared.iter.Iterator as iter
+use Rattle.std.specs.declared.vec.Vec.{Vec}
+use denote.Ref.{Bor}
+use Rattle.jj_dag.specs.Graph.{OnCycleFrom}
+use Rattle.jj_dag.specs.Orders.{GivesSoundPostorder}
+use Rattle.jj_dag.specs.Outcomes.{ItemFails, OverItems}
+use Rattle.jj_dag.specs.declared.forward.Stop.{Stop}
+use Rattle.jj_dag.specs.declared.forward.Stop.TheVariants.{Memory, Failed, Cycle}
+
+-- P of the error of the failed item, if it is one
+abbrev pub IfFailed : {T E : Type 0} → Stop T E → (E → Type 0) → Type 0
+IfFailed Memory P = Unit {0}
+IfFailed (Failed e) P = P e
+IfFailed (Cycle x) P = Unit {0}
+
+-- P of the node on a cycle, if it is one
+abbrev pub IfCycle : {T E : Type 0} → Stop T E → (T → Type 0) → Type 0
+IfCycle Memory P = Unit {0}
+IfCycle (Failed e) P = Unit {0}
+IfCycle (Cycle x) P = P x
+
+module _ {T ID E II I F N U J : Type 0} (eq : ID → ID → Bool) (ids : Shared F (Bor T × Unit {0}) ID)
+    (lists : Mut N (Bor T × Unit {0}) U) (starts : into.Ghosts II (Result T E) I)
+    (start_items : iter.Ghosts I (Result T E)) (value : into.Ghosts U (Result T E) J)
+    (items : iter.Ghosts J (Result T E)) (id_fn : F) (neighbors_fn : N) (start : II) where
+  -- the whole postorder; where the walk stopped at a failed item, it is a start or of a node that
+  -- the starts reach; where it stopped at a node on a cycle, the starts reach that node
+  pub record WalksForward (r : Result (Vec T Global) (Stop T E)) : Type 0 where
+    pub order : IfOk r (GivesSoundPostorder eq ids lists starts start_items value items id_fn
+        neighbors_fn start)
+    pub failed : IfErr r (λ stop. IfFailed stop
+        (ItemFails eq ids lists starts start_items value items id_fn neighbors_fn start))
+    pub cycle : IfErr r (λ stop. IfCycle stop (λ x.
+        OverItems eq ids lists starts start_items value items id_fn neighbors_fn start
+        (λ walk shown nodes. OnCycleFrom walk.graph nodes (walk.node x))))

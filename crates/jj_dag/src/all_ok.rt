@@ -1,0 +1,26 @@
+//! An iterator's items as items that did not fail.
+use std::marker::PhantomData;
+
+/// The items of `I`, each in an `Ok`.
+#[derive(Drop)]
+pub struct AllOk<I, E> {
+    pub items: I,
+    pub error: PhantomData<E>,
+}
+
+impl<I: Iterator, E> Iterator for AllOk<I, E> {
+    type Item = Result<I::Item, E>;
+
+    ghost use Rattle.jj_dag.specs.AllOk.{GivesOk};
+
+    ghost can_next = { λ s. I.can_next s.items };
+
+    ghost next_gives = { λ s r t. GivesOk I.next_gives s.items r t.items };
+
+    ghost remaining = { λ s. I.remaining s.items };
+
+    fn next(&mut self) -> Option<Result<I::Item, E>> {
+        let item = self.items.next()?;
+        Some(Ok(item))
+    }
+}

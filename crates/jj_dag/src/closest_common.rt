@@ -1,0 +1,290 @@
+//! The closest of the nodes that two sets reach.
+ghost use Rattle.std.specs.Prelude.{◌≡◌, ◌+◌, ◌≤◌, ◌<◌, ◌^◌, ◌&&◌, ◌∷◌, ◌++◌, [], IfOk, IsTrue, OnOk, MatchBool, cond, map};
+ghost use Rattle.std.specs.BinaryHeap.{heap_items, heap_len};
+ghost use Rattle.std.specs.List.Sorted.{IsPermutation};
+ghost use Rattle.jj_dag.specs.Found.{FindsClosestCommon};
+ghost use Rattle.jj_dag.specs.Marks.{mark_at, joined, grows, marked, starts_waiting, asked, handed_on, sides_met, closest_of};
+ghost use Rattle.jj_dag.specs.Outcomes.{Ends};
+ghost use Rattle.jj_dag.specs.Owed.{MayShow};
+
+use crate::walk_error::WalkError;
+use std::alloc::{AllocError, Global};
+use std::collections::{BinaryHeap, HashMap};
+use std::hash::Hash;
+
+// What is known to reach a node: the first set, the second, and a common node that is strictly
+// above it.
+#[derive(Clone, Copy)]
+struct Reach {
+    left: bool,
+    right: bool,
+    below: bool,
+}
+
+// What is known of a node, and whether it waits to be asked for its neighbours.
+#[derive(Clone, Copy)]
+struct Mark {
+    reach: Reach,
+    waits: bool,
+}
+
+impl Reach {
+    const LEFT: Reach = Reach {
+        left: true,
+        right: false,
+        below: false,
+    };
+
+    const RIGHT: Reach = Reach {
+        left: false,
+        right: true,
+        below: false,
+    };
+
+    fn is_common(self) -> bool
+        ensures { result ≡ (self.left && self.right) }
+    {
+        self.left && self.right
+    }
+
+    // What a node tells of its neighbours: those of a common node are below it.
+    fn handed_on(self) -> Reach
+        ensures { result ≡ handed_on self }
+    {
+        Reach {
+            left: self.left,
+            right: self.right,
+            below: self.is_common(),
+        }
+    }
+
+    fn joined(self, added: Reach) -> Reach
+        ensures { result ≡ joined self added }
+    {
+        Reach {
+            left: self.left || added.left,
+            right: self.right || added.right,
+            below: self.below || added.below,
+        }
+    }
+
+    // Whether what is added has a set more.
+    fn grows(self, added: Reach) -> bool
+        ensures { result ≡ grows self added }
+    {
+        (added.left && !self.left) || (added.right && !self.right)
+    }
+}
+
+impl Mark {
+    fn marked(self, added: Reach) -> Mark
+        ensures { result ≡ marked self added }
+    {
+        Mark {
+            reach: self.reach.joined(added),
+            waits: self.waits || self.reach.grows(added),
+        }
+    }
+
+    // Whether the node joins those that wait by what is added.
+    fn starts_waiting(self, added: Reach) -> bool
+        ensures { result ≡ starts_waiting self added }
+    {
+        self.reach.grows(added) && !self.waits
+    }
+}
+
+// What is known of the node of this id.
+fn mark_of<ID: Hash + Eq>(known: &HashMap<ID, Mark>, id: &ID) -> Mark
+    ensures { result ≡ mark_at ID.eq known.now id.now }
+{
+    match known.get(id) {
+        Some(mark) => *mark,
+        None => Mark {
+            reach: Reach {
+                left: false,
+                right: false,
+                below: false,
+            },
+            waits: false,
+        },
+    }
+}
+
+// Adds to what is known of a node. Where a set more reaches it, it waits to be asked.
+fn mark_node<T: Ord + Drop, ID: Hash + Eq + Drop>(
+    known: &mut HashMap<ID, Mark>,
+    waiting: &mut BinaryHeap<T>,
+    node: T,
+    id: ID,
+    reach: Reach,
+) -> Result<(), AllocError>
+    ensures known { OnOk result ((i : ID) → mark_at ID.eq known.new i
+        ≡ cond (ID.eq id i) (marked (mark_at ID.eq known.old id) reach)
+        (mark_at ID.eq known.old i)) }
+    ensures waiting { OnOk result (MatchBool (starts_waiting (mark_at ID.eq known.old id) reach)
+        (IsPermutation (node ∷ heap_items waiting.old) (heap_items waiting.new))
+        (heap_items waiting.new ≡ heap_items waiting.old)) }
+    ensures balance { OnOk result (sides_met known.old + heap_len waiting.new
+        ≤ sides_met known.new + heap_len waiting.old) }
+    ensures small { OnOk result (sides_met known.new < 2 ^ 64) }
+{
+    let mark = mark_of(known, &id);
+    known.insert(id, mark.marked(reach))?;
+    // A map never holds 2^63 ids, so a search ends.
+    let _count = known.len();
+    if mark.starts_waiting(reach) {
+        waiting.push(node)?;
+    }
+    Ok(())
+}
+
+// What is known of a waiting node, which waits no longer.
+fn ask<ID: Hash + Eq>(known: &mut HashMap<ID, Mark>, id: &ID) -> Reach
+    ensures reach { result ≡ (mark_at ID.eq known.old id.now).reach }
+    ensures known { IsTrue (mark_at ID.eq known.old id.now).waits → (i : ID)
+        → mark_at ID.eq known.new i ≡ cond (ID.eq id.now i) (asked (mark_at ID.eq known.old id.now))
+        (mark_at ID.eq known.old i) }
+    ensures sides { sides_met known.new ≡ sides_met known.old }
+{
+    match known.get_mut(id) {
+        Some(mark) => {
+            mark.waits = false;
+            mark.reach
+        }
+        None => Reach {
+            left: false,
+            right: false,
+            below: false,
+        },
+    }
+}
+
+// Puts a node that both sets reach behind the common nodes that were met before.
+fn keep_common<T: Drop, ID: Drop>(
+    common: &mut Vec<(T, ID)>,
+    reach: Reach,
+    node: T,
+    id: ID,
+) -> Result<(), AllocError>
+    ensures { OnOk result (common.new.items ≡ cond (reach.left && reach.right)
+        (common.old.items ++ (node, id) ∷ []) common.old.items) }
+{
+    if reach.is_common() {
+        common.push((node, id))?;
+    }
+    Ok(())
+}
+
+// The common nodes that were met, with their ids, and what is known of all nodes that were met.
+#[derive(Drop)]
+struct Met<T, ID: Hash + Eq> {
+    common: Vec<(T, ID)>,
+    known: HashMap<ID, Mark>,
+}
+
+// The nodes of which no common node is known to be strictly above them.
+fn closest<T: Drop, ID: Hash + Eq + Drop>(
+    alloc: Global,
+    met: Met<T, ID>,
+) -> Result<Vec<T>, AllocError>
+    ensures { IfOk result (λ v. v.items ≡ closest_of (mark_at ID.eq met.known) met.common.items) }
+{
+    let Met { common, known } = met;
+    let mut closest = Vec::new(alloc);
+    for (node, id) in common {
+        if !mark_of(&known, &id).reach.below {
+            closest.push(node)?;
+        }
+    }
+    Ok(closest)
+}
+
+/// The nodes that both sets reach and no other such node reaches, each once. The greatest of the
+/// nodes that wait is asked for its neighbours, once for one set and once for both; the search ends
+/// early where one node waits, both sets reach it, and no root, a node without neighbours, was met.
+pub fn closest_common_nodes<T: Ord + Drop, ID: Hash + Eq + Drop, E: Drop, II1, II2, NI, F, N>(
+    alloc: Global,
+    set1: II1,
+    set2: II2,
+    id_fn: F,
+    neighbors_fn: N,
+) -> Result<Vec<T>, WalkError<E>>
+where
+    II1: IntoIterator<Item = T, IntoIter: Drop>,
+    II2: IntoIterator<Item = T, IntoIter: Drop> + Drop,
+    NI: IntoIterator<Item = T, IntoIter: Drop>,
+    F: Fn(&T) -> ID + Drop,
+    N: FnMut(&T) -> Result<NI, E> + Drop,
+    requires graph { MayShow F.Fn N.FnMut NI.IntoIterator NI.IntoIter.Iterator id_fn neighbors_fn }
+    requires set1 { Ends II1.IntoIterator II1.IntoIter.Iterator set1 }
+    requires set2 { Ends II2.IntoIterator II2.IntoIter.Iterator set2 }
+    ensures { FindsClosestCommon ID.eq F.Fn N.FnMut NI.IntoIterator NI.IntoIter.Iterator id_fn
+        neighbors_fn II1.IntoIterator II1.IntoIter.Iterator II2.IntoIterator II2.IntoIter.Iterator
+        set1 set2 result (λ v. v.items) }
+{
+    let met = common_nodes(alloc, set1, set2, id_fn, neighbors_fn)?;
+    Ok(closest(alloc, met)?)
+}
+
+// The common nodes that a search for the closest meets.
+fn common_nodes<T: Ord + Drop, ID: Hash + Eq + Drop, E: Drop, II1, II2, NI, F, N>(
+    alloc: Global,
+    set1: II1,
+    set2: II2,
+    id_fn: F,
+    mut neighbors_fn: N,
+) -> Result<Met<T, ID>, WalkError<E>>
+where
+    II1: IntoIterator<Item = T, IntoIter: Drop>,
+    II2: IntoIterator<Item = T, IntoIter: Drop> + Drop,
+    NI: IntoIterator<Item = T, IntoIter: Drop>,
+    F: Fn(&T) -> ID + Drop,
+    N: FnMut(&T) -> Result<NI, E> + Drop,
+    requires graph { MayShow F.Fn N.FnMut NI.IntoIterator NI.IntoIter.Iterator id_fn neighbors_fn }
+    requires set1 { Ends II1.IntoIterator II1.IntoIter.Iterator set1 }
+    requires set2 { Ends II2.IntoIterator II2.IntoIter.Iterator set2 }
+    ensures { FindsClosestCommon ID.eq F.Fn N.FnMut NI.IntoIterator NI.IntoIter.Iterator id_fn
+        neighbors_fn II1.IntoIterator II1.IntoIter.Iterator II2.IntoIterator II2.IntoIter.Iterator
+        set1 set2 result (λ met. closest_of (mark_at ID.eq met.known) met.common.items) }
+{
+    let mut known = HashMap::new(alloc);
+    let mut waiting = BinaryHeap::new(alloc);
+    for node in set1 {
+        let id = id_fn(&node);
+        mark_node(&mut known, &mut waiting, node, id, Reach::LEFT)?;
+    }
+    for node in set2 {
+        let id = id_fn(&node);
+        mark_node(&mut known, &mut waiting, node, id, Reach::RIGHT)?;
+    }
+    let mut common = Vec::new(alloc);
+    let mut root_met = false;
+    while let Some(node) = waiting.pop() {
+        let id = id_fn(&node);
+        let reach = ask(&mut known, &id);
+        if reach.is_common() && waiting.is_empty() && !root_met {
+            common.push((node, id))?;
+            return Ok(Met { common, known });
+        }
+        let neighbors = match neighbors_fn(&node) {
+            Ok(list) => list.into_iter(),
+            Err(error) => return Err(WalkError::Node(error)),
+        };
+        let mut is_root = true;
+        for neighbor in neighbors {
+            is_root = false;
+            let neighbor_id = id_fn(&neighbor);
+            mark_node(
+                &mut known,
+                &mut waiting,
+                neighbor,
+                neighbor_id,
+                reach.handed_on(),
+            )?;
+        }
+        root_met |= is_root;
+        keep_common(&mut common, reach, node, id)?;
+    }
+    Ok(Met { common, known })
+}

@@ -1,0 +1,9 @@
+//! Walks over items that may fail, under the names that callers of asynchronous graphs know. They
+//! are plain functions.
+pub use crate::closest_common::closest_common_nodes;
+pub use crate::greatest_order::topo_order_reverse_ord;
+pub use crate::maximal_lists::heads;
+pub use crate::topo_order_ok::{
+    topo_order_forward_ok as topo_order_forward, topo_order_reverse_ok as topo_order_reverse,
+};
+pub use crate::walk_error::WalkError;

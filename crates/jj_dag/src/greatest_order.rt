@@ -1,0 +1,214 @@
+//! The greatest of the orders in which each node stands before its neighbours.
+ghost use Rattle.std.specs.Prelude.{◌≡◌, ℕ, ◌<◌, ◌∷◌, ◌++◌, [], cond, map, length, slice_index, slice_index_or, slice_set, IfOk, IsSome, OnOk, MatchOption};
+ghost use Rattle.std.specs.HashMap.{get};
+ghost use Rattle.std.specs.List.{Contains, filter_map};
+ghost use Rattle.std.specs.List.Sorted.{IsPermutation};
+ghost use Rattle.std.specs.BinaryHeap.{heap_items, KeepsHeap};
+ghost use Rattle.std.specs.Ordering.{nat_cmp, ordering_then};
+ghost use Rattle.jj_dag.specs.Collecting.{IsFilled, linked};
+ghost use Rattle.jj_dag.specs.GreatestOrder.{FindsGreatestOrder};
+ghost use Rattle.jj_dag.specs.Outcomes.{Ends};
+ghost use Rattle.jj_dag.specs.Owed.{CanShow};
+ghost use Rattle.jj_dag.specs.ReadyNodes.{TakesGreatestFirst, edges_to, places_graph};
+
+use crate::shown::Shown;
+use crate::sound_nodes::sound_nodes;
+use crate::walk_error::WalkError;
+use std::alloc::{AllocError, Global};
+use std::collections::{BinaryHeap, HashMap};
+use std::hash::Hash;
+use std::mem;
+
+/// The nodes that the starts reach, each before its neighbours: at each place the greatest node
+/// whose children stand before it. A failed start or neighbour that is met is `Node` of its error;
+/// where a cycle is reached, `cycle_fn` makes the error of a node that the starts reach.
+pub fn topo_order_reverse_ord<T: Ord + Drop, ID: Hash + Eq + Drop, E: Drop, II, NI, F, N, C>(
+    alloc: Global,
+    start: II,
+    id_fn: F,
+    neighbors_fn: N,
+    cycle_fn: C,
+) -> Result<Vec<T>, WalkError<E>>
+where
+    II: IntoIterator<Item = Result<T, E>, IntoIter: Drop>,
+    NI: IntoIterator<Item = Result<T, E>, IntoIter: Drop>,
+    F: Fn(&T) -> ID + Drop,
+    N: FnMut(&T) -> NI + Drop,
+    C: FnOnce(T) -> E + Drop,
+    requires graph { CanShow F.Fn N.FnMut NI.IntoIterator NI.IntoIter.Iterator id_fn neighbors_fn }
+    requires cycle_fn { C.IsAlwaysCallable cycle_fn }
+    requires start { Ends II.IntoIterator II.IntoIter.Iterator start }
+    ensures { FindsGreatestOrder T.cmp ID.eq F.Fn N.FnMut II.IntoIterator II.IntoIter.Iterator
+        NI.IntoIterator NI.IntoIter.Iterator id_fn neighbors_fn start (C.post cycle_fn) result }
+{
+    let nodes = match sound_nodes(alloc, start) {
+        Ok(nodes) => nodes,
+        Err(refused) => return Err(refused),
+    };
+    let mut graph = Shown {
+        id_fn,
+        neighbors_fn,
+    };
+    let found = match graph.collect(alloc, nodes) {
+        Ok(found) => found,
+        Err(refused) => return Err(refused),
+    };
+    let (order, left) = found.greatest_first(alloc)?;
+    match left {
+        Some(node) => Err(WalkError::Node(cycle_fn(node))),
+        None => Ok(order),
+    }
+}
+
+// Moves the node at this index, if it still waits, to the nodes that are ready.
+fn make_ready<T: Ord + Drop>(
+    waiting: &mut Vec<Option<T>>,
+    ready: &mut BinaryHeap<(T, usize)>,
+    index: usize,
+) -> Result<(), AllocError>
+    requires { index < length waiting.old.items }
+    ensures waiting { OnOk result (waiting.new.items ≡ slice_set waiting.old.items index None) }
+    ensures ready { OnOk result (MatchOption (slice_index_or waiting.old.items index None)
+        (heap_items ready.new ≡ heap_items ready.old)
+        (λ x. IsPermutation ((x, index) ∷ heap_items ready.old) (heap_items ready.new))) }
+    ensures heap_order { OnOk result (KeepsHeap
+        (λ x y. ordering_then (T.cmp x.0 y.0) (nat_cmp x.1 y.1)) (heap_items ready.old)
+        (heap_items ready.new)) }
+{
+    if let Some(node) = mem::replace(&mut waiting[index], None) {
+        ready.push((node, index))?;
+    }
+    Ok(())
+}
+
+/// The nodes that a walk visited, in that order, with the ids of the neighbours of each.
+#[derive(Drop)]
+pub struct Collected<T, ID: Hash + Eq> {
+    pub nodes: Vec<Option<T>>,
+    pub neighbor_ids: Vec<Vec<ID>>,
+    pub index_of: HashMap<ID, usize>,
+}
+
+impl<T: Drop, ID: Hash + Eq + Drop> Collected<T, ID> {
+    /// No nodes.
+    pub fn new(alloc: Global) -> Self
+        ensures nodes { result.nodes.items ≡ [] }
+        ensures ids { result.neighbor_ids.items ≡ [] }
+        ensures places { (i : ID) → get ID.eq result.index_of i ≡ None }
+    {
+        Collected {
+            nodes: Vec::new(alloc),
+            neighbor_ids: Vec::new(alloc),
+            index_of: HashMap::new(alloc),
+        }
+    }
+
+    /// Puts a node behind the others.
+    pub fn keep(&mut self, node: T, id: ID, neighbor_ids: Vec<ID>) -> Result<(), AllocError>
+        ensures nodes { OnOk result (self.new.nodes.items
+            ≡ self.old.nodes.items ++ Some node ∷ []) }
+        ensures ids { OnOk result (self.new.neighbor_ids.items
+            ≡ self.old.neighbor_ids.items ++ neighbor_ids ∷ []) }
+        ensures places { OnOk result ((i : ID) → get ID.eq self.new.index_of i
+            ≡ cond (ID.eq id i) (Some (length self.old.nodes.items))
+            (get ID.eq self.old.index_of i)) }
+    {
+        self.index_of.insert(id, self.nodes.len())?;
+        self.nodes.push(Some(node))?;
+        self.neighbor_ids.push(neighbor_ids)?;
+        Ok(())
+    }
+}
+
+impl<T: Ord + Drop, ID: Hash + Eq + Drop> Collected<T, ID> {
+    /// The nodes, as `take_greatest_first` takes them.
+    pub fn greatest_first(self, alloc: Global) -> Result<(Vec<T>, Option<T>), AllocError>
+        requires { IsFilled ID.eq self }
+        ensures { IfOk result (TakesGreatestFirst T.cmp self.nodes.items (linked ID.eq self)) }
+    {
+        let Collected {
+            nodes,
+            neighbor_ids,
+            index_of,
+        } = self;
+        let (targets, indegrees) = link(alloc, &index_of, &neighbor_ids)?;
+        take_greatest_first(alloc, nodes, &targets, indegrees)
+    }
+}
+
+// The places of the neighbours of each node, and how many edges lead to each place.
+fn link<ID: Hash + Eq + Drop>(
+    alloc: Global,
+    index_of: &HashMap<ID, usize>,
+    neighbor_ids: &[Vec<ID>],
+) -> Result<(Vec<Vec<usize>>, Vec<usize>), AllocError>
+    requires { (i : ID) (k : ℕ) → get ID.eq index_of.now i ≡ Some k → k < length neighbor_ids.now }
+    ensures targets { IfOk result (λ r. map (λ v. v.items) r.0.items
+        ≡ map (λ v. filter_map (get ID.eq index_of.now) v.items) neighbor_ids.now) }
+    ensures counts { IfOk result (λ r. length r.1.items ≡ length neighbor_ids.now) }
+    ensures indegrees { IfOk result (λ r. (k : ℕ) → k < length neighbor_ids.now
+        → slice_index r.1.items k ≡ edges_to (map (λ v. v.items) r.0.items) k) }
+{
+    let mut indegrees: Vec<usize> = vec![in alloc; 0; neighbor_ids.len()]?;
+    let mut targets = Vec::new(alloc);
+    for ids in neighbor_ids {
+        let mut places = Vec::new(alloc);
+        for id in ids {
+            if let Some(place) = index_of.get(id) {
+                let place = *place;
+                // More edges than a `usize` counts do not fit into memory.
+                let Some(count) = indegrees[place].checked_add(1) else {
+                    return Err(AllocError);
+                };
+                indegrees[place] = count;
+                places.push(place)?;
+            }
+        }
+        targets.push(places)?;
+    }
+    Ok((targets, indegrees))
+}
+
+// Takes the greatest node all of whose children were taken, as long as there is one. Beside the
+// nodes taken stands one of those left, which all are on or below a cycle.
+fn take_greatest_first<T: Ord + Drop>(
+    alloc: Global,
+    mut waiting: Vec<Option<T>>,
+    targets: &[Vec<usize>],
+    mut indegrees: Vec<usize>,
+) -> Result<(Vec<T>, Option<T>), AllocError>
+    requires present { (k : ℕ) → k < length waiting.items
+        → IsSome (slice_index_or waiting.items k None) }
+    requires lists { length targets.now ≡ length waiting.items }
+    requires counts { length indegrees.items ≡ length waiting.items }
+    requires within { (a b : ℕ) → Contains (places_graph (map (λ ts. ts.items) targets.now) a) b
+        → b < length waiting.items }
+    requires indegrees { (k : ℕ) → k < length waiting.items
+        → slice_index indegrees.items k ≡ edges_to (map (λ ts. ts.items) targets.now) k }
+    ensures { IfOk result (TakesGreatestFirst T.cmp waiting.items
+        (map (λ ts. ts.items) targets.now)) }
+{
+    let mut ready = BinaryHeap::new(alloc);
+    for index in 0..indegrees.len() {
+        if indegrees[index] == 0 {
+            make_ready(&mut waiting, &mut ready, index)?;
+        }
+    }
+    let mut order = Vec::new(alloc);
+    while let Some((node, index)) = ready.pop() {
+        order.push(node)?;
+        for target in &targets[index] {
+            let target = *target;
+            indegrees[target] -= 1;
+            if indegrees[target] == 0 {
+                make_ready(&mut waiting, &mut ready, target)?;
+            }
+        }
+    }
+    for left in 0..waiting.len() {
+        if waiting[left].is_some() {
+            return Ok((order, waiting.swap_remove(left)));
+        }
+    }
+    Ok((order, None))
+}

@@ -1,0 +1,45 @@
+//! What is asked of a node where its list of neighbours may fail as a whole.
+ghost use Rattle.jj_dag.specs.ListOrError.{StandsFor};
+
+/// The items of a list, or one failed item in the place of the list.
+#[derive(Drop)]
+pub enum ListOrError<I, E> {
+    List(I),
+    /// The error, until it was given.
+    Error(Option<E>),
+}
+
+impl<I: Iterator, E: Drop> Iterator for ListOrError<I, E> {
+    type Item = Result<I::Item, E>;
+
+    ghost use Rattle.jj_dag.specs.ListOrError.{CanList, GivesListed, listed_left};
+
+    ghost can_next = { CanList I.can_next };
+
+    ghost next_gives = { GivesListed I.next_gives };
+
+    ghost remaining = { listed_left I.remaining };
+
+    fn next(&mut self) -> Option<Result<I::Item, E>> {
+        match self {
+            ListOrError::List(items) => {
+                let item = items.next()?;
+                Some(Ok(item))
+            }
+            ListOrError::Error(error) => {
+                let error = error.take()?;
+                Some(Err(error))
+            }
+        }
+    }
+}
+
+/// What a closure answered, as such items.
+pub fn answered<L: IntoIterator, E: Drop>(answer: Result<L, E>) -> ListOrError<L::IntoIter, E>
+    ensures { StandsFor L.into_iter_gives answer result }
+{
+    match answer {
+        Ok(list) => ListOrError::List(list.into_iter()),
+        Err(error) => ListOrError::Error(Some(error)),
+    }
+}

@@ -1,0 +1,46 @@
+//! The maximal nodes of a set, where a list of neighbours may fail as a whole.
+ghost use Rattle.std.specs.Prelude.{Result};
+ghost use Rattle.jj_dag.specs.Found.{FindsHeadsOfLists};
+ghost use Rattle.jj_dag.specs.ListOrError.{StandsFor};
+ghost use Rattle.jj_dag.specs.Outcomes.{ClonesAreEqual, Ends};
+ghost use Rattle.jj_dag.specs.Owed.{MayShow};
+
+use crate::all_ok::AllOk;
+use crate::list_or_error::answered;
+use crate::maximal_ok::heads_ok;
+use crate::walk_error::WalkError;
+use std::alloc::Global;
+use std::collections::HashSet;
+use std::hash::Hash;
+use std::marker::PhantomData;
+
+/// `heads` where a list of neighbours may fail as a whole: `Node` of the first that is met to fail.
+pub fn heads<T: Hash + Eq + Clone + Drop, ID: Hash + Eq + Drop, E: Drop, II, NI, F, N>(
+    alloc: Global,
+    start: II,
+    id_fn: F,
+    mut neighbors_fn: N,
+) -> Result<HashSet<T>, WalkError<E>>
+where
+    II: IntoIterator<Item = T, IntoIter: Drop> + Drop,
+    NI: IntoIterator<Item = T, IntoIter: Drop>,
+    F: Fn(&T) -> ID + Drop,
+    N: FnMut(&T) -> Result<NI, E> + Drop,
+    requires graph { MayShow F.Fn N.FnMut NI.IntoIterator NI.IntoIter.Iterator id_fn neighbors_fn }
+    requires start { Ends II.IntoIterator II.IntoIter.Iterator start }
+    requires clones { ClonesAreEqual T.is_clone T.eq }
+    ensures { FindsHeadsOfLists T.eq ID.eq F.Fn N.FnMut NI.IntoIterator NI.IntoIter.Iterator id_fn
+        neighbors_fn II.IntoIterator II.IntoIter.Iterator start result }
+{
+    let start = AllOk {
+        items: start.into_iter(),
+        error: PhantomData,
+    };
+    let items_fn = move |node: &T|
+        requires { N.IsAlwaysCallable neighbors_fn }
+        ensures { (answer : Result NI E)
+            × N.step neighbors_fn.entry node.entry answer neighbors_fn.exit
+            × StandsFor NI.into_iter_gives answer result }
+    { answered(neighbors_fn(node)) };
+    heads_ok(alloc, start, id_fn, items_fn)
+}

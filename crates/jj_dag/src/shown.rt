@@ -1,0 +1,89 @@
+//! The closures that show a graph, and all nodes that starts reach by them.
+ghost use Rattle.std.specs.Prelude.{IfOk};
+ghost use Rattle.std.specs.Fn.{FnReturnsAt};
+ghost use Rattle.std.specs.List.{AllZip};
+ghost use Rattle.jj_dag.specs.Asking.{CollectsFrom, ListsNode};
+ghost use Rattle.jj_dag.specs.Owed.{CanShow};
+
+use crate::greatest_order::Collected;
+use crate::sound_nodes::sound_nodes;
+use crate::walk_error::WalkError;
+use std::alloc::{AllocError, Global};
+use std::hash::Hash;
+
+/// The closures that show a graph.
+#[derive(Drop)]
+pub struct Shown<F, N> {
+    pub id_fn: F,
+    pub neighbors_fn: N,
+}
+
+/// The ids of these nodes, in their order.
+pub fn ids_of<T, ID: Drop, F: Fn(&T) -> ID>(
+    alloc: Global,
+    id_fn: &F,
+    nodes: &[T],
+) -> Result<Vec<ID>, AllocError>
+    requires { F.IsAlwaysCallable id_fn.now }
+    ensures { IfOk result (λ ids. AllZip (FnReturnsAt F.Fn id_fn.now) nodes.now ids.items) }
+{
+    let mut ids = Vec::new(alloc);
+    for node in nodes {
+        ids.push(id_fn(node))?;
+    }
+    Ok(ids)
+}
+
+impl<F, N> Shown<F, N> {
+    /// The neighbours of a node.
+    pub fn neighbors<T: Drop, ID: Hash + Eq + Drop, E: Drop, NI>(
+        &mut self,
+        alloc: Global,
+        node: &T,
+    ) -> Result<Vec<T>, WalkError<E>>
+    where
+        NI: IntoIterator<Item = Result<T, E>, IntoIter: Drop>,
+        F: Fn(&T) -> ID,
+        N: FnMut(&T) -> NI,
+        requires { CanShow F.Fn N.FnMut NI.IntoIterator NI.IntoIter.Iterator self.old.id_fn
+            self.old.neighbors_fn }
+        ensures { ListsNode ID.eq F.Fn N.FnMut NI.IntoIterator NI.IntoIter.Iterator self.old
+            self.new node.now result }
+    {
+        sound_nodes(alloc, (self.neighbors_fn)(node))
+    }
+
+    /// All nodes that the starts reach, in the order in which they are visited: the last start and
+    /// the last neighbour first.
+    pub fn collect<T: Drop, ID: Hash + Eq + Drop, E: Drop, NI>(
+        &mut self,
+        alloc: Global,
+        start: Vec<T>,
+    ) -> Result<Collected<T, ID>, WalkError<E>>
+    where
+        NI: IntoIterator<Item = Result<T, E>, IntoIter: Drop>,
+        F: Fn(&T) -> ID,
+        N: FnMut(&T) -> NI,
+        requires { CanShow F.Fn N.FnMut NI.IntoIterator NI.IntoIter.Iterator self.old.id_fn
+            self.old.neighbors_fn }
+        ensures { CollectsFrom ID.eq F.Fn N.FnMut NI.IntoIterator NI.IntoIter.Iterator self.old
+            start.items result }
+    {
+        let mut stack = start;
+        let mut found = Collected::new(alloc);
+        while let Some(node) = stack.pop() {
+            let id = (self.id_fn)(&node);
+            if found.index_of.contains_key(&id) {
+                continue;
+            }
+            let mut neighbors = match self.neighbors(alloc, &node) {
+                Ok(neighbors) => neighbors,
+                Err(refused) => return Err(refused),
+            };
+            let ids = ids_of(alloc, &self.id_fn, &neighbors)?;
+            found.keep(node, id, ids)?;
+            stack.append(&mut neighbors)?;
+        }
+        Ok(found)
+    }
+}

@@ -1,8 +1,0 @@
-use Rattle.std.proofs.Common.{◌≡◌}
-use Rattle.jj_walks.specs.Marks.{mark_at, closest_of}
-use Rattle.jj_walks.proofs.closest_common.closest.Given as goal
-
-abbrev pub invariant-loop-node : goal.invariant-loop-node
-invariant-loop-node g l = record {
-  closest : l.closest.items ≡ closest_of (mark_at g.ID.PartialEq.eq l.known) l.yielded;
-}
