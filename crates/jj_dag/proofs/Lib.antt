@@ -22,3 +22,6 @@ pub mod Collected
 pub mod Plain
 pub mod Starts
 pub mod Asking
+pub mod Owing
+pub mod Postorders
+pub mod Renumbered

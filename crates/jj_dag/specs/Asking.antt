@@ -1,6 +1,6 @@
 -- What is known after nodes were asked for their neighbours: one node, and all nodes that several
 -- starts reach.
--- Machinery of private functions and fields.
+-- Cited by contracts of public items: CollectsFrom, ListsNode.
 use Rattle.std.specs.Prelude.{◌≡◌, Bool, true, List, [], ◌∷◌, map, Result, IfOk}
 use Rattle.std.specs.declared.result.Result.TheVariants.{Ok}
 use Rattle.std.specs.Fn.{Shared, Mut}

@@ -1,5 +1,5 @@
 -- What is known of nodes that were collected by a walk, each with the ids of its neighbours.
--- Machinery of private functions and fields.
+-- Cited by contracts of public items: IsFilled, linked.
 use Rattle.std.specs.Prelude.{◌≡◌, ℕ, ◌<◌, Bool, true, Option, Some, MatchOption, List, map, length, slice_index, ◌⊎◌}
 use Rattle.std.specs.declared.result.Result.TheVariants.{Err}
 use Rattle.std.specs.HashMap.{get}

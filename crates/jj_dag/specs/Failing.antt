@@ -1,7 +1,8 @@
 -- Graphs whose lists of neighbours may have failed items: an item is a node, or an error in a
 -- node's place.
--- Cited by contracts of public items through Chunks, DfsOkSteps, Found, GreatestOrder, LazySteps,
--- NextChunk, Orders, Outcomes, Started.
+-- Cited by contracts of public items through Asking, Collecting, Found, GreatestOrder, Orders,
+-- Outcomes, jj_walks.Chunks, jj_walks.DfsOkSteps, jj_walks.LazySteps, jj_walks.NextChunk,
+-- jj_walks.Started.
 use Rattle.std.specs.Prelude.{◌≡◌, ℕ, ◌==◌, Bool, true, List, [], ◌∷◌, ◌++◌, map, reverse, Option, Result}
 use Rattle.std.specs.declared.result.Result.TheVariants.{Ok, Err}
 use Rattle.std.specs.Iterator.{Yields}

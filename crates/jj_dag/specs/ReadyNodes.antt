@@ -1,6 +1,6 @@
 -- Orders of some nodes of a graph that are taken one by one, each the greatest whose children were
 -- all taken before.
--- Machinery of private functions and fields.
+-- Cited by contracts of public items: TakesGreatestFirst.
 use Rattle.std.specs.Prelude.{◌≡◌, ℕ, ◌<◌, ◌∷◌, ◌++◌, List, [], length, map, MatchOption, slice_index_or, false, eqb}
 use Rattle.std.specs.declared.option.Option.{Option}
 use Rattle.std.specs.declared.option.Option.TheVariants.{None, Some}

@@ -15,7 +15,7 @@ use Rattle.jj_dag.proofs.Collecting.{are_nodes}
 use Rattle.jj_dag.proofs.GreatestOrder.{map_twice}
 use Rattle.jj_dag.proofs.Relabelled.{Contains-map}
 use Rattle.jj_dag.proofs.ReadyOrders.{at_split, here, later}
-use Rattle.jj_walks.proofs.Renumbered.{renumbered, renumbered_item, number_is, is_node_of, numbers_are, greater_there}
+use Rattle.jj_dag.proofs.Renumbered.{renumbered, renumbered_item, number_is, is_node_of, numbers_are, greater_there}
 use Rattle.jj_walks_tests.specs.declared.commits.Commit.{Commit}
 use Rattle.jj_walks_tests.specs.Commits.{ids_of, commit_with, parent_graph}
 use Rattle.jj_walks_tests.specs.Newest.{IsNewer, IsNewestFirst}

@@ -9,7 +9,7 @@ use Rattle.jj_dag.proofs.Collecting.{are_nodes}
 use Rattle.jj_walks_tests.specs.declared.commits.Commit.{Commit}
 use Rattle.jj_walks_tests.specs.Commits.{ids_of, commit_with, parent_graph, has_commit, IsParentsFirst, IsOnCycle}
 use Rattle.jj_walks_tests.proofs.Numbering.{walk_of, walk_closed, starts_are_nodes, node, node_has, node_stands, numbers_had, found_edge}
-use Rattle.jj_walks.proofs.Postorders.{from_reverse, Postorder-reached, Postorder-once, Postorder-before}
+use Rattle.jj_dag.proofs.Postorders.{from_reverse, Postorder-reached, Postorder-once, Postorder-before}
 use Rattle.jj_dag.proofs.Plain.{nothing}
 
 module _ (commits : List Commit) (once : IsDistinct eqb (ids_of commits)) where

@@ -4,7 +4,7 @@ use Rattle.std.specs.List.{Contains}
 use Rattle.std.proofs.lemmas.List.Elements.{Contains-append_right, Contains-push_cases}
 use Rattle.jj_dag.specs.Graph.{Graph, Preorder, ReachedFrom}
 use Rattle.jj_dag.specs.Graph.Preorder.{ended, passed, entered}
-use Rattle.jj_walks.proofs.Postorders.{from_reverse}
+use Rattle.jj_dag.proofs.Postorders.{from_reverse}
 
 later : (g : Graph) (a : ℕ) (todo : List ℕ) (b : ℕ) → ReachedFrom g todo b → ReachedFrom g (a ∷ todo) b
 later g a todo b (s, at, r) = (s, Contains-append_right (a ∷ []) todo s at, r)

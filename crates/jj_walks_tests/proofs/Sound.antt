@@ -16,7 +16,7 @@ use Rattle.jj_dag.specs.Graph.{IsChildFirst, IsPreorder, ReachedFrom}
 use Rattle.jj_dag.proofs.Collecting.{are_nodes}
 use Rattle.jj_dag.proofs.FailingOrders.{none_of_nodes}
 use Rattle.jj_dag.proofs.FailingWalks.{begun_are}
-use Rattle.jj_walks.proofs.Postorders.{from_reverse}
+use Rattle.jj_dag.proofs.Postorders.{from_reverse}
 use Rattle.jj_dag.proofs.Relabelled.{Contains-map}
 use Rattle.jj_dag.proofs.Walking.{drained_are}
 use Rattle.jj_walks_tests.specs.declared.commits.Commit.{Commit}

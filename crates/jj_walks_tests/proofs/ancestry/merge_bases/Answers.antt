@@ -9,7 +9,7 @@ use Rattle.std.proofs.lemmas.Result.{IfOk-weaker}
 use denote.Ref.{Bor}
 use Rattle.jj_dag.specs.Failing.{Fault, AnswersItems}
 use Rattle.jj_dag.proofs.Walking.{drained_are}
-use Rattle.jj_walks.proofs.Owing.{may_show}
+use Rattle.jj_dag.proofs.Owing.{may_show}
 use Rattle.jj_walks_tests.specs.declared.commits.Commit.{Commit}
 use Rattle.jj_walks_tests.specs.declared.commits.Parents.{Parents}
 use Rattle.jj_walks_tests.specs.Commits.{commit_with, ids_of, parents_in, parent_graph}

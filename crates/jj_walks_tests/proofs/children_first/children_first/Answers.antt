@@ -1,7 +1,7 @@
 use Rattle.std.proofs.Common.{rules, of_calls, ⊎_elim}
 use Rattle.jj_dag.proofs.Errors.{node_weaker}
 use Rattle.jj_walks.proofs.LazyRuns.{IsChildFirst-from_drains, IsCause-from_yields}
-use Rattle.jj_walks.proofs.Owing.{can_show}
+use Rattle.jj_dag.proofs.Owing.{can_show}
 use Rattle.jj_walks_tests.specs.Commits.{known_ids}
 use Rattle.jj_walks_tests.proofs.Numbering.{walk_of, items_of}
 use Rattle.jj_walks_tests.proofs.Sound.{commits_shown, known_are_nodes, known_plan, child_first_ids, no_failure}

@@ -1,11 +1,11 @@
 use Rattle.std.proofs.Common.{rules, of_calls, ◌≡◌, ◌∙◌, ap, map, Ok, ⊎_elim}
 use Rattle.std.proofs.lemmas.Result.{IfOk-weaker, IfErr-weaker}
 use Rattle.jj_dag.proofs.Errors.{node_weaker}
-use Rattle.jj_walks.proofs.Owing.{can_show}
+use Rattle.jj_dag.proofs.Owing.{can_show}
 use Rattle.jj_walks_tests.specs.Commits.{known_ids}
 use Rattle.jj_walks_tests.proofs.Numbering.{walk_of, walk_closed, items_of}
 use Rattle.jj_walks_tests.proofs.Sound.{never_fails, commits_shown, drained_starts, known_are_nodes, no_failure}
-use Rattle.jj_walks.proofs.Renumbered.{renumbered_shows, renumbered_nodes}
+use Rattle.jj_dag.proofs.Renumbered.{renumbered_shows, renumbered_nodes}
 use Rattle.jj_walks_tests.proofs.Newest.{back, commits_compare, free, newest_ids, ranked_items, ranked_walk, ranks_are, to, undo, unused}
 use Rattle.jj_walks_tests.proofs.children_first.newest_first.Goals as goal
 

@@ -3,7 +3,7 @@ use Rattle.std.proofs.lemmas.Grind.{common_steps}
 use Rattle.std.proofs.lemmas.List.{map-id}
 use Rattle.std.proofs.lemmas.Result.{IfOk-weaker, IfErr-weaker}
 use Rattle.jj_dag.proofs.Errors.{node_weaker}
-use Rattle.jj_walks.proofs.Owing.{can_show}
+use Rattle.jj_dag.proofs.Owing.{can_show}
 use Rattle.jj_walks_tests.proofs.Numbering.{items_of}
 use Rattle.jj_walks_tests.proofs.Sound.{id_walk, no_failure}
 use Rattle.jj_walks_tests.proofs.Showing.{ids_shown}

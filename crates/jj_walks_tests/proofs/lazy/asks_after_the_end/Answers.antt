@@ -1,5 +1,5 @@
 use Rattle.std.proofs.Common.{rules, of_calls}
-use Rattle.jj_walks.proofs.Owing.{can_show}
+use Rattle.jj_dag.proofs.Owing.{can_show}
 use Rattle.jj_walks_tests.proofs.lazy.asks_after_the_end.Goals as goal
 
 pub topo_order_reverse_lazy-requires-clause-graph : goal.topo_order_reverse_lazy-requires-clause-graph

@@ -1,5 +1,5 @@
 use Rattle.std.proofs.Common.{rules, of_calls}
-use Rattle.jj_walks.proofs.Owing.{can_show}
+use Rattle.jj_dag.proofs.Owing.{can_show}
 use Rattle.jj_walks_tests.proofs.orders.asks_a_failing_walk.Goals as goal
 
 pub dfs_ok-requires-clause-graph : goal.dfs_ok-requires-clause-graph

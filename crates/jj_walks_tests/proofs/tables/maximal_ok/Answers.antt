@@ -1,5 +1,5 @@
 use Rattle.std.proofs.Common.{rules, of_calls}
-use Rattle.jj_walks.proofs.Owing.{can_show}
+use Rattle.jj_dag.proofs.Owing.{can_show}
 use Rattle.jj_walks_tests.proofs.tables.maximal_ok.Goals as goal
 
 pub heads_ok-requires-clause-graph : goal.heads_ok-requires-clause-graph
