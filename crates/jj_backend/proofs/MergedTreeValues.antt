@@ -1,6 +1,7 @@
 -- Walks over the terms of a merge of what stands at a path, one term on, and images of adds and of removes.
-use Rattle.std.proofs.Common.{◌≡◌, ℕ, suc, ◌∙◌, ◌<◌, List, [], ◌∷◌, ◌++◌, length, map, Option, Some, None, refl, sym, ap, append_assoc, arith}
+use Rattle.std.proofs.Common.{◌≡◌, ℕ, suc, ◌+◌, ◌∙◌, ◌<◌, List, [], ◌∷◌, ◌++◌, length, map, drop, get_or, Option, Some, None, refl, sym, ap, append_assoc, arith}
 use Rattle.std.specs.List.{AllZip, list_all}
+use Rattle.std.proofs.lemmas.List.{at_drop_more}
 use Rattle.std.specs.Option.{option_map}
 use Rattle.jj_merges.specs.Merge.{adds, removes}
 use Rattle.jj_backend.specs.MergedTreeValues.{Values, is_tree_or_absent, are_trees, part_at, parts, with_file_id, with_file_ids}
@@ -45,11 +46,25 @@ module _ {A : Type 0} (part : TreeValue → Option A) where
   pushed done x None = refl
   pushed done x (Some rest) = ap Some (sym (append_assoc done (x ∷ []) rest))
 
-  pub parts-next : (done : List (Option A)) (v : Option TreeValue) (values : Values) (x : Option A) → Some x ≡ part_at part v → option_map (λ rest. done ++ rest) (parts part (v ∷ values)) ≡ option_map (λ rest. (done ++ x ∷ []) ++ rest) (parts part values)
+  parts-next : (done : List (Option A)) (v : Option TreeValue) (values : Values) (x : Option A) → Some x ≡ part_at part v → option_map (λ rest. done ++ rest) (parts part (v ∷ values)) ≡ option_map (λ rest. (done ++ x ∷ []) ++ rest) (parts part values)
   parts-next done v values x e = rw (← e) (pushed done x (parts part values))
 
-  pub parts-missing : (done : List (Option A)) (v : Option TreeValue) (values : Values) → None ≡ part_at part v → option_map (λ rest. done ++ rest) (parts part (v ∷ values)) ≡ None
+  parts-missing : (done : List (Option A)) (v : Option TreeValue) (values : Values) → None ≡ part_at part v → option_map (λ rest. done ++ rest) (parts part (v ∷ values)) ≡ None
   parts-missing done v values e = rw (← e) refl
+
+  -- the same at a place of a list in which these values are seen
+  module _ {X : Type 0} (seen : X → Option TreeValue) (xs : List X) (i : ℕ) (x : X) (lt : i < length xs) (at : x ≡ get_or xs i x) (done : List (Option A)) (whole : Option (List (Option A)))
+      (made : whole ≡ option_map (λ rest. done ++ rest) (parts part (map seen (drop i xs)))) where
+    at_next : whole ≡ option_map (λ rest. done ++ rest) (parts part (seen x ∷ map seen (drop (i + 1) xs)))
+    at_next =
+        made ∙ at_drop_more (λ ts. option_map (λ rest. done ++ rest) (parts part (map seen ts))) xs i x lt
+        ∙ ap (λ y. option_map (λ rest. done ++ rest) (parts part (seen y ∷ map seen (drop (i + 1) xs)))) (sym at)
+
+    pub parts-next_at : (a : Option A) → Some a ≡ part_at part (seen x) → whole ≡ option_map (λ rest. (done ++ a ∷ []) ++ rest) (parts part (map seen (drop (i + 1) xs)))
+    parts-next_at a e = at_next ∙ parts-next done (seen x) (map seen (drop (i + 1) xs)) a e
+
+    pub parts-missing_at : None ≡ part_at part (seen x) → whole ≡ None
+    parts-missing_at e = at_next ∙ parts-missing done (seen x) (map seen (drop (i + 1) xs)) e
 
 -- ---- a text after two pieces
 

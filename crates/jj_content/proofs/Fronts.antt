@@ -1,9 +1,11 @@
 -- What a state took in, over calls one after another.
-use Rattle.std.proofs.Common.{◌≡◌, ℕ, List, [], ◌∷◌, ◌++◌, ◌+◌, ◌<◌, length, take, drop, map, get_or, sym, ap, ◌∙◌, subst, Result, Ok, Err, OnErr}
-use Rattle.std.proofs.lemmas.List.{append_assoc, append-nil, take_more, take-append-drop, map-append}
+use Rattle.std.proofs.Common.{◌≡◌, ℕ, List, [], ◌∷◌, ◌++◌, ◌+◌, ◌^◌, ◌<◌, ◌≤◌, length, take, drop, map, get_or, sym, ap, ◌∙◌, subst, Result, Ok, Err, OnErr}
+use Rattle.std.proofs.lemmas.List.{append_assoc, append-nil, take_more, take_all, take-append-drop, map-append, length-map}
 use Rattle.std.proofs.lemmas.Grind.{flat_map-append}
 use Rattle.std.specs.List.{flat_map}
-use Rattle.jj_content.specs.Content.{Takes, TakesFront}
+use Rattle.std.specs.Prelude.{All}
+use Rattle.std.proofs.lemmas.List.Elements.{All-push}
+use Rattle.jj_content.specs.Content.{Takes, TakesFront, AreValues, u64_content, list_content}
 
 -- at the exit of a `?`, what the callee left
 pub on_err_from : {T E P : Type 0} (r : Result T E) → P → OnErr r P
@@ -93,5 +95,28 @@ module _ {D : Type 0} (sf : D → List ℕ → Type 0) where
   -- the same for parts that are joined from the left, as a tuple's
   pub front_left_2 : (s0 s1 s2 new : D) (a b c : List ℕ) → Takes sf s0 s1 a → Takes sf s1 s2 b → TakesFront sf s2 new c → TakesFront sf s0 new (a ++ b ++ c)
   front_left_2 s0 s1 s2 new a b c t u f = front_next sf s0 s2 new (a ++ b) c (takes_next sf s0 s1 s2 a b t u) f
+
+-- A list whose items are shown: its length, and the items that were seen so far.
+module _ {D A X : Type 0} (sf : D → List ℕ → Type 0) (shows : A → X) (content : X → List ℕ) (old mid new : D) (xs : List A) (i : ℕ) (x : A) (lt : i < length xs) (at : x ≡ get_or xs i x)
+    (taken : Takes sf old mid (u64_content (length xs) ++ flat_map content (map shows (take i xs)))) where
+  -- one item more
+  pub shown_taken : Takes sf mid new (content (shows x)) → Takes sf old new (u64_content (length xs) ++ flat_map content (map shows (take (i + 1) xs)))
+  shown_taken one =
+      subst (λ (ys : List X). Takes sf old new (u64_content (length xs) ++ flat_map content ys)) (sym (shown_more shows xs i x lt at))
+      (takes_more sf content old mid new (u64_content (length xs)) (map shows (take i xs)) (shows x) taken one)
+
+  -- a beginning of the next item
+  pub shown_front : TakesFront sf mid new (content (shows x)) → TakesFront sf old new (list_content content (map shows xs))
+  unfolding list_content
+  shown_front front =
+      let head = subst (λ (n : ℕ). Takes sf old mid (u64_content n ++ flat_map content (map shows (take i xs)))) (sym (length-map xs shows)) taken in
+      front_more sf content old mid new (u64_content (length (map shows xs))) (map shows (take i xs)) (shows x) (map shows (drop (i + 1) xs)) (map shows xs) (shown_whole shows xs i x lt at) head front
+
+module _ {A X : Type 0} (shows : A → X) (is_value : X → Type 0) (xs : List A) (i : ℕ) (seen : All is_value (map shows (take i xs))) where
+  pub shown_values : (x : A) → i < length xs → x ≡ get_or xs i x → is_value (shows x) → All is_value (map shows (take (i + 1) xs))
+  shown_values x lt at one = subst (All is_value) (sym (shown_more shows xs i x lt at)) (All-push is_value (map shows (take i xs)) (shows x) seen one)
+
+  pub shown_all : length xs ≤ i → length xs < 2 ^ 64 → AreValues is_value (map shows xs)
+  shown_all over fits = (rw (length-map xs shows) fits, subst (λ (ys : List A). All is_value (map shows ys)) (take_all i xs over) seen)
 
 pub ruleset fronts = (front_first, front_next, front_1, front_2)

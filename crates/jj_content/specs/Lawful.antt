@@ -222,25 +222,26 @@ same_signed : (w : Width) (m n : ℤ) → FitsSigned w m → FitsSigned w n
     → cast_unsigned w m ≡ cast_unsigned w n → m ≡ n
 same_signed w m n p q e = sym (to_z-of_z w m p) ∙ ap (cast_signed w) e ∙ to_z-of_z w n q
 
+-- a signed number of this width, by the content of its bits
+signed_lawful : (w : Width) (content : ℤ → List ℕ)
+    → ((m n : ℤ) (s t : List ℕ) → FitsSigned w m → FitsSigned w n → content m ++ s ≡ content n ++ t
+    → cast_unsigned w m ≡ cast_unsigned w n)
+    → IsLawful (FitsSigned w) int_eq content
+signed_lawful w content same_bits = record {
+  same = λ m n _ _ h. ap content ((Decides-int_eq m n).0 h);
+  decides = λ m n s t p q h.
+      (Decides-int_eq m n).1 (same_signed w m n p q (same_bits m n s t p q h));
+}
+
 pub i32_lawful : IsLawful (FitsSigned w32) int_eq i32_content
 unfolding i32_content
-i32_lawful = record {
-  same = λ m n _ _ h. ap i32_content ((Decides-int_eq m n).0 h);
-  decides = λ m n s t p q h.
-      let a : cast_unsigned w32 m < 2 ^ 32 = omega (arith, ints) in
-      let b : cast_unsigned w32 n < 2 ^ 32 = omega (arith, ints) in
-      (Decides-int_eq m n).1 (same_signed w32 m n p q (same_u32 _ _ s t a b h));
-}
+i32_lawful = signed_lawful w32 i32_content
+    (λ m n s t p q. same_u32 _ _ s t (omega (arith, ints)) (omega (arith, ints)))
 
 pub i64_lawful : IsLawful (FitsSigned w64) int_eq i64_content
 unfolding i64_content
-i64_lawful = record {
-  same = λ m n _ _ h. ap i64_content ((Decides-int_eq m n).0 h);
-  decides = λ m n s t p q h.
-      let a : cast_unsigned w64 m < 2 ^ 64 = omega (arith, ints) in
-      let b : cast_unsigned w64 n < 2 ^ 64 = omega (arith, ints) in
-      (Decides-int_eq m n).1 (same_signed w64 m n p q (same_u64 _ _ s t a b h));
-}
+i64_lawful = signed_lawful w64 i64_content
+    (λ m n s t p q. same_u64 _ _ s t (omega (arith, ints)) (omega (arith, ints)))
 
 -- the variant's number, and then its fields
 pub enum_lawful : {X : Type 0} {v : X → Type 0} {e : X → X → Bool} (variant : X → ℕ)

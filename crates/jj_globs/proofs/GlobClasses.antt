@@ -1,10 +1,10 @@
 -- Steps of reading a class.
-use Rattle.std.proofs.Common.{◌≡◌, ◌≢◌, Bool, true, false, List, [], ◌∷◌, ◌++◌, refl}
+use Rattle.std.proofs.Common.{◌≡◌, ◌≢◌, ℕ, Bool, true, false, List, [], ◌∷◌, ◌++◌, refl}
 use Rattle.jj_globs.specs.declared.glob.token.ByteRange.{ByteRange}
 use Rattle.jj_globs.specs.declared.glob.sign.Sign.{Sign}
 use Rattle.jj_globs.specs.declared.glob.sign.Sign.TheVariants.{Question, Asterisk, Slash, OpenBrace, Comma, CloseBrace, OpenBracket, CloseBracket, Bang, Caret, Dash, Backslash, Other}
 use Rattle.jj_globs.specs.declared.glob.error.GlobError.TheVariants.{UnclosedClass}
-use Rattle.jj_globs.specs.GlobText.{byte_of, words, items, first_item, single, class, fault, range_fault}
+use Rattle.jj_globs.specs.GlobText.{Word, byte_of, words, items, first_item, single, class, fault, range_fault}
 
 -- an item that is neither `]` nor `-` ends the range before it
 pub items-other : (negated : Bool) (ranges : List ByteRange) (r : ByteRange) (c : Sign) (s : List Sign) → c ≢ CloseBracket → c ≢ Dash
@@ -41,6 +41,12 @@ items-bound negated ranges r Caret s h = refl
 items-bound negated ranges r Dash s h = refl
 items-bound negated ranges r Backslash s h = refl
 items-bound negated ranges r (Other b) s h = refl
+
+-- the same, from what is left
+pub items-range : (found : List Word) (negated : Bool) (ranges : List ByteRange) (r : ByteRange) (left behind : List Sign) (d c : Sign) (s : List Sign) (last : ℕ)
+    → found ≡ items negated ranges r left → left ≡ d ∷ behind → d ≡ Dash → behind ≡ c ∷ s → c ≢ CloseBracket → last ≡ byte_of c
+    → found ≡ range_fault r.first last (items negated ranges (record { first = r.first; last = last }) s)
+items-range found negated ranges r left behind d c s last so_far is dash next bound at = rw (so_far, is, dash, next, at) (items-bound negated ranges r c s bound)
 
 -- a class whose first sign turns nothing round
 pub words-class : (c : Sign) (s : List Sign) → c ≢ Bang → c ≢ Caret → words (OpenBracket ∷ c ∷ s) ≡ first_item false (c ∷ s)

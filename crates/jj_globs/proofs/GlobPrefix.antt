@@ -1,15 +1,18 @@
 -- The tokens of a glob with `{/**,}` after them stand for the bytes of which a front matches.
 use Rattle.std.proofs.Math.Path.{fun_ext}
-use Rattle.std.proofs.Common.{◌||◌, ◌&&◌, ◌==◌, Bool, true, false, ◌≡◌, ◌∙◌, ap, sym, subst, ℕ, ◌⊎◌, inl, inr, List, [], ◌∷◌, ◌++◌, Ok, refl, append-nil}
+use Rattle.std.specs.Prelude.{◌↔◌}
+use Rattle.std.proofs.Common.{◌||◌, ◌&&◌, ◌==◌, Bool, true, false, ◌≡◌, ◌∙◌, ap, sym, subst, ℕ, ◌⊎◌, inl, inr, List, [], ◌∷◌, ◌++◌, Ok, IsTrue, refl, append-nil}
 use Rattle.jj_globs.specs.declared.glob.token.Token.{Token}
 use Rattle.jj_globs.specs.declared.glob.token.Token.TheVariants.{Part as part, Open, Or, Close}
 use Rattle.jj_globs.specs.declared.glob.token.Part.TheVariants.{Below}
 use Rattle.jj_globs.specs.declared.glob.token.Options.{Options}
+use Rattle.jj_globs.specs.declared.glob.step.Step.{Step}
 use Rattle.jj_globs.specs.GlobText.{tokens_of}
 use Rattle.jj_globs.specs.GlobMeaning.{StandsAlone, Sequence, done, next, group, Alternatives, Reading, before, reading_of, IsSplit, Stands, StandsForOne, GlobSpec, IsMatch, IsPrefixMatch}
 use Rattle.jj_globs.specs.GlobPlain.{Test, Tests, many, any_byte, is_empty, part_then, test_before, tests_before, tests_of}
-use Rattle.jj_globs.specs.GlobPlaces.{end_test}
-use Rattle.jj_globs.proofs.GlobSound.{Onward, Tells, Tells-glob, split_at_once, split_map, split_left, split_right, agrees, same_ok}
+use Rattle.jj_globs.specs.GlobPlaces.{answers, end_test}
+use Rattle.jj_globs.specs.GlobKept.{IsKept}
+use Rattle.jj_globs.proofs.GlobSound.{Bytes, Onward, Tells, Tells-glob, split_at_once, split_map, split_left, split_right, agrees, same_ok}
 use Rattle.jj_globs.proofs.GlobClosed.{closed-tokens_of}
 
 -- the tokens of `{/**,}`
@@ -138,7 +141,7 @@ end_alone : (bs : List ℕ) → end_test false bs ≡ is_empty bs
 end_alone [] = refl
 end_alone (b ∷ bs) = refl
 
-pub Tells-whole : (g : GlobSpec) (ts : List Token) → tokens_of g.text ≡ Ok ts → Tells (tests_before g.options (end_test false) ts).here (IsMatch g)
+Tells-whole : (g : GlobSpec) (ts : List Token) → tokens_of g.text ≡ Ok ts → Tells (tests_before g.options (end_test false) ts).here (IsMatch g)
 Tells-whole g ts reads =
     subst (λ (t : Test). Tells (tests_before g.options t ts).here (IsMatch g)) (sym (fun_ext end_alone))
     (Tells-glob g ts reads (closed-tokens_of g.text ts reads))
@@ -153,5 +156,23 @@ Tells-prefix g ts reads bs =
       (λ m. known.1 (subst (λ X. X) (sym at_end) (prefix_back g ts bs reads m))),
     )
 
-pub Tells-below : (g : GlobSpec) (ts : List Token) → tokens_of g.text ≡ Ok ts → Tells (tests_before g.options (end_test true) ts).here (IsPrefixMatch g)
+Tells-below : (g : GlobSpec) (ts : List Token) → tokens_of g.text ≡ Ok ts → Tells (tests_before g.options (end_test true) ts).here (IsPrefixMatch g)
 Tells-below g ts reads = subst (λ (t : Tests). Tells t.here (IsPrefixMatch g)) (tests_of-prefix g.options ts) (Tells-prefix g ts reads)
+
+-- what the steps that a glob keeps answer is what the glob means
+abbrev spec_of : List ℕ → Options → GlobSpec
+spec_of text o = record { text = text; options = o }
+
+module _ {text : List ℕ} {o : Options} {ts : List Token} {steps : List Step} {literal : ℕ} {front : List ℕ} (kept : IsKept text o ts steps literal front)
+    (shown : GlobSpec) (view : spec_of text o ≡ shown) (listed : List Step) (same : listed ≡ steps) (bs : List ℕ) (result : Bool) where
+  answered : (below : Bool) (M : GlobSpec → Bytes) → Tells (tests_before o (end_test below) ts).here (M (spec_of text o)) → result ≡ answers o below listed 0 bs
+      → IsTrue result ↔ M shown bs
+  answered below M tells said =
+      let known = said ∙ ap (λ (x : List Step). answers o below x 0 bs) same ∙ kept.steps.same below bs in
+      subst (λ (g : GlobSpec). IsTrue result ↔ M g bs) view ((λ h. (tells bs).0 (sym known ∙ h)), (λ m. known ∙ (tells bs).1 m))
+
+  pub answered_whole : result ≡ answers o false listed 0 bs → IsTrue result ↔ IsMatch shown bs
+  answered_whole = answered false IsMatch (Tells-whole (spec_of text o) ts kept.reads)
+
+  pub answered_below : result ≡ answers o true listed 0 bs → IsTrue result ↔ IsPrefixMatch shown bs
+  answered_below = answered true IsPrefixMatch (Tells-below (spec_of text o) ts kept.reads)

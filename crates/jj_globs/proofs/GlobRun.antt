@@ -8,7 +8,7 @@ use Rattle.jj_globs.specs.declared.glob.step.Step.TheVariants.{Byte, AnyByte, On
 use Rattle.jj_globs.specs.declared.glob.token.Options.{Options}
 use Rattle.jj_globs.specs.GlobMeaning.{is_plain, same_byte}
 use Rattle.jj_globs.specs.GlobPlain.{Test, one, many, any_byte}
-use Rattle.jj_globs.specs.GlobPlaces.{IsLive, AnyLive, AnyAfter, AnyAhead, by_step, StaysInside, further_of, takes_byte}
+use Rattle.jj_globs.specs.GlobPlaces.{IsLive, AnyLive, AnyAfter, AnyAhead, LeadsOn, by_step, StaysInside, further_of, takes_byte}
 use Rattle.jj_globs.proofs.GlobSolved.{many_same}
 
 -- 1. What rows accept, one change after another.
@@ -257,3 +257,19 @@ none_left bs e = no_bytes bs (eqb-true (length bs) 0 e)
 -- a step leads no further than the end
 pub leads_inside : (steps : List Step) (k : ℕ) (s t : Step) → StaysInside steps → slice_get steps k ≡ Some s → s ≡ t → k + 1 + further_of t ≤ length steps
 leads_inside steps k s t inside at e = subst (λ (x : Step). k + 1 + further_of x ≤ length steps) e (inside k s at)
+
+-- 5. Rows into which a step leads.
+
+module _ (o : Options) (steps : List Step) (s : Step) (place target : ℕ) (bs now next now' next' : List ℕ) (at : slice_get steps place ≡ Some s) (led : LeadsOn o steps target bs now next now' next') where
+  -- a step that accepts what its target does
+  pub leads_as : ((P : ℕ → Test) → ((xs : List ℕ) → P place xs ≡ by_step o P s place xs) → P place bs ≡ P target bs) → LeadsOn o steps place bs now next now' next'
+  leads_as same = λ below P solves.
+      led_as (AnyAhead P now next bs) (AnyAhead P now' next' bs) (P target bs) (P place bs) (same P (solves.at_step place s at)) (led below P solves)
+
+  -- a step that also stays where it is, after a byte
+  pub leads_and_stays : (next2 : List ℕ) (b : ℕ) (rest : List ℕ) → bs ≡ b ∷ rest → ((j : ℕ) → IsLive next2 j ↔ (IsLive next' j ⊎ (j ≡ place)))
+      → ((P : ℕ → Test) → ((xs : List ℕ) → P place xs ≡ by_step o P s place xs) → IsTrue (P place bs) ↔ (IsTrue (P target bs) ⊎ IsTrue (P place rest)))
+      → LeadsOn o steps place bs now next now' next2
+  leads_and_stays next2 b rest split live value = λ below P solves.
+      both_led (AnyAhead P now next bs) (AnyAhead P now' next' bs) (AnyAhead P now' next2 bs) (IsTrue (P target bs)) (IsTrue (P place rest)) (IsTrue (P place bs)) (led below P solves)
+      (put_next P now' next' next2 bs place b rest split live) (value P (solves.at_step place s at))

@@ -227,27 +227,20 @@ AllTell o _ _ = ⊥
 abbrev pub Agrees : Options → Tests → Reading → Type 0
 Agrees o t r = Tells t.here (Onward o r.here r.outer) × AllTell o t.outer r.outer
 
--- a part in front of what stands onward
-pub onward_next : (o : Options) (p : Part) (s : Sequence) (gs : List (Alternatives × Sequence)) (bs : List ℕ)
-    → IsSplit (StandsAlone o p) (Onward o s gs) bs → Onward o (next p s) gs bs
-onward_next o p s [] bs w = w
-onward_next o p s (g ∷ gs) bs w = split_right (StandsAlone o p) (Stands o s) (Onward o g.1 gs) bs w
+-- what is in front of a sequence is in front of what stands onward from it
+module _ (o : Options) (A : Bytes) (s front : Sequence) (to : (x : List ℕ) → IsSplit A (Stands o s) x → Stands o front x) (from : (x : List ℕ) → Stands o front x → IsSplit A (Stands o s) x) where
+  onward_to : (gs : List (Alternatives × Sequence)) (bs : List ℕ) → IsSplit A (Onward o s gs) bs → Onward o front gs bs
+  onward_to [] bs w = to bs w
+  onward_to (g ∷ gs) bs w =
+      split_map (IsSplit A (Stands o s)) (Stands o front) (Onward o g.1 gs) (Onward o g.1 gs) to (λ x p. p) bs (split_right A (Stands o s) (Onward o g.1 gs) bs w)
 
-pub onward_next_back : (o : Options) (p : Part) (s : Sequence) (gs : List (Alternatives × Sequence)) (bs : List ℕ)
-    → Onward o (next p s) gs bs → IsSplit (StandsAlone o p) (Onward o s gs) bs
-onward_next_back o p s [] bs w = w
-onward_next_back o p s (g ∷ gs) bs w = split_left (StandsAlone o p) (Stands o s) (Onward o g.1 gs) bs w
+  onward_from : (gs : List (Alternatives × Sequence)) (bs : List ℕ) → Onward o front gs bs → IsSplit A (Onward o s gs) bs
+  onward_from [] bs w = from bs w
+  onward_from (g ∷ gs) bs w =
+      split_left A (Stands o s) (Onward o g.1 gs) bs (split_map (Stands o front) (IsSplit A (Stands o s)) (Onward o g.1 gs) (Onward o g.1 gs) from (λ x p. p) bs w)
 
--- a group in front of what stands onward
-pub onward_group : (o : Options) (a : Alternatives) (s : Sequence) (gs : List (Alternatives × Sequence)) (bs : List ℕ)
-    → IsSplit (StandsForOne o a) (Onward o s gs) bs → Onward o (group a s) gs bs
-onward_group o a s [] bs w = w
-onward_group o a s (g ∷ gs) bs w = split_right (StandsForOne o a) (Stands o s) (Onward o g.1 gs) bs w
-
-pub onward_group_back : (o : Options) (a : Alternatives) (s : Sequence) (gs : List (Alternatives × Sequence)) (bs : List ℕ)
-    → Onward o (group a s) gs bs → IsSplit (StandsForOne o a) (Onward o s gs) bs
-onward_group_back o a s [] bs w = w
-onward_group_back o a s (g ∷ gs) bs w = split_left (StandsForOne o a) (Stands o s) (Onward o g.1 gs) bs w
+  pub Tells-onward : (t : Test) (gs : List (Alternatives × Sequence)) → Tells t (IsSplit A (Onward o s gs)) → Tells t (Onward o front gs)
+  Tells-onward t gs h = Tells-like t (IsSplit A (Onward o s gs)) (Onward o front gs) (onward_to gs) (onward_from gs) h
 
 -- the end of an alternative in front of what stands onward
 pub done_to : (o : Options) (P : Bytes) (bs : List ℕ) → P bs → IsSplit (Stands o done) P bs
@@ -289,8 +282,7 @@ agrees_open o t [] s [] h a = (h, tt)
 agrees_open o t [] s (g ∷ gs) h a = absurd a
 agrees_open o t (u ∷ us) s [] h a = absurd a
 agrees_open o t (u ∷ us) s (g ∷ gs) h a = (
-  Tells-like (λ bs. t bs || u.0 bs) (IsSplit (StandsForOne o (either s g.0)) (Onward o g.1 gs)) (Onward o (group (either s g.0) g.1) gs)
-      (onward_group o (either s g.0) g.1 gs) (onward_group_back o (either s g.0) g.1 gs)
+  Tells-onward o (StandsForOne o (either s g.0)) g.1 (group (either s g.0) g.1) (λ x w. w) (λ x w. w) (λ bs. t bs || u.0 bs) gs
       (Tells-either o s g.0 (Onward o g.1 gs) t u.0 h a.0),
   a.2,
 )
@@ -300,8 +292,7 @@ no_split o P bs w = absurd w.3
 
 pub agrees_before : (o : Options) (k : Token) (t : Tests) (r : Reading) → Agrees o t r → Agrees o (test_before o k t) (before k r)
 agrees_before o (part p) t r h = (
-  Tells-like (part_then o p t.here) (IsSplit (StandsAlone o p) (Onward o r.here r.outer)) (Onward o (next p r.here) r.outer)
-      (onward_next o p r.here r.outer) (onward_next_back o p r.here r.outer)
+  Tells-onward o (StandsAlone o p) r.here (next p r.here) (λ x w. w) (λ x w. w) (part_then o p t.here) r.outer
       (Tells-part_then o p t.here (Onward o r.here r.outer) h.0),
   h.1,
 )

@@ -1,5 +1,5 @@
 -- Labels as texts: those of a merge, of its adds and removes, and of places.
-use Rattle.std.proofs.Common.{◌≡◌, ℕ, ◌<◌, suc, zero, true, false, cond, List, [], ◌∷◌, length, map, Some, None, refl, ap, arith, sym, ◌∙◌}
+use Rattle.std.proofs.Common.{◌≡◌, ℕ, ◌<◌, suc, zero, true, false, cond, List, [], ◌∷◌, length, map, Option, Some, None, refl, ap, arith, sym, ◌∙◌}
 use Rattle.std.specs.Prelude.{slice_get}
 use Rattle.std.specs.List.{cons_option, AllZip}
 use Rattle.std.specs.Option.{option_map}
@@ -22,24 +22,31 @@ one_add zero = refl
 one_add (suc i) = refl
 
 -- labels that say nothing show no text
-pub nonempty-adds : (texts : List (List ℕ)) (i : ℕ) → AreNormal texts → nonempty (slice_get (adds texts) i) ≡ nonempty (slice_get (adds (labels_of texts)) i)
-nonempty-adds texts i h =
-    elim (say_nothing texts) as (λ b. say_nothing texts ≡ b → nonempty (slice_get (adds texts) i) ≡ nonempty (slice_get (adds (cond b [] texts)) i)) [
-      | true ↦ λ e. ap (λ ts. nonempty (slice_get (adds ts) i)) (h e) ∙ one_add i
+nonempty-on : (side : List (List ℕ) → List (List ℕ)) (i : ℕ) → nonempty (slice_get (side ([] ∷ [])) i) ≡ nonempty (slice_get (side []) i)
+    → (texts : List (List ℕ)) → AreNormal texts → nonempty (slice_get (side texts) i) ≡ nonempty (slice_get (side (labels_of texts)) i)
+nonempty-on side i nothing texts h =
+    elim (say_nothing texts) as (λ b. say_nothing texts ≡ b → nonempty (slice_get (side texts) i) ≡ nonempty (slice_get (side (cond b [] texts)) i)) [
+      | true ↦ λ e. ap (λ ts. nonempty (slice_get (side ts) i)) (h e) ∙ nothing
       | false ↦ λ e. refl
     ] refl
 
-pub nonempty-removes : (texts : List (List ℕ)) (i : ℕ) → AreNormal texts → nonempty (slice_get (removes texts) i) ≡ nonempty (slice_get (removes (labels_of texts)) i)
-nonempty-removes texts i h =
-    elim (say_nothing texts) as (λ b. say_nothing texts ≡ b → nonempty (slice_get (removes texts) i) ≡ nonempty (slice_get (removes (cond b [] texts)) i)) [
-      | true ↦ λ e. ap (λ ts. nonempty (slice_get (removes ts) i)) (h e)
-      | false ↦ λ e. refl
-    ] refl
+-- the text of a label on one side, where it is shown
+module _ {L : Type 0} (f : L → List ℕ) (labels : List L) (texts : List (List ℕ)) (i : ℕ) (normal : AreNormal (map f labels)) (view : labels_of (map f labels) ≡ texts) where
+  shown_on : (side : List L → List L) (texts_on : List (List ℕ) → List (List ℕ)) → texts_on (map f labels) ≡ map f (side labels)
+      → nonempty (slice_get (texts_on ([] ∷ [])) i) ≡ nonempty (slice_get (texts_on []) i) → (label : Option L) (text : Option (List ℕ))
+      → text ≡ nonempty (option_map f label) → label ≡ slice_get (side labels) i → text ≡ nonempty (slice_get (texts_on texts) i)
+  shown_on side texts_on same nothing label text shown at =
+      shown
+      ∙ ap (λ o. nonempty (option_map f o)) at
+      ∙ ap nonempty (sym (slice_get-map f (side labels) i) ∙ ap (λ ts. slice_get ts i) (sym same))
+      ∙ nonempty-on texts_on i nothing (map f labels) normal
+      ∙ ap (λ ts. nonempty (slice_get (texts_on ts) i)) view
 
--- the text of a label on one side, where that of the texts on that side is known
-pub nonempty-at : {L : Type 0} (f : L → List ℕ) (labels : List L) (i : ℕ) (texts shown : List (List ℕ)) → texts ≡ map f labels
-    → nonempty (slice_get texts i) ≡ nonempty (slice_get shown i) → nonempty (option_map f (slice_get labels i)) ≡ nonempty (slice_get shown i)
-nonempty-at f labels i texts shown same e = ap nonempty (sym (slice_get-map f labels i) ∙ ap (λ xs. slice_get xs i) (sym same)) ∙ e
+  pub shown_add : (label : Option L) (text : Option (List ℕ)) → text ≡ nonempty (option_map f label) → label ≡ slice_get (adds labels) i → text ≡ nonempty (slice_get (adds texts) i)
+  shown_add = shown_on adds adds (adds-map f labels) (one_add i)
+
+  pub shown_remove : (label : Option L) (text : Option (List ℕ)) → text ≡ nonempty (option_map f label) → label ≡ slice_get (removes labels) i → text ≡ nonempty (slice_get (removes texts) i)
+  shown_remove = shown_on removes removes (removes-map f labels) refl
 
 -- labels that are shown are all of them
 pub labels_of-shown : (texts : List (List ℕ)) → 0 < length (labels_of texts) → labels_of texts ≡ texts

@@ -14,10 +14,10 @@ module _ {U S T : Type 0} (becomes : U → S → Type 0) (steps : S → Option T
       MatchOption held ((ys : List T) × Gives becomes steps source ys × (length ys ≤ length xs) × (terms ≡ legacy_front xs ys))
       (λ add. (ys : List T) × Goes becomes steps can left source s (ys ++ add ∷ []) × (length ys ≡ length xs) × (terms ≡ legacy_front xs ys))
 
-  pub HoldsNext-start : (s : S) (terms : List (Option T)) (held : Option T) (t : S) → terms ≡ [] → Goes becomes steps can left source s [] → steps s held t → MakesProgress can left s held t
+  pub HoldsNext-start : (terms : List (Option T)) (held : Option T) (t : S) → terms ≡ [] → MatchOption held (Gives becomes steps source []) (λ add. Goes becomes steps can left source t (add ∷ []))
       → HoldsNext t held [] terms
-  HoldsNext-start s terms None t e run step goes = ([], Goes-end becomes steps can left source s [] t run step, omega arith, e)
-  HoldsNext-start s terms (Some add) t e run step goes = ([], Goes-more becomes steps can left source s [] add t run step goes, refl, e)
+  HoldsNext-start terms None t e first = ([], first, omega arith, e)
+  HoldsNext-start terms (Some add) t e first = ([], first, refl, e)
 
   more_terms : (terms more : List (Option T)) (front : List (Option T)) (held : Option T) (remove : T) → more ≡ (terms ++ held ∷ []) ++ Some remove ∷ [] → terms ≡ front
       → more ≡ (front ++ held ∷ []) ++ Some remove ∷ []

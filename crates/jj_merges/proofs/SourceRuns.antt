@@ -32,7 +32,7 @@ module _ {U S A : Type 0} (becomes : U → S → Type 0) (steps : S → Option A
     pub may_go_on : can state
     pub ends : IsFinite (left state)
 
-  pub Goes-start : IsFiniteIterable becomes can left source → (it : S) → becomes source it → Goes it []
+  Goes-start : IsFiniteIterable becomes can left source → (it : S) → becomes source it → Goes it []
   Goes-start finite it m =
       let end = finite it m in
       record { from = it; made = m; came = refl; may_go_on = end.0; ends = end.1 }
@@ -57,6 +57,11 @@ module _ {U S A : Type 0} (becomes : U → S → Type 0) (steps : S → Option A
   Goes-next s xs None t run step goes = Goes-end s xs t run step
   Goes-next s xs (Some x) t run step goes = Goes-more s xs x t run step goes
 
+  -- the first call
+  pub Goes-first : IsFiniteIterable becomes can left source → (s : S) → becomes source s → (r : Option A) (t : S) → steps s r t → MakesProgress can left s r t
+      → MatchOption r (Gives becomes steps source []) (λ x. Goes t (x ∷ []))
+  Goes-first finite s made r t step goes = Goes-next s [] r t (Goes-start finite s made) step goes
+
   -- The source gives the adds of `terms`, whose removes are xs. The add that came last is held back; without one the
   -- adds have ended, and are no more than xs.
   abbrev pub Holds : S → Option A → List A → List A → Type 0
@@ -64,10 +69,9 @@ module _ {U S A : Type 0} (becomes : U → S → Type 0) (steps : S → Option A
       MatchOption held ((ys : List A) × Gives becomes steps source ys × (length ys ≤ length xs))
       (λ add. Goes s (adds terms ++ add ∷ []) × (removes terms ≡ xs) × (length (adds terms) ≡ length xs))
 
-  pub Holds-start : (s : S) (terms : List A) (held : Option A) (t : S) → terms ≡ [] → Goes s [] → steps s held t → MakesProgress can left s held t → Holds t held [] terms
-  Holds-start s terms None t e run step goes = ([], Goes-end s [] t run step, omega arith)
-  Holds-start s terms (Some add) t e run step goes =
-      (subst (λ ys. Goes t (adds ys ++ add ∷ [])) (sym e) (Goes-more s [] add t run step goes), ap removes e, ap (λ ys. length (adds ys)) e)
+  pub Holds-start : (terms : List A) (held : Option A) (t : S) → terms ≡ [] → MatchOption held (Gives becomes steps source []) (λ add. Goes t (add ∷ [])) → Holds t held [] terms
+  Holds-start terms None t e first = ([], first, omega arith)
+  Holds-start terms (Some add) t e first = (subst (λ ys. Goes t (adds ys ++ add ∷ [])) (sym e) first, ap removes e, ap (λ ys. length (adds ys)) e)
 
   pub Holds-more : (s : S) (add : A) (xs terms : List A) (remove : A) (more : List A) (held : Option A) (t : S) → Holds s (Some add) xs terms
       → more ≡ (terms ++ add ∷ []) ++ remove ∷ [] → steps s held t → MakesProgress can left s held t → Holds t held (xs ++ remove ∷ []) more

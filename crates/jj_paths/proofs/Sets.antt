@@ -1,4 +1,6 @@
 -- What a tree holds once the node, or the value, at a path is another.
+use Rattle.std.specs.Prelude.{◌↔◌, IsTrue}
+use Rattle.std.specs.Result.{is_ok}
 use Rattle.std.proofs.Common.{◌≡◌, ◌≢◌, Option, Some, None, IsSome, is_some, Result, Ok, Err, IfOk, MatchResult, ◌∙◌, Bool, true, false, [], ◌∷◌, ◌++◌, refl, ap, sym, subst}
 use mathlib.Core.Bool.{false≢true}
 use Rattle.std.specs.Str.{bytes_eq}
@@ -15,6 +17,10 @@ use Rattle.jj_paths.proofs.Ordered.{is_ordered-put_value}
 pub parted : (path rest : Path) → path ≢ [] → rest ≡ rest_of path → path ≡ first_of path ∷ rest
 parted [] rest more is = absurd (more refl)
 parted (name ∷ below) rest more is = ap (λ r. name ∷ r) (sym is)
+
+-- the same, where a test tells the root
+pub parted_by : (path rest : Path) (is_root : Bool) → (IsTrue is_root ↔ (path ≡ [])) → is_root ≡ false → rest ≡ rest_of path → path ≡ first_of path ∷ rest
+parted_by path rest is_root tells not_root is = parted path rest (λ e. false≢true (sym not_root ∙ tells.1 e)) is
 
 module _ {V : Type 0} where
   abbrev below : Option (Tree V) → Path → Option (Tree V)
@@ -125,6 +131,13 @@ module _ {V : Type 0} where
           → update_child (update_child (branch n value below after) name (λ _. sub)) name f ≡ update_child (branch n value below after) name (λ _. f sub)
       by_name true is later = rw (is, is) refl
       by_name false is later = rw (is, is) (ap (branch n value below) later)
+
+  -- the child that a call lent, where it did not fail
+  pub lent_child : {B E : Type 0} (now : B → Tree V) (is_new : V → Type 0) (inside old : Tree V) (name : Name) (answer : Result B E) (lent : B) (changed new : Tree V) → inside ≡ old → answer ≡ Ok lent
+      → (is_ok answer ≡ true → IfOk answer (λ sub. IsChildEdited is_new inside name (now sub) changed new)) → IsChildEdited is_new old name (now lent) changed new
+  lent_child {B} {E} now is_new inside old name answer lent changed new view was holds =
+      subst (λ (t : Tree V). IsChildEdited is_new t name (now lent) changed new) view
+      (subst (λ (r : Result B E). IfOk r (λ sub. IsChildEdited is_new inside name (now sub) changed new)) was (holds (ap is_ok was)))
 
   -- a child is made or found, and then the nodes below it are made, or a value is set there
   module _ {is_new : V → Type 0} {old sub sub' new : Tree V} {path : Path} {name : Name} {rest : Path} (is : path ≡ name ∷ rest) (edit : IsChildEdited is_new old name sub sub' new) where

@@ -119,7 +119,6 @@ impl<T: Drop> Merge<T> {
 
 impl<T: Drop> Merge<T> {
     /// The removes and the adds by value, apart.
-    #[tactic(auto, using(crate::proofs::Places::pushed))]
     pub fn into_removes_adds(
         self,
         alloc: Global,

@@ -52,7 +52,6 @@ impl<T: Drop> Merge<Option<T>> {
     }
 
     /// The values that are there among the removes, and those among the adds.
-    #[tactic(auto, using(crate::proofs::Places::pushed))]
     pub fn into_legacy_form(self, alloc: Global) -> Result<(Vec<T>, Vec<T>), AllocError>
         ensures removes { IfOk result (λ p. p.0.items ≡ present (merge.removes self)) }
         ensures adds { IfOk result (λ p. p.1.items ≡ present (merge.adds self)) }

@@ -1,8 +1,8 @@
-use Rattle.std.proofs.Common.{arith, map, [], ◌∷◌, append_assoc}
-use Rattle.jj_globs.specs.GlobText.{sign_of, single}
+use Rattle.std.proofs.Common.{◌∙◌, arith, map, [], ◌∷◌, ap, sym, append_assoc}
+use Rattle.jj_globs.specs.GlobText.{sign_of, single, first_item, items}
 use Rattle.jj_globs.specs.declared.glob.sign.Sign.TheVariants.{Dash}
 use Rattle.jj_globs.proofs.GlobPuts.{length-next}
-use Rattle.jj_globs.proofs.GlobClasses.{items-other, items-bound, items-ended, items-dash_ended, items-closed, items-dash_closed, first_item-none, first_item-next}
+use Rattle.jj_globs.proofs.GlobClasses.{items-other, items-range, items-ended, items-dash_ended, items-closed, items-dash_closed, first_item-none, first_item-next}
 use Rattle.jj_globs.proofs.glob.class.read_items.Goals as goal
 
 pub returns-in_default-clause-read : goal.returns-in_default-clause-read
@@ -56,29 +56,17 @@ returns-clause-read c = rw (c.loop-sign.invariant.reads, c.in_default-next_sign.
 pub loop-sign-preserved-in-Ok : goal.loop-sign-preserved-in-Ok
 loop-sign-preserved-in-Ok c = record {
   reads =
-      rw (
-        c.loop-sign.invariant.reads,
-        c.in-Some-next_sign.ensures,
-        c.in-Dash.is,
-        c.in-Some-next_sign-2.ensures,
-        items-bound c.args.negated c.loop-sign.ranges.items c.loop-sign.range c.in-Some-next_sign-2.bound (map sign_of c.in-Some-next_sign-2.behind.now) c.in_default-bound.not-CloseBracket,
-        c.in-Ok.ensures.0,
-        c.byte-in_default-bound.ensures,
-      )
-      (rw (← c.byte-in_default-bound.ensures) (c.in-Ok.ensures.1 _));
+      items-range (first_item c.args.negated (map sign_of c.args.text.now)) c.args.negated c.loop-sign.ranges.items c.loop-sign.range (map sign_of c.loop-sign.rest.now) (map sign_of c.in-Some-next_sign.behind.now) c.in-Some-next_sign.sign c.in-Some-next_sign-2.bound (map sign_of c.in-Some-next_sign-2.behind.now) c.byte-in_default-bound.result
+      c.loop-sign.invariant.reads c.in-Some-next_sign.ensures c.in-Dash.is c.in-Some-next_sign-2.ensures c.in_default-bound.not-CloseBracket c.byte-in_default-bound.ensures
+      ∙ (c.in-Ok.ensures.1 _ ∙ ap (λ r. items c.args.negated c.loop-sign.ranges.items r (map sign_of c.in-Some-next_sign-2.behind.now)) (sym c.in-Ok.ensures.0));
   shorter = omega (arith, c.loop-sign.invariant.shorter, length-next c.loop-sign.rest.now c.in-Some-next_sign.behind.now c.in-Some-next_sign.sign c.in-Some-next_sign.ensures, length-next c.in-Some-next_sign.behind.now c.in-Some-next_sign-2.behind.now c.in-Some-next_sign-2.bound c.in-Some-next_sign-2.ensures);
 }
 
 pub returns-in-Err-clause-read : goal.returns-in-Err-clause-read
 returns-in-Err-clause-read c =
-    rw (
-      c.loop-sign.invariant.reads,
-      c.in-Some-next_sign.ensures,
-      c.in-Dash.is,
-      c.in-Some-next_sign-2.ensures,
-      items-bound c.args.negated c.loop-sign.ranges.items c.loop-sign.range c.in-Some-next_sign-2.bound (map sign_of c.in-Some-next_sign-2.behind.now) c.in_default-bound.not-CloseBracket,
-    )
-    (rw (← c.byte-in_default-bound.ensures) (c.in-Err.ensures _))
+    let reads = items-range (first_item c.args.negated (map sign_of c.args.text.now)) c.args.negated c.loop-sign.ranges.items c.loop-sign.range (map sign_of c.loop-sign.rest.now) (map sign_of c.in-Some-next_sign.behind.now) c.in-Some-next_sign.sign c.in-Some-next_sign-2.bound (map sign_of c.in-Some-next_sign-2.behind.now) c.byte-in_default-bound.result
+    c.loop-sign.invariant.reads c.in-Some-next_sign.ensures c.in-Dash.is c.in-Some-next_sign-2.ensures c.in_default-bound.not-CloseBracket c.byte-in_default-bound.ensures in
+    rw reads (c.in-Err.ensures _)
 
 pub returns-in-CloseBracket-clause-shorter : goal.returns-in-CloseBracket-clause-shorter
 returns-in-CloseBracket-clause-shorter c = omega (arith, c.loop-sign.invariant.shorter, length-next c.loop-sign.rest.now c.in-Some-next_sign.behind.now c.in-Some-next_sign.sign c.in-Some-next_sign.ensures)

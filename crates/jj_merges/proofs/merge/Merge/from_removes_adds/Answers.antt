@@ -2,17 +2,13 @@ use Rattle.std.proofs.Common.{◌∙◌, ◌++◌, ◌∷◌, [], List, sym, ap,
 use Rattle.jj_merges.specs.Made.{Gives}
 use Rattle.jj_merges.specs.Terms.{items}
 use Rattle.jj_merges.proofs.Sound.{sound}
-use Rattle.jj_merges.proofs.SourceRuns.{Drains-loop, Goes-start, Holds-start, Holds-more, Holds-end, even_terms}
+use Rattle.jj_merges.proofs.SourceRuns.{Drains-loop, Goes-first, Holds-start, Holds-more, Holds-end, even_terms}
 use Rattle.jj_merges.proofs.merge.Merge.from_removes_adds.Goals as goal
 
 pub loop-remove-init : goal.loop-remove-init
 loop-remove-init g c =
-    let it = c.into_iter-adds.result in (
-      c.in_ok-terms.ensures.1,
-      Holds-start g.A.IntoIterator.into_iter_gives g.A.IntoIter.Iterator.next_gives g.A.IntoIter.Iterator.can_next g.A.IntoIter.Iterator.remaining c.args.adds it (items c.in_ok-terms.terms) c.next-add.result c.next-add.new.self c.in_ok-terms.ensures.0
-          (Goes-start g.A.IntoIterator.into_iter_gives g.A.IntoIter.Iterator.next_gives g.A.IntoIter.Iterator.can_next g.A.IntoIter.Iterator.remaining c.args.adds c.requires.adds_end it c.into_iter-adds.ensures.into_iter_gives)
-          c.next-add.ensures.steps c.next-add.ensures.goes,
-    )
+    let first = Goes-first g.A.IntoIterator.into_iter_gives g.A.IntoIter.Iterator.next_gives g.A.IntoIter.Iterator.can_next g.A.IntoIter.Iterator.remaining c.args.adds c.requires.adds_end c.into_iter-adds.result c.into_iter-adds.ensures.into_iter_gives c.next-add.result c.next-add.new.self c.next-add.ensures.steps c.next-add.ensures.goes in
+    (c.in_ok-terms.ensures.1, Holds-start g.A.IntoIterator.into_iter_gives g.A.IntoIter.Iterator.next_gives g.A.IntoIter.Iterator.can_next g.A.IntoIter.Iterator.remaining c.args.adds (items c.in_ok-terms.terms) c.next-add.result c.next-add.new.self c.in_ok-terms.ensures.0 first)
 
 pub loop-remove-preserved-in-Some-add : goal.loop-remove-preserved-in-Some-add
 loop-remove-preserved-in-Some-add g c =

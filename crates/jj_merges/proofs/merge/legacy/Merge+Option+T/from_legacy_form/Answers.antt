@@ -4,7 +4,7 @@ use Rattle.jj_merges.specs.Flatten.{legacy_rest}
 use Rattle.jj_merges.specs.Made.{Gives}
 use Rattle.jj_merges.specs.Terms.{items}
 use Rattle.jj_merges.proofs.Sound.{sound}
-use Rattle.jj_merges.proofs.SourceRuns.{Drains-loop, Goes-start}
+use Rattle.jj_merges.proofs.SourceRuns.{Drains-loop, Goes-first}
 use Rattle.jj_merges.proofs.LegacyLaws.{legacy_rest-push, odd_legacy_terms, restored}
 use Rattle.jj_merges.proofs.LegacyRuns.{HoldsNext-start, HoldsNext-more, HoldsNext-ended, HoldsNext-short, HoldsNext-long}
 use Rattle.jj_merges.proofs.MadeCounts.{legacy_counts}
@@ -12,12 +12,8 @@ use Rattle.jj_merges.proofs.merge.legacy.Merge+Option+T.from_legacy_form.Goals a
 
 pub loop-remove-init : goal.loop-remove-init
 loop-remove-init g c =
-    let it = c.into_iter-adds.result in (
-      c.none-terms.ensures.1,
-      HoldsNext-start g.A.IntoIterator.into_iter_gives g.A.IntoIter.Iterator.next_gives g.A.IntoIter.Iterator.can_next g.A.IntoIter.Iterator.remaining c.args.adds it (items c.none-terms.result) c.next-add.result c.next-add.new.self c.none-terms.ensures.0
-          (Goes-start g.A.IntoIterator.into_iter_gives g.A.IntoIter.Iterator.next_gives g.A.IntoIter.Iterator.can_next g.A.IntoIter.Iterator.remaining c.args.adds c.requires.adds_end it c.into_iter-adds.ensures.into_iter_gives)
-          c.next-add.ensures.steps c.next-add.ensures.goes,
-    )
+    let first = Goes-first g.A.IntoIterator.into_iter_gives g.A.IntoIter.Iterator.next_gives g.A.IntoIter.Iterator.can_next g.A.IntoIter.Iterator.remaining c.args.adds c.requires.adds_end c.into_iter-adds.result c.into_iter-adds.ensures.into_iter_gives c.next-add.result c.next-add.new.self c.next-add.ensures.steps c.next-add.ensures.goes in
+    (c.none-terms.ensures.1, HoldsNext-start g.A.IntoIterator.into_iter_gives g.A.IntoIter.Iterator.next_gives g.A.IntoIter.Iterator.can_next g.A.IntoIter.Iterator.remaining c.args.adds (items c.none-terms.result) c.next-add.result c.next-add.new.self c.none-terms.ensures.0 first)
 
 pub loop-remove-preserved-then-has_more : goal.loop-remove-preserved-then-has_more
 loop-remove-preserved-then-has_more g c = (

@@ -1,31 +1,16 @@
-use Rattle.std.proofs.Common.{◌∙◌, ◌++◌, ◌∷◌, [], sym, ap, arith, append_assoc, length-append}
+use Rattle.std.proofs.Common.{ap}
 use Rattle.std.specs.Option.{option_to_list}
-use Rattle.std.proofs.lemmas.Bool.{not-true, not-false}
-use Rattle.jj_merges.specs.Merge.{adds, removes}
 use Rattle.jj_merges.specs.Options.{present}
 use Rattle.jj_merges.proofs.LegacyLaws.{present-push}
-use Rattle.jj_merges.proofs.Places.{adds-push_even, adds-push_odd, removes-push_even, removes-push_odd}
+use Rattle.jj_merges.proofs.SidesTaken.{add_taken, remove_taken}
 use Rattle.jj_merges.proofs.merge.legacy.Merge+Option+T.into_legacy_form.Goals as goal
 use Rattle.jj_merges.proofs.merge.legacy.Merge+Option+T.into_legacy_form.Goals.{then-is_add+in_ok-push_present, else-is_add+in_ok-push_present-2}
 
 pub loop-term-preserved : goal.loop-term-preserved
 loop-term-preserved g c =
-    let now = c.loop-term.invariant in
-    let seen = now.0 in
-    let x = c.in-Some.term in
-    let long = length-append seen (x ∷ []) in (
-      seen ++ x ∷ [],
-      append_assoc seen (x ∷ []) _ ∙ (ap (λ l. seen ++ l) (sym c.in-Some.ensures.steps) ∙ now.1),
-      elim c.if-is_add.branch [
-        | then-is_add+in_ok-push_present w ↦ ap (λ v. v.items) w.removes-is ∙ (now.2 ∙ ap present (sym (removes-push_even seen x (now.4 w.if-is_add.true))))
-        | else-is_add+in_ok-push_present-2 w ↦ ap (λ v. v.items) w.removes-is
-            ∙ (w.in_ok-push_present-2.ensures ∙ (ap (λ l. l ++ option_to_list x) now.2 ∙ (sym (present-push (removes seen) x) ∙ ap present (sym (removes-push_odd seen x (now.5 w.if-is_add.false))))))
-      ],
-      elim c.if-is_add.branch [
-        | then-is_add+in_ok-push_present w ↦ ap (λ v. v.items) w.adds-is
-            ∙ (w.in_ok-push_present.ensures ∙ (ap (λ l. l ++ option_to_list x) now.3 ∙ (sym (present-push (adds seen) x) ∙ ap present (sym (adds-push_even seen x (now.4 w.if-is_add.true))))))
-        | else-is_add+in_ok-push_present-2 w ↦ ap (λ v. v.items) w.adds-is ∙ (now.3 ∙ ap present (sym (adds-push_odd seen x (now.5 w.if-is_add.false))))
-      ],
-      (λ h. let odd = now.5 (not-true c.loop-term.is_add h) in omega (arith, long, odd)),
-      (λ h. let even = now.4 (not-false c.loop-term.is_add h) in omega (arith, long, even)),
-    )
+    elim c.if-is_add.branch [
+      | then-is_add+in_ok-push_present w ↦ add_taken present option_to_list present-push c.args.self _ _ _ _ _ _ _ _ _ c.loop-term.invariant c.in-Some.ensures.steps w.if-is_add.true
+          (ap (λ v. v.items) w.removes-is) (ap (λ v. v.items) w.adds-is) w.in_ok-push_present.ensures
+      | else-is_add+in_ok-push_present-2 w ↦ remove_taken present option_to_list present-push c.args.self _ _ _ _ _ _ _ _ _ c.loop-term.invariant c.in-Some.ensures.steps w.if-is_add.false
+          (ap (λ v. v.items) w.removes-is) w.in_ok-push_present-2.ensures (ap (λ v. v.items) w.adds-is)
+    ]
