@@ -1,6 +1,6 @@
 -- Tables of the values of digits.
-use Rattle.std.proofs.Common.{◌≡◌, ◌∙◌, ◌+◌, ◌<◌, ◌≤◌, ◌==◌, ℕ, List, Bool, true, false, Option, Some, None, length, map, get_or, nat_lt, ap, refl, sym, arith, rules, slice_index_or}
-use Rattle.std.specs.Prelude.{cond, unwrap_or}
+use Rattle.std.proofs.Common.{◌≡◌, ◌∙◌, ◌+◌, ◌<◌, ◌≤◌, ◌==◌, ℕ, List, Option, Some, None, length, map, ap, refl, arith, slice_index_or}
+use Rattle.std.specs.Prelude.{unwrap_or}
 use Rattle.std.specs.List.{range_with_len}
 use Rattle.std.proofs.lemmas.List.Quantifiers.{position-Some}
 use Rattle.std.specs.Char.{to_ascii_lowercase}
