@@ -8,6 +8,7 @@ pub mod dag_walk;
 pub mod dag_walk_async;
 mod depth_first;
 mod depth_first_ok;
+mod ended;
 mod entering;
 mod forward;
 pub mod graph;
