@@ -25,6 +25,7 @@ mod maximal_ok;
 mod next_item;
 mod reversed;
 mod sound_nodes;
+mod sources;
 mod topo_order;
 mod topo_order_chunked;
 mod topo_order_lazy;
