@@ -1,5 +1,5 @@
 -- Closures over a listed graph: one that numbers ids, and one that lists the neighbours of a node.
-use Rattle.std.proofs.Common.{◌≡◌, ℕ, Iter, Result, Ok, map, eqb}
+use Rattle.std.proofs.Common.{◌≡◌, ℕ, List, Iter, Result, Ok, map, eqb}
 use Rattle.std.specs.Prelude.{IsOkAnd}
 use Rattle.std.specs.Fn.{Called, FnReturnsAt, Mut, Shared}
 use Rattle.std.specs.Iterator.{YieldsFirst}
@@ -10,7 +10,7 @@ use Rattle.std.specs.declared.iter.Copied.{Copied}
 use Rattle.std.proofs.iter.Yields.{copies, fronts}
 use Rattle.std.proofs.lemmas.Fn.{always_returns_same}
 use denote.Ref.{Bor}
-use Rattle.jj_dag.specs.Failing.{Fault, FailingGraph, ShowsItems, ShowsLists}
+use Rattle.jj_dag.specs.Failing.{AnswersItems, Fault, FailingGraph, ListsItems, ShowsBy, ShowsItems, ShowsLists}
 use Rattle.jj_dag.specs.Walk.{IsShownBy, Numbered}
 use Rattle.jj_program.specs.declared.graph_walks.SoundIds.{SoundIds}
 use Rattle.jj_program.specs.declared.listed_graph.ListedGraph.{ListedGraph}
@@ -44,30 +44,31 @@ module _ (g : ListedGraph) {F N : Type 0} (ids : Shared F (Bor ℕ × Unit {0}) 
         let k = looks a r after h in (λ xs here d. copied_ids r xs (shown_by g a.0.now) k.0 d, k.1));
   }
 
-  -- it lists them, or could fail in their place
-  pub shows_sound_lists : (lists : Mut N (Bor ℕ × Unit {0}) (Result (Copied (Iter ℕ)) ℕ))
-      → ((a : Bor ℕ × Unit {0}) (r : Result (Copied (Iter ℕ)) ℕ) (after : N) → Called lists neighbors_fn a r after
-      → IsOkAnd r (λ list. iter_rest (copied_source list) ≡ shown_by g a.0.now) × (after ≡ neighbors_fn))
-      → ShowsLists (walk_over g) (items_over g) eqb ids lists (λ s t. t ≡ s) (copies fronts) id_fn neighbors_fn
-  shows_sound_lists lists looks = record {
+  -- it shows them as items of which none fails
+  shows_sound : {U : Type 0} (lists : Mut N (Bor ℕ × Unit {0}) U) (says : U → List (Result ℕ (Fault ℕ)) → Type 0)
+      → ((a : Bor ℕ × Unit {0}) (r : U) (after : N) → Called lists neighbors_fn a r after → says r (items_over g a.0.now) × (after ≡ neighbors_fn))
+      → ShowsBy (walk_over g) (items_over g) eqb ids lists says id_fn neighbors_fn
+  shows_sound lists says looks = record {
     sound_graph = λ a. sound_neighbors (Fault ℕ) (shown_by g a);
     closed = λ a s b h. g.named a b h;
     apart = numbers_apart (named_by g) g.numbering.ascending;
     ids_stand = λ x i is h. number_stands (named_by g) x i is (numbers x i h);
     neighbors = always_returns_same lists _ neighbors_fn (λ a r after h.
-        let k = looks a r after h in (λ here. lists_neighbors r (shown_by g a.0.now) k.0, k.1));
+        let k = looks a r after h in (λ here. k.0, k.1));
   }
+
+  -- it lists them, or could fail in their place
+  pub shows_sound_lists : (lists : Mut N (Bor ℕ × Unit {0}) (Result (Copied (Iter ℕ)) ℕ))
+      → ((a : Bor ℕ × Unit {0}) (r : Result (Copied (Iter ℕ)) ℕ) (after : N) → Called lists neighbors_fn a r after
+      → IsOkAnd r (λ list. iter_rest (copied_source list) ≡ shown_by g a.0.now) × (after ≡ neighbors_fn))
+      → ShowsLists (walk_over g) (items_over g) eqb ids lists (λ s t. t ≡ s) (copies fronts) id_fn neighbors_fn
+  shows_sound_lists lists looks = shows_sound lists (AnswersItems (λ (a : ℕ). a) (λ s t. t ≡ s) (copies fronts)) (λ a r after h.
+      let k = looks a r after h in (lists_neighbors r (shown_by g a.0.now) k.0, k.1))
 
   -- it gives them as items that could fail
   pub shows_sound_items : (lists : Mut N (Bor ℕ × Unit {0}) SoundIds)
       → ((a : Bor ℕ × Unit {0}) (r : SoundIds) (after : N) → Called lists neighbors_fn a r after
       → (r.ids.now ≡ shown_by g a.0.now) × (after ≡ neighbors_fn))
       → ShowsItems (walk_over g) (items_over g) eqb ids lists (λ s t. t ≡ s) (YieldsFirst sound_left) id_fn neighbors_fn
-  shows_sound_items lists looks = record {
-    sound_graph = λ a. sound_neighbors (Fault ℕ) (shown_by g a);
-    closed = λ a s b h. g.named a b h;
-    apart = numbers_apart (named_by g) g.numbering.ascending;
-    ids_stand = λ x i is h. number_stands (named_by g) x i is (numbers x i h);
-    neighbors = always_returns_same lists _ neighbors_fn (λ a r after h.
-        let k = looks a r after h in (λ here. items_neighbors r (shown_by g a.0.now) k.0, k.1));
-  }
+  shows_sound_items lists looks = shows_sound lists (ListsItems (λ (a : ℕ). a) (λ s t. t ≡ s) (YieldsFirst sound_left)) (λ a r after h.
+      let k = looks a r after h in (items_neighbors r (shown_by g a.0.now) k.0, k.1))

@@ -6,6 +6,7 @@ ghost use Rattle.jj_dag.specs.Owed.{CanShow};
 ghost use Rattle.jj_walks.specs.Started.{StartsWalkOfItems};
 
 use crate::next_item::next_item;
+use crate::sources::items_of;
 use jj_dag::walk_error::WalkError;
 use std::alloc::{AllocError, Global};
 use std::collections::HashSet;
@@ -68,10 +69,7 @@ where
     ensures { IfOk result (StartsWalkOfItems ID.eq F.Fn N.FnMut II.IntoIterator
         II.IntoIter.Iterator NI.IntoIterator NI.IntoIter.Iterator id_fn neighbors_fn start) }
 {
-    let mut work = Vec::new(alloc);
-    for item in start {
-        work.push(item)?;
-    }
+    let work = items_of(alloc, start)?;
     Ok(DepthFirstOk {
         work,
         visited: HashSet::new(alloc),

@@ -6,6 +6,7 @@ ghost use Rattle.jj_walks.specs.Grouped.{Entry, History, Prioritized, Read};
 ghost use Rattle.jj_walks.specs.GroupedSteps.{CanRead, GivesNext, IsCause, IsEntryOf, Item, answer_of};
 ghost use Rattle.jj_walks.specs.HeldNodes.{Adds, Keeps, KeepsOn};
 
+use crate::ended::item_or_end;
 use crate::graph::GraphNode;
 use crate::held_nodes::{HeldNodes, Ready};
 use std::alloc::{AllocError, AllocFailed, Global};
@@ -168,17 +169,7 @@ where
         if self.has_ended {
             return None;
         }
-        match self.graph.next_node() {
-            Ok(Some(node)) => Some(Ok(node)),
-            Ok(None) => {
-                self.has_ended = true;
-                None
-            }
-            Err(error) => {
-                self.has_ended = true;
-                Some(Err(error))
-            }
-        }
+        item_or_end(self.graph.next_node(), &mut self.has_ended)
     }
 }
 

@@ -5,6 +5,7 @@ ghost use Rattle.jj_dag.specs.Outcomes.{Ends};
 ghost use Rattle.jj_dag.specs.Owed.{CanShow};
 ghost use Rattle.jj_walks.specs.Started.{StartsOrder};
 
+use crate::ended::item_or_end;
 use crate::lazy_plan::Plan;
 use jj_dag::shown::Shown;
 use jj_dag::walk_error::WalkError;
@@ -46,17 +47,7 @@ where
         if self.has_ended {
             return None;
         }
-        match self.plan.next_node() {
-            Ok(Some(node)) => Some(Ok(node)),
-            Ok(None) => {
-                self.has_ended = true;
-                None
-            }
-            Err(error) => {
-                self.has_ended = true;
-                Some(Err(error))
-            }
-        }
+        item_or_end(self.plan.next_node(), &mut self.has_ended)
     }
 }
 
