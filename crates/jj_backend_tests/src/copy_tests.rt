@@ -1,5 +1,6 @@
 //! Copies of records that tell of copies and of signatures.
-use jj_backend::backend::{CommitId, CopyHistory, CopyId, CopyRecord, FileId, SecureSig};
+use crate::records;
+use jj_backend::backend::{CommitId, CopyRecord, FileId};
 use jj_content_tests::once_more::holds;
 use jj_paths::repo_path::RepoPathBuf;
 use std::alloc::{AllocError, Global};
@@ -14,25 +15,10 @@ fn record(alloc: Global) -> Result<CopyRecord, AllocError> {
     })
 }
 
-fn history(alloc: Global) -> Result<CopyHistory, AllocError> {
-    Ok(CopyHistory {
-        current_path: RepoPathBuf::root(alloc),
-        parents: vec![in alloc; CopyId::from_bytes(alloc, &[9])?]?,
-        salt: [7].to_vec(alloc)?,
-    })
-}
-
-fn sig(alloc: Global) -> Result<SecureSig, AllocError> {
-    Ok(SecureSig {
-        signed_data: [1, 2].to_vec(alloc)?,
-        sig: [3].to_vec(alloc)?,
-    })
-}
-
 fn are_copied(alloc: Global) -> Result<bool, AllocError> {
     let record = record(alloc)?;
-    let history = history(alloc)?;
-    let sig = sig(alloc)?;
+    let history = records::history(alloc)?;
+    let sig = records::sig(alloc)?;
     Ok(record.clone()? == record && history.clone()? == history && sig.clone()? == sig)
 }
 
@@ -44,14 +30,14 @@ fn copies_are_equal(rt: HostRuntime) {
 fn are_told_apart(alloc: Global) -> Result<bool, AllocError> {
     let mut record = self::record(alloc)?;
     record.source_commit = CommitId::from_bytes(alloc, &[4])?;
-    let mut history = self::history(alloc)?;
+    let mut history = records::history(alloc)?;
     history.salt = [8].to_vec(alloc)?;
-    let mut sig = self::sig(alloc)?;
+    let mut sig = records::sig(alloc)?;
     sig.sig = [4].to_vec(alloc)?;
     Ok(
         record != self::record(alloc)?
-            && history > self::history(alloc)?
-            && sig != self::sig(alloc)?,
+            && history > records::history(alloc)?
+            && sig != records::sig(alloc)?,
     )
 }
 

@@ -1,125 +1,101 @@
 //! Texts of errors.
-use crate::error_texts::{cause, parts, text};
+use crate::error_texts::{cause, parts, shown, tells_of_cause, text};
 use jj_backend::backend::{
     BackendError, BackendInitError, BackendLoadError, FileId, TimestampOutOfRange,
 };
 use jj_backend::signing::SignError;
-use jj_content_tests::once_more::tells;
+use jj_content_tests::once_more::tells_of;
 use jj_paths::repo_path::RepoPathBuf;
 use std::alloc::{AllocError, Global};
 
-fn invalid_length(alloc: Global) -> Result<String, AllocError> {
-    let error = BackendError::InvalidHashLength {
+fn invalid_length(alloc: Global) -> Result<BackendError, AllocError> {
+    Ok(BackendError::InvalidHashLength {
         expected: 2,
         actual: 1,
         object_type: text(alloc, "file")?,
         hash: text(alloc, "ab")?,
-    };
-    error.to_string(alloc)
+    })
 }
 
-fn missing(alloc: Global) -> Result<String, AllocError> {
-    let error = BackendError::ObjectNotFound {
+fn missing(alloc: Global) -> Result<BackendError, AllocError> {
+    Ok(BackendError::ObjectNotFound {
         object_type: text(alloc, "tree")?,
         hash: text(alloc, "ab")?,
         source: None,
-    };
-    error.to_string(alloc)
+    })
 }
 
 #[test]
 fn ids_of_no_object(rt: HostRuntime) {
     let wanted = "Invalid hash length for object of type file (expected 2 bytes, got 1 bytes): ab";
-    assert!(rt; tells(&rt, invalid_length, wanted));
-    assert!(rt; tells(&rt, missing, "Object ab of type tree not found"));
+    assert!(rt; tells_of(&rt, invalid_length, shown, wanted));
+    assert!(rt; tells_of(&rt, missing, shown, "Object ab of type tree not found"));
 }
 
-fn unreadable(alloc: Global) -> Result<String, AllocError> {
-    let (object_type, hash, source) = parts(alloc, "tree")?;
-    let error = BackendError::ReadObject {
-        object_type,
-        hash,
-        source,
-    };
-    error.to_string(alloc)
-}
-
-fn denied(alloc: Global) -> Result<String, AllocError> {
-    let (object_type, hash, source) = parts(alloc, "tree")?;
-    let error = BackendError::ReadAccessDenied {
-        object_type,
-        hash,
-        source,
-    };
-    error.to_string(alloc)
-}
-
-fn unwritable(alloc: Global) -> Result<String, AllocError> {
-    let error = BackendError::WriteObject {
+fn unwritable(alloc: Global) -> Result<BackendError, AllocError> {
+    Ok(BackendError::WriteObject {
         object_type: "commit",
         source: cause(alloc)?,
-    };
-    error.to_string(alloc)
+    })
 }
 
-fn unreadable_file(alloc: Global) -> Result<String, AllocError> {
-    match RepoPathBuf::from_internal_string(text(alloc, "a/b")?) {
-        Ok(path) => {
-            let error = BackendError::ReadFile {
-                path,
-                id: FileId::from_bytes(alloc, &[0xab])?,
-                source: cause(alloc)?,
-            };
-            error.to_string(alloc)
+fn unreadable(alloc: Global, is_denied: bool) -> Result<BackendError, AllocError> {
+    let (object_type, hash, source) = parts(alloc, "tree")?;
+    Ok(if is_denied {
+        BackendError::ReadAccessDenied {
+            object_type,
+            hash,
+            source,
         }
+    } else {
+        BackendError::ReadObject {
+            object_type,
+            hash,
+            source,
+        }
+    })
+}
+
+fn unreadable_file(alloc: Global) -> Result<BackendError, AllocError> {
+    match RepoPathBuf::from_internal_string(text(alloc, "a/b")?) {
+        Ok(path) => Ok(BackendError::ReadFile {
+            path,
+            id: FileId::from_bytes(alloc, &[0xab])?,
+            source: cause(alloc)?,
+        }),
         Err(_) => Err(AllocError),
     }
 }
 
 #[test]
 fn objects_out_of_reach(rt: HostRuntime) {
-    assert!(rt; tells(&rt, unreadable, "Error when reading object ab of type tree"));
-    assert!(rt; tells(&rt, denied, "Access denied to read object ab of type tree"));
-    assert!(rt; tells(&rt, unwritable, "Could not write object of type commit"));
+    let wanted = "Could not write object of type commit";
+    assert!(rt; tells_of(&rt, unwritable, shown, wanted));
+    let wanted = "Error when reading object ab of type tree";
+    assert!(rt; tells_of(&rt, |alloc| unreadable(alloc, false), shown, wanted));
+    let wanted = "Access denied to read object ab of type tree";
+    assert!(rt; tells_of(&rt, |alloc| unreadable(alloc, true), shown, wanted));
     let wanted = "Error when reading file content for file a/b with id ab";
-    assert!(rt; tells(&rt, unreadable_file, wanted));
-}
-
-fn other(alloc: Global) -> Result<String, AllocError> {
-    BackendError::Other(cause(alloc)?).to_string(alloc)
-}
-
-fn not_made(alloc: Global) -> Result<String, AllocError> {
-    BackendInitError(cause(alloc)?).to_string(alloc)
-}
-
-fn not_opened(alloc: Global) -> Result<String, AllocError> {
-    BackendLoadError(cause(alloc)?).to_string(alloc)
-}
-
-fn unsigned(alloc: Global) -> Result<String, AllocError> {
-    SignError::Backend(cause(alloc)?).to_string(alloc)
-}
-
-fn unsupported(alloc: Global) -> Result<String, AllocError> {
-    BackendError::Unsupported(text(alloc, "no copies")?).to_string(alloc)
+    assert!(rt; tells_of(&rt, unreadable_file, shown, wanted));
 }
 
 #[test]
 fn causes(rt: HostRuntime) {
-    assert!(rt; tells(&rt, other, "the cause"));
-    assert!(rt; tells(&rt, not_made, "the cause"));
-    assert!(rt; tells(&rt, not_opened, "the cause"));
-    assert!(rt; tells(&rt, unsigned, "Signing error"));
-    assert!(rt; tells(&rt, unsupported, "no copies"));
+    assert!(rt; tells_of_cause(&rt, BackendError::Other, "the cause"));
+    assert!(rt; tells_of_cause(&rt, BackendInitError, "the cause"));
+    assert!(rt; tells_of_cause(&rt, BackendLoadError, "the cause"));
+    assert!(rt; tells_of_cause(&rt, SignError::Backend, "Signing error"));
+}
+
+fn unsupported(alloc: Global) -> Result<BackendError, AllocError> {
+    Ok(BackendError::Unsupported(text(alloc, "no copies")?))
 }
 
 #[test]
-fn errors_without_parts(rt: HostRuntime) {
-    let out_of_memory = |alloc: Global| BackendError::Memory.to_string(alloc);
-    assert!(rt; tells(&rt, out_of_memory, "out of memory"));
-    let invalid = |alloc: Global| SignError::InvalidSignatureFormat.to_string(alloc);
-    assert!(rt; tells(&rt, invalid, "Invalid signature"));
-    let out_of_range = |alloc: Global| TimestampOutOfRange.to_string(alloc);
-    assert!(rt; tells(&rt, out_of_range, "Out-of-range date"));
+fn errors_without_causes(rt: HostRuntime) {
+    assert!(rt; tells_of(&rt, unsupported, shown, "no copies"));
+    assert!(rt; tells_of(&rt, |_| Ok(BackendError::Memory), shown, "out of memory"));
+    let invalid = |_| Ok(SignError::InvalidSignatureFormat);
+    assert!(rt; tells_of(&rt, invalid, shown, "Invalid signature"));
+    assert!(rt; tells_of(&rt, |_| Ok(TimestampOutOfRange), shown, "Out-of-range date"));
 }

@@ -2,17 +2,9 @@
 use crate::records::{commit, signature};
 use jj_backend::backend::{MillisSinceEpoch, Timestamp};
 use jj_content::content_hash::{ToJson, ToJsonError};
-use jj_content_tests::once_more::{holds, tells};
+use jj_content_tests::json_texts::json_text;
+use jj_content_tests::once_more::{holds, tells_of};
 use std::alloc::{AllocError, Global};
-
-// The JSON text of a value whose dates are in range, none of another.
-fn text<T: ToJson>(alloc: Global, value: &T) -> Result<String, AllocError> {
-    match value.to_json(alloc) {
-        Ok(json) => json.to_string(alloc),
-        Err(ToJsonError::Memory) => Err(AllocError),
-        Err(ToJsonError::TimestampOutOfRange) => Ok(String::new(alloc)),
-    }
-}
 
 const fn time(millis: i64, tz_offset: i32) -> Timestamp {
     Timestamp {
@@ -33,7 +25,7 @@ const DATES: [(i64, i32, &str); 5] = [
 #[test]
 fn dates(rt: HostRuntime) {
     for (millis, tz_offset, date) in DATES {
-        assert!(rt; tells(&rt, |alloc| text(alloc, &time(millis, tz_offset)), date));
+        assert!(rt; tells_of(&rt, |_| Ok(time(millis, tz_offset)), json_text, date));
     }
 }
 
@@ -47,23 +39,15 @@ fn far_moments_are_refused(rt: HostRuntime) {
     }
 }
 
-fn author(alloc: Global) -> Result<String, AllocError> {
-    text(alloc, &signature(alloc, "a", "b", time(0, 0))?)
-}
-
 #[test]
 fn signatures_as_objects(rt: HostRuntime) {
-    assert!(rt;
-        tells(
-            &rt,
-            author,
-            "{\"email\":\"b\",\"name\":\"a\",\"timestamp\":\"1970-01-01T00:00:00.000+00:00\"}",
-        )
-    );
+    let author = |alloc| signature(alloc, "a", "b", time(0, 0));
+    let wanted = "{\"email\":\"b\",\"name\":\"a\",\"timestamp\":\"1970-01-01T00:00:00.000+00:00\"}";
+    assert!(rt; tells_of(&rt, author, json_text, wanted));
 }
 
 fn has_its_parts(alloc: Global) -> Result<bool, AllocError> {
-    let text = text(alloc, &commit(alloc)?)?;
+    let text = json_text(alloc, &commit(alloc)?)?;
     let begin = "{\"author\":{\"email\":\"\",\"name\":\"a\",\"timestamp\":";
     let end = "},\"description\":\"d\",\"parents\":[\"0a\"]}";
     Ok(

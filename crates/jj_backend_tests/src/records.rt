@@ -1,9 +1,10 @@
 //! Records that the tests are made of.
 use jj_backend::backend::{
-    ChangeId, Commit, CommitId, CopyId, FileId, MillisSinceEpoch, SecureSig, Signature, Timestamp,
-    TreeId, TreeValue,
+    ChangeId, Commit, CommitId, CopyHistory, CopyId, FileId, MillisSinceEpoch, SecureSig,
+    Signature, SymlinkId, Timestamp, TreeId, TreeValue,
 };
 use jj_merges::merge::Merge;
+use jj_paths::repo_path::RepoPathBuf;
 use std::alloc::{AllocError, Global};
 
 /// The beginning of time, in UTC.
@@ -32,6 +33,38 @@ pub fn file(alloc: Global, id: u8, executable: bool) -> Result<TreeValue, AllocE
         id: FileId::from_bytes(alloc, &[id])?,
         executable,
         copy_id: CopyId::placeholder(alloc),
+    })
+}
+
+/// A symbolic link with the id 02.
+pub fn link(alloc: Global) -> Result<TreeValue, AllocError> {
+    Ok(TreeValue::Symlink(SymlinkId::from_bytes(alloc, &[2])?))
+}
+
+/// A directory with the id 03.
+pub fn directory(alloc: Global) -> Result<TreeValue, AllocError> {
+    Ok(TreeValue::Tree(TreeId::from_bytes(alloc, &[3])?))
+}
+
+/// A submodule with the id 04.
+pub fn submodule(alloc: Global) -> Result<TreeValue, AllocError> {
+    Ok(TreeValue::GitSubmodule(CommitId::from_bytes(alloc, &[4])?))
+}
+
+/// How a file at the root came from another.
+pub fn history(alloc: Global) -> Result<CopyHistory, AllocError> {
+    Ok(CopyHistory {
+        current_path: RepoPathBuf::root(alloc),
+        parents: vec![in alloc; CopyId::from_bytes(alloc, &[9])?]?,
+        salt: [7].to_vec(alloc)?,
+    })
+}
+
+/// A signature of data.
+pub fn sig(alloc: Global) -> Result<SecureSig, AllocError> {
+    Ok(SecureSig {
+        signed_data: [1, 2].to_vec(alloc)?,
+        sig: [3].to_vec(alloc)?,
     })
 }
 

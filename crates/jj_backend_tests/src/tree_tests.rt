@@ -1,15 +1,11 @@
 //! Trees of one directory: their names, look-ups, copies and content.
-use crate::records::file;
-use jj_backend::backend::{Tree, TreeId, TreeValue};
+use crate::records::{directory, file};
+use jj_backend::backend::{Tree, TreeValue};
 use jj_content_tests::content_texts::content_text;
 use jj_paths::repo_path::RepoPathComponentBuf;
 use std::alloc::{AllocError, Global};
 use std::process::Abort;
 use std::test::Fail;
-
-fn directory(alloc: Global) -> Result<TreeValue, AllocError> {
-    Ok(TreeValue::Tree(TreeId::from_bytes(alloc, &[3])?))
-}
 
 // The name of a text that is one: it is refused only for want of memory.
 fn name(alloc: Global, text: &str) -> Result<RepoPathComponentBuf, AllocError> {

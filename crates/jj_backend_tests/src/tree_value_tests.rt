@@ -1,10 +1,10 @@
 //! Merges of what stands at a path: whether they are trees, the parts of files, and conflicts in
 //! words.
 use crate::callers::{changed_file, new_file};
-use crate::records::file;
+use crate::records::{directory, file, link, submodule};
 use jj_backend::backend::{
-    CommitId, CopyId, FileId, MergedTreeVal, MergedTreeValue, MergedTreeValueExt, SymlinkId,
-    TreeId, TreeValue, borrow_tree_value,
+    CopyId, FileId, MergedTreeVal, MergedTreeValue, MergedTreeValueExt, TreeValue,
+    borrow_tree_value,
 };
 use jj_content_tests::once_more::{holds, tells};
 use jj_merges::conflict_labels::ConflictLabels;
@@ -27,17 +27,15 @@ fn merge<R: Abort>(
     Ok(Merge::from_vec(SmallVec::from_vec(terms)))
 }
 
-fn link(alloc: Global) -> Result<Term, AllocError> {
-    Ok(Some(TreeValue::Symlink(SymlinkId::from_bytes(alloc, &[2])?)))
-}
-
-fn directory(alloc: Global) -> Result<Term, AllocError> {
-    Ok(Some(TreeValue::Tree(TreeId::from_bytes(alloc, &[3])?)))
-}
-
 // A file, and a symbolic link that was made in its place.
 fn conflict<R: Abort>(rt: &R, alloc: Global) -> Result<MergedTreeValue, AllocError> {
-    merge(rt, alloc, Some(file(alloc, 1, false)?), None, link(alloc)?)
+    merge(
+        rt,
+        alloc,
+        Some(file(alloc, 1, false)?),
+        None,
+        Some(link(alloc)?),
+    )
 }
 
 fn labels<R: Abort>(rt: &R, alloc: Global) -> Result<ConflictLabels, AllocError> {
@@ -53,57 +51,29 @@ fn told<R: Abort>(rt: &R, alloc: Global) -> Result<String, AllocError> {
     conflict(rt, alloc)?.describe(alloc, &labels(rt, alloc)?)
 }
 
-#[test]
-fn a_conflict_in_words(rt: HostRuntime) {
-    assert!(rt;
-        tells(
-            &rt,
-            |alloc| told(&rt, alloc),
-            "Conflict:\n  Adding file with id 01 (left)\n  Adding symlink with id 02 (right)\n",
-        )
-    );
-}
-
 fn told_of_removed<R: Abort>(rt: &R, alloc: Global) -> Result<String, AllocError> {
     let removed = Some(file(alloc, 1, true)?);
-    let conflict = merge(rt, alloc, directory(alloc)?, removed, None)?;
+    let conflict = merge(rt, alloc, Some(directory(alloc)?), removed, None)?;
     conflict.describe(alloc, &ConflictLabels::unlabeled(alloc))
 }
 
-#[test]
-fn removed_terms_come_first(rt: HostRuntime) {
-    assert!(rt;
-        tells(
-            &rt,
-            |alloc| told_of_removed(&rt, alloc),
-            "Conflict:\n  Removing executable file with id 01\n  Adding tree with id 03\n",
-        )
-    );
-}
-
 fn told_of_submodule<R: Abort>(rt: &R, alloc: Global) -> Result<String, AllocError> {
-    let submodule = TreeValue::GitSubmodule(CommitId::from_bytes(alloc, &[4])?);
-    let conflict = merge(
-        rt,
-        alloc,
-        None,
-        Some(submodule),
-        Some(file(alloc, 1, true)?),
-    )?;
+    let removed = Some(submodule(alloc)?);
+    let conflict = merge(rt, alloc, None, removed, Some(file(alloc, 1, true)?))?;
     conflict.describe(alloc, &labels(rt, alloc)?)
 }
 
-// The base has an empty label, which is not told.
+// Removed terms come first. The base has an empty label, which is not told.
 #[test]
-fn submodules_in_words(rt: HostRuntime) {
-    assert!(rt;
-        tells(
-            &rt,
-            |alloc| told_of_submodule(&rt, alloc),
-            "Conflict:\n  Removing Git submodule with id 04\n\
-         \x20 Adding executable file with id 01 (right)\n",
-        )
-    );
+fn conflicts_in_words(rt: HostRuntime) {
+    let wanted = "Conflict:\n  Adding file with id 01 (left)\n\
+         \x20 Adding symlink with id 02 (right)\n";
+    assert!(rt; tells(&rt, |alloc| told(&rt, alloc), wanted));
+    let wanted = "Conflict:\n  Removing executable file with id 01\n  Adding tree with id 03\n";
+    assert!(rt; tells(&rt, |alloc| told_of_removed(&rt, alloc), wanted));
+    let wanted = "Conflict:\n  Removing Git submodule with id 04\n\
+         \x20 Adding executable file with id 01 (right)\n";
+    assert!(rt; tells(&rt, |alloc| told_of_submodule(&rt, alloc), wanted));
 }
 
 fn kinds(merge: &MergedTreeValue) -> (bool, bool) {
@@ -111,7 +81,8 @@ fn kinds(merge: &MergedTreeValue) -> (bool, bool) {
 }
 
 fn kinds_of_conflicts<R: Abort>(rt: &R, alloc: Global) -> Result<bool, AllocError> {
-    let trees = merge(rt, alloc, directory(alloc)?, None, directory(alloc)?)?;
+    let tree = Some(directory(alloc)?);
+    let trees = merge(rt, alloc, tree, None, Some(directory(alloc)?))?;
     let nothing = merge(rt, alloc, None, None, None)?;
     let other = conflict(rt, alloc)?;
     Ok(
@@ -123,7 +94,7 @@ fn kinds_of_conflicts<R: Abort>(rt: &R, alloc: Global) -> Result<bool, AllocErro
 
 fn kinds_of_resolved(alloc: Global) -> Result<bool, AllocError> {
     let file = Merge::normal(alloc, file(alloc, 1, false)?);
-    let tree = Merge::resolved(alloc, directory(alloc)?);
+    let tree = Merge::resolved(alloc, Some(directory(alloc)?));
     Ok(kinds(&file) == (false, true) && kinds(&tree) == (true, false))
 }
 

@@ -44,51 +44,57 @@ fn reverse_prefix(alloc: Global, text: &str) -> Result<Option<(Vec<u8>, bool)>, 
     decode_reverse_hex_prefix(alloc, text).or_else(|_| decode_reverse_hex_prefix(alloc, text))
 }
 
+// Hex texts and their bytes; the others are none.
+const TEXTS: [(&str, Option<&[u8]>); 6] = [
+    ("", Some(&[])),
+    ("0", None),
+    ("0123456789abcDEF", Some(&DIGITS)),
+    ("gg", None),
+    ("0g", None),
+    ("柔", None),
+];
+
+// The same of reversed digits.
+const REVERSED_TEXTS: [(&str, Option<&[u8]>); 5] = [
+    ("", Some(&[])),
+    ("z", None),
+    ("zk", Some(&[0x0f])),
+    ("zyxwvutsRQPONMLK", Some(&DIGITS)),
+    ("jj", None),
+];
+
+// Beginnings of hex texts, their bytes, and whether the last byte is half there.
+const PREFIXES: [(&str, Option<(&[u8], bool)>); 5] = [
+    ("", Some((&[], false))),
+    ("f", Some((&[0xf0], true))),
+    ("0123456789ABCdef", Some((&DIGITS, false))),
+    ("gg", None),
+    ("00g", None),
+];
+
+// The same of reversed digits.
+const REVERSED_PREFIXES: [(&str, Option<(&[u8], bool)>); 4] = [
+    ("", Some((&[], false))),
+    ("k", Some((&[0xf0], true))),
+    ("ZYXWVUTSrqponmlk", Some((&DIGITS, false))),
+    ("jj", None),
+];
+
 #[test]
 fn hex_is_read(rt: HostRuntime) -> Result<(), Fail> {
     let alloc = rt.alloc();
-    assert!(rt; is_read(&forward(alloc, "")?, Some(&[])));
-    assert!(rt; is_read(&forward(alloc, "0")?, None));
-    assert!(rt; is_read(&forward(alloc, "0123456789abcDEF")?, Some(&DIGITS)));
-    assert!(rt; is_read(&forward(alloc, "gg")?, None));
-    assert!(rt; is_read(&forward(alloc, "0g")?, None));
-    assert!(rt; is_read(&forward(alloc, "柔")?, None));
-    Ok(())
-}
-
-#[test]
-fn reversed_hex_is_read(rt: HostRuntime) -> Result<(), Fail> {
-    let alloc = rt.alloc();
-    assert!(rt; is_read(&reverse(alloc, "")?, Some(&[])));
-    assert!(rt; is_read(&reverse(alloc, "z")?, None));
-    assert!(rt; is_read(&reverse(alloc, "zk")?, Some(&[0x0f])));
-    assert!(rt; is_read(&reverse(alloc, "zyxwvutsRQPONMLK")?, Some(&DIGITS)));
-    assert!(rt; is_read(&reverse(alloc, "jj")?, None));
-    Ok(())
-}
-
-#[test]
-fn prefixes_are_read(rt: HostRuntime) -> Result<(), Fail> {
-    let alloc = rt.alloc();
-    assert!(rt; is_prefix(&forward_prefix(alloc, "")?, Some((&[], false))));
-    assert!(rt; is_prefix(&forward_prefix(alloc, "f")?, Some((&[0xf0], true))));
-    assert!(rt;
-        is_prefix(
-            &forward_prefix(alloc, "0123456789ABCdef")?,
-            Some((&DIGITS, false))
-        )
-    );
-    assert!(rt; is_prefix(&forward_prefix(alloc, "gg")?, None));
-    assert!(rt; is_prefix(&forward_prefix(alloc, "00g")?, None));
-    assert!(rt; is_prefix(&reverse_prefix(alloc, "")?, Some((&[], false))));
-    assert!(rt; is_prefix(&reverse_prefix(alloc, "k")?, Some((&[0xf0], true))));
-    assert!(rt;
-        is_prefix(
-            &reverse_prefix(alloc, "ZYXWVUTSrqponmlk")?,
-            Some((&DIGITS, false))
-        )
-    );
-    assert!(rt; is_prefix(&reverse_prefix(alloc, "jj")?, None));
+    for (text, bytes) in TEXTS {
+        assert!(rt; is_read(&forward(alloc, text)?, bytes), "{text}");
+    }
+    for (text, bytes) in REVERSED_TEXTS {
+        assert!(rt; is_read(&reverse(alloc, text)?, bytes), "{text}");
+    }
+    for (text, read) in PREFIXES {
+        assert!(rt; is_prefix(&forward_prefix(alloc, text)?, read), "{text}");
+    }
+    for (text, read) in REVERSED_PREFIXES {
+        assert!(rt; is_prefix(&reverse_prefix(alloc, text)?, read), "{text}");
+    }
     Ok(())
 }
 

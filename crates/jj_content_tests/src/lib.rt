@@ -10,6 +10,7 @@ pub mod content_texts;
 mod hex_util_tests;
 #[cfg(test)]
 mod json;
+pub mod json_texts;
 #[cfg(test)]
 mod known_answers;
 #[cfg(test)]

@@ -31,26 +31,23 @@ fn hashed_set(alloc: Global, members: &[u8]) -> Result<HashSet<u8>, AllocError> 
     Ok(set)
 }
 
-fn ordered_texts(
-    alloc: Global,
-    key: &str,
-    value: &str,
-) -> Result<BTreeMap<String, String>, AllocError> {
+fn texts(alloc: Global, entry: [&str; 2]) -> Result<(String, String), AllocError> {
+    Ok((
+        String::from_str(alloc, entry[0])?,
+        String::from_str(alloc, entry[1])?,
+    ))
+}
+
+fn ordered_texts(alloc: Global, entry: [&str; 2]) -> Result<BTreeMap<String, String>, AllocError> {
     let mut map = BTreeMap::new(alloc);
-    let key = String::from_str(alloc, key)?;
-    let value = String::from_str(alloc, value)?;
+    let (key, value) = texts(alloc, entry)?;
     map.insert(key, value)?;
     Ok(map)
 }
 
-fn hashed_texts(
-    alloc: Global,
-    key: &str,
-    value: &str,
-) -> Result<HashMap<String, String>, AllocError> {
+fn hashed_texts(alloc: Global, entry: [&str; 2]) -> Result<HashMap<String, String>, AllocError> {
     let mut map = HashMap::new(alloc);
-    let key = String::from_str(alloc, key)?;
-    let value = String::from_str(alloc, value)?;
+    let (key, value) = texts(alloc, entry)?;
     map.insert(key, value)?;
     Ok(map)
 }
@@ -58,25 +55,17 @@ fn hashed_texts(
 const CONTENT: [u8; 14] = [3, 0, 0, 0, 0, 0, 0, 0, 2, 5, 7, 3, 9, 1];
 
 #[test]
-fn ordered_maps(rt: HostRuntime) -> Result<(), Fail> {
-    let alloc = rt.alloc();
-    for entries in [[(9, 1), (2, 5), (7, 3)], [(2, 5), (7, 3), (9, 1)]] {
-        let map = ordered_map(alloc, &entries).or_else(|_| ordered_map(alloc, &entries))?;
-        assert_content(&rt, alloc, &map, &CONTENT);
-    }
-    Ok(())
-}
-
-#[test]
-fn hashed_maps_in_key_order(rt: HostRuntime) -> Result<(), Fail> {
+fn maps_in_key_order(rt: HostRuntime) -> Result<(), Fail> {
     let alloc = rt.alloc();
     for entries in [
         [(9, 1), (2, 5), (7, 3)],
         [(2, 5), (7, 3), (9, 1)],
         [(7, 3), (9, 1), (2, 5)],
     ] {
-        let map = hashed_map(alloc, &entries).or_else(|_| hashed_map(alloc, &entries))?;
-        assert_content(&rt, alloc, &map, &CONTENT);
+        let ordered = ordered_map(alloc, &entries).or_else(|_| ordered_map(alloc, &entries))?;
+        assert_content(&rt, alloc, &ordered, &CONTENT);
+        let hashed = hashed_map(alloc, &entries).or_else(|_| hashed_map(alloc, &entries))?;
+        assert_content(&rt, alloc, &hashed, &CONTENT);
     }
     Ok(())
 }
@@ -112,12 +101,16 @@ fn many_entries_in_different_orders(rt: HostRuntime) -> Result<(), Fail> {
 #[test]
 fn keys_and_values_are_told_apart(rt: HostRuntime) -> Result<(), Fail> {
     let alloc = rt.alloc();
-    let first = ordered_texts(alloc, "ab", "cd").or_else(|_| ordered_texts(alloc, "ab", "cd"))?;
-    let second = ordered_texts(alloc, "a", "bcd").or_else(|_| ordered_texts(alloc, "a", "bcd"))?;
+    let (one, other) = (["ab", "cd"], ["a", "bcd"]);
+    let first = ordered_texts(alloc, one).or_else(|_| ordered_texts(alloc, one))?;
+    let second = ordered_texts(alloc, other).or_else(|_| ordered_texts(alloc, other))?;
     assert_ne!(rt; digest_of(alloc, &first)?, digest_of(alloc, &second)?);
-    let hashed = hashed_texts(alloc, "ab", "cd").or_else(|_| hashed_texts(alloc, "ab", "cd"))?;
-    let other = hashed_texts(alloc, "a", "bcd").or_else(|_| hashed_texts(alloc, "a", "bcd"))?;
+    let hashed = hashed_texts(alloc, one).or_else(|_| hashed_texts(alloc, one))?;
+    let second_hashed = hashed_texts(alloc, other).or_else(|_| hashed_texts(alloc, other))?;
     assert_eq!(rt; digest_of(alloc, &hashed)?, digest_of(alloc, &first)?);
-    assert_ne!(rt; digest_of(alloc, &hashed)?, digest_of(alloc, &other)?);
+    assert_ne!(rt;
+        digest_of(alloc, &hashed)?,
+        digest_of(alloc, &second_hashed)?
+    );
     Ok(())
 }

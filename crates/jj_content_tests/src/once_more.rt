@@ -17,6 +17,19 @@ where
     }
 }
 
+/// Whether the text of what is made is the wanted one, as this function writes it.
+pub fn tells_of<R, T, F, G>(rt: &R, made: F, text_of: G, wanted: &str) -> bool
+where
+    R: AllocGlobal,
+    T: Drop,
+    F: Fn(Global) -> Result<T, AllocError>,
+    G: Fn(Global, &T) -> Result<String, AllocError>,
+    requires made { F.IsAlwaysCallable made }
+    requires text_of { G.IsAlwaysCallable text_of }
+{
+    tells(rt, |alloc| text_of(alloc, &made(alloc)?), wanted)
+}
+
 /// Whether a claim is true.
 pub fn holds<R, E, F>(rt: &R, claim: F) -> bool
 where

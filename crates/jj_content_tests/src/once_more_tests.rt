@@ -1,5 +1,5 @@
 //! What is done once more, and what is then said of it.
-use crate::once_more::{holds, passes, tells};
+use crate::once_more::{holds, passes, tells, tells_of};
 use std::alloc::{AllocError, Global};
 use std::cell::Cell;
 use std::process::Abort;
@@ -18,6 +18,17 @@ fn texts_are_compared(rt: HostRuntime) {
     assert!(rt; tells(&rt, letter, "a"));
     assert!(rt; !tells(&rt, letter, "b"));
     assert!(rt; !tells(&rt, refused, "a"));
+}
+
+fn copied(_alloc: Global, text: &String) -> Result<String, AllocError> {
+    text.clone()
+}
+
+#[test]
+fn texts_of_what_is_made_are_compared(rt: HostRuntime) {
+    assert!(rt; tells_of(&rt, letter, copied, "a"));
+    assert!(rt; !tells_of(&rt, letter, copied, "b"));
+    assert!(rt; !tells_of(&rt, refused, copied, "a"));
 }
 
 #[test]

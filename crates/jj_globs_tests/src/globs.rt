@@ -35,13 +35,15 @@ fn stands_for<R: Abort>(rt: &R, glob: &Glob, yes: &[&str], no: &[&str]) {
     }
 }
 
-// Checks rows of a glob with separator, what it stands for and what it does not stand for.
-fn matches<R: Abort>(
-    rt: &R,
-    alloc: Global,
-    icase: bool,
-    rows: &[(&str, &[&str], &[&str])],
-) -> Result<(), AllocError> {
+// A glob, texts that it stands for, and texts that it does not stand for.
+type Row = (
+    &'static str,
+    &'static [&'static str],
+    &'static [&'static str],
+);
+
+// Checks rows of globs with separator.
+fn matches<R: Abort>(rt: &R, alloc: Global, icase: bool, rows: &[Row]) -> Result<(), AllocError> {
     for (text, yes, no) in rows {
         let glob = glob(rt, alloc, text, true, icase)?;
         assert_eq!(rt; glob.as_str(), *text);
@@ -50,140 +52,99 @@ fn matches<R: Abort>(
     Ok(())
 }
 
-fn stars<R: Abort>(rt: &R, alloc: Global) -> Result<(), AllocError> {
-    matches(
-        rt,
-        alloc,
-        false,
-        &[
-            ("", &[""], &["a", "/"]),
-            ("*", &["", "a", "abc", "a\nb"], &["a/b", "/"]),
-            ("?", &["a", "\n"], &["", "ab", "/"]),
-            (
-                "a/**/b",
-                &["a/b", "a/x/b", "a/x/y/b", "a//b"],
-                &["ab", "a/xb"],
-            ),
-            ("**", &["", "x", "x/y", "/"], &[]),
-            ("**/**", &["", "x", "x/y"], &[]),
-            ("**/", &["", "x", "x/y", "x/"], &[]),
-            ("**/**/", &["", "x", "x/y"], &[]),
-            ("***", &["", "x"], &["x/y"]),
-            ("a**b", &["ab", "axb"], &["a/b"]),
-            ("a/**", &["a/", "a/x", "a/x/y"], &["a", "ab"]),
-            ("a/**b", &["a/b", "a/xb"], &["a/x/b"]),
-            ("a/**/", &["a/", "a/x/", "a/x/y/"], &["a", "a/x"]),
-            ("a/**/**", &["a/", "a/x", "a/x/y"], &["a"]),
-            ("**/a", &["a", "x/a", "x/y/a", "/a"], &["xa", "x/ya"]),
-            ("**/**/a", &["a", "x/a", "x/y/a"], &["xa"]),
-            ("/**/**/", &["/", "/x/", "/x/y/"], &["/x", ""]),
-            ("/**/a/**/b", &["/a/b", "/x/a/y/b"], &["a/b", "/ab"]),
-        ],
-    )
-}
+const STARS: &[Row] = &[
+    ("", &[""], &["a", "/"]),
+    ("*", &["", "a", "abc", "a\nb"], &["a/b", "/"]),
+    ("?", &["a", "\n"], &["", "ab", "/"]),
+    (
+        "a/**/b",
+        &["a/b", "a/x/b", "a/x/y/b", "a//b"],
+        &["ab", "a/xb"],
+    ),
+    ("**", &["", "x", "x/y", "/"], &[]),
+    ("**/**", &["", "x", "x/y"], &[]),
+    ("**/", &["", "x", "x/y", "x/"], &[]),
+    ("**/**/", &["", "x", "x/y"], &[]),
+    ("***", &["", "x"], &["x/y"]),
+    ("a**b", &["ab", "axb"], &["a/b"]),
+    ("a/**", &["a/", "a/x", "a/x/y"], &["a", "ab"]),
+    ("a/**b", &["a/b", "a/xb"], &["a/x/b"]),
+    ("a/**/", &["a/", "a/x/", "a/x/y/"], &["a", "a/x"]),
+    ("a/**/**", &["a/", "a/x", "a/x/y"], &["a"]),
+    ("**/a", &["a", "x/a", "x/y/a", "/a"], &["xa", "x/ya"]),
+    ("**/**/a", &["a", "x/a", "x/y/a"], &["xa"]),
+    ("/**/**/", &["/", "/x/", "/x/y/"], &["/x", ""]),
+    ("/**/a/**/b", &["/a/b", "/x/a/y/b"], &["a/b", "/ab"]),
+];
 
-fn groups<R: Abort>(rt: &R, alloc: Global) -> Result<(), AllocError> {
-    matches(
-        rt,
-        alloc,
-        false,
-        &[
-            ("{a,b}c", &["ac", "bc"], &["c", "abc"]),
-            ("{a,}", &["a"], &[""]),
-            ("{,a}", &["a"], &[""]),
-            ("{a,,b}", &["a", "b"], &[""]),
-            ("{}", &[""], &["a"]),
-            ("{,}", &[""], &["a", ","]),
-            ("{{}}", &[""], &["a"]),
-            ("{{},a}", &["a"], &[""]),
-            ("{a,{b,c}d}", &["a", "bd", "cd"], &["b", "d"]),
-            ("{a{b,{c,d}},e}", &["ab", "ac", "ad", "e"], &["a", "b"]),
-            ("a,b", &["a,b"], &["a", "b"]),
-            ("{a}", &["a"], &["", "{a}"]),
-            ("{\\,,a\\}}", &[",", "a}"], &["a", ""]),
-            ("{*,a/b}", &["", "x", "a/b"], &["x/b"]),
-            ("{**}", &["", "x"], &["x/y"]),
-            ("{**/**}", &["", "x/", "x/y/"], &["x/y"]),
-            ("{**/a,b/**}", &["a", "x/a", "b/", "b/x/y"], &["xa", "b"]),
-            ("x{/**/a,/**}", &["x/a", "x/y/a", "x/y/z"], &["x", "xa"]),
-            ("{}**/a", &["a", "x/a"], &["xa"]),
-            ("a/{}**", &["a/", "a/x"], &["a/x/y"]),
-            ("a/**{}", &["a/", "a/x"], &["a/x/y"]),
-            ("{a/}**", &["a/", "a/x"], &["a/x/y"]),
-        ],
-    )
-}
+const GROUPS: &[Row] = &[
+    ("{a,b}c", &["ac", "bc"], &["c", "abc"]),
+    ("{a,}", &["a"], &[""]),
+    ("{,a}", &["a"], &[""]),
+    ("{a,,b}", &["a", "b"], &[""]),
+    ("{}", &[""], &["a"]),
+    ("{,}", &[""], &["a", ","]),
+    ("{{}}", &[""], &["a"]),
+    ("{{},a}", &["a"], &[""]),
+    ("{a,{b,c}d}", &["a", "bd", "cd"], &["b", "d"]),
+    ("{a{b,{c,d}},e}", &["ab", "ac", "ad", "e"], &["a", "b"]),
+    ("a,b", &["a,b"], &["a", "b"]),
+    ("{a}", &["a"], &["", "{a}"]),
+    ("{\\,,a\\}}", &[",", "a}"], &["a", ""]),
+    ("{*,a/b}", &["", "x", "a/b"], &["x/b"]),
+    ("{**}", &["", "x"], &["x/y"]),
+    ("{**/**}", &["", "x/", "x/y/"], &["x/y"]),
+    ("{**/a,b/**}", &["a", "x/a", "b/", "b/x/y"], &["xa", "b"]),
+    ("x{/**/a,/**}", &["x/a", "x/y/a", "x/y/z"], &["x", "xa"]),
+    ("{}**/a", &["a", "x/a"], &["xa"]),
+    ("a/{}**", &["a/", "a/x"], &["a/x/y"]),
+    ("a/**{}", &["a/", "a/x"], &["a/x/y"]),
+    ("{a/}**", &["a/", "a/x"], &["a/x/y"]),
+];
 
 // Groups of words, of which some begin alike, some begin with others, and some are given twice.
-fn groups_of_words<R: Abort>(rt: &R, alloc: Global) -> Result<(), AllocError> {
-    matches(
-        rt,
-        alloc,
-        false,
-        &[
-            (
-                "{ab,ac,abd,b,ab}",
-                &["ab", "ac", "abd", "b"],
-                &["", "a", "ad", "abc", "bd", "abab", "acd"],
-            ),
-            (
-                "{abc,ab,a}x",
-                &["abcx", "abx", "ax"],
-                &["x", "abc", "acx", "bx"],
-            ),
-            ("{a,ab}{bc,c}", &["abc", "ac", "abbc"], &["ab", "abb", "c"]),
-            ("{x{ab,aa},xab}*", &["xab", "xaac"], &["xa", "ab", "xbb"]),
-            (
-                "{a1,b1,a2,b2}/{a,b}",
-                &["a1/a", "b2/b"],
-                &["a1", "a1b2/a", "a/a"],
-            ),
-            (
-                "**/{ab,ac}",
-                &["ab", "x/ac", "x/y/ab"],
-                &["xab", "ab/x", "x/a"],
-            ),
-        ],
-    )
-}
-
-fn groups_of_words_in_either_case<R: Abort>(rt: &R, alloc: Global) -> Result<(), AllocError> {
-    matches(
-        rt,
-        alloc,
-        true,
-        &[(
-            "{aB,Ab,ac,AD}",
-            &["ab", "AB", "aC", "ad"],
-            &["a", "abb", "b"],
-        )],
-    )
-}
+const GROUPS_OF_WORDS: &[Row] = &[
+    (
+        "{ab,ac,abd,b,ab}",
+        &["ab", "ac", "abd", "b"],
+        &["", "a", "ad", "abc", "bd", "abab", "acd"],
+    ),
+    (
+        "{abc,ab,a}x",
+        &["abcx", "abx", "ax"],
+        &["x", "abc", "acx", "bx"],
+    ),
+    ("{a,ab}{bc,c}", &["abc", "ac", "abbc"], &["ab", "abb", "c"]),
+    ("{x{ab,aa},xab}*", &["xab", "xaac"], &["xa", "ab", "xbb"]),
+    (
+        "{a1,b1,a2,b2}/{a,b}",
+        &["a1/a", "b2/b"],
+        &["a1", "a1b2/a", "a/a"],
+    ),
+    (
+        "**/{ab,ac}",
+        &["ab", "x/ac", "x/y/ab"],
+        &["xab", "ab/x", "x/a"],
+    ),
+];
 
 // Any bytes only where the whole text is a run of `**` joined by `/`: beside a group that leaves
 // nothing it is not.
-fn runs_beside_empty_groups<R: Abort>(rt: &R, alloc: Global) -> Result<(), AllocError> {
-    matches(
-        rt,
-        alloc,
-        false,
-        &[
-            ("**/{}", &["", "x/", "x/y/"], &["a", "x/y"]),
-            ("**/{,}", &["", "x/", "x/y/"], &["a", "x/y"]),
-            ("**/**/{}", &["", "x/", "x/y/"], &["a", "x/y"]),
-            ("**/{{},}", &["", "x/"], &["a", "x/y"]),
-            ("{}**", &["", "a"], &["x/y", "x/"]),
-            ("{,}**", &["", "a"], &["x/y", "/"]),
-            ("{}**/", &["", "x/", "x/y/"], &["a", "x/y"]),
-            ("{}**/**", &["", "x/", "x/y/"], &["a", "x/y"]),
-            ("**/{}**", &["", "x/", "x/y", "a"], &[]),
-            ("{}**{}", &["", "a"], &["x/y"]),
-            ("{}**/{}", &["", "x/"], &["a", "x/y"]),
-            ("**\\/", &["a/", "/"], &["", "a", "x/y/"]),
-            ("*[*]", &["a*", "*"], &["", "a", "x/*"]),
-        ],
-    )
-}
+const RUNS_BESIDE_EMPTY_GROUPS: &[Row] = &[
+    ("**/{}", &["", "x/", "x/y/"], &["a", "x/y"]),
+    ("**/{,}", &["", "x/", "x/y/"], &["a", "x/y"]),
+    ("**/**/{}", &["", "x/", "x/y/"], &["a", "x/y"]),
+    ("**/{{},}", &["", "x/"], &["a", "x/y"]),
+    ("{}**", &["", "a"], &["x/y", "x/"]),
+    ("{,}**", &["", "a"], &["x/y", "/"]),
+    ("{}**/", &["", "x/", "x/y/"], &["a", "x/y"]),
+    ("{}**/**", &["", "x/", "x/y/"], &["a", "x/y"]),
+    ("**/{}**", &["", "x/", "x/y", "a"], &[]),
+    ("{}**{}", &["", "a"], &["x/y"]),
+    ("{}**/{}", &["", "x/"], &["a", "x/y"]),
+    ("**\\/", &["a/", "/"], &["", "a", "x/y/"]),
+    ("*[*]", &["a*", "*"], &["", "a", "x/*"]),
+];
 
 // The bytes before the first sign; none where letters match in either case.
 #[test]
@@ -268,52 +229,49 @@ fn long<R: Abort>(rt: &R, alloc: Global) -> Result<(), AllocError> {
 
 #[test]
 fn stars_stand_for_bytes(rt: HostRuntime) -> Result<(), Fail> {
-    passes(&rt, stars)
+    passes(&rt, |rt, alloc| matches(rt, alloc, false, STARS))
 }
+
+const CLASSES: &[Row] = &[
+    ("[abc]", &["a", "c"], &["d", "", "ab"]),
+    ("[!a]", &["b", "/", "\n"], &["a", ""]),
+    ("[^a]", &["b", "/"], &["a"]),
+    ("[]a]", &["]", "a"], &["b"]),
+    ("[!]a]", &["b", "["], &["]", "a"]),
+    ("[!!]", &["a", "^"], &["!"]),
+    ("[^^]", &["a", "!"], &["^"]),
+    ("[a^!]", &["a", "^", "!"], &["b"]),
+    ("[a-]", &["a", "-"], &["b"]),
+    ("[-a]", &["a", "-"], &["b"]),
+    ("[!-]", &["a"], &["-"]),
+    ("[a-c]", &["a", "b", "c"], &["d", "-"]),
+    ("[a-a]", &["a"], &["b", "-"]),
+    ("[a-c-e]", &["a", "d", "e"], &["-", "f"]),
+    ("[a-c-]", &["b", "-"], &["d"]),
+    ("[+--]", &["+", ",", "-"], &["."]),
+    ("[a-ce-g]", &["a", "c", "e", "g"], &["d", "h"]),
+    ("[\\]", &["\\"], &["]"]),
+    ("[*?{}]", &["*", "?", "{", "}"], &["a", ""]),
+    ("[&&a~~[^$.#]", &["&", "~", "[", "^", "$", ".", "#"], &["b"]),
+    ("[/]", &["/"], &["a"]),
+    ("[é]", &[], &["é", "e"]),
+    ("[é][é]", &["é"], &["e"]),
+    ("*[!a]*c", &["x/yc"], &["c"]),
+];
 
 #[test]
 fn classes_hold_bytes(rt: HostRuntime) -> Result<(), Fail> {
-    passes(&rt, |rt, alloc| {
-        matches(
-            rt,
-            alloc,
-            false,
-            &[
-                ("[abc]", &["a", "c"], &["d", "", "ab"]),
-                ("[!a]", &["b", "/", "\n"], &["a", ""]),
-                ("[^a]", &["b", "/"], &["a"]),
-                ("[]a]", &["]", "a"], &["b"]),
-                ("[!]a]", &["b", "["], &["]", "a"]),
-                ("[!!]", &["a", "^"], &["!"]),
-                ("[^^]", &["a", "!"], &["^"]),
-                ("[a^!]", &["a", "^", "!"], &["b"]),
-                ("[a-]", &["a", "-"], &["b"]),
-                ("[-a]", &["a", "-"], &["b"]),
-                ("[!-]", &["a"], &["-"]),
-                ("[a-c]", &["a", "b", "c"], &["d", "-"]),
-                ("[a-a]", &["a"], &["b", "-"]),
-                ("[a-c-e]", &["a", "d", "e"], &["-", "f"]),
-                ("[a-c-]", &["b", "-"], &["d"]),
-                ("[+--]", &["+", ",", "-"], &["."]),
-                ("[a-ce-g]", &["a", "c", "e", "g"], &["d", "h"]),
-                ("[\\]", &["\\"], &["]"]),
-                ("[*?{}]", &["*", "?", "{", "}"], &["a", ""]),
-                ("[&&a~~[^$.#]", &["&", "~", "[", "^", "$", ".", "#"], &["b"]),
-                ("[/]", &["/"], &["a"]),
-                ("[é]", &[], &["é", "e"]),
-                ("[é][é]", &["é"], &["e"]),
-                ("*[!a]*c", &["x/yc"], &["c"]),
-            ],
-        )
-    })
+    passes(&rt, |rt, alloc| matches(rt, alloc, false, CLASSES))
 }
 
 #[test]
 fn groups_have_alternatives(rt: HostRuntime) -> Result<(), Fail> {
-    passes(&rt, groups)?;
-    passes(&rt, runs_beside_empty_groups)?;
-    passes(&rt, groups_of_words)?;
-    passes(&rt, groups_of_words_in_either_case)
+    passes(&rt, |rt, alloc| {
+        for rows in [GROUPS, RUNS_BESIDE_EMPTY_GROUPS, GROUPS_OF_WORDS] {
+            matches(rt, alloc, false, rows)?;
+        }
+        Ok(())
+    })
 }
 
 // The names with the numbers below a count, in any directory: as many as fill each size of row.
@@ -341,30 +299,27 @@ fn groups_of_many_words(rt: HostRuntime) -> Result<(), Fail> {
     })
 }
 
+const ESCAPES: &[Row] = &[
+    ("\\*", &["*"], &["a", "\\*"]),
+    ("\\a\\\\", &["a\\"], &["\\a\\"]),
+    ("a\\/**", &["a/x", "a/x/y"], &["a"]),
+    ("**\\/a", &["/a", "x/a"], &["a", "x/y/a"]),
+    ("\\{a,b\\}", &["{a,b}"], &["a"]),
+    ("\\[a]", &["[a]"], &["a"]),
+    ("\\é", &["é"], &["e"]),
+    ("]", &["]"], &[""]),
+    ("a.+()|^$#&-~", &["a.+()|^$#&-~"], &["ab"]),
+    (
+        "a[?][*][[][]][{][}][\\]é/",
+        &["a?*[]{}\\é/"],
+        &["ab*[]{}\\é/"],
+    ),
+];
+
 #[test]
 fn escapes_stand_for_themselves(rt: HostRuntime) -> Result<(), Fail> {
     passes(&rt, |rt, alloc| {
-        matches(
-            rt,
-            alloc,
-            false,
-            &[
-                ("\\*", &["*"], &["a", "\\*"]),
-                ("\\a\\\\", &["a\\"], &["\\a\\"]),
-                ("a\\/**", &["a/x", "a/x/y"], &["a"]),
-                ("**\\/a", &["/a", "x/a"], &["a", "x/y/a"]),
-                ("\\{a,b\\}", &["{a,b}"], &["a"]),
-                ("\\[a]", &["[a]"], &["a"]),
-                ("\\é", &["é"], &["e"]),
-                ("]", &["]"], &[""]),
-                ("a.+()|^$#&-~", &["a.+()|^$#&-~"], &["ab"]),
-                (
-                    "a[?][*][[][]][{][}][\\]é/",
-                    &["a?*[]{}\\é/"],
-                    &["ab*[]{}\\é/"],
-                ),
-            ],
-        )?;
+        matches(rt, alloc, false, ESCAPES)?;
         let escaped = escape(alloc, "a?*[]{}\\é/")?;
         assert_eq!(rt; escaped.as_str(), "a[?][*][[][]][{][}][\\]é/");
         assert_eq!(rt; escape(alloc, "")?.as_str(), "");
@@ -375,23 +330,25 @@ fn escapes_stand_for_themselves(rt: HostRuntime) -> Result<(), Fail> {
     })
 }
 
-// Letters past ASCII are bytes: they match in their own case alone, and the bytes of one may stand
-// apart.
+// Globs whose letters match in either case. Letters past ASCII are bytes: they match in their own
+// case alone, and the bytes of one may stand apart.
+const IN_EITHER_CASE: &[Row] = &[
+    ("[a-c]É*", &["BÉx", "cÉ"], &["Béx", "dÉ"]),
+    ("[A-C]x", &["bX", "Cx"], &["d"]),
+    ("[!a]", &["b", "B", "/"], &["A", "a", "é"]),
+    ("{ab,CD}?", &["ABc", "cdE"], &["a", "abc/"]),
+    (
+        "{aB,Ab,ac,AD}",
+        &["ab", "AB", "aC", "ad"],
+        &["a", "abb", "b"],
+    ),
+    ("\\a[K]", &["Ak", "aK"], &["a\u{212a}"]),
+];
+
 #[test]
 fn options_of_globs(rt: HostRuntime) -> Result<(), Fail> {
     passes(&rt, |rt, alloc| {
-        matches(
-            rt,
-            alloc,
-            true,
-            &[
-                ("[a-c]É*", &["BÉx", "cÉ"], &["Béx", "dÉ"]),
-                ("[A-C]x", &["bX", "Cx"], &["d"]),
-                ("[!a]", &["b", "B", "/"], &["A", "a", "é"]),
-                ("{ab,CD}?", &["ABc", "cdE"], &["a", "abc/"]),
-                ("\\a[K]", &["Ak", "aK"], &["a\u{212a}"]),
-            ],
-        )?;
+        matches(rt, alloc, true, IN_EITHER_CASE)?;
         let plain = glob(rt, alloc, "*/?", false, false)?;
         stands_for(rt, &plain, &["foo/b", "a/b/c", "a/b//"], &["a", "A"]);
         let class = glob(rt, alloc, "[é]", true, false)?;

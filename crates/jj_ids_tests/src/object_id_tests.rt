@@ -1,6 +1,6 @@
 //! Ids, prefixes of them, and resolutions.
-use jj_content::content_hash::{ToJson, ToJsonError};
-use jj_content_tests::once_more::{passes, succeeds};
+use jj_content_tests::json_texts::json_text;
+use jj_content_tests::once_more::{passes, tells_of};
 use jj_ids::object_id::{
     ChangeId, CommitId, CommitKind, CopyId, CopyKind, FileKind, HexPrefix, Id, IdKind, ObjectId,
     OperationKind, PrefixResolution, SymlinkKind, TreeKind, ViewKind,
@@ -32,36 +32,39 @@ fn is_match(prefix: &Option<HexPrefix>, id: &CommitId) -> Option<bool> {
     prefix.as_ref().map(|prefix| prefix.matches(id))
 }
 
+// Checks the text of an id, whole and cut to six digits, and its debug text.
+fn prints<K: IdKind, R: Abort>(
+    rt: &R,
+    alloc: Global,
+    id: &Id<K>,
+    wanted: [&str; 3],
+) -> Result<(), AllocError> {
+    assert_eq!(rt; format!(in alloc; "{id}")?.as_str(), wanted[0]);
+    assert_eq!(rt; format!(in alloc; "{id:.6}")?.as_str(), wanted[1]);
+    assert_eq!(rt; format!(in alloc; "{id:?}")?.as_str(), wanted[2]);
+    Ok(())
+}
+
+// Those of changes print reversed.
 #[test]
 fn ids_print(rt: HostRuntime) -> Result<(), Fail> {
     passes(&rt, |rt, alloc| {
         let id = commit(alloc, &BYTES)?;
-        let text = format!(in alloc; "{id}")?;
-        assert_eq!(rt; text.as_str(), "deadbeef0123");
-        let text = format!(in alloc; "{id:.6}")?;
-        assert_eq!(rt; text.as_str(), "deadbe");
-        let text = format!(in alloc; "{id:>8.6}")?;
-        assert_eq!(rt; text.as_str(), "  deadbe");
-        let text = format!(in alloc; "{id:?}")?;
-        assert_eq!(rt; text.as_str(), "CommitId(\"deadbeef0123\")");
-        Ok(())
+        let wanted = ["deadbeef0123", "deadbe", "CommitId(\"deadbeef0123\")"];
+        prints(rt, alloc, &id, wanted)?;
+        assert_eq!(rt; format!(in alloc; "{id:>8.6}")?.as_str(), "  deadbe");
+        let id = change(alloc, &BYTES)?;
+        let wanted = ["mlpmollkzyxw", "mlpmol", "ChangeId(\"deadbeef0123\")"];
+        prints(rt, alloc, &id, wanted)
     })
 }
 
 #[test]
-fn change_ids_print_reversed(rt: HostRuntime) -> Result<(), Fail> {
+fn changes_are_read_reversed(rt: HostRuntime) -> Result<(), Fail> {
     passes(&rt, |rt, alloc| {
         let id = change(alloc, &BYTES)?;
-        let text = format!(in alloc; "{id}")?;
-        assert_eq!(rt; text.as_str(), "mlpmollkzyxw");
-        let text = format!(in alloc; "{id:.6}")?;
-        assert_eq!(rt; text.as_str(), "mlpmol");
-        let text = format!(in alloc; "{id:?}")?;
-        assert_eq!(rt; text.as_str(), "ChangeId(\"deadbeef0123\")");
-        let text = id.reverse_hex()?;
-        assert_eq!(rt; text.as_str(), "mlpmollkzyxw");
-        let text = id.hex(alloc)?;
-        assert_eq!(rt; text.as_str(), "deadbeef0123");
+        assert_eq!(rt; id.reverse_hex()?.as_str(), "mlpmollkzyxw");
+        assert_eq!(rt; id.hex(alloc)?.as_str(), "deadbeef0123");
         let read = ChangeId::try_from_reverse_hex(alloc, "MLPMollkzyxw")?;
         assert!(rt; read == Some(id));
         Ok(())
@@ -76,12 +79,9 @@ fn shows<K: IdKind, R: Abort>(
     object_type: &str,
 ) -> Result<(), AllocError> {
     let id = Id::<K>::from_bytes(alloc, &BYTES)?;
-    let text = format!(in alloc; "{id:?}")?;
-    assert_eq!(rt; text.as_str(), debug);
-    let text = format!(in alloc; "{id}")?;
-    assert_eq!(rt; text.as_str(), "deadbeef0123");
-    let text = id.object_type(alloc)?;
-    assert_eq!(rt; text.as_str(), object_type);
+    assert_eq!(rt; format!(in alloc; "{id:?}")?.as_str(), debug);
+    assert_eq!(rt; format!(in alloc; "{id}")?.as_str(), "deadbeef0123");
+    assert_eq!(rt; id.object_type(alloc)?.as_str(), object_type);
     Ok(())
 }
 
@@ -122,24 +122,12 @@ fn ids_are_their_bytes(rt: HostRuntime) -> Result<(), Fail> {
     })
 }
 
-// The compact text of a value's JSON.
-fn json_text<T: ToJson>(alloc: Global, value: &T) -> Result<String, ToJsonError> {
-    Ok(value.to_json(alloc)?.to_string(alloc)?)
-}
-
 #[test]
-fn ids_in_json_are_their_texts(rt: HostRuntime) -> Result<(), Fail> {
-    succeeds(&rt, |rt, alloc| {
-        assert_eq!(rt;
-            json_text(alloc, &commit(alloc, &BYTES)?)?.as_str(),
-            "\"deadbeef0123\""
-        );
-        assert_eq!(rt;
-            json_text(alloc, &change(alloc, &BYTES)?)?.as_str(),
-            "\"mlpmollkzyxw\""
-        );
-        Ok(())
-    })
+fn ids_in_json_are_their_texts(rt: HostRuntime) {
+    let id = |alloc| commit(alloc, &BYTES);
+    assert!(rt; tells_of(&rt, id, json_text, "\"deadbeef0123\""));
+    let id = |alloc| change(alloc, &BYTES);
+    assert!(rt; tells_of(&rt, id, json_text, "\"mlpmollkzyxw\""));
 }
 
 #[test]
@@ -172,12 +160,12 @@ fn prefixes_show_their_texts(rt: HostRuntime) -> Result<(), Fail> {
         let Some(read) = reversed(alloc, "mlp")? else {
             panic!(rt; "a prefix is read");
         };
-        let text = read.hex()?;
-        assert_eq!(rt; text.as_str(), "dea");
-        let text = read.reverse_hex()?;
-        assert_eq!(rt; text.as_str(), "mlp");
-        let text = format!(in alloc; "{read:?}")?;
-        assert_eq!(rt; text.as_str(), "HexPrefix(\"dea\")");
+        assert_eq!(rt; read.hex()?.as_str(), "dea");
+        assert_eq!(rt; read.reverse_hex()?.as_str(), "mlp");
+        assert_eq!(rt;
+            format!(in alloc; "{read:?}")?.as_str(),
+            "HexPrefix(\"dea\")"
+        );
         let whole = HexPrefix::from_bytes(alloc, &[0xde, 0xa0])?;
         assert!(rt; whole != read);
         let id = commit(alloc, &[0xde, 0xa0])?;

@@ -3,7 +3,8 @@
 use crate::fixtures::{answers, files, globs, prefix};
 use jj_content_tests::once_more::passes;
 use jj_matchers::matchers::{
-    DifferenceMatcher, EverythingMatcher, IntersectionMatcher, NothingMatcher, UnionMatcher,
+    DifferenceMatcher, EverythingMatcher, IntersectionMatcher, Matcher, NothingMatcher,
+    PrefixMatcher, UnionMatcher,
 };
 use std::alloc::{AllocError, Global};
 use std::process::Abort;
@@ -18,6 +19,21 @@ type Row = (
     &'static str,
     &'static [&'static str],
 );
+
+// Checks the rows of a kind of matcher.
+fn check_each<R, M, F>(rt: &R, alloc: Global, rows: &[Row], combine: F) -> Result<(), AllocError>
+where
+    R: Abort,
+    M: Matcher,
+    F: Fn(PrefixMatcher, PrefixMatcher) -> M,
+    requires { F.IsAlwaysCallable combine }
+{
+    for (one, other, accepted, refused, wanted) in rows {
+        let matcher = combine(prefix(rt, alloc, one)?, prefix(rt, alloc, other)?);
+        answers(rt, alloc, matcher, accepted, refused, wanted)?;
+    }
+    Ok(())
+}
 
 const UNIONS: [Row; 2] = [
     (
@@ -56,14 +72,6 @@ const UNIONS: [Row; 2] = [
     ),
 ];
 
-fn unions<R: Abort>(rt: &R, alloc: Global) -> Result<(), AllocError> {
-    for (one, other, accepted, refused, rows) in UNIONS {
-        let union = UnionMatcher::new(prefix(rt, alloc, one)?, prefix(rt, alloc, other)?);
-        answers(rt, alloc, union, accepted, refused, rows)?;
-    }
-    Ok(())
-}
-
 // Everything and every name take all, and nothing adds none.
 fn unions_of_kinds<R: Abort>(rt: &R, alloc: Global) -> Result<(), AllocError> {
     let all = UnionMatcher::new(files(rt, alloc, "a")?, EverythingMatcher);
@@ -100,8 +108,10 @@ fn unions_of_kinds<R: Abort>(rt: &R, alloc: Global) -> Result<(), AllocError> {
 
 #[test]
 fn either(rt: HostRuntime) -> Result<(), Fail> {
-    passes(&rt, unions)?;
-    passes(&rt, unions_of_kinds)
+    passes(&rt, |rt, alloc| {
+        check_each(rt, alloc, &UNIONS, UnionMatcher::new)?;
+        unions_of_kinds(rt, alloc)
+    })
 }
 
 const DIFFERENCES: [Row; 2] = [
@@ -133,14 +143,6 @@ const DIFFERENCES: [Row; 2] = [
     ),
 ];
 
-fn differences<R: Abort>(rt: &R, alloc: Global) -> Result<(), AllocError> {
-    for (wanted, unwanted, accepted, refused, rows) in DIFFERENCES {
-        let rest = DifferenceMatcher::new(prefix(rt, alloc, wanted)?, prefix(rt, alloc, unwanted)?);
-        answers(rt, alloc, rest, accepted, refused, rows)?;
-    }
-    Ok(())
-}
-
 fn differences_of_kinds<R: Abort>(rt: &R, alloc: Global) -> Result<(), AllocError> {
     let rest = DifferenceMatcher::new(EverythingMatcher, prefix(rt, alloc, "a")?);
     answers(
@@ -169,8 +171,10 @@ fn differences_of_kinds<R: Abort>(rt: &R, alloc: Global) -> Result<(), AllocErro
 
 #[test]
 fn the_one_alone(rt: HostRuntime) -> Result<(), Fail> {
-    passes(&rt, differences)?;
-    passes(&rt, differences_of_kinds)
+    passes(&rt, |rt, alloc| {
+        check_each(rt, alloc, &DIFFERENCES, DifferenceMatcher::new)?;
+        differences_of_kinds(rt, alloc)
+    })
 }
 
 const INTERSECTIONS: [Row; 2] = [
@@ -203,14 +207,6 @@ const INTERSECTIONS: [Row; 2] = [
         ],
     ),
 ];
-
-fn intersections<R: Abort>(rt: &R, alloc: Global) -> Result<(), AllocError> {
-    for (one, other, accepted, refused, rows) in INTERSECTIONS {
-        let both = IntersectionMatcher::new(prefix(rt, alloc, one)?, prefix(rt, alloc, other)?);
-        answers(rt, alloc, both, accepted, refused, rows)?;
-    }
-    Ok(())
-}
 
 // Everything and every name give way, and two empty sets are nothing.
 fn intersections_of_kinds<R: Abort>(rt: &R, alloc: Global) -> Result<(), AllocError> {
@@ -281,8 +277,10 @@ fn nested<R: Abort>(rt: &R, alloc: Global) -> Result<(), AllocError> {
 
 #[test]
 fn both(rt: HostRuntime) -> Result<(), Fail> {
-    passes(&rt, intersections)?;
-    passes(&rt, intersections_of_kinds)?;
-    passes(&rt, intersections_with_globs)?;
-    passes(&rt, nested)
+    passes(&rt, |rt, alloc| {
+        check_each(rt, alloc, &INTERSECTIONS, IntersectionMatcher::new)?;
+        intersections_of_kinds(rt, alloc)?;
+        intersections_with_globs(rt, alloc)?;
+        nested(rt, alloc)
+    })
 }

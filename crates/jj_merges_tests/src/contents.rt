@@ -1,6 +1,7 @@
 //! Content bytes and JSON values of merges.
-use jj_content::content_hash::{ToJson, ToJsonError, blake2b_hash};
-use jj_content_tests::once_more::{passes, succeeds};
+use jj_content::content_hash::blake2b_hash;
+use jj_content_tests::json_texts::json_text;
+use jj_content_tests::once_more::{passes, tells_of};
 use jj_merges::merge::Merge;
 use smallvec::SmallVec;
 use std::alloc::{AllocError, Global};
@@ -34,18 +35,12 @@ fn content_is_the_list(rt: HostRuntime) -> Result<(), Fail> {
     })
 }
 
-// The compact text of a merge's JSON.
-fn json<R: Abort>(rt: &R, alloc: Global, text: &str) -> Result<String, ToJsonError> {
-    Ok(texts(rt, alloc, text)?.to_json(alloc)?.to_string(alloc)?)
-}
-
 #[test]
-fn json_is_the_list(rt: HostRuntime) -> Result<(), Fail> {
-    succeeds(&rt, |rt, alloc| {
-        for (text, wanted) in [("a", "[\"a\"]"), ("a,,b", "[\"a\",\"\",\"b\"]")] {
-            let text = json(rt, alloc, text)?;
-            assert_eq!(rt; text.as_str(), wanted);
-        }
-        Ok(())
-    })
+fn json_is_the_list(rt: HostRuntime) {
+    for (text, wanted) in [("a", "[\"a\"]"), ("a,,b", "[\"a\",\"\",\"b\"]")] {
+        assert!(rt;
+            tells_of(&rt, |alloc| texts(&rt, alloc, text), json_text, wanted),
+            "{text}"
+        );
+    }
 }

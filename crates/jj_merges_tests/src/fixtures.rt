@@ -31,3 +31,25 @@ pub fn columns<'a, R: Abort>(rt: &R, row: &'a str, mark: char) -> (&'a str, &'a 
         None => panic!(rt; "{row} has one column"),
     }
 }
+
+/// Checks each row of a table, whose rows stand between commas: what stands before the first space,
+/// and what stands behind it.
+pub fn check_each<R, F>(
+    rt: &R,
+    alloc: Global,
+    table: &[&'static str],
+    check: F,
+) -> Result<(), AllocError>
+where
+    R: Abort,
+    F: Fn(&R, Global, &str, &str) -> Result<(), AllocError>,
+    requires { F.IsAlwaysCallable check }
+{
+    for rows in table {
+        for row in rows.split(',') {
+            let (first, rest) = columns(rt, row, ' ');
+            check(rt, alloc, first, rest)?;
+        }
+    }
+    Ok(())
+}

@@ -1,5 +1,5 @@
 //! What `simplify` leaves of merges, and writing back into them.
-use crate::fixtures::{columns, digits, merge, of_terms};
+use crate::fixtures::{check_each, columns, digits, merge, of_terms};
 use jj_content_tests::once_more::passes;
 use jj_merges::merge::{Merge, SameChange};
 use smallvec::SmallVec;
@@ -33,19 +33,13 @@ fn simplified<R: Abort>(rt: &R, alloc: Global, terms: &str) -> Result<Merge<u32>
     merge(rt, alloc, terms)?.simplify(alloc)
 }
 
-#[test]
-fn simplify(rt: HostRuntime) -> Result<(), Fail> {
-    passes(&rt, |rt, alloc| {
-        for rows in SIMPLIFIED {
-            for row in rows.split(',') {
-                let (terms, wanted) = columns(rt, row, ' ');
-                let left = simplified(rt, alloc, terms)?;
-                let wanted = merge(rt, alloc, wanted)?;
-                assert!(rt; left == wanted, "{terms} leaves {left:?}");
-            }
-        }
-        Ok(())
-    })
+fn leaves<R: Abort>(rt: &R, alloc: Global, terms: &str, wanted: &str) -> Result<(), AllocError> {
+    let left = simplified(rt, alloc, terms)?;
+    assert!(rt;
+        left == merge(rt, alloc, wanted)?,
+        "{terms} leaves {left:?}"
+    );
+    Ok(())
 }
 
 // Terms, those of an update, and the terms with the update.
@@ -67,47 +61,33 @@ fn updated<R: Abort>(
     whole.update_from_simplified(alloc, update)
 }
 
-#[test]
-fn update_from_simplified(rt: HostRuntime) -> Result<(), Fail> {
-    passes(&rt, |rt, alloc| {
-        for rows in UPDATED {
-            for row in rows.split(',') {
-                let (terms, others) = columns(rt, row, ' ');
-                let (update, wanted) = columns(rt, others, ' ');
-                let whole = updated(rt, alloc, terms, update)?;
-                let wanted = merge(rt, alloc, wanted)?;
-                assert!(rt; whole == wanted, "{terms} with {update} is {whole:?}");
-            }
-        }
-        Ok(())
-    })
+fn updates<R: Abort>(rt: &R, alloc: Global, terms: &str, rest: &str) -> Result<(), AllocError> {
+    let (update, wanted) = columns(rt, rest, ' ');
+    let whole = updated(rt, alloc, terms, update)?;
+    assert!(rt;
+        whole == merge(rt, alloc, wanted)?,
+        "{terms} with {update} is {whole:?}"
+    );
+    Ok(())
 }
 
 fn again<R: Abort>(rt: &R, alloc: Global, terms: &str) -> Result<Merge<u32>, AllocError> {
     simplified(rt, alloc, terms)?.simplify(alloc)
 }
 
-#[test]
-fn simplify_keeps_outcomes(rt: HostRuntime) -> Result<(), Fail> {
-    passes(&rt, |rt, alloc| {
-        for rows in SIMPLIFIED {
-            for row in rows.split(',') {
-                let (terms, _) = columns(rt, row, ' ');
-                let whole = merge(rt, alloc, terms)?;
-                let left = simplified(rt, alloc, terms)?;
-                let twice = again(rt, alloc, terms)?;
-                assert!(rt; twice == left, "{terms} simplified twice leaves {twice:?}");
-                for change in [SameChange::Keep, SameChange::Accept] {
-                    assert_eq!(rt;
-                        left.resolve_trivial(change),
-                        whole.resolve_trivial(change),
-                        "{terms}"
-                    );
-                }
-            }
-        }
-        Ok(())
-    })
+fn agrees<R: Abort>(rt: &R, alloc: Global, terms: &str, _left: &str) -> Result<(), AllocError> {
+    let whole = merge(rt, alloc, terms)?;
+    let left = simplified(rt, alloc, terms)?;
+    let twice = again(rt, alloc, terms)?;
+    assert!(rt; twice == left, "{terms} simplified twice leaves {twice:?}");
+    for change in [SameChange::Keep, SameChange::Accept] {
+        assert_eq!(rt;
+            left.resolve_trivial(change),
+            whole.resolve_trivial(change),
+            "{terms}"
+        );
+    }
+    Ok(())
 }
 
 // The places that `simplify_by` keeps, where each term is paired with its place and the key is the
@@ -125,18 +105,19 @@ fn kept_places<R: Abort>(rt: &R, alloc: Global, terms: &str) -> Result<Vec<u32>,
     kept.iter().map(|pair| pair.0).collect(alloc)
 }
 
+fn keeps<R: Abort>(rt: &R, alloc: Global, terms: &str, wanted: &str) -> Result<(), AllocError> {
+    let kept = kept_places(rt, alloc, terms)?;
+    assert!(rt; kept == digits(alloc, wanted)?, "{terms} keeps {kept:?}");
+    Ok(())
+}
+
 #[test]
-fn simplify_by_keys(rt: HostRuntime) -> Result<(), Fail> {
+fn simplify(rt: HostRuntime) -> Result<(), Fail> {
     passes(&rt, |rt, alloc| {
-        for rows in KEPT {
-            for row in rows.split(',') {
-                let (terms, wanted) = columns(rt, row, ' ');
-                let kept = kept_places(rt, alloc, terms)?;
-                let wanted = digits(alloc, wanted)?;
-                assert!(rt; kept == wanted, "{terms} keeps {kept:?}");
-            }
-        }
-        Ok(())
+        check_each(rt, alloc, &SIMPLIFIED, leaves)?;
+        check_each(rt, alloc, &SIMPLIFIED, agrees)?;
+        check_each(rt, alloc, &UPDATED, updates)?;
+        check_each(rt, alloc, &KEPT, keeps)
     })
 }
 

@@ -1,5 +1,5 @@
 //! Whether the terms of a merge have one outcome.
-use crate::fixtures::{columns, digits};
+use crate::fixtures::{check_each, columns, digits};
 use jj_content_tests::once_more::passes;
 use jj_merges::merge::{SameChange, trivial_merge};
 use std::alloc::{AllocError, Global};
@@ -34,20 +34,17 @@ fn assert_outcome<R: Abort>(rt: &R, terms: &[u32], change: SameChange, wanted: O
     );
 }
 
+fn decides<R: Abort>(rt: &R, alloc: Global, terms: &str, wanted: &str) -> Result<(), AllocError> {
+    let (keep, accept) = columns(rt, wanted, ' ');
+    let terms = digits(alloc, terms)?;
+    assert_outcome(rt, &terms, SameChange::Keep, outcome(keep));
+    assert_outcome(rt, &terms, SameChange::Accept, outcome(accept));
+    Ok(())
+}
+
 #[test]
 fn outcomes(rt: HostRuntime) -> Result<(), Fail> {
-    passes(&rt, |rt, alloc| {
-        for rows in OUTCOMES {
-            for row in rows.split(',') {
-                let (terms, wanted) = columns(rt, row, ' ');
-                let (keep, accept) = columns(rt, wanted, ' ');
-                let terms = digits(alloc, terms)?;
-                assert_outcome(rt, &terms, SameChange::Keep, outcome(keep));
-                assert_outcome(rt, &terms, SameChange::Accept, outcome(accept));
-            }
-        }
-        Ok(())
-    })
+    passes(&rt, |rt, alloc| check_each(rt, alloc, &OUTCOMES, decides))
 }
 
 // These terms are in the test's own memory, so every request for memory may be refused.

@@ -4,6 +4,7 @@ ghost use Rattle.std.specs.Prelude.{◌≤◌, length};
 use jj_paths::file_util::{Watched, copy};
 use std::io;
 use std::io::{ErrorKind, Read, Write};
+use std::process::Abort;
 
 // What is copied: the byte at place `i` is `i` modulo 251.
 const LONGEST: usize = 40000;
@@ -99,43 +100,45 @@ fn copies_across_buffers(rt: HostRuntime) {
     }
 }
 
+// Copies ten bytes, one at a time, and checks the outcome: the copy is whole, or fails with this
+// error, after so many bytes.
+fn assert_ends<R: Abort>(
+    rt: &R,
+    (reads, writes): (u32, u32),
+    is_whole: bool,
+    kind: ErrorKind,
+    bytes: u32,
+) {
+    let (result, written, same) = copied(10, 1, reads, writes);
+    match result {
+        Ok(count) => {
+            assert!(rt; is_whole);
+            assert_eq!(rt; count, 10);
+        }
+        Err(e) => {
+            assert!(rt; !is_whole);
+            assert_eq!(rt; e.kind(), kind);
+        }
+    }
+    assert_eq!(rt; written, usize::try_from(bytes).unwrap_or(0));
+    assert!(rt; same);
+}
+
 #[test]
 fn each_read_fails_in_turn(rt: HostRuntime) {
     // Ten reads of one byte, and one that finds the end.
     for reads in 0..12 {
-        let (result, written, same) = copied(10, 1, reads, u32::MAX);
-        match result {
-            Ok(count) => {
-                assert_eq!(rt; reads, 11);
-                assert_eq!(rt; count, 10);
-            }
-            Err(e) => {
-                assert!(rt; reads < 11);
-                assert_eq!(rt; e.kind(), ErrorKind::BrokenPipe);
-            }
-        }
-        assert_eq!(rt; written, usize::try_from(reads).unwrap_or(0).min(10));
-        assert!(rt; same);
+        let ends = (reads, u32::MAX);
+        assert_ends(&rt, ends, reads == 11, ErrorKind::BrokenPipe, reads.min(10));
     }
 }
 
 #[test]
 fn each_write_fails_in_turn(rt: HostRuntime) {
+    // An interrupted write is a fault like any other.
     for writes in 0..11 {
-        let (result, written, same) = copied(10, 1, u32::MAX, writes);
-        match result {
-            Ok(count) => {
-                assert_eq!(rt; writes, 10);
-                assert_eq!(rt; count, 10);
-            }
-            // An interrupted write is a fault like any other.
-            Err(e) => {
-                assert!(rt; writes < 10);
-                assert_eq!(rt; e.kind(), ErrorKind::Interrupted);
-            }
-        }
-        assert_eq!(rt; written, usize::try_from(writes).unwrap_or(0));
-        assert!(rt; same);
+        let ends = (u32::MAX, writes);
+        assert_ends(&rt, ends, writes == 10, ErrorKind::Interrupted, writes);
     }
 }
 

@@ -1,9 +1,8 @@
 //! Paths of the file system made of the components of others: normal forms, and ways between two.
-use jj_content_tests::once_more::passes;
+use jj_content_tests::once_more::tells;
 use jj_paths::file_util::{normalize_path, relative_path};
-use std::alloc::{AllocError, Global};
+use std::alloc::Global;
 use std::process::Abort;
-use std::test::Fail;
 
 // a path, and the path without what falls out of it
 const NORMAL_FORMS: [(&str, &str); 16] = [
@@ -26,14 +25,11 @@ const NORMAL_FORMS: [(&str, &str); 16] = [
 ];
 
 #[test]
-fn normal_forms(rt: HostRuntime) -> Result<(), Fail> {
-    passes(&rt, |rt, alloc| {
-        for (path, meant) in NORMAL_FORMS {
-            let made = normalize_path(alloc, path)?;
-            assert_eq!(rt; made.as_str(), meant);
-        }
-        Ok(())
-    })
+fn normal_forms(rt: HostRuntime) {
+    for (path, meant) in NORMAL_FORMS {
+        let made = |alloc: Global| normalize_path(alloc, path);
+        assert!(rt; tells(&rt, made, meant), "{path}");
+    }
 }
 
 // a directory, a path, and the way from the one to the other
@@ -65,12 +61,9 @@ const WAYS: [(&str, &str, &str); 24] = [
 ];
 
 #[test]
-fn ways(rt: HostRuntime) -> Result<(), Fail> {
-    passes(&rt, |rt, alloc| {
-        for (from, to, meant) in WAYS {
-            let made = relative_path(alloc, from, to)?;
-            assert_eq!(rt; made.as_str(), meant);
-        }
-        Ok(())
-    })
+fn ways(rt: HostRuntime) {
+    for (from, to, meant) in WAYS {
+        let made = |alloc: Global| relative_path(alloc, from, to);
+        assert!(rt; tells(&rt, made, meant), "{from} to {to}");
+    }
 }

@@ -1,11 +1,10 @@
 //! Texts of paths of the file system: their bytes, and paths below the home directory.
-use jj_content_tests::once_more::passes;
+use jj_content_tests::once_more::tells;
 use jj_paths::file_util::{
     BadPathEncoding, expand_home_path, path_from_bytes, path_to_bytes, slash_path,
 };
-use std::alloc::{AllocError, Global};
+use std::alloc::Global;
 use std::process::Abort;
-use std::test::Fail;
 
 #[test]
 fn bytes_of_paths(rt: HostRuntime) {
@@ -46,12 +45,9 @@ const HOMES: [(&str, Option<&str>, &str); 8] = [
 ];
 
 #[test]
-fn homes(rt: HostRuntime) -> Result<(), Fail> {
-    passes(&rt, |rt, alloc| {
-        for (path, home, meant) in HOMES {
-            let made = expand_home_path(alloc, path, home)?;
-            assert_eq!(rt; made.as_str(), meant);
-        }
-        Ok(())
-    })
+fn homes(rt: HostRuntime) {
+    for (path, home, meant) in HOMES {
+        let made = |alloc: Global| expand_home_path(alloc, path, home);
+        assert!(rt; tells(&rt, made, meant), "{path}");
+    }
 }

@@ -184,38 +184,35 @@ fn names_of_the_root(rt: HostRuntime) {
     assert!(rt; none.next_back() == None);
 }
 
-#[test]
-fn names_from_the_front(rt: HostRuntime) {
-    let alloc = rt.alloc();
-    let mut forward = path(&rt, alloc, "a/b/c").components();
-    assert!(rt; forward.next() == Some(name(&rt, alloc, "a")));
-    assert!(rt; forward.as_path() == path(&rt, alloc, "b/c"));
-    assert!(rt; forward.next() == Some(name(&rt, alloc, "b")));
-    assert!(rt; forward.next() == Some(name(&rt, alloc, "c")));
-    assert!(rt; forward.next() == None);
-    assert!(rt; forward.next() == None);
+// The ends of `a/b/c` from which names are taken (`f` the front, `b` the back), the names, and the
+// paths that are left; `-` is no name, and the root is an empty path.
+const TAKEN: [(&str, &str, &str); 3] = [
+    ("fffff", "a b c - -", "b/c c   "),
+    ("bbbbb", "c b a - -", "a/b a   "),
+    ("bfbf", "c a b -", "a/b b  "),
+];
+
+fn assert_taken<R: Abort>(rt: &R, alloc: Global, ends: &str, wanted: &str, left: &str) {
+    let mut names = path(rt, alloc, "a/b/c").components();
+    for ((end, wanted), left) in ends.chars().zip(wanted.split(' ')).zip(left.split(' ')) {
+        let name = match end {
+            'f' => names.next(),
+            _ => names.next_back(),
+        };
+        assert_eq!(rt;
+            name.map_or("-", |name| name.as_internal_str()),
+            wanted,
+            "{ends}"
+        );
+        assert_eq!(rt; names.as_path().as_internal_file_string(), left, "{ends}");
+    }
 }
 
 #[test]
-fn names_from_the_back(rt: HostRuntime) {
-    let alloc = rt.alloc();
-    let mut backward = path(&rt, alloc, "a/b/c").components();
-    assert!(rt; backward.next_back() == Some(name(&rt, alloc, "c")));
-    assert!(rt; backward.as_path() == path(&rt, alloc, "a/b"));
-    assert!(rt; backward.next_back() == Some(name(&rt, alloc, "b")));
-    assert!(rt; backward.next_back() == Some(name(&rt, alloc, "a")));
-    assert!(rt; backward.next_back() == None);
-    assert!(rt; backward.next_back() == None);
-}
-
-#[test]
-fn names_from_both_ends(rt: HostRuntime) {
-    let alloc = rt.alloc();
-    let mut inward = path(&rt, alloc, "a/b/c").components();
-    assert!(rt; inward.next_back() == Some(name(&rt, alloc, "c")));
-    assert!(rt; inward.next() == Some(name(&rt, alloc, "a")));
-    assert!(rt; inward.next_back() == Some(name(&rt, alloc, "b")));
-    assert!(rt; inward.next() == None);
+fn names_from_either_end(rt: HostRuntime) {
+    for (ends, wanted, left) in TAKEN {
+        assert_taken(&rt, rt.alloc(), ends, wanted, left);
+    }
 }
 
 #[test]

@@ -29,20 +29,13 @@ fn is_refused<R: Abort, T: Drop>(
 }
 
 #[test]
-fn no_paths(rt: HostRuntime) -> Result<(), Fail> {
+fn no_paths_and_no_names(rt: HostRuntime) -> Result<(), Fail> {
     passes(&rt, |rt, alloc| {
         for text in NO_PATHS {
             is_refused(rt, RepoPath::from_internal_string(alloc, text), text)?;
             let owned = String::from_str(alloc, text)?;
             is_refused(rt, RepoPathBuf::from_internal_string(owned), text)?;
         }
-        Ok(())
-    })
-}
-
-#[test]
-fn no_names(rt: HostRuntime) -> Result<(), Fail> {
-    passes(&rt, |rt, alloc| {
         for text in NO_NAMES {
             is_refused(rt, RepoPathComponent::new(alloc, text), text)?;
             let owned = String::from_str(alloc, text)?;

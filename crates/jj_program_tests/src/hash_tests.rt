@@ -3,8 +3,8 @@
 
 #[cfg(test)]
 mod tests {
-    use crate::runs::{at, fail_each, fails, writes};
-    use jj_program::program::{Command, Fault, LineFault};
+    use crate::runs::writes;
+    use jj_program::program::Command;
 
     const DIGESTS: [(&str, &str); 11] = [
         (
@@ -69,27 +69,5 @@ mod tests {
     #[test]
     fn digests_are_in_order(rt: HostRuntime) {
         writes(&rt, Command::Hash, "", "");
-    }
-
-    #[test]
-    fn the_first_fault_is_answered(rt: HostRuntime) {
-        let rows = [
-            ("raw\tf", at(1, LineFault::BadHex)),
-            ("raw\t0g", at(1, LineFault::BadHex)),
-            ("raw\tzz", at(1, LineFault::BadHex)),
-            ("raw\té", at(1, LineFault::BadHex)),
-            ("raw\t00\n\nraw\t0", at(3, LineFault::BadHex)),
-            ("raw", at(1, LineFault::BadFieldCount)),
-            ("raw\t0\t00", at(1, LineFault::BadFieldCount)),
-            ("text", at(1, LineFault::BadFieldCount)),
-            ("text\ta\tb", at(1, LineFault::BadFieldCount)),
-            ("merge", at(1, LineFault::BadFieldCount)),
-            ("merge\ta\tb", at(1, LineFault::BadFieldCount)),
-            ("hash\ta", at(1, LineFault::UnknownCommand)),
-            ("\traw", at(1, LineFault::UnknownCommand)),
-            ("text\ta\nRaw\t0\nraw", at(2, LineFault::UnknownCommand)),
-        ];
-        fail_each(&rt, Command::Hash, &rows);
-        fails(&rt, Command::Hash, b"raw\t0\ntext\t\xff", Fault::NotUtf8);
     }
 }

@@ -2,9 +2,11 @@
 #![tactic(auto)]
 
 #[cfg(test)]
+mod answer_tests;
+#[cfg(test)]
 mod ends;
 #[cfg(test)]
-mod graph_tests;
+mod fault_tests;
 #[cfg(test)]
 mod hash_tests;
 #[cfg(test)]
@@ -15,5 +17,3 @@ mod runs;
 mod sample_tests;
 #[cfg(test)]
 mod start_tests;
-#[cfg(test)]
-mod walk_tests;

@@ -1,9 +1,11 @@
 //! Runs of the program over memory, whose reads and writes are cut short, or fail in turn.
 use crate::ends::{Cut, Kept};
+use jj_content_tests::once_more::passes;
 use jj_paths::file_util::Watched;
-use jj_program::program::{Command, Fault, LineFault, run};
-use std::alloc::Global;
+use jj_program::program::{Command, Fault, run};
+use std::alloc::{AllocError, Global};
 use std::process::Abort;
+use std::test::Fail;
 
 /// What a run answers and writes where reads and writes are cut to `most` bytes, and fail after so
 /// many.
@@ -57,22 +59,51 @@ pub fn fails(rt: &(impl Abort + AllocGlobal), command: Command, input: &[u8], ex
     assert!(rt; kept.as_slice().is_empty());
 }
 
-/// Each input writes the output beside it.
-pub fn write_each(rt: &(impl Abort + AllocGlobal), command: Command, rows: &[(&str, &str)]) {
-    for &(input, output) in rows {
-        writes(rt, command, input, output);
+// What a text in a row stands for: a space is a tab, and `|` a line end.
+fn text_of(alloc: Global, part: &str) -> Result<String, AllocError> {
+    let mut text = String::new(alloc);
+    for sign in part.chars() {
+        let meant = match sign {
+            ' ' => '\t',
+            '|' => '\n',
+            other => other,
+        };
+        text.push(meant)?;
     }
+    Ok(text)
 }
 
-/// Each input has the fault beside it.
-pub fn fail_each(rt: &(impl Abort + AllocGlobal), command: Command, rows: &[(&str, Fault)]) {
-    for &(input, fault) in rows {
-        fails(rt, command, input.as_bytes(), fault);
-    }
+// The command, the input and the output of a row.
+fn parts_of(row: &str) -> Option<(Command, &str, &str)> {
+    let (name, texts) = row.split_once(": ")?;
+    let (input, output) = texts.split_once(" => ")?;
+    Some((Command::from_name(name)?, input, output))
 }
 
-pub const fn at(line: usize, kind: LineFault) -> Fault {
-    Fault::Line { line, kind }
+/// The input of a row writes its output. A row is as `walk: everything| => `: the name of a command,
+/// an input and an output, in which a space is a tab, and `|` a line end.
+pub fn writes_row<R: Abort + AllocGlobal>(rt: &R, row: &str) -> Result<(), Fail> {
+    let Some((command, input, output)) = parts_of(row) else {
+        panic!(rt; "{row} has no three parts");
+    };
+    passes(rt, |rt, alloc| {
+        let (input, output) = (text_of(alloc, input)?, text_of(alloc, output)?);
+        writes(rt, command, input.as_str(), output.as_str());
+        Ok(())
+    })
+}
+
+/// An input, in which a space is a tab and `|` a line end, has this fault, as in `fails`.
+pub fn fails_row<R: Abort + AllocGlobal>(
+    rt: &R,
+    command: Command,
+    row: &str,
+    expected: Fault,
+) -> Result<(), Fail> {
+    passes(rt, |rt, alloc| {
+        fails(rt, command, text_of(alloc, row)?.as_bytes(), expected);
+        Ok(())
+    })
 }
 
 // The calls of `most` bytes that a text takes.
@@ -83,6 +114,24 @@ fn calls(text: &str, most: usize) -> usize {
     }
 }
 
+// Whether a run succeeded, which it has to where reads and writes last for all of it; else it has
+// this fault, or memory ran out.
+fn is_done<R: Abort>(rt: &R, answer: Result<(), Fault>, lasts: bool, expected: Fault) -> bool {
+    match answer {
+        Ok(()) => {
+            assert!(rt; lasts);
+            true
+        }
+        Err(fault) => {
+            assert!(rt;
+                fault == Fault::Memory || fault == expected && !lasts,
+                "{fault}"
+            );
+            false
+        }
+    }
+}
+
 /// Each read of the input fails in turn, and then nothing is written.
 pub fn reads_fail(rt: &(impl Abort + AllocGlobal), command: Command, input: &str, output: &str) {
     for most in [1, 7, 1000] {
@@ -90,20 +139,10 @@ pub fn reads_fail(rt: &(impl Abort + AllocGlobal), command: Command, input: &str
         let needed = calls(input, most);
         for reads in 0..60u32 {
             let (result, kept) = outcome(rt.alloc(), command, input.as_bytes(), most, reads, 1000);
-            let works = usize::try_from(reads).is_ok_and(|reads| reads > needed);
-            match result {
-                Ok(()) => {
-                    assert!(rt; works, "{most} {reads}");
-                    assert_eq!(rt; kept.as_slice(), output.as_bytes());
-                }
-                Err(fault) => {
-                    assert!(rt;
-                        fault == Fault::Memory || fault == Fault::ReadInput && !works,
-                        "{fault} {most} {reads}"
-                    );
-                    assert!(rt; kept.as_slice().is_empty());
-                }
-            }
+            let lasts = usize::try_from(reads).is_ok_and(|reads| reads > needed);
+            let is_done = is_done(rt, result, lasts, Fault::ReadInput);
+            let wanted = if is_done { output } else { "" };
+            assert_eq!(rt; kept.as_slice(), wanted.as_bytes(), "{most} {reads}");
         }
     }
 }
@@ -114,20 +153,14 @@ pub fn writes_fail(rt: &(impl Abort + AllocGlobal), command: Command, input: &st
         let needed = calls(output, most);
         for writes in 0..60u32 {
             let (result, kept) = outcome(rt.alloc(), command, input.as_bytes(), most, 1000, writes);
-            let works = usize::try_from(writes).is_ok_and(|writes| writes >= needed);
-            match result {
-                Ok(()) => {
-                    assert!(rt; works, "{most} {writes}");
-                    assert_eq!(rt; kept.as_slice(), output.as_bytes());
-                }
-                Err(fault) => {
-                    assert!(rt;
-                        fault == Fault::Memory || fault == Fault::WriteOutput && !works,
-                        "{fault} {most} {writes}"
-                    );
-                    assert!(rt; output.as_bytes().starts_with(kept.as_slice()));
-                }
-            }
+            let lasts = usize::try_from(writes).is_ok_and(|writes| writes >= needed);
+            let is_done = is_done(rt, result, lasts, Fault::WriteOutput);
+            let is_whole = kept.as_slice().len() == output.len();
+            assert!(rt;
+                output.as_bytes().starts_with(kept.as_slice()),
+                "{most} {writes}"
+            );
+            assert!(rt; is_whole || !is_done, "{most} {writes}");
         }
     }
 }

@@ -1,51 +1,44 @@
 //! Texts of errors.
-use jj_backend_tests::error_texts::{cause, parts, text};
-use jj_content_tests::once_more::tells;
+use jj_backend_tests::error_texts::{cause, parts, shown, tells_of_cause, text};
+use jj_content_tests::once_more::tells_of;
 use jj_stores::op_store::OpStoreError;
 use std::alloc::{AllocError, Global};
 
-fn missing(alloc: Global) -> Result<String, AllocError> {
-    let error = OpStoreError::ObjectNotFound {
+fn missing(alloc: Global) -> Result<OpStoreError, AllocError> {
+    Ok(OpStoreError::ObjectNotFound {
         object_type: text(alloc, "view")?,
         hash: text(alloc, "ab")?,
         source: None,
-    };
-    error.to_string(alloc)
+    })
 }
 
-fn unreadable(alloc: Global) -> Result<String, AllocError> {
+fn unreadable(alloc: Global) -> Result<OpStoreError, AllocError> {
     let (object_type, hash, source) = parts(alloc, "operation")?;
-    let error = OpStoreError::ReadObject {
+    Ok(OpStoreError::ReadObject {
         object_type,
         hash,
         source,
-    };
-    error.to_string(alloc)
+    })
 }
 
-fn unwritable(alloc: Global) -> Result<String, AllocError> {
-    let error = OpStoreError::WriteObject {
+fn unwritable(alloc: Global) -> Result<OpStoreError, AllocError> {
+    Ok(OpStoreError::WriteObject {
         object_type: "view",
         source: cause(alloc)?,
-    };
-    error.to_string(alloc)
+    })
 }
 
 #[test]
 fn objects_out_of_reach(rt: HostRuntime) {
-    assert!(rt; tells(&rt, missing, "Object ab of type view not found"));
     let wanted = "Error when reading object ab of type operation";
-    assert!(rt; tells(&rt, unreadable, wanted));
-    assert!(rt; tells(&rt, unwritable, "Could not write object of type view"));
-}
-
-fn other(alloc: Global) -> Result<String, AllocError> {
-    OpStoreError::Other(cause(alloc)?).to_string(alloc)
+    assert!(rt; tells_of(&rt, unreadable, shown, wanted));
+    assert!(rt; tells_of(&rt, missing, shown, "Object ab of type view not found"));
+    let wanted = "Could not write object of type view";
+    assert!(rt; tells_of(&rt, unwritable, shown, wanted));
 }
 
 #[test]
 fn other_causes(rt: HostRuntime) {
-    assert!(rt; tells(&rt, other, "the cause"));
-    let out_of_memory = |alloc: Global| OpStoreError::Memory.to_string(alloc);
-    assert!(rt; tells(&rt, out_of_memory, "out of memory"));
+    assert!(rt; tells_of_cause(&rt, OpStoreError::Other, "the cause"));
+    assert!(rt; tells_of(&rt, |_| Ok(OpStoreError::Memory), shown, "out of memory"));
 }

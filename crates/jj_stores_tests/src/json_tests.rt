@@ -1,7 +1,8 @@
 //! JSON values of times and of operations.
 use jj_backend::backend::{MillisSinceEpoch, Timestamp};
 use jj_content::content_hash::{ToJson, ToJsonError};
-use jj_content_tests::once_more::tells;
+use jj_content_tests::json_texts::json_text;
+use jj_content_tests::once_more::tells_of;
 use jj_ids::ref_name::WorkspaceNameBuf;
 use jj_stores::op_store::{Operation, OperationId, OperationMetadata, TimestampRange, ViewId};
 use std::alloc::{AllocError, Global};
@@ -18,24 +19,11 @@ const RANGE: TimestampRange = TimestampRange {
     },
 };
 
-// The JSON text of a value whose dates are in range, none of another.
-fn text<T: ToJson>(alloc: Global, value: &T) -> Result<String, AllocError> {
-    match value.to_json(alloc) {
-        Ok(json) => json.to_string(alloc),
-        Err(ToJsonError::Memory) => Err(AllocError),
-        Err(ToJsonError::TimestampOutOfRange) => Ok(String::new(alloc)),
-    }
-}
-
 #[test]
 fn ranges_as_objects(rt: HostRuntime) {
-    assert!(rt;
-        tells(
-            &rt,
-            |alloc| text(alloc, &RANGE),
-            "{\"end\":\"1969-12-31T22:59:59.999-01:00\",\"start\":\"1970-01-01T01:30:00.001+01:30\"}",
-        )
-    );
+    let wanted = "{\"end\":\"1969-12-31T22:59:59.999-01:00\",\
+         \"start\":\"1970-01-01T01:30:00.001+01:30\"}";
+    assert!(rt; tells_of(&rt, |_| Ok(RANGE), json_text, wanted));
 }
 
 #[test]
@@ -78,48 +66,36 @@ fn metadata(
     })
 }
 
-fn metadata_in_workspace(alloc: Global) -> Result<String, AllocError> {
-    let workspace = WorkspaceNameBuf::from_text(alloc, "w")?;
-    text(alloc, &metadata(alloc, Some(workspace))?)
+fn metadata_in_workspace(alloc: Global) -> Result<OperationMetadata, AllocError> {
+    metadata(alloc, Some(WorkspaceNameBuf::from_text(alloc, "w")?))
 }
 
 #[test]
 fn metadata_as_objects(rt: HostRuntime) {
-    assert!(rt;
-        tells(
-            &rt,
-            metadata_in_workspace,
-            "{\"attributes\":{\"args\":\"log\"},\"description\":\"d\",\"hostname\":\"h\",\
+    let wanted = "{\"attributes\":{\"args\":\"log\"},\"description\":\"d\",\"hostname\":\"h\",\
          \"is_snapshot\":true,\
          \"time\":{\"end\":\"1969-12-31T22:59:59.999-01:00\",\
          \"start\":\"1970-01-01T01:30:00.001+01:30\"},\
-         \"username\":\"u\",\"workspace_name\":\"w\"}",
-        )
-    );
+         \"username\":\"u\",\"workspace_name\":\"w\"}";
+    assert!(rt; tells_of(&rt, metadata_in_workspace, json_text, wanted));
 }
 
-fn operation(alloc: Global) -> Result<String, AllocError> {
-    let operation = Operation {
+fn operation(alloc: Global) -> Result<Operation, AllocError> {
+    Ok(Operation {
         view_id: ViewId::from_bytes(alloc, &[3])?,
         parents: vec![in alloc; OperationId::from_bytes(alloc, &[0xab, 1])?]?,
         metadata: metadata(alloc, None)?,
         commit_predecessors: None,
-    };
-    text(alloc, &operation)
+    })
 }
 
 // What is known of how an operation was done stands beside its parents.
 #[test]
 fn operations_as_objects(rt: HostRuntime) {
-    assert!(rt;
-        tells(
-            &rt,
-            operation,
-            "{\"attributes\":{\"args\":\"log\"},\"description\":\"d\",\"hostname\":\"h\",\
+    let wanted = "{\"attributes\":{\"args\":\"log\"},\"description\":\"d\",\"hostname\":\"h\",\
          \"is_snapshot\":true,\"parents\":[\"ab01\"],\
          \"time\":{\"end\":\"1969-12-31T22:59:59.999-01:00\",\
          \"start\":\"1970-01-01T01:30:00.001+01:30\"},\
-         \"username\":\"u\",\"workspace_name\":null}",
-        )
-    );
+         \"username\":\"u\",\"workspace_name\":null}";
+    assert!(rt; tells_of(&rt, operation, json_text, wanted));
 }

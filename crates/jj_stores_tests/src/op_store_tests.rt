@@ -1,7 +1,7 @@
 //! Views and operations: root records, tracked refs, equality, and content bytes as hex texts.
 use jj_backend::backend::CommitId;
 use jj_content_tests::content_texts::content_text;
-use jj_content_tests::once_more::{holds, tells};
+use jj_content_tests::once_more::{holds, tells_of};
 use jj_ids::object_id::ObjectId;
 use jj_ids::ref_name::RefNameBuf;
 use jj_merges::merge::Merge;
@@ -56,19 +56,10 @@ fn options_without_the_option(rt: HostRuntime) {
     assert!(rt; RefTargetOptionExt::flatten(borrowed, alloc).is_none());
 }
 
-fn ref_content(alloc: Global) -> Result<String, AllocError> {
-    content_text(alloc, &tracked(alloc, 5)?)
-}
-
 #[test]
 fn content_of_a_remote_ref(rt: HostRuntime) {
-    assert!(rt;
-        tells(
-            &rt,
-            ref_content,
-            "01000000000000000100000001000000000000000501000000",
-        )
-    );
+    let wanted = "01000000000000000100000001000000000000000501000000";
+    assert!(rt; tells_of(&rt, |alloc| tracked(alloc, 5), content_text, wanted));
 }
 
 fn bookmark(alloc: Global, view: &mut RemoteView) -> Result<(), AllocError> {
@@ -77,21 +68,17 @@ fn bookmark(alloc: Global, view: &mut RemoteView) -> Result<(), AllocError> {
     Ok(())
 }
 
-fn view_content(alloc: Global) -> Result<String, AllocError> {
+fn remote_view(alloc: Global) -> Result<RemoteView, AllocError> {
     let mut view = RemoteView::default(alloc);
     bookmark(alloc, &mut view)?;
-    content_text(alloc, &view)
+    Ok(view)
 }
 
 #[test]
 fn content_of_a_remote_view(rt: HostRuntime) {
-    assert!(rt;
-        tells(
-            &rt,
-            view_content,
-            "0100000000000000010000000000000061010000000000000000000000000000000000000000000000",
-        )
-    );
+    let wanted = "0100000000000000010000000000000061\
+         010000000000000000000000000000000000000000000000";
+    assert!(rt; tells_of(&rt, remote_view, content_text, wanted));
 }
 
 fn root_view(alloc: Global) -> Result<View, AllocError> {
@@ -162,25 +149,13 @@ fn child(alloc: Global) -> Result<Operation, AllocError> {
     Ok(operation)
 }
 
-fn child_content(alloc: Global) -> Result<String, AllocError> {
-    content_text(alloc, &child(alloc)?)
-}
-
 // View, parents; start, end; description, host, user; snapshot, workspace, attributes; predecessors.
 #[test]
 fn content_of_an_operation(rt: HostRuntime) {
-    assert!(rt;
-        tells(
-            &rt,
-            child_content,
-            "010000000000000003\
-         0100000000000000010000000000000009\
-         000000000000000000000000000000000000000000000000\
-         0000000000000000010000000000000068000000000000000001\
-         000000000000000000000000\
-         00000000",
-        )
-    );
+    let wanted = "0100000000000000030100000000000000010000000000000009\
+         0000000000000000000000000000000000000000000000000000000000000000\
+         01000000000000006800000000000000000100000000000000000000000000000000";
+    assert!(rt; tells_of(&rt, child, content_text, wanted));
 }
 
 fn operations_differ(alloc: Global) -> Result<bool, AllocError> {

@@ -170,7 +170,7 @@ fn times_asked(
 
 #[test]
 fn as_many_as_there_is_room_for(rt: HostRuntime) -> Result<(), Fail> {
-    succeeds(&rt, |rt, alloc| {
+    succeeds::<_, SignError, _>(&rt, |rt, alloc| {
         let one = NonZeroUsize::new(1);
         assert_eq!(rt; times_asked(alloc, one, b"pqp")?, 3);
         assert_eq!(rt; times_asked(alloc, one, b"ppqq")?, 2);
@@ -189,7 +189,7 @@ fn as_many_as_there_is_room_for(rt: HostRuntime) -> Result<(), Fail> {
 
 #[test]
 fn the_main_backend_signs(rt: HostRuntime) -> Result<(), Fail> {
-    succeeds(&rt, |rt, alloc| {
+    succeeds::<_, SignError, _>(&rt, |rt, alloc| {
         let main: Box<dyn SigningBackend> = Box::new(
             alloc,
             Fake::new(Does::CannotRead, Rc::new(alloc, Cell::new(0))?),

@@ -90,10 +90,10 @@ fn maps_by_texts(rt: HostRuntime) -> Result<(), Fail> {
 #[test]
 fn maps_by_names(rt: HostRuntime) -> Result<(), Fail> {
     passes(&rt, |rt, alloc| {
-        filters::<R, GitRefNameBuf>(rt, alloc)?;
-        filters::<R, RefNameBuf>(rt, alloc)?;
-        filters::<R, RemoteNameBuf>(rt, alloc)?;
-        filters::<R, WorkspaceNameBuf>(rt, alloc)
+        filters::<_, GitRefNameBuf>(rt, alloc)?;
+        filters::<_, RefNameBuf>(rt, alloc)?;
+        filters::<_, RemoteNameBuf>(rt, alloc)?;
+        filters::<_, WorkspaceNameBuf>(rt, alloc)
     })
 }
 

@@ -132,27 +132,9 @@ fn texts_of_no_kind(rt: HostRuntime) -> Result<(), Fail> {
     })
 }
 
-// Kind, text, a string, and whether the set holds it.
-type Row = (&'static str, &'static str, &'static str, bool);
-
-fn sets<R: Abort>(rt: &R, alloc: Global, rows: &[Row]) -> Result<(), AllocError> {
-    for (kind, text, string, is_in) in rows {
-        let matcher = matcher(rt, alloc, kind, text)?;
-        assert_eq!(rt;
-            matcher.is_match(alloc, string)?,
-            *is_in,
-            "{kind}:{text} and {string}"
-        );
-        assert_eq!(rt;
-            matcher.is_match_bytes(alloc, string.as_bytes())?,
-            *is_in,
-            "{kind}:{text} and {string}"
-        );
-    }
-    Ok(())
-}
-
-const TEXTS: [Row; 21] = [
+// Kind, text, a string, and whether the set holds it. Regular expressions are read as Unicode unless
+// they say otherwise.
+const SETS: [(&str, &str, &str, bool); 64] = [
     ("exact", "foo", "foo", true),
     ("exact", "foo", "Foo", false),
     ("exact", "foo", "foobar", false),
@@ -174,14 +156,6 @@ const TEXTS: [Row; 21] = [
     ("substring-i", "aab", "aacab", false),
     ("substring-i", "É", "é", false),
     ("substring-i", "k", "\u{212a}", false),
-];
-
-#[test]
-fn sets_of_texts(rt: HostRuntime) -> Result<(), Fail> {
-    passes(&rt, |rt, alloc| sets(rt, alloc, &TEXTS))
-}
-
-const GLOBS: [Row; 31] = [
     ("glob", "foo", "foo", true),
     ("glob", "foo", "foobar", false),
     ("glob", "*", ".foo", true),
@@ -213,15 +187,6 @@ const GLOBS: [Row; 31] = [
     ("glob-i", "f?O", "Foo", true),
     ("glob-i", "[!A]", "a", false),
     ("glob-i", "É", "é", false),
-];
-
-#[test]
-fn sets_of_globs(rt: HostRuntime) -> Result<(), Fail> {
-    passes(&rt, |rt, alloc| sets(rt, alloc, &GLOBS))
-}
-
-// Regular expressions are read as Unicode unless they say otherwise.
-const REGEXES: [Row; 12] = [
     ("regex", "^\\w$", "\u{c0}", true),
     ("regex", "^.$", "\u{c0}", true),
     ("regex", "^(?-u)\\w$", "a", true),
@@ -236,9 +201,26 @@ const REGEXES: [Row; 12] = [
     ("regex-i", "", "", true),
 ];
 
+fn sets<R: Abort>(rt: &R, alloc: Global) -> Result<(), AllocError> {
+    for (kind, text, string, is_in) in SETS {
+        let matcher = matcher(rt, alloc, kind, text)?;
+        assert_eq!(rt;
+            matcher.is_match(alloc, string)?,
+            is_in,
+            "{kind}:{text} and {string}"
+        );
+        assert_eq!(rt;
+            matcher.is_match_bytes(alloc, string.as_bytes())?,
+            is_in,
+            "{kind}:{text} and {string}"
+        );
+    }
+    Ok(())
+}
+
 #[test]
-fn sets_of_regexes(rt: HostRuntime) -> Result<(), Fail> {
-    passes(&rt, |rt, alloc| sets(rt, alloc, &REGEXES))
+fn sets_of_strings(rt: HostRuntime) -> Result<(), Fail> {
+    passes(&rt, sets)
 }
 
 // Bytes, some of which are no text.

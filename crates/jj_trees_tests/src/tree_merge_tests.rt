@@ -172,26 +172,9 @@ fn assert_outcomes<R: Abort>(rt: &R, alloc: Global, rows: &[Row]) -> Result<(), 
 }
 
 #[test]
-fn files(rt: HostRuntime) -> Result<(), Fail> {
-    assert_outcomes(&rt, rt.alloc(), FILES)
-}
-
-#[test]
-fn same_changes(rt: HostRuntime) -> Result<(), Fail> {
-    assert_outcomes(&rt, rt.alloc(), SAME_CHANGES)
-}
-
-#[test]
-fn directories(rt: HostRuntime) -> Result<(), Fail> {
-    assert_outcomes(&rt, rt.alloc(), DIRECTORIES)
-}
-
-#[test]
-fn given_levels(rt: HostRuntime) -> Result<(), Fail> {
-    assert_outcomes(&rt, rt.alloc(), LEVELS)
-}
-
-#[test]
-fn absent_trees(rt: HostRuntime) -> Result<(), Fail> {
-    assert_outcomes(&rt, rt.alloc(), ABSENT)
+fn outcomes(rt: HostRuntime) -> Result<(), Fail> {
+    for rows in [FILES, SAME_CHANGES, DIRECTORIES, LEVELS, ABSENT] {
+        assert_outcomes(&rt, rt.alloc(), rows)?;
+    }
+    Ok(())
 }
