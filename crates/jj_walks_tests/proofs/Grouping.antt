@@ -17,7 +17,7 @@ use Rattle.jj_walks.specs.GroupedOrders.{AreApart, IsGroupedOrder, IsWhole, Prio
 use Rattle.jj_walks.specs.GroupedSteps.{IsCause, IsEntryOf, Item, ReadsTo, read_on}
 use Rattle.jj_walks.specs.HeldNodes.{item_of, listed_item}
 use Rattle.jj_walks.proofs.GroupedOrders.{apart-rest, append-cases, found-in, grouped-order, held-read, none-missing, none-stuck, none-twice}
-use Rattle.jj_walks.proofs.GroupedRuns.{zip-push}
+use Rattle.jj_dag.proofs.Asking.{zip-push}
 use Rattle.jj_walks.proofs.Histories.{cons-cases}
 use Rattle.jj_walks_tests.specs.declared.commits.Commit.{Commit}
 use Rattle.jj_walks_tests.specs.Branches.{ShowsCommits, node_of, nodes_of, parent_edges}
