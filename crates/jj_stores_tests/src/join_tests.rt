@@ -16,21 +16,18 @@ fn target(alloc: Global, byte: u8) -> Result<RefTarget, AllocError> {
     Ok(Merge::normal(alloc, CommitId::from_bytes(alloc, &[byte])?))
 }
 
-// A name, and the byte of its commit.
-type Ref = (&'static str, u8);
+fn empty_view(alloc: Global) -> Result<View, AllocError> {
+    View::make_root(alloc, CommitId::from_bytes(alloc, &[0])?)
+}
 
-// A name, and the refs that a remote of this name has.
-type Remote = (&'static str, &'static [Ref]);
-
-fn add_local(alloc: Global, view: &mut View, refs: &[Ref]) -> Result<(), AllocError> {
-    for (name, byte) in refs {
-        let name = RefNameBuf::from_text(alloc, name)?;
-        view.local_bookmarks.insert(name, target(alloc, *byte)?)?;
-    }
+fn add_local(alloc: Global, view: &mut View, name: &str, byte: u8) -> Result<(), AllocError> {
+    let name = RefNameBuf::from_text(alloc, name)?;
+    view.local_bookmarks.insert(name, target(alloc, byte)?)?;
     Ok(())
 }
 
-fn remote(alloc: Global, refs: &[Ref]) -> Result<RemoteView, AllocError> {
+// The refs of a remote, a commit's byte for each name.
+fn remote(alloc: Global, refs: &[(&str, u8)]) -> Result<RemoteView, AllocError> {
     let mut remote = RemoteView::default(alloc);
     for (name, byte) in refs {
         let tracked = RemoteRef {
@@ -44,20 +41,15 @@ fn remote(alloc: Global, refs: &[Ref]) -> Result<RemoteView, AllocError> {
     Ok(remote)
 }
 
-fn add_remotes(alloc: Global, view: &mut View, remotes: &[Remote]) -> Result<(), AllocError> {
-    for (name, refs) in remotes {
-        let name = RemoteNameBuf::from_text(alloc, name)?;
-        view.remote_views.insert(name, remote(alloc, refs)?)?;
-    }
+fn add_remote(
+    alloc: Global,
+    view: &mut View,
+    name: &str,
+    refs: &[(&str, u8)],
+) -> Result<(), AllocError> {
+    let name = RemoteNameBuf::from_text(alloc, name)?;
+    view.remote_views.insert(name, remote(alloc, refs)?)?;
     Ok(())
-}
-
-// A view with these bookmarks, and with those of these remotes.
-fn view_of(alloc: Global, local: &[Ref], remotes: &[Remote]) -> Result<View, AllocError> {
-    let mut view = View::make_root(alloc, CommitId::from_bytes(alloc, &[0])?)?;
-    add_local(alloc, &mut view, local)?;
-    add_remotes(alloc, &mut view, remotes)?;
-    Ok(view)
 }
 
 // Adds the hex text of a target's commit.
@@ -98,46 +90,82 @@ fn joined(alloc: Global, view: &View) -> Result<String, AllocError> {
     Ok(text)
 }
 
-// Bookmarks, those of remotes, and their join. Refs of one name go by remote, and names ascend over
-// all maps.
-const JOINS: [(&[Ref], &[Remote], &str); 5] = [
-    (
-        &[],
-        &[("remote1", &[("bookmark1", 1)])],
-        "bookmark1: remote1=01;",
-    ),
-    (&[("bookmark1", 0x11)], &[], "bookmark1:11;"),
-    (
-        &[("bookmark1", 0x11), ("bookmark2", 0x22)],
-        &[
-            ("remote2", &[("bookmark2", 0x66)]),
-            ("git", &[("bookmark1", 0x33), ("bookmark2", 0x44)]),
-            ("remote1", &[("bookmark1", 0x55)]),
-        ],
-        "bookmark1:11 git=33 remote1=55;bookmark2:22 git=44 remote2=66;",
-    ),
-    (
-        &[("b", 2), ("d", 4)],
-        &[
-            ("none", &[]),
-            ("x", &[("a", 1), ("d", 5)]),
-            ("y", &[("c", 3), ("e", 6)]),
-        ],
-        "a: x=01;b:02;c: y=03;d:04 x=05;e: y=06;",
-    ),
-    (&[], &[], ""),
-];
+fn remote_alone(alloc: Global) -> Result<String, AllocError> {
+    let mut view = empty_view(alloc)?;
+    add_remote(alloc, &mut view, "remote1", &[("bookmark1", 1)])?;
+    joined(alloc, &view)
+}
 
 #[test]
-fn bookmarks_join(rt: HostRuntime) {
-    for (local, remotes, wanted) in JOINS {
-        let made = |alloc: Global| joined(alloc, &view_of(alloc, local, remotes)?);
-        assert!(rt; tells(&rt, made, wanted), "{wanted}");
-    }
+fn a_remote_ref_without_a_local_one(rt: HostRuntime) {
+    assert!(rt; tells(&rt, remote_alone, "bookmark1: remote1=01;"));
+}
+
+fn local_alone(alloc: Global) -> Result<String, AllocError> {
+    let mut view = empty_view(alloc)?;
+    add_local(alloc, &mut view, "bookmark1", 0x11)?;
+    joined(alloc, &view)
+}
+
+#[test]
+fn a_local_ref_without_remotes(rt: HostRuntime) {
+    assert!(rt; tells(&rt, local_alone, "bookmark1:11;"));
+}
+
+fn two_bookmarks(alloc: Global) -> Result<String, AllocError> {
+    let mut view = empty_view(alloc)?;
+    add_local(alloc, &mut view, "bookmark1", 0x11)?;
+    add_local(alloc, &mut view, "bookmark2", 0x22)?;
+    add_remote(alloc, &mut view, "remote2", &[("bookmark2", 0x66)])?;
+    add_remote(
+        alloc,
+        &mut view,
+        "git",
+        &[("bookmark1", 0x33), ("bookmark2", 0x44)],
+    )?;
+    add_remote(alloc, &mut view, "remote1", &[("bookmark1", 0x55)])?;
+    joined(alloc, &view)
+}
+
+#[test]
+fn refs_of_one_name_go_by_remote(rt: HostRuntime) {
+    assert!(rt;
+        tells(
+            &rt,
+            two_bookmarks,
+            "bookmark1:11 git=33 remote1=55;bookmark2:22 git=44 remote2=66;",
+        )
+    );
+}
+
+fn scattered(alloc: Global) -> Result<String, AllocError> {
+    let mut view = empty_view(alloc)?;
+    add_local(alloc, &mut view, "b", 2)?;
+    add_local(alloc, &mut view, "d", 4)?;
+    add_remote(alloc, &mut view, "none", &[])?;
+    add_remote(alloc, &mut view, "x", &[("a", 1), ("d", 5)])?;
+    add_remote(alloc, &mut view, "y", &[("c", 3), ("e", 6)])?;
+    joined(alloc, &view)
+}
+
+#[test]
+fn names_ascend_over_all_maps(rt: HostRuntime) {
+    assert!(rt; tells(&rt, scattered, "a: x=01;b:02;c: y=03;d:04 x=05;e: y=06;"));
+}
+
+fn no_refs(alloc: Global) -> Result<String, AllocError> {
+    joined(alloc, &empty_view(alloc)?)
+}
+
+#[test]
+fn views_without_refs_have_no_rows(rt: HostRuntime) {
+    assert!(rt; tells(&rt, no_refs, ""));
 }
 
 fn rows_are_copied(alloc: Global) -> Result<bool, AllocError> {
-    let view = view_of(alloc, &[("a", 1)], &[("x", &[("a", 1), ("b", 2)])])?;
+    let mut view = empty_view(alloc)?;
+    add_local(alloc, &mut view, "a", 1)?;
+    add_remote(alloc, &mut view, "x", &[("a", 1), ("b", 2)])?;
     let rows = joined_bookmarks(alloc, &view)?;
     for (_, row) in &rows {
         if row.clone()? != *row {
@@ -166,8 +194,11 @@ fn flat(alloc: Global, view: &View) -> Result<String, AllocError> {
 }
 
 fn flat_bookmarks(alloc: Global) -> Result<String, AllocError> {
-    let remotes: &[Remote] = &[("y", &[("a", 2), ("d", 4)]), ("x", &[("b", 3), ("a", 1)])];
-    flat(alloc, &view_of(alloc, &[("c", 9)], remotes)?)
+    let mut view = empty_view(alloc)?;
+    add_local(alloc, &mut view, "c", 9)?;
+    add_remote(alloc, &mut view, "y", &[("a", 2), ("d", 4)])?;
+    add_remote(alloc, &mut view, "x", &[("b", 3), ("a", 1)])?;
+    flat(alloc, &view)
 }
 
 #[test]

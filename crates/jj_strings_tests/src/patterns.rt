@@ -49,17 +49,19 @@ fn says<R: Abort>(rt: &R, pattern: &StringPattern, text: &str, is_all: bool, exa
     assert!(rt; pattern.as_exact() == exact, "the exact text of {text}");
 }
 
+fn kinds<R: Abort>(rt: &R, alloc: Global) -> Result<(), AllocError> {
+    for (kind, text, shown, is_all, exact) in KINDS {
+        let pattern = pattern(rt, alloc, kind, text)?;
+        shows(rt, alloc, &pattern, shown)?;
+        shows(rt, alloc, &pattern.clone()?, shown)?;
+        says(rt, &pattern, text, is_all, exact);
+    }
+    shows(rt, alloc, &StringPattern::all(alloc), "Substring(\"\")")
+}
+
 #[test]
 fn texts_of_a_kind(rt: HostRuntime) -> Result<(), Fail> {
-    passes(&rt, |rt, alloc| {
-        for (kind, text, shown, is_all, exact) in KINDS {
-            let pattern = pattern(rt, alloc, kind, text)?;
-            shows(rt, alloc, &pattern, shown)?;
-            shows(rt, alloc, &pattern.clone()?, shown)?;
-            says(rt, &pattern, text, is_all, exact);
-        }
-        shows(rt, alloc, &StringPattern::all(alloc), "Substring(\"\")")
-    })
+    passes(&rt, kinds)
 }
 
 // Kind, text, and how the debug form and the text of the error begin.
@@ -118,23 +120,43 @@ fn begins<R: Abort>(
     Ok(())
 }
 
-#[test]
-fn texts_of_no_kind(rt: HostRuntime) -> Result<(), Fail> {
-    passes(&rt, |rt, alloc| {
-        for (kind, text, shown, message) in FAULTS {
-            match StringPattern::from_str_kind(alloc, text, kind) {
-                Ok(_) => panic!(rt; "{kind}:{text} is no pattern"),
-                Err(StringPatternParseError::Memory) => return Err(AllocError),
-                Err(error) => begins(rt, alloc, &error, (shown, message))?,
-            }
+fn faults<R: Abort>(rt: &R, alloc: Global) -> Result<(), AllocError> {
+    for (kind, text, shown, message) in FAULTS {
+        match StringPattern::from_str_kind(alloc, text, kind) {
+            Ok(_) => panic!(rt; "{kind}:{text} is no pattern"),
+            Err(StringPatternParseError::Memory) => return Err(AllocError),
+            Err(error) => begins(rt, alloc, &error, (shown, message))?,
         }
-        Ok(())
-    })
+    }
+    Ok(())
 }
 
-// Kind, text, a string, and whether the set holds it. Regular expressions are read as Unicode unless
-// they say otherwise.
-const SETS: [(&str, &str, &str, bool); 64] = [
+#[test]
+fn texts_of_no_kind(rt: HostRuntime) -> Result<(), Fail> {
+    passes(&rt, faults)
+}
+
+// Kind, text, a string, and whether the set holds it.
+type Row = (&'static str, &'static str, &'static str, bool);
+
+fn sets<R: Abort>(rt: &R, alloc: Global, rows: &[Row]) -> Result<(), AllocError> {
+    for (kind, text, string, is_in) in rows {
+        let matcher = matcher(rt, alloc, kind, text)?;
+        assert_eq!(rt;
+            matcher.is_match(alloc, string)?,
+            *is_in,
+            "{kind}:{text} and {string}"
+        );
+        assert_eq!(rt;
+            matcher.is_match_bytes(alloc, string.as_bytes())?,
+            *is_in,
+            "{kind}:{text} and {string}"
+        );
+    }
+    Ok(())
+}
+
+const TEXTS: [Row; 21] = [
     ("exact", "foo", "foo", true),
     ("exact", "foo", "Foo", false),
     ("exact", "foo", "foobar", false),
@@ -156,6 +178,14 @@ const SETS: [(&str, &str, &str, bool); 64] = [
     ("substring-i", "aab", "aacab", false),
     ("substring-i", "É", "é", false),
     ("substring-i", "k", "\u{212a}", false),
+];
+
+#[test]
+fn sets_of_texts(rt: HostRuntime) -> Result<(), Fail> {
+    passes(&rt, |rt, alloc| sets(rt, alloc, &TEXTS))
+}
+
+const GLOBS: [Row; 31] = [
     ("glob", "foo", "foo", true),
     ("glob", "foo", "foobar", false),
     ("glob", "*", ".foo", true),
@@ -187,6 +217,15 @@ const SETS: [(&str, &str, &str, bool); 64] = [
     ("glob-i", "f?O", "Foo", true),
     ("glob-i", "[!A]", "a", false),
     ("glob-i", "É", "é", false),
+];
+
+#[test]
+fn sets_of_globs(rt: HostRuntime) -> Result<(), Fail> {
+    passes(&rt, |rt, alloc| sets(rt, alloc, &GLOBS))
+}
+
+// Regular expressions are read as Unicode unless they say otherwise.
+const REGEXES: [Row; 12] = [
     ("regex", "^\\w$", "\u{c0}", true),
     ("regex", "^.$", "\u{c0}", true),
     ("regex", "^(?-u)\\w$", "a", true),
@@ -201,26 +240,9 @@ const SETS: [(&str, &str, &str, bool); 64] = [
     ("regex-i", "", "", true),
 ];
 
-fn sets<R: Abort>(rt: &R, alloc: Global) -> Result<(), AllocError> {
-    for (kind, text, string, is_in) in SETS {
-        let matcher = matcher(rt, alloc, kind, text)?;
-        assert_eq!(rt;
-            matcher.is_match(alloc, string)?,
-            is_in,
-            "{kind}:{text} and {string}"
-        );
-        assert_eq!(rt;
-            matcher.is_match_bytes(alloc, string.as_bytes())?,
-            is_in,
-            "{kind}:{text} and {string}"
-        );
-    }
-    Ok(())
-}
-
 #[test]
-fn sets_of_strings(rt: HostRuntime) -> Result<(), Fail> {
-    passes(&rt, sets)
+fn sets_of_regexes(rt: HostRuntime) -> Result<(), Fail> {
+    passes(&rt, |rt, alloc| sets(rt, alloc, &REGEXES))
 }
 
 // Bytes, some of which are no text.

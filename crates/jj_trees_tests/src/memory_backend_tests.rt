@@ -91,40 +91,59 @@ fn says_absent(error: BackendError, object: &str, id: &str) -> BackendResult<boo
     }
 }
 
-// Whether a read says of an id that no object of this type has it.
-fn is_none<K, T, F>(alloc: Global, id: &[u8], object: &str, read: F) -> BackendResult<bool>
-where
-    K: IdKind,
-    T: Drop,
-    F: Fn(&Id<K>) -> BackendResult<T>,
-    requires { F.IsAlwaysCallable read }
-{
-    let id = Id::from_bytes(alloc, id)?;
+fn is_no_file(alloc: Global, backend: &MemoryBackend, id: &[u8]) -> BackendResult<bool> {
+    let id = FileId::from_bytes(alloc, id)?;
     let text = id.hex(alloc)?;
-    match read(&id) {
-        Err(error) => says_absent(error, object, text.as_str()),
+    match backend.read_file(alloc, RepoPath::root(), &id) {
+        Err(error) => says_absent(error, "file", text.as_str()),
         Ok(_) => Ok(false),
     }
 }
 
 fn is_no_symlink(alloc: Global, backend: &MemoryBackend, id: &[u8]) -> BackendResult<bool> {
-    let read = |id: &SymlinkId| backend.read_symlink(alloc, RepoPath::root(), id);
-    is_none(alloc, id, "symlink", read)
+    let id = SymlinkId::from_bytes(alloc, id)?;
+    let text = id.hex(alloc)?;
+    match backend.read_symlink(alloc, RepoPath::root(), &id) {
+        Err(error) => says_absent(error, "symlink", text.as_str()),
+        Ok(_) => Ok(false),
+    }
+}
+
+fn is_no_copy(alloc: Global, backend: &MemoryBackend, id: &[u8]) -> BackendResult<bool> {
+    let id = CopyId::from_bytes(alloc, id)?;
+    let text = id.hex(alloc)?;
+    match backend.read_copy(alloc, &id) {
+        Err(error) => says_absent(error, "copy", text.as_str()),
+        Ok(_) => Ok(false),
+    }
+}
+
+fn is_no_tree(alloc: Global, backend: &MemoryBackend, id: &[u8]) -> BackendResult<bool> {
+    let id = TreeId::from_bytes(alloc, id)?;
+    let text = id.hex(alloc)?;
+    match backend.read_tree(alloc, RepoPath::root(), &id) {
+        Err(error) => says_absent(error, "tree", text.as_str()),
+        Ok(_) => Ok(false),
+    }
+}
+
+fn is_no_commit(alloc: Global, backend: &MemoryBackend, id: &[u8]) -> BackendResult<bool> {
+    let id = CommitId::from_bytes(alloc, id)?;
+    let text = id.hex(alloc)?;
+    match backend.read_commit(alloc, &id) {
+        Err(error) => says_absent(error, "commit", text.as_str()),
+        Ok(_) => Ok(false),
+    }
 }
 
 // Whether an id stands for no object of any type.
 fn is_nothing(alloc: Global, backend: &MemoryBackend, id: &[u8]) -> BackendResult<bool> {
-    let root = RepoPath::root();
-    let file = |id: &FileId| backend.read_file(alloc, root, id);
-    let copy = |id: &CopyId| backend.read_copy(alloc, id);
-    let tree = |id: &TreeId| backend.read_tree(alloc, root, id);
-    let commit = |id: &CommitId| backend.read_commit(alloc, id);
     Ok(
-        is_none(alloc, id, "file", file)?
+        is_no_file(alloc, backend, id)?
             && is_no_symlink(alloc, backend, id)?
-            && is_none(alloc, id, "copy", copy)?
-            && is_none(alloc, id, "tree", tree)?
-            && is_none(alloc, id, "commit", commit)?,
+            && is_no_copy(alloc, backend, id)?
+            && is_no_tree(alloc, backend, id)?
+            && is_no_commit(alloc, backend, id)?,
     )
 }
 
