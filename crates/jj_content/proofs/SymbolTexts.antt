@@ -1,22 +1,32 @@
 -- What prints unchanged between quotes: a character that is neither lettered nor an ASCII control.
-use Rattle.std.proofs.Common.{◌≡◌, ℕ, ◌≤◌, ◌≢◌, List, [], length, ◌∷◌, ◌++◌, false, arith}
+use Rattle.std.proofs.Common.{◌≡◌, ℕ, ◌<◌, ◌≤◌, List, [], length, ◌∷◌, ◌++◌, false, true, None, refl, arith}
+use Rattle.std.specs.Prelude.{find, ◌==◌}
 use Rattle.std.specs.List.{flat_map}
 use Rattle.std.specs.Char.{is_ascii_control}
+use Rattle.std.proofs.lemmas.List.{append-nil}
+use Rattle.std.proofs.lemmas.Str.{encode_ascii}
 use Rattle.std.proofs.lemmas.Bool.Decides.{nat_tests}
 use lib.Utf8.{encode}
-use Rattle.jj_content.specs.Symbols.{escaped_byte, escaped_text}
+use Rattle.jj_content.specs.Symbols.{lettered, hex_escape, escaped_byte, escaped_text}
 use Rattle.jj_content.proofs.EscapedTexts.{plain_character, one_more_written, all_written}
 
-plain_byte : (c : ℕ) → c ≢ 34 → c ≢ 92 → c ≢ 9 → c ≢ 13 → c ≢ 10 → c ≢ 0 → false ≡ is_ascii_control c → escaped_byte c ≡ c ∷ []
-plain_byte c quote slash tab return feed null plain = grind (arith, nat_tests)
+-- one of the six prints by its letter
+pub escaped_letter : (c : ℕ) (piece : List ℕ) → c < 128 → escaped_byte c ≡ piece → flat_map escaped_byte (encode c) ≡ piece
+escaped_letter c piece small e = rw (encode_ascii c small, e, append-nil piece) refl
+
+-- a control that has no letter prints by its hex digits
+pub control_byte : (c : ℕ) → find (λ e. e.0 == c) lettered ≡ None → true ≡ is_ascii_control c → escaped_byte c ≡ hex_escape c
+control_byte c none control = rw (none, ← control) refl
+
+plain_byte : (c : ℕ) → find (λ e. e.0 == c) lettered ≡ None → false ≡ is_ascii_control c → escaped_byte c ≡ c ∷ []
+plain_byte c none plain = rw (none, ← plain) refl
 
 high_byte : (b : ℕ) → 128 ≤ b → escaped_byte b ≡ b ∷ []
 high_byte b high = grind (arith, nat_tests)
 
 -- such a character prints as it is
-pub escaped_plain : (c : ℕ) → c ≢ 34 → c ≢ 92 → c ≢ 9 → c ≢ 13 → c ≢ 10 → c ≢ 0 → false ≡ is_ascii_control c → flat_map escaped_byte (encode c) ≡ encode c
-escaped_plain c quote slash tab return feed null plain =
-    plain_character escaped_byte c (plain_byte c quote slash tab return feed null plain) high_byte
+pub escaped_plain : (c : ℕ) → find (λ e. e.0 == c) lettered ≡ None → false ≡ is_ascii_control c → flat_map escaped_byte (encode c) ≡ encode c
+escaped_plain c none plain = plain_character escaped_byte c (plain_byte c none plain) high_byte
 
 -- one more character of the text is written
 pub escaped_step : (buffer buffer' piece rest rest' whole : List ℕ) → buffer' ≡ buffer ++ flat_map escaped_byte piece → rest ≡ piece ++ rest' → buffer ++ escaped_text rest ≡ whole → buffer' ++ escaped_text rest' ≡ whole

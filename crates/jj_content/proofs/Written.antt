@@ -1,16 +1,16 @@
 -- What a writer takes in one call after another.
-use Rattle.std.proofs.Common.{◌≡◌, ℕ, ◌/◌, ◌%◌, ◌<◌, ◌≢◌, List, [], ◌∷◌, ◌++◌, length, get_or, true, refl, sym, ap, ◌∙◌, arith}
+use Rattle.std.proofs.Common.{◌≡◌, ℕ, ◌/◌, ◌%◌, ◌<◌, List, [], ◌∷◌, ◌++◌, length, get_or, true, None, refl, sym, ap, ◌∙◌, arith}
+use Rattle.std.specs.Prelude.{find, ◌==◌}
 use Rattle.std.specs.List.{flat_map}
 use Rattle.std.specs.Char.{is_ascii_control}
 use Rattle.std.specs.Fmt.{WritesInCalls}
 use Rattle.std.proofs.Output.{writes_in_calls_single, writes_in_calls_append}
 use Rattle.std.proofs.lemmas.Bool.Decides.{nat_tests}
-use Rattle.std.proofs.lemmas.List.{append-nil}
 use Rattle.std.proofs.lemmas.Str.{encode_ascii}
 use lib.Utf8.{encode}
 use Rattle.jj_content.specs.Hex.{hex_digits}
-use Rattle.jj_content.specs.Symbols.{escaped_byte, escaped_text}
-use Rattle.jj_content.proofs.SymbolTexts.{escaped_step, escaped_end}
+use Rattle.jj_content.specs.Symbols.{lettered, escaped_byte, escaped_text}
+use Rattle.jj_content.proofs.SymbolTexts.{escaped_letter, control_byte, escaped_step, escaped_end}
 
 -- the same writes, of an equal text
 pub writes_same : {W : Type 0} (took : W → List ℕ → W → Type 0) (w v : W) (text bytes : List ℕ) → text ≡ bytes → WritesInCalls took w bytes v → WritesInCalls took w text v
@@ -20,28 +20,24 @@ writes_same took w v text bytes e h = rw e h
 pub writes_escape : {W : Type 0} (took : W → List ℕ → W → Type 0) (w v : W) (c : ℕ) (piece : List ℕ) → c < 128 → escaped_byte c ≡ piece → took w piece v
     → WritesInCalls took w (flat_map escaped_byte (encode c)) v
 writes_escape took w v c piece small e h =
-    rw (encode_ascii c small, e, append-nil piece) (writes_in_calls_single took w piece v h)
-
-control_byte : (c : ℕ) → c ≢ 34 → c ≢ 92 → c ≢ 9 → c ≢ 13 → c ≢ 10 → c ≢ 0 → true ≡ is_ascii_control c
-    → escaped_byte c ≡ 92 ∷ 120 ∷ get_or hex_digits (c / 16) 0 ∷ get_or hex_digits (c % 16) 0 ∷ []
-control_byte c quote slash tab return feed null control = grind (arith, nat_tests)
+    writes_same took w v _ piece (escaped_letter c piece small e) (writes_in_calls_single took w piece v h)
 
 control_small : (c : ℕ) → true ≡ is_ascii_control c → c < 128
 control_small c control = grind (arith, nat_tests)
 
 -- three calls that write an escape by its hex digits
 pub writes_control : {W : Type 0} (took : W → List ℕ → W → Type 0) (w a b v : W) (c high low n : ℕ)
-    → c ≢ 34 → c ≢ 92 → c ≢ 9 → c ≢ 13 → c ≢ 10 → c ≢ 0 → true ≡ is_ascii_control c
+    → find (λ e. e.0 == c) lettered ≡ None → true ≡ is_ascii_control c
     → high ≡ get_or hex_digits (c / 16) 0 → high < 128 → low ≡ get_or hex_digits n 0 → n ≡ c % 16 → low < 128
     → took w (92 ∷ 120 ∷ []) a → took a (encode high) b → took b (encode low) v → WritesInCalls took w (flat_map escaped_byte (encode c)) v
-writes_control took w a b v c high low n quote slash tab return feed null control is_high small_high is_low is_digit small_low p q r =
+writes_control took w a b v c high low n none control is_high small_high is_low is_digit small_low p q r =
     let first = writes_in_calls_single took w (92 ∷ 120 ∷ []) a p in
     let second = writes_in_calls_single took a (encode high) b q in
     let third = writes_in_calls_single took b (encode low) v r in
     let both = writes_in_calls_append took w (92 ∷ 120 ∷ []) a (encode high) b first second in
     let all = writes_in_calls_append took w ((92 ∷ 120 ∷ []) ++ encode high) b (encode low) v both third in
     let text : flat_map escaped_byte (encode c) ≡ ((92 ∷ 120 ∷ []) ++ encode high) ++ encode low
-    = rw (encode_ascii c (control_small c control), encode_ascii high small_high, encode_ascii low small_low, is_high, is_low, is_digit, control_byte c quote slash tab return feed null control) refl in
+    = rw (encode_ascii c (control_small c control), encode_ascii high small_high, encode_ascii low small_low, is_high, is_low, is_digit, control_byte c none control) refl in
     writes_same took w v _ _ text all
 
 -- the quote that begins a text, one more character of it, and the quote that ends it

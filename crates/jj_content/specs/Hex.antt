@@ -1,7 +1,7 @@
 -- Hex text: each byte as two digits, the high one first.
--- Cited by contracts of public items: ReadsAs, ReadsAsNothing, common_length, evened, hex,
--- hex_digits, is_text_of, reverse_hex, reverse_hex_digits.
-use Rattle.std.specs.Prelude.{◌≡◌, ℕ, ◌/◌, ◌%◌, ◌+◌, ◌<◌, List, [], ◌∷◌, ◌++◌, ◌==◌, length, slice_index, replicate, codes, if◌then◌else◌, All, Option, position, Bool, ◌&&◌, is_some}
+-- Cited by contracts of public items: IsPrefixReading, IsReading, ReadsAs, common_length, evened,
+-- hex, hex_digits, is_text_of, reverse_hex, reverse_hex_digits.
+use Rattle.std.specs.Prelude.{◌≡◌, ℕ, ◌/◌, ◌%◌, ◌+◌, ◌<◌, List, [], ◌∷◌, ◌++◌, ◌==◌, length, slice_index, replicate, codes, if◌then◌else◌, All, Option, MatchOption, position, Bool, ◌&&◌, is_some}
 use Rattle.std.specs.Str.{str_to_ascii_lowercase}
 use Rattle.std.specs.Char.{to_ascii_lowercase}
 use Rattle.std.specs.List.{flat_map, list_all}
@@ -42,6 +42,19 @@ ReadsAsNothing digits text = (bytes : List ℕ) → ¬ (ReadsAs digits text byte
 -- a text that may end in half a byte, with the digit zero after it
 abbrev pub evened : List ℕ → List ℕ → List ℕ
 evened digits text = text ++ replicate (length text % 2) (slice_index digits 0)
+
+-- what reads a text in these digits answers its bytes, or none where it reads as no bytes
+abbrev pub IsReading : {A : Type 0} → (A → List ℕ) → List ℕ → List ℕ → Option A → Type 0
+IsReading bytes_of digits text answer = MatchOption answer (ReadsAsNothing digits text)
+    (λ read. ReadsAs digits text (bytes_of read))
+
+-- the same of a text that may end in half a byte, with a mark whether it does
+abbrev pub IsPrefixReading : {A : Type 0} → (A → List ℕ) → List ℕ → List ℕ → Option (A × Bool)
+    → Type 0
+IsPrefixReading bytes_of digits text answer = MatchOption answer
+    (ReadsAsNothing digits (evened digits text))
+    (λ read. ReadsAs digits (evened digits text) (bytes_of read.0)
+    × (read.1 ≡ (length text % 2 == 1)))
 
 -- the value of a digit, in either case
 abbrev pub digit_value : List ℕ → ℕ → Option ℕ

@@ -30,20 +30,25 @@ after_u32 : (m n : ℕ) (s t : List ℕ) → u32_content m ++ s ≡ u32_content 
 unfolding u32_content
 after_u32 m n s t e = ap (drop 4) e
 
--- numbers whose bytes begin alike are equal
-pub same_u64 : (m n : ℕ) (s t : List ℕ) → m < 2 ^ 64 → n < 2 ^ 64
-    → u64_content m ++ s ≡ u64_content n ++ t → m ≡ n
-unfolding u64_content
-same_u64 m n s t p q e =
-    sym (from_le_bytes-to_le_bytes_8 m p) ∙ ap (λ (xs : List ℕ). from_le_bytes w64 (take 8 xs)) e
-    ∙ from_le_bytes-to_le_bytes_8 n q
+-- numbers below a limit are equal where bytes that begin with their content are
+abbrev pub AreToldApart : (ℕ → List ℕ) → ℕ → Type 0
+AreToldApart content limit = (m n : ℕ) (s t : List ℕ) → m < limit → n < limit
+    → content m ++ s ≡ content n ++ t → m ≡ n
 
-pub same_u32 : (m n : ℕ) (s t : List ℕ) → m < 2 ^ 32 → n < 2 ^ 32
-    → u32_content m ++ s ≡ u32_content n ++ t → m ≡ n
+-- and so they are where they are read back from such bytes
+read_back : (content : ℕ → List ℕ) (limit : ℕ) (read : List ℕ → ℕ)
+    → ((n : ℕ) (s : List ℕ) → n < limit → read (content n ++ s) ≡ n) → AreToldApart content limit
+read_back content limit read back m n s t p q e = sym (back m s p) ∙ ap read e ∙ back n t q
+
+pub same_u64 : AreToldApart u64_content (2 ^ 64)
+unfolding u64_content
+same_u64 = read_back u64_content (2 ^ 64) (λ (xs : List ℕ). from_le_bytes w64 (take 8 xs))
+    (λ n s p. from_le_bytes-to_le_bytes_8 n p)
+
+pub same_u32 : AreToldApart u32_content (2 ^ 32)
 unfolding u32_content
-same_u32 m n s t p q e =
-    sym (from_le_bytes-to_le_bytes_4 m p) ∙ ap (λ (xs : List ℕ). from_le_bytes w32 (take 4 xs)) e
-    ∙ from_le_bytes-to_le_bytes_4 n q
+same_u32 = read_back u32_content (2 ^ 32) (λ (xs : List ℕ). from_le_bytes w32 (take 4 xs))
+    (λ n s p. from_le_bytes-to_le_bytes_4 n p)
 
 pub unit_lawful : IsLawful {X = Unit {0}} (λ _. ⊤) (λ _ _. true) (λ _. [])
 unit_lawful = record { same = λ _ _ _ _ _. refl; decides = λ _ _ _ _ _ _ _. refl }

@@ -1,9 +1,9 @@
 //! Hex text of bytes, and bytes of hex text: forward hex with the digits `0` to `f`, and reversed
 //! hex, which writes `z` for 0 down to `k` for 15.
-ghost use Rattle.std.specs.Prelude.{◌≡◌, ◌==◌, ℕ, ◌+◌, ◌*◌, ◌/◌, ◌%◌, ◌<◌, ◌≤◌, List, length, slice_index, All, IfOk, IsAscii, IfSome, MatchOption, Option, Some, None};
+ghost use Rattle.std.specs.Prelude.{◌≡◌, ◌==◌, ℕ, ◌+◌, ◌*◌, ◌/◌, ◌%◌, ◌<◌, ◌≤◌, List, length, slice_index, All, IfOk, IsAscii, IfSome, Option, Some, None};
 ghost use Rattle.std.specs.String.{string_bytes};
 ghost use Rattle.std.specs.Str.{str_to_ascii_lowercase};
-ghost use Rattle.jj_content.specs.Hex.{hex, reverse_hex, text_with, hex_digits, reverse_hex_digits, ReadsAs, ReadsAsNothing, evened, digit_value, common_length};
+ghost use Rattle.jj_content.specs.Hex.{hex, reverse_hex, text_with, hex_digits, reverse_hex_digits, ReadsAs, IsReading, IsPrefixReading, digit_value, common_length};
 ghost use Rattle.jj_content.specs.HexKinds.{digits_of};
 
 use std::alloc::{AllocError, Global};
@@ -91,10 +91,8 @@ fn decode_hex_prefix_inner(
     hex: &[u8],
     digits: Digits,
 ) -> Result<Option<(Vec<u8>, bool)>, AllocError>
-    ensures { IfOk result (λ answer. MatchOption answer
-        (ReadsAsNothing (digits_of digits) (evened (digits_of digits) hex.now))
-        (λ prefix. ReadsAs (digits_of digits) (evened (digits_of digits) hex.now) prefix.0.items
-        × (prefix.1 ≡ (length hex.now % 2 == 1)))) }
+    ensures { IfOk result
+        (IsPrefixReading (λ bytes. bytes.items) (digits_of digits) hex.now) }
 {
     let mut decoded = Vec::with_capacity(alloc, hex.len().div_ceil(2))?;
     let (pairs, rest) = hex.as_chunks::<2>();
@@ -122,9 +120,7 @@ fn decode_hex_inner(
     hex: &[u8],
     digits: Digits,
 ) -> Result<Option<Vec<u8>>, AllocError>
-    ensures { IfOk result (λ answer. MatchOption answer
-        (ReadsAsNothing (digits_of digits) hex.now)
-        (λ bytes. ReadsAs (digits_of digits) hex.now bytes.items)) }
+    ensures { IfOk result (IsReading (λ bytes. bytes.items) (digits_of digits) hex.now) }
 {
     if hex.len() % 2 != 0 {
         return Ok(None);
@@ -136,40 +132,31 @@ fn decode_hex_inner(
 }
 
 /// The bytes that a hex text stands for, in either case; `None` for an odd length or a bad digit.
-pub fn decode_hex<H: AsSlice<u8> + Drop>(
-    alloc: Global,
-    hex: H,
-) -> Result<Option<Vec<u8>>, AllocError>
-    ensures { IfOk result (λ answer. MatchOption answer
-        (ReadsAsNothing hex_digits (H.items hex))
-        (λ bytes. ReadsAs hex_digits (H.items hex) bytes.items)) }
+pub fn decode_hex<H>(alloc: Global, hex: H) -> Result<Option<Vec<u8>>, AllocError>
+where
+    H: AsSlice<u8> + Drop,
+    ensures { IfOk result (IsReading (λ bytes. bytes.items) hex_digits (H.items hex)) }
 {
     decode_hex_inner(alloc, hex.as_slice(), Digits::Forward)
 }
 
 /// The bytes that a reversed hex text stands for, in either case; `None` for an odd length or a
 /// bad digit.
-pub fn decode_reverse_hex<H: AsSlice<u8> + Drop>(
-    alloc: Global,
-    reverse_hex: H,
-) -> Result<Option<Vec<u8>>, AllocError>
-    ensures { IfOk result (λ answer. MatchOption answer
-        (ReadsAsNothing reverse_hex_digits (H.items reverse_hex))
-        (λ bytes. ReadsAs reverse_hex_digits (H.items reverse_hex) bytes.items)) }
+pub fn decode_reverse_hex<H>(alloc: Global, reverse_hex: H) -> Result<Option<Vec<u8>>, AllocError>
+where
+    H: AsSlice<u8> + Drop,
+    ensures { IfOk result
+        (IsReading (λ bytes. bytes.items) reverse_hex_digits (H.items reverse_hex)) }
 {
     decode_hex_inner(alloc, reverse_hex.as_slice(), Digits::Reverse)
 }
 
 /// The bytes that a hex text of any length stands for, and whether its length is odd: then its
 /// last digit is the high one of the last byte, whose low digit is zero. `None` for a bad digit.
-pub fn decode_hex_prefix<H: AsSlice<u8> + Drop>(
-    alloc: Global,
-    hex: H,
-) -> Result<Option<(Vec<u8>, bool)>, AllocError>
-    ensures { IfOk result (λ answer. MatchOption answer
-        (ReadsAsNothing hex_digits (evened hex_digits (H.items hex)))
-        (λ prefix. ReadsAs hex_digits (evened hex_digits (H.items hex)) prefix.0.items
-        × (prefix.1 ≡ (length (H.items hex) % 2 == 1)))) }
+pub fn decode_hex_prefix<H>(alloc: Global, hex: H) -> Result<Option<(Vec<u8>, bool)>, AllocError>
+where
+    H: AsSlice<u8> + Drop,
+    ensures { IfOk result (IsPrefixReading (λ bytes. bytes.items) hex_digits (H.items hex)) }
 {
     decode_hex_prefix_inner(alloc, hex.as_slice(), Digits::Forward)
 }
@@ -179,11 +166,8 @@ pub fn decode_reverse_hex_prefix<H: AsSlice<u8> + Drop>(
     alloc: Global,
     reverse_hex: H,
 ) -> Result<Option<(Vec<u8>, bool)>, AllocError>
-    ensures { IfOk result (λ answer. MatchOption answer
-        (ReadsAsNothing reverse_hex_digits (evened reverse_hex_digits (H.items reverse_hex)))
-        (λ prefix. ReadsAs reverse_hex_digits (evened reverse_hex_digits
-        (H.items reverse_hex)) prefix.0.items
-        × (prefix.1 ≡ (length (H.items reverse_hex) % 2 == 1)))) }
+    ensures { IfOk result
+        (IsPrefixReading (λ bytes. bytes.items) reverse_hex_digits (H.items reverse_hex)) }
 {
     decode_hex_prefix_inner(alloc, reverse_hex.as_slice(), Digits::Reverse)
 }

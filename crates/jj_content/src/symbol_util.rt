@@ -1,33 +1,42 @@
 //! Texts between double quotes, with escapes for what can't stand there.
-ghost use Rattle.std.specs.Prelude.{◌≡◌, ℕ, ◌<◌, ◌++◌, IfOk, OnOk, MatchOption, is_ok, encode_utf8};
+ghost use Rattle.std.specs.Prelude.{◌≡◌, ◌==◌, ℕ, ◌<◌, ◌++◌, None, IfOk, OnOk, MatchOption, is_ok, encode_utf8, find, flat_map, string_bytes};
 ghost use Rattle.std.specs.Fmt.{WritesInCalls};
-ghost use Rattle.std.specs.List.{flat_map};
-ghost use Rattle.std.specs.String.{string_bytes};
-ghost use Rattle.jj_content.specs.Symbols.{escaped_byte, escaped_text, quoted_text, letter_char, IsEscapeOf};
+ghost use Rattle.jj_content.specs.Symbols.{lettered, escaped_byte, escaped_text, quoted_text, letter_char, IsEscapeOf};
 
 use crate::hex_util::hex_digit_char;
 use std::alloc::{AllocError, Global};
 use std::fmt;
+
+// How a character that has a letter prints between quotes.
+fn letter_escape(c: char) -> Option<&'static str>
+    ensures { MatchOption result (find (λ e. e.0 == c) lettered ≡ None)
+        (λ escape. (c < 128) × (escaped_byte c ≡ escape.now)) }
+{
+    match c {
+        '"' => Some("\\\""),
+        '\\' => Some("\\\\"),
+        '\t' => Some("\\t"),
+        '\r' => Some("\\r"),
+        '\n' => Some("\\n"),
+        '\0' => Some("\\0"),
+        _ => None,
+    }
+}
 
 // Writes the character as it prints between quotes.
 fn push_escaped(escaped: &mut String, c: char) -> Result<(), AllocError>
     ensures { OnOk result (string_bytes escaped.new ≡ string_bytes escaped.old
         ++ flat_map escaped_byte (encode_utf8 c)) }
 {
-    match c {
-        '"' => escaped.push_str("\\\""),
-        '\\' => escaped.push_str("\\\\"),
-        '\t' => escaped.push_str("\\t"),
-        '\r' => escaped.push_str("\\r"),
-        '\n' => escaped.push_str("\\n"),
-        '\0' => escaped.push_str("\\0"),
-        c if c.is_ascii_control() => {
+    match letter_escape(c) {
+        Some(escape) => escaped.push_str(escape),
+        None if c.is_ascii_control() => {
             let byte = c as u8;
             escaped.push_str("\\x")?;
             escaped.push(hex_digit_char(byte >> 4))?;
             escaped.push(hex_digit_char(byte & 0xf))
         }
-        c => escaped.push(c),
+        None => escaped.push(c),
     }
 }
 
@@ -67,20 +76,15 @@ fn write_escaped<W: fmt::Write>(writer: &mut W, c: char) -> fmt::Result
     ensures { OnOk result (WritesInCalls W.write_str_gives writer.old
         (flat_map escaped_byte (encode_utf8 c)) writer.new) }
 {
-    match c {
-        '"' => writer.write_str("\\\"")?,
-        '\\' => writer.write_str("\\\\")?,
-        '\t' => writer.write_str("\\t")?,
-        '\r' => writer.write_str("\\r")?,
-        '\n' => writer.write_str("\\n")?,
-        '\0' => writer.write_str("\\0")?,
-        c if c.is_ascii_control() => {
+    match letter_escape(c) {
+        Some(escape) => writer.write_str(escape)?,
+        None if c.is_ascii_control() => {
             let byte = c as u8;
             writer.write_str("\\x")?;
             writer.write_char(hex_digit_char(byte >> 4))?;
             writer.write_char(hex_digit_char(byte & 0xf))?;
         }
-        c => writer.write_char(c)?,
+        None => writer.write_char(c)?,
     }
     Ok(())
 }

@@ -2,6 +2,7 @@
 ghost use Rattle.std.specs.Prelude.{◌≡◌, ⊤, All, MatchOption, string_bytes};
 ghost use Rattle.serde_json.specs.Data.{null, string};
 ghost use Rattle.jj_content.specs.Json.{IsAnswer, IsJsonList};
+ghost use Rattle.jj_content.specs.declared.to_json.ToJsonError.{ToJsonError};
 
 use serde_json::Value;
 use std::alloc::{AllocError, AllocFailed, Global};
@@ -29,23 +30,17 @@ impl fmt::Display for ToJsonError {
 impl Error for ToJsonError {}
 
 impl From<AllocError> for ToJsonError {
-    ghost use Rattle.std.specs.Prelude.{◌≡◌};
-    ghost use Rattle.jj_content.specs.declared.to_json.ToJsonError.TheVariants.{Memory};
+    ghost from_gives = { λ _ error. error ≡ ToJsonError.Memory };
 
-    ghost from_gives = { λ _ e. e ≡ Memory };
-
-    fn from(_error: AllocError) -> ToJsonError {
+    fn from(_refused: AllocError) -> Self {
         ToJsonError::Memory
     }
 }
 
 impl<T: Drop> From<AllocFailed<T>> for ToJsonError {
-    ghost use Rattle.std.specs.Prelude.{◌≡◌};
-    ghost use Rattle.jj_content.specs.declared.to_json.ToJsonError.TheVariants.{Memory};
+    ghost from_gives = { λ _ error. error ≡ ToJsonError.Memory };
 
-    ghost from_gives = { λ _ e. e ≡ Memory };
-
-    fn from(_error: AllocFailed<T>) -> ToJsonError {
+    fn from(_refused: AllocFailed<T>) -> Self {
         ToJsonError::Memory
     }
 }

@@ -9,22 +9,19 @@ use std::test::Fail;
 
 const DIGITS: [u8; 8] = [0x01, 0x23, 0x45, 0x67, 0x89, 0xab, 0xcd, 0xef];
 
-// Whether the answer is these bytes, or `None` where there are none.
-fn is_read(answer: &Option<Vec<u8>>, expected: Option<&[u8]>) -> bool {
-    match (answer, expected) {
-        (Some(bytes), Some(expected)) => bytes.as_slice() == expected,
-        (None, None) => true,
-        _ => false,
+// Whether the answer is these bytes.
+fn is_read(answer: &Option<Vec<u8>>, expected: &[u8]) -> bool {
+    match answer {
+        Some(bytes) => bytes.as_slice() == expected,
+        None => false,
     }
 }
 
 // Whether the answer is these bytes with this mark of half a byte.
-fn is_prefix(answer: &Option<(Vec<u8>, bool)>, expected: Option<(&[u8], bool)>) -> bool {
-    match (answer, expected) {
-        (Some((bytes, odd)), Some((expected, half))) => bytes.as_slice() == expected
-            && *odd == half,
-        (None, None) => true,
-        _ => false,
+fn is_prefix(answer: &Option<(Vec<u8>, bool)>, expected: &[u8], half: bool) -> bool {
+    match answer {
+        Some((bytes, odd)) => bytes.as_slice() == expected && *odd == half,
+        None => false,
     }
 }
 
@@ -44,57 +41,53 @@ fn reverse_prefix(alloc: Global, text: &str) -> Result<Option<(Vec<u8>, bool)>, 
     decode_reverse_hex_prefix(alloc, text).or_else(|_| decode_reverse_hex_prefix(alloc, text))
 }
 
-// Hex texts and their bytes; the others are none.
-const TEXTS: [(&str, Option<&[u8]>); 6] = [
-    ("", Some(&[])),
-    ("0", None),
-    ("0123456789abcDEF", Some(&DIGITS)),
-    ("gg", None),
-    ("0g", None),
-    ("柔", None),
+// Bytes, after their hex text and their reversed one.
+const TEXTS: [(&str, &str, &[u8]); 3] = [
+    ("", "", &[]),
+    ("0f", "zk", &[0x0f]),
+    ("0123456789abcDEF", "zyxwvutsRQPONMLK", &DIGITS),
 ];
 
-// The same of reversed digits.
-const REVERSED_TEXTS: [(&str, Option<&[u8]>); 5] = [
-    ("", Some(&[])),
-    ("z", None),
-    ("zk", Some(&[0x0f])),
-    ("zyxwvutsRQPONMLK", Some(&DIGITS)),
-    ("jj", None),
-];
-
-// Beginnings of hex texts, their bytes, and whether the last byte is half there.
-const PREFIXES: [(&str, Option<(&[u8], bool)>); 5] = [
-    ("", Some((&[], false))),
-    ("f", Some((&[0xf0], true))),
-    ("0123456789ABCdef", Some((&DIGITS, false))),
-    ("gg", None),
-    ("00g", None),
-];
-
-// The same of reversed digits.
-const REVERSED_PREFIXES: [(&str, Option<(&[u8], bool)>); 4] = [
-    ("", Some((&[], false))),
-    ("k", Some((&[0xf0], true))),
-    ("ZYXWVUTSrqponmlk", Some((&DIGITS, false))),
-    ("jj", None),
+// Beginnings of both texts, their bytes, and whether the last byte is half there.
+const PREFIXES: [(&str, &str, &[u8], bool); 3] = [
+    ("", "", &[], false),
+    ("f", "k", &[0xf0], true),
+    ("0123456789ABCdef", "ZYXWVUTSrqponmlk", &DIGITS, false),
 ];
 
 #[test]
 fn hex_is_read(rt: HostRuntime) -> Result<(), Fail> {
     let alloc = rt.alloc();
-    for (text, bytes) in TEXTS {
+    for (text, reversed, bytes) in TEXTS {
         assert!(rt; is_read(&forward(alloc, text)?, bytes), "{text}");
+        assert!(rt; is_read(&reverse(alloc, reversed)?, bytes), "{reversed}");
     }
-    for (text, bytes) in REVERSED_TEXTS {
-        assert!(rt; is_read(&reverse(alloc, text)?, bytes), "{text}");
+    for (text, reversed, bytes, half) in PREFIXES {
+        assert!(rt;
+            is_prefix(&forward_prefix(alloc, text)?, bytes, half),
+            "{text}"
+        );
+        assert!(rt;
+            is_prefix(&reverse_prefix(alloc, reversed)?, bytes, half),
+            "{reversed}"
+        );
     }
-    for (text, read) in PREFIXES {
-        assert!(rt; is_prefix(&forward_prefix(alloc, text)?, read), "{text}");
+    Ok(())
+}
+
+#[test]
+fn other_texts_are_refused(rt: HostRuntime) -> Result<(), Fail> {
+    let alloc = rt.alloc();
+    for text in ["0", "gg", "0g", "柔"] {
+        assert!(rt; forward(alloc, text)?.is_none(), "{text}");
     }
-    for (text, read) in REVERSED_PREFIXES {
-        assert!(rt; is_prefix(&reverse_prefix(alloc, text)?, read), "{text}");
+    for text in ["z", "jj"] {
+        assert!(rt; reverse(alloc, text)?.is_none(), "{text}");
     }
+    for text in ["gg", "00g"] {
+        assert!(rt; forward_prefix(alloc, text)?.is_none(), "{text}");
+    }
+    assert!(rt; reverse_prefix(alloc, "jj")?.is_none());
     Ok(())
 }
 

@@ -26,36 +26,33 @@ fn texts_are_escaped(rt: HostRuntime) -> Result<(), Fail> {
     Ok(())
 }
 
+// Characters, and the escapes that stand for each.
+const ESCAPES: [(char, &[&str]); 9] = [
+    ('"', &["\\\""]),
+    ('\\', &["\\\\"]),
+    ('\t', &["\\t"]),
+    ('\r', &["\\r"]),
+    ('\n', &["\\n", "\\x+a"]),
+    ('\0', &["\\0"]),
+    ('\x1b', &["\\e"]),
+    ('A', &["\\x41", "\\x00041"]),
+    ('\u{ff}', &["\\xfF", "\\x0000ff"]),
+];
+
+// Texts that are no escapes.
+const NO_ESCAPES: [&str; 14] = [
+    "\\x100", "\\x", "\\x+", "\\x++1", "\\x-1", "\\xg", "\\q", "\\u{61}", "\\", "\\tt", "t", "x",
+    "", "柔",
+];
+
 #[test]
 fn escapes_are_read(rt: HostRuntime) {
-    for (escape, c) in [
-        ("\\\"", Some('"')),
-        ("\\\\", Some('\\')),
-        ("\\t", Some('\t')),
-        ("\\r", Some('\r')),
-        ("\\n", Some('\n')),
-        ("\\0", Some('\0')),
-        ("\\e", Some('\x1b')),
-        ("\\x41", Some('A')),
-        ("\\xfF", Some('\u{ff}')),
-        ("\\x+a", Some('\n')),
-        ("\\x00041", Some('A')),
-        ("\\x0000ff", Some('\u{ff}')),
-        ("\\x100", None),
-        ("\\x", None),
-        ("\\x+", None),
-        ("\\x++1", None),
-        ("\\x-1", None),
-        ("\\xg", None),
-        ("\\q", None),
-        ("\\u{61}", None),
-        ("\\", None),
-        ("\\tt", None),
-        ("t", None),
-        ("x", None),
-        ("", None),
-        ("柔", None),
-    ] {
-        assert!(rt; unescape_char(escape) == c, "at {escape}");
+    for (c, escapes) in ESCAPES {
+        for escape in escapes {
+            assert!(rt; unescape_char(escape) == Some(c), "at {escape}");
+        }
+    }
+    for text in NO_ESCAPES {
+        assert!(rt; unescape_char(text).is_none(), "at {text}");
     }
 }
