@@ -1,5 +1,5 @@
 //! Calls on the ids of two kinds, with what they promise of each.
-ghost use Rattle.std.specs.Prelude.{◌≡◌, ℕ, List, IfOk, IfErr, IsTrue, codes, Some, MatchOption, refl, ⊤};
+ghost use Rattle.std.specs.Prelude.{◌≡◌, ℕ, List, IfOk, IfErr, IsTrue, codes, Some, refl, ⊤};
 ghost use Rattle.std.specs.String.{string_bytes};
 ghost use Rattle.std.specs.Str.{bytes_eq};
 ghost use Rattle.std.specs.Option.{option_copied};
@@ -7,7 +7,7 @@ ghost use Rattle.std.specs.BTreeMap.{get_by};
 ghost use Rattle.std.specs.Ordering.{nat_cmp, ordering_then};
 ghost use Rattle.std.specs.Cmp.Lexicographic.{slice_cmp};
 ghost use Rattle.serde_json.specs.Data.{string};
-ghost use Rattle.jj_content.specs.Hex.{hex, reverse_hex, hex_digits, reverse_hex_digits, ReadsAs, ReadsAsNothing};
+ghost use Rattle.jj_content.specs.Hex.{hex, reverse_hex, hex_digits, reverse_hex_digits, ReadsAs, IsReading};
 ghost use Rattle.jj_content.specs.Json.{IsAnswer};
 ghost use Rattle.jj_ids.specs.Names.{name_of};
 
@@ -123,9 +123,7 @@ pub fn root(alloc: Global) -> Result<CommitId, AllocError>
 }
 
 pub fn read_change(alloc: Global, text: &str) -> Result<Option<ChangeId>, AllocError>
-    ensures { IfOk result (λ answer. MatchOption answer
-        (ReadsAsNothing reverse_hex_digits text.now)
-        (ReadsAs reverse_hex_digits text.now)) }
+    ensures { IfOk result (IsReading (λ id. id) reverse_hex_digits text.now) }
 {
     ChangeId::try_from_reverse_hex(alloc, text)
 }
