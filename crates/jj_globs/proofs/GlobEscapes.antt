@@ -1,9 +1,9 @@
 -- Escaped texts, character by character, and what they read as.
-use Rattle.std.proofs.Common.{◌≡◌, ℕ, ◌≤◌, ◌≢◌, List, [], length, ◌∷◌, ◌++◌, arith}
+use Rattle.std.proofs.Common.{◌≡◌, ℕ, ◌≤◌, ◌≢◌, List, [], ◌∷◌, ◌++◌, arith}
 use Rattle.std.specs.List.{flat_map}
 use Rattle.std.proofs.lemmas.Bool.Decides.{nat_tests}
 use lib.Utf8.{encode}
-use Rattle.jj_content.proofs.EscapedTexts.{plain_character, one_more_written, all_written}
+use Rattle.jj_content.proofs.EscapedTexts.{plain_character, one_more_written}
 use Rattle.jj_globs.specs.GlobEscape.{escaped, escaped_byte}
 
 plain_byte : (c : ℕ) → c ≢ 63 → c ≢ 42 → c ≢ 91 → c ≢ 93 → c ≢ 123 → c ≢ 125 → c ≢ 92 → escaped_byte c ≡ c ∷ []
@@ -20,8 +20,3 @@ escaped_plain c h0 h1 h2 h3 h4 h5 h6 = plain_character escaped_byte c (plain_byt
 pub escaped_step : (buffer buffer' piece rest rest' whole : List ℕ) → buffer' ≡ buffer ++ flat_map escaped_byte piece → rest ≡ piece ++ rest' → buffer ++ escaped rest ≡ whole → buffer' ++ escaped rest' ≡ whole
 unfolding escaped
 escaped_step = one_more_written escaped_byte
-
--- and then nothing is left
-pub escaped_end : (buffer rest whole : List ℕ) → length rest ≡ 0 → buffer ++ escaped rest ≡ whole → buffer ≡ whole
-unfolding escaped
-escaped_end = all_written escaped_byte

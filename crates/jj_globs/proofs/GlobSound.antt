@@ -266,26 +266,16 @@ Tells-either o s a P t u h k bs =
     Decides-like (t bs || u bs) (either_to o s a P bs) (either_back o s a P bs) (Decides-or (t bs) (u bs) (h bs) (k bs))
 
 -- what the outer lists say at a `,` and at a `{`, where a group is open
-pub agrees_or : (o : Options) (t : Test) (us : List (Test × Test)) (s : Sequence) (gs : List (Alternatives × Sequence))
-    → Tells t (Onward o s gs) → AllTell o us gs → Agrees o (test_or t us) (before_or s gs)
-agrees_or o t [] s [] h a = (h, tt)
-agrees_or o t [] s (g ∷ gs) h a = absurd a
-agrees_or o t (u ∷ us) s [] h a = absurd a
-agrees_or o t (u ∷ us) s (g ∷ gs) h a = (
-  Tells-like u.1 (Onward o g.1 gs) (IsSplit (Stands o done) (Onward o g.1 gs)) (done_to o (Onward o g.1 gs)) (done_back o (Onward o g.1 gs)) a.1,
-  (Tells-either o s g.0 (Onward o g.1 gs) t u.0 h a.0, a.1, a.2),
-)
-
-pub agrees_open : (o : Options) (t : Test) (us : List (Test × Test)) (s : Sequence) (gs : List (Alternatives × Sequence))
-    → Tells t (Onward o s gs) → AllTell o us gs → Agrees o (test_open t us) (before_open s gs)
-agrees_open o t [] s [] h a = (h, tt)
-agrees_open o t [] s (g ∷ gs) h a = absurd a
-agrees_open o t (u ∷ us) s [] h a = absurd a
-agrees_open o t (u ∷ us) s (g ∷ gs) h a = (
-  Tells-onward o (StandsForOne o (either s g.0)) g.1 (group (either s g.0) g.1) (λ x w. w) (λ x w. w) (λ bs. t bs || u.0 bs) gs
-      (Tells-either o s g.0 (Onward o g.1 gs) t u.0 h a.0),
-  a.2,
-)
+pub agrees_group : (o : Options) (t : Test) (us : List (Test × Test)) (s : Sequence) (gs : List (Alternatives × Sequence))
+    → Tells t (Onward o s gs) → AllTell o us gs → Agrees o (test_or t us) (before_or s gs) × Agrees o (test_open t us) (before_open s gs)
+agrees_group o t [] s [] h a = ((h, tt), (h, tt))
+agrees_group o t [] s (g ∷ gs) h a = absurd a
+agrees_group o t (u ∷ us) s [] h a = absurd a
+agrees_group o t (u ∷ us) s (g ∷ gs) h a =
+    let both = Tells-either o s g.0 (Onward o g.1 gs) t u.0 h a.0 in
+    let done_alone = Tells-like u.1 (Onward o g.1 gs) (IsSplit (Stands o done) (Onward o g.1 gs)) (done_to o (Onward o g.1 gs)) (done_back o (Onward o g.1 gs)) a.1 in
+    let onward = Tells-onward o (StandsForOne o (either s g.0)) g.1 (group (either s g.0) g.1) (λ x w. w) (λ x w. w) (λ bs. t bs || u.0 bs) gs both in
+    ((done_alone, (both, a.1, a.2)), (onward, a.2))
 
 pub no_split : (o : Options) (P : Bytes) (bs : List ℕ) → IsSplit (StandsForOne o no_more) P bs → false ≡ true
 no_split o P bs w = absurd w.3
@@ -301,8 +291,8 @@ agrees_before o Close t r h = (
       (done_to o (Onward o r.here r.outer)) (done_back o (Onward o r.here r.outer)) h.0,
   ((λ bs. ((λ e. cc), no_split o (Onward o r.here r.outer) bs)), h.0, h.1),
 )
-agrees_before o Or t r h = agrees_or o t.here t.outer r.here r.outer h.0 h.1
-agrees_before o Open t r h = agrees_open o t.here t.outer r.here r.outer h.0 h.1
+agrees_before o Or t r h = (agrees_group o t.here t.outer r.here r.outer h.0 h.1).0
+agrees_before o Open t r h = (agrees_group o t.here t.outer r.here r.outer h.0 h.1).1
 
 pub Tells-is_empty : Tells is_empty (λ bs. bs ≡ [])
 Tells-is_empty [] = ((λ e. refl), (λ e. refl))

@@ -1,6 +1,6 @@
 -- What each step of the reader of globs has found in the words that are left.
--- Cited by contracts of public items: IsReadingFault.
-use Rattle.std.specs.Prelude.{◌≡◌, ℕ, zero, suc, Bool, true, false, List, [], ◌∷◌, map, Result, Err}
+-- Cited by contracts of public items: ReadsAsGlob, glob_of_text.
+use Rattle.std.specs.Prelude.{◌≡◌, ℕ, zero, suc, Bool, true, false, List, [], ◌∷◌, map, Result, Err, IsOk, OnOk, MatchResult}
 use Rattle.jj_globs.specs.declared.glob.token.Part.{Part}
 use Rattle.jj_globs.specs.declared.glob.token.Token.{Token}
 use Rattle.jj_globs.specs.declared.glob.token.Token.TheVariants.{Part as part}
@@ -9,7 +9,8 @@ use Rattle.jj_globs.specs.declared.glob.sign.Sign.TheVariants.{Comma, CloseBrace
 use Rattle.jj_globs.specs.declared.glob.token.ByteRange.{ByteRange}
 use Rattle.jj_globs.specs.declared.glob.error.GlobError.{GlobError}
 use Rattle.jj_globs.specs.declared.glob.error.GlobError.TheVariants.{Memory, UnclosedClass, InvalidRange, NonAsciiRange, UnopenedAlternates, UnclosedAlternates, DanglingEscape}
-use Rattle.jj_globs.specs.GlobText.{Word, sign_of, words, class, fault, read}
+use Rattle.jj_globs.specs.GlobMeaning.{GlobSpec}
+use Rattle.jj_globs.specs.GlobText.{Word, sign_of, words, class, fault, read, tokens_of}
 
 -- the words are a class, and then those of the rest of the text
 abbrev pub IsClassRead : List Word → Bool × List ByteRange → List ℕ → Type 0
@@ -39,6 +40,20 @@ IsReadingFault NonAsciiRange reading = reading ≡ Err NonAsciiRange
 IsReadingFault UnopenedAlternates reading = reading ≡ Err UnopenedAlternates
 IsReadingFault UnclosedAlternates reading = reading ≡ Err UnclosedAlternates
 IsReadingFault DanglingEscape reading = reading ≡ Err DanglingEscape
+
+-- the glob of a text, by whether it has a separator and letters match in either case
+abbrev pub glob_of_text : List ℕ → Bool → Bool → GlobSpec
+glob_of_text text separator icase = record {
+  text = text;
+  options = record { separator = separator; icase = icase };
+}
+
+-- the result is the value of the glob that the text reads as, or else the text's fault
+pub record ReadsAsGlob {T : Type 0} (text : List ℕ) (glob : T) (result : Result T GlobError)
+    : Type 0 where
+  pub pattern : MatchResult result (λ value. value ≡ glob)
+      (λ error. IsReadingFault error (tokens_of text))
+  pub reads : OnOk result (IsOk (tokens_of text))
 
 -- a sequence ends before these signs
 abbrev pub ends_here : ℕ → List Sign → Bool

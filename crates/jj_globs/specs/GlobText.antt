@@ -1,5 +1,6 @@
 -- Which tokens a glob's text reads as, or its first fault.
--- Cited by contracts of public items: tokens_of.
+-- Cited by contracts of public items through GlobFront, GlobMeaning, GlobPlain, GlobReads,
+-- jj_matchers.Patterns, jj_program.WalkCommand, jj_strings.PatternFaults.
 use Rattle.std.specs.Prelude.{ℕ, zero, suc, Bool, true, false, ◌||◌, nat_lt, nat_le, ◌==◌, if◌then◌else◌, List, [], ◌∷◌, ◌++◌, map, reverse, Result, Ok, Err}
 use Rattle.jj_globs.specs.declared.glob.token.ByteRange.{ByteRange}
 use Rattle.jj_globs.specs.declared.glob.token.Part.{Part}

@@ -59,7 +59,7 @@ fn read_items<'a>(
                         ranges.push(ByteRange::one(b'-'))?;
                         return Ok((Class::new(negated, ranges), rest));
                     }
-                    bound => match ranged(range.first, bound.byte()) {
+                    bound => match byte_range(range.first, bound.byte()) {
                         Ok(wider) => range = wider,
                         Err(error) => return Err(error),
                     },
@@ -75,7 +75,7 @@ fn read_items<'a>(
 }
 
 // The range between two bytes of a class.
-fn ranged(first: u8, last: u8) -> Result<ByteRange, GlobError>
+fn byte_range(first: u8, last: u8) -> Result<ByteRange, GlobError>
     ensures { MatchResult result
         (λ range. (range ≡ record { first = first; last = last })
         × ((good : _) → range_fault first last good ≡ good))

@@ -1,4 +1,7 @@
 //! Why a text is no glob.
+ghost use Rattle.std.specs.Prelude.{◌≡◌};
+ghost use Rattle.jj_globs.specs.declared.glob.error.GlobError.{GlobError};
+
 use std::alloc::{AllocError, AllocFailed};
 use thiserror::Error;
 
@@ -22,10 +25,7 @@ pub enum GlobError {
 }
 
 impl From<AllocError> for GlobError {
-    ghost use Rattle.std.specs.Prelude.{◌≡◌};
-    ghost use Rattle.jj_globs.specs.declared.glob.error.GlobError.TheVariants.{Memory};
-
-    ghost from_gives = { λ _ error. error ≡ Memory };
+    ghost from_gives = { λ _ error. error ≡ GlobError.Memory };
 
     fn from(_refused: AllocError) -> Self {
         GlobError::Memory
@@ -33,10 +33,7 @@ impl From<AllocError> for GlobError {
 }
 
 impl<T: Drop> From<AllocFailed<T>> for GlobError {
-    ghost use Rattle.std.specs.Prelude.{◌≡◌};
-    ghost use Rattle.jj_globs.specs.declared.glob.error.GlobError.TheVariants.{Memory};
-
-    ghost from_gives = { λ _ error. error ≡ Memory };
+    ghost from_gives = { λ _ error. error ≡ GlobError.Memory };
 
     fn from(_refused: AllocFailed<T>) -> Self {
         GlobError::Memory

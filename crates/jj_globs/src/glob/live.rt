@@ -7,7 +7,7 @@ ghost use Rattle.jj_globs.specs.GlobPlain.{Test, one, many, any_byte};
 ghost use Rattle.jj_globs.specs.GlobPlaces.{IsLive, AnyLive, AnyAfter, AnyAhead, LeadsOn};
 ghost use Rattle.jj_globs.specs.GlobPlaces.{Solves, StaysInside, answers, end_test, takes_byte};
 
-use crate::glob::row::Row;
+use crate::glob::row::{MOST_GROUPS, MOST_WORDS, Row};
 use crate::glob::step::{Step, take_byte};
 use crate::glob::token::Options;
 
@@ -22,7 +22,7 @@ fn enter<const WORDS: usize, const GROUPS: usize>(
     next: &mut Row<WORDS, GROUPS>,
 )
     requires size { length steps.now < 64 * WORDS }
-    requires limit { WORDS ≤ 16384 }
+    requires limit { WORDS ≤ MOST_WORDS }
     requires inside { place ≤ length steps.now }
     ensures same { LeadsOn options steps.now place left.now now.old next.old now.new next.new }
     ensures above { (j : ℕ) → IsLive now.new j
@@ -41,8 +41,8 @@ fn enter<const WORDS: usize, const GROUPS: usize>(
     }
 }
 
-// Enters the places that a fork leads to. Where the first of them is a byte, no other place leads to
-// the second one: so a fork there is passed through at once.
+// Enters the places that a fork leads to. Where the first of them is a byte, no other place leads
+// to the second one: so a fork there is passed through at once.
 fn enter_forks<const WORDS: usize, const GROUPS: usize>(
     options: Options,
     steps: &[Step],
@@ -53,7 +53,7 @@ fn enter_forks<const WORDS: usize, const GROUPS: usize>(
     next: &mut Row<WORDS, GROUPS>,
 )
     requires size { length steps.now < 64 * WORDS }
-    requires limit { WORDS ≤ 16384 }
+    requires limit { WORDS ≤ MOST_WORDS }
     requires inside { StaysInside steps.now }
     requires fork { slice_get steps.now place ≡ Some (Step.Fork further) }
     ensures same { LeadsOn options steps.now place left.now now.old next.old now.new next.new }
@@ -93,7 +93,7 @@ fn lead_on<const WORDS: usize, const GROUPS: usize>(
     next: &mut Row<WORDS, GROUPS>,
 )
     requires size { length steps.now < 64 * WORDS }
-    requires limit { WORDS ≤ 16384 }
+    requires limit { WORDS ≤ MOST_WORDS }
     requires inside { StaysInside steps.now }
     requires step { place < length steps.now }
     ensures same { LeadsOn options steps.now place left.now now.old next.old now.new next.new }
@@ -133,7 +133,7 @@ fn pass<const WORDS: usize, const GROUPS: usize>(
     next: &mut Row<WORDS, GROUPS>,
 ) -> bool
     requires size { length steps.now < 64 * WORDS }
-    requires limit { WORDS ≤ 16384 }
+    requires limit { WORDS ≤ MOST_WORDS }
     requires inside { StaysInside steps.now }
     requires now_within { (j : ℕ) → IsLive now.old j → j ≤ length steps.now }
     requires next_within { (j : ℕ) → IsLive next.old j → j ≤ length steps.now }
@@ -175,7 +175,7 @@ fn skip<'t, const WORDS: usize, const GROUPS: usize>(
     now: &mut Row<WORDS, GROUPS>,
 ) -> &'t [u8]
     requires size { length steps.now < 64 * WORDS }
-    requires limit { WORDS ≤ 16384 }
+    requires limit { WORDS ≤ MOST_WORDS }
     requires within { (j : ℕ) → IsLive now.old j → j ≤ length steps.now }
     ensures same { (below : Bool) (P : ℕ → Test) → Solves options below steps.now P
         → AnyLive P now.new result.now ↔ AnyLive P now.old left.now }
@@ -234,7 +234,7 @@ fn run<const WORDS: usize, const GROUPS: usize>(
     next: &mut Row<WORDS, GROUPS>,
 ) -> bool
     requires size { length steps.now < 64 * WORDS }
-    requires limit { WORDS ≤ 16384 }
+    requires limit { WORDS ≤ MOST_WORDS }
     requires inside { StaysInside steps.now }
     requires now_none { (j : ℕ) → IsLive now.old j → ⊥ }
     requires next_none { (j : ℕ) → IsLive next.old j → ⊥ }
@@ -269,7 +269,7 @@ pub(crate) fn run_in_rows<const WORDS: usize, const GROUPS: usize>(
 ) -> bool
     requires size { length steps.now < 64 * WORDS }
     requires room { WORDS ≤ 64 * GROUPS }
-    requires limit { GROUPS ≤ 256 }
+    requires limit { GROUPS ≤ MOST_GROUPS }
     requires inside { StaysInside steps.now }
     ensures { result ≡ answers options below steps.now 0 bytes.now }
 {

@@ -1,6 +1,7 @@
 //! The tokens so far, after one more piece of a glob's text.
 ghost use Rattle.std.specs.Prelude.{◌≡◌, ◌<◌, ℕ, Bool, true, false, List, [], ◌∷◌, ◌++◌, reverse, OnOk, IfOk};
-ghost use Rattle.jj_globs.specs.GlobText.{place_behind, place_behind_group, place_of, with_or, with_close, with_dirs, with_last_dirs, two_stars, instead, closes_nothing};
+ghost use Rattle.jj_globs.specs.declared.glob.sign.Sign.TheVariants.{Comma};
+ghost use Rattle.jj_globs.specs.GlobText.{byte_of, place_behind, place_behind_group, place_of, with_or, with_close, with_dirs, with_last_dirs, two_stars, instead, closes_nothing};
 
 use crate::glob::sign::Place;
 use crate::glob::token::{Part, Token};
@@ -8,8 +9,8 @@ use std::alloc::AllocError;
 
 // A `,`, which stands for itself where no group is open.
 pub(crate) fn put_comma(tokens: &mut Vec<Token>, open_groups: usize) -> Result<(), AllocError>
-    ensures plain { OnOk result (open_groups ≡ 0
-        → reverse tokens.new.items ≡ Token.Part (Part.Byte 44) ∷ reverse tokens.old.items) }
+    ensures plain { OnOk result (open_groups ≡ 0 → reverse tokens.new.items
+        ≡ Token.Part (Part.Byte (byte_of Comma)) ∷ reverse tokens.old.items) }
     ensures group { OnOk result (0 < open_groups
         → reverse tokens.new.items ≡ with_or (reverse tokens.old.items)) }
 {

@@ -5,6 +5,12 @@ ghost use Rattle.jj_globs.specs.GlobPlaces.{IsLive};
 
 use std::marker::Model;
 
+// A row has at most so many words.
+pub(crate) const MOST_WORDS: usize = 16_384;
+
+// The words of a row are in at most so many groups of 64.
+pub(crate) const MOST_GROUPS: usize = 256;
+
 /// Places that are live, in bits, seen as the words that hold them; and which words hold one, in
 /// bits too, so that 64 words without a live place are passed over at once.
 #[derive(Drop)]
@@ -28,7 +34,7 @@ impl<const WORDS: usize, const GROUPS: usize> Row<WORDS, GROUPS> {
     // A row without a live place.
     pub(crate) fn new() -> Self
         requires room { WORDS ≤ 64 * GROUPS }
-        requires limit { GROUPS ≤ 256 }
+        requires limit { GROUPS ≤ MOST_GROUPS }
         ensures { (j : ℕ) → IsLive result j → ⊥ }
     {
         Row {
@@ -122,7 +128,7 @@ fn lowest_bit(bits: u64) -> usize
 // The first live place, of which none stands before `from`.
 fn first_place(words: &[u64], from: usize) -> Option<usize>
     requires from { (j : ℕ) → IsLive words.now j → from ≤ j }
-    requires room { length words.now ≤ 16384 }
+    requires room { length words.now ≤ MOST_WORDS }
     ensures none { result ≡ None → (j : ℕ) → IsLive words.now j → ⊥ }
     ensures first { IfSome result (λ place. IsLive words.now place
         × ((j : ℕ) → IsLive words.now j → place ≤ j)) }

@@ -1,6 +1,8 @@
 //! The steps of a glob, made from its tokens, the last first: groups become forks and jumps.
 ghost use Rattle.std.specs.Prelude.{◌≡◌, ℕ, ◌+◌, ◌-◌, ◌∷◌, Bool, List, reverse, length, IfOk, OnOk};
+ghost use Rattle.jj_globs.specs.declared.glob.sign.Sign.TheVariants.{Slash};
 ghost use Rattle.jj_globs.specs.GlobMeaning.{in_class};
+ghost use Rattle.jj_globs.specs.GlobText.{byte_of};
 ghost use Rattle.jj_globs.specs.GlobPlaces.{in_set};
 ghost use Rattle.jj_globs.specs.GlobLowering.{AddsPart, AddsToken, forked, AreSteps};
 
@@ -116,7 +118,7 @@ fn put_part(steps: &mut Vec<Step>, part: &Part, options: Options) -> Result<(), 
 // Adds the steps of nothing, or of any bytes that end in a slash.
 fn put_dirs(steps: &mut Vec<Step>) -> Result<(), AllocError>
     ensures { OnOk result (reverse steps.new.items
-        ≡ Step.Fork 2 ∷ Step.Everything ∷ Step.Byte 47 ∷ reverse steps.old.items) }
+        ≡ Step.Fork 2 ∷ Step.Everything ∷ Step.Byte (byte_of Slash) ∷ reverse steps.old.items) }
 {
     steps.push(Step::Byte(b'/'))?;
     steps.push(Step::Everything)?;

@@ -1,8 +1,11 @@
-use Rattle.jj_globs.proofs.GlobEscapes.{escaped_step, escaped_end}
+use Rattle.jj_content.proofs.EscapedTexts.{all_written}
+use Rattle.jj_globs.specs.GlobEscape.{escaped, escaped_byte}
+use Rattle.jj_globs.proofs.GlobEscapes.{escaped_step}
 use Rattle.jj_globs.proofs.glob.escaping.escape.Goals as goal
 
 pub loop-c-preserved : goal.loop-c-preserved
 loop-c-preserved c = escaped_step _ _ _ _ _ _ c.in_ok-push_escaped.ensures c.in-Some.ensures.steps.0 c.loop-c.invariant
 
 pub returns : goal.returns
-returns c = escaped_end _ _ _ c.in-None.ensures.steps.0.0 c.loop-c.invariant
+unfolding escaped
+returns c = all_written escaped_byte _ _ _ c.in-None.ensures.steps.0.0 c.loop-c.invariant
