@@ -1,6 +1,7 @@
 //! Paths in a repository: components, and paths of components joined by slashes.
 ghost use Rattle.std.specs.Prelude.{◌≡◌, ◌≢◌, ◌↔◌, false, [], ◌∷◌, ◌++◌, IsTrue, IsOk, IfOk, IfErr, MatchOption, string_bytes};
 ghost use Rattle.jj_paths.specs.Paths.{Name, Path, is_name, is_path_text, components, path_text, rest_of};
+ghost use Rattle.jj_paths.specs.declared.repo_path.InvalidNewRepoPathError.{InvalidNewRepoPathError};
 
 mod content;
 mod extend;
@@ -414,6 +415,22 @@ pub enum InvalidNewRepoPathError {
     Memory,
 }
 
+impl From<AllocError> for InvalidNewRepoPathError {
+    ghost from_gives = { λ _ error. error ≡ InvalidNewRepoPathError.Memory };
+
+    fn from(_refused: AllocError) -> Self {
+        InvalidNewRepoPathError::Memory
+    }
+}
+
+impl<T: Drop> From<AllocFailed<T>> for InvalidNewRepoPathError {
+    ghost from_gives = { λ _ error. error ≡ InvalidNewRepoPathError.Memory };
+
+    fn from(_refused: AllocFailed<T>) -> Self {
+        InvalidNewRepoPathError::Memory
+    }
+}
+
 impl InvalidNewRepoPathError {
     ghost use Rattle.jj_paths.specs.Refusals.{IsCopiedRefusal};
 
@@ -425,26 +442,6 @@ impl InvalidNewRepoPathError {
             Ok(value) => InvalidNewRepoPathError::Invalid { value },
             Err(_) => InvalidNewRepoPathError::Memory,
         }
-    }
-}
-
-impl From<AllocError> for InvalidNewRepoPathError {
-    ghost use Rattle.jj_paths.specs.declared.repo_path.InvalidNewRepoPathError.TheVariants.{Memory};
-
-    ghost from_gives = { λ _ e. e ≡ Memory };
-
-    fn from(_error: AllocError) -> InvalidNewRepoPathError {
-        InvalidNewRepoPathError::Memory
-    }
-}
-
-impl<T: Drop> From<AllocFailed<T>> for InvalidNewRepoPathError {
-    ghost use Rattle.jj_paths.specs.declared.repo_path.InvalidNewRepoPathError.TheVariants.{Memory};
-
-    ghost from_gives = { λ _ e. e ≡ Memory };
-
-    fn from(_error: AllocFailed<T>) -> InvalidNewRepoPathError {
-        InvalidNewRepoPathError::Memory
     }
 }
 

@@ -1,6 +1,7 @@
 //! Directories in memory, one call of which fails.
 ghost use Rattle.std.specs.Prelude.{◌≡◌, ℕ, Bool, List, Result, Ok, Err, IsTrue};
 
+use crate::fixtures::{equals, is_text};
 use jj_content_tests::once_more::passes;
 use jj_paths::file_util::{
     DirAccess, IoResultExt, PathError, create_or_reuse_dir, is_empty_dir, remove_dir_contents,
@@ -24,7 +25,7 @@ struct Memory {
 const NAMES: [&str; 3] = ["a", "b", "c"];
 
 // Their paths.
-const PATHS: [&str; 3] = ["dir/a", "dir/b", "dir/c"];
+static PATHS: [&str; 3] = ["dir/a", "dir/b", "dir/c"];
 
 impl Memory {
     fn new(is_there: bool, files: [bool; 3], calls_left: u32) -> Memory {
@@ -104,40 +105,57 @@ impl DirAccess for Memory {
 // That the fault has this path and this kind, or that memory was refused.
 fn is_fault<R: Abort>(
     rt: &R,
-    fault: PathError,
+    fault: &PathError,
     at: &str,
     kind: ErrorKind,
 ) -> Result<(), AllocError> {
     match fault {
         PathError::Invalid { path, source } => {
-            assert_eq!(rt; path.as_str(), at);
-            assert!(rt; source.kind() == kind);
+            is_text(rt, path.as_str(), at);
+            equals(rt, &source.kind(), &kind);
             Ok(())
         }
         PathError::Memory => Err(AllocError),
     }
 }
 
+fn makes_or_uses<R: Abort>(rt: &R, alloc: Global) -> Result<(), AllocError> {
+    let mut new = Memory::new(false, [false; 3], 9);
+    equals(
+        rt,
+        &create_or_reuse_dir(alloc, &mut new, "dir").is_ok(),
+        &true,
+    );
+    equals(rt, &new.is_there, &true);
+    equals(
+        rt,
+        &create_or_reuse_dir(alloc, &mut new, "dir").is_ok(),
+        &true,
+    );
+    Ok(())
+}
+
+fn fails_to_make<R: Abort>(rt: &R, alloc: Global) -> Result<(), AllocError> {
+    let mut failing = Memory::new(false, [false; 3], 0);
+    match create_or_reuse_dir(alloc, &mut failing, "dir") {
+        Ok(()) => panic!(rt; "made"),
+        Err(fault) => is_fault(rt, &fault, "dir", ErrorKind::PermissionDenied),
+    }
+}
+
 #[test]
 fn directories_are_made_or_used(rt: HostRuntime) -> Result<(), Fail> {
     passes(&rt, |rt, alloc| {
-        let mut new = Memory::new(false, [false; 3], 9);
-        assert!(rt; create_or_reuse_dir(alloc, &mut new, "dir").is_ok());
-        assert!(rt; new.is_there);
-        assert!(rt; create_or_reuse_dir(alloc, &mut new, "dir").is_ok());
-        let mut failing = Memory::new(false, [false; 3], 0);
-        match create_or_reuse_dir(alloc, &mut failing, "dir") {
-            Ok(()) => panic!(rt; "made"),
-            Err(fault) => is_fault(rt, fault, "dir", ErrorKind::PermissionDenied),
-        }
+        makes_or_uses(rt, alloc)?;
+        fails_to_make(rt, alloc)
     })
 }
 
 fn empties_full<R: Abort>(rt: &R, alloc: Global) -> Result<(), AllocError> {
     let mut full = Memory::new(true, [true; 3], 9);
     match remove_dir_contents(alloc, &mut full, "dir") {
-        Ok(()) => assert_eq!(rt; full.count(), 0),
-        Err(fault) => return is_fault(rt, fault, "", ErrorKind::Other),
+        Ok(()) => equals(rt, &full.count(), &0),
+        Err(fault) => return is_fault(rt, &fault, "", ErrorKind::Other),
     }
     Ok(())
 }
@@ -153,9 +171,17 @@ fn stops_at<R: Abort>(
     let mut failing = Memory::new(true, [true; 3], call);
     match remove_dir_contents(alloc, &mut failing, "dir") {
         Ok(()) => panic!(rt; "removed"),
-        Err(fault) => is_fault(rt, fault, path, ErrorKind::PermissionDenied)?,
+        Err(fault) => is_fault(rt, &fault, path, ErrorKind::PermissionDenied)?,
     }
-    assert_eq!(rt; failing.count(), left);
+    equals(rt, &failing.count(), &left);
+    Ok(())
+}
+
+fn stops_at_each<R: Abort>(rt: &R, alloc: Global) -> Result<(), AllocError> {
+    stops_at(rt, alloc, 0, "dir", 3)?;
+    for (i, path) in PATHS.iter().enumerate() {
+        stops_at(rt, alloc, i as u32 + 1, path, 3 - i)?;
+    }
     Ok(())
 }
 
@@ -163,30 +189,50 @@ fn stops_at<R: Abort>(
 fn entries_are_removed_up_to_the_first_fault(rt: HostRuntime) -> Result<(), Fail> {
     passes(&rt, |rt, alloc| {
         empties_full(rt, alloc)?;
-        stops_at(rt, alloc, 0, "dir", 3)?;
-        for (i, path) in PATHS.iter().enumerate() {
-            stops_at(rt, alloc, i as u32 + 1, path, 3 - i)?;
-        }
-        Ok(())
+        stops_at_each(rt, alloc)
     })
+}
+
+// Whether a directory is there, its files, and whether it is an empty directory.
+static EMPTY: [(bool, [bool; 3], bool); 3] = [
+    (true, [false; 3], true),
+    (true, [false, true, false], false),
+    (false, [false; 3], false),
+];
+
+fn is_empty<R: Abort>(
+    rt: &R,
+    alloc: Global,
+    directory: &Memory,
+    empty: bool,
+) -> Result<(), AllocError> {
+    match is_empty_dir(alloc, directory, "dir") {
+        Ok(answer) => {
+            equals(rt, &answer, &empty);
+            Ok(())
+        }
+        Err(fault) => is_fault(rt, &fault, "", ErrorKind::Other),
+    }
+}
+
+fn are_empty<R: Abort>(rt: &R, alloc: Global) -> Result<(), AllocError> {
+    for (is_there, files, empty) in &EMPTY {
+        is_empty(rt, alloc, &Memory::new(*is_there, *files, 9), *empty)?;
+    }
+    Ok(())
+}
+
+fn fails_to_list<R: Abort>(rt: &R, alloc: Global) -> Result<(), AllocError> {
+    match is_empty_dir(alloc, &Memory::new(true, [false; 3], 0), "dir") {
+        Ok(_) => panic!(rt; "listed"),
+        Err(fault) => is_fault(rt, &fault, "dir", ErrorKind::PermissionDenied),
+    }
 }
 
 #[test]
 fn empty_directories(rt: HostRuntime) -> Result<(), Fail> {
     passes(&rt, |rt, alloc| {
-        for (is_there, files, empty) in [
-            (true, [false; 3], true),
-            (true, [false, true, false], false),
-            (false, [false; 3], false),
-        ] {
-            match is_empty_dir(alloc, &Memory::new(is_there, files, 9), "dir") {
-                Ok(answer) => assert_eq!(rt; answer, empty),
-                Err(fault) => return is_fault(rt, fault, "", ErrorKind::Other),
-            }
-        }
-        match is_empty_dir(alloc, &Memory::new(true, [false; 3], 0), "dir") {
-            Ok(_) => panic!(rt; "listed"),
-            Err(fault) => is_fault(rt, fault, "dir", ErrorKind::PermissionDenied),
-        }
+        are_empty(rt, alloc)?;
+        fails_to_list(rt, alloc)
     })
 }

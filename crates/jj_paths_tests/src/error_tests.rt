@@ -1,5 +1,5 @@
 //! Texts of errors that other tests do not show, and errors that become others.
-use crate::fixtures::name;
+use crate::fixtures::{equals, is_text, name};
 use jj_content_tests::once_more::passes;
 use jj_paths::repo_path::{
     InvalidNewRepoPathError, InvalidRepoPathComponentError, RepoPathBuf, RepoPathComponent,
@@ -14,22 +14,33 @@ fn boxed_path(alloc: Global, text: &str) -> Result<Box<RepoPathBuf>, InvalidNewR
     Ok(Box::new(alloc, path)?)
 }
 
+fn boxes_a_path<R: Abort>(rt: &R, alloc: Global) -> Result<(), AllocError> {
+    match boxed_path(alloc, "a/b") {
+        Ok(path) => {
+            is_text(rt, path.as_path().as_internal_file_string(), "a/b");
+            Ok(())
+        }
+        Err(InvalidNewRepoPathError::Memory) => Err(AllocError),
+        Err(error) => panic!(rt; "{error}"),
+    }
+}
+
+fn boxes_no_path<R: Abort>(rt: &R, alloc: Global) -> Result<(), AllocError> {
+    match boxed_path(alloc, "a//b") {
+        Ok(_) => panic!(rt; "a//b is no path"),
+        Err(InvalidNewRepoPathError::Memory) => Err(AllocError),
+        Err(InvalidNewRepoPathError::Invalid { value }) => {
+            is_text(rt, value.as_str(), "a//b");
+            Ok(())
+        }
+    }
+}
+
 #[test]
 fn paths_in_boxes(rt: HostRuntime) -> Result<(), Fail> {
     passes(&rt, |rt, alloc| {
-        match boxed_path(alloc, "a/b") {
-            Ok(path) => assert_eq!(rt; path.as_path().as_internal_file_string(), "a/b"),
-            Err(InvalidNewRepoPathError::Memory) => return Err(AllocError),
-            Err(error) => panic!(rt; "{error}"),
-        }
-        match boxed_path(alloc, "a//b") {
-            Ok(_) => panic!(rt; "a//b is no path"),
-            Err(InvalidNewRepoPathError::Memory) => Err(AllocError),
-            Err(InvalidNewRepoPathError::Invalid { value }) => {
-                assert_eq!(rt; value.as_str(), "a//b");
-                Ok(())
-            }
-        }
+        boxes_a_path(rt, alloc)?;
+        boxes_no_path(rt, alloc)
     })
 }
 
@@ -42,29 +53,40 @@ fn boxed_name(
     Ok(Box::new(alloc, name)?)
 }
 
+fn boxes_a_name<R: Abort>(rt: &R, alloc: Global) -> Result<(), AllocError> {
+    match boxed_name(alloc, name(rt, alloc, "a")) {
+        Ok(name) => {
+            is_text(rt, name.as_str(), "a");
+            Ok(())
+        }
+        Err(InvalidRepoPathComponentError::Memory) => Err(AllocError),
+        Err(error) => panic!(rt; "{error}"),
+    }
+}
+
+fn boxes_no_name<R: Abort>(rt: &R, alloc: Global) -> Result<(), AllocError> {
+    match boxed_name(alloc, name(rt, alloc, "..")) {
+        Ok(_) => panic!(rt; ".. is no file's name"),
+        Err(InvalidRepoPathComponentError::Memory) => Err(AllocError),
+        Err(InvalidRepoPathComponentError::Invalid { component }) => {
+            is_text(rt, component.as_str(), "..");
+            Ok(())
+        }
+    }
+}
+
 #[test]
 fn names_in_boxes(rt: HostRuntime) -> Result<(), Fail> {
     passes(&rt, |rt, alloc| {
-        match boxed_name(alloc, name(rt, alloc, "a")) {
-            Ok(name) => assert_eq!(rt; name.as_str(), "a"),
-            Err(InvalidRepoPathComponentError::Memory) => return Err(AllocError),
-            Err(error) => panic!(rt; "{error}"),
-        }
-        match boxed_name(alloc, name(rt, alloc, "..")) {
-            Ok(_) => panic!(rt; ".. is no file's name"),
-            Err(InvalidRepoPathComponentError::Memory) => Err(AllocError),
-            Err(InvalidRepoPathComponentError::Invalid { component }) => {
-                assert_eq!(rt; component.as_str(), "..");
-                Ok(())
-            }
-        }
+        boxes_a_name(rt, alloc)?;
+        boxes_no_name(rt, alloc)
     })
 }
 
 #[test]
 fn want_of_memory(rt: HostRuntime) {
     let path = InvalidNewRepoPathError::from(AllocError);
-    assert!(rt; path == InvalidNewRepoPathError::Memory);
+    equals(&rt, &path, &InvalidNewRepoPathError::Memory);
     let name = InvalidRepoPathComponentError::from(AllocError);
-    assert!(rt; name == InvalidRepoPathComponentError::Memory);
+    equals(&rt, &name, &InvalidRepoPathComponentError::Memory);
 }

@@ -1,6 +1,7 @@
 //! Tests of `copy` over readers and writers in memory, whose calls are cut short, or fail in turn.
 ghost use Rattle.std.specs.Prelude.{◌≤◌, length};
 
+use crate::fixtures::equals;
 use jj_paths::file_util::{Watched, copy};
 use std::io;
 use std::io::{ErrorKind, Read, Write};
@@ -68,9 +69,14 @@ fn byte_at(i: usize) -> u8 {
     (i % 251) as u8
 }
 
-// What a copy of so many bytes answers, how many were written, and whether they are a beginning of
+// How a copy of so many bytes ends, how many were written, and whether they are a beginning of
 // what was read.
-fn copied(len: usize, most: usize, reads: u32, writes: u32) -> (io::Result<usize>, usize, bool) {
+fn copied(
+    len: usize,
+    most: usize,
+    reads: u32,
+    writes: u32,
+) -> (Result<usize, ErrorKind>, usize, bool) {
     let mut reader = Watched::new(Cut {
         given: 0,
         len,
@@ -84,62 +90,41 @@ fn copied(len: usize, most: usize, reads: u32, writes: u32) -> (io::Result<usize
         left: writes,
     };
     let mut writer = Watched::new(&mut taken);
-    let result = copy(&mut reader, &mut writer);
-    (result, taken.len, taken.same)
+    let end = match copy(&mut reader, &mut writer) {
+        Ok(count) => Ok(count),
+        Err(error) => Err(error.kind()),
+    };
+    (end, taken.len, taken.same)
 }
 
 #[test]
 fn copies_across_buffers(rt: HostRuntime) {
     for len in [0, 1, 16384, 16385, LONGEST] {
         for most in [1, 1000, LONGEST] {
-            let (result, written, same) = copied(len, most, u32::MAX, u32::MAX);
-            assert!(rt; matches!(result, Ok(n) if n == len), "{len} {most}");
-            assert_eq!(rt; written, len);
-            assert!(rt; same);
+            let whole = (Ok(len), len, true);
+            equals(&rt, &copied(len, most, u32::MAX, u32::MAX), &whole);
         }
     }
-}
-
-// Copies ten bytes, one at a time, and checks the outcome: the copy is whole, or fails with this
-// error, after so many bytes.
-fn assert_ends<R: Abort>(
-    rt: &R,
-    (reads, writes): (u32, u32),
-    is_whole: bool,
-    kind: ErrorKind,
-    bytes: u32,
-) {
-    let (result, written, same) = copied(10, 1, reads, writes);
-    match result {
-        Ok(count) => {
-            assert!(rt; is_whole);
-            assert_eq!(rt; count, 10);
-        }
-        Err(e) => {
-            assert!(rt; !is_whole);
-            assert_eq!(rt; e.kind(), kind);
-        }
-    }
-    assert_eq!(rt; written, usize::try_from(bytes).unwrap_or(0));
-    assert!(rt; same);
 }
 
 #[test]
 fn each_read_fails_in_turn(rt: HostRuntime) {
     // Ten reads of one byte, and one that finds the end.
-    for reads in 0..12 {
-        let ends = (reads, u32::MAX);
-        assert_ends(&rt, ends, reads == 11, ErrorKind::BrokenPipe, reads.min(10));
+    for reads in 0..11u32 {
+        let cut = (Err(ErrorKind::BrokenPipe), reads as usize, true);
+        equals(&rt, &copied(10, 1, reads, u32::MAX), &cut);
     }
+    equals(&rt, &copied(10, 1, 11, u32::MAX), &(Ok(10), 10, true));
 }
 
 #[test]
 fn each_write_fails_in_turn(rt: HostRuntime) {
     // An interrupted write is a fault like any other.
-    for writes in 0..11 {
-        let ends = (u32::MAX, writes);
-        assert_ends(&rt, ends, writes == 10, ErrorKind::Interrupted, writes);
+    for writes in 0..10u32 {
+        let cut = (Err(ErrorKind::Interrupted), writes as usize, true);
+        equals(&rt, &copied(10, 1, u32::MAX, writes), &cut);
     }
+    equals(&rt, &copied(10, 1, u32::MAX, 10), &(Ok(10), 10, true));
 }
 
 #[test]
@@ -153,6 +138,6 @@ fn a_writer_that_takes_nothing_has_failed(rt: HostRuntime) {
     });
     match copy(&mut reader, &mut writer) {
         Ok(_) => panic!(rt; "nothing was written"),
-        Err(e) => assert_eq!(rt; e.kind(), ErrorKind::WriteZero),
+        Err(e) => equals(&rt, &e.kind(), &ErrorKind::WriteZero),
     }
 }

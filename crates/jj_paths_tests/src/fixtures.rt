@@ -1,6 +1,7 @@
-//! Names and paths of literal texts.
+//! Names and paths of literal texts, and what tests compare.
 use jj_paths::repo_path::{RepoPath, RepoPathBuf, RepoPathComponent};
 use std::alloc::{AllocError, Global};
+use std::fmt::Debug;
 use std::process::Abort;
 
 /// A name of this text, which takes no memory.
@@ -26,4 +27,34 @@ pub fn owned<R: Abort>(
     text: &'static str,
 ) -> Result<RepoPathBuf, AllocError> {
     path(rt, alloc, text).to_owned(alloc)
+}
+
+/// The two values are equal.
+pub fn equals<R: Abort, T: PartialEq + Debug>(rt: &R, found: &T, wanted: &T) {
+    assert_eq!(rt; found, wanted);
+}
+
+/// The text is the wanted one.
+pub fn is_text<R: Abort>(rt: &R, found: &str, wanted: &str) {
+    assert_eq!(rt; found, wanted);
+}
+
+/// The text that is made is the wanted one.
+pub fn makes<R: Abort>(
+    rt: &R,
+    made: Result<String, AllocError>,
+    wanted: &str,
+) -> Result<(), AllocError> {
+    is_text(rt, made?.as_str(), wanted);
+    Ok(())
+}
+
+/// The value is shown as this text.
+pub fn shows<R: Abort, T: Debug>(
+    rt: &R,
+    alloc: Global,
+    value: &T,
+    wanted: &str,
+) -> Result<(), AllocError> {
+    makes(rt, format!(in alloc; "{:?}", value), wanted)
 }

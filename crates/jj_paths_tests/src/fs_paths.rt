@@ -1,6 +1,6 @@
 //! Repo paths below directories of the file system, and relative paths of the file system as repo
 //! paths.
-use crate::fixtures::path;
+use crate::fixtures::{equals, is_text, makes, path};
 use jj_content_tests::once_more::passes;
 use jj_paths::repo_path::{
     InvalidRepoPathComponentError, InvalidRepoPathError, RelativePathParseError, RepoPath,
@@ -11,7 +11,7 @@ use std::process::Abort;
 use std::test::Fail;
 
 // a repo path, a base, and the path below it
-const BELOW: [[&str; 3]; 5] = [
+static BELOW: [[&str; 3]; 5] = [
     ["", "base/dir", "base/dir"],
     ["", "", "."],
     ["file", "base/dir", "base/dir/file"],
@@ -25,7 +25,7 @@ const BELOW: [[&str; 3]; 5] = [
 
 // a repo path with a name that no file has, that name, and the path below `base` if it is not
 // checked
-const WITH_DOTS: [[&str; 3]; 7] = [
+static WITH_DOTS: [[&str; 3]; 7] = [
     [".", ".", "base/."],
     ["..", "..", "base/.."],
     ["dir/../file", "..", "base/dir/../file"],
@@ -49,45 +49,78 @@ fn made_below<R: Abort>(
     }
 }
 
+// The path below the base, checked and unchecked.
+fn is_below<R: Abort>(
+    rt: &R,
+    alloc: Global,
+    whole: RepoPath<'_>,
+    base: &str,
+    below: &str,
+) -> Result<(), AllocError> {
+    makes(rt, made_below(rt, alloc, whole, base), below)?;
+    makes(rt, whole.to_fs_path_unchecked(alloc, base), below)
+}
+
+fn are_below<R: Abort>(rt: &R, alloc: Global) -> Result<(), AllocError> {
+    for [text, base, below] in &BELOW {
+        is_below(rt, alloc, path(rt, alloc, text), base, below)?;
+    }
+    Ok(())
+}
+
 #[test]
 fn below_a_base(rt: HostRuntime) -> Result<(), Fail> {
-    passes(&rt, |rt, alloc| {
-        for [text, base, below] in BELOW {
-            let made = made_below(rt, alloc, path(rt, alloc, text), base)?;
-            assert_eq!(rt; made.as_str(), below);
-            let made = path(rt, alloc, text).to_fs_path_unchecked(alloc, base)?;
-            assert_eq!(rt; made.as_str(), below);
+    passes(&rt, are_below)
+}
+
+// The fault of a path with this name, which no file has.
+fn names_dots<R: Abort>(
+    rt: &R,
+    fault: InvalidRepoPathComponentError,
+    name: &str,
+) -> Result<(), AllocError> {
+    match fault {
+        InvalidRepoPathComponentError::Invalid { component } => {
+            is_text(rt, component.as_str(), name);
+            Ok(())
         }
-        Ok(())
-    })
+        InvalidRepoPathComponentError::Memory => Err(AllocError),
+    }
+}
+
+// The path is refused because of this name.
+fn is_refused<R: Abort>(
+    rt: &R,
+    alloc: Global,
+    whole: RepoPath<'_>,
+    name: &str,
+) -> Result<(), AllocError> {
+    match whole.to_fs_path(alloc, "base") {
+        Ok(_) => panic!(rt; "{whole:?} was taken"),
+        Err(InvalidRepoPathError::Memory) => Err(AllocError),
+        Err(InvalidRepoPathError::Invalid { path, source }) => {
+            equals(rt, &path.as_path(), &whole);
+            names_dots(rt, source, name)
+        }
+    }
+}
+
+fn have_dots<R: Abort>(rt: &R, alloc: Global) -> Result<(), AllocError> {
+    for [text, name, unchecked] in &WITH_DOTS {
+        let whole = path(rt, alloc, text);
+        is_refused(rt, alloc, whole, name)?;
+        makes(rt, whole.to_fs_path_unchecked(alloc, "base"), unchecked)?;
+    }
+    Ok(())
 }
 
 #[test]
 fn names_that_are_dots(rt: HostRuntime) -> Result<(), Fail> {
-    passes(&rt, |rt, alloc| {
-        for [text, name, unchecked] in WITH_DOTS {
-            match path(rt, alloc, text).to_fs_path(alloc, "base") {
-                Ok(made) => panic!(rt; "{made}"),
-                Err(InvalidRepoPathError::Memory) => return Err(AllocError),
-                Err(InvalidRepoPathError::Invalid { path, source }) => {
-                    assert_eq!(rt; path.as_path().as_internal_file_string(), text);
-                    match source {
-                        InvalidRepoPathComponentError::Invalid { component } => {
-                            assert_eq!(rt; component.as_str(), name);
-                        }
-                        InvalidRepoPathComponentError::Memory => return Err(AllocError),
-                    }
-                }
-            }
-            let made = path(rt, alloc, text).to_fs_path_unchecked(alloc, "base")?;
-            assert_eq!(rt; made.as_str(), unchecked);
-        }
-        Ok(())
-    })
+    passes(&rt, have_dots)
 }
 
 // a relative path, and the repo path
-const RELATIVE: [[&str; 2]; 8] = [
+static RELATIVE: [[&str; 2]; 8] = [
     ["a//b/./c/", "a/b/c"],
     ["", ""],
     ["./", ""],
@@ -98,32 +131,62 @@ const RELATIVE: [[&str; 2]; 8] = [
     ["a/.b/...", "a/.b/..."],
 ];
 
+// The relative path is this repo path.
+fn is_read<R: Abort>(rt: &R, alloc: Global, text: &str, made: &str) -> Result<(), AllocError> {
+    match RepoPathBuf::from_relative_path(alloc, text.as_bytes()) {
+        Ok(path) => {
+            is_text(rt, path.as_path().as_internal_file_string(), made);
+            Ok(())
+        }
+        Err(RelativePathParseError::Memory) => Err(AllocError),
+        Err(e) => panic!(rt; "{text}: {e}"),
+    }
+}
+
+fn are_read<R: Abort>(rt: &R, alloc: Global) -> Result<(), AllocError> {
+    for [text, made] in &RELATIVE {
+        is_read(rt, alloc, text, made)?;
+    }
+    Ok(())
+}
+
 #[test]
 fn relative_paths(rt: HostRuntime) -> Result<(), Fail> {
-    passes(&rt, |rt, alloc| {
-        for [text, made] in RELATIVE {
-            match RepoPathBuf::from_relative_path(alloc, text.as_bytes()) {
-                Ok(path) => assert_eq!(rt; path.as_path().as_internal_file_string(), made),
-                Err(RelativePathParseError::Memory) => return Err(AllocError),
-                Err(e) => panic!(rt; "{text}: {e}"),
-            }
-        }
-        Ok(())
-    })
+    passes(&rt, are_read)
 }
 
 // a path that is refused, and the component that is no name, or nothing where a name is no text
-fn refused_relative() -> [(&'static [u8], &'static str); 8] {
-    [
-        (b"./a", "."),
-        (b"/", "/"),
-        (b"..", ".."),
-        (b"a/../b", ".."),
-        (b"/\xff", "/"),
-        (b"\xff", ""),
-        (b"a/\xff/..", ""),
-        (b"a/../\xff", ".."),
-    ]
+static NOT_RELATIVE: [(&[u8], &str); 8] = [
+    (b"./a", "."),
+    (b"/", "/"),
+    (b"..", ".."),
+    (b"a/../b", ".."),
+    (b"/\xff", "/"),
+    (b"\xff", ""),
+    (b"a/\xff/..", ""),
+    (b"a/../\xff", ".."),
+];
+
+// The fault hands the bytes back, with the component that is no name.
+fn is_fault<R: Abort>(
+    rt: &R,
+    fault: &RelativePathParseError,
+    bytes: &[u8],
+    named: &str,
+) -> Result<(), AllocError> {
+    match fault {
+        RelativePathParseError::InvalidComponent { component, path } => {
+            is_text(rt, component.as_str(), named);
+            equals(rt, &path.as_slice(), &bytes);
+            Ok(())
+        }
+        RelativePathParseError::InvalidUtf8 { path } => {
+            is_text(rt, named, "");
+            equals(rt, &path.as_slice(), &bytes);
+            Ok(())
+        }
+        RelativePathParseError::Memory => Err(AllocError),
+    }
 }
 
 fn refuses_bytes<R: Abort>(
@@ -133,26 +196,19 @@ fn refuses_bytes<R: Abort>(
     named: &str,
 ) -> Result<(), AllocError> {
     match RepoPathBuf::from_relative_path(alloc, bytes) {
-        Ok(path) => panic!(rt; "{path:?} of {bytes:?}"),
-        Err(RelativePathParseError::InvalidComponent { component, path }) => {
-            assert_eq!(rt; component.as_str(), named);
-            assert_eq!(rt; path.as_slice(), bytes);
-        }
-        Err(RelativePathParseError::InvalidUtf8 { path }) => {
-            assert_eq!(rt; named, "");
-            assert_eq!(rt; path.as_slice(), bytes);
-        }
-        Err(RelativePathParseError::Memory) => return Err(AllocError),
+        Ok(_) => panic!(rt; "{bytes:?} were taken"),
+        Err(fault) => is_fault(rt, &fault, bytes, named),
+    }
+}
+
+fn are_refused<R: Abort>(rt: &R, alloc: Global) -> Result<(), AllocError> {
+    for (bytes, named) in &NOT_RELATIVE {
+        refuses_bytes(rt, alloc, bytes, named)?;
     }
     Ok(())
 }
 
 #[test]
 fn no_relative_paths(rt: HostRuntime) -> Result<(), Fail> {
-    passes(&rt, |rt, alloc| {
-        for (bytes, named) in refused_relative() {
-            refuses_bytes(rt, alloc, bytes, named)?;
-        }
-        Ok(())
-    })
+    passes(&rt, are_refused)
 }

@@ -1,110 +1,145 @@
 //! Equality, order and hashes of names and paths.
-use crate::fixtures::{name, owned, path};
+use crate::fixtures::{equals, name, owned, path};
 use jj_content_tests::once_more::passes;
-use jj_paths::repo_path::RepoPathComponent;
+use jj_paths::repo_path::RepoPathBuf;
 use std::alloc::{AllocError, Global};
 use std::cmp::Ordering;
 use std::collections::HashSet;
+use std::fmt::Debug;
+use std::hash::Hash;
 use std::process::Abort;
 use std::test::Fail;
+
+// Each path, and one that comes after it: '#' comes before '/', and yet `dir/sub` before `dir#`.
+static ASCENDING: [(&str, &str); 10] = [
+    ("", "dir"),
+    ("dir", "dirx"),
+    ("dir", "dir#"),
+    ("dir", "dir/sub"),
+    ("dir/sub", "dir#"),
+    ("abc", "dir/file"),
+    ("dir", "dir/file"),
+    ("dir/file", "dis"),
+    ("dir/file", "xyz"),
+    ("dir1/xyz", "dir2/abc"),
+];
+
+// The first value is less than the second one.
+fn ascend<R: Abort, T: Ord + Debug>(rt: &R, less: &T, more: &T) {
+    assert!(rt; less < more, "{less:?} and {more:?}");
+    assert!(rt; less != more, "{less:?} and {more:?}");
+    equals(rt, &more.cmp(less), &Ordering::Greater);
+}
 
 #[test]
 fn paths_name_by_name(rt: HostRuntime) {
     let alloc = rt.alloc();
-    // '#' comes before '/', and yet `dir/sub` comes before `dir#`
-    let cases = [
-        ("", "dir"),
-        ("dir", "dirx"),
-        ("dir", "dir#"),
-        ("dir", "dir/sub"),
-        ("dir/sub", "dir#"),
-        ("abc", "dir/file"),
-        ("dir", "dir/file"),
-        ("dir/file", "dis"),
-        ("dir/file", "xyz"),
-        ("dir1/xyz", "dir2/abc"),
-    ];
-    for (less, more) in cases {
-        assert!(rt;
-            path(&rt, alloc, less) < path(&rt, alloc, more),
-            "{less} and {more}"
-        );
-        assert_eq!(rt;
-            path(&rt, alloc, more).cmp(&path(&rt, alloc, less)),
-            Ordering::Greater,
-            "{less} and {more}"
-        );
-        assert!(rt;
-            path(&rt, alloc, less) != path(&rt, alloc, more),
-            "{less} and {more}"
-        );
-        assert_eq!(rt;
-            path(&rt, alloc, less).cmp(&path(&rt, alloc, less)),
-            Ordering::Equal,
-            "{less}"
-        );
+    for (less, more) in &ASCENDING {
+        let less = path(&rt, alloc, less);
+        ascend(&rt, &less, &path(&rt, alloc, more));
+        equals(&rt, &less.cmp(&less), &Ordering::Equal);
     }
 }
 
-// Checks that the first name is less than the second one.
-fn ascend<R: Abort>(rt: &R, less: RepoPathComponent<'_>, more: RepoPathComponent<'_>) {
-    assert!(rt; less < more, "{less:?} and {more:?}");
-    assert!(rt; less != more, "{less:?} and {more:?}");
-    assert_eq!(rt; more.cmp(&less), Ordering::Greater);
-}
+static ASCENDING_NAMES: [(&str, &str); 4] = [
+    ("dir", "dir#"),
+    ("B", "a"),
+    ("a", "aa"),
+    ("z", "\u{e9}"),
+];
 
 #[test]
 fn names_by_bytes(rt: HostRuntime) {
     let alloc = rt.alloc();
-    for (less, more) in [("dir", "dir#"), ("B", "a"), ("a", "aa"), ("z", "\u{e9}")] {
-        ascend(&rt, name(&rt, alloc, less), name(&rt, alloc, more));
+    for (less, more) in &ASCENDING_NAMES {
+        ascend(&rt, &name(&rt, alloc, less), &name(&rt, alloc, more));
     }
-    assert!(rt; name(&rt, alloc, "dir") == name(&rt, alloc, "dir"));
+    equals(&rt, &name(&rt, alloc, "dir"), &name(&rt, alloc, "dir"));
+}
+
+fn owned_paths<R: Abort>(rt: &R, alloc: Global) -> Result<(), AllocError> {
+    let sub = owned(rt, alloc, "dir/sub")?;
+    let hash = owned(rt, alloc, "dir#")?;
+    ascend(rt, &sub, &hash);
+    Ok(())
+}
+
+fn owned_names<R: Abort>(rt: &R, alloc: Global) -> Result<(), AllocError> {
+    let dir = name(rt, alloc, "dir").to_owned(alloc)?;
+    let hash = name(rt, alloc, "dir#").to_owned(alloc)?;
+    ascend(rt, &dir, &hash);
+    Ok(())
 }
 
 #[test]
 fn owned_paths_and_names(rt: HostRuntime) -> Result<(), Fail> {
     passes(&rt, |rt, alloc| {
-        let sub = owned(rt, alloc, "dir/sub")?;
-        let hash = owned(rt, alloc, "dir#")?;
-        assert!(rt; sub < hash);
-        assert!(rt; sub != hash);
-        assert_eq!(rt; hash.cmp(&sub), Ordering::Greater);
-        let dir = name(rt, alloc, "dir").to_owned(alloc)?;
-        let other = name(rt, alloc, "dir#").to_owned(alloc)?;
-        assert!(rt; dir < other);
-        assert!(rt; dir != other);
-        Ok(())
+        owned_paths(rt, alloc)?;
+        owned_names(rt, alloc)
     })
 }
 
+// A set of two values.
+fn set_of_two<T: Eq + Hash + Drop>(
+    alloc: Global,
+    first: T,
+    second: T,
+) -> Result<HashSet<T>, AllocError> {
+    let mut set = HashSet::new(alloc);
+    set.insert(first)?;
+    set.insert(second)?;
+    Ok(set)
+}
+
 fn sets_of_names<R: Abort>(rt: &R, alloc: Global) -> Result<(), AllocError> {
-    let mut names = HashSet::new(alloc);
-    names.insert(name(rt, alloc, "dir").to_owned(alloc)?)?;
-    names.insert(name(rt, alloc, "dir").to_owned(alloc)?)?;
-    assert_eq!(rt; names.len(), 1);
+    let dir = name(rt, alloc, "dir").to_owned(alloc)?;
+    let same = name(rt, alloc, "dir").to_owned(alloc)?;
+    let names = set_of_two(alloc, dir, same)?;
+    equals(rt, &names.len(), &1);
     Ok(())
 }
 
 fn sets_of_borrowed_paths<R: Abort>(rt: &R, alloc: Global) -> Result<(), AllocError> {
-    let mut borrowed = HashSet::new(alloc);
-    borrowed.insert(path(rt, alloc, "a/b"))?;
-    borrowed.insert(path(rt, alloc, "a/b"))?;
-    assert!(rt; borrowed.contains(&path(rt, alloc, "a/b")));
-    assert_eq!(rt; borrowed.len(), 1);
+    let file = path(rt, alloc, "a/b");
+    let borrowed = set_of_two(alloc, file, path(rt, alloc, "a/b"))?;
+    equals(rt, &borrowed.contains(&path(rt, alloc, "a/b")), &true);
+    equals(rt, &borrowed.len(), &1);
     Ok(())
+}
+
+// A set of the root and of `dir/sub`, which is inserted twice.
+fn set_of_paths<R: Abort>(rt: &R, alloc: Global) -> Result<HashSet<RepoPathBuf>, AllocError> {
+    let mut paths = HashSet::new(alloc);
+    for text in &["dir/sub", "", "dir/sub"] {
+        paths.insert(owned(rt, alloc, text)?)?;
+    }
+    Ok(paths)
+}
+
+// Whether the set has the path of this text.
+fn contains<R: Abort>(
+    rt: &R,
+    alloc: Global,
+    paths: &HashSet<RepoPathBuf>,
+    text: &'static str,
+    is_there: bool,
+) -> Result<(), AllocError> {
+    let path = owned(rt, alloc, text)?;
+    equals(rt, &paths.contains(&path), &is_there);
+    Ok(())
+}
+
+fn sets_of_paths<R: Abort>(rt: &R, alloc: Global) -> Result<(), AllocError> {
+    let paths = set_of_paths(rt, alloc)?;
+    equals(rt, &paths.len(), &2);
+    contains(rt, alloc, &paths, "", true)?;
+    contains(rt, alloc, &paths, "dir", false)
 }
 
 #[test]
 fn hashed_paths_and_names(rt: HostRuntime) -> Result<(), Fail> {
     passes(&rt, |rt, alloc| {
-        let mut paths = HashSet::new(alloc);
-        paths.insert(owned(rt, alloc, "dir/sub")?)?;
-        paths.insert(owned(rt, alloc, "")?)?;
-        paths.insert(owned(rt, alloc, "dir/sub")?)?;
-        assert_eq!(rt; paths.len(), 2);
-        assert!(rt; paths.contains(&owned(rt, alloc, "")?));
-        assert!(rt; !paths.contains(&owned(rt, alloc, "dir")?));
+        sets_of_paths(rt, alloc)?;
         sets_of_names(rt, alloc)?;
         sets_of_borrowed_paths(rt, alloc)
     })

@@ -1,11 +1,13 @@
 //! Paths of the file system made of the components of others: normal forms, and ways between two.
-use jj_content_tests::once_more::tells;
+use crate::fixtures::makes;
+use jj_content_tests::once_more::passes;
 use jj_paths::file_util::{normalize_path, relative_path};
-use std::alloc::Global;
+use std::alloc::{AllocError, Global};
 use std::process::Abort;
+use std::test::Fail;
 
 // a path, and the path without what falls out of it
-const NORMAL_FORMS: [(&str, &str); 16] = [
+static NORMAL_FORMS: [(&str, &str); 16] = [
     ("foo/..", "."),
     ("foo/../..", ".."),
     ("foo/../../..", "../.."),
@@ -24,46 +26,69 @@ const NORMAL_FORMS: [(&str, &str); 16] = [
     ("../a/..", ".."),
 ];
 
-#[test]
-fn normal_forms(rt: HostRuntime) {
-    for (path, meant) in NORMAL_FORMS {
-        let made = |alloc: Global| normalize_path(alloc, path);
-        assert!(rt; tells(&rt, made, meant), "{path}");
+fn are_normalized<R: Abort>(rt: &R, alloc: Global) -> Result<(), AllocError> {
+    for (path, meant) in &NORMAL_FORMS {
+        makes(rt, normalize_path(alloc, path), meant)?;
     }
+    Ok(())
 }
 
-// a directory, a path, and the way from the one to the other
-const WAYS: [(&str, &str, &str); 24] = [
-    ("/foo/bar", "/foo/bar", "."),
-    ("/foo", "/foo/bar", "bar"),
-    ("/", "/foo/bar", "foo/bar"),
-    ("/foo/bar/baz", "/foo/bar", ".."),
-    ("/foo/baz", "/foo/bar", "../bar"),
-    ("/baz", "/foo/bar", "../foo/bar"),
-    ("/foo/bar/baz/qux", "/foo/bar", "../.."),
-    ("/foo/baz/qux", "/foo/bar", "../../bar"),
-    ("/baz/qux", "/foo/bar", "../../foo/bar"),
-    ("foo/bar", "/foo/bar", "/foo/bar"),
-    ("/foo/bar", "foo/bar", "foo/bar"),
-    ("./foo/bar", "/./foo/bar", "/./foo/bar"),
-    ("/./foo/bar", "./foo/bar", "./foo/bar"),
-    ("/foo", "", ""),
-    ("", "/foo", "/foo"),
-    ("", "", ""),
-    ("/./foo/./bar", "/foo/bar", "."),
-    ("/foo/bar", "/./foo/./bar", "."),
-    ("/./foo/./bar", "/foo", ".."),
-    ("/foo", "/./foo/./bar", "bar"),
-    ("a/b", "a/c//d/.", "../c/d"),
-    ("a/..", "a/b", "../b"),
-    ("a//b", "b//a", "b//a"),
-    ("./a", "./b", "../b"),
+#[test]
+fn normal_forms(rt: HostRuntime) -> Result<(), Fail> {
+    passes(&rt, are_normalized)
+}
+
+// a path, and the ways to it from directories
+static WAYS: [(&str, &[(&str, &str)]); 11] = [
+    (
+        "/foo/bar",
+        &[
+            ("/foo/bar", "."),
+            ("/foo", "bar"),
+            ("/", "foo/bar"),
+            ("/foo/bar/baz", ".."),
+            ("/foo/baz", "../bar"),
+            ("/baz", "../foo/bar"),
+            ("/foo/bar/baz/qux", "../.."),
+            ("/foo/baz/qux", "../../bar"),
+            ("/baz/qux", "../../foo/bar"),
+            ("foo/bar", "/foo/bar"),
+            ("/./foo/./bar", "."),
+        ],
+    ),
+    ("foo/bar", &[("/foo/bar", "foo/bar")]),
+    ("/./foo/bar", &[("./foo/bar", "/./foo/bar")]),
+    ("./foo/bar", &[("/./foo/bar", "./foo/bar")]),
+    ("", &[("/foo", ""), ("", "")]),
+    ("/foo", &[("", "/foo"), ("/./foo/./bar", "..")]),
+    ("/./foo/./bar", &[("/foo/bar", "."), ("/foo", "bar")]),
+    ("a/c//d/.", &[("a/b", "../c/d")]),
+    ("a/b", &[("a/..", "../b")]),
+    ("b//a", &[("a//b", "b//a")]),
+    ("./b", &[("./a", "../b")]),
 ];
 
-#[test]
-fn ways(rt: HostRuntime) {
-    for (from, to, meant) in WAYS {
-        let made = |alloc: Global| relative_path(alloc, from, to);
-        assert!(rt; tells(&rt, made, meant), "{from} to {to}");
+// The ways to a path from directories are what is meant.
+fn all_lead<R: Abort>(
+    rt: &R,
+    alloc: Global,
+    to: &str,
+    ways: &[(&str, &str)],
+) -> Result<(), AllocError> {
+    for (from, meant) in ways {
+        makes(rt, relative_path(alloc, from, to), meant)?;
     }
+    Ok(())
+}
+
+fn ways_lead<R: Abort>(rt: &R, alloc: Global) -> Result<(), AllocError> {
+    for (to, ways) in &WAYS {
+        all_lead(rt, alloc, to, ways)?;
+    }
+    Ok(())
+}
+
+#[test]
+fn ways(rt: HostRuntime) -> Result<(), Fail> {
+    passes(&rt, ways_lead)
 }

@@ -1,5 +1,5 @@
 //! Texts that are paths and names, texts that are not, and how all are shown.
-use crate::fixtures::{name, owned, path};
+use crate::fixtures::{equals, is_text, makes, name, owned, path, shows};
 use jj_content_tests::once_more::passes;
 use jj_paths::repo_path::{
     InvalidNewRepoPathError, RepoPath, RepoPathBuf, RepoPathComponent, RepoPathComponentBuf,
@@ -8,9 +8,9 @@ use std::alloc::{AllocError, Global};
 use std::process::Abort;
 use std::test::Fail;
 
-const NO_PATHS: [&str; 8] = ["/", "/x", "x/", "x//y", "/a", "a/", "a//b", "//"];
+static NO_PATHS: [&str; 8] = ["/", "/x", "x/", "x//y", "/a", "a/", "a//b", "//"];
 
-const NO_NAMES: [&str; 5] = ["", "/", "a/b", "/a", "a/"];
+static NO_NAMES: [&str; 5] = ["", "/", "a/b", "/a", "a/"];
 
 // The text is refused and handed back, or memory was refused.
 fn is_refused<R: Abort, T: Drop>(
@@ -22,103 +22,144 @@ fn is_refused<R: Abort, T: Drop>(
         Ok(_) => panic!(rt; "{text} was taken"),
         Err(InvalidNewRepoPathError::Memory) => Err(AllocError),
         Err(InvalidNewRepoPathError::Invalid { value }) => {
-            assert_eq!(rt; value.as_str(), text);
+            is_text(rt, value.as_str(), text);
             Ok(())
         }
     }
 }
 
+// The text is no path, borrowed or owned.
+fn is_no_path<R: Abort>(rt: &R, alloc: Global, text: &str) -> Result<(), AllocError> {
+    is_refused(rt, RepoPath::from_internal_string(alloc, text), text)?;
+    let owned = String::from_str(alloc, text)?;
+    is_refused(rt, RepoPathBuf::from_internal_string(owned), text)
+}
+
+fn no_paths<R: Abort>(rt: &R, alloc: Global) -> Result<(), AllocError> {
+    for text in &NO_PATHS {
+        is_no_path(rt, alloc, text)?;
+    }
+    Ok(())
+}
+
+// The text is no name, borrowed or owned.
+fn is_no_name<R: Abort>(rt: &R, alloc: Global, text: &str) -> Result<(), AllocError> {
+    is_refused(rt, RepoPathComponent::new(alloc, text), text)?;
+    let owned = String::from_str(alloc, text)?;
+    is_refused(rt, RepoPathComponentBuf::new(owned), text)
+}
+
+fn no_names<R: Abort>(rt: &R, alloc: Global) -> Result<(), AllocError> {
+    for text in &NO_NAMES {
+        is_no_name(rt, alloc, text)?;
+    }
+    Ok(())
+}
+
 #[test]
 fn no_paths_and_no_names(rt: HostRuntime) -> Result<(), Fail> {
     passes(&rt, |rt, alloc| {
-        for text in NO_PATHS {
-            is_refused(rt, RepoPath::from_internal_string(alloc, text), text)?;
-            let owned = String::from_str(alloc, text)?;
-            is_refused(rt, RepoPathBuf::from_internal_string(owned), text)?;
-        }
-        for text in NO_NAMES {
-            is_refused(rt, RepoPathComponent::new(alloc, text), text)?;
-            let owned = String::from_str(alloc, text)?;
-            is_refused(rt, RepoPathComponentBuf::new(owned), text)?;
-        }
-        Ok(())
+        no_paths(rt, alloc)?;
+        no_names(rt, alloc)
     })
+}
+
+static PATHS: [&str; 6] = ["", "x", "x/y", "dir#/sub.dir/\u{e9}", ".", "../x"];
+
+// The text is that of a path.
+fn is_path<R: Abort>(rt: &R, alloc: Global, text: &'static str) -> Result<(), AllocError> {
+    match RepoPathBuf::from_internal_string(String::from_str(alloc, text)?) {
+        Ok(read) => {
+            equals(rt, &read.as_path(), &path(rt, alloc, text));
+            is_text(rt, read.as_path().as_internal_file_string(), text);
+            Ok(())
+        }
+        Err(_) => panic!(rt; "{text} is a path"),
+    }
+}
+
+fn paths<R: Abort>(rt: &R, alloc: Global) -> Result<(), AllocError> {
+    for text in &PATHS {
+        is_path(rt, alloc, text)?;
+    }
+    Ok(())
+}
+
+fn names<R: Abort>(rt: &R, alloc: Global) -> Result<(), AllocError> {
+    match RepoPathComponentBuf::new(String::from_str(alloc, "dir")?) {
+        Ok(dir) => {
+            equals(rt, &dir.as_component(), &name(rt, alloc, "dir"));
+            Ok(())
+        }
+        Err(_) => panic!(rt; "dir is a name"),
+    }
 }
 
 #[test]
 fn paths_and_names(rt: HostRuntime) -> Result<(), Fail> {
     passes(&rt, |rt, alloc| {
-        for text in ["", "x", "x/y", "dir#/sub.dir/\u{e9}", ".", "../x"] {
-            match RepoPathBuf::from_internal_string(String::from_str(alloc, text)?) {
-                Ok(read) => {
-                    assert!(rt; read.as_path() == path(rt, alloc, text));
-                    assert_eq!(rt; read.as_path().as_internal_file_string(), text);
-                }
-                Err(_) => panic!(rt; "{text} is a path"),
-            }
-        }
-        match RepoPathComponentBuf::new(String::from_str(alloc, "dir")?) {
-            Ok(dir) => assert!(rt; dir.as_component() == name(rt, alloc, "dir")),
-            Err(_) => panic!(rt; "dir is a name"),
-        }
-        Ok(())
+        paths(rt, alloc)?;
+        names(rt, alloc)
     })
+}
+
+// The path, and its text as a directory's.
+static DIRECTORIES: [(&str, &str); 3] = [("", ""), ("dir", "dir/"), ("dir/file", "dir/file/")];
+
+fn are_directories<R: Abort>(rt: &R, alloc: Global) -> Result<(), AllocError> {
+    for (text, wanted) in &DIRECTORIES {
+        let made = path(rt, alloc, text).to_internal_dir_string(alloc);
+        makes(rt, made, wanted)?;
+    }
+    Ok(())
 }
 
 #[test]
 fn directories(rt: HostRuntime) -> Result<(), Fail> {
-    passes(&rt, |rt, alloc| {
-        for (text, want) in [("", ""), ("dir", "dir/"), ("dir/file", "dir/file/")] {
-            assert!(rt;
-                path(rt, alloc, text)
-                    .to_internal_dir_string(alloc)?
-                    .as_str()
-                    == want,
-                "{text}"
-            );
-        }
-        Ok(())
-    })
+    passes(&rt, are_directories)
+}
+
+fn invalid_shown<R: Abort>(rt: &R, alloc: Global) -> Result<(), AllocError> {
+    let invalid = InvalidNewRepoPathError::Invalid {
+        value: String::from_str(alloc, "a//b")?,
+    };
+    let wanted = "Invalid repo path input \"a//b\"";
+    makes(rt, invalid.to_string(alloc), wanted)
+}
+
+fn want_of_memory_shown<R: Abort>(rt: &R, alloc: Global) -> Result<(), AllocError> {
+    let shown = InvalidNewRepoPathError::Memory.to_string(alloc);
+    makes(rt, shown, "out of memory")
 }
 
 #[test]
 fn errors_shown(rt: HostRuntime) -> Result<(), Fail> {
     passes(&rt, |rt, alloc| {
-        let invalid = InvalidNewRepoPathError::Invalid {
-            value: String::from_str(alloc, "a//b")?,
-        };
-        assert_eq!(rt;
-            invalid.to_string(alloc)?.as_str(),
-            "Invalid repo path input \"a//b\""
-        );
-        assert_eq!(rt;
-            InvalidNewRepoPathError::Memory.to_string(alloc)?.as_str(),
-            "out of memory"
-        );
-        Ok(())
+        invalid_shown(rt, alloc)?;
+        want_of_memory_shown(rt, alloc)
     })
+}
+
+fn borrowed_shown<R: Abort>(rt: &R, alloc: Global) -> Result<(), AllocError> {
+    let quoted = path(rt, alloc, "dir/a \"b\"");
+    shows(rt, alloc, &quoted, "\"dir/a \\\"b\\\"\"")?;
+    shows(rt, alloc, &name(rt, alloc, "dir"), "\"dir\"")
+}
+
+fn owned_path_shown<R: Abort>(rt: &R, alloc: Global) -> Result<(), AllocError> {
+    shows(rt, alloc, &owned(rt, alloc, "dir/file")?, "\"dir/file\"")
+}
+
+fn owned_name_shown<R: Abort>(rt: &R, alloc: Global) -> Result<(), AllocError> {
+    let dir = name(rt, alloc, "dir").to_owned(alloc)?;
+    shows(rt, alloc, &dir, "\"dir\"")
 }
 
 #[test]
 fn paths_shown(rt: HostRuntime) -> Result<(), Fail> {
     passes(&rt, |rt, alloc| {
-        let quoted = path(rt, alloc, "dir/a \"b\"");
-        assert_eq!(rt;
-            format!(in alloc; "{:?}", quoted)?.as_str(),
-            "\"dir/a \\\"b\\\"\""
-        );
-        assert_eq!(rt;
-            format!(in alloc; "{:?}", owned(rt, alloc, "dir/file")?)?.as_str(),
-            "\"dir/file\""
-        );
-        assert_eq!(rt;
-            format!(in alloc; "{:?}", name(rt, alloc, "dir"))?.as_str(),
-            "\"dir\""
-        );
-        assert_eq!(rt;
-            format!(in alloc; "{:?}", name(rt, alloc, "dir").to_owned(alloc)?)?.as_str(),
-            "\"dir\""
-        );
-        Ok(())
+        borrowed_shown(rt, alloc)?;
+        owned_path_shown(rt, alloc)?;
+        owned_name_shown(rt, alloc)
     })
 }

@@ -2,6 +2,7 @@
 ghost use Rattle.std.specs.Prelude.{◌≡◌, Result};
 ghost use Rattle.std.specs.declared.io.Error.{Error};
 ghost use Rattle.jj_paths.specs.PathErrors.{AddsPath, IsAtPath};
+ghost use Rattle.jj_paths.specs.declared.file_util.errors.PathError.{PathError};
 
 use std::alloc::{AllocError, AllocFailed, Global};
 use std::io;
@@ -44,6 +45,22 @@ pub enum PathError {
     Memory,
 }
 
+impl From<AllocError> for PathError {
+    ghost from_gives = { λ _ error. error ≡ PathError.Memory };
+
+    fn from(_refused: AllocError) -> Self {
+        PathError::Memory
+    }
+}
+
+impl<T: Drop> From<AllocFailed<T>> for PathError {
+    ghost from_gives = { λ _ error. error ≡ PathError.Memory };
+
+    fn from(_refused: AllocFailed<T>) -> Self {
+        PathError::Memory
+    }
+}
+
 impl PathError {
     // the error at this path, which is copied
     fn new(alloc: Global, path: &str, source: io::Error) -> PathError
@@ -53,26 +70,6 @@ impl PathError {
             Ok(path) => PathError::Invalid { path, source },
             Err(_) => PathError::Memory,
         }
-    }
-}
-
-impl From<AllocError> for PathError {
-    ghost use Rattle.jj_paths.specs.declared.file_util.errors.PathError.TheVariants.{Memory};
-
-    ghost from_gives = { λ _ e. e ≡ Memory };
-
-    fn from(_error: AllocError) -> PathError {
-        PathError::Memory
-    }
-}
-
-impl<T: Drop> From<AllocFailed<T>> for PathError {
-    ghost use Rattle.jj_paths.specs.declared.file_util.errors.PathError.TheVariants.{Memory};
-
-    ghost from_gives = { λ _ e. e ≡ Memory };
-
-    fn from(_error: AllocFailed<T>) -> PathError {
-        PathError::Memory
     }
 }
 

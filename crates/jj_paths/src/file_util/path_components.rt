@@ -26,7 +26,7 @@ pub fn normalize_path(alloc: Global, path: &str) -> Result<String, AllocError>
             _ => kept.push(component.as_os_str())?,
         }
     }
-    joined(alloc, &kept)
+    join_components(alloc, &kept)
 }
 
 // whether the last component is a name
@@ -46,7 +46,7 @@ fn is_place(component: &str) -> bool
 }
 
 // the components as one text
-fn joined(alloc: Global, components: &[&str]) -> Result<String, AllocError>
+fn join_components(alloc: Global, components: &[&str]) -> Result<String, AllocError>
     ensures { IfOk result (λ text. string_bytes text
         ≡ fs_text [] (map (λ component. component.now) components.now)) }
 {

@@ -1,6 +1,6 @@
 //! Names added at the end of a path.
 ghost use Rattle.std.specs.Prelude.{◌≡◌, ◌++◌, List, IfOk, IfErr, map, string_bytes};
-ghost use Rattle.std.specs.Iterator.{IsFinite, Drains};
+ghost use Rattle.std.specs.Iterator.{IsFiniteIterable, Drains};
 ghost use Rattle.jj_paths.specs.Names.{name_of};
 ghost use Rattle.jj_paths.specs.Texts.{with_name, with_names, IsLonger};
 ghost use Rattle.jj_paths.specs.declared.repo_path.RepoPathComponent.{RepoPathComponent};
@@ -14,8 +14,8 @@ impl RepoPathBuf {
         &mut self,
         names: I,
     ) -> Result<(), AllocError>
-        requires { (it : I.IntoIter) → I.into_iter_gives names it → I.IntoIter.can_next it
-            × IsFinite (I.IntoIter.remaining it) }
+        requires { IsFiniteIterable I.into_iter_gives I.IntoIter.can_next I.IntoIter.remaining
+            names }
         ensures extended { IfOk result (λ done. (it : I.IntoIter) × (added : List RepoPathComponent)
             × I.into_iter_gives names it × Drains I.IntoIter.next_gives it added
             × (self.new ≡ self.old ++ map name_of added)) }
@@ -37,8 +37,7 @@ fn push_names<'n, I: IntoIterator<Item = RepoPathComponent<'n>>>(
     text: &mut String,
     names: I,
 ) -> Result<(), AllocError>
-    requires { (it : I.IntoIter) → I.into_iter_gives names it → I.IntoIter.can_next it
-        × IsFinite (I.IntoIter.remaining it) }
+    requires { IsFiniteIterable I.into_iter_gives I.IntoIter.can_next I.IntoIter.remaining names }
     ensures pushed { IfOk result (λ done. (it : I.IntoIter) × (added : List RepoPathComponent)
         × I.into_iter_gives names it × Drains I.IntoIter.next_gives it added
         × (string_bytes text.new ≡ with_names (string_bytes text.old) (map name_of added))) }

@@ -6,6 +6,7 @@ ghost use Rattle.std.specs.Iterator.{YieldsFirstRef, item_count};
 ghost use Rattle.std.specs.Path.{slash, is_name, is_dot_at, path_names};
 ghost use Rattle.jj_paths.specs.Texts.{with_name};
 ghost use Rattle.jj_paths.specs.RelativePaths.{IsParseError, is_place, is_refused, relative_components};
+ghost use Rattle.jj_paths.specs.declared.repo_path.from_relative.RelativePathParseError.{RelativePathParseError};
 
 use super::RepoPathBuf;
 use std::alloc::{AllocError, AllocFailed, Global};
@@ -19,6 +20,22 @@ pub enum RelativePathParseError {
     InvalidComponent { component: String, path: Vec<u8> },
     InvalidUtf8 { path: Vec<u8> },
     Memory,
+}
+
+impl From<AllocError> for RelativePathParseError {
+    ghost from_gives = { λ _ error. error ≡ RelativePathParseError.Memory };
+
+    fn from(_refused: AllocError) -> Self {
+        RelativePathParseError::Memory
+    }
+}
+
+impl<T: Drop> From<AllocFailed<T>> for RelativePathParseError {
+    ghost from_gives = { λ _ error. error ≡ RelativePathParseError.Memory };
+
+    fn from(_refused: AllocFailed<T>) -> Self {
+        RelativePathParseError::Memory
+    }
 }
 
 // bytes as they are shown: what is not UTF-8 by U+FFFD
@@ -57,26 +74,6 @@ impl fmt::Display for RelativePathParseError {
 }
 
 impl Error for RelativePathParseError {}
-
-impl From<AllocError> for RelativePathParseError {
-    ghost use Rattle.jj_paths.specs.declared.repo_path.from_relative.RelativePathParseError.TheVariants.{Memory};
-
-    ghost from_gives = { λ _ e. e ≡ Memory };
-
-    fn from(_error: AllocError) -> RelativePathParseError {
-        RelativePathParseError::Memory
-    }
-}
-
-impl<T: Drop> From<AllocFailed<T>> for RelativePathParseError {
-    ghost use Rattle.jj_paths.specs.declared.repo_path.from_relative.RelativePathParseError.TheVariants.{Memory};
-
-    ghost from_gives = { λ _ e. e ≡ Memory };
-
-    fn from(_error: AllocFailed<T>) -> RelativePathParseError {
-        RelativePathParseError::Memory
-    }
-}
 
 // the part of a path before its first slash, and what comes after that slash
 fn cut_at_slash(path: &[u8]) -> (&[u8], &[u8])

@@ -1,6 +1,7 @@
 //! Iterators over the names of a path, from both ends, and over the paths above it.
 ghost use Rattle.std.specs.Prelude.{◌≡◌};
 ghost use Rattle.std.specs.Iterator.{YieldsFirstBy, YieldsLastBy, item_count};
+ghost use Rattle.jj_paths.specs.Iterators.{ancestors_left, components_left};
 ghost use Rattle.jj_paths.specs.Paths.{fronts};
 ghost use Rattle.jj_paths.specs.Names.{name_of, path_of};
 
@@ -14,8 +15,6 @@ pub struct RepoPathComponentsIter<'a> {
 }
 
 impl<'a> RepoPathComponentsIter<'a> {
-    ghost use Rattle.jj_paths.specs.Iterators.{components_left};
-
     pub(super) fn new(path: RepoPath<'a>) -> RepoPathComponentsIter<'a>
         ensures { components_left result ≡ path_of path.entry }
     {
@@ -31,8 +30,6 @@ impl<'a> RepoPathComponentsIter<'a> {
 }
 
 impl<'a> Iterator for RepoPathComponentsIter<'a> {
-    ghost use Rattle.jj_paths.specs.Iterators.{components_left};
-
     type Item = RepoPathComponent<'a>;
 
     ghost next_gives = { YieldsFirstBy name_of components_left };
@@ -47,8 +44,6 @@ impl<'a> Iterator for RepoPathComponentsIter<'a> {
 }
 
 impl<'a> DoubleEndedIterator for RepoPathComponentsIter<'a> {
-    ghost use Rattle.jj_paths.specs.Iterators.{components_left};
-
     ghost next_back_gives = { YieldsLastBy name_of components_left };
 
     fn next_back(&mut self) -> Option<RepoPathComponent<'a>> {
@@ -67,8 +62,6 @@ pub struct RepoPathAncestors<'a> {
 }
 
 impl<'a> RepoPathAncestors<'a> {
-    ghost use Rattle.jj_paths.specs.Iterators.{ancestors_left};
-
     pub(super) fn new(path: RepoPath<'a>) -> RepoPathAncestors<'a>
         ensures { ancestors_left result ≡ fronts (path_of path.entry) }
     {
@@ -77,8 +70,6 @@ impl<'a> RepoPathAncestors<'a> {
 }
 
 impl<'a> Iterator for RepoPathAncestors<'a> {
-    ghost use Rattle.jj_paths.specs.Iterators.{ancestors_left};
-
     type Item = RepoPath<'a>;
 
     ghost next_gives = { YieldsFirstBy path_of ancestors_left };

@@ -4,6 +4,8 @@ ghost use Rattle.std.specs.List.{find};
 ghost use Rattle.std.specs.Path.{path_buf_bytes};
 ghost use Rattle.jj_paths.specs.Names.{name_of, path_of};
 ghost use Rattle.jj_paths.specs.FsTexts.{appended, fs_text, is_dots};
+ghost use Rattle.jj_paths.specs.declared.repo_path.to_fs.InvalidRepoPathComponentError.{InvalidRepoPathComponentError};
+ghost use Rattle.jj_paths.specs.declared.repo_path.to_fs.InvalidRepoPathError.{InvalidRepoPathError};
 
 use super::{RepoPath, RepoPathBuf, RepoPathComponent};
 use crate::fs_text::text_or_dot;
@@ -20,6 +22,22 @@ pub enum InvalidRepoPathComponentError {
     Memory,
 }
 
+impl From<AllocError> for InvalidRepoPathComponentError {
+    ghost from_gives = { λ _ error. error ≡ InvalidRepoPathComponentError.Memory };
+
+    fn from(_refused: AllocError) -> Self {
+        InvalidRepoPathComponentError::Memory
+    }
+}
+
+impl<T: Drop> From<AllocFailed<T>> for InvalidRepoPathComponentError {
+    ghost from_gives = { λ _ error. error ≡ InvalidRepoPathComponentError.Memory };
+
+    fn from(_refused: AllocFailed<T>) -> Self {
+        InvalidRepoPathComponentError::Memory
+    }
+}
+
 /// A path with a name that no file can have.
 #[derive(Clone, Debug, PartialEq, Eq, Drop, Error)]
 pub enum InvalidRepoPathError {
@@ -30,6 +48,22 @@ pub enum InvalidRepoPathError {
     },
     #[error("out of memory")]
     Memory,
+}
+
+impl From<AllocError> for InvalidRepoPathError {
+    ghost from_gives = { λ _ error. error ≡ InvalidRepoPathError.Memory };
+
+    fn from(_refused: AllocError) -> Self {
+        InvalidRepoPathError::Memory
+    }
+}
+
+impl<T: Drop> From<AllocFailed<T>> for InvalidRepoPathError {
+    ghost from_gives = { λ _ error. error ≡ InvalidRepoPathError.Memory };
+
+    fn from(_refused: AllocFailed<T>) -> Self {
+        InvalidRepoPathError::Memory
+    }
 }
 
 impl InvalidRepoPathComponentError {
@@ -120,45 +154,5 @@ impl<'a> RepoPath<'a> {
         let mut path = PathBuf::with_capacity(alloc, base.len().saturating_add(more))?;
         path.push(base)?;
         Ok(path)
-    }
-}
-
-impl From<AllocError> for InvalidRepoPathComponentError {
-    ghost use Rattle.jj_paths.specs.declared.repo_path.to_fs.InvalidRepoPathComponentError.TheVariants.{Memory};
-
-    ghost from_gives = { λ _ e. e ≡ Memory };
-
-    fn from(_error: AllocError) -> InvalidRepoPathComponentError {
-        InvalidRepoPathComponentError::Memory
-    }
-}
-
-impl<T: Drop> From<AllocFailed<T>> for InvalidRepoPathComponentError {
-    ghost use Rattle.jj_paths.specs.declared.repo_path.to_fs.InvalidRepoPathComponentError.TheVariants.{Memory};
-
-    ghost from_gives = { λ _ e. e ≡ Memory };
-
-    fn from(_error: AllocFailed<T>) -> InvalidRepoPathComponentError {
-        InvalidRepoPathComponentError::Memory
-    }
-}
-
-impl From<AllocError> for InvalidRepoPathError {
-    ghost use Rattle.jj_paths.specs.declared.repo_path.to_fs.InvalidRepoPathError.TheVariants.{Memory};
-
-    ghost from_gives = { λ _ e. e ≡ Memory };
-
-    fn from(_error: AllocError) -> InvalidRepoPathError {
-        InvalidRepoPathError::Memory
-    }
-}
-
-impl<T: Drop> From<AllocFailed<T>> for InvalidRepoPathError {
-    ghost use Rattle.jj_paths.specs.declared.repo_path.to_fs.InvalidRepoPathError.TheVariants.{Memory};
-
-    ghost from_gives = { λ _ e. e ≡ Memory };
-
-    fn from(_error: AllocFailed<T>) -> InvalidRepoPathError {
-        InvalidRepoPathError::Memory
     }
 }

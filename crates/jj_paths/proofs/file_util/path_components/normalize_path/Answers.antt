@@ -71,6 +71,6 @@ pub returns : goal.returns
 returns c =
     let kept = map (λ text. text.now) c.loop-component.kept.items in
     let over = ap (λ l. kept ++ l) c.in-None.ensures.steps.0 ∙ append-nil kept in
-    IfOk-weaker c.joined.result _ _
+    IfOk-weaker c.join_components.result _ _
     (λ text is. (kept, record { steps = subst (DropsTo (path_components c.args.path.now)) over c.loop-component.invariant.steps; ended = c.loop-component.invariant.settled }, is ∙ ap (λ texts. fs_text [] (map (λ text. text.now) texts)) c.deref-2.ensures.value))
-    c.joined.ensures
+    c.join_components.ensures

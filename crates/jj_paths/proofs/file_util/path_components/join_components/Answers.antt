@@ -3,7 +3,7 @@ use Rattle.std.proofs.lemmas.List.{take_all}
 use Rattle.std.proofs.lemmas.Result.{IfOk-weaker}
 use Rattle.jj_paths.specs.FsTexts.{appended, or_dot}
 use Rattle.jj_paths.proofs.FsTextLemmas.{appended-place}
-use Rattle.jj_paths.proofs.file_util.path_components.joined.Goals as goal
+use Rattle.jj_paths.proofs.file_util.path_components.join_components.Goals as goal
 
 pub loop-place-preserved : goal.loop-place-preserved
 loop-place-preserved c =
