@@ -1,5 +1,5 @@
 -- The form in which a set of strings is asked.
--- Cited by contracts of public items: expression_form, form_of, pattern_form.
+-- Cited by contracts of public items: expression_form, pattern_form.
 use Rattle.std.specs.Prelude.{ℕ, if◌then◌else◌, List, Option, None, Some, string_bytes}
 use Rattle.jj_strings.specs.declared.str_util.matcher.StringMatcher.{StringMatcher}
 use Rattle.jj_strings.specs.declared.str_util.matcher.StringMatcher.TheVariants.{All, Exact, Expr, Fn}

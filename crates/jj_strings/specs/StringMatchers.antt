@@ -1,13 +1,14 @@
 -- A matcher of strings as a set of byte lists.
--- Cited by contracts of public items: InMatcher, IsExpressionFromText, IsPatternFromText,
+-- Cited by contracts of public items: Asks, InMatcher, IsExpressionFromText, IsPatternFromText,
 -- MayAllocate.
-use Rattle.std.specs.Prelude.{◌≡◌, ◌⊎◌, ℕ, List, string_bytes}
+use Rattle.std.specs.Prelude.{◌≡◌, ◌↔◌, ◌⊎◌, ◌<◌, ℕ, List, All as Every, string_bytes}
 use Rattle.regex.specs.Bytes.{regex_config, IsReadFromSource}
 use Rattle.regex.specs.declared.bytes.regex.Regex as compiled
 use Rattle.jj_strings.specs.Predicates.{Accepts}
 use Rattle.jj_strings.specs.declared.str_util.matcher.StringMatcher.{StringMatcher}
 use Rattle.jj_strings.specs.declared.str_util.matcher.StringMatcher.TheVariants.{All, Exact, Expr, Fn}
 use Rattle.jj_strings.specs.CompiledViews.{source_expression}
+use Rattle.jj_strings.specs.MatcherForms.{Form, form_of}
 use Rattle.jj_strings.specs.PatternKinds.{bytes_config, bytes_config_i}
 use Rattle.jj_strings.specs.StringSets.{Pattern, regex, regex_i, Expression, of_pattern, InExpression, HasRegex}
 
@@ -37,3 +38,12 @@ IsPatternFromText p = Unit {0}
 abbrev pub IsExpressionFromText : Expression → Type 0
 IsExpressionFromText (of_pattern p) = IsPatternFromText p
 IsExpressionFromText e = Unit {0}
+
+-- a matcher that asks a set: it holds the same strings, where each regular expression inside was
+-- made of its text; it has this form; it takes memory only where a regular expression is inside
+pub record Asks {F : _} {V : _} {m : _} (is_from_text : Type 0) (holds : List ℕ → Type 0)
+    (wanted : Form) (has_regex : Type 0) (matcher : StringMatcher F V m) : Type 0 where
+  pub set : is_from_text → (bytes : List ℕ) → Every (λ b. b < 256) bytes
+      → InMatcher matcher bytes ↔ holds bytes
+  pub form : form_of matcher ≡ wanted
+  pub memory : MayAllocate matcher → has_regex

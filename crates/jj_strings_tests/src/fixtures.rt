@@ -1,7 +1,9 @@
 //! Patterns of literal texts, and what their debug forms and iterators give.
 ghost use Rattle.std.specs.Iterator.{IsFinite};
 
-use jj_strings::str_util::{StringMatcher, StringPattern, StringPatternParseError};
+use jj_strings::str_util::{
+    StringExpression, StringMatcher, StringPattern, StringPatternParseError,
+};
 use std::alloc::{AllocError, Global};
 use std::fmt;
 use std::process::Abort;
@@ -20,6 +22,16 @@ pub fn pattern<R: Abort>(
     }
 }
 
+/// The expression of the pattern that the text is as one of the kind.
+pub fn expression<R: Abort>(
+    rt: &R,
+    alloc: Global,
+    kind: &str,
+    text: &str,
+) -> Result<StringExpression, AllocError> {
+    StringExpression::pattern(alloc, pattern(rt, alloc, kind, text)?)
+}
+
 /// The matcher of the pattern that the text is as one of the kind.
 pub fn matcher<R: Abort>(
     rt: &R,
@@ -30,6 +42,16 @@ pub fn matcher<R: Abort>(
     pattern(rt, alloc, kind, text)?.to_matcher(alloc)
 }
 
+/// So many times the letter, and then an end.
+pub fn letters(alloc: Global, letter: &str, times: u32, end: &str) -> Result<String, AllocError> {
+    let mut text = String::new(alloc);
+    for _ in 0..times {
+        text.push_str(letter)?;
+    }
+    text.push_str(end)?;
+    Ok(text)
+}
+
 /// Checks the debug form of a value.
 pub fn shows<R: Abort, T: fmt::Debug>(
     rt: &R,
@@ -38,6 +60,36 @@ pub fn shows<R: Abort, T: fmt::Debug>(
     shown: &str,
 ) -> Result<(), AllocError> {
     assert_eq!(rt; format!(in alloc; "{value:?}")?.as_str(), shown);
+    Ok(())
+}
+
+/// Checks what was answered for a string.
+pub fn answers<R: Abort>(rt: &R, found: bool, wanted: bool, string: &str) {
+    assert!(rt; found == wanted, "{found} for {string:?}");
+}
+
+/// Checks whether a matcher holds a string.
+pub fn matches<R: Abort>(
+    rt: &R,
+    alloc: Global,
+    matcher: &StringMatcher,
+    string: &str,
+    wanted: bool,
+) -> Result<(), AllocError> {
+    answers(rt, matcher.is_match(alloc, string)?, wanted, string);
+    Ok(())
+}
+
+/// Checks whether a matcher holds a string of bytes.
+pub fn matches_bytes<R: Abort>(
+    rt: &R,
+    alloc: Global,
+    matcher: &StringMatcher,
+    bytes: &[u8],
+    wanted: bool,
+) -> Result<(), AllocError> {
+    let found = matcher.is_match_bytes(alloc, bytes)?;
+    assert_eq!(rt; found, wanted, "{matcher:?} and {bytes:?}");
     Ok(())
 }
 

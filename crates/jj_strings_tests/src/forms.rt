@@ -1,9 +1,11 @@
 //! Patterns as matchers, as globs and as regular expressions.
-use crate::fixtures::{matcher, pattern, shows};
+use crate::fixtures::{answers, matcher, matches, pattern, shows};
 use jj_content_tests::once_more::passes;
 use jj_strings::str_util::{StringMatcher, StringPattern};
+use regex::bytes::Regex;
 use std::alloc::{AllocError, Global};
 use std::process::Abort;
+use std::rc::Rc;
 use std::test::Fail;
 
 // Kind, text, and the debug form of the matcher.
@@ -37,14 +39,30 @@ const MATCHERS: [(&str, &str, &str); 23] = [
     ("regex-i", ".", "Expr(Pattern(RegexI(Regex(\".\"))))"),
 ];
 
+// Checks the debug form of the matcher.
+fn shows_matcher<R: Abort>(
+    rt: &R,
+    alloc: Global,
+    row: &(&str, &str, &str),
+) -> Result<(), AllocError> {
+    let (kind, text, shown) = row;
+    shows(rt, alloc, &matcher(rt, alloc, kind, text)?, *shown)
+}
+
+fn matchers<R: Abort>(
+    rt: &R,
+    alloc: Global,
+    rows: &[(&str, &str, &str)],
+) -> Result<(), AllocError> {
+    for row in rows {
+        shows_matcher(rt, alloc, row)?;
+    }
+    Ok(())
+}
+
 #[test]
 fn patterns_to_matchers(rt: HostRuntime) -> Result<(), Fail> {
-    passes(&rt, |rt, alloc| {
-        for (kind, text, shown) in MATCHERS {
-            shows(rt, alloc, &matcher(rt, alloc, kind, text)?, shown)?;
-        }
-        Ok(())
-    })
+    passes(&rt, |rt, alloc| matchers(rt, alloc, &MATCHERS))
 }
 
 // Strings on which two sets are compared.
@@ -54,28 +72,32 @@ const STRINGS: [&str; 20] = [
 ];
 
 // Kind, text, and the text of the glob, which reads back as the same set.
-const GLOBS: [(&str, &str, Option<&str>); 21] = [
-    ("substring", "", Some("*")),
-    ("exact", "a", Some("a")),
-    ("exact", "*", Some("[*]")),
-    ("exact", "", Some("")),
-    ("exact", "\\a", Some("[\\]a")),
-    ("exact", "[a]", Some("[[]a[]]")),
-    ("exact", "{}", Some("[{][}]")),
-    ("exact", "x?y", Some("x[?]y")),
-    ("exact", "é", Some("é")),
-    ("glob", "*", Some("*")),
-    ("glob", "a*", Some("a*")),
-    ("glob", "a", Some("a")),
-    ("glob", "{a,b}", Some("{a,b}")),
-    ("substring", "a", Some("*a*")),
-    ("substring", "*", Some("*[*]*")),
-    ("substring", "/", Some("*/*")),
-    ("exact-i", "a", None),
-    ("substring-i", "", None),
-    ("glob-i", "*", None),
-    ("regex", "a", None),
-    ("regex-i", "a", None),
+const GLOBS: [(&str, &str, &str); 16] = [
+    ("substring", "", "*"),
+    ("exact", "a", "a"),
+    ("exact", "*", "[*]"),
+    ("exact", "", ""),
+    ("exact", "\\a", "[\\]a"),
+    ("exact", "[a]", "[[]a[]]"),
+    ("exact", "{}", "[{][}]"),
+    ("exact", "x?y", "x[?]y"),
+    ("exact", "é", "é"),
+    ("glob", "*", "*"),
+    ("glob", "a*", "a*"),
+    ("glob", "a", "a"),
+    ("glob", "{a,b}", "{a,b}"),
+    ("substring", "a", "*a*"),
+    ("substring", "*", "*[*]*"),
+    ("substring", "/", "*/*"),
+];
+
+// These patterns are turned into no glob.
+const NO_GLOBS: [(&str, &str); 5] = [
+    ("exact-i", "a"),
+    ("substring-i", ""),
+    ("glob-i", "*"),
+    ("regex", "a"),
+    ("regex-i", "a"),
 ];
 
 // Checks that the pattern and the glob of this text hold the same strings.
@@ -96,9 +118,49 @@ fn agree<R: Abort>(
     one: &StringMatcher,
     other: &StringMatcher,
 ) -> Result<(), AllocError> {
-    for string in STRINGS {
-        let is_in = other.is_match(alloc, string)?;
-        assert_eq!(rt; one.is_match(alloc, string)?, is_in, "{string} by {one:?}");
+    for string in &STRINGS {
+        matches(rt, alloc, one, string, other.is_match(alloc, string)?)?;
+    }
+    Ok(())
+}
+
+// Checks that a pattern is turned into this glob, which holds the same strings.
+fn becomes_glob<R: Abort>(
+    rt: &R,
+    alloc: Global,
+    pattern: &StringPattern,
+    wanted: &str,
+) -> Result<(), AllocError> {
+    match pattern.to_glob(alloc)? {
+        Some(glob) => {
+            assert!(rt; glob.as_str() == wanted, "{pattern:?}");
+            reads_back(rt, alloc, pattern, glob.as_str())
+        }
+        None => panic!(rt; "{pattern:?} is the glob {wanted}"),
+    }
+}
+
+fn to_glob<R: Abort>(rt: &R, alloc: Global, row: &(&str, &str, &str)) -> Result<(), AllocError> {
+    let (kind, text, glob) = row;
+    becomes_glob(rt, alloc, &pattern(rt, alloc, kind, text)?, *glob)
+}
+
+fn globs<R: Abort>(rt: &R, alloc: Global, rows: &[(&str, &str, &str)]) -> Result<(), AllocError> {
+    for row in rows {
+        to_glob(rt, alloc, row)?;
+    }
+    Ok(())
+}
+
+fn has_glob(alloc: Global, pattern: &StringPattern) -> Result<bool, AllocError> {
+    Ok(pattern.to_glob(alloc)?.is_some())
+}
+
+// Checks that the patterns are turned into no globs.
+fn no_globs<R: Abort>(rt: &R, alloc: Global, rows: &[(&str, &str)]) -> Result<(), AllocError> {
+    for (kind, text) in rows {
+        let is_glob = has_glob(alloc, &pattern(rt, alloc, kind, text)?)?;
+        answers(rt, is_glob, false, kind);
     }
     Ok(())
 }
@@ -106,33 +168,36 @@ fn agree<R: Abort>(
 #[test]
 fn patterns_to_globs(rt: HostRuntime) -> Result<(), Fail> {
     passes(&rt, |rt, alloc| {
-        for (kind, text, wanted) in GLOBS {
-            let pattern = pattern(rt, alloc, kind, text)?;
-            match pattern.to_glob(alloc)? {
-                Some(glob) => {
-                    assert!(rt; wanted == Some(glob.as_str()), "{kind}:{text}");
-                    reads_back(rt, alloc, &pattern, glob.as_str())?;
-                }
-                None => assert!(rt; wanted.is_none(), "{kind}:{text}"),
-            }
-        }
-        Ok(())
+        globs(rt, alloc, &GLOBS)?;
+        no_globs(rt, alloc, &NO_GLOBS)
     })
 }
 
-// Whether the regular expression of the pattern has a match in the string.
-fn regex_finds<R: Abort>(
+// The regular expression of the pattern that the text is as one of the kind.
+fn regex_of<R: Abort>(
     rt: &R,
     alloc: Global,
     kind: &str,
     text: &str,
-    string: &str,
-) -> Result<bool, AllocError> {
+) -> Result<Rc<Regex>, AllocError> {
     match pattern(rt, alloc, kind, text)?.to_regex(alloc) {
-        Ok(regex) => Ok(regex.matcher(alloc)?.is_match(string.as_bytes())),
+        Ok(regex) => Ok(regex),
         Err(regex::Error::OutOfMemory) => Err(AllocError),
         Err(error) => panic!(rt; "{kind}:{text} is a regular expression: {error}"),
     }
+}
+
+// Checks whether a regular expression has a match in the string.
+fn regex_finds<R: Abort>(
+    rt: &R,
+    alloc: Global,
+    regex: &Regex,
+    string: &str,
+    wanted: bool,
+) -> Result<(), AllocError> {
+    let found = regex.matcher(alloc)?.is_match(string.as_bytes());
+    answers(rt, found, wanted, string);
+    Ok(())
 }
 
 // Kind, text, a string, and whether the regular expression of the pattern has a match in it.
@@ -156,18 +221,21 @@ const REGEXES: [(&str, &str, &str, bool); 17] = [
     ("regex-i", "^a{1,3}", "Abcde", true),
 ];
 
+fn regexes<R: Abort>(
+    rt: &R,
+    alloc: Global,
+    rows: &[(&str, &str, &str, bool)],
+) -> Result<(), AllocError> {
+    for (kind, text, string, is_found) in rows {
+        let regex = regex_of(rt, alloc, kind, text)?;
+        regex_finds(rt, alloc, &regex, string, *is_found)?;
+    }
+    Ok(())
+}
+
 #[test]
 fn patterns_to_regexes(rt: HostRuntime) -> Result<(), Fail> {
-    passes(&rt, |rt, alloc| {
-        for (kind, text, string, is_found) in REGEXES {
-            assert_eq!(rt;
-                regex_finds(rt, alloc, kind, text, string)?,
-                is_found,
-                "{kind}:{text} and {string}"
-            );
-        }
-        Ok(())
-    })
+    passes(&rt, |rt, alloc| regexes(rt, alloc, &REGEXES))
 }
 
 // On these strings a pattern and its regular expression agree.
@@ -191,19 +259,32 @@ const AGREEING: [(&str, &str); 17] = [
     ("glob-i", "{A,é}"),
 ];
 
+// Checks that a regular expression finds what a matcher holds.
+fn finds_as<R: Abort>(
+    rt: &R,
+    alloc: Global,
+    regex: &Regex,
+    matcher: &StringMatcher,
+) -> Result<(), AllocError> {
+    for string in &STRINGS {
+        regex_finds(rt, alloc, regex, string, matcher.is_match(alloc, string)?)?;
+    }
+    Ok(())
+}
+
+fn regex_agrees<R: Abort>(rt: &R, alloc: Global, kind: &str, text: &str) -> Result<(), AllocError> {
+    let regex = regex_of(rt, alloc, kind, text)?;
+    finds_as(rt, alloc, &regex, &matcher(rt, alloc, kind, text)?)
+}
+
+fn regexes_agree<R: Abort>(rt: &R, alloc: Global, rows: &[(&str, &str)]) -> Result<(), AllocError> {
+    for (kind, text) in rows {
+        regex_agrees(rt, alloc, kind, text)?;
+    }
+    Ok(())
+}
+
 #[test]
 fn regexes_match_as_patterns(rt: HostRuntime) -> Result<(), Fail> {
-    passes(&rt, |rt, alloc| {
-        for (kind, text) in AGREEING {
-            let matcher = matcher(rt, alloc, kind, text)?;
-            for string in STRINGS {
-                assert_eq!(rt;
-                    regex_finds(rt, alloc, kind, text, string)?,
-                    matcher.is_match(alloc, string)?,
-                    "{kind}:{text} and {string}"
-                );
-            }
-        }
-        Ok(())
-    })
+    passes(&rt, |rt, alloc| regexes_agree(rt, alloc, &AGREEING))
 }

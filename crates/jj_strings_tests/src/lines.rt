@@ -1,6 +1,7 @@
 //! The lines that a matcher finds.
 use crate::fixtures::{items, matcher};
 use jj_content_tests::once_more::passes;
+use jj_strings::str_util::StringMatcher;
 use std::alloc::{AllocError, Global};
 use std::process::Abort;
 use std::test::Fail;
@@ -13,14 +14,36 @@ type Row = (
     &'static [&'static str],
 );
 
+// Checks that these are the lines.
+fn are<R: Abort>(rt: &R, found: &[&[u8]], lines: &[&str]) {
+    assert!(rt; found.len() == lines.len(), "{lines:?}");
+    for (bytes, line) in found.iter().zip(lines) {
+        assert!(rt; *bytes == line.as_bytes(), "{line:?}");
+    }
+}
+
+// Checks the lines that a matcher finds in a text.
+fn finds_lines<R: Abort>(
+    rt: &R,
+    alloc: Global,
+    matcher: &StringMatcher,
+    text: &str,
+    lines: &[&str],
+) -> Result<(), AllocError> {
+    let found = items(rt, alloc, matcher.match_lines(alloc, text.as_bytes()))?;
+    are(rt, found.as_slice(), lines);
+    Ok(())
+}
+
+fn lines_of<R: Abort>(rt: &R, alloc: Global, row: &Row) -> Result<(), AllocError> {
+    let (kind, pattern, text, lines) = row;
+    let matcher = matcher(rt, alloc, kind, pattern)?;
+    finds_lines(rt, alloc, &matcher, text, *lines)
+}
+
 fn lines<R: Abort>(rt: &R, alloc: Global, rows: &[Row]) -> Result<(), AllocError> {
-    for (kind, pattern, text, lines) in rows {
-        let matcher = matcher(rt, alloc, kind, pattern)?;
-        let found = items(rt, alloc, matcher.match_lines(alloc, text.as_bytes()))?;
-        assert_eq!(rt; found.len(), lines.len(), "the lines of {text:?}");
-        for (bytes, line) in found.iter().zip(*lines) {
-            assert_eq!(rt; *bytes, line.as_bytes(), "in {text:?}");
-        }
+    for row in rows {
+        lines_of(rt, alloc, row)?;
     }
     Ok(())
 }

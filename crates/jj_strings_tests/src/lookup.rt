@@ -1,77 +1,26 @@
 //! An exact text is looked up in a map: a key counts how often its text is asked for.
-ghost use Rattle.std.specs.Prelude.{◌≡◌, Some, refl};
-ghost use Rattle.std.specs.Str.{bytes_eq};
-ghost use Rattle.std.specs.Cmp;
-ghost use Rattle.std.specs.Ordering.{nat_cmp};
-ghost use Rattle.std.specs.Cmp.Lexicographic.{slice_cmp, nat_list_eq_equiv, nat_list_cmp_total, texts_po, texts_ties};
+ghost use Rattle.std.specs.Prelude.{refl, string_bytes};
 
 use crate::fixtures::{items, matcher};
 use jj_content_tests::once_more::passes;
 use jj_strings::str_util::{StringMatcher, TextKey};
 use std::alloc::{AllocError, Global};
 use std::cell::Cell;
-use std::cmp::Ordering;
 use std::collections::BTreeMap;
-use std::marker::Model;
 use std::process::Abort;
 use std::test::Fail;
 
-// A text, and how often it was asked for.
+// A text, and how often it was asked for, which makes no difference to its order.
 #[derive(Drop)]
+#[derive_where(PartialEq, Eq, PartialOrd, Ord)]
 struct CountedKey {
     text: String,
+    #[derive_where(skip)]
     asked: Cell<u32>,
 }
 
-impl Model for CountedKey {
-    ghost use Rattle.std.specs.Prelude.{ℕ, List};
-    ghost use Rattle.std.specs.String.{string_bytes};
-
-    ghost Value = { List ℕ };
-
-    ghost view = { λ key. string_bytes key.text };
-}
-
-impl PartialEq for CountedKey {
-    ghost eq = { bytes_eq };
-
-    ghost laws = { Cmp.partial_equiv_from_equiv nat_list_eq_equiv };
-
-    fn eq(&self, other: &CountedKey) -> bool {
-        self.text == other.text
-    }
-}
-
-impl Eq for CountedKey {
-    ghost laws = { nat_list_eq_equiv };
-}
-
-impl PartialOrd for CountedKey {
-    ghost partial_cmp = { λ a b. Some (slice_cmp nat_cmp a b) };
-
-    ghost laws = { texts_po };
-
-    fn partial_cmp(&self, other: &CountedKey) -> Option<Ordering> {
-        Some(self.cmp(other))
-    }
-}
-
-impl Ord for CountedKey {
-    ghost cmp = { slice_cmp nat_cmp };
-
-    ghost total = { nat_list_cmp_total };
-
-    ghost matches_partial_cmp = { λ a b. refl };
-
-    ghost matches_eq = { texts_ties };
-
-    fn cmp(&self, other: &CountedKey) -> Ordering {
-        self.text.cmp(&other.text)
-    }
-}
-
 impl TextKey for CountedKey {
-    ghost key_text = { λ key. key };
+    ghost key_text = { λ key. string_bytes key.text };
 
     ghost ordered_as_text = { λ a b. refl };
 
@@ -88,12 +37,18 @@ impl TextKey for CountedKey {
     }
 }
 
-// How often keys were asked for their texts while the matcher's entries were found.
-fn asked<R: Abort>(rt: &R, alloc: Global, matcher: &StringMatcher) -> Result<u32, AllocError> {
+// A map whose keys are these texts.
+fn counted(alloc: Global, texts: &[&str]) -> Result<BTreeMap<CountedKey, ()>, AllocError> {
     let mut map = BTreeMap::new(alloc);
-    for text in ["a", "b", "c", "d", "e"] {
+    for text in texts {
         let _ = map.insert(CountedKey::from_text(alloc, text)?, ())?;
     }
+    Ok(map)
+}
+
+// How often keys were asked for their texts while the one entry of the matcher was found.
+fn asked<R: Abort>(rt: &R, alloc: Global, matcher: &StringMatcher) -> Result<u32, AllocError> {
+    let map = counted(alloc, &["a", "b", "c", "d", "e"])?;
     let found = items(rt, alloc, matcher.filter_btree_map(alloc, &map))?;
     assert_eq!(rt; found.len(), 1);
     Ok(
@@ -102,14 +57,21 @@ fn asked<R: Abort>(rt: &R, alloc: Global, matcher: &StringMatcher) -> Result<u32
     )
 }
 
+// How often keys were asked by the pattern of this kind.
+fn asked_by<R: Abort>(rt: &R, alloc: Global, kind: &str) -> Result<u32, AllocError> {
+    asked(rt, alloc, &matcher(rt, alloc, kind, "d")?)
+}
+
 // Where there is no memory for a key to look up, each key is asked.
+fn looked_up<R: Abort>(rt: &R, alloc: Global) -> Result<(), AllocError> {
+    assert_eq!(rt; asked_by(rt, alloc, "exact-i")?, 5);
+    match asked_by(rt, alloc, "exact")? {
+        1 => Ok(()),
+        _ => Err(AllocError),
+    }
+}
+
 #[test]
 fn exact_texts_are_looked_up(rt: HostRuntime) -> Result<(), Fail> {
-    passes(&rt, |rt, alloc| {
-        assert_eq!(rt; asked(rt, alloc, &matcher(rt, alloc, "exact-i", "d")?)?, 5);
-        match asked(rt, alloc, &matcher(rt, alloc, "exact", "d")?)? {
-            1 => Ok(()),
-            _ => Err(AllocError),
-        }
-    })
+    passes(&rt, looked_up)
 }

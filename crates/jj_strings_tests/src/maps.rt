@@ -2,7 +2,7 @@
 //! brings.
 ghost use Rattle.std.specs.Iterator.{IsFinite};
 
-use crate::fixtures::{items, matcher, shows};
+use crate::fixtures::{items, matcher, matches, shows};
 use jj_content_tests::once_more::passes;
 use jj_ids::ref_name::{GitRefNameBuf, RefNameBuf, RemoteNameBuf, WorkspaceNameBuf};
 use jj_strings::str_util::{BytePredicate, ByteTest, StringMatcher, TextKey};
@@ -20,6 +20,20 @@ fn numbered<K: TextKey>(alloc: Global, texts: &[&str]) -> Result<BTreeMap<K, usi
     Ok(map)
 }
 
+// Checks the key and the place of an entry.
+fn is<R: Abort, K: TextKey>(rt: &R, entry: &(&K, &usize), text: &str, place: usize) {
+    assert_eq!(rt; entry.0.as_text(), text);
+    assert_eq!(rt; *entry.1, place);
+}
+
+// Checks that these entries have these keys and places.
+fn are<R: Abort, K: TextKey>(rt: &R, found: &[(&K, &usize)], wanted: &[(&str, usize)]) {
+    assert_eq!(rt; found.len(), wanted.len());
+    for (entry, (text, place)) in found.iter().zip(wanted) {
+        is(rt, entry, text, *place);
+    }
+}
+
 // Checks that an iterator gives the entries of these keys, in this order.
 fn gives<'a, R: Abort, K: TextKey + 'a, I>(
     rt: &R,
@@ -32,12 +46,7 @@ where
     requires callable { I.can_next found }
     requires finite { IsFinite (I.remaining found) }
 {
-    let found = items(rt, alloc, found)?;
-    assert_eq!(rt; found.len(), wanted.len());
-    for (entry, (text, place)) in found.iter().zip(wanted) {
-        assert_eq!(rt; entry.0.as_text(), *text);
-        assert_eq!(rt; *entry.1, *place);
-    }
+    are(rt, items(rt, alloc, found)?.as_slice(), wanted);
     Ok(())
 }
 
@@ -58,43 +67,117 @@ fn finds<R: Abort, K: TextKey>(
     )
 }
 
-fn filters<R: Abort, K: TextKey>(rt: &R, alloc: Global) -> Result<(), AllocError> {
-    let map: BTreeMap<K, usize> = numbered(alloc, &["foo", "baz", "Bar", "bar"])?;
-    let all = [("Bar", 2), ("bar", 3), ("baz", 1), ("foo", 0)];
-    finds(rt, alloc, &StringMatcher::all(), &map, &all)?;
-    for (kind, text, from, to) in [
-        ("exact", "o", 0, 0),
-        ("exact", "foo", 3, 4),
-        ("exact", "Bar", 0, 1),
-        ("exact", "", 0, 0),
-        ("exact-i", "bar", 0, 2),
-        ("substring", "o", 3, 4),
-        ("substring", "a", 0, 3),
-        ("glob", "b*", 1, 3),
-        ("regex", "^b|z$", 1, 3),
-        ("regex", "", 0, 4),
-    ] {
-        let matcher = matcher(rt, alloc, kind, text)?;
-        finds(rt, alloc, &matcher, &map, &all[from..to])?;
+// Kind, text, and the entries that are found.
+type Row = (&'static str, &'static str, &'static [(&'static str, usize)]);
+
+const FOUND: [Row; 10] = [
+    ("exact", "o", &[]),
+    ("exact", "foo", &[("foo", 0)]),
+    ("exact", "Bar", &[("Bar", 2)]),
+    ("exact", "", &[]),
+    ("exact-i", "bar", &[("Bar", 2), ("bar", 3)]),
+    ("substring", "o", &[("foo", 0)]),
+    ("substring", "a", &[("Bar", 2), ("bar", 3), ("baz", 1)]),
+    ("glob", "b*", &[("bar", 3), ("baz", 1)]),
+    ("regex", "^b|z$", &[("bar", 3), ("baz", 1)]),
+    (
+        "regex",
+        "",
+        &[("Bar", 2), ("bar", 3), ("baz", 1), ("foo", 0)],
+    ),
+];
+
+fn finds_row<R: Abort, K: TextKey>(
+    rt: &R,
+    alloc: Global,
+    map: &BTreeMap<K, usize>,
+    row: &Row,
+) -> Result<(), AllocError> {
+    let (kind, text, wanted) = row;
+    finds(rt, alloc, &matcher(rt, alloc, kind, text)?, map, *wanted)
+}
+
+fn finds_all<R: Abort, K: TextKey>(
+    rt: &R,
+    alloc: Global,
+    map: &BTreeMap<K, usize>,
+    all: &[(&str, usize)],
+) -> Result<(), AllocError> {
+    finds(rt, alloc, &StringMatcher::all(), map, all)
+}
+
+// Checks that these are all entries of the map, and what patterns find.
+fn finds_each<R: Abort, K: TextKey>(
+    rt: &R,
+    alloc: Global,
+    map: &BTreeMap<K, usize>,
+    all: &[(&str, usize)],
+    rows: &[Row],
+) -> Result<(), AllocError> {
+    finds_all(rt, alloc, map, all)?;
+    for row in rows {
+        finds_row(rt, alloc, map, row)?;
     }
+    Ok(())
+}
+
+const ALL: [(&str, usize); 4] = [("Bar", 2), ("bar", 3), ("baz", 1), ("foo", 0)];
+
+fn of_entries<K: TextKey>(alloc: Global) -> Result<BTreeMap<K, usize>, AllocError> {
+    numbered(alloc, &["foo", "baz", "Bar", "bar"])
+}
+
+fn filters<R: Abort, K: TextKey>(
+    rt: &R,
+    alloc: Global,
+    all: &[(&str, usize)],
+    rows: &[Row],
+) -> Result<(), AllocError> {
+    let map: BTreeMap<K, usize> = of_entries(alloc)?;
+    finds_each(rt, alloc, &map, all, rows)
+}
+
+const NOT_FOUND: [Row; 1] = [("exact", "o", &[])];
+
+fn filters_empty<R: Abort, K: TextKey>(rt: &R, alloc: Global) -> Result<(), AllocError> {
     let empty: BTreeMap<K, usize> = BTreeMap::new(alloc);
-    finds(rt, alloc, &StringMatcher::all(), &empty, &[])?;
-    finds(rt, alloc, &matcher(rt, alloc, "exact", "o")?, &empty, &[])
+    finds_each(rt, alloc, &empty, &[], &NOT_FOUND)
+}
+
+// Checks what is found in a map of the entries, and in an empty one.
+fn filters_both<R: Abort, K: TextKey>(rt: &R, alloc: Global) -> Result<(), AllocError> {
+    filters::<R, K>(rt, alloc, &ALL, &FOUND)?;
+    filters_empty::<R, K>(rt, alloc)
 }
 
 #[test]
 fn maps_by_texts(rt: HostRuntime) -> Result<(), Fail> {
-    passes(&rt, filters::<_, String>)
+    passes(&rt, filters_both::<_, String>)
 }
 
 #[test]
 fn maps_by_names(rt: HostRuntime) -> Result<(), Fail> {
     passes(&rt, |rt, alloc| {
-        filters::<_, GitRefNameBuf>(rt, alloc)?;
-        filters::<_, RefNameBuf>(rt, alloc)?;
-        filters::<_, RemoteNameBuf>(rt, alloc)?;
-        filters::<_, WorkspaceNameBuf>(rt, alloc)
+        filters_both::<_, GitRefNameBuf>(rt, alloc)?;
+        filters_both::<_, RefNameBuf>(rt, alloc)?;
+        filters_both::<_, RemoteNameBuf>(rt, alloc)?;
+        filters_both::<_, WorkspaceNameBuf>(rt, alloc)
     })
+}
+
+// Checks what the matcher of three bytes holds.
+fn holds_three_bytes<R: Abort>(
+    rt: &R,
+    alloc: Global,
+    matcher: &StringMatcher,
+) -> Result<(), AllocError> {
+    matches(rt, alloc, matcher, "foo", true)?;
+    matches(rt, alloc, matcher, "\u{c0}", false)?;
+    matches(rt, alloc, matcher, "\u{c0}b", true)?;
+    matches(rt, alloc, matcher, "", false)?;
+    shows(rt, alloc, matcher, "Fn(..)")?;
+    let map: BTreeMap<String, usize> = numbered(alloc, &["foo", "ba", "bar"])?;
+    finds(rt, alloc, matcher, &map, &[("bar", 2), ("foo", 0)])
 }
 
 // A predicate that the caller brings is asked of the bytes themselves.
@@ -103,16 +186,6 @@ fn predicates_of_callers(rt: HostRuntime) -> Result<(), Fail> {
     passes(&rt, |rt, alloc| {
         let test: ByteTest = Box::new(alloc, |bytes: &[u8]| bytes.len() == 3)?;
         let matcher = StringMatcher::Fn(BytePredicate::new(test));
-        for (string, is_in) in [
-            ("foo", true),
-            ("\u{c0}", false),
-            ("\u{c0}b", true),
-            ("", false),
-        ] {
-            assert_eq!(rt; matcher.is_match(alloc, string)?, is_in, "{string}");
-        }
-        shows(rt, alloc, &matcher, "Fn(..)")?;
-        let map: BTreeMap<String, usize> = numbered(alloc, &["foo", "ba", "bar"])?;
-        finds(rt, alloc, &matcher, &map, &[("bar", 2), ("foo", 0)])
+        holds_three_bytes(rt, alloc, &matcher)
     })
 }

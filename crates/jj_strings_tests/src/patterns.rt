@@ -1,71 +1,88 @@
 //! Patterns of each kind: how a text is read as one, and which strings its set holds.
-use crate::fixtures::{matcher, pattern, shows};
+use crate::fixtures::{matcher, matches, matches_bytes, pattern, shows};
 use jj_content_tests::once_more::passes;
 use jj_strings::str_util::{StringPattern, StringPatternParseError};
 use std::alloc::{AllocError, Global};
 use std::process::Abort;
 use std::test::Fail;
 
-// Kind, text, the debug form of the pattern, whether its set is seen to be everything, and the one
-// text of an exact pattern.
-const KINDS: [(&str, &str, &str, bool, Option<&str>); 24] = [
-    ("exact", "", "Exact(\"\")", false, Some("")),
-    ("exact", "foo", "Exact(\"foo\")", false, Some("foo")),
-    ("exact", "*", "Exact(\"*\")", false, Some("*")),
-    ("exact-i", "", "ExactI(\"\")", false, None),
-    ("exact-i", "Foo", "ExactI(\"Foo\")", false, None),
-    ("substring", "", "Substring(\"\")", true, None),
-    ("substring", "foo", "Substring(\"foo\")", false, None),
-    ("substring-i", "", "SubstringI(\"\")", true, None),
-    ("substring-i", "foo", "SubstringI(\"foo\")", false, None),
-    ("glob", "", "Exact(\"\")", false, Some("")),
-    (
-        "glob",
-        "a,b.c-d!^",
-        "Exact(\"a,b.c-d!^\")",
-        false,
-        Some("a,b.c-d!^"),
-    ),
-    ("glob", "foo*", "Glob(GlobPattern(\"foo*\"))", false, None),
-    ("glob", "*", "Glob(GlobPattern(\"*\"))", true, None),
-    ("glob", "**", "Glob(GlobPattern(\"**\"))", false, None),
-    ("glob", "?", "Glob(GlobPattern(\"?\"))", false, None),
-    ("glob", "]", "Glob(GlobPattern(\"]\"))", false, None),
-    ("glob", "{}", "Glob(GlobPattern(\"{}\"))", false, None),
-    ("glob-i", "", "GlobI(GlobPattern(\"\"))", false, None),
-    ("glob-i", "foo", "GlobI(GlobPattern(\"foo\"))", false, None),
-    ("glob-i", "*", "GlobI(GlobPattern(\"*\"))", true, None),
-    ("regex", "", "Regex(Regex(\"\"))", true, None),
-    ("regex", "foo", "Regex(Regex(\"foo\"))", false, None),
-    ("regex-i", "", "RegexI(Regex(\"\"))", true, None),
-    ("regex-i", "foo", "RegexI(Regex(\"foo\"))", false, None),
+// Kind, text, the debug form of the pattern, whether its set is seen to be everything, and whether
+// it is the text alone.
+type Kind = (&'static str, &'static str, &'static str, bool, bool);
+
+const KINDS: [Kind; 24] = [
+    ("exact", "", "Exact(\"\")", false, true),
+    ("exact", "foo", "Exact(\"foo\")", false, true),
+    ("exact", "*", "Exact(\"*\")", false, true),
+    ("exact-i", "", "ExactI(\"\")", false, false),
+    ("exact-i", "Foo", "ExactI(\"Foo\")", false, false),
+    ("substring", "", "Substring(\"\")", true, false),
+    ("substring", "foo", "Substring(\"foo\")", false, false),
+    ("substring-i", "", "SubstringI(\"\")", true, false),
+    ("substring-i", "foo", "SubstringI(\"foo\")", false, false),
+    ("glob", "", "Exact(\"\")", false, true),
+    ("glob", "a,b.c-d!^", "Exact(\"a,b.c-d!^\")", false, true),
+    ("glob", "foo*", "Glob(GlobPattern(\"foo*\"))", false, false),
+    ("glob", "*", "Glob(GlobPattern(\"*\"))", true, false),
+    ("glob", "**", "Glob(GlobPattern(\"**\"))", false, false),
+    ("glob", "?", "Glob(GlobPattern(\"?\"))", false, false),
+    ("glob", "]", "Glob(GlobPattern(\"]\"))", false, false),
+    ("glob", "{}", "Glob(GlobPattern(\"{}\"))", false, false),
+    ("glob-i", "", "GlobI(GlobPattern(\"\"))", false, false),
+    ("glob-i", "foo", "GlobI(GlobPattern(\"foo\"))", false, false),
+    ("glob-i", "*", "GlobI(GlobPattern(\"*\"))", true, false),
+    ("regex", "", "Regex(Regex(\"\"))", true, false),
+    ("regex", "foo", "Regex(Regex(\"foo\"))", false, false),
+    ("regex-i", "", "RegexI(Regex(\"\"))", true, false),
+    ("regex-i", "foo", "RegexI(Regex(\"foo\"))", false, false),
 ];
 
 // Checks what a pattern says of itself.
-fn says<R: Abort>(rt: &R, pattern: &StringPattern, text: &str, is_all: bool, exact: Option<&str>) {
+fn says<R: Abort>(rt: &R, pattern: &StringPattern, text: &str, is_all: bool, is_exact: bool) {
     assert!(rt; pattern.as_str() == text, "the text of {text}");
     assert!(rt; pattern.is_all() == is_all, "{text} as everything");
-    assert!(rt; pattern.is_exact() == exact.is_some(), "{text} as exact");
+    assert!(rt; pattern.is_exact() == is_exact, "{text} as exact");
+    let exact = is_exact.then_some(text);
     assert!(rt; pattern.as_exact() == exact, "the exact text of {text}");
 }
 
-fn kinds<R: Abort>(rt: &R, alloc: Global) -> Result<(), AllocError> {
-    for (kind, text, shown, is_all, exact) in KINDS {
-        let pattern = pattern(rt, alloc, kind, text)?;
-        shows(rt, alloc, &pattern, shown)?;
-        shows(rt, alloc, &pattern.clone()?, shown)?;
-        says(rt, &pattern, text, is_all, exact);
+// Checks the debug forms of a pattern and of its clone.
+fn shows_with_copy<R: Abort>(
+    rt: &R,
+    alloc: Global,
+    pattern: &StringPattern,
+    shown: &str,
+) -> Result<(), AllocError> {
+    shows(rt, alloc, pattern, shown)?;
+    shows(rt, alloc, &pattern.clone()?, shown)
+}
+
+fn kind<R: Abort>(rt: &R, alloc: Global, row: &Kind) -> Result<(), AllocError> {
+    let (kind, text, shown, is_all, is_exact) = row;
+    let pattern = pattern(rt, alloc, kind, text)?;
+    says(rt, &pattern, text, *is_all, *is_exact);
+    shows_with_copy(rt, alloc, &pattern, shown)
+}
+
+fn kinds<R: Abort>(rt: &R, alloc: Global, rows: &[Kind]) -> Result<(), AllocError> {
+    for row in rows {
+        kind(rt, alloc, row)?;
     }
-    shows(rt, alloc, &StringPattern::all(alloc), "Substring(\"\")")
+    Ok(())
 }
 
 #[test]
 fn texts_of_a_kind(rt: HostRuntime) -> Result<(), Fail> {
-    passes(&rt, kinds)
+    passes(&rt, |rt, alloc| {
+        kinds(rt, alloc, &KINDS)?;
+        shows(rt, alloc, &StringPattern::all(alloc), "Substring(\"\")")
+    })
 }
 
 // Kind, text, and how the debug form and the text of the error begin.
-const FAULTS: [(&str, &str, &str, &str); 14] = [
+type Fault = (&'static str, &'static str, &'static str, &'static str);
+
+const FAULTS: [Fault; 14] = [
     (
         "",
         "foo",
@@ -107,9 +124,9 @@ fn begins<R: Abort>(
     rt: &R,
     alloc: Global,
     error: &StringPatternParseError,
-    wanted: (&str, &str),
+    shown: &str,
+    message: &str,
 ) -> Result<(), AllocError> {
-    let (shown, message) = wanted;
     let debug = format!(in alloc; "{error:?}")?;
     assert!(rt; debug.as_str().starts_with(shown), "the error {debug}");
     let display = format!(in alloc; "{error}")?;
@@ -120,38 +137,45 @@ fn begins<R: Abort>(
     Ok(())
 }
 
-fn faults<R: Abort>(rt: &R, alloc: Global) -> Result<(), AllocError> {
-    for (kind, text, shown, message) in FAULTS {
-        match StringPattern::from_str_kind(alloc, text, kind) {
-            Ok(_) => panic!(rt; "{kind}:{text} is no pattern"),
-            Err(StringPatternParseError::Memory) => return Err(AllocError),
-            Err(error) => begins(rt, alloc, &error, (shown, message))?,
-        }
+// Why the text is no pattern of the kind.
+fn fault<R: Abort>(
+    rt: &R,
+    alloc: Global,
+    kind: &str,
+    text: &str,
+) -> Result<StringPatternParseError, AllocError> {
+    match StringPattern::from_str_kind(alloc, text, kind) {
+        Ok(_) => panic!(rt; "{kind}:{text} is no pattern"),
+        Err(StringPatternParseError::Memory) => Err(AllocError),
+        Err(error) => Ok(error),
+    }
+}
+
+fn faults<R: Abort>(rt: &R, alloc: Global, rows: &[Fault]) -> Result<(), AllocError> {
+    for (kind, text, shown, message) in rows {
+        begins(rt, alloc, &fault(rt, alloc, kind, text)?, shown, message)?;
     }
     Ok(())
 }
 
 #[test]
 fn texts_of_no_kind(rt: HostRuntime) -> Result<(), Fail> {
-    passes(&rt, faults)
+    passes(&rt, |rt, alloc| faults(rt, alloc, &FAULTS))
 }
 
 // Kind, text, a string, and whether the set holds it.
 type Row = (&'static str, &'static str, &'static str, bool);
 
+fn set<R: Abort>(rt: &R, alloc: Global, row: &Row) -> Result<(), AllocError> {
+    let (kind, text, string, wanted) = row;
+    let matcher = matcher(rt, alloc, kind, text)?;
+    matches(rt, alloc, &matcher, string, *wanted)?;
+    matches_bytes(rt, alloc, &matcher, string.as_bytes(), *wanted)
+}
+
 fn sets<R: Abort>(rt: &R, alloc: Global, rows: &[Row]) -> Result<(), AllocError> {
-    for (kind, text, string, is_in) in rows {
-        let matcher = matcher(rt, alloc, kind, text)?;
-        assert_eq!(rt;
-            matcher.is_match(alloc, string)?,
-            *is_in,
-            "{kind}:{text} and {string}"
-        );
-        assert_eq!(rt;
-            matcher.is_match_bytes(alloc, string.as_bytes())?,
-            *is_in,
-            "{kind}:{text} and {string}"
-        );
+    for row in rows {
+        set(rt, alloc, row)?;
     }
     Ok(())
 }
@@ -246,7 +270,9 @@ fn sets_of_regexes(rt: HostRuntime) -> Result<(), Fail> {
 }
 
 // Bytes, some of which are no text.
-const BYTES: [(&str, &str, &[u8], bool); 9] = [
+type BytesRow = (&'static str, &'static str, &'static [u8], bool);
+
+const BYTES: [BytesRow; 9] = [
     ("exact", "é", b"\xc3\xa9", true),
     ("exact-i", "A\u{7f}", b"a\x7f", true),
     ("substring", "a", b"\xffa", true),
@@ -258,19 +284,19 @@ const BYTES: [(&str, &str, &[u8], bool); 9] = [
     ("regex-i", "A$", b"\xffa", true),
 ];
 
-fn bytes<R: Abort>(rt: &R, alloc: Global) -> Result<(), AllocError> {
-    for (kind, text, bytes, is_in) in BYTES {
-        let matcher = matcher(rt, alloc, kind, text)?;
-        assert_eq!(rt;
-            matcher.is_match_bytes(alloc, bytes)?,
-            is_in,
-            "{kind}:{text} and {bytes:?}"
-        );
+fn set_of_bytes<R: Abort>(rt: &R, alloc: Global, row: &BytesRow) -> Result<(), AllocError> {
+    let (kind, text, bytes, wanted) = row;
+    matches_bytes(rt, alloc, &matcher(rt, alloc, kind, text)?, *bytes, *wanted)
+}
+
+fn bytes<R: Abort>(rt: &R, alloc: Global, rows: &[BytesRow]) -> Result<(), AllocError> {
+    for row in rows {
+        set_of_bytes(rt, alloc, row)?;
     }
     Ok(())
 }
 
 #[test]
 fn sets_of_bytes(rt: HostRuntime) -> Result<(), Fail> {
-    passes(&rt, bytes)
+    passes(&rt, |rt, alloc| bytes(rt, alloc, &BYTES))
 }

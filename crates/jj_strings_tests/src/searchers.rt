@@ -1,22 +1,22 @@
 //! Matchers that are asked string after string.
-use crate::fixtures::pattern;
+use crate::fixtures::{answers, expression};
 use jj_content_tests::once_more::passes;
 use jj_strings::str_util::{StringExpression, StringMatcher, StringSearcher};
 use std::alloc::{AllocError, Global};
 use std::process::Abort;
 use std::test::Fail;
 
-// What begins with `a` and does not end in `b`, in either case.
+// What ends in `b`, in either case, and the text `ac`.
+fn ends<R: Abort>(rt: &R, alloc: Global) -> Result<StringExpression, AllocError> {
+    let in_b = expression(rt, alloc, "regex-i", "B$")?;
+    in_b.union(alloc, expression(rt, alloc, "exact", "ac")?)
+}
+
+// What begins with `a` and does not end so.
 fn starts_alone<R: Abort>(rt: &R, alloc: Global) -> Result<StringMatcher, AllocError> {
-    let starts = StringExpression::pattern(alloc, pattern(rt, alloc, "regex", "^a")?)?;
-    let ends = StringExpression::pattern(alloc, pattern(rt, alloc, "regex-i", "B$")?)?;
-    let neither = ends.union(
-        alloc,
-        StringExpression::pattern(alloc, pattern(rt, alloc, "exact", "ac")?)?,
-    )?;
-    starts
-        .intersection(alloc, neither.negated(alloc)?)?
-        .to_matcher(alloc)
+    let starts = expression(rt, alloc, "regex", "^a")?;
+    let alone = starts.intersection(alloc, ends(rt, alloc)?.negated(alloc)?)?;
+    alone.to_matcher(alloc)
 }
 
 const ASKED: [(&str, bool); 7] = [
@@ -38,14 +38,23 @@ fn answer(searcher: &mut StringSearcher<'_>, text: &str) -> Result<bool, AllocEr
 }
 
 // A searcher that was refused memory is asked for the same text again.
+fn ask_each<R: Abort>(
+    rt: &R,
+    searcher: &mut StringSearcher<'_>,
+    rows: &[(&str, bool)],
+) -> Result<(), AllocError> {
+    for (text, holds) in rows {
+        answers(rt, answer(searcher, text)?, *holds, text);
+    }
+    Ok(())
+}
+
+fn one_after_another<R: Abort>(rt: &R, alloc: Global) -> Result<(), AllocError> {
+    let matcher = starts_alone(rt, alloc)?;
+    ask_each(rt, &mut matcher.searcher(alloc), &ASKED)
+}
+
 #[test]
 fn strings_one_after_another(rt: HostRuntime) -> Result<(), Fail> {
-    passes(&rt, |rt, alloc| {
-        let matcher = starts_alone(rt, alloc)?;
-        let mut searcher = matcher.searcher(alloc);
-        for (text, holds) in ASKED {
-            assert_eq!(rt; answer(&mut searcher, text)?, holds, "{text:?}");
-        }
-        Ok(())
-    })
+    passes(&rt, one_after_another)
 }

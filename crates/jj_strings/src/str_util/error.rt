@@ -1,4 +1,7 @@
 //! Why a text is no pattern of strings.
+ghost use Rattle.std.specs.Prelude.{◌≡◌};
+ghost use Rattle.jj_strings.specs.declared.str_util.error.StringPatternParseError.{StringPatternParseError};
+
 use jj_globs::glob::GlobError;
 use std::alloc::{AllocError, AllocFailed};
 use thiserror::Error;
@@ -18,10 +21,7 @@ pub enum StringPatternParseError {
 }
 
 impl From<AllocError> for StringPatternParseError {
-    ghost use Rattle.std.specs.Prelude.{◌≡◌};
-    ghost use Rattle.jj_strings.specs.declared.str_util.error.StringPatternParseError.TheVariants.{Memory};
-
-    ghost from_gives = { λ _ error. error ≡ Memory };
+    ghost from_gives = { λ _ error. error ≡ StringPatternParseError.Memory };
 
     fn from(_refused: AllocError) -> Self {
         StringPatternParseError::Memory
@@ -29,10 +29,7 @@ impl From<AllocError> for StringPatternParseError {
 }
 
 impl<T: Drop> From<AllocFailed<T>> for StringPatternParseError {
-    ghost use Rattle.std.specs.Prelude.{◌≡◌};
-    ghost use Rattle.jj_strings.specs.declared.str_util.error.StringPatternParseError.TheVariants.{Memory};
-
-    ghost from_gives = { λ _ error. error ≡ Memory };
+    ghost from_gives = { λ _ error. error ≡ StringPatternParseError.Memory };
 
     fn from(_refused: AllocFailed<T>) -> Self {
         StringPatternParseError::Memory

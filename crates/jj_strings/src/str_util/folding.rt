@@ -43,7 +43,7 @@ pub(crate) fn contains_folded(bytes: &[u8], text: &[u8], borders: &[usize]) -> b
 fn stands_in_arrays<const TEXT: usize, const WINDOW: usize>(bytes: &[u8], text: &[u8]) -> bool
     requires text { length text.now ≤ TEXT }
     requires window { TEXT < WINDOW }
-    requires limit { WINDOW ≤ 8192 }
+    requires limit { WINDOW ≤ LONG_WINDOW }
     ensures { IsTrue result ↔ Contains (folded bytes.now) (folded text.now) }
 {
     let mut lower = [0; TEXT];

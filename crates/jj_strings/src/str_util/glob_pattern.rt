@@ -1,7 +1,6 @@
 //! A glob as a pattern of strings: its `?` and `*` stand for `/` too.
-ghost use Rattle.std.specs.Prelude.{◌≡◌, ◌↔◌, IsTrue, IsOk, OnOk, MatchResult};
-ghost use Rattle.jj_globs.specs.GlobText.{tokens_of};
-ghost use Rattle.jj_globs.specs.GlobReads.{IsReadingFault};
+ghost use Rattle.std.specs.Prelude.{◌≡◌, ◌↔◌, IsTrue};
+ghost use Rattle.jj_globs.specs.GlobReads.{ReadsAsGlob};
 ghost use Rattle.jj_strings.specs.StringSets.{string_glob};
 
 use jj_globs::glob::{Glob, GlobError};
@@ -37,10 +36,7 @@ impl GlobPattern {
 
     // The pattern that the text is; with `icase` ASCII letters match in either case.
     pub(crate) fn parse(alloc: Global, text: &str, icase: bool) -> Result<GlobPattern, GlobError>
-        ensures pattern { MatchResult result
-            (λ pattern. pattern ≡ string_glob text.now icase)
-            (λ error. IsReadingFault error (tokens_of text.now)) }
-        ensures reads { OnOk result (IsOk (tokens_of text.now)) }
+        ensures { ReadsAsGlob text.now (string_glob text.now icase) result }
     {
         let glob = match Glob::parse(alloc, text, false, icase) {
             Ok(glob) => glob,
