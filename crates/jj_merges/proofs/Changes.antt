@@ -7,7 +7,6 @@ use Rattle.std.proofs.Math.ListN.{length-set}
 use Rattle.std.specs.List.{swap_remove}
 use Rattle.jj_merges.specs.Merge.{adds, removes}
 use Rattle.jj_merges.proofs.Sides.{length-adds, length-removes}
-use Rattle.jj_merges.proofs.Sound.{many, sound_many}
 
 take-none : {T : Type 0} (n : ℕ) → take {A = T} n [] ≡ []
 take-none zero = refl
@@ -117,5 +116,3 @@ module _ {T : Type 0} (m : List T) (odd : length m % 2 ≡ 1) (a r : ℕ) (x y :
   removed_is e =
       slice_get_read (removes m) (length (removes m)) r y refl hr
       (e ∙ (sym (get_or-removes without_add r y) ∙ ap (λ rs. get_or rs r y) removes_without_add))
-
-pub ruleset removed = (length-adds, length-removes, many, sound_many)

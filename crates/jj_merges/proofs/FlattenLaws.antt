@@ -129,3 +129,10 @@ module _ {T : Type 0} where
           signed_count-append (turned m) (flattened ms) (omega (arith, length-turned m, odd))
           ∙ (ap (λ z. z -ℤ signed_count eq (flattened ms) v) (signed_count-turned m odd)
           ∙ ap (λ z. signed_count eq m v -ℤ z) (count-flattened ms (All-tail (λ k. length k % 2 ≡ 1) m ms h)))
+
+-- a remove and the add after it are appended, and go before what is left
+pub turned_more : {T : Type 0} (left rest xs next all : List T) (r a first : T) → left ≡ r ∷ a ∷ rest → next ≡ xs ++ a ∷ r ∷ [] → xs ++ (turned_pairs left ++ first ∷ []) ≡ all
+    → next ++ (turned_pairs rest ++ first ∷ []) ≡ all
+turned_more left rest xs next all r a first taken pushed h =
+    let after = turned_pairs rest ++ first ∷ [] in
+    ap (λ ys. ys ++ after) pushed ∙ (append_assoc xs (a ∷ r ∷ []) after ∙ (ap (λ ys. xs ++ (turned_pairs ys ++ first ∷ [])) (sym taken) ∙ h))

@@ -1,18 +1,11 @@
 -- The legacy form, one remove and one add more.
 use Rattle.std.proofs.Common.{◌≡◌, ◌%◌, ◌≤◌, List, [], ◌∷◌, ◌++◌, length, refl, ap, arith, sym, ◌∙◌}
 use Rattle.std.specs.Prelude.{Option, Some, None}
-use Rattle.std.specs.Option.{option_to_list}
-use Rattle.std.proofs.lemmas.List.Elements.{filter_map-append}
 use Rattle.jj_merges.specs.Flatten.{legacy_rest, legacy_terms, present-adds-legacy, present-removes-legacy}
 use Rattle.jj_merges.specs.Merge.{adds, removes}
 use Rattle.jj_merges.specs.Options.{present}
 
 module _ {T : Type 0} where
-  -- the values that are there, of one term more
-  pub present-push : (xs : List (Option T)) (x : Option T) → present (xs ++ x ∷ []) ≡ present xs ++ option_to_list x
-  present-push xs None = filter_map-append (λ o. o) xs (None ∷ []) ∙ refl
-  present-push xs (Some x) = filter_map-append (λ o. o) xs (Some x ∷ [])
-
   -- each remove and before it an add, or none where the adds have ended
   abbrev pub legacy_front : List T → List T → List (Option T)
   legacy_front [] ys = []
@@ -50,7 +43,7 @@ module _ {T : Type 0} where
   legacy_terms-long (x ∷ xs) (b ∷ ys) zs a e =
       ap (λ ws. Some b ∷ Some x ∷ ws) (legacy_terms-long xs ys zs a (omega arith)) ∙ ap (λ ws. Some b ∷ ws) (sym (legacy_rest-cons x xs (ys ++ a ∷ zs)))
 
-  pub legacy_rest-push : (zs : List T) (z : T) → legacy_rest [] (zs ++ z ∷ []) ≡ (legacy_rest [] zs ++ None ∷ []) ++ Some z ∷ []
+  pub legacy_rest-push : (zs : List T) (z : T) → legacy_rest [] (zs ++ z ∷ []) ≡ legacy_rest [] zs ++ None ∷ Some z ∷ []
   legacy_rest-push [] z = refl
   legacy_rest-push (a ∷ zs) z = ap (λ ws. None ∷ Some a ∷ ws) (legacy_rest-push zs z)
 

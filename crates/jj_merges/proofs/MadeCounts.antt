@@ -1,6 +1,6 @@
 -- The signed counts of clones, of one value repeated, of diffs, of values that may be absent, and of
 -- what loses a pair.
-use Rattle.std.proofs.Common.{◌≡◌, ℕ, ◌+◌, ◌%◌, ◌<◌, Bool, true, false, cond, List, [], ◌∷◌, length, map, Some, None, Option, Ok, Err, Result, OnOk, length-append, ◌*◌, refl, ap, arith, sym, ◌∙◌, get_or, inl, inr, ◌⊎◌}
+use Rattle.std.proofs.Common.{◌≡◌, ℕ, ◌+◌, ◌%◌, ◌<◌, Bool, true, false, cond, List, [], ◌∷◌, length, map, Some, None, Option, Ok, Err, Result, OnErr, OnOk, length-append, ◌*◌, refl, ap, arith, sym, ◌∙◌, get_or, inl, inr, ◌⊎◌}
 use Rattle.std.specs.Prelude.{count_by, slice_get, pos, ◌+ℤ◌, ◌-ℤ◌}
 use Rattle.std.specs.Cmp.{IsPartialEquivalence}
 use Rattle.std.specs.List.{AllZip, AllClonesOf, AppendsClonesOf, swap_remove}
@@ -20,6 +20,10 @@ use Rattle.std.proofs.lemmas.Option.{get_or_from_slice_get}
 pub on_ok_both : {T E A B C : Type 0} (r : Result T E) → (A → B → C) → OnOk r A → OnOk r B → OnOk r C
 on_ok_both (Ok x) f a b = f a b
 on_ok_both (Err e) f a b = tt
+
+pub by_result : {T E A B C : Type 0} (r : Result T E) → OnOk r A → OnErr r B → (A → C) → (B → C) → C
+by_result (Ok x) a b f h = f a
+by_result (Err e) a b f h = h b
 
 count-single : {T : Type 0} (p : T → Bool) (x : T) → count_by p (x ∷ []) ≡ cond {A = ℕ} (p x) 1 0
 count-single {T} p x =

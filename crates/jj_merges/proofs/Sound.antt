@@ -1,5 +1,5 @@
 -- When the terms of a merge in the making make a merge.
-use Rattle.std.proofs.Common.{◌<◌, length, arith}
+use Rattle.std.proofs.Common.{◌≡◌, ◌<◌, ◌%◌, [], ◌∷◌, ap, length, arith}
 use Rattle.jj_merges.specs.Odd.{IsOdd}
 use Rattle.jj_merges.specs.Terms.{items, HoldsOne, IsMany, IsSound}
 use Rattle.jj_merges.specs.declared.merge.storage.Terms.{Terms}
@@ -23,3 +23,8 @@ sound_many (Many v) h odd = odd
 pub holds_one : {T : Type 0} (t : Terms T) → IsSound t → HoldsOne t
 holds_one (One v) h = h
 holds_one (Many v) h = tt
+
+-- a term alone
+pub sound_one : {T : Type 0} (t : Terms T) (x : T) → items t ≡ x ∷ [] → IsSound t
+sound_one (One v) x e = ap length e
+sound_one (Many v) x e = ap (λ xs. length xs % 2) e

@@ -136,14 +136,14 @@ impl ConflictLabels {
     pub fn get_add(&self, add_index: usize) -> Option<&str>
         ensures { option_copied result ≡ nonempty (slice_get (adds self.now) add_index) }
     {
-        shown(self.labels.get_add(add_index))
+        label_text(self.labels.get_add(add_index))
     }
 
     /// The label of the remove of this index, if there is one that is not empty.
     pub fn get_remove(&self, remove_index: usize) -> Option<&str>
         ensures { option_copied result ≡ nonempty (slice_get (removes self.now) remove_index) }
     {
-        shown(self.labels.get_remove(remove_index))
+        label_text(self.labels.get_remove(remove_index))
     }
 
     /// The simplified merge, and the labels of its terms.
@@ -171,7 +171,7 @@ impl ConflictLabels {
 }
 
 // The text of a label that is there and not empty.
-fn shown(label: Option<&String>) -> Option<&str>
+fn label_text(label: Option<&String>) -> Option<&str>
     ensures { option_copied result ≡ nonempty
         (option_map string_bytes (option_copied label.entry)) }
 {

@@ -22,6 +22,7 @@ mod images;
 mod into_iter;
 mod legacy;
 mod options;
+mod sides;
 mod simplify;
 mod standard;
 mod storage;
@@ -69,14 +70,10 @@ pub struct Merge<T> {
 }
 
 impl<T> Model for Merge<T> {
-    ghost use Rattle.std.specs.Prelude.{List, length};
-    ghost use Rattle.std.specs.Coded.{coded_list};
+    ghost use Rattle.std.specs.Prelude.{List};
+    ghost use Rattle.jj_merges.specs.Terms.{items, IsSound};
 
     ghost Value = { List T };
-
-    ghost coded = { coded_list T.code };
-
-    ghost use Rattle.jj_merges.specs.Terms.{items, IsSound};
 
     ghost view = { λ m. items m.terms };
 
@@ -128,7 +125,6 @@ impl<T> Merge<T> {
     }
 
     /// The number of adds.
-    #[tactic(auto, using(crate::proofs::Sides::lengths))]
     pub fn num_sides(&self) -> usize
         ensures terms { length self.now + 1 ≡ 2 * result }
         ensures adds { length (adds self.now) ≡ result }

@@ -51,12 +51,18 @@ fn made_of_sides<R: Abort>(
     Ok(whole.as_slice() == options(alloc, wanted)?.as_slice())
 }
 
+// Removes, adds, and the terms that they make, between slashes.
+fn row_of<'a, R: Abort>(rt: &R, row: &'a str) -> (&'a str, &'a str, &'a str) {
+    let (removes, others) = columns(rt, row, '/');
+    let (adds, wanted) = columns(rt, others, '/');
+    (removes, adds, wanted)
+}
+
 #[test]
 fn removes_and_adds(rt: HostRuntime) -> Result<(), Fail> {
     passes(&rt, |rt, alloc| {
         for row in SIDES {
-            let (removes, others) = columns(rt, row, '/');
-            let (adds, wanted) = columns(rt, others, '/');
+            let (removes, adds, wanted) = row_of(rt, row);
             let same = made_of_sides(rt, alloc, removes, adds, wanted)?;
             assert!(rt; same, "{row}");
         }
@@ -108,8 +114,7 @@ fn is_legacy_form(
 fn legacy_form(rt: HostRuntime) -> Result<(), Fail> {
     passes(&rt, |rt, alloc| {
         for row in LEGACY {
-            let (removes, others) = columns(rt, row, '/');
-            let (adds, wanted) = columns(rt, others, '/');
+            let (removes, adds, wanted) = row_of(rt, row);
             let same = is_legacy_form(alloc, removes, adds, wanted)?;
             assert!(rt; same, "{row}");
         }

@@ -5,8 +5,8 @@ ghost use Rattle.std.specs.Iterator.{Drains};
 ghost use Rattle.std.specs.List.{AllZip};
 ghost use Rattle.jj_merges.specs.Counts.{HaveCountsOfDiffs};
 ghost use Rattle.jj_merges.specs.Odd.{IsOdd};
-ghost use Rattle.jj_merges.specs.Terms.{items};
-ghost use Rattle.jj_merges.specs.Made.{Ends, Gives, diff_terms};
+ghost use Rattle.jj_merges.specs.Terms.{items, HoldsOne, IsSound};
+ghost use Rattle.jj_merges.specs.Made.{Ends, Gives, MayRun, diff_terms};
 ghost use Rattle.jj_merges.specs.Merge as merge;
 
 use super::storage::Terms;
@@ -22,14 +22,7 @@ pub struct MergeBuilder<T> {
 }
 
 impl<T> Model for MergeBuilder<T> {
-    ghost use Rattle.std.specs.Prelude.{List};
-    ghost use Rattle.std.specs.Coded.{coded_list};
-
     ghost Value = { List T };
-
-    ghost coded = { coded_list T.code };
-
-    ghost use Rattle.jj_merges.specs.Terms.{items, HoldsOne};
 
     ghost view = { λ b. items b.terms };
 
@@ -128,22 +121,10 @@ impl<T: Drop> Merge<T> {
             (merge.adds m)) }
     {
         let removes = removes.into_iter();
-        let mut adds = adds.into_iter();
+        let adds = adds.into_iter();
         let (room, _) = removes.size_hint();
         let mut terms = Terms::with_room(alloc, room.saturating_mul(2).saturating_add(1))?;
-        let mut add = adds.next();
-        for remove in removes {
-            if let Some(value) = add {
-                terms.push(alloc, value)?;
-                terms.push(alloc, remove)?;
-                add = adds.next();
-            }
-        }
-        match add {
-            Some(value) => terms.push(alloc, value)?,
-            None => unreachable!(),
-        }
-        for _none in adds {}
+        push_by_turns(&mut terms, alloc, removes, adds)?;
         Ok(Merge { terms })
     }
 
@@ -162,9 +143,41 @@ impl<T: Drop> Merge<T> {
         let mut terms = Terms::one(first_side);
         for diff in diffs {
             let Diff { before, after } = diff;
-            terms.push(alloc, before)?;
-            terms.push(alloc, after)?;
+            terms.push_both(alloc, before, after)?;
         }
         Ok(Merge { terms })
     }
+}
+
+// Appends the first of the adds, and then each remove with the add after it.
+fn push_by_turns<T: Drop, R: Iterator<Item = T>, A: Iterator<Item = T>>(
+    terms: &mut Terms<T>,
+    alloc: Global,
+    removes: R,
+    adds: A,
+) -> Result<(), AllocError>
+    requires empty { (items terms.old ≡ []) × HoldsOne terms.old }
+    requires removes_end { MayRun R.can_next R.remaining removes }
+    requires adds_end { MayRun A.can_next A.remaining adds }
+    requires one_more { (xs ys : List T) → Drains R.next_gives removes xs
+        → Drains A.next_gives adds ys → length ys ≡ length xs + 1 }
+    ensures removes { OnOk result (Drains R.next_gives removes
+        (merge.removes (items terms.new))) }
+    ensures adds { OnOk result (Drains A.next_gives adds (merge.adds (items terms.new))) }
+    ensures sound { OnOk result (IsSound terms.new) }
+{
+    let mut adds = adds;
+    let mut add = adds.next();
+    for remove in removes {
+        if let Some(value) = add {
+            terms.push_both(alloc, value, remove)?;
+            add = adds.next();
+        }
+    }
+    match add {
+        Some(value) => terms.push(alloc, value)?,
+        None => unreachable!(),
+    }
+    for _none in adds {}
+    Ok(())
 }

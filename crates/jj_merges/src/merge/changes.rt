@@ -12,7 +12,6 @@ use std::vec::VecCloneMethods;
 impl<T> Merge<T> {
     /// Takes out a remove and an add, in this order. The last remove and the last add move into
     /// their places.
-    #[tactic(auto, using(crate::proofs::Changes::removed))]
     pub fn swap_remove(&mut self, remove_index: usize, add_index: usize) -> (T, T)
         requires remove { remove_index < length (removes self.old) }
         requires add { add_index < length (adds self.old) }

@@ -1,5 +1,5 @@
 //! The adds, or the removes, of a merge by reference.
-ghost use Rattle.std.specs.Prelude.{◌≡◌, length};
+ghost use Rattle.std.specs.Prelude.{◌≡◌, List, length};
 ghost use Rattle.std.specs.Iterator.{YieldsFirstRef, item_count};
 ghost use Rattle.jj_merges.specs.Merge.{adds, removes};
 
@@ -14,13 +14,7 @@ pub struct EverySecond<'a, T> {
 }
 
 impl<'a, T> Model for EverySecond<'a, T> {
-    ghost use Rattle.std.specs.Prelude.{List};
-    ghost use Rattle.std.specs.Coded.{coded_list};
-    ghost use Rattle.jj_merges.specs.Merge.{adds};
-
     ghost Value = { List T };
-
-    ghost coded = { coded_list T.code };
 
     ghost view = { λ it. adds it.rest.now };
 }

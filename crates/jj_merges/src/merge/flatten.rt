@@ -4,8 +4,8 @@ ghost use Rattle.jj_merges.specs.Flatten.{flattened, turned, outer_count};
 ghost use Rattle.jj_merges.specs.Merge.{signed_count};
 ghost use Rattle.jj_merges.specs.Terms.{items, HoldsOne};
 
-use super::Merge;
 use super::storage::Terms;
+use super::{IntoIter, Merge};
 use std::alloc::{AllocError, Global};
 
 impl<T: Drop> Merge<Merge<T>> {
@@ -19,21 +19,35 @@ impl<T: Drop> Merge<Merge<T>> {
     {
         let len = self.as_slice().len();
         let mut merges = self.into_iter();
-        let Some(first) = merges.next() else {
-            unreachable!();
-        };
-        let first_len = first.as_slice().len();
-        let Merge { terms } = first;
-        let mut terms = terms;
-        while let Some(remove) = merges.next() {
-            append_turned(&mut terms, alloc, remove)?;
-            match merges.next() {
-                Some(add) => append(&mut terms, alloc, add)?,
-                None => unreachable!(),
-            }
+        match merges.next() {
+            Some(first) => flattened_from(alloc, first, &mut merges),
+            None => unreachable!(),
         }
-        Ok(Merge { terms })
     }
+}
+
+// The terms of all the merges, those of `first` and then those of each one that is left.
+fn flattened_from<T: Drop>(
+    alloc: Global,
+    first: Merge<T>,
+    merges: &mut IntoIter<Merge<T>>,
+) -> Result<Merge<T>, AllocError>
+    requires { length merges.old % 2 ≡ 0 }
+    ensures terms { IfOk result (λ m. m ≡ flattened (first ∷ merges.old)) }
+    ensures counts { IfOk result (λ m. (eq : T → T → Bool) (v : T)
+        → signed_count eq m v ≡ outer_count eq (first ∷ merges.old) v) }
+{
+    let first_len = first.as_slice().len();
+    let Merge { terms } = first;
+    let mut terms = terms;
+    while let Some(remove) = merges.next() {
+        append_turned(&mut terms, alloc, remove)?;
+        match merges.next() {
+            Some(add) => append(&mut terms, alloc, add)?,
+            None => unreachable!(),
+        }
+    }
+    Ok(Merge { terms })
 }
 
 // Appends the terms of an added merge.
@@ -68,10 +82,7 @@ fn append_turned<T: Drop>(
     };
     while let Some(removed) = rest.next() {
         match rest.next() {
-            Some(added) => {
-                terms.push(alloc, added)?;
-                terms.push(alloc, removed)?;
-            }
+            Some(added) => terms.push_both(alloc, added, removed)?,
             None => unreachable!(),
         }
     }

@@ -1,18 +1,17 @@
 //! Calls that make a merge of another one place by place. One term is kept in the value.
-ghost use Rattle.std.specs.Prelude.{◌≡◌, ◌⊎◌, ℕ, ◌+◌, ◌*◌, ◌<◌, length, map, IfOk, IfErr, alloc_error};
+ghost use Rattle.std.specs.Prelude.{◌≡◌, ◌⊎◌, ℕ, ◌+◌, ◌*◌, ◌<◌, ◌++◌, [], ◌∷◌, Option, length, map, IfOk, IfErr, OnOk, alloc_error};
 ghost use Rattle.std.specs.Fn.{CalledAt};
 ghost use Rattle.std.specs.List.{AllZip};
 ghost use Rattle.std.specs.Option.{option_copied};
-ghost use Rattle.std.specs.Vec.Iter.{into_iter_items};
-ghost use Rattle.jj_merges.specs.Merge.{adds, removes};
 ghost use Rattle.jj_merges.specs.Counts.{HaveCountsOfClones, HaveCountsOfImages};
-ghost use Rattle.jj_merges.specs.Maps.{MapsTo, FailsAmong};
+ghost use Rattle.jj_merges.specs.Maps.{AreImages, FailsAmong};
+ghost use Rattle.jj_merges.specs.Odd.{IsOdd};
 ghost use Rattle.jj_merges.specs.Options.{IsOptionClone};
+ghost use Rattle.jj_merges.specs.Terms.{items, HoldsOne};
 
-use super::Merge;
 use super::storage::Terms;
+use super::{IntoIter, Merge};
 use std::alloc::{AllocError, Global};
-use std::vec;
 
 impl<T> Merge<T> {
     /// What `f` gives of each term, in order.
@@ -23,8 +22,7 @@ impl<T> Merge<T> {
         f: F,
     ) -> Result<Merge<U>, AllocError>
         requires { F.IsAlwaysCallable f }
-        ensures images { IfOk result (λ m. (last : F)
-            × MapsTo (CalledAt F.FnMut) f self.now m last) }
+        ensures images { IfOk result (AreImages (CalledAt F.FnMut) f self.now) }
         ensures counts { IfOk result (HaveCountsOfImages (CalledAt F.FnMut) self.now) }
     {
         let values = self.as_slice();
@@ -43,8 +41,8 @@ impl<T> Merge<T> {
         f: F,
     ) -> Result<Merge<U>, E>
         requires { F.IsAlwaysCallable f }
-        ensures images { IfOk result (λ m. (last : F)
-            × MapsTo (λ f x y next. CalledAt F.FnMut f x (Ok y) next) f self.now m last) }
+        ensures images { IfOk result
+            (AreImages (λ f x y next. CalledAt F.FnMut f x (Ok y) next) f self.now) }
         ensures counts { IfOk result
             (HaveCountsOfImages (λ f x y next. CalledAt F.FnMut f x (Ok y) next) self.now) }
         // An error is the closure's at the first term where it fails, or want of memory.
@@ -86,16 +84,11 @@ impl<T: Drop> Merge<T> {
         f: F,
     ) -> Result<Merge<U>, AllocError>
         requires { F.IsAlwaysCallable f }
-        ensures images { IfOk result (λ m. (last : F) × MapsTo F.step f self m last) }
+        ensures images { IfOk result (AreImages F.step f self) }
         ensures counts { IfOk result (HaveCountsOfImages F.step self) }
     {
         let len = self.as_slice().len();
-        let mut f = f;
-        let mut images = Terms::with_room(alloc, len)?;
-        for term in self {
-            images.push(alloc, f(term))?;
-        }
-        Ok(Merge { terms: images })
+        images_of(alloc, len, &mut self.into_iter(), f)
     }
 
     /// The terms of both merges, pair by pair.
@@ -105,40 +98,7 @@ impl<T: Drop> Merge<T> {
         ensures seconds { IfOk result (λ m. map (λ p. p.1) m ≡ other) }
     {
         let len = self.as_slice().len();
-        let mut pairs = Terms::with_room(alloc, len)?;
-        let mut others = other.into_iter();
-        for term in self {
-            match others.next() {
-                Some(other) => pairs.push(alloc, (term, other))?,
-                None => unreachable!(),
-            }
-        }
-        Ok(Merge { terms: pairs })
-    }
-}
-
-impl<T: Drop> Merge<T> {
-    /// The removes and the adds by value, apart.
-    pub fn into_removes_adds(
-        self,
-        alloc: Global,
-    ) -> Result<(vec::IntoIter<T>, vec::IntoIter<T>), AllocError>
-        ensures removes { IfOk result (λ p. into_iter_items p.0 ≡ removes self) }
-        ensures adds { IfOk result (λ p. into_iter_items p.1 ≡ adds self) }
-    {
-        let len = self.as_slice().len();
-        let mut removes = Vec::with_capacity(alloc, len / 2)?;
-        let mut adds = Vec::with_capacity(alloc, len / 2 + 1)?;
-        let mut is_add = true;
-        for term in self {
-            if is_add {
-                adds.push(term)?;
-            } else {
-                removes.push(term)?;
-            }
-            is_add = !is_add;
-        }
-        Ok((removes.into_iter(), adds.into_iter()))
+        zipped(alloc, len, &mut self.into_iter(), &mut other.into_iter())
     }
 }
 
@@ -149,13 +109,7 @@ impl<T: Drop, U: Drop> Merge<(T, U)> {
         ensures seconds { IfOk result (λ ms. ms.1 ≡ map (λ p. p.1) self) }
     {
         let len = self.as_slice().len();
-        let mut firsts = Terms::with_room(alloc, len)?;
-        let mut seconds = Terms::with_room(alloc, len)?;
-        for (first, second) in self {
-            firsts.push(alloc, first)?;
-            seconds.push(alloc, second)?;
-        }
-        Ok((Merge { terms: firsts }, Merge { terms: seconds }))
+        unzipped(alloc, len, &mut self.into_iter())
     }
 }
 
@@ -169,19 +123,27 @@ impl<T: Clone> Merge<&T> {
         let values = self.as_slice();
         let mut terms = Terms::with_room(alloc, values.len())?;
         for term in values {
-            terms.push(alloc, T::clone(*term)?)?;
+            terms.push_clone(alloc, *term)?;
         }
         Ok(Merge { terms })
     }
 }
 
-// A clone of the value, if there is one.
-fn clone_of<T: Clone>(term: &Option<&T>) -> Result<Option<T>, AllocError>
-    ensures { IfOk result (λ x. IsOptionClone T.is_clone (option_copied term.now) x) }
+// Appends a clone of the value, or `None` where there is none.
+fn push_clone_of<T: Clone>(
+    terms: &mut Terms<Option<T>>,
+    alloc: Global,
+    term: &Option<&T>,
+) -> Result<(), AllocError>
+    requires { HoldsOne terms.old }
+    ensures ok { OnOk result ((x : Option T)
+        × IsOptionClone T.is_clone (option_copied term.now) x
+        × (items terms.new ≡ items terms.old ++ x ∷ [])) }
+    ensures holds_one { HoldsOne terms.new }
 {
     match term {
-        Some(value) => Ok(Some(T::clone(*value)?)),
-        None => Ok(None),
+        Some(value) => terms.push(alloc, Some(T::clone(*value)?)),
+        None => terms.push(alloc, None),
     }
 }
 
@@ -196,7 +158,7 @@ impl<T: Clone> Merge<Option<&T>> {
         let values = self.as_slice();
         let mut terms = Terms::with_room(alloc, values.len())?;
         for term in values {
-            terms.push(alloc, clone_of(term)?)?;
+            push_clone_of(&mut terms, alloc, term)?;
         }
         Ok(Merge { terms })
     }
@@ -211,4 +173,82 @@ impl<T: Clone> Merge<T> {
         let terms = Terms::clones_of(alloc, self.as_slice())?;
         Ok(Merge { terms })
     }
+}
+
+// What `f` gives of each term that is left, in order.
+fn images_of<T: Drop, U: Drop, F: FnMut(T) -> U>(
+    alloc: Global,
+    len: usize,
+    terms: &mut IntoIter<T>,
+    f: F,
+) -> Result<Merge<U>, AllocError>
+    requires callable { F.IsAlwaysCallable f }
+    requires odd { IsOdd (length terms.old) }
+    ensures images { IfOk result (AreImages F.step f terms.old) }
+    ensures counts { IfOk result (HaveCountsOfImages F.step terms.old) }
+{
+    let mut f = f;
+    let mut images = Terms::with_room(alloc, len)?;
+    while let Some(term) = terms.next() {
+        images.push(alloc, f(term))?;
+    }
+    Ok(Merge { terms: images })
+}
+
+// The terms that are left of both merges, pair by pair.
+fn zipped<T: Drop, U: Drop>(
+    alloc: Global,
+    len: usize,
+    firsts: &mut IntoIter<T>,
+    seconds: &mut IntoIter<U>,
+) -> Result<Merge<(T, U)>, AllocError>
+    requires odd { IsOdd (length firsts.old) }
+    requires same_len { length firsts.old ≡ length seconds.old }
+    ensures firsts { IfOk result (λ m. map (λ p. p.0) m ≡ firsts.old) }
+    ensures seconds { IfOk result (λ m. map (λ p. p.1) m ≡ seconds.old) }
+{
+    let mut pairs = Terms::with_room(alloc, len)?;
+    while let Some(first) = firsts.next() {
+        match seconds.next() {
+            Some(second) => pairs.push(alloc, (first, second))?,
+            None => unreachable!(),
+        }
+    }
+    Ok(Merge { terms: pairs })
+}
+
+// The first and the second parts of the terms that are left, apart.
+fn unzipped<T: Drop, U: Drop>(
+    alloc: Global,
+    len: usize,
+    pairs: &mut IntoIter<(T, U)>,
+) -> Result<(Merge<T>, Merge<U>), AllocError>
+    requires { IsOdd (length pairs.old) }
+    ensures firsts { IfOk result (λ ms. ms.0 ≡ map (λ p. p.0) pairs.old) }
+    ensures seconds { IfOk result (λ ms. ms.1 ≡ map (λ p. p.1) pairs.old) }
+{
+    let mut firsts = Terms::with_room(alloc, len)?;
+    let mut seconds = Terms::with_room(alloc, len)?;
+    push_parts(&mut firsts, &mut seconds, alloc, pairs)?;
+    Ok((Merge { terms: firsts }, Merge { terms: seconds }))
+}
+
+// Appends the first and the second parts of the terms that are left, apart.
+fn push_parts<T: Drop, U: Drop>(
+    firsts: &mut Terms<T>,
+    seconds: &mut Terms<U>,
+    alloc: Global,
+    pairs: &mut IntoIter<(T, U)>,
+) -> Result<(), AllocError>
+    requires firsts { (items firsts.old ≡ []) × HoldsOne firsts.old }
+    requires seconds { (items seconds.old ≡ []) × HoldsOne seconds.old }
+    ensures firsts { OnOk result (items firsts.new ≡ map (λ p. p.0) pairs.old) }
+    ensures seconds { OnOk result (items seconds.new ≡ map (λ p. p.1) pairs.old) }
+    ensures holds_one { HoldsOne firsts.new × HoldsOne seconds.new }
+{
+    while let Some((first, second)) = pairs.next() {
+        firsts.push(alloc, first)?;
+        seconds.push(alloc, second)?;
+    }
+    Ok(())
 }

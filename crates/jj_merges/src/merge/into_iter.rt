@@ -24,13 +24,9 @@ pub struct IntoIter<T> {
 
 impl<T> Model for IntoIter<T> {
     ghost use Rattle.std.specs.Prelude.{List};
-    ghost use Rattle.std.specs.Coded.{coded_list};
+    ghost use Rattle.jj_merges.specs.Rest.{rest_items};
 
     ghost Value = { List T };
-
-    ghost coded = { coded_list T.code };
-
-    ghost use Rattle.jj_merges.specs.Rest.{rest_items};
 
     ghost view = { λ it. rest_items it.rest };
 }

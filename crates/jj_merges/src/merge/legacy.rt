@@ -1,11 +1,12 @@
 //! Merges of values that may be absent, as a list of removed values and a list of added ones.
-ghost use Rattle.std.specs.Prelude.{◌≡◌, ◌++◌, List, IfOk, OnOk};
-ghost use Rattle.std.specs.Option.{option_to_list};
+ghost use Rattle.std.specs.Prelude.{◌≡◌, [], List, IfOk, OnOk};
+ghost use Rattle.std.specs.Iterator.{Drains};
 ghost use Rattle.jj_merges.specs.Counts.{HaveCountsOfPresent};
 ghost use Rattle.jj_merges.specs.Flatten.{legacy_terms};
-ghost use Rattle.jj_merges.specs.Made.{Ends, Gives};
+ghost use Rattle.jj_merges.specs.Made.{Ends, Gives, MayRun};
 ghost use Rattle.jj_merges.specs.Merge as merge;
 ghost use Rattle.jj_merges.specs.Options.{present};
+ghost use Rattle.jj_merges.specs.Terms.{items, HoldsOne, IsSound};
 
 use super::Merge;
 use super::storage::Terms;
@@ -29,55 +30,41 @@ impl<T: Drop> Merge<Option<T>> {
             × (present (merge.removes m) ≡ xs) × (present (merge.adds m) ≡ ys)) }
         ensures counts { IfOk result HaveCountsOfPresent }
     {
-        let removes = removes.into_iter();
-        let mut adds = adds.into_iter();
         let mut terms = Terms::none(alloc);
-        let mut add = adds.next();
-        for remove in removes {
-            let has_more = add.is_some();
-            terms.push(alloc, add)?;
-            terms.push(alloc, Some(remove))?;
-            add = if has_more { adds.next() } else { None };
-        }
-        let has_more = add.is_some();
-        terms.push(alloc, add)?;
-        if !has_more {
-            return Ok(Merge { terms });
-        }
-        for add in adds {
-            terms.push(alloc, None)?;
-            terms.push(alloc, Some(add))?;
-        }
+        push_legacy_terms(&mut terms, alloc, removes.into_iter(), adds.into_iter())?;
         Ok(Merge { terms })
-    }
-
-    /// The values that are there among the removes, and those among the adds.
-    pub fn into_legacy_form(self, alloc: Global) -> Result<(Vec<T>, Vec<T>), AllocError>
-        ensures removes { IfOk result (λ p. p.0.items ≡ present (merge.removes self)) }
-        ensures adds { IfOk result (λ p. p.1.items ≡ present (merge.adds self)) }
-    {
-        let len = self.as_slice().len();
-        let mut removes = Vec::with_capacity(alloc, len / 2)?;
-        let mut adds = Vec::with_capacity(alloc, len / 2 + 1)?;
-        let mut is_add = true;
-        for term in self {
-            if is_add {
-                push_present(&mut adds, term)?;
-            } else {
-                push_present(&mut removes, term)?;
-            }
-            is_add = !is_add;
-        }
-        Ok((removes, adds))
     }
 }
 
-// Appends a value that is there.
-fn push_present<T: Drop>(values: &mut Vec<T>, term: Option<T>) -> Result<(), AllocError>
-    ensures { OnOk result (values.new.items ≡ values.old.items ++ option_to_list term) }
+// Appends the legacy form of what comes of both iterators.
+fn push_legacy_terms<T: Drop, R: Iterator<Item = T>, A: Iterator<Item = T>>(
+    terms: &mut Terms<Option<T>>,
+    alloc: Global,
+    removes: R,
+    adds: A,
+) -> Result<(), AllocError>
+    requires empty { (items terms.old ≡ []) × HoldsOne terms.old }
+    requires removes_end { MayRun R.can_next R.remaining removes }
+    requires adds_end { MayRun A.can_next A.remaining adds }
+    ensures terms { OnOk result ((xs : List T) × (ys : List T)
+        × Drains R.next_gives removes xs × Drains A.next_gives adds ys
+        × (items terms.new ≡ legacy_terms xs ys)) }
+    ensures sound { OnOk result (IsSound terms.new) }
 {
-    if let Some(value) = term {
-        values.push(value)?;
+    let mut adds = adds;
+    let mut add = adds.next();
+    for remove in removes {
+        let has_more = add.is_some();
+        terms.push_both(alloc, add, Some(remove))?;
+        add = if has_more { adds.next() } else { None };
+    }
+    let has_more = add.is_some();
+    terms.push(alloc, add)?;
+    if !has_more {
+        return Ok(());
+    }
+    for add in adds {
+        terms.push_both(alloc, None, Some(add))?;
     }
     Ok(())
 }

@@ -1,5 +1,5 @@
 //! Merges of values that may be absent.
-ghost use Rattle.std.specs.Prelude.{◌≡◌, ◌↔◌, [], ◌∷◌, length, IsTrue, None, Some, MatchOption};
+ghost use Rattle.std.specs.Prelude.{◌≡◌, ◌↔◌, [], ◌∷◌, List, length, IsTrue, None, Some, MatchOption};
 ghost use Rattle.std.specs.Iterator.{YieldsFirstRef, item_count};
 ghost use Rattle.std.specs.Option.{option_copied};
 ghost use Rattle.jj_merges.specs.Merge.{adds, removes};
@@ -17,13 +17,7 @@ pub struct Present<'a, T> {
 }
 
 impl<'a, T> Model for Present<'a, T> {
-    ghost use Rattle.std.specs.Prelude.{List};
-    ghost use Rattle.std.specs.Coded.{coded_list};
-    ghost use Rattle.jj_merges.specs.Options.{present};
-
     ghost Value = { List T };
-
-    ghost coded = { coded_list T.code };
 
     ghost view = { λ it. present it.terms };
 }

@@ -1,5 +1,6 @@
-use Rattle.std.proofs.Common.{◌≡◌, ◌∙◌, ◌<◌, ap, sym, map, arith, rules, length, [], inl, inr}
+use Rattle.std.proofs.Common.{◌≡◌, ◌∙◌, ◌<◌, ap, subst, sym, map, arith, rules, length, [], inl, inr}
 use Rattle.std.specs.Prelude.{string_bytes}
+use Rattle.std.specs.List.{AllZip}
 use Rattle.std.proofs.lemmas.Bool.{false≢true, cases_lt}
 use Rattle.std.proofs.lemmas.List.{length-map}
 use Rattle.jj_merges.specs.Simplify.{kept_places, at_places}
@@ -66,3 +67,21 @@ returns-clause-labels g c =
     ∙ (ap (λ ps. map string_bytes (at_places labels ps)) places
     ∙ (sym (at_places-map string_bytes labels (kept_places eq m)) ∙ ap (λ xs. at_places xs (kept_places eq m)) (sym whole)))) in
     c.from_merge.ensures ∙ ap labels_of texts
+
+pub simplify-requires : goal.simplify-requires
+simplify-requires g c = (search rules, c.requires.clones)
+
+pub kept-requires : goal.kept-requires
+kept-requires g c = rw c.as_slice-values.ensures.terms c.as_slice-values.ensures.odd
+
+pub returns-then-not-has_labels-clause-merge : goal.returns-then-not-has_labels-clause-merge
+returns-then-not-has_labels-clause-merge g c = c.in_ok-simplify.ensures.terms
+
+pub returns-clause-merge : goal.returns-clause-merge
+returns-clause-merge g c =
+    let eq = g.T.PartialEq.eq in
+    let m = c.args.merge.now in
+    let clones = g.T.Clone.is_clone in
+    let places : c.deref-2.result.now ≡ kept_places eq m = c.deref-2.ensures.value ∙ (c.in_ok-places.ensures ∙ ap (kept_places eq) c.as_slice-values.ensures.terms) in
+    subst (λ ps. AllZip clones (at_places m ps) c.in_ok-terms.terms) places
+    (subst (λ vs. AllZip clones (at_places vs c.deref-2.result.now) c.in_ok-terms.terms) c.as_slice-values.ensures.terms c.in_ok-terms.ensures)

@@ -13,3 +13,6 @@ invariant_of-result g c =
 pub returns-clause-counts : goal.returns-clause-counts
 returns-clause-counts g c =
     rw (← c.as_slice.ensures.terms) (clones_counts g.T.Clone.is_clone _ _ c.in_ok-terms.ensures.0)
+
+pub returns-clause-terms : goal.returns-clause-terms
+returns-clause-terms g c = rw (← c.as_slice.ensures.terms) c.in_ok-terms.ensures.0

@@ -1,6 +1,7 @@
-use Rattle.std.proofs.Common.{◌≡◌, ◌%◌, arith, length}
+use Rattle.std.proofs.Common.{◌≡◌, ◌%◌, ap, arith, rules, length}
 use Rattle.jj_merges.specs.Terms.{items}
-use Rattle.jj_merges.proofs.MadeCounts.{on_ok_both, padded_counts}
+use Rattle.jj_merges.proofs.MadeCounts.{by_result, on_ok_both, padded_counts}
+use Rattle.jj_merges.proofs.Sound.{sound, holds_one}
 use Rattle.jj_merges.proofs.merge.Merge.pad_to.Goals as goal
 
 pub returns-clause-counts : goal.returns-clause-counts
@@ -9,3 +10,28 @@ returns-clause-counts g c =
     on_ok_both c.pad.result
     (λ appends long. padded_counts g.T.Clone.is_clone c.args.self.now (items c.pad.new.self) c.args.value.now odd (omega (arith, long)) (rw (← c.self.view_is) appends))
     c.pad.ensures.ok c.pad.ensures.len
+
+pub pad-requires : goal.pad-requires
+pad-requires g c = (
+  search rules,
+  (
+    holds_one c.self.inside.terms c.self.invariant,
+    omega (arith, ap length c.self.view_is, c.num_sides.ensures.terms, c.if-num_sides.false),
+  ),
+)
+
+pub overflow_mul-num_sides : goal.overflow_mul-num_sides
+overflow_mul-num_sides g c = omega (arith, c.requires)
+
+pub invariant_of-self : goal.invariant_of-self
+invariant_of-self g c =
+    sound c.pad.new.self c.pad.ensures.holds_one
+    (by_result c.pad.result c.pad.ensures.len c.pad.ensures.err (λ long. omega (arith, long, c.num_sides.ensures.terms, c.if-num_sides.false))
+    (λ same. omega (arith, ap length same, ap length c.self.view_is, c.num_sides.ensures.terms)))
+
+pub returns-clause-terms : goal.returns-clause-terms
+returns-clause-terms g c = rw (← c.self.view_is) c.pad.ensures.ok
+
+pub returns-clause-len : goal.returns-clause-len
+returns-clause-len g c =
+    on_ok_both c.pad.result (λ long again. omega (arith, long, c.num_sides.ensures.terms, c.if-num_sides.false)) c.pad.ensures.len c.pad.ensures.len

@@ -45,3 +45,8 @@ returns-clause-counts g c =
     let all = take_all c.loop-term.term-index c.as_slice-values.result.now (omega arith) in
     rw (← c.as_slice-values.ensures.terms, ← all)
     (have_counts (λ f x y next. CalledAt g.F.FnMut f x (Ok y) next) c.args.f c.loop-term.f _ (items c.loop-term.images) c.loop-term.invariant.2)
+
+pub loop-term-init : goal.loop-term-init
+loop-term-init g c =
+    let before = c.requires in
+    (search (of_calls, before), c.in_ok-images.ensures.1, rw c.in_ok-images.ensures.0 refl)

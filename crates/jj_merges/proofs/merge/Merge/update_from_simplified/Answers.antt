@@ -70,3 +70,31 @@ returns-clause-own g c equal h =
     let m = c.args.self in
     subst (λ u. AreEqual eq m u) (sym (final g c))
     (AllZip-written (λ x y. eq x y ≡ true) m m (kept_places eq m) c.args.simplified (AllZip-refl (λ x y. eq x y ≡ true) equal.refl m) (kept_in_range eq m c.as_slice.ensures.odd) h)
+
+pub kept-requires : goal.kept-requires
+kept-requires g c = rw c.as_slice.ensures.terms c.as_slice.ensures.odd
+
+pub loop-place-init : goal.loop-place-init
+loop-place-init g c =
+    let eq = g.T.PartialEq.eq in
+    let ps = c.deref-place-items.result.now in
+    let same : ps ≡ kept_places eq c.args.self = c.deref-place-items.ensures.value ∙ (c.in_ok-places.ensures ∙ ap (kept_places eq) c.as_slice.ensures.terms) in
+    let us : c.into_iter-updates.result ≡ c.args.simplified = c.into_iter-updates.ensures.into_iter_gives.0 in (
+      c.self.invariant,
+      ap length c.self.view_is,
+      ap (λ ts. written ts ps c.into_iter-updates.result) c.self.view_is ∙ ap (written c.args.self ps) us,
+      ap length us ∙ (c.requires ∙ sym (ap length same)),
+    )
+
+pub loop-place-smaller : goal.loop-place-smaller
+loop-place-smaller g c = omega (arith, ap length c.in-Some.ensures.steps)
+
+pub unreachable-requires : goal.unreachable-requires
+unreachable-requires g c =
+    omega (arith, length-drop c.loop-place.place-index c.deref-place-items.result.now, c.loop-place.invariant.3, ap length c.in-None.ensures.steps.0, c.loop-place-test.true)
+
+pub invariant_of-result : goal.invariant_of-result
+invariant_of-result g c = c.loop-place.invariant.0
+
+pub returns-clause-len : goal.returns-clause-len
+returns-clause-len g c = c.loop-place.invariant.1

@@ -8,18 +8,25 @@ use Rattle.jj_merges.proofs.MadeCounts.{clones_counts}
 use Rattle.jj_merges.proofs.merge.images.Merge+Option+ref+T.cloned.Goals as goal
 
 pub loop-term-preserved : goal.loop-term-preserved
-loop-term-preserved g c = (
-  c.in_ok-push.ensures.holds_one,
-  image_clones_more option_copied (IsOptionClone g.T.Clone.is_clone) _ _ _ c.loop-term.invariant.1 c.term-item.result c.in_ok-clone_of.field-0 _ c.loop-term-test.true c.term-item.is
-      c.in_ok-clone_of.ensures c.in_ok-push.ensures.ok,
-)
+loop-term-preserved g c =
+    let clone = c.in_ok-push_clone_of.ensures.ok in (
+      c.in_ok-push_clone_of.ensures.holds_one,
+      image_clones_more option_copied (IsOptionClone g.T.Clone.is_clone) _ _ _ c.loop-term.invariant.1 c.term-item.result clone.0 _ c.loop-term-test.true c.term-item.is
+          clone.1 clone.2,
+    )
 
 pub invariant_of-result : goal.invariant_of-result
 invariant_of-result g c =
     let n = length_image_clones option_copied (IsOptionClone g.T.Clone.is_clone) _ _ _ c.loop-term.invariant.1 (omega arith) in
     sound c.loop-term.terms c.loop-term.invariant.0 (omega (arith, n, ap length c.as_slice-values.ensures.terms, c.as_slice-values.ensures.odd))
 
-pub returns-clause-counts : goal.returns-clause-counts
-returns-clause-counts g c =
+pub loop-term-init : goal.loop-term-init
+loop-term-init g c = (c.in_ok-terms.ensures.1, rw c.in_ok-terms.ensures.0 tt)
+
+pub returns-clause-terms : goal.returns-clause-terms
+returns-clause-terms g c =
     rw (← c.as_slice-values.ensures.terms)
-    (clones_counts (IsOptionClone g.T.Clone.is_clone) _ (items c.loop-term.terms) (image_clones_all option_copied (IsOptionClone g.T.Clone.is_clone) _ _ _ c.loop-term.invariant.1 (omega arith)))
+    (image_clones_all option_copied (IsOptionClone g.T.Clone.is_clone) c.as_slice-values.result.now c.loop-term.term-index (items c.loop-term.terms) c.loop-term.invariant.1 c.loop-term-test.false)
+
+pub returns-clause-counts : goal.returns-clause-counts
+returns-clause-counts g c = clones_counts (IsOptionClone g.T.Clone.is_clone) _ (items c.loop-term.terms) (returns-clause-terms g c)

@@ -6,11 +6,12 @@ use Rattle.jj_merges.proofs.MadeCounts.{clones_counts}
 use Rattle.jj_merges.proofs.merge.images.Merge+ref+T.cloned.Goals as goal
 
 pub loop-term-preserved : goal.loop-term-preserved
-loop-term-preserved g c = (
-  c.in_ok-push.ensures.holds_one,
-  image_clones_more (λ x. x.now) g.T.Clone.is_clone _ _ _ c.loop-term.invariant.1 c.term-item.result c.in_ok-clone.field-0 _ c.loop-term-test.true c.term-item.is
-      c.in_ok-clone.ensures.cases c.in_ok-push.ensures.ok,
-)
+loop-term-preserved g c =
+    let clone = c.in_ok-push_clone.ensures.ok in (
+      c.in_ok-push_clone.ensures.holds_one,
+      image_clones_more (λ x. x.now) g.T.Clone.is_clone _ _ _ c.loop-term.invariant.1 c.term-item.result clone.0 _ c.loop-term-test.true c.term-item.is
+          clone.1 clone.2,
+    )
 
 pub invariant_of-result : goal.invariant_of-result
 invariant_of-result g c =

@@ -1,74 +1,21 @@
-use Rattle.std.proofs.Common.{◌∙◌, ◌%◌, ◌++◌, ◌∷◌, [], sym, ap, length, append_assoc}
-use Rattle.std.specs.Prelude.{Some, None}
-use Rattle.jj_merges.specs.Flatten.{legacy_rest}
-use Rattle.jj_merges.specs.Made.{Gives}
 use Rattle.jj_merges.specs.Terms.{items}
-use Rattle.jj_merges.proofs.Sound.{sound}
-use Rattle.jj_merges.proofs.SourceRuns.{Drains-loop, Goes-first}
-use Rattle.jj_merges.proofs.LegacyLaws.{legacy_rest-push, odd_legacy_terms, restored}
-use Rattle.jj_merges.proofs.LegacyRuns.{HoldsNext-start, HoldsNext-more, HoldsNext-ended, HoldsNext-short, HoldsNext-long}
+use Rattle.jj_merges.proofs.LegacyLaws.{restored}
 use Rattle.jj_merges.proofs.MadeCounts.{legacy_counts}
 use Rattle.jj_merges.proofs.merge.legacy.Merge+Option+T.from_legacy_form.Goals as goal
 
-pub loop-remove-init : goal.loop-remove-init
-loop-remove-init g c =
-    let first = Goes-first g.A.IntoIterator.into_iter_gives g.A.IntoIter.Iterator.next_gives g.A.IntoIter.Iterator.can_next g.A.IntoIter.Iterator.remaining c.args.adds c.requires.adds_end c.into_iter-adds.result c.into_iter-adds.ensures.into_iter_gives c.next-add.result c.next-add.new.self c.next-add.ensures.steps c.next-add.ensures.goes in
-    (c.none-terms.ensures.1, HoldsNext-start g.A.IntoIterator.into_iter_gives g.A.IntoIter.Iterator.next_gives g.A.IntoIter.Iterator.can_next g.A.IntoIter.Iterator.remaining c.args.adds (items c.none-terms.result) c.next-add.result c.next-add.new.self c.none-terms.ensures.0 first)
-
-pub loop-remove-preserved-then-has_more : goal.loop-remove-preserved-then-has_more
-loop-remove-preserved-then-has_more g c = (
-  c.in_ok-push-2.ensures.holds_one,
-  HoldsNext-more g.A.IntoIterator.into_iter_gives g.A.IntoIter.Iterator.next_gives g.A.IntoIter.Iterator.can_next g.A.IntoIter.Iterator.remaining c.args.adds c.loop-remove.adds c.loop-remove.add c.loop-remove.yielded (items c.loop-remove.terms) c.in-Some.remove (items c.push-in-loop-remove.new.self) c.next-then-has_more.result c.next-then-has_more.new.self (sym c.is_some-has_more.ensures ∙ c.if-has_more.true) c.loop-remove.invariant.1
-      (c.in_ok-push-2.ensures.ok ∙ ap (λ ts. ts ++ Some c.in-Some.remove ∷ []) c.in_ok-push.ensures.ok)
-      c.next-then-has_more.ensures.steps c.next-then-has_more.ensures.goes,
-)
-
-pub loop-remove-preserved : goal.loop-remove-preserved
-loop-remove-preserved g c = (
-  c.in_ok-push-2.ensures.holds_one,
-  HoldsNext-ended g.A.IntoIterator.into_iter_gives g.A.IntoIter.Iterator.next_gives g.A.IntoIter.Iterator.can_next g.A.IntoIter.Iterator.remaining c.args.adds c.loop-remove.adds c.loop-remove.add c.loop-remove.yielded (items c.loop-remove.terms) c.in-Some.remove (items c.push-in-loop-remove.new.self) c.loop-remove.adds (sym c.is_some-has_more.ensures ∙ c.if-has_more.false) c.loop-remove.invariant.1
-      (c.in_ok-push-2.ensures.ok ∙ ap (λ ts. ts ++ Some c.in-Some.remove ∷ []) c.in_ok-push.ensures.ok),
-)
-
-pub invariant_of-result : goal.invariant_of-result
-invariant_of-result g c =
-    let short = HoldsNext-short g.A.IntoIterator.into_iter_gives g.A.IntoIter.Iterator.next_gives g.A.IntoIter.Iterator.can_next g.A.IntoIter.Iterator.remaining c.args.adds c.loop-remove.adds c.loop-remove.add c.loop-remove.yielded (items c.loop-remove.terms) (items c.push-2.new.self) (sym c.is_some-has_more-2.ensures ∙ c.if-not-has_more.true) c.loop-remove.invariant.1 c.in_ok-push-3.ensures.ok in
-    sound c.push-2.new.self c.in_ok-push-3.ensures.holds_one (ap (λ ts. length ts % 2) short.2 ∙ odd_legacy_terms c.loop-remove.yielded short.0)
-
-pub returns-then-not-has_more : goal.returns-then-not-has_more
-returns-then-not-has_more g c =
-    let all : Gives g.R.IntoIterator.into_iter_gives g.R.IntoIter.Iterator.next_gives c.args.removes c.loop-remove.yielded =
-    (c.into_iter-removes.result, c.into_iter-removes.ensures.into_iter_gives, Drains-loop g.R.IntoIter.Iterator.next_gives _ _ _ _ _ c.into_iter-remove-iterator.ensures.into_iter_gives c.loop-remove.yielded_by c.in-None.ensures.steps) in
-    let short = HoldsNext-short g.A.IntoIterator.into_iter_gives g.A.IntoIter.Iterator.next_gives g.A.IntoIter.Iterator.can_next g.A.IntoIter.Iterator.remaining c.args.adds c.loop-remove.adds c.loop-remove.add c.loop-remove.yielded (items c.loop-remove.terms) (items c.push-2.new.self) (sym c.is_some-has_more-2.ensures ∙ c.if-not-has_more.true) c.loop-remove.invariant.1 c.in_ok-push-3.ensures.ok in
-    let both = restored c.loop-remove.yielded short.0 (items c.push-2.new.self) short.2 in
-    record {
-      terms = (c.loop-remove.yielded, short.0, all, short.1, short.2, both.0, both.1);
-      counts = legacy_counts (items c.push-2.new.self);
-    }
-
-pub loop-add-preserved : goal.loop-add-preserved
-loop-add-preserved g c = (
-  c.in_ok-push-5.ensures.holds_one,
-  c.in_ok-push-5.ensures.ok
-      ∙ (ap (λ ts. ts ++ Some c.in-Some-add.add ∷ []) (c.in_ok-push-4.ensures.ok ∙ (ap (λ ts. ts ++ None ∷ []) c.loop-add.invariant.1 ∙ append_assoc (items c.push-2.new.self) (legacy_rest [] c.loop-add.yielded) (None ∷ [])))
-      ∙ (append_assoc (items c.push-2.new.self) (legacy_rest [] c.loop-add.yielded ++ None ∷ []) (Some c.in-Some-add.add ∷ [])
-      ∙ ap (λ ts. items c.push-2.new.self ++ ts) (sym (legacy_rest-push c.loop-add.yielded c.in-Some-add.add)))),
-)
-
-pub invariant_of-result-2 : goal.invariant_of-result-2
-invariant_of-result-2 g c =
-    let rest = Drains-loop g.A.IntoIter.Iterator.next_gives c.loop-remove.adds _ _ _ c.loop-add.yielded c.into_iter-add-iterator.ensures.into_iter_gives c.loop-add.yielded_by c.in-None-add.ensures.steps in
-    let long = HoldsNext-long g.A.IntoIterator.into_iter_gives g.A.IntoIter.Iterator.next_gives g.A.IntoIter.Iterator.can_next g.A.IntoIter.Iterator.remaining c.args.adds c.loop-remove.adds c.loop-remove.add c.loop-remove.yielded (items c.loop-remove.terms) (items c.push-2.new.self) c.loop-add.yielded (items c.loop-add.terms) (sym c.is_some-has_more-2.ensures ∙ c.if-not-has_more.false) c.loop-remove.invariant.1 c.in_ok-push-3.ensures.ok rest c.loop-add.invariant.1 in
-    sound c.loop-add.terms c.loop-add.invariant.0 (ap (λ ts. length ts % 2) long.2 ∙ odd_legacy_terms c.loop-remove.yielded long.0)
-
 pub returns : goal.returns
 returns g c =
-    let all : Gives g.R.IntoIterator.into_iter_gives g.R.IntoIter.Iterator.next_gives c.args.removes c.loop-remove.yielded =
-    (c.into_iter-removes.result, c.into_iter-removes.ensures.into_iter_gives, Drains-loop g.R.IntoIter.Iterator.next_gives _ _ _ _ _ c.into_iter-remove-iterator.ensures.into_iter_gives c.loop-remove.yielded_by c.in-None.ensures.steps) in
-    let rest = Drains-loop g.A.IntoIter.Iterator.next_gives c.loop-remove.adds _ _ _ c.loop-add.yielded c.into_iter-add-iterator.ensures.into_iter_gives c.loop-add.yielded_by c.in-None-add.ensures.steps in
-    let long = HoldsNext-long g.A.IntoIterator.into_iter_gives g.A.IntoIter.Iterator.next_gives g.A.IntoIter.Iterator.can_next g.A.IntoIter.Iterator.remaining c.args.adds c.loop-remove.adds c.loop-remove.add c.loop-remove.yielded (items c.loop-remove.terms) (items c.push-2.new.self) c.loop-add.yielded (items c.loop-add.terms) (sym c.is_some-has_more-2.ensures ∙ c.if-not-has_more.false) c.loop-remove.invariant.1 c.in_ok-push-3.ensures.ok rest c.loop-add.invariant.1 in
-    let both = restored c.loop-remove.yielded long.0 (items c.loop-add.terms) long.2 in
+    let made = c.in_ok-push_legacy_terms.ensures.terms in
+    let both = restored made.0 made.1 (items c.push_legacy_terms.new.terms) made.4 in
     record {
-      terms = (c.loop-remove.yielded, long.0, all, long.1, long.2, both.0, both.1);
-      counts = legacy_counts (items c.loop-add.terms);
+      terms = (
+        made.0,
+        made.1,
+        (c.into_iter.result, c.into_iter.ensures.into_iter_gives, made.2),
+        (c.into_iter-2.result, c.into_iter-2.ensures.into_iter_gives, made.3),
+        made.4,
+        both.0,
+        both.1,
+      );
+      counts = legacy_counts (items c.push_legacy_terms.new.terms);
     }

@@ -2,12 +2,12 @@ use Rattle.std.proofs.Common.{◌≡◌, ◌++◌, []}
 use Rattle.jj_merges.specs.Flatten.{legacy_rest}
 use Rattle.jj_merges.specs.Terms.{items, HoldsOne}
 use Rattle.jj_merges.proofs.LegacyRuns.{HoldsNext}
-use Rattle.jj_merges.proofs.merge.legacy.Merge+Option+T.from_legacy_form.Given as goal
+use Rattle.jj_merges.proofs.merge.legacy.push_legacy_terms.Given as goal
 
 abbrev pub invariant-loop-remove : goal.invariant-loop-remove
 invariant-loop-remove g l =
     HoldsOne l.terms
-    × HoldsNext g.A.IntoIterator.into_iter_gives g.A.IntoIter.Iterator.next_gives g.A.IntoIter.Iterator.can_next g.A.IntoIter.Iterator.remaining l.fn.adds l.adds l.add l.yielded (items l.terms)
+    × HoldsNext g.A.Iterator.next_gives g.A.Iterator.can_next g.A.Iterator.remaining l.fn.adds l.adds l.add l.yielded (items l.terms)
 
 abbrev pub invariant-loop-add : goal.invariant-loop-add
 invariant-loop-add g l = HoldsOne l.terms × (items l.terms ≡ items l.initial.terms ++ legacy_rest [] l.yielded)
