@@ -14,6 +14,7 @@ use Rattle.std.proofs.lemmas.Bool.{and_parts}
 use Rattle.jj_dag.specs.declared.closest_common.Reach.{Reach}
 use Rattle.jj_dag.specs.declared.closest_common.Mark.{Mark}
 use Rattle.jj_dag.specs.CommonNodes.{HasNoCommonCycle, AreClosestCommon}
+use Rattle.jj_dag.specs.CommonSearch.{KnowsMarks, IsStarting, started}
 use Rattle.jj_dag.specs.Graph.{HasEdge, ReachedFrom}
 use Rattle.jj_dag.specs.Marks.{unmarked, joined, grows, handed_on, marked, starts_waiting, asked, closest_of}
 use Rattle.jj_dag.specs.Walk.{Numbered, AreNodes}
@@ -121,11 +122,6 @@ module _ {T ID : Type 0} (w : Numbered T ID) where
   abbrev pub both_nodes : (xs ys : List ℕ) → AreNodes w xs → AreNodes w ys → AreNodes w (xs ++ ys)
   both_nodes xs ys first second = λ a h. ⊎_elim (first a) (second a) (Contains-append_cases xs ys a h)
 
-  -- the map has these marks for the nodes, and those that are said to wait do, each once
-  pub record KnowsMarks (m : ℕ → Reach) (waiting : List T) (find : ID → Mark) : Type 0 where
-    pub knows : (i : ID) → w.is_node (w.id i) ≡ true → find i ≡ record { reach = m (w.id i); waits = has (map w.node waiting) (w.id i) }
-    pub distinct : IsDistinct eqb (map w.node waiting)
-
   -- ---- a node is marked
 
   -- by which one more may wait
@@ -164,10 +160,10 @@ module _ {T ID : Type 0} (w : Numbered T ID) where
   same_mark : (a b : Reach) (u v : Bool) → a ≡ b → u ≡ v → (let left : Mark = record { reach = a; waits = u } in let right : Mark = record { reach = b; waits = v } in left ≡ right)
   same_mark a b u v e f = let make : Reach → Bool → Mark = λ r t. record { reach = r; waits = t } in ap (λ r. make r u) e ∙ ap (make b) f
 
-  pub knows_more : (eq : ID → ID → Bool) (m : ℕ → Reach) (waiting waiting2 : List T) (find find2 : ID → Mark) (x : T) (i : ID) (added : Reach) → Apart eq → KnowsMarks m waiting find
+  pub knows_more : (eq : ID → ID → Bool) (m : ℕ → Reach) (waiting waiting2 : List T) (find find2 : ID → Mark) (x : T) (i : ID) (added : Reach) → Apart eq → KnowsMarks w m waiting find
       → w.is_node (w.node x) ≡ true → w.id i ≡ w.node x → ((q : ID) → find2 q ≡ cond (eq i q) (marked (find i) added) (find q))
       → MatchBool (starts_waiting (find i) added) (IsPermutation (x ∷ waiting) waiting2) (waiting2 ≡ waiting)
-      → KnowsMarks (marks_more m (w.node x) added) waiting2 find2 × Joins waiting waiting2 (w.node x) (m (w.node x)) added
+      → KnowsMarks w (marks_more m (w.node x) added) waiting2 find2 × Joins waiting waiting2 (w.node x) (m (w.node x)) added
   knows_more eq m waiting waiting2 find find2 x i added apart k here same updates puts =
       let y = w.node x in
       let here_id : w.is_node (w.id i) ≡ true = subst (λ n. w.is_node n ≡ true) (sym same) here in
@@ -199,20 +195,13 @@ module _ {T ID : Type 0} (w : Numbered T ID) where
 
   -- ---- the sets are marked
 
-  abbrev pub started : List ℕ → List ℕ → ℕ → Reach
-  started set1 set2 b = record { left = has set1 b; right = has set2 b; below = false }
-
   abbrev pub on_left : Reach
   on_left = record { left = true; right = false; below = false }
 
   abbrev pub on_right : Reach
   on_right = record { left = false; right = true; below = false }
 
-  pub record IsStarting (set1 set2 : List ℕ) (waiting : List T) (find : ID → Mark) : Type 0 where
-    pub marks : KnowsMarks (started set1 set2) waiting find
-    pub waits : (b : ℕ) → has (map w.node waiting) b ≡ (has set1 b || has set2 b)
-
-  pub starting_none : (waiting : List T) (find : ID → Mark) → waiting ≡ [] → ((i : ID) → find i ≡ unmarked) → IsStarting [] [] waiting find
+  pub starting_none : (waiting : List T) (find : ID → Mark) → waiting ≡ [] → ((i : ID) → find i ≡ unmarked) → IsStarting w [] [] waiting find
   unfolding IsDistinct
   starting_none waiting find none unknown = rw none (record { marks = record { knows = λ i h. unknown i; distinct = tt }; waits = λ b. refl })
 
@@ -247,15 +236,15 @@ module _ {T ID : Type 0} (w : Numbered T ID) where
   right_waits true false false = refl
   right_waits false h g = or_false (h || g)
 
-  other_marks : (m m2 : ℕ → Reach) (waiting : List T) (find : ID → Mark) → ((b : ℕ) → m b ≡ m2 b) → KnowsMarks m waiting find → KnowsMarks m2 waiting find
+  other_marks : (m m2 : ℕ → Reach) (waiting : List T) (find : ID → Mark) → ((b : ℕ) → m b ≡ m2 b) → KnowsMarks w m waiting find → KnowsMarks w m2 waiting find
   other_marks m m2 waiting find same k = record {
     knows = λ i h. k.knows i h ∙ ap (λ r. record { reach = r; waits = has (map w.node waiting) (w.id i) }) (same (w.id i));
     distinct = k.distinct;
   }
 
-  pub starting_left : (eq : ID → ID → Bool) (set1 set2 : List ℕ) (waiting waiting2 : List T) (find find2 : ID → Mark) (x : T) (i : ID) → Apart eq → IsStarting set1 set2 waiting find
+  pub starting_left : (eq : ID → ID → Bool) (set1 set2 : List ℕ) (waiting waiting2 : List T) (find find2 : ID → Mark) (x : T) (i : ID) → Apart eq → IsStarting w set1 set2 waiting find
       → w.is_node (w.node x) ≡ true → w.id i ≡ w.node x → ((q : ID) → find2 q ≡ cond (eq i q) (marked (find i) on_left) (find q))
-      → MatchBool (starts_waiting (find i) on_left) (IsPermutation (x ∷ waiting) waiting2) (waiting2 ≡ waiting) → IsStarting (set1 ++ w.node x ∷ []) set2 waiting2 find2
+      → MatchBool (starts_waiting (find i) on_left) (IsPermutation (x ∷ waiting) waiting2) (waiting2 ≡ waiting) → IsStarting w (set1 ++ w.node x ∷ []) set2 waiting2 find2
   starting_left eq set1 set2 waiting waiting2 find find2 x i apart k here same updates puts =
       let y = w.node x in
       let more = knows_more eq (started set1 set2) waiting waiting2 find find2 x i on_left apart k.marks here same updates puts in
@@ -268,9 +257,9 @@ module _ {T ID : Type 0} (w : Numbered T ID) where
             ∙ left_waits (b == y) (has set1 b) (has set2 b) ∙ ap (λ t. t || has set2 b) (sym (has-push set1 y b));
       }
 
-  pub starting_right : (eq : ID → ID → Bool) (set1 set2 : List ℕ) (waiting waiting2 : List T) (find find2 : ID → Mark) (x : T) (i : ID) → Apart eq → IsStarting set1 set2 waiting find
+  pub starting_right : (eq : ID → ID → Bool) (set1 set2 : List ℕ) (waiting waiting2 : List T) (find find2 : ID → Mark) (x : T) (i : ID) → Apart eq → IsStarting w set1 set2 waiting find
       → w.is_node (w.node x) ≡ true → w.id i ≡ w.node x → ((q : ID) → find2 q ≡ cond (eq i q) (marked (find i) on_right) (find q))
-      → MatchBool (starts_waiting (find i) on_right) (IsPermutation (x ∷ waiting) waiting2) (waiting2 ≡ waiting) → IsStarting set1 (set2 ++ w.node x ∷ []) waiting2 find2
+      → MatchBool (starts_waiting (find i) on_right) (IsPermutation (x ∷ waiting) waiting2) (waiting2 ≡ waiting) → IsStarting w set1 (set2 ++ w.node x ∷ []) waiting2 find2
   starting_right eq set1 set2 waiting waiting2 find find2 x i apart k here same updates puts =
       let y = w.node x in
       let more = knows_more eq (started set1 set2) waiting waiting2 find find2 x i on_right apart k.marks here same updates puts in
@@ -290,7 +279,7 @@ module _ {T ID : Type 0} (w : Numbered T ID) where
 
   pub record HoldsMarks (set1 set2 : List ℕ) (m : ℕ → Reach) (waiting : List T) (common : List (T × ID)) (rooted : Bool) (find : ID → Mark) : Type 0 where
     pub marking : IsMarking w.graph set1 set2 m (map w.node waiting) (map (λ entry. w.node entry.0) common) rooted
-    pub marks : KnowsMarks m waiting find
+    pub marks : KnowsMarks w m waiting find
     pub ids : (entry : T × ID) → Contains common entry → w.id entry.1 ≡ w.node entry.0
     pub reached : (a : ℕ) → Contains (map w.node waiting) a → ReachedFrom w.graph (set1 ++ set2) a
 
@@ -306,7 +295,7 @@ module _ {T ID : Type 0} (w : Numbered T ID) where
   or_one true b e = inl refl
   or_one false b e = inr e
 
-  pub started_holds : (set1 set2 : List ℕ) (waiting : List T) (common : List (T × ID)) (find : ID → Mark) → common ≡ [] → IsStarting set1 set2 waiting find
+  pub started_holds : (set1 set2 : List ℕ) (waiting : List T) (common : List (T × ID)) (find : ID → Mark) → common ≡ [] → IsStarting w set1 set2 waiting find
       → HoldsMarks set1 set2 (started set1 set2) waiting common false find
   unfolding IsDistinct
   started_holds set1 set2 waiting common find none k =
@@ -342,7 +331,7 @@ module _ {T ID : Type 0} (w : Numbered T ID) where
   -- the node a has been taken from those that wait, and hands on what is known of it to its neighbours, as far as they were given
   pub record HandsOn (set1 set2 : List ℕ) (m : ℕ → Reach) (a : ℕ) (known : Reach) (waiting : List T) (common : List (T × ID)) (rooted : Bool) (find : ID → Mark) (given : List ℕ) : Type 0 where
     pub marking : IsMarking w.graph set1 set2 m (a ∷ map w.node waiting) (map (λ entry. w.node entry.0) common) rooted
-    pub marks : KnowsMarks m waiting find
+    pub marks : KnowsMarks w m waiting find
     pub ids : (entry : T × ID) → Contains common entry → w.id entry.1 ≡ w.node entry.0
     pub reached : (b : ℕ) → Contains (a ∷ map w.node waiting) b → ReachedFrom w.graph (set1 ++ set2) b
     pub apart : has (map w.node waiting) a ≡ false
@@ -596,7 +585,7 @@ module _ {T ID : Type 0} (w : Numbered T ID) where
 
   -- so the nodes without a common one above them are the closest ones
   pub closest_at_end : {set1 set2 : List ℕ} {m : ℕ → Reach} {waiting : List T} {rooted : Bool} {find : ID → Mark} (todo found : List ℕ) (all : List (T × ID))
-      → IsAtEnd w.graph set1 set2 m todo found (map (λ entry. w.node entry.0) all) rooted → KnowsMarks m waiting find → ((entry : T × ID) → Contains all entry → w.id entry.1 ≡ w.node entry.0)
+      → IsAtEnd w.graph set1 set2 m todo found (map (λ entry. w.node entry.0) all) rooted → KnowsMarks w m waiting find → ((entry : T × ID) → Contains all entry → w.id entry.1 ≡ w.node entry.0)
       → ((a : ℕ) → w.is_node a ≡ true → AreNodes w (w.graph a)) → AreNodes w set1 → HasNoCommonCycle w.graph set1 set2
       → AreClosestCommon w.graph set1 set2 (map w.node (closest_of find all))
   closest_at_end {set1} {set2} {m} {waiting} {rooted} {find} todo found all k marks ids closed nodes acyclic =

@@ -9,6 +9,7 @@ use Rattle.std.proofs.lemmas.List.Sorted.{Contains-permutation, IsPermutation-sy
 use Rattle.std.proofs.lemmas.List.Elements.{Contains-append_left, Contains-append_right, Contains-append_cases, Contains-push, Contains-push_cases}
 use Rattle.std.proofs.lemmas.Map.Keys.{IsDistinct-tail, IsDistinct-head, IsDistinct-cons}
 use Rattle.jj_dag.specs.Graph.{HasEdge, ReachedFrom, HasNoCycle, IsMaximal, IsMaximalIn}
+use Rattle.jj_dag.specs.HeadsSearch.{IsStarted}
 use Rattle.jj_dag.specs.Walk.{Numbered, AreNodes, StandsForNodes}
 use Rattle.jj_dag.proofs.Walking.{has, has-push, has-from_Contains, Contains-from_has, eqb-flip, numbers}
 use Rattle.jj_dag.proofs.Reaching.{ReachedFrom-edge}
@@ -44,6 +45,11 @@ Contains-put : {K : Type 0} (old new : List K) (k : K) (added : Bool) → MatchB
 Contains-put old new k true moved x h =
     ⊎_elim (λ first. inr (only k x first)) (λ rest. inl rest) (Contains-append_cases (k ∷ []) old x (Contains-permutation new (k ∷ old) x (IsPermutation-sym (k ∷ old) new moved) h))
 Contains-put {K} old new k false same x h = inl (subst (λ (l : List K). Contains l x) same h)
+
+-- and where that key was equal to x
+pub put_equal : {K : Type 0} (eq : K → K → Bool) (old new : List K) (x copy : K) (added : Bool) → eq x copy ≡ true → MatchBool added (IsPermutation (copy ∷ old) new) (new ≡ old)
+    → (y : K) → Contains new y → Contains old y ⊎ (eq x y ≡ true)
+put_equal eq old new x copy added same moved y h = ⊎_elim (λ kept. inl kept) (λ put. inr (subst (λ z. eq x z ≡ true) put same)) (Contains-put old new copy added moved y h)
 
 pub none_contained : {T : Type 0} (xs : List T) → xs ≡ [] → (x : T) → Contains xs x → ⊥
 none_contained [] same x (k, lt, e) = omega arith
@@ -92,21 +98,13 @@ module _ {T ID : Type 0} (w : Numbered T ID) where
   stands_for stands x y here same = (Decides-eqb (w.node x) (w.node y)).0 (sym (stands x y here) ∙ same)
 
   -- the keys after an equal value of a node was put in: each was there before, or stands for the node
-  pub put_for : {eqT : T → T → Bool} → StandsForNodes w eqT → (old new : List T) (x copy : T) (added : Bool) → w.is_node (w.node x) ≡ true → eqT x copy ≡ true
-      → MatchBool added (IsPermutation (copy ∷ old) new) (new ≡ old) → (y : T) → Contains new y → Contains old y ⊎ (w.node x ≡ w.node y)
-  put_for stands old new x copy added here same moved y h =
-      ⊎_elim (λ kept. inl kept) (λ put. inr (stands_for stands x copy here same ∙ ap w.node put)) (Contains-put old new copy added moved y h)
+  pub put_for : {eqT : T → T → Bool} → StandsForNodes w eqT → (old new : List T) (x : T) → w.is_node (w.node x) ≡ true
+      → ((y : T) → Contains new y → Contains old y ⊎ (eqT x y ≡ true)) → (y : T) → Contains new y → Contains old y ⊎ (w.node x ≡ w.node y)
+  put_for stands old new x here adds y h = ⊎_elim (λ kept. inl kept) (λ put. inr (stands_for stands x y here put)) (adds y h)
 
   -- ---- the starts are put in
 
-  pub record IsStarted (starts : List ℕ) (keys : List T) (in_heads : T → Bool) (test : ID → Bool) (waiting : List ℕ) : Type 0 where
-    pub keys_stand : (x : T) → Contains keys x → w.is_node (w.node x) ≡ true
-    pub heads : (x : T) → w.is_node (w.node x) ≡ true → in_heads x ≡ has starts (w.node x)
-    pub knows : (i : ID) → w.is_node (w.id i) ≡ true → test i ≡ has starts (w.id i)
-    pub waits : (a : ℕ) → Contains waiting a → Contains starts a
-    pub all : (a : ℕ) → Contains starts a → Contains waiting a
-
-  pub started_none : {keys : List T} {in_heads : T → Bool} {test : ID → Bool} → keys ≡ [] → ((x : T) → in_heads x ≡ false) → ((i : ID) → test i ≡ false) → IsStarted [] keys in_heads test []
+  pub started_none : {keys : List T} {in_heads : T → Bool} {test : ID → Bool} → keys ≡ [] → ((x : T) → in_heads x ≡ false) → ((i : ID) → test i ≡ false) → IsStarted w [] keys in_heads test []
   started_none none no_head no_id = record {
     keys_stand = λ x h. absurd (nothing x (subst (λ (l : List T). Contains l x) none h));
     heads = λ x h. no_head x;
@@ -115,8 +113,8 @@ module _ {T ID : Type 0} (w : Numbered T ID) where
     all = λ a h. h;
   }
 
-  pub started_again : {starts : List ℕ} {keys : List T} {in_heads : T → Bool} {test : ID → Bool} {waiting : List ℕ} (x : T) → IsStarted starts keys in_heads test waiting
-      → w.is_node (w.node x) ≡ true → in_heads x ≡ true → IsStarted (starts ++ w.node x ∷ []) keys in_heads test waiting
+  pub started_again : {starts : List ℕ} {keys : List T} {in_heads : T → Bool} {test : ID → Bool} {waiting : List ℕ} (x : T) → IsStarted w starts keys in_heads test waiting
+      → w.is_node (w.node x) ≡ true → in_heads x ≡ true → IsStarted w (starts ++ w.node x ∷ []) keys in_heads test waiting
   started_again {starts} {waiting = waiting} x k here known =
       let seen : has starts (w.node x) ≡ true = sym (k.heads x here) ∙ known in
       record {
@@ -128,10 +126,10 @@ module _ {T ID : Type 0} (w : Numbered T ID) where
       }
 
   pub started_new : {starts : List ℕ} {keys : List T} {in_heads : T → Bool} {test : ID → Bool} {waiting : List ℕ} (eqT : T → T → Bool) (eq : ID → ID → Bool)
-      (keys2 : List T) (in_heads2 : T → Bool) (test2 : ID → Bool) (x : T) (i : ID) → StandsForNodes w eqT → Apart eq → IsStarted starts keys in_heads test waiting
+      (keys2 : List T) (in_heads2 : T → Bool) (test2 : ID → Bool) (x : T) (i : ID) → StandsForNodes w eqT → Apart eq → IsStarted w starts keys in_heads test waiting
       → w.is_node (w.node x) ≡ true → w.id i ≡ w.node x → ((y : T) → Contains keys2 y → Contains keys y ⊎ (w.node x ≡ w.node y))
       → ((q : T) → in_heads2 q ≡ cond (eqT x q) true (in_heads q)) → ((q : ID) → test2 q ≡ cond (eq i q) true (test q))
-      → IsStarted (starts ++ w.node x ∷ []) keys2 in_heads2 test2 (waiting ++ w.node x ∷ [])
+      → IsStarted w (starts ++ w.node x ∷ []) keys2 in_heads2 test2 (waiting ++ w.node x ∷ [])
   started_new {starts} {keys} {in_heads} {test} {waiting} eqT eq keys2 in_heads2 test2 x i stands tells k here same adds puts_head puts_id =
       let here_id : w.is_node (w.id i) ≡ true = subst (λ (n : ℕ). w.is_node n ≡ true) (sym same) here in
       record {
@@ -154,7 +152,7 @@ module _ {T ID : Type 0} (w : Numbered T ID) where
     pub heads : (x : T) → w.is_node (w.node x) ≡ true → in_heads x ≡ (has starts (w.node x) && not (has met (w.node x)))
     pub knows : (i : ID) → w.is_node (w.id i) ≡ true → test i ≡ (has starts (w.id i) || has met (w.id i))
 
-  pub started_holds : {starts : List ℕ} {keys : List T} {in_heads : T → Bool} {test : ID → Bool} {waiting : List ℕ} → AreNodes w starts → IsStarted starts keys in_heads test waiting
+  pub started_holds : {starts : List ℕ} {keys : List T} {in_heads : T → Bool} {test : ID → Bool} {waiting : List ℕ} → AreNodes w starts → IsStarted w starts keys in_heads test waiting
       → HoldsSearch starts [] waiting false keys in_heads test
   started_holds {starts} {keys} {in_heads} {test} {waiting} nodes k = record {
     searching = record {

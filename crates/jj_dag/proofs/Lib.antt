@@ -16,12 +16,15 @@ pub mod Errors
 pub mod CommonMarks
 pub mod MarkSums
 pub mod ClosestCommon
+pub mod Marking
+pub mod Meeting
 pub mod Wrapped
 pub mod ListsOrErrors
 pub mod Collected
 pub mod Plain
 pub mod Starts
 pub mod Asking
+pub mod Calling
 pub mod Owing
 pub mod Postorders
 pub mod Renumbered

@@ -15,3 +15,5 @@ pub mod Orders
 pub mod Found
 pub mod GreatestOrder
 pub mod Asking
+pub mod CommonSearch
+pub mod HeadsSearch

@@ -1,8 +1,10 @@
 -- What a search for common nodes keeps of each node that it has met.
 -- Machinery of private functions and fields.
-use Rattle.std.specs.Prelude.{ℕ, ◌+◌, Bool, false, not, ◌&&◌, ◌||◌, cond, List, map, filter, Option, None, Some}
+use Rattle.std.specs.Prelude.{◌≡◌, ℕ, ◌+◌, Bool, false, not, ◌&&◌, ◌||◌, cond, List, [], ◌∷◌, ◌++◌, map, filter, Option, None, Some, MatchBool}
 use Rattle.std.specs.HashMap.{HashMap, get, values}
-use Rattle.std.specs.List.{sum_by}
+use Rattle.std.specs.List.{Contains, sum_by}
+use Rattle.std.specs.List.Sorted.{IsPermutation}
+use Rattle.jj_dag.specs.Walk.{DrainsTo}
 use Rattle.jj_dag.specs.declared.closest_common.Reach.{Reach}
 use Rattle.jj_dag.specs.declared.closest_common.Mark.{Mark}
 
@@ -65,3 +67,28 @@ sides_met known = sum_by sides (values known)
 abbrev pub closest_of : {T ID : Type 0} → (ID → Mark) → List (T × ID) → List T
 closest_of find common = map (λ entry. entry.0)
     (filter (λ entry. not (find entry.1).reach.below) common)
+
+-- the node x of this id was marked, and waits if it joined those that wait by that
+pub record MarksNode {T ID : Type 0} (eq : ID → ID → Bool) (added : Reach) (x : T) (i : ID)
+    (find find2 : ID → Mark) (waiting waiting2 : List T) : Type 0 where
+  pub marks : (q : ID) → find2 q ≡ cond (eq i q) (marked (find i) added) (find q)
+  pub waits : MatchBool (starts_waiting (find i) added) (IsPermutation (x ∷ waiting) waiting2)
+      (waiting2 ≡ waiting)
+
+-- the nodes of a list, of which the ids were told, were marked one after the other
+pub data MarksNodes {T ID : Type 0} (eq : ID → ID → Bool) (tells : T → ID → Type 0) (added : Reach)
+    (find : ID → Mark) (waiting : List T) : List T → (ID → Mark) → List T → Type 0 where
+  none : MarksNodes eq tells added find waiting [] find waiting
+  more : {xs : List T} {find2 find3 : ID → Mark} {waiting2 waiting3 : List T} (x : T) (i : ID)
+      → MarksNodes eq tells added find waiting xs find2 waiting2 → tells x i
+      → MarksNode eq added x i find2 find3 waiting2 waiting3
+      → MarksNodes eq tells added find waiting (xs ++ x ∷ []) find3 waiting3
+
+-- the nodes that an iterator of this value gives were marked, and it is said whether there was none
+pub record MarksAll {T ID U S : Type 0} (eq : ID → ID → Bool) (tells : T → ID → Type 0)
+    (becomes : U → S → Type 0) (steps : S → Option T → S → Type 0) (value : U) (added : Reach)
+    (find find2 : ID → Mark) (waiting waiting2 : List T) (empty : Bool) : Type 0 where
+  pub nodes : List T
+  pub drained : DrainsTo becomes steps value nodes
+  pub marks : MarksNodes eq tells added find waiting nodes find2 waiting2
+  pub none : MatchBool empty (nodes ≡ []) ((x : T) × Contains nodes x)

@@ -1,10 +1,12 @@
 //! The closest of the nodes that two sets reach.
-ghost use Rattle.std.specs.Prelude.{◌≡◌, ◌+◌, ◌≤◌, ◌<◌, ◌^◌, ◌&&◌, ◌∷◌, ◌++◌, [], IfOk, IsTrue, OnOk, MatchBool, cond, map};
+ghost use Rattle.std.specs.Prelude.{◌≡◌, ◌+◌, ◌≤◌, ◌<◌, ◌^◌, ◌&&◌, ◌∷◌, ◌++◌, [], IfOk, IsTrue, Ok, Err, OnOk, MatchBool, cond, map};
 ghost use Rattle.std.specs.BinaryHeap.{heap_items, heap_len};
+ghost use Rattle.std.specs.Fn.{CalledAt, FnReturnsAt};
 ghost use Rattle.std.specs.List.Sorted.{IsPermutation};
 ghost use Rattle.jj_dag.specs.Found.{FindsClosestCommon};
-ghost use Rattle.jj_dag.specs.Marks.{mark_at, joined, grows, marked, starts_waiting, asked, handed_on, sides_met, closest_of};
-ghost use Rattle.jj_dag.specs.Outcomes.{Ends};
+ghost use Rattle.jj_dag.specs.CommonSearch.{SearchesCommon};
+ghost use Rattle.jj_dag.specs.Marks.{MarksAll, mark_at, joined, grows, marked, starts_waiting, asked, handed_on, sides_met, closest_of};
+ghost use Rattle.jj_dag.specs.Outcomes.{Ends, IfFails};
 ghost use Rattle.jj_dag.specs.Owed.{MayShow};
 
 use crate::walk_error::WalkError;
@@ -58,7 +60,7 @@ impl Reach {
         }
     }
 
-    fn joined(self, added: Reach) -> Reach
+    fn union(self, added: Reach) -> Reach
         ensures { result ≡ joined self added }
     {
         Reach {
@@ -77,11 +79,11 @@ impl Reach {
 }
 
 impl Mark {
-    fn marked(self, added: Reach) -> Mark
+    fn with_reach(self, added: Reach) -> Mark
         ensures { result ≡ marked self added }
     {
         Mark {
-            reach: self.reach.joined(added),
+            reach: self.reach.union(added),
             waits: self.waits || self.reach.grows(added),
         }
     }
@@ -130,7 +132,7 @@ fn mark_node<T: Ord + Drop, ID: Hash + Eq + Drop>(
     ensures small { OnOk result (sides_met known.new < 2 ^ 64) }
 {
     let mark = mark_of(known, &id);
-    known.insert(id, mark.marked(reach))?;
+    known.insert(id, mark.with_reach(reach))?;
     // A map never holds 2^63 ids, so a search ends.
     let _count = known.len();
     if mark.starts_waiting(reach) {
@@ -208,7 +210,7 @@ pub fn closest_common_nodes<T: Ord + Drop, ID: Hash + Eq + Drop, E: Drop, II1, I
     set1: II1,
     set2: II2,
     id_fn: F,
-    neighbors_fn: N,
+    mut neighbors_fn: N,
 ) -> Result<Vec<T>, WalkError<E>>
 where
     II1: IntoIterator<Item = T, IntoIter: Drop>,
@@ -223,8 +225,109 @@ where
         neighbors_fn II1.IntoIterator II1.IntoIter.Iterator II2.IntoIterator II2.IntoIter.Iterator
         set1 set2 result (λ v. v.items) }
 {
-    let met = common_nodes(alloc, set1, set2, id_fn, neighbors_fn)?;
+    let met = common_nodes(alloc, set1, set2, &id_fn, &mut neighbors_fn)?;
     Ok(closest(alloc, met)?)
+}
+
+// Adds to what is known of each node of a list. It answers whether there was none.
+fn mark_all<T: Ord + Drop, ID: Hash + Eq + Drop, I, F>(
+    known: &mut HashMap<ID, Mark>,
+    waiting: &mut BinaryHeap<T>,
+    nodes: I,
+    id_fn: &F,
+    reach: Reach,
+) -> Result<bool, AllocError>
+where
+    I: IntoIterator<Item = T, IntoIter: Drop>,
+    F: Fn(&T) -> ID,
+    requires id_fn { F.IsAlwaysCallable id_fn.now }
+    requires nodes { Ends I.IntoIterator I.IntoIter.Iterator nodes }
+    ensures marks { IfOk result (MarksAll ID.eq (FnReturnsAt F.Fn id_fn.now) I.into_iter_gives
+        I.IntoIter.next_gives nodes reach (mark_at ID.eq known.old) (mark_at ID.eq known.new)
+        (heap_items waiting.old) (heap_items waiting.new)) }
+    ensures balance { OnOk result (sides_met known.old + heap_len waiting.new
+        ≤ sides_met known.new + heap_len waiting.old) }
+    ensures small { OnOk result (sides_met known.old < 2 ^ 64 → sides_met known.new < 2 ^ 64) }
+{
+    let mut empty = true;
+    for node in nodes {
+        empty = false;
+        let id = id_fn(&node);
+        mark_node(known, waiting, node, id, reach)?;
+    }
+    Ok(empty)
+}
+
+// Adds to what is known of each neighbour of a node. It answers whether there was none.
+fn mark_neighbors<T: Ord + Drop, ID: Hash + Eq + Drop, E: Drop, NI, F, N>(
+    known: &mut HashMap<ID, Mark>,
+    waiting: &mut BinaryHeap<T>,
+    id_fn: &F,
+    neighbors_fn: &mut N,
+    node: &T,
+    reach: Reach,
+) -> Result<bool, WalkError<E>>
+where
+    NI: IntoIterator<Item = T, IntoIter: Drop>,
+    F: Fn(&T) -> ID,
+    N: FnMut(&T) -> Result<NI, E>,
+    requires { MayShow F.Fn N.FnMut NI.IntoIterator NI.IntoIter.Iterator id_fn.now
+        neighbors_fn.old }
+    ensures graph { MayShow F.Fn N.FnMut NI.IntoIterator NI.IntoIter.Iterator id_fn.now
+        neighbors_fn.new }
+    ensures marks { IfOk result (λ empty. (list : NI)
+        × CalledAt N.FnMut neighbors_fn.old node.now (Ok list) neighbors_fn.new
+        × MarksAll ID.eq (FnReturnsAt F.Fn id_fn.now) NI.into_iter_gives NI.IntoIter.next_gives
+        list reach (mark_at ID.eq known.old) (mark_at ID.eq known.new) (heap_items waiting.old)
+        (heap_items waiting.new) empty) }
+    ensures balance { OnOk result (sides_met known.old + heap_len waiting.new
+        ≤ sides_met known.new + heap_len waiting.old) }
+    ensures small { OnOk result (sides_met known.old < 2 ^ 64 → sides_met known.new < 2 ^ 64) }
+    ensures refused { IfFails result (λ error.
+        CalledAt N.FnMut neighbors_fn.old node.now (Err error) neighbors_fn.new) }
+{
+    match neighbors_fn(node) {
+        Ok(list) => Ok(mark_all(known, waiting, list, id_fn, reach)?),
+        Err(error) => Err(WalkError::Node(error)),
+    }
+}
+
+// Asks the greatest of the nodes that wait, as long as there is one to ask, and keeps those that
+// both sets reach.
+fn search<T: Ord + Drop, ID: Hash + Eq + Drop, E: Drop, NI, F, N>(
+    met: &mut Met<T, ID>,
+    waiting: &mut BinaryHeap<T>,
+    id_fn: &F,
+    neighbors_fn: &mut N,
+) -> Result<(), WalkError<E>>
+where
+    NI: IntoIterator<Item = T, IntoIter: Drop>,
+    F: Fn(&T) -> ID,
+    N: FnMut(&T) -> Result<NI, E>,
+    requires graph { MayShow F.Fn N.FnMut NI.IntoIterator NI.IntoIter.Iterator id_fn.now
+        neighbors_fn.old }
+    requires small { sides_met met.old.known < 2 ^ 64 }
+    requires none { met.old.common.items ≡ [] }
+    ensures { SearchesCommon ID.eq F.Fn N.FnMut NI.IntoIterator NI.IntoIter.Iterator id_fn.now
+        neighbors_fn.old (mark_at ID.eq met.old.known) (heap_items waiting.old) result
+        (λ _. closest_of (mark_at ID.eq met.new.known) met.new.common.items) }
+{
+    let mut root_met = false;
+    while let Some(node) = waiting.pop() {
+        let id = id_fn(&node);
+        let reach = ask(&mut met.known, &id);
+        if reach.is_common() && waiting.is_empty() && !root_met {
+            met.common.push((node, id))?;
+            return Ok(());
+        }
+        let above = reach.handed_on();
+        match mark_neighbors(&mut met.known, waiting, id_fn, neighbors_fn, &node, above) {
+            Ok(is_root) => root_met |= is_root,
+            Err(refused) => return Err(refused),
+        }
+        keep_common(&mut met.common, reach, node, id)?;
+    }
+    Ok(())
 }
 
 // The common nodes that a search for the closest meets.
@@ -232,59 +335,33 @@ fn common_nodes<T: Ord + Drop, ID: Hash + Eq + Drop, E: Drop, II1, II2, NI, F, N
     alloc: Global,
     set1: II1,
     set2: II2,
-    id_fn: F,
-    mut neighbors_fn: N,
+    id_fn: &F,
+    neighbors_fn: &mut N,
 ) -> Result<Met<T, ID>, WalkError<E>>
 where
     II1: IntoIterator<Item = T, IntoIter: Drop>,
     II2: IntoIterator<Item = T, IntoIter: Drop> + Drop,
     NI: IntoIterator<Item = T, IntoIter: Drop>,
-    F: Fn(&T) -> ID + Drop,
-    N: FnMut(&T) -> Result<NI, E> + Drop,
-    requires graph { MayShow F.Fn N.FnMut NI.IntoIterator NI.IntoIter.Iterator id_fn neighbors_fn }
+    F: Fn(&T) -> ID,
+    N: FnMut(&T) -> Result<NI, E>,
+    requires graph { MayShow F.Fn N.FnMut NI.IntoIterator NI.IntoIter.Iterator id_fn.now
+        neighbors_fn.old }
     requires set1 { Ends II1.IntoIterator II1.IntoIter.Iterator set1 }
     requires set2 { Ends II2.IntoIterator II2.IntoIter.Iterator set2 }
-    ensures { FindsClosestCommon ID.eq F.Fn N.FnMut NI.IntoIterator NI.IntoIter.Iterator id_fn
-        neighbors_fn II1.IntoIterator II1.IntoIter.Iterator II2.IntoIterator II2.IntoIter.Iterator
-        set1 set2 result (λ met. closest_of (mark_at ID.eq met.known) met.common.items) }
+    ensures { FindsClosestCommon ID.eq F.Fn N.FnMut NI.IntoIterator NI.IntoIter.Iterator id_fn.now
+        neighbors_fn.old II1.IntoIterator II1.IntoIter.Iterator II2.IntoIterator
+        II2.IntoIter.Iterator set1 set2 result
+        (λ met. closest_of (mark_at ID.eq met.known) met.common.items) }
 {
-    let mut known = HashMap::new(alloc);
+    let mut met = Met {
+        common: Vec::new(alloc),
+        known: HashMap::new(alloc),
+    };
     let mut waiting = BinaryHeap::new(alloc);
-    for node in set1 {
-        let id = id_fn(&node);
-        mark_node(&mut known, &mut waiting, node, id, Reach::LEFT)?;
+    mark_all(&mut met.known, &mut waiting, set1, id_fn, Reach::LEFT)?;
+    mark_all(&mut met.known, &mut waiting, set2, id_fn, Reach::RIGHT)?;
+    match search(&mut met, &mut waiting, id_fn, neighbors_fn) {
+        Ok(()) => Ok(met),
+        Err(refused) => Err(refused),
     }
-    for node in set2 {
-        let id = id_fn(&node);
-        mark_node(&mut known, &mut waiting, node, id, Reach::RIGHT)?;
-    }
-    let mut common = Vec::new(alloc);
-    let mut root_met = false;
-    while let Some(node) = waiting.pop() {
-        let id = id_fn(&node);
-        let reach = ask(&mut known, &id);
-        if reach.is_common() && waiting.is_empty() && !root_met {
-            common.push((node, id))?;
-            return Ok(Met { common, known });
-        }
-        let neighbors = match neighbors_fn(&node) {
-            Ok(list) => list.into_iter(),
-            Err(error) => return Err(WalkError::Node(error)),
-        };
-        let mut is_root = true;
-        for neighbor in neighbors {
-            is_root = false;
-            let neighbor_id = id_fn(&neighbor);
-            mark_node(
-                &mut known,
-                &mut waiting,
-                neighbor,
-                neighbor_id,
-                reach.handed_on(),
-            )?;
-        }
-        root_met |= is_root;
-        keep_common(&mut common, reach, node, id)?;
-    }
-    Ok(Met { common, known })
 }

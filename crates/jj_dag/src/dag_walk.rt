@@ -1,7 +1,7 @@
 //! Walks that end before they answer. Two closures show the graph: the id of a node, and its
 //! neighbours.
-pub use crate::maximal::heads;
-pub use crate::maximal_ok::heads_ok;
-pub use crate::topo_order::{topo_order_forward, topo_order_reverse};
-pub use crate::topo_order_ok::{topo_order_forward_ok, topo_order_reverse_ok};
+pub use crate::maximal::{heads, heads_ok};
+pub use crate::topo_order::{
+    topo_order_forward, topo_order_forward_ok, topo_order_reverse, topo_order_reverse_ok,
+};
 pub use crate::walk_error::WalkError;

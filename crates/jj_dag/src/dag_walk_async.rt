@@ -3,7 +3,7 @@
 pub use crate::closest_common::closest_common_nodes;
 pub use crate::greatest_order::topo_order_reverse_ord;
 pub use crate::maximal_lists::heads;
-pub use crate::topo_order_ok::{
+pub use crate::topo_order::{
     topo_order_forward_ok as topo_order_forward, topo_order_reverse_ok as topo_order_reverse,
 };
 pub use crate::walk_error::WalkError;

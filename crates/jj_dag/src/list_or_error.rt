@@ -35,7 +35,9 @@ impl<I: Iterator, E: Drop> Iterator for ListOrError<I, E> {
 }
 
 /// What a closure answered, as such items.
-pub fn answered<L: IntoIterator, E: Drop>(answer: Result<L, E>) -> ListOrError<L::IntoIter, E>
+pub fn as_list_or_error<L: IntoIterator, E: Drop>(
+    answer: Result<L, E>,
+) -> ListOrError<L::IntoIter, E>
     ensures { StandsFor L.into_iter_gives answer result }
 {
     match answer {

@@ -1,13 +1,15 @@
-//! The nodes of a set that no other node of it reaches.
-ghost use Rattle.std.specs.Prelude.{◌≡◌, ◌+◌, ◌≤◌, ◌++◌, ◌∷◌, [], true, false, IfOk, OnOk, IfSome, IfNone, IsTrue, length};
+//! The nodes of a set that no other node of it reaches; `heads_ok` is over items that may fail.
+ghost use Rattle.std.specs.Prelude.{◌≡◌, ◌⊎◌, ◌+◌, ◌≤◌, ◌++◌, ◌∷◌, [], true, false, cond, IfOk, OnOk, IfSome, IfNone, IsTrue, length};
+ghost use Rattle.std.specs.Fn.{CalledAt, FnReturnsAt};
 ghost use Rattle.std.specs.HashSet.{contains, Updates, hash_set_len, IsUnique};
 ghost use Rattle.std.specs.List.{Contains};
-ghost use Rattle.jj_dag.specs.Found.{GivesHeads};
-ghost use Rattle.jj_dag.specs.Outcomes.{ClonesAreEqual, Ends};
+ghost use Rattle.jj_dag.specs.Failing.{FailsAfterNodes};
+ghost use Rattle.jj_dag.specs.Found.{GivesHeads, FindsHeadsOfItems};
+ghost use Rattle.jj_dag.specs.HeadsSearch.{LeavesHeads, MeetsAll, TakesStarts};
+ghost use Rattle.jj_dag.specs.Outcomes.{ClonesAreEqual, Ends, IfFails};
 ghost use Rattle.jj_dag.specs.Owed.{CanShow};
 
 use crate::all_ok::AllOk;
-use crate::maximal_ok::heads_ok;
 use crate::walk_error::WalkError;
 use std::alloc::{AllocError, Global};
 use std::collections::{HashSet, VecDeque};
@@ -99,4 +101,178 @@ where
             WalkError::Node(never) => match never {},
         },
     }
+}
+
+/// `heads` over items that may fail: `Node` of the first failed item that is met. Failed items
+/// below the place where the walk ends early are not met.
+pub fn heads_ok<T: Hash + Eq + Clone + Drop, ID: Hash + Eq + Drop, E: Drop, II, NI, F, N>(
+    alloc: Global,
+    start: II,
+    id_fn: F,
+    mut neighbors_fn: N,
+) -> Result<HashSet<T>, WalkError<E>>
+where
+    II: IntoIterator<Item = Result<T, E>, IntoIter: Drop> + Drop,
+    NI: IntoIterator<Item = Result<T, E>, IntoIter: Drop>,
+    F: Fn(&T) -> ID + Drop,
+    N: FnMut(&T) -> NI + Drop,
+    requires graph { CanShow F.Fn N.FnMut NI.IntoIterator NI.IntoIter.Iterator id_fn neighbors_fn }
+    requires start { Ends II.IntoIterator II.IntoIter.Iterator start }
+    requires clones { ClonesAreEqual T.is_clone T.eq }
+    ensures { FindsHeadsOfItems T.eq ID.eq F.Fn N.FnMut II.IntoIterator II.IntoIter.Iterator
+        NI.IntoIterator NI.IntoIter.Iterator id_fn neighbors_fn start result }
+{
+    let mut heads = HashSet::new(alloc);
+    let mut visited = HashSet::new(alloc);
+    let mut waiting = VecDeque::new(alloc);
+    match take_starts(&mut heads, &mut visited, &mut waiting, start, &id_fn) {
+        Ok(()) => {}
+        Err(refused) => return Err(refused),
+    }
+    match ask_all(
+        &mut heads,
+        &mut visited,
+        &mut waiting,
+        &id_fn,
+        &mut neighbors_fn,
+    ) {
+        Ok(()) => Ok(heads),
+        Err(refused) => Err(refused),
+    }
+}
+
+// Makes a start a head that waits, and its id a visited one.
+fn take_start<T: Hash + Eq + Clone + Drop, ID: Hash + Eq + Drop>(
+    heads: &mut HashSet<T>,
+    visited: &mut HashSet<ID>,
+    waiting: &mut VecDeque<T>,
+    node: T,
+    id: ID,
+) -> Result<(), AllocError>
+    requires clones { ClonesAreEqual T.is_clone T.eq }
+    ensures visited { OnOk result (Updates ID.eq visited.old visited.new id true) }
+    ensures heads { OnOk result ((x : T) → contains T.eq heads.new x
+        ≡ cond (T.eq node x) true (contains T.eq heads.old x)) }
+    ensures keys { OnOk result ((x : T) → Contains heads.new.keys x
+        → Contains heads.old.keys x ⊎ (T.eq node x ≡ true)) }
+    ensures unique { OnOk result (IsUnique T.eq heads.new) }
+    ensures waiting { OnOk result (waiting.new.items ≡ waiting.old.items ++ node ∷ []) }
+{
+    visited.insert(id)?;
+    heads.insert(node.clone()?)?;
+    waiting.push_back(node)?;
+    Ok(())
+}
+
+// Takes each start that is equal to none before it.
+fn take_starts<T: Hash + Eq + Clone + Drop, ID: Hash + Eq + Drop, E: Drop, II, F>(
+    heads: &mut HashSet<T>,
+    visited: &mut HashSet<ID>,
+    waiting: &mut VecDeque<T>,
+    start: II,
+    id_fn: &F,
+) -> Result<(), WalkError<E>>
+where
+    II: IntoIterator<Item = Result<T, E>, IntoIter: Drop>,
+    F: Fn(&T) -> ID,
+    requires id_fn { F.IsAlwaysCallable id_fn.now }
+    requires start { Ends II.IntoIterator II.IntoIter.Iterator start }
+    requires clones { ClonesAreEqual T.is_clone T.eq }
+    requires unique { IsUnique T.eq heads.old }
+    requires no_heads { heads.old.keys ≡ [] }
+    requires no_ids { visited.old.keys ≡ [] }
+    requires none_waits { waiting.old.items ≡ [] }
+    ensures unique { OnOk result (IsUnique T.eq heads.new) }
+    ensures starts { OnOk result (TakesStarts T.eq ID.eq (FnReturnsAt F.Fn id_fn.now)
+        II.into_iter_gives II.IntoIter.next_gives start heads.new visited.new waiting.new.items) }
+    ensures failed { IfFails result (FailsAfterNodes II.into_iter_gives II.IntoIter.next_gives
+        start) }
+{
+    for item in start {
+        let node = match item {
+            Ok(node) => node,
+            Err(error) => return Err(WalkError::Node(error)),
+        };
+        if heads.contains(&node) {
+            continue;
+        }
+        let id = id_fn(&node);
+        take_start(heads, visited, waiting, node, id)?;
+    }
+    Ok(())
+}
+
+// Meets each neighbour of a node. It answers whether there was none.
+fn meet_neighbors<T: Hash + Eq + Drop, ID: Hash + Eq + Drop, E: Drop, NI, F, N>(
+    heads: &mut HashSet<T>,
+    visited: &mut HashSet<ID>,
+    waiting: &mut VecDeque<T>,
+    id_fn: &F,
+    neighbors_fn: &mut N,
+    node: &T,
+) -> Result<bool, WalkError<E>>
+where
+    NI: IntoIterator<Item = Result<T, E>, IntoIter: Drop>,
+    F: Fn(&T) -> ID,
+    N: FnMut(&T) -> NI,
+    requires graph { CanShow F.Fn N.FnMut NI.IntoIterator NI.IntoIter.Iterator id_fn.now
+        neighbors_fn.old }
+    requires unique { IsUnique T.eq heads.old }
+    ensures graph { OnOk result (CanShow F.Fn N.FnMut NI.IntoIterator NI.IntoIter.Iterator
+        id_fn.now neighbors_fn.new) }
+    ensures unique { OnOk result (IsUnique T.eq heads.new) }
+    ensures met { IfOk result (λ empty. (list : NI)
+        × CalledAt N.FnMut neighbors_fn.old node.now list neighbors_fn.new
+        × MeetsAll T.eq ID.eq (FnReturnsAt F.Fn id_fn.now) NI.into_iter_gives
+        NI.IntoIter.next_gives list heads.old heads.new visited.old visited.new
+        waiting.old.items waiting.new.items empty) }
+    ensures grows { OnOk result (length waiting.old.items ≤ length waiting.new.items) }
+    ensures balance { OnOk result (hash_set_len visited.new + length waiting.old.items
+        ≡ hash_set_len visited.old + length waiting.new.items) }
+    ensures refused { IfFails result (λ error. (list : NI)
+        × CalledAt N.FnMut neighbors_fn.old node.now list neighbors_fn.new
+        × FailsAfterNodes NI.into_iter_gives NI.IntoIter.next_gives list error) }
+{
+    let mut empty = true;
+    for neighbor in neighbors_fn(node) {
+        empty = false;
+        let neighbor = match neighbor {
+            Ok(neighbor) => neighbor,
+            Err(error) => return Err(WalkError::Node(error)),
+        };
+        let id = id_fn(&neighbor);
+        meet(heads, visited, waiting, neighbor, id)?;
+    }
+    Ok(empty)
+}
+
+// Asks the nodes that wait, level by level, and takes their neighbours out of the heads.
+fn ask_all<T: Hash + Eq + Drop, ID: Hash + Eq + Drop, E: Drop, NI, F, N>(
+    heads: &mut HashSet<T>,
+    visited: &mut HashSet<ID>,
+    waiting: &mut VecDeque<T>,
+    id_fn: &F,
+    neighbors_fn: &mut N,
+) -> Result<(), WalkError<E>>
+where
+    NI: IntoIterator<Item = Result<T, E>, IntoIter: Drop>,
+    F: Fn(&T) -> ID,
+    N: FnMut(&T) -> NI,
+    requires graph { CanShow F.Fn N.FnMut NI.IntoIterator NI.IntoIter.Iterator id_fn.now
+        neighbors_fn.old }
+    requires unique { IsUnique T.eq heads.old }
+    ensures { LeavesHeads T.eq ID.eq F.Fn N.FnMut NI.IntoIterator NI.IntoIter.Iterator id_fn.now
+        neighbors_fn.old heads.old visited.old waiting.old.items result heads.new }
+{
+    let mut root_met = false;
+    let mut level = 0;
+    while let Some(node) = next_to_ask(waiting, &mut level, root_met) {
+        // A set never holds 2^63 ids, so the walk ends.
+        let _count = visited.len();
+        match meet_neighbors(heads, visited, waiting, id_fn, neighbors_fn, &node) {
+            Ok(is_root) => root_met |= is_root,
+            Err(refused) => return Err(refused),
+        }
+    }
+    Ok(())
 }

@@ -6,8 +6,8 @@ ghost use Rattle.jj_dag.specs.Outcomes.{ClonesAreEqual, Ends};
 ghost use Rattle.jj_dag.specs.Owed.{MayShow};
 
 use crate::all_ok::AllOk;
-use crate::list_or_error::answered;
-use crate::maximal_ok::heads_ok;
+use crate::list_or_error::as_list_or_error;
+use crate::maximal::heads_ok;
 use crate::walk_error::WalkError;
 use std::alloc::Global;
 use std::collections::HashSet;
@@ -41,6 +41,6 @@ where
         ensures { (answer : Result NI E)
             × N.step neighbors_fn.entry node.entry answer neighbors_fn.exit
             × StandsFor NI.into_iter_gives answer result }
-    { answered(neighbors_fn(node)) };
+    { as_list_or_error(neighbors_fn(node)) };
     heads_ok(alloc, start, id_fn, items_fn)
 }

@@ -6,8 +6,8 @@ use Rattle.jj_dag.proofs.closest_common.mark_node.Goals as goal
 pub returns-in_ok-push-clause-balance : goal.returns-in_ok-push-clause-balance
 returns-in_ok-push-clause-balance g c =
     let mark = mark_at g.ID.PartialEq.eq c.args.known.now c.args.id in
-    let put = sides_put g.ID.PartialEq.eq c.args.known.now c.insert.new.self c.args.id c.marked.result c.in_ok-insert.field-0 c.in_ok-insert.ensures.old c.in_ok-insert.ensures.entries in
-    let new : sides c.marked.result ≡ sides (marked mark c.args.reach) = ap sides (c.marked.ensures ∙ ap (λ m. marked m c.args.reach) c.mark_of-mark.ensures) in
+    let put = sides_put g.ID.PartialEq.eq c.args.known.now c.insert.new.self c.args.id c.with_reach.result c.in_ok-insert.field-0 c.in_ok-insert.ensures.old c.in_ok-insert.ensures.entries in
+    let new : sides c.with_reach.result ≡ sides (marked mark c.args.reach) = ap sides (c.with_reach.ensures ∙ ap (λ m. marked m c.args.reach) c.mark_of-mark.ensures) in
     let more = sides_start mark c.args.reach (ap (λ m. starts_waiting m c.args.reach) (sym c.mark_of-mark.ensures) ∙ sym c.starts_waiting.ensures ∙ c.if-starts_waiting.true) in
     omega (arith, put, new, more, c.in_ok-push.ensures.len)
 
@@ -17,8 +17,8 @@ returns-in_ok-push-clause-small g c = sides_fit c.insert.new.self (omega (arith,
 pub returns-else-starts_waiting-clause-balance : goal.returns-else-starts_waiting-clause-balance
 returns-else-starts_waiting-clause-balance g c =
     let mark = mark_at g.ID.PartialEq.eq c.args.known.now c.args.id in
-    let put = sides_put g.ID.PartialEq.eq c.args.known.now c.insert.new.self c.args.id c.marked.result c.in_ok-insert.field-0 c.in_ok-insert.ensures.old c.in_ok-insert.ensures.entries in
-    let new : sides c.marked.result ≡ sides (marked mark c.args.reach) = ap sides (c.marked.ensures ∙ ap (λ m. marked m c.args.reach) c.mark_of-mark.ensures) in
+    let put = sides_put g.ID.PartialEq.eq c.args.known.now c.insert.new.self c.args.id c.with_reach.result c.in_ok-insert.field-0 c.in_ok-insert.ensures.old c.in_ok-insert.ensures.entries in
+    let new : sides c.with_reach.result ≡ sides (marked mark c.args.reach) = ap sides (c.with_reach.ensures ∙ ap (λ m. marked m c.args.reach) c.mark_of-mark.ensures) in
     let more = sides_more mark c.args.reach in
     omega (arith, put, new, more)
 

@@ -1,6 +1,9 @@
-use Rattle.std.proofs.Common.{◌≡◌, ◌<◌, map, length, sym, ◌∙◌, arith, None, Some, length-set}
+use Rattle.std.proofs.Common.{rules, ◌≡◌, ◌<◌, ◌++◌, ◌∷◌, [], map, length, take, refl, sym, ap, ◌∙◌, arith, None, Some, length-set}
 use Rattle.std.specs.HashMap.{get}
-use Rattle.jj_dag.proofs.Linking.{counts_edge, filter_map_found, filter_map_missed}
+use Rattle.std.specs.List.{filter_map}
+use Rattle.std.proofs.lemmas.Grind.{common_steps}
+use Rattle.std.proofs.lemmas.List.{map_push, take_all}
+use Rattle.jj_dag.proofs.Linking.{counts_edge, counts_list, map_one_more, filter_map_found, filter_map_missed}
 use Rattle.jj_dag.proofs.greatest_order.link.Goals as goal
 use Rattle.jj_dag.proofs.greatest_order.link.Goals.{in-Some+in-Some-checked_add+in_ok-push, in_default}
 
@@ -29,3 +32,56 @@ loop-id-preserved g c =
                 (sym (filter_map_missed (get g.ID.PartialEq.eq c.args.index_of.now) c.deref-id-items.result.now c.loop-id.id-index c.id-item.result lt c.id-item.is missed));
           }
     ]
+
+pub loop-ids-init : goal.loop-ids-init
+loop-ids-init g c = record {
+  lengths = omega (arith, c.in_ok-indegrees.ensures);
+  counts = grind (arith, common_steps);
+  targets = rw c.new-targets.ensures.items refl;
+}
+
+pub loop-id-init : goal.loop-id-init
+loop-id-init g c = search rules
+
+pub index-requires : goal.index-requires
+index-requires g c = omega (arith, c.loop-id.invariant.lengths, c.requires c.id-item.result c.in-Some.place.now (sym c.in-Some.ensures.value))
+
+pub checked_add-requires : goal.checked_add-requires
+checked_add-requires g c = search rules
+
+pub index_mut-requires : goal.index_mut-requires
+index_mut-requires g c = omega (arith, c.loop-id.invariant.lengths, c.requires c.id-item.result c.in-Some.place.now (sym c.in-Some.ensures.value))
+
+pub loop-id-smaller : goal.loop-id-smaller
+loop-id-smaller g c = search rules
+
+pub loop-ids-smaller : goal.loop-ids-smaller
+loop-ids-smaller g c = search rules
+
+pub loop-ids-preserved : goal.loop-ids-preserved
+loop-ids-preserved g c =
+    let h = get g.ID.PartialEq.eq c.args.index_of.now in
+    let more : map (λ v. v.items) c.push-in-loop-ids.new.self.items ≡ map (λ v. v.items) c.loop-ids.targets.items ++ c.loop-id.places.items ∷ [] =
+    rw (c.in_ok-push-2.ensures.items, map_push) refl in
+    let whole : c.loop-id.places.items ≡ filter_map h c.ids-item.result.items =
+    c.loop-id.invariant.places ∙ ap (filter_map h) (take_all c.loop-id.id-index c.deref-id-items.result.now (omega arith) ∙ c.deref-id-items.ensures.value) in
+    record {
+      lengths = c.loop-id.invariant.lengths;
+      counts = rw more
+          (counts_list (length c.args.neighbor_ids.now) c.loop-id.indegrees.items c.loop-id.places.items (map (λ v. v.items) c.loop-ids.targets.items)
+          c.loop-id.invariant.counts);
+      targets = more ∙ ap (λ ls. ls ++ c.loop-id.places.items ∷ []) c.loop-ids.invariant.targets
+          ∙ ap (λ l. map (λ v. filter_map h v.items) (take c.loop-ids.ids-index c.args.neighbor_ids.now) ++ l ∷ []) whole
+          ∙ sym (map_one_more (λ v. filter_map h v.items) c.args.neighbor_ids.now c.loop-ids.ids-index c.ids-item.result (omega arith) c.ids-item.is);
+    }
+
+pub returns-clause-targets : goal.returns-clause-targets
+returns-clause-targets g c =
+    let h = get g.ID.PartialEq.eq c.args.index_of.now in
+    c.loop-ids.invariant.targets ∙ ap (map (λ v. filter_map h v.items)) (take_all c.loop-ids.ids-index c.args.neighbor_ids.now (omega arith))
+
+pub returns-clause-counts : goal.returns-clause-counts
+returns-clause-counts g c = c.loop-ids.invariant.lengths
+
+pub returns-clause-indegrees : goal.returns-clause-indegrees
+returns-clause-indegrees g c = search rules

@@ -1,8 +1,8 @@
-use Rattle.std.proofs.Common.{◌≡◌, ℕ, ◌<◌, ◌∷◌, List, map, length, IsSome, [], ◌++◌, arith, refl, sym, ◌∙◌, ap, None, get_or, set, ◌≢◌, inl, inr}
+use Rattle.std.proofs.Common.{drop, rules, ◌≡◌, ℕ, ◌<◌, ◌∷◌, List, map, length, IsSome, [], ◌++◌, arith, refl, sym, ◌∙◌, ap, None, get_or, set, ◌≢◌, inl, inr}
 use Rattle.std.specs.List.{Contains}
 use Rattle.std.specs.BinaryHeap.{heap_items}
 use Rattle.jj_dag.proofs.TakingReady.{sorting_kept, sorting_taken, taking_starts, taking_popped, popped_place, popped_above, picked_push, read_is, edge_counts, edge_kept, edge_readied, left_is, taken_all, none_is}
-use Rattle.std.proofs.lemmas.List.{length-map, get_or-map, nil_from_length, get_or_default}
+use Rattle.std.proofs.lemmas.List.{drop_all, length-map, get_or-map, nil_from_length, get_or_default}
 use Rattle.std.proofs.lemmas.Bool.{cases_eq}
 use Rattle.std.proofs.lemmas.List.Elements.{Contains-get_or}
 use Rattle.jj_dag.proofs.greatest_order.take_greatest_first.Goals as goal
@@ -174,3 +174,45 @@ returns g c =
     let nothing : length c.loop-node.ready.data.items ≡ 0 = omega arith in
     let empty : heap_items c.loop-node.ready ≡ [] = nil_from_length _ nothing in
     (p.0, p.2, p.3.takes, taken_all g.T.Ord.cmp c.args.waiting.items (map (λ ts. ts.items) c.args.targets.now) empty p.3 c.requires.present (λ k lt. rw (← same) (c.loop-left.invariant.gone k (omega arith))))
+
+pub loop-index-init : goal.loop-index-init
+loop-index-init g c = search rules
+
+pub index-requires : goal.index-requires
+index-requires g c = search rules
+
+pub make_ready-requires : goal.make_ready-requires
+make_ready-requires g c = search rules
+
+pub loop-index-smaller : goal.loop-index-smaller
+loop-index-smaller g c = search rules
+
+pub loop-node-smaller : goal.loop-node-smaller
+loop-node-smaller g c = search rules
+
+pub loop-node-preserved : goal.loop-node-preserved
+loop-node-preserved g c =
+    let before = c.loop-target.invariant in
+    let none : drop c.loop-target.target-index c.deref-target-items.result.now ≡ [] = drop_all c.loop-target.target-index c.deref-target-items.result.now (omega arith) in
+    record { heap_order = before.heap_order; taking = (before.taking.0, before.taking.1, before.taking.2, rw none at before.taking.3) }
+
+pub offset_bounds-target-items-target-index : goal.offset_bounds-target-items-target-index
+offset_bounds-target-items-target-index g c = search rules
+
+pub bounds-target-items-target-index : goal.bounds-target-items-target-index
+bounds-target-items-target-index g c = search rules
+
+pub loop-target-smaller : goal.loop-target-smaller
+loop-target-smaller g c = search rules
+
+pub loop-left-init : goal.loop-left-init
+loop-left-init g c = search rules
+
+pub index-requires-in-loop-left : goal.index-requires-in-loop-left
+index-requires-in-loop-left g c = search rules
+
+pub swap_remove-requires : goal.swap_remove-requires
+swap_remove-requires g c = search rules
+
+pub loop-left-smaller : goal.loop-left-smaller
+loop-left-smaller g c = search rules

@@ -1,4 +1,4 @@
-use Rattle.std.proofs.Common.{inl, inr}
+use Rattle.std.proofs.Common.{rules, inl, inr}
 use Rattle.jj_dag.proofs.Collected.{beside_cycle, whole_order}
 use Rattle.jj_dag.proofs.Errors.{node_weaker}
 use Rattle.jj_dag.proofs.greatest_order.topo_order_reverse_ord.Goals as goal
@@ -34,3 +34,15 @@ returns-in-None g c =
       );
       node = tt;
     }
+
+pub sound_nodes-requires : goal.sound_nodes-requires
+sound_nodes-requires g c = c.requires.start
+
+pub collect-requires : goal.collect-requires
+collect-requires g c = c.requires.graph
+
+pub greatest_first-requires : goal.greatest_first-requires
+greatest_first-requires g c = c.in-Ok-collect.ensures.collected.0
+
+pub cycle_fn-requires : goal.cycle_fn-requires
+cycle_fn-requires g c = search rules

@@ -25,3 +25,18 @@ returns-in-Err-clause-failed g c =
 pub returns-clause-nodes : goal.returns-clause-nodes
 returns-clause-nodes g c =
     drained_nodes g.L.IntoIterator.into_iter_gives g.L.IntoIter.Iterator.next_gives c.args.items c.loop-item.nodes.items c.into_iter-item-iterator.ensures.into_iter_gives c.loop-item.yielded_by c.in-None.ensures.steps c.loop-item.invariant.sound
+
+pub next-requires : goal.next-requires
+next-requires g c = search rules
+
+pub loop-item-smaller : goal.loop-item-smaller
+loop-item-smaller g c = search rules
+
+pub drop-item-iterator-requires : goal.drop-item-iterator-requires
+drop-item-iterator-requires g c κs within = search rules
+
+pub drop-item-iterator-requires-in-Err : goal.drop-item-iterator-requires-in-Err
+drop-item-iterator-requires-in-Err g c κs within = search rules
+
+pub drop-item-iterator-requires-2 : goal.drop-item-iterator-requires-2
+drop-item-iterator-requires-2 g c κs within = search rules

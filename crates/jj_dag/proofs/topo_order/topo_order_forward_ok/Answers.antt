@@ -1,6 +1,6 @@
 use Rattle.std.proofs.Common.{inl, inr, ⊎_elim}
 use Rattle.jj_dag.proofs.Wrapped.{cycle_says, failed_says}
-use Rattle.jj_dag.proofs.topo_order_ok.topo_order_forward_ok.Goals as goal
+use Rattle.jj_dag.proofs.topo_order.topo_order_forward_ok.Goals as goal
 
 pub returns-in-Failed-clause-refused : goal.returns-in-Failed-clause-refused
 returns-in-Failed-clause-refused g c =

@@ -1,7 +1,7 @@
 use Rattle.std.proofs.Common.{sym, subst}
 use Rattle.jj_dag.specs.Orders.{IsSoundPostorder}
 use Rattle.jj_dag.proofs.Walking.{numbers, numbers-turned}
-use Rattle.jj_dag.proofs.topo_order_ok.topo_order_reverse_ok.Goals as goal
+use Rattle.jj_dag.proofs.topo_order.topo_order_reverse_ok.Goals as goal
 
 pub returns-clause-order : goal.returns-clause-order
 returns-clause-order g c =

@@ -1,6 +1,6 @@
 use Rattle.std.proofs.Common.{refl}
 use Rattle.jj_dag.specs.ListOrError.{StandsFor}
-use Rattle.jj_dag.proofs.list_or_error.answered.Goals as goal
+use Rattle.jj_dag.proofs.list_or_error.as_list_or_error.Goals as goal
 
 pub returns-in-Ok : goal.returns-in-Ok
 unfolding StandsFor

@@ -1,0 +1,32 @@
+use Rattle.std.proofs.Common.{rules, arith, refl}
+use Rattle.std.proofs.lemmas.List.Elements.{Contains-push}
+use Rattle.jj_dag.specs.Marks.MarksNodes.{none, more}
+use Rattle.jj_dag.proofs.Walking.{returned}
+use Rattle.jj_dag.proofs.closest_common.mark_all.Goals as goal
+
+pub loop-node-init : goal.loop-node-init
+loop-node-init g c =
+    let ends = c.requires.nodes c.into_iter-node-iterator.result c.into_iter-node-iterator.ensures.into_iter_gives in
+    record { can = ends.0; finite = ends.1; marks = none; balance = omega arith; small = λ h. h; some = refl }
+
+pub loop-node-preserved : goal.loop-node-preserved
+loop-node-preserved g c =
+    let before = c.loop-node.invariant in
+    let node = c.in-Some.node in
+    let done = c.in_ok-mark_node.ensures in
+    record {
+      can = search rules;
+      finite = search rules;
+      marks = more node c.id_fn-id.result before.marks (returned g.F.Fn c.id_fn-id.ensures) (record { marks = done.known; waits = done.waiting });
+      balance = omega (arith, before.balance, done.balance);
+      small = λ h. done.small;
+      some = (node, Contains-push c.loop-node.yielded node);
+    }
+
+pub returns-clause-marks : goal.returns-clause-marks
+returns-clause-marks g c = record {
+  nodes = c.loop-node.yielded;
+  drained = (c.into_iter-node-iterator.result, c.into_iter-node-iterator.ensures.into_iter_gives, (c.next.new.self, (c.loop-node.node-iterator, c.loop-node.yielded_by, c.in-None.ensures.steps)));
+  marks = c.loop-node.invariant.marks;
+  none = c.loop-node.invariant.some;
+}

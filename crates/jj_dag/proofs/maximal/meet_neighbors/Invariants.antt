@@ -1,0 +1,19 @@
+use Rattle.std.proofs.Common.{◌≡◌, ◌+◌, ◌≤◌, List, [], Ok, length, map}
+use Rattle.std.specs.Bool.{MatchBool}
+use Rattle.std.specs.Fn.{FnReturnsAt}
+use Rattle.std.specs.HashSet.{hash_set_len, IsUnique}
+use Rattle.std.specs.List.{Contains}
+use Rattle.jj_dag.specs.HeadsSearch.{MeetsNodes}
+use Rattle.jj_dag.proofs.maximal.meet_neighbors.Given as goal
+
+abbrev pub invariant-loop-neighbor : goal.invariant-loop-neighbor
+invariant-loop-neighbor g l = record {
+  can : (goal.iterator-loop-neighbor g).can_next l.neighbor-iterator;
+  finite : (goal.iterator-loop-neighbor g).is_finite l.neighbor-iterator;
+  unique : IsUnique g.T.PartialEq.eq l.heads;
+  balance : hash_set_len l.visited + length l.initial.waiting.items ≡ hash_set_len l.initial.visited + length l.waiting.items;
+  grows : length l.initial.waiting.items ≤ length l.waiting.items;
+  sound : (ys : List g.row.T.Denot) × (l.yielded ≡ map (λ x. Ok x) ys)
+      × MeetsNodes g.T.PartialEq.eq g.ID.PartialEq.eq (FnReturnsAt g.F.Fn l.id_fn) l.initial.heads l.initial.visited l.initial.waiting.items ys l.heads l.visited l.waiting.items
+      × MatchBool l.empty (ys ≡ []) ((y : g.row.T.Denot) × Contains ys y);
+}

@@ -1,0 +1,103 @@
+use Rattle.std.proofs.Common.{rules, ◌≡◌, ◌++◌, ◌∷◌, [], refl, sym, ◌∙◌, ap, Ok}
+use Rattle.std.specs.HashSet.{contains}
+use Rattle.std.proofs.lemmas.List.Elements.{Contains-append_left, Contains-push}
+use Rattle.jj_dag.proofs.FailingOrders.{begins_failed, drained_nodes, ok-push}
+use Rattle.jj_dag.proofs.Heads.{none_contained, put_for, start_waits, started_again, started_new, started_none}
+use Rattle.jj_dag.proofs.Walking.{numbers, numbers-push, returned}
+use Rattle.jj_dag.proofs.maximal.take_starts.Goals as goal
+
+pub loop-item-init : goal.loop-item-init
+loop-item-init g c =
+    let ends = c.requires.start c.into_iter-item-iterator.result c.into_iter-item-iterator.ensures.into_iter_gives in
+    let heads : c.args.heads.now.keys ≡ [] = c.requires.no_heads in
+    let visited : c.args.visited.now.keys ≡ [] = c.requires.no_ids in
+    let waiting : c.args.waiting.now.items ≡ [] = c.requires.none_waits in
+    record {
+      can = ends.0;
+      finite = ends.1;
+      unique = c.requires.unique;
+      sound = ([], refl, (λ b h. absurd (none_contained c.args.waiting.now.items waiting b h)), λ walk knows stands nodes. rw waiting (started_none walk heads (λ x. rw heads) (λ i. rw visited)));
+    }
+
+pub loop-item-preserved-then-contains : goal.loop-item-preserved-then-contains
+loop-item-preserved-then-contains g c =
+    let before = c.loop-item.invariant.sound in
+    let node = c.in-Ok.node in
+    let is : c.in-Some.item ≡ Ok node = c.in-Ok.is in
+    record {
+      can = search rules;
+      finite = search rules;
+      unique = c.loop-item.invariant.unique;
+      sound = (
+        before.0 ++ node ∷ [],
+        ap (λ x. c.loop-item.yielded ++ x ∷ []) is ∙ ok-push c.loop-item.yielded before.0 node before.1,
+        (λ b h. Contains-append_left before.0 (node ∷ []) b (before.2 b h)),
+        λ walk knows stands nodes.
+            let split = numbers-push walk before.0 node in
+            rw split (started_again walk node
+            (before.3 walk knows stands (λ a h. nodes a (rw split (Contains-append_left (numbers walk before.0) (walk.node node ∷ []) a h))))
+            (nodes (walk.node node) (rw split (Contains-push (numbers walk before.0) (walk.node node)))) (sym c.if-contains.ensures)),
+      );
+    }
+
+pub loop-item-preserved : goal.loop-item-preserved
+loop-item-preserved g c =
+    let before = c.loop-item.invariant.sound in
+    let node = c.in-Ok.node in
+    let is : c.in-Some.item ≡ Ok node = c.in-Ok.is in
+    let did = c.in_ok-take_start.ensures in
+    let more : c.take_start.new.waiting.items ≡ c.loop-item.waiting.items ++ node ∷ [] = did.waiting in
+    record {
+      can = search rules;
+      finite = search rules;
+      unique = did.unique;
+      sound = (
+        before.0 ++ node ∷ [],
+        ap (λ x. c.loop-item.yielded ++ x ∷ []) is ∙ ok-push c.loop-item.yielded before.0 node before.1,
+        start_waits before.0 c.loop-item.waiting.items c.take_start.new.waiting.items node more before.2,
+        λ walk knows stands nodes.
+            let split = numbers-push walk before.0 node in
+            let here = nodes (walk.node node) (rw split (Contains-push (numbers walk before.0) (walk.node node))) in
+            rw (split, more, numbers-push walk c.loop-item.waiting.items node) (started_new walk g.T.PartialEq.eq g.ID.PartialEq.eq
+            c.take_start.new.heads.keys (contains g.T.PartialEq.eq c.take_start.new.heads) (contains g.ID.PartialEq.eq c.take_start.new.visited) node c.id_fn-id.result stands knows.apart
+            (before.3 walk knows stands (λ a h. nodes a (rw split (Contains-append_left (numbers walk before.0) (walk.node node ∷ []) a h))))
+            here (knows.ids_stand node c.id_fn-id.result here (returned g.F.Fn c.id_fn-id.ensures))
+            (put_for walk stands c.loop-item.heads.keys c.take_start.new.heads.keys node here did.keys) did.heads did.visited.0),
+      );
+    }
+
+pub returns-in-Err-clause-failed : goal.returns-in-Err-clause-failed
+returns-in-Err-clause-failed g c =
+    let sound = c.loop-item.invariant.sound in
+    (sound.0, begins_failed g.II.IntoIterator.into_iter_gives g.II.IntoIter.Iterator.next_gives c.args.start sound.0 c.in-Err.error c.into_iter-item-iterator.ensures.into_iter_gives c.loop-item.yielded_by c.in-Some.ensures.steps sound.1 c.in-Err.is)
+
+pub returns-clause-starts : goal.returns-clause-starts
+returns-clause-starts g c =
+    let sound = c.loop-item.invariant.sound in
+    record {
+      nodes = sound.0;
+      drained = drained_nodes g.II.IntoIterator.into_iter_gives g.II.IntoIter.Iterator.next_gives c.args.start sound.0 c.into_iter-item-iterator.ensures.into_iter_gives c.loop-item.yielded_by c.in-None.ensures.steps sound.1;
+      waits = sound.2;
+      started = sound.3;
+    }
+
+pub next-requires : goal.next-requires
+next-requires g c = search rules
+
+pub drop-item-iterator-requires : goal.drop-item-iterator-requires
+drop-item-iterator-requires g c κs within = search rules
+
+pub loop-item-smaller-then-contains : goal.loop-item-smaller-then-contains
+loop-item-smaller-then-contains g c = search rules
+
+pub id_fn-id-requires : goal.id_fn-id-requires
+id_fn-id-requires g c = search rules
+
+pub take_start-requires : goal.take_start-requires
+take_start-requires g c = record { clones = c.requires.clones }
+
+pub loop-item-smaller : goal.loop-item-smaller
+loop-item-smaller g c = search rules
+
+pub drop-item-iterator-requires-2 : goal.drop-item-iterator-requires-2
+drop-item-iterator-requires-2 g c κs within = search rules

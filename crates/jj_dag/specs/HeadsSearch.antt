@@ -1,0 +1,95 @@
+-- What a search for heads keeps, and what it gives from where the starts were taken.
+-- Machinery of private functions and fields.
+use Rattle.std.specs.Prelude.{◌≡◌, ℕ, ◌==◌, Bool, true, false, List, [], ◌∷◌, ◌++◌, map, MatchBool, Option, Result, IfOk}
+use Rattle.std.specs.declared.result.Result.TheVariants.{Ok}
+use Rattle.std.specs.Fn.{Shared, Mut}
+use Rattle.std.specs.HashSet.{HashSet, contains, Updates}
+use Rattle.std.specs.List.{Contains, list_any}
+use Rattle.std.specs.declared.iter.IntoIterator as into
+use Rattle.std.specs.declared.iter.Iterator as iter
+use denote.Ref.{Bor}
+use Rattle.jj_dag.specs.declared.walk_error.WalkError.{WalkError}
+use Rattle.jj_dag.specs.Failing.{FailingGraph, Fault, ReachesFailure, ShowsItems}
+use Rattle.jj_dag.specs.Found.{AreHeads}
+use Rattle.jj_dag.specs.Outcomes.{IfFails}
+use Rattle.jj_dag.specs.Walk.{AreNodes, DrainsTo, Numbered, StandsForNodes}
+
+module _ {T ID : Type 0} (w : Numbered T ID) where
+  -- ids of nodes are equal just where they stand for one node, and each id that is told of a node
+  -- stands for it
+  pub record TellsNodes (eq : ID → ID → Bool) (tells : T → ID → Type 0) : Type 0 where
+    pub apart : (i j : ID) → w.is_node (w.id i) ≡ true → w.is_node (w.id j) ≡ true
+        → eq i j ≡ (w.id i == w.id j)
+    pub ids_stand : (x : T) (i : ID) → w.is_node (w.node x) ≡ true → tells x i → w.id i ≡ w.node x
+
+  -- the starts are the heads, their ids are known, and they wait
+  pub record IsStarted (starts : List ℕ) (keys : List T) (in_heads : T → Bool) (test : ID → Bool)
+      (waiting : List ℕ) : Type 0 where
+    pub keys_stand : (x : T) → Contains keys x → w.is_node (w.node x) ≡ true
+    pub heads : (x : T) → w.is_node (w.node x) ≡ true
+        → in_heads x ≡ list_any (λ a. w.node x == a) starts
+    pub knows : (i : ID) → w.is_node (w.id i) ≡ true → test i ≡ list_any (λ a. w.id i == a) starts
+    pub waits : (a : ℕ) → Contains waiting a → Contains starts a
+    pub all : (a : ℕ) → Contains starts a → Contains waiting a
+
+module _ {T ID S R : Type 0} (same : T → T → Bool) (eq : ID → ID → Bool) where
+  -- the starts that an iterator of this value gives were taken
+  pub record TakesStarts {E U I : Type 0} (tells : T → ID → Type 0) (becomes : U → I → Type 0)
+      (steps : I → Option (Result T E) → I → Type 0) (value : U) (heads : HashSet T S)
+      (visited : HashSet ID R) (waiting : List T) : Type 0 where
+    pub nodes : List T
+    pub drained : DrainsTo becomes steps value (map Ok nodes)
+    pub waits : (x : T) → Contains waiting x → Contains nodes x
+    pub started : (walk : Numbered T ID) → TellsNodes walk eq tells → StandsForNodes walk same
+        → AreNodes walk (map walk.node nodes)
+        → IsStarted walk (map walk.node nodes) heads.keys (contains same heads)
+        (contains eq visited) (map walk.node waiting)
+
+  -- the neighbour x of this id is no head, and waits if its id is new
+  pub record MeetsNode (x : T) (i : ID) (heads heads2 : HashSet T S)
+      (visited visited2 : HashSet ID R) (waiting waiting2 : List T) : Type 0 where
+    pub keys : (y : T) → Contains heads2.keys y → Contains heads.keys y
+    pub leaves : Updates same heads heads2 x false
+    pub visits : Updates eq visited visited2 i true
+    pub known : contains eq visited i ≡ true → waiting2 ≡ waiting
+    pub new : contains eq visited i ≡ false → waiting2 ≡ waiting ++ x ∷ []
+
+  -- the neighbours of a list, of which the ids were told, were met one after the other
+  pub data MeetsNodes (tells : T → ID → Type 0) (heads : HashSet T S) (visited : HashSet ID R)
+      (waiting : List T) : List T → HashSet T S → HashSet ID R → List T → Type 0 where
+    none : MeetsNodes tells heads visited waiting [] heads visited waiting
+    more : {xs waiting2 waiting3 : List T} {heads2 heads3 : HashSet T S}
+        {visited2 visited3 : HashSet ID R} (x : T) (i : ID)
+        → MeetsNodes tells heads visited waiting xs heads2 visited2 waiting2 → tells x i
+        → MeetsNode x i heads2 heads3 visited2 visited3 waiting2 waiting3
+        → MeetsNodes tells heads visited waiting (xs ++ x ∷ []) heads3 visited3 waiting3
+
+  -- the neighbours that an iterator of this value gives were met, and it is said whether there was
+  -- none
+  pub record MeetsAll {E U I : Type 0} (tells : T → ID → Type 0) (becomes : U → I → Type 0)
+      (steps : I → Option (Result T E) → I → Type 0) (value : U) (heads heads2 : HashSet T S)
+      (visited visited2 : HashSet ID R) (waiting waiting2 : List T) (empty : Bool) : Type 0 where
+    pub nodes : List T
+    pub drained : DrainsTo becomes steps value (map Ok nodes)
+    pub met : MeetsNodes tells heads visited waiting nodes heads2 visited2 waiting2
+    pub none : MatchBool empty (nodes ≡ []) ((x : T) × Contains nodes x)
+
+module _ {T ID E F N U J S R : Type 0} (same : T → T → Bool) (eq : ID → ID → Bool)
+    (ids : Shared F (Bor T × Unit {0}) ID) (lists : Mut N (Bor T × Unit {0}) U)
+    (value : into.Ghosts U (Result T E) J) (items : iter.Ghosts J (Result T E)) (id_fn : F)
+    (neighbors_fn : N) (heads : HashSet T S) (visited : HashSet ID R) (waiting : List T) where
+  -- P of each graph that the closures show, and of starts that were taken so
+  abbrev pub FromStarted : (Numbered T ID → FailingGraph (Fault E) → List ℕ → Type 0) → Type 0
+  FromStarted P = (walk : Numbered T ID) (shown : FailingGraph (Fault E)) (xs : List T)
+      → ShowsItems walk shown eq ids lists value.into_iter_gives items.next_gives id_fn neighbors_fn
+      → AreNodes walk (map walk.node xs) → ((x : T) → Contains waiting x → Contains xs x)
+      → (StandsForNodes walk same → IsStarted walk (map walk.node xs) heads.keys
+      (contains same heads) (contains eq visited) (map walk.node waiting))
+      → P walk shown (map walk.node xs)
+
+  -- the heads are left, or an item of a node that the starts reach failed with this error
+  pub record LeavesHeads {V : Type 0} (r : Result V (WalkError E)) (left : HashSet T S)
+      : Type 0 where
+    pub found : IfOk r (λ _. FromStarted (λ walk shown nodes. AreHeads same walk nodes left.keys))
+    pub refused : IfFails r (λ error. FromStarted (λ walk shown nodes.
+        ReachesFailure shown nodes error))
