@@ -4,7 +4,7 @@ use Rattle.std.specs.Fn.{Shared, Mut}
 use Rattle.std.specs.Iterator.{Count, Drains}
 use denote.Ref.{Bor}
 use Rattle.jj_walks.specs.declared.depth_first.DepthFirst.{DepthFirst}
-use Rattle.jj_walks.specs.declared.depth_first_ok.DepthFirstOk.{DepthFirstOk}
+use Rattle.jj_walks.specs.declared.depth_first.DepthFirstOk.{DepthFirstOk}
 use Rattle.jj_dag.specs.declared.walk_error.WalkError.{WalkError}
 use Rattle.jj_dag.specs.declared.walk_error.WalkError.TheVariants.{Node}
 use Rattle.jj_dag.specs.Failing.{FailingGraph, Fault, AreFailingPreorder}

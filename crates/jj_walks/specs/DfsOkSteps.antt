@@ -7,7 +7,7 @@ use Rattle.std.specs.Fn.{Shared, Mut, AlwaysReturns}
 use Rattle.std.specs.HashSet.{contains, hash_set_len}
 use denote.Ref.{Bor}
 use denote.Param.Always.{always_fn, always_mut}
-use Rattle.jj_walks.specs.declared.depth_first_ok.DepthFirstOk.{DepthFirstOk}
+use Rattle.jj_walks.specs.declared.depth_first.DepthFirstOk.{DepthFirstOk}
 use Rattle.jj_dag.specs.declared.walk_error.WalkError.{WalkError}
 use Rattle.jj_dag.specs.declared.walk_error.WalkError.TheVariants.{Memory, Node}
 use Rattle.jj_dag.specs.Walk.{Numbered}

@@ -7,7 +7,7 @@ use Rattle.std.specs.declared.iter.IntoIterator as into
 use Rattle.std.specs.declared.iter.Iterator as iter
 use denote.Ref.{Bor}
 use Rattle.jj_walks.specs.declared.depth_first.DepthFirst.{DepthFirst}
-use Rattle.jj_walks.specs.declared.depth_first_ok.DepthFirstOk.{DepthFirstOk}
+use Rattle.jj_walks.specs.declared.depth_first.DepthFirstOk.{DepthFirstOk}
 use Rattle.jj_walks.specs.declared.topo_order_lazy.TopoOrderReverseLazy.{TopoOrderReverseLazy}
 use Rattle.jj_walks.specs.DfsSteps.{CanWalk, IsLeftOf}
 use Rattle.jj_walks.specs.DfsOkSteps.{CanWalk as CanWalkItems, IsLeftOf as AreLeftOf}

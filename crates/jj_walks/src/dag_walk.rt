@@ -1,6 +1,5 @@
 //! Walks over a directed graph that two closures show: the id of a node, and its neighbours.
-pub use crate::depth_first::{DepthFirst, dfs};
-pub use crate::depth_first_ok::{DepthFirstOk, dfs_ok};
+pub use crate::depth_first::{DepthFirst, DepthFirstOk, dfs, dfs_ok};
 pub use jj_dag::dag_walk::{
     WalkError, heads, heads_ok, topo_order_forward, topo_order_forward_ok, topo_order_reverse,
     topo_order_reverse_ok,

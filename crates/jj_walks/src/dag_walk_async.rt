@@ -1,6 +1,6 @@
 //! Walks over items that may fail, under the names that callers of asynchronous graphs know. They
 //! are plain functions.
-pub use crate::depth_first_ok::{DepthFirstOk, dfs_ok as dfs};
+pub use crate::depth_first::{DepthFirstOk, dfs_ok as dfs};
 pub use crate::topo_order_chunked::topo_order_reverse_chunked;
 pub use crate::topo_order_lazy::{TopoOrderReverseLazy, topo_order_reverse_lazy};
 pub use jj_dag::dag_walk_async::{

@@ -1,9 +1,9 @@
-//! The depth-first walk as an iterator.
+//! The depth-first walk as an iterator, and over items that may fail.
 ghost use Rattle.std.specs.Prelude.{IfOk};
 ghost use Rattle.std.specs.Iterator.{at_most};
 ghost use Rattle.jj_dag.specs.Outcomes.{Ends};
 ghost use Rattle.jj_dag.specs.Owed.{CanShow};
-ghost use Rattle.jj_walks.specs.Started.{StartsWalk};
+ghost use Rattle.jj_walks.specs.Started.{StartsWalk, StartsWalkOfItems};
 
 use crate::next_item::next_item;
 use crate::sources::items_of;
@@ -78,6 +78,72 @@ where
 {
     let work = items_of(alloc, start)?;
     Ok(DepthFirst {
+        work,
+        visited: HashSet::new(alloc),
+        id_fn,
+        neighbors_fn,
+    })
+}
+
+/// The items of a depth-first walk, as they are met.
+#[derive(Drop)]
+pub struct DepthFirstOk<T, ID: Hash + Eq, E, F, N> {
+    work: Vec<Result<T, E>>,
+    visited: HashSet<ID>,
+    id_fn: F,
+    neighbors_fn: N,
+}
+
+impl<T: Drop, ID: Hash + Eq + Drop, E: Drop, NI, F, N> Iterator for DepthFirstOk<T, ID, E, F, N>
+where
+    NI: IntoIterator<Item = Result<T, E>, IntoIter: Drop>,
+    F: Fn(&T) -> ID,
+    N: FnMut(&T) -> NI,
+{
+    type Item = Result<T, WalkError<E>>;
+
+    ghost use Rattle.jj_walks.specs.DfsOkSteps.{CanWalk, Steps, items_left};
+
+    ghost can_next = { λ s. CanWalk F.Fn N.FnMut NI.into_iter_gives
+        NI.IntoIter.can_next NI.IntoIter.remaining s };
+
+    ghost next_gives = { λ s r t.
+        Steps F.Fn N.FnMut ID.eq NI.into_iter_gives NI.IntoIter.next_gives NI.IntoIter.can_next
+        NI.IntoIter.remaining s r t };
+
+    ghost remaining = { λ s. at_most (items_left s) };
+
+    fn next(&mut self) -> Option<Result<T, WalkError<E>>> {
+        next_item(
+            &mut self.work,
+            &mut self.visited,
+            &|item: Result<T, E>| -> Result<T, E> { item },
+            &self.id_fn,
+            &mut self.neighbors_fn,
+        )
+    }
+}
+
+/// A depth-first walk from these starts, the last of them first. A failed item is given in its
+/// place as `Node`, and the walk goes on; after `Memory` it has ended.
+pub fn dfs_ok<T: Drop, ID: Hash + Eq + Drop, E: Drop, II, NI, F, N>(
+    alloc: Global,
+    start: II,
+    id_fn: F,
+    neighbors_fn: N,
+) -> Result<DepthFirstOk<T, ID, E, F, N>, AllocError>
+where
+    II: IntoIterator<Item = Result<T, E>, IntoIter: Drop>,
+    NI: IntoIterator<Item = Result<T, E>, IntoIter: Drop>,
+    F: Fn(&T) -> ID + Drop,
+    N: FnMut(&T) -> NI + Drop,
+    requires graph { CanShow F.Fn N.FnMut NI.IntoIterator NI.IntoIter.Iterator id_fn neighbors_fn }
+    requires start { Ends II.IntoIterator II.IntoIter.Iterator start }
+    ensures { IfOk result (StartsWalkOfItems ID.eq F.Fn N.FnMut II.IntoIterator
+        II.IntoIter.Iterator NI.IntoIterator NI.IntoIter.Iterator id_fn neighbors_fn start) }
+{
+    let work = items_of(alloc, start)?;
+    Ok(DepthFirstOk {
         work,
         visited: HashSet::new(alloc),
         id_fn,

@@ -5,6 +5,7 @@ ghost use Rattle.std.specs.Iterator.{at_most, size};
 ghost use Rattle.jj_walks.specs.Grouped.{Entry, History, Prioritized, Read};
 ghost use Rattle.jj_walks.specs.GroupedSteps.{CanRead, GivesNext, IsCause, IsEntryOf, Item, answer_of};
 ghost use Rattle.jj_walks.specs.HeldNodes.{Adds, Keeps, KeepsOn};
+ghost use Rattle.jj_walks.specs.declared.grouped.GroupedGraphError.{GroupedGraphError};
 
 use crate::ended::item_or_end;
 use crate::graph::GraphNode;
@@ -190,10 +191,7 @@ impl<E: fmt::Display> fmt::Display for GroupedGraphError<E> {
 impl<E: fmt::Debug + fmt::Display + Drop> Error for GroupedGraphError<E> {}
 
 impl<E> From<AllocError> for GroupedGraphError<E> {
-    ghost use Rattle.std.specs.Prelude.{◌≡◌};
-    ghost use Rattle.jj_walks.specs.declared.grouped.GroupedGraphError.TheVariants.{Memory};
-
-    ghost from_gives = { λ x y. y ≡ Memory };
+    ghost from_gives = { λ _ error. error ≡ GroupedGraphError.Memory };
 
     fn from(_refused: AllocError) -> Self {
         GroupedGraphError::Memory
@@ -201,10 +199,7 @@ impl<E> From<AllocError> for GroupedGraphError<E> {
 }
 
 impl<T: Drop, E> From<AllocFailed<T>> for GroupedGraphError<E> {
-    ghost use Rattle.std.specs.Prelude.{◌≡◌};
-    ghost use Rattle.jj_walks.specs.declared.grouped.GroupedGraphError.TheVariants.{Memory};
-
-    ghost from_gives = { λ x y. y ≡ Memory };
+    ghost from_gives = { λ _ error. error ≡ GroupedGraphError.Memory };
 
     fn from(_refused: AllocFailed<T>) -> Self {
         GroupedGraphError::Memory

@@ -6,7 +6,6 @@ mod candidates;
 pub mod dag_walk;
 pub mod dag_walk_async;
 mod depth_first;
-mod depth_first_ok;
 mod ended;
 mod entering;
 pub mod graph;

@@ -1,6 +1,6 @@
 use Rattle.std.proofs.Common.{refl, []}
 use Rattle.jj_dag.proofs.FailingWalks.{walking_items_start}
-use Rattle.jj_walks.proofs.depth_first_ok.dfs_ok.Goals as goal
+use Rattle.jj_walks.proofs.depth_first.dfs_ok.Goals as goal
 
 pub returns : goal.returns
 returns g c = record {
