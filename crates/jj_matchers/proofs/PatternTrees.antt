@@ -19,7 +19,7 @@ use Rattle.jj_globs.specs.GlobMeaning.{GlobSpec}
 use Rattle.jj_matchers.specs.Wanted.{is_at_or_below, is_below, is_wanted, HasSamePaths, has_prefix, leads_to_wanted, leads_to_prefix}
 use Rattle.jj_matchers.specs.Marks.{is_some_true, is_marked, marked_paths, passes, any_child, children_answer, any_node}
 use Rattle.jj_matchers.specs.Patterns.{tail_passes}
-use Rattle.jj_matchers.specs.PatternTree.{has_globs, marked_branches, marks_of, no_node, globs_or_none, globs_at, patterns_at, patterns_of, LeadsToGlobs, AddsGlob}
+use Rattle.jj_matchers.specs.PatternTree.{has_globs, marked_branches, marks_of, no_node, globs_or_none, globs_at, patterns_at, patterns_of, LeadsToGlobs}
 use Rattle.jj_matchers.proofs.Marks.{path_listed, is_wanted-marked, leads-get, leads-none, prefix-child}
 use Rattle.jj_matchers.proofs.PatternSound.{tail_passes-append, passed, passes as tail_is_passed}
 use Rattle.jj_matchers.specs.Visits.{is_among, sets_answer}
@@ -286,21 +286,6 @@ bare_tree tree bare alone (name ∷ rest) = ap (λ b. globs_or_none (option_map 
 
 pub bare_leads : (tree : Tree (List GlobSpec)) → tree.branches ≡ none → LeadsToGlobs tree
 bare_leads tree alone = leads-blank (marks_of tree) (ap marked_branches alone)
-
-pub any_more : (old new : Tree (List GlobSpec)) (dir : Path) (glob : GlobSpec) → AddsGlob old dir glob new → (path : Path) (test : GlobSpec → Bool) →
-    list_any test (globs_at new path) ≡ (list_any test (globs_at old path) || (path_eq path dir && test glob))
-any_more old new dir glob adds path test = by_path (path_eq path dir) refl
-  where
-    by_path : (t : Bool) → path_eq path dir ≡ t → list_any test (globs_at new path) ≡ (list_any test (globs_at old path) || (t && test glob))
-    by_path true e =
-        let same : path ≡ dir = (path_eq-Decides path dir).0 e in
-        ap (λ p. list_any test (globs_at new p)) same
-        ∙ ap (list_any test) adds.here
-        ∙ list_any-append test (globs_at old dir) (glob ∷ [])
-        ∙ ap (λ b. list_any test (globs_at old dir) || b) (or_false (test glob))
-        ∙ ap (λ p. list_any test (globs_at old p) || test glob) (sym same)
-    by_path false e =
-        ap (list_any test) (adds.others path (λ same. false≢true (sym e ∙ (path_eq-Decides path dir).1 same))) ∙ sym (or_false (list_any test (globs_at old path)))
 
 module _ {X : Type 0} where
   -- a member of a list that passes a test

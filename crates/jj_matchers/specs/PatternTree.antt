@@ -1,8 +1,9 @@
 -- A tree of the globs that stand in each directory.
 -- Cited by contracts of public items: patterns_of.
-use Rattle.std.specs.Prelude.{◌≡◌, ◌≢◌, Bool, true, false, List, [], ◌∷◌, ◌++◌, map, Option, Some, None}
-use Rattle.std.specs.List.{flat_map}
+use Rattle.std.specs.Prelude.{◌≡◌, ◌≢◌, Bool, true, false, ◌&&◌, List, [], ◌∷◌, ◌++◌, map, Option, Some, None}
+use Rattle.std.specs.List.{flat_map, list_any}
 use Rattle.jj_paths.specs.Paths.{Path}
+use Rattle.jj_paths.specs.Orders.{path_eq}
 use Rattle.jj_paths.specs.Tree.{Tree, tree_of, Branches, none, branch, value_at}
 use Rattle.jj_paths.specs.Nodes.{all_nodes}
 use Rattle.jj_globs.specs.GlobMeaning.{GlobSpec}
@@ -43,9 +44,16 @@ patterns_of tree = flat_map (patterns_at tree) (map (λ found. found.path) (all_
 abbrev pub LeadsToGlobs : Tree (List GlobSpec) → Type 0
 LeadsToGlobs tree = LeadsToMarks (marks_of tree)
 
--- one more glob in a directory, and no others
-pub record AddsGlob (old : Tree (List GlobSpec)) (dir : Path) (glob : GlobSpec)
+-- more globs in a directory, and no others
+pub record AddsGlobs (old : Tree (List GlobSpec)) (dir : Path) (globs : List GlobSpec)
     (new : Tree (List GlobSpec)) : Type 0 where
-  pub here : globs_at new dir ≡ globs_at old dir ++ glob ∷ []
+  pub here : globs_at new dir ≡ globs_at old dir ++ globs
   pub others : (path : Path) → path ≢ dir → globs_at new path ≡ globs_at old path
   pub leads : LeadsToGlobs old → LeadsToGlobs new
+
+-- a directory has the globs of the patterns there, in any order, as every test on globs tells
+pub record IsPatternTree (patterns : List (Path × GlobSpec))
+    (tree : Tree (List GlobSpec)) : Type 0 where
+  pub globs : (dir : Path) (test : GlobSpec → Bool) → list_any test (globs_at tree dir)
+      ≡ list_any (λ pattern. path_eq dir pattern.0 && test pattern.1) patterns
+  pub leads : LeadsToGlobs tree

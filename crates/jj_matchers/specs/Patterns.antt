@@ -6,8 +6,10 @@ use Rattle.std.specs.List.{list_any, list_all}
 use Rattle.std.specs.Str.{bytes_eq}
 use Rattle.jj_paths.specs.Paths.{Name, Path, path_text}
 use Rattle.jj_matchers.specs.Answers.{Answer, all_recursively, specific, nothing}
+use Rattle.jj_globs.specs.declared.glob.sign.Sign.TheVariants.{Asterisk}
 use Rattle.jj_globs.specs.GlobMeaning.{GlobSpec, IsMatch, IsPrefixMatch}
 use Rattle.jj_globs.specs.GlobPlain.{Verdict, yes, no, faulty, matches}
+use Rattle.jj_globs.specs.GlobText.{byte_of}
 use Rattle.jj_matchers.specs.Wanted.{has_prefix, leads_to_wanted, leads_to_prefix}
 
 -- 1. Texts.
@@ -34,7 +36,7 @@ is_prefix_match glob bytes = is_match glob bytes || passes_before_slash (is_matc
 -- a text of one or more stars alone
 abbrev pub is_stars : List ℕ → Bool
 is_stars [] = false
-is_stars (b ∷ bytes) = list_all (λ c. c == 42) (b ∷ bytes)
+is_stars (b ∷ bytes) = list_all (λ c. c == byte_of Asterisk) (b ∷ bytes)
 
 -- 2. Tails: what is left of a path below a pattern's directory.
 

@@ -1,11 +1,16 @@
 -- What a pruned walk of a tree of marks finds.
--- Cited by contracts of public items: entered_by, files_of.
+-- Cited by contracts of public items: AreInOrder, entered_by, files_of.
 use Rattle.std.specs.Prelude.{Bool, true, false, ◌&&◌, List, [], ◌∷◌, ◌++◌, map}
 use Rattle.std.specs.List.{filter}
-use Rattle.jj_paths.specs.Paths.{Name, Path}
+use Rattle.std.specs.List.Sorted.{IsStrictlySortedBy}
+use Rattle.jj_paths.specs.Paths.{Name, Path, path_cmp}
 use Rattle.jj_paths.specs.Tree.{Tree, has_branches}
 use Rattle.jj_paths.specs.Nodes.{NodeAt, nodes_under, all_nodes}
 use Rattle.jj_matchers.specs.Answers.{Answer, all_recursively, specific, nothing}
+
+-- the paths are in path order, and none comes twice
+abbrev pub AreInOrder : List Path → Type 0
+AreInOrder paths = IsStrictlySortedBy path_cmp paths
 
 -- a path, if the test passes
 abbrev pub path_if : Bool → Path → List Path

@@ -3,14 +3,13 @@
 -- Machinery of private functions and fields.
 use Rattle.std.specs.Prelude.{◌≡◌, ◌⊎◌, ◌+◌, ◌*◌, ℕ, Bool, true, false, List, [], ◌∷◌, ◌++◌}
 use Rattle.std.specs.List.{AllByRecursion}
-use Rattle.std.specs.List.Sorted.{IsStrictlySortedBy}
 use Rattle.std.specs.FinMap.{is_sorted}
-use Rattle.jj_paths.specs.Paths.{Name, Path, name_cmp, path_cmp}
+use Rattle.jj_paths.specs.Paths.{Name, Path, name_cmp}
 use Rattle.jj_paths.specs.Tree.{Tree, branches_of, branch_count, children}
 use Rattle.jj_paths.specs.Nodes.{NodeAt, nodes_under}
 use Rattle.jj_matchers.specs.Answers.{Answer, IsSound}
 use Rattle.jj_matchers.specs.Visits.{answer_of}
-use Rattle.jj_matchers.specs.Walk.{paths_where, files_of, entered_by, is_file, is_entered, is_entered_directory, leads_to, enters}
+use Rattle.jj_matchers.specs.Walk.{AreInOrder, paths_where, files_of, entered_by, is_file, is_entered, is_entered_directory, leads_to, enters}
 use Rattle.jj_matchers.specs.declared.matchers.tree_walk.Entered.{Entered}
 
 -- the paths of the nodes strictly below a directory that pass a test
@@ -69,9 +68,8 @@ work_left (directory ∷ further) = 1 + 2 * branch_count
 pub record GivesAll (test : NodeAt Bool → Bool) (all found : List Path)
     (unfinished : List Entered) : Type 0 where
   pub whole : found ++ left_in_all test unfinished ≡ all
-  pub ordered : AllByRecursion (λ directory.
-      IsStrictlySortedBy path_cmp (left_in test directory)) unfinished
-      → IsStrictlySortedBy path_cmp all
+  pub ordered : AllByRecursion (λ directory. AreInOrder (left_in test directory)) unfinished
+      → AreInOrder all
 
 -- a walk of a tree, by what it has found and the directories that it has not finished
 pub record IsOnTheWay (accepts opens : Path → Bool) (answer : Path → Answer) (tree : Tree Bool)

@@ -1,6 +1,6 @@
 //! Unions, differences and intersections of matchers: which paths they accept, and their answers
 //! for directories.
-use crate::fixtures::{answers, files, globs, prefix};
+use crate::fixtures::{Wanted, answers, files, globs, prefix};
 use jj_content_tests::once_more::passes;
 use jj_matchers::matchers::{
     DifferenceMatcher, EverythingMatcher, IntersectionMatcher, Matcher, NothingMatcher,
@@ -10,15 +10,8 @@ use std::alloc::{AllocError, Global};
 use std::process::Abort;
 use std::test::Fail;
 
-// Two lists of paths, which paths the matcher of their two matchers accepts and refuses, and its
-// answers.
-type Row = (
-    &'static str,
-    &'static str,
-    &'static str,
-    &'static str,
-    &'static [&'static str],
-);
+// Two lists of paths, and what the matcher of their two matchers accepts, refuses and answers.
+type Row = (&'static str, &'static str, Wanted);
 
 // Checks the rows of a kind of matcher.
 fn check_each<R, M, F>(rt: &R, alloc: Global, rows: &[Row], combine: F) -> Result<(), AllocError>
@@ -28,9 +21,9 @@ where
     F: Fn(PrefixMatcher, PrefixMatcher) -> M,
     requires { F.IsAlwaysCallable combine }
 {
-    for (one, other, accepted, refused, wanted) in rows {
+    for (one, other, wanted) in rows {
         let matcher = combine(prefix(rt, alloc, one)?, prefix(rt, alloc, other)?);
-        answers(rt, alloc, matcher, accepted, refused, wanted)?;
+        answers(rt, alloc, matcher, wanted)?;
     }
     Ok(())
 }
@@ -39,216 +32,217 @@ const UNIONS: [Row; 2] = [
     (
         "foo bar",
         "bar baz",
-        "foo foo/bar bar bar/foo baz baz/foo",
-        ". qux qux/foo",
-        &[
-            ". foo/bar/baz foo/bar/baz",
-            "foo ** -",
-            "foo/bar ** -",
-            "bar ** -",
-            "bar/foo ** -",
-            "baz ** -",
-            "baz/foo ** -",
-            "qux - -",
-            "qux/foo - -",
-        ],
+        (
+            "foo foo/bar bar bar/foo baz baz/foo",
+            ". qux qux/foo",
+            &[
+                ". foo/bar/baz foo/bar/baz",
+                "foo ** -",
+                "foo/bar ** -",
+                "bar ** -",
+                "bar/foo ** -",
+                "baz ** -",
+                "baz/foo ** -",
+                "qux - -",
+                "qux/foo - -",
+            ],
+        ),
     ),
     (
         "common/bar 1/foo",
         "common/baz 2/qux",
-        "1/foo 2/qux/x common/bar common/baz/x",
-        ". common 1 1/qux common/qux",
-        &[
-            ". common/1/2 -",
-            "common bar/baz bar/baz",
-            "1 foo foo",
-            "2 qux qux",
-            "common/bar ** -",
-            "1/foo ** -",
-            "common/baz ** -",
-            "2/qux ** -",
-            "3 - -",
-        ],
+        (
+            "1/foo 2/qux/x common/bar common/baz/x",
+            ". common 1 1/qux common/qux",
+            &[
+                ". common/1/2 -",
+                "common bar/baz bar/baz",
+                "1 foo foo",
+                "2 qux qux",
+                "common/bar ** -",
+                "1/foo ** -",
+                "common/baz ** -",
+                "2/qux ** -",
+                "3 - -",
+            ],
+        ),
     ),
 ];
-
-// Everything and every name take all, and nothing adds none.
-fn unions_of_kinds<R: Abort>(rt: &R, alloc: Global) -> Result<(), AllocError> {
-    let all = UnionMatcher::new(files(rt, alloc, "a")?, EverythingMatcher);
-    answers(rt, alloc, all, ". a b", "", &[". ** -", "a ** -"])?;
-    let first = UnionMatcher::new(prefix(rt, alloc, "foo")?, NothingMatcher);
-    answers(
-        rt,
-        alloc,
-        first,
-        "foo foo/bar",
-        ". bar",
-        &[". foo foo", "foo ** -", "bar - -"],
-    )?;
-    let second = UnionMatcher::new(NothingMatcher, files(rt, alloc, "a/b c")?);
-    answers(
-        rt,
-        alloc,
-        second,
-        "a/b c",
-        ". a",
-        &[". a c", "a - b", "c - -"],
-    )?;
-    let sources = globs(rt, alloc, false, "a:*.rs d:*")?;
-    let names = UnionMatcher::new(files(rt, alloc, "a/b c")?, sources);
-    answers(
-        rt,
-        alloc,
-        names,
-        "a/b a/x.rs c d/x",
-        "a a/c d d/x/y",
-        &[". a/d c", "a * *", "d * *"],
-    )
-}
-
-#[test]
-fn either(rt: HostRuntime) -> Result<(), Fail> {
-    passes(&rt, |rt, alloc| {
-        check_each(rt, alloc, &UNIONS, UnionMatcher::new)?;
-        unions_of_kinds(rt, alloc)
-    })
-}
 
 const DIFFERENCES: [Row; 2] = [
     (
         "foo bar",
         "foo/bar",
-        "foo foo/baz bar bar/foo",
-        ". foo/bar foo/bar/baz baz",
-        &[
-            ". foo/bar foo/bar",
-            "foo * *",
-            "foo/bar - -",
-            "foo/baz ** -",
-            "bar ** -",
-        ],
+        (
+            "foo foo/baz bar bar/foo",
+            ". foo/bar foo/bar/baz baz",
+            &[
+                ". foo/bar foo/bar",
+                "foo * *",
+                "foo/bar - -",
+                "foo/baz ** -",
+                "bar ** -",
+            ],
+        ),
     ),
     (
         "foo bar",
         "foo",
-        "bar bar/foo",
-        "foo foo/bar baz",
-        &[
-            ". foo/bar foo/bar",
-            "foo - -",
-            "foo/bar - -",
-            "bar ** -",
-            "bar/foo ** -",
-        ],
+        (
+            "bar bar/foo",
+            "foo foo/bar baz",
+            &[
+                ". foo/bar foo/bar",
+                "foo - -",
+                "foo/bar - -",
+                "bar ** -",
+                "bar/foo ** -",
+            ],
+        ),
     ),
 ];
-
-fn differences_of_kinds<R: Abort>(rt: &R, alloc: Global) -> Result<(), AllocError> {
-    let rest = DifferenceMatcher::new(EverythingMatcher, prefix(rt, alloc, "a")?);
-    answers(
-        rt,
-        alloc,
-        rest,
-        ". b ab/c",
-        "a a/b",
-        &[". * *", "a - -", "b ** -"],
-    )?;
-    let none = DifferenceMatcher::new(EverythingMatcher, EverythingMatcher);
-    answers(rt, alloc, none, "", ". a", &[". - -", "a - -"])?;
-    let named = DifferenceMatcher::new(files(rt, alloc, "a/b c")?, files(rt, alloc, "a/b d")?);
-    answers(rt, alloc, named, "c", "a/b d", &[". a c", "a - b", "b - -"])?;
-    let sources = globs(rt, alloc, true, "d:*.rs")?;
-    let unlike = DifferenceMatcher::new(sources, globs(rt, alloc, true, "d:a*")?);
-    answers(
-        rt,
-        alloc,
-        unlike,
-        "d/b.rs d/b.rs/a",
-        "d/a.rs d/b d/a.rs/b",
-        &[". d -", "d * *", "d/b.rs * *", "d/a.rs - -"],
-    )
-}
-
-#[test]
-fn the_one_alone(rt: HostRuntime) -> Result<(), Fail> {
-    passes(&rt, |rt, alloc| {
-        check_each(rt, alloc, &DIFFERENCES, DifferenceMatcher::new)?;
-        differences_of_kinds(rt, alloc)
-    })
-}
 
 const INTERSECTIONS: [Row; 2] = [
     (
         "foo bar",
         "bar baz",
-        "bar bar/foo",
-        ". foo foo/bar baz baz/foo",
-        &[
-            ". bar bar",
-            "foo - -",
-            "foo/bar - -",
-            "bar ** -",
-            "bar/foo ** -",
-            "baz - -",
-            "baz/foo - -",
-        ],
+        (
+            "bar bar/foo",
+            ". foo foo/bar baz baz/foo",
+            &[
+                ". bar bar",
+                "foo - -",
+                "foo/bar - -",
+                "bar ** -",
+                "bar/foo ** -",
+                "baz - -",
+                "baz/foo - -",
+            ],
+        ),
     ),
     (
         "foo",
         "foo/bar",
-        "foo/bar foo/bar/baz",
-        ". foo bar foo/baz",
-        &[
-            ". foo -",
-            "bar - -",
-            "foo bar bar",
-            "foo/bar ** -",
-            "foo/baz - -",
-        ],
+        (
+            "foo/bar foo/bar/baz",
+            ". foo bar foo/baz",
+            &[
+                ". foo -",
+                "bar - -",
+                "foo bar bar",
+                "foo/bar ** -",
+                "foo/baz - -",
+            ],
+        ),
     ),
 ];
+
+#[test]
+fn combined_prefixes(rt: HostRuntime) -> Result<(), Fail> {
+    passes(&rt, |rt, alloc| {
+        check_each(rt, alloc, &UNIONS, UnionMatcher::new)?;
+        check_each(rt, alloc, &DIFFERENCES, DifferenceMatcher::new)?;
+        check_each(rt, alloc, &INTERSECTIONS, IntersectionMatcher::new)
+    })
+}
+
+const WHOLE: Wanted = (". a b", "", &[". ** -", "a ** -"]);
+
+const PREFIX_ALONE: Wanted = (
+    "foo foo/bar",
+    ". bar",
+    &[". foo foo", "foo ** -", "bar - -"],
+);
+
+const FILES_ALONE: Wanted = ("a/b c", ". a", &[". a c", "a - b", "c - -"]);
+
+const FILES_AND_GLOBS: Wanted = (
+    "a/b a/x.rs c d/x",
+    "a a/c d d/x/y",
+    &[". a/d c", "a * *", "d * *"],
+);
+
+// Everything and every name take all, and nothing adds none.
+fn unions_of_kinds<R: Abort>(rt: &R, alloc: Global) -> Result<(), AllocError> {
+    let all = UnionMatcher::new(files(rt, alloc, "a")?, EverythingMatcher);
+    answers(rt, alloc, all, &WHOLE)?;
+    let first = UnionMatcher::new(prefix(rt, alloc, "foo")?, NothingMatcher);
+    answers(rt, alloc, first, &PREFIX_ALONE)?;
+    let second = UnionMatcher::new(NothingMatcher, files(rt, alloc, "a/b c")?);
+    answers(rt, alloc, second, &FILES_ALONE)?;
+    let sources = globs(rt, alloc, false, "a:*.rs d:*")?;
+    let names = UnionMatcher::new(files(rt, alloc, "a/b c")?, sources);
+    answers(rt, alloc, names, &FILES_AND_GLOBS)
+}
+
+const ALL_BUT_A_PREFIX: Wanted = (". b ab/c", "a a/b", &[". * *", "a - -", "b ** -"]);
+
+const NO_PATH: Wanted = ("", ". a", &[". - -", "a - -"]);
+
+const FILES_LESS_FILES: Wanted = ("c", "a/b d", &[". a c", "a - b", "b - -"]);
+
+const GLOBS_LESS_GLOBS: Wanted = (
+    "d/b.rs d/b.rs/a",
+    "d/a.rs d/b d/a.rs/b",
+    &[". d -", "d * *", "d/b.rs * *", "d/a.rs - -"],
+);
+
+fn differences_of_kinds<R: Abort>(rt: &R, alloc: Global) -> Result<(), AllocError> {
+    let rest = DifferenceMatcher::new(EverythingMatcher, prefix(rt, alloc, "a")?);
+    answers(rt, alloc, rest, &ALL_BUT_A_PREFIX)?;
+    let none = DifferenceMatcher::new(EverythingMatcher, EverythingMatcher);
+    answers(rt, alloc, none, &NO_PATH)?;
+    let named = DifferenceMatcher::new(files(rt, alloc, "a/b c")?, files(rt, alloc, "a/b d")?);
+    answers(rt, alloc, named, &FILES_LESS_FILES)?;
+    let sources = globs(rt, alloc, true, "d:*.rs")?;
+    let unlike = DifferenceMatcher::new(sources, globs(rt, alloc, true, "d:a*")?);
+    answers(rt, alloc, unlike, &GLOBS_LESS_GLOBS)
+}
+
+const WHOLE_FILES: Wanted = ("a/x b", ". a", &[". a b", "a - x", "b - -"]);
 
 // Everything and every name give way, and two empty sets are nothing.
 fn intersections_of_kinds<R: Abort>(rt: &R, alloc: Global) -> Result<(), AllocError> {
     for (one, other) in [("a", "b"), ("a/x", "a")] {
         let apart = IntersectionMatcher::new(files(rt, alloc, one)?, files(rt, alloc, other)?);
-        answers(rt, alloc, apart, "", ". a", &[". - -", "a - -"])?;
+        answers(rt, alloc, apart, &NO_PATH)?;
     }
     let none = IntersectionMatcher::new(EverythingMatcher, NothingMatcher);
-    answers(rt, alloc, none, "", ". a", &[". - -", "a - -"])?;
+    answers(rt, alloc, none, &NO_PATH)?;
     let whole = IntersectionMatcher::new(files(rt, alloc, "a/x b")?, EverythingMatcher);
-    answers(
-        rt,
-        alloc,
-        whole,
-        "a/x b",
-        ". a",
-        &[". a b", "a - x", "b - -"],
-    )
+    answers(rt, alloc, whole, &WHOLE_FILES)
 }
+
+const GLOBS_IN_A_PREFIX: Wanted = (
+    "a/b/x.rs a/b/c/x.rs",
+    "x.rs a/b a/b/x a/x.rs",
+    &[". a -", "a b b", "a/b * *", "c - -"],
+);
+
+const GLOBS_OF_BOTH: Wanted = ("a.rs", "b.rs a a/b.rs", &[". * *", "a * *"]);
 
 fn intersections_with_globs<R: Abort>(rt: &R, alloc: Global) -> Result<(), AllocError> {
     let sources = globs(rt, alloc, false, ".:**/*.rs")?;
     let named = IntersectionMatcher::new(sources, prefix(rt, alloc, "a/b")?);
-    answers(
-        rt,
-        alloc,
-        named,
-        "a/b/x.rs a/b/c/x.rs",
-        "x.rs a/b a/b/x a/x.rs",
-        &[". a -", "a b b", "a/b * *", "c - -"],
-    )?;
+    answers(rt, alloc, named, &GLOBS_IN_A_PREFIX)?;
     let sources = globs(rt, alloc, false, ".:*.rs")?;
     let both = IntersectionMatcher::new(sources, globs(rt, alloc, false, ".:a*")?);
-    answers(
-        rt,
-        alloc,
-        both,
-        "a.rs",
-        "b.rs a a/b.rs",
-        &[". * *", "a * *"],
-    )
+    answers(rt, alloc, both, &GLOBS_OF_BOTH)
 }
+
+const SOURCES: Wanted = (
+    "src src/a src/a/b readme",
+    ". doc src/out/a src/a.tmp src/x.tmp/y",
+    &[
+        ". src src/readme",
+        "src * *",
+        "src/out - -",
+        "src/a * *",
+        "src/x.tmp - -",
+        "doc - -",
+        "readme - -",
+    ],
+);
 
 // The sources less what was built, and one file more, all without temporary files.
 fn nested<R: Abort>(rt: &R, alloc: Global) -> Result<(), AllocError> {
@@ -257,28 +251,14 @@ fn nested<R: Abort>(rt: &R, alloc: Global) -> Result<(), AllocError> {
     let more = UnionMatcher::new(sources, files(rt, alloc, "readme")?);
     let temporary = globs(rt, alloc, true, ".:**/*.tmp")?;
     let lasting = DifferenceMatcher::new(EverythingMatcher, temporary);
-    answers(
-        rt,
-        alloc,
-        IntersectionMatcher::new(more, lasting),
-        "src src/a src/a/b readme",
-        ". doc src/out/a src/a.tmp src/x.tmp/y",
-        &[
-            ". src src/readme",
-            "src * *",
-            "src/out - -",
-            "src/a * *",
-            "src/x.tmp - -",
-            "doc - -",
-            "readme - -",
-        ],
-    )
+    answers(rt, alloc, IntersectionMatcher::new(more, lasting), &SOURCES)
 }
 
 #[test]
-fn both(rt: HostRuntime) -> Result<(), Fail> {
+fn combined_kinds(rt: HostRuntime) -> Result<(), Fail> {
     passes(&rt, |rt, alloc| {
-        check_each(rt, alloc, &INTERSECTIONS, IntersectionMatcher::new)?;
+        unions_of_kinds(rt, alloc)?;
+        differences_of_kinds(rt, alloc)?;
         intersections_of_kinds(rt, alloc)?;
         intersections_with_globs(rt, alloc)?;
         nested(rt, alloc)

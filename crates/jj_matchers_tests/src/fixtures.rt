@@ -86,24 +86,26 @@ pub fn answer<R: Abort>(
     Ok(Visit::Specific { dirs, files })
 }
 
-/// Checks which paths a matcher accepts and which it refuses, and its answers. A row of them is a
-/// directory, and its children that are worth a look as directories and as files, as `answer` takes
-/// them.
+/// Lists of the paths that a matcher accepts and that it refuses, and its answers. A row of them is
+/// a directory, and its children that are worth a look as directories and as files, as `answer`
+/// takes them.
+pub type Wanted = (&'static str, &'static str, &'static [&'static str]);
+
+/// Checks which paths a matcher accepts and which it refuses, and its answers.
 pub fn answers<R: Abort, M: Matcher>(
     rt: &R,
     alloc: Global,
     matcher: M,
-    accepted: &str,
-    refused: &str,
-    rows: &[&str],
+    wanted: &Wanted,
 ) -> Result<(), AllocError> {
+    let (accepted, refused, rows) = wanted;
     for file in paths(rt, alloc, accepted)? {
         assert!(rt; matcher.matches(file), "{file:?} is accepted");
     }
     for file in paths(rt, alloc, refused)? {
         assert!(rt; !matcher.matches(file), "{file:?} is refused");
     }
-    for row in rows {
+    for row in *rows {
         let Some((dir, children)) = row.split_once(' ') else {
             panic!(rt; "three columns: {row}");
         };

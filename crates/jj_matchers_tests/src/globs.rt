@@ -1,5 +1,5 @@
 //! Globs of paths, and matchers of globs in directories.
-use crate::fixtures::{answers, globs, path, pattern, visits};
+use crate::fixtures::{Wanted, answers, globs, path, pattern, visits};
 use jj_content_tests::once_more::passes;
 use jj_globs::glob::GlobError;
 use jj_matchers::matchers::{GlobsMatcher, Matcher, PathGlobPattern};
@@ -7,125 +7,111 @@ use std::alloc::{AllocError, Global};
 use std::process::Abort;
 use std::test::Fail;
 
-// Whether what lies below a match is accepted too, globs, each behind its directory, which paths
-// their matcher accepts and refuses, and its answers.
-type Row = (
-    bool,
-    &'static str,
-    &'static str,
-    &'static str,
-    &'static [&'static str],
-);
+// Globs, each behind its directory, and what their matcher accepts, refuses and answers: where what
+// lies below a match is not accepted, and where it is.
+type Row = (&'static str, Wanted, Wanted);
 
 fn fit<R: Abort>(rt: &R, alloc: Global, rows: &[Row]) -> Result<(), AllocError> {
-    for (prefix_paths, list, accepted, refused, visits) in rows {
-        let matcher = globs(rt, alloc, *prefix_paths, list)?;
-        answers(rt, alloc, matcher, accepted, refused, visits)?;
+    for (list, alone, with_below) in rows {
+        answers(rt, alloc, globs(rt, alloc, false, list)?, alone)?;
+        answers(rt, alloc, globs(rt, alloc, true, list)?, with_below)?;
     }
     Ok(())
 }
 
 // A tail below a directory is matched whole, and a line feed is a byte like any other.
-const AT_ROOT: [Row; 6] = [
+const AT_ROOT: [Row; 3] = [
     (
-        false,
         ".:*.rs",
-        "foo.rs foo\n.rs",
-        ". foo foo.rss foo.rs/bar.rs foo/bar.rs",
-        &[". * *", "foo * *"],
+        (
+            "foo.rs foo\n.rs",
+            ". foo foo.rss foo.rs/bar.rs foo/bar.rs",
+            &[". * *", "foo * *"],
+        ),
+        (
+            "foo.rs foo\n.rs foo.rs/bar foo.rs/bar/baz",
+            ". foo foo.rss foo/bar.rs",
+            &[
+                ". * *",
+                "foo.rs ** -",
+                "foo.rs/bar ** -",
+                "foo.rss * *",
+                "foo.rss/bar * *",
+            ],
+        ),
     ),
     (
-        false,
         ".:foo? .:**/*.rs",
-        "foo1 foo.rs foo.rs/bar.rs foo/bar.rs",
-        "foo Foo1 foo1/foo2",
-        &[". * *", "foo * *", "bar/baz * *"],
-    ),
-    (false, ".:*", "x x.rs", ". foo/bar.rs", &[". * *"]),
-    (
-        true,
-        ".:*.rs",
-        "foo.rs foo\n.rs foo.rs/bar foo.rs/bar/baz",
-        ". foo foo.rss foo/bar.rs",
-        &[
-            ". * *",
-            "foo.rs ** -",
-            "foo.rs/bar ** -",
-            "foo.rss * *",
-            "foo.rss/bar * *",
-        ],
+        (
+            "foo1 foo.rs foo.rs/bar.rs foo/bar.rs",
+            "foo Foo1 foo1/foo2",
+            &[". * *", "foo * *", "bar/baz * *"],
+        ),
+        (
+            "foo1 foo1/foo2 foo.rs foo.rs/bar.rs foo/bar.rs",
+            "foo Foo1",
+            &[". * *", "foo * *", "bar/baz * *"],
+        ),
     ),
     (
-        true,
-        ".:foo? .:**/*.rs",
-        "foo1 foo1/foo2 foo.rs foo.rs/bar.rs foo/bar.rs",
-        "foo Foo1",
-        &[". * *", "foo * *", "bar/baz * *"],
-    ),
-    (
-        true,
         ".:*",
-        "x x.rs foo/bar.rs",
-        ".",
-        &[". ** -", "foo ** -"],
+        ("x x.rs", ". foo/bar.rs", &[". * *"]),
+        ("x x.rs foo/bar.rs", ".", &[". ** -", "foo ** -"]),
     ),
 ];
 
-const IN_DIRECTORIES: [Row; 4] = [
+const IN_DIRECTORIES: [Row; 2] = [
     (
-        false,
         "foo:**/*.a foo/bar:*.b baz:?*",
-        "foo/x.a foo/bar/x.a foo/bar/x.b foo/bar/baz/x.a baz/x",
-        "foo foo/x.b foo/bar/baz/x.b baz baz/x/y",
-        &[
-            ". foo/baz -",
-            "foo * *",
-            "foo/bar * *",
-            "foo/bar/baz * *",
-            "bar - -",
-            "baz * *",
-        ],
+        (
+            "foo/x.a foo/bar/x.a foo/bar/x.b foo/bar/baz/x.a baz/x",
+            "foo foo/x.b foo/bar/baz/x.b baz baz/x/y",
+            &[
+                ". foo/baz -",
+                "foo * *",
+                "foo/bar * *",
+                "foo/bar/baz * *",
+                "bar - -",
+                "baz * *",
+            ],
+        ),
+        (
+            "foo/x.a foo/bar/x.a foo/bar/x.b foo/bar/x.b/y foo/bar/baz/x.a baz/x baz/x/y",
+            "foo foo/x.b foo/bar/baz/x.b baz",
+            &[
+                ". foo/baz -",
+                "foo * *",
+                "foo/x.a ** -",
+                "foo/bar * *",
+                "foo/bar/x.a ** -",
+                "foo/bar/x.b ** -",
+                "foo/bar/baz * *",
+                "foo/bar/baz/x.a ** -",
+                "bar - -",
+                "baz * *",
+                "baz/x ** -",
+                "baz/x/y ** -",
+            ],
+        ),
     ),
     (
-        false,
         "foo:*",
-        "foo/x",
-        ". foo foo/bar/baz x",
-        &[". foo -", "foo * *", "bar - -"],
-    ),
-    (
-        true,
-        "foo:**/*.a foo/bar:*.b baz:?*",
-        "foo/x.a foo/bar/x.a foo/bar/x.b foo/bar/x.b/y foo/bar/baz/x.a baz/x baz/x/y",
-        "foo foo/x.b foo/bar/baz/x.b baz",
-        &[
-            ". foo/baz -",
-            "foo * *",
-            "foo/x.a ** -",
-            "foo/bar * *",
-            "foo/bar/x.a ** -",
-            "foo/bar/x.b ** -",
-            "foo/bar/baz * *",
-            "foo/bar/baz/x.a ** -",
-            "bar - -",
-            "baz * *",
-            "baz/x ** -",
-            "baz/x/y ** -",
-        ],
-    ),
-    (
-        true,
-        "foo:*",
-        "foo/x foo/bar/baz",
-        ". foo x",
-        &[". foo -", "foo ** -", "foo/bar ** -", "bar - -"],
+        (
+            "foo/x",
+            ". foo foo/bar/baz x",
+            &[". foo -", "foo * *", "bar - -"],
+        ),
+        (
+            "foo/x foo/bar/baz",
+            ". foo x",
+            &[". foo -", "foo ** -", "foo/bar ** -", "bar - -"],
+        ),
     ),
 ];
 
-const TWO_STARS: [Row; 2] = [
+const TWO_STARS: [Row; 1] = [(
+    "a/b:**/x a/c:y/** d:**",
     (
-        false,
-        "a/b:**/x a/c:y/** d:**",
         "a/b/x a/b/p/x a/b/p/q/x a/c/y/z d/p d/p/q",
         "a/b a/x x a/b/xx a/b/x/p a/c/y a/c/z d",
         &[
@@ -140,8 +126,6 @@ const TWO_STARS: [Row; 2] = [
         ],
     ),
     (
-        true,
-        "a/b:**/x a/c:y/** d:**",
         "a/b/x a/b/x/p a/c/y/z d/p d/p/q",
         "a/b a/b/xx a/c/y d",
         &[
@@ -155,52 +139,48 @@ const TWO_STARS: [Row; 2] = [
             "d/p ** -",
         ],
     ),
-];
+)];
 
 // A pattern of a directory above another's directory reaches below it.
-const ABOVE_OTHERS: [Row; 3] = [
+const ABOVE_OTHERS: [Row; 2] = [
     (
-        false,
         "foo/bar:* .:x* foo:?",
-        "xyz foo/a foo/bar/abc",
-        "foo xyz/a foo/abc foo/bar/a/b",
-        &[". * *", "foo/bar * *", "a/b * *"],
+        (
+            "xyz foo/a foo/bar/abc",
+            "foo xyz/a foo/abc foo/bar/a/b",
+            &[". * *", "foo/bar * *", "a/b * *"],
+        ),
+        (
+            "",
+            "",
+            &[
+                ". * *",
+                "xyz ** -",
+                "foo * *",
+                "foo/a ** -",
+                "foo/abc * *",
+                "foo/bar ** -",
+                "bar * *",
+            ],
+        ),
     ),
-    (
-        true,
-        "foo/bar:* .:x* foo:?",
-        "",
-        "",
-        &[
-            ". * *",
-            "xyz ** -",
-            "foo * *",
-            "foo/a ** -",
-            "foo/abc * *",
-            "foo/bar ** -",
-            "bar * *",
-        ],
-    ),
-    (true, "d:", "", ". d d/x d/x/y", &["d/x * *"]),
+    ("d:", ("", "", &[]), ("", ". d d/x d/x/y", &["d/x * *"])),
 ];
 
 // Patterns whose fronts lie within one another, are equal, or are all of a text; in any order.
-const FRONTS: [Row; 2] = [
-    (
-        false,
-        "d:b/y d:ab d:a/b/*.c d:a d:a/b/x d:a/b/*.h d:{z,*.md} d:b/{x,y} d:a/b",
-        "d/a d/ab d/a/b d/a/b/x d/a/b/x.c d/a/b/.h d/b/x d/b/y d/z d/x.md",
-        "d/b d/abc d/a/bc d/a/b/xx d/a/b/x.d d/a/c d/b/z d/y a",
-        &["d/a * *", "d/a/b * *", "d/c * *"],
-    ),
-    (
-        true,
-        "d:b/y d:ab d:a/b/*.c d:a d:a/b/x d:a/b/*.h d:{z,*.md} d:b/{x,y} d:a/b",
-        "d/a/c d/a/bc d/ab/c d/b/x/c d/z/c d/x.md/c",
-        "d/b d/abc d/b/xx d/y d/zz",
-        &["d/a ** -", "d/b * *", "d/b/y ** -", "d/y * *"],
-    ),
-];
+const FRONTS: &str = "d:b/y d:ab d:a/b/*.c d:a d:a/b/x d:a/b/*.h d:{z,*.md} d:b/{x,y} d:a/b";
+
+const FRONTS_ALONE: Wanted = (
+    "d/a d/ab d/a/b d/a/b/x d/a/b/x.c d/a/b/.h d/b/x d/b/y d/z d/x.md",
+    "d/b d/abc d/a/bc d/a/b/xx d/a/b/x.d d/a/c d/b/z d/y a",
+    &["d/a * *", "d/a/b * *", "d/c * *"],
+);
+
+const FRONTS_WITH_BELOW: Wanted = (
+    "d/a/c d/a/bc d/ab/c d/b/x/c d/z/c d/x.md/c",
+    "d/b d/abc d/b/xx d/y d/zz",
+    &["d/a ** -", "d/b * *", "d/b/y ** -", "d/y * *"],
+);
 
 fn in_directories<R: Abort>(rt: &R, alloc: Global) -> Result<(), AllocError> {
     for rows in [
@@ -208,15 +188,15 @@ fn in_directories<R: Abort>(rt: &R, alloc: Global) -> Result<(), AllocError> {
         &IN_DIRECTORIES,
         &TWO_STARS,
         &ABOVE_OTHERS,
-        &FRONTS,
+        &[(FRONTS, FRONTS_ALONE, FRONTS_WITH_BELOW)],
     ] {
         fit(rt, alloc, rows)?;
     }
     Ok(())
 }
 
-// A glob of a directory, and the answer at that directory, where everything is covered only by stars
-// alone.
+// A glob of a directory, and the answer at that directory, where everything is covered only by
+// stars alone.
 const AT_OWN_DIRECTORY: [&str; 8] = [
     "d: * *",
     "d:* ** -",
@@ -246,16 +226,16 @@ fn globs_of_directories(rt: HostRuntime) -> Result<(), Fail> {
     passes(&rt, at_own_directory)
 }
 
+const NOTHING_BUILT: Wanted = ("", ". file dir/file", &[". - -", "dir - -"]);
+
+const BUILT_FIRST: Wanted = ("a/x/y b/x.rs/y", "b/x b/x/y", &[]);
+
+const BUILT_LAST: Wanted = ("a/x b/x b/x.rs", "a/x/y b/x.rs/y", &[]);
+
 // What was built before stays as it is when the builder goes on.
 fn builds<R: Abort>(rt: &R, alloc: Global) -> Result<(), AllocError> {
-    answers(
-        rt,
-        alloc,
-        globs(rt, alloc, true, "")?,
-        "",
-        ". file dir/file",
-        &[". - -", "dir - -"],
-    )?;
+    let empty = globs(rt, alloc, true, "")?;
+    answers(rt, alloc, empty, &NOTHING_BUILT)?;
     let any = pattern(rt, alloc, "*")?;
     let source = pattern(rt, alloc, "*.rs")?;
     let mut builder = GlobsMatcher::builder(alloc).prefix_paths(true);
@@ -266,8 +246,8 @@ fn builds<R: Abort>(rt: &R, alloc: Global) -> Result<(), AllocError> {
     let prefixes = builder.build()?;
     builder.add(path(rt, alloc, "b"), &any)?;
     let files = builder.prefix_paths(false).build()?;
-    answers(rt, alloc, prefixes, "a/x/y b/x.rs/y", "b/x b/x/y", &[])?;
-    answers(rt, alloc, files, "a/x b/x b/x.rs", "a/x/y b/x.rs/y", &[])
+    answers(rt, alloc, prefixes, &BUILT_FIRST)?;
+    answers(rt, alloc, files, &BUILT_LAST)
 }
 
 // Checks the fault of a text that is no pattern.
@@ -285,33 +265,55 @@ fn faults<R: Abort>(rt: &R, alloc: Global, text: &str, fault: GlobError) -> Resu
     Ok(())
 }
 
+const IN_BOTH_CASES: Wanted = (
+    "d/É.rs d/e/É.RS d/ab/.rs d/ab/x.yc",
+    "d/é.rs d/a/x.rs d/Ab/x.rs d/ab/x.xc",
+    &[],
+);
+
+// Checks the regular expression of a pattern.
+fn is_regex<R: Abort>(
+    rt: &R,
+    alloc: Global,
+    pattern: &PathGlobPattern,
+    regex: &str,
+) -> Result<(), AllocError> {
+    assert_eq!(rt; pattern.as_regex(alloc)?.as_str(), regex);
+    Ok(())
+}
+
 fn path_patterns<R: Abort>(rt: &R, alloc: Global) -> Result<(), AllocError> {
     let source = pattern(rt, alloc, "a?/*.{rs,[!x]c}")?;
     assert_eq!(rt; source.as_str(), "a?/*.{rs,[!x]c}");
-    assert_eq!(rt;
-        source.as_regex(alloc)?.as_str(),
-        "(?-u)^a[^/]/[^/]*\\.(?:rs|[^x]c)$"
-    );
+    is_regex(rt, alloc, &source, "(?-u)^a[^/]/[^/]*\\.(?:rs|[^x]c)$")?;
     assert_eq!(rt; source.clone()?.as_str(), source.as_str());
-    let folded = match PathGlobPattern::parse_i(alloc, "**/É*.Rs") {
-        Ok(folded) => folded,
-        Err(_) => return Err(AllocError),
-    };
-    assert_eq!(rt;
-        folded.as_regex(alloc)?.as_str(),
-        "(?-u)(?i)^(?:/?|.*/)\\xc3\\x89[^/]*\\.Rs$"
-    );
+    let folded = folded(alloc)?;
+    let regex = "(?-u)(?i)^(?:/?|.*/)\\xc3\\x89[^/]*\\.Rs$";
+    is_regex(rt, alloc, &folded, regex)?;
+    in_both_cases(rt, alloc, &folded, &source)
+}
+
+// A pattern without regard to case.
+fn folded(alloc: Global) -> Result<PathGlobPattern, AllocError> {
+    match PathGlobPattern::parse_i(alloc, "**/É*.Rs") {
+        Ok(folded) => Ok(folded),
+        Err(_) => Err(AllocError),
+    }
+}
+
+fn in_both_cases<R: Abort>(
+    rt: &R,
+    alloc: Global,
+    folded: &PathGlobPattern,
+    source: &PathGlobPattern,
+) -> Result<(), AllocError> {
     let mut builder = GlobsMatcher::builder(alloc);
-    builder.add(path(rt, alloc, "d"), &folded)?;
-    builder.add(path(rt, alloc, "d"), &source)?;
-    answers(
-        rt,
-        alloc,
-        builder.build()?,
-        "d/É.rs d/e/É.RS d/ab/.rs d/ab/x.yc",
-        "d/é.rs d/a/x.rs d/Ab/x.rs d/ab/x.xc",
-        &[],
-    )?;
+    builder.add(path(rt, alloc, "d"), folded)?;
+    builder.add(path(rt, alloc, "d"), source)?;
+    answers(rt, alloc, builder.build()?, &IN_BOTH_CASES)
+}
+
+fn faulty_patterns<R: Abort>(rt: &R, alloc: Global) -> Result<(), AllocError> {
     faults(rt, alloc, "[", GlobError::UnclosedClass)?;
     faults(rt, alloc, "[z-a]", GlobError::InvalidRange)?;
     faults(rt, alloc, "a}", GlobError::UnopenedAlternates)
@@ -320,5 +322,6 @@ fn path_patterns<R: Abort>(rt: &R, alloc: Global) -> Result<(), AllocError> {
 #[test]
 fn builders_and_patterns(rt: HostRuntime) -> Result<(), Fail> {
     passes(&rt, builds)?;
-    passes(&rt, path_patterns)
+    passes(&rt, path_patterns)?;
+    passes(&rt, faulty_patterns)
 }

@@ -1,5 +1,5 @@
 //! What a walk finds and where it goes.
-use crate::fixtures::{answers, files, globs, prefix, walks};
+use crate::fixtures::{Wanted, answers, files, globs, prefix, walks};
 use jj_content_tests::once_more::passes;
 use jj_matchers::matchers::{
     DifferenceMatcher, EverythingMatcher, IntersectionMatcher, Matcher, NothingMatcher,
@@ -11,8 +11,8 @@ use std::process::Abort;
 use std::test::Fail;
 
 // Marks, the files that a walk through everything finds, and the directories that it enters. A path
-// is ordered by its names: what is in `dir` comes before `dir#`. The root is never a file, and a root
-// without children is not entered.
+// is ordered by its names: what is in `dir` comes before `dir#`. The root is never a file, and a
+// root without children is not entered.
 const WHOLE: [(&str, &str, &str); 4] = [
     ("dir# dir/sub dir", "dir dir/sub dir#", ". dir"),
     ("a/b/c/d a/b2 a/b/c", "a/b/c a/b/c/d a/b2", ". a a/b a/b/c"),
@@ -65,16 +65,15 @@ fn walks_combined<R: Abort>(rt: &R, alloc: Global) -> Result<(), AllocError> {
     walks(rt, alloc, all_but_a(rt, alloc)?, "a/x b", "b", ".")
 }
 
+const AROUND: Wanted = (
+    "a/kept b",
+    "a a/left",
+    &[". * *", "a - kept", "a/kept - -", "b ** -"],
+);
+
 // Checks a matcher of all that is not below `a`, and of one file there.
 fn walks_around<R: Abort, M: Matcher>(rt: &R, alloc: Global, matcher: M) -> Result<(), AllocError> {
-    answers(
-        rt,
-        alloc,
-        &matcher,
-        "a/kept b",
-        "a a/left",
-        &[". * *", "a - kept", "a/kept - -", "b ** -"],
-    )?;
+    answers(rt, alloc, &matcher, &AROUND)?;
     let marks = "c b/x a/left a/kept a/d/e";
     walks(rt, alloc, matcher, marks, "a/kept b/x c", ". a b")
 }

@@ -1,5 +1,6 @@
 //! The matcher of globs in directories, and its builder.
-ghost use Rattle.std.specs.Prelude.{◌≡◌, ◌↔◌, false, [], ◌∷◌, ◌++◌, IsTrue, IfOk, MatchResult};
+ghost use Rattle.std.specs.Prelude.{◌≡◌, ◌↔◌, ◌<◌, ◌≤◌, false, [], ◌∷◌, ◌++◌, All, map, take, length, slice_get, Some, IsTrue, IfOk, MatchResult};
+ghost use Rattle.std.specs.Option.{option_map};
 ghost use Rattle.jj_paths.specs.Names.{path_of};
 ghost use Rattle.jj_matchers.specs.Answers.{IsSound};
 ghost use Rattle.jj_matchers.specs.Visits.{answer_of};
@@ -7,7 +8,7 @@ ghost use Rattle.jj_matchers.specs.Candidates.{ChoosesFrom, names_of};
 ghost use Rattle.jj_matchers.specs.Marks.{children_answer, any_node};
 ghost use Rattle.jj_matchers.specs.Wanted.{has_prefix};
 ghost use Rattle.jj_matchers.specs.Patterns.{HasSamePatterns, IsAccepted, TellsAccepted, is_accepted, is_covered, opens_to_patterns, pattern_dirs, patterns_answer};
-ghost use Rattle.jj_matchers.specs.PatternTree.{AddsGlob, marked_branches, no_node};
+ghost use Rattle.jj_matchers.specs.PatternTree.{AddsGlobs, IsPatternTree, globs_at, marked_branches, no_node};
 
 use crate::matchers::dir_patterns::DirPatterns;
 use crate::matchers::{Matcher, PathGlobPattern, Visit, VisitDirs, VisitFiles};
@@ -209,10 +210,7 @@ impl<'a> GlobsMatcherBuilder<'a> {
         let alloc = *self.dir_patterns.allocator();
         let mut sorted = Vec::from_slice(alloc, self.dir_patterns.as_slice())?;
         sorted.sort_unstable_by_key(|(dir, pattern)| (*dir, pattern.front()));
-        let mut tree = RepoPathTree::default(alloc);
-        for (dir, pattern) in &sorted {
-            add_pattern(alloc, &mut tree, *dir, pattern)?;
-        }
+        let tree = pattern_tree(alloc, sorted.as_slice())?;
         Ok(GlobsMatcher {
             tree,
             matches_prefix_paths: self.matches_prefix_paths,
@@ -231,15 +229,79 @@ impl<'a> Clone for GlobsMatcherBuilder<'a> {
     }
 }
 
-// Adds a pattern to those of a directory.
-fn add_pattern(
+// The tree of patterns. Those of a directory are added at once where they stand together, as they
+// do in a sorted list.
+fn pattern_tree(
+    alloc: Global,
+    patterns: &[(RepoPath<'_>, &PathGlobPattern)],
+) -> Result<RepoPathTree<DirPatterns>, AllocError>
+    ensures { IfOk result (IsPatternTree (map (λ pattern. (path_of pattern.0, pattern.1.now))
+        patterns.now)) }
+{
+    let mut tree = RepoPathTree::default(alloc);
+    let mut start = 0;
+    while let Some(dir) = first_dir(&patterns[start..]) {
+        let end = start + run_length(&patterns[start..], dir);
+        add_patterns(alloc, &mut tree, dir, &patterns[start..end])?;
+        start = end;
+    }
+    Ok(tree)
+}
+
+// The directory of the first pattern.
+fn first_dir<'a>(patterns: &[(RepoPath<'a>, &PathGlobPattern)]) -> Option<RepoPath<'a>>
+    ensures { option_map (λ dir. path_of dir) result
+        ≡ option_map (λ first. path_of first.0) (slice_get patterns.now 0) }
+{
+    let (dir, _) = patterns.first()?;
+    Some(*dir)
+}
+
+// How many patterns, from the first on, are in the directory.
+fn run_length(patterns: &[(RepoPath<'_>, &PathGlobPattern)], dir: RepoPath<'_>) -> usize
+    ensures in_range { result ≤ length patterns.now }
+    ensures same { All (λ pattern. path_of pattern.0 ≡ path_of dir.entry)
+        (take result patterns.now) }
+    ensures some { option_map (λ first. path_of first.0) (slice_get patterns.now 0)
+        ≡ Some (path_of dir.entry) → 0 < result }
+{
+    let mut count = 0;
+    for (other, _) in patterns {
+        if *other != dir {
+            return count;
+        }
+        count += 1;
+    }
+    count
+}
+
+// Adds patterns to those of a directory.
+fn add_patterns(
     alloc: Global,
     tree: &mut RepoPathTree<DirPatterns>,
     dir: RepoPath<'_>,
-    pattern: &PathGlobPattern,
+    patterns: &[(RepoPath<'_>, &PathGlobPattern)],
 ) -> Result<(), AllocError>
-    ensures { IfOk result (λ done. AddsGlob tree.old (path_of dir.entry) pattern.now tree.new) }
+    requires { 0 < length patterns.now }
+    ensures { IfOk result (λ done. AddsGlobs tree.old (path_of dir.entry)
+        (map (λ pattern. pattern.1.now) patterns.now) tree.new) }
 {
-    let own = pattern.clone()?;
-    tree.add(dir)?.value_mut().push(alloc, own)
+    let mut all = patterns_at(tree, dir)?;
+    for &(_, pattern) in patterns {
+        all.push(alloc, pattern.clone()?)?;
+    }
+    tree.set(dir, all)
+}
+
+// A copy of the patterns of a directory.
+fn patterns_at(
+    tree: &RepoPathTree<DirPatterns>,
+    dir: RepoPath<'_>,
+) -> Result<DirPatterns, AllocError>
+    ensures { IfOk result (λ patterns. patterns ≡ globs_at tree.now (path_of dir.entry)) }
+{
+    match tree.get(dir) {
+        Some(node) => node.value().clone(),
+        None => Ok(DirPatterns::default()),
+    }
 }

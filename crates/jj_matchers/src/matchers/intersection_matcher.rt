@@ -68,7 +68,7 @@ pub fn intersection_visit(first: Visit, second: Visit) -> Visit
             Visit::Specific {
                 dirs: other_dirs,
                 files: other_files,
-            } => named(
+            } => visit_of_names(
                 intersection_dirs(dirs, other_dirs),
                 intersection_files(files, other_files),
             ),
@@ -77,7 +77,7 @@ pub fn intersection_visit(first: Visit, second: Visit) -> Visit
 }
 
 // The answer that names these; `Nothing` where both are empty sets.
-fn named(dirs: VisitDirs, files: VisitFiles) -> Visit
+fn visit_of_names(dirs: VisitDirs, files: VisitFiles) -> Visit
     ensures { (names : List Name) → IsAllOrAmong names (dir_names dirs)
         → IsAllOrAmong names (file_names files)
         → answer_of result ≡ named_answer names (dir_names dirs) (file_names files) }

@@ -25,19 +25,19 @@ const PARTS: usize = 8;
 // The bytes of a part.
 const PART_LEN: usize = 8;
 
-/// The tree with `true` at each mark, and `false` at the other nodes on the way to one. The marks may
-/// come in any order, and more than once.
+/// The tree with `true` at each mark, and `false` at the other nodes on the way to one. The marks
+/// may come in any order, and more than once.
 pub fn marked_tree(alloc: Global, marks: &[RepoPath<'_>]) -> Result<RepoPathTree<bool>, AllocError>
     ensures { IfOk result (IsMarkedTree (map path_of marks.now)) }
 {
-    let mut keyed = keyed(alloc, marks)?;
+    let mut keyed = keyed_marks(alloc, marks)?;
     let mut tree = RepoPathTree::default(alloc);
     add_marks(&mut tree, &mut keyed, 0)?;
     Ok(tree)
 }
 
 // The marks, with keys that are still to be read.
-fn keyed<'t>(alloc: Global, marks: &[RepoPath<'t>]) -> Result<Vec<KeyedMark<'t>>, AllocError>
+fn keyed_marks<'t>(alloc: Global, marks: &[RepoPath<'t>]) -> Result<Vec<KeyedMark<'t>>, AllocError>
     ensures { IfOk result (λ keyed. map keyed_path keyed.items ≡ map path_of marks.now) }
 {
     let mut keyed = Vec::with_capacity(alloc, marks.len())?;

@@ -1,8 +1,9 @@
 //! The globs of paths.
-ghost use Rattle.std.specs.Prelude.{◌≡◌, ◌==◌, true, false, IsOk, OnOk, MatchResult};
+ghost use Rattle.std.specs.Prelude.{◌≡◌, ◌==◌, true, false};
 ghost use Rattle.std.specs.List.{list_all};
-ghost use Rattle.jj_globs.specs.GlobText.{tokens_of};
-ghost use Rattle.jj_globs.specs.GlobReads.{IsReadingFault};
+ghost use Rattle.jj_globs.specs.declared.glob.sign.Sign.TheVariants.{Asterisk};
+ghost use Rattle.jj_globs.specs.GlobReads.{ReadsAsGlob, glob_of_text};
+ghost use Rattle.jj_globs.specs.GlobText.{byte_of};
 ghost use Rattle.jj_globs.specs.GlobFront.{front_of};
 ghost use Rattle.jj_matchers.specs.Patterns.{is_match, is_prefix_match, is_stars};
 ghost use Rattle.jj_matchers.specs.PatternOrder.{fits_text};
@@ -30,38 +31,20 @@ impl Model for PathGlobPattern {
 impl PathGlobPattern {
     /// The pattern that the text is, by the syntax of `Glob`.
     pub fn parse(alloc: Global, input: &str) -> Result<PathGlobPattern, GlobError>
-        ensures pattern { MatchResult result
-            (λ pattern. pattern ≡ record {
-              text = input.now;
-              options = record { separator = true; icase = false };
-            })
-            (λ error. IsReadingFault error (tokens_of input.now)) }
-        ensures reads { OnOk result (IsOk (tokens_of input.now)) }
+        ensures { ReadsAsGlob input.now (glob_of_text input.now true false) result }
     {
         PathGlobPattern::parse_inner(alloc, input, false)
     }
 
     /// The same pattern, in which ASCII letters match in either case.
     pub fn parse_i(alloc: Global, input: &str) -> Result<PathGlobPattern, GlobError>
-        ensures pattern { MatchResult result
-            (λ pattern. pattern ≡ record {
-              text = input.now;
-              options = record { separator = true; icase = true };
-            })
-            (λ error. IsReadingFault error (tokens_of input.now)) }
-        ensures reads { OnOk result (IsOk (tokens_of input.now)) }
+        ensures { ReadsAsGlob input.now (glob_of_text input.now true true) result }
     {
         PathGlobPattern::parse_inner(alloc, input, true)
     }
 
     fn parse_inner(alloc: Global, input: &str, icase: bool) -> Result<PathGlobPattern, GlobError>
-        ensures pattern { MatchResult result
-            (λ pattern. pattern ≡ record {
-              text = input.now;
-              options = record { separator = true; icase = icase };
-            })
-            (λ error. IsReadingFault error (tokens_of input.now)) }
-        ensures reads { OnOk result (IsOk (tokens_of input.now)) }
+        ensures { ReadsAsGlob input.now (glob_of_text input.now true icase) result }
     {
         let glob = match Glob::parse(alloc, input, true, icase) {
             Ok(glob) => glob,
@@ -147,7 +130,7 @@ impl fmt::Debug for PathGlobPattern {
 
 // whether each byte is a star
 fn are_stars(text: &[u8]) -> bool
-    ensures { result ≡ list_all (λ c. c == 42) text.now }
+    ensures { result ≡ list_all (λ c. c == byte_of Asterisk) text.now }
 {
     text.iter().all(|byte| *byte == b'*')
 }

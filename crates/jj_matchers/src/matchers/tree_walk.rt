@@ -1,15 +1,12 @@
 //! A walk of a tree of marks that goes only where a matcher has paths.
-ghost use Rattle.std.specs.Prelude.{◌≡◌, ◌<◌, Bool, true, List, [], ◌∷◌, ◌++◌, IfOk, OnOk, ◌⊎◌};
+ghost use Rattle.std.specs.Prelude.{◌≡◌, ◌<◌, ◌⊎◌, Bool, true, List, [], ◌∷◌, ◌++◌, IfOk, OnOk, All};
 ghost use Rattle.jj_paths.specs.Names.{path_of};
-ghost use Rattle.jj_paths.specs.Paths.{path_cmp};
 ghost use Rattle.jj_paths.specs.Tree.{Tree};
+ghost use Rattle.jj_paths.specs.Nodes.{node_at};
 ghost use Rattle.jj_matchers.specs.Answers.{IsSound};
 ghost use Rattle.jj_matchers.specs.Visits.{answer_of};
-ghost use Rattle.jj_paths.specs.Nodes.{node_at};
-ghost use Rattle.jj_matchers.specs.Walk.{files_of, entered_by, is_entered, is_file, path_if};
+ghost use Rattle.jj_matchers.specs.Walk.{AreInOrder, files_of, entered_by, is_entered, is_file, path_if};
 ghost use Rattle.jj_matchers.specs.WalkParts.{GoesOnBy, Enters, IsUnderWay, IsOnTheWay, work_left};
-ghost use Rattle.std.specs.List.{All};
-ghost use Rattle.std.specs.List.Sorted.{IsStrictlySortedBy};
 
 use crate::matchers::{Matcher, Visit};
 use jj_paths::repo_path::{RepoPath, RepoPathBuf, RepoPathComponentBuf};
@@ -46,8 +43,8 @@ pub fn walk_matching<M: Matcher>(
         ≡ files_of (M.accepts matcher.now) tree.now) }
     ensures entered { IfOk result (λ walk. walk.entered.items
         ≡ entered_by (M.answers matcher.now) tree.now) }
-    ensures ordered { IfOk result (λ walk. IsStrictlySortedBy path_cmp walk.files.items
-        × IsStrictlySortedBy path_cmp walk.entered.items) }
+    ensures ordered { IfOk result (λ walk. AreInOrder walk.files.items
+        × AreInOrder walk.entered.items) }
     ensures only_open { IfOk result (λ walk.
         All (λ dir. (dir ≡ []) ⊎ (M.opens matcher.now dir ≡ true)) walk.entered.items) }
 {

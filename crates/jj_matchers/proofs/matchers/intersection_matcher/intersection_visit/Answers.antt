@@ -19,6 +19,6 @@ returns-in-Specific-second c =
     let same_dirs : ◌≡◌ {A = Name → Bool} common_dirs dirs = λ i name. (c.intersection_dirs.ensures name) i in
     let same_files : ◌≡◌ {A = Name → Bool} common_files files = λ i name. (c.intersection_files.ensures name) i in
     rw (c.in-Specific.is, c.in-Specific-second.is) (λ names one other.
-    c.named.ensures names (subst (IsAllOrAmong names) (sym same_dirs) (both_listed names one_dirs other_dirs one.0 other.0)) (subst (IsAllOrAmong names) (sym same_files) (both_listed names one_files other_files one.1 other.1))
+    c.visit_of_names.ensures names (subst (IsAllOrAmong names) (sym same_dirs) (both_listed names one_dirs other_dirs one.0 other.0)) (subst (IsAllOrAmong names) (sym same_files) (both_listed names one_files other_files one.1 other.1))
     ∙ ap (λ (t : Name → Bool). named_answer names t common_files) same_dirs
     ∙ ap (named_answer names dirs) same_files)

@@ -1,5 +1,6 @@
-use Rattle.std.proofs.Common.{arith, nat_eq, drop, length-drop}
-use Rattle.std.proofs.lemmas.List.Sums.{common_prefix_len-le}
+use Rattle.std.proofs.Common.{◌≡◌, true, false, get_or, arith, nat_eq, drop, length-drop}
+use Rattle.std.proofs.lemmas.Bool.Decides.{nat_tests}
+use Rattle.std.proofs.lemmas.List.Sums.{common_prefix_len-le, common_prefix_len-drop_yes, common_prefix_len-drop_no}
 use Rattle.jj_matchers.proofs.matchers.pattern_order.shared_length.Goals as goal
 
 pub returns-else-shared-bytes : goal.returns-else-shared-bytes
@@ -12,3 +13,24 @@ returns-else-shared-bytes c =
     let past = c.if-shared-bytes.false in
     let both = c.loop-shared.invariant.both in
     omega (arith, none, left, past, both)
+
+pub loop-shared-preserved : goal.loop-shared-preserved
+loop-shared-preserved c =
+    let shared = c.loop-shared.shared in
+    let same : nat_eq (get_or c.args.front.now shared 0) (get_or c.args.bytes.now shared 0) ≡ true = grind (arith, nat_tests) in
+    let one_more = common_prefix_len-drop_yes nat_eq c.args.front.now c.args.bytes.now shared 0 0 c.loop-shared-test.true c.if-shared-bytes.true same in
+    record { within = omega arith; inside = omega arith; both = omega (arith, one_more, c.loop-shared.invariant.both) }
+
+pub returns-else-front-shared : goal.returns-else-front-shared
+returns-else-front-shared c =
+    let shared = c.loop-shared.shared in
+    let other : nat_eq (get_or c.args.front.now shared 0) (get_or c.args.bytes.now shared 0) ≡ false = grind (arith, nat_tests) in
+    let none = common_prefix_len-drop_no nat_eq c.args.front.now c.args.bytes.now shared 0 0 c.loop-shared-test.true c.if-shared-bytes.true other in
+    omega (arith, none, c.loop-shared.invariant.both)
+
+pub returns-after-loop-shared : goal.returns-after-loop-shared
+returns-after-loop-shared c =
+    let shared = c.loop-shared.shared in
+    let none = (common_prefix_len-le nat_eq (drop shared c.args.front.now) (drop shared c.args.bytes.now)).0 in
+    let left = length-drop shared c.args.front.now in
+    omega (arith, none, left, c.loop-shared-test.false, c.loop-shared.invariant.both)

@@ -10,11 +10,10 @@ use Rattle.jj_matchers.proofs.matchers.difference_matcher.DifferenceMatcherMatch
 pub returns-clause-sound : goal.returns-clause-sound
 returns-clause-sound g c =
     let dir = path_of c.args.dir in
-    let wanted = c.args.self.now.wanted in
-    let unwanted = c.args.self.now.unwanted in
-    let accepts = less (g.M1.Matcher.accepts wanted) (g.M2.Matcher.accepts unwanted) in
-    subst (IsSound accepts (g.M1.Matcher.opens wanted) dir) (sym c.difference_visit.ensures)
-    (difference_sound (g.M1.Matcher.accepts wanted) (g.M2.Matcher.accepts unwanted) (g.M1.Matcher.opens wanted) (g.M2.Matcher.opens unwanted) dir (answer_of c.in_ok-wanted.wanted) (answer_of c.in_ok-unwanted.unwanted)
+    let m = c.args.self.now in
+    let accepts = less (g.M1.Matcher.accepts m.wanted) (g.M2.Matcher.accepts m.unwanted) in
+    subst (IsSound accepts (g.M1.Matcher.opens m.wanted) dir) (sym c.difference_visit.ensures)
+    (difference_sound (g.M1.Matcher.accepts m.wanted) (g.M2.Matcher.accepts m.unwanted) (g.M1.Matcher.opens m.wanted) (g.M2.Matcher.opens m.unwanted) dir (answer_of c.in_ok-wanted.wanted) (answer_of c.in_ok-unwanted.unwanted)
     c.in_ok-wanted.ensures.sound c.in_ok-unwanted.ensures.sound)
 
 pub returns-clause-chosen : goal.returns-clause-chosen

@@ -2,7 +2,7 @@
 use Rattle.std.proofs.Common.{◌≡◌, map, take}
 use Rattle.jj_paths.specs.Names.{path_of}
 use Rattle.jj_matchers.specs.KeyedMarks.{keyed_path}
-use Rattle.jj_matchers.proofs.matchers.marks.keyed.Given as goal
+use Rattle.jj_matchers.proofs.matchers.marks.keyed_marks.Given as goal
 
 abbrev pub invariant-loop-mark : goal.invariant-loop-mark
 invariant-loop-mark l = map keyed_path l.keyed.items ≡ map path_of (take l.mark-index l.marks)
