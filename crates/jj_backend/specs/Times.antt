@@ -1,14 +1,30 @@
 -- Offsets and dates of moments.
--- Cited by contracts of public items: HasOffset, IsDate, offset_seconds.
-use Rattle.std.specs.Prelude.{◌≡◌, ℤ, pos, negsuc, ◌*ℤ◌, ◌&&◌, if◌then◌else◌, int_le}
+-- Cited by contracts of public items: HasOffset, IsDate, nanoseconds, nanoseconds_in_millisecond,
+-- offset_seconds, seconds_in_minute.
+use Rattle.std.specs.Prelude.{◌≡◌, ℤ, pos, negsuc, ◌*ℤ◌, ◌≤ℤ◌, ◌&&◌, if◌then◌else◌, int_le}
 use Rattle.jiff.specs.Words.{plain_zoned, fixed_zone, IsTimestampNanos}
 use Rattle.jiff.specs.declared.zoned.Zoned.{Zoned}
 use Rattle.jj_backend.specs.declared.backend.timestamp.Timestamp.{Timestamp}
 
+-- the seconds in a minute
+abbrev pub seconds_in_minute : ℤ
+seconds_in_minute = pos 60
+
+-- the nanoseconds in a millisecond, and in so many of them
+abbrev pub nanoseconds_in_millisecond : ℤ
+nanoseconds_in_millisecond = pos 1_000_000
+
+abbrev pub nanoseconds : ℤ → ℤ
+nanoseconds millis = millis *ℤ nanoseconds_in_millisecond
+
+-- the seconds are those of an offset of no more than a day, either way
+abbrev pub IsWithinDay : ℤ → Type 0
+IsWithinDay seconds = (negsuc 86399 ≤ℤ seconds) × (seconds ≤ℤ pos 86400)
+
 -- the seconds of an offset in minutes, of which a day or more counts as none
 abbrev pub offset_seconds : ℤ → ℤ
-offset_seconds minutes =
-    if int_le (negsuc 1438) minutes && int_le minutes (pos 1439) then minutes *ℤ pos 60 else pos 0
+offset_seconds minutes = if int_le (negsuc 1438) minutes && int_le minutes (pos 1439)
+    then minutes *ℤ seconds_in_minute else pos 0
 
 -- the date is told in a zone whose clock is always this many seconds ahead of UTC
 abbrev pub HasOffset : Zoned → ℤ → Type 0
@@ -17,4 +33,4 @@ HasOffset date seconds = (o : _) × ((plain_zoned date).time_zone ≡ fixed_zone
 
 -- the moment is within the range of dates
 abbrev pub IsDate : Timestamp → Type 0
-IsDate time = IsTimestampNanos (time.timestamp.0 *ℤ pos 1_000_000)
+IsDate time = IsTimestampNanos (nanoseconds time.timestamp.0)

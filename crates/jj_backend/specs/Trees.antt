@@ -34,4 +34,4 @@ abbrev pub entries_left : TreeEntriesNonRecursiveIterator → Entries
 entries_left left = left.rest.now
 
 abbrev pub names_left : TreeNames → List Name
-names_left left = map (λ entry. entry.0) left.rest.now
+names_left left = map (λ entry. entry.0) (entries_left left.entries)

@@ -1,5 +1,6 @@
 //! Commits, trees and what else a backend keeps, and the interface of backends.
 mod commit;
+mod content;
 mod copies;
 mod descriptions;
 mod errors;
@@ -8,6 +9,7 @@ mod interface;
 mod json;
 mod merged_parts;
 mod merged_tree_value;
+mod orders;
 mod signature;
 mod timestamp;
 mod tree;

@@ -1,4 +1,7 @@
 //! Why data could not be signed, or a signature not be verified.
+ghost use Rattle.std.specs.Prelude.{◌≡◌};
+ghost use Rattle.jj_backend.specs.declared.signing.SignError.{SignError};
+
 use jj_paths::file_util::SourceError;
 use std::alloc::{AllocError, AllocFailed};
 use thiserror::Error;
@@ -15,23 +18,17 @@ pub enum SignError {
 }
 
 impl From<AllocError> for SignError {
-    ghost use Rattle.std.specs.Prelude.{◌≡◌};
-    ghost use Rattle.jj_backend.specs.declared.signing.SignError.TheVariants.{Memory};
+    ghost from_gives = { λ _ error. error ≡ SignError.Memory };
 
-    ghost from_gives = { λ _ e. e ≡ Memory };
-
-    fn from(_error: AllocError) -> SignError {
+    fn from(_refused: AllocError) -> Self {
         SignError::Memory
     }
 }
 
 impl<T: Drop> From<AllocFailed<T>> for SignError {
-    ghost use Rattle.std.specs.Prelude.{◌≡◌};
-    ghost use Rattle.jj_backend.specs.declared.signing.SignError.TheVariants.{Memory};
+    ghost from_gives = { λ _ error. error ≡ SignError.Memory };
 
-    ghost from_gives = { λ _ e. e ≡ Memory };
-
-    fn from(_error: AllocFailed<T>) -> SignError {
+    fn from(_refused: AllocFailed<T>) -> Self {
         SignError::Memory
     }
 }

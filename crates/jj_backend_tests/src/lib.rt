@@ -22,6 +22,8 @@ mod records;
 #[cfg(test)]
 mod timestamp_tests;
 #[cfg(test)]
+pub mod tree_callers;
+#[cfg(test)]
 mod tree_tests;
 #[cfg(test)]
 mod tree_value_tests;

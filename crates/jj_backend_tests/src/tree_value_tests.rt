@@ -1,7 +1,7 @@
 //! Merges of what stands at a path: whether they are trees, the parts of files, and conflicts in
 //! words.
-use crate::callers::{changed_file, new_file};
 use crate::records::{directory, file, link, submodule};
+use crate::tree_callers::{changed_file, new_file};
 use jj_backend::backend::{
     CopyId, FileId, MergedTreeVal, MergedTreeValue, MergedTreeValueExt, TreeValue,
     borrow_tree_value,

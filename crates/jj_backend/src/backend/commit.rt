@@ -1,14 +1,11 @@
 //! Commits.
-ghost use Rattle.std.specs.Prelude.{◌≡◌, ◌++◌, map, IfOk, OnOk, OnErr, string_bytes};
+ghost use Rattle.std.specs.Prelude.{◌≡◌, map, IfOk, string_bytes};
 ghost use Rattle.std.specs.Cmp;
-ghost use Rattle.jj_content.specs.Content.{Takes, TakesFront, IsLawful};
-ghost use Rattle.jj_backend.specs.Contents.{IsMessage, message_content, IsCommit, commit_content};
-ghost use Rattle.jj_backend.specs.RecordLaws.{commit_equiv, commit_lawful};
+ghost use Rattle.jj_backend.specs.RecordLaws.{commit_equiv};
 ghost use Rattle.jj_backend.specs.Records.{CommitValue, origin_eq, message_eq, signers_eq, commit_eq, no_signature, root_commit};
 
-use super::merged_parts::{are_same_texts, copied_texts, copied_trees, hash_texts};
+use super::merged_parts::{are_same_texts, copied_texts, copied_trees};
 use super::{MillisSinceEpoch, SecureSig, Signature, Timestamp};
-use jj_content::content_hash::{ContentHash, DigestUpdate, hash_both, hash_three};
 use jj_ids::object_id::{ChangeId, CommitId, TreeId};
 use jj_merges::merge::Merge;
 use std::alloc::{AllocError, Global};
@@ -69,18 +66,6 @@ impl Commit {
         self.author == other.author
             && (self.committer == other.committer && self.secure_sig == other.secure_sig)
     }
-
-    #[tactic(auto, using(jj_content::proofs::Fronts::fronts))]
-    fn hash_message<D: DigestUpdate>(&self, alloc: Global, state: &mut D) -> Result<(), AllocError>
-        ensures ok { OnOk result (Takes D.stands_for state.old state.new
-            (message_content self.now)) }
-        ensures value { OnOk result (IsMessage self.now) }
-        ensures err { OnErr result (TakesFront D.stands_for state.old state.new
-            (message_content self.now)) }
-    {
-        hash_texts(alloc, state, &self.conflict_labels)?;
-        hash_both(alloc, &self.change_id, &self.description, state)
-    }
 }
 
 // A copy of ids of commits.
@@ -133,33 +118,6 @@ impl PartialEq for Commit {
 
 impl Eq for Commit {
     ghost laws = { commit_equiv };
-}
-
-impl ContentHash for Commit {
-    ghost is_value = { IsCommit };
-
-    ghost content = { commit_content };
-
-    ghost lawful = { commit_lawful };
-
-    #[tactic(auto, using(jj_content::proofs::Fronts::fronts))]
-    fn hash<D: DigestUpdate>(&self, alloc: Global, state: &mut D) -> Result<(), AllocError> {
-        hash_three(
-            alloc,
-            &self.parents,
-            &self.predecessors,
-            &self.root_tree,
-            state,
-        )?;
-        self.hash_message(alloc, state)?;
-        hash_three(
-            alloc,
-            &self.author,
-            &self.committer,
-            &self.secure_sig,
-            state,
-        )
-    }
 }
 
 // Nobody, at the beginning of time.

@@ -1,4 +1,7 @@
 //! Why a backend could not be made, read or written.
+ghost use Rattle.std.specs.Prelude.{◌≡◌};
+ghost use Rattle.jj_backend.specs.declared.backend.errors.BackendError.{BackendError};
+
 use jj_ids::object_id::FileId;
 use jj_paths::file_util::SourceError;
 use jj_paths::repo_path::RepoPathBuf;
@@ -71,23 +74,17 @@ pub enum BackendError {
 }
 
 impl From<AllocError> for BackendError {
-    ghost use Rattle.std.specs.Prelude.{◌≡◌};
-    ghost use Rattle.jj_backend.specs.declared.backend.errors.BackendError.TheVariants.{Memory};
+    ghost from_gives = { λ _ error. error ≡ BackendError.Memory };
 
-    ghost from_gives = { λ _ e. e ≡ Memory };
-
-    fn from(_error: AllocError) -> BackendError {
+    fn from(_refused: AllocError) -> Self {
         BackendError::Memory
     }
 }
 
 impl<T: Drop> From<AllocFailed<T>> for BackendError {
-    ghost use Rattle.std.specs.Prelude.{◌≡◌};
-    ghost use Rattle.jj_backend.specs.declared.backend.errors.BackendError.TheVariants.{Memory};
+    ghost from_gives = { λ _ error. error ≡ BackendError.Memory };
 
-    ghost from_gives = { λ _ e. e ≡ Memory };
-
-    fn from(_error: AllocFailed<T>) -> BackendError {
+    fn from(_refused: AllocFailed<T>) -> Self {
         BackendError::Memory
     }
 }

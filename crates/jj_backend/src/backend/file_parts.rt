@@ -50,10 +50,10 @@ impl FilePart for CopyId {
     ghost part_of = { copy_id_of };
 
     fn part_of(value: &TreeValue) -> Result<Option<Self>, AllocError> {
-        match value {
-            TreeValue::File { copy_id, .. } => Ok(Some(copy_id.clone()?)),
-            _ => Ok(None),
-        }
+        let Some(id) = value.copy_id() else {
+            return Ok(None);
+        };
+        Ok(Some(id.clone()?))
     }
 }
 
@@ -71,7 +71,7 @@ fn part_at<T: AsTreeValue, P: FilePart>(term: &Option<T>) -> Result<Option<Optio
 }
 
 // The part of each term; none if a term is present and has no such part.
-pub(super) fn parts_of<T: AsTreeValue, P: FilePart>(
+fn parts_of<T: AsTreeValue, P: FilePart>(
     alloc: Global,
     terms: &Merge<Option<T>>,
 ) -> Result<Option<SmallVec<Option<P>, 1>>, AllocError>
@@ -88,4 +88,18 @@ pub(super) fn parts_of<T: AsTreeValue, P: FilePart>(
         }
     }
     Ok(Some(images))
+}
+
+// The merge of the parts of the terms; none if a term is present and has no such part.
+pub(super) fn part_merge<T: AsTreeValue, P: FilePart>(
+    alloc: Global,
+    terms: &Merge<Option<T>>,
+) -> Result<Option<Merge<Option<P>>>, AllocError>
+    ensures { IfOk result (λ merge. merge
+        ≡ parts P.part_of (map (option_map T.value_of) terms.now)) }
+{
+    match parts_of::<T, P>(alloc, terms)? {
+        Some(images) => Ok(Some(Merge::from_vec(images))),
+        None => Ok(None),
+    }
 }

@@ -6,7 +6,7 @@ ghost use Rattle.jj_backend.specs.MergedTreeValues.{is_tree_value, is_tree_or_ab
 
 use super::TreeValue;
 use super::descriptions::push_lines;
-use super::file_parts::parts_of;
+use super::file_parts::part_merge;
 use jj_ids::object_id::{CopyId, FileId};
 use jj_merges::conflict_labels::ConflictLabels;
 use jj_merges::merge::Merge;
@@ -231,27 +231,18 @@ impl<T: AsTreeValue> MergedTreeValueExt for Merge<Option<T>> {
     }
 
     fn to_file_merge(&self, alloc: Global) -> Result<Option<Merge<Option<FileId>>>, AllocError> {
-        match parts_of::<T, FileId>(alloc, self)? {
-            Some(images) => Ok(Some(Merge::from_vec(images))),
-            None => Ok(None),
-        }
+        part_merge::<T, FileId>(alloc, self)
     }
 
     fn to_executable_merge(
         &self,
         alloc: Global,
     ) -> Result<Option<Merge<Option<bool>>>, AllocError> {
-        match parts_of::<T, bool>(alloc, self)? {
-            Some(images) => Ok(Some(Merge::from_vec(images))),
-            None => Ok(None),
-        }
+        part_merge::<T, bool>(alloc, self)
     }
 
     fn to_copy_id_merge(&self, alloc: Global) -> Result<Option<Merge<Option<CopyId>>>, AllocError> {
-        match parts_of::<T, CopyId>(alloc, self)? {
-            Some(images) => Ok(Some(Merge::from_vec(images))),
-            None => Ok(None),
-        }
+        part_merge::<T, CopyId>(alloc, self)
     }
 
     fn with_new_file_ids(

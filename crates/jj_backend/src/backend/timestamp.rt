@@ -1,16 +1,11 @@
 //! Moments in whole milliseconds, with an offset from UTC.
-ghost use Rattle.std.specs.Prelude.{◌≡◌, ◌↔◌, ◌++◌, ◌*ℤ◌, ◌≤ℤ◌, ℤ, pos, negsuc, IsOk, IfOk, OnOk, OnErr, FitsSigned, int_div};
+ghost use Rattle.std.specs.Prelude.{◌≡◌, ◌↔◌, ◌++◌, ◌*ℤ◌, ◌≤ℤ◌, ℤ, pos, negsuc, IsOk, IfOk, FitsSigned, int_div};
 ghost use Rattle.std.specs.Int.{w64, w32, int_div_euclid};
 ghost use Rattle.jiff.specs.Words.{IsTimestampNanos, plain_zoned, fixed_zone};
-ghost use Rattle.jj_content.specs.Content.{Takes, TakesFront, IsLawful, i32_content, i64_content};
-ghost use Rattle.jj_content.specs.Lawful.{on_lawful, both_lawful, i32_lawful, i64_lawful};
-ghost use Rattle.jj_backend.specs.Times.{offset_seconds, HasOffset};
-ghost use Rattle.jj_backend.specs.Contents.{millis_content, timestamp_content, IsMillis, IsTimestamp};
+ghost use Rattle.jj_backend.specs.Times.{offset_seconds, HasOffset, IsWithinDay, nanoseconds, nanoseconds_in_millisecond, seconds_in_minute};
 
 use jiff::Zoned;
 use jiff::tz::{Offset, TimeZone};
-use jj_content::content_hash::{ContentHash, DigestUpdate, hash_both};
-use std::alloc::{AllocError, Global};
 use thiserror::Error;
 
 /// Whole milliseconds since 1970-01-01T00:00Z.
@@ -32,8 +27,7 @@ pub struct TimestampOutOfRange;
 // The seconds of an offset in minutes; one of a day or more counts as none.
 fn seconds_of(minutes: i32) -> i32
     ensures value { result ≡ offset_seconds minutes }
-    ensures least { negsuc 86399 ≤ℤ result }
-    ensures greatest { result ≤ℤ pos 86400 }
+    ensures within { IsWithinDay result }
 {
     if -1439 <= minutes && minutes <= 1439 {
         minutes * 60
@@ -46,8 +40,9 @@ impl Timestamp {
     /// The last whole millisecond at or before the moment, and the whole minutes of the offset,
     /// rounded towards zero.
     pub fn now(moment: jiff::Timestamp, offset: Offset) -> Timestamp
-        ensures millis { result.timestamp.0 ≡ int_div_euclid moment.nanosecond (pos 1_000_000) }
-        ensures offset { result.tz_offset ≡ int_div offset.seconds (pos 60) }
+        ensures millis { result.timestamp.0 ≡ int_div_euclid moment.nanosecond
+            nanoseconds_in_millisecond }
+        ensures offset { result.tz_offset ≡ int_div offset.seconds seconds_in_minute }
     {
         Timestamp {
             timestamp: MillisSinceEpoch(moment.as_nanosecond().div_euclid(1_000_000) as i64),
@@ -58,18 +53,19 @@ impl Timestamp {
     /// As `now`, of the moment and the offset of a date.
     pub fn from_datetime(datetime: &Zoned<'_>) -> Timestamp
         ensures millis { result.timestamp.0
-            ≡ int_div_euclid (plain_zoned datetime.now).timestamp.nanosecond (pos 1_000_000) }
+            ≡ int_div_euclid (plain_zoned datetime.now).timestamp.nanosecond
+            nanoseconds_in_millisecond }
         ensures offset { result.tz_offset
-            ≡ int_div (plain_zoned datetime.now).offset.seconds (pos 60) }
+            ≡ int_div (plain_zoned datetime.now).offset.seconds seconds_in_minute }
     {
         Timestamp::now(datetime.timestamp(), datetime.offset())
     }
 
     /// The moment in its offset; an offset of a day or more counts as none.
     pub fn to_datetime(&self) -> Result<Zoned<'static>, TimestampOutOfRange>
-        ensures succeeds { IsOk result ↔ IsTimestampNanos (self.now.timestamp.0 *ℤ pos 1_000_000) }
+        ensures succeeds { IsOk result ↔ IsTimestampNanos (nanoseconds self.now.timestamp.0) }
         ensures moment { IfOk result (λ z. (plain_zoned z).timestamp.nanosecond
-            ≡ self.now.timestamp.0 *ℤ pos 1_000_000) }
+            ≡ nanoseconds self.now.timestamp.0) }
         ensures offset { IfOk result (λ z. HasOffset z (offset_seconds self.now.tz_offset)) }
     {
         let minutes = self.tz_offset;
@@ -81,31 +77,5 @@ impl Timestamp {
             Ok(moment) => Ok(moment.to_zoned(TimeZone::fixed(offset))),
             Err(_) => Err(TimestampOutOfRange),
         }
-    }
-}
-
-impl ContentHash for MillisSinceEpoch {
-    ghost is_value = { IsMillis };
-
-    ghost content = { millis_content };
-
-    ghost lawful = { on_lawful (λ millis. millis.0) i64_lawful };
-
-    fn hash<D: DigestUpdate>(&self, alloc: Global, state: &mut D) -> Result<(), AllocError> {
-        ContentHash::hash(&self.0, alloc, state)
-    }
-}
-
-impl ContentHash for Timestamp {
-    ghost is_value = { IsTimestamp };
-
-    ghost content = { timestamp_content };
-
-    ghost lawful = { both_lawful
-        (on_lawful (λ time. time.timestamp.0) i64_lawful)
-        (on_lawful (λ time. time.tz_offset) i32_lawful) };
-
-    fn hash<D: DigestUpdate>(&self, alloc: Global, state: &mut D) -> Result<(), AllocError> {
-        hash_both(alloc, &self.timestamp, &self.tz_offset, state)
     }
 }

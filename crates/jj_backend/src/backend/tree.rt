@@ -1,17 +1,13 @@
 //! Trees: what stands at the names of one directory.
-ghost use Rattle.std.specs.Prelude.{◌≡◌, ◌↔◌, [], map, IsTrue, IfSome, MatchOption, None, OnOk, OnErr};
-ghost use Rattle.std.specs.Cmp;
+ghost use Rattle.std.specs.Prelude.{◌≡◌, ◌↔◌, [], map, IsTrue, IfSome, MatchOption, None};
 ghost use Rattle.std.specs.FinMap.{is_sorted};
 ghost use Rattle.std.specs.Iterator.{YieldsFirstBy, item_count};
 ghost use Rattle.std.specs.Option.{option_copied, option_map};
-ghost use Rattle.jj_content.specs.Content.{Takes, TakesFront, IsLawful};
 ghost use Rattle.jj_paths.specs.Names.{name_of};
 ghost use Rattle.jj_paths.specs.Paths.{name_cmp};
-ghost use Rattle.jj_backend.specs.TreeLaws.{tree_eq, tree_equiv, IsTree, tree_content, tree_lawful};
 ghost use Rattle.jj_backend.specs.Trees.{Entries, value_at, IsEntryAt, entry_of, entries_left, names_left};
 
 use super::TreeValue;
-use jj_content::content_hash::{ContentHash, DigestUpdate};
 use jj_paths::repo_path::{RepoPathComponent, RepoPathComponentBuf};
 use std::alloc::{AllocError, Global};
 use std::cmp::Ordering;
@@ -62,9 +58,9 @@ impl<'a> Iterator for TreeEntriesNonRecursiveIterator<'a> {
     ghost remaining = { item_count entries_left };
 
     fn next(&mut self) -> Option<TreeEntry<'a>> {
-        let (first, rest) = self.rest.split_first()?;
+        let ((name, value), rest) = self.rest.split_first()?;
         self.rest = rest;
-        Some(TreeEntry::new(first.0.as_component(), &first.1))
+        Some(TreeEntry::new(name.as_component(), value))
     }
 }
 
@@ -73,7 +69,7 @@ impl FusedIterator for TreeEntriesNonRecursiveIterator<'_> {}
 /// The names of a tree, in order. Once it has answered `None`, it goes on so.
 #[derive(Clone, Copy)]
 pub struct TreeNames<'a> {
-    rest: &'a [(RepoPathComponentBuf, TreeValue)],
+    entries: TreeEntriesNonRecursiveIterator<'a>,
 }
 
 impl<'a> Iterator for TreeNames<'a> {
@@ -84,9 +80,8 @@ impl<'a> Iterator for TreeNames<'a> {
     ghost remaining = { item_count names_left };
 
     fn next(&mut self) -> Option<RepoPathComponent<'a>> {
-        let (first, rest) = self.rest.split_first()?;
-        self.rest = rest;
-        Some(first.0.as_component())
+        let entry = self.entries.next()?;
+        Some(entry.name())
     }
 }
 
@@ -95,7 +90,7 @@ impl FusedIterator for TreeNames<'_> {}
 /// What stands at the names of one directory, which ascend strictly.
 #[derive(Debug, Drop)]
 pub struct Tree {
-    entries: Vec<(RepoPathComponentBuf, TreeValue)>,
+    pub(super) entries: Vec<(RepoPathComponentBuf, TreeValue)>,
 }
 
 impl Model for Tree {
@@ -136,7 +131,7 @@ impl Tree {
         ensures { names_left result ≡ map (λ entry. entry.0) self.now }
     {
         TreeNames {
-            rest: self.entries.as_slice(),
+            entries: self.entries(),
         }
     }
 
@@ -206,31 +201,5 @@ impl Clone for Tree {
             entries.push((name.clone()?, value.clone()?))?;
         }
         Ok(Tree { entries })
-    }
-}
-
-impl PartialEq for Tree {
-    ghost eq = { tree_eq };
-
-    ghost laws = { Cmp.partial_equiv_from_equiv tree_equiv };
-
-    fn eq(&self, other: &Tree) -> bool {
-        self.entries == other.entries
-    }
-}
-
-impl Eq for Tree {
-    ghost laws = { tree_equiv };
-}
-
-impl ContentHash for Tree {
-    ghost is_value = { IsTree };
-
-    ghost content = { tree_content };
-
-    ghost lawful = { tree_lawful };
-
-    fn hash<D: DigestUpdate>(&self, alloc: Global, state: &mut D) -> Result<(), AllocError> {
-        ContentHash::hash(&self.entries, alloc, state)
     }
 }

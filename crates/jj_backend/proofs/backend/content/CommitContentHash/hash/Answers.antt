@@ -4,7 +4,7 @@ use Rattle.jj_content.specs.Content.{Takes, TakesFront}
 use Rattle.jj_content.proofs.Fronts.{front_2}
 use Rattle.jj_backend.specs.Contents.{origin_content, signers_content}
 use Rattle.jj_backend.specs.Records.{CommitValue}
-use Rattle.jj_backend.proofs.backend.commit.CommitContentHash.hash.Goals as goal
+use Rattle.jj_backend.proofs.backend.content.CommitContentHash.hash.Goals as goal
 
 pub returns-clause-err : goal.returns-clause-err
 returns-clause-err g c =

@@ -2,7 +2,7 @@ use Rattle.std.proofs.Common.{OnOk, subst}
 use Rattle.jj_content.specs.Content.{Takes}
 use Rattle.jj_backend.specs.TreeLaws.{tree_content}
 use Rattle.jj_backend.specs.Trees.{Entries}
-use Rattle.jj_backend.proofs.backend.tree.TreeContentHash.hash.Goals as goal
+use Rattle.jj_backend.proofs.backend.content.TreeContentHash.hash.Goals as goal
 
 pub returns-clause-ok : goal.returns-clause-ok
 returns-clause-ok g c =

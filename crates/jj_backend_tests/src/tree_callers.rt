@@ -1,0 +1,50 @@
+//! Callers of trees and of merges of tree values, with what they promise of the answers.
+ghost use Rattle.std.specs.Prelude.{◌≡◌, [], ◌∷◌, true, false, Some, IfOk, is_some};
+ghost use Rattle.jj_paths.specs.Names.{name_of};
+ghost use Rattle.jj_backend.specs.MergedTreeValues.{are_trees};
+ghost use Rattle.jj_backend.specs.Trees.{value_at};
+
+use jj_backend::backend::{CopyId, FileId, MergedTreeValue, MergedTreeValueExt, Tree, TreeValue};
+use jj_merges::merge::Merge;
+use jj_paths::repo_path::RepoPathComponent;
+use std::alloc::{AllocError, Global};
+
+/// Whether something stands at a name.
+pub fn has_name(tree: &Tree, name: RepoPathComponent<'_>) -> bool
+    ensures { result ≡ is_some (value_at tree.now (name_of name.entry)) }
+{
+    tree.value(name).is_some()
+}
+
+/// Whether these are trees: a merge of tree values is seen as the list of its terms.
+pub fn are_all_trees(values: &MergedTreeValue) -> bool
+    ensures { result ≡ are_trees values.now }
+{
+    values.is_tree()
+}
+
+/// What was absent becomes a file that is not executable and no copy.
+pub fn new_file(alloc: Global, id: FileId) -> Result<MergedTreeValue, AllocError>
+    ensures { IfOk result (λ merge. merge ≡ Some (TreeValue.File id false []) ∷ []) }
+{
+    let ids = Merge::normal(alloc, id);
+    MergedTreeValue::absent(alloc).with_new_file_ids(alloc, &ids)
+}
+
+/// An executable file with another id is still executable, and came from the same copy.
+pub fn changed_file(
+    alloc: Global,
+    id: FileId,
+    copy_id: CopyId,
+    new_id: FileId,
+) -> Result<MergedTreeValue, AllocError>
+    ensures { IfOk result (λ merge. merge ≡ Some (TreeValue.File new_id true copy_id) ∷ []) }
+{
+    let file = TreeValue::File {
+        id,
+        executable: true,
+        copy_id,
+    };
+    let ids = Merge::normal(alloc, new_id);
+    MergedTreeValue::normal(alloc, file).with_new_file_ids(alloc, &ids)
+}
