@@ -44,27 +44,17 @@ local_content view =
     ++ (named_content target_content view.local_bookmarks.entries
     ++ named_content target_content view.local_tags.entries)
 
-abbrev pub IsElsewhere : View → Type 0
-IsElsewhere view = AreNamed IsRemoteView view.remote_views.entries
-    × AreNamed IsTarget view.git_refs.entries
-
-abbrev pub elsewhere_content : View → List ℕ
-elsewhere_content view = named_content remote_view_content view.remote_views.entries
-    ++ named_content target_content view.git_refs.entries
-
-abbrev pub AreWorkspaces : View → Type 0
-AreWorkspaces view = AreNamed IsTarget view.git_heads.entries
-    × AreNamed AreBytes view.wc_commit_ids.entries
-
-abbrev pub workspaces_content : View → List ℕ
-workspaces_content view = named_content target_content view.git_heads.entries
-    ++ named_content bytes_content view.wc_commit_ids.entries
-
 abbrev pub IsView : View → Type 0
-IsView view = IsLocal view × (IsElsewhere view × AreWorkspaces view)
+IsView view = IsLocal view
+    × ((AreNamed IsRemoteView view.remote_views.entries × AreNamed IsTarget view.git_refs.entries)
+    × (AreNamed IsTarget view.git_heads.entries × AreNamed AreBytes view.wc_commit_ids.entries))
 
 abbrev pub view_content : View → List ℕ
-view_content view = local_content view ++ (elsewhere_content view ++ workspaces_content view)
+view_content view = local_content view
+    ++ ((named_content remote_view_content view.remote_views.entries
+    ++ named_content target_content view.git_refs.entries)
+    ++ (named_content target_content view.git_heads.entries
+    ++ named_content bytes_content view.wc_commit_ids.entries))
 
 -- ---- the root view: its one head is that commit, and it has no refs and no workspaces
 

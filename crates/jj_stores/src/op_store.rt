@@ -1,4 +1,5 @@
 //! Views of a repository and operations on it, and the interface of stores that keep them.
+mod content;
 mod copies;
 mod errors;
 mod interface;

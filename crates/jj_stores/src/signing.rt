@@ -1,18 +1,11 @@
 //! Signing of commits, and verification of their signatures.
-ghost use Rattle.std.specs.Prelude.{◌≡◌, ◌↔◌, ◌≤◌, ℕ, List, Option, Result, Bool, map, Some};
-ghost use Rattle.std.specs.Prelude.{None, Ok, Err, length, ◌++◌, IsTrue, IfOk, IfErr, OnOk};
-ghost use Rattle.std.specs.Prelude.{OnErr, IsSome, MatchOption, MatchResult, string_bytes};
-ghost use Rattle.std.specs.Prelude.{option_map, [], ◌∷◌, is_some, IsNone, ◌⊎◌};
-ghost use Rattle.std.specs.NonZero.{non_zero_usize_get};
-ghost use Rattle.std.specs.Bool.{MatchBool};
+ghost use Rattle.std.specs.Prelude.{◌≡◌, ◌↔◌, ◌≤◌, ◌⊎◌, ◌++◌, ℕ, Bool, List, [], ◌∷◌, map, length, Option, Some, None, Result, Ok, Err, IsTrue, IfOk, IfErr, OnOk, OnErr, IsSome, IsNone, is_some, option_map, MatchBool, MatchOption, MatchResult, bytes_eq, string_bytes};
 ghost use Rattle.std.specs.Option.{ForSome};
 ghost use Rattle.std.specs.Result.{result_map_both};
 ghost use Rattle.std.specs.List.{list_any};
 ghost use Rattle.std.specs.Map.{lookup};
-ghost use Rattle.std.specs.Str.{bytes_eq};
 ghost use Rattle.jj_stores.specs.Verdict.{Verdict, unknown_verdict, is_unknown};
-ghost use Rattle.jj_stores.specs.Asked.{Decide, is_decisive as decisive, IsVerified};
-ghost use Rattle.jj_stores.specs.Asked.{remembered, backends};
+ghost use Rattle.jj_stores.specs.Asked.{Decide, is_decisive as decisive, IsVerified, remembered, backends};
 
 pub use jj_backend::signing::{SignError, SignResult};
 use jj_ids::object_id::CommitId;
@@ -237,6 +230,7 @@ pub struct Signer {
 }
 
 impl Signer {
+    ghost use Rattle.std.specs.NonZero.{non_zero_usize_get};
     ghost use Rattle.jj_stores.specs.Signer.{cached, capacity_of, usual_capacity};
 
     /// A signer that remembers this many verified commits; `new` remembers 100.

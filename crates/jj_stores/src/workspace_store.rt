@@ -2,6 +2,7 @@
 ghost use Rattle.std.specs.Prelude.{◌≡◌, ℕ, List, Option, OnOk, OnErr, IfOk, map, option_map, string_bytes};
 ghost use Rattle.jj_ids.specs.Names.{name_of};
 ghost use Rattle.jj_stores.specs.Workspaces.{SamePlaces, with_name_changed, with_place, without_places};
+ghost use Rattle.jj_stores.specs.declared.workspace_store.WorkspaceStoreError.{WorkspaceStoreError};
 
 use jj_ids::ref_name::WorkspaceName;
 use jj_paths::file_util::SourceError;
@@ -17,6 +18,22 @@ pub enum WorkspaceStoreError {
     Memory,
 }
 
+impl From<AllocError> for WorkspaceStoreError {
+    ghost from_gives = { λ _ error. error ≡ WorkspaceStoreError.Memory };
+
+    fn from(_refused: AllocError) -> Self {
+        WorkspaceStoreError::Memory
+    }
+}
+
+impl<T: Drop> From<AllocFailed<T>> for WorkspaceStoreError {
+    ghost from_gives = { λ _ error. error ≡ WorkspaceStoreError.Memory };
+
+    fn from(_refused: AllocFailed<T>) -> Self {
+        WorkspaceStoreError::Memory
+    }
+}
+
 impl From<SourceError> for WorkspaceStoreError {
     ghost use Rattle.jj_stores.specs.declared.workspace_store.WorkspaceStoreError.TheVariants.{Other};
 
@@ -24,26 +41,6 @@ impl From<SourceError> for WorkspaceStoreError {
 
     fn from(source: SourceError) -> WorkspaceStoreError {
         WorkspaceStoreError::Other(source)
-    }
-}
-
-impl From<AllocError> for WorkspaceStoreError {
-    ghost use Rattle.jj_stores.specs.declared.workspace_store.WorkspaceStoreError.TheVariants.{Memory};
-
-    ghost from_gives = { λ _ e. e ≡ Memory };
-
-    fn from(_error: AllocError) -> WorkspaceStoreError {
-        WorkspaceStoreError::Memory
-    }
-}
-
-impl<T: Drop> From<AllocFailed<T>> for WorkspaceStoreError {
-    ghost use Rattle.jj_stores.specs.declared.workspace_store.WorkspaceStoreError.TheVariants.{Memory};
-
-    ghost from_gives = { λ _ e. e ≡ Memory };
-
-    fn from(_error: AllocFailed<T>) -> WorkspaceStoreError {
-        WorkspaceStoreError::Memory
     }
 }
 

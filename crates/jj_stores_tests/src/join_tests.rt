@@ -1,5 +1,5 @@
-//! Joins of local refs with those of remotes, as texts: a row for each name, with the commit that it
-//! has here, and with the remotes that have it and theirs.
+//! Joins of local refs with those of remotes, as texts: a row for each name, with the commit that
+//! it has here, and with the remotes that have it and theirs.
 use crate::callers::joined_bookmarks;
 use jj_backend::backend::CommitId;
 use jj_content_tests::once_more::{holds, tells};
@@ -90,76 +90,80 @@ fn joined(alloc: Global, view: &View) -> Result<String, AllocError> {
     Ok(text)
 }
 
-fn remote_alone(alloc: Global) -> Result<String, AllocError> {
+// Refs by name, each with a commit's byte.
+type Refs = &'static [(&'static str, u8)];
+
+// Local refs, those of remotes by the remotes' names, and the text of their join.
+#[derive(Clone, Copy)]
+struct Row {
+    locals: Refs,
+    remotes: &'static [(&'static str, Refs)],
+    outcome: &'static str,
+}
+
+// A remote ref alone, a local one alone, refs of one name by remote, names that ascend over all
+// maps, and no refs.
+const ROWS: [Row; 5] = [
+    Row {
+        locals: &[],
+        remotes: &[("remote1", &[("bookmark1", 1)])],
+        outcome: "bookmark1: remote1=01;",
+    },
+    Row {
+        locals: &[("bookmark1", 0x11)],
+        remotes: &[],
+        outcome: "bookmark1:11;",
+    },
+    Row {
+        locals: &[("bookmark1", 0x11), ("bookmark2", 0x22)],
+        remotes: &[
+            ("remote2", &[("bookmark2", 0x66)]),
+            ("git", &[("bookmark1", 0x33), ("bookmark2", 0x44)]),
+            ("remote1", &[("bookmark1", 0x55)]),
+        ],
+        outcome: "bookmark1:11 git=33 remote1=55;bookmark2:22 git=44 remote2=66;",
+    },
+    Row {
+        locals: &[("b", 2), ("d", 4)],
+        remotes: &[
+            ("none", &[]),
+            ("x", &[("a", 1), ("d", 5)]),
+            ("y", &[("c", 3), ("e", 6)]),
+        ],
+        outcome: "a: x=01;b:02;c: y=03;d:04 x=05;e: y=06;",
+    },
+    Row {
+        locals: &[],
+        remotes: &[],
+        outcome: "",
+    },
+];
+
+// The view of a row.
+fn view_of(alloc: Global, row: &Row) -> Result<View, AllocError> {
     let mut view = empty_view(alloc)?;
-    add_remote(alloc, &mut view, "remote1", &[("bookmark1", 1)])?;
-    joined(alloc, &view)
+    for (name, byte) in row.locals {
+        add_local(alloc, &mut view, name, *byte)?;
+    }
+    for (name, refs) in row.remotes {
+        add_remote(alloc, &mut view, name, refs)?;
+    }
+    Ok(view)
+}
+
+fn rows_join(alloc: Global) -> Result<bool, AllocError> {
+    for row in &ROWS {
+        let view = view_of(alloc, row)?;
+        if joined(alloc, &view)?.as_str() != row.outcome {
+            return Ok(false);
+        }
+    }
+    Ok(true)
 }
 
 #[test]
-fn a_remote_ref_without_a_local_one(rt: HostRuntime) {
-    assert!(rt; tells(&rt, remote_alone, "bookmark1: remote1=01;"));
-}
-
-fn local_alone(alloc: Global) -> Result<String, AllocError> {
-    let mut view = empty_view(alloc)?;
-    add_local(alloc, &mut view, "bookmark1", 0x11)?;
-    joined(alloc, &view)
-}
-
-#[test]
-fn a_local_ref_without_remotes(rt: HostRuntime) {
-    assert!(rt; tells(&rt, local_alone, "bookmark1:11;"));
-}
-
-fn two_bookmarks(alloc: Global) -> Result<String, AllocError> {
-    let mut view = empty_view(alloc)?;
-    add_local(alloc, &mut view, "bookmark1", 0x11)?;
-    add_local(alloc, &mut view, "bookmark2", 0x22)?;
-    add_remote(alloc, &mut view, "remote2", &[("bookmark2", 0x66)])?;
-    add_remote(
-        alloc,
-        &mut view,
-        "git",
-        &[("bookmark1", 0x33), ("bookmark2", 0x44)],
-    )?;
-    add_remote(alloc, &mut view, "remote1", &[("bookmark1", 0x55)])?;
-    joined(alloc, &view)
-}
-
-#[test]
-fn refs_of_one_name_go_by_remote(rt: HostRuntime) {
-    assert!(rt;
-        tells(
-            &rt,
-            two_bookmarks,
-            "bookmark1:11 git=33 remote1=55;bookmark2:22 git=44 remote2=66;",
-        )
-    );
-}
-
-fn scattered(alloc: Global) -> Result<String, AllocError> {
-    let mut view = empty_view(alloc)?;
-    add_local(alloc, &mut view, "b", 2)?;
-    add_local(alloc, &mut view, "d", 4)?;
-    add_remote(alloc, &mut view, "none", &[])?;
-    add_remote(alloc, &mut view, "x", &[("a", 1), ("d", 5)])?;
-    add_remote(alloc, &mut view, "y", &[("c", 3), ("e", 6)])?;
-    joined(alloc, &view)
-}
-
-#[test]
-fn names_ascend_over_all_maps(rt: HostRuntime) {
-    assert!(rt; tells(&rt, scattered, "a: x=01;b:02;c: y=03;d:04 x=05;e: y=06;"));
-}
-
-fn no_refs(alloc: Global) -> Result<String, AllocError> {
-    joined(alloc, &empty_view(alloc)?)
-}
-
-#[test]
-fn views_without_refs_have_no_rows(rt: HostRuntime) {
-    assert!(rt; tells(&rt, no_refs, ""));
+fn refs_join_by_name(rt: HostRuntime) {
+    assert!(rt; holds(&rt, rows_join));
 }
 
 fn rows_are_copied(alloc: Global) -> Result<bool, AllocError> {

@@ -149,7 +149,8 @@ fn child(alloc: Global) -> Result<Operation, AllocError> {
     Ok(operation)
 }
 
-// View, parents; start, end; description, host, user; snapshot, workspace, attributes; predecessors.
+// View, parents; start, end; description, host, user; snapshot, workspace, attributes;
+// predecessors.
 #[test]
 fn content_of_an_operation(rt: HostRuntime) {
     let wanted = "0100000000000000030100000000000000010000000000000009\

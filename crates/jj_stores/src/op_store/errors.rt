@@ -1,4 +1,7 @@
 //! Why a view or an operation could not be read or written.
+ghost use Rattle.std.specs.Prelude.{◌≡◌};
+ghost use Rattle.jj_stores.specs.declared.op_store.errors.OpStoreError.{OpStoreError};
+
 use jj_paths::file_util::SourceError;
 use std::alloc::{AllocError, AllocFailed};
 use thiserror::Error;
@@ -31,23 +34,17 @@ pub enum OpStoreError {
 }
 
 impl From<AllocError> for OpStoreError {
-    ghost use Rattle.std.specs.Prelude.{◌≡◌};
-    ghost use Rattle.jj_stores.specs.declared.op_store.errors.OpStoreError.TheVariants.{Memory};
+    ghost from_gives = { λ _ error. error ≡ OpStoreError.Memory };
 
-    ghost from_gives = { λ _ e. e ≡ Memory };
-
-    fn from(_error: AllocError) -> OpStoreError {
+    fn from(_refused: AllocError) -> Self {
         OpStoreError::Memory
     }
 }
 
 impl<T: Drop> From<AllocFailed<T>> for OpStoreError {
-    ghost use Rattle.std.specs.Prelude.{◌≡◌};
-    ghost use Rattle.jj_stores.specs.declared.op_store.errors.OpStoreError.TheVariants.{Memory};
+    ghost from_gives = { λ _ error. error ≡ OpStoreError.Memory };
 
-    ghost from_gives = { λ _ e. e ≡ Memory };
-
-    fn from(_error: AllocFailed<T>) -> OpStoreError {
+    fn from(_refused: AllocFailed<T>) -> Self {
         OpStoreError::Memory
     }
 }

@@ -1,7 +1,7 @@
 //! JSON values of times and of operations.
 ghost use Rattle.std.specs.Prelude.{⊤};
 ghost use Rattle.jj_content.specs.Json.{IsAnswer};
-ghost use Rattle.jj_backend.specs.Times.{IsDate};
+ghost use Rattle.jj_stores.specs.Operations.{HasDates};
 
 use super::{Operation, OperationId, OperationMetadata, TimestampRange};
 use jj_content::content_hash::{ToJson, ToJsonError};
@@ -24,7 +24,7 @@ fn put(
 
 /// A range is an object of its start and its end.
 impl ToJson for TimestampRange {
-    ghost is_in_range = { λ range. IsDate range.start × IsDate range.end };
+    ghost is_in_range = { HasDates };
 
     ghost is_json = { λ _ _. ⊤ };
 
@@ -97,7 +97,7 @@ fn metadata_object(
 
 /// All that is known of how an operation was done is an object; no name of a workspace is null.
 impl ToJson for OperationMetadata {
-    ghost is_in_range = { λ m. IsDate m.time.start × IsDate m.time.end };
+    ghost is_in_range = { λ m. HasDates m.time };
 
     ghost is_json = { λ _ _. ⊤ };
 
@@ -118,7 +118,7 @@ fn parents_json(alloc: Global, parents: &[OperationId]) -> Result<Value, AllocEr
 
 /// An operation is an object of its parents and of what is known of how it was done.
 impl ToJson for Operation {
-    ghost is_in_range = { λ o. IsDate o.metadata.time.start × IsDate o.metadata.time.end };
+    ghost is_in_range = { λ o. HasDates o.metadata.time };
 
     ghost is_json = { λ _ _. ⊤ };
 

@@ -1,12 +1,10 @@
 //! Operations on a repository, and what is known of how they were done.
-ghost use Rattle.std.specs.Prelude.{◌≡◌, ◌++◌, ◌∷◌, [], true, IfOk, OnOk, OnErr};
-ghost use Rattle.jj_content.specs.Content.{Takes, TakesFront, IsLawful};
-ghost use Rattle.jj_stores.specs.Operations.{IsRange, range_content, IsMetadata, metadata_content, IsOperation, operation_content, IsRootOperation};
-ghost use Rattle.jj_stores.specs.OperationLaws.{range_lawful, metadata_eq, metadata_lawful, operation_eq, operation_lawful};
+ghost use Rattle.std.specs.Prelude.{◌≡◌, true};
+ghost use Rattle.jj_stores.specs.Operations.{IsRootOperation};
+ghost use Rattle.jj_stores.specs.OperationLaws.{metadata_eq, operation_eq};
 
 use super::{OperationId, ViewId};
 use jj_backend::backend::{CommitId, MillisSinceEpoch, Timestamp};
-use jj_content::content_hash::{ContentHash, DigestUpdate, hash_both, hash_three};
 use jj_ids::ref_name::WorkspaceNameBuf;
 use std::alloc::{AllocError, Global};
 use std::collections::BTreeMap;
@@ -16,18 +14,6 @@ use std::collections::BTreeMap;
 pub struct TimestampRange {
     pub start: Timestamp,
     pub end: Timestamp,
-}
-
-impl ContentHash for TimestampRange {
-    ghost is_value = { IsRange };
-
-    ghost content = { range_content };
-
-    ghost lawful = { range_lawful };
-
-    fn hash<D: DigestUpdate>(&self, alloc: Global, state: &mut D) -> Result<(), AllocError> {
-        hash_both(alloc, &self.start, &self.end, state)
-    }
 }
 
 /// What is known of how an operation was done: when, what and where, by whom, and what else is
@@ -60,27 +46,6 @@ impl Clone for OperationMetadata {
     }
 }
 
-impl ContentHash for OperationMetadata {
-    ghost is_value = { IsMetadata };
-
-    ghost content = { metadata_content };
-
-    ghost lawful = { metadata_lawful };
-
-    #[tactic(auto, using(jj_content::proofs::Fronts::fronts))]
-    fn hash<D: DigestUpdate>(&self, alloc: Global, state: &mut D) -> Result<(), AllocError> {
-        hash_both(alloc, &self.time, &self.description, state)?;
-        hash_both(alloc, &self.hostname, &self.username, state)?;
-        hash_three(
-            alloc,
-            &self.is_snapshot,
-            &self.workspace_name,
-            &self.attributes,
-            state,
-        )
-    }
-}
-
 /// An operation on a repository: the view that it led to, the operations that it followed, and the
 /// predecessors of the commits that it made, if they are known.
 #[derive(Debug, PartialEq, Eq, Drop)]
@@ -102,20 +67,6 @@ impl Clone for Operation {
             metadata: self.metadata.clone()?,
             commit_predecessors: self.commit_predecessors.clone()?,
         })
-    }
-}
-
-impl ContentHash for Operation {
-    ghost is_value = { IsOperation };
-
-    ghost content = { operation_content };
-
-    ghost lawful = { operation_lawful };
-
-    #[tactic(auto, using(jj_content::proofs::Fronts::fronts))]
-    fn hash<D: DigestUpdate>(&self, alloc: Global, state: &mut D) -> Result<(), AllocError> {
-        hash_both(alloc, &self.view_id, &self.parents, state)?;
-        hash_both(alloc, &self.metadata, &self.commit_predecessors, state)
     }
 }
 

@@ -1,14 +1,11 @@
 //! Where refs point to, here and at remotes.
-ghost use Rattle.std.specs.Prelude.{◌≡◌, ◌↔◌, ◌∷◌, [], IsTrue, None, IfOk, OnOk, OnErr};
+ghost use Rattle.std.specs.Prelude.{◌≡◌, ◌↔◌, IsTrue, None, IfOk};
 ghost use Rattle.std.specs.Cmp;
 ghost use Rattle.std.specs.Option.{option_copied};
-ghost use Rattle.jj_content.specs.Content.{Takes, TakesFront, IsLawful};
-ghost use Rattle.jj_stores.specs.RefTargets.{absent_target, absent_ref, tracked_target, state_content, IsRemoteRef, remote_ref_content};
-ghost use Rattle.jj_stores.specs.RefTargetLaws.{state_lawful, remote_ref_lawful};
+ghost use Rattle.jj_stores.specs.RefTargets.{absent_target, absent_ref, tracked_target};
 
 use super::copies::CloneIn;
 use jj_backend::backend::CommitId;
-use jj_content::content_hash::{ContentHash, DigestUpdate, hash_both};
 use jj_merges::merge::Merge;
 use std::alloc::{AllocError, Global};
 
@@ -98,33 +95,6 @@ impl RemoteRef {
 impl CloneIn for RemoteRef {
     fn clone_in(&self, alloc: Global) -> Result<Self, AllocError> {
         RemoteRef::clone(self, alloc)
-    }
-}
-
-impl ContentHash for RemoteRefState {
-    ghost is_value = { λ _. Unit {0} };
-
-    ghost content = { state_content };
-
-    ghost lawful = { state_lawful };
-
-    fn hash<D: DigestUpdate>(&self, alloc: Global, state: &mut D) -> Result<(), AllocError> {
-        match self {
-            RemoteRefState::New => ContentHash::hash(&0u32, alloc, state),
-            RemoteRefState::Tracked => ContentHash::hash(&1u32, alloc, state),
-        }
-    }
-}
-
-impl ContentHash for RemoteRef {
-    ghost is_value = { IsRemoteRef };
-
-    ghost content = { remote_ref_content };
-
-    ghost lawful = { remote_ref_lawful };
-
-    fn hash<D: DigestUpdate>(&self, alloc: Global, state: &mut D) -> Result<(), AllocError> {
-        hash_both(alloc, &self.target, &self.state, state)
     }
 }
 

@@ -1,13 +1,11 @@
 //! Views of a repository: where its refs point to, here and at remotes.
-ghost use Rattle.std.specs.Prelude.{◌≡◌, ◌++◌, ◌∷◌, [], true, IfOk, OnOk, OnErr};
-ghost use Rattle.jj_content.specs.Content.{Takes, TakesFront, IsLawful};
-ghost use Rattle.jj_stores.specs.Views.{IsRemoteView, remote_view_content, IsView, view_content, IsRootView};
-ghost use Rattle.jj_stores.specs.ViewLaws.{remote_view_eq, remote_view_lawful, view_eq, view_lawful};
+ghost use Rattle.std.specs.Prelude.{◌≡◌, [], true, IfOk};
+ghost use Rattle.jj_stores.specs.Views.{IsRootView};
+ghost use Rattle.jj_stores.specs.ViewLaws.{remote_view_eq, view_eq};
 
 use super::copies::{CloneIn, copied_map};
 use super::{RefTarget, RemoteRef};
 use jj_backend::backend::CommitId;
-use jj_content::content_hash::{ContentHash, DigestUpdate, hash_both, hash_three};
 use jj_ids::ref_name::{GitRefNameBuf, RefNameBuf, RemoteNameBuf, WorkspaceNameBuf};
 use std::alloc::{AllocError, Global};
 use std::collections::{BTreeMap, HashSet};
@@ -45,18 +43,6 @@ impl RemoteView {
 impl CloneIn for RemoteView {
     fn clone_in(&self, alloc: Global) -> Result<Self, AllocError> {
         RemoteView::clone(self, alloc)
-    }
-}
-
-impl ContentHash for RemoteView {
-    ghost is_value = { IsRemoteView };
-
-    ghost content = { remote_view_content };
-
-    ghost lawful = { remote_view_lawful };
-
-    fn hash<D: DigestUpdate>(&self, alloc: Global, state: &mut D) -> Result<(), AllocError> {
-        hash_both(alloc, &self.bookmarks, &self.tags, state)
     }
 }
 
@@ -104,26 +90,5 @@ impl View {
             git_heads: copied_map(alloc, &self.git_heads)?,
             wc_commit_ids: self.wc_commit_ids.clone()?,
         })
-    }
-}
-
-impl ContentHash for View {
-    ghost is_value = { IsView };
-
-    ghost content = { view_content };
-
-    ghost lawful = { view_lawful };
-
-    #[tactic(auto, using(jj_content::proofs::Fronts::fronts))]
-    fn hash<D: DigestUpdate>(&self, alloc: Global, state: &mut D) -> Result<(), AllocError> {
-        hash_three(
-            alloc,
-            &self.head_ids,
-            &self.local_bookmarks,
-            &self.local_tags,
-            state,
-        )?;
-        hash_both(alloc, &self.remote_views, &self.git_refs, state)?;
-        hash_both(alloc, &self.git_heads, &self.wc_commit_ids, state)
     }
 }

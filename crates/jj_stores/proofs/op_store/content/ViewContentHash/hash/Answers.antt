@@ -1,6 +1,6 @@
 use Rattle.std.proofs.lemmas.Result.{on_err_weaker}
 use Rattle.jj_content.proofs.Fronts.{front_2}
-use Rattle.jj_stores.proofs.op_store.view.ViewContentHash.hash.Goals as goal
+use Rattle.jj_stores.proofs.op_store.content.ViewContentHash.hash.Goals as goal
 
 pub returns-clause-err : goal.returns-clause-err
 returns-clause-err g c =
