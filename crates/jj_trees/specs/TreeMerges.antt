@@ -1,9 +1,8 @@
 -- What trees merge to, path by path.
--- Cited by contracts of public items: IsMerge, IsRefused, IsWithin, conflict_entries, most_levels,
--- root_values.
+-- Cited by contracts of public items: IsMergeAnswer, most_levels, root_values.
 use Rattle.std.specs.Prelude.{◌≡◌, ◌↔◌, ◌⊎◌, ⊤, ℕ, ◌<◌, Bool, true, false, List, [], ◌∷◌, ◌++◌, map}
 use Rattle.std.specs.Prelude.{length, Option, Some, None, option_and_then, unwrap_or, All, Any}
-use Rattle.std.specs.Prelude.{AllPairs, Contains}
+use Rattle.std.specs.Prelude.{AllPairs, Contains, Result, IfOk, IfErr, OnOk}
 use Rattle.std.specs.Map.{lookup}
 use Rattle.std.specs.Str.{bytes_eq}
 use Rattle.std.specs.declared.cmp.Ordering.TheVariants.{Less}
@@ -18,6 +17,7 @@ use Rattle.jj_backend.specs.declared.backend.tree_value.TreeValue.{TreeValue}
 use Rattle.jj_backend.specs.declared.backend.tree_value.TreeValue.TheVariants.{File, Symlink, Tree, GitSubmodule}
 use Rattle.jj_backend.specs.declared.backend.errors.BackendError.{BackendError}
 use Rattle.jj_backend.specs.declared.backend.errors.BackendError.TheVariants.{Memory}
+use Rattle.jj_trees.specs.declared.tree_merge.TreeMerge.{TreeMerge}
 
 -- what each term has at a path; `None` where it has nothing
 abbrev pub Values : Type 0
@@ -174,6 +174,16 @@ module _ (trees : ById (List (Name × TreeValue))) where
         × ((path : Path) × IsOpen values path × Any (λ v. IsThere v → ⊥) (values_at values path)))
         ⊎ ((is_unsupported e ≡ true)
         × ((path : Path) × IsOpen values path × (length path ≡ levels)))
+
+    -- what is answered, asked to merge these values within that many levels: their merge, where
+    -- every tree that is met is there and none is deeper, or why there is none
+    pub record IsMergeAnswer (may_fail : BackendError → Type 0) (values : Values)
+        (labels : List (List ℕ)) (levels : ℕ)
+        (result : Result TreeMerge BackendError) : Type 0 where
+      pub merge : IfOk result (λ m. IsMerge values labels m.resolved.items
+          (conflict_entries m.conflicts.items))
+      pub within : OnOk result (IsWithin values levels)
+      pub refused : IfErr result (IsRefused may_fail values levels)
 
 -- how many levels are merged where the caller does not say
 abbrev pub most_levels : ℕ

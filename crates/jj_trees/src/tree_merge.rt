@@ -8,7 +8,8 @@ ghost use Rattle.jj_backend.specs.Errors.{is_not_found, is_unsupported};
 ghost use Rattle.jj_trees.specs.Steps.{IsStep};
 ghost use Rattle.jj_trees.specs.TreeMerges.{entries_of, root_values, conflict_entries};
 ghost use Rattle.jj_trees.specs.TreeMerges.{is_tree_or_absent, IsThere, IsEntered, IsHere};
-ghost use Rattle.jj_trees.specs.TreeMerges.{IsMerge, IsAppended, IsWithin, IsRefused, most_levels};
+ghost use Rattle.jj_trees.specs.TreeMerges.{IsAppended, IsWithin, IsRefused};
+ghost use Rattle.jj_trees.specs.TreeMerges.{IsMergeAnswer, most_levels};
 
 mod rows;
 
@@ -236,15 +237,9 @@ pub fn merge_trees_within<B: Backend>(
     levels: NonZeroUsize,
 ) -> BackendResult<TreeMerge>
     requires { (labels.now ≡ []) ⊎ (length labels.now ≡ length trees.now) }
-    ensures merge { IfOk result (λ m. IsMerge (B.objects backend.now).trees
-        ⟦<Option<TreeValue> as PartialEq>⟧.eq same_change (root_values trees.now) labels.now
-        m.resolved.items (conflict_entries m.conflicts.items)) }
-    ensures within { OnOk result (IsWithin (B.objects backend.now).trees
-        ⟦<Option<TreeValue> as PartialEq>⟧.eq same_change (root_values trees.now)
-        (non_zero_usize_get levels)) }
-    ensures refused { IfErr result (IsRefused (B.objects backend.now).trees
+    ensures { IsMergeAnswer (B.objects backend.now).trees
         ⟦<Option<TreeValue> as PartialEq>⟧.eq same_change (B.may_fail backend.now)
-        (root_values trees.now) (non_zero_usize_get levels)) }
+        (root_values trees.now) labels.now (non_zero_usize_get levels) result }
 {
     let values = root_values_of(alloc, trees.as_slice())?;
     let mut merged = TreeMerge {
@@ -276,15 +271,9 @@ pub fn merge_trees<B: Backend>(
     same_change: SameChange,
 ) -> BackendResult<TreeMerge>
     requires { (labels.now ≡ []) ⊎ (length labels.now ≡ length trees.now) }
-    ensures merge { IfOk result (λ m. IsMerge (B.objects backend.now).trees
-        ⟦<Option<TreeValue> as PartialEq>⟧.eq same_change (root_values trees.now) labels.now
-        m.resolved.items (conflict_entries m.conflicts.items)) }
-    ensures within { OnOk result (IsWithin (B.objects backend.now).trees
-        ⟦<Option<TreeValue> as PartialEq>⟧.eq same_change (root_values trees.now)
-        most_levels) }
-    ensures refused { IfErr result (IsRefused (B.objects backend.now).trees
+    ensures { IsMergeAnswer (B.objects backend.now).trees
         ⟦<Option<TreeValue> as PartialEq>⟧.eq same_change (B.may_fail backend.now)
-        (root_values trees.now) most_levels) }
+        (root_values trees.now) labels.now most_levels result }
 {
     let Some(levels) = NonZeroUsize::new(MOST_LEVELS) else {
         unreachable!();

@@ -192,8 +192,12 @@ pub fn shown(
     Ok(text)
 }
 
-// The merge of root trees by their digits.
-fn roots_of(alloc: Global, trees: &[(u8, TreeId)], digits: &[u8]) -> BackendResult<Merge<TreeId>> {
+/// The merge of root trees by their digits.
+pub fn roots_of(
+    alloc: Global,
+    trees: &[(u8, TreeId)],
+    digits: &[u8],
+) -> BackendResult<Merge<TreeId>> {
     let [first, rest @ ..] = digits else {
         return Err(BackendError::Memory);
     };
@@ -228,20 +232,19 @@ fn merge_sides(
     }
 }
 
-/// What comes of a row.
+/// What comes of a row, whose root trees these are.
 pub fn merged(
     alloc: Global,
     backend: &MemoryBackend,
-    trees: &[(u8, TreeId)],
+    sides: &Merge<TreeId>,
     row: &Row,
 ) -> BackendResult<TreeMerge> {
-    let sides = roots_of(alloc, trees, row.roots)?;
     let labels = labels_of(alloc, row.labels)?;
     let count = labels.as_slice().len();
     if count != 0 && count != sides.as_slice().len() {
         return Err(BackendError::Memory);
     }
-    merge_sides(alloc, backend, &sides, &labels, row)
+    merge_sides(alloc, backend, sides, &labels, row)
 }
 
 // Appends labels, each with a space, between `|` and `;`.

@@ -91,60 +91,45 @@ fn says_absent(error: BackendError, object: &str, id: &str) -> BackendResult<boo
     }
 }
 
-fn is_no_file(alloc: Global, backend: &MemoryBackend, id: &[u8]) -> BackendResult<bool> {
-    let id = FileId::from_bytes(alloc, id)?;
-    let text = id.hex(alloc)?;
-    match backend.read_file(alloc, RepoPath::root(), &id) {
-        Err(error) => says_absent(error, "file", text.as_str()),
+// Whether an answer says that there is no object of this type with the id.
+fn is_absent<K: IdKind, V: Drop>(
+    alloc: Global,
+    object: &str,
+    id: &Id<K>,
+    answer: BackendResult<V>,
+) -> BackendResult<bool> {
+    match answer {
+        Err(error) => says_absent(error, object, id.hex(alloc)?.as_str()),
         Ok(_) => Ok(false),
     }
 }
 
 fn is_no_symlink(alloc: Global, backend: &MemoryBackend, id: &[u8]) -> BackendResult<bool> {
     let id = SymlinkId::from_bytes(alloc, id)?;
-    let text = id.hex(alloc)?;
-    match backend.read_symlink(alloc, RepoPath::root(), &id) {
-        Err(error) => says_absent(error, "symlink", text.as_str()),
-        Ok(_) => Ok(false),
-    }
+    let answer = backend.read_symlink(alloc, RepoPath::root(), &id);
+    is_absent(alloc, "symlink", &id, answer)
 }
 
-fn is_no_copy(alloc: Global, backend: &MemoryBackend, id: &[u8]) -> BackendResult<bool> {
-    let id = CopyId::from_bytes(alloc, id)?;
-    let text = id.hex(alloc)?;
-    match backend.read_copy(alloc, &id) {
-        Err(error) => says_absent(error, "copy", text.as_str()),
-        Ok(_) => Ok(false),
-    }
-}
-
-fn is_no_tree(alloc: Global, backend: &MemoryBackend, id: &[u8]) -> BackendResult<bool> {
-    let id = TreeId::from_bytes(alloc, id)?;
-    let text = id.hex(alloc)?;
-    match backend.read_tree(alloc, RepoPath::root(), &id) {
-        Err(error) => says_absent(error, "tree", text.as_str()),
-        Ok(_) => Ok(false),
-    }
-}
-
-fn is_no_commit(alloc: Global, backend: &MemoryBackend, id: &[u8]) -> BackendResult<bool> {
-    let id = CommitId::from_bytes(alloc, id)?;
-    let text = id.hex(alloc)?;
-    match backend.read_commit(alloc, &id) {
-        Err(error) => says_absent(error, "commit", text.as_str()),
-        Ok(_) => Ok(false),
-    }
+// Whether an id stands for nothing that is read at a path.
+fn is_nothing_at_path(alloc: Global, backend: &MemoryBackend, id: &[u8]) -> BackendResult<bool> {
+    let file = FileId::from_bytes(alloc, id)?;
+    let answer = backend.read_file(alloc, RepoPath::root(), &file);
+    let is_no_file = is_absent(alloc, "file", &file, answer)?;
+    let tree = TreeId::from_bytes(alloc, id)?;
+    let answer = backend.read_tree(alloc, RepoPath::root(), &tree);
+    let is_no_tree = is_absent(alloc, "tree", &tree, answer)?;
+    Ok(is_no_file && is_no_tree && is_no_symlink(alloc, backend, id)?)
 }
 
 // Whether an id stands for no object of any type.
 fn is_nothing(alloc: Global, backend: &MemoryBackend, id: &[u8]) -> BackendResult<bool> {
-    Ok(
-        is_no_file(alloc, backend, id)?
-            && is_no_symlink(alloc, backend, id)?
-            && is_no_copy(alloc, backend, id)?
-            && is_no_tree(alloc, backend, id)?
-            && is_no_commit(alloc, backend, id)?,
-    )
+    let copy = CopyId::from_bytes(alloc, id)?;
+    let answer = backend.read_copy(alloc, &copy);
+    let is_no_copy = is_absent(alloc, "copy", &copy, answer)?;
+    let commit = CommitId::from_bytes(alloc, id)?;
+    let answer = backend.read_commit(alloc, &commit);
+    let is_no_commit = is_absent(alloc, "commit", &commit, answer)?;
+    Ok(is_no_copy && is_no_commit && is_nothing_at_path(alloc, backend, id)?)
 }
 
 fn finds_nothing(alloc: Global) -> BackendResult<bool> {

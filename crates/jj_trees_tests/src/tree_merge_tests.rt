@@ -1,5 +1,5 @@
 //! Merges of whole trees over a backend in memory.
-use crate::kept::{Row, merged, shown, write_trees};
+use crate::kept::{Row, merged, roots_of, shown, write_trees};
 use jj_backend::backend::{BackendError, BackendResult};
 use jj_merges::merge::SameChange::{Accept, Keep};
 use jj_trees::memory_backend::MemoryBackend;
@@ -152,7 +152,8 @@ const ABSENT: &[Row] = &[
 fn outcome(alloc: Global, row: &Row) -> BackendResult<String> {
     let mut backend = MemoryBackend::new(alloc)?;
     let trees = write_trees(alloc, &mut backend, row.trees)?;
-    match merged(alloc, &backend, &trees, row) {
+    let sides = roots_of(alloc, &trees, row.roots)?;
+    match merged(alloc, &backend, &sides, row) {
         Ok(merge) => shown(alloc, &backend, &trees, &merge),
         Err(BackendError::ObjectNotFound { .. }) => Ok(String::from_str(alloc, "not found")?),
         Err(BackendError::Unsupported(_)) => Ok(String::from_str(alloc, "unsupported")?),

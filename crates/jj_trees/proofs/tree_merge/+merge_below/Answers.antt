@@ -72,12 +72,8 @@ loop-row-preserved g t c =
       passed = elim c.match-entered.branch [
         | in-None-entered w ↦
             rw w.merged-is
-            (row_here (option_eq tree_values.eq-value.it) same_values (g.B.Backend.objects c.args.backend.now).trees c.args.same_change c.args.labels.now
-            (c.args.levels - 1) c.args.values.now (path_of c.args.dir) parts c.loop-row.yielded c.in-Some.row (into_iter_items c.next.new.self) rows
-            c.args.merged.now.resolved.items c.loop-row.merged.resolved.items c.merge_here.new.merged.resolved.items
-            (conflict_entries c.args.merged.now.conflicts.items) (conflict_entries c.loop-row.merged.conflicts.items)
-            (conflict_entries c.merge_here.new.merged.conflicts.items) c.loop-row.invariant.passed
-            c.in_ok-path.path at (c.in_ok-entered.ensures.done (ap is_some w.in-None-entered.is)))
+            (row_here (option_eq tree_values.eq-value.it) same_values _ _ _ _ _ _ parts c.loop-row.yielded c.in-Some.row (into_iter_items c.next.new.self) rows
+            _ _ _ _ _ _ c.loop-row.invariant.passed c.in_ok-path.path at (c.in_ok-entered.ensures.done (ap is_some w.in-None-entered.is)))
         | in-Some-entered+in_ok-merge_below-in-Some-entered w ↦
             let entered = rw w.in-Some-entered.is at c.in_ok-entered.ensures.entered in
             rw w.merged-is

@@ -5,7 +5,7 @@ use Rattle.jj_merges.specs.Odd.{IsOdd}
 use Rattle.jj_paths.specs.Names.{path_of}
 use Rattle.jj_backend.specs.declared.backend.tree_value.TreeValue.TheVariants.{Tree}
 use Rattle.std.proofs.Common.{Some}
-use Rattle.jj_trees.specs.TreeMerges.{root_values, conflict_entries, IsMerge}
+use Rattle.jj_trees.specs.TreeMerges.{root_values, conflict_entries, IsMerge, IsWithin}
 use Rattle.jj_backend.specs.contracts.backend.tree_value.TreeValuePartialEq.TheImpl as tree_values
 use Rattle.jj_trees.proofs.Roots.{at_root}
 use Rattle.jj_trees.proofs.tree_merge.merge_trees_within.Goals as goal
@@ -16,13 +16,18 @@ merge_below-requires-clause-odd g c =
     c.deref.ensures.value ∙ c.in_ok-values.ensures ∙ ap root_values c.as_slice.ensures.terms in
     subst IsOdd (sym (ap length same ∙ length-map c.args.trees.now (λ id. Some (Tree id)))) c.as_slice.ensures.odd
 
-pub returns-clause-merge : goal.returns-clause-merge
-returns-clause-merge g c =
+pub returns : goal.returns
+returns g c =
     let same : c.deref.result.now ≡ root_values c.args.trees.now =
-    c.deref.ensures.value ∙ c.in_ok-values.ensures ∙ ap root_values c.as_slice.ensures.terms in
-    subst (λ values. IsMerge (g.B.Backend.objects c.args.backend.now).trees (option_eq tree_values.eq-value.it) c.args.same_change values c.args.labels.now
-    c.merge_below.new.merged.resolved.items (conflict_entries c.merge_below.new.merged.conflicts.items)) same
-    (at_root (g.B.Backend.objects c.args.backend.now).trees (option_eq tree_values.eq-value.it) c.args.same_change c.deref.result.now c.args.labels.now
-    (path_of c.root.result) c.new.result.items c.merge_below.new.merged.resolved.items (conflict_entries c.new-2.result.items)
-    (conflict_entries c.merge_below.new.merged.conflicts.items) c.root.ensures c.new.ensures.items (ap conflict_entries c.new-2.ensures.items)
-    c.in_ok-merge_below.ensures.merge)
+    c.deref.ensures.value ∙ c.in_ok-values.ensures ∙ ap root_values c.as_slice.ensures.terms in record {
+      merge = subst (λ values. IsMerge (g.B.Backend.objects c.args.backend.now).trees (option_eq tree_values.eq-value.it) c.args.same_change values c.args.labels.now
+          c.merge_below.new.merged.resolved.items (conflict_entries c.merge_below.new.merged.conflicts.items)) same
+          (at_root (g.B.Backend.objects c.args.backend.now).trees (option_eq tree_values.eq-value.it) c.args.same_change c.deref.result.now c.args.labels.now
+          (path_of c.root.result) c.new.result.items c.merge_below.new.merged.resolved.items (conflict_entries c.new-2.result.items)
+          (conflict_entries c.merge_below.new.merged.conflicts.items) c.root.ensures c.new.ensures.items (ap conflict_entries c.new-2.ensures.items)
+          c.in_ok-merge_below.ensures.merge);
+      within = subst (IsWithin (g.B.Backend.objects c.args.backend.now).trees (option_eq tree_values.eq-value.it) c.args.same_change (root_values c.args.trees.now)) c.get.ensures.value
+          (subst (λ values. IsWithin (g.B.Backend.objects c.args.backend.now).trees (option_eq tree_values.eq-value.it) c.args.same_change values c.get.result) same
+          c.in_ok-merge_below.ensures.within);
+      refused = tt;
+    }
