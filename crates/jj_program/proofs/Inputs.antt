@@ -42,3 +42,9 @@ module _ {X : Type 0} (command known : Command) (input text : List ℕ) (result 
       → IfErr result (λ fault. IsFaultOf fault (asked text)) → IfErr result (IsFaultOfInput command input)
   known_failure asked given = IfErr-weaker result (λ fault. IsFaultOf fault (asked text)) (IsFaultOfInput command input)
       (λ fault found. known_fault command known input (asked input) given is fault read.1 (subst (λ t. IsFaultOf fault (asked t)) read.0 found))
+
+  -- both
+  pub known_answer : {A : Type 0} (items : X → List ℕ) (asked : List ℕ → Result A Fault) → ((fault : Fault) → asked input ≡ Err fault → GivesText known input (Err fault))
+      → IfOk result (λ output. GivesText known text (Ok (items output))) → IfErr result (λ fault. IsFaultOf fault (asked text))
+      → IfOk result (λ output. Gives command input (Ok (items output))) × IfErr result (IsFaultOfInput command input)
+  known_answer items asked given done fault = (known_output items done, known_failure asked given fault)

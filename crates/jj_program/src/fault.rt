@@ -1,8 +1,8 @@
 //! Why a run of the program fails.
 ghost use Rattle.std.specs.Prelude.{◌≡◌, ◌++◌, Some};
-ghost use Rattle.jj_program.specs.declared.fault.Fault.TheVariants.{Memory};
-ghost use Rattle.jj_program.specs.declared.fault.StepFault.TheVariants.{Memory as NoMemory};
 ghost use Rattle.jj_program.specs.Faults.{line_fault_text, fault_text};
+ghost use Rattle.jj_program.specs.declared.fault.Fault.{Fault};
+ghost use Rattle.jj_program.specs.declared.fault.StepFault.{StepFault};
 
 use itoa::Buffer;
 use std::alloc::{AllocError, AllocFailed};
@@ -97,33 +97,33 @@ impl Error for LineFault {}
 impl Error for Fault {}
 
 impl From<AllocError> for Fault {
-    ghost from_gives = { λ _ fault. fault ≡ Memory };
+    ghost from_gives = { λ _ error. error ≡ Fault.Memory };
 
-    fn from(_error: AllocError) -> Fault {
+    fn from(_refused: AllocError) -> Self {
         Fault::Memory
     }
 }
 
 impl<T: Drop> From<AllocFailed<T>> for Fault {
-    ghost from_gives = { λ _ fault. fault ≡ Memory };
+    ghost from_gives = { λ _ error. error ≡ Fault.Memory };
 
-    fn from(_error: AllocFailed<T>) -> Fault {
+    fn from(_refused: AllocFailed<T>) -> Self {
         Fault::Memory
     }
 }
 
 impl From<AllocError> for StepFault {
-    ghost from_gives = { λ _ fault. fault ≡ NoMemory };
+    ghost from_gives = { λ _ error. error ≡ StepFault.Memory };
 
-    fn from(_error: AllocError) -> StepFault {
+    fn from(_refused: AllocError) -> Self {
         StepFault::Memory
     }
 }
 
 impl<T: Drop> From<AllocFailed<T>> for StepFault {
-    ghost from_gives = { λ _ fault. fault ≡ NoMemory };
+    ghost from_gives = { λ _ error. error ≡ StepFault.Memory };
 
-    fn from(_error: AllocFailed<T>) -> StepFault {
+    fn from(_refused: AllocFailed<T>) -> Self {
         StepFault::Memory
     }
 }

@@ -23,14 +23,14 @@ pub(crate) fn outcome<'t>(
     ensures { IfOk result (IsTextOutcome same_change terms.now) }
 {
     if terms.as_slice().len() < MANY_TERMS {
-        return Ok(resolved(terms, same_change));
+        return Ok(decided_text(terms, same_change));
     }
-    let left = cancelled(alloc, terms)?;
-    Ok(resolved(&left, same_change))
+    let left = with_pairs_cancelled(alloc, terms)?;
+    Ok(decided_text(&left, same_change))
 }
 
 // The outcome of the merge, where the counts of its terms decide it.
-fn resolved<'t>(terms: &Merge<&'t str>, same_change: SameChange) -> Option<&'t str>
+fn decided_text<'t>(terms: &Merge<&'t str>, same_change: SameChange) -> Option<&'t str>
     ensures { IsTextOutcome same_change terms.now result }
 {
     match terms.resolve_trivial(same_change) {
@@ -40,19 +40,25 @@ fn resolved<'t>(terms: &Merge<&'t str>, same_change: SameChange) -> Option<&'t s
 }
 
 // A merge of what is left where adds and equal removes are taken out in pairs.
-fn cancelled<'t>(alloc: Global, terms: &Merge<&'t str>) -> Result<Merge<&'t str>, AllocError>
+fn with_pairs_cancelled<'t>(
+    alloc: Global,
+    terms: &Merge<&'t str>,
+) -> Result<Merge<&'t str>, AllocError>
     requires { IsOdd (length terms.now) }
     ensures { IfOk result (λ left. HaveSameCounts text_eq left terms.now) }
 {
-    let adds = sorted(alloc, terms.adds())?;
-    let removes = sorted(alloc, terms.removes())?;
+    let adds = sorted_texts(alloc, terms.adds())?;
+    let removes = sorted_texts(alloc, terms.removes())?;
     let (adds, removes) = without_pairs(alloc, &adds, &removes)?;
     let left = merge_of_sides(alloc, removes, adds)?;
     Ok(left)
 }
 
 // The texts in ascending order.
-fn sorted<'t>(alloc: Global, texts: EverySecond<'_, &'t str>) -> Result<Vec<&'t str>, AllocError>
+fn sorted_texts<'t>(
+    alloc: Global,
+    texts: EverySecond<'_, &'t str>,
+) -> Result<Vec<&'t str>, AllocError>
     ensures { IfOk result (λ sorted. IsPermutation texts.entry sorted.items) }
 {
     let mut sorted = Vec::with_capacity(alloc, texts.len())?;

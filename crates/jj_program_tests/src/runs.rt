@@ -80,8 +80,8 @@ fn parts_of(row: &str) -> Option<(Command, &str, &str)> {
     Some((Command::from_name(name)?, input, output))
 }
 
-/// The input of a row writes its output. A row is as `walk: everything| => `: the name of a command,
-/// an input and an output, in which a space is a tab, and `|` a line end.
+/// The input of a row writes its output. A row is as `walk: everything| => `: the name of a
+/// command, an input and an output, in which a space is a tab, and `|` a line end.
 pub fn writes_row<R: Abort + AllocGlobal>(rt: &R, row: &str) -> Result<(), Fail> {
     let Some((command, input, output)) = parts_of(row) else {
         panic!(rt; "{row} has no three parts");

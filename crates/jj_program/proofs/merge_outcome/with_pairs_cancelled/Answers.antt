@@ -6,7 +6,7 @@ use Rattle.jj_merges.proofs.Kept.{signed_counts_equal}
 use Rattle.jj_program.specs.Texts.{Text}
 use Rattle.jj_program.specs.TextMerges.{text_eq}
 use Rattle.jj_program.proofs.TextOutcomes.{one_more_add}
-use Rattle.jj_program.proofs.merge_outcome.cancelled.Goals as goal
+use Rattle.jj_program.proofs.merge_outcome.with_pairs_cancelled.Goals as goal
 
 pub merge_of_sides-requires : goal.merge_of_sides-requires
 merge_of_sides-requires c =
