@@ -120,7 +120,7 @@ module _ {V : Type 0} where
   some_node None there = absurd (false≢true there)
   some_node (Some node) there = (node, refl)
 
-  pub edited-as_map : (is_new : V → Type 0) (old new : Tree V) (path : Path) (v : V) → (t : Tree V) × IsExtended is_new old path t × IsSome (get t path) × (new ≡ put_value t path v) → IsSet is_new old path v new
+  edited-as_map : (is_new : V → Type 0) (old new : Tree V) (path : Path) (v : V) → (t : Tree V) × IsExtended is_new old path t × IsSome (get t path) × (new ≡ put_value t path v) → IsSet is_new old path v new
   edited-as_map is_new old new path v edited = let found = some_node (get edited.0 path) edited.2 in set-as_map is_new old edited.0 path found.0 new v edited.1 found.1 edited.3
 
   update_child-twice : (b : Branches V) (name : Name) (sub : Tree V) (f : Tree V → Tree V) → update_child (update_child b name (λ _. sub)) name f ≡ update_child b name (λ _. f sub)

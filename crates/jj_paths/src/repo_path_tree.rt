@@ -14,8 +14,8 @@ ghost use Rattle.jj_paths.specs.Tree.{Tree, tree_of, branches_of, none, children
 use crate::repo_path::{RepoPath, RepoPathComponent, RepoPathComponentBuf};
 use std::alloc::{AllocError, Global};
 use std::cmp::Ordering;
-use std::fmt;
 use std::marker::Model;
+use std::{fmt, mem};
 
 /// Values at paths: a value at the root, and at each front of a path that has one.
 #[cycle(tree)]
@@ -171,6 +171,13 @@ impl<V> RepoPathNode<V> {
         ensures { self.new ≡ tree_of value self.old.branches }
     {
         self.value = value;
+    }
+
+    // swaps the value with another, and keeps what is below
+    fn swap(&mut self, value: &mut V)
+        ensures { self.new ≡ tree_of value.old self.old.branches }
+    {
+        mem::swap(&mut self.value, value);
     }
 
     /// Whether the node has children.
@@ -486,7 +493,7 @@ impl<V> RepoPathTree<V> {
 
     /// Sets the value at a path, with the nodes that `add` makes. Where memory is refused, the tree
     /// is as `add` leaves it.
-    pub fn set(&mut self, path: RepoPath<'_>, value: V) -> Result<(), AllocError>
+    pub fn set(&mut self, path: RepoPath<'_>, mut value: V) -> Result<(), AllocError>
     where
         V: Default + Drop,
         ensures as_map { IfOk result (λ done.
@@ -497,11 +504,25 @@ impl<V> RepoPathTree<V> {
             × (self.new ≡ put_value t (path_of path.entry) value))
             (λ e. IsExtended V.is_default self.old (path_of path.entry) self.new) }
     {
+        self.swap_value(path, &mut value)
+    }
+
+    // Puts the value at a path, with the nodes that `add` makes, and the one that was there in its
+    // place. By reference, since the built code of a recursion that moves a value is no loop.
+    fn swap_value(&mut self, path: RepoPath<'_>, value: &mut V) -> Result<(), AllocError>
+    where
+        V: Default + Drop,
+        ensures edited { MatchResult result (λ done. (t : Tree V)
+            × IsExtended V.is_default self.old (path_of path.entry) t
+            × IsSome (get t (path_of path.entry))
+            × (self.new ≡ put_value t (path_of path.entry) value.old))
+            (λ e. IsExtended V.is_default self.old (path_of path.entry) self.new) }
+    {
         if path.is_root() {
-            self.set_value(value);
+            self.node.swap(value);
             return Ok(());
         }
-        self.node.first_or_new(path)?.set(path.rest(), value)
+        self.node.first_or_new(path)?.swap_value(path.rest(), value)
     }
 }
 
