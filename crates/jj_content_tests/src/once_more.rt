@@ -3,6 +3,9 @@ use std::alloc::{AllocError, Global};
 use std::fmt::Debug;
 use std::test::Fail;
 
+/// What a part of a test answers: it passed, or memory was refused to it.
+pub type Passed = Result<(), AllocError>;
+
 /// Whether the text that is made is the wanted one.
 pub fn tells<R, F>(rt: &R, made: F, wanted: &str) -> bool
 where
@@ -46,7 +49,7 @@ where
 pub fn passes<R, F>(rt: &R, test: F) -> Result<(), Fail>
 where
     R: AllocGlobal,
-    F: Fn(&R, Global) -> Result<(), AllocError>,
+    F: Fn(&R, Global) -> Passed,
     requires { F.IsAlwaysCallable test }
 {
     succeeds(rt, test)

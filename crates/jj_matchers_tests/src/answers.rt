@@ -1,6 +1,6 @@
 //! Which paths a matcher of files or of prefixes accepts, and its answers for directories.
 use crate::fixtures::{Wanted, answers, files, names, prefix};
-use jj_content_tests::once_more::passes;
+use jj_content_tests::once_more::{Passed, passes};
 use jj_matchers::matchers::{EverythingMatcher, NothingMatcher, Visit, VisitDirs, VisitFiles};
 use std::alloc::{AllocError, Global};
 use std::process::Abort;
@@ -13,7 +13,7 @@ const NOTHING: Wanted = ("", ". file dir/file", &[". - -", "dir - -"]);
 
 const EVERYTHING: Wanted = (". file dir/file", "", &[". ** -", "dir ** -"]);
 
-fn constant<R: Abort>(rt: &R, alloc: Global) -> Result<(), AllocError> {
+fn constant<R: Abort>(rt: &R, alloc: Global) -> Passed {
     answers(rt, alloc, NothingMatcher, &NOTHING)?;
     answers(rt, alloc, EverythingMatcher, &EVERYTHING)
 }
@@ -89,13 +89,13 @@ fn named<R: Abort>(rt: &R, alloc: Global, dirs: &str, files: &str) -> Result<Vis
 }
 
 // Two empty sets are no answer with names.
-fn empty_sets<R: Abort>(rt: &R, alloc: Global) -> Result<(), AllocError> {
+fn empty_sets<R: Abort>(rt: &R, alloc: Global) -> Passed {
     let empty = named(rt, alloc, "-", "-")?;
     assert!(rt; empty == Visit::Nothing && empty.is_nothing());
     Ok(())
 }
 
-fn lone_sets<R: Abort>(rt: &R, alloc: Global) -> Result<(), AllocError> {
+fn lone_sets<R: Abort>(rt: &R, alloc: Global) -> Passed {
     let dirs_alone = named(rt, alloc, "a", "-")?;
     assert!(rt; dirs_alone != Visit::Nothing && !dirs_alone.is_nothing());
     let files_alone = named(rt, alloc, "-", "a")?;
@@ -103,7 +103,7 @@ fn lone_sets<R: Abort>(rt: &R, alloc: Global) -> Result<(), AllocError> {
     Ok(())
 }
 
-fn names_in_sets<R: Abort>(rt: &R, alloc: Global) -> Result<(), AllocError> {
+fn names_in_sets<R: Abort>(rt: &R, alloc: Global) -> Passed {
     let dirs = VisitDirs::Set(names(rt, alloc, "a")?);
     let files = VisitFiles::Set(names(rt, alloc, "b")?);
     for name in &names(rt, alloc, "a/b")? {

@@ -1,12 +1,12 @@
 //! Unions, differences and intersections of matchers: which paths they accept, and their answers
 //! for directories.
 use crate::fixtures::{Wanted, answers, files, globs, prefix};
-use jj_content_tests::once_more::passes;
+use jj_content_tests::once_more::{Passed, passes};
 use jj_matchers::matchers::{
     DifferenceMatcher, EverythingMatcher, IntersectionMatcher, Matcher, NothingMatcher,
     PrefixMatcher, UnionMatcher,
 };
-use std::alloc::{AllocError, Global};
+use std::alloc::Global;
 use std::process::Abort;
 use std::test::Fail;
 
@@ -14,7 +14,7 @@ use std::test::Fail;
 type Row = (&'static str, &'static str, Wanted);
 
 // Checks the rows of a kind of matcher.
-fn check_each<R, M, F>(rt: &R, alloc: Global, rows: &[Row], combine: F) -> Result<(), AllocError>
+fn check_each<R, M, F>(rt: &R, alloc: Global, rows: &[Row], combine: F) -> Passed
 where
     R: Abort,
     M: Matcher,
@@ -163,7 +163,7 @@ const FILES_AND_GLOBS: Wanted = (
 );
 
 // Everything and every name take all, and nothing adds none.
-fn unions_of_kinds<R: Abort>(rt: &R, alloc: Global) -> Result<(), AllocError> {
+fn unions_of_kinds<R: Abort>(rt: &R, alloc: Global) -> Passed {
     let all = UnionMatcher::new(files(rt, alloc, "a")?, EverythingMatcher);
     answers(rt, alloc, all, &WHOLE)?;
     let first = UnionMatcher::new(prefix(rt, alloc, "foo")?, NothingMatcher);
@@ -187,7 +187,7 @@ const GLOBS_LESS_GLOBS: Wanted = (
     &[". d -", "d * *", "d/b.rs * *", "d/a.rs - -"],
 );
 
-fn differences_of_kinds<R: Abort>(rt: &R, alloc: Global) -> Result<(), AllocError> {
+fn differences_of_kinds<R: Abort>(rt: &R, alloc: Global) -> Passed {
     let rest = DifferenceMatcher::new(EverythingMatcher, prefix(rt, alloc, "a")?);
     answers(rt, alloc, rest, &ALL_BUT_A_PREFIX)?;
     let none = DifferenceMatcher::new(EverythingMatcher, EverythingMatcher);
@@ -202,7 +202,7 @@ fn differences_of_kinds<R: Abort>(rt: &R, alloc: Global) -> Result<(), AllocErro
 const WHOLE_FILES: Wanted = ("a/x b", ". a", &[". a b", "a - x", "b - -"]);
 
 // Everything and every name give way, and two empty sets are nothing.
-fn intersections_of_kinds<R: Abort>(rt: &R, alloc: Global) -> Result<(), AllocError> {
+fn intersections_of_kinds<R: Abort>(rt: &R, alloc: Global) -> Passed {
     for (one, other) in [("a", "b"), ("a/x", "a")] {
         let apart = IntersectionMatcher::new(files(rt, alloc, one)?, files(rt, alloc, other)?);
         answers(rt, alloc, apart, &NO_PATH)?;
@@ -221,7 +221,7 @@ const GLOBS_IN_A_PREFIX: Wanted = (
 
 const GLOBS_OF_BOTH: Wanted = ("a.rs", "b.rs a a/b.rs", &[". * *", "a * *"]);
 
-fn intersections_with_globs<R: Abort>(rt: &R, alloc: Global) -> Result<(), AllocError> {
+fn intersections_with_globs<R: Abort>(rt: &R, alloc: Global) -> Passed {
     let sources = globs(rt, alloc, false, ".:**/*.rs")?;
     let named = IntersectionMatcher::new(sources, prefix(rt, alloc, "a/b")?);
     answers(rt, alloc, named, &GLOBS_IN_A_PREFIX)?;
@@ -245,7 +245,7 @@ const SOURCES: Wanted = (
 );
 
 // The sources less what was built, and one file more, all without temporary files.
-fn nested<R: Abort>(rt: &R, alloc: Global) -> Result<(), AllocError> {
+fn nested<R: Abort>(rt: &R, alloc: Global) -> Passed {
     let built = prefix(rt, alloc, "src/out")?;
     let sources = DifferenceMatcher::new(prefix(rt, alloc, "src")?, built);
     let more = UnionMatcher::new(sources, files(rt, alloc, "readme")?);

@@ -1,6 +1,7 @@
 //! Paths, patterns and trees of marks of literal texts, and what each test asks of a matcher.
 //
 // A list in a text is joined by blanks, and in it `.` is the root.
+use jj_content_tests::once_more::Passed;
 use jj_globs::glob::GlobError;
 use jj_matchers::matchers::{
     FilesMatcher, GlobsMatcher, Matcher, PathGlobPattern, PrefixMatcher, Visit, VisitDirs,
@@ -92,12 +93,7 @@ pub fn answer<R: Abort>(
 pub type Wanted = (&'static str, &'static str, &'static [&'static str]);
 
 /// Checks which paths a matcher accepts and which it refuses, and its answers.
-pub fn answers<R: Abort, M: Matcher>(
-    rt: &R,
-    alloc: Global,
-    matcher: M,
-    wanted: &Wanted,
-) -> Result<(), AllocError> {
+pub fn answers<R: Abort, M: Matcher>(rt: &R, alloc: Global, matcher: M, wanted: &Wanted) -> Passed {
     let (accepted, refused, rows) = wanted;
     for file in paths(rt, alloc, accepted)? {
         assert!(rt; matcher.matches(file), "{file:?} is accepted");
@@ -121,7 +117,7 @@ pub fn visits<R: Abort, M: Matcher>(
     matcher: &M,
     dir: &str,
     children: &str,
-) -> Result<(), AllocError> {
+) -> Passed {
     let Some((dirs, files)) = children.split_once(' ') else {
         panic!(rt; "directories and files: {children}");
     };
@@ -185,7 +181,7 @@ pub fn walks<R: Abort, M: Matcher>(
     marks: &str,
     files: &str,
     entered: &str,
-) -> Result<(), AllocError> {
+) -> Passed {
     let mut tree: RepoPathTree<bool> = RepoPathTree::default(alloc);
     for mark in paths(rt, alloc, marks)? {
         tree.set(mark, true)?;

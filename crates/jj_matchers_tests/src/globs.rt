@@ -1,6 +1,6 @@
 //! Globs of paths, and matchers of globs in directories.
 use crate::fixtures::{Wanted, answers, globs, path, pattern, visits};
-use jj_content_tests::once_more::passes;
+use jj_content_tests::once_more::{Passed, passes};
 use jj_globs::glob::GlobError;
 use jj_matchers::matchers::{GlobsMatcher, Matcher, PathGlobPattern};
 use std::alloc::{AllocError, Global};
@@ -11,7 +11,7 @@ use std::test::Fail;
 // lies below a match is not accepted, and where it is.
 type Row = (&'static str, Wanted, Wanted);
 
-fn fit<R: Abort>(rt: &R, alloc: Global, rows: &[Row]) -> Result<(), AllocError> {
+fn fit<R: Abort>(rt: &R, alloc: Global, rows: &[Row]) -> Passed {
     for (list, alone, with_below) in rows {
         answers(rt, alloc, globs(rt, alloc, false, list)?, alone)?;
         answers(rt, alloc, globs(rt, alloc, true, list)?, with_below)?;
@@ -182,7 +182,7 @@ const FRONTS_WITH_BELOW: Wanted = (
     &["d/a ** -", "d/b * *", "d/b/y ** -", "d/y * *"],
 );
 
-fn in_directories<R: Abort>(rt: &R, alloc: Global) -> Result<(), AllocError> {
+fn in_directories<R: Abort>(rt: &R, alloc: Global) -> Passed {
     for rows in [
         AT_ROOT.as_slice(),
         &IN_DIRECTORIES,
@@ -208,7 +208,7 @@ const AT_OWN_DIRECTORY: [&str; 8] = [
     "d:*x * *",
 ];
 
-fn at_own_directory<R: Abort>(rt: &R, alloc: Global) -> Result<(), AllocError> {
+fn at_own_directory<R: Abort>(rt: &R, alloc: Global) -> Passed {
     for row in AT_OWN_DIRECTORY {
         let Some((list, children)) = row.split_once(' ') else {
             panic!(rt; "three columns: {row}");
@@ -233,7 +233,7 @@ const BUILT_FIRST: Wanted = ("a/x/y b/x.rs/y", "b/x b/x/y", &[]);
 const BUILT_LAST: Wanted = ("a/x b/x b/x.rs", "a/x/y b/x.rs/y", &[]);
 
 // What was built before stays as it is when the builder goes on.
-fn builds<R: Abort>(rt: &R, alloc: Global) -> Result<(), AllocError> {
+fn builds<R: Abort>(rt: &R, alloc: Global) -> Passed {
     let empty = globs(rt, alloc, true, "")?;
     answers(rt, alloc, empty, &NOTHING_BUILT)?;
     let any = pattern(rt, alloc, "*")?;
@@ -251,7 +251,7 @@ fn builds<R: Abort>(rt: &R, alloc: Global) -> Result<(), AllocError> {
 }
 
 // Checks the fault of a text that is no pattern.
-fn faults<R: Abort>(rt: &R, alloc: Global, text: &str, fault: GlobError) -> Result<(), AllocError> {
+fn faults<R: Abort>(rt: &R, alloc: Global, text: &str, fault: GlobError) -> Passed {
     for parsed in [
         PathGlobPattern::parse(alloc, text),
         PathGlobPattern::parse_i(alloc, text),
@@ -272,17 +272,12 @@ const IN_BOTH_CASES: Wanted = (
 );
 
 // Checks the regular expression of a pattern.
-fn is_regex<R: Abort>(
-    rt: &R,
-    alloc: Global,
-    pattern: &PathGlobPattern,
-    regex: &str,
-) -> Result<(), AllocError> {
+fn is_regex<R: Abort>(rt: &R, alloc: Global, pattern: &PathGlobPattern, regex: &str) -> Passed {
     assert_eq!(rt; pattern.as_regex(alloc)?.as_str(), regex);
     Ok(())
 }
 
-fn path_patterns<R: Abort>(rt: &R, alloc: Global) -> Result<(), AllocError> {
+fn path_patterns<R: Abort>(rt: &R, alloc: Global) -> Passed {
     let source = pattern(rt, alloc, "a?/*.{rs,[!x]c}")?;
     assert_eq!(rt; source.as_str(), "a?/*.{rs,[!x]c}");
     is_regex(rt, alloc, &source, "(?-u)^a[^/]/[^/]*\\.(?:rs|[^x]c)$")?;
@@ -306,14 +301,14 @@ fn in_both_cases<R: Abort>(
     alloc: Global,
     folded: &PathGlobPattern,
     source: &PathGlobPattern,
-) -> Result<(), AllocError> {
+) -> Passed {
     let mut builder = GlobsMatcher::builder(alloc);
     builder.add(path(rt, alloc, "d"), folded)?;
     builder.add(path(rt, alloc, "d"), source)?;
     answers(rt, alloc, builder.build()?, &IN_BOTH_CASES)
 }
 
-fn faulty_patterns<R: Abort>(rt: &R, alloc: Global) -> Result<(), AllocError> {
+fn faulty_patterns<R: Abort>(rt: &R, alloc: Global) -> Passed {
     faults(rt, alloc, "[", GlobError::UnclosedClass)?;
     faults(rt, alloc, "[z-a]", GlobError::InvalidRange)?;
     faults(rt, alloc, "a}", GlobError::UnopenedAlternates)

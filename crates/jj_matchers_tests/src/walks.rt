@@ -1,6 +1,6 @@
 //! What a walk finds and where it goes.
 use crate::fixtures::{Wanted, answers, files, globs, prefix, walks};
-use jj_content_tests::once_more::passes;
+use jj_content_tests::once_more::{Passed, passes};
 use jj_matchers::matchers::{
     DifferenceMatcher, EverythingMatcher, IntersectionMatcher, Matcher, NothingMatcher,
     PrefixMatcher, UnionMatcher, Visit,
@@ -29,7 +29,7 @@ const FILES: [(&str, &str, &str, &str); 5] = [
     ("a/c d/e/f", "a/b d/x/y g/h", "", ". a d"),
 ];
 
-fn walks_files<R: Abort>(rt: &R, alloc: Global) -> Result<(), AllocError> {
+fn walks_files<R: Abort>(rt: &R, alloc: Global) -> Passed {
     for (marks, found, entered) in WHOLE {
         walks(rt, alloc, EverythingMatcher, marks, found, entered)?;
     }
@@ -40,7 +40,7 @@ fn walks_files<R: Abort>(rt: &R, alloc: Global) -> Result<(), AllocError> {
 }
 
 // A matcher that is lent walks as the matcher itself.
-fn walks_prefixes<R: Abort>(rt: &R, alloc: Global) -> Result<(), AllocError> {
+fn walks_prefixes<R: Abort>(rt: &R, alloc: Global) -> Passed {
     let one = prefix(rt, alloc, "a")?;
     walks(rt, alloc, &one, "a/x ab", "a/x", ". a")?;
     walks(rt, alloc, one, "a/x ab", "a/x", ". a")?;
@@ -55,7 +55,7 @@ fn constants_files_and_prefixes(rt: HostRuntime) -> Result<(), Fail> {
     passes(&rt, walks_prefixes)
 }
 
-fn walks_combined<R: Abort>(rt: &R, alloc: Global) -> Result<(), AllocError> {
+fn walks_combined<R: Abort>(rt: &R, alloc: Global) -> Passed {
     walks(rt, alloc, globs(rt, alloc, true, "d:")?, "d/x", "", ". d")?;
     let any = globs(rt, alloc, true, "d:*")?;
     walks(rt, alloc, any, "d/x", "d/x", ". d")?;
@@ -72,7 +72,7 @@ const AROUND: Wanted = (
 );
 
 // Checks a matcher of all that is not below `a`, and of one file there.
-fn walks_around<R: Abort, M: Matcher>(rt: &R, alloc: Global, matcher: M) -> Result<(), AllocError> {
+fn walks_around<R: Abort, M: Matcher>(rt: &R, alloc: Global, matcher: M) -> Passed {
     answers(rt, alloc, &matcher, &AROUND)?;
     let marks = "c b/x a/left a/kept a/d/e";
     walks(rt, alloc, matcher, marks, "a/kept b/x c", ". a b")
@@ -111,7 +111,7 @@ impl<M: Matcher> Matcher for Boxed<M> {
 
 // A box with a matcher gives what the matcher itself gives, in a union, around one, and both at
 // once.
-fn walks_boxed<R: Abort>(rt: &R, alloc: Global) -> Result<(), AllocError> {
+fn walks_boxed<R: Abort>(rt: &R, alloc: Global) -> Passed {
     let inner: Box<dyn Matcher> = Box::new(alloc, all_but_a(rt, alloc)?)?;
     let kept = files(rt, alloc, "a/kept")?;
     walks_around(rt, alloc, UnionMatcher::new(inner, kept))?;

@@ -2,7 +2,7 @@
 ghost use Rattle.std.specs.Prelude.{◌≡◌, ℕ, Bool, List, Result, Ok, Err, IsTrue};
 
 use crate::fixtures::{equals, is_text};
-use jj_content_tests::once_more::passes;
+use jj_content_tests::once_more::{Passed, passes};
 use jj_paths::file_util::{
     DirAccess, IoResultExt, PathError, create_or_reuse_dir, is_empty_dir, remove_dir_contents,
 };
@@ -103,12 +103,7 @@ impl DirAccess for Memory {
 }
 
 // That the fault has this path and this kind, or that memory was refused.
-fn is_fault<R: Abort>(
-    rt: &R,
-    fault: &PathError,
-    at: &str,
-    kind: ErrorKind,
-) -> Result<(), AllocError> {
+fn is_fault<R: Abort>(rt: &R, fault: &PathError, at: &str, kind: ErrorKind) -> Passed {
     match fault {
         PathError::Invalid { path, source } => {
             is_text(rt, path.as_str(), at);
@@ -119,7 +114,7 @@ fn is_fault<R: Abort>(
     }
 }
 
-fn makes_or_uses<R: Abort>(rt: &R, alloc: Global) -> Result<(), AllocError> {
+fn makes_or_uses<R: Abort>(rt: &R, alloc: Global) -> Passed {
     let mut new = Memory::new(false, [false; 3], 9);
     equals(
         rt,
@@ -135,7 +130,12 @@ fn makes_or_uses<R: Abort>(rt: &R, alloc: Global) -> Result<(), AllocError> {
     Ok(())
 }
 
-fn fails_to_make<R: Abort>(rt: &R, alloc: Global) -> Result<(), AllocError> {
+#[test]
+fn directories_are_made_or_used(rt: HostRuntime) -> Result<(), Fail> {
+    passes(&rt, makes_or_uses)
+}
+
+fn fails_to_make<R: Abort>(rt: &R, alloc: Global) -> Passed {
     let mut failing = Memory::new(false, [false; 3], 0);
     match create_or_reuse_dir(alloc, &mut failing, "dir") {
         Ok(()) => panic!(rt; "made"),
@@ -144,14 +144,11 @@ fn fails_to_make<R: Abort>(rt: &R, alloc: Global) -> Result<(), AllocError> {
 }
 
 #[test]
-fn directories_are_made_or_used(rt: HostRuntime) -> Result<(), Fail> {
-    passes(&rt, |rt, alloc| {
-        makes_or_uses(rt, alloc)?;
-        fails_to_make(rt, alloc)
-    })
+fn directories_that_cannot_be_made(rt: HostRuntime) -> Result<(), Fail> {
+    passes(&rt, fails_to_make)
 }
 
-fn empties_full<R: Abort>(rt: &R, alloc: Global) -> Result<(), AllocError> {
+fn empties_full<R: Abort>(rt: &R, alloc: Global) -> Passed {
     let mut full = Memory::new(true, [true; 3], 9);
     match remove_dir_contents(alloc, &mut full, "dir") {
         Ok(()) => equals(rt, &full.count(), &0),
@@ -160,14 +157,13 @@ fn empties_full<R: Abort>(rt: &R, alloc: Global) -> Result<(), AllocError> {
     Ok(())
 }
 
+#[test]
+fn entries_are_removed(rt: HostRuntime) -> Result<(), Fail> {
+    passes(&rt, empties_full)
+}
+
 // Refuses the call of this number: the path is the one that is named, and so many files are left.
-fn stops_at<R: Abort>(
-    rt: &R,
-    alloc: Global,
-    call: u32,
-    path: &str,
-    left: usize,
-) -> Result<(), AllocError> {
+fn stops_at<R: Abort>(rt: &R, alloc: Global, call: u32, path: &str, left: usize) -> Passed {
     let mut failing = Memory::new(true, [true; 3], call);
     match remove_dir_contents(alloc, &mut failing, "dir") {
         Ok(()) => panic!(rt; "removed"),
@@ -177,7 +173,7 @@ fn stops_at<R: Abort>(
     Ok(())
 }
 
-fn stops_at_each<R: Abort>(rt: &R, alloc: Global) -> Result<(), AllocError> {
+fn stops_at_each<R: Abort>(rt: &R, alloc: Global) -> Passed {
     stops_at(rt, alloc, 0, "dir", 3)?;
     for (i, path) in PATHS.iter().enumerate() {
         stops_at(rt, alloc, i as u32 + 1, path, 3 - i)?;
@@ -187,10 +183,7 @@ fn stops_at_each<R: Abort>(rt: &R, alloc: Global) -> Result<(), AllocError> {
 
 #[test]
 fn entries_are_removed_up_to_the_first_fault(rt: HostRuntime) -> Result<(), Fail> {
-    passes(&rt, |rt, alloc| {
-        empties_full(rt, alloc)?;
-        stops_at_each(rt, alloc)
-    })
+    passes(&rt, stops_at_each)
 }
 
 // Whether a directory is there, its files, and whether it is an empty directory.
@@ -200,12 +193,7 @@ static EMPTY: [(bool, [bool; 3], bool); 3] = [
     (false, [false; 3], false),
 ];
 
-fn is_empty<R: Abort>(
-    rt: &R,
-    alloc: Global,
-    directory: &Memory,
-    empty: bool,
-) -> Result<(), AllocError> {
+fn is_empty<R: Abort>(rt: &R, alloc: Global, directory: &Memory, empty: bool) -> Passed {
     match is_empty_dir(alloc, directory, "dir") {
         Ok(answer) => {
             equals(rt, &answer, &empty);
@@ -215,14 +203,19 @@ fn is_empty<R: Abort>(
     }
 }
 
-fn are_empty<R: Abort>(rt: &R, alloc: Global) -> Result<(), AllocError> {
+fn are_empty<R: Abort>(rt: &R, alloc: Global) -> Passed {
     for (is_there, files, empty) in &EMPTY {
         is_empty(rt, alloc, &Memory::new(*is_there, *files, 9), *empty)?;
     }
     Ok(())
 }
 
-fn fails_to_list<R: Abort>(rt: &R, alloc: Global) -> Result<(), AllocError> {
+#[test]
+fn empty_directories(rt: HostRuntime) -> Result<(), Fail> {
+    passes(&rt, are_empty)
+}
+
+fn fails_to_list<R: Abort>(rt: &R, alloc: Global) -> Passed {
     match is_empty_dir(alloc, &Memory::new(true, [false; 3], 0), "dir") {
         Ok(_) => panic!(rt; "listed"),
         Err(fault) => is_fault(rt, &fault, "dir", ErrorKind::PermissionDenied),
@@ -230,9 +223,6 @@ fn fails_to_list<R: Abort>(rt: &R, alloc: Global) -> Result<(), AllocError> {
 }
 
 #[test]
-fn empty_directories(rt: HostRuntime) -> Result<(), Fail> {
-    passes(&rt, |rt, alloc| {
-        are_empty(rt, alloc)?;
-        fails_to_list(rt, alloc)
-    })
+fn directories_that_cannot_be_listed(rt: HostRuntime) -> Result<(), Fail> {
+    passes(&rt, fails_to_list)
 }

@@ -1,6 +1,6 @@
 //! Texts of errors that other tests do not show, and errors that become others.
 use crate::fixtures::{equals, is_text, name};
-use jj_content_tests::once_more::passes;
+use jj_content_tests::once_more::{Passed, passes};
 use jj_paths::repo_path::{
     InvalidNewRepoPathError, InvalidRepoPathComponentError, RepoPathBuf, RepoPathComponent,
 };
@@ -14,7 +14,7 @@ fn boxed_path(alloc: Global, text: &str) -> Result<Box<RepoPathBuf>, InvalidNewR
     Ok(Box::new(alloc, path)?)
 }
 
-fn boxes_a_path<R: Abort>(rt: &R, alloc: Global) -> Result<(), AllocError> {
+fn boxes_a_path<R: Abort>(rt: &R, alloc: Global) -> Passed {
     match boxed_path(alloc, "a/b") {
         Ok(path) => {
             is_text(rt, path.as_path().as_internal_file_string(), "a/b");
@@ -25,7 +25,12 @@ fn boxes_a_path<R: Abort>(rt: &R, alloc: Global) -> Result<(), AllocError> {
     }
 }
 
-fn boxes_no_path<R: Abort>(rt: &R, alloc: Global) -> Result<(), AllocError> {
+#[test]
+fn paths_in_boxes(rt: HostRuntime) -> Result<(), Fail> {
+    passes(&rt, boxes_a_path)
+}
+
+fn boxes_no_path<R: Abort>(rt: &R, alloc: Global) -> Passed {
     match boxed_path(alloc, "a//b") {
         Ok(_) => panic!(rt; "a//b is no path"),
         Err(InvalidNewRepoPathError::Memory) => Err(AllocError),
@@ -37,11 +42,8 @@ fn boxes_no_path<R: Abort>(rt: &R, alloc: Global) -> Result<(), AllocError> {
 }
 
 #[test]
-fn paths_in_boxes(rt: HostRuntime) -> Result<(), Fail> {
-    passes(&rt, |rt, alloc| {
-        boxes_a_path(rt, alloc)?;
-        boxes_no_path(rt, alloc)
-    })
+fn no_paths_in_boxes(rt: HostRuntime) -> Result<(), Fail> {
+    passes(&rt, boxes_no_path)
 }
 
 // A name as a file's, in a box.
@@ -53,7 +55,7 @@ fn boxed_name(
     Ok(Box::new(alloc, name)?)
 }
 
-fn boxes_a_name<R: Abort>(rt: &R, alloc: Global) -> Result<(), AllocError> {
+fn boxes_a_name<R: Abort>(rt: &R, alloc: Global) -> Passed {
     match boxed_name(alloc, name(rt, alloc, "a")) {
         Ok(name) => {
             is_text(rt, name.as_str(), "a");
@@ -64,7 +66,12 @@ fn boxes_a_name<R: Abort>(rt: &R, alloc: Global) -> Result<(), AllocError> {
     }
 }
 
-fn boxes_no_name<R: Abort>(rt: &R, alloc: Global) -> Result<(), AllocError> {
+#[test]
+fn names_in_boxes(rt: HostRuntime) -> Result<(), Fail> {
+    passes(&rt, boxes_a_name)
+}
+
+fn boxes_no_name<R: Abort>(rt: &R, alloc: Global) -> Passed {
     match boxed_name(alloc, name(rt, alloc, "..")) {
         Ok(_) => panic!(rt; ".. is no file's name"),
         Err(InvalidRepoPathComponentError::Memory) => Err(AllocError),
@@ -76,11 +83,8 @@ fn boxes_no_name<R: Abort>(rt: &R, alloc: Global) -> Result<(), AllocError> {
 }
 
 #[test]
-fn names_in_boxes(rt: HostRuntime) -> Result<(), Fail> {
-    passes(&rt, |rt, alloc| {
-        boxes_a_name(rt, alloc)?;
-        boxes_no_name(rt, alloc)
-    })
+fn no_names_in_boxes(rt: HostRuntime) -> Result<(), Fail> {
+    passes(&rt, boxes_no_name)
 }
 
 #[test]

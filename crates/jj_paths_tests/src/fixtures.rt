@@ -1,4 +1,5 @@
 //! Names and paths of literal texts, and what tests compare.
+use jj_content_tests::once_more::Passed;
 use jj_paths::repo_path::{RepoPath, RepoPathBuf, RepoPathComponent};
 use std::alloc::{AllocError, Global};
 use std::fmt::Debug;
@@ -40,21 +41,12 @@ pub fn is_text<R: Abort>(rt: &R, found: &str, wanted: &str) {
 }
 
 /// The text that is made is the wanted one.
-pub fn makes<R: Abort>(
-    rt: &R,
-    made: Result<String, AllocError>,
-    wanted: &str,
-) -> Result<(), AllocError> {
+pub fn makes<R: Abort>(rt: &R, made: Result<String, AllocError>, wanted: &str) -> Passed {
     is_text(rt, made?.as_str(), wanted);
     Ok(())
 }
 
 /// The value is shown as this text.
-pub fn shows<R: Abort, T: Debug>(
-    rt: &R,
-    alloc: Global,
-    value: &T,
-    wanted: &str,
-) -> Result<(), AllocError> {
+pub fn shows<R: Abort, T: Debug>(rt: &R, alloc: Global, value: &T, wanted: &str) -> Passed {
     makes(rt, format!(in alloc; "{:?}", value), wanted)
 }

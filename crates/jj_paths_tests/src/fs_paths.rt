@@ -1,7 +1,7 @@
 //! Repo paths below directories of the file system, and relative paths of the file system as repo
 //! paths.
 use crate::fixtures::{equals, is_text, makes, path};
-use jj_content_tests::once_more::passes;
+use jj_content_tests::once_more::{Passed, passes};
 use jj_paths::repo_path::{
     InvalidRepoPathComponentError, InvalidRepoPathError, RelativePathParseError, RepoPath,
     RepoPathBuf,
@@ -56,12 +56,12 @@ fn is_below<R: Abort>(
     whole: RepoPath<'_>,
     base: &str,
     below: &str,
-) -> Result<(), AllocError> {
+) -> Passed {
     makes(rt, made_below(rt, alloc, whole, base), below)?;
     makes(rt, whole.to_fs_path_unchecked(alloc, base), below)
 }
 
-fn are_below<R: Abort>(rt: &R, alloc: Global) -> Result<(), AllocError> {
+fn are_below<R: Abort>(rt: &R, alloc: Global) -> Passed {
     for [text, base, below] in &BELOW {
         is_below(rt, alloc, path(rt, alloc, text), base, below)?;
     }
@@ -74,11 +74,7 @@ fn below_a_base(rt: HostRuntime) -> Result<(), Fail> {
 }
 
 // The fault of a path with this name, which no file has.
-fn names_dots<R: Abort>(
-    rt: &R,
-    fault: InvalidRepoPathComponentError,
-    name: &str,
-) -> Result<(), AllocError> {
+fn names_dots<R: Abort>(rt: &R, fault: InvalidRepoPathComponentError, name: &str) -> Passed {
     match fault {
         InvalidRepoPathComponentError::Invalid { component } => {
             is_text(rt, component.as_str(), name);
@@ -89,12 +85,7 @@ fn names_dots<R: Abort>(
 }
 
 // The path is refused because of this name.
-fn is_refused<R: Abort>(
-    rt: &R,
-    alloc: Global,
-    whole: RepoPath<'_>,
-    name: &str,
-) -> Result<(), AllocError> {
+fn is_refused<R: Abort>(rt: &R, alloc: Global, whole: RepoPath<'_>, name: &str) -> Passed {
     match whole.to_fs_path(alloc, "base") {
         Ok(_) => panic!(rt; "{whole:?} was taken"),
         Err(InvalidRepoPathError::Memory) => Err(AllocError),
@@ -105,7 +96,7 @@ fn is_refused<R: Abort>(
     }
 }
 
-fn have_dots<R: Abort>(rt: &R, alloc: Global) -> Result<(), AllocError> {
+fn have_dots<R: Abort>(rt: &R, alloc: Global) -> Passed {
     for [text, name, unchecked] in &WITH_DOTS {
         let whole = path(rt, alloc, text);
         is_refused(rt, alloc, whole, name)?;
@@ -132,7 +123,7 @@ static RELATIVE: [[&str; 2]; 8] = [
 ];
 
 // The relative path is this repo path.
-fn is_read<R: Abort>(rt: &R, alloc: Global, text: &str, made: &str) -> Result<(), AllocError> {
+fn is_read<R: Abort>(rt: &R, alloc: Global, text: &str, made: &str) -> Passed {
     match RepoPathBuf::from_relative_path(alloc, text.as_bytes()) {
         Ok(path) => {
             is_text(rt, path.as_path().as_internal_file_string(), made);
@@ -143,7 +134,7 @@ fn is_read<R: Abort>(rt: &R, alloc: Global, text: &str, made: &str) -> Result<()
     }
 }
 
-fn are_read<R: Abort>(rt: &R, alloc: Global) -> Result<(), AllocError> {
+fn are_read<R: Abort>(rt: &R, alloc: Global) -> Passed {
     for [text, made] in &RELATIVE {
         is_read(rt, alloc, text, made)?;
     }
@@ -168,12 +159,7 @@ static NOT_RELATIVE: [(&[u8], &str); 8] = [
 ];
 
 // The fault hands the bytes back, with the component that is no name.
-fn is_fault<R: Abort>(
-    rt: &R,
-    fault: &RelativePathParseError,
-    bytes: &[u8],
-    named: &str,
-) -> Result<(), AllocError> {
+fn is_fault<R: Abort>(rt: &R, fault: &RelativePathParseError, bytes: &[u8], named: &str) -> Passed {
     match fault {
         RelativePathParseError::InvalidComponent { component, path } => {
             is_text(rt, component.as_str(), named);
@@ -189,19 +175,14 @@ fn is_fault<R: Abort>(
     }
 }
 
-fn refuses_bytes<R: Abort>(
-    rt: &R,
-    alloc: Global,
-    bytes: &[u8],
-    named: &str,
-) -> Result<(), AllocError> {
+fn refuses_bytes<R: Abort>(rt: &R, alloc: Global, bytes: &[u8], named: &str) -> Passed {
     match RepoPathBuf::from_relative_path(alloc, bytes) {
         Ok(_) => panic!(rt; "{bytes:?} were taken"),
         Err(fault) => is_fault(rt, &fault, bytes, named),
     }
 }
 
-fn are_refused<R: Abort>(rt: &R, alloc: Global) -> Result<(), AllocError> {
+fn are_refused<R: Abort>(rt: &R, alloc: Global) -> Passed {
     for (bytes, named) in &NOT_RELATIVE {
         refuses_bytes(rt, alloc, bytes, named)?;
     }

@@ -1,6 +1,6 @@
 //! Equality, order and hashes of names and paths.
 use crate::fixtures::{equals, name, owned, path};
-use jj_content_tests::once_more::passes;
+use jj_content_tests::once_more::{Passed, passes};
 use jj_paths::repo_path::RepoPathBuf;
 use std::alloc::{AllocError, Global};
 use std::cmp::Ordering;
@@ -57,14 +57,19 @@ fn names_by_bytes(rt: HostRuntime) {
     equals(&rt, &name(&rt, alloc, "dir"), &name(&rt, alloc, "dir"));
 }
 
-fn owned_paths<R: Abort>(rt: &R, alloc: Global) -> Result<(), AllocError> {
+fn owned_paths<R: Abort>(rt: &R, alloc: Global) -> Passed {
     let sub = owned(rt, alloc, "dir/sub")?;
     let hash = owned(rt, alloc, "dir#")?;
     ascend(rt, &sub, &hash);
     Ok(())
 }
 
-fn owned_names<R: Abort>(rt: &R, alloc: Global) -> Result<(), AllocError> {
+#[test]
+fn order_of_owned_paths(rt: HostRuntime) -> Result<(), Fail> {
+    passes(&rt, owned_paths)
+}
+
+fn owned_names<R: Abort>(rt: &R, alloc: Global) -> Passed {
     let dir = name(rt, alloc, "dir").to_owned(alloc)?;
     let hash = name(rt, alloc, "dir#").to_owned(alloc)?;
     ascend(rt, &dir, &hash);
@@ -72,11 +77,8 @@ fn owned_names<R: Abort>(rt: &R, alloc: Global) -> Result<(), AllocError> {
 }
 
 #[test]
-fn owned_paths_and_names(rt: HostRuntime) -> Result<(), Fail> {
-    passes(&rt, |rt, alloc| {
-        owned_paths(rt, alloc)?;
-        owned_names(rt, alloc)
-    })
+fn order_of_owned_names(rt: HostRuntime) -> Result<(), Fail> {
+    passes(&rt, owned_names)
 }
 
 // A set of two values.
@@ -91,7 +93,7 @@ fn set_of_two<T: Eq + Hash + Drop>(
     Ok(set)
 }
 
-fn sets_of_names<R: Abort>(rt: &R, alloc: Global) -> Result<(), AllocError> {
+fn sets_of_names<R: Abort>(rt: &R, alloc: Global) -> Passed {
     let dir = name(rt, alloc, "dir").to_owned(alloc)?;
     let same = name(rt, alloc, "dir").to_owned(alloc)?;
     let names = set_of_two(alloc, dir, same)?;
@@ -99,12 +101,22 @@ fn sets_of_names<R: Abort>(rt: &R, alloc: Global) -> Result<(), AllocError> {
     Ok(())
 }
 
-fn sets_of_borrowed_paths<R: Abort>(rt: &R, alloc: Global) -> Result<(), AllocError> {
+#[test]
+fn hashed_names(rt: HostRuntime) -> Result<(), Fail> {
+    passes(&rt, sets_of_names)
+}
+
+fn sets_of_borrowed_paths<R: Abort>(rt: &R, alloc: Global) -> Passed {
     let file = path(rt, alloc, "a/b");
     let borrowed = set_of_two(alloc, file, path(rt, alloc, "a/b"))?;
     equals(rt, &borrowed.contains(&path(rt, alloc, "a/b")), &true);
     equals(rt, &borrowed.len(), &1);
     Ok(())
+}
+
+#[test]
+fn hashed_borrowed_paths(rt: HostRuntime) -> Result<(), Fail> {
+    passes(&rt, sets_of_borrowed_paths)
 }
 
 // A set of the root and of `dir/sub`, which is inserted twice.
@@ -123,13 +135,13 @@ fn contains<R: Abort>(
     paths: &HashSet<RepoPathBuf>,
     text: &'static str,
     is_there: bool,
-) -> Result<(), AllocError> {
+) -> Passed {
     let path = owned(rt, alloc, text)?;
     equals(rt, &paths.contains(&path), &is_there);
     Ok(())
 }
 
-fn sets_of_paths<R: Abort>(rt: &R, alloc: Global) -> Result<(), AllocError> {
+fn sets_of_paths<R: Abort>(rt: &R, alloc: Global) -> Passed {
     let paths = set_of_paths(rt, alloc)?;
     equals(rt, &paths.len(), &2);
     contains(rt, alloc, &paths, "", true)?;
@@ -137,10 +149,6 @@ fn sets_of_paths<R: Abort>(rt: &R, alloc: Global) -> Result<(), AllocError> {
 }
 
 #[test]
-fn hashed_paths_and_names(rt: HostRuntime) -> Result<(), Fail> {
-    passes(&rt, |rt, alloc| {
-        sets_of_paths(rt, alloc)?;
-        sets_of_names(rt, alloc)?;
-        sets_of_borrowed_paths(rt, alloc)
-    })
+fn hashed_paths(rt: HostRuntime) -> Result<(), Fail> {
+    passes(&rt, sets_of_paths)
 }

@@ -1,8 +1,8 @@
 //! Paths of the file system made of the components of others: normal forms, and ways between two.
 use crate::fixtures::makes;
-use jj_content_tests::once_more::passes;
+use jj_content_tests::once_more::{Passed, passes};
 use jj_paths::file_util::{normalize_path, relative_path};
-use std::alloc::{AllocError, Global};
+use std::alloc::Global;
 use std::process::Abort;
 use std::test::Fail;
 
@@ -26,7 +26,7 @@ static NORMAL_FORMS: [(&str, &str); 16] = [
     ("../a/..", ".."),
 ];
 
-fn are_normalized<R: Abort>(rt: &R, alloc: Global) -> Result<(), AllocError> {
+fn are_normalized<R: Abort>(rt: &R, alloc: Global) -> Passed {
     for (path, meant) in &NORMAL_FORMS {
         makes(rt, normalize_path(alloc, path), meant)?;
     }
@@ -69,19 +69,14 @@ static WAYS: [(&str, &[(&str, &str)]); 11] = [
 ];
 
 // The ways to a path from directories are what is meant.
-fn all_lead<R: Abort>(
-    rt: &R,
-    alloc: Global,
-    to: &str,
-    ways: &[(&str, &str)],
-) -> Result<(), AllocError> {
+fn all_lead<R: Abort>(rt: &R, alloc: Global, to: &str, ways: &[(&str, &str)]) -> Passed {
     for (from, meant) in ways {
         makes(rt, relative_path(alloc, from, to), meant)?;
     }
     Ok(())
 }
 
-fn ways_lead<R: Abort>(rt: &R, alloc: Global) -> Result<(), AllocError> {
+fn ways_lead<R: Abort>(rt: &R, alloc: Global) -> Passed {
     for (to, ways) in &WAYS {
         all_lead(rt, alloc, to, ways)?;
     }

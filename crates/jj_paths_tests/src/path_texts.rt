@@ -1,10 +1,10 @@
 //! Texts of paths of the file system: their bytes, and paths below the home directory.
 use crate::fixtures::{equals, is_text, makes};
-use jj_content_tests::once_more::passes;
+use jj_content_tests::once_more::{Passed, passes};
 use jj_paths::file_util::{
     BadPathEncoding, expand_home_path, path_from_bytes, path_to_bytes, slash_path,
 };
-use std::alloc::{AllocError, Global};
+use std::alloc::Global;
 use std::process::Abort;
 use std::test::Fail;
 
@@ -58,11 +58,11 @@ fn expands<R: Abort>(
     rt: &R,
     alloc: Global,
     (path, home, meant): (&str, Option<&str>, &str),
-) -> Result<(), AllocError> {
+) -> Passed {
     makes(rt, expand_home_path(alloc, path, home), meant)
 }
 
-fn expands_all<R: Abort>(rt: &R, alloc: Global) -> Result<(), AllocError> {
+fn expands_all<R: Abort>(rt: &R, alloc: Global) -> Passed {
     for row in &HOMES {
         expands(rt, alloc, *row)?;
     }

@@ -1,6 +1,6 @@
 //! Paths as lists of names: joined, split, stripped and walked.
 use crate::fixtures::{equals, is_text, name, owned, path};
-use jj_content_tests::once_more::passes;
+use jj_content_tests::once_more::{Passed, passes};
 use jj_paths::repo_path::{
     RepoPath, RepoPathAncestors, RepoPathBuf, RepoPathComponent, RepoPathComponentsIter,
 };
@@ -143,7 +143,7 @@ fn joined<R: Abort>(
     Ok(made)
 }
 
-fn joins_names<R: Abort>(rt: &R, alloc: Global) -> Result<(), AllocError> {
+fn joins_names<R: Abort>(rt: &R, alloc: Global) -> Passed {
     let mut made = RepoPathBuf::root(alloc);
     for (added, wanted) in &JOINED {
         made = joined(rt, alloc, made.as_path(), added, wanted)?;
@@ -343,7 +343,7 @@ fn ancestors_up_to_the_root(rt: HostRuntime) {
     has_ancestors(&rt, alloc, "dir/subdir", &["dir/subdir", "dir", ""]);
 }
 
-fn copies_a_path<R: Abort>(rt: &R, alloc: Global) -> Result<(), AllocError> {
+fn copies_a_path<R: Abort>(rt: &R, alloc: Global) -> Passed {
     let file = owned(rt, alloc, "dir/file")?;
     let copy = file.clone()?;
     equals(rt, &copy, &file);
@@ -351,7 +351,12 @@ fn copies_a_path<R: Abort>(rt: &R, alloc: Global) -> Result<(), AllocError> {
     Ok(())
 }
 
-fn copies_a_name<R: Abort>(rt: &R, alloc: Global) -> Result<(), AllocError> {
+#[test]
+fn copies_of_paths(rt: HostRuntime) -> Result<(), Fail> {
+    passes(&rt, copies_a_path)
+}
+
+fn copies_a_name<R: Abort>(rt: &R, alloc: Global) -> Passed {
     let borrowed = name(rt, alloc, "dir");
     is_text(rt, borrowed.as_internal_str(), "dir");
     let dir = borrowed.to_owned(alloc)?;
@@ -363,9 +368,6 @@ fn copies_a_name<R: Abort>(rt: &R, alloc: Global) -> Result<(), AllocError> {
 }
 
 #[test]
-fn copies(rt: HostRuntime) -> Result<(), Fail> {
-    passes(&rt, |rt, alloc| {
-        copies_a_path(rt, alloc)?;
-        copies_a_name(rt, alloc)
-    })
+fn copies_of_names(rt: HostRuntime) -> Result<(), Fail> {
+    passes(&rt, copies_a_name)
 }

@@ -1,6 +1,6 @@
 //! Texts that are paths and names, texts that are not, and how all are shown.
 use crate::fixtures::{equals, is_text, makes, name, owned, path, shows};
-use jj_content_tests::once_more::passes;
+use jj_content_tests::once_more::{Passed, passes};
 use jj_paths::repo_path::{
     InvalidNewRepoPathError, RepoPath, RepoPathBuf, RepoPathComponent, RepoPathComponentBuf,
 };
@@ -17,7 +17,7 @@ fn is_refused<R: Abort, T: Drop>(
     rt: &R,
     read: Result<T, InvalidNewRepoPathError>,
     text: &str,
-) -> Result<(), AllocError> {
+) -> Passed {
     match read {
         Ok(_) => panic!(rt; "{text} was taken"),
         Err(InvalidNewRepoPathError::Memory) => Err(AllocError),
@@ -29,27 +29,32 @@ fn is_refused<R: Abort, T: Drop>(
 }
 
 // The text is no path, borrowed or owned.
-fn is_no_path<R: Abort>(rt: &R, alloc: Global, text: &str) -> Result<(), AllocError> {
+fn is_no_path<R: Abort>(rt: &R, alloc: Global, text: &str) -> Passed {
     is_refused(rt, RepoPath::from_internal_string(alloc, text), text)?;
     let owned = String::from_str(alloc, text)?;
     is_refused(rt, RepoPathBuf::from_internal_string(owned), text)
 }
 
-fn no_paths<R: Abort>(rt: &R, alloc: Global) -> Result<(), AllocError> {
+fn no_paths<R: Abort>(rt: &R, alloc: Global) -> Passed {
     for text in &NO_PATHS {
         is_no_path(rt, alloc, text)?;
     }
     Ok(())
 }
 
+#[test]
+fn texts_of_no_path(rt: HostRuntime) -> Result<(), Fail> {
+    passes(&rt, no_paths)
+}
+
 // The text is no name, borrowed or owned.
-fn is_no_name<R: Abort>(rt: &R, alloc: Global, text: &str) -> Result<(), AllocError> {
+fn is_no_name<R: Abort>(rt: &R, alloc: Global, text: &str) -> Passed {
     is_refused(rt, RepoPathComponent::new(alloc, text), text)?;
     let owned = String::from_str(alloc, text)?;
     is_refused(rt, RepoPathComponentBuf::new(owned), text)
 }
 
-fn no_names<R: Abort>(rt: &R, alloc: Global) -> Result<(), AllocError> {
+fn no_names<R: Abort>(rt: &R, alloc: Global) -> Passed {
     for text in &NO_NAMES {
         is_no_name(rt, alloc, text)?;
     }
@@ -57,17 +62,14 @@ fn no_names<R: Abort>(rt: &R, alloc: Global) -> Result<(), AllocError> {
 }
 
 #[test]
-fn no_paths_and_no_names(rt: HostRuntime) -> Result<(), Fail> {
-    passes(&rt, |rt, alloc| {
-        no_paths(rt, alloc)?;
-        no_names(rt, alloc)
-    })
+fn texts_of_no_name(rt: HostRuntime) -> Result<(), Fail> {
+    passes(&rt, no_names)
 }
 
 static PATHS: [&str; 6] = ["", "x", "x/y", "dir#/sub.dir/\u{e9}", ".", "../x"];
 
 // The text is that of a path.
-fn is_path<R: Abort>(rt: &R, alloc: Global, text: &'static str) -> Result<(), AllocError> {
+fn is_path<R: Abort>(rt: &R, alloc: Global, text: &'static str) -> Passed {
     match RepoPathBuf::from_internal_string(String::from_str(alloc, text)?) {
         Ok(read) => {
             equals(rt, &read.as_path(), &path(rt, alloc, text));
@@ -78,14 +80,19 @@ fn is_path<R: Abort>(rt: &R, alloc: Global, text: &'static str) -> Result<(), Al
     }
 }
 
-fn paths<R: Abort>(rt: &R, alloc: Global) -> Result<(), AllocError> {
+fn paths<R: Abort>(rt: &R, alloc: Global) -> Passed {
     for text in &PATHS {
         is_path(rt, alloc, text)?;
     }
     Ok(())
 }
 
-fn names<R: Abort>(rt: &R, alloc: Global) -> Result<(), AllocError> {
+#[test]
+fn texts_of_paths(rt: HostRuntime) -> Result<(), Fail> {
+    passes(&rt, paths)
+}
+
+fn names<R: Abort>(rt: &R, alloc: Global) -> Passed {
     match RepoPathComponentBuf::new(String::from_str(alloc, "dir")?) {
         Ok(dir) => {
             equals(rt, &dir.as_component(), &name(rt, alloc, "dir"));
@@ -96,17 +103,14 @@ fn names<R: Abort>(rt: &R, alloc: Global) -> Result<(), AllocError> {
 }
 
 #[test]
-fn paths_and_names(rt: HostRuntime) -> Result<(), Fail> {
-    passes(&rt, |rt, alloc| {
-        paths(rt, alloc)?;
-        names(rt, alloc)
-    })
+fn texts_of_names(rt: HostRuntime) -> Result<(), Fail> {
+    passes(&rt, names)
 }
 
 // The path, and its text as a directory's.
 static DIRECTORIES: [(&str, &str); 3] = [("", ""), ("dir", "dir/"), ("dir/file", "dir/file/")];
 
-fn are_directories<R: Abort>(rt: &R, alloc: Global) -> Result<(), AllocError> {
+fn are_directories<R: Abort>(rt: &R, alloc: Global) -> Passed {
     for (text, wanted) in &DIRECTORIES {
         let made = path(rt, alloc, text).to_internal_dir_string(alloc);
         makes(rt, made, wanted)?;
@@ -119,7 +123,7 @@ fn directories(rt: HostRuntime) -> Result<(), Fail> {
     passes(&rt, are_directories)
 }
 
-fn invalid_shown<R: Abort>(rt: &R, alloc: Global) -> Result<(), AllocError> {
+fn invalid_shown<R: Abort>(rt: &R, alloc: Global) -> Passed {
     let invalid = InvalidNewRepoPathError::Invalid {
         value: String::from_str(alloc, "a//b")?,
     };
@@ -127,30 +131,32 @@ fn invalid_shown<R: Abort>(rt: &R, alloc: Global) -> Result<(), AllocError> {
     makes(rt, invalid.to_string(alloc), wanted)
 }
 
-fn want_of_memory_shown<R: Abort>(rt: &R, alloc: Global) -> Result<(), AllocError> {
+#[test]
+fn faults_shown(rt: HostRuntime) -> Result<(), Fail> {
+    passes(&rt, invalid_shown)
+}
+
+fn want_of_memory_shown<R: Abort>(rt: &R, alloc: Global) -> Passed {
     let shown = InvalidNewRepoPathError::Memory.to_string(alloc);
     makes(rt, shown, "out of memory")
 }
 
 #[test]
-fn errors_shown(rt: HostRuntime) -> Result<(), Fail> {
-    passes(&rt, |rt, alloc| {
-        invalid_shown(rt, alloc)?;
-        want_of_memory_shown(rt, alloc)
-    })
+fn refused_memory_shown(rt: HostRuntime) -> Result<(), Fail> {
+    passes(&rt, want_of_memory_shown)
 }
 
-fn borrowed_shown<R: Abort>(rt: &R, alloc: Global) -> Result<(), AllocError> {
+fn borrowed_shown<R: Abort>(rt: &R, alloc: Global) -> Passed {
     let quoted = path(rt, alloc, "dir/a \"b\"");
     shows(rt, alloc, &quoted, "\"dir/a \\\"b\\\"\"")?;
     shows(rt, alloc, &name(rt, alloc, "dir"), "\"dir\"")
 }
 
-fn owned_path_shown<R: Abort>(rt: &R, alloc: Global) -> Result<(), AllocError> {
+fn owned_path_shown<R: Abort>(rt: &R, alloc: Global) -> Passed {
     shows(rt, alloc, &owned(rt, alloc, "dir/file")?, "\"dir/file\"")
 }
 
-fn owned_name_shown<R: Abort>(rt: &R, alloc: Global) -> Result<(), AllocError> {
+fn owned_name_shown<R: Abort>(rt: &R, alloc: Global) -> Passed {
     let dir = name(rt, alloc, "dir").to_owned(alloc)?;
     shows(rt, alloc, &dir, "\"dir\"")
 }

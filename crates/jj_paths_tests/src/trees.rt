@@ -1,17 +1,13 @@
 //! Trees of values at paths.
 use crate::fixtures::{equals, is_text, name, path, shows};
-use jj_content_tests::once_more::passes;
+use jj_content_tests::once_more::{Passed, passes};
 use jj_paths::repo_path::{RepoPath, RepoPathBuf, RepoPathComponentBuf};
 use jj_paths::repo_path_tree::{RepoPathTree, RepoPathTreeChildren, RepoPathTreeWalk};
 use std::alloc::{AllocError, Global};
 use std::process::Abort;
 use std::test::Fail;
 
-fn add_values<R: Abort>(
-    rt: &R,
-    alloc: Global,
-    tree: &mut RepoPathTree<u32>,
-) -> Result<(), AllocError> {
+fn add_values<R: Abort>(rt: &R, alloc: Global, tree: &mut RepoPathTree<u32>) -> Passed {
     tree.set(path(rt, alloc, "a/b"), 2)?;
     tree.add(path(rt, alloc, "a"))?.set_value(1);
     *tree.add(path(rt, alloc, "c/d"))?.value_mut() = 3;
@@ -65,7 +61,7 @@ fn has_leaf<R: Abort>(rt: &R, alloc: Global, tree: &RepoPathTree<u32>, text: &'s
     }
 }
 
-fn values_of_a_tree<R: Abort>(rt: &R, alloc: Global) -> Result<(), AllocError> {
+fn values_of_a_tree<R: Abort>(rt: &R, alloc: Global) -> Passed {
     let tree = small_tree(rt, alloc)?;
     has_values(rt, alloc, &tree, &SMALL);
     has_values(rt, alloc, &tree, &[("a/b/c", 99), ("ab", 99)]);
@@ -74,7 +70,12 @@ fn values_of_a_tree<R: Abort>(rt: &R, alloc: Global) -> Result<(), AllocError> {
     Ok(())
 }
 
-fn values_change<R: Abort>(rt: &R, alloc: Global) -> Result<(), AllocError> {
+#[test]
+fn values(rt: HostRuntime) -> Result<(), Fail> {
+    passes(&rt, values_of_a_tree)
+}
+
+fn values_change<R: Abort>(rt: &R, alloc: Global) -> Passed {
     let mut tree = small_tree(rt, alloc)?;
     tree.set_value(7);
     *tree.value_mut() += 1;
@@ -84,11 +85,8 @@ fn values_change<R: Abort>(rt: &R, alloc: Global) -> Result<(), AllocError> {
 }
 
 #[test]
-fn values(rt: HostRuntime) -> Result<(), Fail> {
-    passes(&rt, |rt, alloc| {
-        values_of_a_tree(rt, alloc)?;
-        values_change(rt, alloc)
-    })
+fn changed_values(rt: HostRuntime) -> Result<(), Fail> {
+    passes(&rt, values_change)
 }
 
 // The next child has this name and this value.
@@ -133,7 +131,7 @@ fn finds_children<R: Abort>(rt: &R, alloc: Global, tree: &RepoPathTree<u32>) {
     equals(rt, &tree.child(name(rt, alloc, "d")).is_none(), &true);
 }
 
-fn children_of_a_tree<R: Abort>(rt: &R, alloc: Global) -> Result<(), AllocError> {
+fn children_of_a_tree<R: Abort>(rt: &R, alloc: Global) -> Passed {
     let tree = small_tree(rt, alloc)?;
     lists_children(rt, &tree);
     lists_entries(rt, &tree);
@@ -182,7 +180,7 @@ fn walk_passes<R: Abort>(
     ends(rt, &mut walk);
 }
 
-fn walks_a_tree<R: Abort>(rt: &R, alloc: Global) -> Result<(), AllocError> {
+fn walks_a_tree<R: Abort>(rt: &R, alloc: Global) -> Passed {
     let tree = small_tree(rt, alloc)?;
     walk_passes(rt, alloc, &tree, "a/b", &[(0, "a/b"), (1, "b"), (2, "")]);
     walk_passes(rt, alloc, &tree, "c/x/y", &[(0, "c/x/y"), (0, "x/y")]);
@@ -202,7 +200,7 @@ fn copy_of_small<R: Abort>(rt: &R, alloc: Global) -> Result<RepoPathTree<u32>, A
     Ok(copy)
 }
 
-fn copies_a_tree<R: Abort>(rt: &R, alloc: Global) -> Result<(), AllocError> {
+fn copies_a_tree<R: Abort>(rt: &R, alloc: Global) -> Passed {
     has_values(rt, alloc, &copy_of_small(rt, alloc)?, &SMALL);
     Ok(())
 }
@@ -212,7 +210,7 @@ fn copies(rt: HostRuntime) -> Result<(), Fail> {
     passes(&rt, copies_a_tree)
 }
 
-fn shows_a_tree<R: Abort>(rt: &R, alloc: Global) -> Result<(), AllocError> {
+fn shows_a_tree<R: Abort>(rt: &R, alloc: Global) -> Passed {
     let wanted = "0 {\"a\": 1 {\"b\": 2 {}}, \"c\": 0 {\"d\": 3 {}}}";
     shows(rt, alloc, &small_tree(rt, alloc)?, wanted)
 }
@@ -276,7 +274,7 @@ fn is_equal<R: Abort>(
     alloc: Global,
     values: &[(&'static str, u32)],
     is_small: bool,
-) -> Result<(), AllocError> {
+) -> Passed {
     let small = small_tree(rt, alloc)?;
     let made = tree_of(rt, alloc, values)?;
     equals(rt, &(small == made), &is_small);
@@ -284,11 +282,16 @@ fn is_equal<R: Abort>(
     Ok(())
 }
 
-fn equal_by_values<R: Abort>(rt: &R, alloc: Global) -> Result<(), AllocError> {
+fn equal_by_values<R: Abort>(rt: &R, alloc: Global) -> Passed {
     for (values, is_small) in &MADE {
         is_equal(rt, alloc, values, *is_small)?;
     }
     Ok(())
+}
+
+#[test]
+fn equality_by_values(rt: HostRuntime) -> Result<(), Fail> {
+    passes(&rt, equal_by_values)
 }
 
 // Values that are set in turn, of which the small tree comes.
@@ -301,7 +304,7 @@ fn larger_tree<R: Abort>(rt: &R, alloc: Global) -> Result<RepoPathTree<u32>, All
     Ok(tree)
 }
 
-fn equal_by_paths<R: Abort>(rt: &R, alloc: Global) -> Result<(), AllocError> {
+fn equal_by_paths<R: Abort>(rt: &R, alloc: Global) -> Passed {
     let small = small_tree(rt, alloc)?;
     equals(rt, &(small != larger_tree(rt, alloc)?), &true);
     Ok(())
@@ -309,11 +312,8 @@ fn equal_by_paths<R: Abort>(rt: &R, alloc: Global) -> Result<(), AllocError> {
 
 // Trees are equal by their paths and values, however they were made.
 #[test]
-fn equality(rt: HostRuntime) -> Result<(), Fail> {
-    passes(&rt, |rt, alloc| {
-        equal_by_values(rt, alloc)?;
-        equal_by_paths(rt, alloc)
-    })
+fn equality_by_paths(rt: HostRuntime) -> Result<(), Fail> {
+    passes(&rt, equal_by_paths)
 }
 
 // A tree with a text at `a/b`.
@@ -354,7 +354,7 @@ fn text_at<'a, R: Abort>(
     }
 }
 
-fn keeps_the_text<R: Abort>(rt: &R, alloc: Global) -> Result<(), AllocError> {
+fn keeps_the_text<R: Abort>(rt: &R, alloc: Global) -> Passed {
     let copy = copy_of_text(rt, alloc)?;
     is_text(rt, text_at(rt, alloc, &copy, "a/b"), "text");
     is_text(rt, text_at(rt, alloc, &copy, ""), "no value");
@@ -391,7 +391,7 @@ fn tree_of_even<R: Abort>(rt: &R, alloc: Global) -> Result<RepoPathTree<u32>, Al
 }
 
 // The children are the even names, in order.
-fn lists_all<R: Abort>(rt: &R, alloc: Global, tree: &RepoPathTree<u32>) -> Result<(), AllocError> {
+fn lists_all<R: Abort>(rt: &R, alloc: Global, tree: &RepoPathTree<u32>) -> Passed {
     let mut children = tree.children();
     for number in 0u32..2000 {
         let even = numbered(alloc, 2 * number)?;
@@ -413,11 +413,7 @@ fn has_number<R: Abort>(
 }
 
 // The tree has the even names and no odd one.
-fn finds_even_alone<R: Abort>(
-    rt: &R,
-    alloc: Global,
-    tree: &RepoPathTree<u32>,
-) -> Result<(), AllocError> {
+fn finds_even_alone<R: Abort>(rt: &R, alloc: Global, tree: &RepoPathTree<u32>) -> Passed {
     for number in 0u32..4000 {
         let is_there = has_number(rt, alloc, tree, number)?;
         equals(rt, &is_there, &(number % 2 == 0));
@@ -425,7 +421,7 @@ fn finds_even_alone<R: Abort>(
     Ok(())
 }
 
-fn holds_two_thousand<R: Abort>(rt: &R, alloc: Global) -> Result<(), AllocError> {
+fn holds_two_thousand<R: Abort>(rt: &R, alloc: Global) -> Passed {
     let tree = tree_of_even(rt, alloc)?;
     lists_all(rt, alloc, &tree)?;
     finds_even_alone(rt, alloc, &tree)
@@ -446,7 +442,7 @@ fn deep_text(alloc: Global) -> Result<String, AllocError> {
 }
 
 // A tree has one value, at this path.
-fn holds_alone<R: Abort>(rt: &R, alloc: Global, deep: RepoPath<'_>) -> Result<(), AllocError> {
+fn holds_alone<R: Abort>(rt: &R, alloc: Global, deep: RepoPath<'_>) -> Passed {
     let mut tree: RepoPathTree<u32> = RepoPathTree::default(alloc);
     tree.set(deep, 3)?;
     match tree.get(deep) {
@@ -456,7 +452,7 @@ fn holds_alone<R: Abort>(rt: &R, alloc: Global, deep: RepoPath<'_>) -> Result<()
     Ok(())
 }
 
-fn holds_deep<R: Abort>(rt: &R, alloc: Global) -> Result<(), AllocError> {
+fn holds_deep<R: Abort>(rt: &R, alloc: Global) -> Passed {
     match RepoPathBuf::from_internal_string(deep_text(alloc)?) {
         Ok(deep) => holds_alone(rt, alloc, deep.as_path()),
         Err(_) => panic!(rt; "the names are joined by slashes"),

@@ -1,6 +1,6 @@
 //! Expressions of patterns: how they are put together, and which strings they hold.
-use crate::fixtures::{expression, matches, shows};
-use jj_content_tests::once_more::passes;
+use crate::fixtures::{expression, matches, shows, shows_with_copy};
+use jj_content_tests::once_more::{Passed, passes};
 use jj_strings::str_util::{StringExpression, StringMatcher};
 use std::alloc::{AllocError, Global};
 use std::process::Abort;
@@ -23,17 +23,6 @@ fn union_of_first(alloc: Global, count: usize) -> Result<StringExpression, Alloc
     StringExpression::union_all(alloc, expressions)
 }
 
-// Checks the debug form of an expression and of its clone.
-fn shows_with_copy<R: Abort>(
-    rt: &R,
-    alloc: Global,
-    expression: &StringExpression,
-    shown: &str,
-) -> Result<(), AllocError> {
-    shows(rt, alloc, expression, shown)?;
-    shows(rt, alloc, &expression.clone()?, shown)
-}
-
 // How the unions of no text, of one, of two and so on are shown.
 const UNIONS: [&str; 5] = [
     "NotIn(Pattern(Substring(\"\")))",
@@ -43,7 +32,7 @@ const UNIONS: [&str; 5] = [
     "Union(Union(Pattern(Exact(\"a\")), Pattern(Exact(\"b\"))), Union(Pattern(Exact(\"c\")), Pattern(Exact(\"d\"))))",
 ];
 
-fn unions<R: Abort>(rt: &R, alloc: Global, all_shown: &[&str]) -> Result<(), AllocError> {
+fn unions<R: Abort>(rt: &R, alloc: Global, all_shown: &[&str]) -> Passed {
     for (count, shown) in all_shown.iter().enumerate() {
         shows_with_copy(rt, alloc, &union_of_first(alloc, count)?, shown)?;
     }
@@ -61,7 +50,7 @@ fn matches_each<R: Abort>(
     alloc: Global,
     matcher: &StringMatcher,
     rows: &[(&str, bool)],
-) -> Result<(), AllocError> {
+) -> Passed {
     for (string, wanted) in rows {
         matches(rt, alloc, matcher, string, *wanted)?;
     }
@@ -74,7 +63,7 @@ fn holds<R: Abort>(
     alloc: Global,
     made: Result<StringExpression, AllocError>,
     rows: &[(&str, bool)],
-) -> Result<(), AllocError> {
+) -> Passed {
     let expression = made?;
     matches_each(rt, alloc, &expression.to_matcher(alloc)?, rows)
 }
@@ -106,12 +95,12 @@ fn holds_of_three<R: Abort>(
     alloc: Global,
     made: Result<StringExpression, AllocError>,
     wanted: (bool, bool, bool),
-) -> Result<(), AllocError> {
+) -> Passed {
     let rows = [("foo", wanted.0), ("bar", wanted.1), ("baz", wanted.2)];
     holds(rt, alloc, made, &rows)
 }
 
-fn compounds<R: Abort>(rt: &R, alloc: Global) -> Result<(), AllocError> {
+fn compounds<R: Abort>(rt: &R, alloc: Global) -> Passed {
     holds_of_three(rt, alloc, either(alloc), (true, true, false))?;
     holds_of_three(rt, alloc, both(alloc), (false, true, false))?;
     holds_of_three(rt, alloc, apart(alloc), (true, false, false))?;
@@ -123,7 +112,7 @@ fn compounds<R: Abort>(rt: &R, alloc: Global) -> Result<(), AllocError> {
     )
 }
 
-fn none_and_not_foo<R: Abort>(rt: &R, alloc: Global) -> Result<(), AllocError> {
+fn none_and_not_foo<R: Abort>(rt: &R, alloc: Global) -> Passed {
     let none = StringExpression::none(alloc);
     holds(rt, alloc, none, &[("", false), ("a", false)])?;
     holds(rt, alloc, not_foo(alloc), &[("foo", false), ("bar", true)])
@@ -150,7 +139,7 @@ fn alone_or_b<R: Abort>(rt: &R, alloc: Global) -> Result<StringExpression, Alloc
     starts_alone(rt, alloc)?.union(alloc, exact(alloc, "b")?)
 }
 
-fn regex_compounds<R: Abort>(rt: &R, alloc: Global) -> Result<(), AllocError> {
+fn regex_compounds<R: Abort>(rt: &R, alloc: Global) -> Passed {
     let rows = [("a", true), ("ab", false), ("ba", false)];
     holds(rt, alloc, starts_alone(rt, alloc), &rows)?;
     let rows = [("a", true), ("b", true), ("ab", false)];
@@ -168,12 +157,12 @@ fn shows_matcher<R: Abort>(
     alloc: Global,
     made: Result<StringExpression, AllocError>,
     shown: &str,
-) -> Result<(), AllocError> {
+) -> Passed {
     shows(rt, alloc, &made?.to_matcher(alloc)?, shown)
 }
 
 // A lone pattern has the matcher of the pattern, all others own the expression.
-fn matchers<R: Abort>(rt: &R, alloc: Global) -> Result<(), AllocError> {
+fn matchers<R: Abort>(rt: &R, alloc: Global) -> Passed {
     shows_matcher(rt, alloc, StringExpression::all(alloc), "All")?;
     shows_matcher(rt, alloc, exact(alloc, "x"), "Exact(\"x\")")?;
     let shown = "Expr(Pattern(Substring(\"x\")))";
@@ -207,14 +196,14 @@ fn lists<R: Abort>(
     alloc: Global,
     expression: &StringExpression,
     wanted: &[&str],
-) -> Result<(), AllocError> {
+) -> Passed {
     let texts: Vec<&str> = expression.exact_strings(alloc)?.collect(alloc)?;
     assert!(rt; texts.as_slice() == wanted, "{texts:?}");
     Ok(())
 }
 
 // Exact texts are listed from left to right, those below a complement too.
-fn exact_texts<R: Abort>(rt: &R, alloc: Global) -> Result<(), AllocError> {
+fn exact_texts<R: Abort>(rt: &R, alloc: Global) -> Passed {
     lists(rt, alloc, &StringExpression::all(alloc)?, &[])?;
     lists(rt, alloc, &with_exact_texts(alloc)?, &["a", "c", "d"])
 }

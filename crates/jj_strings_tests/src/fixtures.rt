@@ -1,6 +1,7 @@
 //! Patterns of literal texts, and what their debug forms and iterators give.
 ghost use Rattle.std.specs.Iterator.{IsFinite};
 
+use jj_content_tests::once_more::Passed;
 use jj_strings::str_util::{
     StringExpression, StringMatcher, StringPattern, StringPatternParseError,
 };
@@ -53,14 +54,20 @@ pub fn letters(alloc: Global, letter: &str, times: u32, end: &str) -> Result<Str
 }
 
 /// Checks the debug form of a value.
-pub fn shows<R: Abort, T: fmt::Debug>(
+pub fn shows<R: Abort, T: fmt::Debug>(rt: &R, alloc: Global, value: &T, shown: &str) -> Passed {
+    assert_eq!(rt; format!(in alloc; "{value:?}")?.as_str(), shown);
+    Ok(())
+}
+
+/// Checks the debug forms of a value and of its clone.
+pub fn shows_with_copy<R: Abort, T: Clone + fmt::Debug + Drop>(
     rt: &R,
     alloc: Global,
     value: &T,
     shown: &str,
-) -> Result<(), AllocError> {
-    assert_eq!(rt; format!(in alloc; "{value:?}")?.as_str(), shown);
-    Ok(())
+) -> Passed {
+    shows(rt, alloc, value, shown)?;
+    shows(rt, alloc, &value.clone()?, shown)
 }
 
 /// Checks what was answered for a string.
@@ -75,7 +82,7 @@ pub fn matches<R: Abort>(
     matcher: &StringMatcher,
     string: &str,
     wanted: bool,
-) -> Result<(), AllocError> {
+) -> Passed {
     answers(rt, matcher.is_match(alloc, string)?, wanted, string);
     Ok(())
 }
@@ -87,7 +94,7 @@ pub fn matches_bytes<R: Abort>(
     matcher: &StringMatcher,
     bytes: &[u8],
     wanted: bool,
-) -> Result<(), AllocError> {
+) -> Passed {
     let found = matcher.is_match_bytes(alloc, bytes)?;
     assert_eq!(rt; found, wanted, "{matcher:?} and {bytes:?}");
     Ok(())

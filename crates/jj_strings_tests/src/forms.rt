@@ -1,6 +1,6 @@
 //! Patterns as matchers, as globs and as regular expressions.
 use crate::fixtures::{answers, matcher, matches, pattern, shows};
-use jj_content_tests::once_more::passes;
+use jj_content_tests::once_more::{Passed, passes};
 use jj_strings::str_util::{StringMatcher, StringPattern};
 use regex::bytes::Regex;
 use std::alloc::{AllocError, Global};
@@ -40,20 +40,12 @@ const MATCHERS: [(&str, &str, &str); 23] = [
 ];
 
 // Checks the debug form of the matcher.
-fn shows_matcher<R: Abort>(
-    rt: &R,
-    alloc: Global,
-    row: &(&str, &str, &str),
-) -> Result<(), AllocError> {
+fn shows_matcher<R: Abort>(rt: &R, alloc: Global, row: &(&str, &str, &str)) -> Passed {
     let (kind, text, shown) = row;
     shows(rt, alloc, &matcher(rt, alloc, kind, text)?, *shown)
 }
 
-fn matchers<R: Abort>(
-    rt: &R,
-    alloc: Global,
-    rows: &[(&str, &str, &str)],
-) -> Result<(), AllocError> {
+fn matchers<R: Abort>(rt: &R, alloc: Global, rows: &[(&str, &str, &str)]) -> Passed {
     for row in rows {
         shows_matcher(rt, alloc, row)?;
     }
@@ -101,23 +93,13 @@ const NO_GLOBS: [(&str, &str); 5] = [
 ];
 
 // Checks that the pattern and the glob of this text hold the same strings.
-fn reads_back<R: Abort>(
-    rt: &R,
-    alloc: Global,
-    pattern: &StringPattern,
-    glob: &str,
-) -> Result<(), AllocError> {
+fn reads_back<R: Abort>(rt: &R, alloc: Global, pattern: &StringPattern, glob: &str) -> Passed {
     let read = matcher(rt, alloc, "glob", glob)?;
     agree(rt, alloc, &read, &pattern.to_matcher(alloc)?)
 }
 
 // Checks that both matchers hold the same strings.
-fn agree<R: Abort>(
-    rt: &R,
-    alloc: Global,
-    one: &StringMatcher,
-    other: &StringMatcher,
-) -> Result<(), AllocError> {
+fn agree<R: Abort>(rt: &R, alloc: Global, one: &StringMatcher, other: &StringMatcher) -> Passed {
     for string in &STRINGS {
         matches(rt, alloc, one, string, other.is_match(alloc, string)?)?;
     }
@@ -125,12 +107,7 @@ fn agree<R: Abort>(
 }
 
 // Checks that a pattern is turned into this glob, which holds the same strings.
-fn becomes_glob<R: Abort>(
-    rt: &R,
-    alloc: Global,
-    pattern: &StringPattern,
-    wanted: &str,
-) -> Result<(), AllocError> {
+fn becomes_glob<R: Abort>(rt: &R, alloc: Global, pattern: &StringPattern, wanted: &str) -> Passed {
     match pattern.to_glob(alloc)? {
         Some(glob) => {
             assert!(rt; glob.as_str() == wanted, "{pattern:?}");
@@ -140,12 +117,12 @@ fn becomes_glob<R: Abort>(
     }
 }
 
-fn to_glob<R: Abort>(rt: &R, alloc: Global, row: &(&str, &str, &str)) -> Result<(), AllocError> {
+fn to_glob<R: Abort>(rt: &R, alloc: Global, row: &(&str, &str, &str)) -> Passed {
     let (kind, text, glob) = row;
     becomes_glob(rt, alloc, &pattern(rt, alloc, kind, text)?, *glob)
 }
 
-fn globs<R: Abort>(rt: &R, alloc: Global, rows: &[(&str, &str, &str)]) -> Result<(), AllocError> {
+fn globs<R: Abort>(rt: &R, alloc: Global, rows: &[(&str, &str, &str)]) -> Passed {
     for row in rows {
         to_glob(rt, alloc, row)?;
     }
@@ -157,7 +134,7 @@ fn has_glob(alloc: Global, pattern: &StringPattern) -> Result<bool, AllocError> 
 }
 
 // Checks that the patterns are turned into no globs.
-fn no_globs<R: Abort>(rt: &R, alloc: Global, rows: &[(&str, &str)]) -> Result<(), AllocError> {
+fn no_globs<R: Abort>(rt: &R, alloc: Global, rows: &[(&str, &str)]) -> Passed {
     for (kind, text) in rows {
         let is_glob = has_glob(alloc, &pattern(rt, alloc, kind, text)?)?;
         answers(rt, is_glob, false, kind);
@@ -194,7 +171,7 @@ fn regex_finds<R: Abort>(
     regex: &Regex,
     string: &str,
     wanted: bool,
-) -> Result<(), AllocError> {
+) -> Passed {
     let found = regex.matcher(alloc)?.is_match(string.as_bytes());
     answers(rt, found, wanted, string);
     Ok(())
@@ -221,11 +198,7 @@ const REGEXES: [(&str, &str, &str, bool); 17] = [
     ("regex-i", "^a{1,3}", "Abcde", true),
 ];
 
-fn regexes<R: Abort>(
-    rt: &R,
-    alloc: Global,
-    rows: &[(&str, &str, &str, bool)],
-) -> Result<(), AllocError> {
+fn regexes<R: Abort>(rt: &R, alloc: Global, rows: &[(&str, &str, &str, bool)]) -> Passed {
     for (kind, text, string, is_found) in rows {
         let regex = regex_of(rt, alloc, kind, text)?;
         regex_finds(rt, alloc, &regex, string, *is_found)?;
@@ -260,24 +233,19 @@ const AGREEING: [(&str, &str); 17] = [
 ];
 
 // Checks that a regular expression finds what a matcher holds.
-fn finds_as<R: Abort>(
-    rt: &R,
-    alloc: Global,
-    regex: &Regex,
-    matcher: &StringMatcher,
-) -> Result<(), AllocError> {
+fn finds_as<R: Abort>(rt: &R, alloc: Global, regex: &Regex, matcher: &StringMatcher) -> Passed {
     for string in &STRINGS {
         regex_finds(rt, alloc, regex, string, matcher.is_match(alloc, string)?)?;
     }
     Ok(())
 }
 
-fn regex_agrees<R: Abort>(rt: &R, alloc: Global, kind: &str, text: &str) -> Result<(), AllocError> {
+fn regex_agrees<R: Abort>(rt: &R, alloc: Global, kind: &str, text: &str) -> Passed {
     let regex = regex_of(rt, alloc, kind, text)?;
     finds_as(rt, alloc, &regex, &matcher(rt, alloc, kind, text)?)
 }
 
-fn regexes_agree<R: Abort>(rt: &R, alloc: Global, rows: &[(&str, &str)]) -> Result<(), AllocError> {
+fn regexes_agree<R: Abort>(rt: &R, alloc: Global, rows: &[(&str, &str)]) -> Passed {
     for (kind, text) in rows {
         regex_agrees(rt, alloc, kind, text)?;
     }

@@ -1,8 +1,8 @@
 //! The lines that a matcher finds.
 use crate::fixtures::{items, matcher};
-use jj_content_tests::once_more::passes;
+use jj_content_tests::once_more::{Passed, passes};
 use jj_strings::str_util::StringMatcher;
-use std::alloc::{AllocError, Global};
+use std::alloc::Global;
 use std::process::Abort;
 use std::test::Fail;
 
@@ -29,19 +29,19 @@ fn finds_lines<R: Abort>(
     matcher: &StringMatcher,
     text: &str,
     lines: &[&str],
-) -> Result<(), AllocError> {
+) -> Passed {
     let found = items(rt, alloc, matcher.match_lines(alloc, text.as_bytes()))?;
     are(rt, found.as_slice(), lines);
     Ok(())
 }
 
-fn lines_of<R: Abort>(rt: &R, alloc: Global, row: &Row) -> Result<(), AllocError> {
+fn lines_of<R: Abort>(rt: &R, alloc: Global, row: &Row) -> Passed {
     let (kind, pattern, text, lines) = row;
     let matcher = matcher(rt, alloc, kind, pattern)?;
     finds_lines(rt, alloc, &matcher, text, *lines)
 }
 
-fn lines<R: Abort>(rt: &R, alloc: Global, rows: &[Row]) -> Result<(), AllocError> {
+fn lines<R: Abort>(rt: &R, alloc: Global, rows: &[Row]) -> Passed {
     for row in rows {
         lines_of(rt, alloc, row)?;
     }

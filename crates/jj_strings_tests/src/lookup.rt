@@ -2,7 +2,7 @@
 ghost use Rattle.std.specs.Prelude.{refl, string_bytes};
 
 use crate::fixtures::{items, matcher};
-use jj_content_tests::once_more::passes;
+use jj_content_tests::once_more::{Passed, passes};
 use jj_strings::str_util::{StringMatcher, TextKey};
 use std::alloc::{AllocError, Global};
 use std::cell::Cell;
@@ -63,7 +63,7 @@ fn asked_by<R: Abort>(rt: &R, alloc: Global, kind: &str) -> Result<u32, AllocErr
 }
 
 // Where there is no memory for a key to look up, each key is asked.
-fn looked_up<R: Abort>(rt: &R, alloc: Global) -> Result<(), AllocError> {
+fn looked_up<R: Abort>(rt: &R, alloc: Global) -> Passed {
     assert_eq!(rt; asked_by(rt, alloc, "exact-i")?, 5);
     match asked_by(rt, alloc, "exact")? {
         1 => Ok(()),

@@ -3,7 +3,7 @@
 ghost use Rattle.std.specs.Iterator.{IsFinite};
 
 use crate::fixtures::{items, matcher, matches, shows};
-use jj_content_tests::once_more::passes;
+use jj_content_tests::once_more::{Passed, passes};
 use jj_ids::ref_name::{GitRefNameBuf, RefNameBuf, RemoteNameBuf, WorkspaceNameBuf};
 use jj_strings::str_util::{BytePredicate, ByteTest, StringMatcher, TextKey};
 use std::alloc::{AllocError, Global};
@@ -40,7 +40,7 @@ fn gives<'a, R: Abort, K: TextKey + 'a, I>(
     alloc: Global,
     found: I,
     wanted: &[(&str, usize)],
-) -> Result<(), AllocError>
+) -> Passed
 where
     I: Iterator<Item = Result<(&'a K, &'a usize), AllocError>> + Drop,
     requires callable { I.can_next found }
@@ -57,7 +57,7 @@ fn finds<R: Abort, K: TextKey>(
     matcher: &StringMatcher,
     map: &BTreeMap<K, usize>,
     wanted: &[(&str, usize)],
-) -> Result<(), AllocError> {
+) -> Passed {
     gives(rt, alloc, matcher.filter_btree_map(alloc, map), wanted)?;
     gives(
         rt,
@@ -92,7 +92,7 @@ fn finds_row<R: Abort, K: TextKey>(
     alloc: Global,
     map: &BTreeMap<K, usize>,
     row: &Row,
-) -> Result<(), AllocError> {
+) -> Passed {
     let (kind, text, wanted) = row;
     finds(rt, alloc, &matcher(rt, alloc, kind, text)?, map, *wanted)
 }
@@ -102,7 +102,7 @@ fn finds_all<R: Abort, K: TextKey>(
     alloc: Global,
     map: &BTreeMap<K, usize>,
     all: &[(&str, usize)],
-) -> Result<(), AllocError> {
+) -> Passed {
     finds(rt, alloc, &StringMatcher::all(), map, all)
 }
 
@@ -113,7 +113,7 @@ fn finds_each<R: Abort, K: TextKey>(
     map: &BTreeMap<K, usize>,
     all: &[(&str, usize)],
     rows: &[Row],
-) -> Result<(), AllocError> {
+) -> Passed {
     finds_all(rt, alloc, map, all)?;
     for row in rows {
         finds_row(rt, alloc, map, row)?;
@@ -132,20 +132,20 @@ fn filters<R: Abort, K: TextKey>(
     alloc: Global,
     all: &[(&str, usize)],
     rows: &[Row],
-) -> Result<(), AllocError> {
+) -> Passed {
     let map: BTreeMap<K, usize> = of_entries(alloc)?;
     finds_each(rt, alloc, &map, all, rows)
 }
 
 const NOT_FOUND: [Row; 1] = [("exact", "o", &[])];
 
-fn filters_empty<R: Abort, K: TextKey>(rt: &R, alloc: Global) -> Result<(), AllocError> {
+fn filters_empty<R: Abort, K: TextKey>(rt: &R, alloc: Global) -> Passed {
     let empty: BTreeMap<K, usize> = BTreeMap::new(alloc);
     finds_each(rt, alloc, &empty, &[], &NOT_FOUND)
 }
 
 // Checks what is found in a map of the entries, and in an empty one.
-fn filters_both<R: Abort, K: TextKey>(rt: &R, alloc: Global) -> Result<(), AllocError> {
+fn filters_both<R: Abort, K: TextKey>(rt: &R, alloc: Global) -> Passed {
     filters::<R, K>(rt, alloc, &ALL, &FOUND)?;
     filters_empty::<R, K>(rt, alloc)
 }
@@ -166,11 +166,7 @@ fn maps_by_names(rt: HostRuntime) -> Result<(), Fail> {
 }
 
 // Checks what the matcher of three bytes holds.
-fn holds_three_bytes<R: Abort>(
-    rt: &R,
-    alloc: Global,
-    matcher: &StringMatcher,
-) -> Result<(), AllocError> {
+fn holds_three_bytes<R: Abort>(rt: &R, alloc: Global, matcher: &StringMatcher) -> Passed {
     matches(rt, alloc, matcher, "foo", true)?;
     matches(rt, alloc, matcher, "\u{c0}", false)?;
     matches(rt, alloc, matcher, "\u{c0}b", true)?;

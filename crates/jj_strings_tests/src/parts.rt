@@ -1,6 +1,6 @@
 //! Parts without regard to case that are long, overlap themselves, or stand late in a long text.
 use crate::fixtures::{letters, matcher, matches};
-use jj_content_tests::once_more::passes;
+use jj_content_tests::once_more::{Passed, passes};
 use jj_strings::str_util::StringMatcher;
 use std::alloc::{AllocError, Global};
 use std::process::Abort;
@@ -25,7 +25,7 @@ fn stands_in<R: Abort>(
     part: &StringMatcher,
     (repeated, times, end): (&str, u32, &str),
     wanted: bool,
-) -> Result<(), AllocError> {
+) -> Passed {
     let text = letters(alloc, repeated, times, end)?;
     let found = part.is_match(alloc, text.as_str())?;
     assert_eq!(rt; found, wanted, "in {} bytes", text.len());
@@ -33,11 +33,7 @@ fn stands_in<R: Abort>(
 }
 
 // A part stands at each place around the seams of windows of 512 bytes.
-fn stands_around_seams<R: Abort>(
-    rt: &R,
-    alloc: Global,
-    part: &StringMatcher,
-) -> Result<(), AllocError> {
+fn stands_around_seams<R: Abort>(rt: &R, alloc: Global, part: &StringMatcher) -> Passed {
     for before in 505..517u32 {
         stands_in(rt, alloc, part, ("x", before, "XYZxyxyxy"), true)?;
         stands_in(rt, alloc, part, ("x", before, "XYxZ"), false)?;
@@ -53,12 +49,7 @@ fn parts_around_seams(rt: HostRuntime) -> Result<(), Fail> {
 }
 
 // Checks where a part of so many letters and one more stands.
-fn long_part_stands<R: Abort>(
-    rt: &R,
-    alloc: Global,
-    part: &StringMatcher,
-    length: u32,
-) -> Result<(), AllocError> {
+fn long_part_stands<R: Abort>(rt: &R, alloc: Global, part: &StringMatcher, length: u32) -> Passed {
     let more = length.saturating_add(40);
     stands_in(rt, alloc, part, ("A", more, "B"), true)?;
     stands_in(rt, alloc, part, ("A", more, "C"), false)?;
@@ -67,11 +58,11 @@ fn long_part_stands<R: Abort>(
     matches(rt, alloc, part, "ab", false)
 }
 
-fn long_part<R: Abort>(rt: &R, alloc: Global, length: u32) -> Result<(), AllocError> {
+fn long_part<R: Abort>(rt: &R, alloc: Global, length: u32) -> Passed {
     long_part_stands(rt, alloc, &part(rt, alloc, "a", length, "b")?, length)
 }
 
-fn long_parts<R: Abort>(rt: &R, alloc: Global) -> Result<(), AllocError> {
+fn long_parts<R: Abort>(rt: &R, alloc: Global) -> Passed {
     for length in [254, 255, 256, 4_094, 4_095, 4_096, 70_000] {
         long_part(rt, alloc, length)?;
     }
@@ -99,7 +90,7 @@ fn stands_behind<R: Abort>(
     part: &StringMatcher,
     miss: &str,
     (period, times, end): (&str, u32, &str),
-) -> Result<(), AllocError> {
+) -> Passed {
     stands_in(rt, alloc, part, (miss, 9, ""), false)?;
     let text = letters(alloc, period, times, end)?;
     stands_in(rt, alloc, part, (miss, 9, text.as_str()), true)
@@ -112,7 +103,7 @@ fn periodic_part_stands<R: Abort>(
     part: &StringMatcher,
     times: u32,
     row: &[&str; 5],
-) -> Result<(), AllocError> {
+) -> Passed {
     let [period, capitals, end, last, other] = *row;
     let fewer = times.saturating_sub(1);
     stands_in(
@@ -127,22 +118,12 @@ fn periodic_part_stands<R: Abort>(
     stands_behind(rt, alloc, part, miss.as_str(), (period, times, end))
 }
 
-fn periodic_part<R: Abort>(
-    rt: &R,
-    alloc: Global,
-    times: u32,
-    row: &[&str; 5],
-) -> Result<(), AllocError> {
+fn periodic_part<R: Abort>(rt: &R, alloc: Global, times: u32, row: &[&str; 5]) -> Passed {
     let part = part(rt, alloc, row[0], times, row[2])?;
     periodic_part_stands(rt, alloc, &part, times, row)
 }
 
-fn periodic_parts<R: Abort>(
-    rt: &R,
-    alloc: Global,
-    times: u32,
-    rows: &[[&str; 5]],
-) -> Result<(), AllocError> {
+fn periodic_parts<R: Abort>(rt: &R, alloc: Global, times: u32, rows: &[[&str; 5]]) -> Passed {
     for row in rows {
         periodic_part(rt, alloc, times, row)?;
     }
@@ -160,7 +141,7 @@ fn parts_that_overlap_themselves(rt: HostRuntime) {
 }
 
 // A part of 100,001 bytes in texts of a million.
-fn very_long_part<R: Abort>(rt: &R, alloc: Global) -> Result<(), AllocError> {
+fn very_long_part<R: Abort>(rt: &R, alloc: Global) -> Passed {
     let part = part(rt, alloc, "aB", 50_000, "c")?;
     stands_in(rt, alloc, &part, ("Ab", 500_000, "C"), true)?;
     stands_in(rt, alloc, &part, ("Ab", 500_000, "d"), false)

@@ -1,6 +1,6 @@
 //! Patterns of each kind: how a text is read as one, and which strings its set holds.
-use crate::fixtures::{matcher, matches, matches_bytes, pattern, shows};
-use jj_content_tests::once_more::passes;
+use crate::fixtures::{matcher, matches, matches_bytes, pattern, shows, shows_with_copy};
+use jj_content_tests::once_more::{Passed, passes};
 use jj_strings::str_util::{StringPattern, StringPatternParseError};
 use std::alloc::{AllocError, Global};
 use std::process::Abort;
@@ -46,25 +46,14 @@ fn says<R: Abort>(rt: &R, pattern: &StringPattern, text: &str, is_all: bool, is_
     assert!(rt; pattern.as_exact() == exact, "the exact text of {text}");
 }
 
-// Checks the debug forms of a pattern and of its clone.
-fn shows_with_copy<R: Abort>(
-    rt: &R,
-    alloc: Global,
-    pattern: &StringPattern,
-    shown: &str,
-) -> Result<(), AllocError> {
-    shows(rt, alloc, pattern, shown)?;
-    shows(rt, alloc, &pattern.clone()?, shown)
-}
-
-fn kind<R: Abort>(rt: &R, alloc: Global, row: &Kind) -> Result<(), AllocError> {
+fn kind<R: Abort>(rt: &R, alloc: Global, row: &Kind) -> Passed {
     let (kind, text, shown, is_all, is_exact) = row;
     let pattern = pattern(rt, alloc, kind, text)?;
     says(rt, &pattern, text, *is_all, *is_exact);
     shows_with_copy(rt, alloc, &pattern, shown)
 }
 
-fn kinds<R: Abort>(rt: &R, alloc: Global, rows: &[Kind]) -> Result<(), AllocError> {
+fn kinds<R: Abort>(rt: &R, alloc: Global, rows: &[Kind]) -> Passed {
     for row in rows {
         kind(rt, alloc, row)?;
     }
@@ -126,7 +115,7 @@ fn begins<R: Abort>(
     error: &StringPatternParseError,
     shown: &str,
     message: &str,
-) -> Result<(), AllocError> {
+) -> Passed {
     let debug = format!(in alloc; "{error:?}")?;
     assert!(rt; debug.as_str().starts_with(shown), "the error {debug}");
     let display = format!(in alloc; "{error}")?;
@@ -151,7 +140,7 @@ fn fault<R: Abort>(
     }
 }
 
-fn faults<R: Abort>(rt: &R, alloc: Global, rows: &[Fault]) -> Result<(), AllocError> {
+fn faults<R: Abort>(rt: &R, alloc: Global, rows: &[Fault]) -> Passed {
     for (kind, text, shown, message) in rows {
         begins(rt, alloc, &fault(rt, alloc, kind, text)?, shown, message)?;
     }
@@ -166,14 +155,14 @@ fn texts_of_no_kind(rt: HostRuntime) -> Result<(), Fail> {
 // Kind, text, a string, and whether the set holds it.
 type Row = (&'static str, &'static str, &'static str, bool);
 
-fn set<R: Abort>(rt: &R, alloc: Global, row: &Row) -> Result<(), AllocError> {
+fn set<R: Abort>(rt: &R, alloc: Global, row: &Row) -> Passed {
     let (kind, text, string, wanted) = row;
     let matcher = matcher(rt, alloc, kind, text)?;
     matches(rt, alloc, &matcher, string, *wanted)?;
     matches_bytes(rt, alloc, &matcher, string.as_bytes(), *wanted)
 }
 
-fn sets<R: Abort>(rt: &R, alloc: Global, rows: &[Row]) -> Result<(), AllocError> {
+fn sets<R: Abort>(rt: &R, alloc: Global, rows: &[Row]) -> Passed {
     for row in rows {
         set(rt, alloc, row)?;
     }
@@ -284,12 +273,12 @@ const BYTES: [BytesRow; 9] = [
     ("regex-i", "A$", b"\xffa", true),
 ];
 
-fn set_of_bytes<R: Abort>(rt: &R, alloc: Global, row: &BytesRow) -> Result<(), AllocError> {
+fn set_of_bytes<R: Abort>(rt: &R, alloc: Global, row: &BytesRow) -> Passed {
     let (kind, text, bytes, wanted) = row;
     matches_bytes(rt, alloc, &matcher(rt, alloc, kind, text)?, *bytes, *wanted)
 }
 
-fn bytes<R: Abort>(rt: &R, alloc: Global, rows: &[BytesRow]) -> Result<(), AllocError> {
+fn bytes<R: Abort>(rt: &R, alloc: Global, rows: &[BytesRow]) -> Passed {
     for row in rows {
         set_of_bytes(rt, alloc, row)?;
     }

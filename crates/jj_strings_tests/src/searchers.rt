@@ -1,6 +1,6 @@
 //! Matchers that are asked string after string.
 use crate::fixtures::{answers, expression};
-use jj_content_tests::once_more::passes;
+use jj_content_tests::once_more::{Passed, passes};
 use jj_strings::str_util::{StringExpression, StringMatcher, StringSearcher};
 use std::alloc::{AllocError, Global};
 use std::process::Abort;
@@ -38,18 +38,14 @@ fn answer(searcher: &mut StringSearcher<'_>, text: &str) -> Result<bool, AllocEr
 }
 
 // A searcher that was refused memory is asked for the same text again.
-fn ask_each<R: Abort>(
-    rt: &R,
-    searcher: &mut StringSearcher<'_>,
-    rows: &[(&str, bool)],
-) -> Result<(), AllocError> {
+fn ask_each<R: Abort>(rt: &R, searcher: &mut StringSearcher<'_>, rows: &[(&str, bool)]) -> Passed {
     for (text, holds) in rows {
         answers(rt, answer(searcher, text)?, *holds, text);
     }
     Ok(())
 }
 
-fn one_after_another<R: Abort>(rt: &R, alloc: Global) -> Result<(), AllocError> {
+fn one_after_another<R: Abort>(rt: &R, alloc: Global) -> Passed {
     let matcher = starts_alone(rt, alloc)?;
     ask_each(rt, &mut matcher.searcher(alloc), &ASKED)
 }
