@@ -11,17 +11,11 @@ use jj_ids::ref_name::{RefName, RefNameBuf, RemoteName, WorkspaceNameBuf};
 use std::alloc::{AllocError, Global};
 use std::collections::{BTreeMap, BTreeSet, HashMap};
 
-/// What stands at a name of a tree.
+/// What a change of a path wrote.
 #[derive(Clone, Debug, PartialEq, Eq, PartialOrd, Ord, Hash, Drop)]
-pub enum TreeValue {
-    File {
-        id: FileId,
-        executable: bool,
-        copy_id: CopyId,
-    },
+pub enum Written {
+    File { id: FileId, copy: CopyId },
     Symlink(SymlinkId),
-    Tree(TreeId),
-    GitSubmodule(CommitId),
 }
 
 /// A commit, as far as ids go.
