@@ -163,7 +163,7 @@ impl ConflictLabels {
             return Ok((ConflictLabels::unlabeled(alloc), merge.simplify(alloc)?));
         }
         let values = merge.as_slice();
-        let places = cancelling::kept(alloc, values)?;
+        let places = cancelling::places_to_keep(alloc, values)?;
         let labels = cancelling::clones_at(alloc, self.labels.as_slice(), &places)?;
         let terms = cancelling::clones_at(alloc, values, &places)?;
         Ok((ConflictLabels::from_merge(labels), terms))

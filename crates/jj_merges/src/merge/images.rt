@@ -98,7 +98,7 @@ impl<T: Drop> Merge<T> {
         ensures seconds { IfOk result (λ m. map (λ p. p.1) m ≡ other) }
     {
         let len = self.as_slice().len();
-        zipped(alloc, len, &mut self.into_iter(), &mut other.into_iter())
+        zip_terms(alloc, len, &mut self.into_iter(), &mut other.into_iter())
     }
 }
 
@@ -109,7 +109,7 @@ impl<T: Drop, U: Drop> Merge<(T, U)> {
         ensures seconds { IfOk result (λ ms. ms.1 ≡ map (λ p. p.1) self) }
     {
         let len = self.as_slice().len();
-        unzipped(alloc, len, &mut self.into_iter())
+        unzip_terms(alloc, len, &mut self.into_iter())
     }
 }
 
@@ -196,7 +196,7 @@ fn images_of<T: Drop, U: Drop, F: FnMut(T) -> U>(
 }
 
 // The terms that are left of both merges, pair by pair.
-fn zipped<T: Drop, U: Drop>(
+fn zip_terms<T: Drop, U: Drop>(
     alloc: Global,
     len: usize,
     firsts: &mut IntoIter<T>,
@@ -218,7 +218,7 @@ fn zipped<T: Drop, U: Drop>(
 }
 
 // The first and the second parts of the terms that are left, apart.
-fn unzipped<T: Drop, U: Drop>(
+fn unzip_terms<T: Drop, U: Drop>(
     alloc: Global,
     len: usize,
     pairs: &mut IntoIter<(T, U)>,

@@ -60,7 +60,7 @@ impl<T: Clone> Merge<T> {
     {
         let values = self.as_slice();
         let keys = cancelling::keys_of(alloc, values, f)?;
-        let places = cancelling::kept(alloc, &keys)?;
+        let places = cancelling::places_to_keep(alloc, &keys)?;
         cancelling::clones_at(alloc, values, &places)
     }
 }
@@ -80,7 +80,7 @@ impl<T: PartialEq + Drop> Merge<T> {
             → AreEqual T.eq (at_places self (kept_places T.eq self)) simplified
             → AreEqual T.eq self m) }
     {
-        let places = cancelling::kept(alloc, self.as_slice())?;
+        let places = cancelling::places_to_keep(alloc, self.as_slice())?;
         let Merge { terms } = self;
         let mut terms = terms;
         let mut updates = simplified.into_iter();

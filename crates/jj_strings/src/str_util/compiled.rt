@@ -114,23 +114,23 @@ impl StringExpression {
     ghost use Rattle.jj_strings.specs.CompiledViews.{source_expression};
 
     // The expression, to be asked.
-    pub(crate) fn compiled(&self, alloc: Global) -> Result<CompiledExpression, AllocError>
+    pub(crate) fn compile(&self, alloc: Global) -> Result<CompiledExpression, AllocError>
         ensures { IfOk result (λ compiled. source_expression compiled ≡ expression_of self.now) }
     {
         match self {
-            StringExpression::Pattern(pattern) => pattern.compiled(alloc),
+            StringExpression::Pattern(pattern) => pattern.compile(alloc),
             StringExpression::NotIn(inner) => {
-                let inner = Box::new(alloc, inner.compiled(alloc)?)?;
+                let inner = Box::new(alloc, inner.compile(alloc)?)?;
                 Ok(CompiledExpression::NotIn(inner))
             }
             StringExpression::Union(left, right) => {
-                let left = Box::new(alloc, left.compiled(alloc)?)?;
-                let right = Box::new(alloc, right.compiled(alloc)?)?;
+                let left = Box::new(alloc, left.compile(alloc)?)?;
+                let right = Box::new(alloc, right.compile(alloc)?)?;
                 Ok(CompiledExpression::Union(left, right))
             }
             StringExpression::Intersection(left, right) => {
-                let left = Box::new(alloc, left.compiled(alloc)?)?;
-                let right = Box::new(alloc, right.compiled(alloc)?)?;
+                let left = Box::new(alloc, left.compile(alloc)?)?;
+                let right = Box::new(alloc, right.compile(alloc)?)?;
                 Ok(CompiledExpression::Intersection(left, right))
             }
         }
@@ -142,7 +142,7 @@ impl StringPattern {
     ghost use Rattle.jj_strings.specs.CompiledViews.{source_expression};
 
     // The pattern as an expression, to be asked.
-    pub(crate) fn compiled(&self, alloc: Global) -> Result<CompiledExpression, AllocError>
+    pub(crate) fn compile(&self, alloc: Global) -> Result<CompiledExpression, AllocError>
         ensures { IfOk result (λ compiled. source_expression compiled
             ≡ of_pattern (pattern_of self.now)) }
     {

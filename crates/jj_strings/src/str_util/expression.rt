@@ -140,19 +140,19 @@ impl StringExpression {
     }
 
     // A copy, on the allocators of the boxes.
-    fn copied(&self) -> Result<StringExpression, AllocError>
+    fn deep_copy(&self) -> Result<StringExpression, AllocError>
         ensures { IfOk result (λ copy. expression_of copy ≡ expression_of self.now) }
     {
         match self {
             StringExpression::Pattern(pattern) => Ok(StringExpression::Pattern(pattern.clone()?)),
-            StringExpression::NotIn(inner) => inner.copied()?.negated(*Box::allocator(inner)),
+            StringExpression::NotIn(inner) => inner.deep_copy()?.negated(*Box::allocator(inner)),
             StringExpression::Union(left, right) => {
-                let right_copy = right.copied()?;
-                left.copied()?.union(*Box::allocator(left), right_copy)
+                let right_copy = right.deep_copy()?;
+                left.deep_copy()?.union(*Box::allocator(left), right_copy)
             }
             StringExpression::Intersection(left, right) => {
-                let right_copy = right.copied()?;
-                left.copied()?
+                let right_copy = right.deep_copy()?;
+                left.deep_copy()?
                     .intersection(*Box::allocator(left), right_copy)
             }
         }
@@ -165,6 +165,6 @@ impl Clone for StringExpression {
     ghost is_clone = { λ expression copy. expression_of copy ≡ expression_of expression };
 
     fn clone(&self) -> Result<StringExpression, AllocError> {
-        self.copied()
+        self.deep_copy()
     }
 }

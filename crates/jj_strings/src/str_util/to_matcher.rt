@@ -26,7 +26,7 @@ impl StringPattern {
         if let Some(text) = self.as_exact() {
             return Ok(StringMatcher::Exact(String::from_str(alloc, text)?));
         }
-        Ok(StringMatcher::Expr(self.compiled(alloc)?))
+        Ok(StringMatcher::Expr(self.compile(alloc)?))
     }
 }
 
@@ -39,7 +39,7 @@ impl StringExpression {
     {
         match self {
             StringExpression::Pattern(pattern) => pattern.to_matcher(alloc),
-            _ => Ok(StringMatcher::Expr(self.compiled(alloc)?)),
+            _ => Ok(StringMatcher::Expr(self.compile(alloc)?)),
         }
     }
 }

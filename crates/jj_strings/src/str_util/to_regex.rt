@@ -13,7 +13,7 @@ impl GlobPattern {
         let regex = RegexBuilder::new(text.as_str())
             .dot_matches_new_line(true)
             .build_bytes(alloc)?;
-        shared(alloc, regex)
+        share(alloc, regex)
     }
 }
 
@@ -39,22 +39,22 @@ fn whole(alloc: Global, text: &str, icase: bool) -> Result<Rc<Regex>, Error> {
     let mut source = String::from_str(alloc, "^")?;
     source.push_str(escape(alloc, text)?.as_str())?;
     source.push('$')?;
-    compiled(alloc, source.as_str(), icase)
+    compile_regex(alloc, source.as_str(), icase)
 }
 
 // The regular expression of all that has the text as a part.
 fn part(alloc: Global, text: &str, icase: bool) -> Result<Rc<Regex>, Error> {
     let source = escape(alloc, text)?;
-    compiled(alloc, source.as_str(), icase)
+    compile_regex(alloc, source.as_str(), icase)
 }
 
-fn compiled(alloc: Global, source: &str, icase: bool) -> Result<Rc<Regex>, Error> {
+fn compile_regex(alloc: Global, source: &str, icase: bool) -> Result<Rc<Regex>, Error> {
     let regex = RegexBuilder::new(source)
         .case_insensitive(icase)
         .build_bytes(alloc)?;
-    shared(alloc, regex)
+    share(alloc, regex)
 }
 
-fn shared(alloc: Global, regex: Regex) -> Result<Rc<Regex>, Error> {
+fn share(alloc: Global, regex: Regex) -> Result<Rc<Regex>, Error> {
     Ok(Rc::new(alloc, regex).map_err(AllocError::from)?)
 }

@@ -14,9 +14,9 @@ words-preserved c = (
 pub returns : goal.returns
 returns c = λ m held.
     let s = c.args.self in
-    let k = c.used-used.result in
+    let k = c.used_len-used.result in
     let a = Holds-IsAbsorbed s m held in
-    let absorbed = subst (λ (u : ℕ). IsAbsorbed s.h s.buffer u m a.0) (sym c.used-used.ensures.value) a.1 in
+    let absorbed = subst (λ (u : ℕ). IsAbsorbed s.h s.buffer u m a.0) (sym c.used_len-used.ensures.value) a.1 in
     let room : length (take (128 - k) (drop k s.buffer)) ≡ 128 - k = length-take-le (128 - k) (drop k s.buffer) (omega (arith, length-drop k s.buffer)) in
     let zeros = c.fill.ensures.after (λ _ e. e) ∙ ap (λ (n : ℕ). replicate n 0) room in
     let filled = padded_buffer s.buffer c.fill.new.self k (128 - k) (omega arith) (omega arith) (omega arith) zeros in

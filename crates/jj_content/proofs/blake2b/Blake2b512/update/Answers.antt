@@ -9,9 +9,9 @@ pub returns-then-bytes-room : goal.returns-then-bytes-room
 returns-then-bytes-room c = λ m held.
     let s = c.args.self.now in
     let d = c.args.bytes.now in
-    let k = c.used-used.result in
+    let k = c.used_len-used.result in
     let a = Holds-IsAbsorbed s m held in
-    let absorbed = subst (λ (u : ℕ). IsAbsorbed s.h s.buffer u m a.0) (sym c.used-used.ensures.value) a.1 in
+    let absorbed = subst (λ (u : ℕ). IsAbsorbed s.h s.buffer u m a.0) (sym c.used_len-used.ensures.value) a.1 in
     Holds_from _ _ (k + length d) a.0 refl (total_append s.total _ m d (Holds_total s m held) refl)
     (IsAbsorbed_short s.h s.buffer _ m d k a.0 absorbed (omega arith)
     (rw c.copy_from_slice.ensures.after (take-put_mid k _ s.buffer d (k + length d) refl (omega arith))))
@@ -21,13 +21,13 @@ whole-init c = record {
   total = refl;
   inside = omega arith;
   edge = λ m held.
-      start_whole c.args.self.now m c.args.bytes.now c.copy_from_slice-2.new.self _ c.compress.new.h c.used-used.result _ _ _ held (omega arith) c.used-used.ensures.value refl (omega arith)
+      start_whole c.args.self.now m c.args.bytes.now c.copy_from_slice-2.new.self _ c.compress.new.h c.used_len-used.result _ _ _ held (omega arith) c.used_len-used.ensures.value refl (omega arith)
       (omega arith) refl c.copy_from_slice-2.ensures.after refl refl c.compress.ensures;
 }
 
 pub whole-preserved : goal.whole-preserved
 whole-preserved c =
-    let start : ℕ = 128 - c.used-used.result in
+    let start : ℕ = 128 - c.used_len-used.result in
     let a : ℕ = start + 128 * c.whole.i in
     let e : start + 128 * (c.whole.i + 1) ≡ a + 128 = omega arith in
     let width : a + 128 - a ≡ 128 = omega arith in
@@ -42,8 +42,8 @@ pub returns : goal.returns
 returns c = λ m held.
     let d : List ℕ = c.args.bytes.now in
     let edge = c.whole.invariant.edge m held in
-    let a : ℕ = 128 - c.used-used.result + 128 * c.whole.i in
-    let end : ℕ = 128 - c.used-used.result + 128 * ((length d - (128 - c.used-used.result) - 1) / 128) in
+    let a : ℕ = 128 - c.used_len-used.result + 128 * c.whole.i in
+    let end : ℕ = 128 - c.used_len-used.result + 128 * ((length d - (128 - c.used_len-used.result) - 1) / 128) in
     let same : end ≡ a = omega arith in
     let copied = c.copy_from_slice-3.ensures.after in
     Holds_tail c.args.self.now _ m d c.copy_from_slice-3.new.self c.whole.self.buffer a _ edge.0 held edge.1 (omega arith) (omega arith)

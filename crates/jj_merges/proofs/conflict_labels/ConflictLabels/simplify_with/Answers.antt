@@ -71,8 +71,8 @@ returns-clause-labels g c =
 pub simplify-requires : goal.simplify-requires
 simplify-requires g c = (search rules, c.requires.clones)
 
-pub kept-requires : goal.kept-requires
-kept-requires g c = rw c.as_slice-values.ensures.terms c.as_slice-values.ensures.odd
+pub places_to_keep-requires : goal.places_to_keep-requires
+places_to_keep-requires g c = rw c.as_slice-values.ensures.terms c.as_slice-values.ensures.odd
 
 pub returns-then-not-has_labels-clause-merge : goal.returns-then-not-has_labels-clause-merge
 returns-then-not-has_labels-clause-merge g c = c.in_ok-simplify.ensures.terms

@@ -9,8 +9,8 @@ use Rattle.jj_merges.proofs.Kept.{HaveSameCounts-kept, IsDisjoint-kept}
 use Rattle.jj_merges.proofs.KeptLaws.{are_kept}
 use Rattle.jj_merges.proofs.merge.Merge.simplify_by.Goals as goal
 
-pub kept-requires : goal.kept-requires
-kept-requires g c =
+pub places_to_keep-requires : goal.places_to_keep-requires
+places_to_keep-requires g c =
     let long = length-MapsTo (CalledAt g.F.FnMut) _ _ _ _ c.in_ok-keys.ensures.1 in
     omega (arith, long, ap length c.deref.ensures.value, ap length c.as_slice-values.ensures.terms, c.as_slice-values.ensures.odd)
 

@@ -71,8 +71,8 @@ returns-clause-own g c equal h =
     subst (λ u. AreEqual eq m u) (sym (final g c))
     (AllZip-written (λ x y. eq x y ≡ true) m m (kept_places eq m) c.args.simplified (AllZip-refl (λ x y. eq x y ≡ true) equal.refl m) (kept_in_range eq m c.as_slice.ensures.odd) h)
 
-pub kept-requires : goal.kept-requires
-kept-requires g c = rw c.as_slice.ensures.terms c.as_slice.ensures.odd
+pub places_to_keep-requires : goal.places_to_keep-requires
+places_to_keep-requires g c = rw c.as_slice.ensures.terms c.as_slice.ensures.odd
 
 pub loop-place-init : goal.loop-place-init
 loop-place-init g c =

@@ -3,7 +3,7 @@ use Rattle.std.proofs.lemmas.List.{length-map, nil_from_length}
 use Rattle.jj_merges.specs.Terms.{items}
 use Rattle.jj_merges.proofs.MapsLemmas.{map-moved, map-ended}
 use Rattle.jj_merges.proofs.Sound.{sound}
-use Rattle.jj_merges.proofs.merge.images.zipped.Goals as goal
+use Rattle.jj_merges.proofs.merge.images.zip_terms.Goals as goal
 
 pub loop-first-init : goal.loop-first-init
 loop-first-init g c =

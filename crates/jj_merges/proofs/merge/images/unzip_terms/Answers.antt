@@ -1,7 +1,7 @@
 use Rattle.std.proofs.Common.{ap, arith, rules, length}
 use Rattle.std.proofs.lemmas.List.{length-map}
 use Rattle.jj_merges.proofs.Sound.{sound}
-use Rattle.jj_merges.proofs.merge.images.unzipped.Goals as goal
+use Rattle.jj_merges.proofs.merge.images.unzip_terms.Goals as goal
 
 pub push_parts-requires : goal.push_parts-requires
 push_parts-requires g c =

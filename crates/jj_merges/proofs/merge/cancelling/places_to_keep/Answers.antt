@@ -5,7 +5,7 @@ use Rattle.jj_merges.specs.Merge as merge
 use Rattle.jj_merges.specs.Simplify.{Sides, same_term, kept_sides, kept_places}
 use Rattle.jj_merges.proofs.Found.{position-at}
 use Rattle.jj_merges.proofs.Left.{Reached-start, Reached-found, Reached-passed, Reached-done}
-use Rattle.jj_merges.proofs.merge.cancelling.kept.Goals as goal
+use Rattle.jj_merges.proofs.merge.cancelling.places_to_keep.Goals as goal
 
 pub loop-index-init : goal.loop-index-init
 loop-index-init g c = rw (c.in_ok-adds.ensures.adds, c.in_ok-adds.ensures.removes) (Reached-start g.T.PartialEq.eq c.args.values.now c.requires)

@@ -1,7 +1,7 @@
 use Rattle.std.proofs.Common.{◌-◌, length}
 use Rattle.jj_merges.specs.Simplify.{same_term, kept_sides}
 use Rattle.jj_merges.proofs.Left.{Reached}
-use Rattle.jj_merges.proofs.merge.cancelling.kept.Given as goal
+use Rattle.jj_merges.proofs.merge.cancelling.places_to_keep.Given as goal
 
 abbrev pub invariant-loop-index : goal.invariant-loop-index
 invariant-loop-index g l =

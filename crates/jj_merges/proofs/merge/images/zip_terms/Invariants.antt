@@ -1,6 +1,6 @@
 use Rattle.std.proofs.Common.{◌≡◌, ◌++◌, length, map}
 use Rattle.jj_merges.specs.Terms.{items, HoldsOne}
-use Rattle.jj_merges.proofs.merge.images.zipped.Given as goal
+use Rattle.jj_merges.proofs.merge.images.zip_terms.Given as goal
 
 abbrev pub invariant-loop-first : goal.invariant-loop-first
 invariant-loop-first g l =
