@@ -150,13 +150,11 @@ fn patterns_to_globs(rt: HostRuntime) -> Result<(), Fail> {
     })
 }
 
+// A regular expression, or that memory was refused.
+type Compiled = Result<Rc<Regex>, AllocError>;
+
 // The regular expression of the pattern that the text is as one of the kind.
-fn regex_of<R: Abort>(
-    rt: &R,
-    alloc: Global,
-    kind: &str,
-    text: &str,
-) -> Result<Rc<Regex>, AllocError> {
+fn regex_of<R: Abort>(rt: &R, alloc: Global, kind: &str, text: &str) -> Compiled {
     match pattern(rt, alloc, kind, text)?.to_regex(alloc) {
         Ok(regex) => Ok(regex),
         Err(regex::Error::OutOfMemory) => Err(AllocError),

@@ -126,13 +126,11 @@ fn begins<R: Abort>(
     Ok(())
 }
 
+// Why a text is no pattern, or that memory was refused.
+type Refusal = Result<StringPatternParseError, AllocError>;
+
 // Why the text is no pattern of the kind.
-fn fault<R: Abort>(
-    rt: &R,
-    alloc: Global,
-    kind: &str,
-    text: &str,
-) -> Result<StringPatternParseError, AllocError> {
+fn fault<R: Abort>(rt: &R, alloc: Global, kind: &str, text: &str) -> Refusal {
     match StringPattern::from_str_kind(alloc, text, kind) {
         Ok(_) => panic!(rt; "{kind}:{text} is no pattern"),
         Err(StringPatternParseError::Memory) => Err(AllocError),
