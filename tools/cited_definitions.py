@@ -6,9 +6,9 @@ definition is an `abbrev`, an `unfoldable`, a `record` or a `data` of a file of 
 tests all is public that is `pub`.
 """
 import re
-from pathlib import Path
 
-ROOT = Path(__file__).resolve().parent.parent
+from crate_list import ROOT, crates, is_library
+
 WORD = r"[^\W\d][\w'-]*"
 TOKEN = re.compile(
     r"//[^\n]*"
@@ -25,19 +25,8 @@ SIGNATURE = re.compile(rf" *({WORD}) : ")
 FIELD = "\u2024"
 
 
-def crates():
-    """Each crate of crates.txt, with the crates of this repository that it stands on."""
-    lines = [line for line in (ROOT / "crates.txt").read_text().splitlines() if ":" in line and not line.startswith("#")]
-    below = {line.split(":")[0].split()[0]: line.split(":")[1].split() for line in lines}
-    return {name: [it for it in others if it in below] for name, others in below.items()}
-
-
 def with_fields_marked(text):
     return re.sub(r"(?<=[\w')\]⟧])\.(?=[^\W\d])", FIELD, text)
-
-
-def is_library(crate):
-    return not crate.endswith(("_tests", "_cli"))
 
 
 def words(text):

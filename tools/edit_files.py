@@ -1,7 +1,5 @@
 """The files of edits that the prover must refuse: what they change, and the functions whose proof has to fail."""
-from pathlib import Path
-
-ROOT = Path(__file__).resolve().parent.parent
+from crate_list import ROOT
 
 
 class Edit:
@@ -36,13 +34,3 @@ class Edit:
 def edits_of(crate):
     """The edits of a crate, by name."""
     return [Edit(it) for it in sorted((ROOT / "crates" / crate / "must-fail").glob("*.edit"))]
-
-
-def crates():
-    """Each crate of the repository, lowest first, with the libraries that its line names."""
-    found = {}
-    for line in (ROOT / "crates.txt").read_text().splitlines():
-        name, colon, below = line.partition(":")
-        if colon and not line.startswith("#"):
-            found[name.strip()] = below.split()
-    return found

@@ -1,0 +1,28 @@
+"""The crates of the repository, as crates.txt lists them."""
+from pathlib import Path
+
+ROOT = Path(__file__).resolve().parent.parent
+
+
+def crates():
+    """Each crate, in the order of the file, with the libraries that its line names: the repository's and the toolchain's."""
+    found = {}
+    for line in (ROOT / "crates.txt").read_text().splitlines():
+        name, colon, below = line.partition(":")
+        if colon and not line.startswith("#"):
+            found[name.split()[0]] = below.split()
+    return found
+
+
+def libraries_below(name, known):
+    """The repository's libraries that a crate stands on, at any depth. `known` is what `crates` answers, or a part of it."""
+    found = []
+    for it in known[name]:
+        if it in known and it not in found:
+            found += [it, *(more for more in libraries_below(it, known) if more not in found)]
+    return list(dict.fromkeys(found))
+
+
+def is_library(name):
+    """Neither the tests of a library nor the program."""
+    return not name.endswith(("_tests", "_cli"))
