@@ -43,10 +43,10 @@ items-bound negated ranges r Backslash s h = refl
 items-bound negated ranges r (Other b) s h = refl
 
 -- the same, from what is left
-pub items-range : (found : List Word) (negated : Bool) (ranges : List ByteRange) (r : ByteRange) (left behind : List Sign) (d c : Sign) (s : List Sign) (last : ℕ)
-    → found ≡ items negated ranges r left → left ≡ d ∷ behind → d ≡ Dash → behind ≡ c ∷ s → c ≢ CloseBracket → last ≡ byte_of c
+pub items-range : (found : List Word) (negated : Bool) (ranges : List ByteRange) (r : ByteRange) (left after : List Sign) (d c : Sign) (s : List Sign) (last : ℕ)
+    → found ≡ items negated ranges r left → left ≡ d ∷ after → d ≡ Dash → after ≡ c ∷ s → c ≢ CloseBracket → last ≡ byte_of c
     → found ≡ range_fault r.first last (items negated ranges (record { first = r.first; last = last }) s)
-items-range found negated ranges r left behind d c s last so_far is dash next bound at = rw (so_far, is, dash, next, at) (items-bound negated ranges r c s bound)
+items-range found negated ranges r left after d c s last so_far is dash next bound at = rw (so_far, is, dash, next, at) (items-bound negated ranges r c s bound)
 
 -- a class whose first sign turns nothing round
 pub words-class : (c : Sign) (s : List Sign) → c ≢ Bang → c ≢ Caret → words (OpenBracket ∷ c ∷ s) ≡ first_item false (c ∷ s)

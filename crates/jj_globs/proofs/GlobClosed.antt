@@ -7,7 +7,7 @@ use Rattle.jj_globs.specs.declared.glob.token.Part.{Part}
 use Rattle.jj_globs.specs.declared.glob.token.Part.TheVariants.{Byte, AnyByte, Star, InnerDirs, Below, Everything, OneOf}
 use Rattle.jj_globs.specs.declared.glob.sign.Place.{Place}
 use Rattle.jj_globs.specs.declared.glob.sign.Place.TheVariants.{Start, LeadingRun, InnerRun, AfterSlash, Elsewhere}
-use Rattle.jj_globs.specs.GlobText.{Word, question, asterisk, slash, open_brace, comma, close_brace, literal, class, fault, place_behind, place_behind_group, place_of, instead, two_stars, with_dirs, with_last_dirs, ends_sequence, with_or, with_close, closes_nothing, only_dirs, read, tokens_of, words, sign_of}
+use Rattle.jj_globs.specs.GlobText.{Word, question, asterisk, slash, open_brace, comma, close_brace, literal, class, fault, place_after, place_after_group, place_of, instead, two_stars, with_dirs, with_last_dirs, ends_sequence, with_or, with_close, closes_nothing, only_dirs, read, tokens_of, words, sign_of}
 use Rattle.jj_globs.specs.GlobMeaning.{Sequence, Alternatives, before_or, before_open, reading_of}
 
 -- so many groups are open after these tokens, the last first
@@ -21,45 +21,45 @@ HasOpen (Open ∷ ts) (suc n) = HasOpen ts n
 
 -- 1. Each step of the reader keeps the number of open groups.
 
-open-instead : (ts : List Token) (n : ℕ) (p : Part) → (place_behind ts ≡ Start → ⊥) → (place_behind ts ≡ Elsewhere → ⊥) → HasOpen ts n → HasOpen (instead p ts) n
+open-instead : (ts : List Token) (n : ℕ) (p : Part) → (place_after ts ≡ Start → ⊥) → (place_after ts ≡ Elsewhere → ⊥) → HasOpen ts n → HasOpen (instead p ts) n
 open-instead [] n p h k o = o
 open-instead (part q ∷ ts) n p h k o = o
 open-instead (Or ∷ ts) n p h k o = absurd (h refl)
 open-instead (Close ∷ ts) n p h k o = absurd (k refl)
 open-instead (Open ∷ ts) n p h k o = absurd (h refl)
 
-dirs-at : (place : Place) (ts : List Token) (n : ℕ) → place_behind ts ≡ place → HasOpen ts n → HasOpen (with_dirs place ts) n
+dirs-at : (place : Place) (ts : List Token) (n : ℕ) → place_after ts ≡ place → HasOpen ts n → HasOpen (with_dirs place ts) n
 dirs-at Start ts n e o = o
 dirs-at LeadingRun ts n e o = o
 dirs-at InnerRun ts n e o = o
 dirs-at AfterSlash ts n e o = open-instead ts n InnerDirs (λ h. let k : AfterSlash ≡ Start = sym e ∙ h in cc) (λ h. let k : AfterSlash ≡ Elsewhere = sym e ∙ h in cc) o
 dirs-at Elsewhere ts n e o = o
 
-dirs-behind_group : (place : Place) (ts : List Token) (n : ℕ) → HasOpen ts n → HasOpen (with_dirs (place_behind_group place) ts) n
-dirs-behind_group Start ts n o = o
-dirs-behind_group place ts n o = o
+dirs-after_group : (place : Place) (ts : List Token) (n : ℕ) → HasOpen ts n → HasOpen (with_dirs (place_after_group place) ts) n
+dirs-after_group Start ts n o = o
+dirs-after_group place ts n o = o
 
 open-dirs : (e : Bool) (ts : List Token) (n : ℕ) → HasOpen ts n → HasOpen (with_dirs (place_of e ts) ts) n
-open-dirs true ts n o = dirs-behind_group (place_behind ts) ts n o
-open-dirs false ts n o = dirs-at (place_behind ts) ts n refl o
+open-dirs true ts n o = dirs-after_group (place_after ts) ts n o
+open-dirs false ts n o = dirs-at (place_after ts) ts n refl o
 
-last-at : (place : Place) (ts : List Token) (n : ℕ) → place_behind ts ≡ place → HasOpen ts n → HasOpen (with_last_dirs place ts) n
+last-at : (place : Place) (ts : List Token) (n : ℕ) → place_after ts ≡ place → HasOpen ts n → HasOpen (with_last_dirs place ts) n
 last-at Start ts n e o = o
 last-at LeadingRun ts n e o = o
 last-at InnerRun ts n e o = open-instead ts n Below (λ h. let k : InnerRun ≡ Start = sym e ∙ h in cc) (λ h. let k : InnerRun ≡ Elsewhere = sym e ∙ h in cc) o
 last-at AfterSlash ts n e o = open-instead ts n Below (λ h. let k : AfterSlash ≡ Start = sym e ∙ h in cc) (λ h. let k : AfterSlash ≡ Elsewhere = sym e ∙ h in cc) o
 last-at Elsewhere ts n e o = o
 
-last-behind_group : (place : Place) (ts : List Token) (n : ℕ) → HasOpen ts n → HasOpen (with_last_dirs (place_behind_group place) ts) n
-last-behind_group Start ts n o = o
-last-behind_group LeadingRun ts n o = o
-last-behind_group InnerRun ts n o = o
-last-behind_group AfterSlash ts n o = o
-last-behind_group Elsewhere ts n o = o
+last-after_group : (place : Place) (ts : List Token) (n : ℕ) → HasOpen ts n → HasOpen (with_last_dirs (place_after_group place) ts) n
+last-after_group Start ts n o = o
+last-after_group LeadingRun ts n o = o
+last-after_group InnerRun ts n o = o
+last-after_group AfterSlash ts n o = o
+last-after_group Elsewhere ts n o = o
 
 open-last : (e : Bool) (ts : List Token) (n : ℕ) → HasOpen ts n → HasOpen (with_last_dirs (place_of e ts) ts) n
-open-last true ts n o = last-behind_group (place_behind ts) ts n o
-open-last false ts n o = last-at (place_behind ts) ts n refl o
+open-last true ts n o = last-after_group (place_after ts) ts n o
+open-last false ts n o = last-at (place_after ts) ts n refl o
 
 open-stars : (ends e : Bool) (ts : List Token) (n : ℕ) → HasOpen ts n → HasOpen (if ends then with_last_dirs (place_of e ts) ts else two_stars ts) n
 open-stars true e ts n o = open-last e ts n o

@@ -65,8 +65,8 @@ bytes_fit o [] only [] h = record { len = refl; fit = refl }
 bytes_fit o [] only (b ∷ bs) h = cc h
 bytes_fit o (Byte own ∷ ss) only [] h = cc h
 bytes_fit o (Byte own ∷ ss) only (b ∷ bs) h =
-    let (same, behind) = and_split (same_byte o own b) (answers o false ss 0 bs) h in
-    let rest = bytes_fit o ss (λ k x e. only (suc k) x e) bs behind in
+    let (same, after) = and_split (same_byte o own b) (answers o false ss 0 bs) h in
+    let rest = bytes_fit o ss (λ k x e. only (suc k) x e) bs after in
     let grown = fits_more o (reverse ss) (reverse bs) own b (length-reverse ss ∙ rest.len ∙ sym (length-reverse bs)) rest.fit same in
     record { len = ap suc rest.len; fit = ap (λ l. fits_back o l (reverse (b ∷ bs))) (rev_cons (Byte own) ss) ∙ ap (fits_back o (reverse ss ++ Byte own ∷ [])) (rev_cons b bs) ∙ grown }
 bytes_fit o (AnyByte ∷ ss) only bs h = let (b, is) = only 0 AnyByte refl in cc is
@@ -114,8 +114,8 @@ module _ (o : Options) (end : List Step) where
   ]
   step_ends (Jump further) ss place far ends bs h = ends further far bs h
 
-behind_first : (s : Step) (ss : List Step) (place : ℕ) → IsLiteralFrom (s ∷ ss) (suc place) → IsLiteralFrom ss place
-behind_first s ss place held = record {
+after_first : (s : Step) (ss : List Step) (place : ℕ) → IsLiteralFrom (s ∷ ss) (suc place) → IsLiteralFrom ss place
+after_first s ss place held = record {
   within = let w = held.within in omega (arith, w);
   inside = λ k x e lt. let r = held.inside (suc k) x e (omega (arith, lt)) in omega (arith, r);
   bytes = λ k x e le. held.bytes (suc k) x e (omega (arith, le));
@@ -129,5 +129,5 @@ literal_fits o ss zero held (suc k) le bs h = absurd (omega (arith, le))
 literal_fits o [] (suc place) held k le bs h = absurd (let w = held.within in omega (arith, w))
 literal_fits o (s ∷ ss) (suc place) held zero le bs h =
     step_ends o (reverse (drop place ss)) s ss place (let r = held.inside 0 s refl (omega arith) in omega (arith, r))
-    (λ k le bs h. literal_fits o ss place (behind_first s ss place held) k le bs h) bs h
-literal_fits o (s ∷ ss) (suc place) held (suc k) le bs h = literal_fits o ss place (behind_first s ss place held) k (omega (arith, le)) bs h
+    (λ k le bs h. literal_fits o ss place (after_first s ss place held) k le bs h) bs h
+literal_fits o (s ∷ ss) (suc place) held (suc k) le bs h = literal_fits o ss place (after_first s ss place held) k (omega (arith, le)) bs h

@@ -16,29 +16,29 @@ BeginsWith bytes front = (rest : List ℕ) × (bytes ≡ front ++ rest)
 same_alone : (o : Options) → o.icase ≡ false → (a b : ℕ) → same_byte o a b ≡ (a == b)
 same_alone o e a b = ap (λ t. if t then lower a == lower b else a == b) e
 
-stands_behind : (o : Options) → o.icase ≡ false → (ts : List Token) (bs : List ℕ) → Stands o (reading_of ts).here bs → BeginsWith bs (leading_bytes ts)
-stands_behind o e [] bs h = (bs, refl)
-stands_behind o e (part (Byte c) ∷ ts) bs (front, rest, split, (b, is, same), later) =
-    let behind = stands_behind o e ts rest later in
+stands_after : (o : Options) → o.icase ≡ false → (ts : List Token) (bs : List ℕ) → Stands o (reading_of ts).here bs → BeginsWith bs (leading_bytes ts)
+stands_after o e [] bs h = (bs, refl)
+stands_after o e (part (Byte c) ∷ ts) bs (front, rest, split, (b, is, same), later) =
+    let after = stands_after o e ts rest later in
     let byte : c ≡ b = (Decides-eqb c b).0 (sym (same_alone o e c b) ∙ same) in
-    (behind.0, split ∙ ap (λ l. l ++ rest) is ∙ ap (λ x. x ∷ rest) (sym byte) ∙ ap (λ l. c ∷ l) behind.1)
-stands_behind o e (part AnyByte ∷ ts) bs h = (bs, refl)
-stands_behind o e (part Star ∷ ts) bs h = (bs, refl)
-stands_behind o e (part LeadingDirs ∷ ts) bs h = (bs, refl)
-stands_behind o e (part InnerDirs ∷ ts) bs h = (bs, refl)
-stands_behind o e (part Below ∷ ts) bs h = (bs, refl)
-stands_behind o e (part Everything ∷ ts) bs h = (bs, refl)
-stands_behind o e (part (OneOf class) ∷ ts) bs h = (bs, refl)
-stands_behind o e (Open ∷ ts) bs h = (bs, refl)
-stands_behind o e (Or ∷ ts) bs h = (bs, refl)
-stands_behind o e (Close ∷ ts) bs h = (bs, refl)
+    (after.0, split ∙ ap (λ l. l ++ rest) is ∙ ap (λ x. x ∷ rest) (sym byte) ∙ ap (λ l. c ∷ l) after.1)
+stands_after o e (part AnyByte ∷ ts) bs h = (bs, refl)
+stands_after o e (part Star ∷ ts) bs h = (bs, refl)
+stands_after o e (part LeadingDirs ∷ ts) bs h = (bs, refl)
+stands_after o e (part InnerDirs ∷ ts) bs h = (bs, refl)
+stands_after o e (part Below ∷ ts) bs h = (bs, refl)
+stands_after o e (part Everything ∷ ts) bs h = (bs, refl)
+stands_after o e (part (OneOf class) ∷ ts) bs h = (bs, refl)
+stands_after o e (Open ∷ ts) bs h = (bs, refl)
+stands_after o e (Or ∷ ts) bs h = (bs, refl)
+stands_after o e (Close ∷ ts) bs h = (bs, refl)
 
 stands_fronted : (o : Options) (ts : List Token) (bs : List ℕ) → Stands o (reading_of ts).here bs → BeginsWith bs (literal_front o ts)
 stands_fronted o ts bs h = by_case o.icase refl
   where
     by_case : (t : Bool) → o.icase ≡ t → BeginsWith bs (literal_front o ts)
     by_case true e = (bs, ap (λ (l : List ℕ). l ++ bs) (sym (ap (λ t. if t then [] else leading_bytes ts) e)))
-    by_case false e = subst (BeginsWith bs) (sym (ap (λ t. if t then [] else leading_bytes ts) e)) (stands_behind o e ts bs h)
+    by_case false e = subst (BeginsWith bs) (sym (ap (λ t. if t then [] else leading_bytes ts) e)) (stands_after o e ts bs h)
 
 match_fronted : (g : GlobSpec) (bs : List ℕ) → IsMatch g bs → BeginsWith bs (front_of g)
 unfolding front_of

@@ -235,8 +235,8 @@ inside_token o Open ss new (g ∷ gs) opened a h = renamed_inside (forked g.any 
 pub nothing_inside : StaysInside []
 nothing_inside = λ k s e. cc
 
-pub inside_behind : (s : Step) (ss : List Step) → StaysInside (s ∷ ss) → StaysInside ss
-inside_behind s ss h = λ k x e. let held = h (suc k) x e in omega (arith, held)
+pub inside_after : (s : Step) (ss : List Step) → StaysInside (s ∷ ss) → StaysInside ss
+inside_after s ss h = λ k x e. let held = h (suc k) x e in omega (arith, held)
 
 -- 6. All tokens, from the last one on.
 

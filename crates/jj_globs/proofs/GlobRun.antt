@@ -182,9 +182,9 @@ is_byte_step (Jump n) h i j k = absurd (k n refl)
 pub passed_over : (o : Options) (P : ℕ → Test) (k own : ℕ) (bs rest : List ℕ)
     → ((xs : List ℕ) → P k xs ≡ by_step o P Everything k xs) → ((xs : List ℕ) → P (k + 1) xs ≡ by_step o P (Byte own) (k + 1) xs)
     → ((t : Test) → many any_byte (one (same_byte o own) t) bs ≡ many any_byte (one (same_byte o own) t) rest) → P k bs ≡ P k rest
-passed_over o P k own bs rest tells behind same =
+passed_over o P k own bs rest tells after same =
     let any : (xs : List ℕ) → P k xs ≡ many any_byte (one (same_byte o own) (P (k + 1 + 1))) xs =
-    λ xs. tells xs ∙ many_same any_byte (P (k + 1)) (one (same_byte o own) (P (k + 1 + 1))) behind xs in
+    λ xs. tells xs ∙ many_same any_byte (P (k + 1)) (one (same_byte o own) (P (k + 1 + 1))) after xs in
     any bs ∙ same (P (k + 1 + 1)) ∙ sym (any rest)
 
 -- 4. One byte further on.

@@ -261,16 +261,16 @@ puts_none word old branches new rest joined = record {
 }
 
 -- one byte more
-pub puts_byte : (word before behind : Word) (c : ℕ) (old : List Step) (branches : List Branch) (mid : List Step) (rest : List Branch) (new : List Step) (left : List Branch)
-    → word ≡ (before ++ c ∷ []) ++ behind → PutsBytes word (length (before ++ c ∷ [])) old branches mid rest
+pub puts_byte : (word before after : Word) (c : ℕ) (old : List Step) (branches : List Branch) (mid : List Step) (rest : List Branch) (new : List Step) (left : List Branch)
+    → word ≡ (before ++ c ∷ []) ++ after → PutsBytes word (length (before ++ c ∷ [])) old branches mid rest
     → JoinsBranch (length before) (Byte c ∷ mid) rest new left → PutsBytes word (length before) old branches new left
-puts_byte word before behind c old branches mid rest new left split put joined = record {
+puts_byte word before after c old branches mid rest new left split put joined = record {
   same = λ o below x lead.
       ap (λ (w : Word). up o below new (reverse w) left (answers o below new 0) x)
-      (front_of_word word before (c ∷ behind) (split ∙ append_assoc before (c ∷ []) behind))
+      (front_of_word word before (c ∷ after) (split ∙ append_assoc before (c ∷ []) after))
       ∙ one_byte_up o below c before mid new rest left joined (put.lead lead) x
       ∙ ap (λ (w : Word). up o below mid (reverse w) rest (answers o below mid 0) x)
-      (sym (front_of_word word (before ++ c ∷ []) behind split))
+      (sym (front_of_word word (before ++ c ∷ []) after split))
       ∙ put.same o below x lead;
   lead = λ h. lead_joined (length before) (Byte c ∷ mid) rest new left joined (length mid) (omega arith) (put.lead h);
   grows = grows_more old mid new put.grows (grows_more mid (Byte c ∷ mid) new (grows_one (Byte c) mid) joined.grows);

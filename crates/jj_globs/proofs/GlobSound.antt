@@ -163,23 +163,23 @@ pub slash_is : (b : ℕ) → IsTrue (is_slash b) → b ≡ 47
 slash_is b e = (Decides-eqb b 47).0 e
 
 -- a slash, and a part after it
-abbrev pub Behind : Bytes → Bytes
-Behind A bs = (rest : List ℕ) × (bs ≡ 47 ∷ rest) × A rest
+abbrev pub After : Bytes → Bytes
+After A bs = (rest : List ℕ) × (bs ≡ 47 ∷ rest) × A rest
 
-pub behind_to : (A : Bytes) (bs : List ℕ) → IsSplit (IsOne is_slash) A bs → Behind A bs
-behind_to A bs s =
+pub after_to : (A : Bytes) (bs : List ℕ) → IsSplit (IsOne is_slash) A bs → After A bs
+after_to A bs s =
     (s.1, s.2 ∙ (ap (λ x. x ++ s.1) s.3.1 ∙ ap (λ b. b ∷ s.1) (slash_is s.3.0 s.3.2)), s.4)
 
-pub behind_from : (A : Bytes) (bs : List ℕ) → Behind A bs → IsSplit (IsOne is_slash) A bs
-behind_from A bs w = (47 ∷ [], w.0, w.1, (47, refl, refl), w.2)
+pub after_from : (A : Bytes) (bs : List ℕ) → After A bs → IsSplit (IsOne is_slash) A bs
+after_from A bs w = (47 ∷ [], w.0, w.1, (47, refl, refl), w.2)
 
-pub Tells-behind : (t : Test) (A P : Bytes) → Tells t (IsSplit A P) → Tells (one is_slash t) (IsSplit (Behind A) P)
-Tells-behind t A P h =
+pub Tells-after : (t : Test) (A P : Bytes) → Tells t (IsSplit A P) → Tells (one is_slash t) (IsSplit (After A) P)
+Tells-after t A P h =
     let first : Tells (one is_slash t) (IsSplit (IsOne is_slash) (IsSplit A P)) = Tells-one is_slash t (IsSplit A P) h in
     let both : Tells (one is_slash t) (IsSplit (IsSplit (IsOne is_slash) A) P) =
     Tells-like (one is_slash t) (IsSplit (IsOne is_slash) (IsSplit A P)) (IsSplit (IsSplit (IsOne is_slash) A) P)
     (split_right (IsOne is_slash) A P) (split_left (IsOne is_slash) A P) first in
-    Tells-part (one is_slash t) (IsSplit (IsOne is_slash) A) (Behind A) P (behind_to A) (behind_from A) both
+    Tells-part (one is_slash t) (IsSplit (IsOne is_slash) A) (After A) P (after_to A) (after_from A) both
 
 pub all_any : (bs : List ℕ) → AllPass any_byte bs
 all_any bs = λ k d h. refl
@@ -188,11 +188,11 @@ pub Tells-any : (t : Test) (P : Bytes) → Tells t P → Tells (many any_byte t)
 Tells-any t P h =
     Tells-part (many any_byte t) (AllPass any_byte) (λ _. Unit {0}) P (λ x a. tt) (λ x u. all_any x) (Tells-many any_byte t P h)
 
-pub inner_to : (o : Options) (bs : List ℕ) → Behind Leading bs → StandsAlone o InnerDirs bs
+pub inner_to : (o : Options) (bs : List ℕ) → After Leading bs → StandsAlone o InnerDirs bs
 inner_to o bs (r, e, inl z) = inl (e ∙ ap (λ x. 47 ∷ x) z)
 inner_to o bs (r, e, inr z) = inr (z.0, e ∙ ap (λ x. 47 ∷ x) z.1)
 
-pub inner_from : (o : Options) (bs : List ℕ) → StandsAlone o InnerDirs bs → Behind Leading bs
+pub inner_from : (o : Options) (bs : List ℕ) → StandsAlone o InnerDirs bs → After Leading bs
 inner_from o bs (inl e) = ([], e, inl refl)
 inner_from o bs (inr w) = (w.0 ++ 47 ∷ [], w.1, inr (w.0, refl))
 
@@ -203,12 +203,12 @@ Tells-part_then o (OneOf c) t P h bs = Tells-one (in_class o c) t P h bs
 Tells-part_then o Star t P h bs = Tells-many (is_plain o) t P h bs
 Tells-part_then o LeadingDirs t P h bs = Tells-leading t P h bs
 Tells-part_then o InnerDirs t P h bs =
-    Tells-part (one is_slash (λ rest. t rest || past_slash t rest)) (Behind Leading) (StandsAlone o InnerDirs) P (inner_to o) (inner_from o)
-    (Tells-behind (λ rest. t rest || past_slash t rest) Leading P (Tells-leading t P h)) bs
+    Tells-part (one is_slash (λ rest. t rest || past_slash t rest)) (After Leading) (StandsAlone o InnerDirs) P (inner_to o) (inner_from o)
+    (Tells-after (λ rest. t rest || past_slash t rest) Leading P (Tells-leading t P h)) bs
 Tells-part_then o Below t P h bs =
-    Tells-part (one is_slash (many any_byte t)) (Behind (λ _. Unit {0})) (StandsAlone o Below) P
+    Tells-part (one is_slash (many any_byte t)) (After (λ _. Unit {0})) (StandsAlone o Below) P
     (λ x w. (w.0, w.1)) (λ x w. (w.0, w.1, tt))
-    (Tells-behind (many any_byte t) (λ _. Unit {0}) P (Tells-any t P h)) bs
+    (Tells-after (many any_byte t) (λ _. Unit {0}) P (Tells-any t P h)) bs
 Tells-part_then o Everything t P h bs = Tells-any t P h bs
 
 -- 3. Places in the list of tokens.

@@ -48,7 +48,7 @@ AddsToken o Open ss (g ∷ gs) new opened = (new ≡ forked g.any ss) × (opened
 
 -- what the place with so many steps after it accepts
 abbrev pub test_at : Options → Bool → List Step → ℕ → Test
-test_at o below ss behind bs = answers o below ss (length ss - behind) bs
+test_at o below ss after bs = answers o below ss (length ss - after) bs
 
 abbrev pub AnyIs : Options → Bool → List Step → Option ℕ → Test → Type 0
 AnyIs o below ss None t = (bs : List ℕ) → t bs ≡ false

@@ -115,26 +115,26 @@ only_dirs s = false
 -- 4. Tokens of any other text, read with the tokens so far, the last first.
 
 -- the place after the last token
-abbrev pub place_behind : List Token → Place
-place_behind [] = Start
-place_behind (Open ∷ ts) = Start
-place_behind (Or ∷ ts) = Start
-place_behind (part LeadingDirs ∷ ts) = LeadingRun
-place_behind (part InnerDirs ∷ ts) = InnerRun
-place_behind (part (Byte b) ∷ ts) = if b == 47 then AfterSlash else Elsewhere
-place_behind ts = Elsewhere
+abbrev pub place_after : List Token → Place
+place_after [] = Start
+place_after (Open ∷ ts) = Start
+place_after (Or ∷ ts) = Start
+place_after (part LeadingDirs ∷ ts) = LeadingRun
+place_after (part InnerDirs ∷ ts) = InnerRun
+place_after (part (Byte b) ∷ ts) = if b == 47 then AfterSlash else Elsewhere
+place_after ts = Elsewhere
 
 -- the place after a group that left no token: a slash before it does not stand right before what
 -- follows
-abbrev pub place_behind_group : Place → Place
-place_behind_group Start = Start
-place_behind_group place = Elsewhere
+abbrev pub place_after_group : Place → Place
+place_after_group Start = Start
+place_after_group place = Elsewhere
 
 -- where a `**` stands in its sequence, by whether a group that left no token is right before it,
 -- and the tokens
 abbrev pub place_of : Bool → List Token → Place
-place_of true ts = place_behind_group (place_behind ts)
-place_of false ts = place_behind ts
+place_of true ts = place_after_group (place_after ts)
+place_of false ts = place_after ts
 
 -- the tokens with one more, in place of the last one
 abbrev pub instead : Part → List Token → List Token

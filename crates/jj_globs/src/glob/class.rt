@@ -41,18 +41,18 @@ fn read_items<'a>(
     };
     let mut ranges = Vec::new(alloc);
     let mut range = ByteRange::one(first.byte());
-    while let Some((sign, behind)) = next_sign(rest) {
-        rest = behind;
+    while let Some((sign, after)) = next_sign(rest) {
+        rest = after;
         match sign {
             Sign::CloseBracket => {
                 ranges.push(range)?;
                 return Ok((Class::new(negated, ranges), rest));
             }
             Sign::Dash => {
-                let Some((bound, behind)) = next_sign(rest) else {
+                let Some((bound, after)) = next_sign(rest) else {
                     return Err(GlobError::UnclosedClass);
                 };
-                rest = behind;
+                rest = after;
                 match bound {
                     Sign::CloseBracket => {
                         ranges.push(range)?;

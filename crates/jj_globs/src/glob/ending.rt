@@ -13,18 +13,18 @@ pub(crate) fn literal_end(steps: &[Step]) -> usize
 {
     let mut literal = 0;
     for place in 0..steps.len() {
-        let behind = place_behind(steps[place], place, steps.len());
-        if literal < behind {
-            literal = behind;
+        let after = place_after(steps[place], place, steps.len());
+        if literal < after {
+            literal = after;
         }
     }
     literal
 }
 
 // The furthest place to which the step at `place` leads, or 0 where it is a byte.
-fn place_behind(step: Step, place: usize, end: usize) -> usize
+fn place_after(step: Step, place: usize, end: usize) -> usize
     requires inside { place + 1 + further_of step ≤ end }
-    ensures behind { IsByte step ⊎ (result ≡ place + 1 + further_of step) }
+    ensures after { IsByte step ⊎ (result ≡ place + 1 + further_of step) }
     ensures within { result ≤ end }
 {
     match step {

@@ -19,9 +19,9 @@ pub(crate) fn front_of_tokens(
         return Ok(front);
     }
     let mut left = tokens;
-    while let Some((Token::Part(Part::Byte(byte)), behind)) = left.split_first() {
+    while let Some((Token::Part(Part::Byte(byte)), after)) = left.split_first() {
         front.push(*byte)?;
-        left = behind;
+        left = after;
     }
     Ok(front)
 }

@@ -64,7 +64,7 @@ fn enter_forks<const WORDS: usize, const GROUPS: usize>(
     let mut first = place + 1;
     enter(options, steps, first, left, now, next);
     let mut second = first + further;
-    while let Some(further) = fork_behind_byte(steps, first, second) {
+    while let Some(further) = fork_after_byte(steps, first, second) {
         first = second + 1;
         enter(options, steps, first, left, now, next);
         second = first + further;
@@ -73,7 +73,7 @@ fn enter_forks<const WORDS: usize, const GROUPS: usize>(
 }
 
 // How far the fork at `second` leads, where one is there and a byte at `first`.
-fn fork_behind_byte(steps: &[Step], first: usize, second: usize) -> Option<usize>
+fn fork_after_byte(steps: &[Step], first: usize, second: usize) -> Option<usize>
     ensures { IfSome result (λ further. slice_get steps.now second ≡ Some (Step.Fork further)) }
 {
     match (steps.get(first), steps.get(second)) {
@@ -250,10 +250,10 @@ fn run<const WORDS: usize, const GROUPS: usize>(
         if pass(options, below, steps, rest, next, now) {
             return true;
         }
-        let Some((_, behind)) = rest.split_first() else {
+        let Some((_, after)) = rest.split_first() else {
             return false;
         };
-        left = skip(options, steps, behind, now);
+        left = skip(options, steps, after, now);
     }
     pass(options, below, steps, left, now, next)
 }

@@ -1,7 +1,7 @@
 //! The tokens so far, after one more piece of a glob's text.
 ghost use Rattle.std.specs.Prelude.{◌≡◌, ◌<◌, ℕ, Bool, true, false, List, [], ◌∷◌, ◌++◌, reverse, OnOk, IfOk};
 ghost use Rattle.jj_globs.specs.declared.glob.sign.Sign.TheVariants.{Comma};
-ghost use Rattle.jj_globs.specs.GlobText.{byte_of, place_behind, place_behind_group, place_of, with_or, with_close, with_dirs, with_last_dirs, two_stars, instead, closes_nothing};
+ghost use Rattle.jj_globs.specs.GlobText.{byte_of, place_after, place_after_group, place_of, with_or, with_close, with_dirs, with_last_dirs, two_stars, instead, closes_nothing};
 
 use crate::glob::sign::Place;
 use crate::glob::token::{Part, Token};
@@ -107,13 +107,13 @@ fn put_instead(tokens: &mut Vec<Token>, part: Part) -> Result<(), AllocError>
 }
 
 // Where a `**` stands that comes next.
-pub(crate) fn place_of(is_behind_group: bool, tokens: &[Token]) -> Place
-    ensures { result ≡ place_of is_behind_group (reverse tokens.now) }
+pub(crate) fn place_of(is_after_group: bool, tokens: &[Token]) -> Place
+    ensures { result ≡ place_of is_after_group (reverse tokens.now) }
 {
-    let place = place_behind(tokens);
+    let place = place_after(tokens);
     match place {
         Place::Start => Place::Start,
-        _ => if is_behind_group {
+        _ => if is_after_group {
             Place::Elsewhere
         } else {
             place
@@ -121,8 +121,8 @@ pub(crate) fn place_of(is_behind_group: bool, tokens: &[Token]) -> Place
     }
 }
 
-fn place_behind(tokens: &[Token]) -> Place
-    ensures { result ≡ place_behind (reverse tokens.now) }
+fn place_after(tokens: &[Token]) -> Place
+    ensures { result ≡ place_after (reverse tokens.now) }
 {
     let Some((last, _)) = tokens.split_last() else {
         return Place::Start;

@@ -1,6 +1,6 @@
 //! Reading the text of a glob, from left to right, into tokens.
 ghost use Rattle.std.specs.Prelude.{◌≡◌, ◌≢◌, ℕ, ◌+◌, ◌<◌, ◌≤◌, ◌^◌, Bool, true, false, Ok, Err, List, [], ◌∷◌, ◌++◌, reverse, length, map, OnOk, IfOk, IfErr, MatchResult, MatchOption, IfSome, IsTrue, ◌↔◌};
-ghost use Rattle.jj_globs.specs.GlobText.{sign_of, words, read, tokens_of, place_behind, place_behind_group, place_of, with_or, with_close, with_dirs, with_last_dirs, two_stars, instead, closes_nothing, only_dirs};
+ghost use Rattle.jj_globs.specs.GlobText.{sign_of, words, read, tokens_of, place_after, place_after_group, place_of, with_or, with_close, with_dirs, with_last_dirs, two_stars, instead, closes_nothing, only_dirs};
 ghost use Rattle.jj_globs.specs.GlobReads.{IsReadingFault, IsFault, IsPartRead, ends_here};
 ghost use Rattle.jj_globs.specs.declared.glob.sign.Sign.{Sign};
 
@@ -35,15 +35,15 @@ fn read_words(alloc: Global, text: &[u8]) -> Result<Vec<Token>, GlobError>
     let mut tokens = Vec::new(alloc);
     let mut rest = text;
     let mut open_groups = 0;
-    let mut is_behind_group = false;
-    while let Some((sign, behind)) = next_sign(rest) {
-        rest = behind;
+    let mut is_after_group = false;
+    while let Some((sign, after)) = next_sign(rest) {
+        rest = after;
         match sign {
-            Sign::Asterisk => rest = read_stars(&mut tokens, open_groups, is_behind_group, behind)?,
+            Sign::Asterisk => rest = read_stars(&mut tokens, open_groups, is_after_group, after)?,
             Sign::CloseBrace if open_groups == 0 => return Err(GlobError::UnopenedAlternates),
             Sign::CloseBrace => {
                 open_groups -= 1;
-                is_behind_group = put_close(&mut tokens)?;
+                is_after_group = put_close(&mut tokens)?;
                 continue;
             }
             Sign::OpenBrace => {
@@ -51,15 +51,15 @@ fn read_words(alloc: Global, text: &[u8]) -> Result<Vec<Token>, GlobError>
                 open_groups += 1;
             }
             Sign::Comma => put_comma(&mut tokens, open_groups)?,
-            sign => match read_part(alloc, sign, behind) {
-                Ok((part, behind_part)) => {
+            sign => match read_part(alloc, sign, after) {
+                Ok((part, after_part)) => {
                     tokens.push(Token::Part(part))?;
-                    rest = behind_part;
+                    rest = after_part;
                 }
                 Err(error) => return Err(error),
             },
         }
-        is_behind_group = false;
+        is_after_group = false;
     }
     if open_groups > 0 {
         return Err(GlobError::UnclosedAlternates);
@@ -72,11 +72,11 @@ fn is_only_dirs(text: &[u8]) -> bool
     ensures { result ≡ only_dirs (map sign_of text.now) }
 {
     let mut rest = text;
-    while let Some(behind) = behind_two_stars(rest) {
-        if behind.is_empty() {
+    while let Some(after) = after_two_stars(rest) {
+        if after.is_empty() {
             return true;
         }
-        let Some(further) = behind_slash(behind) else {
+        let Some(further) = after_slash(after) else {
             return false;
         };
         if further.is_empty() {
@@ -114,7 +114,7 @@ fn read_part<'a>(alloc: Global, sign: Sign, text: &'a [u8]) -> Result<(Part, &'a
 }
 
 // What follows a star: whether the text goes on with another one, and what follows that.
-fn behind_star(text: &[u8]) -> Option<&[u8]>
+fn after_star(text: &[u8]) -> Option<&[u8]>
     ensures { MatchOption result ((rest : List Sign) → map sign_of text.now ≡ Sign.Asterisk ∷ rest
         → ⊥) (λ rest. map sign_of text.now ≡ Sign.Asterisk ∷ map sign_of rest.now) }
 {
@@ -126,18 +126,18 @@ fn behind_star(text: &[u8]) -> Option<&[u8]>
 }
 
 // What follows two stars.
-fn behind_two_stars(text: &[u8]) -> Option<&[u8]>
+fn after_two_stars(text: &[u8]) -> Option<&[u8]>
     ensures found { MatchOption result
         ((rest : List Sign) → map sign_of text.now ≡ Sign.Asterisk ∷ Sign.Asterisk ∷ rest → ⊥)
         (λ rest. map sign_of text.now ≡ Sign.Asterisk ∷ Sign.Asterisk ∷ map sign_of rest.now) }
     ensures shorter { IfSome result (λ rest. length rest.now < length text.now) }
 {
-    let rest = behind_star(text)?;
-    behind_star(rest)
+    let rest = after_star(text)?;
+    after_star(rest)
 }
 
 // What follows a slash.
-fn behind_slash(text: &[u8]) -> Option<&[u8]>
+fn after_slash(text: &[u8]) -> Option<&[u8]>
     ensures { MatchOption result ((rest : List Sign) → map sign_of text.now ≡ Sign.Slash ∷ rest → ⊥)
         (λ rest. map sign_of text.now ≡ Sign.Slash ∷ map sign_of rest.now) }
 {
@@ -166,22 +166,22 @@ fn ends_sequence(open_groups: usize, text: &[u8]) -> bool
 fn read_stars<'a>(
     tokens: &mut Vec<Token>,
     open_groups: usize,
-    is_behind_group: bool,
+    is_after_group: bool,
     text: &'a [u8],
 ) -> Result<&'a [u8], AllocError>
-    ensures read { IfOk result (λ rest. read open_groups is_behind_group (reverse tokens.old.items)
+    ensures read { IfOk result (λ rest. read open_groups is_after_group (reverse tokens.old.items)
         (words (Sign.Asterisk ∷ map sign_of text.now))
         ≡ read open_groups false (reverse tokens.new.items) (words (map sign_of rest.now))) }
     ensures shorter { IfOk result (λ rest. length rest.now ≤ length text.now) }
 {
-    let Some(rest) = behind_star(text) else {
+    let Some(rest) = after_star(text) else {
         tokens.push(Token::Part(Part::Star))?;
         return Ok(text);
     };
-    let place = place_of(is_behind_group, tokens.as_slice());
-    if let Some(behind) = behind_slash(rest) {
+    let place = place_of(is_after_group, tokens.as_slice());
+    if let Some(after) = after_slash(rest) {
         put_dirs(tokens, place)?;
-        return Ok(behind);
+        return Ok(after);
     }
     if ends_sequence(open_groups, rest) {
         put_last_dirs(tokens, place)?;

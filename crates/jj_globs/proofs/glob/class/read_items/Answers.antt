@@ -18,7 +18,7 @@ loop-sign-init c = record {
 pub returns-in-CloseBracket-clause-read : goal.returns-in-CloseBracket-clause-read
 returns-in-CloseBracket-clause-read c =
     rw (c.new.ensures, c.in_ok-push-in-CloseBracket.ensures.items, c.loop-sign.invariant.reads, c.in-Some-next_sign.ensures, c.in-CloseBracket.is)
-    (items-closed c.args.negated c.loop-sign.ranges.items c.loop-sign.range (map sign_of c.in-Some-next_sign.behind.now))
+    (items-closed c.args.negated c.loop-sign.ranges.items c.loop-sign.range (map sign_of c.in-Some-next_sign.after.now))
 
 pub returns-in_default-next_sign-2-clause-read : goal.returns-in_default-next_sign-2-clause-read
 returns-in_default-next_sign-2-clause-read c =
@@ -39,15 +39,15 @@ returns-in-CloseBracket-bound-clause-read c =
       c.in-CloseBracket-bound.is,
       append_assoc c.loop-sign.ranges.items (c.loop-sign.range ∷ []) (single Dash ∷ []),
     )
-    (items-dash_closed c.args.negated c.loop-sign.ranges.items c.loop-sign.range (map sign_of c.in-Some-next_sign-2.behind.now))
+    (items-dash_closed c.args.negated c.loop-sign.ranges.items c.loop-sign.range (map sign_of c.in-Some-next_sign-2.after.now))
 
 pub loop-sign-preserved : goal.loop-sign-preserved
 loop-sign-preserved c = record {
   reads =
       rw (c.loop-sign.invariant.reads, c.in-Some-next_sign.ensures, c.in_ok-push-in_default-sign.ensures.items, c.one-range-in_default-sign.ensures, c.byte-in_default-sign.ensures)
-      (items-other c.args.negated c.loop-sign.ranges.items c.loop-sign.range c.in-Some-next_sign.sign (map sign_of c.in-Some-next_sign.behind.now)
+      (items-other c.args.negated c.loop-sign.ranges.items c.loop-sign.range c.in-Some-next_sign.sign (map sign_of c.in-Some-next_sign.after.now)
       c.in_default-sign.not-CloseBracket c.in_default-sign.not-Dash);
-  shorter = omega (arith, c.loop-sign.invariant.shorter, length-next c.loop-sign.rest.now c.in-Some-next_sign.behind.now c.in-Some-next_sign.sign c.in-Some-next_sign.ensures);
+  shorter = omega (arith, c.loop-sign.invariant.shorter, length-next c.loop-sign.rest.now c.in-Some-next_sign.after.now c.in-Some-next_sign.sign c.in-Some-next_sign.ensures);
 }
 
 pub returns-clause-read : goal.returns-clause-read
@@ -56,20 +56,20 @@ returns-clause-read c = rw (c.loop-sign.invariant.reads, c.in_default-next_sign.
 pub loop-sign-preserved-in-Ok : goal.loop-sign-preserved-in-Ok
 loop-sign-preserved-in-Ok c = record {
   reads =
-      items-range (first_item c.args.negated (map sign_of c.args.text.now)) c.args.negated c.loop-sign.ranges.items c.loop-sign.range (map sign_of c.loop-sign.rest.now) (map sign_of c.in-Some-next_sign.behind.now) c.in-Some-next_sign.sign c.in-Some-next_sign-2.bound (map sign_of c.in-Some-next_sign-2.behind.now) c.byte-in_default-bound.result
+      items-range (first_item c.args.negated (map sign_of c.args.text.now)) c.args.negated c.loop-sign.ranges.items c.loop-sign.range (map sign_of c.loop-sign.rest.now) (map sign_of c.in-Some-next_sign.after.now) c.in-Some-next_sign.sign c.in-Some-next_sign-2.bound (map sign_of c.in-Some-next_sign-2.after.now) c.byte-in_default-bound.result
       c.loop-sign.invariant.reads c.in-Some-next_sign.ensures c.in-Dash.is c.in-Some-next_sign-2.ensures c.in_default-bound.not-CloseBracket c.byte-in_default-bound.ensures
-      ∙ (c.in-Ok.ensures.1 _ ∙ ap (λ r. items c.args.negated c.loop-sign.ranges.items r (map sign_of c.in-Some-next_sign-2.behind.now)) (sym c.in-Ok.ensures.0));
-  shorter = omega (arith, c.loop-sign.invariant.shorter, length-next c.loop-sign.rest.now c.in-Some-next_sign.behind.now c.in-Some-next_sign.sign c.in-Some-next_sign.ensures, length-next c.in-Some-next_sign.behind.now c.in-Some-next_sign-2.behind.now c.in-Some-next_sign-2.bound c.in-Some-next_sign-2.ensures);
+      ∙ (c.in-Ok.ensures.1 _ ∙ ap (λ r. items c.args.negated c.loop-sign.ranges.items r (map sign_of c.in-Some-next_sign-2.after.now)) (sym c.in-Ok.ensures.0));
+  shorter = omega (arith, c.loop-sign.invariant.shorter, length-next c.loop-sign.rest.now c.in-Some-next_sign.after.now c.in-Some-next_sign.sign c.in-Some-next_sign.ensures, length-next c.in-Some-next_sign.after.now c.in-Some-next_sign-2.after.now c.in-Some-next_sign-2.bound c.in-Some-next_sign-2.ensures);
 }
 
 pub returns-in-Err-clause-read : goal.returns-in-Err-clause-read
 returns-in-Err-clause-read c =
-    let reads = items-range (first_item c.args.negated (map sign_of c.args.text.now)) c.args.negated c.loop-sign.ranges.items c.loop-sign.range (map sign_of c.loop-sign.rest.now) (map sign_of c.in-Some-next_sign.behind.now) c.in-Some-next_sign.sign c.in-Some-next_sign-2.bound (map sign_of c.in-Some-next_sign-2.behind.now) c.byte-in_default-bound.result
+    let reads = items-range (first_item c.args.negated (map sign_of c.args.text.now)) c.args.negated c.loop-sign.ranges.items c.loop-sign.range (map sign_of c.loop-sign.rest.now) (map sign_of c.in-Some-next_sign.after.now) c.in-Some-next_sign.sign c.in-Some-next_sign-2.bound (map sign_of c.in-Some-next_sign-2.after.now) c.byte-in_default-bound.result
     c.loop-sign.invariant.reads c.in-Some-next_sign.ensures c.in-Dash.is c.in-Some-next_sign-2.ensures c.in_default-bound.not-CloseBracket c.byte-in_default-bound.ensures in
     rw reads (c.in-Err.ensures _)
 
 pub returns-in-CloseBracket-clause-shorter : goal.returns-in-CloseBracket-clause-shorter
-returns-in-CloseBracket-clause-shorter c = omega (arith, c.loop-sign.invariant.shorter, length-next c.loop-sign.rest.now c.in-Some-next_sign.behind.now c.in-Some-next_sign.sign c.in-Some-next_sign.ensures)
+returns-in-CloseBracket-clause-shorter c = omega (arith, c.loop-sign.invariant.shorter, length-next c.loop-sign.rest.now c.in-Some-next_sign.after.now c.in-Some-next_sign.sign c.in-Some-next_sign.ensures)
 
 pub returns-in-CloseBracket-bound-clause-shorter : goal.returns-in-CloseBracket-bound-clause-shorter
-returns-in-CloseBracket-bound-clause-shorter c = omega (arith, c.loop-sign.invariant.shorter, length-next c.loop-sign.rest.now c.in-Some-next_sign.behind.now c.in-Some-next_sign.sign c.in-Some-next_sign.ensures, length-next c.in-Some-next_sign.behind.now c.in-Some-next_sign-2.behind.now c.in-Some-next_sign-2.bound c.in-Some-next_sign-2.ensures)
+returns-in-CloseBracket-bound-clause-shorter c = omega (arith, c.loop-sign.invariant.shorter, length-next c.loop-sign.rest.now c.in-Some-next_sign.after.now c.in-Some-next_sign.sign c.in-Some-next_sign.ensures, length-next c.in-Some-next_sign.after.now c.in-Some-next_sign-2.after.now c.in-Some-next_sign-2.bound c.in-Some-next_sign-2.ensures)

@@ -40,7 +40,7 @@ loop-rest-preserved g c = record {
   same = λ P solves.
       let first = moved P c.loop-rest.now c.loop-rest.next c.pass.new.next c.loop-rest.left.now c.in-Some.field-0-0.now c.in-Some.rest.now _
       c.in-Some.ensures.cases.0 c.loop-rest.invariant.next_none (c.pass.ensures.same c.if-pass.false P solves) (c.loop-rest.invariant.same P solves) in
-      let second = moved P c.pass.new.next c.pass.new.now c.pass-in-Some.new.next c.in-Some.rest.now c.in-Some-split_first.field-0-0.now c.in-Some-split_first.behind.now _
+      let second = moved P c.pass.new.next c.pass.new.now c.pass-in-Some.new.next c.in-Some.rest.now c.in-Some-split_first.field-0-0.now c.in-Some-split_first.after.now _
       c.in-Some-split_first.ensures.cases.0 (c.pass.ensures.empty c.if-pass.false) (c.pass-in-Some.ensures.same c.if-pass-2.false P solves) first in
       let skipped = c.skip-left.ensures.same c.args.below P solves in
       ((λ a. second.0 (skipped.0 a)), (λ x. skipped.1 (second.1 x)));

@@ -1,7 +1,7 @@
 use Rattle.std.proofs.Common.{◌≡◌, ◌+◌, ◌∙◌, ◌∷◌, ◌<◌, ap, sym, refl, false, None, Some, List, length, arith, subst}
 use Rattle.jj_globs.specs.declared.glob.step.Step.{Step}
 use Rattle.jj_globs.specs.GlobPlaces.{answers, StaysInside}
-use Rattle.jj_globs.proofs.GlobLowers.{inside_behind}
+use Rattle.jj_globs.proofs.GlobLowers.{inside_after}
 use Rattle.jj_globs.proofs.GlobSolved.{at_step, later}
 use Rattle.jj_globs.proofs.glob.pattern.stand_for.Goals as goal
 
@@ -9,22 +9,22 @@ pub loop-step-preserved : goal.loop-step-preserved
 loop-step-preserved c =
     let o = c.args.options in
     let step = c.in-Some.step.now in
-    let behind = c.in-Some.behind.now in
-    let split : c.loop-step.left.now ≡ step ∷ behind = c.in-Some.ensures.cases.0 in
-    let shorter : length behind + 1 ≡ length c.loop-step.left.now = c.in-Some.ensures.cases.1 in
+    let after = c.in-Some.after.now in
+    let split : c.loop-step.left.now ≡ step ∷ after = c.in-Some.ensures.cases.0 in
+    let shorter : length after + 1 ≡ length c.loop-step.left.now = c.in-Some.ensures.cases.1 in
     let size : length c.loop-step.left.now < 1048576 = c.loop-step.invariant.size in
     let known = c.loop-step.invariant in
-    let taken : answers o c.args.below (step ∷ behind) 0 c.loop-step.text.now
-    ≡ answers o c.args.below behind 0 c.in-Some-taken.rest.now =
-    at_step o c.args.below (step ∷ behind) 0 step refl c.loop-step.text.now
-    ∙ c.in-Some-take_byte.ensures.same (answers o c.args.below (step ∷ behind)) 0
-    ∙ ap (λ t. elim t [ None ↦ false | Some rest ↦ answers o c.args.below (step ∷ behind) (0 + 1) rest.now ])
+    let taken : answers o c.args.below (step ∷ after) 0 c.loop-step.text.now
+    ≡ answers o c.args.below after 0 c.in-Some-taken.rest.now =
+    at_step o c.args.below (step ∷ after) 0 step refl c.loop-step.text.now
+    ∙ c.in-Some-take_byte.ensures.same (answers o c.args.below (step ∷ after)) 0
+    ∙ ap (λ t. elim t [ None ↦ false | Some rest ↦ answers o c.args.below (step ∷ after) (0 + 1) rest.now ])
     c.in-Some-taken.is
-    ∙ later o c.args.below step behind (0 + 1) 0 (omega arith) c.in-Some-taken.rest.now in
+    ∙ later o c.args.below step after (0 + 1) 0 (omega arith) c.in-Some-taken.rest.now in
     record {
       same = known.same
           ∙ ap (λ (ss : List Step). answers o c.args.below ss 0 c.loop-step.text.now) split ∙ taken;
-      inside = inside_behind step behind (subst (λ (ss : List Step). StaysInside ss) split known.inside);
+      inside = inside_after step after (subst (λ (ss : List Step). StaysInside ss) split known.inside);
       size = omega (arith, shorter, size);
     }
 
@@ -32,9 +32,9 @@ pub returns-in_default-taken : goal.returns-in_default-taken
 returns-in_default-taken c =
     let o = c.args.options in
     let step = c.in-Some.step.now in
-    let behind = c.in-Some.behind.now in
+    let after = c.in-Some.after.now in
     let text = c.loop-step.text.now in
     sym (c.loop-step.invariant.same ∙ ap (λ (ss : List Step). answers o c.args.below ss 0 text) c.in-Some.ensures.cases.0
-    ∙ at_step o c.args.below (step ∷ behind) 0 step refl text
-    ∙ c.in-Some-take_byte.ensures.same (answers o c.args.below (step ∷ behind)) 0
-    ∙ ap (λ t. elim t [ None ↦ false | Some rest ↦ answers o c.args.below (step ∷ behind) (0 + 1) rest.now ]) c.in_default-taken.is)
+    ∙ at_step o c.args.below (step ∷ after) 0 step refl text
+    ∙ c.in-Some-take_byte.ensures.same (answers o c.args.below (step ∷ after)) 0
+    ∙ ap (λ t. elim t [ None ↦ false | Some rest ↦ answers o c.args.below (step ∷ after) (0 + 1) rest.now ]) c.in_default-taken.is)

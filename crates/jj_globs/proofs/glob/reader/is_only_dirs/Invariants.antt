@@ -3,8 +3,8 @@ use Rattle.std.proofs.Common.{◌≡◌, length, map}
 use Rattle.jj_globs.specs.GlobText.{sign_of, only_dirs}
 use Rattle.jj_globs.proofs.glob.reader.is_only_dirs.Given as goal
 
-abbrev pub invariant-loop-behind : goal.invariant-loop-behind
-invariant-loop-behind l = record { same : only_dirs (map sign_of l.fn.text) ≡ only_dirs (map sign_of l.rest) }
+abbrev pub invariant-loop-after : goal.invariant-loop-after
+invariant-loop-after l = record { same : only_dirs (map sign_of l.fn.text) ≡ only_dirs (map sign_of l.rest) }
 
-abbrev pub decreases-loop-behind : goal.decreases-loop-behind
-decreases-loop-behind l = length l.rest
+abbrev pub decreases-loop-after : goal.decreases-loop-after
+decreases-loop-after l = length l.rest

@@ -12,41 +12,41 @@ loop-sign-init c = record { fits = omega arith; reads = start c.args.text.now c.
 -- the words that begin with a class fault as the whole text does
 pub returns-in-Err : goal.returns-in-Err
 returns-in-Err c =
-    faulty c.in-Err.error (tokens_of c.args.text.now) c.loop-sign.open_groups c.loop-sign.is_behind_group (reverse c.loop-sign.tokens.items) (words (c.in-Some.sign ∷ map sign_of c.in-Some.behind.now))
+    faulty c.in-Err.error (tokens_of c.args.text.now) c.loop-sign.open_groups c.loop-sign.is_after_group (reverse c.loop-sign.tokens.items) (words (c.in-Some.sign ∷ map sign_of c.in-Some.after.now))
     (rw (c.loop-sign.invariant.reads, c.in-Some.ensures) refl) c.in-Err.ensures.read
 
 pub returns-in-CloseBrace : goal.returns-in-CloseBrace
-returns-in-CloseBrace c = rw (c.loop-sign.invariant.reads, c.in-Some.ensures, c.in-CloseBrace.is) (close-unopened c.loop-sign.open_groups c.loop-sign.is_behind_group (reverse c.loop-sign.tokens.items) (map sign_of c.in-Some.behind.now) (omega arith))
+returns-in-CloseBrace c = rw (c.loop-sign.invariant.reads, c.in-Some.ensures, c.in-CloseBrace.is) (close-unopened c.loop-sign.open_groups c.loop-sign.is_after_group (reverse c.loop-sign.tokens.items) (map sign_of c.in-Some.after.now) (omega arith))
 
 pub loop-sign-preserved-in-CloseBrace-2 : goal.loop-sign-preserved-in-CloseBrace-2
 loop-sign-preserved-in-CloseBrace-2 c = record {
-  fits = omega (arith, c.loop-sign.invariant.fits, length-next c.loop-sign.rest.now c.in-Some.behind.now c.in-Some.sign c.in-Some.ensures);
-  reads = rw (c.loop-sign.invariant.reads, c.in-Some.ensures, c.in-CloseBrace-2.is, c.in_ok-is_behind_group-in-CloseBrace-2.ensures.tokens, c.in_ok-is_behind_group-in-CloseBrace-2.ensures.dropped) (close-read c.loop-sign.open_groups c.loop-sign.is_behind_group (reverse c.loop-sign.tokens.items) (map sign_of c.in-Some.behind.now) (omega arith));
+  fits = omega (arith, c.loop-sign.invariant.fits, length-next c.loop-sign.rest.now c.in-Some.after.now c.in-Some.sign c.in-Some.ensures);
+  reads = rw (c.loop-sign.invariant.reads, c.in-Some.ensures, c.in-CloseBrace-2.is, c.in_ok-is_after_group-in-CloseBrace-2.ensures.tokens, c.in_ok-is_after_group-in-CloseBrace-2.ensures.dropped) (close-read c.loop-sign.open_groups c.loop-sign.is_after_group (reverse c.loop-sign.tokens.items) (map sign_of c.in-Some.after.now) (omega arith));
 }
 
 pub loop-sign-preserved-in_ok-push-in-OpenBrace : goal.loop-sign-preserved-in_ok-push-in-OpenBrace
 loop-sign-preserved-in_ok-push-in-OpenBrace c = record {
-  fits = omega (arith, c.loop-sign.invariant.fits, length-next c.loop-sign.rest.now c.in-Some.behind.now c.in-Some.sign c.in-Some.ensures);
-  reads = rw (c.loop-sign.invariant.reads, c.in-Some.ensures, c.in-OpenBrace.is, reverse-push c.loop-sign.tokens.items c.push.new.self.items Open c.in_ok-push-in-OpenBrace.ensures.items) (open-read c.loop-sign.open_groups c.loop-sign.is_behind_group (reverse c.loop-sign.tokens.items) (map sign_of c.in-Some.behind.now));
+  fits = omega (arith, c.loop-sign.invariant.fits, length-next c.loop-sign.rest.now c.in-Some.after.now c.in-Some.sign c.in-Some.ensures);
+  reads = rw (c.loop-sign.invariant.reads, c.in-Some.ensures, c.in-OpenBrace.is, reverse-push c.loop-sign.tokens.items c.push.new.self.items Open c.in_ok-push-in-OpenBrace.ensures.items) (open-read c.loop-sign.open_groups c.loop-sign.is_after_group (reverse c.loop-sign.tokens.items) (map sign_of c.in-Some.after.now));
 }
 
 pub loop-sign-preserved-in_ok-put_comma-in-Comma : goal.loop-sign-preserved-in_ok-put_comma-in-Comma
 loop-sign-preserved-in_ok-put_comma-in-Comma c = record {
-  fits = omega (arith, c.loop-sign.invariant.fits, length-next c.loop-sign.rest.now c.in-Some.behind.now c.in-Some.sign c.in-Some.ensures);
-  reads = rw (c.loop-sign.invariant.reads, c.in-Some.ensures, c.in-Comma.is) (comma-either c.loop-sign.open_groups c.loop-sign.is_behind_group (reverse c.loop-sign.tokens.items) (reverse c.put_comma.new.tokens.items) (map sign_of c.in-Some.behind.now) c.in_ok-put_comma-in-Comma.ensures.plain c.in_ok-put_comma-in-Comma.ensures.group);
+  fits = omega (arith, c.loop-sign.invariant.fits, length-next c.loop-sign.rest.now c.in-Some.after.now c.in-Some.sign c.in-Some.ensures);
+  reads = rw (c.loop-sign.invariant.reads, c.in-Some.ensures, c.in-Comma.is) (comma-either c.loop-sign.open_groups c.loop-sign.is_after_group (reverse c.loop-sign.tokens.items) (reverse c.put_comma.new.tokens.items) (map sign_of c.in-Some.after.now) c.in_ok-put_comma-in-Comma.ensures.plain c.in_ok-put_comma-in-Comma.ensures.group);
 }
 
 pub loop-sign-preserved : goal.loop-sign-preserved
 loop-sign-preserved c = record {
-  fits = omega (arith, c.loop-sign.invariant.fits, length-next c.loop-sign.rest.now c.in-Some.behind.now c.in-Some.sign c.in-Some.ensures, c.in-Ok.ensures.shorter);
-  reads = rw (c.loop-sign.invariant.reads, c.in-Some.ensures, reverse-push c.loop-sign.tokens.items c.push-in-Ok.new.self.items (part c.in-Ok.part) c.in_ok-push-in-Ok.ensures.items) (c.in-Ok.ensures.read c.loop-sign.open_groups c.loop-sign.is_behind_group (reverse c.loop-sign.tokens.items));
+  fits = omega (arith, c.loop-sign.invariant.fits, length-next c.loop-sign.rest.now c.in-Some.after.now c.in-Some.sign c.in-Some.ensures, c.in-Ok.ensures.shorter);
+  reads = rw (c.loop-sign.invariant.reads, c.in-Some.ensures, reverse-push c.loop-sign.tokens.items c.push-in-Ok.new.self.items (part c.in-Ok.part) c.in_ok-push-in-Ok.ensures.items) (c.in-Ok.ensures.read c.loop-sign.open_groups c.loop-sign.is_after_group (reverse c.loop-sign.tokens.items));
 }
 
 pub returns-then-open_groups-gt0 : goal.returns-then-open_groups-gt0
-returns-then-open_groups-gt0 c = rw (c.loop-sign.invariant.reads, c.in_default.ensures) (read-unclosed c.loop-sign.open_groups c.loop-sign.is_behind_group (reverse c.loop-sign.tokens.items) c.if-open_groups-gt0.true)
+returns-then-open_groups-gt0 c = rw (c.loop-sign.invariant.reads, c.in_default.ensures) (read-unclosed c.loop-sign.open_groups c.loop-sign.is_after_group (reverse c.loop-sign.tokens.items) c.if-open_groups-gt0.true)
 
 pub returns : goal.returns
 returns c =
     rw (c.loop-sign.invariant.reads, c.in_default.ensures)
-    (read-end c.loop-sign.open_groups c.loop-sign.is_behind_group (reverse c.loop-sign.tokens.items) (omega (arith, c.if-open_groups-gt0.false))
+    (read-end c.loop-sign.open_groups c.loop-sign.is_after_group (reverse c.loop-sign.tokens.items) (omega (arith, c.if-open_groups-gt0.false))
     ∙ ap Ok (reverse-reverse c.loop-sign.tokens.items))

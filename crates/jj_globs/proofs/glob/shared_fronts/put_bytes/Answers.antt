@@ -26,15 +26,15 @@ loop-left-preserved c =
     let split : c.loop-left.left.now ≡ before ++ byte ∷ [] = c.in-Some.ensures.cases.0 in
     let shorter : length before + 1 ≡ length c.loop-left.left.now = c.in-Some.ensures.cases.1 in
     let more : c.args.from < length c.loop-left.left.now = c.loop-left-test.true in
-    let (behind, whole) = known.front in
-    let word : c.args.word.now ≡ (before ++ byte ∷ []) ++ behind =
-    whole ∙ ap (λ l. l ++ behind) split in
+    let (after, whole) = known.front in
+    let word : c.args.word.now ≡ (before ++ byte ∷ []) ++ after =
+    whole ∙ ap (λ l. l ++ after) split in
     let pushed : reverse c.push.new.self.items ≡ Byte byte ∷ mid =
     ap reverse c.in_ok-push.ensures.items ∙ reverse-append c.loop-left.steps.items (Byte byte ∷ []) in
     record {
-      put = puts_byte c.args.word.now before behind byte (reverse c.args.steps.now.items) (reverse c.args.branches.now.items) mid rest new left word
+      put = puts_byte c.args.word.now before after byte (reverse c.args.steps.now.items) (reverse c.args.branches.now.items) mid rest new left word
           (subst (λ (l : List ℕ). PutsBytes c.args.word.now (length l) (reverse c.args.steps.now.items) (reverse c.args.branches.now.items) mid rest) split known.put)
           (subst (λ (ss : List Step). JoinsBranch (length before) ss rest new left) pushed c.in_ok-join_branch-2.ensures);
-      front = (byte ∷ behind, word ∙ append_assoc before (byte ∷ []) behind);
+      front = (byte ∷ after, word ∙ append_assoc before (byte ∷ []) after);
       within = omega (arith, shorter, more);
     }

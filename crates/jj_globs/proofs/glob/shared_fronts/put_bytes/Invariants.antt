@@ -7,7 +7,7 @@ abbrev pub invariant-loop-left : goal.invariant-loop-left
 invariant-loop-left l = record {
   put : PutsBytes l.word (length l.left) (reverse l.fn.steps.items) (reverse l.fn.branches.items)
       (reverse l.steps.items) (reverse l.branches.items);
-  front : (behind : List ℕ) × (l.word ≡ l.left ++ behind);
+  front : (after : List ℕ) × (l.word ≡ l.left ++ after);
   within : l.from ≤ length l.left;
 }
 
