@@ -10,7 +10,7 @@ use Rattle.jj_walks.specs.declared.graph.GraphEdge.{GraphEdge}
 use Rattle.jj_walks.specs.declared.candidates.Candidates.{Candidates}
 use Rattle.jj_walks.specs.Candidates.{count_of, has_id, is_listed}
 use Rattle.jj_walks.specs.Branches.{AreCounts, Climbs, IsFirstBranch, IsUntaken, KeepsBranch, TakesHead, Unblocks, has_child}
-use Rattle.jj_walks.specs.Listed.{items_of}
+use Rattle.jj_walks.specs.ListsByKey.{items_of}
 use Rattle.jj_walks.specs.Grouped.{AreReadChildFirst, Entry, Gave, History, IsWay, Prioritized, Reaches, Read, first_wanted, given_nodes, has_edge, held, held_at, is_wanted, leads_to, read_nodes}
 use Rattle.jj_walks.specs.HeldNodes.{KeepsHistory}
 use Rattle.jj_walks.proofs.CandidateLists.{and_left, and_right}

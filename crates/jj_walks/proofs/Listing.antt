@@ -7,7 +7,7 @@ use Rattle.std.specs.Option.{UnwrapsOrElse}
 use Rattle.std.specs.Global.{Global}
 use Rattle.std.specs.Vec.{vec_len}
 use Rattle.std.specs.declared.vec.Vec.{Vec}
-use Rattle.jj_walks.specs.Listed.{items_at, items_of}
+use Rattle.jj_walks.specs.ListsByKey.{items_at, items_of}
 
 -- the list that an entry lends
 pub items_of-lent : {V : Type 0} (found : Option (Vec V Global)) (lent : Vec V Global) → UnwrapsOrElse found (λ made. (made.items ≡ []) × (vec_len made ≡ 0)) lent → lent.items ≡ items_of found

@@ -7,7 +7,7 @@ use Rattle.std.specs.VecDeque.{deque_items}
 use Rattle.std.specs.declared.vec.Vec.{Vec}
 use Rattle.jj_walks.specs.declared.candidates.Candidates.{Candidates}
 use Rattle.jj_walks.specs.Candidates.{has_id, is_listed, is_positive}
-use Rattle.jj_walks.specs.Listed.{items_at}
+use Rattle.jj_walks.specs.ListsByKey.{items_at}
 use Rattle.jj_walks.specs.Grouped.{History, AreReadChildFirst, Reaches, first_wanted, given_nodes, has_edge, read_nodes}
 
 module _ {ID : Type 0} where

@@ -1,7 +1,7 @@
 pub mod DfsSteps
 pub mod DfsOkSteps
 pub mod NextItem
-pub mod Listed
+pub mod ListsByKey
 pub mod Reversed
 pub mod LazySteps
 pub mod LookingAhead

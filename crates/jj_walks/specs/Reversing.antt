@@ -11,21 +11,21 @@ use Rattle.jj_walks.specs.declared.graph.GraphEdge.{GraphEdge}
 use Rattle.jj_walks.specs.Reversed.{ShowsById, reversed_graph, shown_graph}
 
 -- a node with its edges, as the input gives it
-abbrev pub Listed : Type 0 → Type 0 → Type 0
-Listed N ID = N × Vec (GraphEdge ID) Global
+abbrev pub GraphNode : Type 0 → Type 0 → Type 0
+GraphNode N ID = N × Vec (GraphEdge ID) Global
 
 -- the input gave nodes and ended, and whatever id `as_id` tells of each node, the list is the
 -- reverse of the graph that they show
 abbrev pub GivesReversed : {N ID E I F : Type 0} → Shared F (Bor N × Unit {0}) (Bor ID)
-    → (I → Option (Result (Listed N ID) E) → I → Type 0) → (ID → ID → Type 0) → (ID → ID → Bool)
-    → I → F → Vec (Listed N ID) Global → Type 0
-GivesReversed {N} {ID} ids steps clone eq input as_id v = (nodes : List (Listed N ID))
+    → (I → Option (Result (GraphNode N ID) E) → I → Type 0) → (ID → ID → Type 0) → (ID → ID → Bool)
+    → I → F → Vec (GraphNode N ID) Global → Type 0
+GivesReversed {N} {ID} ids steps clone eq input as_id v = (nodes : List (GraphNode N ID))
     × Drains steps input (map Ok nodes)
     × ((id : N → ID) → ((x : N) (r : Bor ID) → FnReturnsAt ids as_id x r → r.now ≡ id x)
     → ShowsById clone id (reversed_graph eq id (shown_graph nodes)) (shown_graph v.items))
 
 -- the input gave nodes, and then this error
-abbrev pub InputFails : {N ID E I : Type 0} → (I → Option (Result (Listed N ID) E) → I → Type 0)
+abbrev pub InputFails : {N ID E I : Type 0} → (I → Option (Result (GraphNode N ID) E) → I → Type 0)
     → I → E → Type 0
-InputFails {N} {ID} {E} {I} steps input error = (nodes : List (Listed N ID)) × (t : I)
+InputFails {N} {ID} {E} {I} steps input error = (nodes : List (GraphNode N ID)) × (t : I)
     × Yields steps input (map Ok nodes ++ Err error ∷ []) t

@@ -1,6 +1,6 @@
 //! Lists by key.
 ghost use Rattle.std.specs.Prelude.{◌≡◌, ◌++◌, ◌∷◌, [], OnOk, if◌then◌else◌};
-ghost use Rattle.jj_walks.specs.Listed.{items_at};
+ghost use Rattle.jj_walks.specs.ListsByKey.{items_at};
 
 use std::alloc::AllocError;
 use std::collections::HashMap;

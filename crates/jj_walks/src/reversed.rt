@@ -1,7 +1,7 @@
 //! The reverse of a shown graph.
 ghost use Rattle.std.specs.Prelude.{◌≡◌, [], IfOk, if◌then◌else◌};
 ghost use Rattle.std.specs.Iterator.{IsFinite};
-ghost use Rattle.jj_walks.specs.Listed.{items_at};
+ghost use Rattle.jj_walks.specs.ListsByKey.{items_at};
 ghost use Rattle.jj_dag.specs.Outcomes.{IfFails};
 ghost use Rattle.jj_walks.specs.Reversing.{GivesReversed, InputFails};
 

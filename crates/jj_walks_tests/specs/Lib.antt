@@ -1,4 +1,4 @@
-pub mod Listed
+pub mod GraphOfMap
 pub mod Commits
 pub mod Branches
 pub mod Parents

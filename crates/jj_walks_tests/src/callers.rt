@@ -1,7 +1,7 @@
 //! Callers over a map from ids to lists of ids: their contracts follow from the walks' own.
 ghost use Rattle.std.specs.Prelude.{◌≡◌, IfOk};
 ghost use Rattle.jj_dag.specs.Graph.{IsPreorder};
-ghost use Rattle.jj_walks_tests.specs.Listed.{graph_of, neighbors_in};
+ghost use Rattle.jj_walks_tests.specs.GraphOfMap.{graph_of, neighbors_in};
 
 use crate::walked::nodes_of;
 use jj_walks::dag_walk::dfs;

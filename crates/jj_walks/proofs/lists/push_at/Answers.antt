@@ -1,7 +1,7 @@
 use Rattle.jj_walks.proofs.Listing.{items_of-lent, items_of-put}
 use Rattle.std.proofs.Common.{rules, arith, ◌≡◌, ◌++◌, ◌∷◌, [], ◌∙◌, ap}
 use Rattle.std.proofs.lemmas.Grind.{common_steps}
-use Rattle.jj_walks.specs.Listed.{items_at}
+use Rattle.jj_walks.specs.ListsByKey.{items_at}
 use Rattle.jj_walks.proofs.lists.push_at.Goals as goal
 
 pub returns : goal.returns

@@ -3,7 +3,7 @@ use Rattle.std.proofs.lemmas.Grind.{common_steps}
 use Rattle.std.proofs.lemmas.Iterator.{items_from_drains}
 use Rattle.std.proofs.lemmas.Iterator.Adapters.{YieldsList-from_vec}
 use Rattle.std.proofs.lemmas.List.{map-append, map-id}
-use Rattle.jj_walks.specs.Listed.{items_at}
+use Rattle.jj_walks.specs.ListsByKey.{items_at}
 use Rattle.jj_walks.specs.Reversed.{incoming_edges, shown_graph}
 use Rattle.jj_dag.proofs.FailingOrders.{ok-push, Yields-push}
 use Rattle.jj_walks.proofs.Reversing.{leads_turned, leads_nothing, leads_entered, leads_left, shows_more, shows_all}

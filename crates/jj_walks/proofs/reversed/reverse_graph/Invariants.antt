@@ -6,7 +6,7 @@ use Rattle.std.specs.List.{AllZip, list_any}
 use Rattle.std.specs.declared.vec.Vec.{Vec as vec}
 use denote.Ref.{Bor}
 use Rattle.jj_walks.specs.declared.graph.GraphEdge.{GraphEdge}
-use Rattle.jj_walks.specs.Listed.{items_at}
+use Rattle.jj_walks.specs.ListsByKey.{items_at}
 use Rattle.jj_walks.specs.Reversed.{LeadsToId, ShowsById, incoming_edges, shown_graph, turned_edges, with_incoming}
 use Rattle.jj_walks.proofs.reversed.reverse_graph.Given as goal
 

@@ -1,6 +1,6 @@
 use Rattle.std.proofs.Common.{◌≡◌, true, false, true≢false, sym, ◌∙◌}
 use Rattle.jj_walks.specs.Grouped.{is_shown}
-use Rattle.jj_walks.specs.Listed.{items_at}
+use Rattle.jj_walks.specs.ListsByKey.{items_at}
 use Rattle.jj_walks.proofs.CandidateLists.{is_shown-missing, is_shown-other}
 use Rattle.jj_walks.proofs.Children.{child-put, child-missing}
 use Rattle.jj_walks.proofs.candidates.Candidates.remember.Goals as goal
