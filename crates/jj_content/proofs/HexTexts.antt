@@ -12,11 +12,7 @@ use Rattle.std.proofs.lemmas.List.Elements.{All-nil, All-push, All-head, All-tai
 use Rattle.std.proofs.lemmas.Bool.{eqb-true, eq-eqb, cases_lt, and_parts}
 use Rattle.std.proofs.lemmas.Bool.Decides.{eqb_tells}
 use Rattle.std.proofs.lemmas.List.Quantifiers.{position-Some}
-use Rattle.jj_content.specs.Hex.{hex_digits, reverse_hex_digits, digit_pair, text_with, ReadsAs, ReadsAsNothing, digit_value, common_length, is_text_of}
-
--- a number that is a byte
-abbrev pub IsByte : ℕ → Type 0
-IsByte byte = byte < 256
+use Rattle.jj_content.specs.Hex.{IsByte, hex_digits, reverse_hex_digits, digit_pair, text_with, ReadsAs, ReadsAsNothing, digit_value, common_length, is_text_of}
 
 -- sixteen lower-case digits, each at one place
 pub record AreDigits (digits : List ℕ) : Type 0 where

@@ -1,7 +1,7 @@
 -- Hex text: each byte as two digits, the high one first.
--- Cited by contracts of public items: IsPrefixReading, IsReading, ReadsAs, common_length, evened,
--- hex, hex_digits, is_text_of, reverse_hex, reverse_hex_digits.
-use Rattle.std.specs.Prelude.{◌≡◌, ℕ, ◌/◌, ◌%◌, ◌+◌, ◌<◌, List, [], ◌∷◌, ◌++◌, ◌==◌, length, slice_index, replicate, codes, if◌then◌else◌, All, Option, MatchOption, position, Bool, ◌&&◌, is_some}
+-- Cited by contracts of public items: IsByte, IsPrefixReading, IsReading, ReadsAs, common_length,
+-- evened, hex, hex_digits, is_text_of, reverse_hex, reverse_hex_digits.
+use Rattle.std.specs.Prelude.{◌≡◌, ℕ, ◌/◌, ◌%◌, ◌+◌, ◌<◌, ◌^◌, List, [], ◌∷◌, ◌++◌, ◌==◌, length, slice_index, replicate, codes, if◌then◌else◌, All, Option, MatchOption, position, Bool, ◌&&◌, is_some}
 use Rattle.std.specs.Str.{str_to_ascii_lowercase}
 use Rattle.std.specs.Char.{to_ascii_lowercase}
 use Rattle.std.specs.List.{flat_map, list_all}
@@ -30,9 +30,13 @@ hex bytes = text_with hex_digits bytes
 abbrev pub reverse_hex : List ℕ → List ℕ
 reverse_hex bytes = text_with reverse_hex_digits bytes
 
+-- the number is a byte
+abbrev pub IsByte : ℕ → Type 0
+IsByte number = number < 2 ^ 8
+
 -- the text reads as these bytes: its lower-case form is their text
 pub record ReadsAs (digits text bytes : List ℕ) : Type 0 where
-  pub bytes_fit : All (λ byte. byte < 256) bytes
+  pub bytes_fit : All IsByte bytes
   pub same : str_to_ascii_lowercase text ≡ text_with digits bytes
 
 -- the text reads as no bytes

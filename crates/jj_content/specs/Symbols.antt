@@ -1,7 +1,7 @@
 -- Quoted texts: how a character prints between double quotes, and which character an escape stands
 -- for.
 -- Cited by contracts of public items: IsEscapeOf, escaped_text, quoted_text.
-use Rattle.std.specs.Prelude.{◌≡◌, ℕ, ◌<◌, List, [], ◌∷◌, ◌++◌, ◌==◌, codes, if◌then◌else◌, Option, Some, find, ◌⊎◌}
+use Rattle.std.specs.Prelude.{◌≡◌, ℕ, ◌<◌, ◌^◌, List, [], ◌∷◌, ◌++◌, ◌==◌, codes, if◌then◌else◌, Option, Some, find, ◌⊎◌}
 use Rattle.std.specs.Option.{option_map, option_map_or}
 use Rattle.std.specs.List.{flat_map}
 use Rattle.std.specs.Char.{is_ascii_control}
@@ -43,4 +43,4 @@ IsEscapeOf text c =
     ((letter : ℕ) × (text ≡ 92 ∷ letter ∷ []) × (letter_char letter ≡ Some c))
     ⊎ ((digits : List ℕ) × (text ≡ codes "\\x" ++ digits)
     × IsNumeral 16 (without_leading_plus digits)
-    × (digits_value 16 (without_leading_plus digits) ≡ c) × (c < 256))
+    × (digits_value 16 (without_leading_plus digits) ≡ c) × (c < 2 ^ 8))

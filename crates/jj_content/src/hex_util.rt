@@ -3,7 +3,7 @@
 ghost use Rattle.std.specs.Prelude.{◌≡◌, ◌==◌, ℕ, ◌+◌, ◌*◌, ◌/◌, ◌%◌, ◌<◌, ◌≤◌, List, length, slice_index, All, IfOk, IsAscii, IfSome, Option, Some, None};
 ghost use Rattle.std.specs.String.{string_bytes};
 ghost use Rattle.std.specs.Str.{str_to_ascii_lowercase};
-ghost use Rattle.jj_content.specs.Hex.{hex, reverse_hex, text_with, hex_digits, reverse_hex_digits, ReadsAs, IsReading, IsPrefixReading, digit_value, common_length};
+ghost use Rattle.jj_content.specs.Hex.{IsByte, hex, reverse_hex, text_with, hex_digits, reverse_hex_digits, ReadsAs, IsReading, IsPrefixReading, digit_value, common_length};
 ghost use Rattle.jj_content.specs.HexKinds.{digits_of};
 
 use std::alloc::{AllocError, Global};
@@ -224,9 +224,9 @@ pub fn common_hex_len(bytes_a: &[u8], bytes_b: &[u8]) -> usize
 
 /// Decoding undoes encoding: the text of some bytes reads as them, in both kinds of hex.
 pub fn decoding_undoes_encoding()
-    ensures forward { (bytes : List ℕ) → All (λ byte. byte < 256) bytes
+    ensures forward { (bytes : List ℕ) → All IsByte bytes
         → ReadsAs hex_digits (hex bytes) bytes }
-    ensures reverse { (bytes : List ℕ) → All (λ byte. byte < 256) bytes
+    ensures reverse { (bytes : List ℕ) → All IsByte bytes
         → ReadsAs reverse_hex_digits (reverse_hex bytes) bytes }
 {}
 

@@ -1,7 +1,7 @@
 -- A matcher of strings as a set of byte lists.
 -- Cited by contracts of public items: Asks, InMatcher, IsExpressionFromText, IsPatternFromText,
 -- MayAllocate.
-use Rattle.std.specs.Prelude.{◌≡◌, ◌↔◌, ◌⊎◌, ◌<◌, ℕ, List, All as Every, string_bytes}
+use Rattle.std.specs.Prelude.{◌≡◌, ◌↔◌, ◌⊎◌, ◌<◌, ◌^◌, ℕ, List, All as Every, string_bytes}
 use Rattle.regex.specs.Bytes.{regex_config, IsReadFromSource}
 use Rattle.regex.specs.declared.bytes.regex.Regex as compiled
 use Rattle.jj_strings.specs.Predicates.{Accepts}
@@ -43,7 +43,7 @@ IsExpressionFromText e = Unit {0}
 -- made of its text; it has this form; it takes memory only where a regular expression is inside
 pub record Asks {F : _} {V : _} {m : _} (is_from_text : Type 0) (holds : List ℕ → Type 0)
     (wanted : Form) (has_regex : Type 0) (matcher : StringMatcher F V m) : Type 0 where
-  pub set : is_from_text → (bytes : List ℕ) → Every (λ b. b < 256) bytes
+  pub set : is_from_text → (bytes : List ℕ) → Every (λ byte. byte < 2 ^ 8) bytes
       → InMatcher matcher bytes ↔ holds bytes
   pub form : form_of matcher ≡ wanted
   pub memory : MayAllocate matcher → has_regex

@@ -1,8 +1,8 @@
 //! Merges that grow and shrink, and merges of one value.
-ghost use Rattle.std.specs.Prelude.{◌≡◌, ℕ, ◌+◌, ◌-◌, ◌*◌, ◌/◌, ◌^◌, ◌<◌, ◌≤◌, length, max, slice_get, IfOk, OnOk, OnErr, Some, ◌+ℤ◌, ◌-ℤ◌, [], ◌∷◌, Bool};
+ghost use Rattle.std.specs.Prelude.{◌≡◌, ℕ, ◌+◌, ◌-◌, ◌*◌, ◌<◌, ◌≤◌, length, max, slice_get, IfOk, OnOk, OnErr, Some, ◌+ℤ◌, ◌-ℤ◌, [], ◌∷◌, Bool};
 ghost use Rattle.std.specs.List.{AllClonesOf, AppendsClonesOf, swap_remove};
 ghost use Rattle.jj_merges.specs.Counts.{HaveCountsOfClones, count_of_one};
-ghost use Rattle.jj_merges.specs.Merge.{adds, removes, signed_count};
+ghost use Rattle.jj_merges.specs.Merge.{adds, most_sides, removes, signed_count};
 
 use super::Merge;
 use super::storage::Terms;
@@ -34,7 +34,7 @@ impl<T: Clone> Merge<T> {
     /// A merge of so many sides, all of them the value or clones of it.
     pub fn repeated(alloc: Global, value: T, num_sides: usize) -> Result<Self, AllocError>
         requires some { 1 ≤ num_sides }
-        requires limit { num_sides ≤ (2 ^ 64 - 1) / 2 }
+        requires limit { num_sides ≤ most_sides }
         ensures terms { IfOk result (AllClonesOf T.is_clone value) }
         ensures len { IfOk result (λ m. length m + 1 ≡ 2 * num_sides) }
         ensures counts { IfOk result (HaveCountsOfClones T.is_clone (value ∷ [])) }
@@ -51,7 +51,7 @@ impl<T: Clone> Merge<T> {
 
     /// Appends clones of the value, a remove and an add at a time, until there are so many sides.
     pub fn pad_to(&mut self, alloc: Global, num_sides: usize, value: &T) -> Result<(), AllocError>
-        requires { num_sides ≤ (2 ^ 64 - 1) / 2 }
+        requires { num_sides ≤ most_sides }
         ensures terms { OnOk result (AppendsClonesOf T.is_clone self.old self.new value.now) }
         ensures len { OnOk result (length self.new ≡ max (length self.old) (2 * num_sides - 1)) }
         ensures counts { OnOk result (HaveCountsOfClones T.is_clone self.old self.new) }
