@@ -21,9 +21,16 @@ nanoseconds millis = millis *ℤ nanoseconds_in_millisecond
 abbrev pub IsWithinDay : ℤ → Type 0
 IsWithinDay seconds = (negsuc 86399 ≤ℤ seconds) × (seconds ≤ℤ pos 86400)
 
+-- the least and the greatest offset in minutes: a minute less than a day, either way
+abbrev pub least_offset : ℤ
+least_offset = negsuc 1438
+
+abbrev pub greatest_offset : ℤ
+greatest_offset = pos 1439
+
 -- the seconds of an offset in minutes, of which a day or more counts as none
 abbrev pub offset_seconds : ℤ → ℤ
-offset_seconds minutes = if int_le (negsuc 1438) minutes && int_le minutes (pos 1439)
+offset_seconds minutes = if int_le least_offset minutes && int_le minutes greatest_offset
     then minutes *ℤ seconds_in_minute else pos 0
 
 -- the date is told in a zone whose clock is always this many seconds ahead of UTC
