@@ -13,16 +13,17 @@ BeginAlike count text other = take count (lines_of text) ≡ take count (lines_o
 
 -- the faulty line is there; every text that begins with the lines up to it has its fault; and no
 -- text that begins with the lines before it has a fault in one of them
-pub record IsFirstFault (command : Command) (text : List ℕ) (number : ℕ) (kind : LineFault)
+pub record IsFirstFault (command : Command) (text : List ℕ) (line_number : ℕ) (kind : LineFault)
     : Type 0 where
-  pub there : (1 ≤ number) × (number ≤ length (lines_of text))
-  pub decided : (other : List ℕ) → BeginAlike number text other
-      → GivesText command other (Err (Line number kind))
+  pub there : (1 ≤ line_number) × (line_number ≤ length (lines_of text))
+  pub decided : (other : List ℕ) → BeginAlike line_number text other
+      → GivesText command other (Err (Line line_number kind))
   pub first : (other : List ℕ) (earlier : ℕ) (fault : LineFault)
-      → BeginAlike (number - 1) text other → earlier < number
+      → BeginAlike (line_number - 1) text other → earlier < line_number
       → GivesText command other (Err (Line earlier fault)) → ⊥
 
 -- a fault that a command gives with a line is that of the first faulty line
 abbrev pub GivesFirstFault : Type 0
-GivesFirstFault = (command : Command) (text : List ℕ) (number : ℕ) (kind : LineFault)
-    → GivesText command text (Err (Line number kind)) → IsFirstFault command text number kind
+GivesFirstFault = (command : Command) (text : List ℕ) (line_number : ℕ) (kind : LineFault)
+    → GivesText command text (Err (Line line_number kind))
+    → IsFirstFault command text line_number kind

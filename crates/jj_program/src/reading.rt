@@ -30,12 +30,13 @@ fn take_line<'t, M: Reading<'t>>(
     alloc: Global,
     reading: &mut M,
     fields: &mut Vec<&'t str>,
-    number: usize,
+    line_number: usize,
     line: &'t str,
 ) -> Result<(), Fault>
     ensures { MatchResult result
-        (λ _. after_line M.step number (M.state reading.old) line.now ≡ Ok (M.state reading.new))
-        (λ fault. IsFaultOf fault (after_line M.step number (M.state reading.old) line.now)) }
+        (λ _. after_line M.step line_number (M.state reading.old) line.now
+        ≡ Ok (M.state reading.new))
+        (λ fault. IsFaultOf fault (after_line M.step line_number (M.state reading.old) line.now)) }
 {
     if line.is_empty() {
         return Ok(());
@@ -44,7 +45,10 @@ fn take_line<'t, M: Reading<'t>>(
     match reading.take(alloc, fields) {
         Ok(()) => Ok(()),
         Err(StepFault::Memory) => Err(Fault::Memory),
-        Err(StepFault::Line(kind)) => Err(Fault::Line { line: number, kind }),
+        Err(StepFault::Line(kind)) => Err(Fault::Line {
+            line: line_number,
+            kind,
+        }),
     }
 }
 
@@ -62,13 +66,13 @@ pub fn take_lines<'t, M: Reading<'t>>(
 {
     let mut fields = Vec::new(alloc);
     let mut rest = text;
-    let mut number = 1;
+    let mut line_number = 1;
     while let Some((line, later)) = rest.split_once('\n') {
-        take_line(alloc, reading, &mut fields, number, line)?;
+        take_line(alloc, reading, &mut fields, line_number, line)?;
         rest = later;
-        number += 1;
+        line_number += 1;
     }
-    take_line(alloc, reading, &mut fields, number, rest)
+    take_line(alloc, reading, &mut fields, line_number, rest)
 }
 
 // Puts the fields of a line in the place of those that a list has.
