@@ -2,7 +2,7 @@
 ghost use Rattle.std.specs.Prelude.{◌≡◌};
 ghost use Rattle.jj_backend.specs.declared.signing.SignError.{SignError};
 
-use jj_paths::file_util::SourceError;
+use jj_files::file_util::SourceError;
 use std::alloc::{AllocError, AllocFailed};
 use thiserror::Error;
 

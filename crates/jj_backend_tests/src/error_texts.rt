@@ -1,6 +1,6 @@
 //! Texts of errors, and what errors are made of, for the tests of each crate that has some.
 use jj_content_tests::once_more::tells_of;
-use jj_paths::file_util::{SourceError, SourceKind};
+use jj_files::file_util::{SourceError, SourceKind};
 use std::alloc::{AllocError, Global};
 use std::fmt::Display;
 

@@ -3,11 +3,12 @@
 
 pub use jj_backend::backend;
 pub use jj_content::{blake2b, content_hash, hex_util, symbol_util};
+pub use jj_files::file_util;
 pub use jj_globs::glob;
 pub use jj_ids::{object_id, ref_name};
 pub use jj_matchers::matchers;
 pub use jj_merges::{conflict_labels, merge};
-pub use jj_paths::{file_util, repo_path, repo_path_tree};
+pub use jj_paths::{repo_path, repo_path_tree};
 pub use jj_program::{laws, program};
 pub use jj_stores::{op_store, signing, workspace_store};
 pub use jj_strings::str_util;

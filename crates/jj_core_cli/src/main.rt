@@ -1,7 +1,7 @@
 //! The program `jj-core`: it reads standard input, and writes standard output.
 #![tactic(auto)]
 
-use jj_paths::file_util::Watched;
+use jj_files::file_util::Watched;
 use jj_program::program;
 use jj_program::program::Fault;
 use std::io::ErrorKind;

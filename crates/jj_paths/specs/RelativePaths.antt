@@ -3,8 +3,8 @@
 -- Cited by contracts of public items: IsParseError, is_refused, relative_components.
 use Rattle.std.specs.Prelude.{◌≡◌, ⊤, ℕ, Bool, false, true, not, ◌||◌, if◌then◌else◌, List, [], ◌∷◌, Option, Some, IsSomeAnd, string_bytes}
 use Rattle.std.specs.Str.{bytes_eq, is_utf8}
-use Rattle.std.specs.Path.{root_dir, cur_dir, path_components}
-use Rattle.jj_paths.specs.FsTexts.{is_dots}
+use Rattle.std.specs.Path.{cur_dir, path_components}
+use Rattle.jj_files.specs.FsTexts.{is_place}
 use Rattle.jj_paths.specs.declared.repo_path.from_relative.RelativePathParseError.{RelativePathParseError}
 use Rattle.jj_paths.specs.declared.repo_path.from_relative.RelativePathParseError.TheVariants.{InvalidComponent, InvalidUtf8, Memory}
 
@@ -17,10 +17,6 @@ without_lone_dot (first ∷ second ∷ rest) = first ∷ second ∷ rest
 -- the components of a relative path, of which the directory itself has none
 abbrev pub relative_components : List ℕ → List (List ℕ)
 relative_components path = without_lone_dot (path_components path)
-
--- the component is no name: `/`, `.` or `..`
-abbrev pub is_place : List ℕ → Bool
-is_place component = bytes_eq component root_dir || is_dots component
 
 -- no path in a repository has the component
 abbrev pub is_refused : List ℕ → Bool

@@ -3,7 +3,7 @@ ghost use Rattle.std.specs.Prelude.{◌≡◌, ℕ, Bool, List, Result, Ok, Err,
 
 use crate::fixtures::{equals, is_text};
 use jj_content_tests::once_more::{Passed, passes};
-use jj_paths::file_util::{
+use jj_files::file_util::{
     DirAccess, IoResultExt, PathError, create_or_reuse_dir, is_empty_dir, remove_dir_contents,
 };
 use std::alloc::{AllocError, Global};

@@ -2,7 +2,7 @@
 ghost use Rattle.std.specs.Prelude.{◌≤◌, length};
 
 use crate::fixtures::equals;
-use jj_paths::file_util::{Watched, copy};
+use jj_files::file_util::{Watched, copy};
 use std::io;
 use std::io::{ErrorKind, Read, Write};
 use std::process::Abort;

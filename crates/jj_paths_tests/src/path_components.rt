@@ -1,7 +1,7 @@
 //! Paths of the file system made of the components of others: normal forms, and ways between two.
 use crate::fixtures::makes;
 use jj_content_tests::once_more::{Passed, passes};
-use jj_paths::file_util::{normalize_path, relative_path};
+use jj_files::file_util::{normalize_path, relative_path};
 use std::alloc::Global;
 use std::process::Abort;
 use std::test::Fail;

@@ -1,7 +1,7 @@
 //! Texts of paths of the file system: their bytes, and paths below the home directory.
 use crate::fixtures::{equals, is_text, makes};
 use jj_content_tests::once_more::{Passed, passes};
-use jj_paths::file_util::{
+use jj_files::file_util::{
     BadPathEncoding, expand_home_path, path_from_bytes, path_to_bytes, slash_path,
 };
 use std::alloc::Global;

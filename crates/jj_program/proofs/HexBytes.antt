@@ -4,8 +4,8 @@ use Rattle.std.specs.Str.{str_to_ascii_lowercase}
 use Rattle.std.specs.Char.{to_ascii_lowercase}
 use Rattle.std.proofs.lemmas.List.Elements.{All-head, All-tail}
 use Rattle.std.proofs.lemmas.Option.{none-some, same_Some}
-use Rattle.jj_content.specs.Hex.{hex_digits, digit_value, text_with, ReadsAs, ReadsAsNothing}
-use Rattle.jj_content.proofs.HexTexts.{IsByte, are_hex_digits, digit_value-same, text_with-cons, ReadsAs-nil, ReadsAs-cons, ReadsAs-length}
+use Rattle.jj_content.specs.Hex.{IsByte, hex_digits, digit_value, text_with, ReadsAs, ReadsAsNothing}
+use Rattle.jj_content.proofs.HexTexts.{are_hex_digits, digit_value-same, text_with-cons, ReadsAs-nil, ReadsAs-cons, ReadsAs-length}
 use Rattle.jj_program.specs.HashCommand.{bytes_of_hex, with_byte}
 
 abbrev Reads : List ℕ → List ℕ → Type 0

@@ -4,7 +4,7 @@ use Rattle.std.proofs.Math.Seq.{take-suc}
 use Rattle.std.proofs.lemmas.Grind.{flat_map-append}
 use Rattle.std.specs.Io.KnownBytes.{Appends}
 use Rattle.std.proofs.KnownBytes.{Appends-trans}
-use Rattle.jj_paths.specs.Streams.{AppendsFrontOf}
+use Rattle.jj_files.specs.Streams.{AppendsFrontOf}
 use denote.Ref.{Bor}
 
 abbrev pub said : List (Bor (List ℕ)) → List ℕ

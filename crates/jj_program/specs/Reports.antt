@@ -2,7 +2,7 @@
 -- Cited by contracts of public items: Says, report_text, usage_text.
 use Rattle.std.specs.Prelude.{◌≡◌, ℕ, List, [], ◌∷◌, ◌++◌, Bool, false, codes, Option}
 use Rattle.std.specs.Io.KnownBytes.{Appends}
-use Rattle.jj_paths.specs.Streams.{AppendsFrontOf}
+use Rattle.jj_files.specs.Streams.{AppendsFrontOf}
 use Rattle.jj_program.specs.declared.fault.Fault.{Fault}
 use Rattle.jj_program.specs.Faults.{fault_text}
 

@@ -1,7 +1,7 @@
 //! The program: it reads a command's input to the end, and writes the output of all of it.
 ghost use Rattle.std.specs.Prelude.{◌≡◌, ◌≢◌, ◌<◌, length, map, false, Ok, IfOk, IfErr, OnOk, IsSome, IfSome, None, string_bytes};
 ghost use Rattle.std.specs.Io.KnownBytes.{Consumes, IsAtEnd, Keeps};
-ghost use Rattle.jj_paths.specs.Streams.{streams};
+ghost use Rattle.jj_files.specs.Streams.{streams};
 ghost use Rattle.jj_program.specs.Lines.{IsFaultOf};
 ghost use Rattle.jj_program.specs.Program.{command_named, command_line, Gives, is_read_failure, is_write_failure, is_read_fault, is_write_fault, WritesOutput, FailsBy, IsFaultOfInput};
 ghost use Rattle.jj_program.specs.Reports.{usage_text, report_text, Says};
@@ -13,7 +13,7 @@ use crate::hash_command::hash_lines;
 use crate::merge_command::merge_output;
 use crate::report::{report_fault, report_usage};
 use crate::walk_command::walk_output;
-use jj_paths::file_util::{Sink, Source, write_all};
+use jj_files::file_util::{Sink, Source, write_all};
 use std::alloc::Global;
 
 /// What the program can be asked for.

@@ -4,7 +4,7 @@ ghost use Rattle.jj_program.specs.Reports.{usage_text, report_text, Says};
 
 use crate::fault::Fault;
 use itoa::Buffer;
-use jj_paths::file_util::{Sink, write_all};
+use jj_files::file_util::{Sink, write_all};
 
 // what the program says of a command line that it cannot read
 const USAGE: &str = "usage: jj-core walk|merge|graph|hash\n";

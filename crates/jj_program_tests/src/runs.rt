@@ -1,7 +1,7 @@
 //! Runs of the program over memory, whose reads and writes are cut short, or fail in turn.
 use crate::ends::{Cut, Kept};
 use jj_content_tests::once_more::passes;
-use jj_paths::file_util::Watched;
+use jj_files::file_util::Watched;
 use jj_program::program::{Command, Fault, run};
 use std::alloc::{AllocError, Global};
 use std::process::Abort;

@@ -3,7 +3,7 @@
 #[cfg(test)]
 mod tests {
     use crate::ends::{Cut, Kept};
-    use jj_paths::file_util::Watched;
+    use jj_files::file_util::Watched;
     use jj_program::program::start;
     use std::alloc::Global;
     use std::process::Abort;

@@ -4,8 +4,8 @@ ghost use Rattle.jj_ids.specs.Names.{name_of};
 ghost use Rattle.jj_stores.specs.Workspaces.{SamePlaces, with_name_changed, with_place, without_places};
 ghost use Rattle.jj_stores.specs.declared.workspace_store.WorkspaceStoreError.{WorkspaceStoreError};
 
+use jj_files::file_util::SourceError;
 use jj_ids::ref_name::WorkspaceName;
-use jj_paths::file_util::SourceError;
 use std::alloc::{AllocError, AllocFailed, Global};
 use thiserror::Error;
 

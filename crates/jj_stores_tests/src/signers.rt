@@ -1,8 +1,8 @@
 //! Signers over backends in memory that count how often they are asked.
 use jj_backend::signing::SignError;
 use jj_content_tests::once_more::succeeds;
+use jj_files::file_util::{SourceError, SourceKind};
 use jj_ids::object_id::CommitId;
-use jj_paths::file_util::{SourceError, SourceKind};
 use jj_stores::signing::{SigStatus, SignResult, Signer, SigningBackend, Verification};
 use std::alloc::{AllocError, Global};
 use std::cell::Cell;

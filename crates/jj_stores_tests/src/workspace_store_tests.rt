@@ -1,5 +1,5 @@
 //! Texts of the errors of stores of workspaces.
-use jj_paths::file_util::{SourceError, SourceKind};
+use jj_files::file_util::{SourceError, SourceKind};
 use jj_stores::workspace_store::WorkspaceStoreError;
 use std::alloc::{AllocError, Global};
 use std::process::Abort;

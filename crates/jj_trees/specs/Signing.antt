@@ -2,8 +2,8 @@
 -- Cited by contracts of public items: FailsToSign, StandsForOtherCommit, signer_left.
 use Rattle.std.specs.Prelude.{◌≡◌, ◌⊎◌, ℕ, List, Option, Some, None, Result, Err}
 use Rattle.std.proofs.Common.{inl, inr}
-use Rattle.jj_paths.specs.Causes.{Cause}
-use Rattle.jj_paths.specs.declared.file_util.errors.SourceKind.TheVariants.{Data}
+use Rattle.jj_files.specs.Causes.{Cause}
+use Rattle.jj_files.specs.declared.file_util.errors.SourceKind.TheVariants.{Data}
 use Rattle.jj_backend.specs.Contents.{commit_content}
 use Rattle.jj_backend.specs.Objects.{unsigned_content}
 use Rattle.jj_backend.specs.Records.{CommitValue}

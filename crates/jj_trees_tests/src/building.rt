@@ -4,8 +4,8 @@ ghost use Rattle.std.specs.FinMap.{is_sorted};
 ghost use Rattle.jj_paths.specs.Paths.{name_cmp};
 
 use jj_backend::backend::{BackendError, BackendResult, CopyId, FileId, Tree, TreeId, TreeValue};
+use jj_files::file_util::{SourceError, SourceKind};
 use jj_merges::merge::{Diff, Merge};
-use jj_paths::file_util::{SourceError, SourceKind};
 use jj_paths::repo_path::{RepoPathBuf, RepoPathComponentBuf};
 use std::alloc::Global;
 use std::cmp::Ordering;

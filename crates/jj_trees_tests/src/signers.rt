@@ -1,7 +1,7 @@
 //! A signer in memory.
 use jj_backend::backend::SigningFn;
 use jj_backend::signing::{SignError, SignResult};
-use jj_paths::file_util::{SourceError, SourceKind};
+use jj_files::file_util::{SourceError, SourceKind};
 use std::alloc::{AllocError, Global};
 
 /// The signature of the fake signer.

@@ -2,8 +2,8 @@
 ghost use Rattle.std.specs.Prelude.{◌≡◌};
 ghost use Rattle.jj_backend.specs.declared.backend.errors.BackendError.{BackendError};
 
+use jj_files::file_util::SourceError;
 use jj_ids::object_id::FileId;
-use jj_paths::file_util::SourceError;
 use jj_paths::repo_path::RepoPathBuf;
 use std::alloc::{AllocError, AllocFailed};
 use std::str::Utf8Error;

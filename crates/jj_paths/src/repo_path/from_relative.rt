@@ -5,7 +5,8 @@ ghost use Rattle.std.specs.Str.{is_utf8};
 ghost use Rattle.std.specs.Iterator.{YieldsFirstRef, item_count};
 ghost use Rattle.std.specs.Path.{slash, is_name, is_dot_at, path_names};
 ghost use Rattle.jj_paths.specs.Texts.{with_name};
-ghost use Rattle.jj_paths.specs.RelativePaths.{IsParseError, is_place, is_refused, relative_components};
+ghost use Rattle.jj_files.specs.FsTexts.{is_place};
+ghost use Rattle.jj_paths.specs.RelativePaths.{IsParseError, is_refused, relative_components};
 ghost use Rattle.jj_paths.specs.declared.repo_path.from_relative.RelativePathParseError.{RelativePathParseError};
 
 use super::RepoPathBuf;

@@ -3,12 +3,12 @@ ghost use Rattle.std.specs.Prelude.{◌≡◌, ◌≢◌, ◌⊎◌, false, None
 ghost use Rattle.std.specs.List.{find};
 ghost use Rattle.std.specs.Path.{path_buf_bytes};
 ghost use Rattle.jj_paths.specs.Names.{name_of, path_of};
-ghost use Rattle.jj_paths.specs.FsTexts.{appended, fs_text, is_dots};
+ghost use Rattle.jj_files.specs.FsTexts.{appended, fs_text, is_dots};
 ghost use Rattle.jj_paths.specs.declared.repo_path.to_fs.InvalidRepoPathComponentError.{InvalidRepoPathComponentError};
 ghost use Rattle.jj_paths.specs.declared.repo_path.to_fs.InvalidRepoPathError.{InvalidRepoPathError};
 
 use super::{RepoPath, RepoPathBuf, RepoPathComponent};
-use crate::fs_text::text_or_dot;
+use jj_files::fs_text::text_or_dot;
 use std::alloc::{AllocError, AllocFailed, Global};
 use std::path::PathBuf;
 use thiserror::Error;

@@ -7,8 +7,8 @@ ghost use Rattle.jj_trees.specs.Kept.{by_id, digest_length, object_id, FailsToKe
 
 use jj_backend::backend::{BackendError, BackendResult};
 use jj_content::content_hash::{ContentHash, blake2b_hash};
+use jj_files::file_util::{SourceError, SourceKind};
 use jj_ids::object_id::{Id, IdKind, ObjectId};
-use jj_paths::file_util::{SourceError, SourceKind};
 use std::alloc::{AllocError, Global};
 use std::collections::BTreeMap;
 

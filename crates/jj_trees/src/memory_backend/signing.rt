@@ -8,7 +8,7 @@ use super::contents::content_of;
 use super::shelf::other_error;
 use jj_backend::backend::{BackendError, BackendResult, Commit, SecureSig, SigningFn};
 use jj_backend::signing::SignError;
-use jj_paths::file_util::{SourceError, SourceKind};
+use jj_files::file_util::{SourceError, SourceKind};
 use std::alloc::Global;
 
 // The backend's error that says why nothing was signed.

@@ -1,6 +1,6 @@
 use Rattle.std.proofs.Common.{◌∙◌, ap}
 use Rattle.std.specs.Path.{path_join}
-use Rattle.jj_paths.proofs.FsTextLemmas.{path_join-empty}
+use Rattle.jj_files.proofs.FsTextLemmas.{path_join-empty}
 use Rattle.jj_paths.proofs.repo_path.RepoPath.room_below.Goals as goal
 
 pub returns : goal.returns

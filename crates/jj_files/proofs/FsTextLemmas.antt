@@ -1,0 +1,47 @@
+-- Texts of paths of the file system, put together.
+use Rattle.std.proofs.Common.{◌≡◌, ◌∙◌, ◌+◌, ◌<◌, ℕ, suc, map, take, get_or, ap, true, false, List, [], ◌∷◌, ◌++◌, eqb, eqb-true, length, refl, sym, subst, cond, arith}
+use Rattle.std.proofs.Math.Seq.{take-suc}
+use Rattle.std.proofs.lemmas.List.{map-append}
+use Rattle.std.specs.List.{slice_index}
+use denote.Ref.{Bor}
+use Rattle.std.specs.Path.{path_join, cur_dir, slash}
+use Rattle.jj_files.specs.FsTexts.{or_dot, appended}
+
+-- a text appended to the empty one is that text
+pub path_join-empty : (text : List ℕ) → path_join [] text ≡ text
+unfolding path_join
+path_join-empty text = elim (eqb (slice_index text 0) slash) as (λ b. cond b text text ≡ text) [ true ↦ refl | false ↦ refl ]
+
+-- the empty text becomes `.` where that is appended to it
+pub or_dot-empty : (shown text : List ℕ) → shown ≡ text → true ≡ eqb (length shown) 0 → path_join text cur_dir ≡ or_dot text
+or_dot-empty shown [] e h = path_join-empty cur_dir
+or_dot-empty shown (b ∷ bs) e h =
+    let f : true ≡ eqb (length (b ∷ bs)) 0 = subst (λ t. true ≡ eqb (length t) 0) e h in
+    let none : length (b ∷ bs) ≡ 0 = eqb-true (length (b ∷ bs)) 0 (sym f) in absurd (omega arith)
+
+-- any other text stays
+pub or_dot-same : (shown text : List ℕ) → shown ≡ text → false ≡ eqb (length shown) 0 → text ≡ or_dot text
+or_dot-same shown [] e h = let f : false ≡ true = subst (λ t. false ≡ eqb (length t) 0) e h in cc f
+or_dot-same shown (b ∷ bs) e h = refl
+
+-- a text with one part more appended
+pub appended-last : (base : List ℕ) (parts : List (List ℕ)) (part : List ℕ) → appended base (parts ++ part ∷ []) ≡ path_join (appended base parts) part
+appended-last base [] part = refl
+appended-last base (first ∷ parts) part = appended-last (path_join base first) parts part
+
+-- the texts of a list up to a place, and the one there appended
+pub appended-place : (texts : List (Bor (List ℕ))) (place : ℕ) (d : Bor (List ℕ)) (old new : List ℕ) → place < length texts
+    → new ≡ path_join old (get_or texts place d).now → old ≡ appended [] (map (λ text. text.now) (take place texts))
+    → new ≡ appended [] (map (λ text. text.now) (take (place + 1) texts))
+appended-place texts place d old new within pushed so_far =
+    let next : suc place ≡ place + 1 = omega arith in
+    pushed ∙ ap (λ text. path_join text (get_or texts place d).now) so_far
+    ∙ sym (appended-last [] (map (λ text. text.now) (take place texts)) (get_or texts place d).now)
+    ∙ ap (appended []) (sym (map-append (λ text. text.now) (take place texts) (get_or texts place d ∷ [])))
+    ∙ ap (λ l. appended [] (map (λ text. text.now) l)) (sym (take-suc texts place d within))
+    ∙ ap (λ n. appended [] (map (λ text. text.now) (take n texts))) next
+
+-- some parts appended, and then others
+pub appended-append : (base : List ℕ) (parts others : List (List ℕ)) → appended base (parts ++ others) ≡ appended (appended base parts) others
+appended-append base [] others = refl
+appended-append base (first ∷ parts) others = appended-append (path_join base first) parts others

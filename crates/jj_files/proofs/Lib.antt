@@ -1,0 +1,5 @@
+pub mod FsTextLemmas
+pub mod Contexts
+pub mod Removals
+pub mod NormalForms
+pub mod CommonFronts

@@ -1,0 +1,12 @@
+-- What falls out leads from all components to those kept and those to come, and nothing falls out of those kept.
+use Rattle.std.proofs.Common.{◌++◌, map}
+use Rattle.std.specs.Path.{path_components, components_remaining}
+use Rattle.jj_files.specs.PathComponents.{DropsTo}
+use Rattle.jj_files.proofs.NormalForms.{IsSettled}
+use Rattle.jj_files.proofs.file_util.path_components.normalize_path.Given as goal
+
+abbrev pub invariant-loop-component : goal.invariant-loop-component
+invariant-loop-component l = record {
+  steps : DropsTo (path_components l.path) (map (λ text. text.now) l.kept.items ++ components_remaining l.component-iterator);
+  settled : IsSettled (map (λ text. text.now) l.kept.items);
+}

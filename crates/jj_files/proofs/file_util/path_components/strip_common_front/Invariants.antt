@@ -1,0 +1,13 @@
+-- The components so far are common, and what was noted is what is left after them.
+use Rattle.std.proofs.Common.{◌≡◌, ◌++◌, ◌∷◌, [], List, ℕ, MatchOption}
+use Rattle.std.specs.Path.{path_bytes, path_components, components_remaining}
+use Rattle.jj_files.proofs.file_util.path_components.strip_common_front.Given as goal
+
+abbrev pub invariant-loop-ours : goal.invariant-loop-ours
+invariant-loop-ours l = (front : List (List ℕ))
+    × (path_components l.from ≡ front ++ components_remaining l.from_left)
+    × (path_components l.to ≡ front ++ components_remaining l.to_left)
+    × MatchOption l.left (front ≡ [])
+    (λ left. (first : List ℕ) × (rest : List (List ℕ)) × (front ≡ first ∷ rest)
+    × (path_components (path_bytes left.0) ≡ components_remaining l.from_left)
+    × (path_components (path_bytes left.1) ≡ components_remaining l.to_left))

@@ -1,0 +1,70 @@
+-- What is done to directories, over what making, listing and removing may do.
+-- Cited by contracts of public items: CreatesOrReuses, EmptiesDir, IsEmptyDir, IsListFault.
+use Rattle.std.specs.Prelude.{◌≡◌, ◌⊎◌, ⊤, ℕ, Bool, false, ◌==◌, List, [], ◌∷◌, ◌++◌, length, Result, Ok, Err, MatchResult, IsErrAnd, MatchBool, string_bytes}
+use Rattle.std.specs.Path.{path_join}
+use Rattle.std.specs.declared.io.Error.{Error}
+use Rattle.jj_files.specs.PathErrors.{IsAtPath}
+use Rattle.jj_files.specs.declared.file_util.errors.PathError.{PathError}
+use Rattle.jj_files.specs.declared.file_util.errors.PathError.TheVariants.{Invalid, Memory}
+
+-- the fault of a path that was to be listed
+abbrev pub IsListFault : List ℕ → PathError → Type 0
+IsListFault path (Invalid at cause) = string_bytes at ≡ path
+IsListFault path Memory = ⊤
+
+-- how a call on directories may end, and what it may leave
+abbrev pub MayEnd : Type 0 → Type 1
+MayEnd D = D → List ℕ → Result (Unit {0}) Error → D → Type 0
+
+-- what listing a directory may answer
+abbrev pub MayList : Type 0 → Type 1
+MayList D = D → List ℕ → Result (List (List ℕ)) PathError → Type 0
+
+-- a directory was made, or one is there, or the fault of making it is answered with the path
+abbrev pub CreatesOrReuses : {D : Type 0} → (D → List ℕ → Bool) → MayEnd D → List ℕ → D
+    → Result (Unit {0}) PathError → D → Type 0
+CreatesOrReuses is_directory may_create path old result new =
+    (created : Result (Unit {0}) Error) × may_create old path created new
+    × MatchResult created (λ done. result ≡ Ok tt)
+    (λ error. MatchBool (is_directory new path) (result ≡ Ok tt)
+    (IsErrAnd result (IsAtPath path error)))
+
+-- each of these entries of a directory was removed, in this order
+abbrev pub RemovesEach : {D : Type 0} → MayEnd D → List ℕ → List (List ℕ) → D → D → Type 0
+RemovesEach may_remove dir [] old new = new ≡ old
+RemovesEach {D} may_remove dir (name ∷ names) old new =
+    (next : D) × may_remove old (path_join dir name) (Ok tt) next
+    × RemovesEach may_remove dir names next new
+
+-- why the entries of a directory were not all removed: listing them failed, or, once a front of
+-- them was removed, removing the next one did, or memory ran out
+abbrev pub IsRemovalFault : {D : Type 0} → MayList D → MayEnd D → List ℕ → D → PathError → D
+    → Type 0
+IsRemovalFault {D} may_list may_remove dir old fault new =
+    (may_list old dir (Err fault) × (new ≡ old))
+    ⊎ ((removed rest : List (List ℕ)) × (name : List ℕ) × (error : Error) × (between : D)
+    × may_list old dir (Ok (removed ++ name ∷ rest))
+    × RemovesEach may_remove dir removed old between
+    × may_remove between (path_join dir name) (Err error) new
+    × IsAtPath (path_join dir name) error fault)
+    ⊎ ((fault ≡ Memory) × ((removed rest : List (List ℕ)) × may_list old dir (Ok (removed ++ rest))
+    × RemovesEach may_remove dir removed old new))
+
+-- all entries of a directory were removed, or the first fault is answered
+abbrev pub EmptiesDir : {D : Type 0} → MayList D → MayEnd D → List ℕ → D
+    → Result (Unit {0}) PathError → D → Type 0
+EmptiesDir may_list may_remove dir old result new =
+    MatchResult result
+    (λ done. (names : List (List ℕ)) × may_list old dir (Ok names)
+    × RemovesEach may_remove dir names old new)
+    (λ fault. IsRemovalFault may_list may_remove dir old fault new)
+
+-- no directory is empty where there is none; else it is empty where its list is, and a fault of
+-- listing it is answered
+abbrev pub IsEmptyDir : {D : Type 0} → (D → List ℕ → Bool) → MayList D → List ℕ → D
+    → Result Bool PathError → Type 0
+IsEmptyDir is_directory may_list path dirs result =
+    MatchBool (is_directory dirs path)
+    ((listed : Result (List (List ℕ)) PathError) × may_list dirs path listed
+    × MatchResult listed (λ names. result ≡ Ok (length names == 0)) (λ fault. result ≡ Err fault))
+    (result ≡ Ok false)

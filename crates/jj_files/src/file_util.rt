@@ -1,0 +1,191 @@
+//! Reading and writing bytes through interfaces that say what was moved and whether a call failed.
+ghost use Rattle.std.specs.Prelude.{◌≡◌, ℕ, ◌<◌, ◌-◌, Bool, false, List, IfOk, IsErr, OnOk, Option, is_err, ◌||◌};
+ghost use Rattle.std.specs.Io.{ReadsAtMost, WritesAtMost};
+ghost use Rattle.std.specs.Io.KnownBytes.{Appends, ReadConsumes, WriteAppends};
+ghost use Rattle.jj_files.specs.Streams.{NotesFailure, SettlesWrite, TakesSome, CopiesAll, CopiesFront, AppendsFrontOf, streams};
+ghost use Rattle.jj_files.specs.Watching.{most_reads, watched, watched_failed, watched_reads_left};
+
+mod dirs;
+mod errors;
+mod path_components;
+mod path_texts;
+
+pub use dirs::{DirAccess, create_or_reuse_dir, is_empty_dir, remove_dir_contents};
+pub use errors::{IoResultExt, PathError, SourceError, SourceKind};
+pub use path_components::{normalize_path, relative_path};
+pub use path_texts::{
+    BadPathEncoding, expand_home_path, path_from_bytes, path_to_bytes, slash_path,
+};
+use std::io;
+use std::io::{ErrorKind, Read, Write};
+
+/// Where bytes are read from.
+pub trait Source {
+    /// The bytes that reads will give from here on, where they are known.
+    ghost remaining: { Self → Option (List ℕ) };
+
+    /// Whether a read has failed.
+    ghost has_failed: { Self → Bool };
+
+    /// How many more reads can succeed.
+    ghost reads_left: { Self → ℕ };
+
+    /// Reads some of the bytes that are left into the front of `buf`: none only at the end, or
+    /// where `buf` is empty.
+    fn read(&mut self, buf: &mut [u8]) -> io::Result<usize>
+        ensures bound { ReadsAtMost result buf.new }
+        ensures bytes { ReadConsumes (remaining self.old) (remaining self.new) result buf.new }
+        ensures failure { NotesFailure (has_failed self.old) (has_failed self.new) result }
+        ensures fewer { OnOk result (reads_left self.new < reads_left self.old) };
+}
+
+/// Where bytes are written to.
+pub trait Sink {
+    /// The bytes that were written, where they are known.
+    ghost contents: { Self → Option (List ℕ) };
+
+    /// Whether a write has failed.
+    ghost has_failed: { Self → Bool };
+
+    /// Writes a beginning of `piece`, which is empty only where `piece` is.
+    fn write(&mut self, piece: &[u8]) -> io::Result<usize>
+        ensures bound { WritesAtMost result piece.now }
+        ensures bytes { WriteAppends (contents self.old) (contents self.new) result piece.now }
+        ensures some { TakesSome result piece.now }
+        ensures failure { NotesFailure (has_failed self.old) (has_failed self.new) result };
+}
+
+/// A reader or a writer of `std`, with a note of its failures and of the reads that are left.
+#[derive(Drop)]
+pub struct Watched<T> {
+    inner: T,
+    failed: bool,
+    reads_left: u64,
+}
+
+impl<T> Watched<T> {
+    /// The reader or writer, of which nothing was asked yet.
+    pub fn new(inner: T) -> Watched<T>
+        ensures inner { watched result ≡ inner }
+        ensures sound { watched_failed result ≡ false }
+        ensures reads { watched_reads_left result ≡ most_reads }
+    {
+        Watched {
+            inner,
+            failed: false,
+            reads_left: u64::MAX,
+        }
+    }
+}
+
+impl<T> Watched<T> {
+    // Counts a read, and notes whether its answer is a failure.
+    fn note_read(&mut self, answer: io::Result<usize>) -> io::Result<usize>
+        requires { 0 < watched_reads_left self.old }
+        ensures answer { result ≡ answer }
+        ensures inner { watched self.new ≡ watched self.old }
+        ensures failure { NotesFailure (watched_failed self.old) (watched_failed self.new) result }
+        ensures counted { watched_reads_left self.new ≡ watched_reads_left self.old - 1 }
+    {
+        self.reads_left -= 1;
+        self.failed = self.failed || answer.is_err();
+        answer
+    }
+
+    // Makes an answer that a nonempty piece was not taken a failure, and notes a failure.
+    fn note_write(&mut self, answer: io::Result<usize>, offered: usize) -> io::Result<usize>
+        ensures answer { SettlesWrite answer offered result }
+        ensures inner { watched self.new ≡ watched self.old }
+        ensures failure { NotesFailure (watched_failed self.old) (watched_failed self.new) result }
+    {
+        if let Ok(0) = answer
+            && offered > 0
+        {
+            self.failed = true;
+            return Err(io::Error::from(ErrorKind::WriteZero));
+        }
+        self.failed = self.failed || answer.is_err();
+        answer
+    }
+}
+
+impl<R: Read> Source for Watched<R> {
+    ghost remaining = { λ w. R.remaining (watched w) };
+
+    ghost has_failed = { watched_failed };
+
+    ghost reads_left = { watched_reads_left };
+
+    /// A read after 2^64 - 1 reads fails. Any other answer is that of the reader.
+    fn read(&mut self, buf: &mut [u8]) -> io::Result<usize>
+        ensures bound { ReadsAtMost result buf.new }
+        ensures bytes { ReadConsumes
+            (R.remaining (watched self.old)) (R.remaining (watched self.new)) result buf.new }
+        ensures failure { NotesFailure (watched_failed self.old) (watched_failed self.new) result }
+        ensures fewer { OnOk result (watched_reads_left self.new < watched_reads_left self.old) }
+        ensures counted { watched_reads_left self.new ≡ watched_reads_left self.old - 1 }
+        ensures spent { watched_reads_left self.old ≡ 0 →
+            IsErr result × (watched self.new ≡ watched self.old) }
+    {
+        if self.reads_left == 0 {
+            self.failed = true;
+            return Err(io::Error::other("too many reads"));
+        }
+        let answer = self.inner.read(buf);
+        self.note_read(answer)
+    }
+}
+
+impl<W: Write> Sink for Watched<W> {
+    ghost contents = { λ w. W.contents (watched w) };
+
+    ghost has_failed = { watched_failed };
+
+    /// A write that takes none of a nonempty piece fails as `WriteZero`. Any other answer is that
+    /// of the writer.
+    fn write(&mut self, piece: &[u8]) -> io::Result<usize> {
+        let answer = self.inner.write(piece);
+        self.note_write(answer, piece.len())
+    }
+}
+
+// The bytes that `copy` takes from its source at a time.
+const COPY_BUFFER: usize = 16384;
+
+/// Writes a whole piece, in as many writes as it takes.
+pub fn write_all<W: Sink>(writer: &mut W, piece: &[u8]) -> io::Result<()>
+    ensures ok { OnOk result (Appends (W.contents writer.old) (W.contents writer.new) piece.now) }
+    ensures front { AppendsFrontOf (W.contents writer.old) (W.contents writer.new) piece.now }
+    ensures failure { NotesFailure (W.has_failed writer.old) (W.has_failed writer.new) result }
+{
+    let mut rest = piece;
+    while !rest.is_empty() {
+        let n = writer.write(rest)?;
+        rest = &rest[n..];
+    }
+    Ok(())
+}
+
+/// Reads a source to its end and writes the bytes to a sink. The count stops at the greatest
+/// `usize`.
+pub fn copy<R: Source, W: Sink>(reader: &mut R, writer: &mut W) -> io::Result<usize>
+    requires reader_works { R.has_failed reader.old ≡ false }
+    requires writer_works { W.has_failed writer.old ≡ false }
+    ensures all { IfOk result (CopiesAll
+        (streams (R.remaining reader.old) (W.contents writer.old))
+        (streams (R.remaining reader.new) (W.contents writer.new))) }
+    ensures front { CopiesFront (streams (R.remaining reader.old) (W.contents writer.old))
+        (streams (R.remaining reader.new) (W.contents writer.new)) }
+    ensures failure { is_err result ≡ (R.has_failed reader.new || W.has_failed writer.new) }
+{
+    let mut buf = [0u8; COPY_BUFFER];
+    let mut count = 0usize;
+    loop {
+        let n = reader.read(&mut buf)?;
+        if n == 0 {
+            return Ok(count);
+        }
+        write_all(writer, &buf[..n])?;
+        count = count.saturating_add(n);
+    }
+}

@@ -1,0 +1,122 @@
+//! Texts of paths of the file system, made of the components of others.
+ghost use Rattle.std.specs.Prelude.{◌≡◌, ℕ, List, [], ◌∷◌, ◌++◌, map, false, true, IfOk, OnOk, MatchOption, string_bytes};
+ghost use Rattle.std.specs.Str.{bytes_eq};
+ghost use Rattle.std.specs.Path.{component_bytes, parent_dir, path_bytes, path_buf_bytes, path_components};
+ghost use Rattle.jj_files.specs.FsTexts.{appended, fs_text, is_place};
+ghost use Rattle.jj_files.specs.PathComponents.{ends_in_name, IsNormalized, IsRelativeTo, SharesFront};
+
+use crate::fs_text::text_or_dot;
+use std::alloc::{AllocError, Global};
+use std::path::{Component, Path, PathBuf};
+
+/// The path without `.` and without names that a `..` after them takes away, by its text alone:
+/// no link is followed. A `..` that no name stands before stays, also at the root, and where
+/// nothing is left the path is `.`.
+pub fn normalize_path(alloc: Global, path: &str) -> Result<String, AllocError>
+    ensures { IfOk result (λ text. IsNormalized path.now (string_bytes text)) }
+{
+    let mut kept: Vec<&str> = Vec::new(alloc);
+    for component in Path::new(path).components() {
+        match component {
+            Component::CurDir => {}
+            Component::ParentDir if ends_in_name(&kept) => {
+                kept.pop();
+            }
+            _ => kept.push(component.as_os_str())?,
+        }
+    }
+    join_components(alloc, &kept)
+}
+
+// whether the last component is a name
+fn ends_in_name(components: &[&str]) -> bool
+    ensures { result ≡ ends_in_name (map (λ text. text.now) components.now) }
+{
+    match components.split_last() {
+        Some((last, _front)) => !is_place(last),
+        None => false,
+    }
+}
+
+fn is_place(component: &str) -> bool
+    ensures { result ≡ is_place component.now }
+{
+    component == "/" || component == "." || component == ".."
+}
+
+// the components as one text
+fn join_components(alloc: Global, components: &[&str]) -> Result<String, AllocError>
+    ensures { IfOk result (λ text. string_bytes text
+        ≡ fs_text [] (map (λ component. component.now) components.now)) }
+{
+    let mut text = PathBuf::new(alloc);
+    for place in 0..components.len() {
+        text.push(components[place])?;
+    }
+    text_or_dot(text)
+}
+
+/// The path from the directory `from` to the path `to`, by their texts alone: a `..` for each
+/// component of `from` after those that both begin with, and then what is left of `to`. Where
+/// they begin with no common component, as an absolute and a relative path, the answer is `to`.
+pub fn relative_path(alloc: Global, from: &str, to: &str) -> Result<String, AllocError>
+    ensures { IfOk result (λ text. IsRelativeTo from.now to.now (string_bytes text)) }
+{
+    let Some((from_left, to_left)) = strip_common_front(from, to) else {
+        return String::from_str(alloc, to);
+    };
+    let mut text = PathBuf::new(alloc);
+    push_parents(&mut text, from_left)?;
+    push_components(&mut text, to_left)?;
+    text_or_dot(text)
+}
+
+// appends a `..` for each component of a path
+fn push_parents(text: &mut PathBuf, path: Path<'_>) -> Result<(), AllocError>
+    ensures { OnOk result (path_buf_bytes text.new
+        ≡ appended (path_buf_bytes text.old)
+        (map (λ _. parent_dir) (path_components (path_bytes path.entry)))) }
+{
+    for _component in path.components() {
+        text.push("..")?;
+    }
+    Ok(())
+}
+
+// appends each component of a path
+fn push_components(text: &mut PathBuf, path: Path<'_>) -> Result<(), AllocError>
+    ensures { OnOk result (path_buf_bytes text.new
+        ≡ appended (path_buf_bytes text.old) (path_components (path_bytes path.entry))) }
+{
+    for component in path.components() {
+        text.push(component.as_os_str())?;
+    }
+    Ok(())
+}
+
+// what is left of two paths after the components that both begin with, if there are any
+fn strip_common_front<'a, 'b>(from: &'a str, to: &'b str) -> Option<(Path<'a>, Path<'b>)>
+    ensures { MatchOption result
+        (SharesFront from.now to.now [] (path_components from.now) (path_components to.now))
+        (λ left. (first : List ℕ) × (front : List (List ℕ))
+        × SharesFront from.now to.now (first ∷ front) (path_components (path_bytes left.0))
+        (path_components (path_bytes left.1))) }
+{
+    let mut from_left = Path::new(from).components();
+    let mut to_left = Path::new(to).components();
+    let mut left = None;
+    loop {
+        match (from_left.next(), to_left.next()) {
+            (Some(ours), Some(theirs)) if is_same(ours, theirs) => {
+                left = Some((from_left.as_path(), to_left.as_path()));
+            }
+            _ => return left,
+        }
+    }
+}
+
+fn is_same(ours: Component<'_>, theirs: Component<'_>) -> bool
+    ensures { result ≡ bytes_eq (component_bytes ours.entry) (component_bytes theirs.entry) }
+{
+    ours.as_os_str() == theirs.as_os_str()
+}

@@ -1,0 +1,60 @@
+//! Texts of paths of the file system, as Unix reads them. A path is a text here, so its bytes are
+//! UTF-8.
+ghost use Rattle.std.specs.Prelude.{◌≡◌, IsOk, IfOk, MatchResult, string_bytes};
+ghost use Rattle.std.specs.Option.{option_map};
+ghost use Rattle.std.specs.Str.{IsUtf8};
+ghost use Rattle.jj_files.specs.PathTexts.{expanded};
+
+use std::alloc::{AllocError, Global};
+use std::path::PathBuf;
+use thiserror::Error;
+
+/// Bytes that are no path's, since they are not UTF-8.
+#[derive(Clone, Copy, Debug, PartialEq, Eq, Error)]
+#[error("Invalid UTF-8 sequence")]
+pub struct BadPathEncoding;
+
+/// The bytes of a path.
+pub fn path_to_bytes(path: &str) -> &[u8]
+    ensures { result.now ≡ path.now }
+{
+    path.as_bytes()
+}
+
+/// The path of these bytes, if they are UTF-8.
+pub fn path_from_bytes(bytes: &[u8]) -> Result<&str, BadPathEncoding>
+    ensures { MatchResult result
+        (λ path. (path.now ≡ bytes.now) × IsUtf8 bytes.now) (λ e. ¬ (IsUtf8 bytes.now)) }
+{
+    match str::from_utf8(bytes) {
+        Ok(path) => Ok(path),
+        Err(_) => Err(BadPathEncoding),
+    }
+}
+
+/// The path with slashes between its names, which is what it has on Unix.
+pub fn slash_path(path: &str) -> &str
+    ensures { result.now ≡ path.now }
+{
+    path
+}
+
+/// A path that begins with `~/` below the home directory, if one is given, and any other path as
+/// it is.
+pub fn expand_home_path(
+    alloc: Global,
+    path: &str,
+    home_dir: Option<&str>,
+) -> Result<String, AllocError>
+    ensures { IfOk result (λ text. string_bytes text
+        ≡ expanded (option_map (λ home. home.now) home_dir.entry) path.now) }
+{
+    if let Some(home) = home_dir
+        && let Some(rest) = path.strip_prefix("~/")
+    {
+        let mut below = PathBuf::from_str(alloc, home)?;
+        below.push(rest)?;
+        return Ok(below.into_string());
+    }
+    String::from_str(alloc, path)
+}

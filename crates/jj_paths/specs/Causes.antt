@@ -1,9 +1,0 @@
--- What contracts see of the cause of an error.
--- Cited by contracts of public items: Cause.
-use Rattle.std.specs.Prelude.{ℕ, List}
-use Rattle.jj_paths.specs.declared.file_util.errors.SourceKind.{SourceKind}
-
--- its kind, and the bytes of its text
-pub record Cause : Type 0 where
-  pub kind : SourceKind
-  pub message : List ℕ
