@@ -5,6 +5,8 @@
 #![tactic(auto)]
 
 #[cfg(test)]
+pub mod callers;
+#[cfg(test)]
 mod globs;
 #[cfg(test)]
 mod random_globs;

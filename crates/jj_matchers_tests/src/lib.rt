@@ -7,6 +7,8 @@
 #[cfg(test)]
 mod answers;
 #[cfg(test)]
+pub mod callers;
+#[cfg(test)]
 mod combined;
 #[cfg(test)]
 mod copies;

@@ -5,6 +5,8 @@
 #![tactic(auto)]
 
 #[cfg(test)]
+pub mod callers;
+#[cfg(test)]
 mod directories;
 #[cfg(test)]
 mod error_tests;

@@ -1,0 +1,75 @@
+//! Callers of paths, of trees of values and of copies, proved from what these promise.
+ghost use Rattle.std.specs.Prelude.{◌≡◌, ◌≢◌, ◌+◌, ◌-◌, ◌^◌, min, false, Some, None, [], ◌∷◌, ◌++◌, IsOk, IfOk, IfErr, OnOk, OnErr, IsTrue, string_bytes};
+ghost use Rattle.std.specs.Option.{option_copied, option_map};
+ghost use Rattle.std.specs.Io.KnownBytes.{Appends};
+ghost use Rattle.jj_paths.specs.Paths.{Name, Path, components, path_text, is_path_text};
+ghost use Rattle.jj_paths.specs.Names.{path_of};
+ghost use Rattle.jj_paths_tests.specs.Notes.{note_at, count_at};
+ghost use Rattle.jj_paths_tests.specs.PathRefusals.{IsNoPath};
+
+use jj_paths::file_util::{Sink, Watched, copy};
+use jj_paths::repo_path::{InvalidNewRepoPathError, RepoPath, RepoPathComponent};
+use jj_paths::repo_path_tree::RepoPathTree;
+use std::alloc::{AllocError, Global};
+use std::io;
+
+/// Keeps a note at a path: the path has it then, and every other path has the note that it had, or
+/// none. Refused for want of memory, so has every path.
+pub fn keep_note(
+    notes: &mut RepoPathTree<Option<String>>,
+    path: RepoPath<'_>,
+    note: String,
+) -> Result<(), AllocError>
+    ensures kept { OnOk result (note_at notes.new (path_of path.entry) ≡ Some note) }
+    ensures others { (other : Path) → other ≢ path_of path.entry
+        → note_at notes.new other ≡ note_at notes.old other }
+    ensures refused { OnErr result ((any : Path) → note_at notes.new any ≡ note_at notes.old any) }
+{
+    notes.set(path, Some(note))
+}
+
+/// The note at a path.
+pub fn note<'a>(
+    notes: &'a RepoPathTree<Option<String>>,
+    path: RepoPath<'_>,
+) -> Option<&'a String>
+    ensures { option_copied result ≡ note_at notes.now (path_of path.entry) }
+{
+    notes.get(path)?.value().as_ref()
+}
+
+/// Counts one more change at a path, up to the greatest `u64`: every other path keeps its count.
+/// Refused for want of memory, so does every path.
+pub fn count_change(counts: &mut RepoPathTree<u64>, path: RepoPath<'_>) -> Result<(), AllocError>
+    ensures counted { OnOk result (count_at counts.new (path_of path.entry)
+        ≡ min (count_at counts.old (path_of path.entry) + 1) (2 ^ 64 - 1)) }
+    ensures others { (other : Path) → other ≢ path_of path.entry
+        → count_at counts.new other ≡ count_at counts.old other }
+    ensures refused { OnErr result ((any : Path) → count_at counts.new any ≡ count_at counts.old any) }
+{
+    let node = counts.add(path)?;
+    let count = *node.value();
+    node.set_value(count.saturating_add(1));
+    Ok(())
+}
+
+/// The text of a path, taken apart at its last name and joined again: the same text.
+pub fn rejoined(alloc: Global, text: &str) -> Result<String, InvalidNewRepoPathError>
+    ensures same { IfOk result (λ again. string_bytes again ≡ text.now) }
+    ensures valid { IsOk result → IsTrue (is_path_text text.now) }
+    ensures refused { IfErr result (IsNoPath text.now) }
+{
+    let path = RepoPath::from_internal_string(alloc, text)?;
+    match path.split() {
+        None => Ok(String::new(alloc)),
+        Some((above, name)) => Ok(above.join(alloc, name)?.into_internal_string()),
+    }
+}
+
+/// Writes the bytes to a sink, in as many writes as it takes: all of them, or the sink failed.
+pub fn send<W: Sink>(bytes: &[u8], sink: &mut W) -> io::Result<usize>
+    requires { W.has_failed sink.old ≡ false }
+    ensures { OnOk result (Appends (W.contents sink.old) (W.contents sink.new) bytes.now) }
+{
+    copy(&mut Watched::new(bytes), sink)
+}
