@@ -1,6 +1,6 @@
 -- What a tree says at a path once a value was set, where it says of a new node what it says of none.
 use Rattle.std.proofs.Common.{◌≡◌, ◌≢◌, Option, Some, None, [], ◌∷◌, ◌++◌, refl, ap, sym, ◌∙◌}
-use Rattle.std.specs.Option.{option_and_then}
+use Rattle.std.specs.Option.{option_and_then, option_map}
 use Rattle.std.proofs.lemmas.Option.{option_and_then_some}
 use Rattle.jj_paths.specs.Paths.{Name, Path}
 use Rattle.jj_paths.specs.Tree.{Tree, Branches, tree_of, child, get, put, put_value, update_child, value_at, IsExtended, IsEdited, IsSet}
@@ -38,6 +38,19 @@ module _ {V : Type 0} where
           ap (tree_of tree.value) (update_child-agree tree.branches name sub (λ s. put s rest (tree_of value node.branches)) (λ s. put_value s rest value) is (below sub further)))
 
   -- a node that was lent and got another value
-  pub lent_is_set : (is_new : V → Type 0) (old new : Tree V) (path : Path) (node : Tree V) (value : V) → IsEdited is_new old path node (tree_of value node.branches) new → IsSet is_new old path value new
+  lent_is_set : (is_new : V → Type 0) (old new : Tree V) (path : Path) (node : Tree V) (value : V) → IsEdited is_new old path node (tree_of value node.branches) new → IsSet is_new old path value new
   lent_is_set is_new old new path node value e =
       set-as_map is_new old e.tree path node new value e.extended e.at_path (e.is_put ∙ put-other_value e.tree path node value e.at_path)
+
+  module _ {W : Type 0} (is_new : V → Type 0) (reading : Option V → W) (blank : (v : V) → is_new v → reading (Some v) ≡ reading None) (old new : Tree V) (path : Path) (node : Tree V) (value : V) (e : IsEdited is_new old path node (tree_of value node.branches) new) where
+    -- what a lent node held is what was read at its path
+    pub lent_was : reading (Some node.value) ≡ reading (value_at old path)
+    lent_was = ap (λ o. reading (option_map (λ (n : Tree V). n.value) o)) (sym e.at_path) ∙ extended_reads is_new reading blank old e.tree path e.extended path
+
+    -- and what it got is read there now
+    pub lent_is : reading (value_at new path) ≡ reading (Some value)
+    lent_is = ap reading (lent_is_set is_new old new path node value e).here
+
+    -- elsewhere all is read as before
+    pub lent_reads : (other : Path) → other ≢ path → reading (value_at new other) ≡ reading (value_at old other)
+    lent_reads = set_reads is_new reading blank old new path value (lent_is_set is_new old new path node value e)

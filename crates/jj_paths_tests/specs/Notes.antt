@@ -1,12 +1,12 @@
 -- What trees of notes and of counts say at a path.
-use Rattle.std.specs.Prelude.{ℕ, Option, unwrap_or}
+use Rattle.std.specs.Prelude.{ℕ, Option, String, unwrap_or}
+use Rattle.std.specs.Global.{Global}
 use Rattle.std.specs.Option.{option_and_then}
-use Rattle.std.specs.String.{String}
 use Rattle.jj_paths.specs.Paths.{Path}
 use Rattle.jj_paths.specs.Tree.{Tree, value_at}
 
 -- the note at a path, which a node may lack
-abbrev pub note_at : Tree (Option String) → Path → Option String
+abbrev pub note_at : Tree (Option (String Global)) → Path → Option (String Global)
 note_at notes path = option_and_then (λ note. note) (value_at notes path)
 
 -- how often something was counted at a path

@@ -8,6 +8,7 @@ ghost use Rattle.jj_paths_tests.specs.Notes.{note_at, count_at};
 ghost use Rattle.jj_paths_tests.specs.PathRefusals.{IsNoPath};
 
 use jj_paths::file_util::{Sink, Watched, copy};
+use jj_paths::laws::texts_and_paths_give_back;
 use jj_paths::repo_path::{InvalidNewRepoPathError, RepoPath, RepoPathComponent};
 use jj_paths::repo_path_tree::RepoPathTree;
 use std::alloc::{AllocError, Global};
@@ -59,6 +60,7 @@ pub fn rejoined(alloc: Global, text: &str) -> Result<String, InvalidNewRepoPathE
     ensures valid { IsOk result → IsTrue (is_path_text text.now) }
     ensures refused { IfErr result (IsNoPath text.now) }
 {
+    texts_and_paths_give_back();
     let path = RepoPath::from_internal_string(alloc, text)?;
     match path.split() {
         None => Ok(String::new(alloc)),
