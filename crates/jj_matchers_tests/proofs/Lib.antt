@@ -1,2 +1,3 @@
 pub mod FoundFiles
 pub mod Prefixes
+pub mod OneGlob

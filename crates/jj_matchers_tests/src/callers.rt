@@ -1,10 +1,16 @@
 //! Callers of matchers and of the walk, proved from what these promise.
-ghost use Rattle.std.specs.Prelude.{◌≢◌, ◌↔◌, [], map, Contains, IfOk};
+ghost use Rattle.std.specs.Prelude.{◌≡◌, ◌≢◌, ◌↔◌, true, false, [], ◌∷◌, ◌++◌, map, Contains, IfOk, IfErr};
 ghost use Rattle.std.specs.List.Sorted.{IsStrictlySortedBy};
-ghost use Rattle.jj_paths.specs.Paths.{Path, IsBelow, path_cmp};
+ghost use Rattle.jj_paths.specs.Paths.{Name, Path, IsBelow, path_cmp, path_text};
 ghost use Rattle.jj_paths.specs.Names.{path_of};
+ghost use Rattle.jj_globs.specs.GlobMeaning.{IsMatch};
+ghost use Rattle.jj_globs.specs.GlobReads.{IsReadingFault, glob_of_text};
+ghost use Rattle.jj_globs.specs.GlobText.{tokens_of};
 
-use jj_matchers::matchers::{DifferenceMatcher, PrefixMatcher, marked_tree, walk_matching};
+use jj_globs::glob::GlobError;
+use jj_matchers::matchers::{
+    DifferenceMatcher, GlobsMatcher, PathGlobPattern, PrefixMatcher, marked_tree, walk_matching,
+};
 use jj_paths::laws::trees_list_their_nodes;
 use jj_paths::repo_path::{RepoPath, RepoPathBuf};
 use std::alloc::{AllocError, Global};
@@ -27,5 +33,30 @@ pub fn files_below(
     let wanted = PrefixMatcher::new(alloc, &[dir])?;
     let unwanted = PrefixMatcher::new(alloc, &[without])?;
     let matcher = DifferenceMatcher::new(wanted, unwanted);
+    Ok(walk_matching(alloc, &tree, &matcher)?.files)
+}
+
+/// The files of a list that lie below a directory, where a pattern stands for the text of the rest
+/// of their paths, in path order and each once. An `Err` tells the first fault of the pattern, or
+/// that there was no memory.
+pub fn files_matching(
+    alloc: Global,
+    files: &[RepoPath<'_>],
+    dir: RepoPath<'_>,
+    pattern: &str,
+) -> Result<Vec<RepoPathBuf>, GlobError>
+    ensures found { IfOk result (λ found. (path : Path) → Contains found.items path
+        ↔ (Contains (map path_of files.now) path × ((name : Name) × (rest : Path)
+        × (path ≡ path_of dir.entry ++ name ∷ rest)
+        × IsMatch (glob_of_text pattern.now true false) (path_text (name ∷ rest))))) }
+    ensures ordered { IfOk result (λ found. IsStrictlySortedBy path_cmp found.items) }
+    ensures fault { IfErr result (λ error. IsReadingFault error (tokens_of pattern.now)) }
+{
+    trees_list_their_nodes::<bool>();
+    let glob = PathGlobPattern::parse(alloc, pattern)?;
+    let tree = marked_tree(alloc, files)?;
+    let mut globs = GlobsMatcher::builder(alloc);
+    globs.add(dir, &glob)?;
+    let matcher = globs.build()?;
     Ok(walk_matching(alloc, &tree, &matcher)?.files)
 }

@@ -1,15 +1,16 @@
 //! Callers of paths, of trees of values and of copies, proved from what these promise.
-ghost use Rattle.std.specs.Prelude.{◌≡◌, ◌≢◌, ◌+◌, ◌-◌, ◌^◌, min, false, Some, None, [], ◌∷◌, ◌++◌, IsOk, IfOk, IfErr, OnOk, OnErr, IsTrue, string_bytes};
-ghost use Rattle.std.specs.Option.{option_copied, option_map};
+ghost use Rattle.std.specs.Prelude.{◌≡◌, ◌≢◌, ◌+◌, ◌-◌, ◌^◌, min, false, IsOk, IfOk, IfErr, OnOk, OnErr, IsTrue, string_bytes};
+ghost use Rattle.std.specs.Option.{option_copied};
 ghost use Rattle.std.specs.Io.KnownBytes.{Appends};
-ghost use Rattle.jj_paths.specs.Paths.{Name, Path, components, path_text, is_path_text};
+ghost use Rattle.jj_paths.specs.Paths.{Path, is_path_text};
 ghost use Rattle.jj_paths.specs.Names.{path_of};
+ghost use Rattle.jj_paths.specs.Streams.{AppendsFrontOf};
 ghost use Rattle.jj_paths_tests.specs.Notes.{note_at, count_at};
 ghost use Rattle.jj_paths_tests.specs.PathRefusals.{IsNoPath};
 
 use jj_paths::file_util::{Sink, Watched, copy};
 use jj_paths::laws::texts_and_paths_give_back;
-use jj_paths::repo_path::{InvalidNewRepoPathError, RepoPath, RepoPathComponent};
+use jj_paths::repo_path::{InvalidNewRepoPathError, RepoPath};
 use jj_paths::repo_path_tree::RepoPathTree;
 use std::alloc::{AllocError, Global};
 use std::io;
@@ -68,10 +69,12 @@ pub fn rejoined(alloc: Global, text: &str) -> Result<String, InvalidNewRepoPathE
     }
 }
 
-/// Writes the bytes to a sink, in as many writes as it takes: all of them, or the sink failed.
+/// Writes the bytes to a sink, in as many writes as it takes. After an `Err` the sink has a
+/// beginning of them.
 pub fn send<W: Sink>(bytes: &[u8], sink: &mut W) -> io::Result<usize>
     requires { W.has_failed sink.old ≡ false }
-    ensures { OnOk result (Appends (W.contents sink.old) (W.contents sink.new) bytes.now) }
+    ensures all { OnOk result (Appends (W.contents sink.old) (W.contents sink.new) bytes.now) }
+    ensures front { AppendsFrontOf (W.contents sink.old) (W.contents sink.new) bytes.now }
 {
     copy(&mut Watched::new(bytes), sink)
 }

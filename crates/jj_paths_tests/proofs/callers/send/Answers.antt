@@ -1,0 +1,12 @@
+use Rattle.std.proofs.Common.{◌≡◌, ℕ, List, ◌++◌, Option, Some, None, sym, ◌∙◌, append_assoc}
+use Rattle.std.specs.Io.KnownBytes.{Appends, Consumes}
+use Rattle.jj_paths.specs.Streams.{AppendsFrontOf}
+use Rattle.jj_paths_tests.proofs.callers.send.Goals as goal
+
+-- what was written of bytes that were read is a beginning of them
+begins : (bytes : List ℕ) (left : Option (List ℕ)) (old new : Option (List ℕ)) → (written lost : List ℕ) × Consumes (Some bytes) left (written ++ lost) × Appends old new written → AppendsFrontOf old new bytes
+begins bytes None old new (written, lost, taken, grown) = absurd taken
+begins bytes (Some rest) old new (written, lost, taken, grown) = (written, lost ++ rest, grown, sym (append_assoc written lost rest) ∙ sym taken)
+
+pub returns-clause-front : goal.returns-clause-front
+returns-clause-front g c = begins _ _ _ _ c.copy.ensures.front
