@@ -1,4 +1,5 @@
 -- The part of a list that is in a set.
+-- Cited by contracts of public items: IsSelected.
 use Rattle.std.specs.Prelude.{List, [], ◌∷◌}
 
 -- the second list has those of the first that are in the set, in their order and as often

@@ -8,8 +8,8 @@ ghost use Rattle.jj_globs_tests.specs.Selected.{IsSelected};
 use jj_globs::glob::{Glob, GlobError};
 use std::alloc::Global;
 
-/// Whether a pattern stands for a path, where neither `?` nor `*` stands for `/`. An `Err` tells the
-/// first fault of the pattern, or that there was no memory.
+/// Whether a pattern stands for a path, where neither `?` nor `*` stands for `/`. An `Err` tells
+/// the first fault of the pattern, or that there was no memory.
 pub fn matches(alloc: Global, pattern: &str, path: &str) -> Result<bool, GlobError>
     ensures answer { IfOk result (λ yes. IsTrue yes
         ↔ IsMatch (glob_of_text pattern.now true false) path.now) }

@@ -1,14 +1,13 @@
 -- The files that a walk of a tree of marks finds are the marks that are accepted, but for the root.
-use Rattle.std.proofs.Common.{◌≡◌, ◌≢◌, inl, inr, ◌⊎◌, Option, Some, None, Bool, true, false, ◌&&◌, List, [], ◌∷◌, ◌++◌, Contains, refl, ap, sym, subst, ◌∙◌, arith}
+use Rattle.std.proofs.Common.{◌≡◌, ◌≢◌, inl, inr, ◌⊎◌, Option, Some, None, Bool, true, false, List, [], ◌∷◌, Contains, refl, ap, sym, subst, ◌∙◌, arith}
 use Rattle.std.specs.Prelude.{◌↔◌}
 use Rattle.std.specs.Option.{option_map}
-use mathlib.Core.Bool.{false≢true}
 use Rattle.std.proofs.lemmas.Bool.{and_from, and_parts}
 use Rattle.std.proofs.lemmas.Option.{none-some}
-use Rattle.std.proofs.lemmas.List.Elements.{Contains-append_left, Contains-append_right, Contains-append_cases, All-contains, All-from_recursion}
+use Rattle.std.proofs.lemmas.List.Elements.{Contains-append_right, Contains-append_cases, All-contains, All-from_recursion}
 use Rattle.jj_paths.specs.Paths.{Path}
-use Rattle.jj_paths.specs.Tree.{Tree, get, value_at}
-use Rattle.jj_paths.specs.Nodes.{NodeAt, node_at, nodes_under, all_nodes, ListsNodes}
+use Rattle.jj_paths.specs.Tree.{Tree, get}
+use Rattle.jj_paths.specs.Nodes.{NodeAt, node_at, nodes_under, ListsNodes}
 use Rattle.jj_paths.proofs.ListedNodes.{nothing_there, the_one}
 use Rattle.jj_matchers.specs.Marks.{IsMarkedTree}
 use Rattle.jj_matchers.specs.Walk.{paths_where, is_file, files_of}

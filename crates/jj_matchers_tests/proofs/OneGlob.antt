@@ -1,5 +1,5 @@
 -- A walk by one glob in a directory finds the marks below the directory whose rest it stands for.
-use Rattle.std.proofs.Common.{◌≡◌, ℕ, zero, suc, Bool, true, false, List, [], ◌∷◌, ◌++◌, Contains, refl, ap, sym, subst, ◌∙◌, arith}
+use Rattle.std.proofs.Common.{◌≡◌, zero, suc, Bool, true, false, List, [], ◌∷◌, ◌++◌, Contains, refl, ap, sym, subst, ◌∙◌, arith}
 use Rattle.std.specs.Prelude.{◌↔◌}
 use Rattle.std.specs.List.{list_any, Any}
 use Rattle.jj_paths.specs.Paths.{Name, Path, path_text}
@@ -47,8 +47,7 @@ module _ (set : Patterns) (dir : Path) (glob : GlobSpec) (same : HasSamePatterns
   -- what such a set accepts
   pub accepts_one : (path : Path) → (is_accepted set path ≡ true) ↔ LiesBelow dir glob path
   accepts_one path =
-      let decides = Decides-is_accepted (one_pattern dir glob) path in
-      (
+      let decides = Decides-is_accepted (one_pattern dir glob) path in (
         (λ h. any_one (λ (pattern : Path × GlobSpec). LiesBelow pattern.0 pattern.1 path) (dir, glob) (decides.0 (sym (accepts_same path) ∙ h))),
         (λ below. accepts_same path ∙ decides.1 (one_any (λ (pattern : Path × GlobSpec). LiesBelow pattern.0 pattern.1 path) (dir, glob) below)),
       )
@@ -62,8 +61,7 @@ module _ (set : Patterns) (dir : Path) (glob : GlobSpec) (same : HasSamePatterns
       → (path : Path) → Contains found path ↔ (Contains marks path × LiesBelow dir glob path)
   found_by_glob marks tree found lists made is path =
       let files = files_are marks tree (is_accepted set) lists made path in
-      let accepted = accepts_one path in
-      (
+      let accepted = accepts_one path in (
         (λ h. let file = files.0 (subst (λ l. Contains l path) is h) in (file.0, accepted.0 file.2)),
         (λ (marked, below). subst (λ l. Contains l path) (sym is) (files.1 (marked, (λ root. no_root dir below.0 below.1 (sym below.2 ∙ root)), accepted.1 below))),
       )

@@ -23,8 +23,7 @@ not_false false e = refl
 -- whether a path is in a set of one prefix
 pub one_prefix : (prefixes : List Path) (base path : Path) → HasSamePaths prefixes (base ∷ []) → (has_prefix prefixes path ≡ true) ↔ IsBelow path base
 one_prefix prefixes base path same =
-    let is : has_prefix prefixes path ≡ is_at_or_below base path = same (λ prefix. is_at_or_below prefix path) ∙ or_false (is_at_or_below base path) in
-    (
+    let is : has_prefix prefixes path ≡ is_at_or_below base path = same (λ prefix. is_at_or_below prefix path) ∙ or_false (is_at_or_below base path) in (
       (λ h. below_base base path (sym is ∙ h)),
       (λ (rest, e). is ∙ ap (is_at_or_below base) e ∙ is_at_or_below-append base rest),
     )
@@ -34,8 +33,7 @@ pub one_less_another : (wanted unwanted : List Path) (dir without path : Path) �
     → ((has_prefix wanted path && not (has_prefix unwanted path)) ≡ true) ↔ (IsBelow path dir × (¬ IsBelow path without))
 one_less_another wanted unwanted dir without path first second =
     let inside = one_prefix wanted dir path first in
-    let outside = one_prefix unwanted without path second in
-    (
+    let outside = one_prefix unwanted without path second in (
       (λ h. let parts = and_parts (has_prefix wanted path) (not (has_prefix unwanted path)) h in
           (inside.0 parts.0, λ below. false≢true (sym (not_false (has_prefix unwanted path) parts.1) ∙ outside.1 below))),
       (λ (in', out). and_from (has_prefix wanted path) (not (has_prefix unwanted path)) (inside.1 in')
@@ -48,8 +46,7 @@ pub found_below : (marks : List Path) (tree : Tree Bool) (wanted unwanted : List
     → (path : Path) → Contains found path ↔ (Contains marks path × (path ≢ []) × IsBelow path dir × (¬ IsBelow path without))
 found_below marks tree wanted unwanted dir without found lists made first second is path =
     let files = files_are marks tree (λ path. has_prefix wanted path && not (has_prefix unwanted path)) lists made path in
-    let accepted = one_less_another wanted unwanted dir without path first second in
-    (
+    let accepted = one_less_another wanted unwanted dir without path first second in (
       (λ h. let file = files.0 (subst (λ l. Contains l path) is h) in let below = accepted.0 file.2 in (file.0, file.1, below.0, below.1)),
       (λ (marked, not_root, in', out). subst (λ l. Contains l path) (sym is) (files.1 (marked, not_root, accepted.1 (in', out)))),
     )

@@ -1,5 +1,5 @@
 -- What a tree says at a path once a value was set, where it says of a new node what it says of none.
-use Rattle.std.proofs.Common.{◌≡◌, ◌≢◌, Option, Some, None, [], ◌∷◌, ◌++◌, refl, ap, sym, ◌∙◌}
+use Rattle.std.proofs.Common.{◌≡◌, ◌≢◌, Option, Some, None, [], ◌∷◌, refl, ap, sym, ◌∙◌}
 use Rattle.std.specs.Option.{option_and_then, option_map}
 use Rattle.std.proofs.lemmas.Option.{option_and_then_some}
 use Rattle.jj_paths.specs.Paths.{Name, Path}

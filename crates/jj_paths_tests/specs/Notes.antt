@@ -1,4 +1,5 @@
 -- What trees of notes and of counts say at a path.
+-- Cited by contracts of public items: count_at, note_at.
 use Rattle.std.specs.Prelude.{ℕ, Option, String, unwrap_or}
 use Rattle.std.specs.Global.{Global}
 use Rattle.std.specs.Option.{option_and_then}

@@ -1,4 +1,5 @@
 -- Why a text gives no path.
+-- Cited by contracts of public items: IsNoPath.
 use Rattle.std.specs.Prelude.{◌≡◌, ℕ, false, List, string_bytes}
 use Rattle.jj_paths.specs.Paths.{is_path_text}
 use Rattle.jj_paths.specs.declared.repo_path.InvalidNewRepoPathError.{InvalidNewRepoPathError}

@@ -25,16 +25,14 @@ pub fn keep_note(
     ensures kept { OnOk result (note_at notes.new (path_of path.entry) ≡ Some note) }
     ensures others { (other : Path) → other ≢ path_of path.entry
         → note_at notes.new other ≡ note_at notes.old other }
-    ensures refused { OnErr result ((any : Path) → note_at notes.new any ≡ note_at notes.old any) }
+    ensures refused { OnErr result ((any : Path) →
+        note_at notes.new any ≡ note_at notes.old any) }
 {
     notes.set(path, Some(note))
 }
 
 /// The note at a path.
-pub fn note<'a>(
-    notes: &'a RepoPathTree<Option<String>>,
-    path: RepoPath<'_>,
-) -> Option<&'a String>
+pub fn note<'a>(notes: &'a RepoPathTree<Option<String>>, path: RepoPath<'_>) -> Option<&'a String>
     ensures { option_copied result ≡ note_at notes.now (path_of path.entry) }
 {
     notes.get(path)?.value().as_ref()
@@ -47,7 +45,8 @@ pub fn count_change(counts: &mut RepoPathTree<u64>, path: RepoPath<'_>) -> Resul
         ≡ min (count_at counts.old (path_of path.entry) + 1) (2 ^ 64 - 1)) }
     ensures others { (other : Path) → other ≢ path_of path.entry
         → count_at counts.new other ≡ count_at counts.old other }
-    ensures refused { OnErr result ((any : Path) → count_at counts.new any ≡ count_at counts.old any) }
+    ensures refused { OnErr result ((any : Path) →
+        count_at counts.new any ≡ count_at counts.old any) }
 {
     let node = counts.add(path)?;
     let count = *node.value();

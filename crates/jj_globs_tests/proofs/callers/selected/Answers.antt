@@ -1,7 +1,6 @@
 use Rattle.std.proofs.Common.{◌≡◌, ℕ, List, ap, sym, ◌∙◌, subst}
 use mathlib.Core.Bool.{false≢true}
 use Rattle.jj_globs.specs.GlobMeaning.{GlobSpec, IsMatch}
-use Rattle.jj_globs.specs.GlobReads.{glob_of_text}
 use Rattle.jj_globs_tests.specs.Selected.{none}
 use Rattle.jj_globs_tests.proofs.Selecting.{takes_at, leaves_at}
 use Rattle.jj_globs_tests.proofs.callers.selected.Goals as goal

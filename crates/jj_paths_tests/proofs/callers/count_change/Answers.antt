@@ -1,4 +1,4 @@
-use Rattle.std.proofs.Common.{◌≡◌, ◌+◌, min, Result, Ok, Err, IfOk, IsOk, refl, ◌∙◌, ap, sym, subst}
+use Rattle.std.proofs.Common.{◌≡◌, ◌+◌, min, Result, Ok, Err, IfOk, IsOk, refl, ◌∙◌, ap, subst}
 use Rattle.std.specs.Prelude.{unwrap_or}
 use Rattle.jj_paths.specs.Names.{path_of}
 use Rattle.jj_paths.specs.Tree.{IsEdited}

@@ -1,6 +1,7 @@
-use Rattle.std.proofs.Common.{◌≡◌, ℕ, List, ◌++◌, Option, Some, None, sym, ◌∙◌, append_assoc}
+use Rattle.std.proofs.Common.{ℕ, List, ◌++◌, Option, Some, None, ap, sym, subst, ◌∙◌, append_assoc}
 use Rattle.std.specs.Io.KnownBytes.{Appends, Consumes}
 use Rattle.jj_paths.specs.Streams.{AppendsFrontOf}
+use Rattle.jj_paths.specs.Watching.{watched}
 use Rattle.jj_paths_tests.proofs.callers.send.Goals as goal
 
 -- what was written of bytes that were read is a beginning of them
@@ -9,4 +10,8 @@ begins bytes None old new (written, lost, taken, grown) = absurd taken
 begins bytes (Some rest) old new (written, lost, taken, grown) = (written, lost ++ rest, grown, sym (append_assoc written lost rest) ∙ sym taken)
 
 pub returns-clause-front : goal.returns-clause-front
-returns-clause-front g c = begins _ _ _ _ c.copy.ensures.front
+returns-clause-front g c =
+    let old = g.W.Sink.contents c.args.sink.now in
+    let new = g.W.Sink.contents c.copy.new.writer in
+    subst (AppendsFrontOf old new) (ap (λ b. b.now) c.new.ensures.inner)
+    (begins (watched c.new.result).now (Some (watched c.copy.new.reader).now) old new c.copy.ensures.front)
