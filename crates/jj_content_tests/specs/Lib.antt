@@ -2,3 +2,4 @@ pub mod KindContent
 pub mod KindLaw
 pub mod MaybeContent
 pub mod MaybeLaw
+pub mod Notes

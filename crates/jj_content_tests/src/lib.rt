@@ -4,6 +4,8 @@
 #[cfg(test)]
 mod blake2b;
 #[cfg(test)]
+pub mod callers;
+#[cfg(test)]
 mod content;
 pub mod content_texts;
 #[cfg(test)]

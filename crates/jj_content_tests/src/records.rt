@@ -47,6 +47,31 @@ impl<X: ContentHash, Y: ContentHash> ContentHash for GenericFoo<X, Y> {
     }
 }
 
+/// A note on a file: its text, and the numbers of the lines that it is on.
+#[derive(Debug, PartialEq, Eq, Drop)]
+pub struct Note {
+    pub text: String,
+    pub lines: Vec<u32>,
+}
+
+impl ContentHash for Note {
+    ghost use Rattle.std.specs.Prelude.{OnOk, OnErr, string_bytes};
+    ghost use Rattle.jj_content.specs.Content.{Takes, TakesFront, IsLawful};
+    ghost use Rattle.jj_content.specs.Lawful.{text_lawful, u32_lawful};
+    ghost use Rattle.jj_content_tests.specs.Notes.{note_content, IsNote};
+
+    ghost is_value = { IsNote };
+
+    ghost content = { note_content };
+
+    ghost lawful = { both_lawful (on_lawful (λ note. string_bytes note.text) text_lawful)
+        (on_lawful (λ note. note.lines.items) (list_lawful u32_lawful)) };
+
+    fn hash<D: DigestUpdate>(&self, alloc: Global, state: &mut D) -> Result<(), AllocError> {
+        hash_both(alloc, &self.text, &self.lines, state)
+    }
+}
+
 /// One number.
 #[derive(Debug, PartialEq, Eq, Clone, Copy)]
 pub struct Single(pub i32);

@@ -1,0 +1,31 @@
+//! Proved callers: keys of a store, by the content of a record of one's own.
+ghost use Rattle.std.specs.Prelude.{◌≡◌, ◌⊎◌, ◌↔◌, IfOk, IsTrue, OnOk};
+ghost use Rattle.jj_content.specs.Blake2b.{blake2b};
+ghost use Rattle.jj_content_tests.specs.Notes.{note_content, IsNote, AreSame, Collide};
+
+use crate::records::Note;
+use jj_content::blake2b::Blake2b512;
+use jj_content::content_hash::{ContentHash, content_decides};
+use std::alloc::{AllocError, Global};
+
+/// The key of a note in a store: the digest of its content.
+pub fn key(alloc: Global, note: &Note) -> Result<[u8; 64], AllocError>
+    ensures digest { IfOk result (λ key. key ≡ blake2b (note_content note.now)) }
+    ensures value { OnOk result (IsNote note.now) }
+{
+    let mut state = Blake2b512::new();
+    note.hash(alloc, &mut state)?;
+    Ok(state.finalize())
+}
+
+/// Whether two notes have one key: the same notes have, and others only where their contents
+/// collide.
+pub fn have_one_key(alloc: Global, first: &Note, second: &Note) -> Result<bool, AllocError>
+    ensures { IfOk result (λ yes. IsTrue yes ↔ (AreSame first.now second.now
+        ⊎ Collide (note_content first.now) (note_content second.now))) }
+{
+    content_decides::<Note>();
+    let first_key = key(alloc, first)?;
+    let second_key = key(alloc, second)?;
+    Ok(first_key == second_key)
+}
