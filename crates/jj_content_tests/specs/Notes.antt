@@ -1,4 +1,5 @@
 -- The content of a note, when two notes are the same, and when two contents collide.
+-- Cited by contracts of public items: AreSame, Collide, IsNote, note_content.
 use Rattle.std.specs.Prelude.{◌≡◌, ◌≢◌, ℕ, ◌<◌, ◌^◌, ◌++◌, List, length, string_bytes}
 use Rattle.jj_content.specs.Blake2b.{blake2b}
 use Rattle.jj_content.specs.Content.{AreValues, u32_content, text_content, list_content}

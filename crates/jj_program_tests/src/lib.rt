@@ -4,6 +4,8 @@
 #[cfg(test)]
 mod answer_tests;
 #[cfg(test)]
+pub mod callers;
+#[cfg(test)]
 mod ends;
 #[cfg(test)]
 mod fault_tests;
@@ -17,3 +19,4 @@ mod runs;
 mod sample_tests;
 #[cfg(test)]
 mod start_tests;
+pub mod written;

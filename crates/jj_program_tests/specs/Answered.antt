@@ -1,0 +1,37 @@
+-- What a caller is told of an input that is all in memory.
+-- Cited by contracts of public items: CanFailBy, FindsFiles, IsFaultOfWalk.
+use Rattle.std.specs.Prelude.{◌≡◌, ℕ, ◌++◌, List, codes, Result, Ok, Err}
+use Rattle.jj_paths.specs.Paths.{Path}
+use Rattle.jj_program.specs.declared.fault.Fault.{Fault}
+use Rattle.jj_program.specs.declared.fault.Fault.TheVariants.{ReadInput, NotUtf8, Memory, WriteOutput, Matchers, Line}
+use Rattle.jj_program.specs.declared.program.Command.{Command}
+use Rattle.jj_program.specs.declared.program.Command.TheVariants.{Walk}
+use Rattle.jj_program.specs.FoundFiles.{AreFound}
+use Rattle.jj_program.specs.LineFaults.{IsToldBy}
+use Rattle.jj_program.specs.Lines.{lines_of}
+use Rattle.jj_program.specs.Program.{Gives}
+use Rattle.jj_program.specs.WalkCommand.{WalkRequest, walk_request}
+use Rattle.jj_program.specs.Walked.{path_lines}
+
+-- the command gives this fault for the input; or there was no memory for the work or for the
+-- output, or more reads were made than can be counted
+abbrev pub CanFailBy : Command → List ℕ → Fault → Type 0
+CanFailBy command input ReadInput = Unit {0}
+CanFailBy command input Memory = Unit {0}
+CanFailBy command input WriteOutput = (output : List ℕ) × Gives command input (Ok output)
+CanFailBy command input fault = Gives command input (Err fault)
+
+-- the output is the lines of the marked paths that are in the set that the text names, and of no
+-- other path, and then those of the directories that were entered
+abbrev pub FindsFiles : List ℕ → List ℕ → Type 0
+FindsFiles text output = (request : WalkRequest) × (found entered : List Path)
+    × (walk_request text ≡ Ok request) × AreFound request found
+    × (output ≡ path_lines (codes "file") found ++ path_lines (codes "enter") entered)
+
+-- the fault is the first that a line of the text has, or the number of sets that are left where no
+-- line has one; or the text was not at fault
+abbrev pub IsFaultOfWalk : List ℕ → Fault → Type 0
+IsFaultOfWalk text NotUtf8 = ⊥
+IsFaultOfWalk text (Matchers count) = IsToldBy {A = List ℕ} Walk (lines_of text) (Err (Matchers count))
+IsFaultOfWalk text (Line number kind) = IsToldBy {A = List ℕ} Walk (lines_of text) (Err (Line number kind))
+IsFaultOfWalk text fault = Unit {0}
