@@ -1,0 +1,54 @@
+-- What a prefix stands for among ids, as more of them are looked at.
+use Rattle.std.proofs.Common.{◌≡◌, ◌≢◌, ◌∙◌, ℕ, List, [], ◌∷◌, ◌++◌, ◌+◌, ◌<◌, ◌≤◌, length, take, get_or, inl, inr, ap, sym, subst, Contains}
+use Rattle.std.proofs.lemmas.List.Elements.{Contains-append_left, Contains-push, Contains-push_cases}
+use Rattle.std.proofs.lemmas.List.{take_more, take_all}
+use denote.Ref.{Bor}
+use Rattle.jj_ids.specs.declared.object_id.prefix_resolution.PrefixResolution.{PrefixResolution}
+use Rattle.jj_ids.specs.declared.object_id.prefix_resolution.PrefixResolution.TheVariants.{NoMatch, SingleMatch, AmbiguousMatch}
+use Rattle.jj_ids_tests.specs.Lookups.{BeginsWith, StandsFor}
+
+module _ (ids : List (List ℕ)) (prefix id : List ℕ) where
+  -- an id that does not begin with the prefix changes nothing
+  pub passed : (found : PrefixResolution (Bor (List ℕ))) → StandsFor ids prefix found → (BeginsWith id prefix → ⊥) → StandsFor (ids ++ id ∷ []) prefix found
+  passed NoMatch none other = λ it among begins.
+      elim (Contains-push_cases ids id it among) [ inl before ↦ none it before begins | inr same ↦ other (subst (λ i. BeginsWith i prefix) (sym same) begins) ]
+  passed (SingleMatch only) (there, begins, alone) other =
+      (Contains-append_left ids (id ∷ []) only.now there, begins,
+      λ it among starts.
+          elim (Contains-push_cases ids id it among) [ inl before ↦ alone it before starts | inr same ↦ absurd (other (subst (λ i. BeginsWith i prefix) (sym same) starts)) ])
+  passed AmbiguousMatch (first, second, among1, begins1, among2, begins2, differ) other =
+      (first, second, Contains-append_left ids (id ∷ []) first among1, begins1, Contains-append_left ids (id ∷ []) second among2, begins2, differ)
+
+  module _ (begins : BeginsWith id prefix) where
+    -- the first that does is the only one
+    pub first_match : (found : Bor (List ℕ)) → found.now ≡ id → StandsFor ids prefix NoMatch → StandsFor (ids ++ id ∷ []) prefix (SingleMatch found)
+    first_match found is none =
+        (subst (Contains (ids ++ id ∷ [])) (sym is) (Contains-push ids id), subst (λ i. BeginsWith i prefix) (sym is) begins,
+        λ it among starts.
+            elim (Contains-push_cases ids id it among) [ inl before ↦ absurd (none it before starts) | inr same ↦ sym same ∙ sym is ])
+
+    -- the same one once more is still the only one
+    pub same_match : (only : Bor (List ℕ)) → only.now ≡ id → StandsFor ids prefix (SingleMatch only) → StandsFor (ids ++ id ∷ []) prefix (SingleMatch only)
+    same_match only is (there, starts, alone) =
+        (Contains-append_left ids (id ∷ []) only.now there, starts,
+        λ it among begins'.
+            elim (Contains-push_cases ids id it among) [ inl before ↦ alone it before begins' | inr same ↦ sym same ∙ sym is ])
+
+    -- another one makes two
+    pub second_match : (only : Bor (List ℕ)) → only.now ≢ id → StandsFor ids prefix (SingleMatch only) → StandsFor (ids ++ id ∷ []) prefix AmbiguousMatch
+    second_match only differ (there, starts, alone) =
+        (only.now, id, Contains-append_left ids (id ∷ []) only.now there, starts, Contains-push ids id, begins, differ)
+
+    pub more_matches : StandsFor ids prefix AmbiguousMatch → StandsFor (ids ++ id ∷ []) prefix AmbiguousMatch
+    more_matches (first, second, among1, begins1, among2, begins2, differ) =
+        (first, second, Contains-append_left ids (id ∷ []) first among1, begins1, Contains-append_left ids (id ∷ []) second among2, begins2, differ)
+
+-- what stands for the ids before a place and the one there stands for those before the next place
+pub next_id : (ids : List (List ℕ)) (i : ℕ) (id prefix : List ℕ) (found : PrefixResolution (Bor (List ℕ))) → i < length ids → id ≡ get_or ids i id
+    → StandsFor (take i ids ++ id ∷ []) prefix found → StandsFor (take (i + 1) ids) prefix found
+next_id ids i id prefix found within is so_far =
+    subst (λ l. StandsFor l prefix found) (ap (λ x. take i ids ++ x ∷ []) is ∙ sym (take_more ids i id within)) so_far
+
+-- no id is left
+pub all_ids : (ids : List (List ℕ)) (n : ℕ) (prefix : List ℕ) (found : PrefixResolution (Bor (List ℕ))) → length ids ≤ n → StandsFor (take n ids) prefix found → StandsFor ids prefix found
+all_ids ids n prefix found all so_far = subst (λ l. StandsFor l prefix found) (take_all n ids all) so_far
