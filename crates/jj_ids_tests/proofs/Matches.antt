@@ -12,27 +12,33 @@ module _ (ids : List (List ℕ)) (prefix id : List ℕ) where
   pub passed : (found : PrefixResolution (Bor (List ℕ))) → StandsFor ids prefix found → (BeginsWith id prefix → ⊥) → StandsFor (ids ++ id ∷ []) prefix found
   passed NoMatch none other = λ it among begins.
       elim (Contains-push_cases ids id it among) [ inl before ↦ none it before begins | inr same ↦ other (subst (λ i. BeginsWith i prefix) (sym same) begins) ]
-  passed (SingleMatch only) (there, begins, alone) other =
-      (Contains-append_left ids (id ∷ []) only.now there, begins,
-      λ it among starts.
-          elim (Contains-push_cases ids id it among) [ inl before ↦ alone it before starts | inr same ↦ absurd (other (subst (λ i. BeginsWith i prefix) (sym same) starts)) ])
+  passed (SingleMatch only) (there, begins, alone) other = (
+    Contains-append_left ids (id ∷ []) only.now there,
+    begins,
+    λ it among starts.
+        elim (Contains-push_cases ids id it among) [ inl before ↦ alone it before starts | inr same ↦ absurd (other (subst (λ i. BeginsWith i prefix) (sym same) starts)) ],
+  )
   passed AmbiguousMatch (first, second, among1, begins1, among2, begins2, differ) other =
       (first, second, Contains-append_left ids (id ∷ []) first among1, begins1, Contains-append_left ids (id ∷ []) second among2, begins2, differ)
 
   module _ (begins : BeginsWith id prefix) where
     -- the first that does is the only one
     pub first_match : (found : Bor (List ℕ)) → found.now ≡ id → StandsFor ids prefix NoMatch → StandsFor (ids ++ id ∷ []) prefix (SingleMatch found)
-    first_match found is none =
-        (subst (Contains (ids ++ id ∷ [])) (sym is) (Contains-push ids id), subst (λ i. BeginsWith i prefix) (sym is) begins,
-        λ it among starts.
-            elim (Contains-push_cases ids id it among) [ inl before ↦ absurd (none it before starts) | inr same ↦ sym same ∙ sym is ])
+    first_match found is none = (
+      subst (Contains (ids ++ id ∷ [])) (sym is) (Contains-push ids id),
+      subst (λ i. BeginsWith i prefix) (sym is) begins,
+      λ it among starts.
+          elim (Contains-push_cases ids id it among) [ inl before ↦ absurd (none it before starts) | inr same ↦ sym same ∙ sym is ],
+    )
 
     -- the same one once more is still the only one
     pub same_match : (only : Bor (List ℕ)) → only.now ≡ id → StandsFor ids prefix (SingleMatch only) → StandsFor (ids ++ id ∷ []) prefix (SingleMatch only)
-    same_match only is (there, starts, alone) =
-        (Contains-append_left ids (id ∷ []) only.now there, starts,
-        λ it among begins'.
-            elim (Contains-push_cases ids id it among) [ inl before ↦ alone it before begins' | inr same ↦ sym same ∙ sym is ])
+    same_match only is (there, starts, alone) = (
+      Contains-append_left ids (id ∷ []) only.now there,
+      starts,
+      λ it among begins'.
+          elim (Contains-push_cases ids id it among) [ inl before ↦ alone it before begins' | inr same ↦ sym same ∙ sym is ],
+    )
 
     -- another one makes two
     pub second_match : (only : Bor (List ℕ)) → only.now ≢ id → StandsFor ids prefix (SingleMatch only) → StandsFor (ids ++ id ∷ []) prefix AmbiguousMatch

@@ -4,11 +4,11 @@ ghost use Rattle.std.specs.Option.{option_copied};
 ghost use Rattle.std.specs.Io.KnownBytes.{Appends};
 ghost use Rattle.jj_paths.specs.Paths.{Path, is_path_text};
 ghost use Rattle.jj_paths.specs.Names.{path_of};
-ghost use Rattle.jj_paths.specs.Streams.{AppendsFrontOf};
+ghost use Rattle.jj_files.specs.Streams.{AppendsFrontOf};
 ghost use Rattle.jj_paths_tests.specs.Notes.{note_at, count_at};
 ghost use Rattle.jj_paths_tests.specs.PathRefusals.{IsNoPath};
 
-use jj_paths::file_util::{Sink, Watched, copy};
+use jj_files::file_util::{Sink, Watched, copy};
 use jj_paths::laws::texts_and_paths_give_back;
 use jj_paths::repo_path::{InvalidNewRepoPathError, RepoPath};
 use jj_paths::repo_path_tree::RepoPathTree;

@@ -29,9 +29,13 @@ FindsFiles text output = (request : WalkRequest) × (found entered : List Path)
     × (output ≡ path_lines (codes "file") found ++ path_lines (codes "enter") entered)
 
 -- the fault is the first that a line of the text has, or the number of sets that are left where no
--- line has one; or the text was not at fault
+-- line has one
+abbrev pub IsTold : List ℕ → Fault → Type 0
+IsTold text fault = IsToldBy {A = List ℕ} Walk (lines_of text) (Err fault)
+
+-- the same; or the text was not at fault
 abbrev pub IsFaultOfWalk : List ℕ → Fault → Type 0
 IsFaultOfWalk text NotUtf8 = ⊥
-IsFaultOfWalk text (Matchers count) = IsToldBy {A = List ℕ} Walk (lines_of text) (Err (Matchers count))
-IsFaultOfWalk text (Line number kind) = IsToldBy {A = List ℕ} Walk (lines_of text) (Err (Line number kind))
+IsFaultOfWalk text (Matchers count) = IsTold text (Matchers count)
+IsFaultOfWalk text (Line number kind) = IsTold text (Line number kind)
 IsFaultOfWalk text fault = Unit {0}

@@ -4,7 +4,7 @@ ghost use Rattle.jj_program.specs.Program.{Gives};
 ghost use Rattle.jj_program_tests.specs.Answered.{CanFailBy, FindsFiles, IsFaultOfWalk};
 
 use crate::written::Written;
-use jj_paths::file_util::Watched;
+use jj_files::file_util::Watched;
 use jj_program::laws::{faults_are_of_first_kinds, walks_find_their_files};
 use jj_program::program::{Command, Fault, run};
 use std::alloc::Global;

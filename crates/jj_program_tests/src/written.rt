@@ -1,7 +1,7 @@
 //! A sink that keeps what was written to it.
 ghost use Rattle.std.specs.Prelude.{◌≡◌, [], false};
 
-use jj_paths::file_util::Sink;
+use jj_files::file_util::Sink;
 use std::alloc::Global;
 use std::io;
 use std::io::Write;

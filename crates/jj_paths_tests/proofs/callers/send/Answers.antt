@@ -1,7 +1,7 @@
 use Rattle.std.proofs.Common.{ℕ, List, ◌++◌, Option, Some, None, ap, sym, subst, ◌∙◌, append_assoc}
 use Rattle.std.specs.Io.KnownBytes.{Appends, Consumes}
-use Rattle.jj_paths.specs.Streams.{AppendsFrontOf}
-use Rattle.jj_paths.specs.Watching.{watched}
+use Rattle.jj_files.specs.Streams.{AppendsFrontOf}
+use Rattle.jj_files.specs.Watching.{watched}
 use Rattle.jj_paths_tests.proofs.callers.send.Goals as goal
 
 -- what was written of bytes that were read is a beginning of them
