@@ -1,6 +1,6 @@
 -- What a caller is told of an input that is all in memory.
 -- Cited by contracts of public items: CanFailBy, FindsFiles, IsFaultOfWalk.
-use Rattle.std.specs.Prelude.{◌≡◌, ℕ, ◌++◌, List, codes, Result, Ok, Err}
+use Rattle.std.specs.Prelude.{◌≡◌, ℕ, ◌++◌, List, codes, Ok, Err}
 use Rattle.jj_paths.specs.Paths.{Path}
 use Rattle.jj_program.specs.declared.fault.Fault.{Fault}
 use Rattle.jj_program.specs.declared.fault.Fault.TheVariants.{ReadInput, NotUtf8, Memory, WriteOutput, Matchers, Line}

@@ -1,4 +1,4 @@
-use Rattle.std.proofs.Common.{◌≡◌, Ok, subst}
+use Rattle.std.proofs.Common.{Ok, subst}
 use Rattle.std.proofs.lemmas.Result.{IfOk-weaker, IfErr-weaker}
 use Rattle.jj_program.specs.declared.program.Command.TheVariants.{Walk}
 use Rattle.jj_program.specs.Program.{Gives}

@@ -1,4 +1,4 @@
-use Rattle.std.proofs.Common.{length, take, arith}
+use Rattle.std.proofs.Common.{take, arith}
 use Rattle.jj_ids_tests.proofs.Matches.{next_id, all_ids}
 use Rattle.jj_ids_tests.proofs.callers.lookup.resolved.Goals as goal
 

@@ -1,4 +1,4 @@
-use Rattle.std.proofs.Common.{◌≡◌, ◌∙◌, true≢false, refl, sym, subst}
+use Rattle.std.proofs.Common.{◌∙◌, true≢false, refl, sym, subst}
 use Rattle.std.proofs.lemmas.Slice.Eq.{bytes_eq-Decides}
 use Rattle.jj_ids_tests.specs.Lookups.{StandsFor}
 use Rattle.jj_ids_tests.proofs.Matches.{passed, first_match, same_match, second_match, more_matches}
