@@ -1,7 +1,9 @@
-use Rattle.std.proofs.Common.{◌++◌, ◌∙◌, false, map, refl, ap}
+use Rattle.std.proofs.Common.{rules, sym, ◌++◌, ◌∙◌, ◌∷◌, [], false, map, refl, ap}
+use Rattle.std.proofs.lemmas.Bool.{not-true}
 use Rattle.std.proofs.lemmas.Fn.{called_at}
 use Rattle.std.proofs.lemmas.Result.{IfErr-weaker, on_ok_weaker}
 use Rattle.jj_dag.proofs.Calling.{failed_weaker}
+use Rattle.jj_dag.proofs.Clones.{contains-clone, contains-put_clone}
 use Rattle.jj_dag.proofs.Walking.{AlwaysReturns-call}
 use Rattle.jj_dag.proofs.forward.enter.Goals as goal
 
@@ -31,3 +33,27 @@ returns-clause-failed g c = IfErr-weaker c.push_all.result _ _ (λ stop. failed_
   called_at g.N.FnMut c.neighbors_fn.ensures refl,
   (k.0, (c.into_iter-neighbors.result, c.into_iter-neighbors.ensures.into_iter_gives, (k.1, k.2))),
 ))) c.push_all.ensures.failed
+
+pub neighbors_fn-requires : goal.neighbors_fn-requires
+neighbors_fn-requires g c = (c.requires.neighbors_fn.at (_ ∷ [])).0
+
+pub returns-clause-neighbors_fn : goal.returns-clause-neighbors_fn
+returns-clause-neighbors_fn g c =
+    on_ok_weaker c.push_all.result (λ k. record { at = λ xs. (c.requires.neighbors_fn.at (_ ∷ xs)).1 _ _ c.neighbors_fn.ensures }) c.push_all.ensures.nodes
+
+pub returns-clause-first : goal.returns-clause-first
+returns-clause-first g c =
+    let same = c.requires.clones c.args.id.now c.in_ok-clone.field-0 c.in_ok-clone.ensures.cases in
+    let new = not-true _ (sym c.in_ok-insert.ensures.added ∙ c.if-not-branch.false) in
+    on_ok_weaker c.push_all.result (λ k. contains-clone g.met.ID.Eq.laws c.args.visiting.now c.args.id.now c.in_ok-clone.field-0 same ∙ new) c.push_all.ensures.nodes
+
+pub returns-clause-visiting : goal.returns-clause-visiting
+returns-clause-visiting g c =
+    let same = c.requires.clones c.args.id.now c.in_ok-clone.field-0 c.in_ok-clone.ensures.cases in
+    on_ok_weaker c.push_all.result (λ k. contains-put_clone g.met.ID.Eq.laws c.args.visiting.now c.insert.new.self c.args.id.now c.in_ok-clone.field-0 same c.in_ok-insert.ensures.updates.0) c.push_all.ensures.nodes
+
+pub returns-clause-count : goal.returns-clause-count
+returns-clause-count g c = on_ok_weaker c.push_all.result (λ k. search rules) c.push_all.ensures.nodes
+
+pub returns-clause-small : goal.returns-clause-small
+returns-clause-small g c = on_ok_weaker c.push_all.result (λ k. search rules) c.push_all.ensures.nodes
