@@ -20,7 +20,7 @@ zero_word ws w is held =
     absurd (omega (arith, bit, bit_at-zero (held.0 % 64)))
 
 -- a word that holds one is among the words
-word_within : (ws : List ℕ) (w : ℕ) → HoldsLive ws w → w < length ws
+pub word_within : (ws : List ℕ) (w : ℕ) → HoldsLive ws w → w < length ws
 word_within ws w held =
     elim (cases_lt w (length ws)) [
       | inl lt ↦ lt

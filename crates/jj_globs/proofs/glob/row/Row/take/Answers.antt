@@ -1,5 +1,5 @@
-use Rattle.std.proofs.Common.{◌+◌, ◌*◌, refl}
-use Rattle.jj_globs.proofs.GlobSummary.{none_held, summary_taken, first_taken, first_of_all}
+use Rattle.std.proofs.Common.{◌+◌, ◌*◌, arith, refl}
+use Rattle.jj_globs.proofs.GlobSummary.{none_held, word_within, summary_taken, first_taken, first_of_all}
 use Rattle.jj_globs.proofs.glob.row.Row.take.Goals as goal
 
 pub returns-in_err-word-clause-none : goal.returns-in_err-word-clause-none
@@ -27,3 +27,38 @@ returns-clause-first g c =
       rw (← c.self.view_is) (first_of_all c.self.inside.words c.self.inside.summary c.in_ok-word.word c.lowest_bit-low.result
           c.self.invariant c.in_ok-word.ensures.first.1 c.lowest_bit-low.ensures.0 c.lowest_bit-low.ensures.2),
     )
+
+pub offset_bounds-self-inside-word : goal.offset_bounds-self-inside-word
+offset_bounds-self-inside-word g c =
+    let within = word_within c.self.inside.words c.in_ok-word.word ((c.self.invariant.tells c.in_ok-word.word).0 c.in_ok-word.ensures.first.0) in
+    omega arith
+
+pub bounds-self-inside-word : goal.bounds-self-inside-word
+bounds-self-inside-word g c =
+    let within = word_within c.self.inside.words c.in_ok-word.word ((c.self.invariant.tells c.in_ok-word.word).0 c.in_ok-word.ensures.first.0) in
+    omega arith
+
+pub overflow_mul-place : goal.overflow_mul-place
+overflow_mul-place g c =
+    let within = word_within c.self.inside.words c.in_ok-word.word ((c.self.invariant.tells c.in_ok-word.word).0 c.in_ok-word.ensures.first.0) in
+    omega arith
+
+pub overflow_add-place : goal.overflow_add-place
+overflow_add-place g c =
+    let within = word_within c.self.inside.words c.in_ok-word.word ((c.self.invariant.tells c.in_ok-word.word).0 c.in_ok-word.ensures.first.0) in
+    omega arith
+
+pub offset_bounds-self-inside-word-2 : goal.offset_bounds-self-inside-word-2
+offset_bounds-self-inside-word-2 g c =
+    let within = word_within c.self.inside.words c.in_ok-word.word ((c.self.invariant.tells c.in_ok-word.word).0 c.in_ok-word.ensures.first.0) in
+    omega arith
+
+pub bounds-self-inside-word-2 : goal.bounds-self-inside-word-2
+bounds-self-inside-word-2 g c =
+    let within = word_within c.self.inside.words c.in_ok-word.word ((c.self.invariant.tells c.in_ok-word.word).0 c.in_ok-word.ensures.first.0) in
+    omega arith
+
+pub unmark_empty-requires : goal.unmark_empty-requires
+unmark_empty-requires g c =
+    let within = word_within c.self.inside.words c.in_ok-word.word ((c.self.invariant.tells c.in_ok-word.word).0 c.in_ok-word.ensures.first.0) in
+    record { room = omega (arith, c.self.invariant.room) }
