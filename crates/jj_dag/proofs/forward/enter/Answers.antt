@@ -54,6 +54,3 @@ returns-clause-visiting g c =
 
 pub returns-clause-count : goal.returns-clause-count
 returns-clause-count g c = on_ok_weaker c.push_all.result (λ k. search rules) c.push_all.ensures.nodes
-
-pub returns-clause-small : goal.returns-clause-small
-returns-clause-small g c = on_ok_weaker c.push_all.result (λ k. search rules) c.push_all.ensures.nodes
