@@ -1,9 +1,15 @@
 //! Callers of sets of strings, proved from what these promise.
-ghost use Rattle.std.specs.Prelude.{◌↔◌, IsTrue, IsErr, IfOk};
+ghost use Rattle.std.specs.Prelude.{◌↔◌, IsTrue, IsErr, IfOk, Ok, map};
+ghost use Rattle.std.specs.Iterator.{Drains, IsFinite};
+ghost use Rattle.std.specs.Map.Iter.{deref_pair};
 ghost use Rattle.jj_strings.specs.StringMatchers.{InMatcher, MayAllocate};
+ghost use Rattle.jj_strings_tests.specs.Selected.{Selects};
 
+use jj_ids::object_id::CommitId;
+use jj_ids::ref_name::RefNameBuf;
 use jj_strings::str_util::StringMatcher;
 use std::alloc::{AllocError, Global};
+use std::collections::BTreeMap;
 
 /// Whether the set holds both names, asked by one searcher. It fails only where a regular
 /// expression is inside.
@@ -21,4 +27,31 @@ pub fn holds_both(
     let is_first = searcher.is_match(first)?;
     let is_second = searcher.is_match(second)?;
     Ok(is_first && is_second)
+}
+
+// All that an iterator gives.
+fn all_of<T: Drop, I>(alloc: Global, items: I) -> Result<Vec<T>, AllocError>
+where
+    I: Iterator<Item = Result<T, AllocError>> + Drop,
+    requires callable { I.can_next items }
+    requires finite { IsFinite (I.remaining items) }
+    ensures { IfOk result (λ all. Drains I.next_gives items (map (λ x. Ok x) all.items)) }
+{
+    let mut all = Vec::new(alloc);
+    for item in items {
+        all.push(item?)?;
+    }
+    Ok(all)
+}
+
+/// The refs whose names the set holds, with their targets, in the order of names.
+pub fn refs_named<'a>(
+    alloc: Global,
+    matcher: &StringMatcher,
+    refs: &'a BTreeMap<RefNameBuf, CommitId>,
+) -> Result<Vec<(&'a RefNameBuf, &'a CommitId)>, AllocError>
+    ensures { IfOk result (λ found. Selects (λ entry. InMatcher matcher.now entry.0)
+        refs.now.entries (map deref_pair found.items)) }
+{
+    all_of(alloc, matcher.filter_btree_map(alloc, refs))
 }

@@ -1,0 +1,11 @@
+-- The items of a list of which something holds.
+-- Cited by contracts of public items: Selects.
+use Rattle.std.specs.Prelude.{List, [], ◌∷◌}
+
+-- the second list has each item of the first of which P holds, in its order, and no other
+pub data Selects {X : Type 0} (P : X → Type 0) : (all some : List X) → Type 0 where
+  at_end : Selects P [] []
+  taken : {x : X} {all some : List X} → P x → Selects P all some
+      → Selects P (x ∷ all) (x ∷ some)
+  left_out : {x : X} {all some : List X} → (P x → ⊥) → Selects P all some
+      → Selects P (x ∷ all) some
