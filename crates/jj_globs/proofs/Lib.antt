@@ -16,3 +16,5 @@ pub mod GlobLowers
 pub mod GlobEnding
 pub mod GlobFront
 pub mod GlobSharing
+pub mod EscapedTokens
+pub mod EscapedMeaning

@@ -1,7 +1,9 @@
 -- A text as a glob that stands for it alone.
--- Cited by contracts of public items: escaped, is_special.
-use Rattle.std.specs.Prelude.{ℕ, Bool, ◌==◌, ◌||◌, if◌then◌else◌, List, [], ◌∷◌}
+-- Cited by contracts of public items: StandsForAlone, escaped, is_special.
+use Rattle.std.specs.Prelude.{◌≡◌, ◌↔◌, ℕ, Bool, false, ◌==◌, ◌||◌, if◌then◌else◌, List, [], ◌∷◌}
 use Rattle.std.specs.List.{flat_map}
+use Rattle.jj_globs.specs.GlobMeaning.{IsMatch}
+use Rattle.jj_globs.specs.GlobReads.{glob_of_text}
 
 -- the byte has a meaning outside of classes and groups: one of `? * [ ] { } \`
 abbrev pub is_special : ℕ → Bool
@@ -14,3 +16,8 @@ escaped_byte b = if is_special b then 91 ∷ b ∷ 93 ∷ [] else b ∷ []
 
 unfoldable pub escaped : List ℕ → List ℕ
 escaped text = flat_map escaped_byte text
+
+-- the glob, with or without separator, stands for the text and for nothing else
+abbrev pub StandsForAlone : List ℕ → List ℕ → Type 0
+StandsForAlone glob text = (separator : Bool) (bytes : List ℕ)
+    → IsMatch (glob_of_text glob separator false) bytes ↔ (bytes ≡ text)

@@ -1,12 +1,12 @@
 //! Callers of globs, proved from what these promise.
-ghost use Rattle.std.specs.Prelude.{◌↔◌, map, true, false, IsTrue, IfOk, IfErr};
+ghost use Rattle.std.specs.Prelude.{◌≡◌, ◌↔◌, ℕ, List, map, true, false, IsTrue, IfOk, IfErr, string_bytes};
 ghost use Rattle.jj_globs.specs.GlobMeaning.{IsMatch};
 ghost use Rattle.jj_globs.specs.GlobReads.{IsReadingFault, glob_of_text};
 ghost use Rattle.jj_globs.specs.GlobText.{tokens_of};
 ghost use Rattle.jj_globs_tests.specs.Selected.{IsSelected};
 
-use jj_globs::glob::{Glob, GlobError};
-use std::alloc::Global;
+use jj_globs::glob::{Glob, GlobError, escape};
+use std::alloc::{AllocError, Global};
 
 /// Whether a pattern stands for a path, where neither `?` nor `*` stands for `/`. An `Err` tells
 /// the first fault of the pattern, or that there was no memory.
@@ -38,4 +38,12 @@ pub fn selected<'a>(
         }
     }
     Ok(found)
+}
+
+/// A pattern that stands for this path, whatever signs it has, and for no other text.
+pub fn pattern_of(alloc: Global, path: &str) -> Result<String, AllocError>
+    ensures { IfOk result (λ pattern. (text : List ℕ)
+        → IsMatch (glob_of_text (string_bytes pattern) true false) text ↔ (text ≡ path.now)) }
+{
+    escape(alloc, path)
 }

@@ -7,5 +7,4 @@ pub mod EmptyRegex
 pub mod AllStrings
 pub mod FoundEntries
 pub mod Unions
-pub mod EscapedTokens
 pub mod EscapedMeaning
