@@ -13,3 +13,5 @@ pub mod PatternSound
 pub mod PatternTrees
 pub mod PatternAdds
 pub mod PatternOrder
+pub mod FoundMarks
+pub mod SetMeanings

@@ -10,3 +10,4 @@ pub mod Wanted
 pub mod Patterns
 pub mod PatternTree
 pub mod PatternOrder
+pub mod Laws

@@ -1,3 +1,3 @@
-pub mod FoundFiles
+pub mod Singles
 pub mod Prefixes
 pub mod OneGlob

@@ -1,24 +1,15 @@
 -- A walk by one glob in a directory finds the marks below the directory whose rest it stands for.
-use Rattle.std.proofs.Common.{◌≡◌, zero, suc, Bool, true, false, List, [], ◌∷◌, ◌++◌, Contains, refl, ap, sym, subst, ◌∙◌, arith}
+use Rattle.std.proofs.Common.{◌≡◌, Bool, true, false, List, [], ◌∷◌, ◌++◌, Contains, ap, sym, subst, ◌∙◌, arith}
 use Rattle.std.specs.Prelude.{◌↔◌}
-use Rattle.std.specs.List.{list_any, Any}
+use Rattle.std.specs.List.{list_any}
 use Rattle.jj_paths.specs.Paths.{Name, Path, path_text}
 use Rattle.jj_paths.specs.Tree.{Tree}
-use Rattle.jj_paths.specs.Nodes.{ListsNodes}
 use Rattle.jj_globs.specs.GlobMeaning.{GlobSpec, IsMatch}
 use Rattle.jj_matchers.specs.Marks.{IsMarkedTree}
 use Rattle.jj_matchers.specs.Walk.{files_of}
 use Rattle.jj_matchers.specs.Patterns.{Patterns, HasSamePatterns, is_accepted, tail_passes, accepts_tail}
-use Rattle.jj_matchers.proofs.PatternSound.{Decides-is_accepted}
-use Rattle.jj_matchers_tests.proofs.FoundFiles.{files_are}
-
-module _ {X : Type 0} (P : X → Type 0) (x : X) where
-  any_one : Any P (x ∷ []) → P x
-  any_one (zero, y, below, is, holds) = subst P (sym is) holds
-  any_one (suc k, y, below, is, holds) = absurd (omega arith)
-
-  one_any : P x → Any P (x ∷ [])
-  one_any holds = (0, x, omega arith, refl, holds)
+use Rattle.jj_matchers.specs.Laws.{FindsMarks, HasMatches}
+use Rattle.jj_matchers_tests.proofs.Singles.{any_one, one_any}
 
 -- the path lies below the directory, and the glob stands for the text of the rest
 abbrev pub LiesBelow : Path → GlobSpec → Path → Type 0
@@ -45,9 +36,9 @@ module _ (set : Patterns) (dir : Path) (glob : GlobSpec) (same : HasSamePatterns
       ∙ ap (λ b. list_any (λ (pattern : Path × GlobSpec). tail_passes pattern.0 (accepts_tail b pattern.1) path) ((dir, glob) ∷ [])) same.mode
 
   -- what such a set accepts
-  pub accepts_one : (path : Path) → (is_accepted set path ≡ true) ↔ LiesBelow dir glob path
-  accepts_one path =
-      let decides = Decides-is_accepted (one_pattern dir glob) path in (
+  pub accepts_one : HasMatches → (path : Path) → (is_accepted set path ≡ true) ↔ LiesBelow dir glob path
+  accepts_one meaning path =
+      let decides = meaning (one_pattern dir glob) path in (
         (λ h. any_one (λ (pattern : Path × GlobSpec). LiesBelow pattern.0 pattern.1 path) (dir, glob) (decides.0 (sym (accepts_same path) ∙ h))),
         (λ below. accepts_same path ∙ decides.1 (one_any (λ (pattern : Path × GlobSpec). LiesBelow pattern.0 pattern.1 path) (dir, glob) below)),
       )
@@ -57,11 +48,11 @@ module _ (set : Patterns) (dir : Path) (glob : GlobSpec) (same : HasSamePatterns
   no_root (d ∷ dir) name rest e = cc
 
   -- what a walk by it finds
-  pub found_by_glob : (marks : List Path) (tree : Tree Bool) (found : List Path) → ListsNodes Bool → IsMarkedTree marks tree → found ≡ files_of (is_accepted set) tree
+  pub found_by_glob : (marks : List Path) (tree : Tree Bool) (found : List Path) → FindsMarks → HasMatches → IsMarkedTree marks tree → found ≡ files_of (is_accepted set) tree
       → (path : Path) → Contains found path ↔ (Contains marks path × LiesBelow dir glob path)
-  found_by_glob marks tree found lists made is path =
-      let files = files_are marks tree (is_accepted set) lists made path in
-      let accepted = accepts_one path in (
+  found_by_glob marks tree found finds meaning made is path =
+      let files = finds marks tree made (is_accepted set) path in
+      let accepted = accepts_one meaning path in (
         (λ h. let file = files.0 (subst (λ l. Contains l path) is h) in (file.0, accepted.0 file.2)),
         (λ (marked, below). subst (λ l. Contains l path) (sym is) (files.1 (marked, (λ root. no_root dir below.0 below.1 (sym below.2 ∙ root)), accepted.1 below))),
       )

@@ -1,39 +1,35 @@
 -- A set of one prefix has the paths at or below it, and a walk by such a set less another finds them.
-use Rattle.std.proofs.Common.{◌≡◌, ◌≢◌, Bool, true, false, ◌&&◌, ◌||◌, not, List, [], ◌∷◌, Contains, refl, ap, sym, subst, ◌∙◌}
+use Rattle.std.proofs.Common.{◌≡◌, ◌≢◌, Bool, true, false, ◌&&◌, not, List, [], ◌∷◌, Contains, refl, ap, sym, subst, ◌∙◌}
 use Rattle.std.specs.Prelude.{◌↔◌}
 use mathlib.Core.Bool.{false≢true}
 use Rattle.std.proofs.lemmas.Bool.{and_from, and_parts, false_from_ne_true}
 use Rattle.jj_paths.specs.Paths.{Path, IsBelow}
 use Rattle.jj_paths.specs.Tree.{Tree}
-use Rattle.jj_paths.specs.Nodes.{ListsNodes}
 use Rattle.jj_matchers.specs.Marks.{IsMarkedTree}
 use Rattle.jj_matchers.specs.Walk.{files_of}
 use Rattle.jj_matchers.specs.Wanted.{HasSamePaths, has_prefix, is_at_or_below}
-use Rattle.jj_matchers.proofs.Wanted.{below_base, is_at_or_below-append}
-use Rattle.jj_matchers_tests.proofs.FoundFiles.{files_are}
-
-or_false : (b : Bool) → (b || false) ≡ b
-or_false true = refl
-or_false false = refl
+use Rattle.jj_matchers.specs.Laws.{FindsMarks, HasAllBelow}
+use Rattle.jj_matchers_tests.proofs.Singles.{any_one, one_any}
 
 not_false : (b : Bool) → not b ≡ true → b ≡ false
 not_false true e = absurd (false≢true e)
 not_false false e = refl
 
 -- whether a path is in a set of one prefix
-pub one_prefix : (prefixes : List Path) (base path : Path) → HasSamePaths prefixes (base ∷ []) → (has_prefix prefixes path ≡ true) ↔ IsBelow path base
-one_prefix prefixes base path same =
-    let is : has_prefix prefixes path ≡ is_at_or_below base path = same (λ prefix. is_at_or_below prefix path) ∙ or_false (is_at_or_below base path) in (
-      (λ h. below_base base path (sym is ∙ h)),
-      (λ (rest, e). is ∙ ap (is_at_or_below base) e ∙ is_at_or_below-append base rest),
+pub one_prefix : HasAllBelow → (prefixes : List Path) (base path : Path) → HasSamePaths prefixes (base ∷ []) → (has_prefix prefixes path ≡ true) ↔ IsBelow path base
+one_prefix meaning prefixes base path same =
+    let is : has_prefix prefixes path ≡ has_prefix (base ∷ []) path = same (λ prefix. is_at_or_below prefix path) in
+    let one = meaning (base ∷ []) path in (
+      (λ h. any_one (IsBelow path) base (one.0 (sym is ∙ h))),
+      (λ h. is ∙ one.1 (one_any (IsBelow path) base h)),
     )
 
 -- whether it is in such a set and not in another
-pub one_less_another : (wanted unwanted : List Path) (dir without path : Path) → HasSamePaths wanted (dir ∷ []) → HasSamePaths unwanted (without ∷ [])
+pub one_less_another : HasAllBelow → (wanted unwanted : List Path) (dir without path : Path) → HasSamePaths wanted (dir ∷ []) → HasSamePaths unwanted (without ∷ [])
     → ((has_prefix wanted path && not (has_prefix unwanted path)) ≡ true) ↔ (IsBelow path dir × (¬ IsBelow path without))
-one_less_another wanted unwanted dir without path first second =
-    let inside = one_prefix wanted dir path first in
-    let outside = one_prefix unwanted without path second in (
+one_less_another meaning wanted unwanted dir without path first second =
+    let inside = one_prefix meaning wanted dir path first in
+    let outside = one_prefix meaning unwanted without path second in (
       (λ h. let parts = and_parts (has_prefix wanted path) (not (has_prefix unwanted path)) h in
           (inside.0 parts.0, λ below. false≢true (sym (not_false (has_prefix unwanted path) parts.1) ∙ outside.1 below))),
       (λ (in', out). and_from (has_prefix wanted path) (not (has_prefix unwanted path)) (inside.1 in')
@@ -41,12 +37,12 @@ one_less_another wanted unwanted dir without path first second =
     )
 
 -- what a walk by two such sets finds
-pub found_below : (marks : List Path) (tree : Tree Bool) (wanted unwanted : List Path) (dir without : Path) (found : List Path) → ListsNodes Bool → IsMarkedTree marks tree
+pub found_below : (marks : List Path) (tree : Tree Bool) (wanted unwanted : List Path) (dir without : Path) (found : List Path) → FindsMarks → HasAllBelow → IsMarkedTree marks tree
     → HasSamePaths wanted (dir ∷ []) → HasSamePaths unwanted (without ∷ []) → found ≡ files_of (λ path. has_prefix wanted path && not (has_prefix unwanted path)) tree
     → (path : Path) → Contains found path ↔ (Contains marks path × (path ≢ []) × IsBelow path dir × (¬ IsBelow path without))
-found_below marks tree wanted unwanted dir without found lists made first second is path =
-    let files = files_are marks tree (λ path. has_prefix wanted path && not (has_prefix unwanted path)) lists made path in
-    let accepted = one_less_another wanted unwanted dir without path first second in (
+found_below marks tree wanted unwanted dir without found finds meaning made first second is path =
+    let files = finds marks tree made (λ path. has_prefix wanted path && not (has_prefix unwanted path)) path in
+    let accepted = one_less_another meaning wanted unwanted dir without path first second in (
       (λ h. let file = files.0 (subst (λ l. Contains l path) is h) in let below = accepted.0 file.2 in (file.0, file.1, below.0, below.1)),
       (λ (marked, not_root, in', out). subst (λ l. Contains l path) (sym is) (files.1 (marked, not_root, accepted.1 (in', out)))),
     )

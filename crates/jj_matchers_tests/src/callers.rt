@@ -8,10 +8,10 @@ ghost use Rattle.jj_globs.specs.GlobReads.{IsReadingFault, glob_of_text};
 ghost use Rattle.jj_globs.specs.GlobText.{tokens_of};
 
 use jj_globs::glob::GlobError;
+use jj_matchers::laws::{sets_have_their_meaning, walks_find_accepted_marks};
 use jj_matchers::matchers::{
     DifferenceMatcher, GlobsMatcher, PathGlobPattern, PrefixMatcher, marked_tree, walk_matching,
 };
-use jj_paths::laws::trees_list_their_nodes;
 use jj_paths::repo_path::{RepoPath, RepoPathBuf};
 use std::alloc::{AllocError, Global};
 
@@ -28,7 +28,8 @@ pub fn files_below(
         × IsBelow path (path_of dir.entry) × (¬ IsBelow path (path_of without.entry)))) }
     ensures ordered { IfOk result (λ found. IsStrictlySortedBy path_cmp found.items) }
 {
-    trees_list_their_nodes::<bool>();
+    walks_find_accepted_marks();
+    sets_have_their_meaning();
     let tree = marked_tree(alloc, files)?;
     let wanted = PrefixMatcher::new(alloc, &[dir])?;
     let unwanted = PrefixMatcher::new(alloc, &[without])?;
@@ -52,7 +53,8 @@ pub fn files_matching(
     ensures ordered { IfOk result (λ found. IsStrictlySortedBy path_cmp found.items) }
     ensures fault { IfErr result (λ error. IsReadingFault error (tokens_of pattern.now)) }
 {
-    trees_list_their_nodes::<bool>();
+    walks_find_accepted_marks();
+    sets_have_their_meaning();
     let glob = PathGlobPattern::parse(alloc, pattern)?;
     let tree = marked_tree(alloc, files)?;
     let mut globs = GlobsMatcher::builder(alloc);

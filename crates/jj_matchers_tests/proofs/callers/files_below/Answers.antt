@@ -8,4 +8,4 @@ pub returns-clause-found : goal.returns-clause-found
 returns-clause-found c =
     let first = subst (λ m. HasSamePaths m (path_of c.args.dir ∷ [])) (sym c.new-matcher.ensures.first) c.in_ok-wanted.ensures in
     let second = subst (λ m. HasSamePaths m (path_of c.args.without ∷ [])) (sym c.new-matcher.ensures.second) c.in_ok-unwanted.ensures in
-    found_below _ _ _ _ _ _ _ c.trees_list_their_nodes.ensures.nodes c.in_ok-tree.ensures first second c.in_ok-walk_matching.ensures.files
+    found_below _ _ _ _ _ _ _ c.walks_find_accepted_marks.ensures.files c.sets_have_their_meaning.ensures.prefixes c.in_ok-tree.ensures first second c.in_ok-walk_matching.ensures.files

@@ -8,4 +8,4 @@ pub returns-clause-found : goal.returns-clause-found
 returns-clause-found c =
     let one = one_added c.builder-globs.result c.add.new.self (path_of c.args.dir) c.in_ok-glob.glob _ c.builder-globs.ensures c.in_ok-glob.ensures.pattern c.in_ok-add.ensures in
     let same = subst (HasSamePatterns c.in_ok-matcher.matcher) one c.in_ok-matcher.ensures in
-    found_by_glob _ _ _ same _ _ _ c.trees_list_their_nodes.ensures.nodes c.in_ok-tree.ensures c.in_ok-walk_matching.ensures.files
+    found_by_glob _ _ _ same _ _ _ c.walks_find_accepted_marks.ensures.files c.sets_have_their_meaning.ensures.globs c.in_ok-tree.ensures c.in_ok-walk_matching.ensures.files
