@@ -2,7 +2,7 @@
 use Rattle.std.proofs.Common.{◌≡◌, ℕ, ◌+◌, ◌*◌, ◌/◌, ◌%◌, ◌<◌, ◌≤◌, List, [], ◌∷◌, ◌++◌, length, get_or, take, drop, Some, None, refl, sym, ap, ◌∙◌, arith, suc, zero}
 use Rattle.std.specs.Simd.{first_chunks}
 use Rattle.std.proofs.lemmas.List.{append-nil, append_assoc, drop-drop, get_or-take, get_or-drop, get_or_append_left, length-append, take_more, take_all}
-use Rattle.jj_content.specs.Hex.{ReadsAs, ReadsAsNothing, evened, digit_value}
+use Rattle.jj_content.specs.Hex.{ReadsAs, ReadsAsNothing, padded_text, digit_value}
 use Rattle.jj_content.specs.HexKinds.{digits_of}
 use Rattle.jj_content.specs.declared.hex_util.Digits.{Digits}
 use Rattle.jj_content.specs.declared.hex_util.Digits.TheVariants.{Forward, Reverse}
@@ -27,14 +27,14 @@ chunk_digit text chunks i d j is h k =
     ap (λ c. get_or (get_or c i d) j 0) is ∙ ap (λ c. get_or c j 0) (chunk_at (length text / 2) text i d h) ∙ get_or-take 2 (drop (2 * i) text) j 0 k ∙ get_or-drop (2 * i) text j 0
 
 -- a text with a bad digit reads as nothing, evened too
-pub bad_digit : (digits text : List ℕ) (k : ℕ) → AreDigits digits → k < length text → digit_value digits (get_or text k 0) ≡ None → ReadsAsNothing digits (evened digits text)
+pub bad_digit : (digits text : List ℕ) (k : ℕ) → AreDigits digits → k < length text → digit_value digits (get_or text k 0) ≡ None → ReadsAsNothing digits (padded_text digits text)
 bad_digit digits text k are within none bytes reads =
-    let whole = evened digits text in
+    let whole = padded_text digits text in
     let longer : k < length whole = omega (arith, length-append {A = ℕ}) in
     ReadsAs-digit digits whole bytes k are reads longer (ap (digit_value digits) (get_or_append_left text _ 0 k within) ∙ none)
 
 pub bad_chunk : (digits text : List ℕ) (chunks : List (List ℕ)) (i : ℕ) (d : List ℕ) (j : ℕ) → AreDigits digits → chunks ≡ first_chunks 2 (length text / 2) text → i < length text / 2 → j < 2
-    → None ≡ digit_value digits (get_or (get_or chunks i d) j 0) → ReadsAsNothing digits (evened digits text)
+    → None ≡ digit_value digits (get_or (get_or chunks i d) j 0) → ReadsAsNothing digits (padded_text digits text)
 bad_chunk digits text chunks i d j are is h k none =
     bad_digit digits text (2 * i + j) are (omega arith) (sym (ap (digit_value digits) (chunk_digit text chunks i d j is h k)) ∙ sym none)
 
@@ -57,10 +57,10 @@ next_pair digits text chunks bytes new i d e high low byte are is h reads is_hig
     rw (is_new, is_byte, take_two text i (omega arith)) (ReadsAs-push digits (take (2 * i) text) bytes (get_or text (2 * i) 0) (get_or text (2 * i + 1) 0) high low are reads first' second)
 
 -- a text of even length is even already
-pub evened_even : (digits text : List ℕ) → length text % 2 ≡ 0 → evened digits text ≡ text
+pub evened_even : (digits text : List ℕ) → length text % 2 ≡ 0 → padded_text digits text ≡ text
 evened_even digits text e = rw e (append-nil text)
 
-evened_odd : (digits text : List ℕ) (n : ℕ) → length text % 2 ≡ 1 → n ≡ length text / 2 → evened digits text ≡ take (2 * n) text ++ get_or text (2 * n) 0 ∷ get_or digits 0 0 ∷ []
+evened_odd : (digits text : List ℕ) (n : ℕ) → length text % 2 ≡ 1 → n ≡ length text / 2 → padded_text digits text ≡ take (2 * n) text ++ get_or text (2 * n) 0 ∷ get_or digits 0 0 ∷ []
 evened_odd digits text n odd is =
     let last = take_more text (2 * n) 0 (omega arith) in
     let whole : take (2 * n + 1) text ≡ text = take_all (2 * n + 1) text (omega arith) in
@@ -75,13 +75,13 @@ last_at text rest is =
     ap (λ r. get_or r 0 0) is ∙ get_or-drop (length text / 2 * 2) text 0 0 ∙ ap (λ k. get_or text k 0) e
 
 pub bad_last : (digits text rest : List ℕ) → AreDigits digits → rest ≡ drop (length text / 2 * 2) text → length rest ≡ length text % 2 → 1 ≤ length rest → None ≡ digit_value digits (get_or rest 0 0)
-    → ReadsAsNothing digits (evened digits text)
+    → ReadsAsNothing digits (padded_text digits text)
 bad_last digits text rest are is size there none =
     bad_digit digits text (2 * (length text / 2)) are (omega arith) (sym (ap (digit_value digits) (last_at text rest is)) ∙ sym none)
 
 -- the last digit alone is the high one of one more byte
 pub last_digit : (digits text rest bytes new : List ℕ) (n high byte : ℕ) → AreDigits digits → rest ≡ drop (length text / 2 * 2) text → length rest ≡ length text % 2 → 1 ≤ length rest → n ≡ length text / 2
-    → ReadsAs digits (take (2 * n) text) bytes → Some high ≡ digit_value digits (get_or rest 0 0) → byte ≡ high * 16 + 0 → new ≡ bytes ++ byte ∷ [] → ReadsAs digits (evened digits text) new
+    → ReadsAs digits (take (2 * n) text) bytes → Some high ≡ digit_value digits (get_or rest 0 0) → byte ≡ high * 16 + 0 → new ≡ bytes ++ byte ∷ [] → ReadsAs digits (padded_text digits text) new
 last_digit digits text rest bytes new n high byte are is size there is_n reads is_high is_byte is_new =
     let odd : length text % 2 ≡ 1 = omega arith in
     let at : get_or rest 0 0 ≡ get_or text (2 * n) 0 = last_at text rest is ∙ ap (λ k. get_or text (2 * k) 0) (sym is_n) in

@@ -7,7 +7,7 @@ use Rattle.std.proofs.lemmas.List.{append-nil}
 use Rattle.std.proofs.lemmas.Str.{encode_ascii}
 use Rattle.std.proofs.lemmas.Bool.Decides.{nat_tests}
 use lib.Utf8.{encode}
-use Rattle.jj_content.specs.Symbols.{lettered, hex_escape, escaped_byte, escaped_text}
+use Rattle.jj_content.specs.Symbols.{letter_escapes, hex_escape, escaped_byte, escaped_text}
 use Rattle.jj_content.proofs.EscapedTexts.{plain_character, one_more_written, all_written}
 
 -- one of the six prints by its letter
@@ -15,17 +15,17 @@ pub escaped_letter : (c : ℕ) (piece : List ℕ) → c < 128 → escaped_byte c
 escaped_letter c piece small e = rw (encode_ascii c small, e, append-nil piece) refl
 
 -- a control that has no letter prints by its hex digits
-pub control_byte : (c : ℕ) → find (λ e. e.0 == c) lettered ≡ None → true ≡ is_ascii_control c → escaped_byte c ≡ hex_escape c
+pub control_byte : (c : ℕ) → find (λ e. e.0 == c) letter_escapes ≡ None → true ≡ is_ascii_control c → escaped_byte c ≡ hex_escape c
 control_byte c none control = rw (none, ← control) refl
 
-plain_byte : (c : ℕ) → find (λ e. e.0 == c) lettered ≡ None → false ≡ is_ascii_control c → escaped_byte c ≡ c ∷ []
+plain_byte : (c : ℕ) → find (λ e. e.0 == c) letter_escapes ≡ None → false ≡ is_ascii_control c → escaped_byte c ≡ c ∷ []
 plain_byte c none plain = rw (none, ← plain) refl
 
 high_byte : (b : ℕ) → 128 ≤ b → escaped_byte b ≡ b ∷ []
 high_byte b high = grind (arith, nat_tests)
 
 -- such a character prints as it is
-pub escaped_plain : (c : ℕ) → find (λ e. e.0 == c) lettered ≡ None → false ≡ is_ascii_control c → flat_map escaped_byte (encode c) ≡ encode c
+pub escaped_plain : (c : ℕ) → find (λ e. e.0 == c) letter_escapes ≡ None → false ≡ is_ascii_control c → flat_map escaped_byte (encode c) ≡ encode c
 escaped_plain c none plain = plain_character escaped_byte c (plain_byte c none plain) high_byte
 
 -- one more character of the text is written

@@ -9,7 +9,7 @@ use Rattle.std.proofs.lemmas.Bool.Decides.{nat_tests}
 use Rattle.std.proofs.lemmas.Str.{encode_ascii}
 use lib.Utf8.{encode}
 use Rattle.jj_content.specs.Hex.{hex_digits}
-use Rattle.jj_content.specs.Symbols.{lettered, escaped_byte, escaped_text}
+use Rattle.jj_content.specs.Symbols.{letter_escapes, escaped_byte, escaped_text}
 use Rattle.jj_content.proofs.SymbolTexts.{escaped_letter, control_byte, escaped_step, escaped_end}
 
 -- the same writes, of an equal text
@@ -27,7 +27,7 @@ control_small c control = grind (arith, nat_tests)
 
 -- three calls that write an escape by its hex digits
 pub writes_control : {W : Type 0} (took : W → List ℕ → W → Type 0) (w a b v : W) (c high low n : ℕ)
-    → find (λ e. e.0 == c) lettered ≡ None → true ≡ is_ascii_control c
+    → find (λ e. e.0 == c) letter_escapes ≡ None → true ≡ is_ascii_control c
     → high ≡ get_or hex_digits (c / 16) 0 → high < 128 → low ≡ get_or hex_digits n 0 → n ≡ c % 16 → low < 128
     → took w (92 ∷ 120 ∷ []) a → took a (encode high) b → took b (encode low) v → WritesInCalls took w (flat_map escaped_byte (encode c)) v
 writes_control took w a b v c high low n none control is_high small_high is_low is_digit small_low p q r =

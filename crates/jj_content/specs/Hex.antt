@@ -1,6 +1,6 @@
 -- Hex text: each byte as two digits, the high one first.
 -- Cited by contracts of public items: IsByte, IsPrefixReading, IsReading, ReadsAs, common_length,
--- evened, hex, hex_digits, is_text_of, reverse_hex, reverse_hex_digits.
+-- hex, hex_digits, is_text_of, padded_text, reverse_hex, reverse_hex_digits.
 use Rattle.std.specs.Prelude.{◌≡◌, ℕ, ◌/◌, ◌%◌, ◌+◌, ◌<◌, ◌^◌, List, [], ◌∷◌, ◌++◌, ◌==◌, length, slice_index, replicate, codes, if◌then◌else◌, All, Option, MatchOption, position, Bool, ◌&&◌, is_some}
 use Rattle.std.specs.Str.{str_to_ascii_lowercase}
 use Rattle.std.specs.Char.{to_ascii_lowercase}
@@ -44,8 +44,8 @@ abbrev pub ReadsAsNothing : List ℕ → List ℕ → Type 0
 ReadsAsNothing digits text = (bytes : List ℕ) → ¬ (ReadsAs digits text bytes)
 
 -- a text that may end in half a byte, with the digit zero after it
-abbrev pub evened : List ℕ → List ℕ → List ℕ
-evened digits text = text ++ replicate (length text % 2) (slice_index digits 0)
+abbrev pub padded_text : List ℕ → List ℕ → List ℕ
+padded_text digits text = text ++ replicate (length text % 2) (slice_index digits 0)
 
 -- what reads a text in these digits answers its bytes, or none where it reads as no bytes
 abbrev pub IsReading : {A : Type 0} → (A → List ℕ) → List ℕ → List ℕ → Option A → Type 0
@@ -56,8 +56,8 @@ IsReading bytes_of digits text answer = MatchOption answer (ReadsAsNothing digit
 abbrev pub IsPrefixReading : {A : Type 0} → (A → List ℕ) → List ℕ → List ℕ → Option (A × Bool)
     → Type 0
 IsPrefixReading bytes_of digits text answer = MatchOption answer
-    (ReadsAsNothing digits (evened digits text))
-    (λ read. ReadsAs digits (evened digits text) (bytes_of read.0)
+    (ReadsAsNothing digits (padded_text digits text))
+    (λ read. ReadsAs digits (padded_text digits text) (bytes_of read.0)
     × (read.1 ≡ (length text % 2 == 1)))
 
 -- the value of a digit, in either case

@@ -14,7 +14,7 @@ use Rattle.std.proofs.lemmas.List.Elements.{All-from_recursion, recursion_from_A
 use Rattle.std.proofs.lemmas.List.{length-map, get_or-map}
 use Rattle.std.proofs.lemmas.List.Sorted.{All-permutation, IsPermutation-sym, IsPermutation-map}
 use Rattle.std.proofs.lemmas.Map.Keys.{IsDistinct-IsPermutation, apart_from_distinct, sorted_from_all_adjacent}
-use Rattle.jj_content.specs.Content.{placed, in_order}
+use Rattle.jj_content.specs.Content.{insert_in_order, in_order}
 
 -- z is one of the items
 abbrev Among : {X : Type 0} → X → List X → Type 0
@@ -48,10 +48,10 @@ module _ {X : Type 0} where
 -- ---- what stays when items are put in order
 module _ {X : Type 0} (S : X → X → Ordering) where
   all_placed : (P : X → Type 0) (x : X) (ys : List X) → P x → AllByRecursion P ys
-      → AllByRecursion P (placed S x ys)
+      → AllByRecursion P (insert_in_order S x ys)
   all_placed P x [] p a = (p, tt)
   all_placed P x (y ∷ ys) p a =
-      cond_both (is_gt (S x y)) (y ∷ placed S x ys) (x ∷ y ∷ ys) (AllByRecursion P)
+      cond_both (is_gt (S x y)) (y ∷ insert_in_order S x ys) (x ∷ y ∷ ys) (AllByRecursion P)
       (λ e. (a.0, all_placed P x ys p a.1)) (λ e. (p, a))
 
   pub all_in_order : (P : X → Type 0) (xs : List X) → AllByRecursion P xs
@@ -60,10 +60,10 @@ module _ {X : Type 0} (S : X → X → Ordering) where
   all_in_order P [] a = a
   all_in_order P (x ∷ xs) a = all_placed P x (in_order S xs) a.0 (all_in_order P xs a.1)
 
-  length_placed : (x : X) (ys : List X) → length (placed S x ys) ≡ length ys + 1
+  length_placed : (x : X) (ys : List X) → length (insert_in_order S x ys) ≡ length ys + 1
   length_placed x [] = refl
   length_placed x (y ∷ ys) =
-      cond_both (is_gt (S x y)) (y ∷ placed S x ys) (x ∷ y ∷ ys)
+      cond_both (is_gt (S x y)) (y ∷ insert_in_order S x ys) (x ∷ y ∷ ys)
       (λ l. length l ≡ length (y ∷ ys) + 1)
       (λ e. let h = length_placed x ys in omega arith) (λ e. omega arith)
 
@@ -73,16 +73,16 @@ module _ {X : Type 0} (S : X → X → Ordering) where
   length_in_order (x ∷ xs) = let h = length_placed x (in_order S xs) in let k =
       length_in_order xs in omega arith
 
-  among_first : (x : X) (ys : List X) → Among x (placed S x ys)
+  among_first : (x : X) (ys : List X) → Among x (insert_in_order S x ys)
   among_first x [] = inl refl
   among_first x (y ∷ ys) =
-      cond_both (is_gt (S x y)) (y ∷ placed S x ys) (x ∷ y ∷ ys) (Among x)
+      cond_both (is_gt (S x y)) (y ∷ insert_in_order S x ys) (x ∷ y ∷ ys) (Among x)
       (λ e. inr (among_first x ys)) (λ e. inl refl)
 
-  among_later : (z x : X) (ys : List X) → Among z ys → Among z (placed S x ys)
+  among_later : (z x : X) (ys : List X) → Among z ys → Among z (insert_in_order S x ys)
   among_later z x [] a = absurd a
   among_later z x (y ∷ ys) a =
-      cond_both (is_gt (S x y)) (y ∷ placed S x ys) (x ∷ y ∷ ys) (Among z)
+      cond_both (is_gt (S x y)) (y ∷ insert_in_order S x ys) (x ∷ y ∷ ys) (Among z)
       (λ e. elim a [ inl h ↦ inl h | inr h ↦ inr (among_later z x ys h) ]) (λ e. inr a)
 
   among_in_order : (xs : List X) → AllByRecursion (λ z. Among z (in_order S xs)) xs
@@ -90,7 +90,7 @@ module _ {X : Type 0} (S : X → X → Ordering) where
   among_in_order [] = tt
   among_in_order (x ∷ xs) = (
     among_first x (in_order S xs),
-    weaker (λ z. Among z (in_order S xs)) (λ z. Among z (placed S x (in_order S xs)))
+    weaker (λ z. Among z (in_order S xs)) (λ z. Among z (insert_in_order S x (in_order S xs)))
         (λ z h. among_later z x (in_order S xs) h) xs (among_in_order xs),
   )
 
@@ -128,11 +128,12 @@ module _ {X : Type 0} {S : X → X → Ordering} (o : IsTotalOrder S) where
   not_itself x p = let e : Less ≡ Equal = sym p ∙ tied_itself o x in cc
 
   sorted_placed : (x : X) (ys : List X) → IsStrictlySortedBy S ys
-      → AllByRecursion (λ y. is_eq (S x y) ≡ false) ys → IsStrictlySortedBy S (placed S x ys)
+      → AllByRecursion (λ y. is_eq (S x y) ≡ false) ys
+      → IsStrictlySortedBy S (insert_in_order S x ys)
   unfolding IsStrictlySortedBy
   sorted_placed x [] s a = (tt, tt)
   sorted_placed x (y ∷ ys) s a =
-      cond_both (is_gt (S x y)) (y ∷ placed S x ys) (x ∷ y ∷ ys) (IsStrictlySortedBy S)
+      cond_both (is_gt (S x y)) (y ∷ insert_in_order S x ys) (x ∷ y ∷ ys) (IsStrictlySortedBy S)
       (λ e. (
         all_placed S (λ z. S y z ≡ Less) x ys
             (o.antisymm y x ∙ ap ordering_reverse (Greater-from (S x y) e)) s.0,

@@ -10,8 +10,8 @@ use Rattle.jj_content.specs.Hex.{digit_pair, hex_digits}
 
 -- the characters that print as a backslash and a letter, each with its letter: the quote, the
 -- backslash, tab, return, line feed and null
-abbrev pub lettered : List (ℕ × ℕ)
-lettered = (34, 34) ∷ (92, 92) ∷ (9, 116) ∷ (13, 114) ∷ (10, 110) ∷ (0, 48) ∷ []
+abbrev pub letter_escapes : List (ℕ × ℕ)
+letter_escapes = (34, 34) ∷ (92, 92) ∷ (9, 116) ∷ (13, 114) ∷ (10, 110) ∷ (0, 48) ∷ []
 
 -- a byte as two hex digits after a backslash and an x
 abbrev pub hex_escape : ℕ → List ℕ
@@ -21,7 +21,7 @@ hex_escape byte = codes "\\x" ++ digit_pair hex_digits byte
 -- all else as it is
 abbrev pub escaped_byte : ℕ → List ℕ
 escaped_byte byte =
-    option_map_or (λ e. 92 ∷ e.1 ∷ []) (find (λ e. e.0 == byte) lettered)
+    option_map_or (λ e. 92 ∷ e.1 ∷ []) (find (λ e. e.0 == byte) letter_escapes)
     (if is_ascii_control byte then hex_escape byte else byte ∷ [])
 
 -- a text as it prints between quotes
@@ -34,7 +34,8 @@ quoted_text text = (34 ∷ escaped_text text) ++ 34 ∷ []
 
 -- the character of a letter after a backslash, where `e` is the escape character too
 abbrev pub letter_char : ℕ → Option ℕ
-letter_char letter = option_map (λ e. e.0) (find (λ e. e.1 == letter) (lettered ++ (27, 101) ∷ []))
+letter_char letter = option_map (λ e. e.0)
+    (find (λ e. e.1 == letter) (letter_escapes ++ (27, 101) ∷ []))
 
 -- the escape stands for this character: a backslash and its letter, or a backslash, an x and the
 -- number of the character in hex digits, at most 255, with a plus sign before them or none

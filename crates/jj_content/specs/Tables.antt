@@ -21,7 +21,7 @@ use Rattle.std.proofs.lemmas.Bool.{cond_both, and_parts, and_from, cases_Bool}
 use Rattle.std.proofs.lemmas.Cmp.{on_total}
 use Rattle.std.proofs.lemmas.List.Elements.{All-from_recursion, recursion_from_All}
 use Rattle.std.proofs.lemmas.Map.Lookups.{hash_set_eq_decides}
-use Rattle.jj_content.specs.Content.{placed, in_order, IsLawful, AreValues, map_content, set_content}
+use Rattle.jj_content.specs.Content.{insert_in_order, in_order, IsLawful, AreValues, map_content, set_content}
 use Rattle.jj_content.specs.Lawful.{on_lawful, both_lawful, list_lawful}
 use Rattle.jj_content.specs.InOrder.{weaker, all_in_order, all_from_in_order, length_in_order, sorted_in_order}
 
@@ -62,10 +62,10 @@ module _ {X K : Type 0} (key : X → K) {R : K → K → Ordering} (o : IsTotalO
   alike q x y e = laws.symm q x ∙ laws.congr x y q e ∙ laws.symm y q
 
   found_placed : (q : K) (x : X) (ys : List X) → AllByRecursion (λ y. E (key x) (key y) ≡ false) ys
-      → found q (placed (on key R) x ys) ≡ found q (x ∷ ys)
+      → found q (insert_in_order (on key R) x ys) ≡ found q (x ∷ ys)
   found_placed q x [] a = refl
   found_placed q x (y ∷ ys) a =
-      cond_both (is_gt (R (key x) (key y))) (y ∷ placed (on key R) x ys) (x ∷ y ∷ ys)
+      cond_both (is_gt (R (key x) (key y))) (y ∷ insert_in_order (on key R) x ys) (x ∷ y ∷ ys)
       (λ l. found q l ≡ found q (x ∷ y ∷ ys))
       (λ e. ap (cond (E q (key y)) (Some y)) (found_placed q x ys a.1)
       ∙ swap_conds (E q (key y)) (E q (key x)) (Some y) (Some x) (found q ys)

@@ -1,7 +1,7 @@
 //! Texts between double quotes, with escapes for what can't stand there.
 ghost use Rattle.std.specs.Prelude.{◌≡◌, ◌==◌, ℕ, ◌<◌, ◌++◌, None, IfOk, OnOk, MatchOption, is_ok, encode_utf8, find, flat_map, string_bytes};
 ghost use Rattle.std.specs.Fmt.{WritesInCalls};
-ghost use Rattle.jj_content.specs.Symbols.{lettered, escaped_byte, escaped_text, quoted_text, letter_char, IsEscapeOf};
+ghost use Rattle.jj_content.specs.Symbols.{letter_escapes, escaped_byte, escaped_text, quoted_text, letter_char, IsEscapeOf};
 
 use crate::hex_util::hex_digit_char;
 use std::alloc::{AllocError, Global};
@@ -9,7 +9,7 @@ use std::fmt;
 
 // How a character that has a letter prints between quotes.
 fn letter_escape(c: char) -> Option<&'static str>
-    ensures { MatchOption result (find (λ e. e.0 == c) lettered ≡ None)
+    ensures { MatchOption result (find (λ e. e.0 == c) letter_escapes ≡ None)
         (λ escape. (c < 128) × (escaped_byte c ≡ escape.now)) }
 {
     match c {

@@ -14,9 +14,9 @@ use Rattle.std.proofs.lemmas.Bool.{and_parts}
 use Rattle.jj_dag.specs.declared.closest_common.Reach.{Reach}
 use Rattle.jj_dag.specs.declared.closest_common.Mark.{Mark}
 use Rattle.jj_dag.specs.CommonNodes.{HasNoCommonCycle, AreClosestCommon}
-use Rattle.jj_dag.specs.CommonSearch.{KnowsMarks, IsStarting, started}
+use Rattle.jj_dag.specs.CommonSearch.{KnowsMarks, IsStarting, reach_of_sets}
 use Rattle.jj_dag.specs.Graph.{HasEdge, ReachedFrom}
-use Rattle.jj_dag.specs.Marks.{unmarked, joined, grows, handed_on, marked, starts_waiting, asked, closest_of}
+use Rattle.jj_dag.specs.Marks.{no_mark, reach_of_both, grows, handed_on, mark_with, starts_waiting, without_waiting, closest_of}
 use Rattle.jj_dag.specs.Walk.{Numbered, AreNodes}
 use Rattle.jj_dag.proofs.Collecting.{are_nodes}
 use Rattle.jj_dag.proofs.CommonMarks.{IsBoth, Passes, IsMarking, IsAtEnd, at_mark, marks_more, marking_more, marking_asked, passes_marked, passes_kept, is_common, end_common, end_maximal, maximal_ends}
@@ -161,7 +161,7 @@ module _ {T ID : Type 0} (w : Numbered T ID) where
   same_mark a b u v e f = let make : Reach → Bool → Mark = λ r t. record { reach = r; waits = t } in ap (λ r. make r u) e ∙ ap (make b) f
 
   pub knows_more : (eq : ID → ID → Bool) (m : ℕ → Reach) (waiting waiting2 : List T) (find find2 : ID → Mark) (x : T) (i : ID) (added : Reach) → Apart eq → KnowsMarks w m waiting find
-      → w.is_node (w.node x) ≡ true → w.id i ≡ w.node x → ((q : ID) → find2 q ≡ cond (eq i q) (marked (find i) added) (find q))
+      → w.is_node (w.node x) ≡ true → w.id i ≡ w.node x → ((q : ID) → find2 q ≡ cond (eq i q) (mark_with (find i) added) (find q))
       → MatchBool (starts_waiting (find i) added) (IsPermutation (x ∷ waiting) waiting2) (waiting2 ≡ waiting)
       → KnowsMarks w (marks_more m (w.node x) added) waiting2 find2 × Joins waiting waiting2 (w.node x) (m (w.node x)) added
   knows_more eq m waiting waiting2 find find2 x i added apart k here same updates puts =
@@ -173,15 +173,15 @@ module _ {T ID : Type 0} (w : Numbered T ID) where
         record {
           knows = λ q there.
               let told : eq i q ≡ (w.id q == y) = apart i q here_id there ∙ ap (λ n. n == w.id q) same ∙ eqb-flip y (w.id q) in
-              let new : Mark = marked (find i) added in
+              let new : Mark = mark_with (find i) added in
               let P : Bool → Type 0 = λ t. w.id q == y ≡ t
-              → cond t new (find q) ≡ record { reach = cond t (joined (m (w.id q)) added) (m (w.id q)); waits = has (map w.node waiting2) (w.id q) } in
+              → cond t new (find q) ≡ record { reach = cond t (reach_of_both (m (w.id q)) added) (m (w.id q)); waits = has (map w.node waiting2) (w.id q) } in
               updates q ∙ ap (λ b. cond b new (find q)) told
               ∙ elim (w.id q == y) as P [
                 | true ↦ λ e.
                     let at : w.id q ≡ y = (Decides-eqb (w.id q) y).0 e in
-                    ap (λ mark. marked mark added) is
-                    ∙ same_mark (joined (m y) added) (joined (m (w.id q)) added) (has old y || grows (m y) added) (has (map w.node waiting2) (w.id q)) (ap (λ n. joined (m n) added) (sym at))
+                    ap (λ mark. mark_with mark added) is
+                    ∙ same_mark (reach_of_both (m y) added) (reach_of_both (m (w.id q)) added) (has old y || grows (m y) added) (has (map w.node waiting2) (w.id q)) (ap (λ n. reach_of_both (m n) added) (sym at))
                     (ap (λ n. has old n || grows (m y) added) (sym at) ∙ ap (λ t. has old (w.id q) || (t && grows (m y) added)) (sym e) ∙ sym (more.0 (w.id q)))
                 | false ↦ λ e.
                     k.knows q there
@@ -201,7 +201,7 @@ module _ {T ID : Type 0} (w : Numbered T ID) where
   abbrev pub on_right : Reach
   on_right = record { left = false; right = true; below = false }
 
-  pub starting_none : (waiting : List T) (find : ID → Mark) → waiting ≡ [] → ((i : ID) → find i ≡ unmarked) → IsStarting w [] [] waiting find
+  pub starting_none : (waiting : List T) (find : ID → Mark) → waiting ≡ [] → ((i : ID) → find i ≡ no_mark) → IsStarting w [] [] waiting find
   unfolding IsDistinct
   starting_none waiting find none unknown = rw none (record { marks = record { knows = λ i h. unknown i; distinct = tt }; waits = λ b. refl })
 
@@ -210,14 +210,14 @@ module _ {T ID : Type 0} (w : Numbered T ID) where
       let P : Bool → Type 0 = λ t. b == y ≡ t → (t && F y) ≡ (t && F b) in
       elim (b == y) as P [ true ↦ λ e. ap F (sym ((Decides-eqb b y).0 e)) | false ↦ λ e. refl ] refl
 
-  left_mark : (t h g : Bool) → (let known : Reach = record { left = h; right = g; below = false } in let more : Reach = record { left = t || h; right = g; below = false } in cond t (joined known on_left) known ≡ more)
+  left_mark : (t h g : Bool) → (let known : Reach = record { left = h; right = g; below = false } in let more : Reach = record { left = t || h; right = g; below = false } in cond t (reach_of_both known on_left) known ≡ more)
   left_mark true true true = refl
   left_mark true true false = refl
   left_mark true false true = refl
   left_mark true false false = refl
   left_mark false h g = refl
 
-  right_mark : (t h g : Bool) → (let known : Reach = record { left = h; right = g; below = false } in let more : Reach = record { left = h; right = t || g; below = false } in cond t (joined known on_right) known ≡ more)
+  right_mark : (t h g : Bool) → (let known : Reach = record { left = h; right = g; below = false } in let more : Reach = record { left = h; right = t || g; below = false } in cond t (reach_of_both known on_right) known ≡ more)
   right_mark true true true = refl
   right_mark true true false = refl
   right_mark true false true = refl
@@ -243,32 +243,32 @@ module _ {T ID : Type 0} (w : Numbered T ID) where
   }
 
   pub starting_left : (eq : ID → ID → Bool) (set1 set2 : List ℕ) (waiting waiting2 : List T) (find find2 : ID → Mark) (x : T) (i : ID) → Apart eq → IsStarting w set1 set2 waiting find
-      → w.is_node (w.node x) ≡ true → w.id i ≡ w.node x → ((q : ID) → find2 q ≡ cond (eq i q) (marked (find i) on_left) (find q))
+      → w.is_node (w.node x) ≡ true → w.id i ≡ w.node x → ((q : ID) → find2 q ≡ cond (eq i q) (mark_with (find i) on_left) (find q))
       → MatchBool (starts_waiting (find i) on_left) (IsPermutation (x ∷ waiting) waiting2) (waiting2 ≡ waiting) → IsStarting w (set1 ++ w.node x ∷ []) set2 waiting2 find2
   starting_left eq set1 set2 waiting waiting2 find find2 x i apart k here same updates puts =
       let y = w.node x in
-      let more = knows_more eq (started set1 set2) waiting waiting2 find find2 x i on_left apart k.marks here same updates puts in
+      let more = knows_more eq (reach_of_sets set1 set2) waiting waiting2 find find2 x i on_left apart k.marks here same updates puts in
       record {
-        marks = other_marks (marks_more (started set1 set2) y on_left) (started (set1 ++ y ∷ []) set2) waiting2 find2
+        marks = other_marks (marks_more (reach_of_sets set1 set2) y on_left) (reach_of_sets (set1 ++ y ∷ []) set2) waiting2 find2
             (λ b. left_mark (b == y) (has set1 b) (has set2 b) ∙ ap (λ t. record { left = t; right = has set2 b; below = false }) (sym (has-push set1 y b))) more.0;
         waits = λ b.
-            more.1 b ∙ ap (λ t. t || ((b == y) && grows (started set1 set2 y) on_left)) (k.waits b)
-            ∙ ap (λ t. (has set1 b || has set2 b) || t) (at_same b y (λ n. grows (started set1 set2 n) on_left))
+            more.1 b ∙ ap (λ t. t || ((b == y) && grows (reach_of_sets set1 set2 y) on_left)) (k.waits b)
+            ∙ ap (λ t. (has set1 b || has set2 b) || t) (at_same b y (λ n. grows (reach_of_sets set1 set2 n) on_left))
             ∙ left_waits (b == y) (has set1 b) (has set2 b) ∙ ap (λ t. t || has set2 b) (sym (has-push set1 y b));
       }
 
   pub starting_right : (eq : ID → ID → Bool) (set1 set2 : List ℕ) (waiting waiting2 : List T) (find find2 : ID → Mark) (x : T) (i : ID) → Apart eq → IsStarting w set1 set2 waiting find
-      → w.is_node (w.node x) ≡ true → w.id i ≡ w.node x → ((q : ID) → find2 q ≡ cond (eq i q) (marked (find i) on_right) (find q))
+      → w.is_node (w.node x) ≡ true → w.id i ≡ w.node x → ((q : ID) → find2 q ≡ cond (eq i q) (mark_with (find i) on_right) (find q))
       → MatchBool (starts_waiting (find i) on_right) (IsPermutation (x ∷ waiting) waiting2) (waiting2 ≡ waiting) → IsStarting w set1 (set2 ++ w.node x ∷ []) waiting2 find2
   starting_right eq set1 set2 waiting waiting2 find find2 x i apart k here same updates puts =
       let y = w.node x in
-      let more = knows_more eq (started set1 set2) waiting waiting2 find find2 x i on_right apart k.marks here same updates puts in
+      let more = knows_more eq (reach_of_sets set1 set2) waiting waiting2 find find2 x i on_right apart k.marks here same updates puts in
       record {
-        marks = other_marks (marks_more (started set1 set2) y on_right) (started set1 (set2 ++ y ∷ [])) waiting2 find2
+        marks = other_marks (marks_more (reach_of_sets set1 set2) y on_right) (reach_of_sets set1 (set2 ++ y ∷ [])) waiting2 find2
             (λ b. right_mark (b == y) (has set1 b) (has set2 b) ∙ ap (λ t. record { left = has set1 b; right = t; below = false }) (sym (has-push set2 y b))) more.0;
         waits = λ b.
-            more.1 b ∙ ap (λ t. t || ((b == y) && grows (started set1 set2 y) on_right)) (k.waits b)
-            ∙ ap (λ t. (has set1 b || has set2 b) || t) (at_same b y (λ n. grows (started set1 set2 n) on_right))
+            more.1 b ∙ ap (λ t. t || ((b == y) && grows (reach_of_sets set1 set2 y) on_right)) (k.waits b)
+            ∙ ap (λ t. (has set1 b || has set2 b) || t) (at_same b y (λ n. grows (reach_of_sets set1 set2 n) on_right))
             ∙ right_waits (b == y) (has set1 b) (has set2 b) ∙ ap (λ t. has set1 b || t) (sym (has-push set2 y b));
       }
 
@@ -296,7 +296,7 @@ module _ {T ID : Type 0} (w : Numbered T ID) where
   or_one false b e = inr e
 
   pub started_holds : (set1 set2 : List ℕ) (waiting : List T) (common : List (T × ID)) (find : ID → Mark) → common ≡ [] → IsStarting w set1 set2 waiting find
-      → HoldsMarks set1 set2 (started set1 set2) waiting common false find
+      → HoldsMarks set1 set2 (reach_of_sets set1 set2) waiting common false find
   unfolding IsDistinct
   started_holds set1 set2 waiting common find none k =
       let W = map w.node waiting in
@@ -342,7 +342,7 @@ module _ {T ID : Type 0} (w : Numbered T ID) where
   -- it waits no longer
   hands_none : (eq : ID → ID → Bool) (set1 set2 : List ℕ) (m : ℕ → Reach) (waiting waiting2 : List T) (common : List (T × ID)) (rooted : Bool) (find find2 : ID → Mark) (x : T) (i : ID) (known : Reach)
       → Apart eq → HoldsMarks set1 set2 m waiting common rooted find → IsPermutation waiting (x ∷ waiting2) → w.is_node (w.node x) ≡ true → w.id i ≡ w.node x → known ≡ (find i).reach
-      → (IsTrue (find i).waits → (q : ID) → find2 q ≡ cond (eq i q) (asked (find i)) (find q)) → HandsOn set1 set2 m (w.node x) known waiting2 common rooted find2 []
+      → (IsTrue (find i).waits → (q : ID) → find2 q ≡ cond (eq i q) (without_waiting (find i)) (find q)) → HandsOn set1 set2 m (w.node x) known waiting2 common rooted find2 []
   hands_none eq set1 set2 m waiting waiting2 common rooted find find2 x i known apart k popped here same is updates =
       let y = w.node x in
       let W = map w.node waiting in
@@ -372,13 +372,13 @@ module _ {T ID : Type 0} (w : Numbered T ID) where
         marks = record {
           knows = λ q there.
               let equal : eq i q ≡ (w.id q == y) = apart i q here_id there ∙ ap (λ n. n == w.id q) same ∙ eqb-flip y (w.id q) in
-              let new : Mark = asked (find i) in
+              let new : Mark = without_waiting (find i) in
               let P : Bool → Type 0 = λ t. w.id q == y ≡ t → cond t new (find q) ≡ record { reach = m (w.id q); waits = has later (w.id q) } in
               told q ∙ ap (λ b. cond b new (find q)) equal
               ∙ elim (w.id q == y) as P [
                 | true ↦ λ e.
                     let at : w.id q ≡ y = (Decides-eqb (w.id q) y).0 e in
-                    ap asked mark ∙ same_mark (m y) (m (w.id q)) false (has later (w.id q)) (ap m (sym at)) (sym fresh ∙ ap (has later) (sym at))
+                    ap without_waiting mark ∙ same_mark (m y) (m (w.id q)) false (has later (w.id q)) (ap m (sym at)) (sym fresh ∙ ap (has later) (sym at))
                 | false ↦ λ e.
                     k.marks.knows q there ∙ same_mark (m (w.id q)) (m (w.id q)) (has W (w.id q)) (has later (w.id q)) refl (sym (has-permutation W (y ∷ later) moves (w.id q)) ∙ ap (λ t. t || has later (w.id q)) e)
               ] refl;
@@ -407,7 +407,7 @@ module _ {T ID : Type 0} (w : Numbered T ID) where
   pub asks : {set1 set2 : List ℕ} {m : ℕ → Reach} {waiting waiting2 : List T} {common : List (T × ID)} {rooted : Bool} {find : ID → Mark} (eq : ID → ID → Bool) (find2 : ID → Mark) (x : T) (i : ID) (known : Reach)
       → ((a : ℕ) → w.is_node a ≡ true → AreNodes w (w.graph a)) → Apart eq → AreNodes w set1 → AreNodes w set2 → HoldsMarks set1 set2 m waiting common rooted find
       → IsPermutation waiting (x ∷ waiting2) → (w.is_node (w.node x) ≡ true → w.id i ≡ w.node x) → known ≡ (find i).reach
-      → (IsTrue (find i).waits → (q : ID) → find2 q ≡ cond (eq i q) (asked (find i)) (find q))
+      → (IsTrue (find i).waits → (q : ID) → find2 q ≡ cond (eq i q) (without_waiting (find i)) (find q))
       → (w.is_node (w.node x) ≡ true) × (w.id i ≡ w.node x) × HandsOn set1 set2 m (w.node x) known waiting2 common rooted find2 []
   asks {set1} {set2} {m} {waiting} {waiting2} {common} {rooted} {find} eq find2 x i known closed apart first second k popped named is updates =
       let here = (was_reached waiting2 x closed first second k popped).1 in
@@ -434,7 +434,7 @@ module _ {T ID : Type 0} (w : Numbered T ID) where
   -- one neighbour more has it
   pub hands_more : (eq : ID → ID → Bool) (set1 set2 : List ℕ) (m : ℕ → Reach) (a : ℕ) (known : Reach) (waiting waiting2 : List T) (common : List (T × ID)) (rooted : Bool) (find find2 : ID → Mark) (given : List ℕ) (x : T) (i : ID)
       → Apart eq → HandsOn set1 set2 m a known waiting common rooted find given → HasEdge w.graph a (w.node x) → w.is_node (w.node x) ≡ true → w.id i ≡ w.node x
-      → ((q : ID) → find2 q ≡ cond (eq i q) (marked (find i) (handed_on known)) (find q))
+      → ((q : ID) → find2 q ≡ cond (eq i q) (mark_with (find i) (handed_on known)) (find q))
       → MatchBool (starts_waiting (find i) (handed_on known)) (IsPermutation (x ∷ waiting) waiting2) (waiting2 ≡ waiting)
       → HandsOn set1 set2 (marks_more m (w.node x) (handed_on known)) a known waiting2 common rooted find2 (given ++ w.node x ∷ [])
   hands_more eq set1 set2 m a known waiting waiting2 common rooted find find2 given x i apart k edge here same updates puts =

@@ -9,7 +9,7 @@ use Rattle.std.proofs.lemmas.Bool.{and_parts, or_cases, or_left, or_right}
 use Rattle.jj_dag.specs.Graph.{Graph, HasEdge, Path, Reaches, StrictlyReaches, ReachedFrom, IsMaximal}
 use Rattle.jj_dag.specs.CommonNodes.{IsCommon, HasNoCommonCycle}
 use Rattle.jj_dag.specs.declared.closest_common.Reach.{Reach}
-use Rattle.jj_dag.specs.Marks.{joined, grows, handed_on}
+use Rattle.jj_dag.specs.Marks.{reach_of_both, grows, handed_on}
 use Rattle.jj_dag.proofs.Walking.{has, has-from_Contains, Contains-from_has}
 use Rattle.jj_dag.proofs.Reaching.{Reaches-trans, Reaches-then_strictly, edge_then_Reaches, ReachedFrom-edge}
 use Rattle.jj_dag.proofs.Plain.{neither}
@@ -46,7 +46,7 @@ abbrev pub IsBoth : Reach → Type 0
 IsBoth k = (k.left ≡ true) × (k.right ≡ true)
 
 -- where both are so after something was added and were not before, it has grown
-both_grown : (k r : Reach) → IsBoth (joined k r) → IsBoth k ⊎ (grows k r ≡ true)
+both_grown : (k r : Reach) → IsBoth (reach_of_both k r) → IsBoth k ⊎ (grows k r ≡ true)
 both_grown k r (l, h) =
     let P : Bool → Type 0 = λ b. grows k r ≡ b → IsBoth k ⊎ (grows k r ≡ true) in
     elim (grows k r) as P [
@@ -57,11 +57,11 @@ both_grown k r (l, h) =
 -- ---- one mark more
 
 abbrev pub marks_more : (ℕ → Reach) → ℕ → Reach → ℕ → Reach
-marks_more m y r b = cond (b == y) (joined (m b) r) (m b)
+marks_more m y r b = cond (b == y) (reach_of_both (m b) r) (m b)
 
-pub at_mark : (m : ℕ → Reach) (y : ℕ) (r : Reach) (b : ℕ) (P : Reach → Type 0) → (b ≡ y → P (joined (m b) r)) → ((b ≡ y → ⊥) → P (m b)) → P (marks_more m y r b)
+pub at_mark : (m : ℕ → Reach) (y : ℕ) (r : Reach) (b : ℕ) (P : Reach → Type 0) → (b ≡ y → P (reach_of_both (m b) r)) → ((b ≡ y → ⊥) → P (m b)) → P (marks_more m y r b)
 at_mark m y r b P here there =
-    let Q : Bool → Type 0 = λ t. b == y ≡ t → P (cond t (joined (m b) r) (m b)) in
+    let Q : Bool → Type 0 = λ t. b == y ≡ t → P (cond t (reach_of_both (m b) r) (m b)) in
     elim (b == y) as Q [ true ↦ λ e. here ((Decides-eqb b y).0 e) | false ↦ λ e. there (λ same. true≢false (sym ((Decides-eqb b y).1 same) ∙ e)) ] refl
 
 kept_left : (m : ℕ → Reach) (y : ℕ) (r : Reach) (b : ℕ) → (m b).left ≡ true → (marks_more m y r b).left ≡ true

@@ -9,7 +9,7 @@ use Rattle.std.proofs.lemmas.Map.Entries.{sum_by_puts_entry, length-values_of}
 use Rattle.std.proofs.lemmas.Bool.{and_parts, or_cases}
 use Rattle.jj_dag.specs.declared.closest_common.Reach.{Reach}
 use Rattle.jj_dag.specs.declared.closest_common.Mark.{Mark}
-use Rattle.jj_dag.specs.Marks.{mark_at, mark_of, grows, marked, starts_waiting, sides, sides_met}
+use Rattle.jj_dag.specs.Marks.{mark_at, mark_of, grows, mark_with, starts_waiting, sides, sides_met}
 use Rattle.jj_dag.proofs.Plain.{at_most_one}
 
 one_more : (k r : Bool) → cond k 1 0 ≤ cond (k || r) 1 0
@@ -22,13 +22,13 @@ one_new true false e = absurd (true≢false (sym e))
 one_new false true e = omega arith
 one_new false false e = absurd (true≢false (sym e))
 
-pub sides_more : (mark : Mark) (added : Reach) → sides mark ≤ sides (marked mark added)
+pub sides_more : (mark : Mark) (added : Reach) → sides mark ≤ sides (mark_with mark added)
 sides_more mark added =
     let l = one_more mark.reach.left added.left in
     let r = one_more mark.reach.right added.right in
     omega (arith, l, r)
 
-pub sides_start : (mark : Mark) (added : Reach) → starts_waiting mark added ≡ true → sides mark + 1 ≤ sides (marked mark added)
+pub sides_start : (mark : Mark) (added : Reach) → starts_waiting mark added ≡ true → sides mark + 1 ≤ sides (mark_with mark added)
 sides_start mark added e =
     let grown = and_parts (grows mark.reach added) (not mark.waits) e in
     let l = one_more mark.reach.left added.left in

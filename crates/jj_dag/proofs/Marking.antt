@@ -6,7 +6,7 @@ use Rattle.jj_dag.specs.declared.closest_common.Mark.{Mark}
 use Rattle.jj_dag.specs.declared.closest_common.Reach.{Reach}
 use Rattle.jj_dag.specs.CommonSearch.{IsStarting}
 use Rattle.jj_dag.specs.Graph.{HasEdge}
-use Rattle.jj_dag.specs.Marks.{MarksNodes, handed_on, unmarked}
+use Rattle.jj_dag.specs.Marks.{MarksNodes, handed_on, no_mark}
 use Rattle.jj_dag.specs.Marks.MarksNodes.{none, more}
 use Rattle.jj_dag.specs.Walk.{AreNodes, Numbered}
 use Rattle.jj_dag.proofs.ClosestCommon.{Apart, HandsOn, hands_more, on_left, on_right, starting_left, starting_none, starting_right}
@@ -40,7 +40,7 @@ module _ {T ID : Type 0} (w : Numbered T ID) {eq : ID → ID → Bool} {tells : 
       (all_right set1 apart stand before start (λ a h. nodes a (rw split (Contains-append_left (map w.node xs) (w.node x ∷ []) a h))))
       here (stand x i here told) node.marks node.waits)
 
-  pub sets_marked : {find find1 find2 : ID → Mark} {waiting waiting1 waiting2 : List T} {xs ys : List T} → Apart w eq → Stand w tells → waiting ≡ [] → ((i : ID) → find i ≡ unmarked)
+  pub sets_marked : {find find1 find2 : ID → Mark} {waiting waiting1 waiting2 : List T} {xs ys : List T} → Apart w eq → Stand w tells → waiting ≡ [] → ((i : ID) → find i ≡ no_mark)
       → MarksNodes eq tells (on_left w) find waiting xs find1 waiting1 → MarksNodes eq tells (on_right w) find1 waiting1 ys find2 waiting2
       → AreNodes w (map w.node xs) → AreNodes w (map w.node ys) → IsStarting w (map w.node xs) (map w.node ys) waiting2 find2
   sets_marked {find} {waiting = waiting} {xs = xs} apart stand nobody unknown left right first second =

@@ -1,5 +1,5 @@
 -- What is known of nodes that were collected by a walk, each with the ids of its neighbours.
--- Cited by contracts of public items: IsFilled, linked.
+-- Cited by contracts of public items: IsFilled, neighbor_places.
 use Rattle.std.specs.Prelude.{◌≡◌, ℕ, ◌<◌, Bool, true, Option, Some, MatchOption, List, map, length, slice_index, ◌⊎◌}
 use Rattle.std.specs.declared.result.Result.TheVariants.{Err}
 use Rattle.std.specs.HashMap.{get}
@@ -17,8 +17,9 @@ pub record IsFilled {T ID : Type 0} (eq : ID → ID → Bool) (found : Collected
   pub places : (i : ID) (k : ℕ) → get eq found.index_of i ≡ Some k → k < length given
 
 -- the places of the neighbours of each node
-abbrev pub linked : {T ID : Type 0} → (ID → ID → Bool) → Collected T ID → List (List ℕ)
-linked eq found = map (λ v. filter_map (get eq found.index_of) v.items) found.neighbor_ids.items
+abbrev pub neighbor_places : {T ID : Type 0} → (ID → ID → Bool) → Collected T ID → List (List ℕ)
+neighbor_places eq found =
+    map (λ v. filter_map (get eq found.index_of) v.items) found.neighbor_ids.items
 
 -- distinct numbers stand at distinct places
 abbrev pub IsInjective : List ℕ → Type 0

@@ -15,8 +15,8 @@ use Rattle.jj_dag.specs.Outcomes.{IfFails}
 use Rattle.jj_dag.specs.Walk.{AreNodes, Numbered}
 
 -- what is known of a node where only the nodes of the two sets were met
-abbrev pub started : List ℕ → List ℕ → ℕ → Reach
-started set1 set2 b = record {
+abbrev pub reach_of_sets : List ℕ → List ℕ → ℕ → Reach
+reach_of_sets set1 set2 b = record {
   left = list_any (λ a. b == a) set1;
   right = list_any (λ a. b == a) set2;
   below = false;
@@ -33,7 +33,7 @@ module _ {T ID : Type 0} (w : Numbered T ID) where
 
   -- the nodes of the two sets were marked, and they all wait
   pub record IsStarting (set1 set2 : List ℕ) (waiting : List T) (find : ID → Mark) : Type 0 where
-    pub marks : KnowsMarks (started set1 set2) waiting find
+    pub marks : KnowsMarks (reach_of_sets set1 set2) waiting find
     pub waits : (b : ℕ) → list_any (λ a. b == a) (map w.node waiting)
         ≡ (list_any (λ a. b == a) set1 || list_any (λ a. b == a) set2)
 

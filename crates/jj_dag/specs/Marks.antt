@@ -9,11 +9,11 @@ use Rattle.jj_dag.specs.declared.closest_common.Reach.{Reach}
 use Rattle.jj_dag.specs.declared.closest_common.Mark.{Mark}
 
 -- nothing is known of a node that has no mark
-abbrev pub unmarked : Mark
-unmarked = record { reach = record { left = false; right = false; below = false }; waits = false }
+abbrev pub no_mark : Mark
+no_mark = record { reach = record { left = false; right = false; below = false }; waits = false }
 
 abbrev pub mark_of : Option Mark → Mark
-mark_of None = unmarked
+mark_of None = no_mark
 mark_of (Some mark) = mark
 
 -- the mark that a map has for an id
@@ -21,8 +21,8 @@ abbrev pub mark_at : {ID S : Type 0} → (ID → ID → Bool) → HashMap ID Mar
 mark_at eq known id = mark_of (get eq known id)
 
 -- what is known by both
-abbrev pub joined : Reach → Reach → Reach
-joined known added = record {
+abbrev pub reach_of_both : Reach → Reach → Reach
+reach_of_both known added = record {
   left = known.left || added.left;
   right = known.right || added.right;
   below = known.below || added.below;
@@ -41,9 +41,9 @@ handed_on known = record {
 }
 
 -- the mark with more known, by which the node waits if a set more reaches it
-abbrev pub marked : Mark → Reach → Mark
-marked mark added = record {
-  reach = joined mark.reach added;
+abbrev pub mark_with : Mark → Reach → Mark
+mark_with mark added = record {
+  reach = reach_of_both mark.reach added;
   waits = mark.waits || grows mark.reach added;
 }
 
@@ -52,8 +52,8 @@ abbrev pub starts_waiting : Mark → Reach → Bool
 starts_waiting mark added = grows mark.reach added && not mark.waits
 
 -- the mark of a node that waits no longer
-abbrev pub asked : Mark → Mark
-asked mark = record { reach = mark.reach; waits = false }
+abbrev pub without_waiting : Mark → Mark
+without_waiting mark = record { reach = mark.reach; waits = false }
 
 -- how many sets reach the node, as far as is known
 abbrev pub sides : Mark → ℕ
@@ -71,7 +71,7 @@ closest_of find common = map (λ entry. entry.0)
 -- the node x of this id was marked, and waits if it joined those that wait by that
 pub record MarksNode {T ID : Type 0} (eq : ID → ID → Bool) (added : Reach) (x : T) (i : ID)
     (find find2 : ID → Mark) (waiting waiting2 : List T) : Type 0 where
-  pub marks : (q : ID) → find2 q ≡ cond (eq i q) (marked (find i) added) (find q)
+  pub marks : (q : ID) → find2 q ≡ cond (eq i q) (mark_with (find i) added) (find q)
   pub waits : MatchBool (starts_waiting (find i) added) (IsPermutation (x ∷ waiting) waiting2)
       (waiting2 ≡ waiting)
 

@@ -5,7 +5,7 @@ ghost use Rattle.std.specs.Fn.{CalledAt, FnReturnsAt};
 ghost use Rattle.std.specs.List.Sorted.{IsPermutation};
 ghost use Rattle.jj_dag.specs.Found.{FindsClosestCommon};
 ghost use Rattle.jj_dag.specs.CommonSearch.{SearchesCommon};
-ghost use Rattle.jj_dag.specs.Marks.{MarksAll, mark_at, joined, grows, marked, starts_waiting, asked, handed_on, sides_met, closest_of};
+ghost use Rattle.jj_dag.specs.Marks.{MarksAll, mark_at, reach_of_both, grows, mark_with, starts_waiting, without_waiting, handed_on, sides_met, closest_of};
 ghost use Rattle.jj_dag.specs.Outcomes.{Ends, IfFails};
 ghost use Rattle.jj_dag.specs.Owed.{MayShow};
 
@@ -61,7 +61,7 @@ impl Reach {
     }
 
     fn union(self, added: Reach) -> Reach
-        ensures { result ≡ joined self added }
+        ensures { result ≡ reach_of_both self added }
     {
         Reach {
             left: self.left || added.left,
@@ -80,7 +80,7 @@ impl Reach {
 
 impl Mark {
     fn with_reach(self, added: Reach) -> Mark
-        ensures { result ≡ marked self added }
+        ensures { result ≡ mark_with self added }
     {
         Mark {
             reach: self.reach.union(added),
@@ -122,7 +122,7 @@ fn mark_node<T: Ord + Drop, ID: Hash + Eq + Drop>(
     reach: Reach,
 ) -> Result<(), AllocError>
     ensures known { OnOk result ((i : ID) → mark_at ID.eq known.new i
-        ≡ cond (ID.eq id i) (marked (mark_at ID.eq known.old id) reach)
+        ≡ cond (ID.eq id i) (mark_with (mark_at ID.eq known.old id) reach)
         (mark_at ID.eq known.old i)) }
     ensures waiting { OnOk result (MatchBool (starts_waiting (mark_at ID.eq known.old id) reach)
         (IsPermutation (node ∷ heap_items waiting.old) (heap_items waiting.new))
@@ -145,8 +145,8 @@ fn mark_node<T: Ord + Drop, ID: Hash + Eq + Drop>(
 fn ask<ID: Hash + Eq>(known: &mut HashMap<ID, Mark>, id: &ID) -> Reach
     ensures reach { result ≡ (mark_at ID.eq known.old id.now).reach }
     ensures known { IsTrue (mark_at ID.eq known.old id.now).waits → (i : ID)
-        → mark_at ID.eq known.new i ≡ cond (ID.eq id.now i) (asked (mark_at ID.eq known.old id.now))
-        (mark_at ID.eq known.old i) }
+        → mark_at ID.eq known.new i ≡ cond (ID.eq id.now i)
+        (without_waiting (mark_at ID.eq known.old id.now)) (mark_at ID.eq known.old i) }
     ensures sides { sides_met known.new ≡ sides_met known.old }
 {
     match known.get_mut(id) {

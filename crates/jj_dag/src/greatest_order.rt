@@ -5,7 +5,7 @@ ghost use Rattle.std.specs.List.{Contains, filter_map};
 ghost use Rattle.std.specs.List.Sorted.{IsPermutation};
 ghost use Rattle.std.specs.BinaryHeap.{heap_items, KeepsHeap};
 ghost use Rattle.std.specs.Ordering.{nat_cmp, ordering_then};
-ghost use Rattle.jj_dag.specs.Collecting.{IsFilled, linked};
+ghost use Rattle.jj_dag.specs.Collecting.{IsFilled, neighbor_places};
 ghost use Rattle.jj_dag.specs.GreatestOrder.{FindsGreatestOrder};
 ghost use Rattle.jj_dag.specs.Outcomes.{Ends};
 ghost use Rattle.jj_dag.specs.Owed.{CanShow};
@@ -124,7 +124,8 @@ impl<T: Ord + Drop, ID: Hash + Eq + Drop> Collected<T, ID> {
     /// The nodes, as `take_greatest_first` takes them.
     pub fn greatest_first(self, alloc: Global) -> Result<(Vec<T>, Option<T>), AllocError>
         requires { IsFilled ID.eq self }
-        ensures { IfOk result (TakesGreatestFirst T.cmp self.nodes.items (linked ID.eq self)) }
+        ensures { IfOk result
+            (TakesGreatestFirst T.cmp self.nodes.items (neighbor_places ID.eq self)) }
     {
         let Collected {
             nodes,

@@ -5,7 +5,7 @@ use Rattle.std.proofs.lemmas.List.{map-append}
 use Rattle.std.specs.List.{slice_index}
 use denote.Ref.{Bor}
 use Rattle.std.specs.Path.{path_join, cur_dir, slash}
-use Rattle.jj_files.specs.FsTexts.{or_dot, appended}
+use Rattle.jj_files.specs.FsTexts.{or_dot, join_all}
 
 -- a text appended to the empty one is that text
 pub path_join-empty : (text : List ℕ) → path_join [] text ≡ text
@@ -25,23 +25,23 @@ or_dot-same shown [] e h = let f : false ≡ true = subst (λ t. false ≡ eqb (
 or_dot-same shown (b ∷ bs) e h = refl
 
 -- a text with one part more appended
-pub appended-last : (base : List ℕ) (parts : List (List ℕ)) (part : List ℕ) → appended base (parts ++ part ∷ []) ≡ path_join (appended base parts) part
+pub appended-last : (base : List ℕ) (parts : List (List ℕ)) (part : List ℕ) → join_all base (parts ++ part ∷ []) ≡ path_join (join_all base parts) part
 appended-last base [] part = refl
 appended-last base (first ∷ parts) part = appended-last (path_join base first) parts part
 
 -- the texts of a list up to a place, and the one there appended
 pub appended-place : (texts : List (Bor (List ℕ))) (place : ℕ) (d : Bor (List ℕ)) (old new : List ℕ) → place < length texts
-    → new ≡ path_join old (get_or texts place d).now → old ≡ appended [] (map (λ text. text.now) (take place texts))
-    → new ≡ appended [] (map (λ text. text.now) (take (place + 1) texts))
+    → new ≡ path_join old (get_or texts place d).now → old ≡ join_all [] (map (λ text. text.now) (take place texts))
+    → new ≡ join_all [] (map (λ text. text.now) (take (place + 1) texts))
 appended-place texts place d old new within pushed so_far =
     let next : suc place ≡ place + 1 = omega arith in
     pushed ∙ ap (λ text. path_join text (get_or texts place d).now) so_far
     ∙ sym (appended-last [] (map (λ text. text.now) (take place texts)) (get_or texts place d).now)
-    ∙ ap (appended []) (sym (map-append (λ text. text.now) (take place texts) (get_or texts place d ∷ [])))
-    ∙ ap (λ l. appended [] (map (λ text. text.now) l)) (sym (take-suc texts place d within))
-    ∙ ap (λ n. appended [] (map (λ text. text.now) (take n texts))) next
+    ∙ ap (join_all []) (sym (map-append (λ text. text.now) (take place texts) (get_or texts place d ∷ [])))
+    ∙ ap (λ l. join_all [] (map (λ text. text.now) l)) (sym (take-suc texts place d within))
+    ∙ ap (λ n. join_all [] (map (λ text. text.now) (take n texts))) next
 
 -- some parts appended, and then others
-pub appended-append : (base : List ℕ) (parts others : List (List ℕ)) → appended base (parts ++ others) ≡ appended (appended base parts) others
+pub appended-append : (base : List ℕ) (parts others : List (List ℕ)) → join_all base (parts ++ others) ≡ join_all (join_all base parts) others
 appended-append base [] others = refl
 appended-append base (first ∷ parts) others = appended-append (path_join base first) parts others

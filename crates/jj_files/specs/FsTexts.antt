@@ -7,9 +7,9 @@ use Rattle.std.specs.Str.{bytes_eq}
 use Rattle.std.specs.Path.{path_join, root_dir, cur_dir, parent_dir}
 
 -- a text with others appended to it, one after another
-abbrev pub appended : List ℕ → List (List ℕ) → List ℕ
-appended base [] = base
-appended base (part ∷ parts) = appended (path_join base part) parts
+abbrev pub join_all : List ℕ → List (List ℕ) → List ℕ
+join_all base [] = base
+join_all base (part ∷ parts) = join_all (path_join base part) parts
 
 -- `.` for the empty text
 abbrev pub or_dot : List ℕ → List ℕ
@@ -18,7 +18,7 @@ or_dot (b ∷ bs) = b ∷ bs
 
 -- names below a directory
 abbrev pub fs_text : List ℕ → List (List ℕ) → List ℕ
-fs_text base names = or_dot (appended base names)
+fs_text base names = or_dot (join_all base names)
 
 -- the name stands for a directory itself, or for the one above it
 abbrev pub is_dots : List ℕ → Bool

@@ -1,11 +1,12 @@
 -- What is seen of a watched reader or writer.
--- Cited by contracts of public items: most_reads, watched, watched_failed, watched_reads_left.
+-- Cited by contracts of public items: most_reads, watched_failed, watched_inner,
+-- watched_reads_left.
 use Rattle.std.specs.Prelude.{ℕ, ◌^◌, ◌-◌, Bool}
 use Rattle.jj_files.specs.declared.file_util.Watched.{Watched}
 
 -- the reader or the writer itself
-abbrev pub watched : {T : Type 0} → Watched T → T
-watched w = w.inner
+abbrev pub watched_inner : {T : Type 0} → Watched T → T
+watched_inner w = w.inner
 
 -- whether one of its calls has failed
 abbrev pub watched_failed : {T : Type 0} → Watched T → Bool

@@ -3,7 +3,7 @@ ghost use Rattle.std.specs.Prelude.{◌≡◌, ℕ, ◌<◌, ◌-◌, Bool, fals
 ghost use Rattle.std.specs.Io.{ReadsAtMost, WritesAtMost};
 ghost use Rattle.std.specs.Io.KnownBytes.{Appends, ReadConsumes, WriteAppends};
 ghost use Rattle.jj_files.specs.Streams.{NotesFailure, SettlesWrite, TakesSome, CopiesAll, CopiesFront, AppendsFrontOf, streams};
-ghost use Rattle.jj_files.specs.Watching.{most_reads, watched, watched_failed, watched_reads_left};
+ghost use Rattle.jj_files.specs.Watching.{most_reads, watched_inner, watched_failed, watched_reads_left};
 
 mod dirs;
 mod errors;
@@ -66,7 +66,7 @@ pub struct Watched<T> {
 impl<T> Watched<T> {
     /// The reader or writer, of which nothing was asked yet.
     pub fn new(inner: T) -> Watched<T>
-        ensures inner { watched result ≡ inner }
+        ensures inner { watched_inner result ≡ inner }
         ensures sound { watched_failed result ≡ false }
         ensures reads { watched_reads_left result ≡ most_reads }
     {
@@ -83,7 +83,7 @@ impl<T> Watched<T> {
     fn note_read(&mut self, answer: io::Result<usize>) -> io::Result<usize>
         requires { 0 < watched_reads_left self.old }
         ensures answer { result ≡ answer }
-        ensures inner { watched self.new ≡ watched self.old }
+        ensures inner { watched_inner self.new ≡ watched_inner self.old }
         ensures failure { NotesFailure (watched_failed self.old) (watched_failed self.new) result }
         ensures counted { watched_reads_left self.new ≡ watched_reads_left self.old - 1 }
     {
@@ -95,7 +95,7 @@ impl<T> Watched<T> {
     // Makes an answer that a nonempty piece was not taken a failure, and notes a failure.
     fn note_write(&mut self, answer: io::Result<usize>, offered: usize) -> io::Result<usize>
         ensures answer { SettlesWrite answer offered result }
-        ensures inner { watched self.new ≡ watched self.old }
+        ensures inner { watched_inner self.new ≡ watched_inner self.old }
         ensures failure { NotesFailure (watched_failed self.old) (watched_failed self.new) result }
     {
         if let Ok(0) = answer
@@ -110,7 +110,7 @@ impl<T> Watched<T> {
 }
 
 impl<R: Read> Source for Watched<R> {
-    ghost remaining = { λ w. R.remaining (watched w) };
+    ghost remaining = { λ w. R.remaining (watched_inner w) };
 
     ghost has_failed = { watched_failed };
 
@@ -120,12 +120,13 @@ impl<R: Read> Source for Watched<R> {
     fn read(&mut self, buf: &mut [u8]) -> io::Result<usize>
         ensures bound { ReadsAtMost result buf.new }
         ensures bytes { ReadConsumes
-            (R.remaining (watched self.old)) (R.remaining (watched self.new)) result buf.new }
+            (R.remaining (watched_inner self.old))
+            (R.remaining (watched_inner self.new)) result buf.new }
         ensures failure { NotesFailure (watched_failed self.old) (watched_failed self.new) result }
         ensures fewer { OnOk result (watched_reads_left self.new < watched_reads_left self.old) }
         ensures counted { watched_reads_left self.new ≡ watched_reads_left self.old - 1 }
         ensures spent { watched_reads_left self.old ≡ 0 →
-            IsErr result × (watched self.new ≡ watched self.old) }
+            IsErr result × (watched_inner self.new ≡ watched_inner self.old) }
     {
         if self.reads_left == 0 {
             self.failed = true;
@@ -137,7 +138,7 @@ impl<R: Read> Source for Watched<R> {
 }
 
 impl<W: Write> Sink for Watched<W> {
-    ghost contents = { λ w. W.contents (watched w) };
+    ghost contents = { λ w. W.contents (watched_inner w) };
 
     ghost has_failed = { watched_failed };
 

@@ -5,7 +5,7 @@ use Rattle.std.proofs.lemmas.List.{append-nil}
 use Rattle.jj_globs.specs.declared.glob.token.Part.TheVariants.{Byte, OneOf}
 use Rattle.jj_globs.specs.declared.glob.token.Token.{Token}
 use Rattle.jj_globs.specs.declared.glob.token.Options.{Options}
-use Rattle.jj_globs.specs.GlobEscape.{is_special, escaped}
+use Rattle.jj_globs.specs.GlobEscape.{is_special, literal_glob}
 use Rattle.jj_globs.specs.GlobText.{tokens_of}
 use Rattle.jj_globs.specs.GlobMeaning.{IsMatch, Stands, StandsAlone, in_class, reading_of}
 use Rattle.jj_globs.specs.GlobReads.{glob_of_text}
@@ -55,13 +55,13 @@ module _ (separator : Bool) where
   stands_from [] ts rest s = s
   stands_from (b ∷ t) ts rest s = (b ∷ [], t ++ rest, refl, part_from (is_special b) b, stands_from t ts rest s)
 
-  escaped_to : (t bytes : List ℕ) → IsMatch (glob_of_text (escaped t) separator false) bytes → bytes ≡ t
+  escaped_to : (t bytes : List ℕ) → IsMatch (glob_of_text (literal_glob t) separator false) bytes → bytes ≡ t
   escaped_to t bytes m =
-      let same : m.0 ≡ tokens_for t ++ [] = same_tokens (escaped t) m.0 (tokens_for t) m.1 (tokens_of-escaped t) ∙ sym (append-nil (tokens_for t)) in
+      let same : m.0 ≡ tokens_for t ++ [] = same_tokens (literal_glob t) m.0 (tokens_for t) m.1 (tokens_of-escaped t) ∙ sym (append-nil (tokens_for t)) in
       let found = stands_to t [] bytes (subst (λ (ts : List Token). Stands plain (reading_of ts).here bytes) same m.2) in
       found.1 ∙ ap (λ (l : List ℕ). t ++ l) found.2 ∙ append-nil t
 
-  escaped_from : (t bytes : List ℕ) → bytes ≡ t → IsMatch (glob_of_text (escaped t) separator false) bytes
+  escaped_from : (t bytes : List ℕ) → bytes ≡ t → IsMatch (glob_of_text (literal_glob t) separator false) bytes
   escaped_from t bytes e = (
     tokens_for t,
     tokens_of-escaped t,
@@ -70,5 +70,5 @@ module _ (separator : Bool) where
   )
 
   -- an escaped text stands for the text, and for nothing else
-  pub escaped_alone : (t bytes : List ℕ) → IsMatch (glob_of_text (escaped t) separator false) bytes ↔ (bytes ≡ t)
+  pub escaped_alone : (t bytes : List ℕ) → IsMatch (glob_of_text (literal_glob t) separator false) bytes ↔ (bytes ≡ t)
   escaped_alone t bytes = (escaped_to t bytes, escaped_from t bytes)

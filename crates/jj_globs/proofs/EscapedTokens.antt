@@ -10,7 +10,7 @@ use Rattle.jj_globs.specs.declared.glob.sign.Sign.{Sign}
 use Rattle.jj_globs.specs.declared.glob.sign.Sign.TheVariants.{Asterisk, Other}
 use Rattle.jj_globs.specs.GlobText.{tokens_of, words, read, only_dirs, sign_of, asterisk}
 use Rattle.jj_globs.proofs.GlobSteps.{tokens_of-read}
-use Rattle.jj_globs.specs.GlobEscape.{is_special, escaped_byte, escaped}
+use Rattle.jj_globs.specs.GlobEscape.{is_special, escaped_byte, literal_glob}
 
 -- the part that an escaped byte reads as
 abbrev pub part_of : ℕ → Part
@@ -81,16 +81,16 @@ star_step =
     ∙ ap (λ (g : Sign). read zero false [] (asterisk ∷ words (g ∷ s))) plain.sign
     ∙ ap (λ (p : Part). read zero false (part p ∷ part Star ∷ []) (words s)) (sym (plain-part b plain)))
 
-regroup : (b : ℕ) (t : List ℕ) (s : List Sign) → map sign_of (escaped (b ∷ t)) ++ s ≡ map sign_of (escaped_byte b) ++ (map sign_of (escaped t) ++ s)
-unfolding escaped
+regroup : (b : ℕ) (t : List ℕ) (s : List Sign) → map sign_of (literal_glob (b ∷ t)) ++ s ≡ map sign_of (escaped_byte b) ++ (map sign_of (literal_glob t) ++ s)
+unfolding literal_glob
 regroup b t s =
-    ap (λ (l : List Sign). l ++ s) (map-append sign_of (escaped_byte b) (escaped t)) ∙ append_assoc (map sign_of (escaped_byte b)) (map sign_of (escaped t)) s
+    ap (λ (l : List Sign). l ++ s) (map-append sign_of (escaped_byte b) (literal_glob t)) ∙ append_assoc (map sign_of (escaped_byte b)) (map sign_of (literal_glob t)) s
 
-steps : (t : List ℕ) (ts : List Token) (s : List Sign) → read zero false ts (words (map sign_of (escaped t) ++ s)) ≡ read zero false (pushed t ts) (words s)
-unfolding escaped
+steps : (t : List ℕ) (ts : List Token) (s : List Sign) → read zero false ts (words (map sign_of (literal_glob t) ++ s)) ≡ read zero false (pushed t ts) (words s)
+unfolding literal_glob
 steps [] ts s = refl
 steps (b ∷ t) ts s =
-    ap (λ (l : List Sign). read zero false ts (words l)) (regroup b t s) ∙ step b ts (map sign_of (escaped t) ++ s)
+    ap (λ (l : List Sign). read zero false ts (words l)) (regroup b t s) ∙ step b ts (map sign_of (literal_glob t) ++ s)
     ∙ steps t (part (part_of b) ∷ ts) s
 
 reverse_pushed : (t : List ℕ) (ts : List Token) → reverse (pushed t ts) ≡ reverse ts ++ tokens_for t
@@ -113,28 +113,28 @@ no_run =
     ap (λ (l : List ℕ). map sign_of l ++ s) (plain-escaped b plain) ∙ ap (λ (g : Sign). g ∷ s) plain.sign in
     (ap only_dirs signs, ap (λ (l : List Sign). only_dirs (Asterisk ∷ l)) signs))
 
-no_run-escaped : (t : List ℕ) → only_dirs (map sign_of (escaped t)) ≡ false
-unfolding escaped
+no_run-escaped : (t : List ℕ) → only_dirs (map sign_of (literal_glob t)) ≡ false
+unfolding literal_glob
 no_run-escaped [] = refl
-no_run-escaped (b ∷ t) = ap only_dirs (map-append sign_of (escaped_byte b) (escaped t)) ∙ (no_run b (map sign_of (escaped t))).0
+no_run-escaped (b ∷ t) = ap only_dirs (map-append sign_of (escaped_byte b) (literal_glob t)) ∙ (no_run b (map sign_of (literal_glob t))).0
 
 -- an escaped text reads as its bytes
-pub tokens_of-escaped : (t : List ℕ) → tokens_of (escaped t) ≡ Ok (tokens_for t)
+pub tokens_of-escaped : (t : List ℕ) → tokens_of (literal_glob t) ≡ Ok (tokens_for t)
 unfolding words read
 tokens_of-escaped t =
-    tokens_of-read (escaped t) (no_run-escaped t)
-    ∙ ap (λ (l : List Sign). read zero false [] (words l)) (sym (append-nil (map sign_of (escaped t)))) ∙ steps t [] []
+    tokens_of-read (literal_glob t) (no_run-escaped t)
+    ∙ ap (λ (l : List Sign). read zero false [] (words l)) (sym (append-nil (map sign_of (literal_glob t)))) ∙ steps t [] []
     ∙ ap Ok (reverse_pushed t [])
 
 -- and between two stars as its bytes between two stars
-pub tokens_of-part : (b : ℕ) (t : List ℕ) → tokens_of (42 ∷ (escaped (b ∷ t) ++ 42 ∷ [])) ≡ Ok (part Star ∷ (tokens_for (b ∷ t) ++ part Star ∷ []))
+pub tokens_of-part : (b : ℕ) (t : List ℕ) → tokens_of (42 ∷ (literal_glob (b ∷ t) ++ 42 ∷ [])) ≡ Ok (part Star ∷ (tokens_for (b ∷ t) ++ part Star ∷ []))
 unfolding words read
 tokens_of-part b t =
     let end = Asterisk ∷ [] in
-    let signs = map-append sign_of (escaped (b ∷ t)) (42 ∷ []) ∙ regroup b t end in
-    tokens_of-read (42 ∷ (escaped (b ∷ t) ++ 42 ∷ []))
-    (ap (λ (l : List Sign). only_dirs (Asterisk ∷ l)) signs ∙ (no_run b (map sign_of (escaped t) ++ end)).1)
+    let signs = map-append sign_of (literal_glob (b ∷ t)) (42 ∷ []) ∙ regroup b t end in
+    tokens_of-read (42 ∷ (literal_glob (b ∷ t) ++ 42 ∷ []))
+    (ap (λ (l : List Sign). only_dirs (Asterisk ∷ l)) signs ∙ (no_run b (map sign_of (literal_glob t) ++ end)).1)
     ∙ ap (λ (l : List Sign). read zero false [] (asterisk ∷ words l)) signs
-    ∙ star_step b (map sign_of (escaped t) ++ end) ∙ steps t (part (part_of b) ∷ part Star ∷ []) end
+    ∙ star_step b (map sign_of (literal_glob t) ++ end) ∙ steps t (part (part_of b) ∷ part Star ∷ []) end
     ∙ ap Ok (reverse-append (part Star ∷ []) (pushed t (part (part_of b) ∷ part Star ∷ []))
     ∙ ap (λ (l : List Token). l ++ part Star ∷ []) (reverse_pushed t (part (part_of b) ∷ part Star ∷ [])))

@@ -4,7 +4,7 @@ use Rattle.std.specs.List.{flat_map}
 use Rattle.std.proofs.lemmas.Bool.Decides.{nat_tests}
 use lib.Utf8.{encode}
 use Rattle.jj_content.proofs.EscapedTexts.{plain_character, one_more_written}
-use Rattle.jj_globs.specs.GlobEscape.{escaped, escaped_byte}
+use Rattle.jj_globs.specs.GlobEscape.{literal_glob, escaped_byte}
 
 plain_byte : (c : ℕ) → c ≢ 63 → c ≢ 42 → c ≢ 91 → c ≢ 93 → c ≢ 123 → c ≢ 125 → c ≢ 92 → escaped_byte c ≡ c ∷ []
 plain_byte c h0 h1 h2 h3 h4 h5 h6 = grind (arith, nat_tests)
@@ -17,6 +17,6 @@ pub escaped_plain : (c : ℕ) → c ≢ 63 → c ≢ 42 → c ≢ 91 → c ≢ 9
 escaped_plain c h0 h1 h2 h3 h4 h5 h6 = plain_character escaped_byte c (plain_byte c h0 h1 h2 h3 h4 h5 h6) high_byte
 
 -- one more character of the text is written
-pub escaped_step : (buffer buffer' piece rest rest' whole : List ℕ) → buffer' ≡ buffer ++ flat_map escaped_byte piece → rest ≡ piece ++ rest' → buffer ++ escaped rest ≡ whole → buffer' ++ escaped rest' ≡ whole
-unfolding escaped
+pub escaped_step : (buffer buffer' piece rest rest' whole : List ℕ) → buffer' ≡ buffer ++ flat_map escaped_byte piece → rest ≡ piece ++ rest' → buffer ++ literal_glob rest ≡ whole → buffer' ++ literal_glob rest' ≡ whole
+unfolding literal_glob
 escaped_step = one_more_written escaped_byte

@@ -11,7 +11,7 @@ use Rattle.jj_globs.specs.declared.glob.steps.OpenGroup.{OpenGroup}
 use Rattle.jj_globs.specs.GlobMeaning.{same_byte, is_plain, in_class}
 use Rattle.jj_globs.specs.GlobPlain.{Test, Tests, one, many, any_byte, is_slash, past_slash, part_then, test_or, test_open, test_before, tests_before}
 use Rattle.jj_globs.specs.GlobPlaces.{in_set, answers, end_test, further_of, StaysInside}
-use Rattle.jj_globs.specs.GlobLowering.{AddsPart, AddsToken, forked, test_at, AnyIs, OuterIs, AreLowered}
+use Rattle.jj_globs.specs.GlobLowering.{AddsPart, AddsToken, with_fork, test_at, AnyIs, OuterIs, AreLowered}
 use Rattle.jj_globs.proofs.GlobSolved.{later, one_same, many_same}
 use Rattle.jj_globs.proofs.GlobLowered.{below_steps, leading_steps, one_slash}
 
@@ -61,27 +61,27 @@ module _ (o : Options) (below : Bool) where
   -- 2. Groups.
 
   fork_accepts : (any : Option ℕ) (ss : List Step) (t u : Test) → AnyIs o below ss any u → ((bs : List ℕ) → answers o below ss 0 bs ≡ t bs)
-      → (bs : List ℕ) → answers o below (forked any ss) 0 bs ≡ (t bs || u bs)
+      → (bs : List ℕ) → answers o below (with_fork any ss) 0 bs ≡ (t bs || u bs)
   fork_accepts None ss t u none here bs = here bs ∙ sym (ap (λ v. t bs || v) (none bs) ∙ or_false (t bs))
   fork_accepts (Some n) ss t u others here bs =
       ap (λ v. v || answers o below ss (length ss - n) bs) (here bs) ∙ ap (λ v. t bs || v) (others.1 bs)
 
-  outer_forked : (any : Option ℕ) (ss : List Step) (gs : List OpenGroup) (ts : List (Test × Test)) → OuterIs o below ss gs ts → OuterIs o below (forked any ss) gs ts
+  outer_forked : (any : Option ℕ) (ss : List Step) (gs : List OpenGroup) (ts : List (Test × Test)) → OuterIs o below ss gs ts → OuterIs o below (with_fork any ss) gs ts
   outer_forked None ss gs ts h = h
   outer_forked (Some n) ss gs ts h = outer_kept (Fork (length ss - n)) ss gs ts h
 
   after_forked : (any : Option ℕ) (ss : List Step) (k : ℕ) (t : Test) → k ≤ length ss → ((bs : List ℕ) → test_at o below ss k bs ≡ t bs)
-      → (k ≤ length (forked any ss)) × ((bs : List ℕ) → test_at o below (forked any ss) k bs ≡ t bs)
+      → (k ≤ length (with_fork any ss)) × ((bs : List ℕ) → test_at o below (with_fork any ss) k bs ≡ t bs)
   after_forked None ss k t within h = (within, h)
   after_forked (Some n) ss k t within h = ((omega (arith, within)), (λ bs. kept (Fork (length ss - n)) ss k within bs ∙ h bs))
 
   lower_or : (ss : List Step) (g : OpenGroup) (gs : List OpenGroup) (t : Test) (us : List (Test × Test))
       → ((bs : List ℕ) → answers o below ss 0 bs ≡ t bs) → OuterIs o below ss (g ∷ gs) us
-      → AreLowered o below (Jump (length (forked g.any ss) - g.after) ∷ forked g.any ss)
-      (record { any = Some (length (forked g.any ss)); after = g.after } ∷ gs) (test_or t us)
+      → AreLowered o below (Jump (length (with_fork g.any ss) - g.after) ∷ with_fork g.any ss)
+      (record { any = Some (length (with_fork g.any ss)); after = g.after } ∷ gs) (test_or t us)
   lower_or ss g gs t [] here h = absurd h
   lower_or ss g gs t (u ∷ us) here h =
-      let fs : List Step = forked g.any ss in
+      let fs : List Step = with_fork g.any ss in
       let jump : Step = Jump (length fs - g.after) in
       let begins = fork_accepts g.any ss t u.0 h.0 here in
       let after = after_forked g.any ss g.after u.1 h.1 h.2 in
@@ -98,7 +98,7 @@ module _ (o : Options) (below : Bool) where
 
   lower_open : (ss : List Step) (g : OpenGroup) (gs : List OpenGroup) (t : Test) (us : List (Test × Test))
       → ((bs : List ℕ) → answers o below ss 0 bs ≡ t bs) → OuterIs o below ss (g ∷ gs) us
-      → AreLowered o below (forked g.any ss) gs (test_open t us)
+      → AreLowered o below (with_fork g.any ss) gs (test_open t us)
   lower_open ss g gs t [] here h = absurd h
   lower_open ss g gs t (u ∷ us) here h =
       record { here = fork_accepts g.any ss t u.0 h.0 here; outer = outer_forked g.any ss gs us h.3 }
@@ -183,11 +183,11 @@ module _ (o : Options) (below : Bool) where
       (record { here = h.here; outer = ((λ bs. refl), (omega arith), (λ bs. at_front ss bs ∙ h.here bs), h.outer) })
   lower_token Or ss new [] opened t a h = both ss new [] opened (test_before o Or t) a.0 a.1 (no_group_or ss t.here t.outer h.here h.outer)
   lower_token Or ss new (g ∷ gs) opened t a h =
-      both (Jump (length (forked g.any ss) - g.after) ∷ forked g.any ss) new (record { any = Some (length (forked g.any ss)); after = g.after } ∷ gs) opened
+      both (Jump (length (with_fork g.any ss) - g.after) ∷ with_fork g.any ss) new (record { any = Some (length (with_fork g.any ss)); after = g.after } ∷ gs) opened
       (test_before o Or t) a.0 a.1 (lower_or ss g gs t.here t.outer h.here h.outer)
   lower_token Open ss new [] opened t a h = both ss new [] opened (test_before o Open t) a.0 a.1 (no_group_open ss t.here t.outer h.here h.outer)
   lower_token Open ss new (g ∷ gs) opened t a h =
-      both (forked g.any ss) new gs opened (test_before o Open t) a.0 a.1 (lower_open ss g gs t.here t.outer h.here h.outer)
+      both (with_fork g.any ss) new gs opened (test_before o Open t) a.0 a.1 (lower_open ss g gs t.here t.outer h.here h.outer)
 
 -- 5. No step leads past the end.
 
@@ -203,7 +203,7 @@ inside_dirs ss h =
     inside_step (Fork 2) (Everything ∷ Byte 47 ∷ ss) (omega arith)
     (inside_step Everything (Byte 47 ∷ ss) (omega arith) (inside_step (Byte 47) ss (omega arith) h))
 
-inside_forked : (any : Option ℕ) (ss : List Step) → StaysInside ss → StaysInside (forked any ss)
+inside_forked : (any : Option ℕ) (ss : List Step) → StaysInside ss → StaysInside (with_fork any ss)
 inside_forked None ss h = h
 inside_forked (Some n) ss h = inside_step (Fork (length ss - n)) ss (omega arith) h
 
@@ -227,10 +227,10 @@ inside_token o (part p) ss new gs opened a h = inside_part o p ss new a.0 h
 inside_token o Close ss new gs opened a h = renamed_inside ss new a.0 h
 inside_token o Or ss new [] opened a h = renamed_inside ss new a.0 h
 inside_token o Or ss new (g ∷ gs) opened a h =
-    let fs : List Step = forked g.any ss in
+    let fs : List Step = with_fork g.any ss in
     renamed_inside (Jump (length fs - g.after) ∷ fs) new a.0 (inside_step (Jump (length fs - g.after)) fs (omega arith) (inside_forked g.any ss h))
 inside_token o Open ss new [] opened a h = renamed_inside ss new a.0 h
-inside_token o Open ss new (g ∷ gs) opened a h = renamed_inside (forked g.any ss) new a.0 (inside_forked g.any ss h)
+inside_token o Open ss new (g ∷ gs) opened a h = renamed_inside (with_fork g.any ss) new a.0 (inside_forked g.any ss h)
 
 pub nothing_inside : StaysInside []
 nothing_inside = λ k s e. cc

@@ -1,5 +1,5 @@
 -- A text as a glob that stands for it alone.
--- Cited by contracts of public items: StandsForAlone, escaped, is_special.
+-- Cited by contracts of public items: StandsForAlone, is_special, literal_glob.
 use Rattle.std.specs.Prelude.{◌≡◌, ◌↔◌, ℕ, Bool, false, ◌==◌, ◌||◌, if◌then◌else◌, List, [], ◌∷◌}
 use Rattle.std.specs.List.{flat_map}
 use Rattle.jj_globs.specs.GlobMeaning.{IsMatch}
@@ -14,8 +14,8 @@ is_special b = (b == 63) || (b == 42) || (b == 91) || (b == 93) || (b == 123) ||
 abbrev pub escaped_byte : ℕ → List ℕ
 escaped_byte b = if is_special b then 91 ∷ b ∷ 93 ∷ [] else b ∷ []
 
-unfoldable pub escaped : List ℕ → List ℕ
-escaped text = flat_map escaped_byte text
+unfoldable pub literal_glob : List ℕ → List ℕ
+literal_glob text = flat_map escaped_byte text
 
 -- the glob, with or without separator, stands for the text and for nothing else
 abbrev pub StandsForAlone : List ℕ → List ℕ → Type 0

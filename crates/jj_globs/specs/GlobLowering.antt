@@ -29,9 +29,9 @@ AddsPart o InnerDirs ss new = new ≡ Byte 47 ∷ Fork 2 ∷ Everything ∷ Byte
 
 -- what stands here, or the alternatives that were read before, at the place with that many steps
 -- after it
-abbrev pub forked : Option ℕ → List Step → List Step
-forked None ss = ss
-forked (Some others) ss = Fork (length ss - others) ∷ ss
+abbrev pub with_fork : Option ℕ → List Step → List Step
+with_fork None ss = ss
+with_fork (Some others) ss = Fork (length ss - others) ∷ ss
 
 -- the steps and the open groups, the innermost first, with one more token
 abbrev pub AddsToken : Options → Token → List Step → List OpenGroup → List Step → List OpenGroup
@@ -41,10 +41,10 @@ AddsToken o Close ss gs new opened = (new ≡ ss)
     × (opened ≡ record { any = None; after = length ss } ∷ gs)
 AddsToken o Or ss [] new opened = (new ≡ ss) × (opened ≡ [])
 AddsToken o Or ss (g ∷ gs) new opened =
-    (new ≡ Jump (length (forked g.any ss) - g.after) ∷ forked g.any ss)
-    × (opened ≡ record { any = Some (length (forked g.any ss)); after = g.after } ∷ gs)
+    (new ≡ Jump (length (with_fork g.any ss) - g.after) ∷ with_fork g.any ss)
+    × (opened ≡ record { any = Some (length (with_fork g.any ss)); after = g.after } ∷ gs)
 AddsToken o Open ss [] new opened = (new ≡ ss) × (opened ≡ [])
-AddsToken o Open ss (g ∷ gs) new opened = (new ≡ forked g.any ss) × (opened ≡ gs)
+AddsToken o Open ss (g ∷ gs) new opened = (new ≡ with_fork g.any ss) × (opened ≡ gs)
 
 -- what the place with so many steps after it accepts
 abbrev pub test_at : Options → Bool → List Step → ℕ → Test

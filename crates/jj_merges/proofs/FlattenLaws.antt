@@ -5,7 +5,7 @@ use Rattle.std.proofs.lemmas.Int.{ints}
 use Rattle.std.proofs.lemmas.List.Elements.{All-head, All-tail, All-nil, All-cons}
 use Rattle.std.proofs.lemmas.List.Sums.{sum_by-append, sum_by-cons}
 use Rattle.jj_merges.specs.Merge.{adds, removes, signed_count}
-use Rattle.jj_merges.specs.Flatten.{turned, turned_pairs, flattened, flattened_after, outer_count}
+use Rattle.jj_merges.specs.Flatten.{inverse_terms, swap_pairs, flattened, flattened_after, outer_count}
 use Rattle.jj_merges.proofs.Places.{adds-push_even, removes-push_even}
 
 differences : (a b c d : ℕ) → pos (a + d) -ℤ pos (b + c) ≡ (pos a -ℤ pos b) -ℤ (pos c -ℤ pos d)
@@ -31,25 +31,25 @@ module _ {T : Type 0} where
 
     pub flattened_after-push_odd : (ms : List (List T)) (m : List T) → length ms % 2 ≡ 1 → flattened_after (ms ++ m ∷ []) ≡ flattened_after ms ++ m
     flattened_after-push_odd [] m e = absurd (omega arith)
-    flattened_after-push_odd (n ∷ ms) m e = ap (λ xs. turned n ++ xs) (flattened-push_even ms m (omega arith)) ∙ sym (append_assoc (turned n) (flattened ms) m)
+    flattened_after-push_odd (n ∷ ms) m e = ap (λ xs. inverse_terms n ++ xs) (flattened-push_even ms m (omega arith)) ∙ sym (append_assoc (inverse_terms n) (flattened ms) m)
 
   mutual
-    pub flattened-push_odd : (ms : List (List T)) (m : List T) → length ms % 2 ≡ 1 → flattened (ms ++ m ∷ []) ≡ flattened ms ++ turned m
+    pub flattened-push_odd : (ms : List (List T)) (m : List T) → length ms % 2 ≡ 1 → flattened (ms ++ m ∷ []) ≡ flattened ms ++ inverse_terms m
     flattened-push_odd [] m e = absurd (omega arith)
-    flattened-push_odd (n ∷ ms) m e = ap (λ xs. n ++ xs) (flattened_after-push_even ms m (omega arith)) ∙ sym (append_assoc n (flattened_after ms) (turned m))
+    flattened-push_odd (n ∷ ms) m e = ap (λ xs. n ++ xs) (flattened_after-push_even ms m (omega arith)) ∙ sym (append_assoc n (flattened_after ms) (inverse_terms m))
 
-    pub flattened_after-push_even : (ms : List (List T)) (m : List T) → length ms % 2 ≡ 0 → flattened_after (ms ++ m ∷ []) ≡ flattened_after ms ++ turned m
-    flattened_after-push_even [] m e = append-nil (turned m)
-    flattened_after-push_even (n ∷ ms) m e = ap (λ xs. turned n ++ xs) (flattened-push_odd ms m (omega arith)) ∙ sym (append_assoc (turned n) (flattened ms) (turned m))
+    pub flattened_after-push_even : (ms : List (List T)) (m : List T) → length ms % 2 ≡ 0 → flattened_after (ms ++ m ∷ []) ≡ flattened_after ms ++ inverse_terms m
+    flattened_after-push_even [] m e = append-nil (inverse_terms m)
+    flattened_after-push_even (n ∷ ms) m e = ap (λ xs. inverse_terms n ++ xs) (flattened-push_odd ms m (omega arith)) ∙ sym (append_assoc (inverse_terms n) (flattened ms) (inverse_terms m))
 
-  length-turned_pairs : (xs : List T) → length (turned_pairs xs) ≡ length xs
+  length-turned_pairs : (xs : List T) → length (swap_pairs xs) ≡ length xs
   length-turned_pairs [] = refl
   length-turned_pairs (x ∷ []) = refl
   length-turned_pairs (r ∷ a ∷ xs) = ap (λ n. suc (suc n)) (length-turned_pairs xs)
 
-  pub length-turned : (m : List T) → length (turned m) ≡ length m
+  pub length-turned : (m : List T) → length (inverse_terms m) ≡ length m
   length-turned [] = refl
-  length-turned (x ∷ xs) = omega (arith, length-append (turned_pairs xs) (x ∷ []), length-turned_pairs xs)
+  length-turned (x ∷ xs) = omega (arith, length-append (swap_pairs xs) (x ∷ []), length-turned_pairs xs)
 
   mutual
     pub odd_flattened : (ms : List (List T)) → AreOdd ms → length ms % 2 ≡ 1 → length (flattened ms) % 2 ≡ 1
@@ -60,7 +60,7 @@ module _ {T : Type 0} where
     even_flattened_after : (ms : List (List T)) → AreOdd ms → length ms % 2 ≡ 0 → length (flattened_after ms) % 2 ≡ 0
     even_flattened_after [] h e = refl
     even_flattened_after (m ∷ ms) h e =
-        omega (arith, length-append (turned m) (flattened ms), length-turned m, All-head (λ k. length k % 2 ≡ 1) m ms h, odd_flattened ms (All-tail (λ k. length k % 2 ≡ 1) m ms h) (omega arith))
+        omega (arith, length-append (inverse_terms m) (flattened ms), length-turned m, All-head (λ k. length k % 2 ≡ 1) m ms h, odd_flattened ms (All-tail (λ k. length k % 2 ≡ 1) m ms h) (omega arith))
 
   mutual
     adds-append_odd : (m xs : List T) → length m % 2 ≡ 1 → adds (m ++ xs) ≡ adds m ++ removes xs
@@ -80,12 +80,12 @@ module _ {T : Type 0} where
     adds-append_even [] xs e = refl
     adds-append_even (x ∷ m) xs e = ap (λ ys. x ∷ ys) (removes-append_odd m xs (omega arith))
 
-  adds-turned_pairs : (xs : List T) → length xs % 2 ≡ 0 → adds (turned_pairs xs) ≡ removes xs
+  adds-turned_pairs : (xs : List T) → length xs % 2 ≡ 0 → adds (swap_pairs xs) ≡ removes xs
   adds-turned_pairs [] e = refl
   adds-turned_pairs (x ∷ []) e = absurd (omega arith)
   adds-turned_pairs (r ∷ a ∷ xs) e = ap (λ ys. a ∷ ys) (adds-turned_pairs xs (omega arith))
 
-  removes-turned_pairs : (xs : List T) → length xs % 2 ≡ 0 → removes (turned_pairs xs) ≡ adds xs
+  removes-turned_pairs : (xs : List T) → length xs % 2 ≡ 0 → removes (swap_pairs xs) ≡ adds xs
   removes-turned_pairs [] e = refl
   removes-turned_pairs (x ∷ []) e = absurd (omega arith)
   removes-turned_pairs (r ∷ a ∷ xs) e = ap (λ ys. r ∷ ys) (removes-turned_pairs xs (omega arith))
@@ -103,17 +103,17 @@ module _ {T : Type 0} where
         same_difference (count_by (eq v) (adds (m ++ xs))) (count_by (eq v) (removes (m ++ xs))) (count_by (eq v) (adds m) + count_by (eq v) (removes xs)) (count_by (eq v) (removes m) + count_by (eq v) (adds xs)) a r
         ∙ differences (count_by (eq v) (adds m)) (count_by (eq v) (removes m)) (count_by (eq v) (adds xs)) (count_by (eq v) (removes xs))
 
-    signed_count-turned : (m : List T) → length m % 2 ≡ 1 → signed_count eq (turned m) v ≡ signed_count eq m v
+    signed_count-turned : (m : List T) → length m % 2 ≡ 1 → signed_count eq (inverse_terms m) v ≡ signed_count eq m v
     signed_count-turned [] odd = refl
     signed_count-turned (x ∷ xs) odd =
         let f : T → ℕ = λ y. cond (eq v y) 1 0 in
-        let even : length (turned_pairs xs) % 2 ≡ 0 = omega (arith, length-turned_pairs xs) in
-        let a : count_by (eq v) (adds (turned (x ∷ xs))) ≡ count_by (eq v) (x ∷ removes xs) =
-        ap (count_by (eq v)) (adds-push_even (turned_pairs xs) x even ∙ ap (λ ys. ys ++ x ∷ []) (adds-turned_pairs xs (omega arith)))
+        let even : length (swap_pairs xs) % 2 ≡ 0 = omega (arith, length-turned_pairs xs) in
+        let a : count_by (eq v) (adds (inverse_terms (x ∷ xs))) ≡ count_by (eq v) (x ∷ removes xs) =
+        ap (count_by (eq v)) (adds-push_even (swap_pairs xs) x even ∙ ap (λ ys. ys ++ x ∷ []) (adds-turned_pairs xs (omega arith)))
         ∙ omega (arith, sum_by-append f (removes xs) (x ∷ []), sum_by-cons f x (removes xs), sum_by-cons f x []) in
-        let r : count_by (eq v) (removes (turned (x ∷ xs))) ≡ count_by (eq v) (adds xs) =
-        ap (count_by (eq v)) (removes-push_even (turned_pairs xs) x even ∙ removes-turned_pairs xs (omega arith)) in
-        same_difference (count_by (eq v) (adds (turned (x ∷ xs)))) (count_by (eq v) (removes (turned (x ∷ xs)))) (count_by (eq v) (x ∷ removes xs)) (count_by (eq v) (adds xs)) a r
+        let r : count_by (eq v) (removes (inverse_terms (x ∷ xs))) ≡ count_by (eq v) (adds xs) =
+        ap (count_by (eq v)) (removes-push_even (swap_pairs xs) x even ∙ removes-turned_pairs xs (omega arith)) in
+        same_difference (count_by (eq v) (adds (inverse_terms (x ∷ xs)))) (count_by (eq v) (removes (inverse_terms (x ∷ xs)))) (count_by (eq v) (x ∷ removes xs)) (count_by (eq v) (adds xs)) a r
 
     mutual
       pub count-flattened : (ms : List (List T)) → AreOdd ms → signed_count eq (flattened ms) v ≡ outer_count eq ms v
@@ -126,13 +126,13 @@ module _ {T : Type 0} where
       count-flattened_after [] h = refl
       count-flattened_after (m ∷ ms) h =
           let odd = All-head (λ k. length k % 2 ≡ 1) m ms h in
-          signed_count-append (turned m) (flattened ms) (omega (arith, length-turned m, odd))
+          signed_count-append (inverse_terms m) (flattened ms) (omega (arith, length-turned m, odd))
           ∙ (ap (λ z. z -ℤ signed_count eq (flattened ms) v) (signed_count-turned m odd)
           ∙ ap (λ z. signed_count eq m v -ℤ z) (count-flattened ms (All-tail (λ k. length k % 2 ≡ 1) m ms h)))
 
 -- a remove and the add after it are appended, and go before what is left
-pub turned_more : {T : Type 0} (left rest xs next all : List T) (r a first : T) → left ≡ r ∷ a ∷ rest → next ≡ xs ++ a ∷ r ∷ [] → xs ++ (turned_pairs left ++ first ∷ []) ≡ all
-    → next ++ (turned_pairs rest ++ first ∷ []) ≡ all
+pub turned_more : {T : Type 0} (left rest xs next all : List T) (r a first : T) → left ≡ r ∷ a ∷ rest → next ≡ xs ++ a ∷ r ∷ [] → xs ++ (swap_pairs left ++ first ∷ []) ≡ all
+    → next ++ (swap_pairs rest ++ first ∷ []) ≡ all
 turned_more left rest xs next all r a first taken pushed h =
-    let after = turned_pairs rest ++ first ∷ [] in
-    ap (λ ys. ys ++ after) pushed ∙ (append_assoc xs (a ∷ r ∷ []) after ∙ (ap (λ ys. xs ++ (turned_pairs ys ++ first ∷ [])) (sym taken) ∙ h))
+    let after = swap_pairs rest ++ first ∷ [] in
+    ap (λ ys. ys ++ after) pushed ∙ (append_assoc xs (a ∷ r ∷ []) after ∙ (ap (λ ys. xs ++ (swap_pairs ys ++ first ∷ [])) (sym taken) ∙ h))

@@ -30,7 +30,7 @@ use Rattle.jj_program.specs.Lines.{lines_of, fields_of, at_line, after_lines, re
 use Rattle.jj_program.specs.MergeCommand.{MergeRequest, merge_step, merge_requests, request_step}
 use Rattle.jj_program.specs.Numbers.{is_number}
 use Rattle.jj_program.specs.SetTrees.{SetTree}
-use Rattle.jj_program.specs.WalkCommand.{NamedSet, WalkState, Everything, Nothing, Files, Prefix, walk_start, walk_step, walk_end, walk_request, only_set, mark_step, pushed_alone, pushed_paths, paths_of, globs_step, combined_step, is_glob_text}
+use Rattle.jj_program.specs.WalkCommand.{NamedSet, WalkState, Everything, Nothing, Files, Prefix, walk_start, walk_step, walk_end, walk_request, only_set, mark_step, with_set_alone, with_paths, paths_of, globs_step, combined_step, is_glob_text}
 
 -- 1. A step's answer, and the kind of fault that the line is said to have.
 
@@ -118,14 +118,14 @@ marks earlier state (text ∷ []) = by (is_path_text text) refl
     by true e = rw e (refl, refl)
     by false e = rw e (refl, tt)
 
-set_pushed : (earlier : List (List ℕ)) (state : WalkState) (set : NamedSet) (fields : List (List ℕ)) → WalkTells earlier state fields set_alone (pushed_alone state set fields)
+set_pushed : (earlier : List (List ℕ)) (state : WalkState) (set : NamedSet) (fields : List (List ℕ)) → WalkTells earlier state fields set_alone (with_set_alone state set fields)
 set_pushed earlier state set [] = (refl, omega arith)
 set_pushed earlier state set (field ∷ fields) = (refl, tt)
 
-paths_pushed : (earlier : List (List ℕ)) (state : WalkState) (set : List Path → NamedSet) (fields : List (List ℕ)) → WalkTells earlier state fields any_paths (pushed_paths state set (paths_of fields))
+paths_pushed : (earlier : List (List ℕ)) (state : WalkState) (set : List Path → NamedSet) (fields : List (List ℕ)) → WalkTells earlier state fields any_paths (with_paths state set (paths_of fields))
 paths_pushed earlier state set fields = by (list_all is_path_text fields) refl
   where
-    by : (b : Bool) → list_all is_path_text fields ≡ b → WalkTells earlier state fields any_paths (pushed_paths state set (paths_of fields))
+    by : (b : Bool) → list_all is_path_text fields ≡ b → WalkTells earlier state fields any_paths (with_paths state set (paths_of fields))
     by true e = rw e (refl, omega arith)
     by false e = rw e (refl, tt)
 
@@ -163,7 +163,7 @@ walk_names earlier state fields height name =
   where
     by : (a b c d e f g h i j : Bool) → WalkTells earlier state fields
         (cond a one_path (cond b set_alone (cond c set_alone (cond d any_paths (cond e any_paths (cond f dirs_and_globs (cond g dirs_and_globs (cond h two_sets (cond i two_sets (cond j two_sets unknown))))))))))
-        (cond a (mark_step state fields) (cond b (pushed_alone state Everything fields) (cond c (pushed_alone state Nothing fields) (cond d (pushed_paths state Files (paths_of fields)) (cond e (pushed_paths state Prefix (paths_of fields))
+        (cond a (mark_step state fields) (cond b (with_set_alone state Everything fields) (cond c (with_set_alone state Nothing fields) (cond d (with_paths state Files (paths_of fields)) (cond e (with_paths state Prefix (paths_of fields))
         (cond f (globs_step state false fields) (cond g (globs_step state true fields) (cond h (combined_step state Union fields) (cond i (combined_step state Difference fields) (cond j (combined_step state Intersection fields) (Err UnknownCommand)))))))))))
     by true b c d e f g h i j = marks earlier state fields
     by false true c d e f g h i j = set_pushed earlier state Everything fields

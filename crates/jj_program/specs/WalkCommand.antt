@@ -37,13 +37,13 @@ abbrev pub walk_start : WalkState
 walk_start = record { marks = []; stack = [] }
 
 -- the state with a path marked
-abbrev pub marked : WalkState → Result Path LineFault → Result WalkState LineFault
-marked state (Ok path) = Ok (record { marks = state.marks ++ path ∷ []; stack = state.stack })
-marked state (Err kind) = Err kind
+abbrev pub with_mark : WalkState → Result Path LineFault → Result WalkState LineFault
+with_mark state (Ok path) = Ok (record { marks = state.marks ++ path ∷ []; stack = state.stack })
+with_mark state (Err kind) = Err kind
 
 -- the state with a named set on the stack
-abbrev pub pushed : WalkState → NamedSet → WalkState
-pushed state set = record { marks = state.marks; stack = one set ∷ state.stack }
+abbrev pub with_set : WalkState → NamedSet → WalkState
+with_set state set = record { marks = state.marks; stack = one set ∷ state.stack }
 
 -- the path of a text
 abbrev pub path_at : List ℕ → Result Path LineFault
@@ -54,15 +54,15 @@ abbrev pub paths_of : List (List ℕ) → Result (List Path) LineFault
 paths_of texts = values_at is_path_text components BadPath texts
 
 -- the state with a set of the paths of these texts on the stack
-abbrev pub pushed_paths : WalkState → (List Path → NamedSet) → Result (List Path) LineFault
+abbrev pub with_paths : WalkState → (List Path → NamedSet) → Result (List Path) LineFault
     → Result WalkState LineFault
-pushed_paths state set (Ok paths) = Ok (pushed state (set paths))
-pushed_paths state set (Err kind) = Err kind
+with_paths state set (Ok paths) = Ok (with_set state (set paths))
+with_paths state set (Err kind) = Err kind
 
 -- the state with a set on the stack that takes no fields
-abbrev pub pushed_alone : WalkState → NamedSet → List (List ℕ) → Result WalkState LineFault
-pushed_alone state set [] = Ok (pushed state set)
-pushed_alone state set (field ∷ fields) = Err BadFieldCount
+abbrev pub with_set_alone : WalkState → NamedSet → List (List ℕ) → Result WalkState LineFault
+with_set_alone state set [] = Ok (with_set state set)
+with_set_alone state set (field ∷ fields) = Err BadFieldCount
 
 -- the glob of a text, whose stars do not pass a `/`
 abbrev pub glob_of : List ℕ → GlobSpec
@@ -76,12 +76,12 @@ abbrev pub globs_of : List (List ℕ) → Result (List GlobSpec) LineFault
 globs_of texts = values_at is_glob_text glob_of BadGlob texts
 
 -- the state with a set of globs in directories on the stack; a bad path comes before a bad glob
-abbrev pub pushed_globs : WalkState → Bool → Result (List Path) LineFault
+abbrev pub with_globs : WalkState → Bool → Result (List Path) LineFault
     → Result (List GlobSpec) LineFault → Result WalkState LineFault
-pushed_globs state prefix_paths (Ok dirs) (Ok globs) =
-    Ok (pushed state (Globs (record { prefix_paths = prefix_paths; patterns = zip dirs globs })))
-pushed_globs state prefix_paths (Ok dirs) (Err kind) = Err kind
-pushed_globs state prefix_paths (Err kind) globs = Err kind
+with_globs state prefix_paths (Ok dirs) (Ok globs) =
+    Ok (with_set state (Globs (record { prefix_paths = prefix_paths; patterns = zip dirs globs })))
+with_globs state prefix_paths (Ok dirs) (Err kind) = Err kind
+with_globs state prefix_paths (Err kind) globs = Err kind
 
 -- the directories and the globs of fields that are one and the other in turn
 abbrev pub paired_fields : List (List ℕ) → Result (List (List ℕ) × List (List ℕ)) LineFault
@@ -89,14 +89,14 @@ paired_fields fields = cond (is_paired fields) (Ok (firsts fields, seconds field
     (Err BadFieldCount)
 
 -- the state with the set of such fields on the stack
-abbrev pub pushed_pairs : WalkState → Bool → Result (List (List ℕ) × List (List ℕ)) LineFault
+abbrev pub with_pairs : WalkState → Bool → Result (List (List ℕ) × List (List ℕ)) LineFault
     → Result WalkState LineFault
-pushed_pairs state prefix_paths (Ok pairs) =
-    pushed_globs state prefix_paths (paths_of pairs.0) (globs_of pairs.1)
-pushed_pairs state prefix_paths (Err kind) = Err kind
+with_pairs state prefix_paths (Ok pairs) =
+    with_globs state prefix_paths (paths_of pairs.0) (globs_of pairs.1)
+with_pairs state prefix_paths (Err kind) = Err kind
 
 abbrev pub globs_step : WalkState → Bool → List (List ℕ) → Result WalkState LineFault
-globs_step state prefix_paths fields = pushed_pairs state prefix_paths (paired_fields fields)
+globs_step state prefix_paths fields = with_pairs state prefix_paths (paired_fields fields)
 
 -- the state with the two sets on top of the stack combined, of which the one that was pushed first
 -- is the first
@@ -115,7 +115,7 @@ combined_step state combination (field ∷ fields) = Err BadFieldCount
 -- the state with the path of the one field marked
 abbrev pub mark_step : WalkState → List (List ℕ) → Result WalkState LineFault
 mark_step state [] = Err BadFieldCount
-mark_step state (text ∷ []) = marked state (path_at text)
+mark_step state (text ∷ []) = with_mark state (path_at text)
 mark_step state (text ∷ other ∷ texts) = Err BadFieldCount
 
 -- what a line's fields make of the state, or what is wrong with them
@@ -123,10 +123,10 @@ abbrev pub walk_step : WalkState → List (List ℕ) → Result WalkState LineFa
 walk_step state [] = Err UnknownCommand
 walk_step state (name ∷ fields) =
     cond (bytes_eq name (codes "mark")) (mark_step state fields)
-    (cond (bytes_eq name (codes "everything")) (pushed_alone state Everything fields)
-    (cond (bytes_eq name (codes "nothing")) (pushed_alone state Nothing fields)
-    (cond (bytes_eq name (codes "files")) (pushed_paths state Files (paths_of fields))
-    (cond (bytes_eq name (codes "prefix")) (pushed_paths state Prefix (paths_of fields))
+    (cond (bytes_eq name (codes "everything")) (with_set_alone state Everything fields)
+    (cond (bytes_eq name (codes "nothing")) (with_set_alone state Nothing fields)
+    (cond (bytes_eq name (codes "files")) (with_paths state Files (paths_of fields))
+    (cond (bytes_eq name (codes "prefix")) (with_paths state Prefix (paths_of fields))
     (cond (bytes_eq name (codes "globs")) (globs_step state false fields)
     (cond (bytes_eq name (codes "prefix-globs")) (globs_step state true fields)
     (cond (bytes_eq name (codes "union")) (combined_step state Union fields)

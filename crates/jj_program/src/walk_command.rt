@@ -9,7 +9,7 @@ ghost use Rattle.jj_matchers.specs.Marks.{IsMarkedTree};
 ghost use Rattle.jj_program.specs.declared.fault.LineFault.TheVariants.{BadPath, BadGlob};
 ghost use Rattle.jj_program.specs.Lines.{IsFaultOf};
 ghost use Rattle.jj_program.specs.SetTrees.{SetTree};
-ghost use Rattle.jj_program.specs.WalkCommand.{NamedSet, WalkState, Files, Prefix, paths_of, is_glob_text, glob_of, globs_step, paired_fields, combined_step, pushed_alone, pushed_paths, mark_step, walk_step, walk_request};
+ghost use Rattle.jj_program.specs.WalkCommand.{NamedSet, WalkState, Files, Prefix, paths_of, is_glob_text, glob_of, globs_step, paired_fields, combined_step, with_set_alone, with_paths, mark_step, walk_step, walk_request};
 ghost use Rattle.jj_program.specs.SetViews.{set_of};
 ghost use Rattle.jj_program.specs.SetStacks.{sets_in};
 ghost use Rattle.jj_program.specs.Steps.{Agrees};
@@ -114,7 +114,7 @@ impl<'t> WalkReading<'t> {
     // Puts a set on the stack, where no field is left.
     fn push_alone(&mut self, fields: &[&'t str], set: FileSet<'t>) -> Result<(), StepFault>
         ensures { Agrees result (λ _. state_of self.new)
-            (pushed_alone (state_of self.old) (set_of set.entry) (texts_of fields.now)) }
+            (with_set_alone (state_of self.old) (set_of set.entry) (texts_of fields.now)) }
     {
         if !fields.is_empty() {
             return Err(StepFault::Line(LineFault::BadFieldCount));
@@ -126,7 +126,7 @@ impl<'t> WalkReading<'t> {
     // Puts the set of these files on the stack.
     fn push_files(&mut self, alloc: Global, fields: &[&'t str]) -> Result<(), StepFault>
         ensures { Agrees result (λ _. state_of self.new)
-            (pushed_paths (state_of self.old) Files (paths_of (texts_of fields.now))) }
+            (with_paths (state_of self.old) Files (paths_of (texts_of fields.now))) }
     {
         let paths = parse_fields(alloc, fields)?;
         self.sets.push(FileSet::Files(paths))?;
@@ -136,7 +136,7 @@ impl<'t> WalkReading<'t> {
     // Puts the set of what is at and below these paths on the stack.
     fn push_prefix(&mut self, alloc: Global, fields: &[&'t str]) -> Result<(), StepFault>
         ensures { Agrees result (λ _. state_of self.new)
-            (pushed_paths (state_of self.old) Prefix (paths_of (texts_of fields.now))) }
+            (with_paths (state_of self.old) Prefix (paths_of (texts_of fields.now))) }
     {
         let paths = parse_fields(alloc, fields)?;
         self.sets.push(FileSet::Prefix(paths))?;

@@ -7,7 +7,7 @@ use Rattle.std.specs.Option.{option_map, IsSome, IfSome}
 use Rattle.std.specs.Ordering.{is_gt}
 use Rattle.std.specs.Str.{bytes_eq}
 use Rattle.std.proofs.lemmas.List.Elements.{All-nil, All-weaker}
-use Rattle.jj_stores.specs.ViewJoins.{Named, IsLeast, joined, joined_at, remotes_with, IsFirstName, IsFirstOfRemotes}
+use Rattle.jj_stores.specs.ViewJoins.{Named, IsLeast, join_of, join_at, remotes_with, IsFirstName, IsFirstOfRemotes}
 use Rattle.jj_stores.proofs.NamesLeft.{cmp, least_lower}
 
 -- ---- where a name stands, the join has a row
@@ -26,17 +26,17 @@ is_some_map f (Some x) h = refl
 is_some_map f None h = cc
 
 module _ {T R : Type 0} where
-  pub joined_more : (local : Option T) (refs : Named R) → IsMore refs → IsSome (joined local refs)
+  pub joined_more : (local : Option T) (refs : Named R) → IsMore refs → IsSome (join_of local refs)
   joined_more (Some t) refs more = refl
   joined_more None [] more = cc (more.2)
   joined_more None (r ∷ rs) more = refl
 
-  pub some_joined : (local : Option T) (refs : Named R) → IsSome (joined local refs) → IsSome local ⊎ IsMore refs
+  pub some_joined : (local : Option T) (refs : Named R) → IsSome (join_of local refs) → IsSome local ⊎ IsMore refs
   some_joined (Some t) refs h = inl refl
   some_joined None [] h = cc
   some_joined None (r ∷ rs) h = inr (r, rs, refl)
 
-  pub joined_local : (local : Option T) (refs : Named R) → IsSome local → IsSome (joined local refs)
+  pub joined_local : (local : Option T) (refs : Named R) → IsSome local → IsSome (join_of local refs)
   joined_local (Some t) refs h = refl
   joined_local None refs h = cc
 
@@ -64,9 +64,9 @@ module _ {R : Type 0} where
 -- ---- the first name of all remotes, and the first local one
 
 module _ {T R : Type 0} (locals : Named T) (remotes : Named (Named R)) where
-  stands_at_remote : (name : List ℕ) → IsFirstOfRemotes remotes (Some name) → IsSome (joined_at locals remotes name)
+  stands_at_remote : (name : List ℕ) → IsFirstOfRemotes remotes (Some name) → IsSome (join_at locals remotes name)
   stands_at_remote name first = ⊎_elim
-      (λ none. let no : IsSome (joined_at locals remotes name) = cc in no)
+      (λ none. let no : IsSome (join_at locals remotes name) = cc in no)
       (λ more. joined_more (lookup (bytes_eq name) locals) _ more) (some_joined {T = Unit {0}} None (remotes_with remotes name) first.0)
 
   no_names : (name : List ℕ) (refs : Named R) → refs ≡ [] → IsLeast name refs
@@ -85,7 +85,7 @@ module _ {T R : Type 0} (locals : Named T) (remotes : Named (Named R)) where
       → IsFirstOfRemotes remotes (Some name) → (lesser ≡ local) ⊎ (lesser ≡ name)
       → is_gt (cmp lesser local) ≡ false → is_gt (cmp lesser name) ≡ false → IsFirstName locals remotes (Some lesser)
   lesser_name local name lesser at least first one below_local below_name =
-      let P : List ℕ → Type 0 = λ n. IsSome (joined_at locals remotes n) in (
+      let P : List ℕ → Type 0 = λ n. IsSome (join_at locals remotes n) in (
         ⊎_elim (λ e. subst P (sym e) (joined_local _ _ (at_first local locals at)))
             (λ e. subst P (sym e) (stands_at_remote name first)) one,
         least_lower lesser local locals below_local least,

@@ -10,7 +10,7 @@ use Rattle.std.proofs.lemmas.List.Elements.{All-head, All-tail, filter_map-appen
 use Rattle.std.proofs.lemmas.List.Sums.{sum_by-append, sum_by-cons}
 use Rattle.std.proofs.lemmas.Map.Keys.{sorted_head}
 use Rattle.std.proofs.lemmas.Slice.Eq.{bytes_eq-Decides}
-use Rattle.jj_stores.specs.ViewJoins.{Named, IsLeast, joined, remotes_with, IsFirstOfRemotes}
+use Rattle.jj_stores.specs.ViewJoins.{Named, IsLeast, join_of, remotes_with, IsFirstOfRemotes}
 use Rattle.jj_stores.specs.FlatRefs.{AtRemotes, refs_at, AreFlat, TakesRef}
 use Rattle.jj_stores.proofs.NamesLeft.{cmp, none_above, not_above_itself}
 use Rattle.jj_stores.proofs.FirstNames.{IsMore, cons_more}
@@ -142,7 +142,7 @@ module _ {R : Type 0} where
 
   pub some_refs : (remotes : Named (Named R)) (name : List ℕ) → IsFirstOfRemotes remotes (Some name)
       → remotes_with remotes name ≡ [] → ⊥
-  some_refs remotes name first none = let h = subst (λ l. IsSome (joined {T = Unit {0}} None l)) none first.0 in cc
+  some_refs remotes name first none = let h = subst (λ l. IsSome (join_of {T = Unit {0}} None l)) none first.0 in cc
 
   pub one_fewer : (name : List ℕ) (old : Named (Named R)) (found : List ℕ × R) (new : Named (Named R)) → TakesRef name old found new
       → sum_by (λ r. length r.1) new < sum_by (λ r. length r.1) old

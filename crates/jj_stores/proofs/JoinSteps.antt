@@ -13,7 +13,7 @@ use Rattle.std.proofs.lemmas.List.Sums.{sum_by-cons}
 use Rattle.std.proofs.lemmas.Map.Keys.{sorted_head}
 use Rattle.std.proofs.lemmas.Map.Views.{All-keys_from_lookup}
 use Rattle.std.proofs.lemmas.Slice.Eq.{bytes_eq-Decides}
-use Rattle.jj_stores.specs.ViewJoins.{Named, IsAscending, IsLeast, TakesAt, LosesAt, remotes_with, joined, joined_at, IsViewJoin, IsFirstName}
+use Rattle.jj_stores.specs.ViewJoins.{Named, IsAscending, IsLeast, TakesAt, LosesAt, remotes_with, join_of, join_at, IsViewJoin, IsFirstName}
 use Rattle.jj_stores.proofs.NamesLeft.{cmp, Above, below}
 use Rattle.jj_stores.proofs.FirstNames.{IsMore, some_joined}
 
@@ -98,7 +98,7 @@ no_remotes {R} (r ∷ rs) q none =
 -- ---- the join
 
 module _ {T R : Type 0} where
-  pub joined_is : (local : Option T) (refs : Named R) → IsSome (joined local refs) → Some (local, refs) ≡ joined local refs
+  pub joined_is : (local : Option T) (refs : Named R) → IsSome (join_of local refs) → Some (local, refs) ≡ join_of local refs
   joined_is (Some t) refs h = refl
   joined_is None [] h = cc
   joined_is None (r ∷ rs) h = refl
@@ -125,10 +125,10 @@ module _ {T R : Type 0} where
     row_first rows join = record {
       ascending = (rows_above rows join, join.ascending);
       at_each = λ q. at_name name q (bytes_eq q name) (local, remotes_with remotes name)
-          (lookup (bytes_eq q) rows) (joined_at locals remotes q) refl
+          (lookup (bytes_eq q) rows) (join_at locals remotes q) refl
           (λ same. ap (λ l. Some (l, remotes_with remotes name)) taken.0 ∙ joined_is _ _ first.0
-          ∙ sym (ap (joined_at locals remotes) same))
-          (λ apart. join.at_each q ∙ ap₂ joined (others_left name locals locals' local taken q apart)
+          ∙ sym (ap (join_at locals remotes) same))
+          (λ apart. join.at_each q ∙ ap₂ join_of (others_left name locals locals' local taken q apart)
           (remotes_left_same name remotes remotes' lost q apart));
     }
 
@@ -137,7 +137,7 @@ module _ {T R : Type 0} where
   unfolding IsStrictlySortedBy
   no_rows locals remotes none = record {
     ascending = tt;
-    at_each = λ q. sym (ap₂ joined (ap (lookup (bytes_eq q)) none.0) (no_remotes remotes q none.1));
+    at_each = λ q. sym (ap₂ join_of (ap (lookup (bytes_eq q)) none.0) (no_remotes remotes q none.1));
   }
 
   pub some_row : (locals : Named T) (remotes : Named (Named R)) (name : List ℕ)
@@ -182,14 +182,14 @@ count_left {R} name (o ∷ os) (n ∷ ns) lost =
     let v : count (n ∷ ns) ≡ length n.1 + count ns = sum_by-cons (λ r. length r.1) n ns in
     omega (arith, a, b, d, u, v)
 
-found_some : {T R : Type 0} (local : Option T) (refs : Named R) → IsSome (joined local refs)
+found_some : {T R : Type 0} (local : Option T) (refs : Named R) → IsSome (join_of local refs)
     → 0 < length (option_to_list local) + length refs
 found_some (Some t) refs h = omega arith
 found_some None [] h = cc
 found_some None (r ∷ rs) h = omega arith
 
 pub fewer_left : {T R : Type 0} (locals locals' : Named T) (remotes remotes' : Named (Named R)) (name : List ℕ)
-    (local : Option T) → IsSome (joined_at locals remotes name) → TakesAt name locals local locals'
+    (local : Option T) → IsSome (join_at locals remotes name) → TakesAt name locals local locals'
     → AllZip (LosesAt name) remotes remotes'
     → length locals' + count remotes' < length locals + count remotes
 fewer_left {T} {R} locals locals' remotes remotes' name local some taken lost =
@@ -216,7 +216,7 @@ counted name (r ∷ rs) more = subst (λ n. 0 < n) (sym (sum_by-cons (λ r. leng
     (looked_up (bytes_eq name) r.1) (counted name rs) more)
 
 pub some_left : {T R : Type 0} (locals : Named T) (remotes : Named (Named R)) (name : List ℕ)
-    → IsSome (joined_at locals remotes name) → 0 < length locals + count remotes
+    → IsSome (join_at locals remotes name) → 0 < length locals + count remotes
 some_left locals remotes name some = ⊎_elim
     (λ h. let a = looked_up (bytes_eq name) locals h in omega (arith, a))
     (λ h. let a = counted name remotes h in omega (arith, a)) (some_joined _ _ some)

@@ -1,5 +1,5 @@
 -- What backends that are asked in turn decide of a signature, and what is then remembered.
--- Cited by contracts of public items: Decide, IsVerified, backends, remembered.
+-- Cited by contracts of public items: Decide, IsVerified, backends, cache_with.
 use Rattle.std.specs.Prelude.{◌≡◌, ℕ, Bool, true, false, not, List, [], ◌∷◌, ◌++◌, option_to_list, ◌⊎◌, take, Option, None, Some, Result, Ok, Err}
 use Rattle.std.specs.Bool.{MatchBool}
 use Rattle.std.specs.List.{list_any}
@@ -35,8 +35,8 @@ module _ {B : Type 0} (reads : B → Bool) (may_answer : B → Answer → Type 0
 
 -- the remembered pairs, the most recent first, with this pair first and no other of its commit;
 -- of more than n the last drops out
-abbrev pub remembered : ℕ → List ℕ → Verdict → List (List ℕ × Verdict) → List (List ℕ × Verdict)
-remembered n id verdict pairs = take n ((id, verdict) ∷ remove_entry (bytes_eq id) pairs)
+abbrev pub cache_with : ℕ → List ℕ → Verdict → List (List ℕ × Verdict) → List (List ℕ × Verdict)
+cache_with n id verdict pairs = take n ((id, verdict) ∷ remove_entry (bytes_eq id) pairs)
 
 -- what a verification that was not remembered has found, and what is remembered after it: a
 -- decisive verdict, and that nothing is known where no backend can read the signature
@@ -44,6 +44,6 @@ abbrev pub IsVerified : {B : Type 0} → (B → Bool) → (B → Answer → Type
     → Verdict
     → List (List ℕ × Verdict) → List (List ℕ × Verdict) → Type 0
 IsVerified reads may_answer bs id n verdict old new =
-    (Decide reads may_answer bs (Some (Ok verdict)) × (new ≡ remembered n id verdict old))
+    (Decide reads may_answer bs (Some (Ok verdict)) × (new ≡ cache_with n id verdict old))
     ⊎ (Decide reads may_answer bs None × (verdict ≡ unknown_verdict)
-    × MatchBool (list_any reads bs) (new ≡ old) (new ≡ remembered n id verdict old))
+    × MatchBool (list_any reads bs) (new ≡ old) (new ≡ cache_with n id verdict old))

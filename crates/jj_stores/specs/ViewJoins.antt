@@ -40,28 +40,28 @@ module _ {R : Type 0} where
 
 module _ {T R : Type 0} where
   -- a local ref, if there is one, with those of remotes; nothing where there is none at all
-  abbrev pub joined : Option T → Named R → Option (Option T × Named R)
-  joined None [] = None
-  joined None (r ∷ rs) = Some (None, r ∷ rs)
-  joined (Some t) rs = Some (Some t, rs)
+  abbrev pub join_of : Option T → Named R → Option (Option T × Named R)
+  join_of None [] = None
+  join_of None (r ∷ rs) = Some (None, r ∷ rs)
+  join_of (Some t) rs = Some (Some t, rs)
 
   -- what has this name, here and at remotes
-  abbrev pub joined_at : Named T → Named (Named R) → List ℕ → Option (Option T × Named R)
-  joined_at locals remotes name =
-      joined (lookup (bytes_eq name) locals) (remotes_with remotes name)
+  abbrev pub join_at : Named T → Named (Named R) → List ℕ → Option (Option T × Named R)
+  join_at locals remotes name =
+      join_of (lookup (bytes_eq name) locals) (remotes_with remotes name)
 
   -- these rows are the join: a map, in the order of names, that has at each name what has this
   -- name here and at remotes
   pub record IsViewJoin (locals : Named T) (remotes : Named (Named R))
       (rows : Named (Option T × Named R)) : Type 0 where
     pub ascending : IsAscending rows
-    pub at_each : (name : List ℕ) → lookup (bytes_eq name) rows ≡ joined_at locals remotes name
+    pub at_each : (name : List ℕ) → lookup (bytes_eq name) rows ≡ join_at locals remotes name
 
   -- the first name of the join, if it has any
   abbrev pub IsFirstName : Named T → Named (Named R) → Option (List ℕ) → Type 0
   IsFirstName locals remotes first = MatchOption first
       ((locals ≡ []) × All (λ remote. remote.1 ≡ []) remotes)
-      (λ name. IsSome (joined_at locals remotes name) × IsLeast name locals
+      (λ name. IsSome (join_at locals remotes name) × IsLeast name locals
       × All (λ remote. IsLeast name remote.1) remotes)
 
 -- the first name that remotes have, if they have any

@@ -5,7 +5,7 @@ ghost use Rattle.std.specs.Result.{result_map_both};
 ghost use Rattle.std.specs.List.{list_any};
 ghost use Rattle.std.specs.Map.{lookup};
 ghost use Rattle.jj_stores.specs.Verdict.{Verdict, unknown_verdict, is_unknown};
-ghost use Rattle.jj_stores.specs.Asked.{Decide, is_decisive as decisive, IsVerified, remembered, backends};
+ghost use Rattle.jj_stores.specs.Asked.{Decide, is_decisive as decisive, IsVerified, cache_with, backends};
 
 pub use jj_backend::signing::{SignError, SignResult};
 use jj_ids::object_id::CommitId;
@@ -231,7 +231,7 @@ pub struct Signer {
 
 impl Signer {
     ghost use Rattle.std.specs.NonZero.{non_zero_usize_get};
-    ghost use Rattle.jj_stores.specs.Signer.{cached, capacity_of, usual_capacity};
+    ghost use Rattle.jj_stores.specs.Signer.{cache_entries, capacity_of, usual_capacity};
 
     /// A signer that remembers this many verified commits; `new` remembers 100.
     pub fn with_capacity(
@@ -241,7 +241,7 @@ impl Signer {
         capacity: NonZeroUsize,
     ) -> Result<Self, AllocError>
         ensures backends { IfOk result (λ s. (s.main ≡ main) × (s.others ≡ others)) }
-        ensures cached { IfOk result (λ s. cached s ≡ []) }
+        ensures cached { IfOk result (λ s. cache_entries s ≡ []) }
         ensures capacity { IfOk result (λ s. capacity_of s ≡ non_zero_usize_get capacity) }
     {
         let cache = LruCache::new(alloc, capacity)?;
@@ -259,7 +259,7 @@ impl Signer {
         others: Vec<Box<dyn SigningBackend>>,
     ) -> Result<Self, AllocError>
         ensures backends { IfOk result (λ s. (s.main ≡ main) × (s.others ≡ others)) }
-        ensures cached { IfOk result (λ s. cached s ≡ []) }
+        ensures cached { IfOk result (λ s. cache_entries s ≡ []) }
         ensures capacity { IfOk result (λ s. capacity_of s ≡ usual_capacity) }
     {
         match NonZeroUsize::new(COMMIT_CACHE_CAPACITY) {
@@ -297,22 +297,22 @@ impl Signer {
     ) -> SignResult<Verification>
         ensures kept { (self.new.main ≡ self.old.main) × (self.new.others ≡ self.old.others)
             × (capacity_of self.new ≡ capacity_of self.old) }
-        ensures known { ForSome (lookup (bytes_eq commit_id.now) (cached self.old))
+        ensures known { ForSome (lookup (bytes_eq commit_id.now) (cache_entries self.old))
             (λ v. MatchResult result
-            (λ r. (r ≡ v) × (cached self.new
-            ≡ remembered (capacity_of self.old) commit_id.now v (cached self.old)))
+            (λ r. (r ≡ v) × (cache_entries self.new
+            ≡ cache_with (capacity_of self.old) commit_id.now v (cache_entries self.old)))
             (λ e. e ≡ SignError.Memory)) }
-        ensures asked { IsNone (lookup (bytes_eq commit_id.now) (cached self.old)) →
+        ensures asked { IsNone (lookup (bytes_eq commit_id.now) (cache_entries self.old)) →
             MatchResult result
             (λ r. IsVerified (λ b. reads b signature.now)
             (λ b. may_verify b «data».now signature.now)
             (backends self.old.main self.old.others.items) commit_id.now
-            (capacity_of self.old) r (cached self.old) (cached self.new))
+            (capacity_of self.old) r (cache_entries self.old) (cache_entries self.new))
             (λ e. (e ≡ SignError.Memory) ⊎ Decide (λ b. reads b signature.now)
             (λ b. may_verify b «data».now signature.now)
             (backends self.old.main self.old.others.items) (Some (Err e))) }
-        ensures refused { OnErr result (cached self.new ≡ cached self.old) }
-        ensures room { length (cached self.new) ≤ capacity_of self.new }
+        ensures refused { OnErr result (cache_entries self.new ≡ cache_entries self.old) }
+        ensures room { length (cache_entries self.new) ≤ capacity_of self.new }
     {
         let _remembered = self.cache.len();
         if let Some(known) = self.cache.peek(commit_id) {
@@ -343,12 +343,12 @@ impl Signer {
         commit_id: &CommitId,
         verification: &Verification,
     ) -> Result<(), AllocError>
-        requires { lookup (bytes_eq commit_id.now) (cached self.old) ≡ None }
+        requires { lookup (bytes_eq commit_id.now) (cache_entries self.old) ≡ None }
         ensures kept { (self.new.main ≡ self.old.main) × (self.new.others ≡ self.old.others)
             × (capacity_of self.new ≡ capacity_of self.old) }
-        ensures ok { OnOk result (cached self.new
-            ≡ remembered (capacity_of self.old) commit_id.now verification.now (cached self.old)) }
-        ensures err { OnErr result (cached self.new ≡ cached self.old) }
+        ensures ok { OnOk result (cache_entries self.new ≡ cache_with (capacity_of self.old)
+            commit_id.now verification.now (cache_entries self.old)) }
+        ensures err { OnErr result (cache_entries self.new ≡ cache_entries self.old) }
     {
         let id = commit_id.clone()?;
         let verification = verification.clone()?;

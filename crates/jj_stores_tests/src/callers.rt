@@ -4,7 +4,7 @@ ghost use Rattle.std.specs.Map.{lookup};
 ghost use Rattle.std.specs.Str.{bytes_eq};
 ghost use Rattle.jj_stores.specs.FlatRefs.{AreFlat, symbol_ref_of};
 ghost use Rattle.jj_stores.specs.JoinSteps.{row_of};
-ghost use Rattle.jj_stores.specs.Signer.{cached};
+ghost use Rattle.jj_stores.specs.Signer.{cache_entries};
 ghost use Rattle.jj_stores.specs.Verdict.{Verdict};
 ghost use Rattle.jj_stores.specs.ViewJoins.{IsViewJoin};
 
@@ -23,7 +23,7 @@ pub fn verify_again(
     commit_id: &CommitId,
     known: &Verification,
 ) -> Result<Verification, SignError>
-    requires { lookup (bytes_eq commit_id.now) (cached signer.old) ≡ Some known.now }
+    requires { lookup (bytes_eq commit_id.now) (cache_entries signer.old) ≡ Some known.now }
     ensures { IfOk result (λ found. found ≡ known.now) }
 {
     signer.verify(commit_id, b"", b"")

@@ -4,43 +4,43 @@ use Rattle.std.proofs.lemmas.List.{length-map}
 use Rattle.std.proofs.lemmas.Bool.{cases_lt}
 use Rattle.bstr.specs.Find.{OccursAt}
 use Rattle.bstr.specs.Text.{Contains}
-use Rattle.jj_strings.specs.Folded.{folded}
+use Rattle.jj_strings.specs.Folded.{lowercase_text}
 use Rattle.jj_strings.proofs.Occurrences.{length-window, folded-window, occurs_outside, occurs_inside}
 
 -- the front of a window that holds so many bytes in lower case
 window_is : (bytes window : List ℕ) (n m from : ℕ) → m ≡ n → from + n ≤ length bytes
-    → take (length (take m (drop from bytes))) window ≡ folded (take m (drop from bytes))
-    → take n window ≡ take n (drop from (folded bytes))
+    → take (length (take m (drop from bytes))) window ≡ lowercase_text (take m (drop from bytes))
+    → take n window ≡ take n (drop from (lowercase_text bytes))
 window_is bytes window n m from same h front =
     let len : length (take m (drop from bytes)) ≡ n =
     length-window bytes m from (omega arith) ∙ same in
     ap (λ (k : ℕ). take k window) (sym len) ∙ front ∙ sym (folded-window bytes m from)
-    ∙ ap (λ (k : ℕ). take k (drop from (folded bytes))) same
+    ∙ ap (λ (k : ℕ). take k (drop from (lowercase_text bytes))) same
 
 module _ (bytes text window lower : List ℕ) (n m from : ℕ) (within : from + n ≤ length bytes) (same : m ≡ n)
-    (front : take (length (take m (drop from bytes))) window ≡ folded (take m (drop from bytes))) (is_lower : lower ≡ folded text) where
+    (front : take (length (take m (drop from bytes))) window ≡ lowercase_text (take m (drop from bytes))) (is_lower : lower ≡ lowercase_text text) where
   abbrev here : List ℕ
   here = take n window
 
-  is_here : here ≡ take n (drop from (folded bytes))
+  is_here : here ≡ take n (drop from (lowercase_text bytes))
   is_here = window_is bytes window n m from same within front
 
-  whole : from + n ≤ length (folded bytes)
+  whole : from + n ≤ length (lowercase_text bytes)
   whole = omega (arith, within, length-map {A = ℕ} {B = ℕ})
 
   -- what is found in the window stands in the bytes
-  pub found_in_window : Contains here lower → Contains (folded bytes) (folded text)
+  pub found_in_window : Contains here lower → Contains (lowercase_text bytes) (lowercase_text text)
   found_in_window found =
       let at = subst (λ l. OccursAt here l found.0) is_lower found.1 in (
         from + found.0,
-        occurs_outside (folded bytes) (folded text) n from found.0 whole
-            (subst (λ l. OccursAt l (folded text) found.0) is_here at),
+        occurs_outside (lowercase_text bytes) (lowercase_text text) n from found.0 whole
+            (subst (λ l. OccursAt l (lowercase_text text) found.0) is_here at),
       )
 
   -- where nothing is found, the text stands at no place from which it lies in the window
   pub none_in_window : (Contains here lower → ⊥) → length text ≤ n
-      → ((k : ℕ) → k < from → OccursAt (folded bytes) (folded text) k → ⊥)
-      → (k : ℕ) → k < from + (n - length text + 1) → OccursAt (folded bytes) (folded text) k → ⊥
+      → ((k : ℕ) → k < from → OccursAt (lowercase_text bytes) (lowercase_text text) k → ⊥)
+      → (k : ℕ) → k < from + (n - length text + 1) → OccursAt (lowercase_text bytes) (lowercase_text text) k → ⊥
   none_in_window none shorter before k low o = by_place (cases_lt k from)
     where
       by_place : (k < from) ⊎ (from ≤ k) → ⊥
@@ -48,11 +48,11 @@ module _ (bytes text window lower : List ℕ) (n m from : ℕ) (within : from + 
       by_place (inr later) =
           let j : ℕ = k - from in
           let k_is : k ≡ from + j = omega arith in
-          let fits : j + length (folded text) ≤ n = omega (arith, length-map {A = ℕ} {B = ℕ}) in
-          let inside = occurs_inside (folded bytes) (folded text) n from j whole fits
-          (subst (OccursAt (folded bytes) (folded text)) k_is o) in
+          let fits : j + length (lowercase_text text) ≤ n = omega (arith, length-map {A = ℕ} {B = ℕ}) in
+          let inside = occurs_inside (lowercase_text bytes) (lowercase_text text) n from j whole fits
+          (subst (OccursAt (lowercase_text bytes) (lowercase_text text)) k_is o) in
           none (
             j,
             subst (λ l. OccursAt here l j) (sym is_lower)
-                (subst (λ l. OccursAt l (folded text) j) (sym is_here) inside),
+                (subst (λ l. OccursAt l (lowercase_text text) j) (sym is_here) inside),
           )

@@ -4,12 +4,12 @@ use Rattle.std.specs.Prelude.{List}
 use Rattle.jj_strings.specs.declared.str_util.matcher.StringMatcher.{StringMatcher}
 use Rattle.jj_strings.specs.declared.str_util.filter_btree_map.FilterBTreeMap.{FilterBTreeMap}
 use Rattle.jj_strings.specs.EntriesLeft.{entries_left}
-use Rattle.jj_strings.specs.Searchers.{searched}
+use Rattle.jj_strings.specs.Searchers.{searcher_matcher}
 
 -- the matcher whose set is looked for
 abbrev pub filter_matcher : {K V : Type 0} {F : _} {W : _} {m : _} → FilterBTreeMap K V F W m
     → StringMatcher F W m
-filter_matcher s = searched s.searcher
+filter_matcher s = searcher_matcher s.searcher
 
 -- the entries that are left
 abbrev pub filter_entries : {K V : Type 0} {F : _} {W : _} {m : _} → FilterBTreeMap K V F W m

@@ -3,7 +3,7 @@
 use Rattle.std.specs.Prelude.{ℕ, if◌then◌else◌, nat_lt, List, length, Option, None, Some}
 use Rattle.std.specs.Option.{ForSome}
 use Rattle.jj_strings.specs.Borders.{IsBorderTable}
-use Rattle.jj_strings.specs.Folded.{folded}
+use Rattle.jj_strings.specs.Folded.{lowercase_text}
 use Rattle.jj_strings.specs.StringSets.{Pattern, substring_i}
 
 -- the text of a pattern that is such a part
@@ -13,4 +13,4 @@ long_part p = None
 
 -- its borders are at hand
 abbrev pub HasBorders : Pattern → List ℕ → Type 0
-HasBorders p borders = ForSome (long_part p) (λ text. IsBorderTable (folded text) borders)
+HasBorders p borders = ForSome (long_part p) (λ text. IsBorderTable (lowercase_text text) borders)

@@ -1,5 +1,5 @@
 -- What a searcher looks for.
--- Cited by contracts of public items: searched.
+-- Cited by contracts of public items: searcher_matcher.
 use Rattle.jj_strings.specs.declared.str_util.matcher.StringMatcher.{StringMatcher}
 use Rattle.jj_strings.specs.declared.str_util.matcher.StringMatcher.TheVariants.{Expr}
 use Rattle.jj_strings.specs.declared.str_util.searcher.Searched.{Searched}
@@ -12,5 +12,5 @@ matcher_asked (Expression e) = Expr e
 matcher_asked (Matcher matcher) = matcher.now
 
 -- the matcher whose set is looked for
-abbrev pub searched : {F : _} {V : _} {m : _} → StringSearcher F V m → StringMatcher F V m
-searched s = matcher_asked s.searched
+abbrev pub searcher_matcher : {F : _} {V : _} {m : _} → StringSearcher F V m → StringMatcher F V m
+searcher_matcher s = matcher_asked s.searched

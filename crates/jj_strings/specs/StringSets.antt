@@ -11,7 +11,7 @@ use Rattle.bstr.specs.Text.{Contains}
 use Rattle.regex.specs.Patterns.{find}
 use Rattle.regex.specs.Bytes.{regex_pattern, regex_source}
 use Rattle.regex.specs.declared.bytes.regex.Regex.{Regex}
-use Rattle.jj_strings.specs.Folded.{folded}
+use Rattle.jj_strings.specs.Folded.{lowercase_text}
 use Rattle.jj_globs.specs.GlobEscape.{is_special}
 use Rattle.jj_strings.specs.StringGlobs.{StringGlob, as_glob}
 use Rattle.jj_globs.specs.GlobMeaning.{IsMatch}
@@ -32,9 +32,9 @@ pub data Pattern : Type 0 where
 -- the pattern's set holds the bytes
 abbrev pub InPattern : Pattern → List ℕ → Type 0
 InPattern (exact text) bytes = bytes ≡ text
-InPattern (exact_i text) bytes = folded bytes ≡ folded text
+InPattern (exact_i text) bytes = lowercase_text bytes ≡ lowercase_text text
 InPattern (substring text) bytes = Contains bytes text
-InPattern (substring_i text) bytes = Contains (folded bytes) (folded text)
+InPattern (substring_i text) bytes = Contains (lowercase_text bytes) (lowercase_text text)
 InPattern (glob g) bytes = IsMatch (as_glob g) bytes
 InPattern (glob_i g) bytes = IsMatch (as_glob g) bytes
 InPattern (regex r) bytes = IsSome (find (regex_pattern r) bytes 0)

@@ -8,7 +8,7 @@ use Rattle.std.proofs.lemmas.List.{reverse-append}
 use Rattle.std.proofs.lemmas.Bool.{or_cases, or_left, or_right}
 use Rattle.jj_walks.specs.declared.graph.GraphEdge.{GraphEdge}
 use Rattle.jj_walks.specs.Grouped.{AreReadChildFirst, Entry, Gave, History, IsHistory, Prioritized, Reaches, Read, edges_to, first_wanted, given_nodes, has_edge, held, held_at, is_free, is_shown, is_wanted, last_edges, last_free, leads_to, read_nodes, targets_of}
-use Rattle.jj_walks.specs.GroupedOrders.{AreApart, AreGrouped, IsGroupedOrder, IsOldest, IsWhole, has_node, is_ready, newest_edges, prioritized, PrioritizesFirst}
+use Rattle.jj_walks.specs.GroupedOrders.{AreApart, AreGrouped, IsGroupedOrder, IsOldest, IsWhole, has_node, is_ready, newest_edges, prioritized_ids, PrioritizesFirst}
 use Rattle.jj_walks.proofs.Branches.{circle-free, edge-counted, edge-entry, reaches-more}
 use Rattle.jj_walks.proofs.CandidateLists.{and_left, and_right}
 use Rattle.jj_walks.proofs.Histories.{cons-cases, cons-first, cons-later, edge-counts, none-found, read-given, read-given_or_held}
@@ -282,10 +282,10 @@ module _ {N ID : Type 0} {eq : ID → ID → Bool} (laws : IsEquivalence eq) whe
             weaker (Some i) m = ready-alike nodes (given_nodes h) i e.id m ∙ ready
 
   -- an id is wanted since it was prioritised or an edge to it was read
-  wanted-from : (h : History N ID) (i : ID) → is_wanted eq h i ≡ true → ((j : ID) × Contains (prioritized h) j × (eq j i ≡ true)) ⊎ ((c : Entry N ID) × Contains (read_nodes h) c × (list_any (leads_to eq i) c.edges ≡ true))
+  wanted-from : (h : History N ID) (i : ID) → is_wanted eq h i ≡ true → ((j : ID) × Contains (prioritized_ids h) j × (eq j i ≡ true)) ⊎ ((c : Entry N ID) × Contains (read_nodes h) c × (list_any (leads_to eq i) c.edges ≡ true))
   wanted-from [] i w = no-false w
-  wanted-from (Prioritized j ∷ h) i w = ⊎_elim (λ e. inl (j, cons-first (prioritized h) j j refl, e))
-      (λ l. ⊎_elim (λ (k, m, e). inl (k, cons-later (prioritized h) j k m, e)) (λ c. inr c) (wanted-from h i l)) (or_cases (eq j i) (is_wanted eq h i) w)
+  wanted-from (Prioritized j ∷ h) i w = ⊎_elim (λ e. inl (j, cons-first (prioritized_ids h) j j refl, e))
+      (λ l. ⊎_elim (λ (k, m, e). inl (k, cons-later (prioritized_ids h) j k m, e)) (λ c. inr c) (wanted-from h i l)) (or_cases (eq j i) (is_wanted eq h i) w)
   wanted-from (Read e ∷ h) i w = ⊎_elim (λ a. inr (e, cons-first (read_nodes h) e e refl, a))
       (λ l. ⊎_elim (λ p. inl p) (λ (c, m, a). inr (c, cons-later (read_nodes h) e c m, a)) (wanted-from h i l)) (or_cases (list_any (leads_to eq i) e.edges) (is_wanted eq h i) w)
   wanted-from (Gave e ∷ h) i w = wanted-from h i (and_right (not (eq e.id i)) (is_wanted eq h i) w)
@@ -309,7 +309,7 @@ module _ {N ID : Type 0} {eq : ID → ID → Bool} (laws : IsEquivalence eq) whe
       go (Some x) some = refl
 
   -- once all was read, each wanted node is held
-  pub none-missing : (h : History N ID) (i : ID) → IsHistory eq h → PrioritizesFirst h → IsWhole eq (read_nodes h) → ((j : ID) → Contains (prioritized h) j → has_node eq (read_nodes h) j ≡ true)
+  pub none-missing : (h : History N ID) (i : ID) → IsHistory eq h → PrioritizesFirst h → IsWhole eq (read_nodes h) → ((j : ID) → Contains (prioritized_ids h) j → has_node eq (read_nodes h) j ≡ true)
       → is_wanted eq h i ≡ true → held_at eq h i ≡ None → ⊥
   none-missing h i k first whole among wanted none =
       let known : has_node eq (read_nodes h) i ≡ true = ⊎_elim (λ (j, m, e). sym (has-alike (read_nodes h) j i e) ∙ among j m) (λ (c, m, e). whole.closed c i m e) (wanted-from h i wanted) in

@@ -12,7 +12,7 @@ use Rattle.jj_walks.specs.declared.lazy_plan.Plan.{Plan}
 use Rattle.jj_walks.specs.Chunks.{IsStretch, IsBegun, LeadsOn, NoneFailed}
 use Rattle.jj_dag.specs.Failing.{FailingGraph, Fault, HasNoFailure, ReachesFailure, ShowsItems, sound}
 use Rattle.jj_dag.specs.Graph.{Graph, ReachedFrom, ReachesCycle, HasNoCycle, IsChildFirst}
-use Rattle.jj_walks.specs.LazySteps.{IsPlanOf, HasNothing, ordered}
+use Rattle.jj_walks.specs.LazySteps.{IsPlanOf, HasNothing, given_and_ready}
 use Rattle.jj_dag.specs.Walk.{Numbered, AreNodes}
 use Rattle.jj_dag.proofs.Asking.{failure_through, reached_through}
 use Rattle.jj_dag.proofs.Collecting.{are_nodes}
@@ -34,8 +34,8 @@ module _ {T ID E F N C U S : Type 0} (ids : Shared F (Bor T × Unit {0}) ID) (li
 
   -- what is known where no failed item waits
   pub goes_on : IsPlanOf ids lists w items eq becomes steps on_cycle starts given s → s.failed ≡ None
-      → LeadsOn w.graph starts (ordered w.node given s) (map w.node s.start.items) × NoneFailed items (ordered w.node given s)
-  goes_on k none = subst (λ (o : Option E). Follows (ordered w.node given s) s.start.items o) none k.rest
+      → LeadsOn w.graph starts (given_and_ready w.node given s) (map w.node s.start.items) × NoneFailed items (given_and_ready w.node given s)
+  goes_on k none = subst (λ (o : Option E). Follows (given_and_ready w.node given s) s.start.items o) none k.rest
 
   pub left_reached : IsPlanOf ids lists w items eq becomes steps on_cycle starts given s → s.failed ≡ None → (b : ℕ) → Contains (map w.node s.start.items) b → ReachedFrom w.graph starts b
   left_reached k none = (goes_on k none).0.left_reached
@@ -43,12 +43,12 @@ module _ {T ID E F N C U S : Type 0} (ids : Shared F (Bor T × Unit {0}) ID) (li
   pub left_nodes : IsPlanOf ids lists w items eq becomes steps on_cycle starts given s → s.failed ≡ None → AreNodes w (map w.node s.start.items)
   left_nodes k none b at = are_nodes w items starts k.shown.closed k.nodes b (left_reached k none b at)
 
-  given_alone : s.ready.items ≡ [] → ordered w.node given s ≡ map w.node given
+  given_alone : s.ready.items ≡ [] → given_and_ready w.node given s ≡ map w.node given
   given_alone empty = ap (λ (l : List T). map w.node (given ++ reverse l)) empty ∙ ap (map w.node) (append-nil given)
 
   -- what was given stays, and more nodes are ready, or the error of a failed item waits
   plan_on : IsPlanOf ids lists w items eq becomes steps on_cycle starts given s → ShowsItems w items eq ids lists becomes steps t.graph.id_fn t.graph.neighbors_fn → t.cycle_fn ≡ s.cycle_fn → t.emitted ≡ s.emitted
-      → IsBegun w.graph starts (ordered w.node given t) → Follows (ordered w.node given t) t.start.items t.failed → IsPlanOf ids lists w items eq becomes steps on_cycle starts given t
+      → IsBegun w.graph starts (given_and_ready w.node given t) → Follows (given_and_ready w.node given t) t.start.items t.failed → IsPlanOf ids lists w items eq becomes steps on_cycle starts given t
   plan_on k shown cycle same begun rest =
       record { shown = shown; cycle_fn = cycle ∙ k.cycle_fn; nodes = k.nodes; knows = λ i h. ap (λ e. contains eq e i) same ∙ k.knows i h; once = k.once; begun = begun; rest = rest }
 
@@ -58,14 +58,14 @@ module _ {T ID E F N C U S : Type 0} (ids : Shared F (Bor T × Unit {0}) ID) (li
       → IsStretch w.graph (map w.node s.start.items) (map w.node nodes) (map w.node left) → NoneFailed items (map w.node nodes) → IsPlanOf ids lists w items eq becomes steps on_cycle starts given t
   plan_more nodes left k empty whole shown cycle same ready start none stretch fine =
       let before = given_alone empty in
-      let after : ordered w.node given t ≡ map w.node given ++ map w.node nodes = ap (λ (l : List T). map w.node (given ++ l)) ready ∙ map-append w.node given nodes in
+      let after : given_and_ready w.node given t ≡ map w.node given ++ map w.node nodes = ap (λ (l : List T). map w.node (given ++ l)) ready ∙ map-append w.node given nodes in
       let begun : IsBegun w.graph starts (map w.node given) = subst (λ (l : List ℕ). IsBegun w.graph starts l) before k.begun in
       let known = goes_on k whole in
       let leads : LeadsOn w.graph starts (map w.node given) (map w.node s.start.items) = subst (λ (l : List ℕ). LeadsOn w.graph starts l (map w.node s.start.items)) before known.0 in
       let clean : NoneFailed items (map w.node given) = subst (λ (l : List ℕ). NoneFailed items l) before known.1 in
       let on : LeadsOn w.graph starts (map w.node given ++ map w.node nodes) (map w.node left) =
       leads_more w.graph starts (map w.node given) (map w.node s.start.items) (map w.node nodes) (map w.node left) leads stretch in
-      let rest : LeadsOn w.graph starts (ordered w.node given t) (map w.node t.start.items) × NoneFailed items (ordered w.node given t) = (
+      let rest : LeadsOn w.graph starts (given_and_ready w.node given t) (map w.node t.start.items) × NoneFailed items (given_and_ready w.node given t) = (
         subst (λ (l : List ℕ). LeadsOn w.graph starts l (map w.node t.start.items)) (sym after)
             (subst (λ (l : List T). LeadsOn w.graph starts (map w.node given ++ map w.node nodes) (map w.node l)) (sym start) on),
         subst (λ (l : List ℕ). NoneFailed items l) (sym after) (sound_more items (map w.node given) (map w.node nodes) clean fine),
@@ -73,7 +73,7 @@ module _ {T ID E F N C U S : Type 0} (ids : Shared F (Bor T × Unit {0}) ID) (li
       plan_on k shown cycle same
       (subst (λ (l : List ℕ). IsBegun w.graph starts l) (sym after)
       (begun_more w.graph starts (map w.node given) (map w.node s.start.items) (map w.node nodes) begun leads stretch.once (λ a h. stretch.reached a (inl h))))
-      (subst (λ (o : Option E). Follows (ordered w.node given t) t.start.items o) (sym none) rest)
+      (subst (λ (o : Option E). Follows (given_and_ready w.node given t) t.start.items o) (sym none) rest)
 
   pub plan_one : (node : T) (left : List T) → IsPlanOf ids lists w items eq becomes steps on_cycle starts given s → s.ready.items ≡ [] → s.failed ≡ None → s.start.items ≡ node ∷ []
       → ShowsItems w items eq ids lists becomes steps t.graph.id_fn t.graph.neighbors_fn → t.cycle_fn ≡ s.cycle_fn → t.emitted ≡ s.emitted
@@ -91,7 +91,7 @@ module _ {T ID E F N C U S : Type 0} (ids : Shared F (Bor T × Unit {0}) ID) (li
       → ReachesFailure items (w.node node ∷ []) error → IsPlanOf ids lists w items eq becomes steps on_cycle starts given t
   plan_failed node error k empty whole alone shown cycle same ready start some failure =
       let before = given_alone empty in
-      let after : ordered w.node given t ≡ map w.node given ++ w.node node ∷ [] = ap (λ (l : List T). map w.node (given ++ reverse l)) ready ∙ map-append w.node given (node ∷ []) in
+      let after : given_and_ready w.node given t ≡ map w.node given ++ w.node node ∷ [] = ap (λ (l : List T). map w.node (given ++ reverse l)) ready ∙ map-append w.node given (node ∷ []) in
       let begun : IsBegun w.graph starts (map w.node given) = subst (λ (l : List ℕ). IsBegun w.graph starts l) before k.begun in
       let known = (goes_on k whole).0 in
       let leads : LeadsOn w.graph starts (map w.node given) (w.node node ∷ []) =
@@ -99,11 +99,11 @@ module _ {T ID E F N C U S : Type 0} (ids : Shared F (Bor T × Unit {0}) ID) (li
       plan_on k shown cycle same
       (subst (λ (l : List ℕ). IsBegun w.graph starts l) (sym after)
       (begun_more w.graph starts (map w.node given) (w.node node ∷ []) (w.node node ∷ []) begun leads (one_distinct (w.node node)) (λ a h. (a, h, (0, refl)))))
-      (subst (λ (o : Option E). Follows (ordered w.node given t) t.start.items o) (sym some)
+      (subst (λ (o : Option E). Follows (given_and_ready w.node given t) t.start.items o) (sym some)
       (start, failure_through w.graph items starts (w.node node ∷ []) error shown.sound_graph leads.left_reached failure))
 
   -- the next node comes after those that were given
-  turned : (rest : List T) (node : T) → s.ready.items ≡ rest ++ node ∷ [] → ordered w.node given s ≡ map w.node given ++ w.node node ∷ map w.node (reverse rest)
+  turned : (rest : List T) (node : T) → s.ready.items ≡ rest ++ node ∷ [] → given_and_ready w.node given s ≡ map w.node given ++ w.node node ∷ map w.node (reverse rest)
   turned rest node e = ap (λ (l : List T). map w.node (given ++ reverse l)) e ∙ ap (λ (l : List T). map w.node (given ++ l)) (reverse-append rest (node ∷ [])) ∙ map-append w.node given (node ∷ reverse rest)
 
   pub next_is_node : (rest : List T) (node : T) → IsPlanOf ids lists w items eq becomes steps on_cycle starts given s → s.ready.items ≡ rest ++ node ∷ [] → w.is_node (w.node node) ≡ true
@@ -121,11 +121,11 @@ module _ {T ID E F N C U S : Type 0} (ids : Shared F (Bor T × Unit {0}) ID) (li
   pub plan_again : (rest : List T) (node : T) (i : ID) → IsPlanOf ids lists w items eq becomes steps on_cycle starts given s → s.ready.items ≡ rest ++ node ∷ [] → w.id i ≡ w.node node → contains eq s.emitted i ≡ true
       → ReachedFrom w.graph starts (w.node node) × ReachesCycle w.graph starts
   plan_again rest node i k e same is =
-      again_cycle w.graph starts (ordered w.node given s) (map w.node given) (map w.node (reverse rest)) (w.node node) k.begun (turned rest node e)
+      again_cycle w.graph starts (given_and_ready w.node given s) (map w.node given) (map w.node (reverse rest)) (w.node node) k.begun (turned rest node e)
       (Contains-from_has (map w.node given) (w.node node) (told rest node i true k e same is))
 
-  same_follows : IsPlanOf ids lists w items eq becomes steps on_cycle starts given s → t.start ≡ s.start → t.failed ≡ s.failed → Follows (ordered w.node given s) t.start.items t.failed
-  same_follows k start failed = subst (λ v. Follows (ordered w.node given s) v.items t.failed) (sym start) (subst (λ (o : Option E). Follows (ordered w.node given s) s.start.items o) (sym failed) k.rest)
+  same_follows : IsPlanOf ids lists w items eq becomes steps on_cycle starts given s → t.start ≡ s.start → t.failed ≡ s.failed → Follows (given_and_ready w.node given s) t.start.items t.failed
+  same_follows k start failed = subst (λ v. Follows (given_and_ready w.node given s) v.items t.failed) (sym start) (subst (λ (o : Option E). Follows (given_and_ready w.node given s) s.start.items o) (sym failed) k.rest)
 
   pub plan_gave : (rest : List T) (node : T) (i : ID) → IsPlanOf ids lists w items eq becomes steps on_cycle starts given s → s.ready.items ≡ rest ++ node ∷ [] → w.id i ≡ w.node node → contains eq s.emitted i ≡ false
       → ((q : ID) → contains eq t.emitted q ≡ cond (eq i q) true (contains eq s.emitted q))
@@ -135,7 +135,7 @@ module _ {T ID E F N C U S : Type 0} (ids : Shared F (Bor T × Unit {0}) ID) (li
       let here : w.is_node (w.id i) ≡ true = subst (λ (n : ℕ). w.is_node n ≡ true) (sym same) (next_is_node rest node k e) in
       let pushed : map w.node (given ++ node ∷ []) ≡ map w.node given ++ a ∷ [] = map-append w.node given (node ∷ []) in
       let fresh : has (map w.node given) a ≡ false = told rest node i false k e same is in
-      let kept : ordered w.node given s ≡ ordered w.node (given ++ node ∷ []) t =
+      let kept : given_and_ready w.node given s ≡ given_and_ready w.node (given ++ node ∷ []) t =
       ap (λ (l : List T). map w.node (given ++ reverse l)) e ∙ ap (λ (l : List T). map w.node (given ++ l)) (reverse-append rest (node ∷ []))
       ∙ ap (map w.node) (sym (append_assoc given (node ∷ []) (reverse rest))) ∙ ap (λ (l : List T). map w.node ((given ++ node ∷ []) ++ reverse l)) (sym ready) in
       record {
@@ -176,7 +176,7 @@ module _ {T ID E F N C U S : Type 0} (ids : Shared F (Bor T × Unit {0}) ID) (li
 
   -- an error that waits behind no node is that of a failed item
   pub plan_fails : (error : E) → IsPlanOf ids lists w items eq becomes steps on_cycle starts given s → s.failed ≡ Some error → ReachesFailure items starts error
-  plan_fails error k some = (subst (λ (o : Option E). Follows (ordered w.node given s) s.start.items o) some k.rest).1
+  plan_fails error k some = (subst (λ (o : Option E). Follows (given_and_ready w.node given s) s.start.items o) some k.rest).1
 
 none_distinct : IsDistinct eqb []
 unfolding IsDistinct
@@ -188,7 +188,7 @@ module _ {T ID E F N C U S : Type 0} (ids : Shared F (Bor T × Unit {0}) ID) (li
   pub plan_starts : (s : Plan T ID E F N C) (xs : List T) → ShowsItems w items eq ids lists becomes steps s.graph.id_fn s.graph.neighbors_fn → AreNodes w (map w.node xs)
       → s.ready.items ≡ [] → s.start.items ≡ xs → s.failed ≡ None → ((i : ID) → contains eq s.emitted i ≡ false) → IsPlanOf ids lists w items eq becomes steps s.cycle_fn (map w.node xs) [] s
   plan_starts s xs shown nodes ready start none nothing =
-      let empty : ordered w.node [] s ≡ [] = ap (λ (l : List T). map w.node (reverse l)) ready in
+      let empty : given_and_ready w.node [] s ≡ [] = ap (λ (l : List T). map w.node (reverse l)) ready in
       record {
         shown = shown;
         cycle_fn = refl;
@@ -196,7 +196,7 @@ module _ {T ID E F N C U S : Type 0} (ids : Shared F (Bor T × Unit {0}) ID) (li
         knows = λ i h. nothing i;
         once = none_distinct;
         begun = subst (λ (l : List ℕ). IsBegun w.graph (map w.node xs) l) (sym empty) (begun_none w.graph (map w.node xs));
-        rest = subst (λ (o : Option E). MatchOption o (LeadsOn w.graph (map w.node xs) (ordered w.node [] s) (map w.node s.start.items) × NoneFailed items (ordered w.node [] s))
+        rest = subst (λ (o : Option E). MatchOption o (LeadsOn w.graph (map w.node xs) (given_and_ready w.node [] s) (map w.node s.start.items) × NoneFailed items (given_and_ready w.node [] s))
             (λ error. (s.start.items ≡ []) × ReachesFailure items (map w.node xs) error)) (sym none) (
               subst (λ (l : List ℕ). LeadsOn w.graph (map w.node xs) l (map w.node s.start.items)) (sym empty)
                   (subst (λ (l : List T). LeadsOn w.graph (map w.node xs) [] (map w.node l)) (sym start) (leads_none w.graph (map w.node xs))),

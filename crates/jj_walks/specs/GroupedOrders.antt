@@ -17,11 +17,11 @@ IsOldest (f ∷ []) e = f ≡ e
 IsOldest (f ∷ g ∷ older) e = IsOldest (g ∷ older) e
 
 -- the ids that were prioritised
-abbrev pub prioritized : {N ID : Type 0} → History N ID → List ID
-prioritized [] = []
-prioritized (Prioritized i ∷ h) = i ∷ prioritized h
-prioritized (Read e ∷ h) = prioritized h
-prioritized (Gave e ∷ h) = prioritized h
+abbrev pub prioritized_ids : {N ID : Type 0} → History N ID → List ID
+prioritized_ids [] = []
+prioritized_ids (Prioritized i ∷ h) = i ∷ prioritized_ids h
+prioritized_ids (Read e ∷ h) = prioritized_ids h
+prioritized_ids (Gave e ∷ h) = prioritized_ids h
 
 -- each was, before a node was read
 abbrev pub PrioritizesFirst : {N ID : Type 0} → History N ID → Type 0

@@ -32,8 +32,8 @@ abbrev pub FailsNext : {T ID E F N C : Type 0} → E → Plan T ID E F N C → T
 FailsNext error s = (s.ready.items ≡ []) × (s.failed ≡ Some error)
 
 -- the nodes that were given and those that are ready, in order
-abbrev pub ordered : {T ID E F N C : Type 0} → (T → ℕ) → List T → Plan T ID E F N C → List ℕ
-ordered node given s = map node (given ++ reverse s.ready.items)
+abbrev pub given_and_ready : {T ID E F N C : Type 0} → (T → ℕ) → List T → Plan T ID E F N C → List ℕ
+given_and_ready node given s = map node (given ++ reverse s.ready.items)
 
 -- the starts reach an item that failed with this error, or they reach a cycle, and it is made of a
 -- node that they reach
@@ -57,10 +57,10 @@ module _ {T ID E F N C U S : Type 0} (ids : Shared F (Bor T × Unit {0}) ID)
     pub knows : (i : ID) → w.is_node (w.id i) ≡ true
         → contains eq s.emitted i ≡ list_any (λ a. w.id i == a) (map w.node given)
     pub once : IsDistinct eqb (map w.node given)
-    pub begun : IsBegun w.graph starts (ordered w.node given s)
+    pub begun : IsBegun w.graph starts (given_and_ready w.node given s)
     pub rest : MatchOption s.failed
-        (LeadsOn w.graph starts (ordered w.node given s) (map w.node s.start.items)
-        × NoneFailed items (ordered w.node given s))
+        (LeadsOn w.graph starts (given_and_ready w.node given s) (map w.node s.start.items)
+        × NoneFailed items (given_and_ready w.node given s))
         (λ error. (s.start.items ≡ []) × ReachesFailure items starts error)
 
   module _ (cycles : Mut C (T × Unit {0}) E) where

@@ -13,7 +13,7 @@ use Rattle.jj_walks.specs.declared.graph.GraphEdge.{GraphEdge}
 use Rattle.jj_walks.specs.declared.grouped.GroupedGraphError.{GroupedGraphError}
 use Rattle.jj_walks.specs.declared.grouped.GroupedGraphError.TheVariants.{Input, DuplicateId, MissingNode, NotChildFirst, Memory}
 use Rattle.jj_walks.specs.Grouped.{Entry, History, IsHistory, Gave, Prioritized, Read, first_wanted, given_nodes, held, held_at, is_wanted, edges_to, read_nodes}
-use Rattle.jj_walks.specs.GroupedOrders.{AreApart, IsGroupedOrder, IsWhole, PrioritizesFirst, has_node, prioritized}
+use Rattle.jj_walks.specs.GroupedOrders.{AreApart, IsGroupedOrder, IsWhole, PrioritizesFirst, has_node, prioritized_ids}
 use Rattle.jj_walks.specs.GroupedSteps.{IsCause, IsEntryOf, Item, ReadsTo, read_on}
 use Rattle.jj_walks.specs.HeldNodes.{item_of, listed_item}
 use Rattle.jj_walks.proofs.GroupedOrders.{apart-rest, append-cases, found-in, grouped-order, held-read, none-missing, none-stuck, none-twice}
@@ -33,7 +33,7 @@ pub record IsRun (commits : List Commit) (wanted : ℕ) (h : History (Bor Commit
   pub shows : ShowsCommits commits rest input
   pub reads : read_nodes h ≡ nodes_of commits done
   pub gives : given_nodes h ≡ nodes_of commits order
-  pub ids : prioritized h ≡ wanted ∷ []
+  pub ids : prioritized_ids h ≡ wanted ∷ []
   pub before : PrioritizesFirst h
   pub wanted_is : first_wanted h ≡ Some wanted
 

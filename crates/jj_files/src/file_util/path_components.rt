@@ -2,7 +2,7 @@
 ghost use Rattle.std.specs.Prelude.{◌≡◌, ℕ, List, [], ◌∷◌, ◌++◌, map, false, true, IfOk, OnOk, MatchOption, string_bytes};
 ghost use Rattle.std.specs.Str.{bytes_eq};
 ghost use Rattle.std.specs.Path.{component_bytes, parent_dir, path_bytes, path_buf_bytes, path_components};
-ghost use Rattle.jj_files.specs.FsTexts.{appended, fs_text, is_place};
+ghost use Rattle.jj_files.specs.FsTexts.{join_all, fs_text, is_place};
 ghost use Rattle.jj_files.specs.PathComponents.{ends_in_name, IsNormalized, IsRelativeTo, SharesFront};
 
 use crate::fs_text::text_or_dot;
@@ -74,7 +74,7 @@ pub fn relative_path(alloc: Global, from: &str, to: &str) -> Result<String, Allo
 // appends a `..` for each component of a path
 fn push_parents(text: &mut PathBuf, path: Path<'_>) -> Result<(), AllocError>
     ensures { OnOk result (path_buf_bytes text.new
-        ≡ appended (path_buf_bytes text.old)
+        ≡ join_all (path_buf_bytes text.old)
         (map (λ _. parent_dir) (path_components (path_bytes path.entry)))) }
 {
     for _component in path.components() {
@@ -86,7 +86,7 @@ fn push_parents(text: &mut PathBuf, path: Path<'_>) -> Result<(), AllocError>
 // appends each component of a path
 fn push_components(text: &mut PathBuf, path: Path<'_>) -> Result<(), AllocError>
     ensures { OnOk result (path_buf_bytes text.new
-        ≡ appended (path_buf_bytes text.old) (path_components (path_bytes path.entry))) }
+        ≡ join_all (path_buf_bytes text.old) (path_components (path_bytes path.entry))) }
 {
     for component in path.components() {
         text.push(component.as_os_str())?;

@@ -3,7 +3,7 @@
 ghost use Rattle.std.specs.Prelude.{◌≡◌, IsOk, IfOk, MatchResult, string_bytes};
 ghost use Rattle.std.specs.Option.{option_map};
 ghost use Rattle.std.specs.Str.{IsUtf8};
-ghost use Rattle.jj_files.specs.PathTexts.{expanded};
+ghost use Rattle.jj_files.specs.PathTexts.{expand_home};
 
 use std::alloc::{AllocError, Global};
 use std::path::PathBuf;
@@ -47,7 +47,7 @@ pub fn expand_home_path(
     home_dir: Option<&str>,
 ) -> Result<String, AllocError>
     ensures { IfOk result (λ text. string_bytes text
-        ≡ expanded (option_map (λ home. home.now) home_dir.entry) path.now) }
+        ≡ expand_home (option_map (λ home. home.now) home_dir.entry) path.now) }
 {
     if let Some(home) = home_dir
         && let Some(rest) = path.strip_prefix("~/")

@@ -4,7 +4,7 @@ ghost use Rattle.jj_globs.specs.declared.glob.sign.Sign.TheVariants.{Slash};
 ghost use Rattle.jj_globs.specs.GlobMeaning.{in_class};
 ghost use Rattle.jj_globs.specs.GlobText.{byte_of};
 ghost use Rattle.jj_globs.specs.GlobPlaces.{in_set};
-ghost use Rattle.jj_globs.specs.GlobLowering.{AddsPart, AddsToken, forked, AreSteps};
+ghost use Rattle.jj_globs.specs.GlobLowering.{AddsPart, AddsToken, with_fork, AreSteps};
 
 use crate::glob::byte_set::ByteSet;
 use crate::glob::shared_fronts::put_literal_group;
@@ -82,7 +82,7 @@ fn put_token(
 
 // Where alternatives were read before, a fork to them and to what stands here.
 fn put_fork(steps: &mut Vec<Step>, others: Option<usize>) -> Result<(), AllocError>
-    ensures { OnOk result (reverse steps.new.items ≡ forked others (reverse steps.old.items)) }
+    ensures { OnOk result (reverse steps.new.items ≡ with_fork others (reverse steps.old.items)) }
 {
     if let Some(others) = others {
         let begin = steps.len();

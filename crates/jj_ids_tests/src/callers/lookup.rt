@@ -1,7 +1,7 @@
 //! Ids that are looked up by a beginning of their hex text.
 ghost use Rattle.std.specs.Prelude.{◌++◌, ◌∷◌, [], ℕ, List, IfOk, MatchOption};
 ghost use Rattle.std.specs.Str.{str_to_ascii_lowercase};
-ghost use Rattle.jj_content.specs.Hex.{hex_digits, evened, ReadsAsNothing};
+ghost use Rattle.jj_content.specs.Hex.{hex_digits, padded_text, ReadsAsNothing};
 ghost use Rattle.jj_ids_tests.specs.Lookups.{StandsFor};
 
 use jj_ids::object_id::{CommitId, HexPrefix, PrefixResolution};
@@ -52,7 +52,7 @@ pub fn looked_up<'a>(
     text: &str,
 ) -> Result<Option<PrefixResolution<&'a CommitId>>, AllocError>
     ensures { IfOk result (λ found. MatchOption found
-        (ReadsAsNothing hex_digits (evened hex_digits text.now))
+        (ReadsAsNothing hex_digits (padded_text hex_digits text.now))
         (StandsFor ids.now (str_to_ascii_lowercase text.now))) }
 {
     match HexPrefix::try_from_hex(alloc, text)? {

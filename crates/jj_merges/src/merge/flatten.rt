@@ -1,6 +1,6 @@
 //! A merge of merges as one merge.
 ghost use Rattle.std.specs.Prelude.{◌≡◌, ◌%◌, [], ◌∷◌, ◌++◌, Bool, List, length, IfOk, OnOk};
-ghost use Rattle.jj_merges.specs.Flatten.{flattened, turned, outer_count};
+ghost use Rattle.jj_merges.specs.Flatten.{flattened, inverse_terms, outer_count};
 ghost use Rattle.jj_merges.specs.Merge.{signed_count};
 ghost use Rattle.jj_merges.specs.Terms.{items, HoldsOne};
 
@@ -71,7 +71,7 @@ fn append_turned<T: Drop>(
     remove: Merge<T>,
 ) -> Result<(), AllocError>
     requires { HoldsOne terms.old }
-    ensures ok { OnOk result (items terms.new ≡ items terms.old ++ turned remove) }
+    ensures ok { OnOk result (items terms.new ≡ items terms.old ++ inverse_terms remove) }
     ensures holds_one { HoldsOne terms.new }
     ensures odd { length remove % 2 ≡ 1 }
 {

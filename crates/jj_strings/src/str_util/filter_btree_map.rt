@@ -84,14 +84,15 @@ impl<'a, 'm, K: TextKey, V> Iterator for FilterBTreeMap<'a, 'm, K, V> {
     ghost use Rattle.std.specs.Map.Iter.{deref_pair};
     ghost use Rattle.jj_strings.specs.Lines.{GivesNext};
     ghost use Rattle.jj_strings.specs.StringMatchers.{InMatcher, MayAllocate};
-    ghost use Rattle.jj_strings.specs.Searchers.{searched};
+    ghost use Rattle.jj_strings.specs.Searchers.{searcher_matcher};
 
     type Item = Result<(&'a K, &'a V), AllocError>;
 
     ghost next_gives = { λ s r t. GivesNext deref_pair
-        (λ e. InMatcher (searched s.searcher) (K.key_text e.0))
-        (MayAllocate (searched s.searcher)) (entries_left s.entries) r (entries_left t.entries)
-        × (searched t.searcher ≡ searched s.searcher) };
+        (λ e. InMatcher (searcher_matcher s.searcher) (K.key_text e.0))
+        (MayAllocate (searcher_matcher s.searcher))
+        (entries_left s.entries) r (entries_left t.entries)
+        × (searcher_matcher t.searcher ≡ searcher_matcher s.searcher) };
 
     ghost remaining = { λ s. at_most (length (entries_left s.entries)) };
 

@@ -3,7 +3,7 @@ ghost use Rattle.std.specs.Prelude.{◌≡◌, ◌↔◌, ◌+◌, ◌<◌, ◌�
 ghost use Rattle.bstr.specs.Find.{OccursAt};
 ghost use Rattle.bstr.specs.Text.{Contains};
 ghost use Rattle.jj_strings.specs.Borders.{IsBorderTable};
-ghost use Rattle.jj_strings.specs.Folded.{folded};
+ghost use Rattle.jj_strings.specs.Folded.{lowercase_text};
 
 use crate::str_util::borders::stands_by_borders;
 use bstr::ByteSlice;
@@ -24,8 +24,8 @@ const LONG_WINDOW: usize = 8_192;
 // Whether the bytes hold the text as a part, with ASCII letters in either case. A text that is
 // longer than `LONG` comes with its borders. It takes time that grows with the bytes alone.
 pub(crate) fn contains_folded(bytes: &[u8], text: &[u8], borders: &[usize]) -> bool
-    requires { LONG < length text.now → IsBorderTable (folded text.now) borders.now }
-    ensures { IsTrue result ↔ Contains (folded bytes.now) (folded text.now) }
+    requires { LONG < length text.now → IsBorderTable (lowercase_text text.now) borders.now }
+    ensures { IsTrue result ↔ Contains (lowercase_text bytes.now) (lowercase_text text.now) }
 {
     if bytes.len().saturating_sub(text.len()) < FEW {
         stands_at_a_place(bytes, text)
@@ -44,7 +44,7 @@ fn stands_in_arrays<const TEXT: usize, const WINDOW: usize>(bytes: &[u8], text: 
     requires text { length text.now ≤ TEXT }
     requires window { TEXT < WINDOW }
     requires limit { WINDOW ≤ LONG_WINDOW }
-    ensures { IsTrue result ↔ Contains (folded bytes.now) (folded text.now) }
+    ensures { IsTrue result ↔ Contains (lowercase_text bytes.now) (lowercase_text text.now) }
 {
     let mut lower = [0; TEXT];
     let mut window = [0; WINDOW];
@@ -55,7 +55,7 @@ fn stands_in_arrays<const TEXT: usize, const WINDOW: usize>(bytes: &[u8], text: 
 fn stands_in_windows(bytes: &[u8], text: &[u8], lower: &mut [u8], window: &mut [u8]) -> bool
     requires lower { length text.now ≤ length lower.old }
     requires window { length text.now < length window.old }
-    ensures { IsTrue result ↔ Contains (folded bytes.now) (folded text.now) }
+    ensures { IsTrue result ↔ Contains (lowercase_text bytes.now) (lowercase_text text.now) }
 {
     fold_into(text, lower);
     let lower = &lower[..text.len()];
@@ -75,7 +75,7 @@ fn stands_in_windows(bytes: &[u8], text: &[u8], lower: &mut [u8], window: &mut [
 // Writes the bytes in lower case to the front of others.
 fn fold_into(bytes: &[u8], folds: &mut [u8])
     requires { length bytes.now ≤ length folds.old }
-    ensures front { take (length bytes.now) folds.new ≡ folded bytes.now }
+    ensures front { take (length bytes.now) folds.new ≡ lowercase_text bytes.now }
     ensures len { length folds.new ≡ length folds.old }
 {
     for (at, byte) in bytes.iter().enumerate() {
@@ -85,7 +85,7 @@ fn fold_into(bytes: &[u8], folds: &mut [u8])
 
 // Whether the bytes hold the text, compared at each place.
 fn stands_at_a_place(bytes: &[u8], text: &[u8]) -> bool
-    ensures { IsTrue result ↔ Contains (folded bytes.now) (folded text.now) }
+    ensures { IsTrue result ↔ Contains (lowercase_text bytes.now) (lowercase_text text.now) }
 {
     if text.len() > bytes.len() {
         return false;
@@ -101,7 +101,7 @@ fn stands_at_a_place(bytes: &[u8], text: &[u8]) -> bool
 // Whether the text stands in the bytes at this place, with ASCII letters in either case.
 fn stands_at(bytes: &[u8], text: &[u8], at: usize) -> bool
     requires { at + length text.now ≤ length bytes.now }
-    ensures { IsTrue result ↔ OccursAt (folded bytes.now) (folded text.now) at }
+    ensures { IsTrue result ↔ OccursAt (lowercase_text bytes.now) (lowercase_text text.now) at }
 {
     bytes[at..at + text.len()].eq_ignore_ascii_case(text)
 }

@@ -34,13 +34,13 @@ impl<'a, 'm> Iterator for MatchLines<'a, 'm> {
     ghost use Rattle.std.specs.Iterator.{at_most};
     ghost use Rattle.jj_strings.specs.StringMatchers.{InMatcher, MayAllocate};
     ghost use Rattle.jj_strings.specs.Lines.{GivesNextLine};
-    ghost use Rattle.jj_strings.specs.Searchers.{searched};
+    ghost use Rattle.jj_strings.specs.Searchers.{searcher_matcher};
 
     type Item = Result<&'a [u8], AllocError>;
 
-    ghost next_gives = { λ s r t. GivesNextLine (InMatcher (searched s.searcher))
-        (MayAllocate (searched s.searcher)) s.rest.now r t.rest.now
-        × (searched t.searcher ≡ searched s.searcher) };
+    ghost next_gives = { λ s r t. GivesNextLine (InMatcher (searcher_matcher s.searcher))
+        (MayAllocate (searcher_matcher s.searcher)) s.rest.now r t.rest.now
+        × (searcher_matcher t.searcher ≡ searcher_matcher s.searcher) };
 
     ghost remaining = { λ s. at_most (length s.rest.now) };
 

@@ -21,12 +21,12 @@ pub struct StringSearcher<'m> {
 }
 
 impl StringMatcher {
-    ghost use Rattle.jj_strings.specs.Searchers.{searched};
+    ghost use Rattle.jj_strings.specs.Searchers.{searcher_matcher};
 
     /// The set, to be asked string after string. Memory is taken at the first string, and only
     /// where a regular expression is inside.
     pub fn searcher(&self, alloc: Global) -> StringSearcher<'_>
-        ensures { searched result ≡ self.now }
+        ensures { searcher_matcher result ≡ self.now }
     {
         let searched = match self {
             StringMatcher::Expr(expression) => Searched::Expression(expression.searcher()),
@@ -38,14 +38,14 @@ impl StringMatcher {
 
 impl<'m> StringSearcher<'m> {
     ghost use Rattle.jj_strings.specs.StringMatchers.{InMatcher, MayAllocate};
-    ghost use Rattle.jj_strings.specs.Searchers.{searched};
+    ghost use Rattle.jj_strings.specs.Searchers.{searcher_matcher};
 
     /// Whether the set holds the text. Refused for want of memory, it can be asked again.
     pub fn is_match(&mut self, haystack: &str) -> Result<bool, AllocError>
         ensures answer { IfOk result (λ yes. IsTrue yes
-            ↔ InMatcher (searched self.old) haystack.now) }
-        ensures memory { IsErr result → MayAllocate (searched self.old) }
-        ensures same { searched self.new ≡ searched self.old }
+            ↔ InMatcher (searcher_matcher self.old) haystack.now) }
+        ensures memory { IsErr result → MayAllocate (searcher_matcher self.old) }
+        ensures same { searcher_matcher self.new ≡ searcher_matcher self.old }
     {
         self.is_match_bytes(haystack.as_bytes())
     }
@@ -53,9 +53,9 @@ impl<'m> StringSearcher<'m> {
     /// Whether the set holds the bytes. Refused for want of memory, it can be asked again.
     pub fn is_match_bytes(&mut self, haystack: &[u8]) -> Result<bool, AllocError>
         ensures answer { IfOk result (λ yes. IsTrue yes
-            ↔ InMatcher (searched self.old) haystack.now) }
-        ensures memory { IsErr result → MayAllocate (searched self.old) }
-        ensures same { searched self.new ≡ searched self.old }
+            ↔ InMatcher (searcher_matcher self.old) haystack.now) }
+        ensures memory { IsErr result → MayAllocate (searcher_matcher self.old) }
+        ensures same { searcher_matcher self.new ≡ searcher_matcher self.old }
     {
         match &mut self.searched {
             Searched::Expression(expression) => expression.is_match(self.alloc, haystack),

@@ -5,7 +5,7 @@ use Rattle.std.specs.List.{Contains}
 use Rattle.std.specs.List.Sorted.{IsPermutation}
 use Rattle.std.proofs.lemmas.List.{nil_from_length}
 use Rattle.std.proofs.lemmas.Bool.{and_parts}
-use Rattle.jj_dag.specs.CommonSearch.{started}
+use Rattle.jj_dag.specs.CommonSearch.{reach_of_sets}
 use Rattle.jj_dag.specs.Failing.{AnswersItems, Fault, sound_items, sound as sound_graph}
 use Rattle.jj_dag.specs.Marks.{mark_at}
 use Rattle.jj_dag.proofs.Calling.{shown_after}
@@ -23,7 +23,7 @@ loop-node-init g c = record {
   small = c.requires.small;
   walking = λ walk items set1 set2 shown first second start. (
     shown,
-    (started set1 set2, started_holds walk set1 set2 (heap_items c.args.waiting.now) c.args.met.now.common.items (mark_at g.ID.PartialEq.eq c.args.met.now.known) c.requires.none start),
+    (reach_of_sets set1 set2, started_holds walk set1 set2 (heap_items c.args.waiting.now) c.args.met.now.common.items (mark_at g.ID.PartialEq.eq c.args.met.now.known) c.requires.none start),
   );
 }
 

@@ -1,7 +1,7 @@
 use Rattle.std.proofs.Common.{ℕ, List, ◌++◌, Option, Some, None, ap, sym, subst, ◌∙◌, append_assoc}
 use Rattle.std.specs.Io.KnownBytes.{Appends, Consumes}
 use Rattle.jj_files.specs.Streams.{AppendsFrontOf}
-use Rattle.jj_files.specs.Watching.{watched}
+use Rattle.jj_files.specs.Watching.{watched_inner}
 use Rattle.jj_paths_tests.proofs.callers.send.Goals as goal
 
 -- what was written of bytes that were read is a beginning of them
@@ -14,4 +14,4 @@ returns-clause-front g c =
     let old = g.W.Sink.contents c.args.sink.now in
     let new = g.W.Sink.contents c.copy.new.writer in
     subst (AppendsFrontOf old new) (ap (λ b. b.now) c.new.ensures.inner)
-    (begins (watched c.new.result).now (Some (watched c.copy.new.reader).now) old new c.copy.ensures.front)
+    (begins (watched_inner c.new.result).now (Some (watched_inner c.copy.new.reader).now) old new c.copy.ensures.front)

@@ -7,7 +7,7 @@ use Rattle.jj_dag.specs.Graph.{ReachedFrom, ReachesCycle}
 use Rattle.jj_walks.specs.Chunks.{IsChunkOfMany, IsStretch, NoneFailed}
 use Rattle.jj_dag.specs.ReadyNodes.{places_graph, IsStuck}
 use Rattle.jj_walks.proofs.Chunks.{walk_inner, inner_items, inner_ids, explored, explored_nodes, inner_sound, inner_nodes_closed, inner_collected, inner_linked, inner_reached, inner_cycle, many_chunk, many_stretch, many_sound}
-use Rattle.jj_dag.specs.Collecting.{linked}
+use Rattle.jj_dag.specs.Collecting.{neighbor_places}
 use Rattle.jj_dag.proofs.GreatestOrder.{map_twice, order_is, cycle_is, place_reached}
 use Rattle.jj_walks.proofs.look_ahead.take_chunk.Goals as goal
 
@@ -21,7 +21,7 @@ returns g c = record {
       let q = c.in_ok-nodes.ensures in
       let find = get g.ID.PartialEq.eq c.in_ok-found.found.index_of in
       let ids = map (λ v. v.items) c.in_ok-found.found.neighbor_ids.items in
-      let ts = linked g.ID.PartialEq.eq c.in_ok-found.found in
+      let ts = neighbor_places g.ID.PartialEq.eq c.in_ok-found.found in
       let places : ts ≡ map (λ is. filter_map find is) ids = sym (map_twice (λ is. filter_map find is) (λ v. v.items) c.in_ok-found.found.neighbor_ids.items) in
       let sizes : length ids ≡ length given = length-map c.in_ok-found.found.neighbor_ids.items (λ v. v.items) ∙ p.0.ids in
       let left = c.in_ok-found.left.items in

@@ -2,7 +2,7 @@ use Rattle.std.proofs.Common.{◌≡◌, map, length, sym, ◌∙◌, ap, Some, 
 use Rattle.std.specs.HashMap.{get}
 use Rattle.std.specs.List.{filter_map}
 use Rattle.std.proofs.lemmas.List.{length-map}
-use Rattle.jj_dag.specs.Collecting.{linked}
+use Rattle.jj_dag.specs.Collecting.{neighbor_places}
 use Rattle.jj_dag.proofs.GreatestOrder.{linked_within, map_twice, slots_present}
 use Rattle.jj_dag.proofs.greatest_order.Collected.greatest_first.Goals as goal
 
@@ -39,6 +39,6 @@ take_greatest_first-requires-clause-indegrees g c =
 pub returns : goal.returns
 returns g c =
     let find = get g.ID.PartialEq.eq c.args.self.index_of in
-    let targets : map (λ v. v.items) c.deref-2.result.now ≡ linked g.ID.PartialEq.eq c.args.self =
+    let targets : map (λ v. v.items) c.deref-2.result.now ≡ neighbor_places g.ID.PartialEq.eq c.args.self =
     ap (map (λ v. v.items)) c.deref-2.ensures.value ∙ c.in_ok-targets.ensures.targets ∙ ap (map (λ v. filter_map find v.items)) c.deref.ensures.value in
     rw targets at c.take_greatest_first.ensures

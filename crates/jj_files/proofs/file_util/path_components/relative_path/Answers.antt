@@ -1,7 +1,7 @@
 use Rattle.std.proofs.Common.{◌∙◌, [], ◌∷◌, map, sym, ap}
 use Rattle.std.specs.Path.{path_bytes, path_components, parent_dir}
 use Rattle.std.proofs.lemmas.Result.{IfOk-weaker}
-use Rattle.jj_files.specs.FsTexts.{appended, or_dot}
+use Rattle.jj_files.specs.FsTexts.{join_all, or_dot}
 use Rattle.jj_files.proofs.FsTextLemmas.{appended-append}
 use Rattle.jj_files.proofs.file_util.path_components.relative_path.Goals as goal
 
@@ -11,6 +11,6 @@ returns c =
     let from_left = path_components (path_bytes c.in-Some.from_left) in
     let to_left = path_components (path_bytes c.in-Some.to_left) in
     let ups = map (λ _. parent_dir) from_left in
-    let whole = c.in_ok-push_components.ensures ∙ ap (λ text. appended text to_left) (c.in_ok-push_parents.ensures ∙ ap (λ text. appended text ups) c.new-text.ensures)
+    let whole = c.in_ok-push_components.ensures ∙ ap (λ text. join_all text to_left) (c.in_ok-push_parents.ensures ∙ ap (λ text. join_all text ups) c.new-text.ensures)
     ∙ sym (appended-append [] ups to_left) in
     IfOk-weaker c.text_or_dot.result _ _ (λ text is. (first ∷ front, from_left, to_left, shares, is ∙ ap or_dot whole)) c.text_or_dot.ensures

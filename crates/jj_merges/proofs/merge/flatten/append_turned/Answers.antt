@@ -1,5 +1,5 @@
 use Rattle.std.proofs.Common.{◌∙◌, ◌++◌, ◌∷◌, ap, arith, rules, length, sym}
-use Rattle.jj_merges.specs.Flatten.{turned}
+use Rattle.jj_merges.specs.Flatten.{inverse_terms}
 use Rattle.jj_merges.specs.Terms.{items}
 use Rattle.jj_merges.proofs.FlattenLaws.{turned_more}
 use Rattle.jj_merges.proofs.merge.flatten.append_turned.Goals as goal
@@ -13,7 +13,7 @@ loop-removed-init g c =
     let whole = sym c.into_iter-rest.ensures.into_iter_gives.0 ∙ c.in-Some.ensures.steps in (
       c.requires,
       omega (arith, c.as_slice-len.ensures.odd, ap length whole),
-      ap (λ xs. items c.args.terms.now ++ turned xs) (sym whole),
+      ap (λ xs. items c.args.terms.now ++ inverse_terms xs) (sym whole),
     )
 
 pub loop-removed-smaller : goal.loop-removed-smaller

@@ -1,5 +1,5 @@
 use Rattle.std.proofs.Common.{◌≡◌, ◌∙◌, ◌++◌, ◌∷◌, [], refl, sym, ap, arith, rules, length, append_assoc, append-nil, length-append}
-use Rattle.jj_merges.specs.Flatten.{flattened, turned, outer_count}
+use Rattle.jj_merges.specs.Flatten.{flattened, inverse_terms, outer_count}
 use Rattle.jj_merges.specs.Merge.{signed_count}
 use Rattle.jj_merges.proofs.Sound.{sound, holds_one}
 use Rattle.jj_merges.proofs.FlattenLaws.{AreOdd-push, flattened-push_even, flattened-push_odd, odd_flattened, count-flattened}
@@ -31,7 +31,7 @@ loop-remove-preserved g c =
       AreOdd-push (seen ++ r ∷ []) a (AreOdd-push seen r now.3 c.in_ok-append_turned.ensures.odd) c.in_ok-append-in-Some-next.ensures.odd,
       c.in_ok-append-in-Some-next.ensures.holds_one,
       c.in_ok-append-in-Some-next.ensures.ok
-          ∙ (ap (λ l. l ++ a) (c.in_ok-append_turned.ensures.ok ∙ (ap (λ l. l ++ turned r) now.5 ∙ sym (flattened-push_odd seen r now.2)))
+          ∙ (ap (λ l. l ++ a) (c.in_ok-append_turned.ensures.ok ∙ (ap (λ l. l ++ inverse_terms r) now.5 ∙ sym (flattened-push_odd seen r now.2)))
           ∙ sym (flattened-push_even (seen ++ r ∷ []) a (omega (arith, more, now.2)))),
     )
 

@@ -1,12 +1,12 @@
 -- The borders of the fronts up to the byte, and that of the last one.
 use Rattle.std.proofs.Common.{◌≡◌, ◌-◌, length, drop}
-use Rattle.jj_strings.specs.Folded.{folded}
+use Rattle.jj_strings.specs.Folded.{lowercase_text}
 use Rattle.jj_strings.specs.Borders.{IsLongestEnd, AreBorders}
 use Rattle.jj_strings.proofs.str_util.borders.borders_of.Given as goal
 
 abbrev pub invariant-loop-at : goal.invariant-loop-at
 invariant-loop-at l = record {
   count : length l.borders.items ≡ l.at;
-  borders : AreBorders (folded l.text) l.borders.items;
-  longest : IsLongestEnd (drop 1 (folded l.text)) (l.at - 1) (folded l.text) l.len;
+  borders : AreBorders (lowercase_text l.text) l.borders.items;
+  longest : IsLongestEnd (drop 1 (lowercase_text l.text)) (l.at - 1) (lowercase_text l.text) l.len;
 }

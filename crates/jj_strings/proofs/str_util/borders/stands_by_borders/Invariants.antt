@@ -1,13 +1,13 @@
 -- The longest front that ends at the byte, and the text stands at no place that ends before it.
 use Rattle.std.proofs.Common.{ℕ, ◌+◌, ◌<◌, ◌≤◌, length}
 use Rattle.bstr.specs.Find.{OccursAt}
-use Rattle.jj_strings.specs.Folded.{folded}
+use Rattle.jj_strings.specs.Folded.{lowercase_text}
 use Rattle.jj_strings.specs.Borders.{IsLongestEnd}
 use Rattle.jj_strings.proofs.str_util.borders.stands_by_borders.Given as goal
 
 abbrev pub invariant-loop-at : goal.invariant-loop-at
 invariant-loop-at l = record {
   shorter : l.len < length l.text;
-  longest : IsLongestEnd (folded l.bytes) l.at (folded l.text) l.len;
-  none : (k : ℕ) → k + length l.text ≤ l.at → OccursAt (folded l.bytes) (folded l.text) k → ⊥;
+  longest : IsLongestEnd (lowercase_text l.bytes) l.at (lowercase_text l.text) l.len;
+  none : (k : ℕ) → k + length l.text ≤ l.at → OccursAt (lowercase_text l.bytes) (lowercase_text l.text) k → ⊥;
 }

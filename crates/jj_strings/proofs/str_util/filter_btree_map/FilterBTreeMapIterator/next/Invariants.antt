@@ -2,13 +2,13 @@
 use Rattle.std.proofs.Common.{◌≡◌, List, ◌++◌, ◌≤◌, length, All}
 use Rattle.jj_strings.specs.EntriesLeft.{entries_left}
 use Rattle.jj_strings.specs.StringMatchers.{InMatcher}
-use Rattle.jj_strings.specs.Searchers.{searched}
+use Rattle.jj_strings.specs.Searchers.{searcher_matcher}
 use Rattle.jj_strings.proofs.str_util.filter_btree_map.FilterBTreeMapIterator.next.Given as goal
 
 abbrev pub invariant-loop-entry : goal.invariant-loop-entry
 invariant-loop-entry g l =
-    (searched l.self.searcher ≡ searched l.fn.self.searcher)
-    × ((passed : List (g.row.K.Denot × g.row.V.Denot)) × All (λ e. InMatcher (searched l.fn.self.searcher) (g.K.TextKey.key_text e.0) → ⊥) passed
+    (searcher_matcher l.self.searcher ≡ searcher_matcher l.fn.self.searcher)
+    × ((passed : List (g.row.K.Denot × g.row.V.Denot)) × All (λ e. InMatcher (searcher_matcher l.fn.self.searcher) (g.K.TextKey.key_text e.0) → ⊥) passed
     × (entries_left l.fn.self.entries ≡ passed ++ entries_left l.self.entries))
     × (length (entries_left l.self.entries) ≤ length (entries_left l.fn.self.entries))
 

@@ -2,13 +2,13 @@
 use Rattle.std.proofs.Common.{◌≡◌, ℕ, List, ◌++◌, ◌≤◌, length, All}
 use Rattle.jj_strings.specs.Lines.{lines, without_feed}
 use Rattle.jj_strings.specs.StringMatchers.{InMatcher}
-use Rattle.jj_strings.specs.Searchers.{searched}
+use Rattle.jj_strings.specs.Searchers.{searcher_matcher}
 use Rattle.jj_strings.proofs.str_util.match_lines.MatchLinesIterator.next.Given as goal
 
 abbrev pub invariant-loop-line : goal.invariant-loop-line
 invariant-loop-line g l =
-    (searched l.self.searcher ≡ searched l.fn.self.searcher)
-    × ((passed : List (List ℕ)) × All (λ x. InMatcher (searched l.fn.self.searcher) (without_feed x) → ⊥) passed × (lines l.fn.self.rest.now ≡ passed ++ lines l.self.rest.now))
+    (searcher_matcher l.self.searcher ≡ searcher_matcher l.fn.self.searcher)
+    × ((passed : List (List ℕ)) × All (λ x. InMatcher (searcher_matcher l.fn.self.searcher) (without_feed x) → ⊥) passed × (lines l.fn.self.rest.now ≡ passed ++ lines l.self.rest.now))
     × (length l.self.rest.now ≤ length l.fn.self.rest.now)
 
 abbrev pub decreases-loop-line : goal.decreases-loop-line
