@@ -489,7 +489,8 @@ impl DigestUpdate for Blake2b512 {
 
 /// The BLAKE2b-512 digest of a value's content.
 pub fn blake2b_hash<T: ContentHash>(alloc: Global, x: &T) -> Result<[u8; 64], AllocError>
-    ensures { IfOk result (λ digest. digest ≡ blake2b (T.content x.now)) }
+    ensures digest { IfOk result (λ digest. digest ≡ blake2b (T.content x.now)) }
+    ensures value { OnOk result (T.is_value x.now) }
 {
     let mut hasher = Blake2b512::new();
     x.hash(alloc, &mut hasher)?;

@@ -4,8 +4,7 @@ ghost use Rattle.jj_content.specs.Blake2b.{blake2b};
 ghost use Rattle.jj_content_tests.specs.Notes.{note_content, IsNote, AreSame, Collide};
 
 use crate::records::Note;
-use jj_content::blake2b::Blake2b512;
-use jj_content::content_hash::{ContentHash, content_decides};
+use jj_content::content_hash::{blake2b_hash, content_decides};
 use std::alloc::{AllocError, Global};
 
 /// The key of a note in a store: the digest of its content.
@@ -13,9 +12,7 @@ pub fn key(alloc: Global, note: &Note) -> Result<[u8; 64], AllocError>
     ensures digest { IfOk result (λ key. key ≡ blake2b (note_content note.now)) }
     ensures value { OnOk result (IsNote note.now) }
 {
-    let mut state = Blake2b512::new();
-    note.hash(alloc, &mut state)?;
-    Ok(state.finalize())
+    blake2b_hash(alloc, note)
 }
 
 /// Whether two notes have one key: the same notes have, and others only where their contents
