@@ -76,6 +76,13 @@ impl<T> Watched<T> {
             reads_left: u64::MAX,
         }
     }
+
+    /// The reader or writer, as its last call left it.
+    pub fn into_inner(self) -> T
+        ensures { result ≡ watched_inner self }
+    {
+        self.inner
+    }
 }
 
 impl<T> Watched<T> {

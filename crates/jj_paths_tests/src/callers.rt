@@ -77,3 +77,12 @@ pub fn send<W: Sink>(bytes: &[u8], sink: &mut W) -> io::Result<usize>
 {
     copy(&mut Watched::new(bytes), sink)
 }
+
+/// The bytes, written to a sink that keeps them and taken out of it again.
+pub fn kept(alloc: Global, bytes: &[u8]) -> io::Result<Vec<u8>>
+    ensures { IfOk result (λ list. list.items ≡ bytes.now) }
+{
+    let mut sink = Watched::new(Vec::new(alloc));
+    send(bytes, &mut sink)?;
+    Ok(sink.into_inner())
+}

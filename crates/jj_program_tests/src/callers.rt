@@ -3,7 +3,6 @@ ghost use Rattle.std.specs.Prelude.{IfErr, IfOk, Ok};
 ghost use Rattle.jj_program.specs.Program.{Gives};
 ghost use Rattle.jj_program_tests.specs.Answered.{CanFailBy, FindsFiles, IsFaultOfWalk};
 
-use crate::written::Written;
 use jj_files::file_util::Watched;
 use jj_program::laws::{faults_are_of_first_kinds, walks_find_their_files};
 use jj_program::program::{Command, Fault, run};
@@ -15,9 +14,9 @@ pub fn answered(alloc: Global, command: Command, input: &[u8]) -> Result<Vec<u8>
     ensures fails { IfErr result (CanFailBy command input.now) }
 {
     let mut reader = Watched::new(input);
-    let mut writer = Written::new(alloc);
+    let mut writer = Watched::new(Vec::new(alloc));
     run(alloc, command, &mut reader, &mut writer)?;
-    Ok(writer.into_bytes())
+    Ok(writer.into_inner())
 }
 
 /// What a walk writes for a text: the marked paths that are in the set of the text, each once and

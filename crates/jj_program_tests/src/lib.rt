@@ -19,4 +19,3 @@ mod runs;
 mod sample_tests;
 #[cfg(test)]
 mod start_tests;
-pub mod written;
