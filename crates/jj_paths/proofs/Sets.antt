@@ -5,13 +5,14 @@ use Rattle.std.proofs.Common.{◌≡◌, ◌≢◌, Option, Some, None, IsSome, 
 use mathlib.Core.Bool.{false≢true}
 use Rattle.std.specs.Str.{bytes_eq}
 use Rattle.std.specs.Option.{option_and_then, option_map}
-use Rattle.std.proofs.lemmas.Option.{none-some}
+use Rattle.std.proofs.lemmas.Option.{none-some, option_and_then_some}
 use Rattle.std.proofs.lemmas.Slice.Eq.{bytes_eq-Decides}
 use Rattle.jj_paths.specs.Paths.{Name, Path, first_of, rest_of}
 use Rattle.jj_paths.specs.Tree.{Tree, tree_of, Branches, none, branch, IsChildEdited, update_child, put, put_value, get, value_at, child, IsExtended, IsEdited, IsSet, is_ordered}
 use Rattle.jj_paths.proofs.Trees.{}
 use Rattle.jj_paths.proofs.Grown.{child-update_same, child-update_other, extended-step, extended-same, there-step}
 use Rattle.jj_paths.proofs.Ordered.{is_ordered-put_value}
+use Rattle.jj_paths.proofs.Puts.{update_child-known}
 
 -- a path that is not the root is its first name and the rest
 pub parted : (path rest : Path) → path ≢ [] → rest ≡ rest_of path → path ≡ first_of path ∷ rest
@@ -92,6 +93,29 @@ module _ {V : Type 0} where
       by_name later false other =
           ap (λ o. value_below o r) (child-update_other t.branches name m (λ s. put_value s p v) (λ eq. false≢true (sym other ∙ (bytes_eq-Decides m name).1 eq)))
 
+  -- a value is set in a tree that was extended
+  pub set-as_map : (is_new : V → Type 0) (old tree : Tree V) (path : Path) (node new : Tree V) (v : V) → IsExtended is_new old path tree → get tree path ≡ Some node → new ≡ put_value tree path v → IsSet is_new old path v new
+  set-as_map is_new old tree path node new v extended at is = record {
+    here = ap (λ t. value_at t path) is ∙ value_at-put_value tree path node v at;
+    keeps = λ q w off e. ap (λ t. value_at t q) is ∙ value_at-put_value-others tree path q node v at off ∙ extended.keeps q w e;
+    makes = λ q w off e f. extended.makes q w e (sym (ap (λ t. value_at t q) is ∙ value_at-put_value-others tree path q node v at off) ∙ f);
+    ordered = λ up. ap (λ t. is_ordered t.branches) is ∙ is_ordered-put_value tree path v (extended.ordered up);
+  }
+
+  -- two functions that agree on a child change it alike
+  update_child-agree : (b : Branches V) (name : Name) (sub : Tree V) (f g : Tree V → Tree V) → child b name ≡ Some sub → f sub ≡ g sub → update_child b name f ≡ update_child b name g
+  update_child-agree b name sub f g at same = sym (update_child-known b name sub f at) ∙ ap (λ t. update_child b name (λ _. t)) same ∙ update_child-known b name sub g at
+
+  -- a node that is put at its own path with another value
+  put-other_value : (tree : Tree V) (path : Path) (node : Tree V) (value : V) → get tree path ≡ Some node → put tree path (tree_of value node.branches) ≡ put_value tree path value
+  put-other_value tree [] node value at = let same : tree ≡ node = cc in ap (λ (t : Tree V). tree_of value t.branches) (sym same)
+  put-other_value tree (name ∷ rest) node value at = through (λ sub. put-other_value sub rest node value) at
+    where
+      through : ((sub : Tree V) → get sub rest ≡ Some node → put sub rest (tree_of value node.branches) ≡ put_value sub rest value) → option_and_then (λ sub. get sub rest) (child tree.branches name) ≡ Some node
+          → put tree (name ∷ rest) (tree_of value node.branches) ≡ put_value tree (name ∷ rest) value
+      through below at = option_and_then_some (λ sub. get sub rest) (child tree.branches name) node at (λ sub is further.
+          ap (tree_of tree.value) (update_child-agree tree.branches name sub (λ s. put s rest (tree_of value node.branches)) (λ s. put_value s rest value) is (below sub further)))
+
   -- a node is put into a tree that was extended
   pub edited : (is_new : V → Type 0) (old tree : Tree V) (path : Path) (node changed : Tree V) → IsExtended is_new old path tree → get tree path ≡ Some node → IsEdited is_new old path node changed (put tree path changed)
   edited is_new old tree path node changed extended at = record {
@@ -101,15 +125,7 @@ module _ {V : Type 0} where
     is_put = refl;
     within = λ rest. get-put-within tree path rest node changed at;
     others = λ q off. value_at-put-others tree path q node changed at off;
-  }
-
-  -- a value is set in a tree that was extended
-  pub set-as_map : (is_new : V → Type 0) (old tree : Tree V) (path : Path) (node new : Tree V) (v : V) → IsExtended is_new old path tree → get tree path ≡ Some node → new ≡ put_value tree path v → IsSet is_new old path v new
-  set-as_map is_new old tree path node new v extended at is = record {
-    here = ap (λ t. value_at t path) is ∙ value_at-put_value tree path node v at;
-    keeps = λ q w off e. ap (λ t. value_at t q) is ∙ value_at-put_value-others tree path q node v at off ∙ extended.keeps q w e;
-    makes = λ q w off e f. extended.makes q w e (sym (ap (λ t. value_at t q) is ∙ value_at-put_value-others tree path q node v at off) ∙ f);
-    ordered = λ up. ap (λ t. is_ordered t.branches) is ∙ is_ordered-put_value tree path v (extended.ordered up);
+    sets = λ value is. set-as_map is_new old tree path node (put tree path changed) value extended at (ap (put tree path) is ∙ put-other_value tree path node value at);
   }
 
   -- setting a value at the root of a tree, or below one of its children

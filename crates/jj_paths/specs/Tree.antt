@@ -144,18 +144,6 @@ module _ {V : Type 0} where
         → is_new value × ((rest : Path) × (path ≡ q ++ rest))
     pub ordered : is_ordered old.branches ≡ true → is_ordered tree.branches ≡ true
 
-  -- the node at the path of a tree that was extended becomes another, and so the old tree becomes
-  -- the new one: what is at or below the path is the other node's, and every other value is as it
-  -- was
-  pub record IsEdited (is_new : V → Type 0) (old : Tree V) (path : Path)
-      (node changed new : Tree V) : Type 0 where
-    pub tree : Tree V
-    pub extended : IsExtended is_new old path tree
-    pub at_path : get tree path ≡ Some node
-    pub is_put : new ≡ put tree path changed
-    pub within : (rest : Path) → get new (path ++ rest) ≡ get changed rest
-    pub others : (q : Path) → ((rest : Path) → q ≢ path ++ rest) → value_at new q ≡ value_at tree q
-
   -- the value at the path is the given one, every other value is kept, and further values are at
   -- most new ones on the fronts of the path, which the test passes; names that ascended at every
   -- node still do
@@ -166,6 +154,19 @@ module _ {V : Type 0} where
     pub makes : (q : Path) (v : V) → q ≢ path → value_at old q ≡ None → value_at new q ≡ Some v
         → is_new v × ((rest : Path) × (path ≡ q ++ rest))
     pub ordered : is_ordered old.branches ≡ true → is_ordered new.branches ≡ true
+
+  -- the node at the path of a tree that was extended becomes another, and so the old tree becomes
+  -- the new one: what is at or below the path is the other node's, and every other value is as it
+  -- was; where the other node differs in its value alone, that value was set
+  pub record IsEdited (is_new : V → Type 0) (old : Tree V) (path : Path)
+      (node changed new : Tree V) : Type 0 where
+    pub tree : Tree V
+    pub extended : IsExtended is_new old path tree
+    pub at_path : get tree path ≡ Some node
+    pub is_put : new ≡ put tree path changed
+    pub within : (rest : Path) → get new (path ++ rest) ≡ get changed rest
+    pub others : (q : Path) → ((rest : Path) → q ≢ path ++ rest) → value_at new q ≡ value_at tree q
+    pub sets : (value : V) → changed ≡ tree_of value node.branches → IsSet is_new old path value new
 
   -- branches of the same names, whose values are clones of the others', each at its place; and a
   -- node's
