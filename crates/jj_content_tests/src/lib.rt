@@ -8,6 +8,7 @@ pub mod callers;
 #[cfg(test)]
 mod content;
 pub mod content_texts;
+pub mod drained;
 #[cfg(test)]
 mod hex_util_tests;
 #[cfg(test)]

@@ -1,10 +1,10 @@
 //! Callers of sets of strings, proved from what these promise.
-ghost use Rattle.std.specs.Prelude.{◌↔◌, IsTrue, IsErr, IfOk, Ok, map};
-ghost use Rattle.std.specs.Iterator.{Drains, IsFinite};
+ghost use Rattle.std.specs.Prelude.{◌↔◌, IsTrue, IsErr, IfOk, map};
 ghost use Rattle.std.specs.Map.Iter.{deref_pair};
 ghost use Rattle.jj_strings.specs.StringMatchers.{InMatcher, MayAllocate};
 ghost use Rattle.jj_strings_tests.specs.Selected.{Selects};
 
+use jj_content_tests::drained::all_of;
 use jj_ids::object_id::CommitId;
 use jj_ids::ref_name::RefNameBuf;
 use jj_strings::str_util::StringMatcher;
@@ -27,21 +27,6 @@ pub fn holds_both(
     let is_first = searcher.is_match(first)?;
     let is_second = searcher.is_match(second)?;
     Ok(is_first && is_second)
-}
-
-// All that an iterator gives.
-fn all_of<T: Drop, I>(alloc: Global, items: I) -> Result<Vec<T>, AllocError>
-where
-    I: Iterator<Item = Result<T, AllocError>> + Drop,
-    requires callable { I.can_next items }
-    requires finite { IsFinite (I.remaining items) }
-    ensures { IfOk result (λ all. Drains I.next_gives items (map (λ x. Ok x) all.items)) }
-{
-    let mut all = Vec::new(alloc);
-    for item in items {
-        all.push(item?)?;
-    }
-    Ok(all)
 }
 
 /// The refs whose names the set holds, with their targets, in the order of names.

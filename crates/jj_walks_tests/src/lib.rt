@@ -41,5 +41,3 @@ mod texts;
 mod topo_order_reverse_ord_tests;
 #[cfg(test)]
 mod walk_errors;
-#[cfg(test)]
-pub mod walked;

@@ -2,7 +2,7 @@
 //
 // In a run in which one request for memory is refused, a test answers that, and is then run once
 // more, when there is memory.
-use crate::walked::nodes_of;
+use jj_content_tests::drained::all_of;
 use jj_walks::dag_walk::{
     WalkError, dfs, dfs_ok, heads, heads_ok, topo_order_forward, topo_order_forward_ok,
     topo_order_reverse, topo_order_reverse_ok,
@@ -89,7 +89,7 @@ pub fn error(node: char) -> char {
 
 pub fn preorder(alloc: Global, table: Table<'_>, start: &[char]) -> Result<Vec<char>, AllocError> {
     let below = |node: &char| neighbors(table, *node).chars();
-    nodes_of(alloc, dfs(alloc, start.iter().copied(), id, below)?)
+    all_of(alloc, dfs(alloc, start.iter().copied(), id, below)?)
 }
 
 pub fn forward(alloc: Global, table: Table<'_>, start: &[char]) -> Order {

@@ -5,5 +5,5 @@ use Rattle.jj_walks_tests.proofs.tables.preorder.Goals as goal
 pub dfs-requires-clause-graph : goal.dfs-requires-clause-graph
 dfs-requires-clause-graph c = can_show (search rules) (search (rules, of_calls)) (λ a r f h. (λ it b. (search rules, search rules), search (rules, of_calls, h)))
 
-pub nodes_of-requires-clause-callable : goal.nodes_of-requires-clause-callable
-nodes_of-requires-clause-callable c = c.in_ok-dfs.ensures.can_walk
+pub all_of-requires-clause-callable : goal.all_of-requires-clause-callable
+all_of-requires-clause-callable c = c.in_ok-dfs.ensures.can_walk

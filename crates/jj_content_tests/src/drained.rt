@@ -1,0 +1,20 @@
+//! What an iterator gives in all.
+ghost use Rattle.std.specs.Prelude.{IfOk, Ok, map};
+ghost use Rattle.std.specs.Iterator.{Drains, IsFinite};
+
+use std::alloc::{AllocError, Global};
+
+/// The items that an iterator gives until it ends, or its first error.
+pub fn all_of<T: Drop, I>(alloc: Global, items: I) -> Result<Vec<T>, AllocError>
+where
+    I: Iterator<Item = Result<T, AllocError>> + Drop,
+    requires callable { I.can_next items }
+    requires finite { IsFinite (I.remaining items) }
+    ensures { IfOk result (λ all. Drains I.next_gives items (map (λ x. Ok x) all.items)) }
+{
+    let mut all = Vec::new(alloc);
+    for item in items {
+        all.push(item?)?;
+    }
+    Ok(all)
+}
