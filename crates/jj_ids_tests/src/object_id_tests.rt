@@ -1,9 +1,9 @@
 //! Ids, prefixes of them, and resolutions.
 use jj_content_tests::json_texts::json_text;
-use jj_content_tests::once_more::{passes, tells_of};
+use jj_content_tests::once_more::{holds, passes, tells, tells_of};
 use jj_ids::object_id::{
-    ChangeId, CommitId, CommitKind, CopyId, CopyKind, FileKind, HexPrefix, Id, IdKind, ObjectId,
-    OperationKind, PrefixResolution, SymlinkKind, TreeKind, ViewKind,
+    ChangeId, ChangeKind, CommitId, CommitKind, CopyId, CopyKind, FileKind, HexPrefix, Id, IdKind,
+    ObjectId, OperationKind, PrefixResolution, SymlinkKind, TreeKind, ViewKind,
 };
 use std::alloc::{AllocError, Global};
 use std::process::Abort;
@@ -32,94 +32,105 @@ fn is_match(prefix: &Option<HexPrefix>, id: &CommitId) -> Option<bool> {
     prefix.as_ref().map(|prefix| prefix.matches(id))
 }
 
-// Checks the text of an id, whole and cut to six digits, and its debug text.
-fn prints<K: IdKind, R: Abort>(
-    rt: &R,
-    alloc: Global,
-    id: &Id<K>,
-    wanted: [&str; 3],
-) -> Result<(), AllocError> {
-    assert_eq!(rt; format!(in alloc; "{id}")?.as_str(), wanted[0]);
-    assert_eq!(rt; format!(in alloc; "{id:.6}")?.as_str(), wanted[1]);
-    assert_eq!(rt; format!(in alloc; "{id:?}")?.as_str(), wanted[2]);
-    Ok(())
+// The text of an id, whole, cut to six digits, and filled, and its debug text.
+fn printed<K: IdKind>(alloc: Global) -> Result<String, AllocError> {
+    let id = Id::<K>::from_bytes(alloc, &BYTES)?;
+    format!(in alloc; "{id} {id:.6} {id:>8.6} {id:?}")
 }
 
 // Those of changes print reversed.
 #[test]
-fn ids_print(rt: HostRuntime) -> Result<(), Fail> {
-    passes(&rt, |rt, alloc| {
-        let id = commit(alloc, &BYTES)?;
-        let wanted = ["deadbeef0123", "deadbe", "CommitId(\"deadbeef0123\")"];
-        prints(rt, alloc, &id, wanted)?;
-        assert_eq!(rt; format!(in alloc; "{id:>8.6}")?.as_str(), "  deadbe");
-        let id = change(alloc, &BYTES)?;
-        let wanted = ["mlpmollkzyxw", "mlpmol", "ChangeId(\"deadbeef0123\")"];
-        prints(rt, alloc, &id, wanted)
-    })
+fn ids_print(rt: HostRuntime) {
+    let wanted = "deadbeef0123 deadbe   deadbe CommitId(\"deadbeef0123\")";
+    assert!(rt; tells(&rt, |alloc| printed::<CommitKind>(alloc), wanted));
+    let wanted = "mlpmollkzyxw mlpmol   mlpmol ChangeId(\"deadbeef0123\")";
+    assert!(rt; tells(&rt, |alloc| printed::<ChangeKind>(alloc), wanted));
+}
+
+// The texts of a change's id, and whether it is read from its own.
+fn texts_of_change(alloc: Global) -> Result<String, AllocError> {
+    let id = change(alloc, &BYTES)?;
+    let (text, hex) = (id.reverse_hex()?, id.hex(alloc)?);
+    let read = ChangeId::try_from_reverse_hex(alloc, "MLPMollkzyxw")?;
+    format!(in alloc; "{text} {hex} {}", read == Some(id))
 }
 
 #[test]
-fn changes_are_read_reversed(rt: HostRuntime) -> Result<(), Fail> {
-    passes(&rt, |rt, alloc| {
-        let id = change(alloc, &BYTES)?;
-        assert_eq!(rt; id.reverse_hex()?.as_str(), "mlpmollkzyxw");
-        assert_eq!(rt; id.hex(alloc)?.as_str(), "deadbeef0123");
-        let read = ChangeId::try_from_reverse_hex(alloc, "MLPMollkzyxw")?;
-        assert!(rt; read == Some(id));
-        Ok(())
-    })
+fn changes_are_read_reversed(rt: HostRuntime) {
+    assert!(rt; tells(&rt, texts_of_change, "mlpmollkzyxw deadbeef0123 true"));
 }
 
-// Checks the debug text and the type's name of an id of a kind.
-fn shows<K: IdKind, R: Abort>(
-    rt: &R,
-    alloc: Global,
-    debug: &str,
-    object_type: &str,
-) -> Result<(), AllocError> {
+// The texts of an id of a kind, and the name of its type.
+fn shown<K: IdKind>(alloc: Global) -> Result<String, AllocError> {
     let id = Id::<K>::from_bytes(alloc, &BYTES)?;
-    assert_eq!(rt; format!(in alloc; "{id:?}")?.as_str(), debug);
-    assert_eq!(rt; format!(in alloc; "{id}")?.as_str(), "deadbeef0123");
-    assert_eq!(rt; id.object_type(alloc)?.as_str(), object_type);
-    Ok(())
+    let object_type = id.object_type(alloc)?;
+    format!(in alloc; "{id:?} {id} {object_type}")
 }
 
 #[test]
 fn ids_of_each_kind_show_their_type(rt: HostRuntime) -> Result<(), Fail> {
     passes(&rt, |rt, alloc| {
-        shows::<CommitKind, _>(rt, alloc, "CommitId(\"deadbeef0123\")", "commit")?;
-        shows::<TreeKind, _>(rt, alloc, "TreeId(\"deadbeef0123\")", "tree")?;
-        shows::<FileKind, _>(rt, alloc, "FileId(\"deadbeef0123\")", "file")?;
-        shows::<SymlinkKind, _>(rt, alloc, "SymlinkId(\"deadbeef0123\")", "symlink")?;
-        shows::<CopyKind, _>(rt, alloc, "CopyId(\"deadbeef0123\")", "copy")?;
-        shows::<ViewKind, _>(rt, alloc, "ViewId(\"deadbeef0123\")", "view")?;
-        shows::<OperationKind, _>(rt, alloc, "OperationId(\"deadbeef0123\")", "operation")?;
+        for (text, wanted) in [
+            (
+                shown::<CommitKind>(alloc)?,
+                "CommitId(\"deadbeef0123\") deadbeef0123 commit",
+            ),
+            (
+                shown::<TreeKind>(alloc)?,
+                "TreeId(\"deadbeef0123\") deadbeef0123 tree",
+            ),
+            (
+                shown::<FileKind>(alloc)?,
+                "FileId(\"deadbeef0123\") deadbeef0123 file",
+            ),
+            (
+                shown::<SymlinkKind>(alloc)?,
+                "SymlinkId(\"deadbeef0123\") deadbeef0123 symlink",
+            ),
+            (
+                shown::<CopyKind>(alloc)?,
+                "CopyId(\"deadbeef0123\") deadbeef0123 copy",
+            ),
+            (
+                shown::<ViewKind>(alloc)?,
+                "ViewId(\"deadbeef0123\") deadbeef0123 view",
+            ),
+            (
+                shown::<OperationKind>(alloc)?,
+                "OperationId(\"deadbeef0123\") deadbeef0123 operation",
+            ),
+        ] {
+            assert_eq!(rt; text.as_str(), wanted);
+        }
         Ok(())
     })
 }
 
+// Whether an id has its bytes and is made of them again.
+fn id_is_its_bytes(alloc: Global) -> Result<bool, AllocError> {
+    let id = commit(alloc, &BYTES)?;
+    let bytes = id.to_bytes(alloc)?;
+    let has_bytes = id.as_bytes() == BYTES.as_slice() && bytes.as_slice() == BYTES.as_slice();
+    Ok(has_bytes && CommitId::new(bytes) == id)
+}
+
+// Whether an id is its copy and is read from its text, which upper case may have too.
+fn id_is_read(alloc: Global) -> Result<bool, AllocError> {
+    let id = commit(alloc, &BYTES)?;
+    Ok(id.clone()? == id && CommitId::from_hex(alloc, "DEADbeef0123")? == id)
+}
+
+// Whether the id of no bytes comes first, and half a byte is none.
+fn short_texts_are_read(alloc: Global) -> Result<bool, AllocError> {
+    let comes_first = CommitId::from_hex(alloc, "")? < commit(alloc, &BYTES)?;
+    Ok(comes_first && CommitId::try_from_hex(alloc, "dea")?.is_none())
+}
+
 #[test]
-fn ids_are_their_bytes(rt: HostRuntime) -> Result<(), Fail> {
-    passes(&rt, |rt, alloc| {
-        let id = commit(alloc, &BYTES)?;
-        assert_eq!(rt; id.as_bytes(), BYTES.as_slice());
-        let bytes = id.to_bytes(alloc)?;
-        assert_eq!(rt; bytes.as_slice(), BYTES.as_slice());
-        let name = id.object_type(alloc)?;
-        assert_eq!(rt; name.as_str(), "commit");
-        let read = CommitId::from_hex(alloc, "DEADbeef0123")?;
-        assert!(rt; read == id);
-        let empty = CommitId::from_hex(alloc, "")?;
-        assert!(rt; empty < id);
-        let odd = CommitId::try_from_hex(alloc, "dea")?;
-        assert!(rt; odd.is_none());
-        let copy = id.clone()?;
-        assert!(rt; copy == id);
-        let made = CommitId::new(bytes);
-        assert!(rt; made == id);
-        Ok(())
-    })
+fn ids_are_their_bytes(rt: HostRuntime) {
+    assert!(rt; holds(&rt, id_is_its_bytes));
+    assert!(rt; holds(&rt, id_is_read));
+    assert!(rt; holds(&rt, short_texts_are_read));
 }
 
 #[test]
@@ -128,6 +139,16 @@ fn ids_in_json_are_their_texts(rt: HostRuntime) {
     assert!(rt; tells_of(&rt, id, json_text, "\"deadbeef0123\""));
     let id = |alloc| change(alloc, &BYTES);
     assert!(rt; tells_of(&rt, id, json_text, "\"mlpmollkzyxw\""));
+}
+
+// Where a text is a prefix, whether it has these bytes and is its copy, and whether it is whole
+// bytes.
+fn read_as(alloc: Global, text: &str, bytes: &[u8]) -> Result<Option<(bool, bool)>, AllocError> {
+    let Some(read) = prefix(alloc, text)? else {
+        return Ok(None);
+    };
+    let is_so = read.min_prefix_bytes() == bytes && read.clone()? == read;
+    Ok(Some((is_so, read.as_full_bytes().is_some())))
 }
 
 #[test]
@@ -140,40 +161,41 @@ fn prefixes_are_read(rt: HostRuntime) -> Result<(), Fail> {
             ("123", [0x12, 0x30].as_slice(), false),
             ("AbC", [0xab, 0xc0].as_slice(), false),
         ] {
-            let Some(read) = prefix(alloc, text)? else {
-                panic!(rt; "a prefix is read");
-            };
-            assert_eq!(rt; read.min_prefix_bytes(), bytes);
-            assert_eq!(rt; read.as_full_bytes().is_some(), full);
-            let copy = read.clone()?;
-            assert!(rt; copy == read);
+            assert_eq!(rt; read_as(alloc, text, bytes)?, Some((true, full)), "{text}");
         }
-        assert!(rt; prefix(alloc, "0x123")?.is_none());
-        assert!(rt; prefix(alloc, "foobar")?.is_none());
+        for text in ["0x123", "foobar"] {
+            assert_eq!(rt; read_as(alloc, text, &[])?, None, "{text}");
+        }
         Ok(())
     })
 }
 
+// The texts of a prefix that is read from a reversed one.
+fn texts_of_prefix(alloc: Global) -> Result<String, AllocError> {
+    let Some(read) = reversed(alloc, "mlp")? else {
+        return format!(in alloc; "none");
+    };
+    let (hex, text) = (read.hex()?, read.reverse_hex()?);
+    format!(in alloc; "{hex} {text} {read:?}")
+}
+
+// Whether the prefix of bytes is that of their id, and no other.
+fn prefix_is_of_id(alloc: Global) -> Result<bool, AllocError> {
+    let whole = HexPrefix::from_bytes(alloc, &[0xde, 0xa0])?;
+    let is_same = HexPrefix::from_id(alloc, &commit(alloc, &[0xde, 0xa0])?)? == whole;
+    Ok(is_same && reversed(alloc, "mlp")? != Some(whole))
+}
+
 #[test]
-fn prefixes_show_their_texts(rt: HostRuntime) -> Result<(), Fail> {
-    passes(&rt, |rt, alloc| {
-        let Some(read) = reversed(alloc, "mlp")? else {
-            panic!(rt; "a prefix is read");
-        };
-        assert_eq!(rt; read.hex()?.as_str(), "dea");
-        assert_eq!(rt; read.reverse_hex()?.as_str(), "mlp");
-        assert_eq!(rt;
-            format!(in alloc; "{read:?}")?.as_str(),
-            "HexPrefix(\"dea\")"
-        );
-        let whole = HexPrefix::from_bytes(alloc, &[0xde, 0xa0])?;
-        assert!(rt; whole != read);
-        let id = commit(alloc, &[0xde, 0xa0])?;
-        let same = HexPrefix::from_id(alloc, &id)?;
-        assert!(rt; same == whole);
-        assert!(rt; reversed(alloc, "jj")?.is_none());
-        Ok(())
-    })
+fn prefixes_show_their_texts(rt: HostRuntime) {
+    assert!(rt; tells(&rt, texts_of_prefix, "dea mlp HexPrefix(\"dea\")"));
+    assert!(rt; holds(&rt, prefix_is_of_id));
+    assert!(rt;
+        holds(
+            &rt,
+            |alloc| Ok::<_, AllocError>(reversed(alloc, "jj")?.is_none())
+        )
+    );
 }
 
 #[test]
@@ -214,12 +236,16 @@ fn resolutions_add_up(rt: HostRuntime) -> Result<(), Fail> {
         let none = PrefixResolution::NoMatch;
         let one = PrefixResolution::SingleMatch(1u8);
         let many = PrefixResolution::AmbiguousMatch;
-        assert!(rt; plus(&one, &one)? == PrefixResolution::AmbiguousMatch);
-        assert!(rt; plus(&none, &one)? == PrefixResolution::SingleMatch(1));
-        assert!(rt; plus(&one, &none)? == PrefixResolution::SingleMatch(1));
-        assert!(rt; plus(&none, &none)? == PrefixResolution::NoMatch);
-        assert!(rt; plus(&none, &many)? == PrefixResolution::AmbiguousMatch);
-        assert!(rt; plus(&many, &one)? == PrefixResolution::AmbiguousMatch);
+        for (first, second, sum) in [
+            (&one, &one, &many),
+            (&none, &one, &one),
+            (&one, &none, &one),
+            (&none, &none, &none),
+            (&none, &many, &many),
+            (&many, &one, &many),
+        ] {
+            assert!(rt; plus(first, second)? == *sum);
+        }
         Ok(())
     })
 }

@@ -6,17 +6,22 @@ use std::alloc::{AllocError, Global};
 use std::process::Abort;
 use std::test::Fail;
 
+// The matcher of a copy of a builder, and a copy of its own matcher, once it went on.
+fn copied<R: Abort>(rt: &R, alloc: Global) -> Result<(GlobsMatcher, GlobsMatcher), AllocError> {
+    let sources = pattern(rt, alloc, "*.rs")?;
+    let pages = pattern(rt, alloc, "*.md")?;
+    let mut builder = GlobsMatcher::builder(alloc).prefix_paths(true);
+    builder.add(path(rt, alloc, "src"), &sources)?;
+    let copied = builder.clone()?.build()?;
+    builder.add(path(rt, alloc, "docs"), &pages)?;
+    Ok((copied, builder.build()?.clone()?))
+}
+
 // A copy of a builder has its patterns, and goes its own way from then on.
 #[test]
 fn copies_of_globs(rt: HostRuntime) -> Result<(), Fail> {
     passes(&rt, |rt, alloc| {
-        let sources = pattern(rt, alloc, "*.rs")?;
-        let pages = pattern(rt, alloc, "*.md")?;
-        let mut builder = GlobsMatcher::builder(alloc).prefix_paths(true);
-        builder.add(path(rt, alloc, "src"), &sources)?;
-        let copied = builder.clone()?.build()?;
-        builder.add(path(rt, alloc, "docs"), &pages)?;
-        let matcher = builder.build()?.clone()?;
+        let (copied, matcher) = copied(rt, alloc)?;
         for (file, in_copy, in_matcher) in [
             ("src/lib.rs", true, true),
             ("src/lib.rs/below", true, true),

@@ -2,7 +2,7 @@
 use crate::fixtures::{Wanted, answers, globs, path, pattern, visits};
 use jj_content_tests::once_more::{Passed, passes};
 use jj_globs::glob::GlobError;
-use jj_matchers::matchers::{GlobsMatcher, Matcher, PathGlobPattern};
+use jj_matchers::matchers::{GlobsMatcher, GlobsMatcherBuilder, Matcher, PathGlobPattern};
 use std::alloc::{AllocError, Global};
 use std::process::Abort;
 use std::test::Fail;
@@ -232,17 +232,31 @@ const BUILT_FIRST: Wanted = ("a/x/y b/x.rs/y", "b/x b/x/y", &[]);
 
 const BUILT_LAST: Wanted = ("a/x b/x b/x.rs", "a/x/y b/x.rs/y", &[]);
 
-// What was built before stays as it is when the builder goes on.
-fn builds<R: Abort>(rt: &R, alloc: Global) -> Passed {
+fn builds_nothing<R: Abort>(rt: &R, alloc: Global) -> Passed {
     let empty = globs(rt, alloc, true, "")?;
-    answers(rt, alloc, empty, &NOTHING_BUILT)?;
-    let any = pattern(rt, alloc, "*")?;
-    let source = pattern(rt, alloc, "*.rs")?;
+    answers(rt, alloc, empty, &NOTHING_BUILT)
+}
+
+// A builder with one pattern in `b` and another in `a`.
+fn two_dirs<'a, R: Abort>(
+    rt: &R,
+    alloc: Global,
+    source: &'a PathGlobPattern,
+    any: &'a PathGlobPattern,
+) -> Result<GlobsMatcherBuilder<'a>, AllocError> {
     let mut builder = GlobsMatcher::builder(alloc).prefix_paths(true);
     assert!(rt; builder.is_empty());
-    builder.add(path(rt, alloc, "b"), &source)?;
-    builder.add(path(rt, alloc, "a"), &any)?;
+    builder.add(path(rt, alloc, "b"), source)?;
+    builder.add(path(rt, alloc, "a"), any)?;
     assert!(rt; !builder.is_empty());
+    Ok(builder)
+}
+
+// What was built before stays as it is when the builder goes on.
+fn builds<R: Abort>(rt: &R, alloc: Global) -> Passed {
+    let source = pattern(rt, alloc, "*.rs")?;
+    let any = pattern(rt, alloc, "*")?;
+    let mut builder = two_dirs(rt, alloc, &source, &any)?;
     let prefixes = builder.build()?;
     builder.add(path(rt, alloc, "b"), &any)?;
     let files = builder.prefix_paths(false).build()?;
@@ -277,14 +291,19 @@ fn is_regex<R: Abort>(rt: &R, alloc: Global, pattern: &PathGlobPattern, regex: &
     Ok(())
 }
 
-fn path_patterns<R: Abort>(rt: &R, alloc: Global) -> Passed {
+// A pattern is its text, and so is its copy.
+fn path_pattern<R: Abort>(rt: &R, alloc: Global) -> Passed {
     let source = pattern(rt, alloc, "a?/*.{rs,[!x]c}")?;
     assert_eq!(rt; source.as_str(), "a?/*.{rs,[!x]c}");
-    is_regex(rt, alloc, &source, "(?-u)^a[^/]/[^/]*\\.(?:rs|[^x]c)$")?;
     assert_eq!(rt; source.clone()?.as_str(), source.as_str());
+    is_regex(rt, alloc, &source, "(?-u)^a[^/]/[^/]*\\.(?:rs|[^x]c)$")
+}
+
+fn folded_pattern<R: Abort>(rt: &R, alloc: Global) -> Passed {
     let folded = folded(alloc)?;
     let regex = "(?-u)(?i)^(?:/?|.*/)\\xc3\\x89[^/]*\\.Rs$";
     is_regex(rt, alloc, &folded, regex)?;
+    let source = pattern(rt, alloc, "a?/*.{rs,[!x]c}")?;
     in_both_cases(rt, alloc, &folded, &source)
 }
 
@@ -316,7 +335,9 @@ fn faulty_patterns<R: Abort>(rt: &R, alloc: Global) -> Passed {
 
 #[test]
 fn builders_and_patterns(rt: HostRuntime) -> Result<(), Fail> {
+    passes(&rt, builds_nothing)?;
     passes(&rt, builds)?;
-    passes(&rt, path_patterns)?;
+    passes(&rt, path_pattern)?;
+    passes(&rt, folded_pattern)?;
     passes(&rt, faulty_patterns)
 }

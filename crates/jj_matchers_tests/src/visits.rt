@@ -1,6 +1,6 @@
 //! The answers of a union, a difference and an intersection, from the answers of both.
 use crate::fixtures::answer;
-use jj_content_tests::once_more::passes;
+use jj_content_tests::once_more::{Passed, passes};
 use jj_matchers::matchers::{Visit, difference_visit, intersection_visit, union_visit};
 use std::alloc::{AllocError, Global};
 use std::process::Abort;
@@ -44,19 +44,31 @@ fn visit<R: Abort>(rt: &R, alloc: Global, named: Named) -> Result<Visit, AllocEr
     answer(rt, alloc, dirs, files)
 }
 
+fn unites<R: Abort>(rt: &R, alloc: Global, pair: (Named, Named), wanted: Named) -> Passed {
+    let answer = union_visit(visit(rt, alloc, pair.0)?, visit(rt, alloc, pair.1)?)?;
+    assert!(rt; answer == visit(rt, alloc, wanted)?);
+    Ok(())
+}
+
+fn differs<R: Abort>(rt: &R, alloc: Global, pair: (Named, Named), wanted: Named) -> Passed {
+    let answer = difference_visit(visit(rt, alloc, pair.0)?, visit(rt, alloc, pair.1)?);
+    assert!(rt; answer == visit(rt, alloc, wanted)?);
+    Ok(())
+}
+
+fn intersects<R: Abort>(rt: &R, alloc: Global, pair: (Named, Named), wanted: Named) -> Passed {
+    let answer = intersection_visit(visit(rt, alloc, pair.0)?, visit(rt, alloc, pair.1)?);
+    assert!(rt; answer == visit(rt, alloc, wanted)?);
+    Ok(())
+}
+
 #[test]
 fn answers_of_two(rt: HostRuntime) -> Result<(), Fail> {
     passes(&rt, |rt, alloc| {
         for (first, second, either, rest, both) in ROWS {
-            let union = union_visit(visit(rt, alloc, first)?, visit(rt, alloc, second)?)?;
-            assert!(rt; union == visit(rt, alloc, either)?);
-            let difference = difference_visit(visit(rt, alloc, first)?, visit(rt, alloc, second)?);
-            assert!(rt; difference == visit(rt, alloc, rest)?);
-            let intersection = intersection_visit(
-                visit(rt, alloc, first)?,
-                visit(rt, alloc, second)?,
-            );
-            assert!(rt; intersection == visit(rt, alloc, both)?);
+            unites(rt, alloc, (first, second), either)?;
+            differs(rt, alloc, (first, second), rest)?;
+            intersects(rt, alloc, (first, second), both)?;
         }
         Ok(())
     })

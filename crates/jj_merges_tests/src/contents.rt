@@ -1,4 +1,5 @@
 //! Content bytes and JSON values of merges.
+use crate::fixtures::parts;
 use jj_content::content_hash::blake2b_hash;
 use jj_content_tests::json_texts::json_text;
 use jj_content_tests::once_more::{passes, tells_of};
@@ -10,10 +11,7 @@ use std::test::Fail;
 
 // A merge of these texts, which commas part.
 fn texts<R: Abort>(rt: &R, alloc: Global, text: &str) -> Result<Merge<String>, AllocError> {
-    let mut terms = Vec::new(alloc);
-    for term in text.split(',') {
-        terms.push(String::from_str(alloc, term)?)?;
-    }
+    let terms = parts(alloc, text)?;
     assert!(rt; terms.len() % 2 == 1);
     Ok(Merge::from_vec(SmallVec::from_vec(terms)))
 }

@@ -13,6 +13,15 @@ pub fn digits(alloc: Global, text: &str) -> Result<Vec<u32>, AllocError> {
     Ok(numbers)
 }
 
+/// The parts of a text, which commas part.
+pub fn parts(alloc: Global, texts: &str) -> Result<Vec<String>, AllocError> {
+    let mut parts = Vec::new(alloc);
+    for text in texts.split(',') {
+        parts.push(String::from_str(alloc, text)?)?;
+    }
+    Ok(parts)
+}
+
 /// A merge of these terms.
 pub fn of_terms<R: Abort>(rt: &R, terms: Vec<u32>) -> Merge<u32> {
     assert!(rt; terms.len() % 2 == 1);

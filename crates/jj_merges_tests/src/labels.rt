@@ -1,20 +1,12 @@
 //! Labels of conflicts.
-use jj_content_tests::once_more::passes;
+use crate::fixtures::{merge, parts};
+use jj_content_tests::once_more::{holds, passes, tells};
 use jj_merges::conflict_labels::ConflictLabels;
 use jj_merges::merge::Merge;
 use smallvec::SmallVec;
 use std::alloc::{AllocError, Global};
 use std::process::Abort;
 use std::test::Fail;
-
-// The parts of a text, which commas part.
-fn parts(alloc: Global, texts: &str) -> Result<Vec<String>, AllocError> {
-    let mut labels = Vec::new(alloc);
-    for text in texts.split(',') {
-        labels.push(String::from_str(alloc, text)?)?;
-    }
-    Ok(labels)
-}
 
 // Labels of these texts, which commas part.
 fn labels_of<R: Abort>(rt: &R, alloc: Global, texts: &str) -> Result<ConflictLabels, AllocError> {
@@ -38,74 +30,82 @@ fn agree<R: Abort>(rt: &R, alloc: Global, texts: &str) -> Result<bool, AllocErro
     Ok(shown && labels == merged(rt, alloc, texts)? && labels == labels.clone()?)
 }
 
-#[test]
-fn equal_labels(rt: HostRuntime) -> Result<(), Fail> {
-    passes(&rt, |rt, alloc| {
-        let texts = "left,base,right";
-        assert!(rt; agree(rt, alloc, texts)?);
-        let labels = labels_of(rt, alloc, texts)?;
-        let none = ConflictLabels::from_vec(SmallVec::new(alloc));
-        assert!(rt; none == ConflictLabels::unlabeled(alloc));
-        assert!(rt; labels != none);
-        let other = merged(rt, alloc, "left,,right")?;
-        assert!(rt; labels != other);
-        Ok(())
-    })
-}
-
-fn digits_of(alloc: Global, labels: &ConflictLabels) -> Result<String, AllocError> {
-    format!(in alloc; "{labels:?}")
+// Whether labels of two texts are the same.
+fn are_same<R: Abort>(rt: &R, alloc: Global, a: &str, b: &str) -> Result<bool, AllocError> {
+    Ok(labels_of(rt, alloc, a)? == labels_of(rt, alloc, b)?)
 }
 
 #[test]
-fn labels_that_say_nothing(rt: HostRuntime) -> Result<(), Fail> {
-    passes(&rt, |rt, alloc| {
-        for texts in ["", "alone", ",,"] {
-            let labels = labels_of(rt, alloc, texts)?;
-            assert!(rt; !labels.has_labels());
-            assert_eq!(rt; labels.num_sides(), None);
-            assert_eq!(rt; labels.as_slice().len(), 0);
-            assert_eq!(rt; labels.get_add(0), None);
-            assert!(rt; labels.as_merge().is_resolved());
-            let text = digits_of(alloc, &labels)?;
-            assert_eq!(rt; text.as_str(), "Unlabeled");
-        }
-        let none = ConflictLabels::from_vec(SmallVec::new(alloc));
-        assert!(rt; !none.has_labels());
-        assert!(rt; ConflictLabels::unlabeled(alloc).into_merge().is_resolved());
-        Ok(())
-    })
-}
-
-#[test]
-fn labels_of_three_sides(rt: HostRuntime) -> Result<(), Fail> {
-    passes(&rt, |rt, alloc| {
-        let labels = labels_of(rt, alloc, "left,,right")?;
-        assert!(rt; labels.has_labels());
-        assert_eq!(rt; labels.num_sides(), Some(2));
-        assert_eq!(rt; labels.get_add(0), Some("left"));
-        assert_eq!(rt; labels.get_add(1), Some("right"));
-        assert_eq!(rt; labels.get_add(2), None);
-        assert_eq!(rt; labels.get_add(usize::MAX), None);
-        assert_eq!(rt; labels.get_remove(0), None);
-        assert_eq!(rt; labels.get_remove(usize::MAX), None);
-        let text = digits_of(alloc, &labels)?;
-        assert_eq!(rt; text.as_str(), "Labeled([\"left\", \"\", \"right\"])");
-        Ok(())
-    })
-}
-
-fn simplified(alloc: Global, labels: &ConflictLabels, terms: &[u32]) -> Result<String, AllocError> {
-    let mut numbers = Vec::new(alloc);
-    for term in terms {
-        numbers.push(*term)?;
+fn equal_labels(rt: HostRuntime) {
+    let texts = "left,base,right";
+    assert!(rt; holds(&rt, |alloc| agree(&rt, alloc, texts)));
+    for other in ["left,,right", "right,base,left", "base", ""] {
+        assert!(rt;
+            !holds(&rt, |alloc| are_same(&rt, alloc, texts, other)),
+            "{other}"
+        );
     }
-    if numbers.len() % 2 == 0 || numbers.len() != 5 || labels.as_slice().len() != 5 {
-        return format!(in alloc; "five terms are wanted");
+}
+
+// What labels say, and their texts.
+fn said<R: Abort>(rt: &R, alloc: Global, texts: &str) -> Result<String, AllocError> {
+    let labels = labels_of(rt, alloc, texts)?;
+    let count = labels.as_slice().len();
+    let is_resolved = labels.as_merge().is_resolved();
+    let sides = labels.num_sides();
+    format!(in alloc;
+        "{} {sides:?} {count} {is_resolved} {labels:?}",
+        labels.has_labels()
+    )
+}
+
+#[test]
+fn labels_that_say_nothing(rt: HostRuntime) {
+    for texts in ["", "alone", ",,"] {
+        let wanted = "false None 0 true Unlabeled";
+        assert!(rt;
+            tells(&rt, |alloc| said(&rt, alloc, texts), wanted),
+            "{texts}"
+        );
     }
-    let merge = Merge::from_vec(SmallVec::from_vec(numbers));
-    let (labels, merge) = labels.simplify_with(alloc, &merge)?;
-    format!(in alloc; "{labels:?} {merge:?}")
+    let alloc = rt.alloc();
+    let none = ConflictLabels::from_vec(SmallVec::new(alloc));
+    assert!(rt; !none.has_labels());
+    assert!(rt; none == ConflictLabels::unlabeled(alloc));
+    assert!(rt; none.into_merge().is_resolved());
+}
+
+// The labels at these places.
+fn at_places<R: Abort>(rt: &R, alloc: Global, places: &[usize]) -> Result<String, AllocError> {
+    let labels = labels_of(rt, alloc, "left,,right")?;
+    let mut text = String::new(alloc);
+    for place in places {
+        let (add, remove) = (labels.get_add(*place), labels.get_remove(*place));
+        write!(text, "{add:?} {remove:?},")?;
+    }
+    Ok(text)
+}
+
+#[test]
+fn labels_of_three_sides(rt: HostRuntime) {
+    let wanted = "true Some(2) 3 false Labeled([\"left\", \"\", \"right\"])";
+    assert!(rt; tells(&rt, |alloc| said(&rt, alloc, "left,,right"), wanted));
+    let wanted = "Some(\"left\") None,Some(\"right\") None,None None,None None,";
+    let places = [0, 1, 2, usize::MAX];
+    assert!(rt; tells(&rt, |alloc| at_places(&rt, alloc, &places), wanted));
+}
+
+// What is left of labels and terms, of which there are as many.
+fn simplified<R: Abort>(
+    rt: &R,
+    alloc: Global,
+    labels: &ConflictLabels,
+    terms: &str,
+) -> Result<String, AllocError> {
+    let whole = merge(rt, alloc, terms)?;
+    assert_eq!(rt; labels.as_slice().len(), whole.as_slice().len());
+    let (labels, whole) = labels.simplify_with(alloc, &whole)?;
+    format!(in alloc; "{labels:?} {whole:?}")
 }
 
 #[test]
@@ -113,19 +113,19 @@ fn each_term_keeps_its_label(rt: HostRuntime) -> Result<(), Fail> {
     passes(&rt, |rt, alloc| {
         let texts = "l0,b1,l1,b2,l2";
         let labels = labels_of(rt, alloc, texts)?;
-        let rows: [([u32; 5], &str); 3] = [
+        let rows = [
             (
-                [0, 1, 2, 2, 3],
+                "01223",
                 "Labeled([\"l0\", \"b1\", \"l2\"]) Conflicted([0, 1, 3])",
             ),
             (
-                [0, 1, 0, 0, 2],
+                "01002",
                 "Labeled([\"l2\", \"b1\", \"l1\"]) Conflicted([2, 1, 0])",
             ),
-            ([0, 0, 1, 1, 2], "Unlabeled Resolved(2)"),
+            ("00112", "Unlabeled Resolved(2)"),
         ];
         for (terms, wanted) in rows {
-            let text = simplified(alloc, &labels, &terms)?;
+            let text = simplified(rt, alloc, &labels, terms)?;
             assert_eq!(rt; text.as_str(), wanted);
         }
         Ok(())

@@ -1,6 +1,6 @@
 //! Making merges of iterators, and their legacy form.
 use crate::fixtures::{columns, digits, merge};
-use jj_content_tests::once_more::passes;
+use jj_content_tests::once_more::{passes, tells};
 use jj_merges::merge::{Diff, Merge, MergeBuilder};
 use std::alloc::{AllocError, Global};
 use std::process::Abort;
@@ -168,26 +168,16 @@ fn builder(rt: HostRuntime) -> Result<(), Fail> {
     })
 }
 
-// A builder that holds these terms, beside a clone.
-fn twins(alloc: Global, text: &str) -> Result<(MergeBuilder<u32>, MergeBuilder<u32>), AllocError> {
+// Whether a builder is its clone, whether it is an empty one, and the clone.
+fn compared(alloc: Global) -> Result<String, AllocError> {
     let mut builder = MergeBuilder::default(alloc);
-    builder.extend(alloc, digits(alloc, text)?)?;
+    builder.extend(alloc, digits(alloc, "12")?)?;
+    let is_empty = builder == MergeBuilder::default(alloc);
     let clone = builder.clone(alloc)?;
-    Ok((builder, clone))
-}
-
-fn printed(alloc: Global, builder: &MergeBuilder<u32>) -> Result<String, AllocError> {
-    format!(in alloc; "{builder:?}")
+    format!(in alloc; "{} {is_empty} {clone:?}", builder == clone)
 }
 
 #[test]
-fn builders_compare(rt: HostRuntime) -> Result<(), Fail> {
-    passes(&rt, |rt, alloc| {
-        let (two, clone) = twins(alloc, "12")?;
-        assert!(rt; two == clone);
-        assert!(rt; two != MergeBuilder::default(alloc));
-        let text = printed(alloc, &clone)?;
-        assert_eq!(rt; text.as_str(), "MergeBuilder { values: [1, 2] }");
-        Ok(())
-    })
+fn builders_compare(rt: HostRuntime) {
+    assert!(rt; tells(&rt, compared, "true false MergeBuilder { values: [1, 2] }"));
 }

@@ -1,6 +1,6 @@
 //! Making, reading and changing merges.
 use crate::fixtures::{digits, merge, of_terms};
-use jj_content_tests::once_more::passes;
+use jj_content_tests::once_more::{passes, tells};
 use jj_merges::merge::{Diff, Merge};
 use std::alloc::{AllocError, Global};
 use std::process::Abort;
@@ -20,32 +20,53 @@ fn diffs(rt: HostRuntime) {
     assert_eq!(rt; Diff::new(1, 2).into_array(), [1, 2]);
 }
 
+// What is left of the adds when the removes are taken from them.
+fn sum_of(whole: &Merge<u32>) -> u32 {
+    let mut sum = 0u32;
+    for add in whole.adds() {
+        sum = sum.wrapping_add(*add);
+    }
+    for remove in whole.removes() {
+        sum = sum.wrapping_sub(*remove);
+    }
+    sum
+}
+
+// The numbers of sides, adds and removes, the first term, whether the merge is resolved, by two
+// calls, and its sum.
+fn shape<R: Abort>(rt: &R, alloc: Global) -> Result<String, AllocError> {
+    let whole = merge(rt, alloc, "12345")?;
+    let (sides, adds, removes) = (whole.num_sides(), whole.adds().len(), whole.removes().len());
+    let (is_resolved, resolved) = (whole.is_resolved(), whole.as_resolved().copied());
+    let (first, sum) = (*whole.first(), sum_of(&whole));
+    format!(in alloc; "{sides} {adds} {removes} {first} {is_resolved} {resolved:?} {sum}")
+}
+
+// The add and the remove at a place.
+fn at_place<R: Abort>(rt: &R, alloc: Global, place: usize) -> Result<String, AllocError> {
+    let whole = merge(rt, alloc, "12345")?;
+    let (add, remove) = (
+        whole.get_add(place).copied(),
+        whole.get_remove(place).copied(),
+    );
+    format!(in alloc; "{add:?} {remove:?}")
+}
+
 #[test]
-fn sides(rt: HostRuntime) -> Result<(), Fail> {
-    passes(&rt, |rt, alloc| {
-        let whole = merge(rt, alloc, "12345")?;
-        assert_eq!(rt; whole.num_sides(), 3);
-        assert_eq!(rt; *whole.first(), 1);
-        assert_eq!(rt; whole.get_add(1).copied(), Some(3));
-        assert_eq!(rt; whole.get_add(3).copied(), None);
-        assert_eq!(rt; whole.get_add(usize::MAX).copied(), None);
-        assert_eq!(rt; whole.get_remove(1).copied(), Some(4));
-        assert_eq!(rt; whole.get_remove(2).copied(), None);
-        assert_eq!(rt; whole.get_remove(usize::MAX).copied(), None);
-        assert_eq!(rt; whole.adds().len(), 3);
-        assert_eq!(rt; whole.removes().len(), 2);
-        assert!(rt; whole.as_resolved().is_none());
-        assert!(rt; !whole.is_resolved());
-        let mut sum = 0u32;
-        for add in whole.adds() {
-            sum = sum.wrapping_add(*add);
-        }
-        for remove in whole.removes() {
-            sum = sum.wrapping_sub(*remove);
-        }
-        assert_eq!(rt; sum, 3);
-        Ok(())
-    })
+fn sides(rt: HostRuntime) {
+    assert!(rt; tells(&rt, |alloc| shape(&rt, alloc), "3 3 2 1 false None 3"));
+    for (place, wanted) in [
+        (0, "Some(1) Some(2)"),
+        (1, "Some(3) Some(4)"),
+        (2, "Some(5) None"),
+        (3, "None None"),
+        (usize::MAX, "None None"),
+    ] {
+        assert!(rt;
+            tells(&rt, |alloc| at_place(&rt, alloc, place), wanted),
+            "{place}"
+        );
+    }
 }
 
 // A resolved merge lies in the value, so all of this is done with every request for memory
@@ -70,88 +91,105 @@ fn resolved_takes_no_memory(rt: HostRuntime) {
     assert_eq!(rt; normal.as_normal().copied(), Some(5));
 }
 
-fn padded<R: Abort>(rt: &R, alloc: Global) -> Result<Merge<u32>, AllocError> {
+fn padded<R: Abort>(rt: &R, alloc: Global, with: u32) -> Result<String, AllocError> {
     let mut one = merge(rt, alloc, "1")?;
-    one.pad_to(alloc, 3, &0)?;
-    one.pad_to(alloc, 1, &3)?;
-    Ok(one)
+    one.pad_to(alloc, 3, &with)?;
+    one.pad_to(alloc, 1, &9)?;
+    format!(in alloc; "{:?}", one.as_slice())
 }
 
-fn padded_with_twos<R: Abort>(rt: &R, alloc: Global) -> Result<Merge<u32>, AllocError> {
-    let mut one = merge(rt, alloc, "1")?;
-    one.pad_to(alloc, 3, &2)?;
-    Ok(one)
+fn repeated(alloc: Global) -> Result<String, AllocError> {
+    let four = Merge::repeated(alloc, 4u32, 2)?;
+    format!(in alloc; "{:?}", four.as_slice())
 }
 
 #[test]
-fn pad_and_repeat(rt: HostRuntime) -> Result<(), Fail> {
-    passes(&rt, |rt, alloc| {
-        let long = padded(rt, alloc)?;
-        assert_eq!(rt; long.as_slice(), [1, 0, 0, 0, 0].as_slice());
-        let long = padded_with_twos(rt, alloc)?;
-        assert_eq!(rt; long.as_slice(), [1, 2, 2, 2, 2].as_slice());
-        let four = Merge::repeated(alloc, 4u32, 2)?;
-        assert_eq!(rt; four.as_slice(), [4, 4, 4].as_slice());
-        Ok(())
-    })
+fn pad_and_repeat(rt: HostRuntime) {
+    assert!(rt; tells(&rt, |alloc| padded(&rt, alloc, 0), "[1, 0, 0, 0, 0]"));
+    assert!(rt; tells(&rt, |alloc| padded(&rt, alloc, 2), "[1, 2, 2, 2, 2]"));
+    assert!(rt; tells(&rt, repeated, "[4, 4, 4]"));
+}
+
+// What is taken out of a merge at these places, and the terms that are left.
+fn taken_out<R: Abort>(
+    rt: &R,
+    alloc: Global,
+    terms: &str,
+    places: (usize, usize),
+) -> Result<String, AllocError> {
+    let mut whole = merge(rt, alloc, terms)?;
+    assert!(rt; places.0 < whole.removes().len());
+    assert!(rt; places.1 < whole.adds().len());
+    let taken = whole.swap_remove(places.0, places.1);
+    format!(in alloc; "{taken:?} {:?}", whole.as_slice())
 }
 
 #[test]
-fn swap_remove(rt: HostRuntime) -> Result<(), Fail> {
-    passes(&rt, |rt, alloc| {
-        let mut terms = merge(rt, alloc, "0123456")?;
-        assert_eq!(rt; terms.adds().len(), 4);
-        assert_eq!(rt; terms.removes().len(), 3);
-        assert_eq!(rt; terms.swap_remove(0, 1), (1, 2));
-        assert_eq!(rt; terms.as_slice(), [0, 5, 6, 3, 4].as_slice());
-        assert_eq!(rt; terms.adds().len(), 3);
-        assert_eq!(rt; terms.removes().len(), 2);
-        assert_eq!(rt; terms.swap_remove(1, 0), (3, 0));
-        assert_eq!(rt; terms.as_slice(), [4, 5, 6].as_slice());
-        assert_eq!(rt; terms.adds().len(), 2);
-        assert_eq!(rt; terms.removes().len(), 1);
-        assert_eq!(rt; terms.swap_remove(0, 1), (5, 6));
-        assert_eq!(rt; terms.as_slice(), [4].as_slice());
-        let mut five = merge(rt, alloc, "01234")?;
-        assert_eq!(rt; five.adds().len(), 3);
-        assert_eq!(rt; five.removes().len(), 2);
-        assert_eq!(rt; five.swap_remove(0, 0), (1, 0));
-        assert_eq!(rt; five.as_slice(), [4, 3, 2].as_slice());
-        Ok(())
-    })
+fn swap_remove(rt: HostRuntime) {
+    for (terms, places, wanted) in [
+        ("0123456", (0, 1), "(1, 2) [0, 5, 6, 3, 4]"),
+        ("05634", (1, 0), "(3, 0) [4, 5, 6]"),
+        ("456", (0, 1), "(5, 6) [4]"),
+        ("01234", (0, 0), "(1, 0) [4, 3, 2]"),
+    ] {
+        assert!(rt;
+            tells(&rt, |alloc| taken_out(&rt, alloc, terms, places), wanted),
+            "{terms}"
+        );
+    }
 }
 
-// The images of a merge by each way to make them, as one text.
+fn twice(alloc: Global, whole: &Merge<u32>) -> Result<Merge<u32>, AllocError> {
+    whole.map(alloc, |x| x.wrapping_mul(2))
+}
+
+fn one_more(alloc: Global, whole: &Merge<u32>) -> Result<Merge<u32>, AllocError> {
+    whole.try_map(alloc, |x| Ok::<u32, AllocError>(x.wrapping_add(1)))
+}
+
+fn half(alloc: Global, whole: Merge<u32>) -> Result<Merge<u32>, AllocError> {
+    whole.into_map(alloc, |x| x / 2)
+}
+
+fn copied(alloc: Global, whole: &Merge<u32>) -> Result<Merge<u32>, AllocError> {
+    whole.as_ref(alloc)?.cloned(alloc)
+}
+
+// A merge zipped with itself and unzipped again.
+fn unzipped<R: Abort>(
+    rt: &R,
+    alloc: Global,
+    whole: Merge<u32>,
+) -> Result<(Merge<u32>, Merge<u32>), AllocError> {
+    let other = whole.clone(alloc)?;
+    assert_eq!(rt; other.as_slice().len(), whole.as_slice().len());
+    whole.zip(alloc, other)?.unzip(alloc)
+}
+
+// The images of a merge.
 fn images<R: Abort>(rt: &R, alloc: Global, text: &str) -> Result<String, AllocError> {
     let whole = merge(rt, alloc, text)?;
-    let twice = whole.map(alloc, |x| x.wrapping_mul(2))?;
-    let tried: Merge<u32> = whole.try_map(alloc, |x| Ok::<u32, AllocError>(x.wrapping_add(1)))?;
-    let copy = whole.as_ref(alloc)?.cloned(alloc)?;
-    let same = whole.clone(alloc)?;
-    let halves = whole.into_map(alloc, |x| x / 2)?;
-    let len = twice.as_slice().len();
-    if tried.as_slice().len() != len || copy.as_slice().len() != len {
-        return format!(in alloc; "lengths differ");
-    }
-    let (left, right) = twice.zip(alloc, tried)?.unzip(alloc)?;
-    format!(in alloc; "{left:?} {right:?} {copy:?} {same:?} {halves:?}")
+    let (twice, more) = (twice(alloc, &whole)?, one_more(alloc, &whole)?);
+    format!(in alloc; "{twice:?} {more:?} {:?}", half(alloc, whole)?)
+}
+
+// Copies of a merge.
+fn copies<R: Abort>(rt: &R, alloc: Global, text: &str) -> Result<String, AllocError> {
+    let copy = copied(alloc, &merge(rt, alloc, text)?)?;
+    let (left, right) = unzipped(rt, alloc, merge(rt, alloc, text)?)?;
+    format!(in alloc; "{copy:?} {left:?} {right:?}")
 }
 
 #[test]
-fn place_by_place(rt: HostRuntime) -> Result<(), Fail> {
-    passes(&rt, |rt, alloc| {
-        let text = images(rt, alloc, "124")?;
-        assert_eq!(rt;
-            text.as_str(),
-            "Conflicted([2, 4, 8]) Conflicted([2, 3, 5]) Conflicted([1, 2, 4]) Conflicted([1, 2, 4]) Conflicted([0, 1, 2])"
-        );
-        let text = images(rt, alloc, "6")?;
-        assert_eq!(rt;
-            text.as_str(),
-            "Resolved(12) Resolved(7) Resolved(6) Resolved(6) Resolved(3)"
-        );
-        Ok(())
-    })
+fn place_by_place(rt: HostRuntime) {
+    let wanted = "Conflicted([2, 4, 8]) Conflicted([2, 3, 5]) Conflicted([0, 1, 2])";
+    assert!(rt; tells(&rt, |alloc| images(&rt, alloc, "124"), wanted));
+    let wanted = "Resolved(12) Resolved(7) Resolved(3)";
+    assert!(rt; tells(&rt, |alloc| images(&rt, alloc, "6"), wanted));
+    let wanted = "Conflicted([1, 2, 4]) Conflicted([1, 2, 4]) Conflicted([1, 2, 4])";
+    assert!(rt; tells(&rt, |alloc| copies(&rt, alloc, "124"), wanted));
+    let wanted = "Resolved(6) Resolved(6) Resolved(6)";
+    assert!(rt; tells(&rt, |alloc| copies(&rt, alloc, "6"), wanted));
 }
 
 fn split<R: Abort>(rt: &R, alloc: Global) -> Result<(Vec<u32>, Vec<u32>), AllocError> {

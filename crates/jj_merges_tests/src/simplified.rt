@@ -1,6 +1,6 @@
 //! What `simplify` leaves of merges, and writing back into them.
 use crate::fixtures::{check_each, columns, digits, merge, of_terms};
-use jj_content_tests::once_more::passes;
+use jj_content_tests::once_more::{passes, tells};
 use jj_merges::merge::{Merge, SameChange};
 use smallvec::SmallVec;
 use std::alloc::{AllocError, Global};
@@ -132,21 +132,28 @@ fn doubled(alloc: Global, count: u32) -> Result<Vec<u32>, AllocError> {
     Ok(terms)
 }
 
-#[test]
-fn long_merges(rt: HostRuntime) -> Result<(), Fail> {
-    passes(&rt, |rt, alloc| {
-        let sevens = Merge::repeated(alloc, 7u32, 1001)?;
-        let left = sevens.simplify(alloc)?;
-        assert_eq!(rt; left.as_slice(), [7].as_slice());
+// What is left of a number that stands on 1,001 sides.
+fn repeated(alloc: Global) -> Result<String, AllocError> {
+    let left = Merge::repeated(alloc, 7u32, 1001)?.simplify(alloc)?;
+    format!(in alloc; "{left:?}")
+}
 
-        let terms = doubled(alloc, 1000)?;
-        let whole = of_terms(rt, terms);
-        assert_eq!(rt;
-            whole.resolve_trivial(SameChange::Keep).copied(),
-            Some(1000)
-        );
-        let left = whole.simplify(alloc)?;
-        assert_eq!(rt; left.as_slice(), [1000].as_slice());
-        Ok(())
-    })
+// What counts decide of a merge whose terms cancel but for one, and what is left of it.
+fn cancelled<R: Abort>(rt: &R, alloc: Global) -> Result<String, AllocError> {
+    let whole = of_terms(rt, doubled(alloc, 1000)?);
+    let decided = whole.resolve_trivial(SameChange::Keep).copied();
+    let left = whole.simplify(alloc)?;
+    format!(in alloc; "{decided:?} {left:?}")
+}
+
+#[test]
+fn long_merges(rt: HostRuntime) {
+    assert!(rt; tells(&rt, repeated, "Resolved(7)"));
+    assert!(rt;
+        tells(
+            &rt,
+            |alloc| cancelled(&rt, alloc),
+            "Some(1000) Resolved(1000)"
+        )
+    );
 }

@@ -11,6 +11,9 @@ use std::process::Abort;
 use std::rc::Rc;
 use std::test::Fail;
 
+// How often something was asked.
+type Counter = Rc<Cell<u32>>;
+
 // What a backend in memory does with a signature.
 #[derive(Clone, Copy)]
 enum Does {
@@ -25,11 +28,11 @@ enum Does {
 struct Fake {
     reads: bool,
     does: Does,
-    asked: Rc<Cell<u32>>,
+    asked: Counter,
 }
 
 impl Fake {
-    fn new(does: Does, asked: Rc<Cell<u32>>) -> Fake {
+    fn new(does: Does, asked: Counter) -> Fake {
         let reads = !matches!(does, Does::CannotRead);
         Fake { reads, does, asked }
     }
@@ -77,6 +80,30 @@ fn id_of(alloc: Global, byte: u8) -> Result<CommitId, AllocError> {
     Ok(CommitId::new(Vec::from_slice(alloc, &[byte])?))
 }
 
+// A backend that counts so.
+fn boxed(alloc: Global, does: Does, asked: &Counter) -> SignResult<Box<dyn SigningBackend>> {
+    let backend: Box<dyn SigningBackend> = Box::new(alloc, Fake::new(does, asked.clone()?))?;
+    Ok(backend)
+}
+
+// A signer with a main backend alone.
+fn one_backend(alloc: Global, does: Does, asked: &Counter) -> SignResult<Signer> {
+    let main = boxed(alloc, does, asked)?;
+    Ok(Signer::new(alloc, Some(main), Vec::new(alloc))?)
+}
+
+// A signer with a main backend and another one.
+fn two_backends(
+    alloc: Global,
+    main: (Does, &Counter),
+    other: (Does, &Counter),
+) -> SignResult<Signer> {
+    let mut others = Vec::new(alloc);
+    others.push(boxed(alloc, other.0, other.1)?)?;
+    let main = boxed(alloc, main.0, main.1)?;
+    Ok(Signer::new(alloc, Some(main), others)?)
+}
+
 // What a backend that reads and then another one, asked twice about one commit, answer, and how
 // often each was asked.
 fn asked_twice<R: Abort>(
@@ -89,14 +116,7 @@ fn asked_twice<R: Abort>(
 ) -> Result<(), SignError> {
     let counter = Rc::new(alloc, Cell::new(0))?;
     let other_counter = Rc::new(alloc, Cell::new(0))?;
-    let main: Box<dyn SigningBackend> = Box::new(alloc, Fake::new(first, counter.clone()?))?;
-    let other: Box<dyn SigningBackend> = Box::new(
-        alloc,
-        Fake::new(second, other_counter.clone()?),
-    )?;
-    let mut others = Vec::new(alloc);
-    others.push(other)?;
-    let mut signer = Signer::new(alloc, Some(main), others)?;
+    let mut signer = two_backends(alloc, (first, &counter), (second, &other_counter))?;
     let id = id_of(alloc, 1)?;
     for _ in 0..2u8 {
         let found = signer.verify(&id, b"data", b"signature")?;
@@ -126,11 +146,7 @@ fn backends_in_turn(rt: HostRuntime) -> Result<(), Fail> {
 fn failures_are_not_remembered(rt: HostRuntime) -> Result<(), Fail> {
     succeeds(&rt, |rt, alloc| {
         let counter = Rc::new(alloc, Cell::new(0))?;
-        let main: Box<dyn SigningBackend> = Box::new(
-            alloc,
-            Fake::new(Does::Fails, counter.clone()?),
-        )?;
-        let mut signer = Signer::new(alloc, Some(main), Vec::new(alloc))?;
+        let mut signer = one_backend(alloc, Does::Fails, &counter)?;
         let id = id_of(alloc, 1)?;
         for _ in 0..2u8 {
             match signer.verify(&id, b"data", b"signature") {
@@ -146,6 +162,20 @@ fn failures_are_not_remembered(rt: HostRuntime) -> Result<(), Fail> {
     })
 }
 
+// A signer with a backend that finds each signature good.
+fn good_backend(
+    alloc: Global,
+    capacity: Option<NonZeroUsize>,
+    asked: &Counter,
+) -> SignResult<Signer> {
+    let good = Does::Says(SigStatus::Good);
+    let Some(capacity) = capacity else {
+        return one_backend(alloc, good, asked);
+    };
+    let main = boxed(alloc, good, asked)?;
+    Ok(Signer::with_capacity(alloc, Some(main), Vec::new(alloc), capacity)?)
+}
+
 // How often a good backend is asked about these commits, one after the other.
 fn times_asked(
     alloc: Global,
@@ -153,53 +183,56 @@ fn times_asked(
     commits: &[u8],
 ) -> Result<u32, SignError> {
     let counter = Rc::new(alloc, Cell::new(0))?;
-    let main: Box<dyn SigningBackend> = Box::new(
-        alloc,
-        Fake::new(Does::Says(SigStatus::Good), counter.clone()?),
-    )?;
-    let others = Vec::new(alloc);
-    let mut signer = match capacity {
-        Some(capacity) => Signer::with_capacity(alloc, Some(main), others, capacity)?,
-        None => Signer::new(alloc, Some(main), others)?,
-    };
+    let mut signer = good_backend(alloc, capacity, &counter)?;
     for commit in commits {
         let _ = signer.verify(&id_of(alloc, *commit)?, b"data", b"signature")?;
     }
     Ok(counter.get())
 }
 
+// So many commits, and then these.
+fn numbered(alloc: Global, count: u8, last: &[u8]) -> Result<Vec<u8>, AllocError> {
+    let mut commits = Vec::new(alloc);
+    for commit in 0..count {
+        commits.push(commit)?;
+    }
+    commits.extend_from_slice(last)?;
+    Ok(commits)
+}
+
 #[test]
 fn as_many_as_there_is_room_for(rt: HostRuntime) -> Result<(), Fail> {
     succeeds::<_, SignError, _>(&rt, |rt, alloc| {
         let one = NonZeroUsize::new(1);
-        assert_eq!(rt; times_asked(alloc, one, b"pqp")?, 3);
-        assert_eq!(rt; times_asked(alloc, one, b"ppqq")?, 2);
-        let mut commits = Vec::new(alloc);
-        for commit in 0..101u8 {
-            commits.push(commit)?;
+        for (commits, count) in [(b"pqp".as_slice(), 3), (b"ppqq".as_slice(), 2)] {
+            assert_eq!(rt; times_asked(alloc, one, commits)?, count);
         }
-        commits.push(0)?;
-        assert_eq!(rt; times_asked(alloc, None, commits.as_slice())?, 102);
-        commits.truncate(100);
-        commits.extend_from_slice(&[0, 200, 0])?;
-        assert_eq!(rt; times_asked(alloc, None, commits.as_slice())?, 101);
+        let again: [(u8, &[u8], u32); 2] = [(101, &[0], 102), (100, &[0, 200, 0], 101)];
+        for (count, last, times) in again {
+            let commits = numbered(alloc, count, last)?;
+            assert_eq!(rt; times_asked(alloc, None, commits.as_slice())?, times);
+        }
         Ok(())
     })
+}
+
+// What a main backend signs, where it can.
+fn signed(alloc: Global) -> SignResult<Option<Vec<u8>>> {
+    let asked = Rc::new(alloc, Cell::new(0))?;
+    let signer = one_backend(alloc, Does::CannotRead, &asked)?;
+    if !signer.can_sign() {
+        return Ok(None);
+    }
+    Ok(Some(signer.sign(b"data", Some(" key"))?))
 }
 
 #[test]
 fn the_main_backend_signs(rt: HostRuntime) -> Result<(), Fail> {
     succeeds::<_, SignError, _>(&rt, |rt, alloc| {
-        let main: Box<dyn SigningBackend> = Box::new(
-            alloc,
-            Fake::new(Does::CannotRead, Rc::new(alloc, Cell::new(0))?),
-        )?;
-        let signer = Signer::new(alloc, Some(main), Vec::new(alloc))?;
-        assert!(rt; signer.can_sign());
-        if signer.can_sign() {
-            let signature = signer.sign(b"data", Some(" key"))?;
-            assert_eq!(rt; signature.as_slice(), b"signed data key".as_slice());
-        }
+        let signature = signed(alloc)?;
+        assert!(rt;
+            signature.is_some_and(|bytes| bytes.as_slice() == b"signed data key".as_slice())
+        );
         let nobody = Signer::new(alloc, None, Vec::new(alloc))?;
         assert!(rt; !nobody.can_sign());
         Ok(())

@@ -87,6 +87,7 @@ pub fn next_ids(
 #[cfg(test)]
 mod tests {
     use super::*;
+    use crate::tables::found;
     use jj_content_tests::once_more::passes;
     use std::alloc::AllocError;
     use std::process::Abort;
@@ -101,24 +102,41 @@ mod tests {
         })
     }
 
+    // Commits of these times, ids and parents.
+    fn commits_of(alloc: Global, rows: &[(u64, u64, &[u64])]) -> Result<Vec<Commit>, AllocError> {
+        let mut commits = Vec::new(alloc);
+        for (time, id, parents) in rows {
+            commits.push(commit(alloc, *time, *id, *parents)?)?;
+        }
+        Ok(commits)
+    }
+
+    // The ids of what these reach, the newest first where there is a choice.
+    fn newest_ids(
+        alloc: Global,
+        commits: &[Commit],
+        heads: &[u64],
+    ) -> Result<Vec<u64>, WalkError<u64>> {
+        let mut ids = Vec::new(alloc);
+        for commit in newest_first(alloc, commits, heads)?.iter() {
+            ids.push(commit.id)?;
+        }
+        Ok(ids)
+    }
+
+    static HISTORY: [(u64, u64, &[u64]); 5] = [
+        (1, 1, &[]),
+        (9, 2, &[1]),
+        (5, 3, &[1]),
+        (5, 4, &[1]),
+        (6, 5, &[2, 3]),
+    ];
+
     #[test]
     fn newest_commits_come_first(rt: HostRuntime) -> Result<(), Fail> {
         passes(&rt, |rt, alloc| {
-            let mut commits = Vec::new(alloc);
-            commits.push(commit(alloc, 1, 1, &[])?)?;
-            commits.push(commit(alloc, 9, 2, &[1])?)?;
-            commits.push(commit(alloc, 5, 3, &[1])?)?;
-            commits.push(commit(alloc, 5, 4, &[1])?)?;
-            commits.push(commit(alloc, 6, 5, &[2, 3])?)?;
-            let order = match newest_first(alloc, &commits, &[4, 5]) {
-                Ok(order) => order,
-                Err(WalkError::Memory) => return Err(AllocError),
-                Err(WalkError::Node(_id)) => Vec::new(alloc),
-            };
-            let mut ids = Vec::new(alloc);
-            for commit in order.iter() {
-                ids.push(commit.id)?;
-            }
+            let commits = commits_of(alloc, &HISTORY)?;
+            let ids = found(rt, newest_ids(alloc, &commits, &[4, 5]))?;
             assert_eq!(rt; ids.as_slice(), [5, 2, 4, 3, 1].as_slice());
             Ok(())
         })

@@ -71,39 +71,47 @@ fn gives<R: Abort>(
     Ok(())
 }
 
-#[test]
-fn orders_from_two_starts_come_in_chunks(rt: HostRuntime) -> Result<(), Fail> {
-    passes(&rt, |rt, alloc| {
-        let mut start = Vec::new(alloc);
-        start.push('2')?;
-        start.push('3')?;
-        gives(rt, alloc, JOINED, &mut start, (&['2', '3', '1'], &['0']))?;
-        gives(rt, alloc, JOINED, &mut start, (&['0'], &[]))?;
-        // The greater start is the lesser one's root, so all is explored.
-        start.push('B')?;
-        start.push('a')?;
-        gives(
-            rt,
-            alloc,
-            GREAT_ROOT,
-            &mut start,
-            (&['B', 'A', 'b', 'a'], &[]),
-        )?;
-        // A start that comes twice is given once.
-        start.push('A')?;
-        start.push('A')?;
-        gives(rt, alloc, SQUARE, &mut start, (&['A'], &[]))
-    })
+// A graph, starts, and the chunks that they give, each with the starts that it leaves.
+type Chunks = (
+    FailingTable<'static>,
+    &'static [char],
+    &'static [(&'static [char], &'static [char])],
+);
+
+static CHUNKS: [Chunks; 4] = [
+    (
+        SQUARE,
+        &['D'],
+        &[(&['D'], &['B', 'C']), (&['B', 'C', 'A'], &[]), (&[], &[])],
+    ),
+    (
+        JOINED,
+        &['2', '3'],
+        &[(&['2', '3', '1'], &['0']), (&['0'], &[])],
+    ),
+    // The greater start is the lesser one's root, so all is explored.
+    (GREAT_ROOT, &['B', 'a'], &[(&['B', 'A', 'b', 'a'], &[])]),
+    // A start that comes twice is given once.
+    (SQUARE, &['A', 'A'], &[(&['A'], &[])]),
+];
+
+// Takes these chunks, one after the other.
+fn gives_all<R: Abort>(rt: &R, alloc: Global, chunks: &Chunks) -> Result<(), AllocError> {
+    let (table, starts, wanted) = *chunks;
+    let mut start = starts.to_vec(alloc)?;
+    for chunk in wanted {
+        gives(rt, alloc, table, &mut start, *chunk)?;
+    }
+    Ok(())
 }
 
 #[test]
 fn orders_come_in_chunks(rt: HostRuntime) -> Result<(), Fail> {
     passes(&rt, |rt, alloc| {
-        let mut start = Vec::new(alloc);
-        start.push('D')?;
-        gives(rt, alloc, SQUARE, &mut start, (&['D'], &['B', 'C']))?;
-        gives(rt, alloc, SQUARE, &mut start, (&['B', 'C', 'A'], &[]))?;
-        gives(rt, alloc, SQUARE, &mut start, (&[], &[]))
+        for chunks in &CHUNKS {
+            gives_all(rt, alloc, chunks)?;
+        }
+        Ok(())
     })
 }
 

@@ -43,21 +43,29 @@ fn is<R: Abort>(
     Ok(())
 }
 
+// Graphs, two sets of nodes, and the closest common ones.
+static CLOSEST: &[(Table<'static>, (&[char], &[char]), &[char])] = &[
+    (CROSSED, (&['D'], &['E']), &['B', 'C']),
+    (CROSSED, (&['D', 'D'], &['E', 'A']), &['B', 'C']),
+    (CROSSED, (&['D'], &['B']), &['B']),
+    (CROSSED, (&['D', 'E'], &['D']), &['D']),
+    (CROSSED, (&['D', 'B'], &['E', 'A']), &['B', 'C']),
+    (CROSSED, (&['D'], &['F']), &[]),
+    (CROSSED, (&[], &['D']), &[]),
+    (JOINED, (&['1'], &['2']), &['9']),
+    (JOINED, (&['1'], &['9']), &['9']),
+    (JOINED, (&['1'], &['5']), &['5']),
+    (JOINED, (&['1'], &['1']), &['1']),
+    (STEEP, (&['X'], &['Y']), &['B']),
+];
+
 #[test]
 fn closest_in_small_graphs(rt: HostRuntime) -> Result<(), Fail> {
     passes(&rt, |rt, alloc| {
-        is(rt, alloc, CROSSED, (&['D'], &['E']), &['B', 'C'])?;
-        is(rt, alloc, CROSSED, (&['D', 'D'], &['E', 'A']), &['B', 'C'])?;
-        is(rt, alloc, CROSSED, (&['D'], &['B']), &['B'])?;
-        is(rt, alloc, CROSSED, (&['D', 'E'], &['D']), &['D'])?;
-        is(rt, alloc, CROSSED, (&['D', 'B'], &['E', 'A']), &['B', 'C'])?;
-        is(rt, alloc, CROSSED, (&['D'], &['F']), &[])?;
-        is(rt, alloc, CROSSED, (&[], &['D']), &[])?;
-        is(rt, alloc, JOINED, (&['1'], &['2']), &['9'])?;
-        is(rt, alloc, JOINED, (&['1'], &['9']), &['9'])?;
-        is(rt, alloc, JOINED, (&['1'], &['5']), &['5'])?;
-        is(rt, alloc, JOINED, (&['1'], &['1']), &['1'])?;
-        is(rt, alloc, STEEP, (&['X'], &['Y']), &['B'])
+        for (table, sets, wanted) in CLOSEST {
+            is(rt, alloc, *table, *sets, *wanted)?;
+        }
+        Ok(())
     })
 }
 

@@ -104,28 +104,49 @@ mod tests {
         )
     }
 
+    // Ids, parents and texts of commits.
+    type Rows<'a> = &'a [(u64, &'a [u64], &'a str)];
+
+    fn commits_of(alloc: Global, rows: Rows<'_>) -> Result<Vec<Commit>, AllocError> {
+        let mut commits = Vec::new(alloc);
+        for (id, parents, text) in rows {
+            commits.push(commit(alloc, *id, *parents, *text)?)?;
+        }
+        Ok(commits)
+    }
+
+    // How many tips there are, or the text of a commit whose parents are not all there.
+    fn tips_of(alloc: Global, rows: Rows<'_>) -> Result<Result<usize, String>, AllocError> {
+        let commits = commits_of(alloc, rows)?;
+        match found_tips(alloc, &commits) {
+            Ok(tips) => Ok(Ok(tips.len())),
+            Err(WalkError::Memory) => Err(AllocError),
+            Err(WalkError::Node(Gap::Memory)) => Err(AllocError),
+            Err(WalkError::Node(Gap::Text(text))) => Ok(Err(text)),
+        }
+    }
+
+    #[test]
+    fn two_commits_are_tips(rt: HostRuntime) -> Result<(), Fail> {
+        passes(&rt, |rt, alloc| {
+            let tips = tips_of(
+                alloc,
+                &[(1, &[], "root"), (2, &[1], "left"), (3, &[1], "right")],
+            )?;
+            assert!(rt; tips.is_ok_and(|tips| tips == 2));
+            Ok(())
+        })
+    }
+
     #[test]
     fn errors_own_texts(rt: HostRuntime) -> Result<(), Fail> {
         passes(&rt, |rt, alloc| {
-            let mut commits = Vec::new(alloc);
-            commits.push(commit(alloc, 1, &[], "root")?)?;
-            commits.push(commit(alloc, 2, &[1], "left")?)?;
-            commits.push(commit(alloc, 3, &[1], "right")?)?;
-            let tips = match found_tips(alloc, &commits) {
-                Ok(tips) => tips.len(),
-                Err(WalkError::Memory) => return Err(AllocError),
-                Err(WalkError::Node(_gap)) => 0,
-            };
-            assert_eq!(rt; tips, 2);
-            commits.push(commit(alloc, 4, &[2, 9], "merge of what is not there")?)?;
-            match found_tips(alloc, &commits) {
-                Ok(_tips) => assert!(rt; false, "commit 4 lacks a parent"),
-                Err(WalkError::Memory) => return Err(AllocError),
-                Err(WalkError::Node(Gap::Memory)) => return Err(AllocError),
-                Err(WalkError::Node(Gap::Text(text))) => {
-                    assert!(rt; text.as_str() == "merge of what is not there");
-                }
-            }
+            let merge = "merge of what is not there";
+            let tips = tips_of(
+                alloc,
+                &[(1, &[], "root"), (2, &[1], "left"), (4, &[2, 9], merge)],
+            )?;
+            assert!(rt; tips.is_err_and(|text| text.as_str() == merge));
             Ok(())
         })
     }

@@ -17,24 +17,26 @@ const TWO_ROOTS: Table<'static> = &[('3', "1"), ('4', "1"), ('2', "5")];
 // B to A and to a failed item, C to B.
 const BROKEN: &[(char, &[Result<char, char>])] = &[('B', &[Ok('A'), Err('X')]), ('C', &[Ok('B')])];
 
+// Graphs, sets of nodes, and their heads.
+static HEADS: &[(Table<'static>, &[char], &[char])] = &[
+    (MIXED, &['A', 'C', 'D', 'F'], &['D', 'F']),
+    (MIXED, &['F', 'D', 'C', 'A'], &['D', 'F']),
+    (MIXED, &['A', 'C'], &['C']),
+    (CROSSED, &['A', 'C', 'D'], &['D']),
+    (TWO_ROOTS, &['1', '3', '4'], &['3', '4']),
+    (CROSSED, &[], &[]),
+];
+
 #[test]
 fn heads_of_sets(rt: HostRuntime) -> Result<(), Fail> {
     passes(&rt, |rt, alloc| {
-        for start in [&['A', 'C', 'D', 'F'], &['F', 'D', 'C', 'A']] {
-            let heads = maximal(alloc, MIXED, start)?;
-            assert_eq!(rt; heads.len(), 2);
-            assert!(rt; heads.contains(&'D') && heads.contains(&'F'));
+        for (table, start, wanted) in HEADS {
+            let heads = maximal(alloc, *table, *start)?;
+            assert_eq!(rt; heads.len(), wanted.len());
+            for node in *wanted {
+                assert!(rt; heads.contains(node), "{node}");
+            }
         }
-        let heads = maximal(alloc, MIXED, &['A', 'C'])?;
-        assert_eq!(rt; heads.len(), 1);
-        assert!(rt; heads.contains(&'C'));
-        let heads = maximal(alloc, CROSSED, &['A', 'C', 'D'])?;
-        assert_eq!(rt; heads.len(), 1);
-        assert!(rt; heads.contains(&'D'));
-        let heads = maximal(alloc, TWO_ROOTS, &['1', '3', '4'])?;
-        assert_eq!(rt; heads.len(), 2);
-        assert!(rt; heads.contains(&'3') && heads.contains(&'4'));
-        assert_eq!(rt; maximal(alloc, CROSSED, &[])?.len(), 0);
         Ok(())
     })
 }
