@@ -12,6 +12,12 @@ def toolchain():
     return Path(page.strip()).parent
 
 
+def built_library(root, name):
+    """Where a library of a checkout was built, by `rt lib` or else by ./build."""
+    places = [root / f"crates/{name}/out/rlib/{name}.rlib", root / f"crates/jj_core_cli/out/proved/{name}/{name}.rlib"]
+    return next((it for it in places if it.is_dir()), places[0])
+
+
 def words_for(name, known, folder, library_of, home):
     """The words, after `check` or `build`, for a crate in its folder, over the libraries whose places `library_of` tells."""
     words = ["--crate-name", name, "src/main.rt" if (folder / "src/main.rt").is_file() else "src/lib.rt"]
