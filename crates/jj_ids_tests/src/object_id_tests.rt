@@ -60,9 +60,9 @@ fn changes_are_read_reversed(rt: HostRuntime) {
     assert!(rt; tells(&rt, texts_of_change, "mlpmollkzyxw deadbeef0123 true"));
 }
 
-// The texts of an id of a kind, and the name of its type.
+// The texts of the id `ab` of a kind, and the name of its type.
 fn shown<K: IdKind>(alloc: Global) -> Result<String, AllocError> {
-    let id = Id::<K>::from_bytes(alloc, &BYTES)?;
+    let id = Id::<K>::from_bytes(alloc, &[0xab])?;
     let object_type = id.object_type(alloc)?;
     format!(in alloc; "{id:?} {id} {object_type}")
 }
@@ -71,33 +71,15 @@ fn shown<K: IdKind>(alloc: Global) -> Result<String, AllocError> {
 fn ids_of_each_kind_show_their_type(rt: HostRuntime) -> Result<(), Fail> {
     passes(&rt, |rt, alloc| {
         for (text, wanted) in [
-            (
-                shown::<CommitKind>(alloc)?,
-                "CommitId(\"deadbeef0123\") deadbeef0123 commit",
-            ),
-            (
-                shown::<TreeKind>(alloc)?,
-                "TreeId(\"deadbeef0123\") deadbeef0123 tree",
-            ),
-            (
-                shown::<FileKind>(alloc)?,
-                "FileId(\"deadbeef0123\") deadbeef0123 file",
-            ),
-            (
-                shown::<SymlinkKind>(alloc)?,
-                "SymlinkId(\"deadbeef0123\") deadbeef0123 symlink",
-            ),
-            (
-                shown::<CopyKind>(alloc)?,
-                "CopyId(\"deadbeef0123\") deadbeef0123 copy",
-            ),
-            (
-                shown::<ViewKind>(alloc)?,
-                "ViewId(\"deadbeef0123\") deadbeef0123 view",
-            ),
+            (shown::<CommitKind>(alloc)?, "CommitId(\"ab\") ab commit"),
+            (shown::<TreeKind>(alloc)?, "TreeId(\"ab\") ab tree"),
+            (shown::<FileKind>(alloc)?, "FileId(\"ab\") ab file"),
+            (shown::<SymlinkKind>(alloc)?, "SymlinkId(\"ab\") ab symlink"),
+            (shown::<CopyKind>(alloc)?, "CopyId(\"ab\") ab copy"),
+            (shown::<ViewKind>(alloc)?, "ViewId(\"ab\") ab view"),
             (
                 shown::<OperationKind>(alloc)?,
-                "OperationId(\"deadbeef0123\") deadbeef0123 operation",
+                "OperationId(\"ab\") ab operation",
             ),
         ] {
             assert_eq!(rt; text.as_str(), wanted);
