@@ -52,17 +52,15 @@ fn said<R: Abort>(rt: &R, alloc: Global, texts: &str) -> Result<String, AllocErr
     let labels = labels_of(rt, alloc, texts)?;
     let count = labels.as_slice().len();
     let is_resolved = labels.as_merge().is_resolved();
-    let sides = labels.num_sides();
-    format!(in alloc;
-        "{} {sides:?} {count} {is_resolved} {labels:?}",
-        labels.has_labels()
-    )
+    let (sides, first) = (labels.num_sides(), labels.get_add(0));
+    let has_labels = labels.has_labels();
+    format!(in alloc; "{has_labels} {sides:?} {first:?} {count} {is_resolved} {labels:?}")
 }
 
 #[test]
 fn labels_that_say_nothing(rt: HostRuntime) {
     for texts in ["", "alone", ",,"] {
-        let wanted = "false None 0 true Unlabeled";
+        let wanted = "false None None 0 true Unlabeled";
         assert!(rt;
             tells(&rt, |alloc| said(&rt, alloc, texts), wanted),
             "{texts}"
@@ -88,7 +86,7 @@ fn at_places<R: Abort>(rt: &R, alloc: Global, places: &[usize]) -> Result<String
 
 #[test]
 fn labels_of_three_sides(rt: HostRuntime) {
-    let wanted = "true Some(2) 3 false Labeled([\"left\", \"\", \"right\"])";
+    let wanted = "true Some(2) Some(\"left\") 3 false Labeled([\"left\", \"\", \"right\"])";
     assert!(rt; tells(&rt, |alloc| said(&rt, alloc, "left,,right"), wanted));
     let wanted = "Some(\"left\") None,Some(\"right\") None,None None,None None,";
     let places = [0, 1, 2, usize::MAX];
