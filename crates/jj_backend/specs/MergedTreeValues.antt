@@ -6,7 +6,7 @@ use Rattle.std.specs.Prelude.{ℕ, Bool, true, false, not, List, [], ◌∷◌, 
 use Rattle.std.specs.List.{list_all}
 use Rattle.std.specs.Option.{option_map, option_and_then}
 use Rattle.jj_content.specs.Hex.{hex}
-use Rattle.jj_merges.specs.Labels.{merge_of}
+use Rattle.jj_merges.specs.Labels.{labels_as_merge}
 use Rattle.jj_merges.specs.Merge.{adds, removes}
 use Rattle.jj_backend.specs.declared.backend.tree_value.TreeValue.{TreeValue}
 use Rattle.jj_backend.specs.declared.backend.tree_value.TreeValue.TheVariants.{File, Symlink, Tree, GitSubmodule}
@@ -126,5 +126,5 @@ lines done (value ∷ values) (label ∷ labels) = line done value label ++ line
 abbrev pub description : Values → List (List ℕ) → List ℕ
 description values labels =
     codes "Conflict:" ++ (newline
-    ++ (lines (codes "  Removing ") (removes values) (removes (merge_of labels))
-    ++ lines (codes "  Adding ") (adds values) (adds (merge_of labels))))
+    ++ (lines (codes "  Removing ") (removes values) (removes (labels_as_merge labels))
+    ++ lines (codes "  Adding ") (adds values) (adds (labels_as_merge labels))))

@@ -1,34 +1,34 @@
--- Where a merge keeps its terms.
+-- Storage of a merge's terms: inline if there is one, else in a heap allocation.
 -- Cited by contracts of public items: items.
 use Rattle.std.specs.Prelude.{◌≡◌, List, length}
 use Rattle.std.specs.Vec as vec
 use Rattle.arrayvec.specs.ArrayVec as inline
-use Rattle.jj_merges.specs.Odd.{IsOdd}
+use Rattle.jj_merges.specs.Merge.{IsOdd}
 use Rattle.jj_merges.specs.declared.merge.storage.Terms.{Terms}
-use Rattle.jj_merges.specs.declared.merge.storage.Terms.TheVariants.{One, Many}
+use Rattle.jj_merges.specs.declared.merge.storage.Terms.TheVariants.{Inline, Heap}
 
 module _ {T : Type 0} where
-  -- the terms, in order
+  -- the stored terms, in order
   abbrev pub items : Terms T → List T
-  items (One v) = v.items
-  items (Many v) = v.items
+  items (Inline v) = v.items
+  items (Heap v) = v.items
 
-  -- one term and no more is kept in the value
-  abbrev pub HoldsOne : Terms T → Type 0
-  HoldsOne (One v) = length v.items ≡ 1
-  HoldsOne (Many v) = Unit {0}
+  -- the invariant of a merge: an odd number of terms, and exactly one if they are inline
+  abbrev pub IsMergeStorage : Terms T → Type 0
+  IsMergeStorage (Inline v) = length v.items ≡ 1
+  IsMergeStorage (Heap v) = IsOdd (length v.items)
 
-  -- the terms are in an allocation, or there are none
-  abbrev pub IsMany : Terms T → Type 0
-  IsMany (One v) = ⊥
-  IsMany (Many v) = Unit {0}
+  -- the invariant of a builder, whose number of terms may be even: inline storage contains exactly
+  -- one
+  abbrev pub InlineHasOne : Terms T → Type 0
+  InlineHasOne (Inline v) = length v.items ≡ 1
+  InlineHasOne (Heap v) = Unit {0}
 
-  -- the number of terms is odd, and one is kept in the value
-  abbrev pub IsSound : Terms T → Type 0
-  IsSound (One v) = length v.items ≡ 1
-  IsSound (Many v) = IsOdd (length v.items)
+  abbrev pub IsOnHeap : Terms T → Type 0
+  IsOnHeap (Inline v) = ⊥
+  IsOnHeap (Heap v) = Unit {0}
 
-  -- the terms after a write of them as a slice, which keeps the length
+  -- the storage after its terms were overwritten through a slice
   abbrev pub terms_with_items : Terms T → List T → Terms T
-  terms_with_items (One v) xs = One (inline.with_items v xs)
-  terms_with_items (Many v) xs = Many (vec.with_items v xs)
+  terms_with_items (Inline v) xs = Inline (inline.with_items v xs)
+  terms_with_items (Heap v) xs = Heap (vec.with_items v xs)

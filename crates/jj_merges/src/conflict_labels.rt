@@ -1,4 +1,4 @@
-//! Labels of the terms of a conflict.
+//! Labels of conflict sides, such as branch names, stored as a merge of strings.
 ghost use Rattle.std.specs.Prelude.{◌≡◌, ℕ, ◌+◌, ◌*◌, ◌<◌, ◌≤◌, ◌⊎◌, [], ◌∷◌, map, length, nat_lt, slice_get, string_bytes, IsTrue, ◌↔◌, ◌≢◌, IfOk, MatchOption};
 ghost use Rattle.std.specs.Cmp;
 ghost use Rattle.std.specs.Cmp.Lexicographic.{pointwise, lists_per, lists_equiv, nat_list_eq_equiv, bytes_decides};
@@ -7,20 +7,21 @@ ghost use Rattle.std.specs.Hash.{items_Alike, same_Alike};
 ghost use Rattle.std.specs.List.{AllZip, list_all};
 ghost use Rattle.std.specs.Str.{bytes_eq};
 ghost use Rattle.std.specs.Option.{option_copied, option_map};
-ghost use Rattle.jj_merges.specs.Odd.{IsOdd};
-ghost use Rattle.jj_merges.specs.Merge.{adds, removes};
-ghost use Rattle.jj_merges.specs.Simplify.{kept_places, at_places};
-ghost use Rattle.jj_merges.specs.Labels.{say_nothing, labels_of, merge_of, nonempty};
+ghost use Rattle.jj_merges.specs.Merge.{IsOdd, adds, removes};
+ghost use Rattle.jj_merges.specs.Simplify.{simplified_indices, at_indices};
+ghost use Rattle.jj_merges.specs.Labels.{is_unlabeled, normalized_labels, labels_as_merge, nonempty};
 
-use crate::merge::{Merge, cancelling};
+use crate::merge::{Merge, cancellation};
 use smallvec::SmallVec;
 use std::alloc::{AllocError, Global};
 use std::fmt;
 use std::hash::{Hash, Hasher};
 use std::marker::Model;
 
-/// The labels of a conflict's terms, or none. Labels that are all empty, or of a resolved merge,
-/// are dropped.
+/// One label for each term of a conflict, or no labels. Labels of a resolved merge, and labels that
+/// are all empty, are dropped.
+///
+/// Contracts see the list of the labels' strings, which is empty for an unlabeled conflict.
 #[derive(Drop)]
 pub struct ConflictLabels {
     labels: Merge<String>,
@@ -28,25 +29,23 @@ pub struct ConflictLabels {
 
 impl Model for ConflictLabels {
     ghost use Rattle.std.specs.Prelude.{ℕ, List, map, string_bytes};
-    ghost use Rattle.jj_merges.specs.Labels.{labels_of, AreNormal};
+    ghost use Rattle.jj_merges.specs.Labels.{normalized_labels, IsNormalized};
 
     ghost Value = { List (List ℕ) };
 
-    ghost view = { λ l. labels_of (map string_bytes l.labels) };
+    ghost view = { λ l. normalized_labels (map string_bytes l.labels) };
 
-    ghost invariant = { λ l. AreNormal (map string_bytes l.labels) };
+    ghost invariant = { λ l. IsNormalized (map string_bytes l.labels) };
 }
 
-// Whether there is one label alone, or each is empty.
-fn say_nothing(labels: &[String]) -> bool
-    ensures { result ≡ say_nothing (map string_bytes labels.now) }
+fn is_unlabeled(labels: &[String]) -> bool
+    ensures { result ≡ is_unlabeled (map string_bytes labels.now) }
 {
-    labels.len() < 2 || are_empty(labels)
+    labels.len() < 2 || all_empty(labels)
 }
 
-// Whether each label is empty.
-fn are_empty(labels: &[String]) -> bool
-    ensures { result ≡ list_all (λ text. nat_lt (length text) 1) (map string_bytes labels.now) }
+fn all_empty(labels: &[String]) -> bool
+    ensures { result ≡ list_all (λ label. nat_lt (length label) 1) (map string_bytes labels.now) }
 {
     for label in labels {
         if !label.is_empty() {
@@ -57,7 +56,7 @@ fn are_empty(labels: &[String]) -> bool
 }
 
 impl ConflictLabels {
-    /// No labels.
+    /// Returns labels for an unlabeled conflict. Does not allocate.
     pub fn unlabeled(alloc: Global) -> Self
         ensures { result ≡ [] }
     {
@@ -66,36 +65,37 @@ impl ConflictLabels {
         }
     }
 
-    /// The labels of a merge; none where they are all empty, or there is one term alone.
+    /// Creates labels from a merge of strings. The result is unlabeled if the merge is resolved or
+    /// all its strings are empty.
     pub fn from_merge(labels: Merge<String>) -> Self
-        ensures { result ≡ labels_of (map string_bytes labels) }
+        ensures { result ≡ normalized_labels (map string_bytes labels) }
     {
-        if say_nothing(labels.as_slice()) {
+        if is_unlabeled(labels.as_slice()) {
             let alloc = *labels.first().allocator();
             return ConflictLabels::unlabeled(alloc);
         }
         ConflictLabels { labels }
     }
 
-    /// The labels of the terms in order, or none.
+    /// Creates labels from the strings of all terms in order. No strings mean no labels.
     pub fn from_vec(labels: SmallVec<String, 1>) -> Self
         requires { (length labels.items ≡ 0) ⊎ IsOdd (length labels.items) }
-        ensures { result ≡ labels_of (map string_bytes labels.items) }
+        ensures { result ≡ normalized_labels (map string_bytes labels.items) }
     {
-        if labels.len() == 0 {
+        if labels.is_empty() {
             return ConflictLabels::unlabeled(*labels.allocator());
         }
         ConflictLabels::from_merge(Merge::from_vec(labels))
     }
 
-    /// Whether there are labels.
+    /// Returns whether the conflict is labeled.
     pub fn has_labels(&self) -> bool
         ensures { IsTrue result ↔ (0 < length self.now) }
     {
         !self.labels.is_resolved()
     }
 
-    /// The number of adds that have labels, if there are labels.
+    /// Returns the number of labeled adds, or `None` for an unlabeled conflict.
     pub fn num_sides(&self) -> Option<usize>
         ensures { MatchOption result (self.now ≡ []) (λ n. length self.now + 1 ≡ 2 * n) }
     {
@@ -106,22 +106,22 @@ impl ConflictLabels {
         }
     }
 
-    /// The labels as a merge, which is resolved to an empty text where there are none.
+    /// Returns the labels as a merge. Without labels it is resolved to the empty string.
     pub fn as_merge(&self) -> &Merge<String>
-        ensures { map string_bytes result.now ≡ merge_of self.now }
+        ensures { map string_bytes result.now ≡ labels_as_merge self.now }
     {
         &self.labels
     }
 
-    /// The labels as a merge, which is resolved to an empty text where there are none.
+    /// Converts the labels into a merge. Without labels it is resolved to the empty string.
     pub fn into_merge(self) -> Merge<String>
-        ensures { map string_bytes result ≡ merge_of self }
+        ensures { map string_bytes result ≡ labels_as_merge self }
     {
         let ConflictLabels { labels } = self;
         labels
     }
 
-    /// The labels of the terms in order; an empty slice where there are none.
+    /// Returns the labels of all terms in order, or an empty slice for an unlabeled conflict.
     pub fn as_slice(&self) -> &[String]
         ensures { map string_bytes result.now ≡ self.now }
     {
@@ -132,21 +132,22 @@ impl ConflictLabels {
         }
     }
 
-    /// The label of the add of this index, if there is one that is not empty.
+    /// Returns the label of the add at `add_index`, or `None` if it is missing or empty.
     pub fn get_add(&self, add_index: usize) -> Option<&str>
         ensures { option_copied result ≡ nonempty (slice_get (adds self.now) add_index) }
     {
-        label_text(self.labels.get_add(add_index))
+        nonempty_label(self.labels.get_add(add_index))
     }
 
-    /// The label of the remove of this index, if there is one that is not empty.
+    /// Returns the label of the remove at `remove_index`, or `None` if it is missing or empty.
     pub fn get_remove(&self, remove_index: usize) -> Option<&str>
         ensures { option_copied result ≡ nonempty (slice_get (removes self.now) remove_index) }
     {
-        label_text(self.labels.get_remove(remove_index))
+        nonempty_label(self.labels.get_remove(remove_index))
     }
 
-    /// The simplified merge, and the labels of its terms.
+    /// Simplifies `merge` (see `Merge::simplify`), and drops the labels of the terms that cancel.
+    /// Each remaining term keeps its label. O(n²) comparisons.
     pub fn simplify_with<T: PartialEq + Clone>(
         &self,
         alloc: Global,
@@ -155,33 +156,32 @@ impl ConflictLabels {
         requires sides { (self.now ≡ []) ⊎ (length self.now ≡ length merge.now) }
         requires clones { (x y : T) → T.is_clone x y → IsTrue (T.eq x y) }
         ensures labels { IfOk result (λ p. p.0
-            ≡ labels_of (at_places self.now (kept_places T.eq merge.now))) }
+            ≡ normalized_labels (at_indices self.now (simplified_indices T.eq merge.now))) }
         ensures merge { IfOk result (λ p. AllZip T.is_clone
-            (at_places merge.now (kept_places T.eq merge.now)) p.1) }
+            (at_indices merge.now (simplified_indices T.eq merge.now)) p.1) }
     {
         if !self.has_labels() {
             return Ok((ConflictLabels::unlabeled(alloc), merge.simplify(alloc)?));
         }
         let values = merge.as_slice();
-        let places = cancelling::places_to_keep(alloc, values)?;
-        let labels = cancelling::clones_at(alloc, self.labels.as_slice(), &places)?;
-        let terms = cancelling::clones_at(alloc, values, &places)?;
+        let indices = cancellation::simplified_indices(alloc, values)?;
+        let labels = cancellation::clone_at_indices(alloc, self.labels.as_slice(), &indices)?;
+        let terms = cancellation::clone_at_indices(alloc, values, &indices)?;
         Ok((ConflictLabels::from_merge(labels), terms))
     }
 }
 
-// The text of a label that is there and not empty.
-fn label_text(label: Option<&String>) -> Option<&str>
+fn nonempty_label(label: Option<&String>) -> Option<&str>
     ensures { option_copied result ≡ nonempty
         (option_map string_bytes (option_copied label.entry)) }
 {
     match label {
-        Some(text) if !text.is_empty() => Some(text.as_str()),
+        Some(label) if !label.is_empty() => Some(label.as_str()),
         _ => None,
     }
 }
 
-/// Labels are cloned on the allocator of the first one.
+/// The clone uses the allocator of the first label.
 impl Clone for ConflictLabels {
     ghost is_clone = { λ labels c. c ≡ labels };
 

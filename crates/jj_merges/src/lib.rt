@@ -1,5 +1,6 @@
-//! Merges of versions, and the labels of their terms.
+//! Conflicts as merges: lists of terms that are alternately added and removed.
 #![tactic(auto)]
 
 pub mod conflict_labels;
+pub mod laws;
 pub mod merge;

@@ -1,24 +1,22 @@
-//! Merges of several sides, as lists of terms that are added and removed by turns.
+//! `Merge<T>`, a conflict as an odd list of alternating signed terms: add, remove, add, and so on.
 ghost use Rattle.std.specs.Prelude.{map, ◌≡◌, ℕ, ◌+◌, ◌-◌, ◌*◌, ◌/◌, ◌%◌, ◌<◌, ◌≤◌, List, [], ◌∷◌, length, slice_get, IsTrue, ◌↔◌, slice_index_or, MatchResult, MatchOption, IfOk, ◌^◌, codes};
 ghost use Rattle.std.specs.Option.{option_copied};
 ghost use Rattle.std.specs.Fn.{CalledAt};
 ghost use Rattle.std.specs.Slice.Iter.{iter_rest, iter_mut_rest};
 ghost use Rattle.std.specs.Borrow.{sem};
-ghost use Rattle.jj_merges.specs.Maps.{MapsTo};
-ghost use Rattle.jj_merges.specs.Odd.{IsOdd};
+ghost use Rattle.jj_merges.specs.Calls.{CallsReturn};
+ghost use Rattle.jj_merges.specs.Merge.{IsOdd, adds, removes, HaveSameCounts, IsDisjoint};
 ghost use Rattle.std.specs.Cmp.{IsEquivalence};
 ghost use Rattle.std.specs.List.{AllZip};
-ghost use Rattle.jj_merges.specs.Merge.{adds, removes, HaveSameCounts, IsDisjoint};
-ghost use Rattle.jj_merges.specs.Simplify.{kept_places, at_places};
+ghost use Rattle.jj_merges.specs.Simplify.{simplified_indices, at_indices};
 
 mod builder;
-pub(crate) mod cancelling;
+pub(crate) mod cancellation;
 mod changes;
 mod contents;
 mod diffs;
 mod every_second;
 mod flatten;
-mod images;
 mod into_iter;
 mod legacy;
 mod options;
@@ -26,6 +24,7 @@ mod sides;
 mod simplify;
 mod standard;
 mod storage;
+mod termwise;
 mod trivial;
 
 pub use builder::MergeBuilder;
@@ -38,11 +37,11 @@ use std::alloc::{AllocError, Global};
 use std::default::MadeWith;
 use std::marker::Model;
 use std::slice;
-use storage::{Terms, only_of};
+use storage::{Terms, into_single};
 pub use trivial::trivial_merge;
 
-/// What becomes of sides that made the same change: `Keep` leaves them as a conflict, `Accept`
-/// takes the change.
+/// How to resolve a merge whose sides all made the same change: `Keep` leaves it unresolved, and
+/// `Accept` resolves it to that change.
 #[derive(Copy, Clone, Debug, PartialEq, Eq, Drop)]
 pub enum SameChange {
     Keep,
@@ -50,7 +49,7 @@ pub enum SameChange {
 }
 
 impl SameChange {
-    /// The setting of this name: `keep` or `accept`.
+    /// Parses the configuration values `keep` and `accept`. Returns `None` for any other name.
     pub fn from_name(name: &str) -> Option<Self>
         ensures keep { (result ≡ Some SameChange.Keep) ↔ (name.now ≡ codes "keep") }
         ensures accept { (result ≡ Some SameChange.Accept) ↔ (name.now ≡ codes "accept") }
@@ -63,7 +62,12 @@ impl SameChange {
     }
 }
 
-/// A conflict among several sides, or a resolved value.
+/// A merge of n adds and n - 1 removes. With a single term it is resolved; with more it is a
+/// conflict, in which each remove is a base of the adds around it: `[left, base, right]` is a
+/// three-way merge.
+///
+/// Contracts see a merge as the list of its terms, so `length m` counts adds and removes. A single
+/// term is stored inline, without an allocation.
 #[derive(Drop)]
 pub struct Merge<T> {
     pub(crate) terms: Terms<T>,
@@ -71,28 +75,28 @@ pub struct Merge<T> {
 
 impl<T> Model for Merge<T> {
     ghost use Rattle.std.specs.Prelude.{List};
-    ghost use Rattle.jj_merges.specs.Terms.{items, IsSound};
+    ghost use Rattle.jj_merges.specs.Terms.{items, IsMergeStorage};
 
     ghost Value = { List T };
 
     ghost view = { λ m. items m.terms };
 
-    ghost invariant = { λ m. IsSound m.terms };
+    ghost invariant = { λ m. IsMergeStorage m.terms };
 }
 
 impl<T> Merge<T> {
     ghost use Rattle.jj_merges.specs.Lends.{lends_slice, lends_iter};
 
-    /// A merge of one term. It is kept in the value, so this takes no memory.
+    /// Creates a resolved merge. Does not allocate.
     pub fn resolved(_alloc: Global, value: T) -> Self
         ensures { result ≡ value ∷ [] }
     {
         Merge {
-            terms: Terms::one(value),
+            terms: Terms::single(value),
         }
     }
 
-    /// The terms, adds at even places.
+    /// Returns the terms: adds at even indices, removes at odd ones.
     pub fn as_slice(&self) -> &[T]
         ensures terms { result.now ≡ self.now }
         ensures odd { IsOdd (length self.now) }
@@ -100,14 +104,13 @@ impl<T> Merge<T> {
         self.terms.as_slice()
     }
 
-    /// The terms, one after another.
+    /// Iterates over the terms in order.
     pub fn iter(&self) -> slice::Iter<'_, T>
         ensures { iter_rest result ≡ self.now }
     {
         self.as_slice().iter()
     }
 
-    // The terms, for writing.
     fn as_mut_slice(&mut self) -> &mut [T]
         ensures* writes_back { sem 𝓛 (lends_slice T.row self.entry result) }
         ensures terms { result.now ≡ self.old }
@@ -116,7 +119,7 @@ impl<T> Merge<T> {
         self.terms.as_mut_slice()
     }
 
-    /// The terms, one after another, for writing.
+    /// Iterates over mutable references to the terms in order.
     pub fn iter_mut(&mut self) -> slice::IterMut<'_, T>
         ensures* writes_back { sem 𝓛 (lends_iter T.row self.entry result) }
         ensures terms { iter_mut_rest result ≡ self.old }
@@ -124,7 +127,7 @@ impl<T> Merge<T> {
         self.as_mut_slice().iter_mut()
     }
 
-    /// The number of adds.
+    /// Returns the number of adds, which is one more than the number of removes.
     pub fn num_sides(&self) -> usize
         ensures terms { length self.now + 1 ≡ 2 * result }
         ensures adds { length (adds self.now) ≡ result }
@@ -133,22 +136,22 @@ impl<T> Merge<T> {
         self.as_slice().len() / 2 + 1
     }
 
-    /// Whether there is one term alone.
+    /// Returns whether there is only one term.
     pub fn is_resolved(&self) -> bool
         ensures { IsTrue result ↔ (length self.now ≡ 1) }
     {
         self.as_slice().len() == 1
     }
 
-    /// The first add.
+    /// Returns the first add.
     pub fn first(&self) -> &T
         ensures { slice_get self.now 0 ≡ Some result.now }
     {
         &self.as_slice()[0]
     }
 
-    /// The add of this index, from 0 on.
-    #[tactic(auto, using(crate::proofs::Sides::places))]
+    /// Returns the add at `index`, counting adds only, or `None` past the last one.
+    #[tactic(auto, using(crate::proofs::Sides::side_elements))]
     pub fn get_add(&self, index: usize) -> Option<&T>
         ensures { option_copied result ≡ slice_get (adds self.now) index }
     {
@@ -160,8 +163,8 @@ impl<T> Merge<T> {
         }
     }
 
-    /// The remove of this index, from 0 on.
-    #[tactic(auto, using(crate::proofs::Sides::places))]
+    /// Returns the remove at `index`, counting removes only, or `None` past the last one.
+    #[tactic(auto, using(crate::proofs::Sides::side_elements))]
     pub fn get_remove(&self, index: usize) -> Option<&T>
         ensures { option_copied result ≡ slice_get (removes self.now) index }
     {
@@ -173,7 +176,7 @@ impl<T> Merge<T> {
         }
     }
 
-    /// The term of a resolved merge.
+    /// Returns the value of a resolved merge, or `None` for a conflict.
     pub fn as_resolved(&self) -> Option<&T>
         ensures { MatchOption result (1 < length self.now) (λ x. self.now ≡ x.now ∷ []) }
     {
@@ -183,7 +186,7 @@ impl<T> Merge<T> {
         }
     }
 
-    /// The term of a resolved merge, or the merge itself.
+    /// Returns the value of a resolved merge, or the merge unchanged for a conflict.
     pub fn into_resolved(self) -> Result<T, Self>
     where
         T: Drop,
@@ -191,11 +194,11 @@ impl<T> Merge<T> {
     {
         let Merge { terms } = self;
         match terms {
-            Terms::One(values) => Ok(only_of(values)),
-            Terms::Many(mut values) => {
+            Terms::Inline(values) => Ok(into_single(values)),
+            Terms::Heap(mut values) => {
                 if values.len() > 1 {
                     return Err(Merge {
-                        terms: Terms::Many(values),
+                        terms: Terms::Heap(values),
                     });
                 }
                 match values.pop() {
@@ -211,7 +214,7 @@ impl<T> Merge<T> {
 }
 
 impl<T: MadeWith<Global> + Drop> Merge<T> {
-    /// A merge of these terms.
+    /// Creates a merge of these terms, adds at even indices. Does not allocate.
     pub fn from_vec(values: SmallVec<T, 1>) -> Self
         requires { IsOdd (length values.items) }
         ensures { result ≡ values.items }
@@ -220,13 +223,13 @@ impl<T: MadeWith<Global> + Drop> Merge<T> {
         if !values.spilled() {
             if let Some(value) = values.pop() {
                 return Merge {
-                    terms: Terms::one(value),
+                    terms: Terms::single(value),
                 };
             }
         }
         match values.into_vec() {
             Ok(values) => Merge {
-                terms: Terms::Many(values),
+                terms: Terms::Heap(values),
             },
             Err(_) => unreachable!(),
         }

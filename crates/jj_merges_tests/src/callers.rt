@@ -1,47 +1,46 @@
-//! Proved callers: what a user of merges relies on, at types of theirs.
+//! Proved callers: contracts of merges at concrete types.
 ghost use Rattle.std.specs.Prelude.{◌≡◌, ℕ, ◌/◌, IfOk, MatchOption, length, nat_eq, string_bytes, string_eq};
-ghost use Rattle.jj_merges.specs.Counts.{distinct, sum_of};
-ghost use Rattle.jj_merges.specs.Decided.{IsDecided};
+ghost use Rattle.jj_merges.specs.Counts.{distinct, sum_if};
 ghost use Rattle.jj_merges.specs.Merge.{HaveSameCounts, IsDisjoint, signed_count};
+ghost use Rattle.jj_merges.specs.Resolution.{ResolvesTo};
 
 use jj_merges::merge::{Merge, SameChange};
 use std::alloc::{AllocError, Global};
 
-/// The tens of the terms. A number's count among them is the sum of the counts of those terms
-/// whose tens it is.
+/// Divides each term by ten. The signed count of a quotient is the sum of those of the distinct
+/// terms that have it.
 pub fn tens(alloc: Global, terms: &Merge<u32>) -> Result<Merge<u32>, AllocError>
     ensures { IfOk result (λ m. (w : ℕ) → signed_count nat_eq m w
-        ≡ sum_of (signed_count nat_eq terms.now) (λ v. nat_eq w (v / 10))
+        ≡ sum_if (signed_count nat_eq terms.now) (λ v. nat_eq w (v / 10))
         (distinct nat_eq terms.now)) }
 {
     terms.map(alloc, |term: &u32| *term / 10)
 }
 
-/// The lengths of the texts, in bytes. A length's count is the sum of the counts of those texts
-/// that are so long.
-pub fn lengths(alloc: Global, texts: &Merge<String>) -> Result<Merge<usize>, AllocError>
-    ensures { IfOk result (λ m. (w : ℕ) → signed_count nat_eq m w
-        ≡ sum_of (signed_count string_eq texts.now) (λ text. nat_eq w (length (string_bytes text)))
-        (distinct string_eq texts.now)) }
+/// Returns the lengths of the strings. The signed count of a length is the sum of those of the
+/// distinct strings of that length.
+pub fn lengths(alloc: Global, strings: &Merge<String>) -> Result<Merge<usize>, AllocError>
+    ensures { IfOk result (λ m. (n : ℕ) → signed_count nat_eq m n
+        ≡ sum_if (signed_count string_eq strings.now) (λ s. nat_eq n (length (string_bytes s)))
+        (distinct string_eq strings.now)) }
 {
-    texts.map(alloc, |text: &String| text.len())
+    strings.map(alloc, |s: &String| s.len())
 }
 
-/// The text that the sides of a conflict agree on, where equal changes are accepted: an answer
-/// exactly where the counts of all texts decide one.
-pub fn agreed(texts: &Merge<String>) -> Option<&String>
+/// Resolves a conflict if its signed counts determine one string. Sides that made the same change
+/// resolve to it.
+pub fn resolve_accepting(strings: &Merge<String>) -> Option<&String>
     ensures { MatchOption result
-        ((text : _) → ¬ (IsDecided string_eq SameChange.Accept texts.now text))
-        (λ text. IsDecided string_eq SameChange.Accept texts.now text.now) }
+        ((s : _) → ¬ (ResolvesTo string_eq SameChange.Accept strings.now s))
+        (λ s. ResolvesTo string_eq SameChange.Accept strings.now s.now) }
 {
-    texts.resolve_trivial(SameChange::Accept)
+    strings.resolve_trivial(SameChange::Accept)
 }
 
-/// What is left of a conflict when equal texts cancel: each text counts as before, and none stands
-/// on both sides.
-pub fn left(alloc: Global, texts: &Merge<String>) -> Result<Merge<String>, AllocError>
-    ensures counts { IfOk result (λ left. HaveSameCounts string_eq left texts.now) }
+/// Cancels equal strings. Signed counts are unchanged, and no string remains on both sides.
+pub fn simplify_strings(alloc: Global, strings: &Merge<String>) -> Result<Merge<String>, AllocError>
+    ensures counts { IfOk result (λ m. HaveSameCounts string_eq m strings.now) }
     ensures disjoint { IfOk result (IsDisjoint string_eq) }
 {
-    texts.simplify(alloc)
+    strings.simplify(alloc)
 }

@@ -8,7 +8,7 @@ use Rattle.std.proofs.lemmas.Slice.Eq.{bytes_eq-Decides}
 use Rattle.jj_merges.specs.declared.merge.SameChange.{SameChange}
 use Rattle.jj_merges.specs.declared.merge.SameChange.TheVariants.{Keep, Accept}
 use Rattle.jj_merges.specs.Merge.{adds, removes}
-use Rattle.jj_merges.specs.Decided.{IsDecided}
+use Rattle.jj_merges.specs.Resolution.{ResolvesTo}
 
 module _ {X : Type 0} (p : X → Bool) where
   count_cons : (x : X) (xs : List X) → count_by p (x ∷ xs) ≡ cond (p x) 1 0 + count_by p xs
@@ -37,7 +37,7 @@ counted_stands v (x ∷ m) some = by_test (λ more. counted_stands v m more) (by
         (suc later.0, omega (arith, later.1), later.2)
 
 pub decided_stands : (same_change : SameChange) (m : List (List ℕ)) (v : List ℕ)
-    → IsDecided bytes_eq same_change m v → Contains m v
+    → ResolvesTo bytes_eq same_change m v → Contains m v
 decided_stands Keep m v d = counted_stands v m
     (omega (arith, ints, d.0, adds_counted (bytes_eq v) m))
 decided_stands Accept m v d = counted_stands v m

@@ -6,7 +6,7 @@ use Rattle.std.specs.Str.{bytes_eq, is_utf8}
 use Rattle.std.proofs.lemmas.Slice.Eq.{bytes_eq-Decides}
 use Rattle.jj_merges.specs.declared.merge.SameChange.{SameChange}
 use Rattle.jj_merges.specs.declared.merge.SameChange.TheVariants.{Keep, Accept}
-use Rattle.jj_merges.specs.Decided.{IsDecided}
+use Rattle.jj_merges.specs.Resolution.{ResolvesTo}
 use Rattle.jj_paths.specs.Tree.{Tree}
 use Rattle.jj_program.specs.declared.fault.Fault.{Fault}
 use Rattle.jj_program.specs.declared.fault.Fault.TheVariants.{NotUtf8}
@@ -40,7 +40,7 @@ walk_gives_one text (Err fault) (Ok one) asked (request, asked', found) = let bo
 walk_gives_one text (Err fault) (Err other) asked asked' = let both : Err fault ≡ Err other = sym asked ∙ asked' in let same : fault ≡ other = cc in ap Err same
 
 -- texts that decide a merge are the same
-decided_once : (same_change : SameChange) (terms : List (List ℕ)) (one other : List ℕ) → IsDecided bytes_eq same_change terms one → IsDecided bytes_eq same_change terms other → one ≡ other
+decided_once : (same_change : SameChange) (terms : List (List ℕ)) (one other : List ℕ) → ResolvesTo bytes_eq same_change terms one → ResolvesTo bytes_eq same_change terms other → one ≡ other
 decided_once Keep terms one other d d' = (bytes_eq-Decides one other).0 (d.1 other (λ none. let one_is_none : pos 1 ≡ pos 0 = sym d'.0 ∙ none in cc))
 decided_once Accept terms one other d d' = (bytes_eq-Decides one other).0 (d.1 other d'.0)
 

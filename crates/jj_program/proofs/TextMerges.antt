@@ -9,9 +9,10 @@ use Rattle.std.proofs.lemmas.Option.{slice_get-map}
 use Rattle.std.proofs.Math.ListN.{length-map}
 use Rattle.jj_merges.specs.declared.merge.SameChange.{SameChange}
 use Rattle.jj_merges.specs.declared.merge.SameChange.TheVariants.{Keep, Accept}
-use Rattle.jj_merges.specs.Merge.{adds, removes, by_turns, signed_count}
-use Rattle.jj_merges.specs.Decided.{IsDecided}
-use Rattle.jj_merges.specs.Simplify.{both_equal, same_term, simplified_from, all_sides, kept_sides, kept_places, at_places}
+use Rattle.jj_merges.specs.Merge.{adds, removes, interleave, signed_count}
+use Rattle.jj_merges.specs.Resolution.{ResolvesTo}
+use Rattle.jj_merges.specs.Simplify.{equal_at, cancel_from, split_indices, simplified_indices, at_indices}
+use Rattle.jj_merges.proofs.Cancellation.{equal_options, simplified_sides}
 use Rattle.jj_program.specs.declared.merge_command.Question.{Question}
 use Rattle.jj_program.specs.declared.merge_command.Question.TheVariants.{Simplify, Resolve}
 use Rattle.jj_program.specs.Lines.{line_text}
@@ -43,7 +44,7 @@ signed-bytes m v =
     λ i. pos (added i) -ℤ pos (removed i)
 
 -- a decided text's bytes are decided
-pub decided_bytes : (same_change : SameChange) (m : List Text) (v : Text) → IsDecided text_eq same_change m v → IsDecided bytes_eq same_change (texts_of m) v.now
+pub decided_bytes : (same_change : SameChange) (m : List Text) (v : Text) → ResolvesTo text_eq same_change m v → ResolvesTo bytes_eq same_change (texts_of m) v.now
 decided_bytes Keep m v d = (signed-bytes m v ∙ d.0, λ w some. d.1 (text_of w) (λ none. some (signed-bytes m (text_of w) ∙ none)))
 decided_bytes Accept m v d = (
   subst (λ n. pos 0 <ℤ n) (sym (signed-bytes m v)) d.0,
@@ -52,7 +53,7 @@ decided_bytes Accept m v d = (
 )
 
 -- and the other way round
-pub decided_text : (same_change : SameChange) (m : List Text) (v : List ℕ) → IsDecided bytes_eq same_change (texts_of m) v → IsDecided text_eq same_change m (text_of v)
+pub decided_text : (same_change : SameChange) (m : List Text) (v : List ℕ) → ResolvesTo bytes_eq same_change (texts_of m) v → ResolvesTo text_eq same_change m (text_of v)
 decided_text Keep m v d = (sym (signed-bytes m (text_of v)) ∙ d.0, λ w some. d.1 w.now (λ none. some (sym (signed-bytes m w) ∙ none)))
 decided_text Accept m v d = (
   subst (λ n. pos 0 <ℤ n) (signed-bytes m (text_of v)) d.0,
@@ -60,41 +61,41 @@ decided_text Accept m v d = (
   λ w x down down'. d.2 w.now x.now (subst (λ n. n <ℤ pos 0) (sym (signed-bytes m w)) down) (subst (λ n. n <ℤ pos 0) (sym (signed-bytes m x)) down'),
 )
 
-pub none_decided : (same_change : SameChange) (m : List Text) → ((v : Text) → IsDecided text_eq same_change m v → ⊥) → (v : List ℕ) → IsDecided bytes_eq same_change (texts_of m) v → ⊥
+pub none_decided : (same_change : SameChange) (m : List Text) → ((v : Text) → ResolvesTo text_eq same_change m v → ⊥) → (v : List ℕ) → ResolvesTo bytes_eq same_change (texts_of m) v → ⊥
 none_decided same_change m none v d = none (text_of v) (decided_text same_change m v d)
 
-both_equal-bytes : (o p : Option Text) → both_equal bytes_eq (option_map (λ text. text.now) o) (option_map (λ text. text.now) p) ≡ both_equal text_eq o p
-both_equal-bytes None p = refl
-both_equal-bytes (Some x) None = refl
-both_equal-bytes (Some x) (Some y) = refl
+equal_options-bytes : (o p : Option Text) → equal_options bytes_eq (option_map (λ text. text.now) o) (option_map (λ text. text.now) p) ≡ equal_options text_eq o p
+equal_options-bytes None p = refl
+equal_options-bytes (Some x) None = refl
+equal_options-bytes (Some x) (Some y) = refl
 
-same_term-bytes : (m : List Text) (p q : ℕ) → same_term bytes_eq (texts_of m) p q ≡ same_term text_eq m p q
-same_term-bytes m p q =
+equal_at-bytes : (m : List Text) (p q : ℕ) → equal_at bytes_eq (texts_of m) p q ≡ equal_at text_eq m p q
+equal_at-bytes m p q =
     let at_p = slice_get-map (λ (text : Text). text.now) m p in
     let at_q = slice_get-map (λ (text : Text). text.now) m q in
-    ap (λ o. both_equal bytes_eq o (slice_get (texts_of m) q)) at_p
-    ∙ ap (λ o. both_equal bytes_eq (option_map (λ text. text.now) (slice_get m p)) o) at_q
-    ∙ both_equal-bytes (slice_get m p) (slice_get m q)
+    ap (λ o. equal_options bytes_eq o (slice_get (texts_of m) q)) at_p
+    ∙ ap (λ o. equal_options bytes_eq (option_map (λ text. text.now) (slice_get m p)) o) at_q
+    ∙ equal_options-bytes (slice_get m p) (slice_get m q)
 
-kept_places-bytes : (m : List Text) → kept_places bytes_eq (texts_of m) ≡ kept_places text_eq m
-unfolding kept_places
-kept_places-bytes m =
-    let same : ◌≡◌ {A = ℕ → ℕ → Bool} (same_term bytes_eq (texts_of m)) (same_term text_eq m) = λ i p q. (same_term-bytes m p q) i in
+simplified_indices-bytes : (m : List Text) → simplified_indices bytes_eq (texts_of m) ≡ simplified_indices text_eq m
+unfolding simplified_indices
+simplified_indices-bytes m =
+    let same : ◌≡◌ {A = ℕ → ℕ → Bool} (equal_at bytes_eq (texts_of m)) (equal_at text_eq m) = λ i p q. (equal_at-bytes m p q) i in
     let sides = ap length (adds-bytes m) ∙ length-map (adds m) (λ text. text.now) in
     let len = length-map m (λ text. text.now) in
-    let kept : kept_sides bytes_eq (texts_of m) ≡ kept_sides text_eq m = λ i. simplified_from (same i) (sides i) 0 (all_sides (len i)) in
-    ap (λ s. by_turns s.adds s.removes) kept
+    let kept : simplified_sides bytes_eq (texts_of m) ≡ simplified_sides text_eq m = λ i. cancel_from (same i) (sides i) 0 (split_indices (len i)) in
+    ap (λ s. interleave s.adds s.removes) kept
 
 cons-bytes : (o : Option Text) (xs : List Text) → cons_option (option_map (λ text. text.now) o) (texts_of xs) ≡ texts_of (cons_option o xs)
 cons-bytes None xs = refl
 cons-bytes (Some x) xs = refl
 
-at_places-bytes : (m : List Text) (places : List ℕ) → at_places (texts_of m) places ≡ texts_of (at_places m places)
-at_places-bytes m [] = refl
-at_places-bytes m (p ∷ ps) =
+at_indices-bytes : (m : List Text) (places : List ℕ) → at_indices (texts_of m) places ≡ texts_of (at_indices m places)
+at_indices-bytes m [] = refl
+at_indices-bytes m (p ∷ ps) =
     let at_p = slice_get-map (λ (text : Text). text.now) m p in
-    let rest = at_places-bytes m ps in
-    (λ i. cons_option (at_p i) (rest i)) ∙ cons-bytes (slice_get m p) (at_places m ps)
+    let rest = at_indices-bytes m ps in
+    (λ i. cons_option (at_p i) (rest i)) ∙ cons-bytes (slice_get m p) (at_indices m ps)
 
 same_texts : (xs ys : List Text) → AllZip (λ x y. y ≡ x) xs ys → texts_of ys ≡ texts_of xs
 same_texts [] [] h = refl
@@ -103,19 +104,19 @@ same_texts (x ∷ xs) [] h = absurd h
 same_texts (x ∷ xs) (y ∷ ys) h = let first : y.now ≡ x.now = ap (λ (text : Text). text.now) h.0 in let rest = same_texts xs ys h.1 in λ i. (first i) ∷ (rest i)
 
 -- the bytes of what is left of a merge of texts
-pub left_bytes : (m left : List Text) → AllZip (λ x y. y ≡ x) (at_places m (kept_places text_eq m)) left → texts_of left ≡ at_places (texts_of m) (kept_places bytes_eq (texts_of m))
+pub left_bytes : (m left : List Text) → AllZip (λ x y. y ≡ x) (at_indices m (simplified_indices text_eq m)) left → texts_of left ≡ at_indices (texts_of m) (simplified_indices bytes_eq (texts_of m))
 left_bytes m left h =
-    same_texts (at_places m (kept_places text_eq m)) left h
-    ∙ sym (at_places-bytes m (kept_places text_eq m))
-    ∙ ap (at_places (texts_of m)) (sym (kept_places-bytes m))
+    same_texts (at_indices m (simplified_indices text_eq m)) left h
+    ∙ sym (at_indices-bytes m (simplified_indices text_eq m))
+    ∙ ap (at_indices (texts_of m)) (sym (simplified_indices-bytes m))
 
 member_bytes : (same_change : SameChange) (m : List Text) (v : Text)
-    → IsDecided text_eq same_change m v → Contains (texts_of m) v.now
+    → ResolvesTo text_eq same_change m v → Contains (texts_of m) v.now
 member_bytes same_change m v decided =
     decided_stands same_change (texts_of m) v.now (decided_bytes same_change m v decided)
 
 -- what is left answers a request to simplify
-pub answers_simplify : (question : Question) (m left : List Text) → question ≡ Simplify → AllZip (λ x y. y ≡ x) (at_places m (kept_places text_eq m)) left
+pub answers_simplify : (question : Question) (m left : List Text) → question ≡ Simplify → AllZip (λ x y. y ≡ x) (at_indices m (simplified_indices text_eq m)) left
     → AnswersQuestion question (texts_of m) (line_text (codes "terms") (texts_of left))
 answers_simplify question m left asked kept =
     subst (λ q. AnswersQuestion q (texts_of m) (line_text (codes "terms") (texts_of left))) (sym asked) (ap (line_text (codes "terms")) (left_bytes m left kept))

@@ -4,13 +4,13 @@ use Rattle.std.specs.Prelude.{pos, ◌<ℤ◌}
 use Rattle.jj_merges.specs.declared.merge.SameChange.{SameChange}
 use Rattle.jj_merges.specs.declared.merge.SameChange.TheVariants.{Keep, Accept}
 use Rattle.jj_merges.specs.Merge.{adds, removes, HaveSameCounts}
-use Rattle.jj_merges.specs.Decided.{IsDecided}
+use Rattle.jj_merges.specs.Resolution.{ResolvesTo}
 use Rattle.jj_program.specs.Texts.{Text}
 use Rattle.jj_program.specs.TextMerges.{text_eq, IsTextOutcome}
 
 module _ {T : Type 0} (eq : T → T → Bool) where
   pub decided_by_counts : (same_change : SameChange) (m n : List T) (v : T) → HaveSameCounts eq m n
-      → IsDecided eq same_change m v → IsDecided eq same_change n v
+      → ResolvesTo eq same_change m v → ResolvesTo eq same_change n v
   decided_by_counts Keep m n v h d =
       (sym (h v) ∙ d.0, λ w some. d.1 w (λ none. some (sym (h w) ∙ none)))
   decided_by_counts Accept m n v h d = (

@@ -4,8 +4,8 @@ use Rattle.std.specs.Prelude.{◌≡◌, ◌==◌, ◌%◌, ℕ, List, [], ◌�
 use Rattle.std.specs.Str.{bytes_eq}
 use Rattle.jj_merges.specs.declared.merge.SameChange.{SameChange}
 use Rattle.jj_merges.specs.declared.merge.SameChange.TheVariants.{Keep, Accept}
-use Rattle.jj_merges.specs.Decided.{IsDecided}
-use Rattle.jj_merges.specs.Simplify.{kept_places, at_places}
+use Rattle.jj_merges.specs.Resolution.{ResolvesTo}
+use Rattle.jj_merges.specs.Simplify.{simplified_indices, at_indices}
 use Rattle.jj_program.specs.declared.fault.Fault.{Fault}
 use Rattle.jj_program.specs.declared.fault.LineFault.{LineFault}
 use Rattle.jj_program.specs.declared.fault.LineFault.TheVariants.{UnknownCommand, BadFieldCount}
@@ -46,8 +46,8 @@ merge_requests text = after_lines merge_step 1 [] (lines_of text)
 -- the one term that decides the merge, if there is one
 abbrev pub IsOutcome : SameChange → List (List ℕ) → Option (List ℕ) → Type 0
 IsOutcome same_change terms (Some term) = Contains terms term
-    × IsDecided bytes_eq same_change terms term
-IsOutcome same_change terms None = (term : List ℕ) → IsDecided bytes_eq same_change terms term → ⊥
+    × ResolvesTo bytes_eq same_change terms term
+IsOutcome same_change terms None = (term : List ℕ) → ResolvesTo bytes_eq same_change terms term → ⊥
 
 -- the line of an outcome
 abbrev pub outcome_line : Option (List ℕ) → List ℕ
@@ -57,7 +57,7 @@ outcome_line None = line_text (codes "conflict") []
 -- the answer to a question on these terms
 abbrev pub AnswersQuestion : Question → List (List ℕ) → List ℕ → Type 0
 AnswersQuestion Simplify terms answer = answer
-    ≡ line_text (codes "terms") (at_places terms (kept_places bytes_eq terms))
+    ≡ line_text (codes "terms") (at_indices terms (simplified_indices bytes_eq terms))
 AnswersQuestion (Resolve same_change) terms answer = (outcome : Option (List ℕ))
     × IsOutcome same_change terms outcome × (answer ≡ outcome_line outcome)
 

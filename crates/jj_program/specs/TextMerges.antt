@@ -3,7 +3,7 @@
 use Rattle.std.specs.Prelude.{◌≡◌, ◌+◌, Bool, List, Option, Some, None, count_by}
 use Rattle.std.specs.Str.{bytes_eq}
 use Rattle.jj_merges.specs.declared.merge.SameChange.{SameChange}
-use Rattle.jj_merges.specs.Decided.{IsDecided}
+use Rattle.jj_merges.specs.Resolution.{ResolvesTo}
 use Rattle.jj_program.specs.Texts.{Text}
 
 -- whether two texts have the same bytes
@@ -18,5 +18,5 @@ HaveCountsOf adds removes other_adds other_removes = (v : Text) →
 
 -- the text that the counts of the terms decide, or none where they decide none
 abbrev pub IsTextOutcome : SameChange → List Text → Option Text → Type 0
-IsTextOutcome same_change terms (Some v) = IsDecided text_eq same_change terms v
-IsTextOutcome same_change terms None = (v : Text) → IsDecided text_eq same_change terms v → ⊥
+IsTextOutcome same_change terms (Some v) = ResolvesTo text_eq same_change terms v
+IsTextOutcome same_change terms None = (v : Text) → ResolvesTo text_eq same_change terms v → ⊥

@@ -1,6 +1,6 @@
 //! The command `merge`: each line asks what is left of a merge of texts, or for its outcome.
 ghost use Rattle.std.specs.Prelude.{◌≡◌, ◌++◌, map, ℕ, List, Ok, IfOk, IfErr, OnOk, length};
-ghost use Rattle.jj_merges.specs.Odd.{IsOdd};
+ghost use Rattle.jj_merges.specs.Merge.{IsOdd};
 ghost use Rattle.jj_program.specs.Lines.{IsFaultOf};
 ghost use Rattle.jj_program.specs.MergeCommand.{MergeRequest, question_named, merge_step, merge_requests, IsMergeAnswer, GivesMerge};
 ghost use Rattle.jj_program.specs.MergeViews.{merge_request_of, merge_requests_of};

@@ -1,10 +1,9 @@
 //! The outcome of a merge of texts, in time that grows with sorting where it has many terms.
 ghost use Rattle.std.specs.Prelude.{◌≡◌, ◌+◌, ◌++◌, ◌∷◌, [], ℕ, List, IfOk, IfSome, IfNone, count_by, length, map, Contains};
 ghost use Rattle.std.specs.List.Sorted.{IsPermutation};
-ghost use Rattle.jj_merges.specs.Odd.{IsOdd};
+ghost use Rattle.jj_merges.specs.Merge.{IsOdd, HaveSameCounts};
 ghost use Rattle.jj_merges.specs.Merge as merge;
-ghost use Rattle.jj_merges.specs.Merge.{HaveSameCounts};
-ghost use Rattle.jj_merges.specs.Decided.{IsDecided};
+ghost use Rattle.jj_merges.specs.Resolution.{ResolvesTo};
 ghost use Rattle.jj_program.specs.TextMerges.{text_eq, HaveCountsOf, IsTextOutcome};
 
 use jj_merges::merge::{EverySecond, Merge, SameChange};

@@ -6,8 +6,8 @@ use Rattle.std.proofs.lemmas.List.{map-append}
 use Rattle.std.proofs.lemmas.List.Elements.{same_from_all_zip}
 use Rattle.jj_paths.specs.Paths.{Path}
 use Rattle.jj_merges.specs.declared.merge.SameChange.{SameChange}
-use Rattle.jj_merges.specs.Simplify.{kept_places, at_places}
-use Rattle.jj_merges.specs.Labels.{labels_of}
+use Rattle.jj_merges.specs.Simplify.{simplified_indices, at_indices}
+use Rattle.jj_merges.specs.Labels.{normalized_labels}
 use Rattle.jj_backend.specs.declared.backend.tree_value.TreeValue.{TreeValue}
 use Rattle.jj_trees.specs.TreeMerges.{Values, Conflict, is_tree_or_absent, IsUndecided, IsHere, conflict_entries}
 
@@ -20,7 +20,7 @@ entry_of c = (c.0, record { terms = c.1; labels = c.2 })
 pub conflict_done : (eq : Option TreeValue → Option TreeValue → Bool) (same_change : SameChange) (values : Values) (labels : List (List ℕ)) (path : Path)
     (old_r new_r : List (Path × TreeValue)) (old_c new_c : List Entry) (terms : Values) (texts : List (List ℕ))
     → IsUndecided eq same_change values → (All (λ v. is_tree_or_absent v ≡ true) values → ⊥)
-    → terms ≡ at_places values (kept_places eq values) → texts ≡ labels_of (at_places labels (kept_places eq values))
+    → terms ≡ at_indices values (simplified_indices eq values) → texts ≡ normalized_labels (at_indices labels (simplified_indices eq values))
     → new_r ≡ old_r → ◌≡◌ {A = List Entry} new_c (old_c ++ (path, terms, texts) ∷ [])
     → IsHere eq same_change values labels path old_r new_r (conflict_entries old_c) (conflict_entries new_c)
 unfolding entry_of

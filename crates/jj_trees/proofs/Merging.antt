@@ -11,7 +11,7 @@ use Rattle.std.specs.declared.cmp.Ordering.TheVariants.{Less}
 use Rattle.jj_paths.specs.Paths.{Name, Path, name_cmp}
 use Rattle.jj_merges.specs.declared.merge.SameChange.{SameChange}
 use Rattle.jj_merges.specs.declared.merge.SameChange.TheVariants.{Keep, Accept}
-use Rattle.jj_merges.specs.Decided.{IsDecided}
+use Rattle.jj_merges.specs.Resolution.{ResolvesTo}
 use Rattle.jj_backend.specs.Objects.{ById}
 use Rattle.std.specs.Option.{option_eq}
 use Rattle.jj_backend.specs.contracts.backend.tree_value.TreeValuePartialEq.TheImpl as tree_values
@@ -57,33 +57,33 @@ module _ {E : Type 0} where
 
 module _ (eq : Option TreeValue → Option TreeValue → Bool) (same : (v w : Option TreeValue) → eq v w ≡ true → v ≡ w) where
   -- no two outcomes
-  pub decided_same : (same_change : SameChange) (m : Values) (v w : Option TreeValue) → IsDecided eq same_change m v → IsDecided eq same_change m w → v ≡ w
+  pub decided_same : (same_change : SameChange) (m : Values) (v w : Option TreeValue) → ResolvesTo eq same_change m v → ResolvesTo eq same_change m w → v ≡ w
   decided_same Keep m v w a b = same v w (a.1 w (λ z. let one = b.0 in absurd (omega (arith, ints))))
   decided_same Accept m v w a b = same v w (a.1 w b.0)
 
   module _ (trees : ById (List (Name × TreeValue))) (same_change : SameChange) (labels : List (List ℕ)) where
     abbrev pub ResolvedFrom : Values → Path → TreeValue → Type 0
-    ResolvedFrom values p v = HasOutcomeFrom trees eq same_change values p × IsDecided eq same_change (values_at trees values p) (Some v)
+    ResolvedFrom values p v = HasOutcomeFrom trees eq same_change values p × ResolvesTo eq same_change (values_at trees values p) (Some v)
 
     abbrev pub ConflictFrom : Values → Path → Conflict → Type 0
     ConflictFrom values p c = HasOutcomeFrom trees eq same_change values p × IsConflictOf eq same_change (values_at trees values p) labels c
 
     -- what is decided here is the value at the path itself
-    pub resolved_here : (values : Values) (v : TreeValue) → (IsEntered eq same_change values → ⊥) → IsDecided eq same_change values (Some v) → IsListOf (ResolvedFrom values) (([], v) ∷ [])
+    pub resolved_here : (values : Values) (v : TreeValue) → (IsEntered eq same_change values → ⊥) → ResolvesTo eq same_change values (Some v) → IsListOf (ResolvedFrom values) (([], v) ∷ [])
     resolved_here values v not_entered decided = one_list (ResolvedFrom values) v (not_entered, decided) only
       where
         only : (p : Path) (f : TreeValue) → ResolvedFrom values p f → (p ≡ []) × (f ≡ v)
         only [] f h = (refl, ap (λ o. unwrap_or o v) (decided_same same_change values (Some f) (Some v) h.1 decided))
         only (n ∷ p) f h = absurd (not_entered h.0.0)
 
-    pub no_conflict_here : (values : Values) (v : Option TreeValue) → (IsEntered eq same_change values → ⊥) → IsDecided eq same_change values v → IsListOf (ConflictFrom values) []
+    pub no_conflict_here : (values : Values) (v : Option TreeValue) → (IsEntered eq same_change values → ⊥) → ResolvesTo eq same_change values v → IsListOf (ConflictFrom values) []
     no_conflict_here values v not_entered decided = no_list (ConflictFrom values) never
       where
         never : (p : Path) (f : Conflict) → ConflictFrom values p f → ⊥
         never [] f h = h.1.0 v decided
         never (n ∷ p) f h = not_entered h.0.0
 
-    pub nothing_here : (values : Values) → (IsEntered eq same_change values → ⊥) → ((v : TreeValue) → IsDecided eq same_change values (Some v) → ⊥) → IsListOf (ResolvedFrom values) []
+    pub nothing_here : (values : Values) → (IsEntered eq same_change values → ⊥) → ((v : TreeValue) → ResolvesTo eq same_change values (Some v) → ⊥) → IsListOf (ResolvedFrom values) []
     nothing_here values not_entered undecided = no_list (ResolvedFrom values) never
       where
         never : (p : Path) (f : TreeValue) → ResolvedFrom values p f → ⊥
@@ -176,8 +176,8 @@ module _ (eq : Option TreeValue → Option TreeValue → Bool) (same : (v w : Op
             here : Values
             here = map (child trees name) values
 
-            by : ((v : TreeValue) × IsDecided eq same_change here (Some v) × (last_r ≡ new_r ++ (dir ++ name ∷ [], v) ∷ []) × (last_c ≡ new_c))
-                ⊎ (IsDecided eq same_change here None × (last_r ≡ new_r) × (last_c ≡ new_c))
+            by : ((v : TreeValue) × ResolvesTo eq same_change here (Some v) × (last_r ≡ new_r ++ (dir ++ name ∷ [], v) ∷ []) × (last_c ≡ new_c))
+                ⊎ (ResolvesTo eq same_change here None × (last_r ≡ new_r) × (last_c ≡ new_c))
                 ⊎ ((conflict : Conflict) × IsConflictOf eq same_change here labels conflict × (last_r ≡ new_r) × (last_c ≡ new_c ++ (dir ++ name ∷ [], conflict) ∷ []))
                 → Passed levels values dir (names ++ name ∷ []) old_r last_r old_c last_c
             by (inl d) = step (([], d.0) ∷ []) [] (resolved_here here d.0 h.0 d.1) (no_conflict_here here (Some d.0) h.0 d.1) (one_under d.0 new_r last_r d.2) (none_under new_c last_c d.3) (λ e. absurd (h.0 e))
@@ -185,7 +185,7 @@ module _ (eq : Option TreeValue → Option TreeValue → Bool) (same : (v w : Op
             by (inr (inr d)) = step [] (([], d.0) ∷ []) (nothing_here here h.0 (λ v s. d.1.0 (Some v) s)) (conflict_here here d.0 h.0 d.1) (none_under new_r last_r d.2) (one_under d.0 new_c last_c d.3) (λ e. absurd (h.0 e))
 
       module _ (names : List Name) (old_r new_r : List (Path × TreeValue)) (old_c new_c : List (Path × Conflict)) (passed : Passed levels values dir names old_r new_r old_c new_c)
-          (every : (name : Name) → Contains names name ⊎ IsDecided eq same_change (map (child trees name) values) None) where
+          (every : (name : Name) → Contains names name ⊎ ResolvesTo eq same_change (map (child trees name) values) None) where
         -- where all names were passed but those at which nothing stands, the directory is merged
         pub merged : IsAppended trees eq same_change values labels dir old_r new_r old_c new_c
         merged = record {
@@ -199,18 +199,18 @@ module _ (eq : Option TreeValue → Option TreeValue → Bool) (same : (v w : Op
           conflicts_added = passed.conflicts_added;
         }
           where
-            not_r : (n : Name) (p : Path) (v : TreeValue) → IsDecided eq same_change (map (child trees n) values) None → ResolvedFrom (map (child trees n) values) p v → ⊥
+            not_r : (n : Name) (p : Path) (v : TreeValue) → ResolvesTo eq same_change (map (child trees n) values) None → ResolvedFrom (map (child trees n) values) p v → ⊥
             not_r n [] v d h = none-some v (sym (decided_same same_change (map (child trees n) values) (Some v) None h.1 d))
             not_r n (m ∷ p) v d h = h.0.0.0 None d
 
-            not_c : (n : Name) (p : Path) (c : Conflict) → IsDecided eq same_change (map (child trees n) values) None → ConflictFrom (map (child trees n) values) p c → ⊥
+            not_c : (n : Name) (p : Path) (c : Conflict) → ResolvesTo eq same_change (map (child trees n) values) None → ConflictFrom (map (child trees n) values) p c → ⊥
             not_c n [] c d h = h.1.0 None d
             not_c n (m ∷ p) c d h = h.0.0.0 None d
 
-            passed_one : (n : Name) (X : Type 0) → (IsDecided eq same_change (map (child trees n) values) None → X → ⊥) → X → Contains names n
+            passed_one : (n : Name) (X : Type 0) → (ResolvesTo eq same_change (map (child trees n) values) None → X → ⊥) → X → Contains names n
             passed_one n X not x = by (every n)
               where
-                by : Contains names n ⊎ IsDecided eq same_change (map (child trees n) values) None → Contains names n
+                by : Contains names n ⊎ ResolvesTo eq same_change (map (child trees n) values) None → Contains names n
                 by (inl c) = c
                 by (inr d) = absurd (not d x)
 
@@ -228,7 +228,7 @@ module _ (eq : Option TreeValue → Option TreeValue → Bool) (same : (v w : Op
             inside : (n : Name) → IsEntered eq same_change (map (child trees n) values) → IsWithin trees eq same_change (map (child trees n) values) levels
             inside n e = by (every n)
               where
-                by : Contains names n ⊎ IsDecided eq same_change (map (child trees n) values) None → IsWithin trees eq same_change (map (child trees n) values) levels
+                by : Contains names n ⊎ ResolvesTo eq same_change (map (child trees n) values) None → IsWithin trees eq same_change (map (child trees n) values) levels
                 by (inl c) = passed.within n c e
                 by (inr d) = absurd (e.0 None d)
 

@@ -15,7 +15,7 @@ use Rattle.std.specs.Str.{bytes_eq}
 use Rattle.jj_merges.specs.Merge.{adds, removes}
 use Rattle.std.proofs.Common.{true, false}
 use Rattle.std.proofs.lemmas.Int.{ints}
-use Rattle.jj_merges.specs.Decided.{IsDecided}
+use Rattle.jj_merges.specs.Resolution.{ResolvesTo}
 use Rattle.jj_merges.specs.declared.merge.SameChange.{SameChange}
 use Rattle.jj_merges.specs.declared.merge.SameChange.TheVariants.{Keep, Accept}
 use Rattle.jj_backend.specs.Objects.{ById}
@@ -90,7 +90,7 @@ module _ (eq : Option TreeValue → Option TreeValue → Bool) (same : (v w : Op
   counts w true e h = subst (λ v. eq None v ≡ true) (sym (same w None e)) reflexive
   counts w false e h = absurd (h (ap (λ (b : Bool). cond b 1 0) e))
 
-  pub absent_decided : (same_change : SameChange) → IsDecided eq same_change vs None
+  pub absent_decided : (same_change : SameChange) → ResolvesTo eq same_change vs None
   absent_decided Keep = (
     let here = count_absent (eq None) vs absent odd in let w = one in omega (arith, ints),
     λ w h. counts w (eq w None) refl (λ z. let all = count_absent (eq w) vs absent odd in h (omega (arith, ints))),

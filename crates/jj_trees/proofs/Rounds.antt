@@ -10,7 +10,7 @@ use Rattle.std.specs.declared.vec.IntoIter.{IntoIter}
 use Rattle.std.proofs.lemmas.List.Elements.{All-map}
 use Rattle.jj_paths.specs.Paths.{Name, Path, name_cmp}
 use Rattle.jj_merges.specs.declared.merge.SameChange.{SameChange}
-use Rattle.jj_merges.specs.Decided.{IsDecided}
+use Rattle.jj_merges.specs.Resolution.{ResolvesTo}
 use Rattle.jj_backend.specs.Objects.{ById}
 use Rattle.jj_trees.specs.Rows.{AreRows}
 use Rattle.jj_backend.specs.declared.backend.tree_value.TreeValue.{TreeValue}
@@ -82,11 +82,11 @@ module _ (eq : Option TreeValue → Option TreeValue → Bool) (same : (v w : Op
   -- all rows are passed
   module _ (reflexive : eq None None ≡ true) (odd : length values % 2 ≡ 1) (ys : List Y) (rows : AreRows (map (entries_of trees) values) (map f ys))
       (old_r new_r : List (Path × TreeValue)) (old_c new_c : List (Path × Conflict)) (passed : RowsPassed ys old_r new_r old_c new_c) where
-    every : (name : Name) → Contains (map (λ y. (f y).0) ys) name ⊎ IsDecided eq same_change (map (child trees name) values) None
+    every : (name : Name) → Contains (map (λ y. (f y).0) ys) name ⊎ ResolvesTo eq same_change (map (child trees name) values) None
     every name = by (rows.every name)
       where
         by : (All (λ entries. lookup (bytes_eq name) entries ≡ None) (map (entries_of trees) values)) ⊎ Any (λ row. row.0 ≡ name) (map f ys)
-            → Contains (map (λ y. (f y).0) ys) name ⊎ IsDecided eq same_change (map (child trees name) values) None
+            → Contains (map (λ y. (f y).0) ys) name ⊎ ResolvesTo eq same_change (map (child trees name) values) None
         by (inl absent) = inr (absent_decided eq same reflexive (map (child trees name) values) (absent_below trees name values absent)
             (subst (λ n. n % 2 ≡ 1) (sym (length-map values (child trees name))) odd) same_change)
         by (inr a) =

@@ -8,9 +8,9 @@ use Rattle.std.specs.Str.{bytes_eq}
 use Rattle.std.specs.declared.cmp.Ordering.TheVariants.{Less}
 use Rattle.jj_paths.specs.Paths.{Name, Path, path_cmp}
 use Rattle.jj_merges.specs.declared.merge.SameChange.{SameChange}
-use Rattle.jj_merges.specs.Decided.{IsDecided}
-use Rattle.jj_merges.specs.Simplify.{kept_places, at_places}
-use Rattle.jj_merges.specs.Labels.{labels_of}
+use Rattle.jj_merges.specs.Resolution.{ResolvesTo}
+use Rattle.jj_merges.specs.Simplify.{simplified_indices, at_indices}
+use Rattle.jj_merges.specs.Labels.{normalized_labels}
 use Rattle.jj_backend.specs.Objects.{ById}
 use Rattle.jj_backend.specs.Errors.{is_not_found, is_unsupported}
 use Rattle.jj_backend.specs.declared.backend.tree_value.TreeValue.{TreeValue}
@@ -53,7 +53,7 @@ pub record IsListOf {E : Type 0} (Holds : Path → E → Type 0)
 module _ (eq : Option TreeValue → Option TreeValue → Bool) (same_change : SameChange) where
   -- the terms have no one outcome
   abbrev pub IsUndecided : Values → Type 0
-  IsUndecided values = (v : Option TreeValue) → IsDecided eq same_change values v → ⊥
+  IsUndecided values = (v : Option TreeValue) → ResolvesTo eq same_change values v → ⊥
 
   -- the values are merged entry by entry: they are undecided, and those that are present are all
   -- trees
@@ -63,8 +63,8 @@ module _ (eq : Option TreeValue → Option TreeValue → Bool) (same_change : Sa
   -- the conflict of these values: they are undecided, and are simplified with their labels
   abbrev pub IsConflictOf : Values → List (List ℕ) → Conflict → Type 0
   IsConflictOf values labels conflict =
-      IsUndecided values × (conflict.terms ≡ at_places values (kept_places eq values))
-      × (conflict.labels ≡ labels_of (at_places labels (kept_places eq values)))
+      IsUndecided values × (conflict.terms ≡ at_indices values (simplified_indices eq values))
+      × (conflict.labels ≡ normalized_labels (at_indices labels (simplified_indices eq values)))
 
   -- what comes of values at one path that are not entered: the decided value, or nothing where that
   -- is absent, or the conflict
@@ -73,9 +73,9 @@ module _ (eq : Option TreeValue → Option TreeValue → Bool) (same_change : Sa
       → (old_conflicts new_conflicts : List (Path × Conflict)) → Type 0
   IsHere values labels path old_resolved new_resolved old_conflicts new_conflicts =
       (IsEntered values → ⊥)
-      × (((v : TreeValue) × IsDecided eq same_change values (Some v)
+      × (((v : TreeValue) × ResolvesTo eq same_change values (Some v)
       × (new_resolved ≡ old_resolved ++ (path, v) ∷ []) × (new_conflicts ≡ old_conflicts))
-      ⊎ (IsDecided eq same_change values None
+      ⊎ (ResolvesTo eq same_change values None
       × (new_resolved ≡ old_resolved) × (new_conflicts ≡ old_conflicts))
       ⊎ ((conflict : Conflict) × IsConflictOf values labels conflict
       × (new_resolved ≡ old_resolved) × (new_conflicts ≡ old_conflicts ++ (path, conflict) ∷ [])))
@@ -135,7 +135,7 @@ module _ (trees : ById (List (Name × TreeValue))) where
     -- a path resolves to a value
     abbrev pub IsResolved : Values → Path → TreeValue → Type 0
     IsResolved values path v =
-        HasOutcome values path × IsDecided eq same_change (values_at values path) (Some v)
+        HasOutcome values path × ResolvesTo eq same_change (values_at values path) (Some v)
 
     -- a path has a conflict
     abbrev pub IsConflict : Values → List (List ℕ) → Path → Conflict → Type 0

@@ -2,7 +2,7 @@
 ghost use Rattle.std.specs.Prelude.{◌≡◌, ◌↔◌, ◌⊎◌, [], map, length, Option, IsTrue, true};
 ghost use Rattle.std.specs.Prelude.{All, Any, IfOk, IfErr, IfSome, IsNone, OnOk};
 ghost use Rattle.std.specs.NonZero.{non_zero_usize_get};
-ghost use Rattle.jj_merges.specs.Odd.{IsOdd};
+ghost use Rattle.jj_merges.specs.Merge.{IsOdd};
 ghost use Rattle.jj_paths.specs.Names.{path_of};
 ghost use Rattle.jj_backend.specs.Errors.{is_not_found, is_unsupported};
 ghost use Rattle.jj_trees.specs.Steps.{IsStep};

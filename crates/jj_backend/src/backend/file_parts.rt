@@ -1,7 +1,7 @@
 //! The parts of the files among the terms of a merge.
 ghost use Rattle.std.specs.Prelude.{◌≡◌, length, map, IfOk, IfSome};
 ghost use Rattle.std.specs.Option.{option_map};
-ghost use Rattle.jj_merges.specs.Odd.{IsOdd};
+ghost use Rattle.jj_merges.specs.Merge.{IsOdd};
 ghost use Rattle.jj_backend.specs.MergedTreeValues.{file_id_of, executable_of, part_at, parts};
 ghost use Rattle.jj_backend.specs.TreeValues.{copy_id_of};
 

@@ -1,12 +1,12 @@
-//! Merges made of the items of iterators.
+//! Construction of merges from iterators of terms, of removes and adds, or of diffs.
 ghost use Rattle.std.specs.Prelude.{◌≡◌, ◌+◌, ◌++◌, [], ◌∷◌, List, length, IfOk, OnOk, OnErr};
 ghost use Rattle.std.specs.Cmp.Lexicographic.{pointwise, lists_per, lists_equiv};
 ghost use Rattle.std.specs.Iterator.{Drains};
 ghost use Rattle.std.specs.List.{AllZip};
 ghost use Rattle.jj_merges.specs.Counts.{HaveCountsOfDiffs};
-ghost use Rattle.jj_merges.specs.Odd.{IsOdd};
-ghost use Rattle.jj_merges.specs.Terms.{items, HoldsOne, IsSound};
-ghost use Rattle.jj_merges.specs.Made.{Ends, Gives, MayRun, diff_terms};
+ghost use Rattle.jj_merges.specs.Merge.{IsOdd};
+ghost use Rattle.jj_merges.specs.Terms.{items, InlineHasOne, IsMergeStorage};
+ghost use Rattle.jj_merges.specs.Sources.{IsFiniteSource, YieldsAll, IsFiniteFrom, diff_terms};
 ghost use Rattle.jj_merges.specs.Merge as merge;
 
 use super::storage::Terms;
@@ -15,7 +15,7 @@ use std::alloc::{AllocError, Global};
 use std::fmt;
 use std::marker::Model;
 
-/// The terms of a merge to come, seen as their list.
+/// Collects the terms of a merge, adds and removes alternating. Contracts see the list of terms.
 #[derive(Drop)]
 pub struct MergeBuilder<T> {
     terms: Terms<T>,
@@ -26,28 +26,29 @@ impl<T> Model for MergeBuilder<T> {
 
     ghost view = { λ b. items b.terms };
 
-    ghost invariant = { λ b. HoldsOne b.terms };
+    ghost invariant = { λ b. InlineHasOne b.terms };
 }
 
 impl<T: Drop> MergeBuilder<T> {
-    /// No terms yet.
+    /// Creates a builder without terms. Does not allocate.
     pub fn default(alloc: Global) -> Self
         ensures { result ≡ [] }
     {
         MergeBuilder {
-            terms: Terms::none(alloc),
+            terms: Terms::new(alloc),
         }
     }
 
-    /// Appends the items. Where memory runs out, the builder is as it was.
+    /// Appends the items of `iter`. If memory runs out, the builder has the terms it had before.
     pub fn extend<U: IntoIterator<Item = T>>(
         &mut self,
         alloc: Global,
         iter: U,
     ) -> Result<(), AllocError>
-        requires { Ends U.IntoIterator U.IntoIter.Iterator iter }
+        requires { IsFiniteSource U.IntoIterator U.IntoIter.Iterator iter }
         ensures ok { OnOk result ((xs : List T)
-            × Gives U.into_iter_gives U.IntoIter.next_gives iter xs × (self.new ≡ self.old ++ xs)) }
+            × YieldsAll U.into_iter_gives U.IntoIter.next_gives iter xs
+            × (self.new ≡ self.old ++ xs)) }
         ensures err { OnErr result (self.new ≡ self.old) }
     {
         let len = self.terms.as_slice().len();
@@ -60,8 +61,8 @@ impl<T: Drop> MergeBuilder<T> {
         Ok(())
     }
 
-    /// The merge of the terms.
-    #[tactic(auto, using(crate::proofs::Sound::sound))]
+    /// Returns the merge of the collected terms, of which there must be an odd number.
+    #[tactic(auto, using(crate::proofs::StorageLaws::is_merge_storage))]
     pub fn build(self) -> Merge<T>
         requires { IsOdd (length self) }
         ensures { result ≡ self }
@@ -72,11 +73,11 @@ impl<T: Drop> MergeBuilder<T> {
 }
 
 impl<T: Clone> MergeBuilder<T> {
-    /// The same terms, each a clone.
+    /// Clones all terms. Their list is allocated with `alloc`.
     pub fn clone(&self, alloc: Global) -> Result<Self, AllocError>
         ensures { IfOk result (λ b. AllZip T.is_clone self.now b) }
     {
-        let terms = Terms::clones_of(alloc, self.terms.as_slice())?;
+        let terms = Terms::from_slice(alloc, self.terms.as_slice())?;
         Ok(MergeBuilder { terms })
     }
 }
@@ -104,73 +105,76 @@ impl<T: fmt::Debug> fmt::Debug for MergeBuilder<T> {
 }
 
 impl<T: Drop> Merge<T> {
-    /// The first of the adds, and then each remove with the add after it.
+    /// Creates a merge from its removes and adds: `[base]` and `[left, right]` make the three-way
+    /// merge `[left, base, right]`. Both iterators must be finite, and `adds` must yield one more.
     pub fn from_removes_adds<R: IntoIterator<Item = T>, A: IntoIterator<Item = T>>(
         alloc: Global,
         removes: R,
         adds: A,
     ) -> Result<Self, AllocError>
-        requires removes_end { Ends R.IntoIterator R.IntoIter.Iterator removes }
-        requires adds_end { Ends A.IntoIterator A.IntoIter.Iterator adds }
+        requires removes_end { IsFiniteSource R.IntoIterator R.IntoIter.Iterator removes }
+        requires adds_end { IsFiniteSource A.IntoIterator A.IntoIter.Iterator adds }
         requires one_more { (xs ys : List T)
-            → Gives R.into_iter_gives R.IntoIter.next_gives removes xs
-            → Gives A.into_iter_gives A.IntoIter.next_gives adds ys → length ys ≡ length xs + 1 }
-        ensures removes { IfOk result (λ m. Gives R.into_iter_gives R.IntoIter.next_gives removes
-            (merge.removes m)) }
-        ensures adds { IfOk result (λ m. Gives A.into_iter_gives A.IntoIter.next_gives adds
-            (merge.adds m)) }
+            → YieldsAll R.into_iter_gives R.IntoIter.next_gives removes xs
+            → YieldsAll A.into_iter_gives A.IntoIter.next_gives adds ys
+            → length ys ≡ length xs + 1 }
+        ensures removes { IfOk result (λ m. YieldsAll R.into_iter_gives R.IntoIter.next_gives
+            removes (merge.removes m)) }
+        ensures adds { IfOk result (λ m. YieldsAll A.into_iter_gives A.IntoIter.next_gives
+            adds (merge.adds m)) }
     {
         let removes = removes.into_iter();
         let adds = adds.into_iter();
         let (room, _) = removes.size_hint();
-        let mut terms = Terms::with_room(alloc, room.saturating_mul(2).saturating_add(1))?;
-        push_by_turns(&mut terms, alloc, removes, adds)?;
+        let mut terms = Terms::with_capacity(alloc, room.saturating_mul(2).saturating_add(1))?;
+        push_interleaved(&mut terms, alloc, removes, adds)?;
         Ok(Merge { terms })
     }
 
-    /// A first side, and then for each diff its value before as a remove and the one after as an
-    /// add.
+    /// Creates a merge that applies `diffs` to `first_side`. The `before` of each diff is a remove,
+    /// its `after` an add. `diffs` must be finite.
     pub fn from_diffs<U: IntoIterator<Item = Diff<T>>>(
         alloc: Global,
         first_side: T,
         diffs: U,
     ) -> Result<Self, AllocError>
-        requires { Ends U.IntoIterator U.IntoIter.Iterator diffs }
+        requires { IsFiniteSource U.IntoIterator U.IntoIter.Iterator diffs }
         ensures { IfOk result (λ m. (it : U.IntoIter) × (ds : List (Diff T))
             × U.into_iter_gives diffs it × Drains U.IntoIter.next_gives it ds
             × (m ≡ first_side ∷ diff_terms ds) × HaveCountsOfDiffs first_side ds m) }
     {
-        let mut terms = Terms::one(first_side);
+        let mut terms = Terms::single(first_side);
         for diff in diffs {
             let Diff { before, after } = diff;
-            terms.push_both(alloc, before, after)?;
+            terms.push_pair(alloc, before, after)?;
         }
         Ok(Merge { terms })
     }
 }
 
-// Appends the first of the adds, and then each remove with the add after it.
-fn push_by_turns<T: Drop, R: Iterator<Item = T>, A: Iterator<Item = T>>(
+// Appends an add, a remove, and so on. Each add is pushed together with the remove after it, so the
+// loop over the removes has one exit.
+fn push_interleaved<T: Drop, R: Iterator<Item = T>, A: Iterator<Item = T>>(
     terms: &mut Terms<T>,
     alloc: Global,
     removes: R,
     adds: A,
 ) -> Result<(), AllocError>
-    requires empty { (items terms.old ≡ []) × HoldsOne terms.old }
-    requires removes_end { MayRun R.can_next R.remaining removes }
-    requires adds_end { MayRun A.can_next A.remaining adds }
+    requires empty { (items terms.old ≡ []) × InlineHasOne terms.old }
+    requires removes_end { IsFiniteFrom R.can_next R.remaining removes }
+    requires adds_end { IsFiniteFrom A.can_next A.remaining adds }
     requires one_more { (xs ys : List T) → Drains R.next_gives removes xs
         → Drains A.next_gives adds ys → length ys ≡ length xs + 1 }
     ensures removes { OnOk result (Drains R.next_gives removes
         (merge.removes (items terms.new))) }
     ensures adds { OnOk result (Drains A.next_gives adds (merge.adds (items terms.new))) }
-    ensures sound { OnOk result (IsSound terms.new) }
+    ensures is_merge_storage { OnOk result (IsMergeStorage terms.new) }
 {
     let mut adds = adds;
     let mut add = adds.next();
     for remove in removes {
         if let Some(value) = add {
-            terms.push_both(alloc, value, remove)?;
+            terms.push_pair(alloc, value, remove)?;
             add = adds.next();
         }
     }

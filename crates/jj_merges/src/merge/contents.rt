@@ -1,4 +1,4 @@
-//! Content bytes and JSON values of merges, which are those of the list of terms.
+//! Content hashing and JSON serialization of merges: both are those of the list of terms.
 ghost use Rattle.std.specs.Prelude.{All};
 ghost use Rattle.jj_content.specs.Content.{AreValues, list_content};
 ghost use Rattle.jj_content.specs.Json.{IsJsonList};

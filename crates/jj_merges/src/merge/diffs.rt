@@ -1,10 +1,10 @@
-//! Two versions of a value.
+//! `Diff`, a value before and after a change.
 ghost use Rattle.std.specs.Prelude.{◌≡◌, ◌↔◌, IsTrue, IfOk, false, [], ◌∷◌};
 
 use std::alloc::{AllocError, Global};
 use std::ops::AsDeref;
 
-/// A value before a change and after it.
+/// A value before and after a change.
 #[derive(Clone, Copy, Debug, PartialEq, Eq, Drop)]
 pub struct Diff<T> {
     pub before: T,
@@ -12,7 +12,7 @@ pub struct Diff<T> {
 }
 
 impl<T> Diff<T> {
-    /// A change from one value to another.
+    /// Creates a diff of two values.
     pub fn new(before: T, after: T) -> Self
         ensures before { result.before ≡ before }
         ensures after { result.after ≡ after }
@@ -20,7 +20,7 @@ impl<T> Diff<T> {
         Diff { before, after }
     }
 
-    /// What `f` gives of both values, the one before first.
+    /// Applies `f` to both values, first to `before`.
     pub fn map<U, F: FnMut(T) -> U + Drop>(self, f: F) -> Diff<U>
         requires { F.IsAlwaysCallable f }
         ensures { (next : F) × (last : F) × F.step f self.before result.before next
@@ -32,7 +32,7 @@ impl<T> Diff<T> {
         Diff { before, after }
     }
 
-    /// The values of both diffs, side by side.
+    /// Pairs the values of two diffs.
     pub fn zip<U>(self, other: Diff<U>) -> Diff<(T, U)>
         ensures before { (result.before.0 ≡ self.before) × (result.before.1 ≡ other.before) }
         ensures after { (result.after.0 ≡ self.after) × (result.after.1 ≡ other.after) }
@@ -43,7 +43,7 @@ impl<T> Diff<T> {
         }
     }
 
-    /// The change back.
+    /// Swaps `before` and `after`.
     pub fn invert(self) -> Self
         ensures before { result.before ≡ self.after }
         ensures after { result.after ≡ self.before }
@@ -54,7 +54,7 @@ impl<T> Diff<T> {
         }
     }
 
-    /// The values by reference.
+    /// Returns a diff of references to the values.
     pub fn as_ref(&self) -> Diff<&T>
         ensures before { result.before.now ≡ self.now.before }
         ensures after { result.after.now ≡ self.now.after }
@@ -65,7 +65,7 @@ impl<T> Diff<T> {
         }
     }
 
-    /// What both values show by reference, as a text of a `String`.
+    /// Dereferences both values, for example from `Diff<String>` to `Diff<&str>`.
     pub fn as_deref<'a>(&'a self) -> Diff<T::Shown>
     where
         T: AsDeref<'a>,
@@ -80,7 +80,7 @@ impl<T> Diff<T> {
         }
     }
 
-    /// The value before, then the one after.
+    /// Returns `[before, after]`.
     pub fn into_array(self) -> [T; 2]
         ensures { result ≡ self.before ∷ self.after ∷ [] }
     {
@@ -89,7 +89,7 @@ impl<T> Diff<T> {
 }
 
 impl<T: Eq> Diff<T> {
-    /// Whether the values differ.
+    /// Returns whether the values differ by `==`.
     pub fn is_changed(&self) -> bool
         ensures { IsTrue result ↔ (T.eq self.now.before self.now.after ≡ false) }
     {
@@ -98,7 +98,7 @@ impl<T: Eq> Diff<T> {
 }
 
 impl<T: Clone> Diff<T> {
-    /// The same values, each a clone.
+    /// Clones both values.
     pub fn clone(&self, _alloc: Global) -> Result<Self, AllocError>
         ensures before { IfOk result (λ d. T.is_clone self.now.before d.before) }
         ensures after { IfOk result (λ d. T.is_clone self.now.after d.after) }

@@ -1,4 +1,4 @@
-//! The adds, or the removes, of a merge by reference.
+//! Iterators over the adds or the removes of a merge, by reference.
 ghost use Rattle.std.specs.Prelude.{◌≡◌, List, length};
 ghost use Rattle.std.specs.Iterator.{YieldsFirstRef, item_count};
 ghost use Rattle.jj_merges.specs.Merge.{adds, removes};
@@ -7,7 +7,7 @@ use super::Merge;
 use std::iter::FusedIterator;
 use std::marker::Model;
 
-/// Every second term of a merge, seen as the list of those that are left.
+/// Iterator over every second term of a merge. Contracts see the list of terms not yet yielded.
 #[derive(Drop)]
 pub struct EverySecond<'a, T> {
     rest: &'a [T],
@@ -20,7 +20,7 @@ impl<'a, T> Model for EverySecond<'a, T> {
 }
 
 impl<T> Merge<T> {
-    /// The adds, in order.
+    /// Iterates over the adds in order.
     pub fn adds(&self) -> EverySecond<'_, T>
         ensures { result ≡ adds self.now }
     {
@@ -29,7 +29,7 @@ impl<T> Merge<T> {
         }
     }
 
-    /// The removes, in order.
+    /// Iterates over the removes in order.
     pub fn removes(&self) -> EverySecond<'_, T>
         ensures { result ≡ removes self.now }
     {
@@ -64,8 +64,7 @@ impl<'a, T> Iterator for EverySecond<'a, T> {
 
 impl<T> ExactSizeIterator for EverySecond<'_, T> {
     fn len(&self) -> usize {
-        let len = self.rest.len();
-        len / 2 + len % 2
+        self.rest.len().div_ceil(2)
     }
 }
 

@@ -1,34 +1,34 @@
-//! A merge's terms by value.
+//! Iterator over the terms of a merge, by value and from both ends.
 ghost use Rattle.std.specs.Prelude.{◌≡◌, ◌%◌, ◌∷◌, [], length};
 ghost use Rattle.std.specs.Iterator.{YieldsFirst, YieldsLast, item_count};
 ghost use Rattle.std.specs.Iterator.Runs.{YieldsInOrder, YieldsInReverse};
-ghost use Rattle.jj_merges.specs.Odd.{IsOdd};
+ghost use Rattle.jj_merges.specs.Merge.{IsOdd};
 
 use super::Merge;
-use super::storage::{Terms, only_of};
+use super::storage::{Terms, into_single};
 use std::iter::FusedIterator;
 use std::marker::Model;
 use std::vec;
 
 #[derive(Drop)]
-enum Rest<T> {
-    One(Option<T>),
-    Many(vec::IntoIter<T>),
+enum Remaining<T> {
+    Inline(Option<T>),
+    Heap(vec::IntoIter<T>),
 }
 
-/// The terms of a merge by value, seen as the list of those that are left.
+/// Iterator over the terms of a merge by value. Contracts see the list of terms not yet yielded.
 #[derive(Drop)]
 pub struct IntoIter<T> {
-    rest: Rest<T>,
+    rest: Remaining<T>,
 }
 
 impl<T> Model for IntoIter<T> {
     ghost use Rattle.std.specs.Prelude.{List};
-    ghost use Rattle.jj_merges.specs.Rest.{rest_items};
+    ghost use Rattle.jj_merges.specs.Remaining.{remaining_terms};
 
     ghost Value = { List T };
 
-    ghost view = { λ it. rest_items it.rest };
+    ghost view = { λ it. remaining_terms it.rest };
 }
 
 impl<T: Drop> Iterator for IntoIter<T> {
@@ -40,8 +40,8 @@ impl<T: Drop> Iterator for IntoIter<T> {
 
     fn next(&mut self) -> Option<T> {
         match &mut self.rest {
-            Rest::One(value) => value.take(),
-            Rest::Many(values) => values.next(),
+            Remaining::Inline(value) => value.take(),
+            Remaining::Heap(values) => values.next(),
         }
     }
 
@@ -54,9 +54,9 @@ impl<T: Drop> Iterator for IntoIter<T> {
 impl<T: Drop> ExactSizeIterator for IntoIter<T> {
     fn len(&self) -> usize {
         match &self.rest {
-            Rest::One(Some(_)) => 1,
-            Rest::One(None) => 0,
-            Rest::Many(values) => values.len(),
+            Remaining::Inline(Some(_)) => 1,
+            Remaining::Inline(None) => 0,
+            Remaining::Heap(values) => values.len(),
         }
     }
 }
@@ -75,11 +75,11 @@ impl<T: Drop> IntoIterator for Merge<T> {
     fn into_iter(self) -> IntoIter<T> {
         let Merge { terms } = self;
         match terms {
-            Terms::One(values) => IntoIter {
-                rest: Rest::One(Some(only_of(values))),
+            Terms::Inline(values) => IntoIter {
+                rest: Remaining::Inline(Some(into_single(values))),
             },
-            Terms::Many(values) => IntoIter {
-                rest: Rest::Many(values.into_iter()),
+            Terms::Heap(values) => IntoIter {
+                rest: Remaining::Heap(values.into_iter()),
             },
         }
     }
@@ -90,8 +90,8 @@ impl<T: Drop> DoubleEndedIterator for IntoIter<T> {
 
     fn next_back(&mut self) -> Option<T> {
         match &mut self.rest {
-            Rest::One(value) => value.take(),
-            Rest::Many(values) => values.next_back(),
+            Remaining::Inline(value) => value.take(),
+            Remaining::Heap(values) => values.next_back(),
         }
     }
 }

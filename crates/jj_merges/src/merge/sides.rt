@@ -1,4 +1,4 @@
-//! The removes and the adds of a merge by value, apart.
+//! Conversion of a merge into its removes and its adds.
 ghost use Rattle.std.specs.Prelude.{◌≡◌, ◌++◌, [], IfOk, OnOk};
 ghost use Rattle.std.specs.Option.{option_to_list};
 ghost use Rattle.std.specs.Vec.Iter.{into_iter_items};
@@ -9,7 +9,6 @@ use super::{IntoIter, Merge};
 use std::alloc::{AllocError, Global};
 use std::vec;
 
-// The removes and the adds that were taken out of a merge.
 #[derive(Drop)]
 struct Sides<T> {
     removes: Vec<T>,
@@ -17,7 +16,7 @@ struct Sides<T> {
 }
 
 impl<T: Drop> Merge<T> {
-    /// The removes and the adds by value, apart.
+    /// Converts the merge into iterators over its removes and its adds.
     pub fn into_removes_adds(
         self,
         alloc: Global,
@@ -25,7 +24,7 @@ impl<T: Drop> Merge<T> {
         ensures removes { IfOk result (λ p. into_iter_items p.0 ≡ merge.removes self) }
         ensures adds { IfOk result (λ p. into_iter_items p.1 ≡ merge.adds self) }
     {
-        let mut sides = Sides::with_room(alloc, self.as_slice().len())?;
+        let mut sides = Sides::with_capacity(alloc, self.as_slice().len())?;
         sides.push_terms(&mut self.into_iter())?;
         let Sides { removes, adds } = sides;
         Ok((removes.into_iter(), adds.into_iter()))
@@ -33,12 +32,12 @@ impl<T: Drop> Merge<T> {
 }
 
 impl<T: Drop> Merge<Option<T>> {
-    /// The values that are there among the removes, and those among the adds.
+    /// Returns the present removes and the present adds.
     pub fn into_legacy_form(self, alloc: Global) -> Result<(Vec<T>, Vec<T>), AllocError>
         ensures removes { IfOk result (λ p. p.0.items ≡ present (merge.removes self)) }
         ensures adds { IfOk result (λ p. p.1.items ≡ present (merge.adds self)) }
     {
-        let mut sides = Sides::with_room(alloc, self.as_slice().len())?;
+        let mut sides = Sides::with_capacity(alloc, self.as_slice().len())?;
         sides.push_present_terms(&mut self.into_iter())?;
         let Sides { removes, adds } = sides;
         Ok((removes, adds))
@@ -46,8 +45,8 @@ impl<T: Drop> Merge<Option<T>> {
 }
 
 impl<T: Drop> Sides<T> {
-    // No values yet, with room for the sides of so many terms.
-    fn with_room(alloc: Global, len: usize) -> Result<Self, AllocError>
+    // Reserves room for a merge of `len` terms.
+    fn with_capacity(alloc: Global, len: usize) -> Result<Self, AllocError>
         ensures { IfOk result (λ sides. (sides.removes.items ≡ []) × (sides.adds.items ≡ [])) }
     {
         let removes = Vec::with_capacity(alloc, len / 2)?;
@@ -55,7 +54,7 @@ impl<T: Drop> Sides<T> {
         Ok(Sides { removes, adds })
     }
 
-    // Appends the terms that are left, the first one to the adds.
+    // Appends terms alternately to the adds and the removes, first to the adds.
     fn push_terms(&mut self, terms: &mut IntoIter<T>) -> Result<(), AllocError>
         ensures removes { OnOk result (self.new.removes.items
             ≡ self.old.removes.items ++ merge.removes terms.old) }
@@ -72,7 +71,7 @@ impl<T: Drop> Sides<T> {
         Ok(())
     }
 
-    // Appends the values that are there of the terms that are left, the first one to the adds.
+    // Appends present terms alternately to the adds and the removes, first to the adds.
     fn push_present_terms(&mut self, terms: &mut IntoIter<Option<T>>) -> Result<(), AllocError>
         ensures removes { OnOk result (self.new.removes.items
             ≡ self.old.removes.items ++ present (merge.removes terms.old)) }
@@ -90,7 +89,6 @@ impl<T: Drop> Sides<T> {
     }
 }
 
-// Appends a value that is there.
 fn push_present<T: Drop>(values: &mut Vec<T>, term: Option<T>) -> Result<(), AllocError>
     ensures { OnOk result (values.new.items ≡ values.old.items ++ option_to_list term) }
 {

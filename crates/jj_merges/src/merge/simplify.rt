@@ -1,50 +1,42 @@
-//! Cancelling adds with equal removes, and writing what was made of the simplified terms back to
-//! where they stood.
+//! Simplification of a merge by cancelling adds with equal removes, and its inverse, which writes
+//! edited terms of the simplified merge back into the original.
 ghost use Rattle.std.specs.Prelude.{◌≡◌, ◌≢◌, ℕ, ◌≤◌, List, All, length, slice_get, IsTrue, IfOk};
 ghost use Rattle.std.specs.Fn.{CalledAt};
 ghost use Rattle.std.specs.Cmp.{IsEquivalence};
-ghost use Rattle.std.specs.List.{AllZip, range_with_len};
-ghost use Rattle.jj_merges.specs.Maps.{MapsTo};
-ghost use Rattle.jj_merges.specs.Merge.{AreEqual, HaveSameCounts, HaveSameSides, IsDisjoint};
-ghost use Rattle.jj_merges.specs.Simplify.{AreKept, kept_places, at_places};
+ghost use Rattle.std.specs.List.{AllZip};
+ghost use Rattle.jj_merges.specs.Calls.{CallsReturn};
+ghost use Rattle.jj_merges.specs.Merge.{AreTermwiseEqual, HaveSameCounts, HaveSameSides, IsDisjoint};
+ghost use Rattle.jj_merges.specs.Simplify.{simplified_indices, at_indices};
 
-use super::{Merge, cancelling};
+use super::{Merge, cancellation};
 use std::alloc::{AllocError, Global};
 
 impl<T: PartialEq + Clone> Merge<T> {
-    /// The merge without the adds that equal removes, nor those removes: each add in turn goes with
-    /// the first remove that equals it, and the add after that remove takes its place.
+    /// Cancels each add with an equal remove. `[a, b, b, c, d]` simplifies to `[a, c, d]`.
+    ///
+    /// The adds are tried in order, each against the first equal remove. The add after that remove
+    /// takes the cancelled add's index, so that the remaining diffs stay aligned. Simplifying twice
+    /// changes nothing (`laws::simplified_indices_laws`). O(n²) comparisons.
     pub fn simplify(&self, alloc: Global) -> Result<Self, AllocError>
         requires clones { (x y : T) → T.is_clone x y → IsTrue (T.eq x y) }
-
-        // The terms are clones of those at the places that are kept, and what holds of these
-        // places.
         ensures terms { IfOk result (λ s. AllZip T.is_clone
-            (at_places self.now (kept_places T.eq self.now)) s) }
-        ensures len { IfOk result (λ s. length s ≡ length (kept_places T.eq self.now)) }
-        ensures places { AreKept T.eq self.now (kept_places T.eq self.now) }
-
-        // The counts are those of the merge, and no value stands on both sides.
+            (at_indices self.now (simplified_indices T.eq self.now)) s) }
         ensures counts { IfOk result (λ s. HaveSameCounts T.eq s self.now) }
         ensures disjoint { IfOk result (IsDisjoint T.eq) }
 
-        // A merge of these counts has as many terms or more, and the same adds and removes if it is
-        // simplified too.
-        ensures fewest { IfOk result (λ s. IsEquivalence T.eq → (n : List T)
+        // The result is the shortest merge with these counts. Another merge with these counts that
+        // is disjoint has the same adds and removes up to order.
+        ensures minimal { IfOk result (λ s. IsEquivalence T.eq → (n : List T)
             → HaveSameCounts T.eq self.now n → length s ≤ length n) }
-        ensures same_sides { IfOk result (λ s. IsEquivalence T.eq → (n : List T)
+        ensures unique { IfOk result (λ s. IsEquivalence T.eq → (n : List T)
             → HaveSameCounts T.eq self.now n → IsDisjoint T.eq n → HaveSameSides T.eq s n) }
-
-        // To simplify it again keeps every term in its place.
-        ensures twice { IfOk result (λ s. kept_places T.eq s ≡ range_with_len 0 (length s)) }
     {
-        cancelling::left_of(alloc, self.as_slice())
+        cancellation::clone_simplified(alloc, self.as_slice())
     }
 }
 
 impl<T: Clone> Merge<T> {
-    /// The merge without the adds whose keys equal those of removes, nor those removes. `f` gives
-    /// each term's key.
+    /// Like `simplify`, but cancels terms whose keys, which `f` returns, are equal.
     pub fn simplify_by<'a, U: PartialEq + Drop, F: FnMut(&'a T) -> U>(
         &'a self,
         alloc: Global,
@@ -52,41 +44,45 @@ impl<T: Clone> Merge<T> {
     ) -> Result<Self, AllocError>
         requires { F.IsAlwaysCallable f }
         ensures { IfOk result (λ s. (keys : List U) × (last : F)
-            × MapsTo (CalledAt F.FnMut) f self.now keys last
-            × AllZip T.is_clone (at_places self.now (kept_places U.eq keys)) s
-            × AreKept U.eq keys (kept_places U.eq keys)
-            × HaveSameCounts U.eq (at_places keys (kept_places U.eq keys)) keys
-            × IsDisjoint U.eq (at_places keys (kept_places U.eq keys))) }
+            × CallsReturn (CalledAt F.FnMut) f self.now keys last
+            × AllZip T.is_clone (at_indices self.now (simplified_indices U.eq keys)) s) }
     {
         let values = self.as_slice();
-        let keys = cancelling::keys_of(alloc, values, f)?;
-        let places = cancelling::places_to_keep(alloc, &keys)?;
-        cancelling::clones_at(alloc, values, &places)
+        let keys = cancellation::collect_keys(alloc, values, f)?;
+        let indices = cancellation::simplified_indices(alloc, &keys)?;
+        cancellation::clone_at_indices(alloc, values, &indices)
     }
 }
 
 impl<T: PartialEq + Drop> Merge<T> {
-    /// The merge with the terms of `simplified` at the places that `simplify` keeps.
+    /// Replaces the terms that `simplify` keeps by those of `simplified`, in order. The terms that
+    /// cancel are unchanged.
+    ///
+    /// Use it to edit a conflict in its simplified form: simplify, edit the terms, and write them
+    /// back. `simplified` must have as many terms as `simplify` returns. O(n²) comparisons.
     pub fn update_from_simplified(self, alloc: Global, simplified: Self) -> Result<Self, AllocError>
-        requires { length simplified ≡ length (kept_places T.eq self) }
-        ensures kept { IfOk result (λ m. at_places m (kept_places T.eq self) ≡ simplified) }
-        ensures others { IfOk result (λ m. (p : ℕ)
-            → All (λ place. place ≢ p) (kept_places T.eq self) → slice_get m p ≡ slice_get self p) }
+        requires { length simplified
+            ≡ length (at_indices self (simplified_indices T.eq self)) }
+        ensures updated { IfOk result (λ m. at_indices m (simplified_indices T.eq self)
+            ≡ simplified) }
+        ensures unchanged { IfOk result (λ m. (p : ℕ)
+            → All (λ index. index ≢ p) (simplified_indices T.eq self)
+            → slice_get m p ≡ slice_get self p) }
         ensures len { IfOk result (λ m. length m ≡ length self) }
         ensures counts { IfOk result (λ m. HaveSameCounts T.eq m simplified) }
 
-        // What `simplify` gave of the merge gives it back.
-        ensures own { IfOk result (λ m. IsEquivalence T.eq
-            → AreEqual T.eq (at_places self (kept_places T.eq self)) simplified
-            → AreEqual T.eq self m) }
+        // Without an edit the result is the original merge.
+        ensures round_trip { IfOk result (λ m. IsEquivalence T.eq
+            → AreTermwiseEqual T.eq (at_indices self (simplified_indices T.eq self)) simplified
+            → AreTermwiseEqual T.eq self m) }
     {
-        let places = cancelling::places_to_keep(alloc, self.as_slice())?;
+        let indices = cancellation::simplified_indices(alloc, self.as_slice())?;
         let Merge { terms } = self;
         let mut terms = terms;
         let mut updates = simplified.into_iter();
-        for place in &places {
+        for index in &indices {
             match updates.next() {
-                Some(update) => terms.set(*place, update),
+                Some(update) => terms.set(*index, update),
                 None => unreachable!(),
             }
         }

@@ -1,4 +1,4 @@
-//! The standard traits at merges. Comparisons and hashes are those of the list of terms.
+//! Standard traits of merges. Equality and hash are those of the list of terms.
 ghost use Rattle.std.specs.Prelude.{◌≡◌, ◌^◌, ◌<◌, length};
 ghost use Rattle.std.specs.Borrow.{sem};
 ghost use Rattle.std.specs.Cmp.{on_equiv, on_per};

@@ -1,28 +1,26 @@
-//! Whether the terms of a merge have one outcome, by cancelling adds with equal removes.
+//! Trivial resolution: the outcome of a merge that the signed counts of its terms decide, without
+//! looking inside the values.
 ghost use Rattle.std.specs.Prelude.{[], ◌∷◌, ◌⊎◌, ◌≡◌, ◌≢◌, ℕ, ◌+◌, ◌<◌, ◌↔◌, length, count_by, IsTrue, IfSome, IfNone, Contains};
-ghost use Rattle.std.specs.List.{list_any};
-ghost use Rattle.jj_merges.specs.Odd.{IsOdd};
-ghost use Rattle.jj_merges.specs.Merge.{adds, removes};
-ghost use Rattle.jj_merges.specs.Decided.{IsDecided};
+ghost use Rattle.jj_merges.specs.Merge.{IsOdd, adds, removes};
+ghost use Rattle.jj_merges.specs.Resolution.{ResolvesTo};
 ghost use Rattle.jj_merges.specs.declared.merge.SameChange.{SameChange};
 
 use super::{Merge, SameChange};
 
-// How many adds equal `value`.
-#[tactic(auto, using(crate::proofs::Counts::count_more))]
+#[tactic(auto, using(crate::proofs::AddCounts::count_steps))]
 fn count_adds<T: Eq>(values: &[T], value: &T) -> usize
     ensures { result ≡ count_by (T.eq value.now) (adds values.now) }
 {
     let mut count = 0;
-    for (place, term) in values.iter().enumerate() {
-        if place % 2 == 0 && value == term {
+    for (index, term) in values.iter().enumerate() {
+        if index % 2 == 0 && value == term {
             count += 1;
         }
     }
     count
 }
 
-// How many removes equal `value`: they are the adds of what follows the first term.
+// The removes are the adds of the list without its first term.
 fn count_removes<T: Eq>(values: &[T], value: &T) -> usize
     ensures { result ≡ count_by (T.eq value.now) (removes values.now) }
 {
@@ -32,25 +30,18 @@ fn count_removes<T: Eq>(values: &[T], value: &T) -> usize
     }
 }
 
-// Whether one of the values equals this one.
-fn stands_in<T: Eq>(values: &[T], value: &T) -> bool
-    ensures { result ≡ list_any (T.eq value.now) values.now }
-{
-    values.iter().any(|other| value == other)
-}
-
-// The outcome of two adds over a remove, where their counts decide it.
-fn three_way<'a, T: Eq>(
+// Resolves a three-way merge with at most three comparisons.
+fn resolve_three_way<'a, T: Eq>(
     first: &'a T,
     remove: &'a T,
     last: &'a T,
     same_change: SameChange,
 ) -> Option<&'a T>
     ensures member { IfSome result (λ v. (v.now ≡ first.now) ⊎ (v.now ≡ last.now)) }
-    ensures decided { IfSome result (λ v. IsDecided T.eq same_change
+    ensures resolved { IfSome result (λ v. ResolvesTo T.eq same_change
         (first.now ∷ remove.now ∷ last.now ∷ []) v.now) }
-    ensures undecided { IfNone result ((v : T)
-        → IsDecided T.eq same_change (first.now ∷ remove.now ∷ last.now ∷ []) v → ⊥) }
+    ensures unresolved { IfNone result ((v : T)
+        → ¬ (ResolvesTo T.eq same_change (first.now ∷ remove.now ∷ last.now ∷ []) v)) }
 {
     if same_change == SameChange::Accept && first == last {
         return Some(first);
@@ -64,24 +55,23 @@ fn three_way<'a, T: Eq>(
     None
 }
 
-// The value that is added, where the counts of all values decide it. Each value is counted once,
-// at the first place where it stands, so that the comparisons are at most four times the terms
-// times the distinct values.
-fn add_left<T: Eq>(values: &[T], same_change: SameChange) -> Option<&T>
+// Resolves a merge of any length. Each distinct value is counted once, at its first index. There is
+// no `Hash` bound to build a map of counts, and no allocation.
+fn resolve_by_counts<T: Eq>(values: &[T], same_change: SameChange) -> Option<&T>
     ensures member { IfSome result (λ v. Contains values.now v.now) }
-    ensures decided { IfSome result (λ v. IsDecided T.eq same_change values.now v.now) }
-    ensures undecided { IfNone result ((v : T) → IsDecided T.eq same_change values.now v → ⊥) }
+    ensures resolved { IfSome result (λ v. ResolvesTo T.eq same_change values.now v.now) }
+    ensures unresolved { IfNone result ((v : T) → ¬ (ResolvesTo T.eq same_change values.now v)) }
 {
     let mut added: Option<&T> = None;
     let mut removed: Option<&T> = None;
-    for (place, value) in values.iter().enumerate() {
-        if stands_in(&values[..place], value) {
+    for (index, value) in values.iter().enumerate() {
+        if values[..index].contains(value) {
             continue;
         }
         let adds = count_adds(values, value);
         let removes = count_removes(values, value);
         if removes < adds {
-            if added.is_some() || is_repeated(same_change, adds, removes) {
+            if added.is_some() || is_kept_duplicate(same_change, adds, removes) {
                 return None;
             }
             added = Some(value);
@@ -95,34 +85,39 @@ fn add_left<T: Eq>(values: &[T], same_change: SameChange) -> Option<&T>
     added
 }
 
-// Whether equal changes are kept, and this one is made more than once.
-fn is_repeated(same_change: SameChange, adds: usize, removes: usize) -> bool
+// Whether several sides made this change, which `Keep` leaves unresolved.
+fn is_kept_duplicate(same_change: SameChange, adds: usize, removes: usize) -> bool
     requires { removes < adds }
     ensures { IsTrue result ↔ ((same_change ≡ SameChange.Keep) × (adds ≢ removes + 1)) }
 {
     same_change == SameChange::Keep && adds - removes != 1
 }
 
-/// The outcome of the terms, where their counts decide it.
+/// Resolves the merge of `values` if their signed counts determine one outcome: adds cancel with
+/// equal removes, and a single value must remain. If all sides made the same change, `Accept`
+/// resolves to it. For example `[a, b, b]` resolves to `a`, and `[a, b, a]` only with `Accept`.
+///
+/// Returns `None` for a conflict. O(n²) comparisons in the worst case; does not allocate.
 pub fn trivial_merge<T: Eq>(values: &[T], same_change: SameChange) -> Option<&T>
     requires { IsOdd (length values.now) }
     ensures member { IfSome result (λ v. Contains values.now v.now) }
-    ensures decided { IfSome result (λ v. IsDecided T.eq same_change values.now v.now) }
-    ensures undecided { IfNone result ((v : T) → IsDecided T.eq same_change values.now v → ⊥) }
+    ensures resolved { IfSome result (λ v. ResolvesTo T.eq same_change values.now v.now) }
+    ensures unresolved { IfNone result ((v : T) → ¬ (ResolvesTo T.eq same_change values.now v)) }
 {
     match values {
         [value] => Some(value),
-        [first, remove, last] => three_way(first, remove, last, same_change),
-        _ => add_left(values, same_change),
+        [first, remove, last] => resolve_three_way(first, remove, last, same_change),
+        _ => resolve_by_counts(values, same_change),
     }
 }
 
 impl<T: Eq> Merge<T> {
-    /// The outcome of the merge, where the counts of its terms decide it.
+    /// Resolves the merge if the signed counts of its terms determine one outcome, else returns
+    /// `None`. See `trivial_merge`.
     pub fn resolve_trivial(&self, same_change: SameChange) -> Option<&T>
         ensures member { IfSome result (λ v. Contains self.now v.now) }
-        ensures decided { IfSome result (λ v. IsDecided T.eq same_change self.now v.now) }
-        ensures undecided { IfNone result ((v : T) → IsDecided T.eq same_change self.now v → ⊥) }
+        ensures resolved { IfSome result (λ v. ResolvesTo T.eq same_change self.now v.now) }
+        ensures unresolved { IfNone result ((v : T) → ¬ (ResolvesTo T.eq same_change self.now v)) }
     {
         trivial_merge(self.as_slice(), same_change)
     }

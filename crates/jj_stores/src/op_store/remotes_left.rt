@@ -4,7 +4,7 @@ ghost use Rattle.std.specs.List.{slice_get, All, AllZip};
 ghost use Rattle.std.specs.Option.{option_copied};
 ghost use Rattle.std.specs.Map.{keys_of, lookup};
 ghost use Rattle.std.specs.Str.{bytes_eq};
-ghost use Rattle.jj_merges.specs.Maps.{MapsTo};
+ghost use Rattle.jj_merges.specs.Calls.{CallsReturn};
 ghost use Rattle.jj_stores.specs.ViewJoins.{IsAscending, IsLeast, LosesAt, remotes_with, IsFirstName, IsFirstOfRemotes};
 ghost use Rattle.jj_stores.specs.FlatRefs.{TakesRef};
 ghost use Rattle.jj_stores.specs.JoinRows.{ref_of, ShowsRefs};
@@ -170,7 +170,7 @@ fn shown_of_remotes<'a, F: FnMut(&'a RemoteView) -> &'a BTreeMap<RefNameBuf, Rem
     get_remote_refs: F,
 ) -> Result<Vec<RemoteLeft<'a>>, AllocError>
     requires { F.IsAlwaysCallable get_remote_refs }
-    ensures { IfOk result (λ remotes. (last : F) × MapsTo (ShowsRefs F.FnMut) get_remote_refs
+    ensures { IfOk result (λ remotes. (last : F) × CallsReturn (ShowsRefs F.FnMut) get_remote_refs
         remote_views.now.entries remotes.items last) }
 {
     let mut get_remote_refs = get_remote_refs;
@@ -192,7 +192,7 @@ pub(super) fn remotes_left<'a, F: FnMut(&'a RemoteView) -> &'a BTreeMap<RefNameB
     get_remote_refs: F,
 ) -> Result<RemotesLeft<'a>, AllocError>
     requires { F.IsAlwaysCallable get_remote_refs }
-    ensures { IfOk result (λ remotes. (last : F) × MapsTo (ShowsRefs F.FnMut) get_remote_refs
+    ensures { IfOk result (λ remotes. (last : F) × CallsReturn (ShowsRefs F.FnMut) get_remote_refs
         remote_views.now.entries remotes last) }
 {
     let remotes = shown_of_remotes(alloc, remote_views, get_remote_refs)?;

@@ -1,6 +1,6 @@
 //! Refs here and at remotes, joined by name.
 ghost use Rattle.std.specs.Prelude.{◌≡◌, IfOk};
-ghost use Rattle.jj_merges.specs.Maps.{MapsTo};
+ghost use Rattle.jj_merges.specs.Calls.{CallsReturn};
 ghost use Rattle.jj_stores.specs.JoinRows.{ShowsRefs};
 
 use super::refs_left::RefsLeft;
@@ -82,8 +82,8 @@ where
     F: FnMut(&'a RemoteView) -> &'a BTreeMap<RefNameBuf, RemoteRef>,
     requires { F.IsAlwaysCallable get_remote_refs }
     ensures locals { IfOk result (λ join. join.locals ≡ local_refs.now.entries) }
-    ensures remotes { IfOk result (λ join. (last : F) × MapsTo (ShowsRefs F.FnMut) get_remote_refs
-        remote_views.now.entries join.remotes last) }
+    ensures remotes { IfOk result (λ join. (last : F) × CallsReturn (ShowsRefs F.FnMut)
+        get_remote_refs remote_views.now.entries join.remotes last) }
 {
     let remotes = remotes_left(alloc, remote_views, get_remote_refs)?;
     Ok(MergeJoinRefViews {
@@ -138,7 +138,7 @@ pub fn flatten_remote_refs<'a, F>(
 where
     F: FnMut(&'a RemoteView) -> &'a BTreeMap<RefNameBuf, RemoteRef>,
     requires { F.IsAlwaysCallable get_remote_refs }
-    ensures { IfOk result (λ refs. (last : F) × MapsTo (ShowsRefs F.FnMut) get_remote_refs
+    ensures { IfOk result (λ refs. (last : F) × CallsReturn (ShowsRefs F.FnMut) get_remote_refs
         remote_views.now.entries refs last) }
 {
     let remotes = remotes_left(alloc, remote_views, get_remote_refs)?;

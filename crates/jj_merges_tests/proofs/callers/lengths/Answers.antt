@@ -8,6 +8,6 @@ use Rattle.jj_merges_tests.proofs.callers.lengths.Goals as goal
 pub returns : goal.returns
 returns c =
     IfOk-weaker c.map.result _ _
-    (λ m counts w. counts string_eq nat_eq (λ text. length (string_bytes text)) string_eq_equiv (record { symm = nat_eq_equiv.symm; trans = λ x y z p q. nat_eq_equiv.congr x y z p ∙ q })
+    (λ m counts w. counts string_eq nat_eq (λ s. length (string_bytes s)) string_eq_equiv (record { symm = nat_eq_equiv.symm; trans = λ x y z p q. nat_eq_equiv.congr x y z p ∙ q })
     (λ f g x y among called. let a = called.called in let b = called.shows in search (rules, a, b)) (λ x y e. ap (λ bytes. nat_eq (length (string_bytes x)) (length bytes)) (sym ((bytes_eq-Decides (string_bytes x) (string_bytes y)).0 e)) ∙ nat_eq_equiv.refl (length (string_bytes x))) w)
     c.map.ensures.counts

@@ -3,7 +3,7 @@ use Rattle.std.specs.declared.alloc.AllocError.{AllocError}
 use Rattle.std.proofs.lemmas.Iterator.{YieldsList-from_slice}
 use Rattle.std.proofs.lemmas.Iterator.Adapters.{items_from_extend}
 use Rattle.std.proofs.lemmas.Iterator.Consumers.{YieldsList-from_copied}
-use Rattle.jj_merges.specs.Odd.{IsOdd}
+use Rattle.jj_merges.specs.Merge.{IsOdd}
 use Rattle.jj_program.specs.Texts.{Text}
 use Rattle.jj_program.proofs.merge_command.merge_of.Goals as goal
 

@@ -2,7 +2,7 @@ use Rattle.std.proofs.Common.{◌≡◌, ℕ, ap, subst, arith, cond, IsPermutat
 use Rattle.std.specs.Prelude.{count_by}
 use Rattle.std.proofs.lemmas.List.Sorted.{length_permutation, sum_by-IsPermutation}
 use Rattle.jj_merges.specs.Merge.{adds, removes}
-use Rattle.jj_merges.proofs.Kept.{signed_counts_equal}
+use Rattle.jj_merges.proofs.SimplifiedIndices.{signed_counts_equal}
 use Rattle.jj_program.specs.Texts.{Text}
 use Rattle.jj_program.specs.TextMerges.{text_eq}
 use Rattle.jj_program.proofs.TextOutcomes.{one_more_add}

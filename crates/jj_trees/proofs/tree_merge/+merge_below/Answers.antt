@@ -1,6 +1,6 @@
 use Rattle.std.proofs.Common.{◌≡◌, ◌∙◌, ◌-◌, ◌++◌, ◌∷◌, [], length, refl, sym, ap, subst, arith, is_some}
 use Rattle.std.proofs.lemmas.Result.{err_from_is_err_and}
-use Rattle.jj_merges.specs.Odd.{IsOdd}
+use Rattle.jj_merges.specs.Merge.{IsOdd}
 use Rattle.std.specs.Vec.Iter.{into_iter_items}
 use Rattle.jj_paths.specs.Names.{path_of}
 use Rattle.jj_paths.specs.Paths.{Name}

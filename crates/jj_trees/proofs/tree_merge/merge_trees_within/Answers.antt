@@ -1,7 +1,7 @@
 use Rattle.std.proofs.Common.{◌≡◌, ◌∙◌, sym, ap, subst, length}
 use Rattle.std.specs.Option.{option_eq}
 use Rattle.std.proofs.lemmas.List.{length-map}
-use Rattle.jj_merges.specs.Odd.{IsOdd}
+use Rattle.jj_merges.specs.Merge.{IsOdd}
 use Rattle.jj_paths.specs.Names.{path_of}
 use Rattle.jj_backend.specs.declared.backend.tree_value.TreeValue.TheVariants.{Tree}
 use Rattle.std.proofs.Common.{Some}

@@ -1,7 +1,7 @@
 use Rattle.std.proofs.Common.{◌≡◌, ◌∙◌, ◌++◌, Some, length, map, sym, ap, subst, arith}
 use Rattle.std.proofs.lemmas.List.{at_drop_all, length_push, append-nil}
 use Rattle.std.specs.Option.{option_map}
-use Rattle.jj_merges.specs.Odd.{IsOdd}
+use Rattle.jj_merges.specs.Merge.{IsOdd}
 use Rattle.jj_backend.specs.MergedTreeValues.{parts}
 use Rattle.jj_backend.proofs.MergedTreeValues.{parts-start, parts-next_at, parts-missing_at}
 use Rattle.jj_backend.proofs.backend.file_parts.parts_of.Goals as goal

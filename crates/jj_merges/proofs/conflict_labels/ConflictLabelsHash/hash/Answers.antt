@@ -2,7 +2,7 @@ use Rattle.std.proofs.Common.{◌∙◌, ap}
 use Rattle.std.specs.Prelude.{string_bytes}
 use Rattle.std.specs.Hash as fed
 use Rattle.std.specs.List.{fold}
-use Rattle.jj_merges.proofs.LabelTexts.{slice-map}
+use Rattle.jj_merges.proofs.MappedLists.{slice-map}
 use Rattle.jj_merges.proofs.conflict_labels.ConflictLabelsHash.hash.Goals as goal
 
 pub returns : goal.returns

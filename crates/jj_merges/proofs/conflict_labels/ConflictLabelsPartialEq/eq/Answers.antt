@@ -2,7 +2,7 @@ use Rattle.std.proofs.Common.{◌∙◌, sym}
 use Rattle.std.specs.Prelude.{string_bytes}
 use Rattle.std.specs.Cmp.Lexicographic.{pointwise}
 use Rattle.std.specs.Str.{bytes_eq}
-use Rattle.jj_merges.proofs.LabelTexts.{pointwise-map}
+use Rattle.jj_merges.proofs.MappedLists.{pointwise-map}
 use Rattle.jj_merges.proofs.conflict_labels.ConflictLabelsPartialEq.eq.Goals as goal
 
 pub returns : goal.returns

@@ -1,10 +1,10 @@
 use Rattle.std.proofs.Common.{◌∙◌, ap, append-nil, arith, length, sym}
-use Rattle.jj_merges.proofs.Sound.{sound_one}
+use Rattle.jj_merges.proofs.StorageLaws.{is_merge_storage-single}
 use Rattle.jj_merges.proofs.merge.Merge.from_vec.Goals.{then-not-spilled+in_default, else-not-spilled}
 use Rattle.jj_merges.proofs.merge.Merge.from_vec.Goals as goal
 
 pub invariant_of-result : goal.invariant_of-result
-invariant_of-result g c = sound_one c.one.result c.in-Some.value c.one.ensures
+invariant_of-result g c = is_merge_storage-single c.single.result c.in-Some.value c.single.ensures
 
 pub returns : goal.returns
 returns g c =

@@ -1,7 +1,7 @@
 use Rattle.std.proofs.Common.{◌≡◌, ◌%◌, ap, arith, rules, length}
 use Rattle.jj_merges.specs.Terms.{items}
-use Rattle.jj_merges.proofs.MadeCounts.{by_result, on_ok_both, padded_counts}
-use Rattle.jj_merges.proofs.Sound.{sound, holds_one}
+use Rattle.jj_merges.proofs.DerivedCounts.{by_result, on_ok_both, padded_counts}
+use Rattle.jj_merges.proofs.StorageLaws.{is_merge_storage, inline_has_one}
 use Rattle.jj_merges.proofs.merge.Merge.pad_to.Goals as goal
 
 pub returns-clause-counts : goal.returns-clause-counts
@@ -15,7 +15,7 @@ pub pad-requires : goal.pad-requires
 pad-requires g c = (
   search rules,
   (
-    holds_one c.self.inside.terms c.self.invariant,
+    inline_has_one c.self.inside.terms c.self.invariant,
     omega (arith, ap length c.self.view_is, c.num_sides.ensures.terms, c.if-num_sides.false),
   ),
 )
@@ -25,7 +25,7 @@ overflow_mul-num_sides g c = omega (arith, c.requires)
 
 pub invariant_of-self : goal.invariant_of-self
 invariant_of-self g c =
-    sound c.pad.new.self c.pad.ensures.holds_one
+    is_merge_storage c.pad.new.self c.pad.ensures.inline_has_one
     (by_result c.pad.result c.pad.ensures.len c.pad.ensures.err (λ long. omega (arith, long, c.num_sides.ensures.terms, c.if-num_sides.false))
     (λ same. omega (arith, ap length same, ap length c.self.view_is, c.num_sides.ensures.terms)))
 

@@ -6,8 +6,8 @@ trivial_merge-requires g c = rw c.as_slice.ensures.terms c.as_slice.ensures.odd
 pub returns-clause-member : goal.returns-clause-member
 returns-clause-member g c = rw (← c.as_slice.ensures.terms) c.trivial_merge.ensures.member
 
-pub returns-clause-decided : goal.returns-clause-decided
-returns-clause-decided g c = rw (← c.as_slice.ensures.terms) c.trivial_merge.ensures.decided
+pub returns-clause-resolved : goal.returns-clause-resolved
+returns-clause-resolved g c = rw (← c.as_slice.ensures.terms) c.trivial_merge.ensures.resolved
 
-pub returns-clause-undecided : goal.returns-clause-undecided
-returns-clause-undecided g c = rw (← c.as_slice.ensures.terms) c.trivial_merge.ensures.undecided
+pub returns-clause-unresolved : goal.returns-clause-unresolved
+returns-clause-unresolved g c = rw (← c.as_slice.ensures.terms) c.trivial_merge.ensures.unresolved

@@ -3,10 +3,10 @@ use Rattle.std.specs.Prelude.{slice_index_or}
 use Rattle.std.specs.List.{swap_remove}
 use Rattle.jj_merges.specs.Merge.{adds, removes}
 use Rattle.jj_merges.specs.Terms.{items}
-use Rattle.jj_merges.proofs.Changes.{adds_without_both, removes_without_both, added, removed_is}
-use Rattle.jj_merges.proofs.MadeCounts.{count-swap_remove}
+use Rattle.jj_merges.proofs.SwapRemoveLaws.{adds_without_both, removes_without_both, added, removed_is}
+use Rattle.jj_merges.proofs.DerivedCounts.{count-swap_remove}
 use Rattle.jj_merges.proofs.Sides.{length-adds, length-removes}
-use Rattle.jj_merges.proofs.Sound.{many, sound_many}
+use Rattle.jj_merges.proofs.StorageLaws.{is_on_heap, is_merge_storage-heap}
 use Rattle.jj_merges.proofs.merge.Merge.swap_remove.Goals as goal
 
 pub returns : goal.returns
@@ -38,7 +38,7 @@ swap_remove-add-requires g c =
       search rules,
       (
         omega (arith, same, length-adds m, c.requires.add, c.as_slice-len.ensures.odd),
-        many c.self.inside.terms c.self.invariant (omega (arith, same, length-removes m, c.requires.remove)),
+        is_on_heap c.self.inside.terms c.self.invariant (omega (arith, same, length-removes m, c.requires.remove)),
       ),
     )
 
@@ -47,7 +47,7 @@ swap_remove-remove-requires g c = (
   search rules,
   (
     omega (arith, ap length c.self.view_is, length-removes c.args.self.now, c.requires.remove, c.swap_remove-add.ensures.len, c.as_slice-len.ensures.odd),
-    c.swap_remove-add.ensures.many,
+    c.swap_remove-add.ensures.is_on_heap,
   ),
 )
 
@@ -62,5 +62,5 @@ overflow_add-remove_index g c = omega (arith, length-removes c.args.self.now, c.
 
 pub invariant_of-self : goal.invariant_of-self
 invariant_of-self g c =
-    sound_many c.swap_remove-remove.new.self c.swap_remove-remove.ensures.many
+    is_merge_storage-heap c.swap_remove-remove.new.self c.swap_remove-remove.ensures.is_on_heap
     (omega (arith, c.swap_remove-remove.ensures.len, c.swap_remove-add.ensures.len, ap length c.self.view_is, c.as_slice-len.ensures.odd))

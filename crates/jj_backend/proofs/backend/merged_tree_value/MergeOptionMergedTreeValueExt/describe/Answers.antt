@@ -1,7 +1,7 @@
 use Rattle.std.proofs.Common.{◌≡◌, ◌∙◌, map, ap}
 use Rattle.std.specs.Option.{option_map}
 use Rattle.std.specs.Prelude.{string_bytes, codes, ◌++◌}
-use Rattle.jj_merges.specs.Labels.{merge_of}
+use Rattle.jj_merges.specs.Labels.{labels_as_merge}
 use Rattle.jj_merges.specs.Merge.{adds, removes}
 use Rattle.jj_backend.specs.MergedTreeValues.{lines, newline}
 use Rattle.jj_backend.proofs.MergedTreeValues.{adds-map, removes-map, after_both}
@@ -11,7 +11,7 @@ pub returns : goal.returns
 returns g c =
     let seen = option_map g.T.AsTreeValue.value_of in
     let values = c.args.self.now in
-    let labels = merge_of c.args.labels.now in
+    let labels = labels_as_merge c.args.labels.now in
     let texts = c.as_merge-labels.result.now in
     let removed_values : map seen c.removes.result ≡ removes (map seen values) = ap (map seen) c.removes.ensures ∙ removes-map seen values in
     let removed_labels : map string_bytes c.removes-2.result ≡ removes labels = ap (map string_bytes) c.removes-2.ensures ∙ removes-map string_bytes texts ∙ ap removes c.as_merge-labels.ensures in

@@ -10,7 +10,7 @@ push-requires g c = (search rules, c.loop-term.invariant.0)
 
 pub loop-term-preserved : goal.loop-term-preserved
 loop-term-preserved g c = (
-  c.in_default.ensures.holds_one,
+  c.in_default.ensures.inline_has_one,
   c.in_default.ensures.ok
       ∙ (ap (λ xs. xs ++ c.in-Some.term ∷ []) c.loop-term.invariant.1 ∙ append_assoc c.args.self.now c.loop-term.yielded (c.in-Some.term ∷ [])),
 )
@@ -21,13 +21,13 @@ truncate-requires g c =
     let now = ap length c.loop-term.invariant.1 in (
       search rules,
       (
-        c.in-Err.ensures.holds_one,
+        c.in-Err.ensures.inline_has_one,
         omega (arith, before, now, ap length c.self.view_is, ap length c.in-Err.ensures.err, length-append c.args.self.now c.loop-term.yielded),
       ),
     )
 
 pub invariant_of-self-in-Err : goal.invariant_of-self-in-Err
-invariant_of-self-in-Err g c = c.truncate.ensures.holds_one
+invariant_of-self-in-Err g c = c.truncate.ensures.inline_has_one
 
 pub returns-in-Err-clause-err : goal.returns-in-Err-clause-err
 returns-in-Err-clause-err g c =

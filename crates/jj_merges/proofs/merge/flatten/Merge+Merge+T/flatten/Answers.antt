@@ -1,8 +1,8 @@
 use Rattle.std.proofs.Common.{◌∙◌, ap, arith, rules, length, sym}
 use Rattle.jj_merges.proofs.merge.flatten.Merge+Merge+T.flatten.Goals as goal
 
-pub flattened_from-requires : goal.flattened_from-requires
-flattened_from-requires g c =
+pub flatten_remaining-requires : goal.flatten_remaining-requires
+flatten_remaining-requires g c =
     let whole = sym c.into_iter-merges.ensures.into_iter_gives.0 ∙ c.in-Some.ensures.steps in
     (search rules, omega (arith, c.as_slice-len.ensures.odd, ap length whole))
 
@@ -13,9 +13,9 @@ unreachable-requires g c =
 pub returns-clause-terms : goal.returns-clause-terms
 returns-clause-terms g c =
     let whole = sym c.into_iter-merges.ensures.into_iter_gives.0 ∙ c.in-Some.ensures.steps in
-    rw whole c.flattened_from.ensures.terms
+    rw whole c.flatten_remaining.ensures.terms
 
 pub returns-clause-counts : goal.returns-clause-counts
 returns-clause-counts g c =
     let whole = sym c.into_iter-merges.ensures.into_iter_gives.0 ∙ c.in-Some.ensures.steps in
-    rw whole c.flattened_from.ensures.counts
+    rw whole c.flatten_remaining.ensures.counts

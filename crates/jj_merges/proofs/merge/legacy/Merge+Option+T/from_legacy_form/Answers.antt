@@ -1,12 +1,12 @@
 use Rattle.jj_merges.specs.Terms.{items}
-use Rattle.jj_merges.proofs.LegacyLaws.{restored}
-use Rattle.jj_merges.proofs.MadeCounts.{legacy_counts}
+use Rattle.jj_merges.proofs.LegacyTerms.{legacy_terms-sides}
+use Rattle.jj_merges.proofs.DerivedCounts.{legacy_counts}
 use Rattle.jj_merges.proofs.merge.legacy.Merge+Option+T.from_legacy_form.Goals as goal
 
 pub returns : goal.returns
 returns g c =
     let made = c.in_ok-push_legacy_terms.ensures.terms in
-    let both = restored made.0 made.1 (items c.push_legacy_terms.new.terms) made.4 in
+    let both = legacy_terms-sides made.0 made.1 (items c.push_legacy_terms.new.terms) made.4 in
     record {
       terms = (
         made.0,

@@ -1,7 +1,7 @@
 use Rattle.std.proofs.Common.{◌∙◌, ◌++◌, ◌∷◌, ap, append-nil, arith, length, refl, sym}
 use Rattle.jj_merges.specs.Merge.{adds, removes}
 use Rattle.jj_merges.specs.Options.{present}
-use Rattle.jj_merges.proofs.MapsLemmas.{present-moved}
+use Rattle.jj_merges.proofs.CallLaws.{present-moved}
 use Rattle.jj_merges.proofs.merge.sides.Sides.push_present_terms.Goals as goal
 
 pub loop-add-init : goal.loop-add-init

@@ -1,6 +1,6 @@
 use Rattle.std.proofs.Common.{◌∙◌, ◌++◌, ◌∷◌, ap, append-nil, arith, length, refl, sym}
 use Rattle.jj_merges.specs.Merge.{adds, removes}
-use Rattle.jj_merges.proofs.MapsLemmas.{item-moved}
+use Rattle.jj_merges.proofs.CallLaws.{item-moved}
 use Rattle.jj_merges.proofs.merge.sides.Sides.push_terms.Goals as goal
 
 pub loop-add-init : goal.loop-add-init

@@ -1,0 +1,26 @@
+//! Laws of merges. Each function does nothing, and its contract is the law.
+ghost use Rattle.std.specs.Prelude.{◌≡◌, List, length};
+ghost use Rattle.std.specs.List.{range_with_len};
+ghost use Rattle.jj_merges.specs.Merge.{HaveSameCounts, IsDisjoint, IsOdd};
+ghost use Rattle.jj_merges.specs.Simplify.{at_indices, simplified_indices};
+ghost use Rattle.jj_merges.specs.Cancellation.{IsCancellation};
+
+/// Laws of the indices that `Merge::simplify` keeps, and of the terms at these indices.
+///
+/// - `cancellation`: the dropped terms are pairs of an add and an equal remove.
+/// - `len`: all indices are in range.
+/// - `counts`: signed counts are unchanged.
+/// - `disjoint`: no value remains on both sides.
+/// - `idempotent`: a disjoint merge keeps all its terms in order.
+pub fn simplified_indices_laws<T: PartialEq>()
+    ensures cancellation { (m : List T) → IsOdd (length m)
+        → IsCancellation T.eq m (simplified_indices T.eq m) }
+    ensures len { (m : List T) → IsOdd (length m)
+        → length (at_indices m (simplified_indices T.eq m)) ≡ length (simplified_indices T.eq m) }
+    ensures counts { (m : List T) → IsOdd (length m)
+        → HaveSameCounts T.eq (at_indices m (simplified_indices T.eq m)) m }
+    ensures disjoint { (m : List T) → IsOdd (length m)
+        → IsDisjoint T.eq (at_indices m (simplified_indices T.eq m)) }
+    ensures idempotent { (m : List T) → IsOdd (length m) → IsDisjoint T.eq m
+        → simplified_indices T.eq m ≡ range_with_len 0 (length m) }
+{}
