@@ -23,6 +23,11 @@ def libraries_below(name, known):
     return list(dict.fromkeys(found))
 
 
+def is_test_support(name):
+    """A crate of tests, or of the conformance table."""
+    return name.endswith("_tests") or name == "conformance" or name.startswith("rows")
+
+
 def is_library(name):
-    """Neither the tests of a library nor the program."""
-    return not name.endswith(("_tests", "_cli"))
+    """A library for users: neither tests nor a program."""
+    return not is_test_support(name) and not name.endswith("_cli")

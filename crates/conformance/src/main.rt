@@ -12,7 +12,7 @@ use std::alloc::{AllocError, Global};
 use std::io;
 use std::io::Write;
 
-/// The rows that differ, and counts.
+// The rows that differ, and counts.
 #[derive(Drop)]
 struct Report {
     text: String,

@@ -24,7 +24,7 @@ fn hex_digit(byte: u8) -> Result<u8, RowError> {
     }
 }
 
-/// State of a field's parser.
+// State of a field's parser.
 #[derive(Clone, Copy)]
 enum Escape {
     Outside,

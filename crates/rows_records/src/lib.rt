@@ -1,4 +1,4 @@
-//! Requests of the conformance table on commits, trees, views, operations and the stores that keep them.
+//! Requests of the conformance table on commits, trees, views, operations and their stores.
 #![tactic(auto)]
 
 use rows::request::Request;

@@ -1,4 +1,4 @@
-//! Requests of the conformance table on hex digits, symbols, ids, names, string patterns and content.
+//! Requests of the conformance table on hex, symbols, ids, names, content and patterns.
 #![tactic(auto)]
 
 use rows::request::Request;
