@@ -1,18 +1,10 @@
-//! Tests of the program's engine, by whole inputs and outputs.
+//! Proved callers of the program's engine, and tests with readers and writers that fail.
 #![tactic(auto)]
 
-#[cfg(test)]
-mod answer_tests;
 #[cfg(test)]
 pub mod callers;
 #[cfg(test)]
 mod ends;
-#[cfg(test)]
-mod fault_tests;
-#[cfg(test)]
-mod hash_tests;
-#[cfg(test)]
-mod merge_tests;
 #[cfg(test)]
 mod runs;
 #[cfg(test)]

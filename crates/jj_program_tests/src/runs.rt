@@ -1,11 +1,9 @@
 //! Runs of the program over memory, whose reads and writes are cut short, or fail in turn.
 use crate::ends::{Cut, Kept};
-use jj_content_tests::once_more::passes;
 use jj_files::file_util::Watched;
 use jj_program::program::{Command, Fault, run};
-use std::alloc::{AllocError, Global};
+use std::alloc::Global;
 use std::process::Abort;
-use std::test::Fail;
 
 /// What a run answers and writes where reads and writes are cut to `most` bytes, and fail after so
 /// many.
@@ -42,68 +40,6 @@ pub fn writes(rt: &(impl Abort + AllocGlobal), command: Command, input: &str, ou
             }
         }
     }
-}
-
-/// The input has this fault, and nothing is written; memory may run out.
-pub fn fails(rt: &(impl Abort + AllocGlobal), command: Command, input: &[u8], expected: Fault) {
-    let (result, kept) = outcome(rt.alloc(), command, input, 1000, 1000, 1000);
-    match result {
-        Ok(()) => panic!(rt; "no fault in {input:?}"),
-        Err(fault) => {
-            assert!(rt;
-                fault == expected || fault == Fault::Memory,
-                "{fault} in {input:?}"
-            );
-        }
-    }
-    assert!(rt; kept.as_slice().is_empty());
-}
-
-// What a text in a row stands for: a space is a tab, and `|` a line end.
-fn text_of(alloc: Global, part: &str) -> Result<String, AllocError> {
-    let mut text = String::new(alloc);
-    for sign in part.chars() {
-        let meant = match sign {
-            ' ' => '\t',
-            '|' => '\n',
-            other => other,
-        };
-        text.push(meant)?;
-    }
-    Ok(text)
-}
-
-// The command, the input and the output of a row.
-fn parts_of(row: &str) -> Option<(Command, &str, &str)> {
-    let (name, texts) = row.split_once(": ")?;
-    let (input, output) = texts.split_once(" => ")?;
-    Some((Command::from_name(name)?, input, output))
-}
-
-/// The input of a row writes its output. A row is as `walk: everything| => `: the name of a
-/// command, an input and an output, in which a space is a tab, and `|` a line end.
-pub fn writes_row<R: Abort + AllocGlobal>(rt: &R, row: &str) -> Result<(), Fail> {
-    let Some((command, input, output)) = parts_of(row) else {
-        panic!(rt; "{row} has no three parts");
-    };
-    passes(rt, |rt, alloc| {
-        let (input, output) = (text_of(alloc, input)?, text_of(alloc, output)?);
-        writes(rt, command, input.as_str(), output.as_str());
-        Ok(())
-    })
-}
-
-/// An input, in which a space is a tab and `|` a line end, has this fault, as in `fails`.
-pub fn fails_row<R: Abort + AllocGlobal>(
-    rt: &R,
-    command: Command,
-    row: &str,
-    expected: Fault,
-) -> Result<(), Fail> {
-    passes(rt, |rt, alloc| {
-        fails(rt, command, text_of(alloc, row)?.as_bytes(), expected);
-        Ok(())
-    })
 }
 
 // The calls of `most` bytes that a text takes.
