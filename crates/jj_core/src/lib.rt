@@ -1,15 +1,17 @@
 //! The core of a version-control system: the modules of the crates below, under one name.
 #![tactic(auto)]
 
+pub mod laws;
+
 pub use jj_backend::backend;
 pub use jj_content::{blake2b, content_hash, hex_util, symbol_util};
-pub use jj_files::file_util;
+pub use jj_files::{file_util, fs_text};
 pub use jj_globs::glob;
 pub use jj_ids::{object_id, ref_name};
 pub use jj_matchers::matchers;
 pub use jj_merges::{conflict_labels, merge};
 pub use jj_paths::{repo_path, repo_path_tree};
-pub use jj_program::{laws, program};
+pub use jj_program::program;
 pub use jj_stores::{op_store, signing, workspace_store};
 pub use jj_strings::str_util;
 pub use jj_trees::{memory_backend, tree_merge};

@@ -1,0 +1,12 @@
+//! The laws of all libraries: functions that do nothing, whose contracts a proof can use.
+pub use jj_ids::object_id::sum_laws;
+pub use jj_ids::ref_name::remote_symbols_print_apart;
+pub use jj_matchers::laws::{sets_have_their_meaning, walks_find_accepted_marks};
+pub use jj_merges::laws::simplified_indices_laws;
+pub use jj_paths::laws::{
+    last_names_are_one, texts_and_paths_give_back, trees_hold_fronts, trees_list_their_nodes,
+};
+pub use jj_program::laws::{
+    commands_give_one_answer, faults_are_of_first_kinds, faults_are_of_first_lines,
+    walks_find_their_files,
+};
