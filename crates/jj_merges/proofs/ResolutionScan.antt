@@ -1,5 +1,5 @@
 -- Loop invariant of `resolve_by_counts`: each distinct value is counted once, at its first index.
-use Rattle.std.proofs.Common.{◌≡◌, ◌≢◌, ℕ, ◌+◌, ◌<◌, ◌≤◌, ◌⊎◌, inl, inr, Bool, true, false, ◌||◌, List, [], ◌∷◌, length, take, Option, Some, None, refl, ap, subst, arith, sym, ◌∙◌, get_or, Bor}
+use Rattle.std.proofs.Common.{◌≡◌, ◌≢◌, ℕ, ◌+◌, ◌-◌, ◌<◌, ◌≤◌, ◌⊎◌, inl, inr, Bool, true, false, ◌||◌, List, [], ◌∷◌, length, take, Option, Some, None, refl, ap, subst, arith, sym, ◌∙◌, get_or, Bor}
 use Rattle.std.specs.Prelude.{count_by, Contains, IfSome, IfNone, pos, ◌-ℤ◌, ◌<ℤ◌}
 use Rattle.std.specs.Cmp.{IsEquivalence}
 use Rattle.std.specs.List.{list_any}
@@ -7,8 +7,8 @@ use Rattle.std.specs.Option.{option_copied, is_some}
 use Rattle.std.proofs.lemmas.Int.{ints}
 use Rattle.std.proofs.lemmas.Bool.{false≢true, cases_lt}
 use Rattle.std.proofs.lemmas.Bool.Decides.{eqb_tells}
-use Rattle.std.proofs.lemmas.List.{take_all}
-use Rattle.std.proofs.lemmas.List.Folds.{list_any_kept, list_any_more}
+use Rattle.std.proofs.lemmas.List.{take_all, get_or_default}
+use Rattle.std.proofs.lemmas.List.Folds.{list_any_at, list_any_kept, list_any_more, list_any_none}
 use Rattle.std.proofs.lemmas.List.Sums.{sum_by-cons}
 use denote.Enum.Bare.{sameb}
 use Rattle.jj_merges.specs.contracts.merge.SameChange.{the_type}
@@ -85,6 +85,29 @@ mutual
   none_removed p [] none = refl
   none_removed p (x ∷ m) none = removed_later p m (p x) none (λ further. none_added p m further)
 
+module _ {T : Type 0} (p : T → Bool) (xs : List T) where
+  -- the last n elements do not pass the test
+  abbrev pub NoneOfLast : ℕ → Type 0
+  NoneOfLast n = (k : ℕ) (d : T) → k < n → p (get_or xs (length xs - 1 - k) d) ≡ false
+
+  pub none_of_last-more : (n i : ℕ) (x : T) → n < length xs → i ≡ length xs - 1 - n → x ≡ get_or xs i x → p x ≡ false → NoneOfLast n → NoneOfLast (n + 1)
+  none_of_last-more n i x lt at is other before k d hk =
+      elim (cases_lt k n) [
+        | inl h ↦ before k d h
+        | inr h ↦
+            let j : length xs - 1 - k ≡ i = omega arith in
+            ap (λ j. p (get_or xs j d)) j ∙ (sym (ap p (is ∙ get_or_default xs i x d (omega arith))) ∙ other)
+      ]
+
+  pub none_of_last-all : (n : ℕ) → length xs ≤ n → NoneOfLast n → list_any p xs ≡ false
+  none_of_last-all n le none =
+      list_any_none p xs (λ k d hk.
+      let j : k ≡ length xs - 1 - (length xs - 1 - k) = omega arith in
+      ap (λ j. p (get_or xs j d)) j ∙ none (length xs - 1 - k) d (omega arith))
+
+  pub any_at : (i : ℕ) (x : T) → i < length xs → x ≡ get_or xs i x → p x ≡ true → list_any p xs ≡ true
+  any_at i x lt is here = list_any_at p xs i x lt (sym (ap p is) ∙ here)
+
 module _ {T : Type 0} (eq : T → T → Bool) (m : List T) where
   abbrev pub all_added : T → ℕ
   all_added v = count_by (eq v) (merge.adds m)
@@ -110,10 +133,6 @@ module _ {T : Type 0} (eq : T → T → Bool) (m : List T) where
   HasNoResolution change = (v : T) → ResolvesTo eq change m v → ⊥
 
 module _ {T : Type 0} (eq : T → T → Bool) (laws : IsEquivalence eq) (m : List T) where
-  -- `contains` compares an element with the value, and `IsSeen` the value with an element
-  pub any_swapped : (x : T) (xs : List T) → list_any (λ y. eq y x) xs ≡ list_any (eq x) xs
-  any_swapped x xs = ap (λ p. list_any p xs) (λ i y. laws.symm y x i)
-
   -- equal values have equal counts
   alike : (v w : T) → eq v w ≡ true → eq v ≡ eq w
   alike v w h = λ i y. laws.congr v w y h i

@@ -1,6 +1,7 @@
 //! Trivial resolution: the outcome of a merge that the signed counts of its terms decide, without
 //! looking inside the values.
 ghost use Rattle.std.specs.Prelude.{[], ◌∷◌, ◌⊎◌, ◌≡◌, ◌≢◌, ℕ, ◌+◌, ◌<◌, ◌↔◌, length, count_by, IsTrue, IfSome, IfNone, Contains};
+ghost use Rattle.std.specs.List.{list_any};
 ghost use Rattle.jj_merges.specs.Merge.{IsOdd, adds, removes};
 ghost use Rattle.jj_merges.specs.Resolution.{ResolvesTo};
 ghost use Rattle.jj_merges.specs.declared.merge.SameChange.{SameChange};
@@ -55,6 +56,20 @@ fn resolve_three_way<'a, T: Eq>(
     None
 }
 
+// Whether a term equals `value`, compared from the last one on. A long run of equal terms so takes
+// one comparison for each; all prefixes of n terms with d distinct values take at most n * d.
+fn contains_from_end<T: PartialEq>(values: &[T], value: &T) -> bool
+    ensures { result ≡ list_any (T.eq value.now) values.now }
+{
+    for distance in 0..values.len() {
+        let index = values.len() - 1 - distance;
+        if *value == values[index] {
+            return true;
+        }
+    }
+    false
+}
+
 // Resolves a merge of any length. Each distinct value is counted once, at its first index. There is
 // no `Hash` bound to build a map of counts, and no allocation.
 fn resolve_by_counts<T: Eq>(values: &[T], same_change: SameChange) -> Option<&T>
@@ -65,7 +80,7 @@ fn resolve_by_counts<T: Eq>(values: &[T], same_change: SameChange) -> Option<&T>
     let mut added: Option<&T> = None;
     let mut removed: Option<&T> = None;
     for (index, value) in values.iter().enumerate() {
-        if values[..index].contains(value) {
+        if contains_from_end(&values[..index], value) {
             continue;
         }
         let adds = count_adds(values, value);
@@ -97,7 +112,8 @@ fn is_kept_duplicate(same_change: SameChange, adds: usize, removes: usize) -> bo
 /// equal removes, and a single value must remain. If all sides made the same change, `Accept`
 /// resolves to it. For example `[a, b, b]` resolves to `a`, and `[a, b, a]` only with `Accept`.
 ///
-/// Returns `None` for a conflict. O(n²) comparisons in the worst case; does not allocate.
+/// Returns `None` for a conflict. At most 2 * n * d comparisons for n terms with d distinct values;
+/// does not allocate.
 pub fn trivial_merge<T: Eq>(values: &[T], same_change: SameChange) -> Option<&T>
     requires { IsOdd (length values.now) }
     ensures member { IfSome result (λ v. Contains values.now v.now) }

@@ -1,24 +1,24 @@
 use Rattle.std.proofs.Common.{arith, sym, ◌∙◌}
 use Rattle.std.specs.Option.{option_copied}
 use Rattle.std.specs.Prelude.{Contains}
-use Rattle.jj_merges.proofs.ResolutionScan.{any_swapped, start, seen_before, balanced, none_yet_added, none_yet_removed, some_added, some_removed, keep_unresolved, is_keep, is_not_keep, resolved_option, unresolved_option, member, copied_is_some, if_copied}
+use Rattle.jj_merges.proofs.ResolutionScan.{start, seen_before, balanced, none_yet_added, none_yet_removed, some_added, some_removed, keep_unresolved, is_keep, is_not_keep, resolved_option, unresolved_option, member, copied_is_some, if_copied}
 use Rattle.jj_merges.proofs.merge.trivial.resolve_by_counts.Goals as goal
 use Rattle.jj_merges.proofs.merge.trivial.resolve_by_counts.Goals.{then-is_some-via-then-is_some, then-is_some-via-else-is_some+then-is_kept_duplicate, then-is_some-2-via-then-is_some-2, then-is_some-2-via-else-is_some-2+then-eq, then-removes-adds+else-is_some+else-is_kept_duplicate, else-removes-adds+then-adds-removes+else-is_some-2+else-eq, else-removes-adds+else-adds-removes}
 
 pub loop-index-init : goal.loop-index-init
 loop-index-init g c = start g.T.PartialEq.eq g.met.T.Eq.laws c.args.values.now c.args.same_change
 
-pub loop-index-preserved-then-contains : goal.loop-index-preserved-then-contains
-loop-index-preserved-then-contains g c =
+pub loop-index-preserved-then-contains_from_end : goal.loop-index-preserved-then-contains_from_end
+loop-index-preserved-then-contains_from_end g c =
     seen_before g.T.PartialEq.eq g.met.T.Eq.laws c.args.values.now c.args.same_change c.index-values-index.result (option_copied c.loop-index.added) (option_copied c.loop-index.removed) c.loop-index.index
-    c.loop-index-test.true c.index-values-index.is (sym (c.contains.ensures.value ∙ any_swapped g.T.PartialEq.eq g.met.T.Eq.laws c.args.values.now c.index-values-index.result _) ∙ c.if-contains.true) c.loop-index.invariant
+    c.loop-index-test.true c.index-values-index.is (sym c.contains_from_end.ensures ∙ c.if-contains_from_end.true) c.loop-index.invariant
 
 pub returns-then-is_some-clause-unresolved : goal.returns-then-is_some-clause-unresolved
 returns-then-is_some-clause-unresolved g c =
     let eq = g.T.PartialEq.eq in
     let m = c.args.values.now in
     let x = c.index-values-index.result in
-    let new = sym (c.contains.ensures.value ∙ any_swapped eq g.met.T.Eq.laws m x _) ∙ c.if-contains.false in
+    let new = sym c.contains_from_end.ensures ∙ c.if-contains_from_end.false in
     elim c.then-is_some.branch [
       | then-is_some-via-then-is_some w ↦
           some_added eq g.met.T.Eq.laws m c.args.same_change x (option_copied c.loop-index.added) (option_copied c.loop-index.removed) c.loop-index.index
@@ -33,7 +33,7 @@ returns-then-is_some-2-clause-unresolved g c =
     let eq = g.T.PartialEq.eq in
     let m = c.args.values.now in
     let x = c.index-values-index.result in
-    let new = sym (c.contains.ensures.value ∙ any_swapped eq g.met.T.Eq.laws m x _) ∙ c.if-contains.false in
+    let new = sym c.contains_from_end.ensures ∙ c.if-contains_from_end.false in
     elim c.then-is_some-2.branch [
       | then-is_some-2-via-then-is_some-2 w ↦
           some_removed eq g.met.T.Eq.laws m c.args.same_change x (option_copied c.loop-index.added) (option_copied c.loop-index.removed) c.loop-index.index
