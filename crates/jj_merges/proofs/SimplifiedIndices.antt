@@ -120,6 +120,13 @@ get_or-filter_map f (p ∷ ps) h (suc k) d hk =
     let here = All-head (HasTerm f) p ps h in
     rw here.1 (get_or-filter_map f ps (All-tail (HasTerm f) p ps h) k d (omega arith))
 
+pub slice_get-filter_map : {A : Type 0} (f : ℕ → Option A) (ps : List ℕ) → AllHaveTerms f ps → (k : ℕ) → k < length ps → slice_get (filter_map f ps) k ≡ f (slice_index ps k)
+slice_get-filter_map f [] h k hk = absurd (omega arith)
+slice_get-filter_map f (p ∷ ps) h zero hk = let here = All-head (HasTerm f) p ps h in rw here.1 refl
+slice_get-filter_map f (p ∷ ps) h (suc k) hk =
+    let here = All-head (HasTerm f) p ps h in
+    rw here.1 (slice_get-filter_map f ps (All-tail (HasTerm f) p ps h) k (omega arith))
+
 -- all indices of a list are in range
 pub all_have_terms : {A : Type 0} (m : List A) → AllHaveTerms (slice_get m) (range_with_len 0 (length m))
 all_have_terms m k d hk =

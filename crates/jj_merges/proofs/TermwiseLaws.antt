@@ -1,7 +1,7 @@
 -- Lists that are termwise equal have the same counts, and are both disjoint or neither; clones of
 -- simplified terms.
-use Rattle.std.proofs.Common.{◌≡◌, ℕ, ◌+◌, ◌%◌, ◌<◌, Bool, true, cond, List, [], ◌∷◌, length, All, refl, ap, arith, sym, ◌∙◌, get_or}
-use Rattle.std.specs.Prelude.{count_by, slice_get, pos, ◌-ℤ◌}
+use Rattle.std.proofs.Common.{◌≡◌, ℕ, ◌+◌, ◌%◌, ◌<◌, Bool, true, cond, List, [], ◌∷◌, length, All, refl, ap, arith, sym, ◌∙◌, get_or, zero, suc, Some}
+use Rattle.std.specs.Prelude.{count_by, slice_get, slice_index, pos, ◌-ℤ◌}
 use Rattle.std.specs.List.{AllZip}
 use Rattle.std.specs.Cmp.{IsPartialEquivalence}
 use Rattle.std.proofs.lemmas.List.Elements.{AllZip-get_or, length_all_zip}
@@ -11,7 +11,7 @@ use Rattle.jj_merges.specs.Merge as merge
 use Rattle.jj_merges.specs.Merge.{AreTermwiseEqual, HaveSameCounts, IsDisjoint, signed_count, interleave}
 use Rattle.jj_merges.specs.Simplify.{simplified_indices, at_indices}
 use Rattle.jj_merges.proofs.Cancellation.{simplified_sides}
-use Rattle.jj_merges.proofs.SimplifiedIndices.{bool_eq_iff, simplified_have_terms, length-simplified_sides, length-filter_map, HaveSameCounts-simplified, IsDisjoint-simplified}
+use Rattle.jj_merges.proofs.SimplifiedIndices.{bool_eq_iff, simplified_have_terms, slice_get-filter_map, length-simplified_sides, length-filter_map, HaveSameCounts-simplified, IsDisjoint-simplified}
 
 pub AllZip-weaker : {X : Type 0} (R S : X → X → Type 0) → ((x y : X) → R x y → S x y) → (xs ys : List X) → AllZip R xs ys → AllZip S xs ys
 AllZip-weaker R S f [] [] h = h
@@ -96,3 +96,22 @@ module _ {T : Type 0} (eq : T → T → Bool) where
 
   pub length-at_indices : (m : List T) → length m % 2 ≡ 1 → length (at_indices m (simplified_indices eq m)) ≡ length (simplified_indices eq m)
   length-at_indices m odd = length-filter_map (slice_get m) (simplified_indices eq m) (simplified_have_terms eq m odd)
+
+  in_range_term : {A : Type 0} (xs : List A) (p : ℕ) → p < length xs → (x : A) × (slice_get xs p ≡ Some x)
+  in_range_term [] p h = absurd (omega arith)
+  in_range_term (x ∷ xs) zero h = (x, refl)
+  in_range_term (x ∷ xs) (suc p) h = in_range_term xs p (omega arith)
+
+  -- one label for each term: the k-th remaining term and the k-th remaining label have the same index
+  pub aligned : {L : Type 0} (m : List T) (labels : List L) → length m % 2 ≡ 1 → length labels ≡ length m
+      → (k : ℕ) → k < length (at_indices m (simplified_indices eq m)) → (j : ℕ)
+      × (slice_get (at_indices m (simplified_indices eq m)) k ≡ slice_get m j)
+      × (slice_get (at_indices labels (simplified_indices eq m)) k ≡ slice_get labels j)
+  aligned m labels odd same k hk =
+      let indices = simplified_indices eq m in
+      let within : k < length indices = omega (arith, length-at_indices m odd) in (
+        slice_index indices k,
+        slice_get-filter_map (slice_get m) indices (simplified_have_terms eq m odd) k within,
+        slice_get-filter_map (slice_get labels) indices
+            (λ i d hi. in_range_term labels (get_or indices i d) (let h = simplified_in_range m odd i d hi in omega (arith, h, same))) k within,
+      )

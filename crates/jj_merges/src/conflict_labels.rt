@@ -7,7 +7,7 @@ ghost use Rattle.std.specs.Hash.{items_Alike, same_Alike};
 ghost use Rattle.std.specs.List.{AllZip, list_all};
 ghost use Rattle.std.specs.Str.{bytes_eq};
 ghost use Rattle.std.specs.Option.{option_copied, option_map};
-ghost use Rattle.jj_merges.specs.Merge.{IsOdd, adds, removes};
+ghost use Rattle.jj_merges.specs.Merge.{HaveSameCounts, IsDisjoint, IsOdd, adds, removes};
 ghost use Rattle.jj_merges.specs.Simplify.{simplified_indices, at_indices};
 ghost use Rattle.jj_merges.specs.Labels.{is_unlabeled, normalized_labels, labels_as_merge, nonempty};
 
@@ -147,7 +147,8 @@ impl ConflictLabels {
     }
 
     /// Simplifies `merge` (see `Merge::simplify`), and drops the labels of the terms that cancel.
-    /// Each remaining term keeps its label. O(n²) comparisons.
+    /// Each remaining term keeps its label: `labels` and `terms` select the same indices. O(n²)
+    /// comparisons.
     pub fn simplify_with<T: PartialEq + Clone>(
         &self,
         alloc: Global,
@@ -157,8 +158,10 @@ impl ConflictLabels {
         requires clones { (x y : T) → T.is_clone x y → IsTrue (T.eq x y) }
         ensures labels { IfOk result (λ p. p.0
             ≡ normalized_labels (at_indices self.now (simplified_indices T.eq merge.now))) }
-        ensures merge { IfOk result (λ p. AllZip T.is_clone
+        ensures terms { IfOk result (λ p. AllZip T.is_clone
             (at_indices merge.now (simplified_indices T.eq merge.now)) p.1) }
+        ensures counts { IfOk result (λ p. HaveSameCounts T.eq p.1 merge.now) }
+        ensures disjoint { IfOk result (λ p. IsDisjoint T.eq p.1) }
     {
         if !self.has_labels() {
             return Ok((ConflictLabels::unlabeled(alloc), merge.simplify(alloc)?));

@@ -1,5 +1,5 @@
 //! Laws of merges. Each function does nothing, and its contract is the law.
-ghost use Rattle.std.specs.Prelude.{◌≡◌, List, length};
+ghost use Rattle.std.specs.Prelude.{◌≡◌, ◌<◌, ℕ, List, length, slice_get};
 ghost use Rattle.std.specs.List.{range_with_len};
 ghost use Rattle.jj_merges.specs.Merge.{HaveSameCounts, IsDisjoint, IsOdd};
 ghost use Rattle.jj_merges.specs.Simplify.{at_indices, simplified_indices};
@@ -12,6 +12,7 @@ ghost use Rattle.jj_merges.specs.Cancellation.{IsCancellation};
 /// - `counts`: signed counts are unchanged.
 /// - `disjoint`: no value remains on both sides.
 /// - `idempotent`: a disjoint merge keeps all its terms in order.
+/// - `aligned`: each remaining term keeps its label, in a list of one label for each term.
 pub fn simplified_indices_laws<T: PartialEq>()
     ensures cancellation { (m : List T) → IsOdd (length m)
         → IsCancellation T.eq m (simplified_indices T.eq m) }
@@ -23,4 +24,9 @@ pub fn simplified_indices_laws<T: PartialEq>()
         → IsDisjoint T.eq (at_indices m (simplified_indices T.eq m)) }
     ensures idempotent { (m : List T) → IsOdd (length m) → IsDisjoint T.eq m
         → simplified_indices T.eq m ≡ range_with_len 0 (length m) }
+    ensures aligned { (m : List T) (labels : List (List ℕ)) → IsOdd (length m)
+        → length labels ≡ length m → (k : ℕ)
+        → k < length (at_indices m (simplified_indices T.eq m)) → (j : ℕ)
+        × (slice_get (at_indices m (simplified_indices T.eq m)) k ≡ slice_get m j)
+        × (slice_get (at_indices labels (simplified_indices T.eq m)) k ≡ slice_get labels j) }
 {}

@@ -8,7 +8,7 @@ pub returns-in_ok-push-in-Conflict-clause-done : goal.returns-in_ok-push-in-Conf
 returns-in_ok-push-in-Conflict-clause-done c = λ _.
     let eq = option_eq tree_values.eq-value.it in
     let given : c.from_vec-conflict.result ≡ c.args.values.items = c.from_vec-conflict.ensures ∙ c.from_vec.ensures.items in
-    let terms = cloned_values _ _ _ c.in_ok-labels-in-Conflict.ensures.merge (λ v h. h) (λ w h. h) (λ v w h. h) in
+    let terms = cloned_values _ _ _ c.in_ok-labels-in-Conflict.ensures.terms (λ v h. h) (λ w h. h) (λ v w h. h) in
     conflict_done (option_eq tree_values.eq-value.it) c.args.same_change c.args.values.items c.args.labels.now c.args.path
     c.args.merged.now.resolved.items c.args.merged.now.resolved.items c.args.merged.now.conflicts.items c.push-in-Conflict.new.self.items
     c.in_ok-labels-in-Conflict.terms c.in_ok-labels-in-Conflict.labels

@@ -5,7 +5,7 @@ use Rattle.std.proofs.lemmas.Bool.{false≢true, cases_lt}
 use Rattle.std.proofs.lemmas.List.{length-map}
 use Rattle.jj_merges.specs.Simplify.{simplified_indices, at_indices}
 use Rattle.jj_merges.specs.Labels.{normalized_labels}
-use Rattle.jj_merges.proofs.TermwiseLaws.{simplified_in_range, odd-simplified_indices}
+use Rattle.jj_merges.proofs.TermwiseLaws.{simplified_in_range, odd-simplified_indices, simplify_counts, simplify_disjoint}
 use Rattle.jj_merges.proofs.LabelLaws.{normalized_labels-nonempty, empty_list, at_indices-nil, at_indices-map, map-clones}
 use Rattle.jj_merges.proofs.conflict_labels.ConflictLabels.simplify_with.Goals as goal
 
@@ -74,14 +74,30 @@ simplify-requires g c = (search rules, c.requires.clones)
 pub simplified_indices-requires : goal.simplified_indices-requires
 simplified_indices-requires g c = rw c.as_slice-values.ensures.terms c.as_slice-values.ensures.odd
 
-pub returns-then-not-has_labels-clause-merge : goal.returns-then-not-has_labels-clause-merge
-returns-then-not-has_labels-clause-merge g c = c.in_ok-simplify.ensures.terms
+pub returns-then-not-has_labels-clause-terms : goal.returns-then-not-has_labels-clause-terms
+returns-then-not-has_labels-clause-terms g c = c.in_ok-simplify.ensures.terms
 
-pub returns-clause-merge : goal.returns-clause-merge
-returns-clause-merge g c =
+pub returns-clause-terms : goal.returns-clause-terms
+returns-clause-terms g c =
     let eq = g.T.PartialEq.eq in
     let m = c.args.merge.now in
     let clones = g.T.Clone.is_clone in
     let indices : c.deref-2.result.now ≡ simplified_indices eq m = c.deref-2.ensures.value ∙ (c.in_ok-indices.ensures ∙ ap (simplified_indices eq) c.as_slice-values.ensures.terms) in
     subst (λ ps. AllZip clones (at_indices m ps) c.in_ok-terms.terms) indices
     (subst (λ vs. AllZip clones (at_indices vs c.deref-2.result.now) c.in_ok-terms.terms) c.as_slice-values.ensures.terms c.in_ok-terms.ensures)
+
+pub returns-clause-counts : goal.returns-clause-counts
+returns-clause-counts g c =
+    simplify_counts g.T.PartialEq.eq g.met.T.PartialEq.laws g.T.Clone.is_clone c.requires.clones c.args.merge.now c.in_ok-terms.terms
+    c.as_slice-values.ensures.odd (returns-clause-terms g c)
+
+pub returns-clause-disjoint : goal.returns-clause-disjoint
+returns-clause-disjoint g c =
+    simplify_disjoint g.T.PartialEq.eq g.met.T.PartialEq.laws g.T.Clone.is_clone c.requires.clones c.args.merge.now c.in_ok-terms.terms
+    c.as_slice-values.ensures.odd (returns-clause-terms g c)
+
+pub returns-then-not-has_labels-clause-counts : goal.returns-then-not-has_labels-clause-counts
+returns-then-not-has_labels-clause-counts g c = c.in_ok-simplify.ensures.counts
+
+pub returns-then-not-has_labels-clause-disjoint : goal.returns-then-not-has_labels-clause-disjoint
+returns-then-not-has_labels-clause-disjoint g c = c.in_ok-simplify.ensures.disjoint
