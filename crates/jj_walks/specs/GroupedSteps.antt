@@ -77,14 +77,15 @@ module _ {N ID F : Type 0} (ids : Shared F (Bor N × Unit {0}) (Bor ID)) (eq : I
           × ((i : ID) → is_some (held_at eq h i) ≡ true → edges_to eq h i ≡ 0 → ⊥)
       IsCause as_id h s Memory t = Unit {0}
 
-      -- after the history h some nodes are read, and then: the input has ended and all nodes were
-      -- given; or a node is given that may come next, and ids are told as before; or an error tells
-      -- its cause
+      -- after the history h some nodes are read, and then: the input has ended, all nodes were
+      -- given, and no id is wanted any more; or a node is given that may come next, and ids are
+      -- told as before; or an error tells its cause
       abbrev pub GivesNext : History N ID → TopoGroupedGraph N ID S F
           → Option (Result (Item N ID) (GroupedGraphError E)) → TopoGroupedGraph N ID S F → Type 0
       GivesNext h s None t = (items : List (Item N ID)) × (reads : List (Entry N ID)) × (u : S)
           × ReadsTo s.as_id s.input items reads u
           × steps u None t.input × IsHistory eq (read_on reads h) × (held eq (read_on reads h) ≡ [])
+          × ((i : ID) → is_wanted eq (read_on reads h) i ≡ false)
       GivesNext h s (Some (Ok x)) t = (items : List (Item N ID)) × (reads : List (Entry N ID))
           × (e : Entry N ID) × ReadsTo s.as_id s.input items reads t.input
           × (item_of e ≡ listed_item x) × Keeps eq (Gave e ∷ read_on reads h) t.held
