@@ -1,15 +1,21 @@
 -- What is said of reads from a source and writes to a sink, where their bytes are known.
--- Cited by contracts of public items: AppendsFrontOf, CopiesAll, CopiesFront, NotesFailure,
--- TakesSome, streams.
-use Rattle.std.specs.Prelude.{◌≡◌, ℕ, ◌<◌, ◌^◌, ◌-◌, Bool, ◌||◌, ◌&&◌, ◌==◌, is_err, List, ◌++◌, length, min, nat_lt, Option, Result, Ok, Err, IfOk, IsErrAnd, MatchBool}
+-- Cited by contracts of public items: AppendsFrontOf, CopiesAll, CopiesFront, LowersReads,
+-- NotesFailure, TakesSome, streams.
+use Rattle.std.specs.Prelude.{◌≡◌, ◌≢◌, ◌⊎◌, ℕ, ◌<◌, ◌^◌, ◌-◌, Bool, ◌||◌, ◌&&◌, ◌==◌, is_err, List, ◌++◌, length, min, nat_lt, Option, Result, Ok, Err, IfOk, IsErrAnd, MatchBool}
 use Rattle.std.specs.Io.KnownBytes.{Appends, Consumes, IsAtEnd}
 use Rattle.std.specs.IoError.{error_kind}
 use Rattle.std.specs.declared.io.Error.{Error}
-use Rattle.std.specs.declared.io.ErrorKind.TheVariants.{WriteZero}
+use Rattle.std.specs.declared.io.ErrorKind.TheVariants.{Interrupted, WriteZero}
 
 -- the failure is kept once there was one, and comes exactly with an error
 abbrev pub NotesFailure : {A E : Type 0} → Bool → Bool → Result A E → Type 0
 NotesFailure old new r = new ≡ (is_err r || old)
+
+-- a read lowers the number of reads left; with none left it fails for good, and not as
+-- interrupted, so that reading again after each interruption ends
+abbrev pub LowersReads : Result ℕ Error → (old new : ℕ) → Type 0
+LowersReads (Ok n) old new = new < old
+LowersReads (Err e) old new = (new < old) ⊎ ((old ≡ 0) × (new ≡ 0) × (error_kind e ≢ Interrupted))
 
 -- a count that stops at the greatest `usize`
 abbrev pub usize_saturate : ℕ → ℕ

@@ -2,7 +2,7 @@
 ghost use Rattle.std.specs.Prelude.{◌≡◌, ℕ, ◌<◌, ◌-◌, Bool, false, List, IfOk, IsErr, OnOk, Option, is_err, ◌||◌};
 ghost use Rattle.std.specs.Io.{ReadsAtMost, WritesAtMost};
 ghost use Rattle.std.specs.Io.KnownBytes.{Appends, ReadConsumes, WriteAppends};
-ghost use Rattle.jj_files.specs.Streams.{NotesFailure, SettlesWrite, TakesSome, CopiesAll, CopiesFront, AppendsFrontOf, streams};
+ghost use Rattle.jj_files.specs.Streams.{LowersReads, NotesFailure, SettlesWrite, TakesSome, CopiesAll, CopiesFront, AppendsFrontOf, streams};
 ghost use Rattle.jj_files.specs.Watching.{most_reads, watched_inner, watched_failed, watched_reads_left};
 
 mod dirs;
@@ -27,7 +27,7 @@ pub trait Source {
     /// Whether a read has failed.
     ghost has_failed: { Self → Bool };
 
-    /// How many more reads can succeed.
+    /// How many more reads can succeed or be interrupted.
     ghost reads_left: { Self → ℕ };
 
     /// Reads some of the bytes that are left into the front of `buf`: none only at the end, or
@@ -36,7 +36,7 @@ pub trait Source {
         ensures bound { ReadsAtMost result buf.new }
         ensures bytes { ReadConsumes (remaining self.old) (remaining self.new) result buf.new }
         ensures failure { NotesFailure (has_failed self.old) (has_failed self.new) result }
-        ensures fewer { OnOk result (reads_left self.new < reads_left self.old) };
+        ensures fewer { LowersReads result (reads_left self.old) (reads_left self.new) };
 }
 
 /// Where bytes are written to.
@@ -130,7 +130,8 @@ impl<R: Read> Source for Watched<R> {
             (R.remaining (watched_inner self.old))
             (R.remaining (watched_inner self.new)) result buf.new }
         ensures failure { NotesFailure (watched_failed self.old) (watched_failed self.new) result }
-        ensures fewer { OnOk result (watched_reads_left self.new < watched_reads_left self.old) }
+        ensures fewer { LowersReads result
+            (watched_reads_left self.old) (watched_reads_left self.new) }
         ensures counted { watched_reads_left self.new ≡ watched_reads_left self.old - 1 }
         ensures spent { watched_reads_left self.old ≡ 0 →
             IsErr result × (watched_inner self.new ≡ watched_inner self.old) }
