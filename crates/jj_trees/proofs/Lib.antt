@@ -3,7 +3,6 @@ pub mod Joining
 pub mod Merging
 pub mod Passing
 pub mod PassedNames
-pub mod Refusing
 pub mod Rounds
 pub mod Conflicting
 pub mod Roots

@@ -1,6 +1,6 @@
 -- What a directory's values merge to, put together from what stands at its names.
 use Rattle.std.proofs.Common.{◌≡◌, ◌<◌, ◌+◌, ℕ, suc, zero, Bool, true, false, ◌⊎◌, inl, inr, List, [], ◌∷◌, ◌++◌, length, get_or, map, Option, Some, None, unwrap_or, refl, sym, ap, subst, ◌∙◌, arith, true≢false}
-use Rattle.std.specs.Prelude.{All, Contains, ◌↔◌}
+use Rattle.std.specs.Prelude.{All, Any, Contains, ◌↔◌}
 use Rattle.std.proofs.lemmas.Option.{none-some}
 use Rattle.std.proofs.lemmas.Int.{ints}
 use Rattle.std.proofs.lemmas.Bool.{and_parts}
@@ -19,7 +19,8 @@ use Rattle.jj_backend.specs.declared.backend.tree_value.TreeValue.{TreeValue}
 use Rattle.jj_backend.specs.declared.backend.tree_value.TreeValue.TheVariants.{File, Symlink, Tree, GitSubmodule}
 use Rattle.std.specs.Cmp.Lexicographic.{bytes_decides}
 use Rattle.jj_backend.specs.declared.backend.errors.BackendError.{BackendError}
-use Rattle.jj_trees.specs.TreeMerges.{Values, Conflict, IsListOf, IsEntered, IsConflictOf, IsHere, child, values_at, IsThere, IsOpen, HasOutcomeFrom, IsResolved, IsConflict, IsAppended, IsWithin, IsRefused}
+use Rattle.jj_backend.specs.declared.backend.errors.BackendError.TheVariants.{Memory}
+use Rattle.jj_trees.specs.TreeMerges.{Values, Conflict, IsListOf, IsEntered, IsConflictOf, IsHere, child, values_at, IsOpen, HasOutcomeFrom, IsResolved, IsConflict, IsAppended, IsWithin, IsRefused}
 use Rattle.jj_trees.proofs.Joining.{under, below, same_list, Below, none, joined}
 
 module _ {E : Type 0} where
@@ -61,7 +62,8 @@ module _ (eq : Option TreeValue → Option TreeValue → Bool) (same : (v w : Op
   decided_same Keep m v w a b = same v w (a.1 w (λ z. let one = b.0 in absurd (omega (arith, ints))))
   decided_same Accept m v w a b = same v w (a.1 w b.0)
 
-  module _ (trees : ById (List (Name × TreeValue))) (same_change : SameChange) (labels : List (List ℕ)) where
+  module _ (trees : ById (List (Name × TreeValue))) (same_change : SameChange) (labels : List (List ℕ))
+      (is_read : Path → Option TreeValue → Type 0) (fails : Path → BackendError → Option TreeValue → Type 0) where
     abbrev pub ResolvedFrom : Values → Path → TreeValue → Type 0
     ResolvedFrom values p v = HasOutcomeFrom trees eq same_change values p × ResolvesTo eq same_change (values_at trees values p) (Some v)
 
@@ -120,7 +122,7 @@ module _ (eq : Option TreeValue → Option TreeValue → Bool) (same : (v w : Op
       pub conflicted : IsListOf (Below (λ name. ConflictFrom (map (child trees name) values)) names) conflicts
       pub resolved_added : new_resolved ≡ old_resolved ++ map (under dir) resolved
       pub conflicts_added : new_conflicts ≡ old_conflicts ++ map (under dir) conflicts
-      pub within : (name : Name) → Contains names name → IsEntered eq same_change (map (child trees name) values) → IsWithin trees eq same_change (map (child trees name) values) levels
+      pub within : (name : Name) → Contains names name → IsEntered eq same_change (map (child trees name) values) → IsWithin trees eq same_change is_read fails (dir ++ name ∷ []) (map (child trees name) values) levels
 
     module _ (levels : ℕ) (values : Values) (dir : Path) where
       pub passed_none : (rs : List (Path × TreeValue)) (cs : List (Path × Conflict)) → Passed levels values dir [] rs rs cs cs
@@ -139,7 +141,7 @@ module _ (eq : Option TreeValue → Option TreeValue → Bool) (same : (v w : Op
         pub step : (ys : List (Path × TreeValue)) (zs : List (Path × Conflict))
             → IsListOf (ResolvedFrom (map (child trees name) values)) ys → IsListOf (ConflictFrom (map (child trees name) values)) zs
             → last_r ≡ new_r ++ map (under (dir ++ name ∷ [])) ys → last_c ≡ new_c ++ map (under (dir ++ name ∷ [])) zs
-            → (IsEntered eq same_change (map (child trees name) values) → IsWithin trees eq same_change (map (child trees name) values) levels)
+            → (IsEntered eq same_change (map (child trees name) values) → IsWithin trees eq same_change is_read fails (dir ++ name ∷ []) (map (child trees name) values) levels)
             → Passed levels values dir (names ++ name ∷ []) old_r last_r old_c last_c
         step ys zs r c r_added c_added inside = record {
           resolved = passed.resolved ++ map (below name) ys;
@@ -151,13 +153,13 @@ module _ (eq : Option TreeValue → Option TreeValue → Bool) (same : (v w : Op
           within = λ n h. either n (Contains-push_cases names name n h);
         }
           where
-            either : (n : Name) → Contains names n ⊎ (name ≡ n) → IsEntered eq same_change (map (child trees n) values) → IsWithin trees eq same_change (map (child trees n) values) levels
+            either : (n : Name) → Contains names n ⊎ (name ≡ n) → IsEntered eq same_change (map (child trees n) values) → IsWithin trees eq same_change is_read fails (dir ++ n ∷ []) (map (child trees n) values) levels
             either n (inl a) = passed.within n a
-            either n (inr is) = subst (λ m. IsEntered eq same_change (map (child trees m) values) → IsWithin trees eq same_change (map (child trees m) values) levels) is inside
+            either n (inr is) = subst (λ m. IsEntered eq same_change (map (child trees m) values) → IsWithin trees eq same_change is_read fails (dir ++ m ∷ []) (map (child trees m) values) levels) is inside
 
         pub step_entered : IsEntered eq same_change (map (child trees name) values)
             → IsAppended trees eq same_change (map (child trees name) values) labels (dir ++ name ∷ []) new_r last_r new_c last_c
-            → IsWithin trees eq same_change (map (child trees name) values) levels
+            → IsWithin trees eq same_change is_read fails (dir ++ name ∷ []) (map (child trees name) values) levels
             → Passed levels values dir (names ++ name ∷ []) old_r last_r old_c last_c
         step_entered entered a within =
             step a.resolved a.conflicts (resolved_entered (map (child trees name) values) a.resolved entered a.merge.resolves)
@@ -222,31 +224,40 @@ module _ (eq : Option TreeValue → Option TreeValue → Bool) (same : (v w : Op
             both_c [] c = (λ h. absurd h, λ h. absurd h.0)
             both_c (n ∷ p) c = (λ h. h.1, λ h. (passed_one n (ConflictFrom (map (child trees n) values) p c) (not_c n p c) h, h))
 
-        pub all_within : All (IsThere trees) values → (upto : ℕ) → upto ≡ levels + 1 → IsWithin trees eq same_change values upto
-        all_within here upto is = record { there = there; not_deeper = not_deeper }
+        pub all_within : All (is_read dir) values → (upto : ℕ) → upto ≡ levels + 1 → IsWithin trees eq same_change is_read fails dir values upto
+        all_within here upto is = record { read = read; not_deeper = not_deeper }
           where
-            inside : (n : Name) → IsEntered eq same_change (map (child trees n) values) → IsWithin trees eq same_change (map (child trees n) values) levels
+            inside : (n : Name) → IsEntered eq same_change (map (child trees n) values) → IsWithin trees eq same_change is_read fails (dir ++ n ∷ []) (map (child trees n) values) levels
             inside n e = by (every n)
               where
-                by : Contains names n ⊎ ResolvesTo eq same_change (map (child trees n) values) None → IsWithin trees eq same_change (map (child trees n) values) levels
+                by : Contains names n ⊎ ResolvesTo eq same_change (map (child trees n) values) None → IsWithin trees eq same_change is_read fails (dir ++ n ∷ []) (map (child trees n) values) levels
                 by (inl c) = passed.within n c e
                 by (inr d) = absurd (e.0 None d)
 
-            there : (path : Path) → IsOpen trees eq same_change values path → All (IsThere trees) (values_at trees values path)
-            there [] o = here
-            there (n ∷ p) o = (inside n o.0).there p o.1
+            read : (path : Path) → IsOpen trees eq same_change values path → All (is_read (dir ++ path)) (values_at trees values path)
+            read [] o = subst (λ d. All (is_read d) values) (sym (append-nil dir)) here
+            read (n ∷ p) o = subst (λ d. All (is_read d) (values_at trees (map (child trees n) values) p)) (append_assoc dir (n ∷ []) p)
+                ((inside n o.0).read p o.1)
 
             not_deeper : (path : Path) → IsOpen trees eq same_change values path → length path < upto
             not_deeper [] o = omega arith
             not_deeper (n ∷ p) o = let lt = (inside n o.0).not_deeper p o.1 in omega arith
 
+      -- why this directory isn't read is why it isn't merged
+      pub refused_here : (upto : ℕ) (e : BackendError) → (e ≡ Memory) ⊎ Any (fails dir e) values → IsRefused trees eq same_change is_read fails dir values upto e
+      refused_here upto e (inl m) = inl m
+      refused_here upto e (inr f) = inr (inl ([], tt, subst (λ d. Any (fails d e) values) (sym (append-nil dir)) f))
+
       -- why a directory below isn't merged is why this one isn't
-      pub refused_below : (may_fail : BackendError → Type 0) (name : Name) (upto : ℕ) (e : BackendError) → upto ≡ levels + 1 → IsEntered eq same_change (map (child trees name) values)
-          → IsRefused trees eq same_change may_fail (map (child trees name) values) levels e → IsRefused trees eq same_change may_fail values upto e
-      refused_below may_fail name upto e is entered (inl m) = inl m
-      refused_below may_fail name upto e is entered (inr (inl f)) = inr (inl f)
-      refused_below may_fail name upto e is entered (inr (inr (inl t))) = inr (inr (inl (t.0, (name ∷ t.1.0, (entered, t.1.1), t.1.2))))
-      refused_below may_fail name upto e is entered (inr (inr (inr t))) = inr (inr (inr (t.0, (name ∷ t.1.0, (entered, t.1.1), (let l = t.1.2 in omega arith)))))
+      pub refused_below : (name : Name) (upto : ℕ) (e : BackendError) → upto ≡ levels + 1 → IsEntered eq same_change (map (child trees name) values)
+          → IsRefused trees eq same_change is_read fails (dir ++ name ∷ []) (map (child trees name) values) levels e → IsRefused trees eq same_change is_read fails dir values upto e
+      refused_below name upto e is entered (inl m) = inl m
+      refused_below name upto e is entered (inr (inl t)) = inr (inl (
+        name ∷ t.0,
+        (entered, t.1),
+        subst (λ d. Any (fails d e) (values_at trees (map (child trees name) values) t.0)) (append_assoc dir (name ∷ []) t.0) t.2,
+      ))
+      refused_below name upto e is entered (inr (inr t)) = inr (inr (t.0, (name ∷ t.1.0, (entered, t.1.1), (let l = t.1.2 in omega arith))))
 
 -- the equality of values tells them apart
 pub same_value : (v w : TreeValue) → tree_values.eq-value.it v w ≡ true → v ≡ w

@@ -15,7 +15,7 @@ use Rattle.jj_backend.specs.Objects.{ById}
 use Rattle.jj_trees.specs.Rows.{AreRows}
 use Rattle.jj_backend.specs.declared.backend.tree_value.TreeValue.{TreeValue}
 use Rattle.jj_backend.specs.declared.backend.errors.BackendError.{BackendError}
-use Rattle.jj_trees.specs.TreeMerges.{Values, Conflict, IsEntered, IsHere, child, entries_of, IsThere, IsAppended, IsWithin, IsRefused}
+use Rattle.jj_trees.specs.TreeMerges.{Values, Conflict, IsEntered, IsHere, child, entries_of, IsAppended, IsWithin, IsRefused}
 use Rattle.jj_trees.proofs.Joining.{image_of, into_image}
 use Rattle.jj_trees.proofs.Merging.{Passed, step_here, step_entered, merged, all_within, refused_below}
 use Rattle.jj_trees.proofs.Passing.{row_values, row_above, absent_below, absent_decided}
@@ -33,10 +33,11 @@ pub no_row : {X Z : Type 0} (s : IntoIter X Z) (r : Option X) (t : IntoIter X Z)
 no_row s r t e h = nil_from_length (into_iter_items s) (sym s.rest.ok.0 ∙ (subst (λ o. into_iter_steps s o t) e h).0)
 
 module _ (eq : Option TreeValue → Option TreeValue → Bool) (same : (v w : Option TreeValue) → eq v w ≡ true → v ≡ w)
-    (trees : ById (List (Name × TreeValue))) (same_change : SameChange) (labels : List (List ℕ)) (levels : ℕ) (values : Values) (dir : Path)
+    (trees : ById (List (Name × TreeValue))) (same_change : SameChange) (labels : List (List ℕ))
+    (is_read : Path → Option TreeValue → Type 0) (fails : Path → BackendError → Option TreeValue → Type 0) (levels : ℕ) (values : Values) (dir : Path)
     {Y : Type 0} (f : Y → Name × Values) where
   abbrev pub RowsPassed : List Y → (old_r new_r : List (Path × TreeValue)) (old_c new_c : List (Path × Conflict)) → Type 0
-  RowsPassed ys = Passed eq same trees same_change labels levels values dir (map (λ y. (f y).0) ys)
+  RowsPassed ys = Passed eq same trees same_change labels is_read fails levels values dir (map (λ y. (f y).0) ys)
 
   module _ (ys : List Y) (y : Y) (zs : List Y) (rows : AreRows (map (entries_of trees) values) (map f (ys ++ y ∷ zs)))
       (old_r new_r last_r : List (Path × TreeValue)) (old_c new_c last_c : List (Path × Conflict)) (passed : RowsPassed ys old_r new_r old_c new_c)
@@ -47,37 +48,40 @@ module _ (eq : Option TreeValue → Option TreeValue → Bool) (same : (v w : Op
     above : All (λ m. name_cmp m (f y).0 ≡ Less) (map (λ y. (f y).0) ys)
     above = All-map (λ m. name_cmp m (f y).0 ≡ Less) (λ x. (f x).0) ys (row_above trees f values ys y zs rows)
 
-    more : Passed eq same trees same_change labels levels values dir (map (λ y. (f y).0) ys ++ (f y).0 ∷ []) old_r last_r old_c last_c
+    more : Passed eq same trees same_change labels is_read fails levels values dir (map (λ y. (f y).0) ys ++ (f y).0 ∷ []) old_r last_r old_c last_c
         → RowsPassed (ys ++ y ∷ []) old_r last_r old_c last_c
-    more = subst (λ names. Passed eq same trees same_change labels levels values dir names old_r last_r old_c last_c) (sym (map-append (λ x. (f x).0) ys (y ∷ [])))
+    more = subst (λ names. Passed eq same trees same_change labels is_read fails levels values dir names old_r last_r old_c last_c) (sym (map-append (λ x. (f x).0) ys (y ∷ [])))
 
     pub row_here : IsHere eq same_change (f y).1 labels path new_r last_r new_c last_c → RowsPassed (ys ++ y ∷ []) old_r last_r old_c last_c
     row_here h =
-        more (step_here eq same trees same_change labels levels values dir (map (λ y. (f y).0) ys) (f y).0 old_r new_r last_r old_c new_c last_c above passed
+        more (step_here eq same trees same_change labels is_read fails levels values dir (map (λ y. (f y).0) ys) (f y).0 old_r new_r last_r old_c new_c last_c above passed
         (subst (λ p. IsHere eq same_change (map (child trees (f y).0) values) labels p new_r last_r new_c last_c) at
         (subst (λ vs. IsHere eq same_change vs labels path new_r last_r new_c last_c) here h)))
 
     pub row_entered : (below : Values) → below ≡ (f y).1 → IsEntered eq same_change (f y).1
         → (mid_r : List (Path × TreeValue)) (mid_c : List (Path × Conflict)) → mid_r ≡ new_r → mid_c ≡ new_c
-        → IsAppended trees eq same_change below labels path mid_r last_r mid_c last_c → IsWithin trees eq same_change below levels
+        → IsAppended trees eq same_change below labels path mid_r last_r mid_c last_c → IsWithin trees eq same_change is_read fails path below levels
         → RowsPassed (ys ++ y ∷ []) old_r last_r old_c last_c
     row_entered below is entered mid_r mid_c same_r same_c appended within =
-        more (step_entered eq same trees same_change labels levels values dir (map (λ y. (f y).0) ys) (f y).0 old_r new_r last_r old_c new_c last_c above passed
+        more (step_entered eq same trees same_change labels is_read fails levels values dir (map (λ y. (f y).0) ys) (f y).0 old_r new_r last_r old_c new_c last_c above passed
         (subst (IsEntered eq same_change) here entered)
         (subst (λ p. IsAppended trees eq same_change (map (child trees (f y).0) values) labels p new_r last_r new_c last_c) at
         (subst (λ vs. IsAppended trees eq same_change vs labels path new_r last_r new_c last_c) (is ∙ here)
         (subst (λ r. IsAppended trees eq same_change below labels path r last_r new_c last_c) same_r
         (subst (λ c. IsAppended trees eq same_change below labels path mid_r last_r c last_c) same_c appended))))
-        (subst (λ vs. IsWithin trees eq same_change vs levels) (is ∙ here) within))
+        (subst (λ p. IsWithin trees eq same_change is_read fails p (map (child trees (f y).0) values) levels) at
+        (subst (λ vs. IsWithin trees eq same_change is_read fails path vs levels) (is ∙ here) within)))
 
   -- why a row's directory is refused is why this one is
   pub row_refused : (ys : List Y) (y : Y) (zs : List Y) (rows : AreRows (map (entries_of trees) values) (map f (ys ++ y ∷ zs)))
-      (may_fail : BackendError → Type 0) (upto : ℕ) (e : BackendError) (below : Values) → upto ≡ levels + 1 → below ≡ (f y).1 → IsEntered eq same_change (f y).1
-      → IsRefused trees eq same_change may_fail below levels e → IsRefused trees eq same_change may_fail values upto e
-  row_refused ys y zs rows may_fail upto e below is same_values entered refused =
+      (upto : ℕ) (e : BackendError) (below : Values) (path : Path) → upto ≡ levels + 1 → below ≡ (f y).1 → path ≡ dir ++ (f y).0 ∷ []
+      → IsEntered eq same_change (f y).1
+      → IsRefused trees eq same_change is_read fails path below levels e → IsRefused trees eq same_change is_read fails dir values upto e
+  row_refused ys y zs rows upto e below path is same_values at entered refused =
       let here = row_values trees f values ys y zs rows in
-      refused_below eq same trees same_change labels levels values dir may_fail (f y).0 upto e is (subst (IsEntered eq same_change) here entered)
-      (subst (λ vs. IsRefused trees eq same_change may_fail vs levels e) (same_values ∙ here) refused)
+      refused_below eq same trees same_change labels is_read fails levels values dir (f y).0 upto e is (subst (IsEntered eq same_change) here entered)
+      (subst (λ p. IsRefused trees eq same_change is_read fails p (map (child trees (f y).0) values) levels e) at
+      (subst (λ vs. IsRefused trees eq same_change is_read fails path vs levels e) (same_values ∙ here) refused))
 
   -- all rows are passed
   module _ (reflexive : eq None None ≡ true) (odd : length values % 2 ≡ 1) (ys : List Y) (rows : AreRows (map (entries_of trees) values) (map f ys))
@@ -95,8 +99,8 @@ module _ (eq : Option TreeValue → Option TreeValue → Bool) (same : (v w : Op
 
     -- so all is merged, and within one level more than what is below, where all trees are there
     pub all_rows : IsAppended trees eq same_change values labels dir old_r new_r old_c new_c
-        × (All (IsThere trees) values → (upto : ℕ) → upto ≡ levels + 1 → IsWithin trees eq same_change values upto)
+        × (All (is_read dir) values → (upto : ℕ) → upto ≡ levels + 1 → IsWithin trees eq same_change is_read fails dir values upto)
     all_rows = (
-      merged eq same trees same_change labels levels values dir (map (λ y. (f y).0) ys) old_r new_r old_c new_c passed every,
-      all_within eq same trees same_change labels levels values dir (map (λ y. (f y).0) ys) old_r new_r old_c new_c passed every,
+      merged eq same trees same_change labels is_read fails levels values dir (map (λ y. (f y).0) ys) old_r new_r old_c new_c passed every,
+      all_within eq same trees same_change labels is_read fails levels values dir (map (λ y. (f y).0) ys) old_r new_r old_c new_c passed every,
     )

@@ -2,7 +2,8 @@
 -- Cited by contracts of public items: IsMergeAnswer, most_levels, root_values.
 use Rattle.std.specs.Prelude.{◌≡◌, ◌↔◌, ◌⊎◌, ⊤, ℕ, ◌<◌, Bool, true, false, List, [], ◌∷◌, ◌++◌, map}
 use Rattle.std.specs.Prelude.{length, Option, Some, None, option_and_then, unwrap_or, All, Any}
-use Rattle.std.specs.Prelude.{AllPairs, Contains, Result, IfOk, IfErr, OnOk}
+use Rattle.std.specs.Prelude.{AllPairs, Contains, Result, Ok, Err, IfOk, IfErr, OnOk}
+use Rattle.std.specs.Bool.{MatchBool}
 use Rattle.std.specs.Map.{lookup}
 use Rattle.std.specs.Str.{bytes_eq}
 use Rattle.std.specs.declared.cmp.Ordering.TheVariants.{Less}
@@ -13,6 +14,7 @@ use Rattle.jj_merges.specs.Simplify.{simplified_indices, at_indices}
 use Rattle.jj_merges.specs.Labels.{normalized_labels}
 use Rattle.jj_backend.specs.Objects.{ById}
 use Rattle.jj_backend.specs.Errors.{is_not_found, is_unsupported}
+use Rattle.jj_backend.specs.Trees.{Entries}
 use Rattle.jj_backend.specs.declared.backend.tree_value.TreeValue.{TreeValue}
 use Rattle.jj_backend.specs.declared.backend.tree_value.TreeValue.TheVariants.{File, Symlink, Tree, GitSubmodule}
 use Rattle.jj_backend.specs.declared.backend.errors.BackendError.{BackendError}
@@ -80,6 +82,27 @@ module _ (eq : Option TreeValue → Option TreeValue → Bool) (same_change : Sa
       ⊎ ((conflict : Conflict) × IsConflictOf values labels conflict
       × (new_resolved ≡ old_resolved) × (new_conflicts ≡ old_conflicts ++ (path, conflict) ∷ [])))
 
+-- `may_read_tree path id result`: a read of the tree at this path, with this id, may return this
+module _ (trees : ById Entries)
+    (may_read_tree : Path → List ℕ → Result Entries BackendError → Type 0) where
+  -- no tree, or a tree that was read at this path
+  abbrev pub IsReadAt : Path → Option TreeValue → Type 0
+  IsReadAt path (Some (Tree id)) =
+      (entries : Entries) × may_read_tree path id (Ok entries) × (trees id ≡ Some entries)
+  IsReadAt path None = ⊤
+  IsReadAt path (Some (File id executable copy_id)) = ⊤
+  IsReadAt path (Some (Symlink id)) = ⊤
+  IsReadAt path (Some (GitSubmodule id)) = ⊤
+
+  -- a tree whose read at this path fails with e: it is not stored, or the backend fails
+  abbrev pub FailsAt : (BackendError → Type 0) → Path → BackendError → Option TreeValue → Type 0
+  FailsAt may_fail path e (Some (Tree id)) =
+      may_read_tree path id (Err e) × MatchBool (is_not_found e) (trees id ≡ None) (may_fail e)
+  FailsAt may_fail path e None = ⊥
+  FailsAt may_fail path e (Some (File id executable copy_id)) = ⊥
+  FailsAt may_fail path e (Some (Symlink id)) = ⊥
+  FailsAt may_fail path e (Some (GitSubmodule id)) = ⊥
+
 module _ (trees : ById (List (Name × TreeValue))) where
   -- what stands at a name below a value: in a tree what the tree has there, below anything else
   -- nothing
@@ -103,14 +126,6 @@ module _ (trees : ById (List (Name × TreeValue))) where
   abbrev pub values_at : Values → Path → Values
   values_at values [] = values
   values_at values (name ∷ rest) = values_at (map (child name) values) rest
-
-  -- not a tree that isn't there
-  abbrev pub IsThere : Option TreeValue → Type 0
-  IsThere (Some (Tree id)) = (entries : List (Name × TreeValue)) × (trees id ≡ Some entries)
-  IsThere None = ⊤
-  IsThere (Some (File id executable copy_id)) = ⊤
-  IsThere (Some (Symlink id)) = ⊤
-  IsThere (Some (GitSubmodule id)) = ⊤
 
   module _ (eq : Option TreeValue → Option TreeValue → Bool) (same_change : SameChange) where
     -- a path is open below these values: it is their own, or each directory on the way, its own
@@ -160,30 +175,33 @@ module _ (trees : ById (List (Name × TreeValue))) where
       pub resolved_added : new_resolved ≡ old_resolved ++ map (λ e. (dir ++ e.0, e.1)) resolved
       pub conflicts_added : new_conflicts ≡ old_conflicts ++ map (λ e. (dir ++ e.0, e.1)) conflicts
 
-    -- every tree that is met is there, and none is below that many levels
-    pub record IsWithin (values : Values) (levels : ℕ) : Type 0 where
-      pub there : (path : Path) → IsOpen values path → All IsThere (values_at values path)
-      pub not_deeper : (path : Path) → IsOpen values path → length path < levels
+    module _ (is_read : Path → Option TreeValue → Type 0)
+        (fails : Path → BackendError → Option TreeValue → Type 0) where
+      -- the directory dir is merged within so many levels: it and each directory below it that is
+      -- entered is read at its own path, and none is deeper
+      pub record IsWithin (dir : Path) (values : Values) (levels : ℕ) : Type 0 where
+        pub read : (path : Path) → IsOpen values path
+            → All (is_read (dir ++ path)) (values_at values path)
+        pub not_deeper : (path : Path) → IsOpen values path → length path < levels
 
-    -- why there is no merge: for want of memory, by a failure of the backend, since a tree that is
-    -- met isn't there, or since one is too deep
-    abbrev pub IsRefused : (BackendError → Type 0) → Values → ℕ → BackendError → Type 0
-    IsRefused may_fail values levels e =
-        (e ≡ Memory) ⊎ may_fail e
-        ⊎ ((is_not_found e ≡ true)
-        × ((path : Path) × IsOpen values path × Any (λ v. IsThere v → ⊥) (values_at values path)))
-        ⊎ ((is_unsupported e ≡ true)
-        × ((path : Path) × IsOpen values path × (length path ≡ levels)))
+      -- why there is no merge: for want of memory, since the read of a tree at its own path fails,
+      -- or since a tree is too deep
+      abbrev pub IsRefused : Path → Values → ℕ → BackendError → Type 0
+      IsRefused dir values levels e =
+          (e ≡ Memory)
+          ⊎ ((path : Path) × IsOpen values path
+          × Any (fails (dir ++ path) e) (values_at values path))
+          ⊎ ((is_unsupported e ≡ true)
+          × ((path : Path) × IsOpen values path × (length path ≡ levels)))
 
-    -- what is answered, asked to merge these values within that many levels: their merge, where
-    -- every tree that is met is there and none is deeper, or why there is none
-    pub record IsMergeAnswer (may_fail : BackendError → Type 0) (values : Values)
-        (labels : List (List ℕ)) (levels : ℕ)
-        (result : Result TreeMerge BackendError) : Type 0 where
-      pub merge : IfOk result (λ m. IsMerge values labels m.resolved.items
-          (conflict_entries m.conflicts.items))
-      pub within : OnOk result (IsWithin values levels)
-      pub refused : IfErr result (IsRefused may_fail values levels)
+      -- what is answered, asked to merge these values within that many levels: their merge, where
+      -- every tree that is met is read at its path and none is deeper, or why there is none
+      pub record IsMergeAnswer (values : Values) (labels : List (List ℕ)) (levels : ℕ)
+          (result : Result TreeMerge BackendError) : Type 0 where
+        pub merge : IfOk result (λ m. IsMerge values labels m.resolved.items
+            (conflict_entries m.conflicts.items))
+        pub within : OnOk result (IsWithin [] values levels)
+        pub refused : IfErr result (IsRefused [] values levels)
 
 -- how many levels are merged where the caller does not say
 abbrev pub most_levels : ℕ

@@ -136,13 +136,15 @@ impl MemoryBackend {
 }
 
 impl Backend for MemoryBackend {
-    ghost use Rattle.std.specs.Prelude.{◌≡◌};
+    ghost use Rattle.std.specs.Prelude.{◌≡◌, ⊤};
     ghost use Rattle.jj_backend.specs.declared.backend.errors.BackendError.TheVariants.{Memory};
     ghost use Rattle.jj_trees.specs.Kept.{objects_of};
 
     ghost objects = { objects_of };
 
     ghost may_fail = { λ _ e. e ≡ Memory };
+
+    ghost may_read_tree = { λ _ path id r. ⊤ };
 
     fn name(&self) -> &str
         ensures { result.now ≡ codes "memory" }

@@ -4,10 +4,10 @@ ghost use Rattle.std.specs.Prelude.{All, Any, IfOk, IfErr, IfSome, IsNone, OnOk}
 ghost use Rattle.std.specs.NonZero.{non_zero_usize_get};
 ghost use Rattle.jj_merges.specs.Merge.{IsOdd};
 ghost use Rattle.jj_paths.specs.Names.{path_of};
-ghost use Rattle.jj_backend.specs.Errors.{is_not_found, is_unsupported};
+ghost use Rattle.jj_backend.specs.Errors.{is_unsupported};
 ghost use Rattle.jj_trees.specs.Steps.{IsStep};
 ghost use Rattle.jj_trees.specs.TreeMerges.{entries_of, root_values, conflict_entries};
-ghost use Rattle.jj_trees.specs.TreeMerges.{is_tree_or_absent, IsThere, IsEntered, IsHere};
+ghost use Rattle.jj_trees.specs.TreeMerges.{is_tree_or_absent, IsReadAt, FailsAt, IsEntered, IsHere};
 ghost use Rattle.jj_trees.specs.TreeMerges.{IsAppended, IsWithin, IsRefused};
 ghost use Rattle.jj_trees.specs.TreeMerges.{IsMergeAnswer, most_levels};
 
@@ -81,9 +81,10 @@ fn tree_of<B: Backend>(
 ) -> BackendResult<Tree>
     ensures entries { IfOk result (λ tree.
         tree ≡ entries_of (B.objects backend.now).trees value.now) }
-    ensures there { OnOk result (IsThere (B.objects backend.now).trees value.now) }
-    ensures refused { IfErr result (λ e. B.may_fail backend.now e
-        ⊎ ((is_not_found e ≡ true) × (IsThere (B.objects backend.now).trees value.now → ⊥))) }
+    ensures read { OnOk result (IsReadAt (B.objects backend.now).trees
+        (B.may_read_tree backend.now) (path_of dir.entry) value.now) }
+    ensures refused { IfErr result (λ e. FailsAt (B.objects backend.now).trees
+        (B.may_read_tree backend.now) (B.may_fail backend.now) (path_of dir.entry) e value.now) }
 {
     match value {
         Some(TreeValue::Tree(id)) => backend.read_tree(alloc, dir, id),
@@ -100,10 +101,11 @@ fn trees_of<B: Backend>(
 ) -> BackendResult<Vec<Tree>>
     ensures entries { IfOk result (λ trees.
         trees.items ≡ map (entries_of (B.objects backend.now).trees) values.now) }
-    ensures there { OnOk result (All (IsThere (B.objects backend.now).trees) values.now) }
-    ensures refused { IfErr result (λ e. (e ≡ BackendError.Memory) ⊎ B.may_fail backend.now e
-        ⊎ ((is_not_found e ≡ true)
-        × Any (λ v. IsThere (B.objects backend.now).trees v → ⊥) values.now)) }
+    ensures read { OnOk result (All (IsReadAt (B.objects backend.now).trees
+        (B.may_read_tree backend.now) (path_of dir.entry)) values.now) }
+    ensures refused { IfErr result (λ e. (e ≡ BackendError.Memory)
+        ⊎ Any (FailsAt (B.objects backend.now).trees (B.may_read_tree backend.now)
+        (B.may_fail backend.now) (path_of dir.entry) e) values.now) }
 {
     let mut trees = Vec::new(alloc);
     for value in values {
@@ -181,10 +183,15 @@ fn merge_below<B: Backend>(
         (conflict_entries merged.old.conflicts.items)
         (conflict_entries merged.new.conflicts.items)) }
     ensures within { OnOk result (IsWithin (B.objects backend.now).trees
-        ⟦<Option<TreeValue> as PartialEq>⟧.eq same_change values.now levels) }
+        ⟦<Option<TreeValue> as PartialEq>⟧.eq same_change
+        (IsReadAt (B.objects backend.now).trees (B.may_read_tree backend.now))
+        (FailsAt (B.objects backend.now).trees (B.may_read_tree backend.now)
+        (B.may_fail backend.now)) (path_of dir.entry) values.now levels) }
     ensures refused { IfErr result (IsRefused (B.objects backend.now).trees
-        ⟦<Option<TreeValue> as PartialEq>⟧.eq same_change (B.may_fail backend.now)
-        values.now levels) }
+        ⟦<Option<TreeValue> as PartialEq>⟧.eq same_change
+        (IsReadAt (B.objects backend.now).trees (B.may_read_tree backend.now))
+        (FailsAt (B.objects backend.now).trees (B.may_read_tree backend.now)
+        (B.may_fail backend.now)) (path_of dir.entry) values.now levels) }
 {
     if levels == 0 {
         return Err(too_deep(alloc));
@@ -238,7 +245,10 @@ pub fn merge_trees_within<B: Backend>(
 ) -> BackendResult<TreeMerge>
     requires { (labels.now ≡ []) ⊎ (length labels.now ≡ length trees.now) }
     ensures { IsMergeAnswer (B.objects backend.now).trees
-        ⟦<Option<TreeValue> as PartialEq>⟧.eq same_change (B.may_fail backend.now)
+        ⟦<Option<TreeValue> as PartialEq>⟧.eq same_change
+        (IsReadAt (B.objects backend.now).trees (B.may_read_tree backend.now))
+        (FailsAt (B.objects backend.now).trees (B.may_read_tree backend.now)
+        (B.may_fail backend.now))
         (root_values trees.now) labels.now (non_zero_usize_get levels) result }
 {
     let values = root_values_of(alloc, trees.as_slice())?;
@@ -272,7 +282,10 @@ pub fn merge_trees<B: Backend>(
 ) -> BackendResult<TreeMerge>
     requires { (labels.now ≡ []) ⊎ (length labels.now ≡ length trees.now) }
     ensures { IsMergeAnswer (B.objects backend.now).trees
-        ⟦<Option<TreeValue> as PartialEq>⟧.eq same_change (B.may_fail backend.now)
+        ⟦<Option<TreeValue> as PartialEq>⟧.eq same_change
+        (IsReadAt (B.objects backend.now).trees (B.may_read_tree backend.now))
+        (FailsAt (B.objects backend.now).trees (B.may_read_tree backend.now)
+        (B.may_fail backend.now))
         (root_values trees.now) labels.now most_levels result }
 {
     let Some(levels) = NonZeroUsize::new(MOST_LEVELS) else {

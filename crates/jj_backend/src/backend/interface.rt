@@ -3,6 +3,7 @@ ghost use Rattle.std.specs.Prelude.{◌≡◌, ℕ, List, [], Some, IsSome, IfOk
 ghost use Rattle.std.specs.Result.{result_map_both};
 ghost use Rattle.jj_backend.specs.Objects.{IsRead, AddsFile, AddsSymlink, AddsCopy, AddsTree, AddsCommit, IsSigned};
 ghost use Rattle.std.specs.Option.{option_map};
+ghost use Rattle.jj_paths.specs.Names.{path_of};
 
 use super::{
     BackendResult, ChangeId, Commit, CommitId, CopyHistory, CopyId, CopyRecord, FileId,
@@ -27,7 +28,10 @@ pub trait SigningFn {
 
 /// Where objects are kept, by ids. A path is where an object is met, which a backend may use.
 pub trait Backend {
+    ghost use Rattle.std.specs.Prelude.{ℕ, List, Result};
+    ghost use Rattle.jj_paths.specs.Paths.{Path};
     ghost use Rattle.jj_backend.specs.Objects.{Objects};
+    ghost use Rattle.jj_backend.specs.Trees.{Entries};
     ghost use Rattle.jj_backend.specs.declared.backend.errors.BackendError.{BackendError};
 
     /// What it keeps.
@@ -35,6 +39,9 @@ pub trait Backend {
 
     /// What a read may answer beside a value and that there is none.
     ghost may_fail: { Self → BackendError → Type 0 };
+
+    /// That a read of the tree at this path, with this id, may return this.
+    ghost may_read_tree: { Self → Path → List ℕ → Result Entries BackendError → Type 0 };
 
     /// The name of the kind of backend.
     fn name(&self) -> &str;
@@ -113,9 +120,11 @@ pub trait Backend {
         copy_id: &CopyId,
     ) -> BackendResult<Vec<RelatedCopy>>;
 
-    /// The entries of a directory.
+    /// Returns the entries of the directory at `path`, whose tree has this id.
     fn read_tree(&self, alloc: Global, path: RepoPath<'_>, id: &TreeId) -> BackendResult<Tree>
-        ensures { IsRead (may_fail self.now) ((objects self.now).trees id.now) (λ t. t) result };
+        ensures value {
+            IsRead (may_fail self.now) ((objects self.now).trees id.now) (λ t. t) result }
+        ensures at_path { may_read_tree self.now (path_of path.entry) id.now result };
 
     /// Keeps the entries of a directory, and answers their id.
     fn write_tree(

@@ -6,9 +6,9 @@ use Rattle.jj_paths.specs.Names.{path_of}
 use Rattle.jj_paths.specs.Paths.{Name}
 use Rattle.std.specs.Option.{option_eq}
 use Rattle.jj_trees.specs.declared.tree_merge.rows.Row.{Row}
-use Rattle.jj_trees.specs.TreeMerges.{Values, conflict_entries}
+use Rattle.jj_trees.specs.TreeMerges.{Values, IsReadAt, FailsAt, conflict_entries}
 use Rattle.jj_backend.specs.contracts.backend.tree_value.TreeValuePartialEq.TheImpl as tree_values
-use Rattle.jj_trees.proofs.Merging.{same_values, passed_none}
+use Rattle.jj_trees.proofs.Merging.{same_values, passed_none, refused_here}
 use Rattle.jj_trees.proofs.Passing.{rows_start, rows_next, next_row, row_length, same_sides}
 use Rattle.jj_trees.proofs.Rounds.{rows_passed, row_here, row_entered, row_refused, rows_ended, no_row, all_rows}
 use Rattle.jj_trees.proofs.tree_merge.+merge_below.Goals as goal
@@ -22,7 +22,8 @@ loop-row-init g t c = record {
   can = tt;
   ends = tt;
   rows = rows_start parts _ _ _ _ (c.deref.ensures.value ∙ c.in_ok-trees.ensures.entries) c.into_iter-row-iterator.ensures.into_iter_gives.0 c.in_ok-rows.ensures;
-  passed = passed_none (option_eq tree_values.eq-value.it) same_values (g.B.Backend.objects c.args.backend.now).trees c.args.same_change c.args.labels.now
+  passed = passed_none (option_eq tree_values.eq-value.it) same_values (g.B.Backend.objects c.args.backend.now).trees c.args.same_change c.args.labels.now (IsReadAt (g.B.Backend.objects c.args.backend.now).trees (g.B.Backend.may_read_tree c.args.backend.now))
+      (FailsAt (g.B.Backend.objects c.args.backend.now).trees (g.B.Backend.may_read_tree c.args.backend.now) (g.B.Backend.may_fail c.args.backend.now))
       _ c.args.values.now (path_of c.args.dir) c.args.merged.now.resolved.items (conflict_entries c.args.merged.now.conflicts.items);
 }
 
@@ -48,16 +49,28 @@ merge_below-requires g t c =
     (rows_next parts _ c.loop-row.yielded _ _ next c.loop-row.invariant.rows) in
     λ κs outlives. (omega arith, (outlives, (subst IsOdd (sym same) c.requires.odd, same_sides _ _ _ same c.requires.sides)))
 
+pub returns-in_err-trees-clause-refused : goal.returns-in_err-trees-clause-refused
+returns-in_err-trees-clause-refused g t c =
+    let p = err_from_is_err_and c.from_residual.result c.from_residual.ensures.1 in
+    rw (p.1, p.2)
+    (refused_here (option_eq tree_values.eq-value.it) same_values (g.B.Backend.objects c.args.backend.now).trees c.args.same_change c.args.labels.now
+    (IsReadAt (g.B.Backend.objects c.args.backend.now).trees (g.B.Backend.may_read_tree c.args.backend.now))
+    (FailsAt (g.B.Backend.objects c.args.backend.now).trees (g.B.Backend.may_read_tree c.args.backend.now) (g.B.Backend.may_fail c.args.backend.now))
+    c.args.levels c.args.values.now (path_of c.args.dir) c.args.levels _ c.in_err-trees.ensures.refused)
+
 pub returns-in_err-merge_below-in-Some-entered-clause-refused : goal.returns-in_err-merge_below-in-Some-entered-clause-refused
 returns-in_err-merge_below-in-Some-entered-clause-refused g t c =
     let next = next_row c.loop-row.row-iterator c.next.result c.next.new.self c.in-Some.row c.in-Some.is c.next.ensures.steps in
     let entered = rw c.in-Some-entered.is at c.in_ok-entered.ensures.entered in
     let p = err_from_is_err_and c.from_residual-in_err-merge_below-in-Some-entered.result c.from_residual-in_err-merge_below-in-Some-entered.ensures.1 in
+    let at : c.in_ok-path.path ≡ path_of c.args.dir ++ c.in-Some.row.name ∷ [] = c.in_ok-path.ensures ∙ ap (λ n. path_of c.args.dir ++ n ∷ []) c.as_component.ensures in
     rw (p.1, p.2)
-    (row_refused (option_eq tree_values.eq-value.it) same_values (g.B.Backend.objects c.args.backend.now).trees c.args.same_change c.args.labels.now
+    (row_refused (option_eq tree_values.eq-value.it) same_values (g.B.Backend.objects c.args.backend.now).trees c.args.same_change c.args.labels.now (IsReadAt (g.B.Backend.objects c.args.backend.now).trees (g.B.Backend.may_read_tree c.args.backend.now))
+    (FailsAt (g.B.Backend.objects c.args.backend.now).trees (g.B.Backend.may_read_tree c.args.backend.now) (g.B.Backend.may_fail c.args.backend.now))
     (c.args.levels - 1) c.args.values.now (path_of c.args.dir) parts c.loop-row.yielded c.in-Some.row (into_iter_items c.next.new.self)
-    (rows_next parts _ c.loop-row.yielded _ _ next c.loop-row.invariant.rows) (g.B.Backend.may_fail c.args.backend.now) c.args.levels _
-    c.deref-in-Some-entered.result.now (omega arith) (c.deref-in-Some-entered.ensures.value ∙ entered.1) entered.2
+    (rows_next parts _ c.loop-row.yielded _ _ next c.loop-row.invariant.rows) c.args.levels _
+    c.deref-in-Some-entered.result.now (path_of c.as_path-dir.result) (omega arith) (c.deref-in-Some-entered.ensures.value ∙ entered.1)
+    (c.as_path-dir.ensures ∙ entered.0 ∙ at) entered.2
     c.in_err-merge_below-in-Some-entered.ensures.refused)
 
 pub loop-row-preserved : goal.loop-row-preserved
@@ -72,12 +85,13 @@ loop-row-preserved g t c =
       passed = elim c.match-entered.branch [
         | in-None-entered w ↦
             rw w.merged-is
-            (row_here (option_eq tree_values.eq-value.it) same_values _ _ _ _ _ _ parts c.loop-row.yielded c.in-Some.row (into_iter_items c.next.new.self) rows
+            (row_here (option_eq tree_values.eq-value.it) same_values _ _ _ _ _ _ _ _ parts c.loop-row.yielded c.in-Some.row (into_iter_items c.next.new.self) rows
             _ _ _ _ _ _ c.loop-row.invariant.passed c.in_ok-path.path at (c.in_ok-entered.ensures.done (ap is_some w.in-None-entered.is)))
         | in-Some-entered+in_ok-merge_below-in-Some-entered w ↦
             let entered = rw w.in-Some-entered.is at c.in_ok-entered.ensures.entered in
             rw w.merged-is
-            (row_entered (option_eq tree_values.eq-value.it) same_values (g.B.Backend.objects c.args.backend.now).trees c.args.same_change c.args.labels.now
+            (row_entered (option_eq tree_values.eq-value.it) same_values (g.B.Backend.objects c.args.backend.now).trees c.args.same_change c.args.labels.now (IsReadAt (g.B.Backend.objects c.args.backend.now).trees (g.B.Backend.may_read_tree c.args.backend.now))
+            (FailsAt (g.B.Backend.objects c.args.backend.now).trees (g.B.Backend.may_read_tree c.args.backend.now) (g.B.Backend.may_fail c.args.backend.now))
             (c.args.levels - 1) c.args.values.now (path_of c.args.dir) parts c.loop-row.yielded c.in-Some.row (into_iter_items c.next.new.self) rows
             c.args.merged.now.resolved.items c.loop-row.merged.resolved.items w.merge_below.new.merged.resolved.items
             (conflict_entries c.args.merged.now.conflicts.items) (conflict_entries c.loop-row.merged.conflicts.items)
@@ -91,9 +105,10 @@ loop-row-preserved g t c =
 
 pub returns : goal.returns
 returns g t c =
-    let merged = all_rows (option_eq tree_values.eq-value.it) same_values (g.B.Backend.objects c.args.backend.now).trees c.args.same_change c.args.labels.now
+    let merged = all_rows (option_eq tree_values.eq-value.it) same_values (g.B.Backend.objects c.args.backend.now).trees c.args.same_change c.args.labels.now (IsReadAt (g.B.Backend.objects c.args.backend.now).trees (g.B.Backend.may_read_tree c.args.backend.now))
+    (FailsAt (g.B.Backend.objects c.args.backend.now).trees (g.B.Backend.may_read_tree c.args.backend.now) (g.B.Backend.may_fail c.args.backend.now))
     (c.args.levels - 1) c.args.values.now (path_of c.args.dir) parts refl c.requires.odd c.loop-row.yielded
     (rows_ended parts _ c.loop-row.yielded _ (no_row c.loop-row.row-iterator c.next.result c.next.new.self c.in-None.is c.next.ensures.steps) c.loop-row.invariant.rows)
     c.args.merged.now.resolved.items c.loop-row.merged.resolved.items
     (conflict_entries c.args.merged.now.conflicts.items) (conflict_entries c.loop-row.merged.conflicts.items) c.loop-row.invariant.passed in
-    record { merge = merged.0; within = merged.1 c.in_ok-trees.ensures.there c.args.levels (omega arith); refused = tt }
+    record { merge = merged.0; within = merged.1 c.in_ok-trees.ensures.read c.args.levels (omega arith); refused = tt }
