@@ -1,5 +1,14 @@
 //! Requests of the conformance table on graph walks.
+//!
+//! Nodes are characters, and so are errors. A graph is a string: `B:A C:BA` has the edges from B to
+//! A, from C to B and from C to A, in this order. In a list of items `!X` is one that fails with X;
+//! where lists may fail as a whole, the list of a node that begins with `!` fails with the node.
 #![tactic(auto)]
+
+mod graphs;
+mod grouped;
+mod lazy;
+mod orders;
 
 use rows::request::Request;
 use rows::row_error::RowError;
@@ -8,10 +17,16 @@ use std::alloc::Global;
 
 /// Runs the request of this name. Returns `false` if this crate has no such request.
 pub fn call(
-    _alloc: Global,
-    _name: &str,
-    _request: &Request,
-    _values: &mut Values,
+    alloc: Global,
+    name: &str,
+    request: &Request,
+    values: &mut Values,
 ) -> Result<bool, RowError> {
-    Ok(false)
+    if orders::call(alloc, name, request, values)? {
+        return Ok(true);
+    }
+    if lazy::call(alloc, name, request, values)? {
+        return Ok(true);
+    }
+    grouped::call(alloc, name, request, values)
 }
