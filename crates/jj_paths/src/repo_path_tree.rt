@@ -613,14 +613,15 @@ impl<V: Eq> Eq for RepoPathNode<V> {
 impl<V: fmt::Debug> fmt::Debug for RepoPathTree<V> {
     #[cycle(shown)]
     fn fmt<W: fmt::Write>(&self, f: &mut fmt::Formatter<W>) -> fmt::Result {
-        write!(f, "{:?}", self.node)
+        self.node.fmt(f)
     }
 }
 
 impl<V: fmt::Debug> fmt::Debug for RepoPathNode<V> {
     #[cycle(shown)]
     fn fmt<W: fmt::Write>(&self, f: &mut fmt::Formatter<W>) -> fmt::Result {
-        write!(f, "{:?} ", self.value)?;
+        self.value.fmt(f)?;
+        f.write_str(" ")?;
         let mut children = f.debug_map();
         for (name, tree) in &self.entries {
             children.entry(name, tree);
