@@ -12,7 +12,7 @@ mod shown;
 mod to_fs;
 
 pub use crate::repo_path_tree::{
-    RepoPathNode, RepoPathTree, RepoPathTreeChildren, RepoPathTreeWalk,
+    RepoPathNode, RepoPathNodeWalk, RepoPathTree, RepoPathTreeChildren, RepoPathTreeWalk,
 };
 pub use from_relative::RelativePathParseError;
 pub use iter::{RepoPathAncestors, RepoPathComponentsIter};

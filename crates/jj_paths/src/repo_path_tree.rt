@@ -11,7 +11,10 @@ ghost use Rattle.std.specs.FinMap.{is_sorted};
 ghost use Rattle.std.specs.Iterator.{YieldsFirstBy, item_count};
 ghost use Rattle.jj_paths.specs.Tree.{Tree, tree_of, branches_of, none, children, child, get, has_branches, put, put_value, update_child, put_below, nodes_on, nodes_below, nodes_from, IsPartOf, IsExtended, IsEdited, IsSet, IsGrown, IsChildEdited, IsAt, IsGapFor, IsTreeClone};
 
+mod nodes;
+
 use crate::repo_path::{RepoPath, RepoPathComponent, RepoPathComponentBuf};
+pub use nodes::RepoPathNodeWalk;
 use std::alloc::{AllocError, Global};
 use std::cmp::Ordering;
 use std::marker::Model;

@@ -1,0 +1,111 @@
+//! Look-ups, walks and changes below a node, such as the one that `RepoPathTree::add` lends.
+ghost use Rattle.std.specs.Prelude.{◌≡◌, IsSome, IfOk, MatchResult};
+ghost use Rattle.std.specs.Option.{option_copied, option_map};
+ghost use Rattle.std.specs.List.{All};
+ghost use Rattle.std.specs.Iterator.{YieldsFirstBy, item_count};
+ghost use Rattle.jj_paths.specs.Names.{path_of};
+ghost use Rattle.jj_paths.specs.Children.{node_walk_left};
+ghost use Rattle.jj_paths.specs.Tree.{Tree, get, put_value, nodes_on, nodes_from, nodes_below, IsPartOf, IsExtended, IsSet};
+
+use super::RepoPathNode;
+use crate::repo_path::RepoPath;
+use std::alloc::AllocError;
+
+impl<V> RepoPathNode<V> {
+    /// Returns the node at a path below this one, which is at the root path.
+    pub fn get(&self, path: RepoPath<'_>) -> Option<&RepoPathNode<V>>
+        ensures { option_copied result ≡ get self.now (path_of path.entry) }
+    {
+        match path.split_first() {
+            None => Some(self),
+            Some((name, rest)) => Some(self.child(name)?.get(rest)?.node()),
+        }
+    }
+
+    // the child that a path leads through, with what of the path is below it
+    fn step<'b>(&self, path: RepoPath<'b>) -> Option<(&RepoPathNode<V>, RepoPath<'b>)>
+        ensures { nodes_from (option_map (λ step. (step.0.now, path_of step.1)) result)
+            ≡ nodes_below self.now (path_of path.entry) }
+    {
+        let (name, rest) = path.split_first()?;
+        Some((self.child(name)?.node(), rest))
+    }
+
+    /// Iterates over the nodes on the way to a path, from this one on and as far as they go, each
+    /// with the rest of the path.
+    pub fn walk_to<'a, 'b>(&'a self, path: RepoPath<'b>) -> RepoPathNodeWalk<'a, 'b, V>
+        ensures on_the_way { node_walk_left result ≡ nodes_on self.now (path_of path.entry) }
+        ensures parts { All (IsPartOf self.now (path_of path.entry)) (node_walk_left result) }
+    {
+        RepoPathNodeWalk {
+            next: Some((self, path)),
+        }
+    }
+
+    // makes the nodes that a path lacks, with default values
+    fn extend(&mut self, path: RepoPath<'_>) -> Result<(), AllocError>
+    where
+        V: Default + Drop,
+        ensures there { IfOk result (λ done. IsSome (get self.new (path_of path.entry))) }
+        ensures extended { IsExtended V.is_default self.old (path_of path.entry) self.new }
+    {
+        if path.is_root() {
+            return Ok(());
+        }
+        self.first_or_new(path)?.extend(path.rest())
+    }
+
+    /// Sets the value at a path below this node, and creates the nodes on the way that are missing,
+    /// with default values. After an allocation failure every value is kept, and new nodes may be on
+    /// the way.
+    pub fn set(&mut self, path: RepoPath<'_>, mut value: V) -> Result<(), AllocError>
+    where
+        V: Default + Drop,
+        ensures as_map { IfOk result (λ done.
+            IsSet V.is_default self.old (path_of path.entry) value self.new) }
+        ensures edited { MatchResult result (λ done. (t : Tree V)
+            × IsExtended V.is_default self.old (path_of path.entry) t
+            × IsSome (get t (path_of path.entry))
+            × (self.new ≡ put_value t (path_of path.entry) value))
+            (λ e. IsExtended V.is_default self.old (path_of path.entry) self.new) }
+    {
+        self.swap_value(path, &mut value)
+    }
+
+    // puts the value at a path, with the nodes that `add` makes, and the old one in its place
+    fn swap_value(&mut self, path: RepoPath<'_>, value: &mut V) -> Result<(), AllocError>
+    where
+        V: Default + Drop,
+        ensures edited { MatchResult result (λ done. (t : Tree V)
+            × IsExtended V.is_default self.old (path_of path.entry) t
+            × IsSome (get t (path_of path.entry))
+            × (self.new ≡ put_value t (path_of path.entry) value.old))
+            (λ e. IsExtended V.is_default self.old (path_of path.entry) self.new) }
+    {
+        if path.is_root() {
+            self.swap(value);
+            return Ok(());
+        }
+        self.first_or_new(path)?.swap_value(path.rest(), value)
+    }
+}
+
+/// The nodes on the way to a path that have not been yielded yet, each with the rest of the path.
+#[derive(Drop)]
+pub struct RepoPathNodeWalk<'a, 'b, V> {
+    next: Option<(&'a RepoPathNode<V>, RepoPath<'b>)>,
+}
+
+impl<'a, 'b, V> Iterator for RepoPathNodeWalk<'a, 'b, V> {
+    type Item = (&'a RepoPathNode<V>, RepoPath<'b>);
+
+    ghost next_gives = { YieldsFirstBy (λ step. (step.0.now, path_of step.1)) node_walk_left };
+
+    ghost remaining = { item_count node_walk_left };
+
+    fn next(&mut self) -> Option<(&'a RepoPathNode<V>, RepoPath<'b>)> {
+        let (node, path) = self.next?;
+        self.next = node.step(path);
+        Some((node, path))
+    }
+}
