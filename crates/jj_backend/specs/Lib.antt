@@ -9,4 +9,5 @@ pub mod Trees
 pub mod TreeLaws
 pub mod Errors
 pub mod Objects
+pub mod Json
 pub mod CopyHistoryOrder

@@ -1,15 +1,16 @@
 //! JSON values of moments and of the records that hold them.
-ghost use Rattle.std.specs.Prelude.{⊤};
+ghost use Rattle.std.specs.Prelude.{◌≡◌, IfOk};
+ghost use Rattle.serde_json.specs.View.{view};
 ghost use Rattle.jj_content.specs.Json.{IsAnswer};
+ghost use Rattle.jj_backend.specs.Json.{IsCommitJson, IsJsonString, IsSignatureJson, commit_json, ids_json, signature_json};
 ghost use Rattle.jj_backend.specs.Times.{IsDate};
 
 use super::{Commit, Signature, Timestamp};
 use jiff::Zoned;
 use jj_content::content_hash::{ToJson, ToJsonError};
 use jj_ids::object_id::{Id, IdKind, ObjectId};
-use serde_json::Value;
+use serde_json::{Value, json};
 use std::alloc::{AllocError, Global};
-use std::collections::BTreeMap;
 
 // The day of a date; the year has at least four digits.
 fn day_text(alloc: Global, date: &Zoned<'_>) -> Result<String, AllocError> {
@@ -44,7 +45,7 @@ fn push_offset(text: &mut String, date: &Zoned<'_>) -> Result<(), AllocError> {
 impl ToJson for Timestamp {
     ghost is_in_range = { IsDate };
 
-    ghost is_json = { λ _ _. ⊤ };
+    ghost is_json = { λ _ d. IsJsonString d };
 
     fn to_json(&self, alloc: Global) -> Result<Value, ToJsonError> {
         match self.to_datetime() {
@@ -59,76 +60,75 @@ impl ToJson for Timestamp {
     }
 }
 
-// Adds a member to an object.
-fn put(
-    alloc: Global,
-    object: &mut BTreeMap<String, Value>,
-    name: &str,
-    value: Value,
-) -> Result<(), AllocError> {
-    object.insert(String::from_str(alloc, name)?, value)?;
-    Ok(())
+// The array of the ids' hexadecimal strings.
+fn ids_json<K: IdKind>(alloc: Global, ids: &[Id<K>]) -> Result<Value, AllocError>
+    ensures { IfOk result (λ ids_value. view ids_value ≡ ids_json ids.now) }
+{
+    let mut strings = Vec::with_capacity(alloc, ids.len())?;
+    for id in ids {
+        strings.push(Value::String(id.hex(alloc)?))?;
+    }
+    Ok(Value::Array(strings))
 }
 
-// The array of the ids' hex texts.
-fn ids_json<K: IdKind>(alloc: Global, ids: &[Id<K>]) -> Result<Value, AllocError> {
-    let mut texts = Vec::with_capacity(alloc, ids.len())?;
-    for id in ids {
-        texts.push(Value::String(id.hex(alloc)?))?;
-    }
-    Ok(Value::Array(texts))
+// The object of a signature whose moment has this value.
+fn signature_object(
+    alloc: Global,
+    signature: &Signature,
+    timestamp: Value,
+) -> Result<Value, AllocError>
+    ensures { IfOk result (λ object. view object
+        ≡ signature_json signature.now (view timestamp)) }
+{
+    json!(in alloc; {
+        "name": &signature.name,
+        "email": &signature.email,
+        "timestamp": timestamp,
+    })
 }
 
 /// A signature is an object of its name, its email and its moment.
 impl ToJson for Signature {
     ghost is_in_range = { λ s. IsDate s.timestamp };
 
-    ghost is_json = { λ _ _. ⊤ };
+    ghost is_json = { IsSignatureJson };
 
     fn to_json(&self, alloc: Global) -> Result<Value, ToJsonError> {
-        let time = self.timestamp.to_json(alloc)?;
-        let mut object = BTreeMap::new(alloc);
-        put(
-            alloc,
-            &mut object,
-            "name",
-            Value::String(self.name.clone()?),
-        )?;
-        put(
-            alloc,
-            &mut object,
-            "email",
-            Value::String(self.email.clone()?),
-        )?;
-        put(alloc, &mut object, "timestamp", time)?;
-        Ok(Value::Object(object))
+        let timestamp = self.timestamp.to_json(alloc)?;
+        Ok(signature_object(alloc, self, timestamp)?)
     }
 }
 
-// The members of a commit that hold no moments.
-fn commit_object(alloc: Global, commit: &Commit) -> Result<BTreeMap<String, Value>, AllocError> {
-    let mut object = BTreeMap::new(alloc);
+// The object of a commit whose author and committer have these values.
+fn commit_object(
+    alloc: Global,
+    commit: &Commit,
+    author: Value,
+    committer: Value,
+) -> Result<Value, AllocError>
+    ensures { IfOk result (λ object. view object
+        ≡ commit_json commit.now (view author) (view committer)) }
+{
     let parents = ids_json(alloc, commit.parents.as_slice())?;
-    put(alloc, &mut object, "parents", parents)?;
-    let change_id = Value::String(commit.change_id.reverse_hex()?);
-    put(alloc, &mut object, "change_id", change_id)?;
-    let description = Value::String(commit.description.clone()?);
-    put(alloc, &mut object, "description", description)?;
-    Ok(object)
+    let change_id = commit.change_id.reverse_hex()?;
+    json!(in alloc; {
+        "parents": parents,
+        "change_id": change_id,
+        "description": &commit.description,
+        "author": author,
+        "committer": committer,
+    })
 }
 
 /// A commit is an object of its parents, its change, its description, and who made it.
 impl ToJson for Commit {
     ghost is_in_range = { λ c. IsDate c.author.timestamp × IsDate c.committer.timestamp };
 
-    ghost is_json = { λ _ _. ⊤ };
+    ghost is_json = { IsCommitJson };
 
     fn to_json(&self, alloc: Global) -> Result<Value, ToJsonError> {
         let author = self.author.to_json(alloc)?;
         let committer = self.committer.to_json(alloc)?;
-        let mut object = commit_object(alloc, self)?;
-        put(alloc, &mut object, "author", author)?;
-        put(alloc, &mut object, "committer", committer)?;
-        Ok(Value::Object(object))
+        Ok(commit_object(alloc, self, author, committer)?)
     }
 }
