@@ -18,7 +18,7 @@ mod tree_value;
 pub use commit::{Commit, make_root_commit};
 pub use copies::{CopyHistory, CopyRecord, RelatedCopy};
 pub use errors::{BackendError, BackendInitError, BackendLoadError, BackendResult};
-pub use interface::{Backend, SigningFn};
+pub use interface::{Backend, NoSigner, SigningFn};
 pub use jj_ids::object_id::{ChangeId, CommitId, CopyId, FileId, SymlinkId, TreeId};
 pub use merged_tree_value::{
     AsTreeValue, MergedTreeVal, MergedTreeValue, MergedTreeValueExt, borrow_tree_value,

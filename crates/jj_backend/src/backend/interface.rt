@@ -26,6 +26,18 @@ pub trait SigningFn {
         ensures { may_sign self.old «data».now (result_map_both (λ v. v.items) (λ e. e) result) };
 }
 
+/// The signer of an unsigned write: `None::<&mut NoSigner>`. No value of it exists.
+#[derive(Debug, Drop)]
+pub enum NoSigner {}
+
+impl SigningFn for NoSigner {
+    ghost may_sign = { λ _ _ _. ⊥ };
+
+    fn sign(&mut self, _alloc: Global, _data: &[u8]) -> SignResult<Vec<u8>> {
+        match *self {}
+    }
+}
+
 /// Where objects are kept, by ids. A path is where an object is met, which a backend may use.
 pub trait Backend {
     ghost use Rattle.std.specs.Prelude.{ℕ, List, Result};
