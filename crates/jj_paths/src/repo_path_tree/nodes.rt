@@ -55,9 +55,9 @@ impl<V> RepoPathNode<V> {
         self.first_or_new(path)?.extend(path.rest())
     }
 
-    /// Sets the value at a path below this node, and creates the nodes on the way that are missing,
-    /// with default values. After an allocation failure every value is kept, and new nodes may be on
-    /// the way.
+    /// Sets the value at a path below this node, and creates the missing nodes on the way, with
+    /// default values. After an allocation failure every value is kept, and new nodes may be on the
+    /// way.
     pub fn set(&mut self, path: RepoPath<'_>, mut value: V) -> Result<(), AllocError>
     where
         V: Default + Drop,
