@@ -9,7 +9,7 @@ use Rattle.jj_globs.specs.declared.glob.token.Token.TheVariants.{Part as part}
 use Rattle.jj_globs.specs.GlobText.{tokens_of, words, read}
 use Rattle.jj_globs.specs.GlobMeaning.{IsMatch, is_plain}
 use Rattle.jj_strings.specs.StringGlobs.{StringGlob, as_glob}
-use Rattle.jj_strings.specs.StringMatchers.{IsPatternFromText}
+use Rattle.jj_strings.specs.StringMatchers.{IsRegexFromText}
 use Rattle.jj_strings.specs.StringSets.{Pattern, exact, exact_i, substring, substring_i, glob, glob_i, regex, regex_i, InPattern, is_all, is_one_star}
 use Rattle.jj_strings.proofs.EmptyRegex.{holds_everything}
 
@@ -33,7 +33,7 @@ one_star [] h = absurd (true≢false (sym h))
 one_star (b ∷ []) h = elim (eqb_tells b 42) [ inl w ↦ ap (λ x. x ∷ []) w.1 | inr w ↦ absurd (true≢false (sym h ∙ w.0)) ]
 one_star (b ∷ c ∷ bs) h = absurd (true≢false (sym h))
 
-pub all_strings : (p : Pattern) → is_all p ≡ true → IsPatternFromText p → (bytes : List ℕ) → All (λ b. b < 256) bytes → InPattern p bytes
+pub all_strings : (p : Pattern) → is_all p ≡ true → IsRegexFromText p → (bytes : List ℕ) → All (λ b. b < 256) bytes → InPattern p bytes
 all_strings (exact text) h r bytes small = absurd (true≢false (sym h))
 all_strings (exact_i text) h r bytes small = absurd (true≢false (sym h))
 all_strings (substring []) h r bytes small = contains_empty bytes

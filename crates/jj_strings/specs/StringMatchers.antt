@@ -1,7 +1,7 @@
 -- A matcher of strings as a set of byte lists.
 -- Cited by contracts of public items: Asks, InMatcher, IsExpressionFromText, IsPatternFromText,
 -- MayAllocate.
-use Rattle.std.specs.Prelude.{◌≡◌, ◌↔◌, ◌⊎◌, ◌<◌, ◌^◌, ℕ, List, All as Every, string_bytes}
+use Rattle.std.specs.Prelude.{◌≡◌, ◌↔◌, ◌⊎◌, ◌<◌, ◌^◌, ℕ, List, true, All as Every, string_bytes}
 use Rattle.regex.specs.Bytes.{regex_config, IsReadFromSource}
 use Rattle.regex.specs.declared.bytes.regex.Regex as compiled
 use Rattle.jj_strings.specs.Predicates.{Accepts}
@@ -10,7 +10,7 @@ use Rattle.jj_strings.specs.declared.str_util.matcher.StringMatcher.TheVariants.
 use Rattle.jj_strings.specs.CompiledViews.{source_expression}
 use Rattle.jj_strings.specs.MatcherForms.{Form, form_of}
 use Rattle.jj_strings.specs.PatternKinds.{bytes_config, bytes_config_i}
-use Rattle.jj_strings.specs.StringSets.{Pattern, regex, regex_i, Expression, of_pattern, InExpression, HasRegex}
+use Rattle.jj_strings.specs.StringSets.{Pattern, regex, regex_i, Expression, of_pattern, InExpression, HasRegex, is_all}
 
 -- the matcher's set holds the bytes
 abbrev pub InMatcher : {F : _} {V : _} {m : _} → StringMatcher F V m → List ℕ → Type 0
@@ -30,17 +30,21 @@ IsFromText r = IsReadFromSource r × ((regex_config r ≡ bytes_config)
     ⊎ (regex_config r ≡ bytes_config_i))
 
 -- the regular expression of a pattern was made of its text
+abbrev pub IsRegexFromText : Pattern → Type 0
+IsRegexFromText (regex r) = IsFromText r
+IsRegexFromText (regex_i r) = IsFromText r
+IsRegexFromText p = Unit {0}
+
+-- an empty regular expression was made of its text; other patterns may be any
 abbrev pub IsPatternFromText : Pattern → Type 0
-IsPatternFromText (regex r) = IsFromText r
-IsPatternFromText (regex_i r) = IsFromText r
-IsPatternFromText p = Unit {0}
+IsPatternFromText p = is_all p ≡ true → IsRegexFromText p
 
 abbrev pub IsExpressionFromText : Expression → Type 0
 IsExpressionFromText (of_pattern p) = IsPatternFromText p
 IsExpressionFromText e = Unit {0}
 
--- a matcher that asks a set: it holds the same strings, where each regular expression inside was
--- made of its text; it has this form; it takes memory only where a regular expression is inside
+-- a matcher that asks a set: it holds the same strings, where an empty regular expression was made
+-- of its text; it has this form; it takes memory only where a regular expression is inside
 pub record Asks {F : _} {V : _} {m : _} (is_from_text : Type 0) (holds : List ℕ → Type 0)
     (wanted : Form) (has_regex : Type 0) (matcher : StringMatcher F V m) : Type 0 where
   pub set : is_from_text → (bytes : List ℕ) → Every (λ byte. byte < 2 ^ 8) bytes

@@ -1,13 +1,15 @@
 //! Callers of sets of strings, proved from what these promise.
-ghost use Rattle.std.specs.Prelude.{◌↔◌, IsTrue, IsErr, IfOk, map};
+ghost use Rattle.std.specs.Prelude.{◌≡◌, ◌↔◌, IsTrue, IsErr, IfOk, map, false};
 ghost use Rattle.std.specs.Map.Iter.{deref_pair};
 ghost use Rattle.jj_strings.specs.StringMatchers.{InMatcher, MayAllocate};
+ghost use Rattle.jj_strings.specs.StringSets.{InPattern, is_all};
+ghost use Rattle.jj_strings.specs.PatternViews.{pattern_of};
 ghost use Rattle.jj_strings_tests.specs.Selected.{Selects};
 
 use jj_content_tests::drained::all_of;
 use jj_ids::object_id::CommitId;
 use jj_ids::ref_name::RefNameBuf;
-use jj_strings::str_util::StringMatcher;
+use jj_strings::str_util::{StringMatcher, StringPattern};
 use std::alloc::{AllocError, Global};
 use std::collections::BTreeMap;
 
@@ -39,4 +41,18 @@ pub fn refs_named<'a>(
         refs.now.entries (map deref_pair found.items)) }
 {
     all_of(alloc, matcher.filter_btree_map(alloc, refs))
+}
+
+/// Whether a pattern that is not seen to match everything matches a byte string, by its matcher.
+pub fn is_in_pattern(
+    alloc: Global,
+    pattern: &StringPattern,
+    bytes: &[u8],
+) -> Result<bool, AllocError>
+    ensures { is_all (pattern_of pattern.now) ≡ false
+        → IfOk result (λ yes. IsTrue yes ↔ InPattern (pattern_of pattern.now) bytes.now) }
+{
+    let matcher = pattern.to_matcher(alloc)?;
+    let yes = matcher.is_match_bytes(alloc, bytes)?;
+    Ok(yes)
 }
