@@ -1,1 +1,2 @@
 mod NoteKeys
+mod ReviewKeys

@@ -1,9 +1,10 @@
-//! Proved callers: keys of a store, by the content of a record of one's own.
+//! Proved callers: keys of a store, by the content of records of one's own.
 ghost use Rattle.std.specs.Prelude.{◌≡◌, ◌⊎◌, ◌↔◌, IfOk, IsTrue, OnOk};
 ghost use Rattle.jj_content.specs.Blake2b.{blake2b};
 ghost use Rattle.jj_content_tests.specs.Notes.{note_content, IsNote, AreSame, Collide};
+ghost use Rattle.jj_content_tests.specs.Reviews.{review_content, AreSameReviews};
 
-use crate::records::Note;
+use crate::records::{Note, Review};
 use jj_content::content_hash::{blake2b_hash, content_decides};
 use std::alloc::{AllocError, Global};
 
@@ -25,4 +26,16 @@ pub fn have_one_key(alloc: Global, first: &Note, second: &Note) -> Result<bool, 
     let first_key = key(alloc, first)?;
     let second_key = key(alloc, second)?;
     Ok(first_key == second_key)
+}
+
+/// Whether two reviews have one digest: the same reviews have, note by note, and others only where
+/// their contents collide.
+pub fn have_one_digest(alloc: Global, first: &Review, second: &Review) -> Result<bool, AllocError>
+    ensures { IfOk result (λ yes. IsTrue yes ↔ (AreSameReviews first.now second.now
+        ⊎ Collide (review_content first.now) (review_content second.now))) }
+{
+    content_decides::<Review>();
+    let first_digest = blake2b_hash(alloc, first)?;
+    let second_digest = blake2b_hash(alloc, second)?;
+    Ok(first_digest == second_digest)
 }

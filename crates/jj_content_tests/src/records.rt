@@ -72,6 +72,30 @@ impl ContentHash for Note {
     }
 }
 
+/// A review of a file: a summary, and the notes of the review.
+#[derive(Debug, PartialEq, Eq, Drop)]
+pub struct Review {
+    pub summary: Note,
+    pub notes: Vec<Note>,
+}
+
+impl ContentHash for Review {
+    ghost use Rattle.std.specs.Prelude.{OnOk, OnErr};
+    ghost use Rattle.jj_content.specs.Content.{Takes, TakesFront, IsLawful};
+    ghost use Rattle.jj_content_tests.specs.Reviews.{review_content, IsReview};
+    ghost use Rattle.jj_content_tests.specs.ReviewLaw.{review_lawful};
+
+    ghost is_value = { IsReview };
+
+    ghost content = { review_content };
+
+    ghost lawful = { review_lawful };
+
+    fn hash<D: DigestUpdate>(&self, alloc: Global, state: &mut D) -> Result<(), AllocError> {
+        hash_both(alloc, &self.summary, &self.notes, state)
+    }
+}
+
 /// One number.
 #[derive(Debug, PartialEq, Eq, Clone, Copy)]
 pub struct Single(pub i32);
