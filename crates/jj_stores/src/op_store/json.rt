@@ -1,40 +1,36 @@
 //! JSON values of times and of operations.
-ghost use Rattle.std.specs.Prelude.{⊤};
+ghost use Rattle.std.specs.Prelude.{◌≡◌, OnOk, IfOk, string_bytes};
+ghost use Rattle.serde_json.specs.View.{view, members_view};
+ghost use Rattle.jj_backend.specs.Json.{ids_json};
 ghost use Rattle.jj_content.specs.Json.{IsAnswer};
+ghost use Rattle.jj_stores.specs.Json.{IsMetadataJson, IsOperationJson, IsRangeJson, attributes_json, metadata_members, range_json, with_strings, workspace_json};
 ghost use Rattle.jj_stores.specs.Operations.{HasDates};
 
 use super::{Operation, OperationId, OperationMetadata, TimestampRange};
 use jj_content::content_hash::{ToJson, ToJsonError};
 use jj_ids::object_id::ObjectId;
 use jj_ids::ref_name::WorkspaceNameBuf;
-use serde_json::Value;
+use serde_json::{Map, Value, json, put};
 use std::alloc::{AllocError, Global};
 use std::collections::BTreeMap;
 
-// Adds a member to an object.
-fn put(
-    alloc: Global,
-    object: &mut BTreeMap<String, Value>,
-    name: &str,
-    value: Value,
-) -> Result<(), AllocError> {
-    object.insert(String::from_str(alloc, name)?, value)?;
-    Ok(())
+// The object of the values of a start and an end.
+fn range_object(alloc: Global, start: Value, end: Value) -> Result<Value, AllocError>
+    ensures { IfOk result (λ object. view object ≡ range_json (view start) (view end)) }
+{
+    json!(in alloc; {"start": start, "end": end})
 }
 
 /// A range is an object of its start and its end.
 impl ToJson for TimestampRange {
     ghost is_in_range = { HasDates };
 
-    ghost is_json = { λ _ _. ⊤ };
+    ghost is_json = { λ _ value. IsRangeJson value };
 
     fn to_json(&self, alloc: Global) -> Result<Value, ToJsonError> {
         let start = self.start.to_json(alloc)?;
         let end = self.end.to_json(alloc)?;
-        let mut object = BTreeMap::new(alloc);
-        put(alloc, &mut object, "start", start)?;
-        put(alloc, &mut object, "end", end)?;
-        Ok(Value::Object(object))
+        Ok(range_object(alloc, start, end)?)
     }
 }
 
@@ -42,21 +38,25 @@ impl ToJson for TimestampRange {
 fn attributes_json(
     alloc: Global,
     attributes: &BTreeMap<String, String>,
-) -> Result<Value, AllocError> {
-    let mut object = BTreeMap::new(alloc);
+) -> Result<Value, AllocError>
+    ensures { IfOk result (λ value. view value ≡ attributes_json attributes.now.entries) }
+{
+    let mut members = Map::new(alloc);
     for (name, value) in attributes {
         put(
+            &mut members,
             alloc,
-            &mut object,
             name.as_str(),
             Value::String(value.clone()?),
         )?;
     }
-    Ok(Value::Object(object))
+    Ok(Value::Object(members))
 }
 
 // The name of a workspace, or null.
-fn workspace_json(alloc: Global, name: &Option<WorkspaceNameBuf>) -> Result<Value, AllocError> {
+fn workspace_json(alloc: Global, name: &Option<WorkspaceNameBuf>) -> Result<Value, AllocError>
+    ensures { IfOk result (λ value. view value ≡ workspace_json name.now) }
+{
     match name {
         Some(name) => Ok(Value::String(String::from_str(alloc, name.as_name().as_str())?)),
         None => Ok(Value::Null),
@@ -64,69 +64,77 @@ fn workspace_json(alloc: Global, name: &Option<WorkspaceNameBuf>) -> Result<Valu
 }
 
 // Adds the members that tell who did an operation, and what.
-fn put_texts(
+fn put_strings(
     alloc: Global,
-    object: &mut BTreeMap<String, Value>,
+    members: &mut Map<String, Value>,
     metadata: &OperationMetadata,
-) -> Result<(), AllocError> {
+) -> Result<(), AllocError>
+    ensures { OnOk result (members_view members.new.entries
+        ≡ with_strings metadata.now (members_view members.old.entries)) }
+{
     let description = Value::String(metadata.description.clone()?);
-    put(alloc, object, "description", description)?;
+    put(members, alloc, "description", description)?;
     let hostname = Value::String(metadata.hostname.clone()?);
-    put(alloc, object, "hostname", hostname)?;
+    put(members, alloc, "hostname", hostname)?;
     let username = Value::String(metadata.username.clone()?);
-    put(alloc, object, "username", username)
+    put(members, alloc, "username", username)
 }
 
-// The object of what is known of how an operation was done.
-fn metadata_object(
+// The members that tell how an operation was done, at a time of this value.
+fn metadata_members(
     alloc: Global,
     metadata: &OperationMetadata,
     time: Value,
-) -> Result<BTreeMap<String, Value>, AllocError> {
-    let mut object = BTreeMap::new(alloc);
-    put(alloc, &mut object, "time", time)?;
-    put_texts(alloc, &mut object, metadata)?;
+) -> Result<Map<String, Value>, AllocError>
+    ensures { IfOk result (λ members. members_view members.entries
+        ≡ metadata_members metadata.now (view time)) }
+{
+    let mut members = Map::new(alloc);
+    put(&mut members, alloc, "time", time)?;
+    put_strings(alloc, &mut members, metadata)?;
     let is_snapshot = Value::Bool(metadata.is_snapshot);
-    put(alloc, &mut object, "is_snapshot", is_snapshot)?;
+    put(&mut members, alloc, "is_snapshot", is_snapshot)?;
     let workspace_name = workspace_json(alloc, &metadata.workspace_name)?;
-    put(alloc, &mut object, "workspace_name", workspace_name)?;
+    put(&mut members, alloc, "workspace_name", workspace_name)?;
     let attributes = attributes_json(alloc, &metadata.attributes)?;
-    put(alloc, &mut object, "attributes", attributes)?;
-    Ok(object)
+    put(&mut members, alloc, "attributes", attributes)?;
+    Ok(members)
 }
 
 /// All that is known of how an operation was done is an object; no name of a workspace is null.
 impl ToJson for OperationMetadata {
     ghost is_in_range = { λ m. HasDates m.time };
 
-    ghost is_json = { λ _ _. ⊤ };
+    ghost is_json = { IsMetadataJson };
 
     fn to_json(&self, alloc: Global) -> Result<Value, ToJsonError> {
         let time = self.time.to_json(alloc)?;
-        Ok(Value::Object(metadata_object(alloc, self, time)?))
+        Ok(Value::Object(metadata_members(alloc, self, time)?))
     }
 }
 
-// The array of the ids' hex texts.
-fn parents_json(alloc: Global, parents: &[OperationId]) -> Result<Value, AllocError> {
-    let mut texts = Vec::with_capacity(alloc, parents.len())?;
+// The array of the ids' hexadecimal strings.
+fn parents_json(alloc: Global, parents: &[OperationId]) -> Result<Value, AllocError>
+    ensures { IfOk result (λ value. view value ≡ ids_json parents.now) }
+{
+    let mut strings = Vec::with_capacity(alloc, parents.len())?;
     for parent in parents {
-        texts.push(Value::String(parent.hex(alloc)?))?;
+        strings.push(Value::String(parent.hex(alloc)?))?;
     }
-    Ok(Value::Array(texts))
+    Ok(Value::Array(strings))
 }
 
 /// An operation is an object of its parents and of what is known of how it was done.
 impl ToJson for Operation {
     ghost is_in_range = { λ o. HasDates o.metadata.time };
 
-    ghost is_json = { λ _ _. ⊤ };
+    ghost is_json = { IsOperationJson };
 
     fn to_json(&self, alloc: Global) -> Result<Value, ToJsonError> {
         let time = self.metadata.time.to_json(alloc)?;
-        let mut object = metadata_object(alloc, &self.metadata, time)?;
+        let mut members = metadata_members(alloc, &self.metadata, time)?;
         let parents = parents_json(alloc, self.parents.as_slice())?;
-        put(alloc, &mut object, "parents", parents)?;
-        Ok(Value::Object(object))
+        put(&mut members, alloc, "parents", parents)?;
+        Ok(Value::Object(members))
     }
 }
