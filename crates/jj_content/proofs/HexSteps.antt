@@ -1,12 +1,12 @@
 -- A text read two digits at a time: a bad digit, one more pair, and a last digit that stands alone.
-use Rattle.std.proofs.Common.{◌≡◌, ℕ, ◌+◌, ◌*◌, ◌/◌, ◌%◌, ◌<◌, ◌≤◌, List, [], ◌∷◌, ◌++◌, length, get_or, take, drop, Some, None, refl, sym, ap, ◌∙◌, arith, suc, zero}
+use Rattle.std.proofs.Common.{◌≡◌, ℕ, ◌+◌, ◌*◌, ◌/◌, ◌%◌, ◌<◌, ◌≤◌, List, [], ◌∷◌, ◌++◌, length, get_or, take, drop, Some, None, true, false, refl, sym, ap, ◌∙◌, arith, suc, zero}
 use Rattle.std.specs.Simd.{first_chunks}
 use Rattle.std.proofs.lemmas.List.{append-nil, append_assoc, drop-drop, get_or-take, get_or-drop, get_or_append_left, length-append, take_more, take_all}
-use Rattle.jj_content.specs.Hex.{ReadsAs, ReadsAsNothing, padded_text, digit_value}
+use Rattle.jj_content.specs.Hex.{ReadsAs, padded_text, digit_value, is_hex_text}
 use Rattle.jj_content.specs.HexKinds.{digits_of}
 use Rattle.jj_content.specs.declared.hex_util.Digits.{Digits}
 use Rattle.jj_content.specs.declared.hex_util.Digits.TheVariants.{Forward, Reverse}
-use Rattle.jj_content.proofs.HexTexts.{AreDigits, are_hex_digits, are_reverse_hex_digits, ReadsAs-push, ReadsAs-digit}
+use Rattle.jj_content.proofs.HexTexts.{AreDigits, are_hex_digits, are_reverse_hex_digits, all_digits, no_digit, ReadsAs-push, ReadsAs-digit}
 
 pub are_digits : (digits : Digits) → AreDigits (digits_of digits)
 are_digits Forward = are_hex_digits
@@ -26,17 +26,17 @@ pub chunk_digit : (text : List ℕ) (chunks : List (List ℕ)) (i : ℕ) (d : Li
 chunk_digit text chunks i d j is h k =
     ap (λ c. get_or (get_or c i d) j 0) is ∙ ap (λ c. get_or c j 0) (chunk_at (length text / 2) text i d h) ∙ get_or-take 2 (drop (2 * i) text) j 0 k ∙ get_or-drop (2 * i) text j 0
 
--- a text with a bad digit reads as nothing, evened too
-pub bad_digit : (digits text : List ℕ) (k : ℕ) → AreDigits digits → k < length text → digit_value digits (get_or text k 0) ≡ None → ReadsAsNothing digits (padded_text digits text)
-bad_digit digits text k are within none bytes reads =
+-- a text that reads as bytes once it is padded is hex
+pub padded-is_hex : (digits text bytes : List ℕ) → AreDigits digits → ReadsAs digits (padded_text digits text) bytes → is_hex_text digits text ≡ true
+padded-is_hex digits text bytes are reads = all_digits digits text (λ k within none.
     let whole = padded_text digits text in
     let longer : k < length whole = omega (arith, length-append {A = ℕ}) in
-    ReadsAs-digit digits whole bytes k are reads longer (ap (digit_value digits) (get_or_append_left text _ 0 k within) ∙ none)
+    ReadsAs-digit digits whole bytes k are reads longer (ap (digit_value digits) (get_or_append_left text _ 0 k within) ∙ none))
 
-pub bad_chunk : (digits text : List ℕ) (chunks : List (List ℕ)) (i : ℕ) (d : List ℕ) (j : ℕ) → AreDigits digits → chunks ≡ first_chunks 2 (length text / 2) text → i < length text / 2 → j < 2
-    → None ≡ digit_value digits (get_or (get_or chunks i d) j 0) → ReadsAsNothing digits (padded_text digits text)
-bad_chunk digits text chunks i d j are is h k none =
-    bad_digit digits text (2 * i + j) are (omega arith) (sym (ap (digit_value digits) (chunk_digit text chunks i d j is h k)) ∙ sym none)
+pub bad_chunk : (digits text : List ℕ) (chunks : List (List ℕ)) (i : ℕ) (d : List ℕ) (j : ℕ) → chunks ≡ first_chunks 2 (length text / 2) text → i < length text / 2 → j < 2
+    → None ≡ digit_value digits (get_or (get_or chunks i d) j 0) → is_hex_text digits text ≡ false
+bad_chunk digits text chunks i d j is h k none =
+    no_digit digits text (2 * i + j) (omega arith) (sym (ap (digit_value digits) (chunk_digit text chunks i d j is h k)) ∙ sym none)
 
 take_two : (text : List ℕ) (i : ℕ) → 2 * i + 1 < length text → take (2 * (i + 1)) text ≡ take (2 * i) text ++ get_or text (2 * i) 0 ∷ get_or text (2 * i + 1) 0 ∷ []
 take_two text i h =
@@ -60,6 +60,12 @@ next_pair digits text chunks bytes new i d e high low byte are is h reads is_hig
 pub evened_even : (digits text : List ℕ) → length text % 2 ≡ 0 → padded_text digits text ≡ text
 evened_even digits text e = rw e (append-nil text)
 
+-- where no digit is left after the pairs
+pub whole_pairs : (digits text bytes : List ℕ) (n : ℕ) → n ≡ length text / 2 → length text % 2 ≡ 0 → ReadsAs digits (take (2 * n) text) bytes → ReadsAs digits (padded_text digits text) bytes
+whole_pairs digits text bytes n is even reads =
+    let whole : take (2 * n) text ≡ text = take_all (2 * n) text (omega arith) in
+    rw (evened_even digits text even) (rw whole at reads)
+
 evened_odd : (digits text : List ℕ) (n : ℕ) → length text % 2 ≡ 1 → n ≡ length text / 2 → padded_text digits text ≡ take (2 * n) text ++ get_or text (2 * n) 0 ∷ get_or digits 0 0 ∷ []
 evened_odd digits text n odd is =
     let last = take_more text (2 * n) 0 (omega arith) in
@@ -74,10 +80,10 @@ last_at text rest is =
     let e : length text / 2 * 2 + 0 ≡ 2 * (length text / 2) = omega arith in
     ap (λ r. get_or r 0 0) is ∙ get_or-drop (length text / 2 * 2) text 0 0 ∙ ap (λ k. get_or text k 0) e
 
-pub bad_last : (digits text rest : List ℕ) → AreDigits digits → rest ≡ drop (length text / 2 * 2) text → length rest ≡ length text % 2 → 1 ≤ length rest → None ≡ digit_value digits (get_or rest 0 0)
-    → ReadsAsNothing digits (padded_text digits text)
-bad_last digits text rest are is size there none =
-    bad_digit digits text (2 * (length text / 2)) are (omega arith) (sym (ap (digit_value digits) (last_at text rest is)) ∙ sym none)
+pub bad_last : (digits text rest : List ℕ) → rest ≡ drop (length text / 2 * 2) text → length rest ≡ length text % 2 → 1 ≤ length rest → None ≡ digit_value digits (get_or rest 0 0)
+    → is_hex_text digits text ≡ false
+bad_last digits text rest is size there none =
+    no_digit digits text (2 * (length text / 2)) (omega arith) (sym (ap (digit_value digits) (last_at text rest is)) ∙ sym none)
 
 -- the last digit alone is the high one of one more byte
 pub last_digit : (digits text rest bytes new : List ℕ) (n high byte : ℕ) → AreDigits digits → rest ≡ drop (length text / 2 * 2) text → length rest ≡ length text % 2 → 1 ≤ length rest → n ≡ length text / 2

@@ -1,6 +1,6 @@
 -- Each digit stands at one place, so a text that reads as bytes has a digit at each place and reads as no others.
 use Rattle.std.proofs.Common.{◌≡◌, ℕ, ◌+◌, ◌*◌, ◌/◌, ◌%◌, ◌<◌, ◌≤◌, List, [], ◌∷◌, ◌++◌, length, get_or, take, drop, All, Option, Some, None, true, false, eqb, refl, sym, ap, ◌∙◌, arith, lit<, lit≤, suc, zero, map, min, inl, inr, ◌≢◌}
-use Rattle.std.specs.Prelude.{position}
+use Rattle.std.specs.Prelude.{position, ◌&&◌}
 use Rattle.std.specs.Str.{str_to_ascii_lowercase, IsAscii}
 use Rattle.std.proofs.lemmas.Str.Ascii.{IsAscii-nil, IsAscii-cons, IsAscii-from_reads}
 use Rattle.std.specs.Char.{to_ascii_lowercase}
@@ -12,7 +12,7 @@ use Rattle.std.proofs.lemmas.List.Elements.{All-nil, All-push, All-head, All-tai
 use Rattle.std.proofs.lemmas.Bool.{eqb-true, eq-eqb, cases_lt, and_parts}
 use Rattle.std.proofs.lemmas.Bool.Decides.{eqb_tells}
 use Rattle.std.proofs.lemmas.List.Quantifiers.{position-Some}
-use Rattle.jj_content.specs.Hex.{IsByte, hex_digits, reverse_hex_digits, digit_pair, text_with, ReadsAs, ReadsAsNothing, digit_value, common_length, is_text_of}
+use Rattle.jj_content.specs.Hex.{IsByte, hex_digits, reverse_hex_digits, digit_pair, text_with, ReadsAs, digit_value, common_length, is_hex_text, is_text_of}
 
 -- sixteen lower-case digits, each at one place
 pub record AreDigits (digits : List ℕ) : Type 0 where
@@ -184,7 +184,7 @@ common_length-front digits (a ∷ xs) (b ∷ ys) (suc i) x y same =
     let pair = common_pair (get_or digits (b / 16) 0) (get_or digits (b % 16) 0) (text_with digits xs) (text_with digits ys) in
     rw (heads, text_with-cons digits b xs, text_with-cons digits b ys) (pair ∙ omega arith)
 
-eqb_differ : (a b : ℕ) → a ≢ b → eqb a b ≡ false
+pub eqb_differ : (a b : ℕ) → a ≢ b → eqb a b ≡ false
 eqb_differ a b differ = elim (eqb_tells a b) [ inl same ↦ absurd (differ same.1) | inr other ↦ other.0 ]
 
 pub digits-injective : (digits : List ℕ) (m n : ℕ) → AreDigits digits → m < 16 → n < 16 → get_or digits m 0 ≡ get_or digits n 0 → m ≡ n
@@ -261,13 +261,32 @@ bytes_of_text digits (a ∷ b ∷ text) are even all =
     let rest = bytes_of_text digits text are (omega arith) second.1 in
     ((high.0 * 16 + low.0) ∷ rest.0, ReadsAs-cons digits text rest.0 a b high.0 low.0 are rest.1 high.1 low.1)
 
--- so it does not read as nothing
-pub text_of_reads : (digits text : List ℕ) → AreDigits digits → is_text_of digits text ≡ true → ReadsAsNothing digits text → ⊥
-text_of_reads digits text are is none =
-    let parts = and_parts (eqb (length text % 2) 0) _ is in
-    let even = eqb-true (length text % 2) 0 parts.0 in
-    let found = bytes_of_text digits text are even parts.1 in
-    none found.0 found.1
+some_digit : (o : Option ℕ) → (o ≡ None → ⊥) → is_some o ≡ true
+some_digit None some = absurd (some refl)
+some_digit (Some v) some = refl
+
+-- a text whose characters all have a value is hex
+pub all_digits : (digits text : List ℕ) → ((k : ℕ) → k < length text → digit_value digits (get_or text k 0) ≡ None → ⊥) → is_hex_text digits text ≡ true
+all_digits digits [] some = refl
+all_digits digits (c ∷ text) some =
+    let first : is_some (digit_value digits c) ≡ true = some_digit (digit_value digits c) (some 0 (omega arith)) in
+    let rest : is_hex_text digits text ≡ true = all_digits digits text (λ k h. some (suc k) (omega arith)) in
+    rw (first, rest) refl
+
+-- a text with a character that has no value is not
+pub no_digit : (digits text : List ℕ) (k : ℕ) → k < length text → digit_value digits (get_or text k 0) ≡ None → is_hex_text digits text ≡ false
+no_digit digits [] k within none = absurd (omega arith)
+no_digit digits (c ∷ text) zero within none = rw none refl
+no_digit digits (c ∷ text) (suc k) within none =
+    let rest : is_hex_text digits text ≡ false = no_digit digits text k (omega arith) none in
+    elim (digit_value digits c) as (λ o. (is_some o && is_hex_text digits text) ≡ false) [ Some v ↦ rest | None ↦ refl ]
+
+-- a text that reads as bytes is a hex text of whole bytes
+pub ReadsAs-is_text : (digits text bytes : List ℕ) → AreDigits digits → ReadsAs digits text bytes → is_text_of digits text ≡ true
+ReadsAs-is_text digits text bytes are reads =
+    let even = eq-eqb (length text % 2) 0 (omega (arith, ReadsAs-length digits text bytes reads)) in
+    let all = all_digits digits text (λ k h none. ReadsAs-digit digits text bytes k are reads h none) in
+    rw (even, all) refl
 
 -- the front of a text of bytes: whole bytes, or half a byte more
 pub take-text_with : (digits xs : List ℕ) (n : ℕ) → take (2 * n) (text_with digits xs) ≡ text_with digits (take n xs)

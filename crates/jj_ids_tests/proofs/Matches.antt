@@ -7,32 +7,32 @@ use Rattle.jj_ids.specs.declared.object_id.prefix_resolution.PrefixResolution.{P
 use Rattle.jj_ids.specs.declared.object_id.prefix_resolution.PrefixResolution.TheVariants.{NoMatch, SingleMatch, AmbiguousMatch}
 use Rattle.jj_ids_tests.specs.Lookups.{BeginsWith, StandsFor}
 
-module _ (ids : List (List ℕ)) (prefix id : List ℕ) where
+module _ (shows : List ℕ → List ℕ) (ids : List (List ℕ)) (prefix id : List ℕ) where
   -- an id that does not begin with the prefix changes nothing
-  pub passed : (found : PrefixResolution (Bor (List ℕ))) → StandsFor ids prefix found → (BeginsWith id prefix → ⊥) → StandsFor (ids ++ id ∷ []) prefix found
+  pub passed : (found : PrefixResolution (Bor (List ℕ))) → StandsFor shows ids prefix found → (BeginsWith shows id prefix → ⊥) → StandsFor shows (ids ++ id ∷ []) prefix found
   passed NoMatch none other = λ it among begins.
-      elim (Contains-push_cases ids id it among) [ inl before ↦ none it before begins | inr same ↦ other (subst (λ i. BeginsWith i prefix) (sym same) begins) ]
+      elim (Contains-push_cases ids id it among) [ inl before ↦ none it before begins | inr same ↦ other (subst (λ i. BeginsWith shows i prefix) (sym same) begins) ]
   passed (SingleMatch only) (there, begins, alone) other = (
     Contains-append_left ids (id ∷ []) only.now there,
     begins,
     λ it among starts.
-        elim (Contains-push_cases ids id it among) [ inl before ↦ alone it before starts | inr same ↦ absurd (other (subst (λ i. BeginsWith i prefix) (sym same) starts)) ],
+        elim (Contains-push_cases ids id it among) [ inl before ↦ alone it before starts | inr same ↦ absurd (other (subst (λ i. BeginsWith shows i prefix) (sym same) starts)) ],
   )
   passed AmbiguousMatch (first, second, among1, begins1, among2, begins2, differ) other =
       (first, second, Contains-append_left ids (id ∷ []) first among1, begins1, Contains-append_left ids (id ∷ []) second among2, begins2, differ)
 
-  module _ (begins : BeginsWith id prefix) where
+  module _ (begins : BeginsWith shows id prefix) where
     -- the first that does is the only one
-    pub first_match : (found : Bor (List ℕ)) → found.now ≡ id → StandsFor ids prefix NoMatch → StandsFor (ids ++ id ∷ []) prefix (SingleMatch found)
+    pub first_match : (found : Bor (List ℕ)) → found.now ≡ id → StandsFor shows ids prefix NoMatch → StandsFor shows (ids ++ id ∷ []) prefix (SingleMatch found)
     first_match found is none = (
       subst (Contains (ids ++ id ∷ [])) (sym is) (Contains-push ids id),
-      subst (λ i. BeginsWith i prefix) (sym is) begins,
+      subst (λ i. BeginsWith shows i prefix) (sym is) begins,
       λ it among starts.
           elim (Contains-push_cases ids id it among) [ inl before ↦ absurd (none it before starts) | inr same ↦ sym same ∙ sym is ],
     )
 
     -- the same one once more is still the only one
-    pub same_match : (only : Bor (List ℕ)) → only.now ≡ id → StandsFor ids prefix (SingleMatch only) → StandsFor (ids ++ id ∷ []) prefix (SingleMatch only)
+    pub same_match : (only : Bor (List ℕ)) → only.now ≡ id → StandsFor shows ids prefix (SingleMatch only) → StandsFor shows (ids ++ id ∷ []) prefix (SingleMatch only)
     same_match only is (there, starts, alone) = (
       Contains-append_left ids (id ∷ []) only.now there,
       starts,
@@ -41,20 +41,20 @@ module _ (ids : List (List ℕ)) (prefix id : List ℕ) where
     )
 
     -- another one makes two
-    pub second_match : (only : Bor (List ℕ)) → only.now ≢ id → StandsFor ids prefix (SingleMatch only) → StandsFor (ids ++ id ∷ []) prefix AmbiguousMatch
+    pub second_match : (only : Bor (List ℕ)) → only.now ≢ id → StandsFor shows ids prefix (SingleMatch only) → StandsFor shows (ids ++ id ∷ []) prefix AmbiguousMatch
     second_match only differ (there, starts, alone) =
         (only.now, id, Contains-append_left ids (id ∷ []) only.now there, starts, Contains-push ids id, begins, differ)
 
-    pub more_matches : StandsFor ids prefix AmbiguousMatch → StandsFor (ids ++ id ∷ []) prefix AmbiguousMatch
+    pub more_matches : StandsFor shows ids prefix AmbiguousMatch → StandsFor shows (ids ++ id ∷ []) prefix AmbiguousMatch
     more_matches (first, second, among1, begins1, among2, begins2, differ) =
         (first, second, Contains-append_left ids (id ∷ []) first among1, begins1, Contains-append_left ids (id ∷ []) second among2, begins2, differ)
 
 -- what stands for the ids before a place and the one there stands for those before the next place
-pub next_id : (ids : List (List ℕ)) (i : ℕ) (id prefix : List ℕ) (found : PrefixResolution (Bor (List ℕ))) → i < length ids → id ≡ get_or ids i id
-    → StandsFor (take i ids ++ id ∷ []) prefix found → StandsFor (take (i + 1) ids) prefix found
-next_id ids i id prefix found within is so_far =
-    subst (λ l. StandsFor l prefix found) (ap (λ x. take i ids ++ x ∷ []) is ∙ sym (take_more ids i id within)) so_far
+pub next_id : (shows : List ℕ → List ℕ) (ids : List (List ℕ)) (i : ℕ) (id prefix : List ℕ) (found : PrefixResolution (Bor (List ℕ))) → i < length ids → id ≡ get_or ids i id
+    → StandsFor shows (take i ids ++ id ∷ []) prefix found → StandsFor shows (take (i + 1) ids) prefix found
+next_id shows ids i id prefix found within is so_far =
+    subst (λ l. StandsFor shows l prefix found) (ap (λ x. take i ids ++ x ∷ []) is ∙ sym (take_more ids i id within)) so_far
 
 -- no id is left
-pub all_ids : (ids : List (List ℕ)) (n : ℕ) (prefix : List ℕ) (found : PrefixResolution (Bor (List ℕ))) → length ids ≤ n → StandsFor (take n ids) prefix found → StandsFor ids prefix found
-all_ids ids n prefix found all so_far = subst (λ l. StandsFor l prefix found) (take_all n ids all) so_far
+pub all_ids : (shows : List ℕ → List ℕ) (ids : List (List ℕ)) (n : ℕ) (prefix : List ℕ) (found : PrefixResolution (Bor (List ℕ))) → length ids ≤ n → StandsFor shows (take n ids) prefix found → StandsFor shows ids prefix found
+all_ids shows ids n prefix found all so_far = subst (λ l. StandsFor shows l prefix found) (take_all n ids all) so_far

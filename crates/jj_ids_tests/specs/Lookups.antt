@@ -1,21 +1,23 @@
--- What a prefix stands for among ids, in the words of their hex texts.
+-- What a prefix stands for among ids, in the words of the texts that show them.
 -- Cited by contracts of public items: StandsFor.
 use Rattle.std.specs.Prelude.{◌≡◌, ◌≢◌, ℕ, List, IsTrue, Contains, nat_eq}
 use Rattle.std.specs.Borrow.{Bor}
 use Rattle.std.specs.List.{starts_with}
-use Rattle.jj_content.specs.Hex.{hex}
 use Rattle.jj_ids.specs.declared.object_id.prefix_resolution.PrefixResolution.{PrefixResolution}
 use Rattle.jj_ids.specs.declared.object_id.prefix_resolution.PrefixResolution.TheVariants.{NoMatch, SingleMatch, AmbiguousMatch}
 
--- the hex text of the id begins with this text
-abbrev pub BeginsWith : List ℕ → List ℕ → Type 0
-BeginsWith id prefix = IsTrue (starts_with nat_eq (hex id) prefix)
+-- the text that shows the id begins with this text
+abbrev pub BeginsWith : (List ℕ → List ℕ) → List ℕ → List ℕ → Type 0
+BeginsWith shows id prefix = IsTrue (starts_with nat_eq (shows id) prefix)
 
 -- no id begins with the prefix; or this one does, and no other; or two different ones do
-abbrev pub StandsFor : List (List ℕ) → List ℕ → PrefixResolution (Bor (List ℕ)) → Type 0
-StandsFor ids prefix NoMatch = (id : List ℕ) → Contains ids id → ¬ BeginsWith id prefix
-StandsFor ids prefix (SingleMatch only) = Contains ids only.now × BeginsWith only.now prefix
-    × ((id : List ℕ) → Contains ids id → BeginsWith id prefix → id ≡ only.now)
-StandsFor ids prefix AmbiguousMatch = (first second : List ℕ)
-    × Contains ids first × BeginsWith first prefix
-    × Contains ids second × BeginsWith second prefix × (first ≢ second)
+abbrev pub StandsFor : (List ℕ → List ℕ) → List (List ℕ) → List ℕ
+    → PrefixResolution (Bor (List ℕ)) → Type 0
+StandsFor shows ids prefix NoMatch = (id : List ℕ) → Contains ids id
+    → ¬ BeginsWith shows id prefix
+StandsFor shows ids prefix (SingleMatch only) = Contains ids only.now
+    × BeginsWith shows only.now prefix
+    × ((id : List ℕ) → Contains ids id → BeginsWith shows id prefix → id ≡ only.now)
+StandsFor shows ids prefix AmbiguousMatch = (first second : List ℕ)
+    × Contains ids first × BeginsWith shows first prefix
+    × Contains ids second × BeginsWith shows second prefix × (first ≢ second)

@@ -1,11 +1,11 @@
 -- What lines of texts digest: the content of borrowed texts is that of their bytes.
-use Rattle.std.proofs.Common.{◌≡◌, ◌∙◌, ℕ, ◌-◌, ◌%◌, ◌<◌, ◌≤◌, ◌==◌, List, [], ◌∷◌, ◌++◌, length, take, drop, get_or, Ok, Err, true, cond, sym, ap, arith}
+use Rattle.std.proofs.Common.{◌≡◌, ◌∙◌, ℕ, ◌-◌, ◌%◌, ◌<◌, ◌≤◌, ◌==◌, List, [], ◌∷◌, ◌++◌, length, take, drop, get_or, Ok, Err, true, false, cond, sym, ap, arith}
 use Rattle.std.specs.Prelude.{flat_map, codes}
 use Rattle.std.proofs.lemmas.List.Folds.{flat_map-map}
 use Rattle.std.proofs.Math.ListN.{length-map}
 use Rattle.std.proofs.lemmas.List.{take_all}
 use Rattle.jj_content.specs.Content.{text_content, list_content, u64_content}
-use Rattle.jj_content.specs.Hex.{hex_digits, ReadsAs, ReadsAsNothing}
+use Rattle.jj_content.specs.Hex.{hex_digits, ReadsAs, is_text_of}
 use Rattle.jj_program.specs.declared.fault.LineFault.TheVariants.{BadHex, BadFieldCount}
 use Rattle.jj_program.specs.Texts.{Text, texts_of}
 use Rattle.jj_program.specs.HashCommand.{raw_bytes, content_of_merge, named_bytes, or_bad_hex}
@@ -23,7 +23,7 @@ raw_of_one [] d text bytes some one is reads = absurd (omega arith)
 raw_of_one (field ∷ []) d text bytes some one is reads = ap or_bad_hex (found_bytes field.now bytes (rw is at reads))
 raw_of_one (field ∷ other ∷ fields) d text bytes some one is reads = absurd (omega arith)
 
-pub raw_of_other : (fields : List Text) (d : Text) (text : List ℕ) → 1 ≤ length fields → length fields < 2 → text ≡ (get_or fields 0 d).now → ReadsAsNothing hex_digits text
+pub raw_of_other : (fields : List Text) (d : Text) (text : List ℕ) → 1 ≤ length fields → length fields < 2 → text ≡ (get_or fields 0 d).now → is_text_of hex_digits text ≡ false
     → raw_bytes (texts_of fields) ≡ Err BadHex
 raw_of_other [] d text some one is none = absurd (omega arith)
 raw_of_other (field ∷ []) d text some one is none = ap or_bad_hex (found_nothing field.now (rw is at none))

@@ -1,11 +1,11 @@
 -- A hex text has one reading: its bytes are those that a decoder finds.
-use Rattle.std.proofs.Common.{◌≡◌, ◌∙◌, ℕ, ◌+◌, ◌*◌, ◌/◌, ◌%◌, ◌<◌, List, [], ◌∷◌, get_or, Option, Some, None, refl, sym, subst, arith}
+use Rattle.std.proofs.Common.{◌≡◌, ◌∙◌, ℕ, ◌+◌, ◌*◌, ◌/◌, ◌%◌, ◌<◌, List, [], ◌∷◌, get_or, Option, Some, None, refl, sym, subst, arith, true≢false}
 use Rattle.std.specs.Str.{str_to_ascii_lowercase}
 use Rattle.std.specs.Char.{to_ascii_lowercase}
 use Rattle.std.proofs.lemmas.List.Elements.{All-head, All-tail}
 use Rattle.std.proofs.lemmas.Option.{none-some, same_Some}
-use Rattle.jj_content.specs.Hex.{IsByte, hex_digits, digit_value, text_with, ReadsAs, ReadsAsNothing}
-use Rattle.jj_content.proofs.HexTexts.{are_hex_digits, digit_value-same, text_with-cons, ReadsAs-nil, ReadsAs-cons, ReadsAs-length}
+use Rattle.jj_content.specs.Hex.{IsByte, hex_digits, digit_value, text_with, ReadsAs, is_text_of}
+use Rattle.jj_content.proofs.HexTexts.{are_hex_digits, digit_value-same, text_with-cons, ReadsAs-nil, ReadsAs-cons, ReadsAs-length, ReadsAs-is_text}
 use Rattle.jj_program.specs.HashCommand.{bytes_of_hex, with_byte}
 
 abbrev Reads : List ℕ → List ℕ → Type 0
@@ -51,10 +51,10 @@ found_reads (a ∷ b ∷ text) bytes found = by_digits (found_reads text) (digit
     by_digits further (Some high) None rest h l r is = absurd (none-some _ is)
     by_digits further None low rest h l r is = absurd (none-some _ is)
 
--- where the text reads as nothing, no bytes are found
-pub found_nothing : (text : List ℕ) → ReadsAsNothing hex_digits text → bytes_of_hex text ≡ None
+-- where the text is no hex text of whole bytes, no bytes are found
+pub found_nothing : (text : List ℕ) → is_text_of hex_digits text ≡ false → bytes_of_hex text ≡ None
 found_nothing text none = by_found (bytes_of_hex text) refl
   where
     by_found : (found : Option (List ℕ)) → bytes_of_hex text ≡ found → bytes_of_hex text ≡ None
     by_found None is = is
-    by_found (Some bytes) is = absurd (none bytes (found_reads text bytes is))
+    by_found (Some bytes) is = absurd (true≢false (sym (ReadsAs-is_text hex_digits text bytes are_hex_digits (found_reads text bytes is)) ∙ none))

@@ -1,20 +1,25 @@
-//! Ids that are looked up by a beginning of their hex text.
-ghost use Rattle.std.specs.Prelude.{◌++◌, ◌∷◌, [], ℕ, List, IfOk, MatchOption};
+//! Ids that are looked up by a prefix of their hex text, or of their reversed hex text.
+ghost use Rattle.std.specs.Prelude.{◌≡◌, ◌++◌, ◌∷◌, [], ℕ, List, IfOk, MatchOption, codes, false};
 ghost use Rattle.std.specs.Str.{str_to_ascii_lowercase};
-ghost use Rattle.jj_content.specs.Hex.{hex_digits, padded_text, ReadsAsNothing};
+ghost use Rattle.std.specs.String.{string_bytes};
+ghost use Rattle.jj_content.specs.Hex.{hex, reverse_hex, hex_digits, reverse_hex_digits, is_hex_text};
+ghost use Rattle.jj_ids.specs.Prefix.{reversed_text};
 ghost use Rattle.jj_ids_tests.specs.Lookups.{StandsFor};
 
-use jj_ids::object_id::{CommitId, HexPrefix, PrefixResolution};
+use jj_ids::object_id::{ChangeId, CommitId, HexPrefix, Id, IdKind, PrefixResolution};
 use std::alloc::{AllocError, Global};
 
 // What a prefix stands for among ids of which this is one more.
-fn with_id<'a>(
-    found: PrefixResolution<&'a CommitId>,
-    id: &'a CommitId,
+fn with_id<'a, K: IdKind>(
+    found: PrefixResolution<&'a Id<K>>,
+    id: &'a Id<K>,
     prefix: &HexPrefix,
-) -> PrefixResolution<&'a CommitId>
-    ensures { (ids : List (List ℕ)) → StandsFor ids prefix.now found.entry
-        → StandsFor (ids ++ id.now ∷ []) prefix.now result }
+) -> PrefixResolution<&'a Id<K>>
+    ensures hex { (ids : List (List ℕ)) → StandsFor hex ids prefix.now found.entry
+        → StandsFor hex (ids ++ id.now ∷ []) prefix.now result }
+    ensures reverse_hex { (ids : List (List ℕ))
+        → StandsFor reverse_hex ids (reversed_text prefix.now) found.entry
+        → StandsFor reverse_hex (ids ++ id.now ∷ []) (reversed_text prefix.now) result }
 {
     if !prefix.matches(id) {
         return found;
@@ -33,9 +38,10 @@ fn with_id<'a>(
 }
 
 /// What a prefix stands for among ids: the only one whose hex text begins with it, or none, or
-/// several.
-pub fn resolved<'a>(ids: &'a [CommitId], prefix: &HexPrefix) -> PrefixResolution<&'a CommitId>
-    ensures { StandsFor ids.now prefix.now result }
+/// several. The same id is the only one whose reversed hex text begins with the reversed prefix.
+pub fn resolved<'a, K: IdKind>(ids: &'a [Id<K>], prefix: &HexPrefix) -> PrefixResolution<&'a Id<K>>
+    ensures hex { StandsFor hex ids.now prefix.now result }
+    ensures reverse_hex { StandsFor reverse_hex ids.now (reversed_text prefix.now) result }
 {
     let mut found = PrefixResolution::NoMatch;
     for id in ids {
@@ -52,11 +58,39 @@ pub fn looked_up<'a>(
     text: &str,
 ) -> Result<Option<PrefixResolution<&'a CommitId>>, AllocError>
     ensures { IfOk result (λ found. MatchOption found
-        (ReadsAsNothing hex_digits (padded_text hex_digits text.now))
-        (StandsFor ids.now (str_to_ascii_lowercase text.now))) }
+        (is_hex_text hex_digits text.now ≡ false)
+        (StandsFor hex ids.now (str_to_ascii_lowercase text.now))) }
 {
     match HexPrefix::try_from_hex(alloc, text)? {
         None => Ok(None),
         Some(prefix) => Ok(Some(resolved(ids, &prefix))),
+    }
+}
+
+/// What a text, in upper or lower case, stands for among ids of changes: the only one whose
+/// reversed hex text begins with it, or none, or several. A text that is not reversed hex stands
+/// for nothing.
+pub fn looked_up_change<'a>(
+    alloc: Global,
+    ids: &'a [ChangeId],
+    text: &str,
+) -> Result<Option<PrefixResolution<&'a ChangeId>>, AllocError>
+    ensures { IfOk result (λ found. MatchOption found
+        (is_hex_text reverse_hex_digits text.now ≡ false)
+        (StandsFor reverse_hex ids.now (str_to_ascii_lowercase text.now))) }
+{
+    match HexPrefix::try_from_reverse_hex(alloc, text)? {
+        None => Ok(None),
+        Some(prefix) => Ok(Some(resolved(ids, &prefix))),
+    }
+}
+
+/// The hex text of the prefix that `mlp` stands for, which is `dea`.
+pub fn hex_of_mlp(alloc: Global) -> Result<Option<String>, AllocError>
+    ensures { IfOk result (λ hex. MatchOption hex ⊥ (λ text. string_bytes text ≡ codes "dea")) }
+{
+    match HexPrefix::try_from_reverse_hex(alloc, "mlp")? {
+        None => Ok(None),
+        Some(prefix) => Ok(Some(prefix.hex()?)),
     }
 }

@@ -1,6 +1,6 @@
-use Rattle.std.proofs.Common.{arith}
-use Rattle.jj_content.proofs.HexTexts.{ReadsAs-length}
+use Rattle.std.proofs.Common.{refl}
+use Rattle.jj_content.proofs.HexTexts.{eqb_differ}
 use Rattle.jj_content.proofs.hex_util.decode_hex_inner.Goals as goal
 
 pub returns-then-hex-ne0 : goal.returns-then-hex-ne0
-returns-then-hex-ne0 c = λ bytes reads. omega (arith, ReadsAs-length _ _ _ reads)
+returns-then-hex-ne0 c = rw (eqb_differ _ _ c.if-hex-ne0.true) refl

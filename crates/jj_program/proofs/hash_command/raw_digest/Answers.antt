@@ -13,6 +13,6 @@ returns-in_default-2 c =
 pub returns : goal.returns
 returns c =
     let reads = rw c.in-Some.is at c.in_ok-bytes.ensures in
-    let named = raw_of_one c.args.fields.now _ c.as_bytes.result.now c.in-Some.bytes.items c.in-len1.len_at_least c.in-len1.len_below c.as_bytes.ensures.value reads in
+    let named = raw_of_one c.args.fields.now _ c.as_bytes.result.now c.in-Some.bytes.items c.in-len1.len_at_least c.in-len1.len_below c.as_bytes.ensures.value reads.1 in
     let digest = c.finalize.ensures _ (c.update.ensures [] c.new-hasher.ensures) in
     ap digest_of named ∙ ap Ok (sym (digest ∙ ap blake2b c.deref.ensures.value))
