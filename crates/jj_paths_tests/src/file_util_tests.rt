@@ -2,7 +2,7 @@
 ghost use Rattle.std.specs.Prelude.{◌≤◌, length};
 
 use crate::fixtures::equals;
-use jj_files::file_util::{Watched, copy};
+use jj_files::file_util::{Sink, Watched, copy};
 use std::io;
 use std::io::{ErrorKind, Read, Write};
 use std::process::Abort;
@@ -140,4 +140,26 @@ fn a_writer_that_takes_nothing_has_failed(rt: HostRuntime) {
         Ok(_) => panic!(rt; "nothing was written"),
         Err(e) => equals(&rt, &e.kind(), &ErrorKind::WriteZero),
     }
+}
+
+// How a write of a piece to a watched writer ends.
+fn written(most: usize, left: u32, piece: &[u8]) -> Result<usize, ErrorKind> {
+    let mut writer = Watched::new(Taken {
+        len: 0,
+        same: true,
+        most,
+        left,
+    });
+    match Sink::write(&mut writer, piece) {
+        Ok(count) => Ok(count),
+        Err(error) => Err(error.kind()),
+    }
+}
+
+#[test]
+fn kinds_of_failed_writes(rt: HostRuntime) {
+    equals(&rt, &written(2, 1, b"abc"), &Ok(2));
+    equals(&rt, &written(0, 1, b"abc"), &Err(ErrorKind::WriteZero));
+    equals(&rt, &written(0, 1, b""), &Ok(0));
+    equals(&rt, &written(2, 0, b"abc"), &Err(ErrorKind::Interrupted));
 }
