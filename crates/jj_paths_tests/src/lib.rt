@@ -1,4 +1,5 @@
-//! Tests of paths and of trees of values at paths, over the public calls.
+//! Proved callers of paths, and tests with readers, writers and directories of their own.
+//! The other cases are rows of the conformance table.
 //
 // In a run in which one request for memory is refused, a test answers that, and is then run once
 // more, when there is memory.
@@ -14,17 +15,5 @@ mod error_tests;
 mod file_util_tests;
 #[cfg(test)]
 mod fixtures;
-#[cfg(test)]
-mod fs_paths;
-#[cfg(test)]
-mod orders;
-#[cfg(test)]
-mod path_components;
-#[cfg(test)]
-mod path_texts;
-#[cfg(test)]
-mod paths;
-#[cfg(test)]
-mod texts;
 #[cfg(test)]
 mod trees;
