@@ -1,4 +1,5 @@
 pub mod Verdict
+pub mod VerdictLaws
 pub mod Asked
 pub mod Signer
 pub mod RefTargets

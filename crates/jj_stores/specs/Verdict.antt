@@ -1,6 +1,6 @@
 -- What a contract sees of a verification.
--- Cited by contracts of public items: Verdict, unknown_verdict.
-use Rattle.std.specs.Prelude.{ℕ, List, Option, None, Bool, true, false}
+-- Cited by contracts of public items: Verdict, status_name, unknown_verdict.
+use Rattle.std.specs.Prelude.{ℕ, List, Option, None, Bool, true, false, codes}
 use Rattle.jj_stores.specs.declared.signing.SigStatus.{SigStatus}
 use Rattle.jj_stores.specs.declared.signing.SigStatus.TheVariants.{Good, Unknown, Bad}
 
@@ -19,3 +19,9 @@ is_unknown Bad = false
 -- nothing is known
 abbrev pub unknown_verdict : Verdict
 unknown_verdict = record { status = Unknown; key = None; display = None }
+
+-- a status in words
+abbrev pub status_name : SigStatus → List ℕ
+status_name Good = codes "good"
+status_name Unknown = codes "unknown"
+status_name Bad = codes "bad"

@@ -11,6 +11,7 @@ pub use jj_backend::signing::{SignError, SignResult};
 use jj_ids::object_id::CommitId;
 use lru::LruCache;
 use std::alloc::{AllocError, Global};
+use std::fmt;
 use std::marker::Model;
 use std::num::NonZeroUsize;
 
@@ -22,8 +23,33 @@ pub enum SigStatus {
     Bad,
 }
 
+impl SigStatus {
+    ghost use Rattle.jj_stores.specs.Verdict.{status_name};
+
+    fn name(self) -> &'static str
+        ensures { result.now ≡ status_name self }
+    {
+        match self {
+            SigStatus::Good => "good",
+            SigStatus::Unknown => "unknown",
+            SigStatus::Bad => "bad",
+        }
+    }
+}
+
+impl fmt::Display for SigStatus {
+    ghost use Rattle.std.specs.Prelude.{Some};
+    ghost use Rattle.jj_stores.specs.Verdict.{status_name};
+
+    ghost output = { λ status. Some (status_name status) };
+
+    fn fmt<W: fmt::Write>(&self, f: &mut fmt::Formatter<W>) -> fmt::Result {
+        f.write_str(self.name())
+    }
+}
+
 /// What verification of a signature has found.
-#[derive(Drop)]
+#[derive(Debug, Drop)]
 pub struct Verification {
     pub status: SigStatus,
     pub key: Option<String>,
@@ -78,6 +104,25 @@ impl Verification {
     }
 }
 
+impl PartialEq for Verification {
+    ghost use Rattle.std.specs.Cmp;
+    ghost use Rattle.jj_stores.specs.VerdictLaws.{verdict_eq, verdict_equiv};
+
+    ghost eq = { verdict_eq };
+
+    ghost laws = { Cmp.partial_equiv_from_equiv verdict_equiv };
+
+    fn eq(&self, other: &Verification) -> bool {
+        self.status == other.status && (self.key == other.key && self.display == other.display)
+    }
+}
+
+impl Eq for Verification {
+    ghost use Rattle.jj_stores.specs.VerdictLaws.{verdict_equiv};
+
+    ghost laws = { verdict_equiv };
+}
+
 impl Clone for Verification {
     ghost is_clone = { λ v c. c ≡ v };
 
@@ -96,6 +141,9 @@ pub trait SigningBackend: Drop {
     ghost use Rattle.jj_stores.specs.Verdict.{Verdict};
     ghost use Rattle.jj_backend.specs.declared.signing.SignError.{SignError};
 
+    /// The name of its kind.
+    ghost kind_name: { Self → List ℕ };
+
     /// Whether it can read a signature.
     ghost reads: { Self → List ℕ → Bool };
 
@@ -106,8 +154,9 @@ pub trait SigningBackend: Drop {
     /// That it may answer so, asked to sign data by a key.
     ghost may_sign: { Self → List ℕ → Option (List ℕ) → Result (List ℕ) SignError → Type 0 };
 
-    /// The name of the kind of backend.
-    fn name(&self) -> &str;
+    /// Returns the name of the kind of backend.
+    fn name(&self) -> &str
+        ensures { result.now ≡ kind_name self.now };
 
     /// Whether the signature is of the kind that it reads.
     fn can_read(&self, signature: &[u8]) -> bool
@@ -137,6 +186,8 @@ fn is_decisive(answer: &SignResult<Verification>) -> bool
 }
 
 impl SigningBackend for Box<dyn SigningBackend> {
+    ghost kind_name = { λ b. (SigningBackend-box b).kind_name b.value };
+
     ghost reads = { λ b. (SigningBackend-box b).reads b.value };
 
     ghost may_verify = { λ b. (SigningBackend-box b).may_verify b.value };
@@ -229,11 +280,27 @@ pub struct Signer {
     cache: LruCache<CommitId, Verification>,
 }
 
+/// Shows the names of the backends and the number of remembered verifications.
+impl fmt::Debug for Signer {
+    fn fmt<W: fmt::Write>(&self, f: &mut fmt::Formatter<W>) -> fmt::Result {
+        let main = match &self.main {
+            Some(backend) => Some(backend.name()),
+            None => None,
+        };
+        f.debug_struct("Signer")
+            .field("main", &main)
+            .field("others", &self.others.len())
+            .field("cached", &self.cache.len())
+            .finish_non_exhaustive()
+    }
+}
+
 impl Signer {
     ghost use Rattle.std.specs.NonZero.{non_zero_usize_get};
     ghost use Rattle.jj_stores.specs.Signer.{cache_entries, capacity_of, usual_capacity};
 
-    /// A signer that remembers this many verified commits; `new` remembers 100.
+    /// Creates a signer that remembers up to `capacity` verified commits (`new`: 100). Memory for
+    /// them is allocated as they come.
     pub fn with_capacity(
         alloc: Global,
         main: Option<Box<dyn SigningBackend>>,
@@ -244,7 +311,7 @@ impl Signer {
         ensures cached { IfOk result (λ s. cache_entries s ≡ []) }
         ensures capacity { IfOk result (λ s. capacity_of s ≡ non_zero_usize_get capacity) }
     {
-        let cache = LruCache::new(alloc, capacity)?;
+        let cache = LruCache::sparse(alloc, capacity)?;
         Ok(Signer {
             main,
             others,

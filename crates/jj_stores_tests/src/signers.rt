@@ -1,4 +1,6 @@
 //! Signers over backends in memory that count how often they are asked.
+ghost use Rattle.std.specs.Prelude.{codes};
+
 use jj_backend::signing::SignError;
 use jj_content_tests::once_more::succeeds;
 use jj_files::file_util::{SourceError, SourceKind};
@@ -39,6 +41,8 @@ impl Fake {
 }
 
 impl SigningBackend for Fake {
+    ghost kind_name = { λ f. codes "fake" };
+
     ghost reads = { λ f signature. f.reads };
 
     ghost may_verify = { λ f d s r. Unit {0} };
@@ -207,6 +211,8 @@ fn as_many_as_there_is_room_for(rt: HostRuntime) -> Result<(), Fail> {
         for (commits, count) in [(b"pqp".as_slice(), 3), (b"ppqq".as_slice(), 2)] {
             assert_eq!(rt; times_asked(alloc, one, commits)?, count);
         }
+        let most = Some(NonZeroUsize::MAX);
+        assert_eq!(rt; times_asked(alloc, most, b"pqp")?, 2);
         let again: [(u8, &[u8], u32); 2] = [(101, &[0], 102), (100, &[0, 200, 0], 101)];
         for (count, last, times) in again {
             let commits = numbered(alloc, count, last)?;
