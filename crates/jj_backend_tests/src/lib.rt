@@ -13,14 +13,9 @@ mod content_tests;
 #[cfg(test)]
 mod copy_tests;
 #[cfg(test)]
-mod error_tests;
-pub mod error_texts;
-#[cfg(test)]
 mod json_tests;
 #[cfg(test)]
 mod records;
-#[cfg(test)]
-mod timestamp_tests;
 #[cfg(test)]
 pub mod tree_callers;
 #[cfg(test)]

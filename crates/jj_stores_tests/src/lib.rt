@@ -7,8 +7,6 @@
 #[cfg(test)]
 pub mod callers;
 #[cfg(test)]
-mod error_tests;
-#[cfg(test)]
 mod join_tests;
 #[cfg(test)]
 mod json_tests;
@@ -18,5 +16,3 @@ mod op_store_tests;
 mod signers;
 #[cfg(test)]
 mod view_tests;
-#[cfg(test)]
-mod workspace_store_tests;

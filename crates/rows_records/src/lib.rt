@@ -1,5 +1,11 @@
-//! Requests of the conformance table on commits, trees, views, operations and their stores.
+//! Requests of the conformance table on times, verifications of signatures and errors of stores.
 #![tactic(auto)]
+
+mod arguments;
+mod errors;
+mod recorded;
+mod signatures;
+mod times;
 
 use rows::request::Request;
 use rows::row_error::RowError;
@@ -8,10 +14,14 @@ use std::alloc::Global;
 
 /// Runs the request of this name. Returns `false` if this crate has no such request.
 pub fn call(
-    _alloc: Global,
-    _name: &str,
-    _request: &Request,
-    _values: &mut Values,
+    alloc: Global,
+    name: &str,
+    request: &Request,
+    values: &mut Values,
 ) -> Result<bool, RowError> {
-    Ok(false)
+    Ok(
+        times::call(alloc, name, request, values)?
+            || errors::call(alloc, name, request, values)?
+            || signatures::call(alloc, name, request, values)?,
+    )
 }
