@@ -1,11 +1,11 @@
 //! What users of signers and of joins rely on.
-ghost use Rattle.std.specs.Prelude.{◌≡◌, Some, OnOk, IfOk, map};
+ghost use Rattle.std.specs.Prelude.{◌≡◌, ◌∷◌, [], false, Some, None, OnOk, IfOk, map};
 ghost use Rattle.std.specs.Map.{lookup};
 ghost use Rattle.std.specs.Str.{bytes_eq};
 ghost use Rattle.jj_stores.specs.FlatRefs.{AreFlat, symbol_ref_of};
 ghost use Rattle.jj_stores.specs.JoinSteps.{row_of};
 ghost use Rattle.jj_stores.specs.Signer.{cache_entries};
-ghost use Rattle.jj_stores.specs.Verdict.{Verdict};
+ghost use Rattle.jj_stores.specs.Verdict.{Verdict, is_unknown};
 ghost use Rattle.jj_stores.specs.ViewJoins.{IsViewJoin};
 
 use jj_ids::object_id::CommitId;
@@ -13,8 +13,9 @@ use jj_ids::ref_name::{RefName, RemoteRefSymbol};
 use jj_stores::op_store::{
     LocalRemoteRefTarget, RemoteRef, View, flatten_remote_refs, merge_join_ref_views,
 };
-use jj_stores::signing::{SignError, Signer, Verification};
+use jj_stores::signing::{SignError, SignResult, Signer, SigningBackend, Verification};
 use std::alloc::{AllocError, Global};
+use std::collections::HashSet;
 
 /// Verifies a commit that is remembered: the answer is what is remembered, whatever the data and
 /// the signature are.
@@ -27,6 +28,44 @@ pub fn verify_again(
     ensures { IfOk result (λ found. found ≡ known.now) }
 {
     signer.verify(commit_id, b"", b"")
+}
+
+/// Verifies a commit with one backend, by a signer that remembers nothing: a signature that is
+/// good or bad is so by the backend.
+pub fn verify_first(
+    alloc: Global,
+    backend: Box<dyn SigningBackend>,
+    commit_id: &CommitId,
+    data: &[u8],
+    signature: &[u8],
+) -> SignResult<Verification>
+    ensures { IfOk result (λ found. is_unknown found.status ≡ false
+        → may_verify backend «data».now signature.now (Ok found)) }
+{
+    let mut signer = Signer::new(alloc, Some(backend), Vec::new(alloc))?;
+    let found = signer.verify(commit_id, data, signature)?;
+    Ok(found)
+}
+
+/// Signs data with a backend and its default key: the signature is one that the backend makes.
+pub fn sign_with(
+    alloc: Global,
+    backend: Box<dyn SigningBackend>,
+    data: &[u8],
+) -> SignResult<Vec<u8>>
+    ensures { IfOk result (λ signature. may_sign backend «data».now None (Ok signature.items)) }
+{
+    let signer = Signer::new(alloc, Some(backend), Vec::new(alloc))?;
+    let signature = signer.sign(data, None)?;
+    Ok(signature)
+}
+
+/// The heads of a repository that nobody has written to: its root commit, and no other.
+pub fn root_heads(alloc: Global, root: CommitId) -> Result<HashSet<CommitId>, AllocError>
+    ensures { IfOk result (λ heads. heads.keys ≡ root ∷ []) }
+{
+    let view = View::make_root(alloc, root)?;
+    Ok(view.head_ids)
 }
 
 /// All bookmarks of a view, here and at remotes: those of one name stand together, in the order of
