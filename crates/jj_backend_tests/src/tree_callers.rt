@@ -1,10 +1,14 @@
 //! Callers of trees and of merges of tree values, with what they promise of the answers.
-ghost use Rattle.std.specs.Prelude.{◌≡◌, [], ◌∷◌, true, false, Some, IfOk, is_some};
+ghost use Rattle.std.specs.Prelude.{◌≡◌, ◌++◌, [], ◌∷◌, true, false, Some, IfOk, is_some, codes, string_bytes};
+ghost use Rattle.jj_content.specs.Hex.{hex};
 ghost use Rattle.jj_paths.specs.Names.{name_of};
-ghost use Rattle.jj_backend.specs.MergedTreeValues.{are_trees};
+ghost use Rattle.jj_backend.specs.MergedTreeValues.{are_trees, newline};
 ghost use Rattle.jj_backend.specs.Trees.{value_at};
 
-use jj_backend::backend::{CopyId, FileId, MergedTreeValue, MergedTreeValueExt, Tree, TreeValue};
+use jj_backend::backend::{
+    CopyId, FileId, MergedTreeValue, MergedTreeValueExt, SymlinkId, Tree, TreeValue,
+};
+use jj_merges::conflict_labels::ConflictLabels;
 use jj_merges::merge::Merge;
 use jj_paths::repo_path::RepoPathComponent;
 use std::alloc::{AllocError, Global};
@@ -47,4 +51,13 @@ pub fn changed_file(
     };
     let ids = Merge::normal(alloc, new_id);
     MergedTreeValue::normal(alloc, file).with_new_file_ids(alloc, &ids)
+}
+
+/// The description of a new symbolic link without a label: one line, which has its id.
+pub fn describe_link(alloc: Global, id: SymlinkId) -> Result<String, AllocError>
+    ensures { IfOk result (λ text. string_bytes text ≡ codes "Conflict:" ++ (newline
+        ++ (codes "  Adding " ++ (codes "symlink with id " ++ (hex id ++ newline))))) }
+{
+    let link = MergedTreeValue::normal(alloc, TreeValue::Symlink(id));
+    link.describe(alloc, &ConflictLabels::unlabeled(alloc))
 }
