@@ -134,7 +134,8 @@ pub trait Backend {
 
     /// Returns the entries of the directory at `path`, whose tree has this id.
     fn read_tree(&self, alloc: Global, path: RepoPath<'_>, id: &TreeId) -> BackendResult<Tree>
-        ensures value { IsRead (may_fail self.now) ((objects self.now).trees id.now) (λ t. t) result }
+        ensures value { IsRead (may_fail self.now)
+            ((objects self.now).trees id.now) (λ t. t) result }
         ensures at_path { may_read_tree self.now (path_of path.entry) id.now result };
 
     /// Keeps the entries of a directory, and answers their id.
