@@ -87,7 +87,7 @@ pub fn next_ids(
 #[cfg(test)]
 mod tests {
     use super::*;
-    use crate::tables::found;
+    use crate::outcomes::found;
     use jj_content_tests::once_more::passes;
     use std::alloc::AllocError;
     use std::process::Abort;

@@ -1,6 +1,5 @@
-//! The closest common nodes of two sets, in small graphs, on cycles, and in graphs whose calls are
-//! counted.
-use crate::tables::{Table, closest, found, met};
+//! The closest common nodes of two sets, in graphs whose calls are counted.
+use crate::outcomes::found;
 use jj_content_tests::once_more::passes;
 use jj_walks::dag_walk::WalkError;
 use jj_walks::dag_walk_async::closest_common_nodes;
@@ -9,89 +8,6 @@ use std::cell::Cell;
 use std::ops::Range;
 use std::process::Abort;
 use std::test::Fail;
-
-// D and E over B and C, those over A.
-const CROSSED: Table<'static> = &[('D', "BC"), ('E', "BC"), ('B', "A"), ('C', "A")];
-
-// 1 and 2 over 9, and 9 over 5.
-const JOINED: Table<'static> = &[('1', "9"), ('2', "9"), ('9', "5")];
-
-// Each of the two leads to the other.
-const PAIR: Table<'static> = &[('A', "B"), ('B', "A")];
-
-// A cycle above the other set, and one below a common node.
-const ROUNDS: Table<'static> = &[('A', "B"), ('B', "CA"), ('C', "D"), ('D', "E"), ('E', "D")];
-
-// X and Y each lead to the other through the lesser of two common nodes, which is above the
-// greater.
-const STEEP: Table<'static> = &[('X', "PB"), ('Y', "PB"), ('B', "P"), ('P', "")];
-
-// Asserts what the closest nodes of two sets are, whichever of the sets comes first.
-fn is<R: Abort>(
-    rt: &R,
-    alloc: Global,
-    table: Table<'_>,
-    sets: (&[char], &[char]),
-    wanted: &[char],
-) -> Result<(), AllocError> {
-    let (first, second) = sets;
-    for (set1, set2) in [(first, second), (second, first)] {
-        let mut nodes = found(rt, closest(alloc, table, &[], set1, set2))?;
-        nodes.sort()?;
-        assert_eq!(rt; nodes.as_slice(), wanted);
-    }
-    Ok(())
-}
-
-// Graphs, two sets of nodes, and the closest common ones.
-static CLOSEST: &[(Table<'static>, (&[char], &[char]), &[char])] = &[
-    (CROSSED, (&['D'], &['E']), &['B', 'C']),
-    (CROSSED, (&['D', 'D'], &['E', 'A']), &['B', 'C']),
-    (CROSSED, (&['D'], &['B']), &['B']),
-    (CROSSED, (&['D', 'E'], &['D']), &['D']),
-    (CROSSED, (&['D', 'B'], &['E', 'A']), &['B', 'C']),
-    (CROSSED, (&['D'], &['F']), &[]),
-    (CROSSED, (&[], &['D']), &[]),
-    (JOINED, (&['1'], &['2']), &['9']),
-    (JOINED, (&['1'], &['9']), &['9']),
-    (JOINED, (&['1'], &['5']), &['5']),
-    (JOINED, (&['1'], &['1']), &['1']),
-    (STEEP, (&['X'], &['Y']), &['B']),
-];
-
-#[test]
-fn closest_in_small_graphs(rt: HostRuntime) -> Result<(), Fail> {
-    passes(&rt, |rt, alloc| {
-        for (table, sets, wanted) in CLOSEST {
-            is(rt, alloc, *table, *sets, *wanted)?;
-        }
-        Ok(())
-    })
-}
-
-#[test]
-fn closest_end_on_cycles(rt: HostRuntime) -> Result<(), Fail> {
-    passes(&rt, |rt, alloc| {
-        let _nodes = found(rt, closest(alloc, PAIR, &[], &['A'], &['B']))?;
-        let _nodes = found(rt, closest(alloc, ROUNDS, &[], &['A'], &['E']))?;
-        // The cycle of A and B is on one side alone.
-        is(rt, alloc, ROUNDS, (&['A'], &['C']), &['C'])
-    })
-}
-
-#[test]
-fn closest_of_failing_lists(rt: HostRuntime) -> Result<(), Fail> {
-    passes(&rt, |rt, alloc| {
-        for broken in ['B', 'C', 'E'] {
-            let error = met(rt, closest(alloc, CROSSED, &[broken], &['D'], &['E']))?;
-            assert_eq!(rt; error, broken);
-        }
-        // The search ends where A alone waits, before its list is asked for.
-        let nodes = found(rt, closest(alloc, CROSSED, &['A'], &['D'], &['B']))?;
-        assert_eq!(rt; nodes.as_slice(), ['B'].as_slice());
-        Ok(())
-    })
-}
 
 // Where the two sides of a chain part.
 const BASE: u64 = 100_000;

@@ -156,7 +156,7 @@ pub fn closest(
 #[cfg(test)]
 mod tests {
     use super::*;
-    use crate::tables::found;
+    use crate::outcomes::found;
     use std::process::Abort;
     use std::test::Fail;
 

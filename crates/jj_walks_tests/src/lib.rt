@@ -1,4 +1,5 @@
-//! Tests of `jj_walks` over its public calls, and a caller that is proved by its contracts.
+//! Callers of `jj_walks` that are proved by its contracts, and tests of what no row of the conformance
+//! table can show.
 #![tactic(auto)]
 
 #[cfg(test)]
@@ -16,28 +17,12 @@ mod closest_common_tests;
 pub mod commits;
 pub mod failing_callers;
 #[cfg(test)]
-mod graphs;
-#[cfg(test)]
-mod grouped;
-#[cfg(test)]
-mod hostile;
-#[cfg(test)]
 pub mod large;
 #[cfg(test)]
-mod lazy;
-#[cfg(test)]
-mod maximal;
-#[cfg(test)]
-mod orders;
-#[cfg(test)]
-mod reversed;
+mod outcomes;
 #[cfg(test)]
 mod shown;
 #[cfg(test)]
-mod tables;
-#[cfg(test)]
 mod texts;
-#[cfg(test)]
-mod topo_order_reverse_ord_tests;
 #[cfg(test)]
 mod walk_errors;

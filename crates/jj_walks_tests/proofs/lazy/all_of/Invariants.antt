@@ -1,4 +1,0 @@
-use Rattle.jj_walks_tests.proofs.lazy.all_of.Given as goal
-
-abbrev pub invariant-loop-item : goal.invariant-loop-item
-invariant-loop-item g l = record { can : (goal.iterator-loop-item g).can_next l.item-iterator; finite : (goal.iterator-loop-item g).is_finite l.item-iterator }

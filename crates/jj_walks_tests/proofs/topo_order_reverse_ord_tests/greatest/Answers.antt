@@ -1,6 +1,0 @@
-use Rattle.std.proofs.Common.{rules, of_calls}
-use Rattle.jj_dag.proofs.Owing.{can_show}
-use Rattle.jj_walks_tests.proofs.topo_order_reverse_ord_tests.greatest.Goals as goal
-
-pub topo_order_reverse_ord-requires-clause-graph : goal.topo_order_reverse_ord-requires-clause-graph
-topo_order_reverse_ord-requires-clause-graph c = can_show (search rules) (search (rules, of_calls)) (λ a r f h. (λ it b. (search rules, search rules), search (rules, of_calls, h)))

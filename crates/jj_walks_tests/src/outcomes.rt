@@ -1,0 +1,33 @@
+//! What walks return, where one kind of result is wanted.
+use jj_walks::dag_walk::WalkError;
+use std::alloc::AllocError;
+use std::process::Abort;
+
+/// What a walk found, where no error of a node is wanted.
+pub fn found<R: Abort, V: Drop, E: Drop>(
+    rt: &R,
+    outcome: Result<V, WalkError<E>>,
+) -> Result<V, AllocError> {
+    if let Err(WalkError::Node(_)) = &outcome {
+        assert!(rt; false, "an error of a node");
+    }
+    match outcome {
+        Ok(value) => Ok(value),
+        Err(_refused) => Err(AllocError),
+    }
+}
+
+/// The error of a node that a walk met, where one is wanted.
+pub fn met<R: Abort, V: Drop, E: Drop>(
+    rt: &R,
+    outcome: Result<V, WalkError<E>>,
+) -> Result<E, AllocError> {
+    match outcome {
+        Ok(_value) => {
+            assert!(rt; false, "no error of a node");
+            Err(AllocError)
+        }
+        Err(WalkError::Node(error)) => Ok(error),
+        Err(WalkError::Memory) => Err(AllocError),
+    }
+}
