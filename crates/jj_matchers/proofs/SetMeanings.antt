@@ -1,8 +1,13 @@
 -- What the sets of matchers have, in the words of lists and of globs.
-use Rattle.std.proofs.Common.{ap, ◌∙◌}
+use Rattle.std.proofs.Common.{◌≡◌, true, List, Contains, ap, sym, ◌∙◌}
+use Rattle.std.specs.Prelude.{◌↔◌, Any}
+use Rattle.std.specs.List.{list_any}
 use Rattle.std.proofs.lemmas.List.Folds.{Any-from_list_any, list_any_at}
+use Rattle.jj_paths.specs.Paths.{Path, IsBelow}
+use Rattle.jj_paths.specs.Orders.{path_eq}
 use Rattle.jj_matchers.specs.Laws.{HasMembers, HasAllBelow, HasMatches}
-use Rattle.jj_matchers.specs.Wanted.{is_at_or_below}
+use Rattle.jj_matchers.specs.Patterns.{Patterns, HasSamePatterns, IsAccepted, is_accepted, tail_passes, accepts_tail}
+use Rattle.jj_matchers.specs.Wanted.{HasSamePaths, has_prefix, is_at_or_below, is_wanted}
 use Rattle.jj_matchers.proofs.PatternSound.{Decides-is_accepted}
 use Rattle.jj_matchers.proofs.Wanted.{Decides-is_wanted, below_base, is_at_or_below-append}
 
@@ -19,3 +24,28 @@ has_all_below prefixes path = (
 
 pub has_matches : HasMatches
 has_matches = Decides-is_accepted
+
+-- the members of a set that has the paths of a list
+pub members_of : (wanted files : List Path) → HasSamePaths wanted files → (path : Path)
+    → (is_wanted wanted path ≡ true) ↔ Contains files path
+members_of wanted files same path =
+    let decides = has_members files path in
+    ((λ h. decides.0 (sym (same (path_eq path)) ∙ h)), (λ h. same (path_eq path) ∙ decides.1 h))
+
+-- the members of a set that has the prefixes of a list
+pub below_prefixes : (own prefixes : List Path) → HasSamePaths own prefixes → (path : Path)
+    → (has_prefix own path ≡ true) ↔ Any (IsBelow path) prefixes
+below_prefixes own prefixes same path =
+    let is = same (λ prefix. is_at_or_below prefix path) in
+    let decides = has_all_below prefixes path in
+    ((λ h. decides.0 (sym is ∙ h)), (λ h. is ∙ decides.1 h))
+
+-- the members of a set that has the patterns of another
+pub matched_by : (own set : Patterns) → HasSamePatterns own set → (path : Path)
+    → (is_accepted own path ≡ true) ↔ IsAccepted set path
+matched_by own set same path =
+    let is : is_accepted own path ≡ is_accepted set path =
+    same.members (λ pattern. tail_passes pattern.0 (accepts_tail own.prefix_paths pattern.1) path)
+    ∙ ap (λ flag. list_any (λ pattern. tail_passes pattern.0 (accepts_tail flag pattern.1) path) set.patterns) same.mode in
+    let decides = has_matches set path in
+    ((λ h. decides.0 (sym is ∙ h)), (λ h. is ∙ decides.1 h))

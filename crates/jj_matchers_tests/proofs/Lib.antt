@@ -1,3 +1,4 @@
 pub mod Singles
+pub mod FoundFiles
 pub mod Prefixes
 pub mod OneGlob

@@ -1,14 +1,13 @@
 -- A walk by one glob in a directory finds the marks below the directory whose rest it stands for.
-use Rattle.std.proofs.Common.{◌≡◌, Bool, true, false, List, [], ◌∷◌, ◌++◌, Contains, ap, sym, subst, ◌∙◌, arith}
+use Rattle.std.proofs.Common.{◌≡◌, Bool, true, false, List, [], ◌∷◌, ◌++◌, Contains, ap, sym, subst, ◌∙◌}
 use Rattle.std.specs.Prelude.{◌↔◌}
-use Rattle.std.specs.List.{list_any}
 use Rattle.jj_paths.specs.Paths.{Name, Path, path_text}
 use Rattle.jj_paths.specs.Tree.{Tree}
 use Rattle.jj_globs.specs.GlobMeaning.{GlobSpec, IsMatch}
 use Rattle.jj_matchers.specs.Marks.{IsMarkedTree}
 use Rattle.jj_matchers.specs.Walk.{files_of}
-use Rattle.jj_matchers.specs.Patterns.{Patterns, HasSamePatterns, is_accepted, tail_passes, accepts_tail}
-use Rattle.jj_matchers.specs.Laws.{FindsMarks, HasMatches}
+use Rattle.jj_matchers.specs.Patterns.{Patterns, IsAccepted, is_accepted}
+use Rattle.jj_matchers.specs.Laws.{FindsMarks}
 use Rattle.jj_matchers_tests.proofs.Singles.{any_one, one_any}
 
 -- the path lies below the directory, and the glob stands for the text of the rest
@@ -29,30 +28,22 @@ pub one_added : (empty added : Patterns) (dir : Path) (glob known : GlobSpec) �
     → added ≡ one_pattern dir known
 one_added empty added dir glob known none same is = is ∙ ap (λ set. with_pattern set dir glob) none ∙ ap (one_pattern dir) same
 
-module _ (set : Patterns) (dir : Path) (glob : GlobSpec) (same : HasSamePatterns set (one_pattern dir glob)) where
-  accepts_same : (path : Path) → is_accepted set path ≡ is_accepted (one_pattern dir glob) path
-  accepts_same path =
-      same.members (λ pattern. tail_passes pattern.0 (accepts_tail set.prefix_paths pattern.1) path)
-      ∙ ap (λ b. list_any (λ (pattern : Path × GlobSpec). tail_passes pattern.0 (accepts_tail b pattern.1) path) ((dir, glob) ∷ [])) same.mode
+no_root : (dir : Path) (name : Name) (rest : Path) → dir ++ name ∷ rest ≡ [] → ⊥
+no_root [] name rest e = cc
+no_root (d ∷ dir) name rest e = cc
 
-  -- what such a set accepts
-  pub accepts_one : HasMatches → (path : Path) → (is_accepted set path ≡ true) ↔ LiesBelow dir glob path
-  accepts_one meaning path =
-      let decides = meaning (one_pattern dir glob) path in (
-        (λ h. any_one (λ (pattern : Path × GlobSpec). LiesBelow pattern.0 pattern.1 path) (dir, glob) (decides.0 (sym (accepts_same path) ∙ h))),
-        (λ below. accepts_same path ∙ decides.1 (one_any (λ (pattern : Path × GlobSpec). LiesBelow pattern.0 pattern.1 path) (dir, glob) below)),
-      )
+-- the set has exactly the paths that the other set's patterns match
+abbrev pub HasMatchesOf : Patterns → Patterns → Type 0
+HasMatchesOf own set = (path : Path) → (is_accepted own path ≡ true) ↔ IsAccepted set path
 
-  no_root : (dir : Path) (name : Name) (rest : Path) → dir ++ name ∷ rest ≡ [] → ⊥
-  no_root [] name rest e = cc
-  no_root (d ∷ dir) name rest e = cc
-
+module _ (set : Patterns) (dir : Path) (glob : GlobSpec) (accepts : HasMatchesOf set (one_pattern dir glob)) where
   -- what a walk by it finds
-  pub found_by_glob : (marks : List Path) (tree : Tree Bool) (found : List Path) → FindsMarks → HasMatches → IsMarkedTree marks tree → found ≡ files_of (is_accepted set) tree
+  pub found_by_glob : (marks : List Path) (tree : Tree Bool) (found : List Path) → FindsMarks → IsMarkedTree marks tree → found ≡ files_of (is_accepted set) tree
       → (path : Path) → Contains found path ↔ (Contains marks path × LiesBelow dir glob path)
-  found_by_glob marks tree found finds meaning made is path =
+  found_by_glob marks tree found finds made is path =
       let files = finds marks tree made (is_accepted set) path in
-      let accepted = accepts_one meaning path in (
-        (λ h. let file = files.0 (subst (λ l. Contains l path) is h) in (file.0, accepted.0 file.2)),
-        (λ (marked, below). subst (λ l. Contains l path) (sym is) (files.1 (marked, (λ root. no_root dir below.0 below.1 (sym below.2 ∙ root)), accepted.1 below))),
+      let Below : Path × GlobSpec → Type 0 = λ pattern. LiesBelow pattern.0 pattern.1 path in (
+        (λ h. let file = files.0 (subst (λ l. Contains l path) is h) in (file.0, any_one Below (dir, glob) ((accepts path).0 file.2))),
+        (λ (marked, below). subst (λ l. Contains l path) (sym is)
+            (files.1 (marked, (λ root. no_root dir below.0 below.1 (sym below.2 ∙ root)), (accepts path).1 (one_any Below (dir, glob) below)))),
       )

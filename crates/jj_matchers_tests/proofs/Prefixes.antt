@@ -1,48 +1,43 @@
 -- A set of one prefix has the paths at or below it, and a walk by such a set less another finds them.
 use Rattle.std.proofs.Common.{◌≡◌, ◌≢◌, Bool, true, false, ◌&&◌, not, List, [], ◌∷◌, Contains, refl, ap, sym, subst, ◌∙◌}
-use Rattle.std.specs.Prelude.{◌↔◌}
+use Rattle.std.specs.Prelude.{◌↔◌, Any}
 use mathlib.Core.Bool.{false≢true}
 use Rattle.std.proofs.lemmas.Bool.{and_from, and_parts, false_from_ne_true}
 use Rattle.jj_paths.specs.Paths.{Path, IsBelow}
 use Rattle.jj_paths.specs.Tree.{Tree}
 use Rattle.jj_matchers.specs.Marks.{IsMarkedTree}
 use Rattle.jj_matchers.specs.Walk.{files_of}
-use Rattle.jj_matchers.specs.Wanted.{HasSamePaths, has_prefix, is_at_or_below}
-use Rattle.jj_matchers.specs.Laws.{FindsMarks, HasAllBelow}
+use Rattle.jj_matchers.specs.Wanted.{has_prefix}
+use Rattle.jj_matchers.specs.Laws.{FindsMarks}
 use Rattle.jj_matchers_tests.proofs.Singles.{any_one, one_any}
 
 not_false : (b : Bool) → not b ≡ true → b ≡ false
 not_false true e = absurd (false≢true e)
 not_false false e = refl
 
--- whether a path is in a set of one prefix
-pub one_prefix : HasAllBelow → (prefixes : List Path) (base path : Path) → HasSamePaths prefixes (base ∷ []) → (has_prefix prefixes path ≡ true) ↔ IsBelow path base
-one_prefix meaning prefixes base path same =
-    let is : has_prefix prefixes path ≡ has_prefix (base ∷ []) path = same (λ prefix. is_at_or_below prefix path) in
-    let one = meaning (base ∷ []) path in (
-      (λ h. any_one (IsBelow path) base (one.0 (sym is ∙ h))),
-      (λ h. is ∙ one.1 (one_any (IsBelow path) base h)),
-    )
+-- the set of prefixes has exactly the paths at or below one
+abbrev pub HasBelow : List Path → Path → Type 0
+HasBelow prefixes base = (path : Path) → (has_prefix prefixes path ≡ true) ↔ Any (IsBelow path) (base ∷ [])
 
--- whether it is in such a set and not in another
-pub one_less_another : HasAllBelow → (wanted unwanted : List Path) (dir without path : Path) → HasSamePaths wanted (dir ∷ []) → HasSamePaths unwanted (without ∷ [])
+-- whether a path is in such a set and not in another
+pub one_less_another : (wanted unwanted : List Path) (dir without path : Path) → HasBelow wanted dir → HasBelow unwanted without
     → ((has_prefix wanted path && not (has_prefix unwanted path)) ≡ true) ↔ (IsBelow path dir × (¬ IsBelow path without))
-one_less_another meaning wanted unwanted dir without path first second =
-    let inside = one_prefix meaning wanted dir path first in
-    let outside = one_prefix meaning unwanted without path second in (
+one_less_another wanted unwanted dir without path first second =
+    let inside = first path in
+    let outside = second path in (
       (λ h. let parts = and_parts (has_prefix wanted path) (not (has_prefix unwanted path)) h in
-          (inside.0 parts.0, λ below. false≢true (sym (not_false (has_prefix unwanted path) parts.1) ∙ outside.1 below))),
-      (λ (in', out). and_from (has_prefix wanted path) (not (has_prefix unwanted path)) (inside.1 in')
-          (ap not (false_from_ne_true (has_prefix unwanted path) (λ e. out (outside.0 e))))),
+          (any_one (IsBelow path) dir (inside.0 parts.0), λ below. false≢true (sym (not_false (has_prefix unwanted path) parts.1) ∙ outside.1 (one_any (IsBelow path) without below)))),
+      (λ (in', out). and_from (has_prefix wanted path) (not (has_prefix unwanted path)) (inside.1 (one_any (IsBelow path) dir in'))
+          (ap not (false_from_ne_true (has_prefix unwanted path) (λ e. out (any_one (IsBelow path) without (outside.0 e)))))),
     )
 
 -- what a walk by two such sets finds
-pub found_below : (marks : List Path) (tree : Tree Bool) (wanted unwanted : List Path) (dir without : Path) (found : List Path) → FindsMarks → HasAllBelow → IsMarkedTree marks tree
-    → HasSamePaths wanted (dir ∷ []) → HasSamePaths unwanted (without ∷ []) → found ≡ files_of (λ path. has_prefix wanted path && not (has_prefix unwanted path)) tree
+pub found_below : (marks : List Path) (tree : Tree Bool) (wanted unwanted : List Path) (dir without : Path) (found : List Path) → FindsMarks → IsMarkedTree marks tree
+    → HasBelow wanted dir → HasBelow unwanted without → found ≡ files_of (λ path. has_prefix wanted path && not (has_prefix unwanted path)) tree
     → (path : Path) → Contains found path ↔ (Contains marks path × (path ≢ []) × IsBelow path dir × (¬ IsBelow path without))
-found_below marks tree wanted unwanted dir without found finds meaning made first second is path =
+found_below marks tree wanted unwanted dir without found finds made first second is path =
     let files = finds marks tree made (λ path. has_prefix wanted path && not (has_prefix unwanted path)) path in
-    let accepted = one_less_another meaning wanted unwanted dir without path first second in (
+    let accepted = one_less_another wanted unwanted dir without path first second in (
       (λ h. let file = files.0 (subst (λ l. Contains l path) is h) in let below = accepted.0 file.2 in (file.0, file.1, below.0, below.1)),
       (λ (marked, not_root, in', out). subst (λ l. Contains l path) (sym is) (files.1 (marked, not_root, accepted.1 (in', out)))),
     )

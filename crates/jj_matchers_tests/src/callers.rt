@@ -8,9 +8,10 @@ ghost use Rattle.jj_globs.specs.GlobReads.{IsReadingFault, glob_of_text};
 ghost use Rattle.jj_globs.specs.GlobText.{tokens_of};
 
 use jj_globs::glob::GlobError;
-use jj_matchers::laws::{sets_have_their_meaning, walks_find_accepted_marks};
+use jj_matchers::laws::walks_find_accepted_marks;
 use jj_matchers::matchers::{
-    DifferenceMatcher, GlobsMatcher, PathGlobPattern, PrefixMatcher, marked_tree, walk_matching,
+    DifferenceMatcher, FilesMatcher, GlobsMatcher, PathGlobPattern, PrefixMatcher, marked_tree,
+    walk_matching,
 };
 use jj_paths::repo_path::{RepoPath, RepoPathBuf};
 use std::alloc::{AllocError, Global};
@@ -29,7 +30,6 @@ pub fn files_below(
     ensures ordered { IfOk result (λ found. IsStrictlySortedBy path_cmp found.items) }
 {
     walks_find_accepted_marks();
-    sets_have_their_meaning();
     let tree = marked_tree(alloc, files)?;
     let wanted = PrefixMatcher::new(alloc, &[dir])?;
     let unwanted = PrefixMatcher::new(alloc, &[without])?;
@@ -54,11 +54,27 @@ pub fn files_matching(
     ensures fault { IfErr result (λ error. IsReadingFault error (tokens_of pattern.now)) }
 {
     walks_find_accepted_marks();
-    sets_have_their_meaning();
     let glob = PathGlobPattern::parse(alloc, pattern)?;
     let tree = marked_tree(alloc, files)?;
     let mut globs = GlobsMatcher::builder(alloc);
     globs.add(dir, &glob)?;
     let matcher = globs.build()?;
+    Ok(walk_matching(alloc, &tree, &matcher)?.files)
+}
+
+/// The files of a list that another list has too, in path order and each once. The root is no file.
+pub fn files_of_both(
+    alloc: Global,
+    files: &[RepoPath<'_>],
+    others: &[RepoPath<'_>],
+) -> Result<Vec<RepoPathBuf>, AllocError>
+    ensures found { IfOk result (λ found. (path : Path) → Contains found.items path
+        ↔ (Contains (map path_of files.now) path × (path ≢ [])
+        × Contains (map path_of others.now) path)) }
+    ensures ordered { IfOk result (λ found. IsStrictlySortedBy path_cmp found.items) }
+{
+    walks_find_accepted_marks();
+    let tree = marked_tree(alloc, files)?;
+    let matcher = FilesMatcher::new(alloc, others)?;
     Ok(walk_matching(alloc, &tree, &matcher)?.files)
 }

@@ -1,5 +1,5 @@
 //! The matcher of wanted files.
-ghost use Rattle.std.specs.Prelude.{◌≡◌, IfOk, map};
+ghost use Rattle.std.specs.Prelude.{◌≡◌, ◌↔◌, true, Contains, IfOk, map};
 ghost use Rattle.jj_paths.specs.Paths.{Path};
 ghost use Rattle.jj_paths.specs.Names.{path_of};
 ghost use Rattle.jj_matchers.specs.Candidates.{names_of};
@@ -31,9 +31,11 @@ impl Model for FilesMatcher {
 }
 
 impl FilesMatcher {
-    /// The matcher of these files; a path may come more than once.
+    /// Returns the matcher of exactly these files. They may be in any order and repeat.
     pub fn new(alloc: Global, files: &[RepoPath<'_>]) -> Result<FilesMatcher, AllocError>
-        ensures { IfOk result (λ matcher. HasSamePaths matcher (map path_of files.now)) }
+        ensures same { IfOk result (λ matcher. HasSamePaths matcher (map path_of files.now)) }
+        ensures accepts { IfOk result (λ matcher. (path : Path) → (is_wanted matcher path ≡ true)
+            ↔ Contains (map path_of files.now) path) }
     {
         Ok(FilesMatcher {
             tree: marked_tree(alloc, files)?,

@@ -1,6 +1,7 @@
 //! The matcher of globs in directories, and its builder.
-ghost use Rattle.std.specs.Prelude.{◌≡◌, ◌↔◌, ◌<◌, ◌≤◌, false, [], ◌∷◌, ◌++◌, All, map, take, length, slice_get, Some, IsTrue, IfOk, MatchResult};
+ghost use Rattle.std.specs.Prelude.{◌≡◌, ◌↔◌, ◌<◌, ◌≤◌, true, false, [], ◌∷◌, ◌++◌, All, map, take, length, slice_get, Some, IsTrue, IfOk, MatchResult};
 ghost use Rattle.std.specs.Option.{option_map};
+ghost use Rattle.jj_paths.specs.Paths.{Path};
 ghost use Rattle.jj_paths.specs.Names.{path_of};
 ghost use Rattle.jj_matchers.specs.Answers.{IsSound};
 ghost use Rattle.jj_matchers.specs.Visits.{answer_of};
@@ -203,9 +204,12 @@ impl<'a> GlobsMatcherBuilder<'a> {
         Ok(())
     }
 
-    /// The matcher of the patterns. It shares what was read of them.
+    /// Returns the matcher of all paths strictly below a pattern's directory whose rest its glob
+    /// matches. The matcher shares the compiled patterns.
     pub fn build(&self) -> Result<GlobsMatcher, AllocError>
-        ensures { IfOk result (λ matcher. HasSamePatterns matcher self.now) }
+        ensures same { IfOk result (λ matcher. HasSamePatterns matcher self.now) }
+        ensures accepts { IfOk result (λ matcher. (path : Path) → (is_accepted matcher path ≡ true)
+            ↔ IsAccepted self.now path) }
     {
         let alloc = *self.dir_patterns.allocator();
         let mut sorted = Vec::from_slice(alloc, self.dir_patterns.as_slice())?;

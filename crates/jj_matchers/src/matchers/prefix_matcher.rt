@@ -1,6 +1,6 @@
 //! The matcher of everything at or below some paths.
-ghost use Rattle.std.specs.Prelude.{◌≡◌, ◌||◌, IfOk, map};
-ghost use Rattle.jj_paths.specs.Paths.{Path};
+ghost use Rattle.std.specs.Prelude.{◌≡◌, ◌↔◌, ◌||◌, true, Any, IfOk, map};
+ghost use Rattle.jj_paths.specs.Paths.{Path, IsBelow};
 ghost use Rattle.jj_paths.specs.Names.{path_of};
 ghost use Rattle.jj_matchers.specs.Candidates.{names_of};
 ghost use Rattle.jj_matchers.specs.Wanted.{HasSamePaths, has_prefix, leads_to_prefix, prefix_answer};
@@ -31,9 +31,12 @@ impl Model for PrefixMatcher {
 }
 
 impl PrefixMatcher {
-    /// The matcher of these prefixes; a path may come more than once.
+    /// Returns the matcher of all paths at or below one of the prefixes. The prefixes may be in any
+    /// order and repeat.
     pub fn new(alloc: Global, prefixes: &[RepoPath<'_>]) -> Result<PrefixMatcher, AllocError>
-        ensures { IfOk result (λ matcher. HasSamePaths matcher (map path_of prefixes.now)) }
+        ensures same { IfOk result (λ matcher. HasSamePaths matcher (map path_of prefixes.now)) }
+        ensures accepts { IfOk result (λ matcher. (path : Path) → (has_prefix matcher path ≡ true)
+            ↔ Any (IsBelow path) (map path_of prefixes.now)) }
     {
         Ok(PrefixMatcher {
             tree: marked_tree(alloc, prefixes)?,

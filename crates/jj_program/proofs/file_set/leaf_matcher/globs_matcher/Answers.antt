@@ -31,4 +31,4 @@ returns c =
     c.loop-dir.invariant
     ∙ ap (λ patterns. record { prefix_paths = c.args.prefix_paths; patterns = patterns }) (read_paths pairs ∙ ap (map {B = Path × GlobSpec} (λ (pair : RepoPath × GlobSpec). (path_of pair.0, pair.1))) all.0 ∙ zip_paths dirs globs) in
     let Same : Patterns → Patterns → Type 0 = λ set matcher. HasSamePatterns matcher set in
-    IfOk-weaker c.build.result (Same c.loop-dir.builder) (Same (record { prefix_paths = c.args.prefix_paths; patterns = zip (map path_of dirs) globs })) (λ matcher h. subst (HasSamePatterns matcher) same h) c.build.ensures
+    IfOk-weaker c.build.result (Same c.loop-dir.builder) (Same (record { prefix_paths = c.args.prefix_paths; patterns = zip (map path_of dirs) globs })) (λ matcher h. subst (HasSamePatterns matcher) same h) c.build.ensures.same

@@ -8,13 +8,14 @@ use Rattle.jj_matchers.specs.declared.matchers.path_glob_pattern.PathGlobPattern
 use Rattle.jj_globs.specs.GlobMeaning.{GlobSpec}
 use Rattle.jj_matchers.specs.Patterns.{Patterns}
 use Rattle.jj_matchers.proofs.PatternTrees.{any-map, same_patterns}
+use Rattle.jj_matchers.proofs.SetMeanings.{matched_by}
 use Rattle.jj_matchers.proofs.matchers.globs_matcher.GlobsMatcherBuilder.build.Goals as goal
 
 abbrev pattern_of : RepoPath × Bor PathGlobPattern → Path × GlobSpec
 pattern_of p = (path_of p.0, p.1.now)
 
-pub returns : goal.returns
-returns c =
+pub returns-clause-same : goal.returns-clause-same
+returns-clause-same c =
     let sorted = c.as_slice-2.result.now in
     record {
       mode = ap (λ (set : Patterns). set.prefix_paths) c.self.view_is;
@@ -29,3 +30,6 @@ returns c =
           ∙ sym (any-map pattern_of test c.self.inside.dir_patterns.items)
           ∙ ap (λ (set : Patterns). list_any test set.patterns) c.self.view_is;
     }
+
+pub returns-clause-accepts : goal.returns-clause-accepts
+returns-clause-accepts c = matched_by _ _ (returns-clause-same c)

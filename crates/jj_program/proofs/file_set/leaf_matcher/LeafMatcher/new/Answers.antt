@@ -21,14 +21,14 @@ pub returns-in_ok-new-in-Files : goal.returns-in_ok-new-in-Files
 returns-in_ok-new-in-Files c =
     let wanted = c.in_ok-new-in-Files.field-0 in
     let paths = map path_of c.in-Files.paths.items in
-    let same : HasSamePaths wanted paths = subst (λ l. HasSamePaths wanted (map path_of l)) c.deref.ensures.value c.in_ok-new-in-Files.ensures in
+    let same : HasSamePaths wanted paths = subst (λ l. HasSamePaths wanted (map path_of l)) c.deref.ensures.value c.in_ok-new-in-Files.ensures.same in
     subst (λ set. StandsFor (Files wanted) (set_of set)) (sym c.in-Files.is) (files_stand wanted paths same)
 
 pub returns-in_ok-new-in-Prefix : goal.returns-in_ok-new-in-Prefix
 returns-in_ok-new-in-Prefix c =
     let prefixes = c.in_ok-new-in-Prefix.field-0 in
     let paths = map path_of c.in-Prefix.paths.items in
-    let same : HasSamePaths prefixes paths = subst (λ l. HasSamePaths prefixes (map path_of l)) c.deref-in-Prefix.ensures.value c.in_ok-new-in-Prefix.ensures in
+    let same : HasSamePaths prefixes paths = subst (λ l. HasSamePaths prefixes (map path_of l)) c.deref-in-Prefix.ensures.value c.in_ok-new-in-Prefix.ensures.same in
     subst (λ set. StandsFor (Prefix prefixes) (set_of set)) (sym c.in-Prefix.is) (prefixes_stand prefixes paths same)
 
 abbrev patterns_of : Bool → List RepoPath → List GlobSpec → Patterns

@@ -1,0 +1,17 @@
+-- A walk finds the marks below the root that the matcher's set has.
+use Rattle.std.proofs.Common.{◌≡◌, ◌≢◌, Bool, true, List, [], Contains, sym, subst}
+use Rattle.std.specs.Prelude.{◌↔◌}
+use Rattle.jj_paths.specs.Paths.{Path}
+use Rattle.jj_paths.specs.Tree.{Tree}
+use Rattle.jj_matchers.specs.Marks.{IsMarkedTree}
+use Rattle.jj_matchers.specs.Walk.{files_of}
+use Rattle.jj_matchers.specs.Laws.{FindsMarks}
+
+module _ (marks : List Path) (tree : Tree Bool) (found : List Path) (accepts : Path → Bool) (Has : Path → Type 0) where
+  pub found_files : FindsMarks → IsMarkedTree marks tree → found ≡ files_of accepts tree → ((path : Path) → (accepts path ≡ true) ↔ Has path)
+      → (path : Path) → Contains found path ↔ (Contains marks path × (path ≢ []) × Has path)
+  found_files finds made is has path =
+      let files = finds marks tree made accepts path in (
+        (λ h. let file = files.0 (subst (λ l. Contains l path) is h) in (file.0, file.1, (has path).0 file.2)),
+        (λ (marked, not_root, member). subst (λ l. Contains l path) (sym is) (files.1 (marked, not_root, (has path).1 member))),
+      )
