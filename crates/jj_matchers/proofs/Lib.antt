@@ -15,3 +15,4 @@ pub mod PatternAdds
 pub mod PatternOrder
 pub mod FoundMarks
 pub mod SetMeanings
+pub mod NamedSets

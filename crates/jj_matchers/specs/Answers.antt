@@ -1,5 +1,5 @@
 -- What a matcher answers for a directory, and what the answer promises.
--- Cited by contracts of public items: Answer, IsSound, all_recursively, nothing.
+-- Cited by contracts of public items: Answer, IsSound, NamesAll, all_recursively, nothing.
 use Rattle.std.specs.Prelude.{◌≡◌, Bool, true, false, [], ◌∷◌, ◌++◌}
 use Rattle.jj_paths.specs.Paths.{Name, Path}
 

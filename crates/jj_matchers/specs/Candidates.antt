@@ -1,5 +1,5 @@
 -- From which names an answer chooses, so that it can be told whether it has any.
--- Cited by contracts of public items: ChoosesFrom, names_of.
+-- Cited by contracts of public items: ChoosesFrom, IsAllOrAmong, names_of.
 use Rattle.std.specs.Prelude.{◌≡◌, Bool, true, ◌||◌, List, [], ◌∷◌, ◌++◌, ◌⊎◌}
 use Rattle.std.specs.List.{list_any}
 use Rattle.jj_paths.specs.Paths.{Name, Path}

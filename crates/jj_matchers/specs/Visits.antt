@@ -1,6 +1,6 @@
 -- What contracts see of a `Visit`.
--- Cited by contracts of public items: answer_of, dir_names, file_names, sets_answer.
-use Rattle.std.specs.Prelude.{Bool, true, List, [], ◌∷◌}
+-- Cited by contracts of public items: answer_of, dir_names, file_names, is_among, sets_answer.
+use Rattle.std.specs.Prelude.{Bool, true, false, ◌||◌, List, [], ◌∷◌, if◌then◌else◌}
 use Rattle.std.specs.Str.{bytes_eq}
 use Rattle.std.specs.List.{list_any}
 use Rattle.jj_paths.specs.Paths.{Name}
@@ -29,8 +29,11 @@ answer_of AllRecursively = all_recursively
 answer_of (Specific dirs files) = specific (dir_names dirs) (file_names files)
 answer_of Nothing = nothing
 
--- the answer that names two lists of children
+abbrev pub has_names : List Name → Bool
+has_names [] = false
+has_names (name ∷ names) = true
+
+-- the answer that names two lists of children, nothing if both are empty
 abbrev pub sets_answer : List Name → List Name → Answer
-sets_answer [] [] = nothing
-sets_answer [] (name ∷ names) = specific (is_among []) (is_among (name ∷ names))
-sets_answer (name ∷ names) files = specific (is_among (name ∷ names)) (is_among files)
+sets_answer dirs files =
+    if has_names dirs || has_names files then specific (is_among dirs) (is_among files) else nothing

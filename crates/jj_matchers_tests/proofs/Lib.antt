@@ -2,3 +2,4 @@ pub mod Singles
 pub mod FoundFiles
 pub mod Prefixes
 pub mod OneGlob
+pub mod TopLevel

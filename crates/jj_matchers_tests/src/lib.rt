@@ -17,6 +17,8 @@ mod fixtures;
 #[cfg(test)]
 mod globs;
 #[cfg(test)]
+pub mod own_matcher;
+#[cfg(test)]
 mod visits;
 #[cfg(test)]
 mod walks;

@@ -1,7 +1,9 @@
 //! What a matcher answers for a directory.
-ghost use Rattle.std.specs.Prelude.{◌≡◌, ◌↔◌, IsTrue};
-ghost use Rattle.jj_matchers.specs.Answers.{nothing};
-ghost use Rattle.jj_matchers.specs.Visits.{answer_of, sets_answer, dir_names, file_names};
+ghost use Rattle.std.specs.Prelude.{◌≡◌, ◌↔◌, Bool, List, IsTrue};
+ghost use Rattle.jj_paths.specs.Paths.{Name, Path};
+ghost use Rattle.jj_matchers.specs.Answers.{IsSound, NamesAll, nothing};
+ghost use Rattle.jj_matchers.specs.Candidates.{ChoosesFrom, IsAllOrAmong};
+ghost use Rattle.jj_matchers.specs.Visits.{answer_of, dir_names, file_names, is_among, sets_answer};
 
 use jj_paths::repo_path::RepoPathComponentBuf;
 use std::collections::HashSet;
@@ -32,9 +34,15 @@ pub enum VisitFiles {
 }
 
 impl Visit {
-    /// The answer that names these children; `Nothing` where both sets are empty.
+    /// Returns the visit that names these children; `Nothing` if both sets are empty. A matcher
+    /// whose accepted paths below the directory all begin with these names returns it from `visit`.
     pub fn sets(dirs: HashSet<RepoPathComponentBuf>, files: HashSet<RepoPathComponentBuf>) -> Visit
-        ensures { answer_of result ≡ sets_answer dirs.keys files.keys }
+        ensures answer { answer_of result ≡ sets_answer dirs.keys files.keys }
+        ensures sound { (accepts opens : Path → Bool) (dir : Path)
+            → NamesAll accepts opens dir (is_among dirs.keys) (is_among files.keys)
+            → IsSound accepts opens dir (answer_of result) }
+        ensures chosen { (names : List Name) → IsAllOrAmong names (is_among dirs.keys)
+            → IsAllOrAmong names (is_among files.keys) → ChoosesFrom names (answer_of result) }
     {
         if dirs.is_empty() && files.is_empty() {
             Visit::Nothing

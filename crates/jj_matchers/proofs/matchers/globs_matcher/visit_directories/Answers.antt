@@ -6,6 +6,6 @@ use Rattle.jj_matchers.proofs.matchers.globs_matcher.visit_directories.Goals as 
 pub returns : goal.returns
 returns c =
     let names = c.loop-name.dirs.keys in
-    c.sets.ensures
+    c.sets.ensures.answer
     ∙ ap (sets_answer names) c.new.ensures.empty
     ∙ directories_are c.args.tree.now.branches names c.children-name-items.ensures.by_name (none_left names _ _ c.in-None.ensures.steps.0 c.loop-name.invariant.dirs)
