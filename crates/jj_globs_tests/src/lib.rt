@@ -8,5 +8,3 @@
 pub mod callers;
 #[cfg(test)]
 mod globs;
-#[cfg(test)]
-mod random_globs;

@@ -13,8 +13,8 @@ use std::alloc::{AllocError, Global};
 use std::collections::HashSet;
 use std::process::Abort;
 
-/// A path of this text, which takes no memory.
-pub fn path<'a, R: Abort>(rt: &R, alloc: Global, text: &'a str) -> RepoPath<'a> {
+// A path of this text, which takes no memory.
+fn path<'a, R: Abort>(rt: &R, alloc: Global, text: &'a str) -> RepoPath<'a> {
     match RepoPath::from_internal_string(alloc, if text == "." { "" } else { text }) {
         Ok(path) => path,
         Err(_) => panic!(rt; "{text} is a path"),
@@ -45,8 +45,8 @@ fn paths<'a, R: Abort>(
     Ok(paths)
 }
 
-/// The set of the names that the text joins by `/`; `-` is the empty set.
-pub fn names<R: Abort>(
+// The set of the names that the text joins by `/`; `-` is the empty set.
+fn names<R: Abort>(
     rt: &R,
     alloc: Global,
     joined: &str,
@@ -60,14 +60,9 @@ pub fn names<R: Abort>(
     Ok(names)
 }
 
-/// The answer with these children as directories and as files: sets of names, or `*` for every
-/// child. `**` stands for everything below, and two empty sets for nothing.
-pub fn answer<R: Abort>(
-    rt: &R,
-    alloc: Global,
-    dirs: &str,
-    files: &str,
-) -> Result<Visit, AllocError> {
+// The answer with these children as directories and as files: sets of names, or `*` for every
+// child. `**` stands for everything below, and two empty sets for nothing.
+fn answer<R: Abort>(rt: &R, alloc: Global, dirs: &str, files: &str) -> Result<Visit, AllocError> {
     if dirs == "**" {
         return Ok(Visit::AllRecursively);
     }
@@ -110,8 +105,8 @@ pub fn answers<R: Abort, M: Matcher>(rt: &R, alloc: Global, matcher: M, wanted: 
     Ok(())
 }
 
-/// Checks the answer for a directory, by its children as directories and as files.
-pub fn visits<R: Abort, M: Matcher>(
+// Checks the answer for a directory, by its children as directories and as files.
+fn visits<R: Abort, M: Matcher>(
     rt: &R,
     alloc: Global,
     matcher: &M,
@@ -139,8 +134,8 @@ pub fn prefix<R: Abort>(rt: &R, alloc: Global, list: &str) -> Result<PrefixMatch
     PrefixMatcher::new(alloc, paths(rt, alloc, list)?.as_slice())
 }
 
-/// The pattern of this text.
-pub fn pattern<R: Abort>(rt: &R, alloc: Global, text: &str) -> Result<PathGlobPattern, AllocError> {
+// The pattern of this text.
+fn pattern<R: Abort>(rt: &R, alloc: Global, text: &str) -> Result<PathGlobPattern, AllocError> {
     match PathGlobPattern::parse(alloc, text) {
         Ok(pattern) => Ok(pattern),
         Err(GlobError::Memory) => Err(AllocError),

@@ -5,20 +5,12 @@
 #![tactic(auto)]
 
 #[cfg(test)]
-mod answers;
-#[cfg(test)]
 pub mod callers;
 #[cfg(test)]
 mod combined;
 #[cfg(test)]
-mod copies;
-#[cfg(test)]
 mod fixtures;
 #[cfg(test)]
-mod globs;
-#[cfg(test)]
 pub mod own_matcher;
-#[cfg(test)]
-mod visits;
 #[cfg(test)]
 mod walks;

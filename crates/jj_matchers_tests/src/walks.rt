@@ -1,59 +1,14 @@
-//! What a walk finds and where it goes.
+//! What walks by combined and by boxed matchers find, and where they go.
 use crate::fixtures::{Wanted, answers, files, globs, prefix, walks};
 use jj_content_tests::once_more::{Passed, passes};
 use jj_matchers::matchers::{
-    DifferenceMatcher, EverythingMatcher, IntersectionMatcher, Matcher, NothingMatcher,
-    PrefixMatcher, UnionMatcher, Visit,
+    DifferenceMatcher, EverythingMatcher, IntersectionMatcher, Matcher, PrefixMatcher,
+    UnionMatcher, Visit,
 };
 use jj_paths::repo_path::RepoPath;
 use std::alloc::{AllocError, Global};
 use std::process::Abort;
 use std::test::Fail;
-
-// Marks, the files that a walk through everything finds, and the directories that it enters. A path
-// is ordered by its names: what is in `dir` comes before `dir#`. The root is never a file, and a
-// root without children is not entered.
-const WHOLE: [(&str, &str, &str); 4] = [
-    ("dir# dir/sub dir", "dir dir/sub dir#", ". dir"),
-    ("a/b/c/d a/b2 a/b/c", "a/b/c a/b/c/d a/b2", ". a a/b a/b/c"),
-    ("", "", ""),
-    (".", "", ""),
-];
-
-// The wanted files, marks, the files that a walk finds, and the directories that it enters.
-const FILES: [(&str, &str, &str, &str); 5] = [
-    (".", ".", "", ""),
-    ("a", "a a/b", "a", "."),
-    ("a/b", "a a/b", "a/b", ". a"),
-    ("", "a a/b", "", ""),
-    ("a/c d/e/f", "a/b d/x/y g/h", "", ". a d"),
-];
-
-fn walks_files<R: Abort>(rt: &R, alloc: Global) -> Passed {
-    for (marks, found, entered) in WHOLE {
-        walks(rt, alloc, EverythingMatcher, marks, found, entered)?;
-    }
-    for (wanted, marks, found, entered) in FILES {
-        walks(rt, alloc, files(rt, alloc, wanted)?, marks, found, entered)?;
-    }
-    walks(rt, alloc, NothingMatcher, "a b/c", "", "")
-}
-
-// A matcher that is lent walks as the matcher itself.
-fn walks_prefixes<R: Abort>(rt: &R, alloc: Global) -> Passed {
-    let one = prefix(rt, alloc, "a")?;
-    walks(rt, alloc, &one, "a/x ab", "a/x", ". a")?;
-    walks(rt, alloc, one, "a/x ab", "a/x", ". a")?;
-    let two = prefix(rt, alloc, "c/d a/x")?;
-    let marks = "a/x/y/z a/w/v c c/d c/e/f g/h";
-    walks(rt, alloc, two, marks, "a/x/y/z c/d", ". a a/x a/x/y c")
-}
-
-#[test]
-fn constants_files_and_prefixes(rt: HostRuntime) -> Result<(), Fail> {
-    passes(&rt, walks_files)?;
-    passes(&rt, walks_prefixes)
-}
 
 fn walks_combined<R: Abort>(rt: &R, alloc: Global) -> Passed {
     walks(rt, alloc, globs(rt, alloc, true, "d:")?, "d/x", "", ". d")?;

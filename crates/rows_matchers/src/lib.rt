@@ -1,6 +1,11 @@
 //! Requests of the conformance table on globs, matchers and pruned walks.
 #![tactic(auto)]
 
+mod globs;
+mod matchers;
+mod paths;
+mod visits;
+
 use rows::request::Request;
 use rows::row_error::RowError;
 use rows::values::Values;
@@ -8,10 +13,16 @@ use std::alloc::Global;
 
 /// Runs the request of this name. Returns `false` if this crate has no such request.
 pub fn call(
-    _alloc: Global,
-    _name: &str,
-    _request: &Request,
-    _values: &mut Values,
+    alloc: Global,
+    name: &str,
+    request: &Request,
+    values: &mut Values,
 ) -> Result<bool, RowError> {
-    Ok(false)
+    if globs::call(alloc, name, request, values)? {
+        return Ok(true);
+    }
+    if visits::call(alloc, name, request, values)? {
+        return Ok(true);
+    }
+    matchers::call(alloc, name, request, values)
 }

@@ -1,0 +1,261 @@
+//! Requests on matchers: which files one accepts, its visits of directories, and what a walk by it
+//! finds. The first field is the kind of matcher, its arguments follow; the last group has the
+//! files, the directories or the marked paths.
+use crate::paths::{parse_path, parse_paths};
+use crate::visits::put_visit;
+use jj_globs::glob::GlobError;
+use jj_matchers::matchers::{
+    EverythingMatcher, FilesMatcher, GlobsMatcher, Matcher, NothingMatcher, PathGlobPattern,
+    PrefixMatcher, marked_tree, walk_matching,
+};
+use jj_paths::repo_path::{RepoPath, RepoPathBuf};
+use rows::request::{Fields, Request};
+use rows::row_error::{RowError, agree};
+use rows::values::Values;
+use std::alloc::{AllocError, Global};
+
+fn put_matches<M: Matcher>(
+    alloc: Global,
+    matcher: &M,
+    files: &Fields,
+    values: &mut Values,
+) -> Result<(), RowError> {
+    for index in 0..files.len() {
+        values.flag(matcher.matches(parse_path(alloc, files.string(index)?)?));
+    }
+    Ok(())
+}
+
+fn put_visits<M: Matcher>(
+    alloc: Global,
+    matcher: &M,
+    dirs: &Fields,
+    values: &mut Values,
+) -> Result<(), RowError> {
+    for index in 0..dirs.len() {
+        let visit = matcher.visit(alloc, parse_path(alloc, dirs.string(index)?)?)?;
+        put_visit(alloc, &visit, values);
+    }
+    Ok(())
+}
+
+fn put_paths(paths: &[RepoPathBuf], values: &mut Values) {
+    for path in paths {
+        let path = path.as_path();
+        values.string(if path.is_root() {
+            "."
+        } else {
+            path.as_internal_file_string()
+        });
+    }
+}
+
+// The files that a walk finds, and the directories that it enters.
+fn put_walk<M: Matcher>(
+    alloc: Global,
+    matcher: &M,
+    marks: &Fields,
+    values: &mut Values,
+) -> Result<(), RowError> {
+    let tree = marked_tree(alloc, parse_paths(alloc, marks, 0)?.as_slice())?;
+    let walk = walk_matching(alloc, &tree, matcher)?;
+    put_paths(walk.files.as_slice(), values);
+    values.word("|");
+    put_paths(walk.entered.as_slice(), values);
+    Ok(())
+}
+
+// Runs the request of this name on a matcher.
+fn ask<M: Matcher>(
+    alloc: Global,
+    name: &str,
+    matcher: &M,
+    subjects: &Fields,
+    values: &mut Values,
+) -> Result<(), RowError> {
+    match name {
+        "matches" => put_matches(alloc, matcher, subjects, values),
+        "visit" => put_visits(alloc, matcher, subjects, values),
+        _ => put_walk(alloc, matcher, subjects, values),
+    }
+}
+
+fn ask_files(
+    alloc: Global,
+    name: &str,
+    request: &Request,
+    values: &mut Values,
+) -> Result<(), RowError> {
+    let files = parse_paths(alloc, request.group(0)?, 1)?;
+    let matcher = FilesMatcher::new(alloc, files.as_slice())?;
+    ask(alloc, name, &matcher, request.group(1)?, values)
+}
+
+fn ask_prefix(
+    alloc: Global,
+    name: &str,
+    request: &Request,
+    values: &mut Values,
+) -> Result<(), RowError> {
+    let prefixes = parse_paths(alloc, request.group(0)?, 1)?;
+    let matcher = PrefixMatcher::new(alloc, prefixes.as_slice())?;
+    ask(alloc, name, &matcher, request.group(1)?, values)
+}
+
+// A glob, which ignores case if it begins with `(?i)`.
+fn parse_glob(alloc: Global, text: &str) -> Result<Result<PathGlobPattern, GlobError>, RowError> {
+    let parsed = match text.strip_prefix("(?i)") {
+        Some(text) => PathGlobPattern::parse_i(alloc, text),
+        None => PathGlobPattern::parse(alloc, text),
+    };
+    match parsed {
+        Err(GlobError::Memory) => Err(RowError::Memory),
+        parsed => Ok(parsed),
+    }
+}
+
+// A directory and its glob, joined by a colon.
+fn split_pattern(field: &str) -> Result<(&str, &str), RowError> {
+    match field.split_once(':') {
+        Some(pattern) => Ok(pattern),
+        None => Err(RowError::Unreadable("directory and glob")),
+    }
+}
+
+fn parse_dirs(alloc: Global, fields: &Fields) -> Result<Vec<RepoPath<'_>>, RowError> {
+    let mut dirs = Vec::new(alloc);
+    for index in 1..fields.len() {
+        let (dir, _) = split_pattern(fields.string(index)?)?;
+        dirs.push(parse_path(alloc, dir)?)?;
+    }
+    Ok(dirs)
+}
+
+fn parse_globs(alloc: Global, fields: &Fields) -> Result<Vec<PathGlobPattern>, RowError> {
+    let mut globs = Vec::new(alloc);
+    for index in 1..fields.len() {
+        let (_, text) = split_pattern(fields.string(index)?)?;
+        match parse_glob(alloc, text)? {
+            Ok(glob) => globs.push(glob)?,
+            Err(_) => return Err(RowError::Unreadable("glob")),
+        }
+    }
+    Ok(globs)
+}
+
+fn build_globs(
+    alloc: Global,
+    prefix_paths: bool,
+    dirs: &[RepoPath<'_>],
+    globs: &[PathGlobPattern],
+) -> Result<GlobsMatcher, AllocError> {
+    let mut builder = GlobsMatcher::builder(alloc).prefix_paths(prefix_paths);
+    for (dir, glob) in dirs.iter().zip(globs) {
+        builder.add(*dir, glob)?;
+    }
+    builder.build()
+}
+
+fn ask_globs(
+    alloc: Global,
+    name: &str,
+    prefix_paths: bool,
+    request: &Request,
+    values: &mut Values,
+) -> Result<(), RowError> {
+    let fields = request.group(0)?;
+    let dirs = parse_dirs(alloc, fields)?;
+    let globs = parse_globs(alloc, fields)?;
+    let matcher = build_globs(alloc, prefix_paths, dirs.as_slice(), globs.as_slice())?;
+    ask(alloc, name, &matcher, request.group(1)?, values)
+}
+
+// Runs the request of this name on a matcher of the kind in the first field.
+fn ask_kind(
+    alloc: Global,
+    name: &str,
+    request: &Request,
+    values: &mut Values,
+) -> Result<(), RowError> {
+    match request.group(0)?.string(0)? {
+        "everything" => ask(alloc, name, &EverythingMatcher, request.group(1)?, values),
+        "nothing" => ask(alloc, name, &NothingMatcher, request.group(1)?, values),
+        "files" => ask_files(alloc, name, request, values),
+        "prefix" => ask_prefix(alloc, name, request, values),
+        "globs" => ask_globs(alloc, name, false, request, values),
+        "prefix-globs" => ask_globs(alloc, name, true, request, values),
+        _ => Err(RowError::Unreadable("kind of matcher")),
+    }
+}
+
+// The matchers of a builder that accepts what lies below a match: of a clone after each pattern, a
+// clone of its own one, and last the one without what lies below a match.
+fn build_each(
+    alloc: Global,
+    dirs: &[RepoPath<'_>],
+    globs: &[PathGlobPattern],
+) -> Result<Vec<GlobsMatcher>, AllocError> {
+    let mut matchers = Vec::new(alloc);
+    let mut builder = GlobsMatcher::builder(alloc).prefix_paths(true);
+    for (dir, glob) in dirs.iter().zip(globs) {
+        builder.add(*dir, glob)?;
+        matchers.push(builder.clone()?.build()?)?;
+    }
+    matchers.push(builder.build()?.clone()?)?;
+    matchers.push(builder.prefix_paths(false).build()?)?;
+    Ok(matchers)
+}
+
+// For each of these matchers, whether it accepts each file.
+fn globs_builder(alloc: Global, request: &Request, values: &mut Values) -> Result<(), RowError> {
+    let fields = request.group(0)?;
+    let files = request.group(1)?;
+    let dirs = parse_dirs(alloc, fields)?;
+    let globs = parse_globs(alloc, fields)?;
+    for matcher in &build_each(alloc, dirs.as_slice(), globs.as_slice())? {
+        put_matches(alloc, matcher, files, values)?;
+    }
+    Ok(())
+}
+
+// The regular expression and the debug form of a path's glob, or its error.
+fn path_glob(alloc: Global, fields: &Fields, values: &mut Values) -> Result<(), RowError> {
+    let text = fields.string(0)?;
+    match parse_glob(alloc, text)? {
+        Ok(glob) => {
+            values.allocated(glob.as_regex(alloc));
+            values.debug(&glob);
+            let clone = glob.clone()?;
+            agree(text.ends_with(clone.as_str()), "text of a clone")
+        }
+        Err(error) => {
+            values.debug(&error);
+            Ok(())
+        }
+    }
+}
+
+// The debug forms of the matchers of no path and of every path.
+fn debug_matchers(values: &mut Values) -> Result<(), RowError> {
+    values.debug(&NothingMatcher);
+    values.debug(&EverythingMatcher);
+    let is_reflexive = NothingMatcher == NothingMatcher && EverythingMatcher == EverythingMatcher;
+    agree(is_reflexive, "equality of matchers")
+}
+
+pub(crate) fn call(
+    alloc: Global,
+    name: &str,
+    request: &Request,
+    values: &mut Values,
+) -> Result<bool, RowError> {
+    let called = match name {
+        "matches" | "visit" | "walk" => ask_kind(alloc, name, request, values),
+        "globs-builder" => globs_builder(alloc, request, values),
+        "path-glob" => path_glob(alloc, request.group(0)?, values),
+        "debug-matchers" => debug_matchers(values),
+        _ => return Ok(false),
+    };
+    called?;
+    Ok(true)
+}
