@@ -1,5 +1,4 @@
-//! Callers of `jj_walks` that are proved by its contracts, and tests of what no row of the conformance
-//! table can show.
+//! Proved callers of walks over commits, and tests of walks that are no rows of the table.
 #![tactic(auto)]
 
 #[cfg(test)]
