@@ -1,65 +1,26 @@
-//! Content bytes and digests of values, type by type.
+//! Content bytes and digests of records and enums whose content is written by hand.
 //
 // In a run in which one request for memory is refused, a call answers that or the right value, and
 // is then made once more, when there is memory.
-use crate::known_answers::OF_RECORD;
 use crate::recorder::{assert_content, digest_of};
 use crate::records::{Foo, GenericFoo, Kind, Maybe, Quadruple, Single, Triple};
-use jj_content::blake2b::Blake2b512;
-use jj_content::content_hash::{DigestUpdate, content_decides};
+use jj_content::content_hash::content_decides;
 use std::alloc::{AllocError, Global};
 use std::test::Fail;
+
+// The digest of the content of the record of `[None, Some(42)]` and 17.
+const OF_RECORD: [u8; 64] = [
+    0xe3, 0x3c, 0x42, 0x3b, 0x4b, 0x77, 0x4b, 0x13, 0x53, 0xc4, 0x14, 0xe0, 0xf9, 0xef, 0x10, 0x88,
+    0x22, 0xfd, 0xe2, 0xfd, 0x51, 0x13, 0xfc, 0xd5, 0x3b, 0xf7, 0xbd, 0x9e, 0x74, 0xe3, 0x20, 0x66,
+    0x90, 0xb9, 0x6a, 0xf9, 0x63, 0x73, 0xf2, 0x68, 0xed, 0x95, 0xdd, 0x02, 0x0c, 0x7c, 0xbe, 0x17,
+    0x1c, 0x7b, 0x7a, 0x69, 0x47, 0xfc, 0xaf, 0x57, 0x03, 0xff, 0x6c, 0x8e, 0x20, 0x8c, 0xef, 0xd4,
+];
 
 fn foo(alloc: Global) -> Result<Foo, AllocError> {
     Ok(Foo {
         x: [None, Some(42)].to_vec(alloc)?,
         y: 17,
     })
-}
-
-#[test]
-fn numbers_and_flags(rt: HostRuntime) {
-    let alloc = rt.alloc();
-    assert_content(&rt, alloc, &(), b"");
-    assert_content(&rt, alloc, &true, b"\x01");
-    assert_content(&rt, alloc, &false, b"\x00");
-    assert_content(&rt, alloc, &200u8, b"\xc8");
-    assert_content(&rt, alloc, &0x01020304u32, b"\x04\x03\x02\x01");
-    assert_content(&rt, alloc, &-2i32, b"\xfe\xff\xff\xff");
-    assert_content(
-        &rt,
-        alloc,
-        &0x0102030405060708u64,
-        b"\x08\x07\x06\x05\x04\x03\x02\x01",
-    );
-    assert_content(&rt, alloc, &-2i64, b"\xfe\xff\xff\xff\xff\xff\xff\xff");
-}
-
-#[test]
-fn lists_and_texts(rt: HostRuntime) -> Result<(), Fail> {
-    let alloc = rt.alloc();
-    let id = b"\xde\xad\xbe\xef\x01\x23".as_slice();
-    let id_content = b"\x06\x00\x00\x00\x00\x00\x00\x00\xde\xad\xbe\xef\x01\x23";
-    assert_content(&rt, alloc, &id, id_content);
-    let owned = id.to_vec(alloc).or_else(|_| id.to_vec(alloc))?;
-    assert_content(&rt, alloc, &owned, id_content);
-    let text = "柔術";
-    let text_content = b"\x06\x00\x00\x00\x00\x00\x00\x00\xe6\x9f\x94\xe8\xa1\x93";
-    assert_content(&rt, alloc, &text, text_content);
-    let owned = String::from_str(alloc, text).or_else(|_| String::from_str(alloc, text))?;
-    assert_content(&rt, alloc, &owned, text_content);
-    Ok(())
-}
-
-#[test]
-fn options_and_tuples(rt: HostRuntime) {
-    let alloc = rt.alloc();
-    assert_content(&rt, alloc, &None::<u8>, b"\x00\x00\x00\x00");
-    assert_content(&rt, alloc, &Some(7u8), b"\x01\x00\x00\x00\x07");
-    assert_content(&rt, alloc, &(1u8,), b"\x01");
-    assert_content(&rt, alloc, &(1u8, false), b"\x01\x00");
-    assert_content(&rt, alloc, &(1u8, false, 3u8), b"\x01\x00\x03");
-    assert_content(&rt, alloc, &(1u8, false, 3u8, 4u8), b"\x01\x00\x03\x04");
 }
 
 #[test]
@@ -83,6 +44,9 @@ fn enums(rt: HostRuntime) -> Result<(), Fail> {
         b"\x01\x00\x00\x00\x05\x00\x00\x00\x00\x00\x00\x00",
     );
     assert_content(&rt, alloc, &Kind::Absent, b"\x02\x00\x00\x00");
+    assert_content(&rt, alloc, &Maybe::Nothing, b"\x00\x00\x00\x00");
+    let just = b"\x01\x00\x00\x00\x01\x00\x00\x00";
+    assert_content(&rt, alloc, &Maybe::Just(1), just);
     Ok(())
 }
 
@@ -111,18 +75,6 @@ fn no_content_begins_another(rt: HostRuntime) -> Result<(), Fail> {
 }
 
 #[test]
-fn texts_differ(rt: HostRuntime) -> Result<(), Fail> {
-    let alloc = rt.alloc();
-    let a = digest_of(alloc, &"a")?;
-    assert_eq!(rt; digest_of(alloc, &"a")?, a);
-    assert_ne!(rt; digest_of(alloc, &"b")?, a);
-    assert_ne!(rt; digest_of(alloc, &"a\0")?, a);
-    let owned = String::from_str(alloc, "a").or_else(|_| String::from_str(alloc, "a"))?;
-    assert_eq!(rt; digest_of(alloc, &owned)?, a);
-    Ok(())
-}
-
-#[test]
 fn structs_of_numbers_are_as_tuples(rt: HostRuntime) -> Result<(), Fail> {
     let alloc = rt.alloc();
     assert_eq!(rt; digest_of(alloc, &Single(0))?, digest_of(alloc, &(0i32,))?);
@@ -143,39 +95,6 @@ fn structs_of_numbers_are_as_tuples(rt: HostRuntime) -> Result<(), Fail> {
         digest_of(alloc, &Single(42))?,
         digest_of(alloc, &Single(12))?
     );
-    Ok(())
-}
-
-#[test]
-fn options_are_no_values(rt: HostRuntime) -> Result<(), Fail> {
-    let alloc = rt.alloc();
-    let number = digest_of(alloc, &42i32)?;
-    assert_ne!(rt; digest_of(alloc, &Some(42i32))?, number);
-    assert_ne!(rt; digest_of(alloc, &None::<i32>)?, number);
-    assert_eq!(rt;
-        digest_of(alloc, &None::<i32>)?,
-        digest_of(alloc, &Maybe::Nothing)?
-    );
-    assert_eq!(rt;
-        digest_of(alloc, &Some(1i32))?,
-        digest_of(alloc, &Maybe::Just(1))?
-    );
-    Ok(())
-}
-
-#[test]
-fn lists_are_no_items(rt: HostRuntime) -> Result<(), Fail> {
-    let alloc = rt.alloc();
-    let none = digest_of(alloc, &[0i32; 0].as_slice())?;
-    let one = digest_of(alloc, &[42i32].as_slice())?;
-    assert_ne!(rt; one, digest_of(alloc, &[12i32].as_slice())?);
-    assert_ne!(rt; none, one);
-    assert_ne!(rt; none, digest_of(alloc, &())?);
-    assert_ne!(rt; digest_of(alloc, &42i32)?, one);
-    assert_eq!(rt; none, digest_of(alloc, &"")?);
-    let mut zeros = Blake2b512::new();
-    DigestUpdate::update(&mut zeros, &[0; 8]);
-    assert_eq!(rt; none, zeros.finalize());
     Ok(())
 }
 

@@ -43,31 +43,10 @@ pub fn matcher<R: Abort>(
     pattern(rt, alloc, kind, text)?.to_matcher(alloc)
 }
 
-/// So many times the letter, and then an end.
-pub fn letters(alloc: Global, letter: &str, times: u32, end: &str) -> Result<String, AllocError> {
-    let mut text = String::new(alloc);
-    for _ in 0..times {
-        text.push_str(letter)?;
-    }
-    text.push_str(end)?;
-    Ok(text)
-}
-
 /// Checks the debug form of a value.
 pub fn shows<R: Abort, T: fmt::Debug>(rt: &R, alloc: Global, value: &T, shown: &str) -> Passed {
     assert_eq!(rt; format!(in alloc; "{value:?}")?.as_str(), shown);
     Ok(())
-}
-
-/// Checks the debug forms of a value and of its clone.
-pub fn shows_with_copy<R: Abort, T: Clone + fmt::Debug + Drop>(
-    rt: &R,
-    alloc: Global,
-    value: &T,
-    shown: &str,
-) -> Passed {
-    shows(rt, alloc, value, shown)?;
-    shows(rt, alloc, &value.clone()?, shown)
 }
 
 /// Checks what was answered for a string.
@@ -84,19 +63,6 @@ pub fn matches<R: Abort>(
     wanted: bool,
 ) -> Passed {
     answers(rt, matcher.is_match(alloc, string)?, wanted, string);
-    Ok(())
-}
-
-/// Checks whether a matcher holds a string of bytes.
-pub fn matches_bytes<R: Abort>(
-    rt: &R,
-    alloc: Global,
-    matcher: &StringMatcher,
-    bytes: &[u8],
-    wanted: bool,
-) -> Passed {
-    let found = matcher.is_match_bytes(alloc, bytes)?;
-    assert_eq!(rt; found, wanted, "{matcher:?} and {bytes:?}");
     Ok(())
 }
 

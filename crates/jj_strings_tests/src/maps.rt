@@ -151,11 +151,6 @@ fn filters_both<R: Abort, K: TextKey>(rt: &R, alloc: Global) -> Passed {
 }
 
 #[test]
-fn maps_by_texts(rt: HostRuntime) -> Result<(), Fail> {
-    passes(&rt, filters_both::<_, String>)
-}
-
-#[test]
 fn maps_by_names(rt: HostRuntime) -> Result<(), Fail> {
     passes(&rt, |rt, alloc| {
         filters_both::<_, GitRefNameBuf>(rt, alloc)?;

@@ -1,17 +1,45 @@
-//! Requests of the conformance table on hex, symbols, ids, names, content and patterns.
+//! Requests on hex digits, symbols, ids, names, string patterns and content.
 #![tactic(auto)]
 
-use rows::request::Request;
+mod content;
+mod hex;
+mod ids;
+mod names;
+mod patterns;
+
+use rows::request::{Fields, Request};
 use rows::row_error::RowError;
 use rows::values::Values;
 use std::alloc::Global;
 
 /// Runs the request of this name. Returns `false` if this crate has no such request.
 pub fn call(
-    _alloc: Global,
-    _name: &str,
-    _request: &Request,
-    _values: &mut Values,
+    alloc: Global,
+    name: &str,
+    request: &Request,
+    values: &mut Values,
 ) -> Result<bool, RowError> {
-    Ok(false)
+    Ok(
+        hex::call(alloc, name, request, values)?
+            || ids::call(alloc, name, request, values)?
+            || names::call(alloc, name, request, values)?
+            || content::call(alloc, name, request, values)?
+            || patterns::call(alloc, name, request, values)?,
+    )
+}
+
+// The only field of a group. A group of one empty field is written as one without fields.
+pub(crate) fn only_bytes(fields: &Fields) -> Result<&[u8], RowError> {
+    if fields.is_empty() {
+        return Ok(b"");
+    }
+    fields.bytes(0)
+}
+
+// The only field of a group as a string.
+pub(crate) fn only_string(fields: &Fields) -> Result<&str, RowError> {
+    if fields.is_empty() {
+        return Ok("");
+    }
+    fields.string(0)
 }

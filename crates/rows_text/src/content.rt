@@ -1,0 +1,350 @@
+//! Requests on digests, content and JSON texts.
+use crate::only_bytes;
+use jj_content::blake2b::Blake2b512;
+use jj_content::content_hash::{ContentHash, DigestUpdate, ToJson, ToJsonError, blake2b_hash};
+use jj_content::hex_util::{decode_hex, encode_hex};
+use rows::request::{Fields, Request};
+use rows::row_error::{RowError, agree};
+use rows::values::Values;
+use std::alloc::{AllocError, Global};
+use std::collections::{BTreeMap, HashMap, HashSet};
+
+// A digest state that records what it takes in, and whether there was memory for all of it.
+#[derive(Drop)]
+struct Recorder {
+    bytes: Vec<u8>,
+    is_whole: bool,
+}
+
+impl DigestUpdate for Recorder {
+    ghost use Rattle.std.specs.Prelude.{⊤};
+
+    ghost stands_for = { λ _ _. ⊤ };
+
+    fn update(&mut self, bytes: &[u8]) {
+        if self.is_whole && self.bytes.extend_from_slice(bytes).is_err() {
+            self.is_whole = false;
+        }
+    }
+}
+
+fn digest_of(bytes: &[u8]) -> [u8; 64] {
+    let mut hasher = Blake2b512::new();
+    hasher.update(bytes);
+    hasher.finalize()
+}
+
+// The content of a value as a hex string.
+pub(crate) fn content_of<T: ContentHash>(alloc: Global, value: &T) -> Result<String, AllocError> {
+    let mut recorder = Recorder {
+        bytes: Vec::new(alloc),
+        is_whole: true,
+    };
+    value.hash(alloc, &mut recorder)?;
+    if !recorder.is_whole {
+        return Err(AllocError);
+    }
+    encode_hex(alloc, recorder.bytes.as_slice())
+}
+
+// Appends the content of a value as a hex string. Its digest is that of the content.
+pub(crate) fn put_content<T: ContentHash>(
+    alloc: Global,
+    values: &mut Values,
+    value: &T,
+) -> Result<(), RowError> {
+    let content = content_of(alloc, value)?;
+    values.string(content.as_str());
+    let digest = blake2b_hash(alloc, value)?;
+    let Some(bytes) = decode_hex(alloc, content.as_str())? else {
+        return Err(RowError::Disagreement("content as a hex string"));
+    };
+    agree(
+        digest == digest_of(bytes.as_slice()),
+        "the digest of a value and of its content",
+    )
+}
+
+// The digest of a byte string.
+fn digest(alloc: Global, request: &Request, values: &mut Values) -> Result<(), RowError> {
+    let digest = digest_of(only_bytes(request.group(0)?)?);
+    values.allocated(encode_hex(alloc, digest.as_slice()));
+    Ok(())
+}
+
+// The message of a length whose byte at index i is 7 i + 3 modulo 256.
+fn message(alloc: Global, length: usize) -> Result<Vec<u8>, AllocError> {
+    let mut message = Vec::new(alloc);
+    let mut byte = 3u8;
+    for _ in 0..length {
+        message.push(byte)?;
+        byte = byte.wrapping_add(7);
+    }
+    Ok(message)
+}
+
+// The digest of the digests of the messages of all lengths up to a length.
+fn digest_lengths(alloc: Global, request: &Request, values: &mut Values) -> Result<(), RowError> {
+    let length = request.group(0)?.index(0)?;
+    let message = message(alloc, length)?;
+    let mut hasher = Blake2b512::new();
+    hasher.update(digest_of(b"").as_slice());
+    for index in 0..message.len() {
+        hasher.update(digest_of(&message.as_slice()[..index + 1]).as_slice());
+    }
+    values.allocated(encode_hex(alloc, hasher.finalize().as_slice()));
+    Ok(())
+}
+
+fn is_cut_anywhere(message: &[u8], digest: &[u8; 64]) -> bool {
+    for cut in 0..message.len() {
+        let mut hasher = Blake2b512::new();
+        hasher.update(&message[..cut]);
+        hasher.update(&message[cut..]);
+        if hasher.finalize() != *digest {
+            return false;
+        }
+    }
+    true
+}
+
+fn is_cut_into_pieces(message: &[u8], digest: &[u8; 64]) -> bool {
+    for size in 1..message.len() {
+        let mut hasher = Blake2b512::new();
+        for piece in message.chunks(size) {
+            hasher.update(piece);
+            hasher.update(b"");
+        }
+        if hasher.finalize() != *digest {
+            return false;
+        }
+    }
+    true
+}
+
+// The digest of the message of a length, which is the same for each two parts of it, and for
+// pieces of each size.
+fn digest_length(alloc: Global, request: &Request, values: &mut Values) -> Result<(), RowError> {
+    let length = request.group(0)?.index(0)?;
+    let message = message(alloc, length)?;
+    let digest = digest_of(message.as_slice());
+    values.allocated(encode_hex(alloc, digest.as_slice()));
+    agree(
+        is_cut_anywhere(message.as_slice(), &digest)
+            && is_cut_into_pieces(message.as_slice(), &digest),
+        "the digest of a message in parts",
+    )
+}
+
+fn out_of_range<E: Drop>(_error: E) -> RowError {
+    RowError::Unreadable("number")
+}
+
+fn number(alloc: Global, request: &Request, values: &mut Values) -> Result<(), RowError> {
+    let fields = request.group(0)?;
+    match fields.string(0)? {
+        "bool" => put_content(alloc, values, &fields.flag(1)?),
+        "u8" => {
+            let number = u8::try_from(fields.number(1)?).map_err(out_of_range)?;
+            put_content(alloc, values, &number)
+        }
+        "u32" => {
+            let number = u32::try_from(fields.number(1)?).map_err(out_of_range)?;
+            put_content(alloc, values, &number)
+        }
+        "i32" => {
+            let number = i32::try_from(fields.signed(1)?).map_err(out_of_range)?;
+            put_content(alloc, values, &number)
+        }
+        "u64" => put_content(alloc, values, &fields.number(1)?),
+        "i64" => put_content(alloc, values, &fields.signed(1)?),
+        _ => Err(RowError::Unreadable("type of number")),
+    }
+}
+
+// The content of a byte string, and of its owned form.
+fn bytes(alloc: Global, request: &Request, values: &mut Values) -> Result<(), RowError> {
+    let bytes = only_bytes(request.group(0)?)?;
+    put_content(alloc, values, &bytes)?;
+    put_content(alloc, values, &bytes.to_vec(alloc)?)
+}
+
+// The content of a string, and of its owned form.
+fn string(alloc: Global, request: &Request, values: &mut Values) -> Result<(), RowError> {
+    let string = crate::only_string(request.group(0)?)?;
+    put_content(alloc, values, &string)?;
+    put_content(alloc, values, &String::from_str(alloc, string)?)
+}
+
+fn small(fields: &Fields, index: usize) -> Result<u8, RowError> {
+    u8::try_from(fields.number(index)?).map_err(out_of_range)
+}
+
+fn integer(fields: &Fields, index: usize) -> Result<i32, RowError> {
+    i32::try_from(fields.signed(index)?).map_err(out_of_range)
+}
+
+// The content of an optional number: a byte, or an `i32`.
+fn option(alloc: Global, request: &Request, values: &mut Values) -> Result<(), RowError> {
+    let fields = request.group(0)?;
+    match fields.string(0)? {
+        "u8" if fields.len() < 2 => put_content(alloc, values, &None::<u8>),
+        "u8" => put_content(alloc, values, &Some(small(fields, 1)?)),
+        "i32" if fields.len() < 2 => put_content(alloc, values, &None::<i32>),
+        _ => put_content(alloc, values, &Some(integer(fields, 1)?)),
+    }
+}
+
+// The content of a tuple of none to four numbers.
+fn tuple(alloc: Global, request: &Request, values: &mut Values) -> Result<(), RowError> {
+    let fields = request.group(0)?;
+    match fields.len() {
+        0 => put_content(alloc, values, &()),
+        1 => put_content(alloc, values, &(integer(fields, 0)?,)),
+        2 => put_content(alloc, values, &(integer(fields, 0)?, small(fields, 1)?)),
+        3 => {
+            let numbers = (integer(fields, 0)?, small(fields, 1)?, small(fields, 2)?);
+            put_content(alloc, values, &numbers)
+        }
+        _ => {
+            let (first, second) = (integer(fields, 0)?, small(fields, 1)?);
+            let (third, fourth) = (small(fields, 2)?, fields.flag(3)?);
+            put_content(alloc, values, &(first, second, third, fourth))
+        }
+    }
+}
+
+// The content of a list of `i32`.
+fn list(alloc: Global, request: &Request, values: &mut Values) -> Result<(), RowError> {
+    let fields = request.group(0)?;
+    let mut numbers = Vec::new(alloc);
+    for index in 0..fields.len() {
+        numbers.push(integer(fields, index)?)?;
+    }
+    put_content(alloc, values, &numbers.as_slice())
+}
+
+// The content of an ordered and of a hashed map of these keys and values.
+fn map(alloc: Global, request: &Request, values: &mut Values) -> Result<(), RowError> {
+    let (keys, entries) = (request.group(0)?, request.group(1)?);
+    let mut ordered = BTreeMap::new(alloc);
+    let mut hashed = HashMap::new(alloc);
+    for index in 0..keys.len() {
+        let (key, value) = (small(keys, index)?, small(entries, index)?);
+        ordered.insert(key, value)?;
+        hashed.insert(key, value)?;
+    }
+    put_content(alloc, values, &ordered)?;
+    put_content(alloc, values, &hashed)
+}
+
+// The content of an ordered and of a hashed map of one string to another.
+fn string_map(alloc: Global, request: &Request, values: &mut Values) -> Result<(), RowError> {
+    let fields = request.group(0)?;
+    let (key, value) = (fields.string(0)?, fields.string(1)?);
+    let mut ordered = BTreeMap::new(alloc);
+    ordered.insert(
+        String::from_str(alloc, key)?,
+        String::from_str(alloc, value)?,
+    )?;
+    put_content(alloc, values, &ordered)?;
+    let mut hashed = HashMap::new(alloc);
+    hashed.insert(
+        String::from_str(alloc, key)?,
+        String::from_str(alloc, value)?,
+    )?;
+    put_content(alloc, values, &hashed)
+}
+
+fn set(alloc: Global, request: &Request, values: &mut Values) -> Result<(), RowError> {
+    let members = request.group(0)?;
+    let mut set = HashSet::new(alloc);
+    for index in 0..members.len() {
+        set.insert(small(members, index)?)?;
+    }
+    put_content(alloc, values, &set)
+}
+
+// The content of the maps of all bytes to 7, filled upwards and downwards.
+fn all_bytes_map(alloc: Global, values: &mut Values) -> Result<(), RowError> {
+    let mut ordered = BTreeMap::new(alloc);
+    let mut up = HashMap::new(alloc);
+    let mut down = HashMap::new(alloc);
+    let mut byte = 0u8;
+    for _ in 0..256 {
+        ordered.insert(byte, 7u8)?;
+        up.insert(byte, 7u8)?;
+        down.insert(255 - byte, 7u8)?;
+        byte = byte.wrapping_add(1);
+    }
+    put_content(alloc, values, &ordered)?;
+    let digest = blake2b_hash(alloc, &ordered)?;
+    agree(
+        blake2b_hash(alloc, &up)? == digest && blake2b_hash(alloc, &down)? == digest,
+        "the digest of hashed maps",
+    )
+}
+
+// Appends the JSON text of a value whose times are in range.
+pub(crate) fn put_json<T: ToJson>(
+    alloc: Global,
+    values: &mut Values,
+    value: &T,
+) -> Result<(), RowError> {
+    match value.to_json(alloc) {
+        Ok(json) => values.allocated(json.to_string(alloc)),
+        Err(ToJsonError::Memory) => return Err(RowError::Memory),
+        Err(error) => values.display(&error),
+    }
+    Ok(())
+}
+
+// The JSON texts of a list of optional strings, and of its items.
+fn json(alloc: Global, request: &Request, values: &mut Values) -> Result<(), RowError> {
+    let options = request.group(0)?.options()?;
+    put_json(alloc, values, &options.as_slice())?;
+    for option in &options {
+        put_json(alloc, values, option)?;
+    }
+    Ok(())
+}
+
+fn json_string(alloc: Global, request: &Request, values: &mut Values) -> Result<(), RowError> {
+    let string = crate::only_string(request.group(0)?)?;
+    put_json(alloc, values, &String::from_str(alloc, string)?)
+}
+
+fn json_errors(values: &mut Values) -> Result<(), RowError> {
+    values.display(&ToJsonError::Memory);
+    values.display(&ToJsonError::TimestampOutOfRange);
+    Ok(())
+}
+
+pub(crate) fn call(
+    alloc: Global,
+    name: &str,
+    request: &Request,
+    values: &mut Values,
+) -> Result<bool, RowError> {
+    let called = match name {
+        "digest" => digest(alloc, request, values),
+        "digest-length" => digest_length(alloc, request, values),
+        "digest-lengths" => digest_lengths(alloc, request, values),
+        "content-number" => number(alloc, request, values),
+        "content-bytes" => bytes(alloc, request, values),
+        "content-string" => string(alloc, request, values),
+        "content-option" => option(alloc, request, values),
+        "content-tuple" => tuple(alloc, request, values),
+        "content-list" => list(alloc, request, values),
+        "content-map" => map(alloc, request, values),
+        "content-string-map" => string_map(alloc, request, values),
+        "content-set" => set(alloc, request, values),
+        "content-all-bytes-map" => all_bytes_map(alloc, values),
+        "json" => json(alloc, request, values),
+        "json-string" => json_string(alloc, request, values),
+        "json-errors" => json_errors(values),
+        _ => return Ok(false),
+    };
+    called?;
+    Ok(true)
+}

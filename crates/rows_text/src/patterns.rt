@@ -1,0 +1,346 @@
+//! Requests on string patterns, expressions of patterns, and their matchers.
+use jj_strings::str_util::{
+    StringExpression, StringMatcher, StringPattern, StringPatternParseError,
+};
+use rows::request::{Fields, Request};
+use rows::row_error::{RowError, agree};
+use rows::values::Values;
+use std::alloc::{AllocError, Global};
+use std::collections::BTreeMap;
+
+// The pattern of a kind that is expected to parse.
+fn pattern_of(alloc: Global, kind: &str, string: &str) -> Result<StringPattern, RowError> {
+    match StringPattern::from_str_kind(alloc, string, kind) {
+        Ok(pattern) => Ok(pattern),
+        Err(StringPatternParseError::Memory) => Err(RowError::Memory),
+        Err(_) => Err(RowError::Precondition("a pattern")),
+    }
+}
+
+fn matcher_of(alloc: Global, kind: &str, string: &str) -> Result<StringMatcher, RowError> {
+    Ok(pattern_of(alloc, kind, string)?.to_matcher(alloc)?)
+}
+
+fn put_error(alloc: Global, values: &mut Values, error: &StringPatternParseError) {
+    values.word("error");
+    match error {
+        StringPatternParseError::Regex(regex) => match format!(in alloc; "{regex}") {
+            // The rest of the message shows the pattern.
+            Ok(message) => values.flag(message.as_str().starts_with("regex parse error")),
+            Err(error) => values.allocated(Err(error)),
+        },
+        error => {
+            values.debug(error);
+            values.display(error);
+        }
+    }
+}
+
+fn put_pattern(
+    alloc: Global,
+    values: &mut Values,
+    pattern: &StringPattern,
+) -> Result<(), RowError> {
+    values.word("ok");
+    values.debug(pattern);
+    values.string(pattern.as_str());
+    values.flag(pattern.is_all());
+    values.option_string(pattern.as_exact());
+    agree(
+        pattern.is_exact() == pattern.as_exact().is_some(),
+        "exact patterns",
+    )?;
+    values.debug(&pattern.to_matcher(alloc)?);
+    let shown = format!(in alloc; "{pattern:?}")?;
+    let copy = format!(in alloc; "{:?}", pattern.clone()?)?;
+    agree(shown == copy, "copy of a pattern")
+}
+
+// Parses a pattern of a kind.
+fn pattern(alloc: Global, request: &Request, values: &mut Values) -> Result<(), RowError> {
+    let fields = request.group(0)?;
+    match StringPattern::from_str_kind(alloc, fields.string(1)?, fields.string(0)?) {
+        Ok(pattern) => put_pattern(alloc, values, &pattern),
+        Err(StringPatternParseError::Memory) => Err(RowError::Memory),
+        Err(error) => {
+            put_error(alloc, values, &error);
+            Ok(())
+        }
+    }
+}
+
+// Appends those of the strings that a matcher holds.
+fn put_matches(
+    alloc: Global,
+    values: &mut Values,
+    matcher: &StringMatcher,
+    strings: &Fields,
+) -> Result<(), RowError> {
+    let mut searcher = matcher.searcher(alloc);
+    for index in 0..strings.len() {
+        let bytes = strings.bytes(index)?;
+        let is_match = matcher.is_match_bytes(alloc, bytes)?;
+        if is_match {
+            values.bytes(bytes);
+        }
+        agree(searcher.is_match_bytes(bytes)? == is_match, "a searcher")?;
+        if let Ok(string) = str::from_utf8(bytes) {
+            agree(
+                matcher.is_match(alloc, string)? == is_match,
+                "a match of a string",
+            )?;
+        }
+    }
+    Ok(())
+}
+
+// Those of the strings that a pattern matches.
+fn matches(alloc: Global, request: &Request, values: &mut Values) -> Result<(), RowError> {
+    let fields = request.group(0)?;
+    let matcher = matcher_of(alloc, fields.string(0)?, fields.string(1)?)?;
+    put_matches(alloc, values, &matcher, request.group(1)?)
+}
+
+// The matcher of all strings or of one: its debug form, and those of the strings that it matches.
+fn matcher(alloc: Global, request: &Request, values: &mut Values) -> Result<(), RowError> {
+    let fields = request.group(0)?;
+    let matcher = match fields.string(0)? {
+        "all" => StringMatcher::all(),
+        _ => StringMatcher::exact(String::from_str(alloc, fields.string(1)?)?),
+    };
+    values.debug(&matcher);
+    put_matches(alloc, values, &matcher, request.group(1)?)
+}
+
+fn put_regex_matches(
+    alloc: Global,
+    values: &mut Values,
+    pattern: &StringPattern,
+    strings: &Fields,
+) -> Result<(), RowError> {
+    let regex = match pattern.to_regex(alloc) {
+        Ok(regex) => regex,
+        Err(regex::Error::OutOfMemory) => return Err(RowError::Memory),
+        Err(_) => return Err(RowError::Disagreement("a pattern without a regular expression")),
+    };
+    for index in 0..strings.len() {
+        let bytes = strings.bytes(index)?;
+        if regex.matcher(alloc)?.is_match(bytes) {
+            values.bytes(bytes);
+        }
+    }
+    Ok(())
+}
+
+// Those of the strings that the regular expression of a pattern matches.
+fn regex(alloc: Global, request: &Request, values: &mut Values) -> Result<(), RowError> {
+    let fields = request.group(0)?;
+    let pattern = pattern_of(alloc, fields.string(0)?, fields.string(1)?)?;
+    put_regex_matches(alloc, values, &pattern, request.group(1)?)
+}
+
+// The glob of a pattern, and those of the strings that it matches.
+fn glob(alloc: Global, request: &Request, values: &mut Values) -> Result<(), RowError> {
+    let fields = request.group(0)?;
+    let pattern = pattern_of(alloc, fields.string(0)?, fields.string(1)?)?;
+    let Some(glob) = pattern.to_glob(alloc)? else {
+        values.word("none");
+        return Ok(());
+    };
+    values.word("some");
+    values.string(glob.as_str());
+    let matcher = matcher_of(alloc, "glob", glob.as_str())?;
+    put_matches(alloc, values, &matcher, request.group(1)?)
+}
+
+fn pop(stack: &mut Vec<StringExpression>) -> Result<StringExpression, RowError> {
+    match stack.pop() {
+        Some(expression) => Ok(expression),
+        None => Err(RowError::Unreadable("operand")),
+    }
+}
+
+fn push_pattern(
+    alloc: Global,
+    stack: &mut Vec<StringExpression>,
+    token: &str,
+) -> Result<(), RowError> {
+    let Some((kind, string)) = token.split_once(':') else {
+        return Err(RowError::Unreadable("token"));
+    };
+    let pattern = pattern_of(alloc, kind, string)?;
+    stack.push(StringExpression::pattern(alloc, pattern)?)?;
+    Ok(())
+}
+
+fn push_union(alloc: Global, stack: &mut Vec<StringExpression>) -> Result<(), RowError> {
+    let right = pop(stack)?;
+    let left = pop(stack)?;
+    stack.push(left.union(alloc, right)?)?;
+    Ok(())
+}
+
+fn push_intersection(alloc: Global, stack: &mut Vec<StringExpression>) -> Result<(), RowError> {
+    let right = pop(stack)?;
+    let left = pop(stack)?;
+    stack.push(left.intersection(alloc, right)?)?;
+    Ok(())
+}
+
+fn push_union_of_all(alloc: Global, stack: &mut Vec<StringExpression>) -> Result<(), RowError> {
+    let all = stack.split_off(0)?;
+    stack.push(StringExpression::union_all(alloc, all)?)?;
+    Ok(())
+}
+
+// Runs one token of an expression in postfix order.
+fn step(alloc: Global, stack: &mut Vec<StringExpression>, token: &str) -> Result<(), RowError> {
+    match token {
+        "all" => stack.push(StringExpression::all(alloc)?)?,
+        "none" => stack.push(StringExpression::none(alloc)?)?,
+        "not" => {
+            let inner = pop(stack)?;
+            stack.push(inner.negated(alloc)?)?;
+        }
+        "or" => return push_union(alloc, stack),
+        "and" => return push_intersection(alloc, stack),
+        "union-all" => return push_union_of_all(alloc, stack),
+        token => return push_pattern(alloc, stack, token),
+    }
+    Ok(())
+}
+
+fn expression_of(alloc: Global, tokens: &Fields) -> Result<StringExpression, RowError> {
+    let mut stack = Vec::new(alloc);
+    for index in 0..tokens.len() {
+        step(alloc, &mut stack, tokens.string(index)?)?;
+    }
+    pop(&mut stack)
+}
+
+fn put_exact_strings(
+    alloc: Global,
+    values: &mut Values,
+    expression: &StringExpression,
+) -> Result<(), RowError> {
+    for string in expression.exact_strings(alloc)? {
+        values.string(string);
+    }
+    Ok(())
+}
+
+// The debug forms of an expression in postfix order and of its matcher, and the strings of its
+// exact patterns.
+fn expression(alloc: Global, request: &Request, values: &mut Values) -> Result<(), RowError> {
+    let expression = expression_of(alloc, request.group(0)?)?;
+    values.debug(&expression);
+    values.debug(&expression.clone()?.to_matcher(alloc)?);
+    put_exact_strings(alloc, values, &expression)
+}
+
+// Those of the strings that an expression in postfix order matches.
+fn expression_matches(
+    alloc: Global,
+    request: &Request,
+    values: &mut Values,
+) -> Result<(), RowError> {
+    let matcher = expression_of(alloc, request.group(0)?)?.to_matcher(alloc)?;
+    put_matches(alloc, values, &matcher, request.group(1)?)
+}
+
+// The lines of a string that a pattern matches.
+fn lines(alloc: Global, request: &Request, values: &mut Values) -> Result<(), RowError> {
+    let fields = request.group(0)?;
+    let bytes = fields.bytes(2)?;
+    let matcher = matcher_of(alloc, fields.string(0)?, fields.string(1)?)?;
+    for line in matcher.match_lines(alloc, bytes) {
+        values.bytes(line?);
+    }
+    Ok(())
+}
+
+// The entries of a map of these keys to their indices that a pattern finds.
+fn filter(alloc: Global, request: &Request, values: &mut Values) -> Result<(), RowError> {
+    let (fields, keys) = (request.group(0)?, request.group(1)?);
+    let matcher = matcher_of(alloc, fields.string(0)?, fields.string(1)?)?;
+    let mut map: BTreeMap<String, usize> = BTreeMap::new(alloc);
+    for index in 0..keys.len() {
+        map.insert(String::from_str(alloc, keys.string(index)?)?, index)?;
+    }
+    put_entries(alloc, values, &matcher, &map)
+}
+
+fn put_entries(
+    alloc: Global,
+    values: &mut Values,
+    matcher: &StringMatcher,
+    map: &BTreeMap<String, usize>,
+) -> Result<(), RowError> {
+    let mut count = 0usize;
+    for entry in matcher.filter_btree_map(alloc, map) {
+        let (key, index) = entry?;
+        values.string(key.as_str());
+        values.index(*index);
+        count = count.saturating_add(1);
+    }
+    for entry in matcher.filter_btree_map_as_deref(alloc, map) {
+        entry?;
+        count = count.saturating_sub(1);
+    }
+    agree(count == 0, "entries found by borrowed keys")
+}
+
+// Appends a string so many times.
+fn push_repeated(string: &mut String, part: &str, times: u64) -> Result<(), AllocError> {
+    for _ in 0..times {
+        string.push_str(part)?;
+    }
+    Ok(())
+}
+
+// The string that these fields make, each string with the number of its repetitions.
+fn repeated(alloc: Global, fields: &Fields, start: usize) -> Result<String, RowError> {
+    let mut string = String::new(alloc);
+    for index in start..fields.len() {
+        if index % 2 == start % 2 {
+            let times = fields.number(index.saturating_add(1))?;
+            push_repeated(&mut string, fields.string(index)?, times)?;
+        }
+    }
+    Ok(string)
+}
+
+// Whether a pattern of repeated parts matches strings of repeated parts.
+fn matches_repeated(alloc: Global, request: &Request, values: &mut Values) -> Result<(), RowError> {
+    let fields = request.group(0)?;
+    let pattern = repeated(alloc, fields, 1)?;
+    let matcher = matcher_of(alloc, fields.string(0)?, pattern.as_str())?;
+    for strings in request.groups().iter().skip(1) {
+        let string = repeated(alloc, strings, 0)?;
+        values.flag(matcher.is_match(alloc, string.as_str())?);
+    }
+    Ok(())
+}
+
+pub(crate) fn call(
+    alloc: Global,
+    name: &str,
+    request: &Request,
+    values: &mut Values,
+) -> Result<bool, RowError> {
+    let called = match name {
+        "pattern" => pattern(alloc, request, values),
+        "matches" => matches(alloc, request, values),
+        "matcher" => matcher(alloc, request, values),
+        "pattern-regex" => regex(alloc, request, values),
+        "pattern-glob" => glob(alloc, request, values),
+        "expression" => expression(alloc, request, values),
+        "expression-matches" => expression_matches(alloc, request, values),
+        "match-lines" => lines(alloc, request, values),
+        "filter-map" => filter(alloc, request, values),
+        "matches-repeated" => matches_repeated(alloc, request, values),
+        _ => return Ok(false),
+    };
+    called?;
+    Ok(true)
+}
