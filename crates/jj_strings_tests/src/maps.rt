@@ -153,6 +153,7 @@ fn filters_both<R: Abort, K: TextKey>(rt: &R, alloc: Global) -> Passed {
 #[test]
 fn maps_by_names(rt: HostRuntime) -> Result<(), Fail> {
     passes(&rt, |rt, alloc| {
+        filters_both::<_, String>(rt, alloc)?;
         filters_both::<_, GitRefNameBuf>(rt, alloc)?;
         filters_both::<_, RefNameBuf>(rt, alloc)?;
         filters_both::<_, RemoteNameBuf>(rt, alloc)?;

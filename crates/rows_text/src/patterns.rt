@@ -1,4 +1,6 @@
 //! Requests on string patterns, expressions of patterns, and their matchers.
+ghost use Rattle.std.specs.Iterator.{IsFinite};
+
 use jj_strings::str_util::{
     StringExpression, StringMatcher, StringPattern, StringPatternParseError,
 };
@@ -6,7 +8,6 @@ use rows::request::{Fields, Request};
 use rows::row_error::{RowError, agree};
 use rows::values::Values;
 use std::alloc::{AllocError, Global};
-use std::collections::BTreeMap;
 
 // The pattern of a kind that is expected to parse.
 fn pattern_of(alloc: Global, kind: &str, string: &str) -> Result<StringPattern, RowError> {
@@ -248,46 +249,30 @@ fn expression_matches(
     put_matches(alloc, values, &matcher, request.group(1)?)
 }
 
+// The items of an iterator, up to the first that fails.
+fn items_of<T: Drop, I: Iterator<Item = Result<T, AllocError>> + Drop>(
+    alloc: Global,
+    found: I,
+) -> Result<Vec<T>, AllocError>
+    requires callable { I.can_next found }
+    requires finite { IsFinite (I.remaining found) }
+{
+    let mut items = Vec::new(alloc);
+    for item in found {
+        items.push(item?)?;
+    }
+    Ok(items)
+}
+
 // The lines of a string that a pattern matches.
 fn lines(alloc: Global, request: &Request, values: &mut Values) -> Result<(), RowError> {
     let fields = request.group(0)?;
     let bytes = fields.bytes(2)?;
     let matcher = matcher_of(alloc, fields.string(0)?, fields.string(1)?)?;
-    for line in matcher.match_lines(alloc, bytes) {
-        values.bytes(line?);
+    for line in items_of(alloc, matcher.match_lines(alloc, bytes))? {
+        values.bytes(line);
     }
     Ok(())
-}
-
-// The entries of a map of these keys to their indices that a pattern finds.
-fn filter(alloc: Global, request: &Request, values: &mut Values) -> Result<(), RowError> {
-    let (fields, keys) = (request.group(0)?, request.group(1)?);
-    let matcher = matcher_of(alloc, fields.string(0)?, fields.string(1)?)?;
-    let mut map: BTreeMap<String, usize> = BTreeMap::new(alloc);
-    for index in 0..keys.len() {
-        map.insert(String::from_str(alloc, keys.string(index)?)?, index)?;
-    }
-    put_entries(alloc, values, &matcher, &map)
-}
-
-fn put_entries(
-    alloc: Global,
-    values: &mut Values,
-    matcher: &StringMatcher,
-    map: &BTreeMap<String, usize>,
-) -> Result<(), RowError> {
-    let mut count = 0usize;
-    for entry in matcher.filter_btree_map(alloc, map) {
-        let (key, index) = entry?;
-        values.string(key.as_str());
-        values.index(*index);
-        count = count.saturating_add(1);
-    }
-    for entry in matcher.filter_btree_map_as_deref(alloc, map) {
-        entry?;
-        count = count.saturating_sub(1);
-    }
-    agree(count == 0, "entries found by borrowed keys")
 }
 
 // Appends a string so many times.
@@ -337,7 +322,6 @@ pub(crate) fn call(
         "expression" => expression(alloc, request, values),
         "expression-matches" => expression_matches(alloc, request, values),
         "match-lines" => lines(alloc, request, values),
-        "filter-map" => filter(alloc, request, values),
         "matches-repeated" => matches_repeated(alloc, request, values),
         _ => return Ok(false),
     };
