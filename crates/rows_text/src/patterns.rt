@@ -18,10 +18,6 @@ fn pattern_of(alloc: Global, kind: &str, string: &str) -> Result<StringPattern, 
     }
 }
 
-fn matcher_of(alloc: Global, kind: &str, string: &str) -> Result<StringMatcher, RowError> {
-    Ok(pattern_of(alloc, kind, string)?.to_matcher(alloc)?)
-}
-
 fn put_error(alloc: Global, values: &mut Values, error: &StringPatternParseError) {
     values.word("error");
     match error {
@@ -98,7 +94,7 @@ fn put_matches(
 // Those of the strings that a pattern matches.
 fn matches(alloc: Global, request: &Request, values: &mut Values) -> Result<(), RowError> {
     let fields = request.group(0)?;
-    let matcher = matcher_of(alloc, fields.string(0)?, fields.string(1)?)?;
+    let matcher = pattern_of(alloc, fields.string(0)?, fields.string(1)?)?.to_matcher(alloc)?;
     put_matches(alloc, values, &matcher, request.group(1)?)
 }
 
@@ -150,7 +146,7 @@ fn glob(alloc: Global, request: &Request, values: &mut Values) -> Result<(), Row
     };
     values.word("some");
     values.string(glob.as_str());
-    let matcher = matcher_of(alloc, "glob", glob.as_str())?;
+    let matcher = pattern_of(alloc, "glob", glob.as_str())?.to_matcher(alloc)?;
     put_matches(alloc, values, &matcher, request.group(1)?)
 }
 
@@ -268,7 +264,7 @@ fn items_of<T: Drop, I: Iterator<Item = Result<T, AllocError>> + Drop>(
 fn lines(alloc: Global, request: &Request, values: &mut Values) -> Result<(), RowError> {
     let fields = request.group(0)?;
     let bytes = fields.bytes(2)?;
-    let matcher = matcher_of(alloc, fields.string(0)?, fields.string(1)?)?;
+    let matcher = pattern_of(alloc, fields.string(0)?, fields.string(1)?)?.to_matcher(alloc)?;
     for line in items_of(alloc, matcher.match_lines(alloc, bytes))? {
         values.bytes(line);
     }
@@ -299,7 +295,7 @@ fn repeated(alloc: Global, fields: &Fields, start: usize) -> Result<String, RowE
 fn matches_repeated(alloc: Global, request: &Request, values: &mut Values) -> Result<(), RowError> {
     let fields = request.group(0)?;
     let pattern = repeated(alloc, fields, 1)?;
-    let matcher = matcher_of(alloc, fields.string(0)?, pattern.as_str())?;
+    let matcher = pattern_of(alloc, fields.string(0)?, pattern.as_str())?.to_matcher(alloc)?;
     for strings in request.groups().iter().skip(1) {
         let string = repeated(alloc, strings, 0)?;
         values.flag(matcher.is_match(alloc, string.as_str())?);
