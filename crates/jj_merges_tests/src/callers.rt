@@ -1,9 +1,12 @@
 //! Proved callers: contracts of merges at concrete types.
-ghost use Rattle.std.specs.Prelude.{◌≡◌, ℕ, ◌/◌, IfOk, MatchOption, length, nat_eq, string_bytes, string_eq};
+ghost use Rattle.std.specs.Prelude.{◌≡◌, ℕ, ◌/◌, ◌<◌, ◌⊎◌, [], IfOk, MatchOption, length, map, nat_eq, slice_get};
+ghost use Rattle.std.specs.Prelude.{string_bytes, string_eq};
 ghost use Rattle.jj_merges.specs.Counts.{distinct, sum_if};
 ghost use Rattle.jj_merges.specs.Merge.{HaveSameCounts, IsDisjoint, signed_count};
 ghost use Rattle.jj_merges.specs.Resolution.{ResolvesTo};
 
+use jj_merges::conflict_labels::ConflictLabels;
+use jj_merges::laws::simplified_indices_laws;
 use jj_merges::merge::{Merge, SameChange};
 use std::alloc::{AllocError, Global};
 
@@ -43,4 +46,24 @@ pub fn simplify_strings(alloc: Global, strings: &Merge<String>) -> Result<Merge<
     ensures disjoint { IfOk result (IsDisjoint string_eq) }
 {
     strings.simplify(alloc)
+}
+
+/// Cancels equal strings of a conflict. Signed counts are unchanged, no string remains on both
+/// sides, and each remaining string is one of the conflict's strings and keeps the label of that
+/// one, unless no labels remain.
+pub fn simplify_labeled(
+    alloc: Global,
+    labels: &ConflictLabels,
+    strings: &Merge<String>,
+) -> Result<(ConflictLabels, Merge<String>), AllocError>
+    requires { (labels.now ≡ []) ⊎ (length labels.now ≡ length strings.now) }
+    ensures counts { IfOk result (λ p. HaveSameCounts string_eq p.1 strings.now) }
+    ensures disjoint { IfOk result (λ p. IsDisjoint string_eq p.1) }
+    ensures aligned { IfOk result (λ p. (p.0 ≡ []) ⊎ ((k : ℕ) → k < length p.1 → (j : ℕ)
+        × (slice_get (map string_bytes p.1) k ≡ slice_get (map string_bytes strings.now) j)
+        × (slice_get p.0 k ≡ slice_get labels.now j))) }
+{
+    simplified_indices_laws::<String>();
+    let _terms = strings.as_slice();
+    labels.simplify_with(alloc, strings)
 }

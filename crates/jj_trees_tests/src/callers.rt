@@ -1,16 +1,19 @@
 //! Callers of the backend in memory and of merges of whole trees, proved from what these promise.
-ghost use Rattle.std.specs.Prelude.{◌≡◌, ◌↔◌, ◌⊎◌, [], length, Contains, IfOk, IfErr, string_bytes};
+ghost use Rattle.std.specs.Prelude.{◌≡◌, ◌↔◌, ◌⊎◌, ℕ, List, [], length, Contains, IfOk, IfErr, string_bytes};
+ghost use Rattle.jj_merges.specs.Merge.{HaveSameCounts, IsDisjoint};
 ghost use Rattle.jj_merges.specs.declared.merge.SameChange.TheVariants.{Accept};
 ghost use Rattle.jj_backend.specs.declared.backend.tree_value.TreeValue.{TreeValue};
 ghost use Rattle.jj_paths.specs.Paths.{Path};
 ghost use Rattle.jj_trees.specs.Kept.{objects_of};
-ghost use Rattle.jj_trees.specs.TreeMerges.{IsResolved, IsMerge, root_values, conflict_entries};
+ghost use Rattle.jj_trees.specs.TreeMerges.{IsResolved, IsMerge, Values, root_values, values_at};
+ghost use Rattle.jj_trees.specs.TreeMerges.{conflict_entries};
 ghost use Rattle.jj_trees_tests.specs.Writes.{IsNotKept};
 
 use jj_backend::backend::{
     Backend, BackendResult, Commit, CopyHistory, SigningFn, Tree, TreeId, TreeValue,
 };
 use jj_merges::conflict_labels::ConflictLabels;
+use jj_merges::laws::simplified_indices_laws;
 use jj_merges::merge::{Merge, SameChange};
 use jj_paths::repo_path::{RepoPath, RepoPathBuf};
 use jj_trees::memory_backend::MemoryBackend;
@@ -31,6 +34,26 @@ pub fn resolved<B: Backend>(
     let labels = ConflictLabels::unlabeled(alloc);
     let merged = merge_trees(alloc, backend, trees, &labels, SameChange::Accept)?;
     Ok(merged.resolved)
+}
+
+/// The conflicts of trees: the terms at each path have the signed counts of what the trees have
+/// there, and no value is on both sides.
+pub fn conflicts<B: Backend>(
+    alloc: Global,
+    backend: &B,
+    trees: &Merge<TreeId>,
+) -> BackendResult<Vec<(RepoPathBuf, Merge<Option<TreeValue>>, ConflictLabels)>>
+    ensures { IfOk result (λ found. (path : Path) (terms : Values) (labels : List (List ℕ)) →
+        Contains found.items (path, terms, labels)
+        → HaveSameCounts ⟦<Option<TreeValue> as PartialEq>⟧.eq terms
+        (values_at (B.objects backend.now).trees (root_values trees.now) path)
+        × IsDisjoint ⟦<Option<TreeValue> as PartialEq>⟧.eq terms) }
+{
+    simplified_indices_laws::<Option<TreeValue>>();
+    let _terms = trees.as_slice();
+    let labels = ConflictLabels::unlabeled(alloc);
+    let merged = merge_trees(alloc, backend, trees, &labels, SameChange::Accept)?;
+    Ok(merged.conflicts)
 }
 
 /// A file that was written is read back.
