@@ -1,6 +1,11 @@
 //! Requests of the conformance table on merges, conflict labels and tree merges.
 #![tactic(auto)]
 
+mod labels;
+mod merges;
+mod stores;
+mod trees;
+
 use rows::request::Request;
 use rows::row_error::RowError;
 use rows::values::Values;
@@ -8,10 +13,15 @@ use std::alloc::Global;
 
 /// Runs the request of this name. Returns `false` if this crate has no such request.
 pub fn call(
-    _alloc: Global,
-    _name: &str,
-    _request: &Request,
-    _values: &mut Values,
+    alloc: Global,
+    name: &str,
+    request: &Request,
+    values: &mut Values,
 ) -> Result<bool, RowError> {
-    Ok(false)
+    Ok(
+        merges::call(alloc, name, request, values)?
+            || labels::call(alloc, name, request, values)?
+            || trees::call(alloc, name, request, values)?
+            || stores::call(alloc, name, request, values)?,
+    )
 }

@@ -1,0 +1,339 @@
+//! Requests on merges of whole trees over a backend in memory. Files are `f` and a digit, trees `t`
+//! and a digit.
+ghost use Rattle.std.specs.Prelude.{◌≡◌, ◌⊎◌, [], length, IsTrue, IfSome};
+ghost use Rattle.std.specs.FinMap.{is_sorted};
+ghost use Rattle.jj_paths.specs.Paths.{name_cmp};
+
+use crate::labels::labels_of;
+use jj_backend::backend::{
+    Backend, BackendError, BackendResult, CopyId, FileId, Tree, TreeId, TreeValue,
+};
+use jj_merges::conflict_labels::ConflictLabels;
+use jj_merges::merge::{Diff, Merge, SameChange};
+use jj_paths::repo_path::{RepoPath, RepoPathBuf, RepoPathComponentBuf};
+use jj_trees::memory_backend::MemoryBackend;
+use jj_trees::tree_merge::{TreeMerge, merge_trees, merge_trees_within};
+use rows::request::{Fields, Request};
+use rows::row_error::{RowError, needs};
+use rows::values::Values;
+use std::alloc::{AllocError, Global};
+use std::cmp::Ordering;
+use std::num::NonZeroUsize;
+
+type Entries = Vec<(RepoPathComponentBuf, TreeValue)>;
+
+// The ids of the trees that were written, by digit.
+type Trees = Vec<(u8, TreeId)>;
+
+// Returns the value of a call of a backend that has to succeed.
+pub(crate) fn expect_ok<T: Drop>(called: BackendResult<T>) -> Result<T, RowError> {
+    match called {
+        Ok(value) => Ok(value),
+        Err(BackendError::Memory) => Err(RowError::Memory),
+        Err(_) => Err(RowError::Precondition("no error of the backend")),
+    }
+}
+
+// Returns the name of an error, or fails with `Memory`.
+pub(crate) fn error_name(error: &BackendError) -> Result<&'static str, RowError> {
+    match error {
+        BackendError::Memory => Err(RowError::Memory),
+        BackendError::ObjectNotFound { .. } => Ok("not found"),
+        BackendError::Unsupported(_) => Ok("unsupported"),
+        _ => Ok("other"),
+    }
+}
+
+fn are_ascending(entries: &[(RepoPathComponentBuf, TreeValue)]) -> bool
+    ensures { IsTrue result → IsTrue (is_sorted name_cmp entries.now) }
+{
+    for i in 1..entries.len() {
+        let before = entries[i - 1].0.as_component();
+        if before.cmp(&entries[i].0.as_component()) != Ordering::Less {
+            return false;
+        }
+    }
+    true
+}
+
+// Creates the tree of entries whose names ascend.
+pub(crate) fn tree_of_entries(entries: Entries) -> Result<Tree, RowError> {
+    needs(are_ascending(&entries), "ascending names")?;
+    Ok(Tree::from_sorted_entries(entries))
+}
+
+// Parses the name of an entry.
+pub(crate) fn name_of(alloc: Global, name: &str) -> Result<RepoPathComponentBuf, RowError> {
+    match RepoPathComponentBuf::new(String::from_str(alloc, name)?) {
+        Ok(name) => Ok(name),
+        Err(_) => Err(RowError::Unreadable("name")),
+    }
+}
+
+// Returns a file that is not executable and not copied.
+pub(crate) fn plain_file(alloc: Global, id: FileId) -> TreeValue {
+    TreeValue::File {
+        id,
+        executable: false,
+        copy_id: CopyId::placeholder(alloc),
+    }
+}
+
+// The id of the tree of a digit, or an id that the backend does not have.
+fn tree_of(alloc: Global, trees: &[(u8, TreeId)], digit: u8) -> Result<TreeId, AllocError> {
+    for (known, id) in trees {
+        if *known == digit {
+            return id.clone();
+        }
+    }
+    TreeId::from_bytes(alloc, &[digit])
+}
+
+fn value_of(
+    alloc: Global,
+    backend: &mut MemoryBackend,
+    trees: &[(u8, TreeId)],
+    kind: u8,
+    digit: u8,
+) -> Result<TreeValue, RowError> {
+    if kind == b't' {
+        return Ok(TreeValue::Tree(tree_of(alloc, trees, digit)?));
+    }
+    let id = expect_ok(backend.write_file(alloc, RepoPath::root(), &[digit]))?;
+    Ok(plain_file(alloc, id))
+}
+
+// The name, the kind and the digit of an entry such as `x=f0`.
+fn entry_parts(entry: &str) -> Option<(&str, u8, u8)> {
+    let (name, value) = entry.split_once('=')?;
+    match value.as_bytes() {
+        [kind, digit] => Some((name, *kind, *digit)),
+        _ => None,
+    }
+}
+
+// Entries such as `x=f0 y=t1`.
+fn entries_of(
+    alloc: Global,
+    backend: &mut MemoryBackend,
+    trees: &[(u8, TreeId)],
+    entries: &str,
+) -> Result<Entries, RowError> {
+    let mut parsed = Vec::new(alloc);
+    for entry in entries.split(' ') {
+        if let Some((name, kind, digit)) = entry_parts(entry) {
+            let value = value_of(alloc, backend, trees, kind, digit)?;
+            parsed.push((name_of(alloc, name)?, value))?;
+        }
+    }
+    Ok(parsed)
+}
+
+// Writes a tree such as `3:x=f0 y=t1`, whose digit is 3.
+fn write_tree(
+    alloc: Global,
+    backend: &mut MemoryBackend,
+    trees: &[(u8, TreeId)],
+    tree: &str,
+) -> Result<(u8, TreeId), RowError> {
+    let (digit, entries) = match tree.split_once(':') {
+        Some(parts) => parts,
+        None => return Err(RowError::Unreadable("tree")),
+    };
+    let [digit] = digit.as_bytes() else {
+        return Err(RowError::Unreadable("digit"));
+    };
+    let tree = tree_of_entries(entries_of(alloc, backend, trees, entries)?)?;
+    let id = expect_ok(backend.write_tree(alloc, RepoPath::root(), &tree))?;
+    Ok((*digit, id))
+}
+
+fn write_trees(
+    alloc: Global,
+    backend: &mut MemoryBackend,
+    fields: &Fields,
+) -> Result<Trees, RowError> {
+    let mut trees = Vec::new(alloc);
+    for index in 0..fields.len() {
+        let tree = write_tree(alloc, backend, &trees, fields.string(index)?)?;
+        trees.push(tree)?;
+    }
+    Ok(trees)
+}
+
+// The merge of the root trees with these digits.
+fn roots_of(
+    alloc: Global,
+    trees: &[(u8, TreeId)],
+    digits: &[u8],
+) -> Result<Merge<TreeId>, RowError> {
+    let [first, rest @ ..] = digits else {
+        return Err(RowError::Unreadable("no root tree"));
+    };
+    let mut diffs = Vec::new(alloc);
+    for pair in rest.chunks(2) {
+        if let [before, after] = pair {
+            let before = tree_of(alloc, trees, *before)?;
+            diffs.push(Diff::new(before, tree_of(alloc, trees, *after)?))?;
+        }
+    }
+    Ok(Merge::from_diffs(alloc, tree_of(alloc, trees, *first)?, diffs)?)
+}
+
+fn push_bytes(bytes: &[u8], text: &mut String) -> Result<(), AllocError> {
+    for byte in bytes {
+        text.push(char::from(*byte))?;
+    }
+    Ok(())
+}
+
+// Appends `f` and the file's digit, or `t` and the digits of the trees with this id.
+fn push_value(
+    alloc: Global,
+    backend: &MemoryBackend,
+    trees: &[(u8, TreeId)],
+    value: &TreeValue,
+    text: &mut String,
+) -> Result<(), RowError> {
+    match value {
+        TreeValue::File { id, .. } => {
+            text.push('f')?;
+            let bytes = expect_ok(backend.read_file(alloc, RepoPath::root(), id))?;
+            push_bytes(&bytes, text)?;
+        }
+        TreeValue::Tree(id) => {
+            text.push('t')?;
+            for (digit, tree) in trees {
+                if tree == id {
+                    text.push(char::from(*digit))?;
+                }
+            }
+        }
+        _ => text.push('?')?,
+    }
+    Ok(())
+}
+
+fn resolved_text(
+    alloc: Global,
+    backend: &MemoryBackend,
+    trees: &[(u8, TreeId)],
+    path: &RepoPathBuf,
+    value: &TreeValue,
+) -> Result<String, RowError> {
+    let mut text = String::from_str(alloc, path.as_path().as_internal_file_string())?;
+    text.push('=')?;
+    push_value(alloc, backend, trees, value, &mut text)?;
+    Ok(text)
+}
+
+// `path!TERMS`; an absent term is `-`.
+fn conflict_text(
+    alloc: Global,
+    backend: &MemoryBackend,
+    trees: &[(u8, TreeId)],
+    path: &RepoPathBuf,
+    terms: &[Option<TreeValue>],
+) -> Result<String, RowError> {
+    let mut text = String::from_str(alloc, path.as_path().as_internal_file_string())?;
+    text.push('!')?;
+    for term in terms {
+        match term {
+            Some(value) => push_value(alloc, backend, trees, value, &mut text)?,
+            None => text.push('-')?,
+        }
+    }
+    Ok(text)
+}
+
+// Writes each resolved path, and each conflict with its labels.
+fn write_merge(
+    alloc: Global,
+    backend: &MemoryBackend,
+    trees: &[(u8, TreeId)],
+    merge: &TreeMerge,
+    values: &mut Values,
+) -> Result<(), RowError> {
+    for (path, value) in merge.resolved.iter() {
+        values.string(resolved_text(alloc, backend, trees, path, value)?.as_str());
+    }
+    for (path, terms, labels) in merge.conflicts.iter() {
+        let text = conflict_text(alloc, backend, trees, path, terms.as_slice())?;
+        values.string(text.as_str());
+        values.strings(labels.as_slice());
+    }
+    Ok(())
+}
+
+// Merges within `levels` levels, or without a limit if it is 0.
+fn merge_roots(
+    alloc: Global,
+    backend: &MemoryBackend,
+    roots: &Merge<TreeId>,
+    labels: &ConflictLabels,
+    same_change: SameChange,
+    levels: usize,
+) -> BackendResult<TreeMerge>
+    requires { (labels.now ≡ []) ⊎ (length labels.now ≡ length roots.now) }
+{
+    match NonZeroUsize::new(levels) {
+        Some(levels) => merge_trees_within(alloc, backend, roots, labels, same_change, levels),
+        None => merge_trees(alloc, backend, roots, labels, same_change),
+    }
+}
+
+fn merge_labeled(
+    alloc: Global,
+    backend: &MemoryBackend,
+    roots: &Merge<TreeId>,
+    labels: &ConflictLabels,
+    same_change: SameChange,
+    levels: usize,
+) -> Result<BackendResult<TreeMerge>, RowError> {
+    let count = labels.as_slice().len();
+    if count != 0 && count != roots.as_slice().len() {
+        return Err(RowError::Precondition("no labels, or one for each root"));
+    }
+    Ok(merge_roots(alloc, backend, roots, labels, same_change, levels))
+}
+
+fn parse_same_change(name: &str) -> Result<SameChange, RowError> {
+    match SameChange::from_name(name) {
+        Some(same_change) => Ok(same_change),
+        None => Err(RowError::Unreadable("keep or accept")),
+    }
+}
+
+// `tree-merge SAME_CHANGE LEVELS ROOTS | TREE .. | LABELS`: the resolved paths and the conflicts.
+fn tree_merge(alloc: Global, request: &Request, values: &mut Values) -> Result<(), RowError> {
+    let fields = request.group(0)?;
+    let same_change = parse_same_change(fields.string(0)?)?;
+    let levels = fields.index(1)?;
+    let digits = fields.bytes(2)?;
+    let mut backend = MemoryBackend::new(alloc)?;
+    let trees = write_trees(alloc, &mut backend, request.group(1)?)?;
+    let roots = roots_of(alloc, &trees, digits)?;
+    let labels = labels_of(request.group(2)?)?;
+    match merge_labeled(alloc, &backend, &roots, &labels, same_change, levels)? {
+        Ok(merge) => write_merge(alloc, &backend, &trees, &merge, values),
+        Err(error) => {
+            values.word(error_name(&error)?);
+            Ok(())
+        }
+    }
+}
+
+/// Runs the request of this name. Returns `false` if there is none.
+pub fn call(
+    alloc: Global,
+    name: &str,
+    request: &Request,
+    values: &mut Values,
+) -> Result<bool, RowError> {
+    let called = match name {
+        "tree-merge" => tree_merge(alloc, request, values),
+        _ => return Ok(false),
+    };
+    called?;
+    Ok(true)
+}
