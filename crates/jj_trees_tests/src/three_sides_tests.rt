@@ -1,12 +1,12 @@
 //! The example of three sides as a whole: what it tells, and that the merge that is written back
 //! tells the same.
-use crate::kept::labels_of;
 use crate::three_sides::{merge_labelled, sides_of, told, write_back, write_files};
-use jj_backend::backend::{BackendResult, TreeId};
+use jj_backend::backend::{BackendError, BackendResult, TreeId};
 use jj_content_tests::once_more::holds;
 use jj_merges::conflict_labels::ConflictLabels;
 use jj_merges::merge::Merge;
 use jj_trees::memory_backend::MemoryBackend;
+use smallvec::SmallVec;
 use std::alloc::Global;
 use std::process::Abort;
 
@@ -61,8 +61,20 @@ fn tells_twice(
     }
 }
 
+// The labels of the three sides.
+fn side_labels(alloc: Global) -> BackendResult<ConflictLabels> {
+    let mut labels = Vec::new(alloc);
+    for label in ["left", "base", "right"] {
+        labels.push(String::from_str(alloc, label)?)?;
+    }
+    if labels.len() % 2 != 1 {
+        return Err(BackendError::Memory);
+    }
+    Ok(ConflictLabels::from_vec(SmallVec::from_vec(labels)))
+}
+
 fn example_tells_twice(alloc: Global) -> BackendResult<bool> {
-    let labels = labels_of(alloc, "left base right")?;
+    let labels = side_labels(alloc)?;
     let mut backend = MemoryBackend::with_id_length(alloc, 4)?;
     tells_twice(alloc, &mut backend, &labels)
 }

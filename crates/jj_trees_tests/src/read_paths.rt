@@ -1,0 +1,219 @@
+//! A backend that reads each tree only at the path at which it is stored, and a merge over it.
+use crate::building::{ascending_tree, component, path, plain_file, tree_merge_of};
+use jj_backend::backend::{
+    Backend, BackendError, BackendResult, ChangeId, Commit, CommitId, CopyHistory, CopyId,
+    CopyRecord, FileId, RelatedCopy, SigningFn, SymlinkId, Tree, TreeId, TreeValue,
+};
+use jj_merges::conflict_labels::ConflictLabels;
+use jj_merges::merge::SameChange;
+use jj_paths::repo_path::{RepoPath, RepoPathBuf};
+use jj_trees::memory_backend::MemoryBackend;
+use jj_trees::tree_merge::{TreeMerge, merge_trees};
+use std::alloc::Global;
+use std::process::Abort;
+use std::test::Fail;
+
+// The trees that may be read, each at one path. All other calls fail.
+#[derive(Drop)]
+struct PathBackend {
+    inner: MemoryBackend,
+    paths: Vec<(TreeId, RepoPathBuf)>,
+}
+
+impl PathBackend {
+    fn is_stored_at(&self, path: RepoPath<'_>, id: &TreeId) -> bool {
+        for (tree, stored) in &self.paths {
+            if tree == id && stored.as_path() == path {
+                return true;
+            }
+        }
+        false
+    }
+}
+
+impl Backend for PathBackend {
+    ghost use Rattle.std.specs.Prelude.{◌≡◌, ⊤};
+    ghost use Rattle.jj_backend.specs.declared.backend.errors.BackendError.TheVariants.{Memory};
+    ghost use Rattle.jj_trees.specs.Kept.{objects_of};
+
+    ghost objects = { λ backend. objects_of backend.inner };
+
+    ghost may_fail = { λ _ e. e ≡ Memory };
+
+    ghost may_read_tree = { λ _ path id r. ⊤ };
+
+    fn name(&self) -> &str {
+        "paths"
+    }
+
+    fn commit_id_length(&self) -> usize {
+        self.inner.commit_id_length()
+    }
+
+    fn change_id_length(&self) -> usize {
+        self.inner.change_id_length()
+    }
+
+    fn root_commit_id(&self) -> &CommitId {
+        self.inner.root_commit_id()
+    }
+
+    fn root_change_id(&self) -> &ChangeId {
+        self.inner.root_change_id()
+    }
+
+    fn empty_tree_id(&self) -> &TreeId {
+        self.inner.empty_tree_id()
+    }
+
+    fn concurrency(&self) -> usize {
+        1
+    }
+
+    fn read_file(
+        &self,
+        _alloc: Global,
+        _path: RepoPath<'_>,
+        _id: &FileId,
+    ) -> BackendResult<Vec<u8>> {
+        Err(BackendError::Memory)
+    }
+
+    fn write_file(
+        &mut self,
+        _alloc: Global,
+        _path: RepoPath<'_>,
+        _contents: &[u8],
+    ) -> BackendResult<FileId> {
+        Err(BackendError::Memory)
+    }
+
+    fn read_symlink(
+        &self,
+        _alloc: Global,
+        _path: RepoPath<'_>,
+        _id: &SymlinkId,
+    ) -> BackendResult<String> {
+        Err(BackendError::Memory)
+    }
+
+    fn write_symlink(
+        &mut self,
+        _alloc: Global,
+        _path: RepoPath<'_>,
+        _target: &str,
+    ) -> BackendResult<SymlinkId> {
+        Err(BackendError::Memory)
+    }
+
+    fn read_copy(&self, _alloc: Global, _id: &CopyId) -> BackendResult<CopyHistory> {
+        Err(BackendError::Memory)
+    }
+
+    fn write_copy(&mut self, _alloc: Global, _copy: &CopyHistory) -> BackendResult<CopyId> {
+        Err(BackendError::Memory)
+    }
+
+    fn get_related_copies(
+        &self,
+        _alloc: Global,
+        _copy_id: &CopyId,
+    ) -> BackendResult<Vec<RelatedCopy>> {
+        Err(BackendError::Memory)
+    }
+
+    fn read_tree(&self, alloc: Global, path: RepoPath<'_>, id: &TreeId) -> BackendResult<Tree> {
+        if self.is_stored_at(path, id) {
+            return self.inner.read_tree(alloc, path, id);
+        }
+        Err(BackendError::Memory)
+    }
+
+    fn write_tree(
+        &mut self,
+        _alloc: Global,
+        _path: RepoPath<'_>,
+        _contents: &Tree,
+    ) -> BackendResult<TreeId> {
+        Err(BackendError::Memory)
+    }
+
+    fn read_commit(&self, _alloc: Global, _id: &CommitId) -> BackendResult<Commit> {
+        Err(BackendError::Memory)
+    }
+
+    fn write_commit<S: SigningFn>(
+        &mut self,
+        _alloc: Global,
+        _contents: Commit,
+        _sign_with: Option<&mut S>,
+    ) -> BackendResult<(CommitId, Commit)> {
+        Err(BackendError::Memory)
+    }
+
+    fn get_copy_records(
+        &self,
+        _alloc: Global,
+        _paths: Option<&[RepoPathBuf]>,
+        _root: &CommitId,
+        _head: &CommitId,
+    ) -> BackendResult<Vec<CopyRecord>> {
+        Err(BackendError::Memory)
+    }
+}
+
+// Stores the tree of one entry at `dir`.
+fn store(
+    alloc: Global,
+    backend: &mut PathBackend,
+    dir: &str,
+    name: &str,
+    value: TreeValue,
+) -> BackendResult<TreeId> {
+    let mut entries = Vec::new(alloc);
+    entries.push((component(alloc, name)?, value))?;
+    let tree = ascending_tree(alloc, entries)?;
+    let id = backend.inner.write_tree(alloc, RepoPath::root(), &tree)?;
+    backend.paths.push((id.clone()?, path(alloc, dir)?))?;
+    Ok(id)
+}
+
+// Stores the trees of the file `d/e/x` of one byte.
+fn store_file(alloc: Global, backend: &mut PathBackend, byte: u8) -> BackendResult<TreeId> {
+    let file = backend.inner.write_file(alloc, RepoPath::root(), &[byte])?;
+    let e = store(alloc, backend, "d/e", "x", plain_file(alloc, file))?;
+    let d = store(alloc, backend, "d", "e", TreeValue::Tree(e))?;
+    store(alloc, backend, "", "d", TreeValue::Tree(d))
+}
+
+fn merge_nested(alloc: Global) -> BackendResult<TreeMerge> {
+    let mut backend = PathBackend {
+        inner: MemoryBackend::new(alloc)?,
+        paths: Vec::new(alloc),
+    };
+    let left = store_file(alloc, &mut backend, b'1')?;
+    let base = store_file(alloc, &mut backend, b'0')?;
+    let right = store_file(alloc, &mut backend, b'2')?;
+    let mut changes = Vec::new(alloc);
+    changes.push((base, right))?;
+    let roots = tree_merge_of(alloc, left, changes)?;
+    let labels = ConflictLabels::unlabeled(alloc);
+    merge_trees(alloc, &backend, &roots, &labels, SameChange::Accept)
+}
+
+fn has_conflict_at(merge: &TreeMerge, expected: &str) -> bool {
+    match merge.conflicts.as_slice() {
+        [(path, _, _)] => path.as_path().as_internal_file_string() == expected,
+        _ => false,
+    }
+}
+
+#[test]
+fn trees_are_read_at_their_paths(rt: HostRuntime) -> Result<(), Fail> {
+    let merge = match merge_nested(rt.alloc()) {
+        Err(BackendError::Memory) => merge_nested(rt.alloc())?,
+        merge => merge?,
+    };
+    assert!(rt; has_conflict_at(&merge, "d/e/x"));
+    Ok(())
+}
