@@ -53,13 +53,23 @@ fn simplify_by(alloc: Global, request: &Request, values: &mut Values) -> Result<
     Ok(())
 }
 
+fn updated(
+    alloc: Global,
+    whole: Merge<String>,
+    edited: Merge<String>,
+) -> Result<Merge<String>, RowError> {
+    let simplified = whole.simplify(alloc)?;
+    if edited.as_slice().len() != simplified.as_slice().len() {
+        return Err(RowError::Precondition("as many terms as remain"));
+    }
+    Ok(whole.update_from_simplified(alloc, edited)?)
+}
+
 // `merge-update TERMS | SIMPLIFIED`: the terms with edited ones written back.
 fn update(alloc: Global, request: &Request, values: &mut Values) -> Result<(), RowError> {
     let whole = merge_of(request.group(0)?)?;
     let edited = merge_of(request.group(1)?)?;
-    let len = whole.simplify(alloc)?.as_slice().len();
-    needs(len == edited.as_slice().len(), "as many terms as remain")?;
-    values.strings(whole.update_from_simplified(alloc, edited)?.as_slice());
+    values.strings(updated(alloc, whole, edited)?.as_slice());
     Ok(())
 }
 
@@ -263,11 +273,7 @@ fn options(request: &Request, values: &mut Values) -> Result<(), RowError> {
     values.flag(whole.is_present());
     let normal = whole.as_normal();
     values.option_string(normal.map(|string: &String| string.as_str()));
-    agree(
-        whole.present_adds().count() <= whole.adds().len()
-            && whole.present_removes().count() <= whole.removes().len(),
-        "present terms",
-    )
+    Ok(())
 }
 
 // `merge-from-diffs FIRST | BEFORE AFTER | ..`: the terms.
