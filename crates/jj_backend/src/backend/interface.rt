@@ -9,7 +9,7 @@ use super::{
     BackendResult, ChangeId, Commit, CommitId, CopyHistory, CopyId, CopyRecord, FileId,
     RelatedCopy, SymlinkId, Tree, TreeId,
 };
-use crate::signing::SignResult;
+use crate::signing::{SignError, SignResult};
 use jj_paths::repo_path::{RepoPath, RepoPathBuf};
 use std::alloc::Global;
 
@@ -26,15 +26,19 @@ pub trait SigningFn {
         ensures { may_sign self.old «data».now (result_map_both (λ v. v.items) (λ e. e) result) };
 }
 
-/// The signer of an unsigned write: `None::<&mut NoSigner>`. No value of it exists.
+/// The signer of an unsigned write, which is passed `None::<&mut NoSigner>`. It signs nothing: its
+/// only result is `InvalidSignatureFormat`.
 #[derive(Debug, Drop)]
-pub enum NoSigner {}
+pub struct NoSigner;
 
 impl SigningFn for NoSigner {
-    ghost may_sign = { λ _ _ _. ⊥ };
+    ghost use Rattle.std.specs.Prelude.{◌≡◌, Err};
+    ghost use Rattle.jj_backend.specs.declared.signing.SignError.TheVariants.{InvalidSignatureFormat};
+
+    ghost may_sign = { λ _ _ result. result ≡ Err InvalidSignatureFormat };
 
     fn sign(&mut self, _alloc: Global, _data: &[u8]) -> SignResult<Vec<u8>> {
-        match *self {}
+        Err(SignError::InvalidSignatureFormat)
     }
 }
 
