@@ -74,7 +74,7 @@ fn ask<M: Matcher>(
     values: &mut Values,
 ) -> Result<(), RowError> {
     match name {
-        "matches" => put_matches(alloc, matcher, subjects, values),
+        "accepts" => put_matches(alloc, matcher, subjects, values),
         "visit" => put_visits(alloc, matcher, subjects, values),
         _ => put_walk(alloc, matcher, subjects, values),
     }
@@ -250,7 +250,7 @@ pub(crate) fn call(
     values: &mut Values,
 ) -> Result<bool, RowError> {
     let called = match name {
-        "matches" | "visit" | "walk" => ask_kind(alloc, name, request, values),
+        "accepts" | "visit" | "walk" => ask_kind(alloc, name, request, values),
         "globs-builder" => globs_builder(alloc, request, values),
         "path-glob" => path_glob(alloc, request.group(0)?, values),
         "debug-matchers" => debug_matchers(values),
