@@ -23,21 +23,21 @@ returns-then-is_below_root-clause-sound c =
 pub returns-clause-answer : goal.returns-clause-answer
 returns-clause-answer c =
     let names = c.args.self.now.names.keys in
-    let root : path_of c.args.dir ≡ [] = at_root (path_of c.args.dir) (sym c.is_below_root.ensures ∙ c.if-is_below_root.false) in
+    let root : path_of c.args.dir ≡ [] = at_root names (path_of c.args.dir) (sym c.is_below_root.ensures ∙ c.if-is_below_root.false) in
     c.sets.ensures.answer
-    ∙ ap (λ keys. sets_answer keys c.in_ok-files.files.keys) (each_same names c.in_ok-dirs.dirs.keys c.in_ok-dirs.ensures)
-    ∙ ap (sets_answer names) (each_same names c.in_ok-files.files.keys c.in_ok-files.ensures)
+    ∙ ap (λ keys. sets_answer keys c.in_ok-files.files.keys) (each_same names c.in_ok-dirs.dirs.keys c.in_ok-dirs.ensures.cases)
+    ∙ ap (sets_answer names) (each_same names c.in_ok-files.files.keys c.in_ok-files.ensures.cases)
     ∙ ap (top_level_answer names) (sym root)
 
 pub returns-clause-sound : goal.returns-clause-sound
 returns-clause-sound c =
     let names = c.args.self.now.names.keys in
-    let root : path_of c.args.dir ≡ [] = at_root (path_of c.args.dir) (sym c.is_below_root.ensures ∙ c.if-is_below_root.false) in
+    let root : path_of c.args.dir ≡ [] = at_root names (path_of c.args.dir) (sym c.is_below_root.ensures ∙ c.if-is_below_root.false) in
     c.sets.ensures.sound (starts_among names) (starts_among names) (path_of c.args.dir)
-    (names_all names (path_of c.args.dir) c.in_ok-dirs.dirs.keys c.in_ok-files.files.keys root (each_same names c.in_ok-dirs.dirs.keys c.in_ok-dirs.ensures) (each_same names c.in_ok-files.files.keys c.in_ok-files.ensures))
+    (names_all names (path_of c.args.dir) c.in_ok-dirs.dirs.keys c.in_ok-files.files.keys root (each_same names c.in_ok-dirs.dirs.keys c.in_ok-dirs.ensures.cases) (each_same names c.in_ok-files.files.keys c.in_ok-files.ensures.cases))
 
 pub returns-clause-chosen : goal.returns-clause-chosen
 returns-clause-chosen c =
     let names = c.args.self.now.names.keys in
-    c.sets.ensures.chosen names (among names c.in_ok-dirs.dirs.keys (each_same names c.in_ok-dirs.dirs.keys c.in_ok-dirs.ensures))
-    (among names c.in_ok-files.files.keys (each_same names c.in_ok-files.files.keys c.in_ok-files.ensures))
+    c.sets.ensures.chosen names (among names c.in_ok-dirs.dirs.keys (each_same names c.in_ok-dirs.dirs.keys c.in_ok-dirs.ensures.cases))
+    (among names c.in_ok-files.files.keys (each_same names c.in_ok-files.files.keys c.in_ok-files.ensures.cases))
