@@ -1,4 +1,5 @@
--- Digests of the RFC and of others, so that a wrong constant or step in the definition does not check.
+-- Known digests (RFC 7693, appendix A, and others): a check of the constants and steps of the
+-- definition.
 use Rattle.std.proofs.Common.{◌≡◌, [], ◌∷◌, codes, refl, take}
 use Rattle.jj_content.specs.Blake2b.{blake2b, final_state, state_after, folded_state, compress, start_vector, words, rounds, columns_mixed, diagonals_mixed, mix_at, mix}
 

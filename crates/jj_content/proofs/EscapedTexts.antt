@@ -1,4 +1,4 @@
--- Texts that are written byte by byte, some of the bytes by an escape.
+-- Loop invariants of escaping a string character by character.
 use Rattle.std.proofs.Common.{◌≡◌, ℕ, ◌+◌, ◌≤◌, ◌/◌, ◌%◌, List, [], length, ◌∷◌, ◌++◌, Bool, true, false, cond, ltb, refl, sym, ap, ◌∙◌, arith}
 use Rattle.std.specs.List.{flat_map}
 use Rattle.std.proofs.lemmas.List.{append-nil, append_assoc, nil_from_length}
@@ -9,7 +9,7 @@ plain_either : (escape : ℕ → List ℕ) (b : Bool) (xs ys : List ℕ) → fla
 plain_either escape true xs ys x y = x
 plain_either escape false xs ys x y = y
 
--- a character stands for itself where its number does, and each byte that is not ASCII
+-- a character is unchanged if its byte is, and if bytes that are not ASCII are
 pub plain_character : (escape : ℕ → List ℕ) (c : ℕ) → escape c ≡ c ∷ [] → ((b : ℕ) → 128 ≤ b → escape b ≡ b ∷ []) → flat_map escape (encode c) ≡ encode c
 unfolding encode
 plain_character escape c plain high =
@@ -28,14 +28,14 @@ plain_character escape c plain high =
     let two_or_more = plain_either escape (ltb c 2048) two (cond (ltb c 65536) three four) two_plain three_or_four in
     plain_either escape (ltb c 128) one (cond (ltb c 2048) two (cond (ltb c 65536) three four)) one_plain two_or_more
 
--- one more character of the text is written
+-- loop step: one more character
 pub one_more_written : (escape : ℕ → List ℕ) (buffer buffer' piece rest rest' whole : List ℕ) → buffer' ≡ buffer ++ flat_map escape piece → rest ≡ piece ++ rest'
     → buffer ++ flat_map escape rest ≡ whole → buffer' ++ flat_map escape rest' ≡ whole
 one_more_written escape buffer buffer' piece rest rest' whole written split before =
     ap (λ b. b ++ flat_map escape rest') written ∙ append_assoc buffer (flat_map escape piece) (flat_map escape rest')
     ∙ ap (λ t. buffer ++ t) (sym (ap (flat_map escape) split ∙ flat_map-append escape piece rest')) ∙ before
 
--- and then nothing is left
+-- loop exit
 pub all_written : (escape : ℕ → List ℕ) (buffer rest whole : List ℕ) → length rest ≡ 0 → buffer ++ flat_map escape rest ≡ whole → buffer ≡ whole
 all_written escape buffer rest whole empty before =
     sym (ap (λ r. buffer ++ flat_map escape r) (nil_from_length rest empty) ∙ append-nil buffer) ∙ before

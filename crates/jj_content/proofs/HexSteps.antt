@@ -1,4 +1,4 @@
--- A text read two digits at a time: a bad digit, one more pair, and a last digit that stands alone.
+-- Loop invariants of decoding hex by pairs of digits.
 use Rattle.std.proofs.Common.{◌≡◌, ℕ, ◌+◌, ◌*◌, ◌/◌, ◌%◌, ◌<◌, ◌≤◌, List, [], ◌∷◌, ◌++◌, length, get_or, take, drop, Some, None, true, false, refl, sym, ap, ◌∙◌, arith, suc, zero}
 use Rattle.std.specs.Simd.{first_chunks}
 use Rattle.std.proofs.lemmas.List.{append-nil, append_assoc, drop-drop, get_or-take, get_or-drop, get_or_append_left, length-append, take_more, take_all}
@@ -20,13 +20,13 @@ chunk_at (suc n) xs (suc i) d h =
     let e : 2 + 2 * i ≡ 2 * suc i = omega arith in
     there ∙ ap (take 2) (drop-drop (2 * i) 2 xs ∙ ap (λ k. drop k xs) e)
 
--- the digits of a chunk are those of the text
+-- digit j of chunk i is character `2 * i + j`
 pub chunk_digit : (text : List ℕ) (chunks : List (List ℕ)) (i : ℕ) (d : List ℕ) (j : ℕ) → chunks ≡ first_chunks 2 (length text / 2) text → i < length text / 2 → j < 2
     → get_or (get_or chunks i d) j 0 ≡ get_or text (2 * i + j) 0
 chunk_digit text chunks i d j is h k =
     ap (λ c. get_or (get_or c i d) j 0) is ∙ ap (λ c. get_or c j 0) (chunk_at (length text / 2) text i d h) ∙ get_or-take 2 (drop (2 * i) text) j 0 k ∙ get_or-drop (2 * i) text j 0
 
--- a text that reads as bytes once it is padded is hex
+-- all characters of a string are digits if the padded string decodes
 pub padded-is_hex : (digits text bytes : List ℕ) → AreDigits digits → ReadsAs digits (padded_text digits text) bytes → is_hex_text digits text ≡ true
 padded-is_hex digits text bytes are reads = all_digits digits text (λ k within none.
     let whole = padded_text digits text in
@@ -45,7 +45,7 @@ take_two text i h =
     let e : 2 * (i + 1) ≡ 2 * i + 1 + 1 = omega arith in
     rw (e, second, first) (append_assoc (take (2 * i) text) (get_or text (2 * i) 0 ∷ []) (get_or text (2 * i + 1) 0 ∷ []))
 
--- one more pair of digits is one more byte
+-- loop step: one more pair of digits
 pub next_pair : (digits text : List ℕ) (chunks : List (List ℕ)) (bytes new : List ℕ) (i : ℕ) (d : List ℕ) (e : List ℕ) (high low byte : ℕ) → AreDigits digits → chunks ≡ first_chunks 2 (length text / 2) text → i < length text / 2
     → ReadsAs digits (take (2 * i) text) bytes → Some high ≡ digit_value digits (get_or (get_or chunks i d) 0 0) → Some low ≡ digit_value digits (get_or (get_or chunks i e) 1 0)
     → byte ≡ high * 16 + low → new ≡ bytes ++ byte ∷ [] → ReadsAs digits (take (2 * (i + 1)) text) new
@@ -56,11 +56,11 @@ next_pair digits text chunks bytes new i d e high low byte are is h reads is_hig
     let first' : digit_value digits (get_or text (2 * i) 0) ≡ Some high = rw at at first in
     rw (is_new, is_byte, take_two text i (omega arith)) (ReadsAs-push digits (take (2 * i) text) bytes (get_or text (2 * i) 0) (get_or text (2 * i + 1) 0) high low are reads first' second)
 
--- a text of even length is even already
+-- padding does not change a string of even length
 pub evened_even : (digits text : List ℕ) → length text % 2 ≡ 0 → padded_text digits text ≡ text
 evened_even digits text e = rw e (append-nil text)
 
--- where no digit is left after the pairs
+-- loop exit, if the length is even
 pub whole_pairs : (digits text bytes : List ℕ) (n : ℕ) → n ≡ length text / 2 → length text % 2 ≡ 0 → ReadsAs digits (take (2 * n) text) bytes → ReadsAs digits (padded_text digits text) bytes
 whole_pairs digits text bytes n is even reads =
     let whole : take (2 * n) text ≡ text = take_all (2 * n) text (omega arith) in
@@ -74,7 +74,7 @@ evened_odd digits text n odd is =
     let there = append_assoc (take (2 * n) text) (get_or text (2 * n) 0 ∷ []) (get_or digits 0 0 ∷ []) in
     rw odd (ap (λ t. t ++ get_or digits 0 0 ∷ []) split ∙ there)
 
--- where one digit is left
+-- the digit that remains after the pairs
 pub last_at : (text rest : List ℕ) → rest ≡ drop (length text / 2 * 2) text → get_or rest 0 0 ≡ get_or text (2 * (length text / 2)) 0
 last_at text rest is =
     let e : length text / 2 * 2 + 0 ≡ 2 * (length text / 2) = omega arith in
@@ -85,7 +85,7 @@ pub bad_last : (digits text rest : List ℕ) → rest ≡ drop (length text / 2 
 bad_last digits text rest is size there none =
     no_digit digits text (2 * (length text / 2)) (omega arith) (sym (ap (digit_value digits) (last_at text rest is)) ∙ sym none)
 
--- the last digit alone is the high one of one more byte
+-- loop exit, if the length is odd: the last digit is the high one of one more byte
 pub last_digit : (digits text rest bytes new : List ℕ) (n high byte : ℕ) → AreDigits digits → rest ≡ drop (length text / 2 * 2) text → length rest ≡ length text % 2 → 1 ≤ length rest → n ≡ length text / 2
     → ReadsAs digits (take (2 * n) text) bytes → Some high ≡ digit_value digits (get_or rest 0 0) → byte ≡ high * 16 + 0 → new ≡ bytes ++ byte ∷ [] → ReadsAs digits (padded_text digits text) new
 last_digit digits text rest bytes new n high byte are is size there is_n reads is_high is_byte is_new =

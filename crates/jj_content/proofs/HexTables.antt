@@ -1,4 +1,4 @@
--- Tables of the values of digits.
+-- The tables of digit values agree with `digit_value`.
 use Rattle.std.proofs.Common.{◌≡◌, ◌∙◌, ◌+◌, ◌<◌, ◌≤◌, ◌==◌, ℕ, List, Option, Some, None, length, map, ap, refl, arith, slice_index_or}
 use Rattle.std.specs.Prelude.{unwrap_or}
 use Rattle.std.specs.List.{range_with_len}
@@ -8,7 +8,7 @@ use Rattle.std.proofs.lemmas.List.{get_or-map}
 use Rattle.std.proofs.lemmas.List.FromFn.{get_or-range_with_len, length-range_with_len}
 use Rattle.jj_content.specs.Hex.{digit_value}
 
--- the value of each byte as a digit, and 16 for one that is none
+-- the value of each byte as a digit, or 16 if it is not a digit
 abbrev pub digit_table : List ℕ → List ℕ
 digit_table digits = map (λ b. unwrap_or (digit_value digits b) 16) (range_with_len 0 256)
 

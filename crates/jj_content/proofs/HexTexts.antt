@@ -1,4 +1,4 @@
--- Each digit stands at one place, so a text that reads as bytes has a digit at each place and reads as no others.
+-- Proofs about hex: the digits are distinct, so decoding is the inverse of encoding.
 use Rattle.std.proofs.Common.{◌≡◌, ℕ, ◌+◌, ◌*◌, ◌/◌, ◌%◌, ◌<◌, ◌≤◌, List, [], ◌∷◌, ◌++◌, length, get_or, take, drop, All, Option, Some, None, true, false, eqb, refl, sym, ap, ◌∙◌, arith, lit<, lit≤, suc, zero, map, min, inl, inr, ◌≢◌}
 use Rattle.std.specs.Prelude.{position, ◌&&◌}
 use Rattle.std.specs.Str.{str_to_ascii_lowercase, IsAscii}
@@ -14,13 +14,13 @@ use Rattle.std.proofs.lemmas.Bool.Decides.{eqb_tells}
 use Rattle.std.proofs.lemmas.List.Quantifiers.{position-Some}
 use Rattle.jj_content.specs.Hex.{IsByte, hex_digits, reverse_hex_digits, digit_pair, text_with, ReadsAs, digit_value, common_length, is_hex_text, is_text_of}
 
--- sixteen lower-case digits, each at one place
+-- sixteen distinct lower-case digits
 pub record AreDigits (digits : List ℕ) : Type 0 where
   pub count : length digits ≡ 16
   pub back : (m : ℕ) → m < 16 → digit_value digits (get_or digits m 0) ≡ Some m
   pub lower : (m : ℕ) → m < 16 → to_ascii_lowercase (get_or digits m 0) ≡ get_or digits m 0
 
--- what holds of the numbers below sixteen, one by one
+-- case analysis of a number below 16
 below_sixteen : (P : ℕ → Type 0) → P 0 → P 1 → P 2 → P 3 → P 4 → P 5 → P 6 → P 7 → P 8 → P 9 → P 10 → P 11 → P 12 → P 13 → P 14 → P 15 → (m : ℕ) → m < 16 → P m
 below_sixteen P a b c d e f g h i j k l n o p q zero _ = a
 below_sixteen P a b c d e f g h i j k l n o p q (suc zero) _ = b
@@ -70,7 +70,7 @@ pub length-text_with : (digits xs : List ℕ) → length (text_with digits xs) �
 length-text_with digits [] = ap length (text_with-nil digits)
 length-text_with digits (x ∷ xs) = let h : length (text_with digits xs) ≡ 2 * length xs = length-text_with digits xs in rw text_with-cons (omega arith)
 
--- what a digit's value says of its character
+-- the digit with value v is the lower-case form of the character
 pub digit_value-Some : (digits : List ℕ) (c v : ℕ) → AreDigits digits → digit_value digits c ≡ Some v → (v < 16) × (get_or digits v 0 ≡ to_ascii_lowercase c)
 digit_value-Some digits c v are is =
     let found = position-Some (λ digit. eqb digit (to_ascii_lowercase c)) digits v 0 is in
@@ -82,7 +82,7 @@ digit_value-same digits a b e = ap (λ (c : ℕ). position (λ digit. eqb digit 
 pub ReadsAs-nil : (digits : List ℕ) → ReadsAs digits [] []
 ReadsAs-nil digits = record { bytes_fit = All-nil IsByte; same = sym (text_with-nil digits) }
 
--- two more digits are one more byte
+-- two more digits, one more byte
 pub ReadsAs-push : (digits text bytes : List ℕ) (a b high low : ℕ) → AreDigits digits → ReadsAs digits text bytes → digit_value digits a ≡ Some high → digit_value digits b ≡ Some low
     → ReadsAs digits (text ++ a ∷ b ∷ []) (bytes ++ (high * 16 + low) ∷ [])
 ReadsAs-push digits text bytes a b high low are reads is_high is_low =
@@ -96,7 +96,7 @@ ReadsAs-push digits text bytes a b high low are reads is_high is_low =
       same = rw (map-append to_ascii_lowercase text (a ∷ b ∷ []), text_with-append digits bytes ((high * 16 + low) ∷ []), text_with-cons digits (high * 16 + low) [], text_with-nil digits, quotient, remainder, reads.same, h.1, l.1) refl;
     }
 
--- a text that reads as bytes has a digit at each place
+-- each character of a string that decodes is a digit
 digit_at : (digits text bytes : List ℕ) (k : ℕ) → AreDigits digits → All IsByte bytes → str_to_ascii_lowercase text ≡ text_with digits bytes → k < length text → digit_value digits (get_or text k 0) ≡ None → ⊥
 digit_at digits [] bytes k are fit same within none = absurd (omega arith)
 digit_at digits (t ∷ ts) [] k are fit same within none = let e = text_with-nil digits in cc
@@ -152,11 +152,11 @@ text_with-injective digits (a ∷ xs) (b ∷ ys) are x y e =
     let tails = text_with-injective digits xs ys are (All-tail IsByte a xs x) (All-tail IsByte b ys y) rest in
     cc
 
--- a text reads as one list of bytes at most
+-- a string decodes to at most one list of bytes
 pub ReadsAs-unique : (digits text xs ys : List ℕ) → AreDigits digits → ReadsAs digits text xs → ReadsAs digits text ys → xs ≡ ys
 ReadsAs-unique digits text xs ys are x y = text_with-injective digits xs ys are x.bytes_fit y.bytes_fit (sym x.same ∙ y.same)
 
--- what bytes are written as reads as them
+-- the encoding of bytes decodes to them
 pub ReadsAs-text_with : (digits bytes : List ℕ) → AreDigits digits → All IsByte bytes → ReadsAs digits (text_with digits bytes) bytes
 ReadsAs-text_with digits bytes are fit = record { bytes_fit = fit; same = lower_text digits bytes are fit }
   where
@@ -169,7 +169,7 @@ ReadsAs-text_with digits bytes are fit = record { bytes_fit = fit; same = lower_
         let rest = lower_text digits bs are (All-tail IsByte b bs fit) in
         rw text_with-cons (cc)
 
--- the digits of equal bytes are common to both texts
+-- equal bytes have equal digits
 common_pair : (h l : ℕ) (xs ys : List ℕ) → common_length (h ∷ l ∷ xs) (h ∷ l ∷ ys) ≡ 2 + common_length xs ys
 common_pair h l xs ys = let e = eq-eqb h h refl in let f = eq-eqb l l refl in rw (e, f) (omega arith)
 
@@ -194,7 +194,7 @@ digits-injective digits m n are small_m small_n e =
     let same = ap (digit_value digits) e in
     cc
 
--- where two bytes differ in the low digit alone, and where they differ in the high one
+-- two bytes that differ first in the low digit, or already in the high digit
 pub common_length-low : (digits xs ys : List ℕ) (i : ℕ) → AreDigits digits → i < length xs → i < length ys → get_or xs i 0 < 256 → get_or ys i 0 < 256 → ((k : ℕ) → k < i → get_or xs k 0 ≡ get_or ys k 0)
     → get_or xs i 0 ≢ get_or ys i 0 → get_or xs i 0 / 16 ≡ get_or ys i 0 / 16 → common_length (text_with digits xs) (text_with digits ys) ≡ i * 2 + 1
 common_length-low digits xs ys i are x y fit_x fit_y same differ high =
@@ -222,7 +222,7 @@ common_length-nil : (xs : List ℕ) → common_length xs [] ≡ 0
 common_length-nil [] = refl
 common_length-nil (x ∷ xs) = refl
 
--- where the bytes of the shorter list are those of the longer one
+-- one list of bytes is a prefix of the other
 pub common_length-all : (digits xs ys : List ℕ) (n : ℕ) → n ≡ min (length xs) (length ys) → ((k : ℕ) → k < n → get_or xs k 0 ≡ get_or ys k 0) → common_length (text_with digits xs) (text_with digits ys) ≡ n * 2
 common_length-all digits xs ys n is same =
     let front = common_length-front digits xs ys n (omega arith) (omega arith) same in
@@ -235,7 +235,7 @@ common_length-all digits xs ys n is same =
           omega arith
     ]
 
--- a digit with a value is the first of a pair, or the second
+-- two more digits at the start of a string
 pub ReadsAs-cons : (digits text bytes : List ℕ) (a b high low : ℕ) → AreDigits digits → ReadsAs digits text bytes → digit_value digits a ≡ Some high → digit_value digits b ≡ Some low
     → ReadsAs digits (a ∷ b ∷ text) ((high * 16 + low) ∷ bytes)
 ReadsAs-cons digits text bytes a b high low are reads is_high is_low =
@@ -249,7 +249,7 @@ some_value : (o : Option ℕ) → is_some o ≡ true → (v : ℕ) × (o ≡ Som
 some_value (Some v) is = (v, refl)
 some_value None is = cc
 
--- a text of whole bytes reads as some bytes
+-- a string of an even number of digits decodes
 pub bytes_of_text : (digits text : List ℕ) → AreDigits digits → length text % 2 ≡ 0 → list_all (λ c. is_some (digit_value digits c)) text ≡ true → (bytes : List ℕ) × ReadsAs digits text bytes
 bytes_of_text digits [] are even all = ([], ReadsAs-nil digits)
 bytes_of_text digits (a ∷ []) are even all = absurd (omega arith)
@@ -265,7 +265,7 @@ some_digit : (o : Option ℕ) → (o ≡ None → ⊥) → is_some o ≡ true
 some_digit None some = absurd (some refl)
 some_digit (Some v) some = refl
 
--- a text whose characters all have a value is hex
+-- `is_hex_text` is true if every character is a digit
 pub all_digits : (digits text : List ℕ) → ((k : ℕ) → k < length text → digit_value digits (get_or text k 0) ≡ None → ⊥) → is_hex_text digits text ≡ true
 all_digits digits [] some = refl
 all_digits digits (c ∷ text) some =
@@ -273,7 +273,7 @@ all_digits digits (c ∷ text) some =
     let rest : is_hex_text digits text ≡ true = all_digits digits text (λ k h. some (suc k) (omega arith)) in
     rw (first, rest) refl
 
--- a text with a character that has no value is not
+-- `is_hex_text` is false if one character is not a digit
 pub no_digit : (digits text : List ℕ) (k : ℕ) → k < length text → digit_value digits (get_or text k 0) ≡ None → is_hex_text digits text ≡ false
 no_digit digits [] k within none = absurd (omega arith)
 no_digit digits (c ∷ text) zero within none = rw none refl
@@ -281,14 +281,14 @@ no_digit digits (c ∷ text) (suc k) within none =
     let rest : is_hex_text digits text ≡ false = no_digit digits text k (omega arith) none in
     elim (digit_value digits c) as (λ o. (is_some o && is_hex_text digits text) ≡ false) [ Some v ↦ rest | None ↦ refl ]
 
--- a text that reads as bytes is a hex text of whole bytes
+-- a string that decodes encodes whole bytes
 pub ReadsAs-is_text : (digits text bytes : List ℕ) → AreDigits digits → ReadsAs digits text bytes → is_text_of digits text ≡ true
 ReadsAs-is_text digits text bytes are reads =
     let even = eq-eqb (length text % 2) 0 (omega (arith, ReadsAs-length digits text bytes reads)) in
     let all = all_digits digits text (λ k h none. ReadsAs-digit digits text bytes k are reads h none) in
     rw (even, all) refl
 
--- the front of a text of bytes: whole bytes, or half a byte more
+-- prefixes of an encoding, of an even or odd number of digits
 pub take-text_with : (digits xs : List ℕ) (n : ℕ) → take (2 * n) (text_with digits xs) ≡ text_with digits (take n xs)
 take-text_with digits xs zero = sym (text_with-nil digits)
 take-text_with digits [] (suc n) =
@@ -305,7 +305,7 @@ take-text_with-half digits (x ∷ xs) (suc n) within =
     let e : 2 * suc n + 1 ≡ suc (suc (2 * n + 1)) = omega arith in
     rw (text_with-cons digits x xs, text_with-cons digits x (take n xs), e, take-text_with-half digits xs n (omega arith)) refl
 
--- a text of ASCII digits is ASCII
+-- the encoding with ASCII digits is ASCII
 pub text_with-IsAscii : (digits bytes : List ℕ) → IsAscii digits → IsAscii (text_with digits bytes)
 text_with-IsAscii digits [] ascii = rw (text_with-nil digits) IsAscii-nil
 text_with-IsAscii digits (b ∷ bs) ascii =

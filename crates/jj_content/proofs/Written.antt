@@ -1,4 +1,4 @@
--- What a writer takes in one call after another.
+-- Loop invariants of `write_quoted`, on the string written so far.
 use Rattle.std.proofs.Common.{◌≡◌, ℕ, ◌/◌, ◌%◌, ◌<◌, List, [], ◌∷◌, ◌++◌, length, get_or, true, None, refl, sym, ap, ◌∙◌, arith}
 use Rattle.std.specs.Prelude.{find, ◌==◌}
 use Rattle.std.specs.List.{flat_map}
@@ -12,11 +12,11 @@ use Rattle.jj_content.specs.Hex.{hex_digits}
 use Rattle.jj_content.specs.Symbols.{letter_escapes, escaped_byte, escaped_text}
 use Rattle.jj_content.proofs.SymbolTexts.{escaped_letter, control_byte, escaped_step, escaped_end}
 
--- the same writes, of an equal text
+-- rewrites the written string by an equality
 pub writes_same : {W : Type 0} (took : W → List ℕ → W → Type 0) (w v : W) (text bytes : List ℕ) → text ≡ bytes → WritesInCalls took w bytes v → WritesInCalls took w text v
 writes_same took w v text bytes e h = rw e h
 
--- one call that writes an escape
+-- one call writes the escape
 pub writes_escape : {W : Type 0} (took : W → List ℕ → W → Type 0) (w v : W) (c : ℕ) (piece : List ℕ) → c < 128 → escaped_byte c ≡ piece → took w piece v
     → WritesInCalls took w (flat_map escaped_byte (encode c)) v
 writes_escape took w v c piece small e h =
@@ -25,7 +25,7 @@ writes_escape took w v c piece small e h =
 control_small : (c : ℕ) → true ≡ is_ascii_control c → c < 128
 control_small c control = grind (arith, nat_tests)
 
--- three calls that write an escape by its hex digits
+-- three calls write `\x` and two hex digits
 pub writes_control : {W : Type 0} (took : W → List ℕ → W → Type 0) (w a b v : W) (c high low n : ℕ)
     → find (λ e. e.0 == c) letter_escapes ≡ None → true ≡ is_ascii_control c
     → high ≡ get_or hex_digits (c / 16) 0 → high < 128 → low ≡ get_or hex_digits n 0 → n ≡ c % 16 → low < 128
@@ -40,7 +40,7 @@ writes_control took w a b v c high low n none control is_high small_high is_low 
     = rw (encode_ascii c (control_small c control), encode_ascii high small_high, encode_ascii low small_low, is_high, is_low, is_digit, control_byte c none control) refl in
     writes_same took w v _ _ text all
 
--- the quote that begins a text, one more character of it, and the quote that ends it
+-- before the loop, its step and its exit
 pub quote_begun : {W : Type 0} (took : W → List ℕ → W → Type 0) (w v : W) (rest whole : List ℕ) → took w (encode 34) v → rest ≡ whole
     → (front : List ℕ) × WritesInCalls took w (34 ∷ front) v × (front ++ escaped_text rest ≡ escaped_text whole)
 quote_begun took w v rest whole h e =

@@ -1,5 +1,4 @@
--- Items put in order: the order in which they came changes nothing, and tables that are equal as
--- tables give lists that are equal item by item.
+-- Proofs about sorting: sorted lists of distinct items with the same members are equal.
 -- Cited by contracts of public items through Tables.
 use Rattle.std.proofs.Common.{◌≡◌, ◌+◌, ◌<◌, ◌⊎◌, List, [], ◌∷◌, length, map, true, false, refl, sym, ap, ◌∙◌, subst, inl, inr, get_or, arith}
 use Rattle.std.specs.Ordering.{is_gt, is_eq, is_lt, ordering_reverse}
@@ -16,7 +15,7 @@ use Rattle.std.proofs.lemmas.List.Sorted.{All-permutation, IsPermutation-sym, Is
 use Rattle.std.proofs.lemmas.Map.Keys.{IsDistinct-IsPermutation, apart_from_distinct, sorted_from_all_adjacent}
 use Rattle.jj_content.specs.Content.{insert_in_order, in_order}
 
--- z is one of the items
+-- z is a member of the list
 abbrev Among : {X : Type 0} → X → List X → Type 0
 Among z [] = ⊥
 Among z (x ∷ xs) = (z ≡ x) ⊎ Among z xs
@@ -45,7 +44,7 @@ module _ {X : Type 0} where
         (λ z h. inr h) xs (among_itself xs),
   )
 
--- ---- what stays when items are put in order
+-- ---- the members of the sorted list
 module _ {X : Type 0} (S : X → X → Ordering) where
   all_placed : (P : X → Type 0) (x : X) (ys : List X) → P x → AllByRecursion P ys
       → AllByRecursion P (insert_in_order S x ys)
@@ -99,7 +98,7 @@ module _ {X : Type 0} (S : X → X → Ordering) where
   all_from_in_order P xs a = weaker (λ z. Among z (in_order S xs)) P
       (λ z h. at P z (in_order S xs) a h) xs (among_in_order xs)
 
--- ---- the list is in order, and the only one that is
+-- ---- a sorted list is determined by its members
 Less-from : (r : Ordering) → is_gt r ≡ false → is_eq r ≡ false → r ≡ Less
 Less-from Less p q = refl
 Less-from Equal p q = cc
@@ -187,7 +186,7 @@ module _ {X : Type 0} {S : X → X → Ordering} (o : IsTotalOrder S) where
       Less-from (S a b) up (apart_from_distinct (λ x z. is_eq (S x z)) (y ∷ ys) k (k + 1) y d
       (omega arith) lt))
 
-  -- what a sort makes of distinct items
+  -- a sorted permutation of distinct items is `in_order` of them
   pub in_order_is : (xs ys : List X) → IsDistinct (λ x y. is_eq (S x y)) xs → IsPermutation xs ys
       → IsSortedBy (λ x y. is_lt (S x y)) ys → ys ≡ in_order S xs
   in_order_is xs ys d p s =
@@ -215,7 +214,7 @@ module _ {X : Type 0} {S : X → X → Ordering} (o : IsTotalOrder S) where
       (λ i. is_lt (S (get_or-map shows (y ∷ ys) (k + 1) y d next i)
       (get_or-map shows (y ∷ ys) k y d here i))) ∙ s k y l next
 
-  -- the same where the items are seen through references
+  -- a sorted permutation of references to distinct items
   pub in_order_shown : {A : Type 0} (shows : A → X) (xs : List X) (before after : List A)
       → map shows before ≡ xs → IsDistinct (λ x y. is_eq (S x y)) xs
       → IsPermutation before after → IsSortedBy (λ x y. is_lt (S (shows x) (shows y))) after

@@ -1,4 +1,4 @@
--- What a call that makes a JSON value answers.
+-- The result of a conversion to JSON.
 -- Cited by contracts of public items: IsAnswer, IsJsonList.
 use Rattle.std.specs.Prelude.{◌≡◌, List, Result, Ok, Err}
 use Rattle.std.specs.List.{AllZip}
@@ -8,13 +8,13 @@ use Rattle.serde_json.specs.declared.value.Value.{Value}
 use Rattle.jj_content.specs.declared.to_json.ToJsonError.{ToJsonError}
 use Rattle.jj_content.specs.declared.to_json.ToJsonError.TheVariants.{Memory, TimestampOutOfRange}
 
--- The answer is the JSON value, and then all times are in range; or that a time is out of range,
--- where one is; or that memory ran out.
+-- Ok with the JSON value only if every timestamp has a date, TimestampOutOfRange only if one has
+-- none, or Memory.
 abbrev pub IsAnswer : Type 0 → (Data → Type 0) → Result Value ToJsonError → Type 0
 IsAnswer in_range is_json (Ok value) = in_range × is_json (view value)
 IsAnswer in_range is_json (Err TimestampOutOfRange) = in_range → ⊥
 IsAnswer in_range is_json (Err Memory) = Unit {0}
 
--- the array of the items' JSON values
+-- the JSON array of the items' JSON values
 abbrev pub IsJsonList : {X : Type 0} → (X → Data → Type 0) → List X → Data → Type 0
 IsJsonList is_json xs d = (ds : List Data) × AllZip is_json xs ds × (d ≡ array (items_of ds))

@@ -1,4 +1,4 @@
--- That content is lawful at numbers and texts, and at what is made of parts whose content is.
+-- Proofs that the content of each type is injective and prefix-free, from the same of its parts.
 -- Cited by contracts of public items: bool_lawful, both_lawful, i32_lawful, i64_lawful,
 -- list_lawful, on_lawful, option_lawful, text_lawful, u32_lawful, u64_lawful, u8_lawful,
 -- unit_lawful.
@@ -21,7 +21,7 @@ use Rattle.std.specs.Option.{option_eq}
 use Rattle.std.specs.Ordering.{eq_of_both, on, int_eq}
 use Rattle.jj_content.specs.Content.{IsLawful, u32_content, u64_content, list_content, text_content, option_content, bool_content, i32_content, i64_content, AreValues, IsOptionOf}
 
--- what follows a number's bytes
+-- the bytes after an integer's content are equal if the contents with them are
 after_u64 : (m n : ℕ) (s t : List ℕ) → u64_content m ++ s ≡ u64_content n ++ t → s ≡ t
 unfolding u64_content
 after_u64 m n s t e = ap (drop 8) e
@@ -30,12 +30,12 @@ after_u32 : (m n : ℕ) (s t : List ℕ) → u32_content m ++ s ≡ u32_content 
 unfolding u32_content
 after_u32 m n s t e = ap (drop 4) e
 
--- numbers below a limit are equal where bytes that begin with their content are
+-- integers below a limit are equal if bytes that begin with their contents are
 abbrev pub AreToldApart : (ℕ → List ℕ) → ℕ → Type 0
 AreToldApart content limit = (m n : ℕ) (s t : List ℕ) → m < limit → n < limit
     → content m ++ s ≡ content n ++ t → m ≡ n
 
--- and so they are where they are read back from such bytes
+-- content is injective and prefix-free if a function reads the integer back
 read_back : (content : ℕ → List ℕ) (limit : ℕ) (read : List ℕ → ℕ)
     → ((n : ℕ) (s : List ℕ) → n < limit → read (content n ++ s) ≡ n) → AreToldApart content limit
 read_back content limit read back m n s t p q e = sym (back m s p) ∙ ap read e ∙ back n t q
@@ -71,7 +71,7 @@ u64_lawful = record {
   decides = λ m n s t p q h. eq-eqb m n (same_u64 m n s t p q h);
 }
 
--- through a part of the value
+-- content of a part of the value, where equality compares that part only
 pub on_lawful : {X Y : Type 0} (part : X → Y) {v : Y → Type 0} {e : Y → Y → Bool} {c : Y → List ℕ}
     → IsLawful v e c → IsLawful (λ x. v (part x)) (on part e) (λ x. c (part x))
 on_lawful part l = record {
@@ -79,7 +79,7 @@ on_lawful part l = record {
   decides = λ x y. l.decides (part x) (part y);
 }
 
--- one part after another
+-- the concatenation of two contents
 pub both_lawful : {X : Type 0} {v w : X → Type 0} {e f : X → X → Bool} {c d : X → List ℕ}
     → IsLawful v e c → IsLawful w f d → IsLawful (λ x. v x × w x) (eq_of_both e f) (λ x. c x ++ d x)
 both_lawful {X} {v} {w} {e} {f} {c} {d} l m = record {
@@ -98,7 +98,7 @@ both_lawful {X} {v} {w} {e} {f} {c} {d} l m = record {
       and_from (e x y) (f x y) first (m.decides x y s t p.1 q.1 rest);
 }
 
--- by a test of equality that answers the same
+-- replaces equality by a function that agrees with it
 same_lawful : {X : Type 0} {v : X → Type 0} {e f : X → X → Bool} {c : X → List ℕ}
     → ((x y : X) → f x y ≡ e x y) → IsLawful v e c → IsLawful v f c
 same_lawful alike l = record {
@@ -106,7 +106,7 @@ same_lawful alike l = record {
   decides = λ x y s t p q h. alike x y ∙ l.decides x y s t p q h;
 }
 
--- two or three parts together and then what follows them, where equality goes part by part
+-- concatenation of three or four contents, with the parentheses of derived equality
 module _ {X : Type 0} {u v w : X → Type 0} {e f g : X → X → Bool} {a b c : X → List ℕ}
     (first : IsLawful u e a) (second : IsLawful v f b) (third : IsLawful w g c) where
   pub two_then_lawful : IsLawful (λ x. (u x × v x) × w x) (eq_of_both e (eq_of_both f g))
@@ -188,7 +188,7 @@ module _ {X : Type 0} {v : X → Type 0} {e : X → X → Bool} {c : X → List 
   pub option_lawful : IsLawful (IsOptionOf v) (option_eq e) (option_content c)
   option_lawful = record { same = option_same; decides = option_decides }
 
--- texts
+-- strings
 pub text_lawful : IsLawful (λ bytes. length bytes < 2 ^ 64) (pointwise nat_eq) text_content
 unfolding text_content
 text_lawful = record {
@@ -222,12 +222,12 @@ bool_decides false false s t _ _ h = refl
 pub bool_lawful : IsLawful (λ _. ⊤) beq bool_content
 bool_lawful = record { same = bool_same; decides = bool_decides }
 
--- a signed number's bits give it back
+-- a signed integer is determined by its two's complement
 same_signed : (w : Width) (m n : ℤ) → FitsSigned w m → FitsSigned w n
     → cast_unsigned w m ≡ cast_unsigned w n → m ≡ n
 same_signed w m n p q e = sym (to_z-of_z w m p) ∙ ap (cast_signed w) e ∙ to_z-of_z w n q
 
--- a signed number of this width, by the content of its bits
+-- signed integers, by the content of their two's complement
 signed_lawful : (w : Width) (content : ℤ → List ℕ)
     → ((m n : ℤ) (s t : List ℕ) → FitsSigned w m → FitsSigned w n → content m ++ s ≡ content n ++ t
     → cast_unsigned w m ≡ cast_unsigned w n)
@@ -248,7 +248,7 @@ unfolding i64_content
 i64_lawful = signed_lawful w64 i64_content
     (λ m n s t p q. same_u64 _ _ s t (omega (arith, ints)) (omega (arith, ints)))
 
--- the variant's number, and then its fields
+-- enums: the variant's index, then the fields
 pub enum_lawful : {X : Type 0} {v : X → Type 0} {e : X → X → Bool} (variant : X → ℕ)
     (fields : X → List ℕ) → ((x : X) → variant x < 2 ^ 32)
     → ((x y : X) → v x → v y → e x y ≡ true → (variant x ≡ variant y) × (fields x ≡ fields y))

@@ -1,6 +1,5 @@
--- Tables of items with distinct keys: two find the same at each key exactly where the lists of
--- their items in key order are equal item by item. So the content of hashed maps and sets is
--- lawful.
+-- Proofs about tables with distinct keys: two tables agree at every key if and only if their lists
+-- of entries in key order are equal. Hence the content of hash maps and hash sets is lawful.
 -- Cited by contracts of public items: hash_map_lawful, hash_set_lawful.
 use Rattle.std.proofs.Common.{◌≡◌, ℕ, List, [], ◌∷◌, map, Bool, true, false, cond, Option, Some, None, refl, sym, ap, ◌∙◌, subst, inl, inr, arith, ◌&&◌, ◌||◌}
 use Rattle.std.specs.Ordering.{on, is_gt, is_eq, ordering_reverse}
@@ -32,7 +31,7 @@ swap_conds true false u v w h = refl
 swap_conds false true u v w h = refl
 swap_conds false false u v w h = refl
 
--- keys that differ differ in the order
+-- unequal keys compare as less or greater
 pub distinct_by_order : {X K : Type 0} (key : X → K) (R : K → K → Ordering) (E : K → K → Bool)
     → ((x y : K) → E x y ≡ is_eq (R x y)) → (xs : List X)
     → IsDistinct (on key E) xs → IsDistinct (λ x y. is_eq (on key R x y)) xs
@@ -42,22 +41,22 @@ distinct_by_order {X} key R E ties xs d = subst (λ (t : X → X → Bool). IsDi
 module _ {X K : Type 0} (key : X → K) {R : K → K → Ordering} (o : IsTotalOrder R) {E : K → K → Bool}
     (laws : IsEquivalence E)
     (ties : (x y : K) → E x y ≡ is_eq (R x y)) (F : X → X → Bool) where
-  -- the first item whose key is equal to q
+  -- the first item whose key equals q
   abbrev found : K → List X → Option X
   found q xs = find (λ x. E q (key x)) xs
 
-  -- whether two items are equal: in their keys, and in the rest
+  -- equality of items: equal keys, and equal in the rest
   abbrev same : X → X → Bool
   same x y = E (key x) (key y) && F x y
 
-  -- the two find the same at each key
+  -- both lists find equal items at every key
   abbrev Agree : List X → List X → Type 0
   Agree xs ys = (q : K) → option_eq F (found q xs) (found q ys) ≡ true
 
   apart : (x y : X) → R (key x) (key y) ≡ Less → E (key x) (key y) ≡ false
   apart x y p = ties (key x) (key y) ∙ ap is_eq p
 
-  -- a query that finds the one finds the other, where their keys are equal
+  -- equal keys match the same queries
   alike : (q x y : K) → E x y ≡ true → E q x ≡ E q y
   alike q x y e = laws.symm q x ∙ laws.congr x y q e ∙ laws.symm y q
 
@@ -89,7 +88,7 @@ module _ {X K : Type 0} (key : X → K) {R : K → K → Ordering} (o : IsTotalO
   first_found : (x : X) (xs : List X) → found (key x) (x ∷ xs) ≡ Some x
   first_found x xs = ap (λ b. cond b (Some x) (found (key x) xs)) (laws.refl (key x))
 
-  -- what is below the first key is found nowhere
+  -- no item of an ascending list matches a key below the first
   none_below : (x y : X) (ys : List X) → R (key x) (key y) ≡ Less
       → AllByRecursion (λ z. R (key y) (key z) ≡ Less) ys → found (key x) (y ∷ ys) ≡ None
   none_below x y ys p s = none_found (key x) (y ∷ ys) (
@@ -98,7 +97,7 @@ module _ {X K : Type 0} (key : X → K) {R : K → K → Ordering} (o : IsTotalO
         (λ z k. apart x z (o.trans (key x) (key y) (key z) p k)) ys s,
   )
 
-  -- a query that finds the first key finds none of the others
+  -- a key that matches the first item matches no other
   none_past : (q : K) (x : X) (xs : List X) → E q (key x) ≡ true
       → AllByRecursion (λ z. R (key x) (key z) ≡ Less) xs → found q xs ≡ None
   none_past q x xs e s = none_found q xs
@@ -170,7 +169,7 @@ module _ {X K : Type 0} (key : X → K) {R : K → K → Ordering} (o : IsTotalO
       sym (λ i. option_eq F (found_in_order q xs d i) (found_in_order q ys e i))
       ∙ agree_from_pointwise (in_order (on key R) xs) (in_order (on key R) ys) h q
 
--- ---- the laws of hashed maps and sets
+-- ---- hash maps and hash sets
 pub distinct_items : {X K : Type 0} (key : X → K) (E : K → K → Bool) (xs : List X)
     → IsDistinct E (map key xs) → IsDistinct (on key E) xs
 unfolding IsDistinct
@@ -200,7 +199,7 @@ values_from_in_order S v xs a =
           (recursion_from_All v (in_order S xs) a.1)),
     )
 
--- the value that a look-up finds is the value of the entry that it finds
+-- `lookup` returns the value of the entry that `find` returns
 lookup_is : {K V : Type 0} (test : K → Bool) (es : List (K × V))
     → lookup test es ≡ option_map (λ e. e.1) (find (λ e. test e.0) es)
 lookup_is test [] = refl
@@ -225,7 +224,7 @@ and_true : (b : Bool) → (b && true) ≡ b
 and_true true = refl
 and_true false = refl
 
--- a member passes the test exactly where one is found
+-- `list_any` is true if and only if `find` returns an item
 any_is : {K : Type 0} (test : K → Bool) (ks : List K) → list_any test ks ≡ is_some (find test ks)
 any_is test [] = refl
 any_is test (k ∷ ks) = ap (λ b. test k || b) (any_is test ks) ∙ taken (test k)

@@ -1,4 +1,4 @@
-//! Content bytes of values, fed to a digest.
+//! Content hashing: a prefix-free serialization of values, streamed into a digest.
 ghost use Rattle.std.specs.Prelude.{◌≡◌, ℕ, ◌<◌, ◌^◌, ◌++◌, List, [], ◌∷◌, length, OnOk, OnErr, IfOk, ⊤, FitsSigned, ◌↔◌, true};
 ghost use Rattle.std.specs.Prelude.{map as map_of};
 ghost use Rattle.std.specs.Map.Iter.{deref, deref_pair};
@@ -18,35 +18,34 @@ pub use crate::to_json::{ToJson, ToJsonError};
 use std::alloc::{AllocError, Global};
 use std::collections::{BTreeMap, HashMap, HashSet};
 
-/// A state that takes in bytes, as a digest does.
+/// A consumer of bytes, such as a digest.
 pub trait DigestUpdate {
-    /// The state stands for these bytes.
+    /// The bytes that the state has consumed.
     ghost stands_for: { Self → List ℕ → Type 0 };
 
-    /// Takes in a piece: a state that stood for a list of bytes then stands for that list followed
-    /// by the piece.
+    /// Appends `bytes` to the consumed bytes.
     fn update(&mut self, bytes: &[u8])
         ensures { Takes stands_for self.old self.new bytes.now };
 }
 
-/// A value whose content is a list of bytes that decides it.
+/// A value with a canonical, prefix-free serialization, its content.
 pub trait ContentHash: Eq {
-    /// Holds of the values of the type.
+    /// Delimits the values of the type, for example `n < 2^32` for `u32`.
     ghost is_value: { Self → Type 0 };
 
-    /// The content bytes of a value.
+    /// The content of a value.
     ghost content: { Self → List ℕ };
 
-    /// Appends the content bytes to what the state stands for. Where memory is refused, a beginning
-    /// of them was appended.
+    /// Appends the content of the value to the state. Returns an error if memory runs out. The
+    /// state has then consumed a prefix of the content.
     fn hash<D: DigestUpdate>(&self, alloc: Global, state: &mut D) -> Result<(), AllocError>
         ensures ok { OnOk result (Takes D.stands_for state.old state.new (content self.now)) }
         ensures value { OnOk result (is_value self.now) }
         ensures err { OnErr result (TakesFront D.stands_for state.old state.new
             (content self.now)) };
 
-    /// Equal values have the same content, and no value's content is a beginning of an unequal
-    /// one's.
+    /// Equal values have equal contents, and the contents of unequal values are not prefixes of
+    /// each other.
     ghost lawful: { IsLawful is_value Self.eq content };
 }
 
@@ -145,7 +144,7 @@ impl ContentHash for i64 {
     }
 }
 
-// A text: its length in bytes, and then the bytes.
+// Appends the length in bytes, then the bytes.
 #[tactic(auto, unfolding(crate::specs::Content::text_content, crate::specs::Content::u64_content))]
 fn hash_text<D: DigestUpdate>(text: &str, state: &mut D)
     ensures { Takes D.stands_for state.old state.new (text_content text.now) }
@@ -154,7 +153,7 @@ fn hash_text<D: DigestUpdate>(text: &str, state: &mut D)
     state.update(text.as_bytes());
 }
 
-// A list: its length, and then the items.
+// Appends the length, then the items.
 #[tactic(auto, unfolding(crate::specs::Content::list_content, crate::specs::Content::u64_content))]
 fn hash_items<T: ContentHash, D: DigestUpdate>(
     alloc: Global,
@@ -246,7 +245,7 @@ impl<T: ContentHash> ContentHash for Option<T> {
     }
 }
 
-/// Appends the content of a value, and then that of another.
+/// Appends the contents of two values, in order.
 #[tactic(auto, using(crate::proofs::Fronts::fronts))]
 pub fn hash_both<A: ContentHash, B: ContentHash, D: DigestUpdate>(
     alloc: Global,
@@ -264,7 +263,7 @@ pub fn hash_both<A: ContentHash, B: ContentHash, D: DigestUpdate>(
     second.hash(alloc, state)
 }
 
-/// Appends the content of three values, one after another.
+/// Appends the contents of three values, in order.
 #[tactic(auto, using(crate::proofs::Fronts::fronts))]
 pub fn hash_three<A: ContentHash, B: ContentHash, C: ContentHash, D: DigestUpdate>(
     alloc: Global,
@@ -303,7 +302,6 @@ impl<K: ContentHash + Ord, V: ContentHash> ContentHash for BTreeMap<K, V> {
     }
 }
 
-// The entries of a hashed map, by reference.
 fn pairs_of<K: Eq + std::hash::Hash, V>(
     alloc: Global,
     map: &HashMap<K, V>,
@@ -314,7 +312,6 @@ fn pairs_of<K: Eq + std::hash::Hash, V>(
     map.iter().collect(alloc)
 }
 
-// The entries of a hashed map, by reference and in key order.
 fn sorted_pairs<K: Ord + std::hash::Hash, V>(
     alloc: Global,
     map: &HashMap<K, V>,
@@ -328,7 +325,7 @@ fn sorted_pairs<K: Ord + std::hash::Hash, V>(
     Ok(pairs)
 }
 
-// A list of entries: its length, and then keys and values by turns.
+// Appends the number of entries, then the key and the value of each.
 #[tactic(auto, unfolding(crate::specs::Content::list_content, crate::specs::Content::u64_content))]
 fn hash_pairs<K: ContentHash, V: ContentHash, D: DigestUpdate>(
     alloc: Global,
@@ -349,7 +346,8 @@ fn hash_pairs<K: ContentHash, V: ContentHash, D: DigestUpdate>(
     Ok(())
 }
 
-/// A map is written in key order, whatever the order in which it is walked.
+/// Hashes the entries in key order, whatever the iteration order. O(n log n) comparisons; allocates
+/// a list of references.
 impl<K: ContentHash + Ord + std::hash::Hash, V: ContentHash> ContentHash for HashMap<K, V> {
     ghost is_value = { λ m. IsUnique K.eq m
         × AreValues (λ e. K.is_value e.0 × V.is_value e.1) m.entries };
@@ -364,7 +362,6 @@ impl<K: ContentHash + Ord + std::hash::Hash, V: ContentHash> ContentHash for Has
     }
 }
 
-// The members of a hashed set, by reference.
 fn members_of<K: Eq + std::hash::Hash>(
     alloc: Global,
     set: &HashSet<K>,
@@ -375,7 +372,6 @@ fn members_of<K: Eq + std::hash::Hash>(
     set.iter().collect(alloc)
 }
 
-// The members of a hashed set, by reference and in order.
 fn sorted_members<K: Ord + std::hash::Hash>(
     alloc: Global,
     set: &HashSet<K>,
@@ -389,7 +385,7 @@ fn sorted_members<K: Ord + std::hash::Hash>(
     Ok(members)
 }
 
-// A list of members: its length, and then the members.
+// Appends the number of members, then the members.
 #[tactic(auto, unfolding(crate::specs::Content::list_content, crate::specs::Content::u64_content))]
 fn hash_members<K: ContentHash, D: DigestUpdate>(
     alloc: Global,
@@ -409,7 +405,8 @@ fn hash_members<K: ContentHash, D: DigestUpdate>(
     Ok(())
 }
 
-/// A set is written in order, whatever the order in which it is walked.
+/// Hashes the members in ascending order, whatever the iteration order. O(n log n) comparisons;
+/// allocates a list of references.
 impl<K: ContentHash + Ord + std::hash::Hash> ContentHash for HashSet<K> {
     ghost is_value = { λ s. HasUniqueKeys K.eq s × AreValues K.is_value s.keys };
 
@@ -487,7 +484,7 @@ impl DigestUpdate for Blake2b512 {
     }
 }
 
-/// The BLAKE2b-512 digest of a value's content.
+/// Returns the BLAKE2b-512 digest of the content of `x`. Returns an error if memory runs out.
 pub fn blake2b_hash<T: ContentHash>(alloc: Global, x: &T) -> Result<[u8; 64], AllocError>
     ensures digest { IfOk result (λ digest. digest ≡ blake2b (T.content x.now)) }
     ensures value { OnOk result (T.is_value x.now) }
@@ -497,7 +494,7 @@ pub fn blake2b_hash<T: ContentHash>(alloc: Global, x: &T) -> Result<[u8; 64], Al
     Ok(hasher.finalize())
 }
 
-/// Two values of one type have the same content exactly where they are equal.
+/// Two values of one type have the same content if and only if they are equal.
 pub fn content_decides<T: ContentHash>()
     ensures { (x y : T) → T.is_value x → T.is_value y → (T.content x ≡ T.content y)
         ↔ (T.eq x y ≡ true) }

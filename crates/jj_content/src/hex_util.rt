@@ -1,5 +1,5 @@
-//! Hex text of bytes, and bytes of hex text: forward hex with the digits `0` to `f`, and reversed
-//! hex, which writes `z` for 0 down to `k` for 15.
+//! Hexadecimal encoding and decoding with two alphabets: forward hex, `0` to `f`, and reverse hex,
+//! `z` (0) down to `k` (15).
 ghost use Rattle.std.specs.Prelude.{◌≡◌, ◌==◌, ℕ, ◌+◌, ◌*◌, ◌/◌, ◌%◌, ◌<◌, ◌≤◌, List, length, slice_index, All, IfOk, IsAscii, IfSome, Option, Some, None};
 ghost use Rattle.std.specs.String.{string_bytes};
 ghost use Rattle.std.specs.Str.{str_to_ascii_lowercase};
@@ -13,15 +13,15 @@ const FORWARD_HEX_CHARS: &[u8; 16] = b"0123456789abcdef";
 
 const REVERSE_HEX_CHARS: &[u8; 16] = b"zyxwvutsrqponmlk";
 
-// Which sixteen characters are the digits.
+// The alphabet.
 #[derive(Clone, Copy)]
 enum Digits {
     Forward,
     Reverse,
 }
 
-// The value of each byte as a digit of forward hex, and 16 for one that is none. Digits come in
-// no order that a processor could guess, so a table is looked up where no branch is taken.
+// The value of each byte as a digit of forward hex, or 16 if it is not a digit. A table lookup
+// avoids an unpredictable branch per digit.
 const FORWARD_HEX_VALUES: [u8; 256] = [
     16, 16, 16, 16, 16, 16, 16, 16, 16, 16, 16, 16, 16, 16, 16, 16, 16, 16, 16, 16, 16, 16, 16, 16,
     16, 16, 16, 16, 16, 16, 16, 16, 16, 16, 16, 16, 16, 16, 16, 16, 16, 16, 16, 16, 16, 16, 16, 16,
@@ -36,7 +36,7 @@ const FORWARD_HEX_VALUES: [u8; 256] = [
     16, 16, 16, 16, 16, 16, 16, 16, 16, 16, 16, 16, 16, 16,
 ];
 
-// The same for reversed hex.
+// The value of each byte as a digit of reverse hex, or 16 if it is not a digit.
 const REVERSE_HEX_VALUES: [u8; 256] = [
     16, 16, 16, 16, 16, 16, 16, 16, 16, 16, 16, 16, 16, 16, 16, 16, 16, 16, 16, 16, 16, 16, 16, 16,
     16, 16, 16, 16, 16, 16, 16, 16, 16, 16, 16, 16, 16, 16, 16, 16, 16, 16, 16, 16, 16, 16, 16, 16,
@@ -75,7 +75,6 @@ fn hex_value(digits: Digits, b: u8) -> Option<u8>
     }
 }
 
-// The byte of two digits' values.
 fn byte_of_digits(high: u8, low: u8) -> u8
     requires high_fits { high < 16 }
     requires low_fits { low < 16 }
@@ -84,8 +83,8 @@ fn byte_of_digits(high: u8, low: u8) -> u8
     high << 4 | low
 }
 
-// The bytes that the text stands for, where half a byte at its end has the low digit zero, and
-// whether there is such a half; `None` for a bad digit.
+// Decodes pairs of digits. The low digit that an odd length lacks is 0; the flag is whether the
+// length is odd. Returns `None` if a character is not a digit.
 fn decode_hex_prefix_inner(
     alloc: Global,
     hex: &[u8],
@@ -131,7 +130,8 @@ fn decode_hex_inner(
     }
 }
 
-/// The bytes that a hex text stands for, in either case; `None` for an odd length or a bad digit.
+/// Decodes hex digits of either case. Returns `None` if the length is odd or a character is not a
+/// digit.
 pub fn decode_hex<H>(alloc: Global, hex: H) -> Result<Option<Vec<u8>>, AllocError>
 where
     H: AsSlice<u8> + Drop,
@@ -140,8 +140,8 @@ where
     decode_hex_inner(alloc, hex.as_slice(), Digits::Forward)
 }
 
-/// The bytes that a reversed hex text stands for, in either case; `None` for an odd length or a
-/// bad digit.
+/// Decodes reverse hex digits of either case. Returns `None` if the length is odd or a character is
+/// not a digit.
 pub fn decode_reverse_hex<H>(alloc: Global, reverse_hex: H) -> Result<Option<Vec<u8>>, AllocError>
 where
     H: AsSlice<u8> + Drop,
@@ -151,8 +151,9 @@ where
     decode_hex_inner(alloc, reverse_hex.as_slice(), Digits::Reverse)
 }
 
-/// The bytes that a hex text of any length stands for, and whether its length is odd: then its
-/// last digit is the high one of the last byte, whose low digit is zero. `None` for a bad digit.
+/// Decodes hex digits of either case, and returns whether their number is odd. The last digit is
+/// then the high one of the last byte, whose low digit is 0: `abc` decodes to the bytes `ab c0` and
+/// `true`. Returns `None` if a character is not a digit.
 pub fn decode_hex_prefix<H>(alloc: Global, hex: H) -> Result<Option<(Vec<u8>, bool)>, AllocError>
 where
     H: AsSlice<u8> + Drop,
@@ -161,7 +162,9 @@ where
     decode_hex_prefix_inner(alloc, hex.as_slice(), Digits::Forward)
 }
 
-/// The same of a reversed hex text.
+/// Decodes reverse hex digits of either case, and returns whether their number is odd. The last
+/// digit is then the high one of the last byte, whose low digit is 0. Returns `None` if a character
+/// is not a digit.
 pub fn decode_reverse_hex_prefix<H: AsSlice<u8> + Drop>(
     alloc: Global,
     reverse_hex: H,
@@ -185,21 +188,20 @@ fn encode_hex_inner(alloc: Global, data: &[u8], chars: &[u8; 16]) -> Result<Stri
     Ok(encoded)
 }
 
-/// The hex text of bytes.
+/// Encodes bytes as lower-case hex.
 pub fn encode_hex(alloc: Global, data: &[u8]) -> Result<String, AllocError>
     ensures { IfOk result (λ text. string_bytes text ≡ hex «data».now) }
 {
     encode_hex_inner(alloc, data, FORWARD_HEX_CHARS)
 }
 
-/// The reversed hex text of bytes.
+/// Encodes bytes as reverse hex.
 pub fn encode_reverse_hex(alloc: Global, data: &[u8]) -> Result<String, AllocError>
     ensures { IfOk result (λ text. string_bytes text ≡ reverse_hex «data».now) }
 {
     encode_hex_inner(alloc, data, REVERSE_HEX_CHARS)
 }
 
-// The character of a hex digit.
 pub(crate) fn hex_digit_char(value: u8) -> char
     requires { value < 16 }
     ensures digit { result ≡ slice_index hex_digits value }
@@ -208,7 +210,7 @@ pub(crate) fn hex_digit_char(value: u8) -> char
     char::from(FORWARD_HEX_CHARS[value as usize])
 }
 
-/// The number of leading hex digits that two byte strings have in common.
+/// Returns the number of leading hex digits that two byte strings share. Does not allocate.
 pub fn common_hex_len(bytes_a: &[u8], bytes_b: &[u8]) -> usize
     ensures { result ≡ common_length (hex bytes_a.now) (hex bytes_b.now) }
 {
@@ -222,7 +224,7 @@ pub fn common_hex_len(bytes_a: &[u8], bytes_b: &[u8]) -> usize
     shared * 2
 }
 
-/// Decoding undoes encoding: the text of some bytes reads as them, in both kinds of hex.
+/// Decoding the encoding of bytes returns these bytes, in both alphabets.
 pub fn decoding_undoes_encoding()
     ensures forward { (bytes : List ℕ) → All IsByte bytes
         → ReadsAs hex_digits (hex bytes) bytes }
@@ -230,7 +232,7 @@ pub fn decoding_undoes_encoding()
         → ReadsAs reverse_hex_digits (reverse_hex bytes) bytes }
 {}
 
-/// A text reads as one list of bytes at most, in both kinds of hex.
+/// A string decodes to at most one list of bytes, in both alphabets.
 pub fn reading_is_unique()
     ensures forward { (text xs ys : List ℕ) → ReadsAs hex_digits text xs
         → ReadsAs hex_digits text ys → xs ≡ ys }
@@ -238,7 +240,7 @@ pub fn reading_is_unique()
         → ReadsAs reverse_hex_digits text ys → xs ≡ ys }
 {}
 
-/// Encoding what was decoded gives the text in lower case, in both kinds of hex.
+/// Encoding the decoded bytes returns the string in lower case, in both alphabets.
 pub fn encoding_gives_lower_case()
     ensures forward { (text bytes : List ℕ) → ReadsAs hex_digits text bytes
         → hex bytes ≡ str_to_ascii_lowercase text }

@@ -1,4 +1,4 @@
-//! Texts of bytes and symbols, content bytes and digests.
+//! Encodings: content hashing, BLAKE2b, hexadecimal, string escapes and JSON.
 #![tactic(auto)]
 
 pub mod blake2b;

@@ -1,4 +1,4 @@
-//! Texts between double quotes, with escapes for what can't stand there.
+//! Escaping and unescaping of double-quoted strings.
 ghost use Rattle.std.specs.Prelude.{◌≡◌, ◌==◌, ℕ, ◌<◌, ◌++◌, None, IfOk, OnOk, MatchOption, is_ok, encode_utf8, find, flat_map, string_bytes};
 ghost use Rattle.std.specs.Fmt.{WritesInCalls};
 ghost use Rattle.jj_content.specs.Symbols.{letter_escapes, escaped_byte, escaped_text, quoted_text, letter_char, IsEscapeOf};
@@ -7,7 +7,7 @@ use crate::hex_util::hex_digit_char;
 use std::alloc::{AllocError, Global};
 use std::fmt;
 
-// How a character that has a letter prints between quotes.
+// Returns the two-character escape of `c`, if it has one.
 fn letter_escape(c: char) -> Option<&'static str>
     ensures { MatchOption result (find (λ e. e.0 == c) letter_escapes ≡ None)
         (λ escape. (c < 128) × (escaped_byte c ≡ escape.now)) }
@@ -23,7 +23,6 @@ fn letter_escape(c: char) -> Option<&'static str>
     }
 }
 
-// Writes the character as it prints between quotes.
 fn push_escaped(escaped: &mut String, c: char) -> Result<(), AllocError>
     ensures { OnOk result (string_bytes escaped.new ≡ string_bytes escaped.old
         ++ flat_map escaped_byte (encode_utf8 c)) }
@@ -50,8 +49,10 @@ fn escape_string_to_buf(escaped: &mut String, unescaped: &str) -> Result<(), All
     Ok(())
 }
 
-/// A text as it prints between double quotes: `\"`, `\\`, `\t`, `\r`, `\n` and `\0`, any other
-/// ASCII control as `\x` and two hex digits, all else unchanged.
+/// Escapes a string for use between double quotes: `\"`, `\\`, `\t`, `\r`, `
+///
+/// ` and `\0`, and any other ASCII control character as `\x` and two hex digits. All other
+/// characters are unchanged.
 pub fn escape_string(alloc: Global, unescaped: &str) -> Result<String, AllocError>
     ensures { IfOk result (λ text. string_bytes text ≡ escaped_text unescaped.now) }
 {
@@ -60,7 +61,7 @@ pub fn escape_string(alloc: Global, unescaped: &str) -> Result<String, AllocErro
     Ok(escaped)
 }
 
-/// A text in double quotes, escaped as `escape_string` does.
+/// Returns the string in double quotes, escaped as by `escape_string`.
 pub fn format_string(alloc: Global, unescaped: &str) -> Result<String, AllocError>
     ensures { IfOk result (λ text. string_bytes text ≡ quoted_text unescaped.now) }
 {
@@ -71,7 +72,6 @@ pub fn format_string(alloc: Global, unescaped: &str) -> Result<String, AllocErro
     Ok(escaped)
 }
 
-// Writes the character as it prints between quotes.
 fn write_escaped<W: fmt::Write>(writer: &mut W, c: char) -> fmt::Result
     ensures { OnOk result (WritesInCalls W.write_str_gives writer.old
         (flat_map escaped_byte (encode_utf8 c)) writer.new) }
@@ -89,7 +89,7 @@ fn write_escaped<W: fmt::Write>(writer: &mut W, c: char) -> fmt::Result
     Ok(())
 }
 
-/// Writes a text in double quotes, as `format_string` gives it, piece by piece.
+/// Writes the string in double quotes, escaped as by `escape_string`. Does not allocate.
 pub fn write_quoted<W: fmt::Write>(writer: &mut W, text: &str) -> fmt::Result
     ensures { OnOk result (WritesInCalls W.write_str_gives writer.old
         (quoted_text text.now) writer.new) }
@@ -102,7 +102,6 @@ pub fn write_quoted<W: fmt::Write>(writer: &mut W, text: &str) -> fmt::Result
     Ok(())
 }
 
-// The character of a letter after a backslash.
 fn char_of_letter(letter: u8) -> Option<char>
     ensures { result ≡ letter_char letter }
 {
@@ -118,8 +117,9 @@ fn char_of_letter(letter: u8) -> Option<char>
     }
 }
 
-/// The character that an escape stands for: one of those that `escape_string` writes, `\e`, or `\x`
-/// with one or more hex digits of value at most 255 and perhaps a `+` before them.
+/// Returns the character that an escape sequence represents: any escape that `escape_string`
+/// writes, `\e`, or `\x` followed by an optional `+` and one or more hex digits of value at most
+/// 255. Returns `None` for any other string.
 pub fn unescape_char(escaped: &str) -> Option<char>
     ensures { MatchOption result ((c : ℕ) → ¬ (IsEscapeOf escaped.now c))
         (λ c. IsEscapeOf escaped.now c) }

@@ -1,4 +1,4 @@
-//! JSON values of texts, options and lists.
+//! Conversion to JSON values: strings, options and slices.
 ghost use Rattle.std.specs.Prelude.{◌≡◌, ⊤, All, MatchOption, string_bytes};
 ghost use Rattle.serde_json.specs.Data.{null, string};
 ghost use Rattle.jj_content.specs.Json.{IsAnswer, IsJsonList};
@@ -9,12 +9,12 @@ use std::alloc::{AllocError, AllocFailed, Global};
 use std::error::Error;
 use std::fmt;
 
-/// Why a value was not turned into JSON.
+/// The error of a conversion to JSON.
 #[derive(Clone, Copy, Debug, PartialEq, Eq)]
 pub enum ToJsonError {
-    /// Memory ran out.
+    /// Out of memory.
     Memory,
-    /// A time in it is out of the range of dates.
+    /// The value contains a timestamp that has no RFC 3339 date.
     TimestampOutOfRange,
 }
 
@@ -45,22 +45,23 @@ impl<T: Drop> From<AllocFailed<T>> for ToJsonError {
     }
 }
 
-/// A value that has a JSON value.
+/// A type whose values can be converted to JSON.
 pub trait ToJson {
     ghost use Rattle.serde_json.specs.Data.{Data};
 
-    /// Each time in it is within the range of dates.
+    /// Every timestamp in the value has a date.
     ghost is_in_range: { Self → Type 0 };
 
-    /// This is its JSON value.
+    /// The JSON value is the conversion of the value.
     ghost is_json: { Self → Data → Type 0 };
 
-    /// Its JSON value, unless a time in it is out of the range of dates.
+    /// Converts the value to JSON. Returns `TimestampOutOfRange` if a timestamp in the value has no
+    /// date, and `Memory` if memory runs out.
     fn to_json(&self, alloc: Global) -> Result<Value, ToJsonError>
         ensures { IsAnswer (is_in_range self.now) (is_json self.now) result };
 }
 
-/// A text is itself.
+/// A string converts to a JSON string.
 impl ToJson for String {
     ghost is_in_range = { λ _. ⊤ };
 
@@ -71,7 +72,7 @@ impl ToJson for String {
     }
 }
 
-/// Nothing is null.
+/// `None` converts to `null`, and `Some(x)` as `x` does.
 impl<T: ToJson> ToJson for Option<T> {
     ghost is_in_range = { λ o. MatchOption o ⊤ T.is_in_range };
 
@@ -85,7 +86,7 @@ impl<T: ToJson> ToJson for Option<T> {
     }
 }
 
-/// A list is the array of its items.
+/// A slice converts to a JSON array.
 impl<T: ToJson> ToJson for &[T] {
     ghost is_in_range = { λ items. All T.is_in_range items.now };
 
