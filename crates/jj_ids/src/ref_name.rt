@@ -1,4 +1,4 @@
-//! Names of refs, remotes and workspaces, and symbols of them for display.
+//! Names of refs, remotes and workspaces, and their display as symbols.
 mod kinds;
 mod names;
 mod symbols;

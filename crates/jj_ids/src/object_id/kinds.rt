@@ -1,4 +1,4 @@
-//! The kinds of ids.
+//! The kinds of objects and their id types.
 ghost use Rattle.std.specs.Prelude.{◌≡◌, [], codes, true, false, IfOk};
 ghost use Rattle.std.specs.String.{string_bytes};
 ghost use Rattle.jj_content.specs.Hex.{reverse_hex, reverse_hex_digits, IsReading};
@@ -8,7 +8,7 @@ use jj_content::hex_util::{decode_reverse_hex, encode_reverse_hex};
 use std::alloc::{AllocError, Global};
 use std::convert::AsSlice;
 
-/// The kind of the ids of commits.
+/// The kind of commits.
 #[derive(Drop)]
 pub enum CommitKind {}
 
@@ -29,11 +29,11 @@ impl IdKind for CommitKind {
     }
 }
 
-/// The kind of the ids of changes.
+/// The kind of changes.
 #[derive(Drop)]
 pub enum ChangeKind {}
 
-/// The id of a change, which displays as reversed hex text.
+/// The id of a change. It is displayed as reverse hex.
 pub type ChangeId = Id<ChangeKind>;
 
 impl IdKind for ChangeKind {
@@ -51,7 +51,8 @@ impl IdKind for ChangeKind {
 }
 
 impl ChangeId {
-    /// The id that a reversed hex text stands for; `None` for an odd length or a bad digit.
+    /// Decodes an id from reverse hex digits of either case. Returns `None` if the length is odd or
+    /// a character is not a digit.
     pub fn try_from_reverse_hex<H: AsSlice<u8> + Drop>(
         alloc: Global,
         reverse_hex: H,
@@ -61,7 +62,7 @@ impl ChangeId {
         Ok(decode_reverse_hex(alloc, reverse_hex)?.map(ChangeId::new))
     }
 
-    /// The reversed hex text of the id, which is what it displays.
+    /// Encodes the id as reverse hex, its display form.
     pub fn reverse_hex(&self) -> Result<String, AllocError>
         ensures { IfOk result (λ text. string_bytes text ≡ reverse_hex self.now) }
     {
@@ -69,7 +70,7 @@ impl ChangeId {
     }
 }
 
-/// The kind of the ids of trees.
+/// The kind of trees.
 #[derive(Drop)]
 pub enum TreeKind {}
 
@@ -90,11 +91,11 @@ impl IdKind for TreeKind {
     }
 }
 
-/// The kind of the ids of the contents of files.
+/// The kind of file contents.
 #[derive(Drop)]
 pub enum FileKind {}
 
-/// The id of the content of a file.
+/// The id of a file's content.
 pub type FileId = Id<FileKind>;
 
 impl IdKind for FileKind {
@@ -111,7 +112,7 @@ impl IdKind for FileKind {
     }
 }
 
-/// The kind of the ids of symbolic links.
+/// The kind of symbolic links.
 #[derive(Drop)]
 pub enum SymlinkKind {}
 
@@ -132,11 +133,11 @@ impl IdKind for SymlinkKind {
     }
 }
 
-/// The kind of the ids of copies.
+/// The kind of copy histories.
 #[derive(Drop)]
 pub enum CopyKind {}
 
-/// The id of a copy record.
+/// The id of a file's copy history.
 pub type CopyId = Id<CopyKind>;
 
 impl IdKind for CopyKind {
@@ -154,7 +155,7 @@ impl IdKind for CopyKind {
 }
 
 impl CopyId {
-    /// The id that stands for none yet: that of no bytes.
+    /// Returns the empty id, which marks that no copy id is known yet. Does not allocate.
     pub fn placeholder(alloc: Global) -> CopyId
         ensures { result ≡ [] }
     {
@@ -162,11 +163,11 @@ impl CopyId {
     }
 }
 
-/// The kind of the ids of views of a repository.
+/// The kind of views of a repository.
 #[derive(Drop)]
 pub enum ViewKind {}
 
-/// The id of a view of a repository.
+/// The id of a view.
 pub type ViewId = Id<ViewKind>;
 
 impl IdKind for ViewKind {
@@ -183,7 +184,7 @@ impl IdKind for ViewKind {
     }
 }
 
-/// The kind of the ids of operations.
+/// The kind of operations.
 #[derive(Drop)]
 pub enum OperationKind {}
 

@@ -1,4 +1,4 @@
-//! Symbols of names, alone and at a remote, for display.
+//! Symbols: the display form of ref names, `name` or `name@remote`, quoted where necessary.
 ghost use Rattle.std.specs.Prelude.{◌≡◌, ◌++◌, ◌∷◌, ℕ, List, OnOk, IfOk, Some, refl};
 ghost use Rattle.std.specs.Cmp.Lexicographic.{slice_cmp};
 ghost use Rattle.std.specs.Fmt.{WritesInCalls, WritesOnOk};
@@ -15,13 +15,13 @@ use std::fmt;
 use std::fmt::{Alignment, Write};
 use std::hash::Hash;
 
-/// A name for display, in quotes where it would not be read back as a symbol without them.
+/// A name for display. It is quoted unless it is a valid identifier.
 #[derive(Clone, Copy)]
 pub struct RefSymbol<'a> {
     text: &'a str,
 }
 
-/// The name of a ref at a remote, borrowed.
+/// A borrowed name of a ref at a remote.
 #[derive(Clone, Copy, Debug, PartialEq, Eq, PartialOrd, Ord, Hash)]
 pub struct RemoteRefSymbol<'a> {
     pub name: RefName<'a>,
@@ -35,12 +35,12 @@ pub struct RemoteRefSymbolBuf {
     pub remote: RemoteNameBuf,
 }
 
-/// A symbol at a remote, which is ordered by its name and then its remote, and hashed so.
+/// A name at a remote. It is ordered, and hashed, by the name and then the remote.
 pub trait AtRemote: Ord + Hash {
-    /// The text of the name.
+    /// The bytes of the name.
     ghost name_text: { Self → List ℕ };
 
-    /// The text of the remote's name.
+    /// The bytes of the remote's name.
     ghost remote_text: { Self → List ℕ };
 
     ghost ordered: { (a b : Self) → Self.cmp a b ≡ ordering_then
@@ -80,7 +80,7 @@ impl<'a> RefSymbol<'a> {
 }
 
 impl<'a> RemoteRefSymbol<'a> {
-    /// A copy of the symbol.
+    /// Clones the symbol.
     pub fn to_owned(self, alloc: Global) -> Result<RemoteRefSymbolBuf, AllocError>
         ensures name { IfOk result (λ owned. owned.name ≡ name_of self.entry.name) }
         ensures remote { IfOk result (λ owned. owned.remote ≡ name_of self.entry.remote) }
@@ -93,7 +93,7 @@ impl<'a> RemoteRefSymbol<'a> {
 }
 
 impl RemoteRefSymbolBuf {
-    /// The symbol, borrowed.
+    /// Borrows the symbol.
     pub fn as_ref(&self) -> RemoteRefSymbol<'_>
         ensures name { name_of result.name ≡ self.now.name }
         ensures remote { name_of result.remote ≡ self.now.remote }
@@ -117,7 +117,8 @@ fn is_plain_byte(byte: u8) -> bool
     byte.is_ascii_alphanumeric() || matches!(byte, b'_' | b'/')
 }
 
-// Whether a text needs no quotes as a symbol.
+// Returns whether `symbol` is a nonempty sequence of parts without quotable characters, joined by
+// single separators.
 fn is_safe_identifier(symbol: &str) -> bool
     ensures { result ≡ is_safe_symbol symbol.now }
 {
@@ -134,7 +135,6 @@ fn is_safe_identifier(symbol: &str) -> bool
     !part_is_empty
 }
 
-// Writes a text as a symbol.
 fn write_symbol<W: Write>(writer: &mut W, text: &str) -> fmt::Result
     ensures { OnOk result (WritesInCalls W.write_str_gives writer.old
         (symbol_text text.now) writer.new) }
@@ -147,7 +147,7 @@ fn write_symbol<W: Write>(writer: &mut W, text: &str) -> fmt::Result
     Ok(())
 }
 
-// Writes a name as a symbol, at the remote if there is one.
+// Writes `name` or `name@remote`.
 fn write_printed<W: Write>(writer: &mut W, name: &str, remote: Option<&str>) -> fmt::Result
     ensures { OnOk result (WritesInCalls W.write_str_gives writer.old
         (printed_text name.now (option_copied remote.entry)) writer.new) }
@@ -161,7 +161,7 @@ fn write_printed<W: Write>(writer: &mut W, name: &str, remote: Option<&str>) -> 
     Ok(())
 }
 
-// Counts the characters that are written to it.
+// A writer that counts characters.
 #[derive(Drop)]
 struct CharCount {
     count: usize,
@@ -176,7 +176,7 @@ impl Write for CharCount {
     }
 }
 
-// Passes on the first characters that are written to it.
+// A writer that passes on the first `left` characters and drops the rest.
 #[derive(Drop)]
 struct FirstChars<W> {
     writer: W,
@@ -195,7 +195,7 @@ impl<W: Write> Write for FirstChars<W> {
     }
 }
 
-// How many fill characters stand before what is shown, of so many in all.
+// Returns how many of the padding characters precede the displayed string.
 fn fill_before(alignment: Option<Alignment>, padding: usize) -> usize {
     match alignment {
         None | Some(Alignment::Left) => 0,
@@ -212,8 +212,7 @@ fn write_fill<W: Write>(f: &mut fmt::Formatter<W>, count: usize) -> fmt::Result 
     Ok(())
 }
 
-// Displays what `write_printed` writes, cut to the formatter's precision and filled up to its
-// width.
+// Displays the symbol, truncated to the formatter's precision and padded to its width.
 fn pad_printed<W: Write>(
     f: &mut fmt::Formatter<W>,
     name: &str,
@@ -282,7 +281,7 @@ impl fmt::Display for RemoteRefSymbolBuf {
     }
 }
 
-/// Names at remotes print equal exactly where they are equal.
+/// Two names at remotes have the same display form if and only if they are equal.
 pub fn remote_symbols_print_apart()
     ensures apart { (name remote other other_remote : List ℕ)
         → remote_symbol_text name remote ≡ remote_symbol_text other other_remote → (name ≡ other)
