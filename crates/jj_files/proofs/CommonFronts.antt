@@ -1,4 +1,4 @@
--- The front that two paths share.
+-- Proofs about the longest common prefix of path components.
 use Rattle.std.proofs.Common.{◌≡◌, ◌∙◌, List, ℕ, [], ◌∷◌, ◌++◌, Option, Some, None, MatchOption, true, false, sym, ap, refl}
 use Rattle.std.specs.Str.{bytes_eq}
 use Rattle.std.proofs.lemmas.Slice.Eq.{bytes_eq-Decides}
@@ -6,7 +6,7 @@ use Rattle.std.specs.Path.{path_bytes, path_components}
 use Rattle.std.specs.declared.path.Path.{Path}
 use Rattle.jj_files.specs.PathComponents.{SharesFront}
 
--- a list that is not empty has a first element
+-- a nonempty list has a first element
 pub one_more : (front : List (List ℕ)) (x : List ℕ) → (first : List ℕ) × (rest : List (List ℕ)) × (front ++ x ∷ [] ≡ first ∷ rest)
 one_more [] x = (x, [], refl)
 one_more (first ∷ front) x = (first, front ++ x ∷ [], refl)
@@ -14,7 +14,7 @@ one_more (first ∷ front) x = (first, front ++ x ∷ [], refl)
 pub differing : (a b : List ℕ) → bytes_eq a b ≡ false → a ≡ b → ⊥
 differing a b unlike e = let h : true ≡ false = sym ((bytes_eq-Decides a b).1 e) ∙ unlike in cc h
 
--- no component stands first in both
+-- the first components differ, or one list is empty
 abbrev pub IsApart : (from_left to_left : List (List ℕ)) → Type 0
 IsApart from_left to_left = (next : List ℕ) (from_rest to_rest : List (List ℕ)) → from_left ≡ next ∷ from_rest → to_left ≡ next ∷ to_rest → ⊥
 
@@ -29,7 +29,7 @@ apart_from_none from_left to_left none next fs ts f t = cc (none, f)
 pub apart_to_none : (from_left to_left : List (List ℕ)) → to_left ≡ [] → IsApart from_left to_left
 apart_to_none from_left to_left none next fs ts f t = cc (none, t)
 
--- what was noted after the components so far
+-- the remaining paths that the loop has stored, after this common prefix
 abbrev pub IsNoted : (left : Option (Path × Path)) (front from_left to_left : List (List ℕ)) → Type 0
 IsNoted left front from_left to_left = MatchOption left (front ≡ [])
     (λ left. (first : List ℕ) × (rest : List (List ℕ)) × (front ≡ first ∷ rest)

@@ -1,4 +1,4 @@
--- What a result with a path added to its error says of the result before.
+-- The result before a path was added to its error.
 use Rattle.std.proofs.Common.{◌≡◌, ℕ, List, Result, Ok, Err, ap, refl}
 use Rattle.std.specs.declared.io.Error.{Error}
 use Rattle.jj_files.specs.PathErrors.{AddsPath, IsAtPath}

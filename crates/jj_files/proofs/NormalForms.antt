@@ -1,4 +1,4 @@
--- Components of which no further `.` or name falls out.
+-- Proofs about normal forms of path components: pushing and popping preserve them.
 use Rattle.std.proofs.Common.{◌≡◌, ◌≢◌, ◌⊎◌, ◌∙◌, ◌+◌, ℕ, Bool, true, false, not, IsTrue, length, map, Option, Some, None, MatchOption, option_to_list, arith, List, [], ◌∷◌, ◌++◌, append_assoc, ap, refl, sym, subst, inl, inr}
 use Rattle.std.proofs.lemmas.List.{map-append}
 use Rattle.std.specs.Path.{slash, dot, cur_dir, parent_dir, is_name, component_bytes, IsWellFormedComponent}
@@ -9,7 +9,7 @@ use Rattle.jj_files.specs.FsTexts.{is_place}
 use Rattle.jj_files.specs.PathComponents.{Drops, DropsTo, ends_in_name}
 use Rattle.jj_files.specs.PathComponents.DropsTo.{more}
 
--- where one list ends in c and also has x after a front, x is that c or stands before it
+-- in a list that ends in c, each element x is the last one, or comes before it
 snoc_split : {A : Type 0} (kept front back : List A) (c x : A) → kept ++ c ∷ [] ≡ front ++ x ∷ back
     → ((back ≡ []) × (c ≡ x) × (kept ≡ front)) ⊎ ((mid : List A) × (back ≡ mid ++ c ∷ []) × (kept ≡ front ++ x ∷ mid))
 snoc_split [] [] back c x e = inl (cc e, cc e, refl)
@@ -24,7 +24,7 @@ snoc_split (k ∷ kept) (f ∷ front) back c x e =
       | inr (mid, after, same) ↦ inr (mid, after, ap (λ l. k ∷ l) same ∙ ap (λ y. y ∷ front ++ x ∷ mid) first)
     ]
 
--- no step can be made
+-- the list is a normal form
 abbrev pub IsSettled : List (List ℕ) → Type 0
 IsSettled components = (less : List (List ℕ)) → Drops components less → ⊥
 
@@ -33,14 +33,14 @@ ends_in_name-last [] last = refl
 ends_in_name-last (first ∷ []) last = refl
 ends_in_name-last (first ∷ second ∷ front) last = ends_in_name-last (second ∷ front) last
 
--- nothing falls out of no components
+-- the empty list is a normal form
 pub settled-none : IsSettled []
 settled-none less ([], back, is, inl e) = cc e
 settled-none less (f ∷ front, back, is, inl e) = cc e
 settled-none less ([], back, is, inr (name, names, e)) = cc e
 settled-none less (f ∷ front, back, is, inr (name, names, e)) = cc e
 
--- what was settled stays so before one component more, which is no `.`, and a `..` only after no name
+-- pushing a component other than `.` preserves normal forms, and so does pushing `..` after no name
 pub settled-pushed : (kept : List (List ℕ)) (c : List ℕ) → IsSettled kept → c ≢ cur_dir → (c ≡ parent_dir → ends_in_name kept ≡ false)
     → IsSettled (kept ++ c ∷ [])
 settled-pushed kept c settled not_dot after less (front, back, is, inl e) =
@@ -57,7 +57,7 @@ settled-pushed kept c settled not_dot after less (front, back, is, inr (name, na
       | inr (mid, later, same) ↦ settled (front ++ mid) (front, mid, refl, inr (name, names, same ∙ append_assoc front (name ∷ []) (parent_dir ∷ mid)))
     ]
 
--- and where its last component is taken away
+-- popping preserves normal forms
 pub settled-popped : (front : List (List ℕ)) (last : List ℕ) → IsSettled (front ++ last ∷ []) → IsSettled front
 settled-popped front last settled less (before, back, is, inl e) =
     settled (before ++ (back ++ last ∷ [])) (before, back ++ last ∷ [], refl, inl (ap (λ l. l ++ last ∷ []) e ∙ append_assoc before (cur_dir ∷ back) (last ∷ [])))
@@ -78,7 +78,7 @@ name_last : (place : Bool) → true ≡ not place → place ≡ false
 name_last true h = cc h
 name_last false h = refl
 
--- the steps so far, over what is kept and what is to come
+-- the steps so far rewrite the components to the stack followed by the remaining ones
 pub dot_falls : (components kept rest : List (List ℕ)) → DropsTo components (kept ++ cur_dir ∷ rest) → DropsTo components (kept ++ rest)
 dot_falls components kept rest so_far = more so_far (kept, rest, refl, inl refl)
 
@@ -90,7 +90,7 @@ name_falls components front rest name names so_far =
 pub component_stays : (components kept rest : List (List ℕ)) (c : List ℕ) → DropsTo components (kept ++ c ∷ rest) → DropsTo components ((kept ++ c ∷ []) ++ rest)
 component_stays components kept rest c so_far = subst (DropsTo components) (sym (append_assoc kept (c ∷ []) rest)) so_far
 
--- what a component is that is neither `.` nor `..`
+-- a component other than `.` and `..`
 pub other_component : (c : Component) → IsWellFormedComponent c → (c ≡ CurDir → ⊥) → (c ≡ ParentDir → ⊥)
     → (component_bytes c ≢ cur_dir) × (component_bytes c ≢ parent_dir)
 other_component RootDir formed dot up = ((λ e. slash_is_dot (cc e)), (λ e. slash_is_dot (cc e)))
@@ -98,7 +98,7 @@ other_component CurDir formed dot up = absurd (dot refl)
 other_component ParentDir formed dot up = absurd (up refl)
 other_component (Normal name) formed dot up = ((λ e. dot_is_name (subst (λ n. IsTrue (is_name n)) e formed.0)), formed.1)
 
--- what was taken off the end of components that end in a name
+-- popping a name
 pub popped_name : (old new : List (Bor (List ℕ))) (last : Option (Bor (List ℕ))) (n m : ℕ) → n ≡ length old → old ≡ new ++ option_to_list last
     → MatchOption last ((n ≡ 0) × (m ≡ 0)) (λ _. m + 1 ≡ n) → true ≡ ends_in_name (map (λ text. text.now) old)
     → (name : List ℕ) × (map (λ text. text.now) old ≡ map (λ text. text.now) new ++ name ∷ []) × (is_place name ≡ false)

@@ -1,4 +1,4 @@
--- One more entry removed, or the fault of removing it.
+-- Loop step of emptying a directory: one more entry removed, or the error.
 use Rattle.std.proofs.Common.{◌≡◌, ℕ, List, [], ◌∷◌, ◌++◌, ◌∙◌, ◌<◌, zero, suc, Result, Ok, Err, map, take, drop, length, get_or, ap, sym, refl, subst, arith, append_assoc, take-append-drop}
 use Rattle.std.specs.Path.{path_join}
 use Rattle.std.specs.declared.io.Error.{Error}
@@ -14,7 +14,7 @@ removes_one_more {D} may_remove dir [] name old between new done one =
 removes_one_more may_remove dir (first ∷ names) name old between new done one =
     (done.0, done.1, removes_one_more may_remove dir names name done.0 between new done.2 one)
 
--- what came of a call at an entry's path, by the call's result with that path added
+-- the call at an entry's path, from its result with the path added
 module _ {D : Type 0} (may_remove : MayEnd D) (dir name shown entry tried added : List ℕ) (old new : D) (outcome : Result (Unit {0}) Error)
     (named : shown ≡ name) (joined : entry ≡ path_join dir shown) (asked : tried ≡ entry) (told : added ≡ entry) (called : may_remove old tried outcome new) where
   called_at : may_remove old (path_join dir name) outcome new
@@ -32,13 +32,13 @@ module _ {D : Type 0} (may_remove : MayEnd D) (dir name shown entry tried added 
         subst (λ (p : List ℕ). IsAtPath p failed.0 fault) (told ∙ joined ∙ ap (path_join dir) named) failed.2,
       )
 
--- the values at the places before one and at that place
+-- the images of the elements up to index i
 pub front_more : {A B : Type 0} (f : A → B) (xs : List A) (i : ℕ) (x : A) → i < length xs → x ≡ get_or xs i x → take (suc i) (map f xs) ≡ take i (map f xs) ++ f x ∷ []
 front_more f [] i x lt is = absurd (omega arith)
 front_more f (y ∷ ys) zero x lt is = ap (λ v. f v ∷ []) (sym is)
 front_more f (y ∷ ys) (suc i) x lt is = ap (λ l. f y ∷ l) (front_more f ys i x (omega arith) is)
 
--- and those after it
+-- the images of all elements, split at index i
 pub split_at_place : {A B : Type 0} (f : A → B) (xs : List A) (i : ℕ) (x : A) → i < length xs → x ≡ get_or xs i x
     → map f xs ≡ take i (map f xs) ++ f x ∷ drop (suc i) (map f xs)
 split_at_place f xs i x lt is =

@@ -1,4 +1,4 @@
--- What is done to directories, over what making, listing and removing may do.
+-- Directory operations, over relations for the underlying calls.
 -- Cited by contracts of public items: CreatesOrReuses, EmptiesDir, IsEmptyDir, IsListFault.
 use Rattle.std.specs.Prelude.{◌≡◌, ◌⊎◌, ⊤, ℕ, Bool, false, ◌==◌, List, [], ◌∷◌, ◌++◌, length, Result, Ok, Err, MatchResult, IsErrAnd, MatchBool, string_bytes}
 use Rattle.std.specs.Path.{path_join}
@@ -7,20 +7,20 @@ use Rattle.jj_files.specs.PathErrors.{IsAtPath}
 use Rattle.jj_files.specs.declared.file_util.errors.PathError.{PathError}
 use Rattle.jj_files.specs.declared.file_util.errors.PathError.TheVariants.{Invalid, Memory}
 
--- the fault of a path that was to be listed
+-- an error with the path of the listed directory
 abbrev pub IsListFault : List ℕ → PathError → Type 0
 IsListFault path (Invalid at cause) = string_bytes at ≡ path
 IsListFault path Memory = ⊤
 
--- how a call on directories may end, and what it may leave
+-- the relation of a call: state before, path, result, state after
 abbrev pub MayEnd : Type 0 → Type 1
 MayEnd D = D → List ℕ → Result (Unit {0}) Error → D → Type 0
 
--- what listing a directory may answer
+-- the relation of listing: state, path, result
 abbrev pub MayList : Type 0 → Type 1
 MayList D = D → List ℕ → Result (List (List ℕ)) PathError → Type 0
 
--- a directory was made, or one is there, or the fault of making it is answered with the path
+-- the directory was created, or there is one, or the error of creating it is returned with the path
 abbrev pub CreatesOrReuses : {D : Type 0} → (D → List ℕ → Bool) → MayEnd D → List ℕ → D
     → Result (Unit {0}) PathError → D → Type 0
 CreatesOrReuses is_directory may_create path old result new =
@@ -29,15 +29,15 @@ CreatesOrReuses is_directory may_create path old result new =
     (λ error. MatchBool (is_directory new path) (result ≡ Ok tt)
     (IsErrAnd result (IsAtPath path error)))
 
--- each of these entries of a directory was removed, in this order
+-- the entries of a directory were removed, in this order
 abbrev pub RemovesEach : {D : Type 0} → MayEnd D → List ℕ → List (List ℕ) → D → D → Type 0
 RemovesEach may_remove dir [] old new = new ≡ old
 RemovesEach {D} may_remove dir (name ∷ names) old new =
     (next : D) × may_remove old (path_join dir name) (Ok tt) next
     × RemovesEach may_remove dir names next new
 
--- why the entries of a directory were not all removed: listing them failed, or, once a front of
--- them was removed, removing the next one did, or memory ran out
+-- the error of emptying a directory: listing it failed; or the entry after a removed prefix of the
+-- entries could not be removed; or out of memory
 abbrev pub IsRemovalFault : {D : Type 0} → MayList D → MayEnd D → List ℕ → D → PathError → D
     → Type 0
 IsRemovalFault {D} may_list may_remove dir old fault new =
@@ -50,7 +50,7 @@ IsRemovalFault {D} may_list may_remove dir old fault new =
     ⊎ ((fault ≡ Memory) × ((removed rest : List (List ℕ)) × may_list old dir (Ok (removed ++ rest))
     × RemovesEach may_remove dir removed old new))
 
--- all entries of a directory were removed, or the first fault is answered
+-- all entries of the directory were removed, or an error is returned
 abbrev pub EmptiesDir : {D : Type 0} → MayList D → MayEnd D → List ℕ → D
     → Result (Unit {0}) PathError → D → Type 0
 EmptiesDir may_list may_remove dir old result new =
@@ -59,8 +59,8 @@ EmptiesDir may_list may_remove dir old result new =
     × RemovesEach may_remove dir names old new)
     (λ fault. IsRemovalFault may_list may_remove dir old fault new)
 
--- no directory is empty where there is none; else it is empty where its list is, and a fault of
--- listing it is answered
+-- false if there is no directory; otherwise whether its list of entries is empty, or the error of
+-- listing it
 abbrev pub IsEmptyDir : {D : Type 0} → (D → List ℕ → Bool) → MayList D → List ℕ → D
     → Result Bool PathError → Type 0
 IsEmptyDir is_directory may_list path dirs result =

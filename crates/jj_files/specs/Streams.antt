@@ -1,4 +1,4 @@
--- What is said of reads from a source and writes to a sink, where their bytes are known.
+-- Contracts of byte streams, for bytes that are known.
 -- Cited by contracts of public items: AppendsFrontOf, CopiesAll, CopiesFront, LowersReads,
 -- NotesFailure, TakesSome, streams.
 use Rattle.std.specs.Prelude.{◌≡◌, ◌≢◌, ◌⊎◌, ℕ, ◌<◌, ◌^◌, ◌-◌, Bool, ◌||◌, ◌&&◌, ◌==◌, is_err, List, ◌++◌, length, min, nat_lt, Option, Result, Ok, Err, IfOk, IsErrAnd, MatchBool}
@@ -7,26 +7,26 @@ use Rattle.std.specs.IoError.{error_kind}
 use Rattle.std.specs.declared.io.Error.{Error}
 use Rattle.std.specs.declared.io.ErrorKind.TheVariants.{Interrupted, WriteZero}
 
--- the failure is kept once there was one, and comes exactly with an error
+-- the flag is set if and only if it was set before or the call fails
 abbrev pub NotesFailure : {A E : Type 0} → Bool → Bool → Result A E → Type 0
 NotesFailure old new r = new ≡ (is_err r || old)
 
--- a read lowers the number of reads left; with none left it fails for good, and not as
--- interrupted, so that reading again after each interruption ends
+-- A read decreases the number of reads left. If none is left, it fails with an error other than
+-- Interrupted, so a loop that retries interrupted reads terminates.
 abbrev pub LowersReads : Result ℕ Error → (old new : ℕ) → Type 0
 LowersReads (Ok n) old new = new < old
 LowersReads (Err e) old new = (new < old) ⊎ ((old ≡ 0) × (new ≡ 0) × (error_kind e ≢ Interrupted))
 
--- a count that stops at the greatest `usize`
+-- n, at most `usize::MAX`
 abbrev pub usize_saturate : ℕ → ℕ
 usize_saturate n = min n (2 ^ 64 - 1)
 
--- known bytes grew by a beginning of `whole`
+-- a prefix of `whole` was appended to the written bytes
 abbrev pub AppendsFrontOf : Option (List ℕ) → Option (List ℕ) → List ℕ → Type 0
 AppendsFrontOf old new whole = (written rest : List ℕ) × Appends old new written
     × (written ++ rest ≡ whole)
 
--- the bytes that a source has yet to give, and those that a sink was given, where they are known
+-- the unread bytes of a source and the bytes written to a sink, if known
 pub record Streams : Type 0 where
   pub unread : Option (List ℕ)
   pub written : Option (List ℕ)
@@ -34,24 +34,23 @@ pub record Streams : Type 0 where
 abbrev pub streams : Option (List ℕ) → Option (List ℕ) → Streams
 streams unread written = record { unread = unread; written = written }
 
--- the source's bytes were all read, and written to the sink, and the answer is their number
+-- all bytes of the source were read and written to the sink, and n is their number
 abbrev pub CopiesAll : (before after : Streams) → ℕ → Type 0
 CopiesAll before after n = (bytes : List ℕ) × Consumes before.unread after.unread bytes
     × IsAtEnd after.unread × Appends before.written after.written bytes
     × (n ≡ usize_saturate (length bytes))
 
--- what was written is a beginning of what was read
+-- the bytes written are a prefix of the bytes read
 abbrev pub CopiesFront : (before after : Streams) → Type 0
 CopiesFront before after = (written lost : List ℕ)
     × Consumes before.unread after.unread (written ++ lost)
     × Appends before.written after.written written
 
--- a sink took some of a nonempty piece, or failed
+-- a successful write of a nonempty piece writes at least one byte
 abbrev pub TakesSome : {E : Type 0} → Result ℕ E → List ℕ → Type 0
 TakesSome r piece = IfOk r (λ n. 0 < length piece → 0 < n)
 
--- the answer of a write stands, but that none was taken of a piece with bytes is a failure of its
--- own kind
+-- the result of a write, but WriteZero if it wrote nothing of a nonempty piece
 abbrev pub SettlesWrite : Result ℕ Error → ℕ → Result ℕ Error → Type 0
 SettlesWrite (Err e) offered result = result ≡ Err e
 SettlesWrite (Ok taken) offered result =

@@ -1,4 +1,4 @@
-//! Reading and writing bytes through interfaces that say what was moved and whether a call failed.
+//! Copying between byte streams, over traits whose contracts track the bytes and the failures.
 ghost use Rattle.std.specs.Prelude.{◌≡◌, ℕ, ◌<◌, ◌-◌, Bool, false, List, IfOk, IsErr, OnOk, Option, is_err, ◌||◌};
 ghost use Rattle.std.specs.Io.{ReadsAtMost, WritesAtMost};
 ghost use Rattle.std.specs.Io.KnownBytes.{Appends, ReadConsumes, WriteAppends};
@@ -19,19 +19,19 @@ pub use path_texts::{
 use std::io;
 use std::io::{ErrorKind, Read, Write};
 
-/// Where bytes are read from.
+/// A source of bytes.
 pub trait Source {
-    /// The bytes that reads will give from here on, where they are known.
+    /// The bytes that are not read yet, if known.
     ghost remaining: { Self → Option (List ℕ) };
 
     /// Whether a read has failed.
     ghost has_failed: { Self → Bool };
 
-    /// How many more reads can succeed or be interrupted.
+    /// How many more reads can succeed or be interrupted: a bound for loops that retry.
     ghost reads_left: { Self → ℕ };
 
-    /// Reads some of the bytes that are left into the front of `buf`: none only at the end, or
-    /// where `buf` is empty.
+    /// Reads some of the remaining bytes into a prefix of `buf`, and returns their number: 0 only
+    /// at the end or if `buf` is empty.
     fn read(&mut self, buf: &mut [u8]) -> io::Result<usize>
         ensures bound { ReadsAtMost result buf.new }
         ensures bytes { ReadConsumes (remaining self.old) (remaining self.new) result buf.new }
@@ -39,15 +39,15 @@ pub trait Source {
         ensures fewer { LowersReads result (reads_left self.old) (reads_left self.new) };
 }
 
-/// Where bytes are written to.
+/// A sink of bytes.
 pub trait Sink {
-    /// The bytes that were written, where they are known.
+    /// The bytes written so far, if known.
     ghost contents: { Self → Option (List ℕ) };
 
     /// Whether a write has failed.
     ghost has_failed: { Self → Bool };
 
-    /// Writes a beginning of `piece`, which is empty only where `piece` is.
+    /// Writes a prefix of `piece`, and returns its length: 0 only if `piece` is empty.
     fn write(&mut self, piece: &[u8]) -> io::Result<usize>
         ensures bound { WritesAtMost result piece.now }
         ensures bytes { WriteAppends (contents self.old) (contents self.new) result piece.now }
@@ -55,7 +55,7 @@ pub trait Sink {
         ensures failure { NotesFailure (has_failed self.old) (has_failed self.new) result };
 }
 
-/// A reader or a writer of `std`, with a note of its failures and of the reads that are left.
+/// An adapter of `Read` and `Write` that records failures and limits the number of reads.
 #[derive(Drop)]
 pub struct Watched<T> {
     inner: T,
@@ -64,7 +64,7 @@ pub struct Watched<T> {
 }
 
 impl<T> Watched<T> {
-    /// The reader or writer, of which nothing was asked yet.
+    /// Wraps a reader or writer. It may be read from 2^64 - 1 times.
     pub fn new(inner: T) -> Watched<T>
         ensures inner { watched_inner result ≡ inner }
         ensures sound { watched_failed result ≡ false }
@@ -77,7 +77,7 @@ impl<T> Watched<T> {
         }
     }
 
-    /// The reader or writer, as its last call left it.
+    /// Returns the wrapped reader or writer.
     pub fn into_inner(self) -> T
         ensures { result ≡ watched_inner self }
     {
@@ -86,7 +86,7 @@ impl<T> Watched<T> {
 }
 
 impl<T> Watched<T> {
-    // Counts a read, and notes whether its answer is a failure.
+    // Counts a read and records whether it failed.
     fn note_read(&mut self, answer: io::Result<usize>) -> io::Result<usize>
         requires { 0 < watched_reads_left self.old }
         ensures answer { result ≡ answer }
@@ -99,7 +99,8 @@ impl<T> Watched<T> {
         answer
     }
 
-    // Makes an answer that a nonempty piece was not taken a failure, and notes a failure.
+    // Turns a write of no bytes of a nonempty piece into `WriteZero`, and records whether the write
+    // failed.
     fn note_write(&mut self, answer: io::Result<usize>, offered: usize) -> io::Result<usize>
         ensures answer { SettlesWrite answer offered result }
         ensures inner { watched_inner self.new ≡ watched_inner self.old }
@@ -123,7 +124,7 @@ impl<R: Read> Source for Watched<R> {
 
     ghost reads_left = { watched_reads_left };
 
-    /// A read after 2^64 - 1 reads fails. Any other answer is that of the reader.
+    /// Reads from the wrapped reader. Fails once 2^64 - 1 reads were made.
     fn read(&mut self, buf: &mut [u8]) -> io::Result<usize>
         ensures bound { ReadsAtMost result buf.new }
         ensures bytes { ReadConsumes
@@ -150,18 +151,18 @@ impl<W: Write> Sink for Watched<W> {
 
     ghost has_failed = { watched_failed };
 
-    /// A write that takes none of a nonempty piece fails as `WriteZero`. Any other answer is that
-    /// of the writer.
+    /// Writes to the wrapped writer. Fails with `WriteZero` if that writes nothing of a nonempty
+    /// piece.
     fn write(&mut self, piece: &[u8]) -> io::Result<usize> {
         let answer = self.inner.write(piece);
         self.note_write(answer, piece.len())
     }
 }
 
-// The bytes that `copy` takes from its source at a time.
 const COPY_BUFFER: usize = 16384;
 
-/// Writes a whole piece, in as many writes as it takes.
+/// Writes all of `piece`, in one or more writes. Returns the first error of a write. A prefix of
+/// `piece` was then written.
 pub fn write_all<W: Sink>(writer: &mut W, piece: &[u8]) -> io::Result<()>
     ensures ok { OnOk result (Appends (W.contents writer.old) (W.contents writer.new) piece.now) }
     ensures front { AppendsFrontOf (W.contents writer.old) (W.contents writer.new) piece.now }
@@ -175,8 +176,9 @@ pub fn write_all<W: Sink>(writer: &mut W, piece: &[u8]) -> io::Result<()>
     Ok(())
 }
 
-/// Reads a source to its end and writes the bytes to a sink. The count stops at the greatest
-/// `usize`.
+/// Copies all remaining bytes of the reader to the writer, and returns their number, at most
+/// `usize::MAX`. Returns the first error of a read or a write; the bytes written are then a prefix
+/// of the bytes read. Does not allocate: the buffer of 16 KiB is on the stack.
 pub fn copy<R: Source, W: Sink>(reader: &mut R, writer: &mut W) -> io::Result<usize>
     requires reader_works { R.has_failed reader.old ≡ false }
     requires writer_works { W.has_failed writer.old ≡ false }

@@ -1,4 +1,4 @@
-//! Texts of paths of the file system, as they are put together.
+//! Conversion of paths to strings.
 ghost use Rattle.std.specs.Prelude.{◌≡◌, IfOk, string_bytes};
 ghost use Rattle.std.specs.Path.{path_buf_bytes};
 ghost use Rattle.jj_files.specs.FsTexts.{or_dot};
@@ -6,7 +6,7 @@ ghost use Rattle.jj_files.specs.FsTexts.{or_dot};
 use std::alloc::AllocError;
 use std::path::PathBuf;
 
-/// The path's text, or `.` where it is empty.
+/// Returns the path as a string, or `.` if it is empty.
 pub fn text_or_dot(mut path: PathBuf) -> Result<String, AllocError>
     ensures { IfOk result (λ text. string_bytes text ≡ or_dot (path_buf_bytes path)) }
 {

@@ -1,4 +1,4 @@
-//! Reading and writing bytes, directories, and texts of paths of the file system.
+//! File utilities: byte streams, directories and lexical path operations.
 #![tactic(auto)]
 
 pub mod file_util;

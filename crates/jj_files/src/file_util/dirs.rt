@@ -1,4 +1,4 @@
-//! Directories, through an interface that says what its calls may do.
+//! Creating, emptying and testing directories, over a trait of file system calls.
 ghost use Rattle.std.specs.Prelude.{◌≡◌, ℕ, Bool, List, IfOk, IfErr, Result, map, string_bytes};
 ghost use Rattle.std.specs.Result.{result_map_both};
 ghost use Rattle.std.specs.Path.{path_join};
@@ -11,21 +11,22 @@ use std::alloc::{AllocError, Global};
 use std::io;
 use std::path::PathBuf;
 
-/// What can make directories, list them and remove files. A path is a text.
+/// The file system calls that the functions of this module use. Their contracts are relations,
+/// which an implementation chooses.
 pub trait DirAccess {
-    /// Whether a directory is at a path.
+    /// Whether there is a directory at a path.
     ghost is_directory: { Self → List ℕ → Bool };
 
-    /// That making a directory at a path may end so, and leave this.
+    /// The possible results of creating a directory, and the state after each.
     ghost may_create: { Self → List ℕ → Result (Unit {0}) Error → Self → Type 0 };
 
-    /// That removing the file at a path may end so, and leave this.
+    /// The possible results of removing a file, and the state after each.
     ghost may_remove: { Self → List ℕ → Result (Unit {0}) Error → Self → Type 0 };
 
-    /// That the names of a directory's entries may be these, or that listing them may fail so.
+    /// The possible results of listing a directory.
     ghost may_list: { Self → List ℕ → Result (List (List ℕ)) PathError → Type 0 };
 
-    /// Makes a directory, whose parent has to be there.
+    /// Creates a directory. Its parent must exist.
     fn create_dir(&mut self, path: &str) -> io::Result<()>
         ensures { may_create self.old path.now result self.new };
 
@@ -33,18 +34,19 @@ pub trait DirAccess {
     fn remove_file(&mut self, path: &str) -> io::Result<()>
         ensures { may_remove self.old path.now result self.new };
 
-    /// Whether a directory is at the path; false too where that cannot be told.
+    /// Returns whether there is a directory at the path, and false if this cannot be determined.
     fn is_dir(&self, path: &str) -> bool
         ensures { result ≡ is_directory self.now path.now };
 
-    /// The names of the entries of a directory. A fault has the path that was to be listed.
+    /// Lists the names of the entries of a directory. An error contains `path`.
     fn list(&self, alloc: Global, path: &str) -> Result<Vec<String>, PathError>
         ensures listed { may_list self.now path.now
             (result_map_both (λ names. map string_bytes names.items) (λ e. e) result) }
         ensures fault { IfErr result (IsListFault path.now) };
 }
 
-/// Makes a directory where there is none. It is no fault that one is there.
+/// Creates a directory, unless there is one already. Returns the error of `create_dir` if there is
+/// no directory afterwards.
 pub fn create_or_reuse_dir<D: DirAccess>(
     alloc: Global,
     dirs: &mut D,
@@ -59,7 +61,8 @@ pub fn create_or_reuse_dir<D: DirAccess>(
     created.context(alloc, path)
 }
 
-/// Removes each entry of a directory as a file, and stops at the first fault.
+/// Removes all entries of a directory, which must be files. Returns the first error, and leaves the
+/// remaining entries.
 pub fn remove_dir_contents<D: DirAccess>(
     alloc: Global,
     dirs: &mut D,
@@ -76,7 +79,7 @@ pub fn remove_dir_contents<D: DirAccess>(
     Ok(())
 }
 
-/// Whether a path is a directory without entries.
+/// Returns whether the path is a directory without entries. Returns an error if listing it fails.
 pub fn is_empty_dir<D: DirAccess>(alloc: Global, dirs: &D, path: &str) -> Result<bool, PathError>
     ensures { IsEmptyDir D.is_directory D.may_list path.now dirs.now result }
 {
@@ -87,7 +90,6 @@ pub fn is_empty_dir<D: DirAccess>(alloc: Global, dirs: &D, path: &str) -> Result
     Ok(names.is_empty())
 }
 
-// the path of an entry of a directory
 fn entry_path(alloc: Global, dir: &str, name: &str) -> Result<String, AllocError>
     ensures { IfOk result (λ path. string_bytes path ≡ path_join dir.now name.now) }
 {

@@ -1,4 +1,4 @@
-//! What failed, and where: the causes of errors, and errors of input and output at a path.
+//! Errors of input and output, with the path or the cause.
 ghost use Rattle.std.specs.Prelude.{◌≡◌, Result};
 ghost use Rattle.std.specs.declared.io.Error.{Error};
 ghost use Rattle.jj_files.specs.PathErrors.{AddsPath, IsAtPath};
@@ -9,17 +9,17 @@ use std::io;
 use std::marker::Model;
 use thiserror::Error;
 
-/// What kind of thing caused an error.
+/// The category of a cause.
 #[derive(Clone, Copy, Debug, PartialEq, Eq)]
 pub enum SourceKind {
     /// Input or output failed.
     Io,
-    /// What was read is not as it should be.
+    /// The data that was read is malformed.
     Data,
     Other,
 }
 
-/// The cause of an error: its kind, and what is said of it.
+/// The cause of an error: its category and a message.
 #[derive(Debug, Drop, Error)]
 #[error("{message}")]
 pub struct SourceError {
@@ -36,7 +36,7 @@ impl Model for SourceError {
     ghost view = { λ e. record { kind = e.kind; message = string_bytes e.message } };
 }
 
-/// Why a path could not be read, written or listed.
+/// An error at a path, or out of memory.
 #[derive(Debug, Drop, Error)]
 pub enum PathError {
     #[error("Cannot access {path}")]
@@ -62,7 +62,6 @@ impl<T: Drop> From<AllocFailed<T>> for PathError {
 }
 
 impl PathError {
-    // the error at this path, which is copied
     fn new(alloc: Global, path: &str, source: io::Error) -> PathError
         ensures { IsAtPath path.now source result }
     {
@@ -73,13 +72,13 @@ impl PathError {
     }
 }
 
-/// Names the path at which input or output failed.
+/// Adds a path to an error of input or output.
 pub trait IoResultExt<T> {
-    /// How the input or output ended.
+    /// The result without a path.
     ghost outcome: { Self → Result T Error };
 
-    /// The same value, or `Invalid` with the path and the error; `Memory` where there is none for
-    /// the path.
+    /// Turns an error into `Invalid` with `path`, or into `Memory` if the path cannot be copied.
+    /// Does not change a success.
     fn context(self, alloc: Global, path: &str) -> Result<T, PathError>
         ensures { AddsPath path.now (outcome self) result };
 }

@@ -1,4 +1,4 @@
-//! Texts of paths of the file system, made of the components of others.
+//! Lexical path operations: normalization and relative paths, by components.
 ghost use Rattle.std.specs.Prelude.{◌≡◌, ℕ, List, [], ◌∷◌, ◌++◌, map, false, true, IfOk, OnOk, MatchOption, string_bytes};
 ghost use Rattle.std.specs.Str.{bytes_eq};
 ghost use Rattle.std.specs.Path.{component_bytes, parent_dir, path_bytes, path_buf_bytes, path_components};
@@ -9,9 +9,8 @@ use crate::fs_text::text_or_dot;
 use std::alloc::{AllocError, Global};
 use std::path::{Component, Path, PathBuf};
 
-/// The path without `.` and without names that a `..` after them takes away, by its text alone:
-/// no link is followed. A `..` that no name stands before stays, also at the root, and where
-/// nothing is left the path is `.`.
+/// Removes each `.` and each name that a `..` cancels, without following symbolic links. A `..`
+/// that no name precedes stays, also after `/`. An empty result becomes `.`. O(n) time.
 pub fn normalize_path(alloc: Global, path: &str) -> Result<String, AllocError>
     ensures { IfOk result (λ text. IsNormalized path.now (string_bytes text)) }
 {
@@ -28,7 +27,6 @@ pub fn normalize_path(alloc: Global, path: &str) -> Result<String, AllocError>
     join_components(alloc, &kept)
 }
 
-// whether the last component is a name
 fn ends_in_name(components: &[&str]) -> bool
     ensures { result ≡ ends_in_name (map (λ text. text.now) components.now) }
 {
@@ -44,7 +42,6 @@ fn is_place(component: &str) -> bool
     component == "/" || component == "." || component == ".."
 }
 
-// the components as one text
 fn join_components(alloc: Global, components: &[&str]) -> Result<String, AllocError>
     ensures { IfOk result (λ text. string_bytes text
         ≡ fs_text [] (map (λ component. component.now) components.now)) }
@@ -56,9 +53,10 @@ fn join_components(alloc: Global, components: &[&str]) -> Result<String, AllocEr
     text_or_dot(text)
 }
 
-/// The path from the directory `from` to the path `to`, by their texts alone: a `..` for each
-/// component of `from` after those that both begin with, and then what is left of `to`. Where
-/// they begin with no common component, as an absolute and a relative path, the answer is `to`.
+/// Returns a relative path that leads from the directory `from` to `to`, without following symbolic
+/// links: a `..` for each component of `from` after the common prefix, then the remaining
+/// components of `to`. Returns `to` if there is no common prefix, as between an absolute and a
+/// relative path.
 pub fn relative_path(alloc: Global, from: &str, to: &str) -> Result<String, AllocError>
     ensures { IfOk result (λ text. IsRelativeTo from.now to.now (string_bytes text)) }
 {
@@ -71,7 +69,6 @@ pub fn relative_path(alloc: Global, from: &str, to: &str) -> Result<String, Allo
     text_or_dot(text)
 }
 
-// appends a `..` for each component of a path
 fn push_parents(text: &mut PathBuf, path: Path<'_>) -> Result<(), AllocError>
     ensures { OnOk result (path_buf_bytes text.new
         ≡ join_all (path_buf_bytes text.old)
@@ -83,7 +80,6 @@ fn push_parents(text: &mut PathBuf, path: Path<'_>) -> Result<(), AllocError>
     Ok(())
 }
 
-// appends each component of a path
 fn push_components(text: &mut PathBuf, path: Path<'_>) -> Result<(), AllocError>
     ensures { OnOk result (path_buf_bytes text.new
         ≡ join_all (path_buf_bytes text.old) (path_components (path_bytes path.entry))) }
@@ -94,7 +90,7 @@ fn push_components(text: &mut PathBuf, path: Path<'_>) -> Result<(), AllocError>
     Ok(())
 }
 
-// what is left of two paths after the components that both begin with, if there are any
+// Strips the longest common prefix of components, or returns `None` if it is empty.
 fn strip_common_front<'a, 'b>(from: &'a str, to: &'b str) -> Option<(Path<'a>, Path<'b>)>
     ensures { MatchOption result
         (SharesFront from.now to.now [] (path_components from.now) (path_components to.now))

@@ -1,5 +1,4 @@
-//! Texts of paths of the file system, as Unix reads them. A path is a text here, so its bytes are
-//! UTF-8.
+//! Paths as strings, on Unix. All paths are UTF-8.
 ghost use Rattle.std.specs.Prelude.{◌≡◌, IsOk, IfOk, MatchResult, string_bytes};
 ghost use Rattle.std.specs.Option.{option_map};
 ghost use Rattle.std.specs.Str.{IsUtf8};
@@ -9,19 +8,19 @@ use std::alloc::{AllocError, Global};
 use std::path::PathBuf;
 use thiserror::Error;
 
-/// Bytes that are no path's, since they are not UTF-8.
+/// The error of bytes that are not UTF-8.
 #[derive(Clone, Copy, Debug, PartialEq, Eq, Error)]
 #[error("Invalid UTF-8 sequence")]
 pub struct BadPathEncoding;
 
-/// The bytes of a path.
+/// Returns the bytes of a path.
 pub fn path_to_bytes(path: &str) -> &[u8]
     ensures { result.now ≡ path.now }
 {
     path.as_bytes()
 }
 
-/// The path of these bytes, if they are UTF-8.
+/// Converts bytes to a path. Returns an error if they are not UTF-8.
 pub fn path_from_bytes(bytes: &[u8]) -> Result<&str, BadPathEncoding>
     ensures { MatchResult result
         (λ path. (path.now ≡ bytes.now) × IsUtf8 bytes.now) (λ e. ¬ (IsUtf8 bytes.now)) }
@@ -32,15 +31,15 @@ pub fn path_from_bytes(bytes: &[u8]) -> Result<&str, BadPathEncoding>
     }
 }
 
-/// The path with slashes between its names, which is what it has on Unix.
+/// Returns the path with slashes as separators, which on Unix is the path itself.
 pub fn slash_path(path: &str) -> &str
     ensures { result.now ≡ path.now }
 {
     path
 }
 
-/// A path that begins with `~/` below the home directory, if one is given, and any other path as
-/// it is.
+/// Replaces a leading `~/` by the home directory, if one is given. Returns a copy of any other
+/// path.
 pub fn expand_home_path(
     alloc: Global,
     path: &str,

@@ -1,4 +1,4 @@
--- What left the source is in the sink and is counted, and neither has failed.
+-- The bytes read so far were written and counted, and no call has failed.
 use Rattle.std.proofs.Common.{◌≡◌, List, ℕ, length, false}
 use Rattle.std.specs.Io.KnownBytes.{Appends, Consumes}
 use Rattle.jj_files.specs.Streams.{usize_saturate}

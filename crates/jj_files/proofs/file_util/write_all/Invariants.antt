@@ -1,4 +1,4 @@
--- What is gone from `rest` was appended, and the sink still works where it did.
+-- The bytes before `rest` were appended, and the sink fails only if it had failed before.
 use Rattle.std.proofs.Common.{◌≡◌, List, ℕ, ◌++◌, length}
 use Rattle.std.specs.Io.KnownBytes.{Appends}
 use Rattle.jj_files.proofs.file_util.write_all.Given as goal

@@ -1,4 +1,4 @@
--- The text has the components so far.
+-- The path consists of the components so far.
 use Rattle.std.proofs.Common.{◌≡◌, [], map, take}
 use Rattle.std.specs.Path.{path_buf_bytes}
 use Rattle.jj_files.specs.FsTexts.{join_all}

@@ -1,4 +1,4 @@
--- What falls out leads from all components to those kept and those to come, and nothing falls out of those kept.
+-- The components rewrite to the stack followed by the remaining ones, and the stack is a normal form.
 use Rattle.std.proofs.Common.{◌++◌, map}
 use Rattle.std.specs.Path.{path_components, components_remaining}
 use Rattle.jj_files.specs.PathComponents.{DropsTo}

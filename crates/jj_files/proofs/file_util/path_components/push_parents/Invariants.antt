@@ -1,4 +1,4 @@
--- The components that are left, appended to what there is, give the whole text.
+-- Appending `..` for the remaining components yields the whole path.
 use Rattle.std.proofs.Common.{◌≡◌, map}
 use Rattle.std.specs.Path.{path_buf_bytes, path_bytes, path_components, parent_dir, components_remaining}
 use Rattle.jj_files.specs.FsTexts.{join_all}

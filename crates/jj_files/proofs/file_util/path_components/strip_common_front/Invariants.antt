@@ -1,4 +1,4 @@
--- The components so far are common, and what was noted is what is left after them.
+-- The components so far are a common prefix, and `left` stores the paths after it.
 use Rattle.std.proofs.Common.{◌≡◌, ◌++◌, ◌∷◌, [], List, ℕ, MatchOption}
 use Rattle.std.specs.Path.{path_bytes, path_components, components_remaining}
 use Rattle.jj_files.proofs.file_util.path_components.strip_common_front.Given as goal
