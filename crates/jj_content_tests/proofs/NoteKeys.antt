@@ -1,4 +1,4 @@
--- When two notes have one key.
+-- Notes with equal keys.
 use Rattle.std.proofs.Common.{◌≡◌, ◌∙◌, ◌↔◌, ◌⊎◌, ◌&&◌, ◌++◌, ℕ, List, Bool, true, false, IsTrue, Decides, inl, inr, refl, sym, true≢false, bytes_eq, string_bytes}
 use Rattle.std.proofs.lemmas.Bool.{and_parts}
 use Rattle.std.proofs.lemmas.Slice.Eq.{bytes_eq-Decides}
@@ -23,7 +23,7 @@ module _ (first second : Note) where
     same_or_collide true decides digests = inl (same_from_eq (law (decides.0 refl)))
     same_or_collide false decides digests = inr ((λ e. true≢false (sym (decides.1 e))), digests)
 
-    -- the keys are equal where the notes are the same, or their contents collide
+    -- the keys are equal if and only if the notes are, or their contents collide
     pub one_key : (answer : Bool) (k l : List ℕ) → k ≡ blake2b (note_content first) → l ≡ blake2b (note_content second) → answer ≡ bytes_eq k l
         → IsTrue answer ↔ (AreSame first second ⊎ Collide (note_content first) (note_content second))
     one_key answer k l is_first is_second is =

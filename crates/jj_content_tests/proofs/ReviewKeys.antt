@@ -1,4 +1,4 @@
--- When two reviews have one digest.
+-- Reviews with equal digests.
 use Rattle.std.proofs.Common.{◌≡◌, ◌∙◌, ◌↔◌, ◌⊎◌, ◌&&◌, ◌++◌, ℕ, List, [], ◌∷◌, Bool, true, false, IsTrue, Decides, length, ap, inl, inr, refl, sym, true≢false, bytes_eq, string_bytes, arith}
 use Rattle.std.specs.Prelude.{flat_map}
 use lib.Pointwise.{pointwise}
@@ -64,7 +64,7 @@ module _ (first second : Review) where
     same_or_collide true decides digests = inl (same_from_eq (law (decides.0 refl)))
     same_or_collide false decides digests = inr ((λ e. true≢false (sym (decides.1 e))), digests)
 
-    -- the digests are equal where the reviews are the same, or their contents collide
+    -- the digests are equal if and only if the reviews are, or their contents collide
     pub one_digest : (result : Bool) (k l : List ℕ) → k ≡ blake2b (review_content first) → l ≡ blake2b (review_content second) → result ≡ bytes_eq k l
         → IsTrue result ↔ (AreSameReviews first second ⊎ Collide (review_content first) (review_content second))
     one_digest result k l is_first is_second is =

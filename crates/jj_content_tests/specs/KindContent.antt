@@ -1,4 +1,4 @@
--- The content of a kind: the variant's number, and then its fields.
+-- The content of a Kind: the index of the variant, then the fields.
 -- Cited by contracts of public items: IsKind, kind_content.
 use Rattle.std.specs.Prelude.{ℕ, ◌<◌, ◌^◌, ◌∷◌, [], ◌++◌, List, ⊤}
 use Rattle.jj_content.specs.Content.{u32_content, u64_content, bool_content, list_content, AreValues}

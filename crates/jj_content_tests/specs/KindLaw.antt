@@ -1,4 +1,4 @@
--- The content of a kind is lawful.
+-- Proof that the content of a Kind is injective and prefix-free.
 -- Cited by contracts of public items: kind_lawful.
 use Rattle.std.proofs.Common.{◌≡◌, ℕ, List, ◌++◌, ◌<◌, ◌^◌, true, refl, Bool, arith}
 use Rattle.std.proofs.Common.{Vec, Global}

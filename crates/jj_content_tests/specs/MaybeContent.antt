@@ -1,4 +1,4 @@
--- The content of an option of a number: the variant's number, and then its field.
+-- The content of a Maybe: the index of the variant, then the field.
 -- Cited by contracts of public items: IsMaybe, maybe_content.
 use Rattle.std.specs.Prelude.{ℕ, [], ◌++◌, List, ⊤, FitsSigned}
 use Rattle.std.specs.Int.{w32}

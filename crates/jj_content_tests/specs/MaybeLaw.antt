@@ -1,4 +1,4 @@
--- The content of an option of a number is lawful.
+-- Proof that the content of a Maybe is injective and prefix-free.
 -- Cited by contracts of public items: maybe_lawful.
 use Rattle.std.proofs.Common.{◌≡◌, ℕ, List, ◌++◌, ◌<◌, ◌^◌, true, refl, arith}
 use Rattle.jj_content.specs.Content.{IsLawful}

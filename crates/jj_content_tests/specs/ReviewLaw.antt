@@ -1,4 +1,4 @@
--- The content of a review is lawful, by the law of its notes.
+-- Proof that the content of a review is injective and prefix-free, from the same of its notes.
 -- Cited by contracts of public items: review_lawful.
 use Rattle.std.specs.Prelude.{string_bytes}
 use Rattle.jj_content.specs.Content.{IsLawful}

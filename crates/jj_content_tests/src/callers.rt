@@ -1,4 +1,5 @@
-//! Proved callers: keys of a store, by the content of records of one's own.
+//! Proved callers: content-addressed keys of records. Equal keys mean equal records or a collision
+//! of BLAKE2b.
 ghost use Rattle.std.specs.Prelude.{◌≡◌, ◌⊎◌, ◌↔◌, IfOk, IsTrue, OnOk};
 ghost use Rattle.jj_content.specs.Blake2b.{blake2b};
 ghost use Rattle.jj_content_tests.specs.Notes.{note_content, IsNote, AreSame, Collide};
@@ -8,7 +9,7 @@ use crate::records::{Note, Review};
 use jj_content::content_hash::{blake2b_hash, content_decides};
 use std::alloc::{AllocError, Global};
 
-/// The key of a note in a store: the digest of its content.
+/// Returns the key of a note: the digest of its content.
 pub fn key(alloc: Global, note: &Note) -> Result<[u8; 64], AllocError>
     ensures digest { IfOk result (λ key. key ≡ blake2b (note_content note.now)) }
     ensures value { OnOk result (IsNote note.now) }
@@ -16,8 +17,8 @@ pub fn key(alloc: Global, note: &Note) -> Result<[u8; 64], AllocError>
     blake2b_hash(alloc, note)
 }
 
-/// Whether two notes have one key: the same notes have, and others only where their contents
-/// collide.
+/// Returns whether two notes have the same key. They do if and only if they are equal or their
+/// contents collide.
 pub fn have_one_key(alloc: Global, first: &Note, second: &Note) -> Result<bool, AllocError>
     ensures { IfOk result (λ yes. IsTrue yes ↔ (AreSame first.now second.now
         ⊎ Collide (note_content first.now) (note_content second.now))) }
@@ -28,8 +29,8 @@ pub fn have_one_key(alloc: Global, first: &Note, second: &Note) -> Result<bool, 
     Ok(first_key == second_key)
 }
 
-/// Whether two reviews have one digest: the same reviews have, note by note, and others only where
-/// their contents collide.
+/// Returns whether two reviews have the same digest. They do if and only if they are equal or their
+/// contents collide.
 pub fn have_one_digest(alloc: Global, first: &Review, second: &Review) -> Result<bool, AllocError>
     ensures { IfOk result (λ yes. IsTrue yes ↔ (AreSameReviews first.now second.now
         ⊎ Collide (review_content first.now) (review_content second.now))) }

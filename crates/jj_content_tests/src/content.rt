@@ -1,14 +1,13 @@
-//! Content bytes and digests of records and enums whose content is written by hand.
-//
-// In a run in which one request for memory is refused, a call answers that or the right value, and
-// is then made once more, when there is memory.
+//! Content and digests of records and enums with hand-written `ContentHash`.
+// A call must return the expected value or an allocation failure. After a failure it is made a
+// second time.
 use crate::recorder::{assert_content, digest_of};
 use crate::records::{Foo, GenericFoo, Kind, Maybe, Quadruple, Single, Triple};
 use jj_content::content_hash::content_decides;
 use std::alloc::{AllocError, Global};
 use std::test::Fail;
 
-// The digest of the content of the record of `[None, Some(42)]` and 17.
+// The digest of `Foo { x: [None, Some(42)], y: 17 }`.
 const OF_RECORD: [u8; 64] = [
     0xe3, 0x3c, 0x42, 0x3b, 0x4b, 0x77, 0x4b, 0x13, 0x53, 0xc4, 0x14, 0xe0, 0xf9, 0xef, 0x10, 0x88,
     0x22, 0xfd, 0xe2, 0xfd, 0x51, 0x13, 0xfc, 0xd5, 0x3b, 0xf7, 0xbd, 0x9e, 0x74, 0xe3, 0x20, 0x66,

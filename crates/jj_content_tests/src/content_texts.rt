@@ -1,4 +1,4 @@
-//! Content bytes of values as hex texts, for the tests of each crate whose values have content.
+//! Content as hex strings, for the tests of all crates whose values have content.
 ghost use Rattle.std.specs.Prelude.{◌≡◌, string_bytes, IfOk};
 ghost use Rattle.jj_content.specs.Hex.{hex};
 
@@ -6,7 +6,7 @@ use jj_content::content_hash::{ContentHash, DigestUpdate};
 use jj_content::hex_util::encode_hex;
 use std::alloc::{AllocError, Global};
 
-// The content bytes that were taken in, while there was room for all of them.
+// A recorder of content. `is_whole` is false once an allocation failed.
 #[derive(Drop)]
 struct TakenBytes {
     bytes: Vec<u8>,
@@ -25,7 +25,7 @@ impl DigestUpdate for TakenBytes {
     }
 }
 
-/// The content of a value, as a hex text.
+/// Returns the content of a value as hex.
 pub fn content_text<T: ContentHash>(alloc: Global, value: &T) -> Result<String, AllocError>
     ensures { IfOk result (λ text. string_bytes text ≡ hex (T.content value.now)) }
 {

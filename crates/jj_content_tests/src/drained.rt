@@ -1,10 +1,10 @@
-//! What an iterator gives in all.
+//! Collection of fallible iterators.
 ghost use Rattle.std.specs.Prelude.{IfOk, Ok, map};
 ghost use Rattle.std.specs.Iterator.{Drains, IsFinite};
 
 use std::alloc::{AllocError, Global};
 
-/// The items that an iterator gives until it ends, or its first error.
+/// Collects the items of an iterator, up to its first error, which it returns.
 pub fn all_of<T: Drop, I>(alloc: Global, items: I) -> Result<Vec<T>, AllocError>
 where
     I: Iterator<Item = Result<T, AllocError>> + Drop,

@@ -1,8 +1,8 @@
-//! JSON values as texts, for the tests of each crate whose values have some.
+//! JSON as strings, for the tests of all crates whose values convert to JSON.
 use jj_content::content_hash::{ToJson, ToJsonError};
 use std::alloc::{AllocError, Global};
 
-/// The JSON text of a value whose dates are in range, none of another.
+/// Converts a value to a JSON string. Returns the empty string if a timestamp has no date.
 pub fn json_text<T: ToJson>(alloc: Global, value: &T) -> Result<String, AllocError> {
     match value.to_json(alloc) {
         Ok(json) => json.to_string(alloc),

@@ -1,4 +1,4 @@
-//! Tests of jj_content over its public calls.
+//! Tests and proved callers of jj_content.
 #![tactic(auto)]
 
 #[cfg(test)]

@@ -1,12 +1,12 @@
-//! Tests that take memory: what memory was refused to is done once more.
+//! Test helpers that retry once after an allocation failure.
 use std::alloc::{AllocError, Global};
 use std::fmt::Debug;
 use std::test::Fail;
 
-/// What a part of a test answers: it passed, or memory was refused to it.
+/// The result of a part of a test, which fails only if memory runs out.
 pub type Passed = Result<(), AllocError>;
 
-/// Whether the text that is made is the wanted one.
+/// Returns whether `made` returns the expected string. Retries once after an allocation failure.
 pub fn tells<R, F>(rt: &R, made: F, wanted: &str) -> bool
 where
     R: AllocGlobal,
@@ -20,7 +20,8 @@ where
     }
 }
 
-/// Whether the text of what is made is the wanted one, as this function writes it.
+/// Returns whether `text_of`, applied to the value that `made` returns, is the expected string.
+/// Retries once after an allocation failure.
 pub fn tells_of<R, T, F, G>(rt: &R, made: F, text_of: G, wanted: &str) -> bool
 where
     R: AllocGlobal,
@@ -33,7 +34,7 @@ where
     tells(rt, |alloc| text_of(alloc, &made(alloc)?), wanted)
 }
 
-/// Whether a claim is true.
+/// Returns whether `claim` returns true. Retries once after an error.
 pub fn holds<R, E, F>(rt: &R, claim: F) -> bool
 where
     R: AllocGlobal,
@@ -45,7 +46,7 @@ where
     claim(alloc).or_else(|_| claim(alloc)).unwrap_or(false)
 }
 
-/// Runs a test.
+/// Runs a test. Retries once after an allocation failure.
 pub fn passes<R, F>(rt: &R, test: F) -> Result<(), Fail>
 where
     R: AllocGlobal,
@@ -55,7 +56,7 @@ where
     succeeds(rt, test)
 }
 
-/// Runs a test that has an error of its own.
+/// Runs a test with its own error type. Retries once after an error.
 pub fn succeeds<R, E, F>(rt: &R, test: F) -> Result<(), Fail>
 where
     R: AllocGlobal,

@@ -1,4 +1,4 @@
-//! What is done once more, and what is then said of it.
+//! Tests of the helpers that retry.
 use crate::once_more::{holds, passes, tells, tells_of};
 use std::alloc::{AllocError, Global};
 use std::cell::Cell;
@@ -38,7 +38,7 @@ fn claims_have_to_be_true(rt: HostRuntime) {
     assert!(rt; !holds(&rt, refused));
 }
 
-// Whether this is the second try.
+// Fails on the first call, and returns true from the second on.
 fn second(tried: &Cell<bool>) -> Result<bool, AllocError> {
     if tried.replace(true) {
         Ok(true)

@@ -1,9 +1,9 @@
-//! A state that records what it takes in.
+//! A digest state that records content in a fixed buffer.
 use jj_content::content_hash::{ContentHash, DigestUpdate, blake2b_hash};
 use std::alloc::{AllocError, Global};
 use std::process::Abort;
 
-// What was taken in, of which the first 64 bytes are kept.
+// The first 64 bytes of the content.
 #[derive(Clone, Copy, Debug, PartialEq, Eq)]
 struct Recorder {
     bytes: [u8; 64],
@@ -26,8 +26,7 @@ impl DigestUpdate for Recorder {
     }
 }
 
-/// Asserts that these are a value's content bytes, and that a refused call has appended a beginning
-/// of them.
+/// Asserts that the value has this content, and that a failed call has appended a prefix of it.
 pub fn assert_content<T: ContentHash, R: Abort>(rt: &R, alloc: Global, value: &T, content: &[u8]) {
     let blank = Recorder {
         bytes: [0; 64],
@@ -45,7 +44,7 @@ pub fn assert_content<T: ContentHash, R: Abort>(rt: &R, alloc: Global, value: &T
     assert_eq!(rt; &first.bytes[..first.len], content);
 }
 
-/// A value's digest, by a second call where memory was refused in the first.
+/// Returns the digest of a value. Retries once after an allocation failure.
 pub fn digest_of<T: ContentHash>(alloc: Global, value: &T) -> Result<[u8; 64], AllocError> {
     blake2b_hash(alloc, value).or_else(|_| blake2b_hash(alloc, value))
 }

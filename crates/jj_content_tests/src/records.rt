@@ -1,4 +1,4 @@
-//! Records and enums that prove the law of content from their parts' law.
+//! Records and enums with hand-written `ContentHash`, whose laws follow from those of their fields.
 ghost use Rattle.std.specs.Prelude.{◌≡◌, ℕ, ◌++◌, List, OnOk, OnErr};
 ghost use Rattle.jj_content.specs.Content.{Takes, TakesFront, IsLawful};
 ghost use Rattle.jj_content.specs.Lawful.{on_lawful, both_lawful, list_lawful, option_lawful, i32_lawful, i64_lawful};
@@ -6,7 +6,7 @@ ghost use Rattle.jj_content.specs.Lawful.{on_lawful, both_lawful, list_lawful, o
 use jj_content::content_hash::{ContentHash, DigestUpdate, hash_both, hash_three};
 use std::alloc::{AllocError, Global};
 
-/// A list of options, and a number.
+/// A record with a list of options.
 #[derive(Debug, PartialEq, Eq, Drop)]
 pub struct Foo {
     pub x: Vec<Option<i32>>,
@@ -28,7 +28,7 @@ impl ContentHash for Foo {
     }
 }
 
-/// Two parts of any types.
+/// A generic record.
 #[derive(Debug, PartialEq, Eq, Drop)]
 pub struct GenericFoo<X, Y> {
     pub x: X,
@@ -47,7 +47,7 @@ impl<X: ContentHash, Y: ContentHash> ContentHash for GenericFoo<X, Y> {
     }
 }
 
-/// A note on a file: its text, and the numbers of the lines that it is on.
+/// A note on some lines of a file.
 #[derive(Debug, PartialEq, Eq, Drop)]
 pub struct Note {
     pub text: String,
@@ -72,7 +72,7 @@ impl ContentHash for Note {
     }
 }
 
-/// A review of a file: a summary, and the notes of the review.
+/// A review of a file.
 #[derive(Debug, PartialEq, Eq, Drop)]
 pub struct Review {
     pub summary: Note,
@@ -96,7 +96,7 @@ impl ContentHash for Review {
     }
 }
 
-/// One number.
+/// A tuple struct with one field.
 #[derive(Debug, PartialEq, Eq, Clone, Copy)]
 pub struct Single(pub i32);
 
@@ -112,7 +112,7 @@ impl ContentHash for Single {
     }
 }
 
-/// Three numbers.
+/// A tuple struct with three fields.
 #[derive(Debug, PartialEq, Eq, Clone, Copy)]
 pub struct Triple(pub i32, pub i32, pub i32);
 
@@ -131,7 +131,7 @@ impl ContentHash for Triple {
     }
 }
 
-/// Four numbers.
+/// A tuple struct with four fields.
 #[derive(Debug, PartialEq, Eq, Clone, Copy)]
 pub struct Quadruple(pub i32, pub i32, pub i32, pub i32);
 
@@ -155,7 +155,7 @@ impl ContentHash for Quadruple {
     }
 }
 
-/// An option of a number, as an enum of its own.
+/// An optional number, as a user-defined enum.
 #[derive(Debug, PartialEq, Eq, Clone, Copy)]
 pub enum Maybe {
     Nothing,
@@ -185,7 +185,7 @@ impl ContentHash for Maybe {
     }
 }
 
-/// What a place holds: a variant with two fields, one with one, and one with none.
+/// The kind of a file system entry: variants with two, one and no fields.
 #[derive(Debug, PartialEq, Eq, Drop)]
 pub enum Kind {
     File { id: Vec<u8>, executable: bool },

@@ -1,4 +1,4 @@
--- What a prefix stands for among ids, as more of them are looked at.
+-- Loop step of prefix lookup: one more id.
 use Rattle.std.proofs.Common.{◌≡◌, ◌≢◌, ◌∙◌, ℕ, List, [], ◌∷◌, ◌++◌, ◌+◌, ◌<◌, ◌≤◌, length, take, get_or, inl, inr, ap, sym, subst, Contains}
 use Rattle.std.proofs.lemmas.List.Elements.{Contains-append_left, Contains-push, Contains-push_cases}
 use Rattle.std.proofs.lemmas.List.{take_more, take_all}
@@ -8,7 +8,7 @@ use Rattle.jj_ids.specs.declared.object_id.prefix_resolution.PrefixResolution.Th
 use Rattle.jj_ids_tests.specs.Lookups.{BeginsWith, StandsFor}
 
 module _ (shows : List ℕ → List ℕ) (ids : List (List ℕ)) (prefix id : List ℕ) where
-  -- an id that does not begin with the prefix changes nothing
+  -- an id that does not start with the prefix changes nothing
   pub passed : (found : PrefixResolution (Bor (List ℕ))) → StandsFor shows ids prefix found → (BeginsWith shows id prefix → ⊥) → StandsFor shows (ids ++ id ∷ []) prefix found
   passed NoMatch none other = λ it among begins.
       elim (Contains-push_cases ids id it among) [ inl before ↦ none it before begins | inr same ↦ other (subst (λ i. BeginsWith shows i prefix) (sym same) begins) ]
@@ -22,7 +22,7 @@ module _ (shows : List ℕ → List ℕ) (ids : List (List ℕ)) (prefix id : Li
       (first, second, Contains-append_left ids (id ∷ []) first among1, begins1, Contains-append_left ids (id ∷ []) second among2, begins2, differ)
 
   module _ (begins : BeginsWith shows id prefix) where
-    -- the first that does is the only one
+    -- the first id that starts with the prefix is a single match
     pub first_match : (found : Bor (List ℕ)) → found.now ≡ id → StandsFor shows ids prefix NoMatch → StandsFor shows (ids ++ id ∷ []) prefix (SingleMatch found)
     first_match found is none = (
       subst (Contains (ids ++ id ∷ [])) (sym is) (Contains-push ids id),
@@ -31,7 +31,7 @@ module _ (shows : List ℕ → List ℕ) (ids : List (List ℕ)) (prefix id : Li
           elim (Contains-push_cases ids id it among) [ inl before ↦ absurd (none it before starts) | inr same ↦ sym same ∙ sym is ],
     )
 
-    -- the same one once more is still the only one
+    -- a duplicate of the single match changes nothing
     pub same_match : (only : Bor (List ℕ)) → only.now ≡ id → StandsFor shows ids prefix (SingleMatch only) → StandsFor shows (ids ++ id ∷ []) prefix (SingleMatch only)
     same_match only is (there, starts, alone) = (
       Contains-append_left ids (id ∷ []) only.now there,
@@ -40,7 +40,7 @@ module _ (shows : List ℕ → List ℕ) (ids : List (List ℕ)) (prefix id : Li
           elim (Contains-push_cases ids id it among) [ inl before ↦ alone it before begins' | inr same ↦ sym same ∙ sym is ],
     )
 
-    -- another one makes two
+    -- a second, different match is ambiguous
     pub second_match : (only : Bor (List ℕ)) → only.now ≢ id → StandsFor shows ids prefix (SingleMatch only) → StandsFor shows (ids ++ id ∷ []) prefix AmbiguousMatch
     second_match only differ (there, starts, alone) =
         (only.now, id, Contains-append_left ids (id ∷ []) only.now there, starts, Contains-push ids id, begins, differ)
@@ -49,12 +49,12 @@ module _ (shows : List ℕ → List ℕ) (ids : List (List ℕ)) (prefix id : Li
     more_matches (first, second, among1, begins1, among2, begins2, differ) =
         (first, second, Contains-append_left ids (id ∷ []) first among1, begins1, Contains-append_left ids (id ∷ []) second among2, begins2, differ)
 
--- what stands for the ids before a place and the one there stands for those before the next place
+-- the ids up to index i, and the one at it
 pub next_id : (shows : List ℕ → List ℕ) (ids : List (List ℕ)) (i : ℕ) (id prefix : List ℕ) (found : PrefixResolution (Bor (List ℕ))) → i < length ids → id ≡ get_or ids i id
     → StandsFor shows (take i ids ++ id ∷ []) prefix found → StandsFor shows (take (i + 1) ids) prefix found
 next_id shows ids i id prefix found within is so_far =
     subst (λ l. StandsFor shows l prefix found) (ap (λ x. take i ids ++ x ∷ []) is ∙ sym (take_more ids i id within)) so_far
 
--- no id is left
+-- all ids were searched
 pub all_ids : (shows : List ℕ → List ℕ) (ids : List (List ℕ)) (n : ℕ) (prefix : List ℕ) (found : PrefixResolution (Bor (List ℕ))) → length ids ≤ n → StandsFor shows (take n ids) prefix found → StandsFor shows ids prefix found
 all_ids shows ids n prefix found all so_far = subst (λ l. StandsFor shows l prefix found) (take_all n ids all) so_far

@@ -1,4 +1,4 @@
--- What a prefix stands for among ids, in the words of the texts that show them.
+-- The specification of prefix lookup, for any encoding of ids as strings.
 -- Cited by contracts of public items: StandsFor.
 use Rattle.std.specs.Prelude.{◌≡◌, ◌≢◌, ℕ, List, IsTrue, Contains, nat_eq}
 use Rattle.std.specs.Borrow.{Bor}
@@ -6,11 +6,12 @@ use Rattle.std.specs.List.{starts_with}
 use Rattle.jj_ids.specs.declared.object_id.prefix_resolution.PrefixResolution.{PrefixResolution}
 use Rattle.jj_ids.specs.declared.object_id.prefix_resolution.PrefixResolution.TheVariants.{NoMatch, SingleMatch, AmbiguousMatch}
 
--- the text that shows the id begins with this text
+-- the encoding of the id starts with the prefix
 abbrev pub BeginsWith : (List ℕ → List ℕ) → List ℕ → List ℕ → Type 0
 BeginsWith shows id prefix = IsTrue (starts_with nat_eq (shows id) prefix)
 
--- no id begins with the prefix; or this one does, and no other; or two different ones do
+-- the result of a lookup: no id starts with the prefix; or exactly this one does; or two different
+-- ids do
 abbrev pub StandsFor : (List ℕ → List ℕ) → List (List ℕ) → List ℕ
     → PrefixResolution (Bor (List ℕ)) → Type 0
 StandsFor shows ids prefix NoMatch = (id : List ℕ) → Contains ids id

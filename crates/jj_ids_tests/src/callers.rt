@@ -1,4 +1,4 @@
-//! Callers of jj_ids, with what they promise of its answers.
+//! Callers with contracts of their own, proved from the contracts of jj_ids.
 pub mod calls;
 pub mod lookup;
 pub mod own_kind;

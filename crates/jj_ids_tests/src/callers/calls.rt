@@ -1,4 +1,4 @@
-//! Calls on the ids of two kinds, with what they promise of each.
+//! One caller for each call on ids, names and symbols.
 ghost use Rattle.std.specs.Prelude.{◌≡◌, ℕ, List, IfOk, IfErr, IsTrue, codes, Some, refl, ⊤};
 ghost use Rattle.std.specs.String.{string_bytes};
 ghost use Rattle.std.specs.Str.{bytes_eq};
@@ -22,7 +22,7 @@ use std::alloc::{AllocError, Global};
 use std::cmp::Ordering;
 use std::collections::BTreeMap;
 
-/// What is asked of ids in this crate.
+/// A trait of this crate, implemented for types of jj_ids.
 pub trait Named {
     ghost label_text: { List ℕ };
 
@@ -168,7 +168,7 @@ pub fn named_id<'a>(
     ids.get(&name)
 }
 
-/// What is ordered as its text.
+/// A type that is ordered and compared by its string.
 pub trait OrderedAsText: Ord {
     ghost text_of: { Self → List ℕ };
 
@@ -210,7 +210,7 @@ pub fn owned_symbol_order(a: &RemoteRefSymbolBuf, b: &RemoteRefSymbolBuf) -> Ord
     a.cmp(b)
 }
 
-/// The order of symbols of either form, in generic code.
+/// Compares symbols, borrowed or owned, in generic code.
 pub fn order_at_remote<S: AtRemote>(a: &S, b: &S) -> Ordering
     ensures { result ≡ S.cmp a.now b.now }
 {

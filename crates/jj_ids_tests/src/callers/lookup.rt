@@ -1,4 +1,4 @@
-//! Ids that are looked up by a prefix of their hex text, or of their reversed hex text.
+//! Lookup of ids by hex prefix or reverse hex prefix, by linear search.
 ghost use Rattle.std.specs.Prelude.{◌≡◌, ◌++◌, ◌∷◌, [], ℕ, List, IfOk, MatchOption, codes, false};
 ghost use Rattle.std.specs.Str.{str_to_ascii_lowercase};
 ghost use Rattle.std.specs.String.{string_bytes};
@@ -9,7 +9,7 @@ ghost use Rattle.jj_ids_tests.specs.Lookups.{StandsFor};
 use jj_ids::object_id::{ChangeId, CommitId, HexPrefix, Id, IdKind, PrefixResolution};
 use std::alloc::{AllocError, Global};
 
-// What a prefix stands for among ids of which this is one more.
+// Adds one id to the ids that were searched.
 fn with_id<'a, K: IdKind>(
     found: PrefixResolution<&'a Id<K>>,
     id: &'a Id<K>,
@@ -37,8 +37,8 @@ fn with_id<'a, K: IdKind>(
     }
 }
 
-/// What a prefix stands for among ids: the only one whose hex text begins with it, or none, or
-/// several. The same id is the only one whose reversed hex text begins with the reversed prefix.
+/// Looks up a prefix: returns the only id whose hex encoding starts with it, `NoMatch`, or
+/// `AmbiguousMatch` if several ids do. The result for reverse hex is the same. O(n) comparisons.
 pub fn resolved<'a, K: IdKind>(ids: &'a [Id<K>], prefix: &HexPrefix) -> PrefixResolution<&'a Id<K>>
     ensures hex { StandsFor hex ids.now prefix.now result }
     ensures reverse_hex { StandsFor reverse_hex ids.now (reversed_text prefix.now) result }
@@ -50,8 +50,7 @@ pub fn resolved<'a, K: IdKind>(ids: &'a [Id<K>], prefix: &HexPrefix) -> PrefixRe
     found
 }
 
-/// What a text, in upper or lower case, stands for among ids: the only one whose hex text begins
-/// with it, or none, or several. A text that is not hex stands for nothing.
+/// Looks up a hex prefix of either case among commit ids. Returns `None` if `text` is not hex.
 pub fn looked_up<'a>(
     alloc: Global,
     ids: &'a [CommitId],
@@ -67,9 +66,8 @@ pub fn looked_up<'a>(
     }
 }
 
-/// What a text, in upper or lower case, stands for among ids of changes: the only one whose
-/// reversed hex text begins with it, or none, or several. A text that is not reversed hex stands
-/// for nothing.
+/// Looks up a reverse hex prefix of either case among change ids. Returns `None` if `text` is not
+/// reverse hex.
 pub fn looked_up_change<'a>(
     alloc: Global,
     ids: &'a [ChangeId],
@@ -85,7 +83,7 @@ pub fn looked_up_change<'a>(
     }
 }
 
-/// The hex text of the prefix that `mlp` stands for, which is `dea`.
+/// Decodes the reverse hex prefix `mlp`, and encodes it as hex: `dea`.
 pub fn hex_of_mlp(alloc: Global) -> Result<Option<String>, AllocError>
     ensures { IfOk result (λ hex. MatchOption hex ⊥ (λ text. string_bytes text ≡ codes "dea")) }
 {

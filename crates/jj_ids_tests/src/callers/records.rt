@@ -1,4 +1,4 @@
-//! Records and maps of ids.
+//! Records and collections of ids.
 ghost use Rattle.std.specs.Prelude.{◌≡◌, ℕ, List, [], ◌∷◌, ◌++◌, IfOk, OnErr, IsTrue, ◌↔◌, Some, None, MatchOption, Option, ⊤};
 ghost use Rattle.std.specs.BTreeMap.{get_by};
 ghost use Rattle.std.specs.Ordering.{nat_cmp};
@@ -11,14 +11,14 @@ use jj_ids::ref_name::{RefName, RefNameBuf, RemoteName, WorkspaceNameBuf};
 use std::alloc::{AllocError, Global};
 use std::collections::{BTreeMap, BTreeSet, HashMap};
 
-/// What a change of a path wrote.
+/// A new value of a path.
 #[derive(Clone, Debug, PartialEq, Eq, PartialOrd, Ord, Hash, Drop)]
 pub enum Written {
     File { id: FileId, copy: CopyId },
     Symlink(SymlinkId),
 }
 
-/// A commit, as far as ids go.
+/// The ids of a commit.
 #[derive(Clone, Debug, PartialEq, Eq, PartialOrd, Ord, Hash, Drop)]
 pub struct Commit {
     pub parents: Vec<CommitId>,
@@ -27,7 +27,7 @@ pub struct Commit {
 }
 
 impl Commit {
-    /// The commit's only parent, where it has one.
+    /// Returns the parent of a commit that has exactly one.
     pub fn only_parent(&self) -> Option<&CommitId>
         ensures { MatchOption result ⊤ (λ id. parents_of self.now ≡ id.now ∷ []) }
     {
@@ -37,7 +37,7 @@ impl Commit {
         }
     }
 
-    /// A copy of the id of the change.
+    /// Clones the change id.
     pub fn change(&self) -> Result<ChangeId, AllocError>
         ensures { IfOk result (λ id. id ≡ self.now.change_id) }
     {
@@ -45,7 +45,7 @@ impl Commit {
     }
 }
 
-/// The name of a commit, in a map by ids.
+/// Looks up the name of a commit.
 pub fn name_of_commit<'a>(
     names: &'a BTreeMap<CommitId, RefNameBuf>,
     id: &CommitId,
@@ -63,7 +63,7 @@ pub fn is_known(ids: &BTreeSet<TreeId>, id: &TreeId) -> bool {
     ids.contains(id)
 }
 
-/// The same bytes as another type of id, by name.
+/// Converts a commit id to a tree id with the same bytes.
 pub fn tree_of_commit(id: &CommitId, alloc: Global) -> Result<TreeId, AllocError>
     ensures { IfOk result (λ tree. tree ≡ id.now) }
 {
