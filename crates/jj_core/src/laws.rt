@@ -1,4 +1,5 @@
-//! The laws of all libraries: functions that do nothing, whose contracts a proof can use.
+//! Laws of all libraries: empty functions whose contracts state properties of definitions, for use
+//! in proofs.
 pub use jj_ids::object_id::sum_laws;
 pub use jj_ids::ref_name::remote_symbols_print_apart;
 pub use jj_matchers::laws::{sets_have_their_meaning, walks_find_accepted_marks};

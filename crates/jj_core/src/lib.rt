@@ -1,4 +1,4 @@
-//! The core of a version-control system: the modules of the crates below, under one name.
+//! Facade crate: re-exports the modules of all libraries.
 #![tactic(auto)]
 
 pub mod laws;

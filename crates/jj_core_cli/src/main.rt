@@ -1,4 +1,4 @@
-//! The program `jj-core`: it reads standard input, and writes standard output.
+//! The program `jj-core`: runs one command, on standard input and output.
 #![tactic(auto)]
 
 use jj_files::file_util::Watched;
@@ -9,7 +9,7 @@ use std::process::ExitCode;
 use std::rt::Env;
 use std::{env, io};
 
-// The words after the program's name.
+// Returns the command-line arguments.
 fn words(rt: &(impl Env + AllocGlobal)) -> io::Result<Vec<String>> {
     Ok(env::args(rt)?.skip(1).collect(rt.alloc())?)
 }
@@ -22,7 +22,7 @@ fn main(rt: HostRuntime) -> ExitCode {
             let _ = eprintln!(rt; "jj-core: {fault}");
             return ExitCode::FAILURE;
         }
-        // Words that are not text name no command.
+        // Arguments that are not UTF-8 name no command.
         Err(_) => Vec::new(rt.alloc()),
     };
     let mut reader = Watched::new(rt.stdin());
