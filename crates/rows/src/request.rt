@@ -24,7 +24,7 @@ fn hex_digit(byte: u8) -> Result<u8, RowError> {
     }
 }
 
-// State of a field's parser.
+// The state of the unescaping automaton.
 #[derive(Clone, Copy)]
 enum Escape {
     Outside,
@@ -164,7 +164,7 @@ impl Fields {
         }
     }
 
-    /// Copies the fields from index `start` on as strings.
+    /// Copies the fields from index `start` on.
     pub fn strings(&self, start: usize) -> Result<Vec<String>, RowError> {
         let mut strings = Vec::new(self.alloc);
         for field in self.fields.iter().skip(start) {

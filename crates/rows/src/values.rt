@@ -3,7 +3,7 @@ use crate::row_error::RowError;
 use std::alloc::{AllocError, Global};
 use std::fmt;
 
-/// The values of a result. A failed allocation is remembered, and `into_string` returns it.
+/// The values of a result. A failed allocation is recorded, and `into_string` returns the error.
 #[derive(Drop)]
 pub struct Values {
     alloc: Global,

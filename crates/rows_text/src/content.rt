@@ -1,4 +1,4 @@
-//! Requests on digests, content and JSON texts.
+//! Requests on digests, content and JSON.
 use crate::only_bytes;
 use jj_content::blake2b::Blake2b512;
 use jj_content::content_hash::{ContentHash, DigestUpdate, ToJson, ToJsonError, blake2b_hash};
@@ -9,7 +9,7 @@ use rows::values::Values;
 use std::alloc::{AllocError, Global};
 use std::collections::{BTreeMap, HashMap, HashSet};
 
-// A digest state that records what it takes in, and whether there was memory for all of it.
+// A digest state that records content. `is_whole` is false once an allocation failed.
 #[derive(Drop)]
 struct Recorder {
     bytes: Vec<u8>,
@@ -34,7 +34,7 @@ fn digest_of(bytes: &[u8]) -> [u8; 64] {
     hasher.finalize()
 }
 
-// The content of a value as a hex string.
+// Returns the content of a value as hex.
 pub(crate) fn content_of<T: ContentHash>(alloc: Global, value: &T) -> Result<String, AllocError> {
     let mut recorder = Recorder {
         bytes: Vec::new(alloc),
@@ -47,7 +47,7 @@ pub(crate) fn content_of<T: ContentHash>(alloc: Global, value: &T) -> Result<Str
     encode_hex(alloc, recorder.bytes.as_slice())
 }
 
-// Appends the content of a value as a hex string. Its digest is that of the content.
+// Appends the content of a value as hex. Fails unless `blake2b_hash` is the digest of the content.
 pub(crate) fn put_content<T: ContentHash>(
     alloc: Global,
     values: &mut Values,
@@ -65,14 +65,13 @@ pub(crate) fn put_content<T: ContentHash>(
     )
 }
 
-// The digest of a byte string.
 fn digest(alloc: Global, request: &Request, values: &mut Values) -> Result<(), RowError> {
     let digest = digest_of(only_bytes(request.group(0)?)?);
     values.allocated(encode_hex(alloc, digest.as_slice()));
     Ok(())
 }
 
-// The message of a length whose byte at index i is 7 i + 3 modulo 256.
+// Returns the bytes `7 * i + 3` modulo 256, for each index `i` below `length`.
 fn message(alloc: Global, length: usize) -> Result<Vec<u8>, AllocError> {
     let mut message = Vec::new(alloc);
     let mut byte = 3u8;
@@ -83,7 +82,7 @@ fn message(alloc: Global, length: usize) -> Result<Vec<u8>, AllocError> {
     Ok(message)
 }
 
-// The digest of the digests of the messages of all lengths up to a length.
+// Appends the digest of the concatenated digests of the messages of all lengths up to `length`.
 fn digest_lengths(alloc: Global, request: &Request, values: &mut Values) -> Result<(), RowError> {
     let length = request.group(0)?.index(0)?;
     let message = message(alloc, length)?;
@@ -122,8 +121,8 @@ fn is_cut_into_pieces(message: &[u8], digest: &[u8; 64]) -> bool {
     true
 }
 
-// The digest of the message of a length, which is the same for each two parts of it, and for
-// pieces of each size.
+// Appends the digest of a message. Fails unless it is independent of how `update` splits the
+// message.
 fn digest_length(alloc: Global, request: &Request, values: &mut Values) -> Result<(), RowError> {
     let length = request.group(0)?.index(0)?;
     let message = message(alloc, length)?;
@@ -162,14 +161,14 @@ fn number(alloc: Global, request: &Request, values: &mut Values) -> Result<(), R
     }
 }
 
-// The content of a byte string, and of its owned form.
+// Appends the content of a byte slice, and of its owned form.
 fn bytes(alloc: Global, request: &Request, values: &mut Values) -> Result<(), RowError> {
     let bytes = only_bytes(request.group(0)?)?;
     put_content(alloc, values, &bytes)?;
     put_content(alloc, values, &bytes.to_vec(alloc)?)
 }
 
-// The content of a string, and of its owned form.
+// Appends the content of a string slice, and of its owned form.
 fn string(alloc: Global, request: &Request, values: &mut Values) -> Result<(), RowError> {
     let string = crate::only_string(request.group(0)?)?;
     put_content(alloc, values, &string)?;
@@ -184,7 +183,7 @@ fn integer(fields: &Fields, index: usize) -> Result<i32, RowError> {
     i32::try_from(fields.signed(index)?).map_err(out_of_range)
 }
 
-// The content of an optional number: a byte, or an `i32`.
+// Appends the content of an optional `u8` or `i32`.
 fn option(alloc: Global, request: &Request, values: &mut Values) -> Result<(), RowError> {
     let fields = request.group(0)?;
     match fields.string(0)? {
@@ -195,7 +194,7 @@ fn option(alloc: Global, request: &Request, values: &mut Values) -> Result<(), R
     }
 }
 
-// The content of a tuple of none to four numbers.
+// Appends the content of a tuple of up to four numbers.
 fn tuple(alloc: Global, request: &Request, values: &mut Values) -> Result<(), RowError> {
     let fields = request.group(0)?;
     match fields.len() {
@@ -214,7 +213,6 @@ fn tuple(alloc: Global, request: &Request, values: &mut Values) -> Result<(), Ro
     }
 }
 
-// The content of a list of `i32`.
 fn list(alloc: Global, request: &Request, values: &mut Values) -> Result<(), RowError> {
     let fields = request.group(0)?;
     let mut numbers = Vec::new(alloc);
@@ -224,7 +222,7 @@ fn list(alloc: Global, request: &Request, values: &mut Values) -> Result<(), Row
     put_content(alloc, values, &numbers.as_slice())
 }
 
-// The content of an ordered and of a hashed map of these keys and values.
+// Appends the content of an ordered map and of a hash map with these entries.
 fn map(alloc: Global, request: &Request, values: &mut Values) -> Result<(), RowError> {
     let (keys, entries) = (request.group(0)?, request.group(1)?);
     let mut ordered = BTreeMap::new(alloc);
@@ -238,7 +236,6 @@ fn map(alloc: Global, request: &Request, values: &mut Values) -> Result<(), RowE
     put_content(alloc, values, &hashed)
 }
 
-// The content of an ordered and of a hashed map of one string to another.
 fn string_map(alloc: Global, request: &Request, values: &mut Values) -> Result<(), RowError> {
     let fields = request.group(0)?;
     let (key, value) = (fields.string(0)?, fields.string(1)?);
@@ -265,7 +262,8 @@ fn set(alloc: Global, request: &Request, values: &mut Values) -> Result<(), RowE
     put_content(alloc, values, &set)
 }
 
-// The content of the maps of all bytes to 7, filled upwards and downwards.
+// Appends the content of maps from each byte to 7, with entries inserted in ascending and in
+// descending order.
 fn all_bytes_map(alloc: Global, values: &mut Values) -> Result<(), RowError> {
     let mut ordered = BTreeMap::new(alloc);
     let mut up = HashMap::new(alloc);
@@ -285,7 +283,7 @@ fn all_bytes_map(alloc: Global, values: &mut Values) -> Result<(), RowError> {
     )
 }
 
-// Appends the JSON text of a value whose times are in range.
+// Appends a value as JSON. Its timestamps must have dates.
 pub(crate) fn put_json<T: ToJson>(
     alloc: Global,
     values: &mut Values,
@@ -299,7 +297,7 @@ pub(crate) fn put_json<T: ToJson>(
     Ok(())
 }
 
-// The JSON texts of a list of optional strings, and of its items.
+// Appends a list of optional strings, and then its items, as JSON.
 fn json(alloc: Global, request: &Request, values: &mut Values) -> Result<(), RowError> {
     let options = request.group(0)?.options()?;
     put_json(alloc, values, &options.as_slice())?;

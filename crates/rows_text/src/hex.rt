@@ -1,4 +1,4 @@
-//! Requests on hex digits, quoted strings and escapes.
+//! Requests on hexadecimal encoding, quoted strings and escapes.
 use crate::{only_bytes, only_string};
 use jj_content::hex_util::{
     common_hex_len, decode_hex, decode_hex_prefix, decode_reverse_hex, decode_reverse_hex_prefix,

@@ -1,4 +1,4 @@
-//! Requests on ids, prefixes of ids and their resolutions.
+//! Requests on ids, hex prefixes and the resolution of prefixes.
 use crate::content::{put_content, put_json};
 use jj_ids::object_id::{
     ChangeId, ChangeKind, CommitId, CommitKind, CopyId, CopyKind, FileKind, HexPrefix, Id, IdKind,
@@ -11,7 +11,7 @@ use std::alloc::Global;
 use std::cmp::Ordering;
 use std::fmt;
 
-// An id in each form.
+// Appends the display forms, the debug form, the type and the hex encoding of an id.
 fn put_id<T: ObjectId + fmt::Display + fmt::Debug>(alloc: Global, values: &mut Values, id: &T) {
     values.display(id);
     values.allocated(format!(in alloc; "{id:.3}"));
@@ -36,7 +36,7 @@ fn prefix_agrees<K: IdKind>(alloc: Global, id: &Id<K>) -> Result<(), RowError> {
     agree(prefix.matches(id) && prefix == whole, "the prefix of an id")
 }
 
-// The id of a kind that is read from a hex string.
+// Decodes an id of kind `K` and appends its forms, or `none`.
 fn read_id<K: IdKind>(alloc: Global, hex: &[u8], values: &mut Values) -> Result<(), RowError> {
     let Some(id) = Id::<K>::try_from_hex(alloc, hex)? else {
         values.word("none");
@@ -71,7 +71,7 @@ fn id(alloc: Global, request: &Request, values: &mut Values) -> Result<(), RowEr
     read_of_kind(alloc, fields.string(0)?, fields.bytes(1)?, values)
 }
 
-// The id of a change that is read from a reversed hex string.
+// Decodes a change id from reverse hex and appends both encodings, or `none`.
 fn change(alloc: Global, request: &Request, values: &mut Values) -> Result<(), RowError> {
     let text = request.group(0)?.bytes(0)?;
     let Some(id) = ChangeId::try_from_reverse_hex(alloc, text)? else {
@@ -96,7 +96,7 @@ fn compare(alloc: Global, request: &Request, values: &mut Values) -> Result<(), 
     )
 }
 
-// The JSON text and the content of the ids of a commit and of a change of the same bytes.
+// Appends the JSON and the content of a commit id and a change id with the same bytes.
 fn data(alloc: Global, request: &Request, values: &mut Values) -> Result<(), RowError> {
     let bytes = request.group(0)?.bytes(0)?;
     let commit = CommitId::from_bytes(alloc, bytes)?;
@@ -118,7 +118,7 @@ fn put_prefix(alloc: Global, values: &mut Values, prefix: &HexPrefix) -> Result<
     agree(shown == expected, "the debug form of a prefix")
 }
 
-// A prefix, and whether an id matches it.
+// Appends a prefix, and whether the id matches it.
 fn match_prefix(
     alloc: Global,
     values: &mut Values,
@@ -171,7 +171,7 @@ fn plus(alloc: Global, request: &Request, values: &mut Values) -> Result<(), Row
     Ok(())
 }
 
-// A resolution mapped to the length of its string, and only if the string is not empty.
+// Appends a resolution, mapped to the length of the string, and then filtered to nonempty strings.
 fn map(alloc: Global, request: &Request, values: &mut Values) -> Result<(), RowError> {
     let field = request.group(0)?.string(0)?;
     let mapped = resolution(alloc, field)?.map(|string: String| string.len());

@@ -1,4 +1,4 @@
-//! Requests on hex digits, symbols, ids, names, string patterns and content.
+//! Requests on hexadecimal encoding, symbols, ids, names, string patterns and content.
 #![tactic(auto)]
 
 mod content;
@@ -12,7 +12,7 @@ use rows::row_error::RowError;
 use rows::values::Values;
 use std::alloc::Global;
 
-/// Runs the request of this name. Returns `false` if this crate has no such request.
+/// Runs the request `name`. Returns `false` if this crate has no such request.
 pub fn call(
     alloc: Global,
     name: &str,
@@ -28,7 +28,7 @@ pub fn call(
     )
 }
 
-// The only field of a group. A group of one empty field is written as one without fields.
+// Returns the only field of a group. A group without fields is one empty field.
 pub(crate) fn only_bytes(fields: &Fields) -> Result<&[u8], RowError> {
     if fields.is_empty() {
         return Ok(b"");
@@ -36,7 +36,7 @@ pub(crate) fn only_bytes(fields: &Fields) -> Result<&[u8], RowError> {
     fields.bytes(0)
 }
 
-// The only field of a group as a string.
+// Returns the only field of a group as a string.
 pub(crate) fn only_string(fields: &Fields) -> Result<&str, RowError> {
     if fields.is_empty() {
         return Ok("");

@@ -1,4 +1,4 @@
-//! Requests on names of refs, remotes and workspaces, and symbols of them.
+//! Requests on names of refs, remotes and workspaces, and their symbols.
 use crate::content::{content_of, put_content, put_json};
 use crate::only_string;
 use jj_ids::object_id::{ChangeId, CommitId};
@@ -13,7 +13,7 @@ use std::alloc::Global;
 use std::cmp::Ordering;
 use std::fmt;
 
-// The names of other kinds have the same symbol.
+// Fails unless names of the other kinds have the same symbol.
 fn symbols_agree(alloc: Global, string: &str, symbol: &str) -> Result<(), RowError> {
     let remote = format!(in alloc; "{}", RemoteName::new(string).as_symbol())?;
     let git = format!(in alloc; "{}", GitRefName::new(string).as_symbol())?;
@@ -51,7 +51,7 @@ fn owned_symbol_agrees(alloc: Global, symbol: RemoteRefSymbol<'_>) -> Result<(),
     )
 }
 
-// The debug forms of a symbol, of a remote symbol, and of its owned form.
+// Appends the debug forms of a symbol, of a remote symbol, and of its owned form.
 fn symbol_debug(alloc: Global, request: &Request, values: &mut Values) -> Result<(), RowError> {
     let fields = request.group(0)?;
     let (name, remote) = (
@@ -65,7 +65,8 @@ fn symbol_debug(alloc: Global, request: &Request, values: &mut Values) -> Result
     Ok(())
 }
 
-// A name of a kind: debug form, content; and of its owned form debug form, JSON text and content.
+// Appends the debug form and content of a name, and the debug form, JSON and content of its owned
+// form.
 fn put_name<K: NameKind>(
     alloc: Global,
     name: Name<'_, K>,
@@ -126,7 +127,7 @@ fn order_name(order: Ordering) -> &'static str {
     }
 }
 
-// The order of two names, and of the two at a remote each.
+// Appends the order of two names, and of the two symbols at remotes.
 fn compare(alloc: Global, request: &Request, values: &mut Values) -> Result<(), RowError> {
     let fields = request.group(0)?;
     let (a, b) = (
@@ -144,7 +145,7 @@ fn compare(alloc: Global, request: &Request, values: &mut Values) -> Result<(), 
     owned_symbols_agree(alloc, first, second)
 }
 
-// A value at a width and a precision, by alignment.
+// Appends a value at a width and a precision, once per alignment.
 fn put_padded<T: fmt::Display>(
     alloc: Global,
     values: &mut Values,

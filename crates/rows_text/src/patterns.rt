@@ -1,4 +1,4 @@
-//! Requests on string patterns, expressions of patterns, and their matchers.
+//! Requests on string patterns, pattern expressions, and their matchers.
 ghost use Rattle.std.specs.Iterator.{IsFinite};
 
 use jj_strings::str_util::{
@@ -9,7 +9,7 @@ use rows::row_error::{RowError, agree};
 use rows::values::Values;
 use std::alloc::{AllocError, Global};
 
-// The pattern of a kind that is expected to parse.
+// Parses a pattern, and fails with `Precondition` if it is invalid.
 fn pattern_of(alloc: Global, kind: &str, string: &str) -> Result<StringPattern, RowError> {
     match StringPattern::from_str_kind(alloc, string, kind) {
         Ok(pattern) => Ok(pattern),
@@ -22,7 +22,7 @@ fn put_error(alloc: Global, values: &mut Values, error: &StringPatternParseError
     values.word("error");
     match error {
         StringPatternParseError::Regex(regex) => match format!(in alloc; "{regex}") {
-            // The rest of the message shows the pattern.
+            // The rest of the message quotes the pattern.
             Ok(message) => values.flag(message.as_str().starts_with("regex parse error")),
             Err(error) => values.allocated(Err(error)),
         },
@@ -53,7 +53,7 @@ fn put_pattern(
     agree(shown == copy, "copy of a pattern")
 }
 
-// Parses a pattern of a kind.
+// Parses a pattern, and appends its forms or the error.
 fn pattern(alloc: Global, request: &Request, values: &mut Values) -> Result<(), RowError> {
     let fields = request.group(0)?;
     match StringPattern::from_str_kind(alloc, fields.string(1)?, fields.string(0)?) {
@@ -66,7 +66,7 @@ fn pattern(alloc: Global, request: &Request, values: &mut Values) -> Result<(), 
     }
 }
 
-// Appends those of the strings that a matcher holds.
+// Appends the strings that match. Fails unless the three ways to match agree.
 fn put_matches(
     alloc: Global,
     values: &mut Values,
@@ -91,14 +91,14 @@ fn put_matches(
     Ok(())
 }
 
-// Those of the strings that a pattern matches.
+// Appends the strings that a pattern matches.
 fn matches(alloc: Global, request: &Request, values: &mut Values) -> Result<(), RowError> {
     let fields = request.group(0)?;
     let matcher = pattern_of(alloc, fields.string(0)?, fields.string(1)?)?.to_matcher(alloc)?;
     put_matches(alloc, values, &matcher, request.group(1)?)
 }
 
-// The matcher of all strings or of one: its debug form, and those of the strings that it matches.
+// Appends the debug form of a matcher of all strings or of one, and the strings that match.
 fn matcher(alloc: Global, request: &Request, values: &mut Values) -> Result<(), RowError> {
     let fields = request.group(0)?;
     let matcher = match fields.string(0)? {
@@ -129,14 +129,14 @@ fn put_regex_matches(
     Ok(())
 }
 
-// Those of the strings that the regular expression of a pattern matches.
+// Appends the strings that a pattern's regular expression matches.
 fn regex(alloc: Global, request: &Request, values: &mut Values) -> Result<(), RowError> {
     let fields = request.group(0)?;
     let pattern = pattern_of(alloc, fields.string(0)?, fields.string(1)?)?;
     put_regex_matches(alloc, values, &pattern, request.group(1)?)
 }
 
-// The glob of a pattern, and those of the strings that it matches.
+// Appends a pattern as a glob, and the strings that the glob matches.
 fn glob(alloc: Global, request: &Request, values: &mut Values) -> Result<(), RowError> {
     let fields = request.group(0)?;
     let pattern = pattern_of(alloc, fields.string(0)?, fields.string(1)?)?;
@@ -190,7 +190,7 @@ fn push_union_of_all(alloc: Global, stack: &mut Vec<StringExpression>) -> Result
     Ok(())
 }
 
-// Runs one token of an expression in postfix order.
+// Evaluates one token of a postfix expression.
 fn step(alloc: Global, stack: &mut Vec<StringExpression>, token: &str) -> Result<(), RowError> {
     match token {
         "all" => stack.push(StringExpression::all(alloc)?)?,
@@ -226,8 +226,7 @@ fn put_exact_strings(
     Ok(())
 }
 
-// The debug forms of an expression in postfix order and of its matcher, and the strings of its
-// exact patterns.
+// Appends the debug forms of a postfix expression and its matcher, and its exact strings.
 fn expression(alloc: Global, request: &Request, values: &mut Values) -> Result<(), RowError> {
     let expression = expression_of(alloc, request.group(0)?)?;
     values.debug(&expression);
@@ -235,7 +234,7 @@ fn expression(alloc: Global, request: &Request, values: &mut Values) -> Result<(
     put_exact_strings(alloc, values, &expression)
 }
 
-// Those of the strings that an expression in postfix order matches.
+// Appends the strings that a postfix expression matches.
 fn expression_matches(
     alloc: Global,
     request: &Request,
@@ -245,7 +244,7 @@ fn expression_matches(
     put_matches(alloc, values, &matcher, request.group(1)?)
 }
 
-// The items of an iterator, up to the first that fails.
+// Collects an iterator, up to its first error.
 fn items_of<T: Drop, I: Iterator<Item = Result<T, AllocError>> + Drop>(
     alloc: Global,
     found: I,
@@ -260,7 +259,7 @@ fn items_of<T: Drop, I: Iterator<Item = Result<T, AllocError>> + Drop>(
     Ok(items)
 }
 
-// The lines of a string that a pattern matches.
+// Appends the lines of a string that a pattern matches.
 fn lines(alloc: Global, request: &Request, values: &mut Values) -> Result<(), RowError> {
     let fields = request.group(0)?;
     let bytes = fields.bytes(2)?;
@@ -271,7 +270,6 @@ fn lines(alloc: Global, request: &Request, values: &mut Values) -> Result<(), Ro
     Ok(())
 }
 
-// Appends a string so many times.
 fn push_repeated(string: &mut String, part: &str, times: u64) -> Result<(), AllocError> {
     for _ in 0..times {
         string.push_str(part)?;
@@ -279,7 +277,7 @@ fn push_repeated(string: &mut String, part: &str, times: u64) -> Result<(), Allo
     Ok(())
 }
 
-// The string that these fields make, each string with the number of its repetitions.
+// Parses pairs of a string and its number of repetitions, and concatenates them.
 fn repeated(alloc: Global, fields: &Fields, start: usize) -> Result<String, RowError> {
     let mut string = String::new(alloc);
     for index in start..fields.len() {
@@ -291,7 +289,7 @@ fn repeated(alloc: Global, fields: &Fields, start: usize) -> Result<String, RowE
     Ok(string)
 }
 
-// Whether a pattern of repeated parts matches strings of repeated parts.
+// Appends whether a pattern with repeated parts matches strings with repeated parts.
 fn matches_repeated(alloc: Global, request: &Request, values: &mut Values) -> Result<(), RowError> {
     let fields = request.group(0)?;
     let pattern = repeated(alloc, fields, 1)?;
