@@ -1,4 +1,4 @@
--- An escaped text stands for itself alone.
+-- An escaped string matches only itself.
 use Rattle.std.proofs.Common.{◌≡◌, ◌∙◌, sym, ap, refl, subst, ℕ, Bool, true, false, ◌==◌, if◌then◌else◌, ◌↔◌, List, [], ◌∷◌, ◌++◌, Result, Ok, arith}
 use Rattle.std.proofs.lemmas.Bool.Decides.{nat_tests}
 use Rattle.std.proofs.lemmas.List.{append-nil}
@@ -15,7 +15,7 @@ pub same_tokens : (text : List ℕ) (ts us : List Token) → tokens_of text ≡ 
 same_tokens text ts us p q = cc
 
 module _ (separator : Bool) where
-  -- the options of a glob that tells letters apart
+  -- the options of a case-sensitive glob
   abbrev plain : Options
   plain = record { separator = separator; icase = false }
 
@@ -31,7 +31,7 @@ module _ (separator : Bool) where
   one_byte : (b : ℕ) → (b == b) ≡ true
   one_byte b = grind (arith, nat_tests)
 
-  -- the part of a byte stands for that byte alone
+  -- a literal byte matches only itself
   part_to : (special : Bool) (b : ℕ) (front : List ℕ)
       → StandsAlone plain (if special then OneOf (false, record { first = b; last = b } ∷ []) else Byte b) front → front ≡ b ∷ []
   part_to true b front s = s.1 ∙ ap (λ (c : ℕ). c ∷ []) (class_one b s.0 s.2)
@@ -42,7 +42,7 @@ module _ (separator : Bool) where
   part_from true b = (b, refl, one_class b)
   part_from false b = (b, refl, one_byte b)
 
-  -- the tokens of a text stand for it, and for nothing else
+  -- the tokens of a string match it and nothing else
   pub stands_to : (t : List ℕ) (ts : List Token) (bytes : List ℕ) → Stands plain (reading_of (tokens_for t ++ ts)).here bytes
       → (rest : List ℕ) × (bytes ≡ t ++ rest) × Stands plain (reading_of ts).here rest
   stands_to [] ts bytes s = (bytes, refl, s)
@@ -69,6 +69,6 @@ module _ (separator : Bool) where
         (subst (λ (ts : List Token). Stands plain (reading_of ts).here (t ++ [])) (append-nil (tokens_for t)) (stands_from t [] [] refl)),
   )
 
-  -- an escaped text stands for the text, and for nothing else
+  -- an escaped string matches the string and nothing else
   pub escaped_alone : (t bytes : List ℕ) → IsMatch (glob_of_text (literal_glob t) separator false) bytes ↔ (bytes ≡ t)
   escaped_alone t bytes = (escaped_to t bytes, escaped_from t bytes)

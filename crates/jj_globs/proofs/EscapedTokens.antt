@@ -1,4 +1,4 @@
--- What an escaped text reads as: a token for each of its bytes.
+-- Parsing of escaped strings: a literal token for each byte.
 use Rattle.std.proofs.Common.{◌≡◌, ℕ, zero, Bool, false, ◌==◌, if◌then◌else◌, List, [], ◌∷◌, ◌++◌, map, reverse, Ok, inl, inr, refl, sym, ap, ◌∙◌, subst, append_assoc}
 use Rattle.std.proofs.lemmas.Bool.Decides.{eqb_tells}
 use Rattle.std.proofs.lemmas.List.{append-nil, map-append, reverse-append}
@@ -12,7 +12,7 @@ use Rattle.jj_globs.specs.GlobText.{tokens_of, words, read, only_dirs, sign_of, 
 use Rattle.jj_globs.proofs.GlobSteps.{tokens_of-read}
 use Rattle.jj_globs.specs.GlobEscape.{is_special, escaped_byte, literal_glob}
 
--- the part that an escaped byte reads as
+-- the part of an escaped byte
 abbrev pub part_of : ℕ → Part
 part_of b = if is_special b then OneOf (false, record { first = b; last = b } ∷ []) else Byte b
 
@@ -20,12 +20,12 @@ abbrev pub tokens_for : List ℕ → List Token
 tokens_for [] = []
 tokens_for (b ∷ bs) = part (part_of b) ∷ tokens_for bs
 
--- the tokens with those of the bytes, the last first
+-- prepends the tokens of the bytes to reversed tokens
 abbrev pushed : List ℕ → List Token → List Token
 pushed [] ts = ts
 pushed (b ∷ bs) ts = pushed bs (part (part_of b) ∷ ts)
 
--- a byte that has no sign of its own
+-- a byte without a role in the syntax
 record IsPlainByte (b : ℕ) : Type 0 where
   sign : sign_of b ≡ Other b
   special : is_special b ≡ false
@@ -40,7 +40,7 @@ plain_byte b h0 h1 h2 h3 h4 h5 h6 h7 h8 h9 h10 h11 = record {
   special = rw (h0, h1, h6, h7, h3, h5, h11) refl;
 }
 
--- what holds of each byte that has a sign, and of all others, holds of every byte
+-- case analysis of a byte by its role in the syntax
 by_byte : (P : ℕ → Type 0) → P 63 → P 42 → P 47 → P 123 → P 44 → P 125 → P 91 → P 93 → P 33 → P 94 → P 45 → P 92
     → ((b : ℕ) → IsPlainByte b → P b) → (b : ℕ) → P b
 by_byte P p0 p1 p2 p3 p4 p5 p6 p7 p8 p9 p10 p11 others b =
@@ -55,7 +55,7 @@ plain-escaped b plain = ap (λ (s : Bool). if s then 91 ∷ b ∷ 93 ∷ [] else
 plain-part : (b : ℕ) → IsPlainByte b → part_of b ≡ Byte b
 plain-part b plain = ap (λ (s : Bool). if s then OneOf (false, record { first = b; last = b } ∷ []) else Byte b) plain.special
 
--- one escaped byte after others
+-- an escaped byte after other tokens
 abbrev Steps : ℕ → Type 0
 Steps b = (ts : List Token) (s : List Sign) → read zero false ts (words (map sign_of (escaped_byte b) ++ s)) ≡ read zero false (part (part_of b) ∷ ts) (words s)
 
@@ -68,7 +68,7 @@ step =
     ∙ ap (λ (g : Sign). read zero false ts (words (g ∷ s))) plain.sign
     ∙ ap (λ (p : Part). read zero false (part p ∷ ts) (words s)) (sym (plain-part b plain)))
 
--- and right after a star that begins the text
+-- an escaped byte after a star that begins the pattern
 abbrev StarSteps : ℕ → Type 0
 StarSteps b = (s : List Sign) → read zero false [] (asterisk ∷ words (map sign_of (escaped_byte b) ++ s)) ≡ read zero false (part (part_of b) ∷ part Star ∷ []) (words s)
 
@@ -100,7 +100,8 @@ reverse_pushed (b ∷ t) ts =
     reverse_pushed t (x ∷ ts) ∙ ap (λ (l : List Token). l ++ tokens_for t) (reverse-append (x ∷ []) ts)
     ∙ append_assoc (reverse ts) (x ∷ []) (tokens_for t)
 
--- an escaped text is no run of `**`, nor one after a star: it begins with no star
+-- an escaped string does not begin with a star, so it is no list of `**` components, nor is a star
+-- with it
 abbrev NoRun : ℕ → Type 0
 NoRun b = (s : List Sign) → (only_dirs (map sign_of (escaped_byte b) ++ s) ≡ false) × (only_dirs (Asterisk ∷ (map sign_of (escaped_byte b) ++ s)) ≡ false)
 
@@ -118,7 +119,7 @@ unfolding literal_glob
 no_run-escaped [] = refl
 no_run-escaped (b ∷ t) = ap only_dirs (map-append sign_of (escaped_byte b) (literal_glob t)) ∙ (no_run b (map sign_of (literal_glob t))).0
 
--- an escaped text reads as its bytes
+-- an escaped string parses as its bytes
 pub tokens_of-escaped : (t : List ℕ) → tokens_of (literal_glob t) ≡ Ok (tokens_for t)
 unfolding words read
 tokens_of-escaped t =
@@ -126,7 +127,7 @@ tokens_of-escaped t =
     ∙ ap (λ (l : List Sign). read zero false [] (words l)) (sym (append-nil (map sign_of (literal_glob t)))) ∙ steps t [] []
     ∙ ap Ok (reverse_pushed t [])
 
--- and between two stars as its bytes between two stars
+-- an escaped string between two stars parses as its bytes between two stars
 pub tokens_of-part : (b : ℕ) (t : List ℕ) → tokens_of (42 ∷ (literal_glob (b ∷ t) ++ 42 ∷ [])) ≡ Ok (part Star ∷ (tokens_for (b ∷ t) ++ part Star ∷ []))
 unfolding words read
 tokens_of-part b t =

@@ -1,4 +1,4 @@
--- Sets of bytes in bits: what ranges and letters put into them.
+-- Sets of bytes in bits: union of ranges, and closure under ASCII case.
 use Rattle.std.proofs.Common.{◌/◌, ◌%◌, ◌≡◌, ◌∙◌, ◌↔◌, ◌⊎◌, ◌+◌, ◌-◌, ◌<◌, ◌≤◌, ◌&&◌, ◌||◌, Bool, true, false, not, nat_le, if◌then◌else◌, ℕ, List, [], ◌∷◌, ◌++◌, get_or, inl, inr, refl, sym, ap, subst, arith}
 use Rattle.std.specs.Prelude.{IsTrue}
 use Rattle.std.proofs.lemmas.Bool.Decides.{leb_tells, eqb_tells}
@@ -81,7 +81,7 @@ any-append b (x ∷ rs) r =
       (λ h. elim h [ inl p ↦ elim (or'.0 p) [ inl s ↦ or.1 (inl s) | inr s ↦ or.1 (inr (more.1 (inl s))) ] | inr q ↦ or.1 (inr (more.1 (inr q))) ]),
     )
 
--- the set with one more range
+-- adds a range to a set
 pub more_ranges : (old new : List ℕ) (b : ℕ) (rs all : List ByteRange) (r : ByteRange) → all ≡ rs ++ r ∷ []
     → (IsLive new b ↔ (IsLive old b ⊎ IsTrue (in_range b r))) → (IsLive old b ↔ IsTrue (any_range b rs)) → IsLive new b ↔ IsTrue (any_range b all)
 more_ranges old new b rs all r e put known =
@@ -104,7 +104,7 @@ turned : (negated x y : Bool) → x ≡ y → (if negated then not x else x) ≡
 turned true x y e = ap not e
 turned false x y e = e
 
--- a set of the bytes in the ranges, by the case of letters or not
+-- the set of a class, with `icase` or without
 pub class_is : (o : Options) (negated : Bool) (rs : List ByteRange) (set : ByteSet) → set.negated ≡ negated
     → ((b : ℕ) → IsLive set.words b ↔ IsTrue (in_ranges o rs b)) → (b : ℕ) → in_set set b ≡ in_class o (negated, rs) b
 class_is o negated rs set e live b =
@@ -166,7 +166,7 @@ high_upper b high =
       ]
     ]
 
--- past the bytes there is no letter
+-- a number past the bytes has no other case, so the closure of the bytes is that of all numbers
 pub all_letters : (old new : List ℕ)
     → ((b : ℕ) → IsLive new b ↔ (IsLive old b ⊎ ((b < 256) × (IsLive old (lower b) ⊎ IsLive old (upper b)))))
     → (b : ℕ) → IsLive new b ↔ (IsLive old b ⊎ (IsLive old (lower b) ⊎ IsLive old (upper b)))
@@ -184,7 +184,7 @@ all_letters old new live b = (
   ])),
 )
 
--- one more letter is looked at
+-- one more byte is considered
 pub letter_put : (start old new : List ℕ) (Q : ℕ → Type 0) (i : ℕ) → Q i → ((j : ℕ) → IsLive new j ↔ (IsLive old j ⊎ (j ≡ i)))
     → ((b : ℕ) → IsLive old b ↔ (IsLive start b ⊎ ((b < i) × Q b))) → (b : ℕ) → IsLive new b ↔ (IsLive start b ⊎ ((b < i + 1) × Q b))
 letter_put start old new Q i is put known b = (
@@ -208,7 +208,7 @@ letter_kept start old Q i none known b = (
   ])),
 )
 
--- no word has a bit
+-- no bit of zero words is set
 pub no_words : (ws : List ℕ) → ((i : ℕ) → get_or ws i 0 ≡ 0) → (j : ℕ) → IsLive ws j → ⊥
 no_words ws zero_words j live =
     let bit : bit_at 0 (j % 64) ≡ 1 = ap (λ (y : ℕ). bit_at y (j % 64)) (sym (zero_words (j / 64))) ∙ live in

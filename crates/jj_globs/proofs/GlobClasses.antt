@@ -1,4 +1,4 @@
--- Steps of reading a class.
+-- Steps of parsing a class.
 use Rattle.std.proofs.Common.{◌≡◌, ◌≢◌, ℕ, Bool, true, false, List, [], ◌∷◌, ◌++◌, refl}
 use Rattle.jj_globs.specs.declared.glob.token.ByteRange.{ByteRange}
 use Rattle.jj_globs.specs.declared.glob.sign.Sign.{Sign}
@@ -6,7 +6,7 @@ use Rattle.jj_globs.specs.declared.glob.sign.Sign.TheVariants.{Question, Asteris
 use Rattle.jj_globs.specs.declared.glob.error.GlobError.TheVariants.{UnclosedClass}
 use Rattle.jj_globs.specs.GlobText.{Word, byte_of, words, items, first_item, single, class, fault, range_fault}
 
--- an item that is neither `]` nor `-` ends the range before it
+-- an item other than `]` and `-` completes the range before it
 pub items-other : (negated : Bool) (ranges : List ByteRange) (r : ByteRange) (c : Sign) (s : List Sign) → c ≢ CloseBracket → c ≢ Dash
     → items negated ranges r (c ∷ s) ≡ items negated (ranges ++ r ∷ []) (single c) s
 unfolding items
@@ -24,7 +24,7 @@ items-other negated ranges r Dash s h k = absurd (k refl)
 items-other negated ranges r Backslash s h k = refl
 items-other negated ranges r (Other b) s h k = refl
 
--- a `-` and an item that is no `]` end the range at that item
+-- a `-` and an item other than `]` complete the range at that item
 pub items-bound : (negated : Bool) (ranges : List ByteRange) (r : ByteRange) (c : Sign) (s : List Sign) → c ≢ CloseBracket
     → items negated ranges r (Dash ∷ c ∷ s) ≡ range_fault r.first (byte_of c) (items negated ranges (record { first = r.first; last = byte_of c }) s)
 unfolding items
@@ -42,13 +42,13 @@ items-bound negated ranges r Dash s h = refl
 items-bound negated ranges r Backslash s h = refl
 items-bound negated ranges r (Other b) s h = refl
 
--- the same, from what is left
+-- `items-bound` for words whose first signs are known by equations
 pub items-range : (found : List Word) (negated : Bool) (ranges : List ByteRange) (r : ByteRange) (left after : List Sign) (d c : Sign) (s : List Sign) (last : ℕ)
     → found ≡ items negated ranges r left → left ≡ d ∷ after → d ≡ Dash → after ≡ c ∷ s → c ≢ CloseBracket → last ≡ byte_of c
     → found ≡ range_fault r.first last (items negated ranges (record { first = r.first; last = last }) s)
 items-range found negated ranges r left after d c s last so_far is dash next bound at = rw (so_far, is, dash, next, at) (items-bound negated ranges r c s bound)
 
--- a class whose first sign turns nothing round
+-- a class that is not negated
 pub words-class : (c : Sign) (s : List Sign) → c ≢ Bang → c ≢ Caret → words (OpenBracket ∷ c ∷ s) ≡ first_item false (c ∷ s)
 unfolding words first_item
 words-class Question s h k = refl

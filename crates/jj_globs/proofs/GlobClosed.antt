@@ -1,4 +1,4 @@
--- In the tokens that a text reads as no group is left open.
+-- The tokens of a pattern have balanced groups.
 use Rattle.std.proofs.Common.{◌≡◌, ◌∙◌, sym, ℕ, zero, suc, Bool, true, false, if◌then◌else◌, List, [], ◌∷◌, ◌++◌, reverse, length, Ok, refl, map, append-nil, append_assoc, arith}
 use Rattle.std.proofs.lemmas.List.{reverse-append}
 use Rattle.jj_globs.specs.declared.glob.token.Token.{Token}
@@ -10,7 +10,7 @@ use Rattle.jj_globs.specs.declared.glob.sign.Place.TheVariants.{Start, LeadingRu
 use Rattle.jj_globs.specs.GlobText.{Word, question, asterisk, slash, open_brace, comma, close_brace, literal, class, fault, place_after, place_after_group, place_of, instead, two_stars, with_dirs, with_last_dirs, ends_sequence, with_or, with_close, closes_nothing, only_dirs, read, tokens_of, words, sign_of}
 use Rattle.jj_globs.specs.GlobMeaning.{Sequence, Alternatives, before_or, before_open, reading_of}
 
--- so many groups are open after these tokens, the last first
+-- so many groups are open after these reversed tokens
 abbrev pub HasOpen : List Token → ℕ → Type 0
 HasOpen [] n = n ≡ 0
 HasOpen (part p ∷ ts) n = HasOpen ts n
@@ -19,7 +19,7 @@ HasOpen (Close ∷ ts) n = HasOpen ts (suc n)
 HasOpen (Open ∷ ts) zero = ⊥
 HasOpen (Open ∷ ts) (suc n) = HasOpen ts n
 
--- 1. Each step of the reader keeps the number of open groups.
+-- 1. Each action of the parser preserves the number of open groups.
 
 open-instead : (ts : List Token) (n : ℕ) (p : Part) → (place_after ts ≡ Start → ⊥) → (place_after ts ≡ Elsewhere → ⊥) → HasOpen ts n → HasOpen (instead p ts) n
 open-instead [] n p h k o = o
@@ -80,7 +80,7 @@ open-close (Or ∷ ts) n o = o
 open-close (Close ∷ ts) n o = o
 open-close (Open ∷ ts) n o = o
 
--- 2. The reading of tokens in which no group is open has nothing outside.
+-- 2. The syntax tree of balanced tokens has no open group.
 
 outer-or : (s : Sequence) (gs : List (Alternatives × Sequence)) → length (before_or s gs).outer ≡ length gs
 outer-or s [] = refl
@@ -100,7 +100,7 @@ outer-front (Or ∷ ts) more o = rw (shift Or ts more) (outer-front ts (Or ∷ m
 outer-front (Close ∷ ts) more o = rw (shift Close ts more) (outer-front ts (Close ∷ more) o)
 outer-front (Open ∷ ts) more o = rw (shift Open ts more) (outer-front ts (Open ∷ more) (open-front ts (reading_of more).here (reading_of more).outer o))
 
--- 3. The whole text.
+-- 3. The whole pattern.
 
 no_items : {X : Type 0} → (xs : List X) → length xs ≡ 0 → xs ≡ []
 no_items [] h = refl

@@ -1,4 +1,4 @@
--- What a glob stands for ends as its literal end does.
+-- Every match ends with the literal suffix.
 use Rattle.std.proofs.Common.{◌≡◌, ◌∙◌, ◌≤◌, ◌&&◌, ◌||◌, ◌⊎◌, inl, inr, Bool, true, false, ℕ, zero, suc, List, [], ◌∷◌, ◌++◌, length, reverse, drop, Some, refl, sym, ap, arith}
 use Rattle.std.specs.Prelude.{slice_get}
 use Rattle.std.proofs.lemmas.List.{length-reverse, reverse-append}
@@ -10,7 +10,7 @@ use Rattle.jj_globs.specs.GlobPlain.{Test, one, many, any_byte}
 use Rattle.jj_globs.specs.GlobPlaces.{answers, in_set, further_of}
 use Rattle.jj_globs.specs.GlobEnding.{IsByte, IsLiteralFrom, fits_back}
 
--- 1. Bytes before those that fit change nothing, and one step and one byte more fit where they are the same.
+-- 1. Prepended bytes change nothing; a prepended literal and byte fit if they are equal.
 
 fits_longer : (o : Options) (ss : List Step) (bs more : List ℕ) → fits_back o ss bs ≡ true → fits_back o ss (bs ++ more) ≡ true
 fits_longer o [] bs more h = refl
@@ -44,7 +44,7 @@ fits_more o (Everything ∷ ss) bs own b len h same = refl
 fits_more o (Fork further ∷ ss) bs own b len h same = refl
 fits_more o (Jump further ∷ ss) bs own b len h same = refl
 
--- 2. Bytes alone stand for as many bytes, which fit.
+-- 2. Steps that are all literals accept as many bytes, which fit.
 
 pub record Fits (o : Options) (ss : List Step) (bs : List ℕ) : Type 0 where
   pub len : length ss ≡ length bs
@@ -76,7 +76,7 @@ bytes_fit o (Everything ∷ ss) only bs h = let (b, is) = only 0 Everything refl
 bytes_fit o (Fork further ∷ ss) only bs h = let (b, is) = only 0 (Fork further) refl in cc is
 bytes_fit o (Jump further ∷ ss) only bs h = let (b, is) = only 0 (Jump further) refl in cc is
 
--- 3. A step before the end leaves what fits after it.
+-- 3. A step before the literal suffix leads to a state from which the suffix fits.
 
 module _ (o : Options) (end : List Step) where
   abbrev Ends : List ℕ → Type 0
@@ -121,7 +121,7 @@ after_first s ss place held = record {
   bytes = λ k x e le. held.bytes (suc k) x e (omega (arith, le));
 }
 
--- what the steps stand for ends as their literal end does
+-- accepted bytes end with the literal suffix
 pub literal_fits : (o : Options) (ss : List Step) (place : ℕ) → IsLiteralFrom ss place → (k : ℕ) → k ≤ place → (bs : List ℕ)
     → answers o false ss k bs ≡ true → fits_back o (reverse (drop place ss)) (reverse bs) ≡ true
 literal_fits o ss zero held zero le bs h = (bytes_fit o ss (λ k s e. held.bytes k s e (omega arith)) bs h).fit

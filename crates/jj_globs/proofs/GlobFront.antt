@@ -1,5 +1,4 @@
--- Every text that a glob stands for begins with the glob's literal front, and so does every text of which it stands for a
--- front.
+-- Every match begins with the glob's literal prefix, and so does every prefix match.
 use Rattle.std.proofs.Common.{◌≡◌, ◌∙◌, ap, sym, subst, refl, ℕ, Bool, true, false, ◌==◌, inl, inr, List, [], ◌∷◌, ◌++◌, append_assoc, if◌then◌else◌}
 use Rattle.std.proofs.lemmas.Bool.Decides.{Decides-eqb}
 use Rattle.jj_globs.specs.declared.glob.token.Part.TheVariants.{Byte, AnyByte, Star, LeadingDirs, InnerDirs, Below, Everything, OneOf}
@@ -9,7 +8,7 @@ use Rattle.jj_globs.specs.declared.glob.token.Options.{Options}
 use Rattle.jj_globs.specs.GlobMeaning.{lower, same_byte, reading_of, Stands, GlobSpec, IsMatch, IsPrefixMatch}
 use Rattle.jj_globs.specs.GlobFront.{leading_bytes, literal_front, front_read, front_of}
 
--- the bytes begin with the front
+-- the bytes begin with this prefix
 abbrev pub BeginsWith : List ℕ → List ℕ → Type 0
 BeginsWith bytes front = (rest : List ℕ) × (bytes ≡ front ++ rest)
 

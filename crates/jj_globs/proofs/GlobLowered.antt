@@ -1,4 +1,4 @@
--- The steps of a part accept what the part does, and then what follows.
+-- The steps of a part accept what the part matches, then the continuation.
 use Rattle.std.proofs.Common.{◌≡◌, ◌∙◌, ◌+◌, ◌||◌, ◌&&◌, ◌==◌, Bool, true, false, if◌then◌else◌, nat_le, ℕ, List, [], ◌∷◌, refl, sym, ap, inl, inr, arith}
 use Rattle.std.proofs.lemmas.Bool.Decides.{eqb_tells, leb_tells}
 use Rattle.jj_globs.specs.declared.glob.step.Step.{Step}

@@ -1,4 +1,5 @@
--- With the steps of one more token the steps accept what the tests do with that token, and lead no further than their end.
+-- Compiling one more token preserves the invariant: the steps accept what the tests do, and stay
+-- inside.
 use Rattle.std.proofs.Common.{◌≡◌, ◌∙◌, ◌-◌, ◌≤◌, ◌||◌, ◌&&◌, Bool, true, false, ℕ, zero, suc, List, [], ◌∷◌, ◌++◌, length, Option, Some, None, refl, sym, ap, subst, arith}
 use Rattle.jj_globs.specs.declared.glob.token.Options.{Options}
 use Rattle.jj_globs.specs.declared.glob.token.Part.{Part}
@@ -33,7 +34,7 @@ test_same : (p q : ℕ → Bool) (t : Test) → ((b : ℕ) → p b ≡ q b) → 
 test_same p q t e [] = refl
 test_same p q t e (b ∷ bs) = ap (λ v. v && t bs) (e b)
 
--- 1. A place with so many steps after it stays what it is when a step is put before all.
+-- 1. A state that is named by the steps after it keeps its language when a step is prepended.
 
 module _ (o : Options) (below : Bool) where
   pub kept : (s : Step) (ss : List Step) (k : ℕ) → k ≤ length ss → (bs : List ℕ) → test_at o below (s ∷ ss) k bs ≡ test_at o below ss k bs

@@ -1,4 +1,4 @@
--- The tokens of a glob with `{/**,}` after them stand for the bytes of which a front matches.
+-- A prefix match is a match of the glob's tokens with `{/**,}` appended.
 use Rattle.std.proofs.Math.Path.{fun_ext}
 use Rattle.std.specs.Prelude.{◌↔◌}
 use Rattle.std.proofs.Common.{◌||◌, ◌&&◌, ◌==◌, Bool, true, false, ◌≡◌, ◌∙◌, ap, sym, subst, ℕ, ◌⊎◌, inl, inr, List, [], ◌∷◌, ◌++◌, Ok, IsTrue, refl, append-nil}
@@ -19,7 +19,7 @@ use Rattle.jj_globs.proofs.GlobClosed.{closed-tokens_of}
 abbrev pub prefix_end : List Token
 prefix_end = Open ∷ part Below ∷ Or ∷ Close ∷ []
 
--- one sequence after another
+-- concatenates two sequences
 abbrev pub join : Sequence → Sequence → Sequence
 join done m = m
 join (next p s) m = next p (join s m)
@@ -34,7 +34,7 @@ join_outer [] m = []
 join_outer (g ∷ []) m = (g.0, join g.1 m) ∷ []
 join_outer (g ∷ h ∷ gs) m = g ∷ join_outer (h ∷ gs) m
 
--- a reading with more after its end
+-- appends a sequence to a syntax tree
 abbrev pub joined : Reading → Sequence → Reading
 joined r m = record { here = join_here r.here r.outer m; outer = join_outer r.outer m }
 
@@ -59,7 +59,7 @@ reading_of-prefix_end [] = refl
 reading_of-prefix_end (t ∷ ts) =
     ap (before t) (reading_of-prefix_end ts) ∙ before-joined t (reading_of ts).here (reading_of ts).outer end_of_prefix
 
--- what a sequence and then another stand for
+-- a concatenation matches a prefix and the rest
 join_to : (o : Options) (s m : Sequence) (bs : List ℕ) → Stands o (join s m) bs → IsSplit (Stands o s) (Stands o m) bs
 join_to o done m bs h = split_at_once (Stands o done) (Stands o m) bs refl h
 join_to o (next p s) m bs h =
@@ -78,7 +78,7 @@ join_back o (group a s) m bs h =
     split_map (StandsForOne o a) (StandsForOne o a) (IsSplit (Stands o s) (Stands o m)) (Stands o (join s m)) (λ x b. b) (join_back o s m) bs
     (split_left (StandsForOne o a) (Stands o s) (Stands o m) bs h)
 
--- the end stands for nothing, or for a slash and any bytes
+-- the appended group matches nothing, or `/` and any bytes
 end_to : (o : Options) (bs : List ℕ) → Stands o end_of_prefix bs → (bs ≡ []) ⊎ ((rest : List ℕ) × (bs ≡ 47 ∷ rest))
 end_to o bs h =
     elim h.3 [
@@ -114,7 +114,7 @@ prefix_back g ts bs reads h =
           (w.0, 47 ∷ w.1, w.2, stands_same g ts w.0 reads w.3, end_below g.options w.1)
     ]
 
--- the end that accepts a slash and any bytes too is that of these tokens
+-- these tokens are equivalent to an end that accepts `/` and any bytes
 many_any : (bs : List ℕ) → many any_byte is_empty bs ≡ true
 many_any [] = refl
 many_any (b ∷ bs) = many_any bs
@@ -159,7 +159,7 @@ Tells-prefix g ts reads bs =
 Tells-below : (g : GlobSpec) (ts : List Token) → tokens_of g.text ≡ Ok ts → Tells (tests_before g.options (end_test true) ts).here (IsPrefixMatch g)
 Tells-below g ts reads = subst (λ (t : Tests). Tells t.here (IsPrefixMatch g)) (tests_of-prefix g.options ts) (Tells-prefix g ts reads)
 
--- what the steps that a glob keeps answer is what the glob means
+-- the NFA of a compiled glob accepts exactly what the glob matches
 abbrev spec_of : List ℕ → Options → GlobSpec
 spec_of text o = record { text = text; options = o }
 

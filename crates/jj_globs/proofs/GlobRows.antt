@@ -1,4 +1,4 @@
--- The rows of the glob profile, computed.
+-- Examples of the executable semantics, by computation.
 use Rattle.std.proofs.Common.{◌≡◌, ℕ, List, refl, true, false, [], ◌∷◌, map}
 use Rattle.std.specs.Prelude.{codes}
 use Rattle.jj_globs.specs.declared.glob.error.GlobError.TheVariants.{UnclosedClass, InvalidRange, NonAsciiRange, UnopenedAlternates, UnclosedAlternates, DanglingEscape}
@@ -6,7 +6,7 @@ use Rattle.jj_globs.specs.GlobText.{tokens_of, words, read}
 use Rattle.jj_globs.specs.declared.glob.token.Options.{Options}
 use Rattle.jj_globs.specs.GlobPlain.{Verdict, matches, yes, no, faulty}
 
--- a text, bytes, and whether the text is a glob that stands for them
+-- a pattern, bytes, and whether the pattern is a glob that matches them
 abbrev Row : Type 0
 Row = List ℕ × List ℕ × Verdict
 
@@ -68,7 +68,7 @@ path_rows =
     (codes "\\*", codes "*", yes) ∷
     (codes "a]", codes "a]", yes) ∷
     ((91 ∷ 195 ∷ 169 ∷ 45 ∷ 122 ∷ 93 ∷ []), [], faulty NonAsciiRange) ∷
-    -- a group that leaves no token: after it `**/` is still at the start, but a slash before it is not right before `**`
+    -- a dropped group: `**/` after it is still at the start, but a `/` before it does not count
     (codes "{}**/a", codes "x/a", yes) ∷
     (codes "a/{}**", codes "a/x/y", no) ∷
     (codes "a/{}**", codes "a/x", yes) ∷
@@ -76,7 +76,8 @@ path_rows =
     (codes "{**/**}", codes "x/y", no) ∷
     (codes "{**/**}", codes "x/y/", yes) ∷
     (codes "a\\/**", codes "a/x/y", yes) ∷
-    -- any bytes: only where the whole text is a run of `**` joined by `/`, with or without a last `/`
+    -- everything matches only if the whole pattern is `**` components joined by `/`, with or
+    -- without a last `/`
     (codes "**/**", codes "x/y", yes) ∷
     (codes "**/**/", codes "x/y", yes) ∷
     (codes "**/{}", codes "x/y", no) ∷

@@ -1,4 +1,4 @@
--- A run over bytes with the live places: what a step leads on to.
+-- Correctness of the simulation: transitions preserve what the sets of live states accept.
 use Rattle.std.proofs.lemmas.Bool.Decides.{eqb_tells}
 use Rattle.std.proofs.lemmas.Bool.{eqb-true}
 use Rattle.std.specs.Prelude.{slice_get, Some}
@@ -11,9 +11,9 @@ use Rattle.jj_globs.specs.GlobPlain.{Test, one, many, any_byte}
 use Rattle.jj_globs.specs.GlobPlaces.{IsLive, AnyLive, AnyAfter, AnyAhead, LeadsOn, by_step, StaysInside, further_of, takes_byte}
 use Rattle.jj_globs.proofs.GlobSolved.{many_same}
 
--- 1. What rows accept, one change after another.
+-- 1. Transitions as equivalences: S, T, V are accepted by states, A, B, C by sets.
 
--- first what S says is accepted as well, and then what T says
+-- two transitions one after the other
 pub both_led : (A B C S T V : Type 0) → (B ↔ (S ⊎ A)) → (C ↔ (T ⊎ B)) → (V ↔ (S ⊎ T)) → C ↔ (V ⊎ A)
 both_led A B C S T V one two is = (
   (λ c. elim (two.0 c) [
@@ -26,15 +26,15 @@ both_led A B C S T V one two is = (
   ]),
 )
 
--- a place that accepts the same
+-- a state that accepts the same as another
 pub led_as : (A B : Type 0) (u v : Bool) → v ≡ u → (B ↔ (IsTrue u ⊎ A)) → B ↔ (IsTrue v ⊎ A)
 led_as A B u v e led = subst (λ x. B ↔ (IsTrue x ⊎ A)) (sym e) led
 
--- a place that accepts nothing
+-- a state that accepts nothing
 pub led_nowhere : (A : Type 0) (v : Bool) → v ≡ false → A ↔ (IsTrue v ⊎ A)
 led_nowhere A v e = ((λ a. inr a), (λ h. elim h [ inl t ↦ (let no : false ≡ true = sym e ∙ t in cc) | inr a ↦ a ]))
 
--- of what V says, S is accepted already, and T is left
+-- V accepts S or T, S was entered, and T is left
 pub fork_led : (A B S T V X : Type 0) → (B ↔ (S ⊎ A)) → (V ↔ (S ⊎ T)) → ((V ⊎ A) ↔ X) → (T ⊎ B) ↔ X
 fork_led A B S T V X one is known = (
   (λ h. elim h [
@@ -47,7 +47,7 @@ fork_led A B S T V X one is known = (
   ]),
 )
 
--- what was accepted with a place that is taken out is accepted again
+-- a state is removed and inserted again
 pub led_again : (A B C X T : Type 0) → (A ↔ (T ⊎ B)) → (C ↔ (T ⊎ B)) → (A ↔ X) → C ↔ X
 led_again A B C X T out in_again known = ((λ c. known.0 (out.1 (in_again.0 c))), (λ x. in_again.1 (out.0 (known.1 x))))
 
@@ -55,9 +55,9 @@ pub or_is : (a m : Bool) → IsTrue (a || m) ↔ (IsTrue a ⊎ IsTrue m)
 or_is true m = ((λ h. inl refl), (λ h. refl))
 or_is false m = ((λ h. inr h), (λ h. elim h [ inl e ↦ cc | inr t ↦ t ]))
 
--- 2. One place more or less.
+-- 2. Inserting and removing one state.
 
--- one more place is live
+-- a state is inserted
 any_put : (P : ℕ → Test) (old new bs : List ℕ) (p : ℕ) → ((j : ℕ) → IsLive new j ↔ (IsLive old j ⊎ (j ≡ p)))
     → AnyLive P new bs ↔ (AnyLive P old bs ⊎ IsTrue (P p bs))
 any_put P old new bs p live = (
@@ -95,11 +95,11 @@ put_next P now next next' bs q b rest e live =
       ]),
     )
 
--- the same places are live
+-- the set is unchanged
 pub any_same : (P : ℕ → Test) (old new bs : List ℕ) → ((j : ℕ) → IsLive new j ↔ IsLive old j) → AnyLive P new bs ↔ AnyLive P old bs
 any_same P old new bs same = ((λ a. (a.0, (same a.0).0 a.1, a.2)), (λ a. (a.0, (same a.0).1 a.1, a.2)))
 
--- one live place is taken out
+-- a state is removed
 pub any_take : (P : ℕ → Test) (old new bs : List ℕ) (p : ℕ) → IsLive old p → ((j : ℕ) → IsLive new j ↔ (IsLive old j × (j ≢ p)))
     → AnyLive P old bs ↔ (IsTrue (P p bs) ⊎ AnyLive P new bs)
 any_take P old new bs p live taken = (
@@ -121,7 +121,7 @@ take_now P now taken next bs p live out =
       ]),
     )
 
--- 3. What steps accept.
+-- 3. The language of each kind of step.
 
 pub star_value : (o : Options) (P : ℕ → Test) (s : Step) (k b : ℕ) (rest bs : List ℕ) → s ≡ Star → bs ≡ b ∷ rest → is_plain o b ≡ true
     → ((xs : List ℕ) → P k xs ≡ by_step o P s k xs) → IsTrue (P k bs) ↔ (IsTrue (P (k + 1) bs) ⊎ IsTrue (P k rest))
@@ -133,7 +133,7 @@ star_value o P s k b rest bs e split plain tells =
     subst (λ (x : List ℕ). IsTrue (P k x) ↔ (IsTrue (P (k + 1) x) ⊎ IsTrue (P k rest))) (sym split)
     (subst (λ v. IsTrue v ↔ (IsTrue (P (k + 1) (b ∷ rest)) ⊎ IsTrue (P k rest))) (sym value) (or_is (P (k + 1) (b ∷ rest)) (P k rest)))
 
--- a star that stands for no more bytes
+-- a star before a byte that it does not match
 pub star_ends : (o : Options) (P : ℕ → Test) (s : Step) (k b : ℕ) (rest bs : List ℕ) → s ≡ Star → bs ≡ b ∷ rest → is_plain o b ≡ false
     → ((xs : List ℕ) → P k xs ≡ by_step o P s k xs) → P k bs ≡ P (k + 1) bs
 star_ends o P s k b rest bs e split plain tells =
@@ -145,7 +145,7 @@ star_ends o P s k b rest bs e split plain tells =
     or_false true = refl
     or_false false = refl
 
--- one of any bytes, at their end
+-- a star or `Everything` at the end of the bytes
 pub any_at_end : (o : Options) (P : ℕ → Test) (s : Step) (k : ℕ) (bs : List ℕ) → (s ≡ Star) ⊎ (s ≡ Everything) → bs ≡ []
     → ((xs : List ℕ) → P k xs ≡ by_step o P s k xs) → P k bs ≡ P (k + 1) bs
 any_at_end o P s k bs which split tells =
@@ -168,7 +168,7 @@ pub fork_value : (o : Options) (P : ℕ → Test) (k n : ℕ) (bs : List ℕ) �
 fork_value o P k n bs tells =
     subst (λ v. IsTrue v ↔ (IsTrue (P (k + 1) bs) ⊎ IsTrue (P (k + 1 + n) bs))) (sym tells) (or_is (P (k + 1) bs) (P (k + 1 + n) bs))
 
--- a step that is none of these takes a byte
+-- all other steps consume one byte
 pub is_byte_step : (s : Step) → (s ≡ Star → ⊥) → (s ≡ Everything → ⊥) → ((n : ℕ) → s ≡ Fork n → ⊥) → ((n : ℕ) → s ≡ Jump n → ⊥) → takes_byte s ≡ true
 is_byte_step (Byte c) h i j k = refl
 is_byte_step AnyByte h i j k = refl
@@ -178,7 +178,7 @@ is_byte_step Everything h i j k = absurd (i refl)
 is_byte_step (Fork n) h i j k = absurd (j n refl)
 is_byte_step (Jump n) h i j k = absurd (k n refl)
 
--- bytes that a lone place of any bytes passes over
+-- bytes that `Everything` skips before a literal byte
 pub passed_over : (o : Options) (P : ℕ → Test) (k own : ℕ) (bs rest : List ℕ)
     → ((xs : List ℕ) → P k xs ≡ by_step o P Everything k xs) → ((xs : List ℕ) → P (k + 1) xs ≡ by_step o P (Byte own) (k + 1) xs)
     → ((t : Test) → many any_byte (one (same_byte o own) t) bs ≡ many any_byte (one (same_byte o own) t) rest) → P k bs ≡ P k rest
@@ -187,9 +187,9 @@ passed_over o P k own bs rest tells after same =
     λ xs. tells xs ∙ many_same any_byte (P (k + 1)) (one (same_byte o own) (P (k + 1 + 1))) after xs in
     any bs ∙ same (P (k + 1 + 1)) ∙ sym (any rest)
 
--- 4. One byte further on.
+-- 4. Advancing over a byte.
 
--- a place that was put alone
+-- a set of one inserted state
 pub started : (P : ℕ → Test) (old new bs : List ℕ) (p : ℕ) → ((j : ℕ) → IsLive old j → ⊥) → ((j : ℕ) → IsLive new j ↔ (IsLive old j ⊎ (j ≡ p)))
     → AnyLive P new bs ↔ IsTrue (P p bs)
 started P old new bs p none live =
@@ -214,13 +214,13 @@ moved P now next next' bs b rest X e none step known =
       (λ x. led.1 (inl (known.1 x))),
     )
 
--- where no byte is left
+-- no byte is left
 pub ended : (P : ℕ → Test) (now next next' bs : List ℕ) (X : Type 0) → bs ≡ []
     → (AnyAfter P next' bs ↔ AnyAhead P now next bs) → (AnyLive P now bs ↔ X) → X → ⊥
 ended P now next next' bs X e step known x =
     let led = subst (λ (y : List ℕ). AnyAfter P next' y ↔ AnyAhead P now next bs) e step in led.1 (inl (known.1 x))
 
--- a place that was taken out and put back
+-- a state is removed and inserted again
 pub put_back : (now taken new : List ℕ) (p : ℕ) → IsLive now p → ((j : ℕ) → IsLive taken j ↔ (IsLive now j × (j ≢ p)))
     → ((j : ℕ) → IsLive new j ↔ (IsLive taken j ⊎ (j ≡ p))) → (j : ℕ) → IsLive new j ↔ IsLive now j
 put_back now taken new p live out back j = (
@@ -228,7 +228,7 @@ put_back now taken new p live out back j = (
   (λ h. elim (eqb_tells j p) [ inl w ↦ (back j).1 (inr w.1) | inr w ↦ (back j).1 (inl ((out j).1 (h, w.1))) ]),
 )
 
--- a place that is live alone
+-- a set with a single state
 pub alone : (P : ℕ → Test) (now taken bs : List ℕ) (p : ℕ) → IsLive now p → ((j : ℕ) → IsLive taken j ↔ (IsLive now j × (j ≢ p)))
     → ((j : ℕ) → IsLive taken j → ⊥) → AnyLive P now bs ↔ IsTrue (P p bs)
 alone P now taken bs p live out none =
@@ -246,7 +246,7 @@ same_bool true b h = sym (h.0 refl)
 same_bool false true h = h.1 refl
 same_bool false false h = refl
 
--- some byte is left
+-- a byte is left
 pub some_bytes : (bs : List ℕ) → (length bs == 0) ≡ false → (b : ℕ) × (rest : List ℕ) × (bs ≡ b ∷ rest)
 some_bytes [] e = cc
 some_bytes (b ∷ bs) e = (b, bs, refl)
@@ -258,15 +258,15 @@ none_left bs e = no_bytes bs (eqb-true (length bs) 0 e)
 pub leads_inside : (steps : List Step) (k : ℕ) (s t : Step) → StaysInside steps → slice_get steps k ≡ Some s → s ≡ t → k + 1 + further_of t ≤ length steps
 leads_inside steps k s t inside at e = subst (λ (x : Step). k + 1 + further_of x ≤ length steps) e (inside k s at)
 
--- 5. Rows into which a step leads.
+-- 5. Transitions of a live state.
 
 module _ (o : Options) (steps : List Step) (s : Step) (place target : ℕ) (bs now next now' next' : List ℕ) (at : slice_get steps place ≡ Some s) (led : LeadsOn o steps target bs now next now' next') where
-  -- a step that accepts what its target does
+  -- an epsilon transition
   pub leads_as : ((P : ℕ → Test) → ((xs : List ℕ) → P place xs ≡ by_step o P s place xs) → P place bs ≡ P target bs) → LeadsOn o steps place bs now next now' next'
   leads_as same = λ below P solves.
       led_as (AnyAhead P now next bs) (AnyAhead P now' next' bs) (P target bs) (P place bs) (same P (solves.at_step place s at)) (led below P solves)
 
-  -- a step that also stays where it is, after a byte
+  -- an epsilon transition, and a loop over a byte
   pub leads_and_stays : (next2 : List ℕ) (b : ℕ) (rest : List ℕ) → bs ≡ b ∷ rest → ((j : ℕ) → IsLive next2 j ↔ (IsLive next' j ⊎ (j ≡ place)))
       → ((P : ℕ → Test) → ((xs : List ℕ) → P place xs ≡ by_step o P s place xs) → IsTrue (P place bs) ↔ (IsTrue (P target bs) ⊎ IsTrue (P place rest)))
       → LeadsOn o steps place bs now next now' next2

@@ -1,4 +1,4 @@
--- Steps of words that share their fronts accept one of the words, and so does a group of them.
+-- A trie accepts exactly its words, then the continuation, and so does the group of these words.
 use Rattle.std.proofs.Common.{◌≡◌, ◌≢◌, ◌∙◌, ◌-◌, ◌≤◌, ◌==◌, ◌||◌, ◌&&◌, inl, inr, Bool, true, false, ℕ, List, [], ◌∷◌, ◌++◌, length, reverse, take, drop, refl, sym, ap, subst, arith, append_assoc, append-nil, if◌then◌else◌, IsPermutation}
 use Rattle.std.proofs.lemmas.Bool.Decides.{eqb_tells}
 use Rattle.std.proofs.lemmas.List.{reverse-append, length-reverse, take-append-drop, length-take-le}
@@ -20,7 +20,7 @@ use Rattle.jj_globs.specs.GlobSharing.{Word, literal, any_word, letters, further
 use Rattle.jj_globs.proofs.GlobSolved.{one_same}
 use Rattle.jj_globs.proofs.GlobLowers.{kept, at_front, outer_kept, inside_step, tests_over}
 
--- 1. Tests with the same answers.
+-- 1. Equal tests.
 
 or_later : (a b c : Bool) → ((a || b) || c) ≡ (a || (b || c))
 or_later true b c = refl
@@ -107,9 +107,9 @@ module _ (o : Options) (below : Bool) where
       ∙ up_grown old new g cs (without_branch (length cs) branches) (lead_without (length old) (length cs) branches h)
       (with_branch o below old (length cs) branches (one (same_byte o c) t)) x
 
-  -- 2. The branches that the word meets.
+  -- 2. Branches on the way up a word.
 
-  -- one more byte of the word before the steps, and then the branch before it
+  -- prepends a byte of the word, then joins the branch before it
   pub one_byte_up : (c : ℕ) (before : Word) (mid new : List Step) (branches rest : List Branch)
       → JoinsBranch (length before) (Byte c ∷ mid) branches new rest → LeadInside (length mid) branches → (x : List ℕ)
       → up o below new (reverse before) rest (answers o below new 0) x ≡ up o below mid (reverse (before ++ c ∷ [])) branches (answers o below mid 0) x
@@ -127,7 +127,7 @@ module _ (o : Options) (below : Bool) where
       ∙ ap (λ (n : ℕ). up o below mid (reverse before) (without_branch n branches) (with_branch o below mid n branches byte) x) (sym deep)
       ∙ ap (λ (cs : Word). up o below mid cs branches (answers o below mid 0) x) (sym turned)
 
-  -- the branch after the whole word
+  -- joins the branch at the end of the word
   pub whole_word_up : (word : Word) (old new : List Step) (branches rest : List Branch)
       → JoinsBranch (length word) old branches new rest → LeadInside (length old) branches → (x : List ℕ)
       → up o below new (reverse word) rest (answers o below new 0) x ≡ up_from o below old (reverse word) branches (answers o below old 0) x
@@ -139,9 +139,9 @@ module _ (o : Options) (below : Bool) where
       ∙ up_grown old new joined.grows (reverse word) (without_branch d branches) (lead_without (length old) d branches lead) (with_branch o below old d branches t) x
       ∙ ap (λ (n : ℕ). up o below old (reverse word) (without_branch n branches) (with_branch o below old n branches t) x) (sym (length-reverse word))
 
-  -- 3. A word that parts from the one before.
+  -- 3. A word that branches off the one before.
 
-  -- a word, the last byte first, and then what passes the test
+  -- a reversed word before the continuation
   abbrev backwards : Word → Test → Test
   backwards [] t = t
   backwards (c ∷ cs) t = backwards cs (one (same_byte o c) t)
@@ -182,7 +182,7 @@ module _ (o : Options) (below : Bool) where
       up_same ss cs (without_branch (length cs) branches) (with_branch o below ss (length cs) branches t) (with_branch o below ss (length cs) branches u)
       (λ y. with_same ss (length cs) branches t u e y) x
 
-  -- without branches it is the word alone
+  -- without branches only the word is accepted
   pub alone : (ss : List Step) (word : Word) (t : Test) (x : List ℕ) → up_from o below ss (reverse word) [] t x ≡ literal o word t x
   alone ss word t x = up_none ss (reverse word) t x ∙ backwards_word word t x
 
@@ -206,7 +206,7 @@ module _ (o : Options) (below : Bool) where
       past front [] = omega arith
       past front (c ∷ cs) = let rest = past front cs in omega (arith, rest)
 
-  -- a word that parts from the one before at a branch
+  -- a word that branches off the one before
   pub parts : (ss : List Step) (front rest : Word) (b : Branch) (branches : List Branch) (t : Test) (x : List ℕ) → b.depth ≡ length front
       → up_from o below ss (reverse (front ++ rest)) (b ∷ branches) t x
       ≡ (literal o (front ++ rest) t x || up o below ss (reverse front) branches (test_at o below ss b.place) x)
@@ -217,7 +217,7 @@ module _ (o : Options) (below : Bool) where
       ∙ ap (λ (cs : Word). backwards cs t x || up o below ss (reverse front) branches (test_at o below ss b.place) x) (sym turned)
       ∙ ap (λ v. v || up o below ss (reverse front) branches (test_at o below ss b.place) x) (backwards_word (front ++ rest) t x)
 
--- 4. One branch more or less.
+-- 4. Adding or joining one branch.
 
 is_equal : (a b : ℕ) → a ≡ b → (a == b) ≡ true
 is_equal a b e = elim (eqb_tells a b) [ inl w ↦ w.0 | inr w ↦ absurd (w.1 e) ]
@@ -248,7 +248,7 @@ lead_joined depth old branches new rest joined n le h =
     subst (LeadInside (length new)) (sym joined.left)
     (lead_longer n (length new) (without_branch depth branches) (omega (arith, le, longer)) (lead_without n depth branches h))
 
--- none of them, but for the branch after all
+-- no byte was prepended yet: only the branch at the end of the word was joined
 pub puts_none : (word : Word) (old : List Step) (branches : List Branch) (new : List Step) (rest : List Branch)
     → JoinsBranch (length word) old branches new rest → PutsBytes word (length word) old branches new rest
 puts_none word old branches new rest joined = record {
@@ -260,7 +260,7 @@ puts_none word old branches new rest joined = record {
   inside = joined.inside;
 }
 
--- one byte more
+-- one more byte was prepended
 pub puts_byte : (word before after : Word) (c : ℕ) (old : List Step) (branches : List Branch) (mid : List Step) (rest : List Branch) (new : List Step) (left : List Branch)
     → word ≡ (before ++ c ∷ []) ++ after → PutsBytes word (length (before ++ c ∷ [])) old branches mid rest
     → JoinsBranch (length before) (Byte c ∷ mid) rest new left → PutsBytes word (length before) old branches new left
@@ -322,7 +322,7 @@ over_further o (word ∷ words) t =
     ∙ ap (tests_over o (letters word)) (over_further o words t)
     ∙ over_letters o word (record { here = t.here; outer = (any_word o words t.here, t.here) ∷ t.outer }))
 
--- a group of words accepts one of them
+-- a group of words matches one of them
 pub over_group : (o : Options) (words : List Word) (t : Tests) → words ≢ [] → tests_over o (group_of words) t ≡ record { here = any_word o words t.here; outer = t.outer }
 over_group o [] t some = absurd (some refl)
 over_group o (word ∷ words) t some =
@@ -330,10 +330,10 @@ over_group o (word ∷ words) t some =
     ∙ ap (tests_over o (letters word)) (over_further o words t)
     ∙ over_letters o word (record { here = t.here; outer = (any_word o words t.here, t.here) ∷ t.outer }))
 
--- 7. Words that were put, and those that are left.
+-- 7. The words compiled so far, and those left.
 
--- the steps and the words that are left accept what all words do; `current` was put last, and none of
--- its bytes yet
+-- the steps and the words left accept what all words accept; of `current`, the word compiled last,
+-- no byte was prepended yet
 pub record HasPut (words : List Word) (old : List Step) (left : List Word) (current : Word)
     (ss : List Step) (branches : List Branch) : Type 0 where
   pub same : (o : Options) (below : Bool) (x : List ℕ)
@@ -415,7 +415,7 @@ all_put words old left current ss branches new rest none known put = record {
   inside = λ h. put.inside (known.inside h);
 }
 
--- the same words in another order
+-- a permutation of the words is accepted as well
 pub adds_permuted : (words others : List Word) (old new : List Step) → IsPermutation words others → AddsWords words old new → AddsWords others old new
 adds_permuted words others old new turned adds = record {
   same = λ o below x. adds.same o below x ∙ any_permuted o words others turned (answers o below old 0) x;

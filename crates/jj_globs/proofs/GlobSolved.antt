@@ -1,4 +1,4 @@
--- Any list of steps has an answer for each place.
+-- Every list of steps has a test for each state.
 use Rattle.std.proofs.Common.{◌≡◌, ◌∙◌, ◌+◌, ◌||◌, ◌&&◌, Bool, ℕ, zero, suc, List, [], ◌∷◌, length, Some, refl, sym, ap, arith}
 use Rattle.std.specs.Prelude.{slice_get}
 use Rattle.jj_globs.specs.declared.glob.step.Step.{Step}
@@ -8,7 +8,7 @@ use Rattle.jj_globs.specs.GlobMeaning.{same_byte, is_plain}
 use Rattle.jj_globs.specs.GlobPlain.{Test, one, many, any_byte}
 use Rattle.jj_globs.specs.GlobPlaces.{in_set, end_test, step_then, answers, by_step, Solves}
 
--- a place further on, without the first step
+-- a later state, without the first step
 pub later : (o : Options) (below : Bool) (s : Step) (ss : List Step) (j k : ℕ) → j ≡ suc k → (bs : List ℕ) → answers o below (s ∷ ss) j bs ≡ answers o below ss k bs
 later o below s ss j k e bs = ap (λ (i : ℕ). answers o below (s ∷ ss) i bs) e
 
@@ -20,7 +20,7 @@ pub many_same : (p : ℕ → Bool) (t u : Test) → ((bs : List ℕ) → t bs �
 many_same p t u e [] = e []
 many_same p t u e (b ∷ bs) = ap (λ v. v || (p b && many p t bs)) (e (b ∷ bs)) ∙ ap (λ v. u (b ∷ bs) || (p b && v)) (many_same p t u e bs)
 
--- the first place, and the places after it
+-- the first state, and the states after it
 at_first : (o : Options) (below : Bool) (s : Step) (ss : List Step) (bs : List ℕ) → step_then o (answers o below ss) s bs ≡ by_step o (answers o below (s ∷ ss)) s 0 bs
 at_first o below (Byte c) ss bs = one_same (same_byte o c) (answers o below ss 0) (answers o below (Byte c ∷ ss) (0 + 1)) (λ x. sym (later o below (Byte c) ss (0 + 1) 0 (omega arith) x)) bs
 at_first o below AnyByte ss bs = one_same (is_plain o) (answers o below ss 0) (answers o below (AnyByte ∷ ss) (0 + 1)) (λ x. sym (later o below AnyByte ss (0 + 1) 0 (omega arith) x)) bs

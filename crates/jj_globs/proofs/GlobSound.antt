@@ -1,4 +1,4 @@
--- The plain program for globs answers what their meaning says.
+-- Soundness of the executable semantics: it decides the meaning of globs.
 use Rattle.std.proofs.Common.{◌≡◌, ℕ, Bool, true, false, ◌==◌, ◌&&◌, ◌||◌, ◌⊎◌, List, [], ◌∷◌, ◌++◌, refl, sym, subst, ap, ◌∙◌, inl, inr, Result, Ok, All, IsTrue, append_assoc}
 use Rattle.std.specs.Bool.{Decides}
 use Rattle.std.proofs.lemmas.List.Elements.{All-nil, All-cons, All-head, All-tail}
@@ -16,7 +16,7 @@ use Rattle.jj_globs.specs.GlobPlain.{Test, one, many, past_slash, is_slash, any_
 abbrev pub Bytes : Type 1
 Bytes = List ℕ → Type 0
 
--- the test passes exactly where the fact holds
+-- the test decides P
 abbrev pub Tells : Test → Bytes → Type 0
 Tells t P = (bs : List ℕ) → Decides (t bs) (P bs)
 
@@ -97,7 +97,7 @@ Tells-many p t P h (c ∷ bs) =
     (Decides-or (t (c ∷ bs)) (p c && many p t bs) (h (c ∷ bs))
     (Decides-and (p c) (many p t bs) ((λ e. e), (λ e. e)) (Tells-many p t P h bs)))
 
--- bytes that end in a slash
+-- any bytes that end in `/`
 abbrev pub EndsInSlash : Bytes
 EndsInSlash bs = (dirs : List ℕ) × (bs ≡ dirs ++ 47 ∷ [])
 
@@ -133,11 +133,11 @@ Tells-past_slash t P h (c ∷ bs) =
     (Decides-or ((c == 47) && t bs) (past_slash t bs)
     (Decides-and (c == 47) (t bs) (Decides-eqb c 47) (h bs)) (Tells-past_slash t P h bs))
 
--- the same test, of a fact that says the same
+-- the test decides an equivalent property
 pub Tells-like : (t : Test) (P Q : Bytes) → ((x : List ℕ) → P x → Q x) → ((x : List ℕ) → Q x → P x) → Tells t P → Tells t Q
 Tells-like t P Q f g h bs = Decides-like (t bs) (f bs) (g bs) (h bs)
 
--- one part in place of another that stands for the same bytes
+-- replaces a part by one that matches the same bytes
 pub Tells-part : (t : Test) (A B P : Bytes) → ((x : List ℕ) → A x → B x) → ((x : List ℕ) → B x → A x)
     → Tells t (IsSplit A P) → Tells t (IsSplit B P)
 Tells-part t A B P f g h =
@@ -162,7 +162,7 @@ Tells-leading t P h bs =
 pub slash_is : (b : ℕ) → IsTrue (is_slash b) → b ≡ 47
 slash_is b e = (Decides-eqb b 47).0 e
 
--- a slash, and a part after it
+-- a `/` before a part
 abbrev pub After : Bytes → Bytes
 After A bs = (rest : List ℕ) × (bs ≡ 47 ∷ rest) × A rest
 
@@ -211,9 +211,9 @@ Tells-part_then o Below t P h bs =
     (Tells-after (many any_byte t) (λ _. Unit {0}) P (Tells-any t P h)) bs
 Tells-part_then o Everything t P h bs = Tells-any t P h bs
 
--- 3. Places in the list of tokens.
+-- 3. The state of the matcher between two tokens.
 
--- the sequence and, after it, what follows each group that is open
+-- matches the sequence, then what follows each open group
 abbrev pub Onward : Options → Sequence → List (Alternatives × Sequence) → Bytes
 Onward o s [] bs = Stands o s bs
 Onward o s (g ∷ gs) bs = IsSplit (Stands o s) (Onward o g.1 gs) bs
@@ -227,7 +227,7 @@ AllTell o _ _ = ⊥
 abbrev pub Agrees : Options → Tests → Reading → Type 0
 Agrees o t r = Tells t.here (Onward o r.here r.outer) × AllTell o t.outer r.outer
 
--- what is in front of a sequence is in front of what stands onward from it
+-- prepending to a sequence is prepending to all that follows
 module _ (o : Options) (A : Bytes) (s front : Sequence) (to : (x : List ℕ) → IsSplit A (Stands o s) x → Stands o front x) (from : (x : List ℕ) → Stands o front x → IsSplit A (Stands o s) x) where
   onward_to : (gs : List (Alternatives × Sequence)) (bs : List ℕ) → IsSplit A (Onward o s gs) bs → Onward o front gs bs
   onward_to [] bs w = to bs w
@@ -242,7 +242,7 @@ module _ (o : Options) (A : Bytes) (s front : Sequence) (to : (x : List ℕ) →
   pub Tells-onward : (t : Test) (gs : List (Alternatives × Sequence)) → Tells t (IsSplit A (Onward o s gs)) → Tells t (Onward o front gs)
   Tells-onward t gs h = Tells-like t (IsSplit A (Onward o s gs)) (Onward o front gs) (onward_to gs) (onward_from gs) h
 
--- the end of an alternative in front of what stands onward
+-- the end of an alternative before all that follows
 pub done_to : (o : Options) (P : Bytes) (bs : List ℕ) → P bs → IsSplit (Stands o done) P bs
 done_to o P bs p = ([], bs, refl, refl, p)
 
@@ -265,7 +265,7 @@ pub Tells-either : (o : Options) (s : Sequence) (a : Alternatives) (P : Bytes) (
 Tells-either o s a P t u h k bs =
     Decides-like (t bs || u bs) (either_to o s a P bs) (either_back o s a P bs) (Decides-or (t bs) (u bs) (h bs) (k bs))
 
--- what the outer lists say at a `,` and at a `{`, where a group is open
+-- the tests and the parse agree after a `,` and after a `{` of an open group
 pub agrees_group : (o : Options) (t : Test) (us : List (Test × Test)) (s : Sequence) (gs : List (Alternatives × Sequence))
     → Tells t (Onward o s gs) → AllTell o us gs → Agrees o (test_or t us) (before_or s gs) × Agrees o (test_open t us) (before_open s gs)
 agrees_group o t [] s [] h a = ((h, tt), (h, tt))
@@ -298,7 +298,7 @@ pub Tells-is_empty : Tells is_empty (λ bs. bs ≡ [])
 Tells-is_empty [] = ((λ e. refl), (λ e. refl))
 Tells-is_empty (c ∷ bs) = ((λ e. cc), (λ e. cc))
 
--- at each place the plain program answers what stands there
+-- between any two tokens the tests decide the parse
 pub agrees : (o : Options) (ts : List Token) → Agrees o (tests_of o ts) (reading_of ts)
 agrees o [] = (Tells-is_empty, tt)
 agrees o (k ∷ ts) = agrees_before o k (tests_of o ts) (reading_of ts) (agrees o ts)
@@ -306,7 +306,7 @@ agrees o (k ∷ ts) = agrees_before o k (tests_of o ts) (reading_of ts) (agrees 
 pub same_ok : (r : Result (List Token) GlobError) (a b : List Token) → r ≡ Ok a → r ≡ Ok b → a ≡ b
 same_ok r a b e f = cc
 
--- the tokens of a glob, where no group is open, answer whether it stands for the bytes
+-- the tests of balanced tokens decide whether the glob matches
 pub Tells-glob : (g : GlobSpec) (ts : List Token) → tokens_of g.text ≡ Ok ts → (reading_of ts).outer ≡ [] → Tells (tests_of g.options ts).here (IsMatch g)
 Tells-glob g ts reads closed bs =
     let known = (agrees g.options ts).0 bs in

@@ -1,4 +1,4 @@
--- What each sign makes of a glob that is read as far as it.
+-- The parser's step for each sign.
 use Rattle.std.proofs.Common.{◌≡◌, ◌≢◌, ℕ, zero, suc, ◌+◌, ◌-◌, ◌<◌, Bool, true, false, ◌||◌, if◌then◌else◌, List, [], ◌∷◌, ◌++◌, reverse, Ok, Err, refl, map, ap, ◌∙◌, Result, add-one, arith, nat_le, nat_lt}
 use Rattle.jj_globs.specs.declared.glob.token.ByteRange.{ByteRange}
 use Rattle.jj_globs.specs.declared.glob.token.Token.{Token}
@@ -11,9 +11,10 @@ use Rattle.jj_globs.specs.declared.glob.error.GlobError.TheVariants.{UnclosedCla
 use Rattle.jj_globs.specs.GlobText.{Word, asterisk, byte_of, words, items, first_item, single, class, fault, read, place_of, with_dirs, with_last_dirs, two_stars, with_or, with_close, closes_nothing, only_dirs, sign_of, tokens_of}
 use Rattle.jj_globs.specs.GlobReads.{ends_here, IsFault, IsReadingFault}
 
--- 1. The words from a `[` on begin with a class, or are a fault.
+-- 1. The words of a class are the class, or a syntax error.
 
--- what holds of words that begin with a class, and of a fault alone, holds of the words of a class
+-- induction: a property of all lists of words that begin with a class, and of all syntax errors, is
+-- one of the words of a class
 module _ (P : List Word → Type 0) (of_class : (negated : Bool) (ranges : List ByteRange) (ws : List Word) → P (class negated ranges ∷ ws)) (of_fault : (e : GlobError) → P (fault e ∷ [])) where
   range-elim : (a b : Bool) (good : List Word) → P good → P (if a then fault NonAsciiRange ∷ [] else if b then fault InvalidRange ∷ [] else good)
   range-elim true b good p = of_fault NonAsciiRange
@@ -101,7 +102,7 @@ unfolding words read
 read-unclosed zero e ts h = absurd (let k : ⊥ = omega (arith, h) in k)
 read-unclosed (suc n) e ts h = refl
 
--- a sign with no meaning here stands for itself
+-- a sign without a role here is a literal byte
 pub literal-read : (n : ℕ) (e : Bool) (ts : List Token) (c : Sign) (s : List Sign)
     → c ≢ Question → c ≢ Asterisk → c ≢ OpenBracket → c ≢ Backslash → c ≢ OpenBrace → c ≢ Comma → c ≢ CloseBrace
     → read n e ts (words (c ∷ s)) ≡ read n false (part (Byte (byte_of c)) ∷ ts) (words s)
@@ -122,7 +123,7 @@ literal-read n e ts (Other b) s h0 h1 h2 h3 h4 h5 h6 = refl
 
 -- 3. Stars.
 
--- a star that no star follows
+-- a star that no other star follows
 pub star-read : (n : ℕ) (e : Bool) (ts : List Token) (s : List Sign) → ((r : List Sign) → s ≡ Asterisk ∷ r → ⊥)
     → read n e ts (words (Asterisk ∷ s)) ≡ read n false (part Star ∷ ts) (words s)
 unfolding words read
@@ -186,7 +187,7 @@ stars-read (suc n) e ts (Backslash ∷ []) h = refl
 stars-read (suc n) e ts (Backslash ∷ c ∷ s) h = refl
 stars-read (suc n) e ts ((Other b) ∷ s) h = refl
 
--- 4. The whole text.
+-- 4. The whole pattern.
 
 pub only_dirs-other : (s : List Sign) → ((r : List Sign) → s ≡ Asterisk ∷ Asterisk ∷ r → ⊥) → only_dirs s ≡ false
 only_dirs-other (Asterisk ∷ Asterisk ∷ r) h = absurd (h r refl)
@@ -201,7 +202,7 @@ pub only_dirs-joined : (s : List Sign) → s ≢ [] → only_dirs (Asterisk ∷ 
 only_dirs-joined [] some = absurd (some refl)
 only_dirs-joined (c ∷ s) some = refl
 
--- a text that does not stand for any bytes as a whole is read from its first word on
+-- a pattern that does not match everything is parsed from its first word
 pub tokens_of-read : (text : List ℕ) → only_dirs (map sign_of text) ≡ false → tokens_of text ≡ read 0 false [] (words (map sign_of text))
 unfolding tokens_of
 tokens_of-read text h = rw h refl
@@ -213,7 +214,7 @@ tokens_of-only_dirs text h = rw h refl
 pub start : (text : List ℕ) (none : List Token) → only_dirs (map sign_of text) ≡ false → none ≡ [] → tokens_of text ≡ read 0 false (reverse none) (words (map sign_of text))
 start text none other h = tokens_of-read text other ∙ rw h refl
 
--- a `,` with its tokens, in a group or outside
+-- the token of a `,`, in a group or outside
 pub comma-either : (n : ℕ) (e : Bool) (ts us : List Token) (s : List Sign) → (n ≡ 0 → us ≡ part (Byte 44) ∷ ts) → (0 < n → us ≡ with_or ts)
     → read n e ts (words (Comma ∷ s)) ≡ read n false us (words s)
 comma-either zero e ts us s h k = rw (h refl) (comma-plain zero e ts s refl)
@@ -221,7 +222,7 @@ comma-either (suc n) e ts us s h k =
     let more : 0 < suc n = omega arith in
     rw (k more) (comma-read (suc n) e ts s more)
 
--- a fault of the words that are left is that of the text
+-- a syntax error in the remaining words is that of the pattern
 pub faulty : (error : GlobError) (reading : Result (List Token) GlobError) (n : ℕ) (e : Bool) (ts : List Token) (ws : List Word) → reading ≡ read n e ts ws → IsFault error ws → IsReadingFault error reading
 faulty Memory reading n e ts ws same h = tt
 faulty UnclosedClass reading n e ts ws same h = same ∙ ap (read n e ts) h ∙ fault-read n e ts UnclosedClass

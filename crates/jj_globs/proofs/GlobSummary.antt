@@ -1,4 +1,4 @@
--- A row's summary: which words hold a live place.
+-- The summary of a set of states: a bit for each word that is not zero.
 use Rattle.std.proofs.Common.{◌≡◌, ◌≢◌, ◌↔◌, ◌⊎◌, ◌∙◌, ℕ, ◌+◌, ◌*◌, ◌/◌, ◌%◌, ◌^◌, ◌<◌, ◌≤◌, List, length, get_or, ap, sym, inl, inr, refl, subst, arith}
 use Rattle.std.proofs.Math.ListN.{set}
 use Rattle.std.proofs.lemmas.Bool.{cases_lt}
@@ -13,13 +13,13 @@ use Rattle.std.specs.Int.Bits.{bit_and}
 use Rattle.jj_globs.specs.GlobPlaces.{IsLive, HoldsLive, IsSummary}
 use Rattle.jj_globs.proofs.GlobLive.{place_word, lowest_live, first_live, take_live}
 
--- a word of zeros holds none
+-- no bit of a zero word is set
 zero_word : (ws : List ℕ) (w : ℕ) → get_or ws w 0 ≡ 0 → HoldsLive ws w → ⊥
 zero_word ws w is held =
     let bit : bit_at 0 (held.0 % 64) ≡ 1 = ap (λ y. bit_at y (held.0 % 64)) (sym (ap (λ (i : ℕ). get_or ws i 0) held.1 ∙ is)) ∙ held.2 in
     absurd (omega (arith, bit, bit_at-zero (held.0 % 64)))
 
--- a word that holds one is among the words
+-- a word with a bit that is set is in range
 pub word_within : (ws : List ℕ) (w : ℕ) → HoldsLive ws w → w < length ws
 word_within ws w held =
     elim (cases_lt w (length ws)) [
@@ -27,11 +27,11 @@ word_within ws w held =
       | inr past ↦ absurd (zero_word ws w (get_or_past ws w 0 past) held)
     ]
 
--- no bit of the summary, no live place
+-- an empty summary is that of an empty set
 pub none_held : (ws ss : List ℕ) → IsSummary ws ss → ((w : ℕ) → IsLive ss w → ⊥) → (j : ℕ) → IsLive ws j → ⊥
 none_held ws ss known none j live = none (j / 64) ((known.tells (j / 64)).1 (j, refl, live))
 
--- one more place is live, and its word's bit
+-- inserts a state, and sets the bit of its word
 pub summary_put : (ws ws' ss ss' : List ℕ) (p : ℕ) → IsSummary ws ss
     → ((j : ℕ) → IsLive ws' j ↔ (IsLive ws j ⊎ (j ≡ p))) → ((w : ℕ) → IsLive ss' w ↔ (IsLive ss w ⊎ (w ≡ p / 64)))
     → length ws' ≡ length ws → length ss' ≡ length ss → IsSummary ws' ss'
@@ -50,7 +50,7 @@ summary_put ws ws' ss ss' p known live marks same_words same_marks = record {
   limit = rw same_marks known.limit;
 }
 
--- a place is taken out of a word that holds another one
+-- removes a state from a word with another one
 summary_kept : (ws ws' ss : List ℕ) (w k : ℕ) → IsSummary ws ss → k < 64
     → ((j : ℕ) → IsLive ws' j ↔ (IsLive ws j × (j ≢ w * 64 + k))) → HoldsLive ws' w → length ws' ≡ length ws → IsSummary ws' ss
 summary_kept ws ws' ss w k known low left other same_words = record {
@@ -66,7 +66,7 @@ summary_kept ws ws' ss w k known low left other same_words = record {
   limit = known.limit;
 }
 
--- the last place is taken out of a word, and the word's bit
+-- removes the last state of a word, and clears the bit of the word
 summary_emptied : (ws ws' ss ss' : List ℕ) (w k : ℕ) → IsSummary ws ss → k < 64
     → ((j : ℕ) → IsLive ws' j ↔ (IsLive ws j × (j ≢ w * 64 + k))) → get_or ws' w 0 ≡ 0
     → ((v : ℕ) → IsLive ss' v ↔ (IsLive ss v × (v ≢ w))) → length ws' ≡ length ws → length ss' ≡ length ss → IsSummary ws' ss'
@@ -85,12 +85,12 @@ summary_emptied ws ws' ss ss' w k known low left zeros marks same_words same_mar
   limit = rw same_marks known.limit;
 }
 
--- the first word that holds a live place begins before all live places
+-- the first nonzero word begins before all states
 before_all : (ws ss : List ℕ) (w : ℕ) → IsSummary ws ss → ((v : ℕ) → IsLive ss v → w ≤ v) → (j : ℕ) → IsLive ws j → w * 64 ≤ j
 before_all ws ss w known least j live =
     let low = least (j / 64) ((known.tells (j / 64)).1 (j, refl, live)) in omega (arith, low)
 
--- the word without one of its bits
+-- clears a bit of a word
 abbrev without_bit : List ℕ → ℕ → ℕ → ℕ
 without_bit ws w k = bit_and (get_or ws w 0) (bit_not w64 (1 * 2 ^ k % 2 ^ 64))
 
@@ -116,7 +116,7 @@ none_left ws ss ss' w k known marked low zero marks same_marks =
     let within = word_within ws w ((known.tells w).0 marked) in
     summary_emptied ws (set ws w x) ss ss' w k known low (take_live ws w k within low) (get_or-set_at ws w w x 0 refl within ∙ zero) marks (length-set ws w x) same_marks
 
--- a place is taken out, and the word's bit where no other place of it is left
+-- removes a state, and clears the bit of its word if that is now zero
 pub summary_taken : (ws ss ss' : List ℕ) (w k : ℕ) → IsSummary ws ss → IsLive ss w → k < 64
     → (without_bit ws w k ≡ 0 → (v : ℕ) → IsLive ss' v ↔ (IsLive ss v × (v ≢ w)))
     → (without_bit ws w k ≢ 0 → ss' ≡ ss) → length ss' ≡ length ss → IsSummary (set ws w (without_bit ws w k)) ss'
@@ -126,12 +126,12 @@ summary_taken ws ss ss' w k known marked low emptied kept same_marks =
       | inr e ↦ subst (λ (x : List ℕ). IsSummary (set ws w (without_bit ws w k)) x) (sym (kept e.1)) (others_left ws ss w k known marked low e.1)
     ]
 
--- the lowest bit of the first marked word is a live place, and gone where it is cleared
+-- the lowest bit of the first nonzero word is a state, which is removed by clearing it
 pub first_taken : (ws ss : List ℕ) (w k : ℕ) → IsSummary ws ss → IsLive ss w → k < 64 → bit_at (get_or ws w 0) k ≡ 1
     → IsLive ws (w * 64 + k) × ((j : ℕ) → IsLive (set ws w (without_bit ws w k)) j ↔ (IsLive ws j × (j ≢ w * 64 + k)))
 first_taken ws ss w k known marked low bit = (lowest_live ws w k low bit, take_live ws w k (word_within ws w ((known.tells w).0 marked)) low)
 
--- and it is the first one
+-- this state is the least
 pub first_of_all : (ws ss : List ℕ) (w k : ℕ) → IsSummary ws ss → ((v : ℕ) → IsLive ss v → w ≤ v) → k < 64
     → ((i : ℕ) → i < k → bit_at (get_or ws w 0) i ≡ 0) → (j : ℕ) → IsLive ws j → w * 64 + k ≤ j
 first_of_all ws ss w k known least low zeros = first_live ws w k low zeros (before_all ws ss w known least)

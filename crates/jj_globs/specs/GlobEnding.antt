@@ -1,4 +1,4 @@
--- The literal end of a glob's steps.
+-- The literal suffix of an NFA.
 -- Machinery of private functions and fields.
 use Rattle.std.specs.Prelude.{◌≡◌, ℕ, ◌+◌, ◌<◌, ◌≤◌, Bool, true, false, ◌&&◌, List, [], ◌∷◌, length, slice_get, Some}
 use Rattle.jj_globs.specs.declared.glob.token.Options.{Options}
@@ -7,17 +7,18 @@ use Rattle.jj_globs.specs.declared.glob.step.Step.TheVariants.{Byte, AnyByte, On
 use Rattle.jj_globs.specs.GlobMeaning.{same_byte}
 use Rattle.jj_globs.specs.GlobPlaces.{further_of}
 
+-- the step consumes one literal byte
 abbrev pub IsByte : Step → Type 0
 IsByte s = (b : ℕ) × (s ≡ Byte b)
 
--- from this place on each step is a byte, and no step before it leads past it
+-- this step and all later ones are literal bytes, and no earlier step leads past this state
 pub record IsLiteralFrom (steps : List Step) (place : ℕ) : Type 0 where
   pub within : place ≤ length steps
   pub inside : (k : ℕ) (s : Step) → slice_get steps k ≡ Some s → k < place
       → k + 1 + further_of s ≤ place
   pub bytes : (k : ℕ) (s : Step) → slice_get steps k ≡ Some s → place ≤ k → IsByte s
 
--- steps and bytes, both from the last one on: each step that is a byte stands for its own
+-- the reversed bytes begin with a match of the literals at the head of the reversed steps
 abbrev pub fits_back : Options → List Step → List ℕ → Bool
 fits_back o (Byte own ∷ ss) [] = false
 fits_back o (Byte own ∷ ss) (b ∷ bs) = same_byte o own b && fits_back o ss bs

@@ -1,23 +1,23 @@
--- A text as a glob that stands for it alone.
+-- Escaping: a glob that matches one string only.
 -- Cited by contracts of public items: StandsForAlone, is_special, literal_glob.
 use Rattle.std.specs.Prelude.{◌≡◌, ◌↔◌, ℕ, Bool, false, ◌==◌, ◌||◌, if◌then◌else◌, List, [], ◌∷◌}
 use Rattle.std.specs.List.{flat_map}
 use Rattle.jj_globs.specs.GlobMeaning.{IsMatch}
 use Rattle.jj_globs.specs.GlobReads.{glob_of_text}
 
--- the byte has a meaning outside of classes and groups: one of `? * [ ] { } \`
+-- one of `? * [ ] { } \`
 abbrev pub is_special : ℕ → Bool
 is_special b = (b == 63) || (b == 42) || (b == 91) || (b == 93) || (b == 123) || (b == 125)
     || (b == 92)
 
--- such a byte in brackets, any other as it is
+-- a special byte in brackets, any other byte as it is
 abbrev pub escaped_byte : ℕ → List ℕ
 escaped_byte b = if is_special b then 91 ∷ b ∷ 93 ∷ [] else b ∷ []
 
 unfoldable pub literal_glob : List ℕ → List ℕ
 literal_glob text = flat_map escaped_byte text
 
--- the glob, with or without separator, stands for the text and for nothing else
+-- with or without separator, the glob matches this byte string and no other
 abbrev pub StandsForAlone : List ℕ → List ℕ → Type 0
 StandsForAlone glob text = (separator : Bool) (bytes : List ℕ)
     → IsMatch (glob_of_text glob separator false) bytes ↔ (bytes ≡ text)

@@ -1,4 +1,4 @@
--- The literal front of a glob: bytes with which every text begins that the glob stands for.
+-- The literal prefix of a glob: bytes with which every match begins.
 -- Cited by contracts of public items: front_of.
 use Rattle.std.specs.Prelude.{ℕ, List, [], ◌∷◌, Result, Ok, Err, if◌then◌else◌}
 use Rattle.jj_globs.specs.declared.glob.error.GlobError.{GlobError}
@@ -10,7 +10,7 @@ use Rattle.jj_globs.specs.declared.glob.token.Token.TheVariants.{Part as part, O
 use Rattle.jj_globs.specs.GlobText.{tokens_of}
 use Rattle.jj_globs.specs.GlobMeaning.{GlobSpec}
 
--- a part before bytes: a byte goes before them, and any other part ends them
+-- prepends a literal byte; any other part ends the prefix
 abbrev pub byte_before : Part → List ℕ → List ℕ
 byte_before (Byte b) bytes = b ∷ bytes
 byte_before AnyByte bytes = []
@@ -21,7 +21,7 @@ byte_before Below bytes = []
 byte_before Everything bytes = []
 byte_before (OneOf class) bytes = []
 
--- the bytes that stand before the first other token
+-- the literal bytes before the first other token
 abbrev pub leading_bytes : List Token → List ℕ
 leading_bytes [] = []
 leading_bytes (part p ∷ ts) = byte_before p (leading_bytes ts)
@@ -29,7 +29,7 @@ leading_bytes (Open ∷ ts) = []
 leading_bytes (Or ∷ ts) = []
 leading_bytes (Close ∷ ts) = []
 
--- none where a letter stands for two bytes
+-- empty with `icase`, since a letter then matches two bytes
 abbrev pub literal_front : Options → List Token → List ℕ
 literal_front o ts = if o.icase then [] else leading_bytes ts
 

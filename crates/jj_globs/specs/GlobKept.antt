@@ -1,5 +1,5 @@
--- What a glob keeps beside its text: its tokens, the steps that accept what they stand for, where
--- their literal end begins, and the literal front.
+-- Invariant of a compiled glob: its tokens, its NFA, the state at which its literal suffix begins,
+-- and its literal prefix belong to its pattern.
 -- Machinery of private functions and fields.
 use Rattle.std.specs.Prelude.{◌≡◌, ℕ, ◌<◌, List, length, Ok}
 use Rattle.jj_globs.specs.declared.glob.token.Options.{Options}

@@ -1,5 +1,5 @@
--- What each token adds to the steps, which are made from the last token on, so that the step made
--- last stands first; and when the steps so far accept what the tokens so far do.
+-- Compilation of tokens to an NFA, from the last token to the first: each token prepends its steps.
+-- States are named by the number of steps after them.
 -- Machinery of private functions and fields.
 use Rattle.std.specs.Prelude.{◌≡◌, ℕ, ◌-◌, ◌≤◌, Bool, false, List, [], ◌∷◌, length, Option, Some, None}
 use Rattle.jj_globs.specs.declared.glob.token.Options.{Options}
@@ -15,7 +15,7 @@ use Rattle.jj_globs.specs.GlobMeaning.{in_class}
 use Rattle.jj_globs.specs.GlobPlain.{Test, Tests, tests_before}
 use Rattle.jj_globs.specs.GlobPlaces.{in_set, answers, end_test, StaysInside}
 
--- the steps of a part, before those after it
+-- prepends the steps of a part
 abbrev pub AddsPart : Options → Part → List Step → List Step → Type 0
 AddsPart o (byte c) ss new = new ≡ Byte c ∷ ss
 AddsPart o any_one ss new = new ≡ AnyByte ∷ ss
@@ -27,13 +27,12 @@ AddsPart o Below ss new = new ≡ Byte 47 ∷ Everything ∷ ss
 AddsPart o LeadingDirs ss new = new ≡ Fork 2 ∷ Everything ∷ Byte 47 ∷ ss
 AddsPart o InnerDirs ss new = new ≡ Byte 47 ∷ Fork 2 ∷ Everything ∷ Byte 47 ∷ ss
 
--- what stands here, or the alternatives that were read before, at the place with that many steps
--- after it
+-- prepends a fork to the alternatives compiled before, if there are any
 abbrev pub with_fork : Option ℕ → List Step → List Step
 with_fork None ss = ss
 with_fork (Some others) ss = Fork (length ss - others) ∷ ss
 
--- the steps and the open groups, the innermost first, with one more token
+-- prepends the steps of a token and updates the stack of open groups, the innermost first
 abbrev pub AddsToken : Options → Token → List Step → List OpenGroup → List Step → List OpenGroup
     → Type 0
 AddsToken o (part p) ss gs new opened = AddsPart o p ss new × (opened ≡ gs)
@@ -46,15 +45,17 @@ AddsToken o Or ss (g ∷ gs) new opened =
 AddsToken o Open ss [] new opened = (new ≡ ss) × (opened ≡ [])
 AddsToken o Open ss (g ∷ gs) new opened = (new ≡ with_fork g.any ss) × (opened ≡ gs)
 
--- what the place with so many steps after it accepts
+-- the byte strings that the state with so many steps after it accepts
 abbrev pub test_at : Options → Bool → List Step → ℕ → Test
 test_at o below ss after bs = answers o below ss (length ss - after) bs
 
+-- the alternatives of an open group that were compiled accept those that pass the test
 abbrev pub AnyIs : Options → Bool → List Step → Option ℕ → Test → Type 0
 AnyIs o below ss None t = (bs : List ℕ) → t bs ≡ false
 AnyIs o below ss (Some others) t = (others ≤ length ss)
     × ((bs : List ℕ) → test_at o below ss others bs ≡ t bs)
 
+-- each open group: its alternatives and the state after it accept those that pass its two tests
 abbrev pub OuterIs : Options → Bool → List Step → List OpenGroup → List (Test × Test) → Type 0
 OuterIs o below ss [] [] = Unit {0}
 OuterIs o below ss (g ∷ gs) (t ∷ ts) =
@@ -62,13 +63,14 @@ OuterIs o below ss (g ∷ gs) (t ∷ ts) =
     × ((bs : List ℕ) → test_at o below ss g.after bs ≡ t.1 bs) × OuterIs o below ss gs ts
 OuterIs o below ss _ _ = ⊥
 
--- the steps accept what the tests do, and so do the places of the groups that are open
+-- invariant of the compilation: the first state accepts the byte strings that pass the test here,
+-- and the states of the open groups those that pass theirs
 pub record AreLowered (o : Options) (below : Bool) (ss : List Step) (gs : List OpenGroup)
     (t : Tests) : Type 0 where
   pub here : (bs : List ℕ) → answers o below ss 0 bs ≡ t.here bs
   pub outer : OuterIs o below ss gs t.outer
 
--- the steps of tokens
+-- the NFA of the tokens: it accepts the byte strings they match, and no step leads past the end
 pub record AreSteps (o : Options) (ts : List Token) (ss : List Step) : Type 0 where
   pub same : (below : Bool) (bs : List ℕ) → answers o below ss 0 bs
       ≡ (tests_before o (end_test below) ts).here bs

@@ -1,4 +1,4 @@
--- Which bytes a glob stands for.
+-- Which byte strings a glob matches.
 -- Cited by contracts of public items: GlobSpec, IsMatch, IsPrefixMatch.
 use Rattle.std.specs.Prelude.{◌≡◌, ℕ, ◌+◌, ◌-◌, Bool, not, IsTrue, ◌==◌, ◌&&◌, ◌||◌, nat_le, if◌then◌else◌, ◌⊎◌, List, [], ◌∷◌, ◌++◌, Ok, All}
 use Rattle.std.specs.List.{list_any}
@@ -10,20 +10,21 @@ use Rattle.jj_globs.specs.declared.glob.token.Token.TheVariants.{Part as part, O
 use Rattle.jj_globs.specs.declared.glob.token.Options.{Options}
 use Rattle.jj_globs.specs.GlobText.{tokens_of}
 
--- 1. One byte.
+-- 1. Single bytes.
 
--- the byte, with an ASCII capital as its small letter
+-- the byte in ASCII lower case
 abbrev pub lower : ℕ → ℕ
 lower b = if nat_le 65 b && nat_le b 90 then b + 32 else b
 
--- the byte, with a small ASCII letter as its capital
+-- the byte in ASCII upper case
 abbrev pub upper : ℕ → ℕ
 upper b = if nat_le 97 b && nat_le b 122 then b - 32 else b
 
+-- equality of bytes, with `icase` up to ASCII case
 abbrev pub same_byte : Options → ℕ → ℕ → Bool
 same_byte o a b = if o.icase then lower a == lower b else a == b
 
--- `?` and `*` stand for this byte
+-- `?` and `*` match the byte
 abbrev pub is_plain : Options → ℕ → Bool
 is_plain o b = not (o.separator && (b == 47))
 
@@ -37,16 +38,17 @@ abbrev pub in_ranges : Options → List ByteRange → ℕ → Bool
 in_ranges o rs b =
     any_range b rs || (o.icase && (any_range (lower b) rs || any_range (upper b) rs))
 
--- the class holds the byte
+-- the class matches the byte
 abbrev pub in_class : Options → Bool × List ByteRange → ℕ → Bool
 in_class o (negated, rs) b = if negated then not (in_ranges o rs b) else in_ranges o rs b
 
 -- 2. Parts.
 
--- the bytes are one, which passes the test
+-- a single byte, which passes the test
 abbrev pub IsOne : (ℕ → Bool) → List ℕ → Type 0
 IsOne p bytes = (b : ℕ) × (bytes ≡ b ∷ []) × IsTrue (p b)
 
+-- the part matches the bytes
 abbrev pub StandsAlone : Options → Part → List ℕ → Type 0
 StandsAlone o (Byte c) bytes = IsOne (same_byte o c) bytes
 StandsAlone o AnyByte bytes = IsOne (is_plain o) bytes
@@ -58,31 +60,33 @@ StandsAlone o InnerDirs bytes = (bytes ≡ 47 ∷ [])
 StandsAlone o Below bytes = (rest : List ℕ) × (bytes ≡ 47 ∷ rest)
 StandsAlone o Everything bytes = Unit {0}
 
--- 3. The tree that the brackets of a token list show.
+-- 3. The syntax tree of a token list.
 
 mutual
-  -- a sequence: its first token, and the rest
+  -- a concatenation of parts and groups
   pub data Sequence : Type 0 where
     done : Sequence
     next : Part → Sequence → Sequence
     group : Alternatives → Sequence → Sequence
 
+  -- the alternatives of a group
   pub data Alternatives : Type 0 where
     no_more : Alternatives
     either : Sequence → Alternatives → Alternatives
 
--- what stands from a place on, up to the end of its group, and then for each group that is open
--- there, from the inside: the alternatives that are still to come, and what follows the group
+-- state of the parser, which reads the tokens from the last to the first: the sequence so far, up
+-- to the end of its group; and for each open group, from the inside, its alternatives so far and
+-- the sequence after it
 pub record Reading : Type 0 where
   pub here : Sequence
   pub outer : List (Alternatives × Sequence)
 
--- a `,`: an alternative begins after it, and what stands here ends
+-- a `,`: the sequence so far is an alternative of the innermost group
 abbrev pub before_or : Sequence → List (Alternatives × Sequence) → Reading
 before_or s [] = record { here = s; outer = [] }
 before_or s (g ∷ gs) = record { here = done; outer = (either s g.0, g.1) ∷ gs }
 
--- a `{`: its group is whole
+-- a `{`: the innermost group is complete
 abbrev pub before_open : Sequence → List (Alternatives × Sequence) → Reading
 before_open s [] = record { here = s; outer = [] }
 before_open s (g ∷ gs) = record { here = group (either s g.0) g.1; outer = gs }
@@ -99,16 +103,18 @@ reading_of (t ∷ ts) = before t (reading_of ts)
 
 -- 4. Globs.
 
--- the bytes are a part of which P holds, and a rest of which Q holds
+-- concatenation: P of a prefix and Q of the rest
 abbrev pub IsSplit : (List ℕ → Type 0) → (List ℕ → Type 0) → List ℕ → Type 0
 IsSplit P Q bytes = (front rest : List ℕ) × (bytes ≡ front ++ rest) × P front × Q rest
 
 abbrev mutual
+  -- the sequence matches the bytes
   pub Stands : Options → Sequence → List ℕ → Type 0
   Stands o done bytes = bytes ≡ []
   Stands o (next p s) bytes = IsSplit (StandsAlone o p) (Stands o s) bytes
   Stands o (group a s) bytes = IsSplit (StandsForOne o a) (Stands o s) bytes
 
+  -- one of the alternatives matches the bytes
   pub StandsForOne : Options → Alternatives → List ℕ → Type 0
   StandsForOne o no_more bytes = ⊥
   StandsForOne o (either s a) bytes = Stands o s bytes ⊎ StandsForOne o a bytes
@@ -118,12 +124,12 @@ pub record GlobSpec : Type 0 where
   pub text : List ℕ
   pub options : Options
 
--- the glob's text reads as tokens that stand for the bytes
+-- the pattern parses as tokens whose syntax tree matches the byte string
 abbrev pub IsMatch : GlobSpec → List ℕ → Type 0
 IsMatch g bytes = (ts : List Token) × (tokens_of g.text ≡ Ok ts)
     × Stands g.options (reading_of ts).here bytes
 
--- the bytes match, or a front of them that a slash follows
+-- the glob matches the byte string or a prefix of it that `/` follows
 abbrev pub IsPrefixMatch : GlobSpec → List ℕ → Type 0
 IsPrefixMatch g bytes = IsMatch g bytes ⊎ ((front rest : List ℕ) × (bytes ≡ front ++ 47 ∷ rest)
     × IsMatch g front)

@@ -1,4 +1,5 @@
--- A plain, slow program for the meaning of a glob: it goes back wherever a star may stand for more.
+-- Executable semantics of globs: a backtracking matcher in continuation-passing style, clear but
+-- slow.
 -- Cited by contracts of public items through jj_matchers.Patterns.
 use Rattle.std.specs.Prelude.{ℕ, Bool, true, false, ◌==◌, ◌&&◌, ◌||◌, List, [], ◌∷◌, Result, Ok, Err}
 use Rattle.jj_globs.specs.declared.glob.token.Part.{Part}
@@ -10,21 +11,21 @@ use Rattle.jj_globs.specs.GlobText.{tokens_of}
 use Rattle.jj_globs.specs.declared.glob.token.Options.{Options}
 use Rattle.jj_globs.specs.GlobMeaning.{same_byte, is_plain, in_class}
 
--- a test of bytes
+-- a test of byte strings: a matcher, or the continuation of one
 abbrev pub Test : Type 0
 Test = List ℕ → Bool
 
--- one byte that passes, and then bytes that pass
+-- a byte that passes p, then the continuation
 abbrev pub one : (ℕ → Bool) → Test → Test
 one p next [] = false
 one p next (b ∷ bs) = p b && next bs
 
--- bytes that pass, and then bytes that pass
+-- any number of bytes that pass p, then the continuation
 abbrev pub many : (ℕ → Bool) → Test → Test
 many p next [] = next []
 many p next (b ∷ bs) = next (b ∷ bs) || (p b && many p next bs)
 
--- some slash, and then bytes that pass
+-- any bytes up to some `/`, then the continuation
 abbrev pub past_slash : Test → Test
 past_slash next [] = false
 past_slash next (b ∷ bs) = ((b == 47) && next bs) || past_slash next bs
@@ -35,6 +36,7 @@ is_slash b = b == 47
 abbrev pub any_byte : ℕ → Bool
 any_byte b = true
 
+-- a part, then the continuation
 abbrev pub part_then : Options → Part → Test → Test
 part_then o (Byte c) next bs = one (same_byte o c) next bs
 part_then o AnyByte next bs = one (is_plain o) next bs
@@ -45,8 +47,9 @@ part_then o InnerDirs next bs = one is_slash (λ rest. next rest || past_slash n
 part_then o Below next bs = one is_slash (many any_byte next) bs
 part_then o Everything next bs = many any_byte next bs
 
--- what a place accepts; and for each group that is open there, what its alternatives still to come
--- accept, and what follows it
+-- state of the matcher, as `Reading` is that of the parser: the test of the rest of the sequence
+-- with all that follows; and for each open group the test of its alternatives so far, and of the
+-- rest after the group
 pub record Tests : Type 0 where
   pub here : Test
   pub outer : List (Test × Test)
@@ -69,7 +72,7 @@ abbrev pub is_empty : Test
 is_empty [] = true
 is_empty (b ∷ bs) = false
 
--- where what follows the tokens is accepted by this test
+-- the tests of tokens that are followed by `end`
 abbrev pub tests_before : Options → Test → List Token → Tests
 tests_before o end [] = record { here = end; outer = [] }
 tests_before o end (t ∷ ts) = test_before o t (tests_before o end ts)
@@ -77,6 +80,7 @@ tests_before o end (t ∷ ts) = test_before o t (tests_before o end ts)
 abbrev pub tests_of : Options → List Token → Tests
 tests_of o ts = tests_before o is_empty ts
 
+-- the glob matches, does not match, or is malformed
 pub data Verdict : Type 0 where
   yes : Verdict
   no : Verdict
@@ -90,6 +94,6 @@ abbrev pub judge : Options → List ℕ → Result (List Token) GlobError → Ve
 judge o bytes (Ok ts) = verdict_of ((tests_of o ts).here bytes)
 judge o bytes (Err e) = faulty e
 
--- whether the text is a glob, and stands for the bytes
+-- parses the pattern and matches it against the bytes
 abbrev pub matches : Options → List ℕ → List ℕ → Verdict
 matches o text bytes = judge o bytes (tokens_of text)

@@ -1,5 +1,5 @@
--- Groups of literal alternatives, and steps in which the alternatives share their fronts: what the
--- steps accept, seen from the word whose bytes are being put before them, the last byte first.
+-- Tries of literal alternatives: which byte strings they accept. The trie is built from the last
+-- byte of the last literal, so a literal is seen from its end while its bytes are prepended.
 -- Machinery of private functions and fields.
 use Rattle.std.specs.Prelude.{◌≡◌, ℕ, ◌≤◌, ◌==◌, ◌||◌, Bool, List, [], ◌∷◌, ◌++◌, length, reverse, take, if◌then◌else◌}
 use Rattle.std.specs.List.{list_any}
@@ -16,16 +16,16 @@ use Rattle.jj_globs.specs.GlobLowering.{test_at}
 
 -- 1. Words.
 
--- a word: its bytes
+-- a literal alternative
 abbrev pub Word : Type 0
 Word = List ℕ
 
--- the word, and then what passes the test
+-- the word, then the continuation
 abbrev pub literal : Options → Word → Test → Test
 literal o [] t = t
 literal o (c ∷ cs) t = one (same_byte o c) (literal o cs t)
 
--- one of the words, and then what passes the test
+-- one of the words, then the continuation
 abbrev pub any_word : Options → List Word → Test → Test
 any_word o words t bs = list_any (λ word. literal o word t bs) words
 
@@ -39,46 +39,47 @@ abbrev pub further_alternatives : List Word → List Token
 further_alternatives [] = Close ∷ []
 further_alternatives (word ∷ words) = Or ∷ letters word ++ further_alternatives words
 
--- the group of the words
+-- the tokens of a group with these alternatives
 abbrev pub group_of : List Word → List Token
 group_of [] = []
 group_of (word ∷ words) = Open ∷ letters word ++ further_alternatives words
 
--- 2. Steps before others.
+-- 2. Prepended steps.
 
--- the new steps are the old ones and some before them
+-- the old steps are a suffix of the new ones
 abbrev pub Grows : List Step → List Step → Type 0
 Grows old new = (more : List Step) × (new ≡ more ++ old)
 
--- the steps accept one of the words, and then what the old ones did
+-- the new steps accept one of the words, then the continuation that the old ones accept
 pub record AddsWords (words : List Word) (old new : List Step) : Type 0 where
   pub same : (o : Options) (below : Bool) (bs : List ℕ)
       → answers o below new 0 bs ≡ any_word o words (answers o below old 0) bs
   pub grows : Grows old new
   pub inside : StaysInside old → StaysInside new
 
--- 3. Branches, the innermost first: places that words lead to which part from the current one
--- after so many of its bytes.
+-- 3. Branches, the innermost first: states at which other words leave the current one after `depth`
+-- bytes.
 
--- the test, or what a branch accepts that stands after so many bytes
+-- the test, or that of the branch at this depth
 abbrev pub with_branch : Options → Bool → List Step → ℕ → List Branch → Test → Test
 with_branch o below ss depth [] t bs = t bs
 with_branch o below ss depth (b ∷ branches) t bs =
     if b.depth == depth then t bs || test_at o below ss b.place bs else t bs
 
--- the branches that are left after so many bytes
+-- the branches without the one at this depth
 abbrev pub without_branch : ℕ → List Branch → List Branch
 without_branch depth [] = []
 without_branch depth (b ∷ branches) = if b.depth == depth then branches else b ∷ branches
 
--- what bytes of a word accept, the last byte first, with the branches before them
+-- the test of a reversed word before t, with its branches: each byte is prepended, then the branch
+-- before it joined
 abbrev pub up : Options → Bool → List Step → Word → List Branch → Test → Test
 up o below ss [] branches t = t
 up o below ss (c ∷ cs) branches t =
     up o below ss cs (without_branch (length cs) branches)
     (with_branch o below ss (length cs) branches (one (same_byte o c) t))
 
--- the same, where a branch may also stand after all bytes
+-- `up` after the branch at the end of the word is joined
 abbrev pub up_from : Options → Bool → List Step → Word → List Branch → Test → Test
 up_from o below ss cs branches t =
     up o below ss cs (without_branch (length cs) branches)
@@ -89,7 +90,7 @@ abbrev pub LeadInside : ℕ → List Branch → Type 0
 LeadInside end [] = Unit {0}
 LeadInside end (b ∷ branches) = (b.place ≤ end) × LeadInside end branches
 
--- the branch after so many bytes, if there is one, was joined to the steps
+-- the branch at this depth, if there is one, was joined to the steps
 pub record JoinsBranch (depth : ℕ) (old : List Step) (branches : List Branch) (new : List Step)
     (rest : List Branch) : Type 0 where
   pub same : (o : Options) (below : Bool) (bs : List ℕ) → answers o below new 0 bs
@@ -98,7 +99,7 @@ pub record JoinsBranch (depth : ℕ) (old : List Step) (branches : List Branch) 
   pub grows : Grows old new
   pub inside : StaysInside old → StaysInside new
 
--- the bytes of the word from a place on were put before the steps, with the branches among them
+-- the bytes of the word after the first `from` were prepended, with the branches among them
 pub record PutsBytes (word : Word) (from : ℕ) (old : List Step) (branches : List Branch)
     (new : List Step) (rest : List Branch) : Type 0 where
   pub same : (o : Options) (below : Bool) (bs : List ℕ) → LeadInside (length old) branches

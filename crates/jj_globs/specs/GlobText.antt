@@ -1,4 +1,4 @@
--- Which tokens a glob's text reads as, or its first fault.
+-- Parsing of globs: the tokens of a pattern, or its first syntax error.
 -- Cited by contracts of public items through GlobFront, GlobMeaning, GlobPlain, GlobReads,
 -- jj_matchers.Patterns, jj_program.WalkCommand, jj_strings.PatternFaults.
 use Rattle.std.specs.Prelude.{ℕ, zero, suc, Bool, true, false, ◌||◌, nat_lt, nat_le, ◌==◌, if◌then◌else◌, List, [], ◌∷◌, ◌++◌, map, reverse, Result, Ok, Err}
@@ -14,7 +14,7 @@ use Rattle.jj_globs.specs.declared.glob.sign.Place.TheVariants.{Start, LeadingRu
 use Rattle.jj_globs.specs.declared.glob.error.GlobError.{GlobError}
 use Rattle.jj_globs.specs.declared.glob.error.GlobError.TheVariants.{UnclosedClass, InvalidRange, NonAsciiRange, UnopenedAlternates, UnclosedAlternates, DanglingEscape}
 
--- 1. Signs: the bytes with a meaning in a glob by name.
+-- 1. The role of each byte in the syntax.
 
 abbrev pub sign_of : ℕ → Sign
 sign_of b =
@@ -47,8 +47,9 @@ byte_of Dash = 45
 byte_of Backslash = 92
 byte_of (Other b) = b
 
--- 2. Words: escapes and classes are read. A fault is the last word.
+-- 2. Words: escapes and classes are parsed. A syntax error is the last word.
 
+-- a lexical unit of a pattern
 pub data Word : Type 0 where
   question : Word
   asterisk : Word
@@ -60,16 +61,18 @@ pub data Word : Type 0 where
   class : Bool → List ByteRange → Word
   fault : GlobError → Word
 
+-- the range of one byte
 abbrev pub single : Sign → ByteRange
 single s = record { first = byte_of s; last = byte_of s }
 
--- the fault of a range between these bytes, if it has one
+-- the syntax error of a range with these bounds if it has one, else `good`
 abbrev pub range_fault : ℕ → ℕ → List Word → List Word
 range_fault first last good =
     if nat_le 128 first || nat_le 128 last then fault NonAsciiRange ∷ [] else
     if nat_lt last first then fault InvalidRange ∷ [] else good
 
 unfoldable mutual
+  -- the words of a pattern
   pub words : List Sign → List Word
   words [] = []
   words (Question ∷ s) = question ∷ words s
@@ -86,12 +89,13 @@ unfoldable mutual
   words (OpenBracket ∷ c ∷ s) = items false [] (single c) s
   words (c ∷ s) = literal (byte_of c) ∷ words s
 
-  -- the first item of a class: every sign stands for itself
+  -- the first item of a class, which is literal
   pub first_item : Bool → List Sign → List Word
   first_item negated [] = fault UnclosedClass ∷ []
   first_item negated (c ∷ s) = items negated [] (single c) s
 
-  -- the rest of a class, with its ranges so far, of which the last may still grow
+  -- the items of a class after the first: its complete ranges, and the last one, which a `-` may
+  -- extend
   pub items : Bool → List ByteRange → ByteRange → List Sign → List Word
   items negated before r [] = fault UnclosedClass ∷ []
   items negated before r (CloseBracket ∷ s) = class negated (before ++ r ∷ []) ∷ words s
@@ -103,18 +107,19 @@ unfoldable mutual
       (record { first = r.first; last = byte_of c }) s)
   items negated before r (c ∷ s) = items negated (before ++ r ∷ []) (single c) s
 
--- 3. The whole text.
+-- 3. Patterns that match everything.
 
--- a run of `**` joined by `/`, with or without a last `/`: such a text stands for any bytes
+-- only `**` components joined by `/`, with or without a last `/`: such a pattern matches every byte
+-- string
 abbrev pub only_dirs : List Sign → Bool
 only_dirs (Asterisk ∷ Asterisk ∷ []) = true
 only_dirs (Asterisk ∷ Asterisk ∷ Slash ∷ []) = true
 only_dirs (Asterisk ∷ Asterisk ∷ Slash ∷ s) = only_dirs s
 only_dirs s = false
 
--- 4. Tokens of any other text, read with the tokens so far, the last first.
+-- 4. Tokens of all other patterns, parsed with the tokens so far, the last first.
 
--- the place after the last token
+-- the position after the last token
 abbrev pub place_after : List Token → Place
 place_after [] = Start
 place_after (Open ∷ ts) = Start
@@ -124,27 +129,26 @@ place_after (part InnerDirs ∷ ts) = InnerRun
 place_after (part (Byte b) ∷ ts) = if b == 47 then AfterSlash else Elsewhere
 place_after ts = Elsewhere
 
--- the place after a group that left no token: a slash before it does not stand right before what
--- follows
+-- the position after a dropped group, where a `/` before the group does not count
 abbrev pub place_after_group : Place → Place
 place_after_group Start = Start
 place_after_group place = Elsewhere
 
--- where a `**` stands in its sequence, by whether a group that left no token is right before it,
--- and the tokens
+-- the position of a `**`, by whether a dropped group is right before it, and the tokens so far
 abbrev pub place_of : Bool → List Token → Place
 place_of true ts = place_after_group (place_after ts)
 place_of false ts = place_after ts
 
--- the tokens with one more, in place of the last one
+-- replaces the last token
 abbrev pub instead : Part → List Token → List Token
 instead p [] = part p ∷ []
 instead p (t ∷ ts) = part p ∷ ts
 
+-- appends a `**` that is no path component of its own
 abbrev pub two_stars : List Token → List Token
 two_stars ts = part Star ∷ part Star ∷ ts
 
--- the tokens after `**/`; a run such as `**/**/` counts as one
+-- appends `**/`; a run such as `**/**/` counts as one
 abbrev pub with_dirs : Place → List Token → List Token
 with_dirs Start ts = part LeadingDirs ∷ ts
 with_dirs LeadingRun ts = ts
@@ -152,39 +156,39 @@ with_dirs InnerRun ts = ts
 with_dirs AfterSlash ts = instead InnerDirs ts
 with_dirs Elsewhere ts = part (Byte 47) ∷ two_stars ts
 
--- the tokens after a `**` that ends its sequence, which is the whole text or an alternative
+-- appends a `**` that ends its sequence, which is the whole pattern or an alternative
 abbrev pub with_last_dirs : Place → List Token → List Token
 with_last_dirs LeadingRun ts = ts
 with_last_dirs AfterSlash ts = instead Below ts
 with_last_dirs InnerRun ts = instead Below ts
 with_last_dirs place ts = two_stars ts
 
--- the rest of the text ends this sequence
+-- the sequence ends here: at the end of the pattern, or of an alternative in a group
 abbrev pub ends_sequence : ℕ → List Word → Bool
 ends_sequence zero [] = true
 ends_sequence (suc n) (comma ∷ ws) = true
 ends_sequence (suc n) (close_brace ∷ ws) = true
 ends_sequence n ws = false
 
--- the tokens after a `,` in a group: an alternative without tokens is dropped
+-- appends the `,` of a group; an alternative without tokens is dropped
 abbrev pub with_or : List Token → List Token
 with_or (Open ∷ ts) = Open ∷ ts
 with_or (Or ∷ ts) = Or ∷ ts
 with_or ts = Or ∷ ts
 
--- the tokens after a `}`: so is a group without alternatives
+-- appends a `}`; an alternative without tokens is dropped, and so is a group without alternatives
 abbrev pub with_close : List Token → List Token
 with_close (Open ∷ ts) = ts
 with_close (Or ∷ ts) = Close ∷ ts
 with_close ts = Close ∷ ts
 
--- the `}` that is next closes a group without alternatives
+-- a `}` here closes a group without alternatives
 abbrev pub closes_nothing : List Token → Bool
 closes_nothing (Open ∷ ts) = true
 closes_nothing ts = false
 
--- from the number of open groups, whether a group that left no token is right before, and the
--- tokens so far
+-- parses the words, with the number of open groups, whether a dropped group is right before, and
+-- the tokens so far
 unfoldable pub read : ℕ → Bool → List Token → List Word → Result (List Token) GlobError
 read zero e ts [] = Ok (reverse ts)
 read (suc n) e ts [] = Err UnclosedAlternates
@@ -203,7 +207,7 @@ read zero e ts (close_brace ∷ ws) = Err UnopenedAlternates
 read (suc n) e ts (close_brace ∷ ws) = read n (closes_nothing ts) (with_close ts) ws
 read n e ts (fault g ∷ ws) = Err g
 
--- what a text reads as: its tokens, or its first fault
+-- the tokens of a pattern, or its first syntax error
 unfoldable pub tokens_of : List ℕ → Result (List Token) GlobError
 tokens_of text = if only_dirs (map sign_of text) then Ok (part Everything ∷ []) else read zero false
     [] (words (map sign_of text))

@@ -1,4 +1,5 @@
-//! Globs of bytes: what a text reads as, and which bytes it stands for.
+//! Globs over byte strings: a parser, a compiler to an NFA (Thompson's construction), and its
+//! simulation with bit sets.
 mod byte_set;
 mod class;
 mod ending;

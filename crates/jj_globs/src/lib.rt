@@ -1,4 +1,4 @@
-//! Globs of bytes.
+//! Globs over byte strings: parser, compiler and matcher.
 #![tactic(auto)]
 
 pub mod glob;

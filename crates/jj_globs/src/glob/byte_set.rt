@@ -1,4 +1,4 @@
-//! Sets of bytes, in bits: what a class holds, looked up in one step.
+//! Set of bytes as a bitmap of 256 bits: a compiled character class.
 ghost use Rattle.std.specs.Prelude.{false, ◌≡◌, ◌↔◌, ◌⊎◌, ℕ, length, IsTrue};
 ghost use Rattle.jj_globs.specs.GlobPlaces.{IsLive, in_set};
 ghost use Rattle.jj_globs.specs.GlobMeaning.{in_class, in_range, any_range, lower, upper};
@@ -6,8 +6,7 @@ ghost use Rattle.jj_globs.specs.GlobMeaning.{in_class, in_range, any_range, lowe
 use crate::glob::row::put;
 use crate::glob::token::{ByteRange, Class, Options};
 
-/// A set of bytes, or with `negated` all bytes but those: the byte b is the bit b % 64 of the word
-/// b / 64.
+/// A set of bytes, complemented if `negated`. Byte `b` is bit `b % 64` of word `b / 64`.
 #[derive(Clone, Copy, Drop)]
 pub struct ByteSet {
     pub words: [u64; 4],
@@ -15,7 +14,6 @@ pub struct ByteSet {
 }
 
 impl ByteSet {
-    // Whether the set holds the byte.
     pub(crate) fn holds(&self, byte: u8) -> bool
         ensures { result ≡ in_set self.now byte }
     {
@@ -23,8 +21,8 @@ impl ByteSet {
         if self.negated { !found } else { found }
     }
 
-    // The bytes that the ranges hold, with `icase` a letter in either case, or with `negated` all
-    // others.
+    // Builds the set of a character class: the union of the ranges, closed under ASCII case with
+    // `icase`, complemented if `negated`.
     pub(crate) fn of_ranges(ranges: &[ByteRange], options: Options, negated: bool) -> ByteSet
         ensures { (b : ℕ) → in_set result b ≡ in_class options (negated, ranges.now) b }
     {
@@ -41,7 +39,6 @@ impl ByteSet {
     }
 }
 
-// Puts the bytes of all ranges into an empty set.
 fn put_ranges(words: &mut [u64], ranges: &[ByteRange])
     requires room { length words.old ≡ 4 }
     requires none { (b : ℕ) → IsLive words.old b → ⊥ }
@@ -53,7 +50,6 @@ fn put_ranges(words: &mut [u64], ranges: &[ByteRange])
     }
 }
 
-// Puts the bytes of a range into a set.
 fn put_range(words: &mut [u64], range: ByteRange)
     requires room { length words.old ≡ 4 }
     ensures live { (b : ℕ) → IsLive words.new b ↔ (IsLive words.old b ⊎ IsTrue (in_range b range)) }
@@ -64,7 +60,7 @@ fn put_range(words: &mut [u64], range: ByteRange)
     }
 }
 
-// Puts each letter into a set that holds it in its other case.
+// Closes the set under ASCII case. `found` is the set before.
 fn put_other_case(words: &mut [u64], found: ByteSet)
     requires room { length words.old ≡ 4 }
     requires same { found.words ≡ words.old }

@@ -1,4 +1,4 @@
-//! Reading a class such as `[a-z]` or `[!.]`.
+//! Parser of character classes such as `[a-z]` or `[!.]`.
 ghost use Rattle.std.specs.Prelude.{◌≡◌, ◌≢◌, ◌<◌, ℕ, List, [], ◌∷◌, ◌++◌, map, length, MatchOption, MatchResult, IfOk, IfErr, ◌≤◌};
 ghost use Rattle.jj_globs.specs.GlobText.{sign_of, words, items, first_item, single, class, fault, range_fault};
 ghost use Rattle.jj_globs.specs.GlobReads.{IsClassRead, IsFault};
@@ -8,7 +8,7 @@ use crate::glob::sign::{Sign, next_sign};
 use crate::glob::token::{ByteRange, Class};
 use std::alloc::Global;
 
-// A class, from after its `[` on, and what follows it.
+// Parses a class after its `[`. Returns it and the remaining pattern.
 pub(crate) fn read_class<'a>(alloc: Global, text: &'a [u8]) -> Result<(Class, &'a [u8]), GlobError>
     ensures read { MatchResult result
         (λ read. IsClassRead (words (Sign.OpenBracket ∷ map sign_of text.now)) read.0 read.1.now)
@@ -25,7 +25,7 @@ pub(crate) fn read_class<'a>(alloc: Global, text: &'a [u8]) -> Result<(Class, &'
     }
 }
 
-// The items of a class, from its first one on: every sign stands for itself there.
+// Parses the items of a class up to its `]`. The first item is literal, whatever it is.
 fn read_items<'a>(
     alloc: Global,
     negated: bool,
@@ -74,7 +74,7 @@ fn read_items<'a>(
     Err(GlobError::UnclosedClass)
 }
 
-// The range between two bytes of a class.
+// Fails if a bound is not ASCII or the range is empty.
 fn byte_range(first: u8, last: u8) -> Result<ByteRange, GlobError>
     ensures { MatchResult result
         (λ range. (range ≡ record { first = first; last = last })

@@ -1,4 +1,4 @@
-//! The literal end of a glob: bytes with which every text ends that the glob stands for.
+//! Literal suffix of a glob: bytes with which every match ends, compared before the NFA runs.
 ghost use Rattle.std.specs.Prelude.{◌≡◌, ◌⊎◌, ◌+◌, ◌≤◌, reverse};
 ghost use Rattle.jj_globs.specs.GlobPlaces.{StaysInside, further_of};
 ghost use Rattle.jj_globs.specs.GlobEnding.{IsByte, IsLiteralFrom, fits_back};
@@ -6,7 +6,8 @@ ghost use Rattle.jj_globs.specs.GlobEnding.{IsByte, IsLiteralFrom, fits_back};
 use crate::glob::step::Step;
 use crate::glob::token::Options;
 
-// The place from which on each step is a byte, and past which no step before it leads.
+// Returns the first state of the literal suffix: the least one such that this step and all later
+// ones are literal bytes, and no earlier step leads past it.
 pub(crate) fn literal_end(steps: &[Step]) -> usize
     requires inside { StaysInside steps.now }
     ensures { IsLiteralFrom steps.now result }
@@ -21,7 +22,7 @@ pub(crate) fn literal_end(steps: &[Step]) -> usize
     literal
 }
 
-// The furthest place to which the step at `place` leads, or 0 where it is a byte.
+// Returns the furthest target of a step, or 0 for a literal byte.
 fn place_after(step: Step, place: usize, end: usize) -> usize
     requires inside { place + 1 + further_of step ≤ end }
     ensures after { IsByte step ⊎ (result ≡ place + 1 + further_of step) }
@@ -35,7 +36,7 @@ fn place_after(step: Step, place: usize, end: usize) -> usize
     }
 }
 
-// Whether the bytes end as these literal steps do.
+// Whether the bytes end with these literals.
 pub(crate) fn ends_as(options: Options, literals: &[Step], bytes: &[u8]) -> bool
     ensures { result ≡ fits_back options (reverse literals.now) (reverse bytes.now) }
 {

@@ -1,11 +1,11 @@
-//! Why a text is no glob.
+//! Syntax errors of globs.
 ghost use Rattle.std.specs.Prelude.{◌≡◌};
 ghost use Rattle.jj_globs.specs.declared.glob.error.GlobError.{GlobError};
 
 use std::alloc::{AllocError, AllocFailed};
 use thiserror::Error;
 
-/// Why a text is no glob: the first fault, read from left to right.
+/// An error of `Glob::parse`: the first syntax error from left to right, or `Memory`.
 #[derive(Debug, Drop, PartialEq, Eq, Error)]
 pub enum GlobError {
     #[error("unclosed character class; missing ']'")]

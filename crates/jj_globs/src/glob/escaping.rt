@@ -1,4 +1,4 @@
-//! A text as a glob that stands for it alone.
+//! Escaping: a glob that matches one string only.
 ghost use Rattle.std.specs.Prelude.{◌≡◌, ◌++◌, IfOk, OnOk, encode_utf8};
 ghost use Rattle.std.specs.List.{flat_map};
 ghost use Rattle.std.specs.String.{string_bytes};
@@ -6,14 +6,14 @@ ghost use Rattle.jj_globs.specs.GlobEscape.{StandsForAlone, literal_glob, escape
 
 use std::alloc::{AllocError, Global};
 
-/// Whether the byte is one of `? * [ ] { } \`, which do not stand for themselves in a glob.
+/// Whether the byte is one of `? * [ ] { } \`, which `escape` puts in brackets.
 pub fn is_special(byte: u8) -> bool
     ensures { result ≡ is_special byte }
 {
     matches!(byte, b'?' | b'*' | b'[' | b']' | b'{' | b'}' | b'\\')
 }
 
-// Writes the character as it stands for itself.
+// Appends the character, in brackets if it is special.
 fn push_escaped(glob: &mut String, c: char) -> Result<(), AllocError>
     ensures { OnOk result (string_bytes glob.new ≡ string_bytes glob.old
         ++ flat_map escaped_byte (encode_utf8 c)) }
@@ -30,7 +30,8 @@ fn push_escaped(glob: &mut String, c: char) -> Result<(), AllocError>
     }
 }
 
-/// The text with each of `? * [ ] { } \` in brackets: a glob that stands for the text alone.
+/// Returns the string with each of `? * [ ] { } \` in brackets. Without `icase`, this glob matches
+/// the string and nothing else: `a[?]` matches `a?` only.
 pub fn escape(alloc: Global, text: &str) -> Result<String, AllocError>
     ensures text { IfOk result (λ glob. string_bytes glob ≡ literal_glob text.now) }
     ensures alone { IfOk result (λ glob. StandsForAlone (string_bytes glob) text.now) }

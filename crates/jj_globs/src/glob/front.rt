@@ -1,12 +1,12 @@
-//! The literal front of a glob: bytes with which every text begins that the glob stands for.
+//! Literal prefix of a glob: bytes with which every match begins.
 ghost use Rattle.std.specs.Prelude.{◌≡◌, IfOk};
 ghost use Rattle.jj_globs.specs.GlobFront.{literal_front};
 
 use crate::glob::token::{Options, Part, Token};
 use std::alloc::{AllocError, Global};
 
-// The bytes that stand before the first other token. There are none where letters match in either
-// case.
+// Collects the literal bytes before the first other token. There are none with `icase`, since a
+// letter then matches two bytes.
 pub(crate) fn front_of_tokens(
     alloc: Global,
     tokens: &[Token],

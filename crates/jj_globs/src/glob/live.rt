@@ -1,4 +1,5 @@
-//! A match: the places that are live, led over the bytes one by one.
+//! Thompson NFA simulation: sets of live states, in bits, advanced byte by byte. Epsilon
+//! transitions only lead forward, so one ascending pass over a set closes it.
 ghost use Rattle.std.specs.Prelude.{◌≡◌, ◌↔◌, ◌⊎◌, ◌+◌, ◌*◌, ◌<◌, ◌≤◌, ℕ, Bool, true, false};
 ghost use Rattle.std.specs.Prelude.{length, slice_get, Some, IfSome, IsTrue};
 ghost use Rattle.jj_globs.specs.declared.glob.step.Step.{Step as StepValue};
@@ -11,8 +12,8 @@ use crate::glob::row::{MOST_GROUPS, MOST_WORDS, Row};
 use crate::glob::step::{Step, take_byte};
 use crate::glob::token::Options;
 
-// Makes a place live before the bytes that are left. A step of one byte is taken at once, so that a
-// place whose byte is another one is never live.
+// Makes a state live before the remaining bytes. If its step consumes one byte, the transition is
+// taken at once: on a match the next state is live after the byte, else none is.
 fn enter<const WORDS: usize, const GROUPS: usize>(
     options: Options,
     steps: &[Step],
@@ -41,8 +42,8 @@ fn enter<const WORDS: usize, const GROUPS: usize>(
     }
 }
 
-// Enters the places that a fork leads to. Where the first of them is a byte, no other place leads
-// to the second one: so a fork there is passed through at once.
+// Enters both targets of a fork. If the first target is a byte, a fork at the second one is the
+// next alternative of a group, to which no other state leads: it is followed at once.
 fn enter_forks<const WORDS: usize, const GROUPS: usize>(
     options: Options,
     steps: &[Step],
@@ -72,7 +73,7 @@ fn enter_forks<const WORDS: usize, const GROUPS: usize>(
     enter(options, steps, second, left, now, next);
 }
 
-// How far the fork at `second` leads, where one is there and a byte at `first`.
+// Returns the offset of the fork at `second` if the step at `first` is a byte.
 fn fork_after_byte(steps: &[Step], first: usize, second: usize) -> Option<usize>
     ensures { IfSome result (λ further. slice_get steps.now second ≡ Some (Step.Fork further)) }
 {
@@ -82,8 +83,8 @@ fn fork_after_byte(steps: &[Step], first: usize, second: usize) -> Option<usize>
     }
 }
 
-// Enters the places that the step of a live place leads to: at once in `now`, and after the first
-// byte that is left in `next`.
+// Follows the transitions of a live state: epsilon transitions into `now`, transitions over the
+// first remaining byte into `next`.
 fn lead_on<const WORDS: usize, const GROUPS: usize>(
     options: Options,
     steps: &[Step],
@@ -122,8 +123,8 @@ fn lead_on<const WORDS: usize, const GROUPS: usize>(
     }
 }
 
-// Leads all live places over the first byte that is left: after it the places of `next` are live.
-// Answers whether the end was live and accepts.
+// Advances the simulation over the first remaining byte: empties `now` and fills `next`. Returns
+// whether the end was live and accepts.
 fn pass<const WORDS: usize, const GROUPS: usize>(
     options: Options,
     below: bool,
@@ -156,7 +157,7 @@ fn pass<const WORDS: usize, const GROUPS: usize>(
     false
 }
 
-// Whether the end accepts what is left.
+// Whether the end accepts the remaining bytes: none, or with `below` those that begin with `/`.
 fn is_end(below: bool, left: &[u8]) -> bool
     ensures { result ≡ end_test below left.now }
 {
@@ -166,8 +167,8 @@ fn is_end(below: bool, left: &[u8]) -> bool
     }
 }
 
-// What is left after bytes that change nothing: all of them where no place is live, and where one
-// alone is, that of any bytes before a certain one, those up to that one.
+// Skips bytes that change nothing: all of them if no state is live, and those up to the next match
+// of its byte if the only live state is that of any bytes before a literal byte.
 fn skip<'t, const WORDS: usize, const GROUPS: usize>(
     options: Options,
     steps: &[Step],
@@ -195,7 +196,7 @@ fn skip<'t, const WORDS: usize, const GROUPS: usize>(
     left
 }
 
-// The byte that comes after any bytes, where the place stands for any bytes and a byte.
+// Returns the literal byte after the state, if its step matches any bytes.
 fn awaited_byte(steps: &[Step], place: usize) -> Option<u8>
     requires { place ≤ length steps.now }
     ensures { IfSome result (λ own. (slice_get steps.now place ≡ Some Step.Everything)
@@ -207,7 +208,7 @@ fn awaited_byte(steps: &[Step], place: usize) -> Option<u8>
     }
 }
 
-// The bytes from the first one on that is this one.
+// Skips to the first byte that matches `own`, or to the end.
 fn from_byte<'t>(options: Options, own: u8, bytes: &'t [u8]) -> &'t [u8]
     ensures same { (t : Test) → many any_byte (one (same_byte options own) t) bytes.now
         ≡ many any_byte (one (same_byte options own) t) result.now }
@@ -223,8 +224,8 @@ fn from_byte<'t>(options: Options, own: u8, bytes: &'t [u8]) -> &'t [u8]
     left
 }
 
-// Whether the steps stand for the bytes, or with `below` for a front of them that `/` follows. The
-// two rows are empty at first.
+// Whether the NFA accepts the bytes, or with `below` a prefix of them that `/` follows. Both sets
+// are empty at first, and swap roles after each byte.
 fn run<const WORDS: usize, const GROUPS: usize>(
     options: Options,
     below: bool,
@@ -258,8 +259,8 @@ fn run<const WORDS: usize, const GROUPS: usize>(
     pass(options, below, steps, left, now, next)
 }
 
-// Whether the steps stand for the bytes, or with `below` for a front of them that `/` follows, in
-// two rows of so many words, in so many groups of 64.
+// Whether the NFA accepts the bytes, or with `below` a prefix of them that `/` follows. The two
+// sets are on the stack; without inlining, a call takes only the stack of its own size.
 #[inline(never)]
 pub(crate) fn run_in_rows<const WORDS: usize, const GROUPS: usize>(
     options: Options,

@@ -1,4 +1,5 @@
-//! The tokens so far, after one more piece of a glob's text.
+//! Actions of the parser: append to the tokens so far, drop empty alternatives and groups, and
+//! merge runs of `**/`.
 ghost use Rattle.std.specs.Prelude.{◌≡◌, ◌<◌, ℕ, Bool, true, false, List, [], ◌∷◌, ◌++◌, reverse, OnOk, IfOk};
 ghost use Rattle.jj_globs.specs.declared.glob.sign.Sign.TheVariants.{Comma};
 ghost use Rattle.jj_globs.specs.GlobText.{byte_of, place_after, place_after_group, place_of, with_or, with_close, with_dirs, with_last_dirs, two_stars, instead, closes_nothing};
@@ -7,7 +8,7 @@ use crate::glob::sign::Place;
 use crate::glob::token::{Part, Token};
 use std::alloc::AllocError;
 
-// A `,`, which stands for itself where no group is open.
+// Appends a `,`, which is a literal byte outside of groups.
 pub(crate) fn put_comma(tokens: &mut Vec<Token>, open_groups: usize) -> Result<(), AllocError>
     ensures plain { OnOk result (open_groups ≡ 0 → reverse tokens.new.items
         ≡ Token.Part (Part.Byte (byte_of Comma)) ∷ reverse tokens.old.items) }
@@ -21,7 +22,7 @@ pub(crate) fn put_comma(tokens: &mut Vec<Token>, open_groups: usize) -> Result<(
     Ok(())
 }
 
-// The `,` of a group ends an alternative: one without tokens is dropped.
+// Ends an alternative of a group; an empty one is dropped.
 fn put_or(tokens: &mut Vec<Token>) -> Result<(), AllocError>
     ensures { OnOk result (reverse tokens.new.items ≡ with_or (reverse tokens.old.items)) }
 {
@@ -37,8 +38,8 @@ fn put_or(tokens: &mut Vec<Token>) -> Result<(), AllocError>
     Ok(())
 }
 
-// The `}` of a group: an alternative without tokens is dropped, and so is a group without
-// alternatives. Tells whether the group was dropped.
+// Closes a group. An empty alternative is dropped, and so is a group without alternatives. Returns
+// whether the group was dropped.
 pub(crate) fn put_close(tokens: &mut Vec<Token>) -> Result<bool, AllocError>
     ensures tokens { OnOk result (reverse tokens.new.items
         ≡ with_close (reverse tokens.old.items)) }
@@ -56,7 +57,7 @@ pub(crate) fn put_close(tokens: &mut Vec<Token>) -> Result<bool, AllocError>
     Ok(false)
 }
 
-// A `**/` at a place.
+// Appends a `**/`, or merges it with the token before it.
 pub(crate) fn put_dirs(tokens: &mut Vec<Token>, place: Place) -> Result<(), AllocError>
     ensures { OnOk result (reverse tokens.new.items ≡ with_dirs place (reverse tokens.old.items)) }
 {
@@ -73,7 +74,7 @@ pub(crate) fn put_dirs(tokens: &mut Vec<Token>, place: Place) -> Result<(), Allo
     Ok(())
 }
 
-// A `**` at a place where its sequence ends.
+// Appends a `**` that ends its sequence.
 pub(crate) fn put_last_dirs(tokens: &mut Vec<Token>, place: Place) -> Result<(), AllocError>
     ensures { OnOk result (reverse tokens.new.items
         ≡ with_last_dirs place (reverse tokens.old.items)) }
@@ -88,7 +89,7 @@ pub(crate) fn put_last_dirs(tokens: &mut Vec<Token>, place: Place) -> Result<(),
     Ok(())
 }
 
-// Two stars that stand for no directories.
+// Appends a `**` that is no path component of its own: two single stars.
 pub(crate) fn put_two_stars(tokens: &mut Vec<Token>) -> Result<(), AllocError>
     ensures { OnOk result (reverse tokens.new.items ≡ two_stars (reverse tokens.old.items)) }
 {
@@ -97,7 +98,7 @@ pub(crate) fn put_two_stars(tokens: &mut Vec<Token>) -> Result<(), AllocError>
     Ok(())
 }
 
-// The part in the place of the last token.
+// Replaces the last token.
 fn put_instead(tokens: &mut Vec<Token>, part: Part) -> Result<(), AllocError>
     ensures { OnOk result (reverse tokens.new.items ≡ instead part (reverse tokens.old.items)) }
 {
@@ -106,7 +107,7 @@ fn put_instead(tokens: &mut Vec<Token>, part: Part) -> Result<(), AllocError>
     Ok(())
 }
 
-// Where a `**` stands that comes next.
+// Returns the position of a `**` that comes next.
 pub(crate) fn place_of(is_after_group: bool, tokens: &[Token]) -> Place
     ensures { result ≡ place_of is_after_group (reverse tokens.now) }
 {

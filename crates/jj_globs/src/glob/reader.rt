@@ -1,4 +1,5 @@
-//! Reading the text of a glob, from left to right, into tokens.
+//! Single-pass parser of globs. Groups need no stack: their delimiters become tokens, and a counter
+//! of open groups checks the nesting.
 ghost use Rattle.std.specs.Prelude.{◌≡◌, ◌≢◌, ℕ, ◌+◌, ◌<◌, ◌≤◌, ◌^◌, Bool, true, false, Ok, Err, List, [], ◌∷◌, ◌++◌, reverse, length, map, OnOk, IfOk, IfErr, MatchResult, MatchOption, IfSome, IsTrue, ◌↔◌};
 ghost use Rattle.jj_globs.specs.GlobText.{sign_of, words, read, tokens_of, place_after, place_after_group, place_of, with_or, with_close, with_dirs, with_last_dirs, two_stars, instead, closes_nothing, only_dirs};
 ghost use Rattle.jj_globs.specs.GlobReads.{IsReadingFault, IsFault, IsPartRead, ends_here};
@@ -11,7 +12,7 @@ use crate::glob::sign::{Sign, next_sign};
 use crate::glob::token::{Part, Token};
 use std::alloc::{AllocError, Global};
 
-// The tokens that a text reads as, or its first fault.
+// Parses a pattern into tokens, or returns its first error.
 pub(crate) fn read_tokens(alloc: Global, text: &[u8]) -> Result<Vec<Token>, GlobError>
     ensures { MatchResult result (λ tokens. tokens_of text.now ≡ Ok tokens.items)
         (λ error. IsReadingFault error (tokens_of text.now)) }
@@ -24,13 +25,13 @@ pub(crate) fn read_tokens(alloc: Global, text: &[u8]) -> Result<Vec<Token>, Glob
     Ok(tokens)
 }
 
-// The same of a text that does not stand for any bytes.
+// Parses a pattern that is not only `**` components.
 fn read_words(alloc: Global, text: &[u8]) -> Result<Vec<Token>, GlobError>
     requires plain { only_dirs (map sign_of text.now) ≡ false }
     ensures { MatchResult result (λ tokens. tokens_of text.now ≡ Ok tokens.items)
         (λ error. IsReadingFault error (tokens_of text.now)) }
 {
-    // Each open group is a byte of the text, so their number fits.
+    // Each open group is a byte of the pattern, so the counter does not overflow.
     let _len = text.len();
     let mut tokens = Vec::new(alloc);
     let mut rest = text;
@@ -67,7 +68,7 @@ fn read_words(alloc: Global, text: &[u8]) -> Result<Vec<Token>, GlobError>
     Ok(tokens)
 }
 
-// Whether the text is a run of `**` joined by `/`, with or without a last `/`.
+// Whether the pattern is only `**` components joined by `/`, with or without a last `/`.
 fn is_only_dirs(text: &[u8]) -> bool
     ensures { result ≡ only_dirs (map sign_of text.now) }
 {
@@ -87,8 +88,7 @@ fn is_only_dirs(text: &[u8]) -> bool
     false
 }
 
-// What the other signs begin, from after the sign on: a class, an escaped byte, any byte, or a
-// byte that stands for itself.
+// Parses a class, an escape, a `?` or a literal byte, after its first byte.
 fn read_part<'a>(alloc: Global, sign: Sign, text: &'a [u8]) -> Result<(Part, &'a [u8]), GlobError>
     requires no_star { sign ≢ Sign.Asterisk }
     requires no_open { sign ≢ Sign.OpenBrace }
@@ -113,7 +113,7 @@ fn read_part<'a>(alloc: Global, sign: Sign, text: &'a [u8]) -> Result<(Part, &'a
     }
 }
 
-// What follows a star: whether the text goes on with another one, and what follows that.
+// Strips a `*`, if the pattern begins with one.
 fn after_star(text: &[u8]) -> Option<&[u8]>
     ensures { MatchOption result ((rest : List Sign) → map sign_of text.now ≡ Sign.Asterisk ∷ rest
         → ⊥) (λ rest. map sign_of text.now ≡ Sign.Asterisk ∷ map sign_of rest.now) }
@@ -125,7 +125,6 @@ fn after_star(text: &[u8]) -> Option<&[u8]>
     }
 }
 
-// What follows two stars.
 fn after_two_stars(text: &[u8]) -> Option<&[u8]>
     ensures found { MatchOption result
         ((rest : List Sign) → map sign_of text.now ≡ Sign.Asterisk ∷ Sign.Asterisk ∷ rest → ⊥)
@@ -136,7 +135,6 @@ fn after_two_stars(text: &[u8]) -> Option<&[u8]>
     after_star(rest)
 }
 
-// What follows a slash.
 fn after_slash(text: &[u8]) -> Option<&[u8]>
     ensures { MatchOption result ((rest : List Sign) → map sign_of text.now ≡ Sign.Slash ∷ rest → ⊥)
         (λ rest. map sign_of text.now ≡ Sign.Slash ∷ map sign_of rest.now) }
@@ -148,7 +146,7 @@ fn after_slash(text: &[u8]) -> Option<&[u8]>
     }
 }
 
-// Whether the sequence ends here: the whole text, or an alternative of a group.
+// Whether the sequence ends here: at the end of the pattern, or of an alternative in a group.
 fn ends_sequence(open_groups: usize, text: &[u8]) -> bool
     ensures { result ≡ ends_here open_groups (map sign_of text.now) }
 {
@@ -162,7 +160,7 @@ fn ends_sequence(open_groups: usize, text: &[u8]) -> bool
     }
 }
 
-// The text from after a first star on.
+// Parses `*`, `**` or `**/` after its first `*`. Returns the remaining pattern.
 fn read_stars<'a>(
     tokens: &mut Vec<Token>,
     open_groups: usize,

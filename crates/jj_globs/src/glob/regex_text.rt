@@ -1,9 +1,9 @@
-//! The text of a regular expression over bytes that matches as a glob does. That it does so is
-//! shown by tests.
+//! Translation of a glob to a regular expression over bytes. Their equivalence is tested, not
+//! proved.
 use crate::glob::token::{ByteRange, Class, Options, Part, Token};
 use std::alloc::{AllocError, Global};
 
-// The text of the regular expression, in which `.` has to match a line feed too.
+// Translates the tokens. The `.` of the result has to match a line feed too.
 pub(crate) fn regex_of_tokens(
     alloc: Global,
     tokens: &[Token],
@@ -60,7 +60,7 @@ fn push_range(text: &mut String, range: ByteRange) -> Result<(), AllocError> {
     push_byte(text, range.last)
 }
 
-// Writes the byte as it stands for itself.
+// Appends a literal byte, escaped if it is a metacharacter or not ASCII.
 fn push_byte(text: &mut String, byte: u8) -> Result<(), AllocError> {
     match byte {
         b'\\'

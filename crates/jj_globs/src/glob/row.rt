@@ -1,18 +1,19 @@
-//! Places that are live, in bits, and rows of them that pass over words without a live place.
+//! Sets of NFA states as two-level bitmaps: a summary has a bit for each word, so that 64 empty
+//! words are skipped at once.
 ghost use Rattle.std.specs.Prelude.{true, [], ◌≡◌, ◌≢◌, ◌↔◌, ◌⊎◌, ℕ, ◌+◌, ◌*◌, ◌<◌, ◌≤◌, length, None, IfSome};
 ghost use Rattle.std.specs.Int.{bit_at};
 ghost use Rattle.jj_globs.specs.GlobPlaces.{IsLive};
 
 use std::marker::Model;
 
-// A row has at most so many words.
+// The most words of a set.
 pub(crate) const MOST_WORDS: usize = 16_384;
 
-// The words of a row are in at most so many groups of 64.
+// The most words of a summary.
 pub(crate) const MOST_GROUPS: usize = 256;
 
-/// Places that are live, in bits, seen as the words that hold them; and which words hold one, in
-/// bits too, so that 64 words without a live place are passed over at once.
+/// A set of NFA states as a two-level bitmap: bit `w` of the summary is set if word `w` is not
+/// zero. Contracts see the words.
 #[derive(Drop)]
 pub struct Row<const WORDS: usize, const GROUPS: usize> {
     words: [u64; WORDS],
@@ -31,7 +32,6 @@ impl<const WORDS: usize, const GROUPS: usize> Model for Row<WORDS, GROUPS> {
 }
 
 impl<const WORDS: usize, const GROUPS: usize> Row<WORDS, GROUPS> {
-    // A row without a live place.
     pub(crate) fn new() -> Self
         requires room { WORDS ≤ 64 * GROUPS }
         requires limit { GROUPS ≤ MOST_GROUPS }
@@ -43,7 +43,6 @@ impl<const WORDS: usize, const GROUPS: usize> Row<WORDS, GROUPS> {
         }
     }
 
-    // Makes a place live.
     pub(crate) fn put(&mut self, place: usize)
         requires room { place < 64 * WORDS }
         ensures live { (j : ℕ) → IsLive self.new j ↔ (IsLive self.old j ⊎ (j ≡ place)) }
@@ -52,7 +51,7 @@ impl<const WORDS: usize, const GROUPS: usize> Row<WORDS, GROUPS> {
         put(&mut self.summary, place / 64);
     }
 
-    // Takes out the first live place, of which none stands before `from`.
+    // Removes and returns the least state. The search starts at `from`, below which there is none.
     pub(crate) fn take(&mut self, from: usize) -> Option<usize>
         requires from { (j : ℕ) → IsLive self.old j → from ≤ j }
         ensures none { result ≡ None → (j : ℕ) → IsLive self.old j → ⊥ }
@@ -72,7 +71,6 @@ impl<const WORDS: usize, const GROUPS: usize> Row<WORDS, GROUPS> {
         Some(place)
     }
 
-    // Whether no place is live.
     pub(crate) fn is_empty(&self) -> bool
         ensures { result ≡ true → (j : ℕ) → IsLive self.now j → ⊥ }
     {
@@ -83,7 +81,7 @@ impl<const WORDS: usize, const GROUPS: usize> Row<WORDS, GROUPS> {
     }
 }
 
-// Makes a place live.
+// Sets a bit.
 pub(crate) fn put(words: &mut [u64], place: usize)
     requires room { place < 64 * length words.old }
     ensures live { (j : ℕ) → IsLive words.new j ↔ (IsLive words.old j ⊎ (j ≡ place)) }
@@ -93,7 +91,7 @@ pub(crate) fn put(words: &mut [u64], place: usize)
     words[word] = words[word] | 1u64 << (place % 64);
 }
 
-// Takes out a place.
+// Clears a bit.
 fn take_out(words: &mut [u64], place: usize)
     requires room { place < 64 * length words.old }
     ensures live { (j : ℕ) → IsLive words.new j ↔ (IsLive words.old j × (j ≢ place)) }
@@ -103,7 +101,7 @@ fn take_out(words: &mut [u64], place: usize)
     words[word] = words[word] & !(1u64 << (place % 64));
 }
 
-// Takes a word out of the summary if no bit of it is left.
+// Clears the bit of a word in the summary if no bit of the word is left.
 fn unmark_empty(summary: &mut [u64], word: usize, left: u64)
     requires room { word < 64 * length summary.old }
     ensures emptied { left ≡ 0
@@ -116,7 +114,6 @@ fn unmark_empty(summary: &mut [u64], word: usize, left: u64)
     }
 }
 
-// The place of the lowest bit that is set.
 fn lowest_bit(bits: u64) -> usize
     requires some { bits ≢ 0 }
     ensures { (result < 64) × (bit_at bits result ≡ 1)
@@ -125,7 +122,8 @@ fn lowest_bit(bits: u64) -> usize
     bits.trailing_zeros() as usize
 }
 
-// The first live place, of which none stands before `from`.
+// Returns the index of the first bit that is set. The search starts at `from`, below which there is
+// none.
 fn first_place(words: &[u64], from: usize) -> Option<usize>
     requires from { (j : ℕ) → IsLive words.now j → from ≤ j }
     requires room { length words.now ≤ MOST_WORDS }

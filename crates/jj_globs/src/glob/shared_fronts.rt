@@ -1,5 +1,5 @@
-//! Groups of literal alternatives, whose steps share the fronts of the alternatives: a match goes
-//! on from few places, however many alternatives there are.
+//! Groups of literal alternatives as tries: alternatives share the states of their common prefixes,
+//! so that few states are live at once, however many alternatives there are.
 ghost use Rattle.std.specs.Prelude.{◌≡◌, ◌≢◌, ◌++◌, ◌≤◌, [], List, length, map, reverse, take};
 ghost use Rattle.std.specs.Prelude.{IfOk, IfSome, MatchOption, OnOk};
 ghost use Rattle.jj_globs.specs.GlobSharing.{Word, group_of, AddsWords, JoinsBranch, PutsBytes};
@@ -8,18 +8,18 @@ use crate::glob::step::Step;
 use crate::glob::token::{Part, Token};
 use std::alloc::{AllocError, Global};
 
-/// Where words part: after so many bytes of the word that is put before the steps. The place is
-/// named by the number of steps after it.
+/// A branch of the trie: a state at which other literals leave the current one. States are named by
+/// the number of steps after them, since steps are emitted from the last one.
 #[derive(Clone, Copy, Drop)]
 pub struct Branch {
-    /// How many bytes stand before it.
+    /// The length of the common prefix.
     pub depth: usize,
-    /// Where the words begin that part from the current one there.
+    /// The state after the common prefix on the other literals.
     pub place: usize,
 }
 
-// Where the tokens end with a group of which each alternative is bytes alone, adds the steps of the
-// group, and answers the tokens before it.
+// If the tokens end with a group of literal alternatives, emits the steps of the group and returns
+// the tokens before it.
 pub(crate) fn put_literal_group<'t>(
     alloc: Global,
     steps: &mut Vec<Step>,
@@ -37,8 +37,8 @@ pub(crate) fn put_literal_group<'t>(
     Ok(Some(before))
 }
 
-// The alternatives of the group that the tokens end with, the last first, and the tokens before the
-// group, where each of its alternatives is bytes alone.
+// Returns the alternatives of the group that the tokens end with, the last first, and the tokens
+// before it, if each alternative is a literal.
 fn literal_group(
     alloc: Global,
     tokens: &[Token],
@@ -73,7 +73,6 @@ fn literal_group(
     Ok(None)
 }
 
-// How many bytes both begin with.
 fn common_front(a: &[u8], b: &[u8]) -> usize
     ensures same { take result a.now ≡ take result b.now }
     ensures within { (result ≤ length a.now) × (result ≤ length b.now) }
@@ -85,7 +84,8 @@ fn common_front(a: &[u8], b: &[u8]) -> usize
     common
 }
 
-// Adds the steps of one of the words. Words beside each other share the steps of their front.
+// Emits the trie of the literals, the last first. Adjacent literals share the states of their
+// common prefix.
 fn put_words(alloc: Global, steps: &mut Vec<Step>, words: &[Vec<u8>]) -> Result<(), AllocError>
     requires some { words.now ≢ [] }
     ensures { OnOk result (AddsWords (map (λ word. word.items) words.now)
@@ -112,7 +112,8 @@ fn put_words(alloc: Global, steps: &mut Vec<Step>, words: &[Vec<u8>]) -> Result<
     put_bytes(steps, &mut branches, current, 0)
 }
 
-// Puts the bytes of a word from a place on before the steps, and joins the branches among them.
+// Emits the bytes of a literal after its first `from` bytes, the last one first, and joins the
+// branches among them.
 fn put_bytes(
     steps: &mut Vec<Step>,
     branches: &mut Vec<Branch>,
@@ -137,7 +138,7 @@ fn put_bytes(
     Ok(())
 }
 
-// Joins the branch that stands after so many bytes, if there is one.
+// Emits a fork to the branch at this depth, if there is one.
 fn join_branch(
     steps: &mut Vec<Step>,
     branches: &mut Vec<Branch>,

@@ -1,8 +1,8 @@
-//! What each byte means to the reader of a glob.
+//! Lexical roles of bytes in a pattern.
 ghost use Rattle.std.specs.Prelude.{◌≡◌, ℕ, [], ◌∷◌, map, MatchOption};
 ghost use Rattle.jj_globs.specs.GlobText.{sign_of, byte_of};
 
-/// What a byte means to the reader of a glob.
+/// A byte of a pattern by its role in the syntax.
 #[derive(Clone, Copy, Drop, PartialEq, Eq)]
 pub enum Sign {
     Question,
@@ -20,7 +20,7 @@ pub enum Sign {
     Other(u8),
 }
 
-/// Where a `**` stands in its sequence, by the token before it.
+/// The position of a `**` in its sequence, as the token before it determines.
 #[derive(Clone, Copy, Drop, PartialEq, Eq)]
 pub enum Place {
     Start,
@@ -31,7 +31,7 @@ pub enum Place {
 }
 
 impl Sign {
-    /// What the byte means.
+    /// Returns the role of a byte.
     pub fn of(byte: u8) -> Sign
         ensures { result ≡ sign_of byte }
     {
@@ -52,7 +52,7 @@ impl Sign {
         }
     }
 
-    /// The byte.
+    /// Returns the byte.
     pub fn byte(self) -> u8
         ensures { result ≡ byte_of self }
     {
@@ -74,7 +74,7 @@ impl Sign {
     }
 }
 
-// What the first byte means, and the bytes after it.
+// Splits off the first byte, by its role.
 pub(crate) fn next_sign(text: &[u8]) -> Option<(Sign, &[u8])>
     ensures { MatchOption result (text.now ≡ [])
         (λ next. map sign_of text.now ≡ next.0 ∷ map sign_of next.1.now) }

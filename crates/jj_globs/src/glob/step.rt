@@ -1,4 +1,4 @@
-//! The steps of a glob: its tokens without the brackets of groups.
+//! Instructions of the NFA.
 ghost use Rattle.std.specs.Prelude.{◌≡◌, ◌+◌, ◌∷◌, ℕ, false, None, Some, IfSome};
 ghost use Rattle.jj_globs.specs.GlobPlaces.{by_step, takes_byte};
 ghost use Rattle.jj_globs.specs.GlobPlain.{Test};
@@ -6,28 +6,28 @@ ghost use Rattle.jj_globs.specs.GlobPlain.{Test};
 use crate::glob::byte_set::ByteSet;
 use crate::glob::token::Options;
 
-/// A step takes a byte, or leads on to places after it. A place is a step's index, and the number
-/// of steps is the end.
+/// An instruction of the NFA: it consumes a byte, or leads to later states. A state is the index of
+/// a step, and the number of steps is the end, which accepts.
 #[derive(Clone, Copy, Drop)]
 pub enum Step {
-    /// This byte.
+    /// Consumes this byte.
     Byte(u8),
-    /// A byte that `?` stands for.
+    /// Consumes a byte that `?` matches.
     AnyByte,
-    /// A byte of the set.
+    /// Consumes a byte of the set.
     OneOf(ByteSet),
-    /// Any bytes that `?` stands for.
+    /// Consumes any number of bytes that `?` matches.
     Star,
-    /// Any bytes.
+    /// Consumes any bytes.
     Everything,
-    /// The next place, or the one so many places further on.
+    /// Leads to the next state and to the one at this offset after it.
     Fork(usize),
-    /// The place so many places after the next one.
+    /// Leads to the state at this offset after the next one.
     Jump(usize),
 }
 
-// What is after the first byte of the text, where the step takes that byte: `Some(None)` where it
-// does not, and `None` for a step that takes no byte.
+// Consumes the first byte by a step. Returns the bytes after it, `Some(None)` if the step does not
+// match it, and `None` if the step is none that consumes exactly one byte.
 pub(crate) fn take_byte<'t>(
     options: Options,
     step: &Step,

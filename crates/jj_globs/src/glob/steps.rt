@@ -1,4 +1,5 @@
-//! The steps of a glob, made from its tokens, the last first: groups become forks and jumps.
+//! Thompson's construction: compiles tokens to NFA steps, from the last token to the first. Groups
+//! become forks and jumps.
 ghost use Rattle.std.specs.Prelude.{◌≡◌, ℕ, ◌+◌, ◌-◌, ◌∷◌, Bool, List, reverse, length, IfOk, OnOk};
 ghost use Rattle.jj_globs.specs.declared.glob.sign.Sign.TheVariants.{Slash};
 ghost use Rattle.jj_globs.specs.GlobMeaning.{in_class};
@@ -12,17 +13,17 @@ use crate::glob::step::Step;
 use crate::glob::token::{Options, Part, Token};
 use std::alloc::{AllocError, Global};
 
-/// A group whose `}` was read and whose `{` was not. A place is named by the number of steps after
-/// it.
+/// A group whose `}` was compiled and whose `{` was not. States are named by the number of steps
+/// after them, since steps are emitted from the last one.
 #[derive(Clone, Copy, Drop)]
 pub struct OpenGroup {
-    /// Where the alternatives that were read begin, if one was.
+    /// The state at which the alternatives compiled so far begin, if there is one.
     pub any: Option<usize>,
-    /// What follows the group.
+    /// The state after the group.
     pub after: usize,
 }
 
-// The steps that accept what the tokens stand for.
+// Compiles tokens to an NFA that accepts the byte strings they match.
 pub(crate) fn steps_of(
     alloc: Global,
     tokens: &[Token],
@@ -45,7 +46,6 @@ pub(crate) fn steps_of(
     Ok(steps)
 }
 
-// Adds the steps of a token.
 fn put_token(
     steps: &mut Vec<Step>,
     groups: &mut Vec<OpenGroup>,
@@ -80,7 +80,7 @@ fn put_token(
     Ok(())
 }
 
-// Where alternatives were read before, a fork to them and to what stands here.
+// If alternatives were compiled before, emits a fork to them and to the current one.
 fn put_fork(steps: &mut Vec<Step>, others: Option<usize>) -> Result<(), AllocError>
     ensures { OnOk result (reverse steps.new.items ≡ with_fork others (reverse steps.old.items)) }
 {
@@ -91,7 +91,6 @@ fn put_fork(steps: &mut Vec<Step>, others: Option<usize>) -> Result<(), AllocErr
     Ok(())
 }
 
-// Adds the steps of a part.
 fn put_part(steps: &mut Vec<Step>, part: &Part, options: Options) -> Result<(), AllocError>
     ensures { OnOk result (AddsPart options part.now (reverse steps.old.items)
         (reverse steps.new.items)) }
@@ -115,7 +114,7 @@ fn put_part(steps: &mut Vec<Step>, part: &Part, options: Options) -> Result<(), 
     Ok(())
 }
 
-// Adds the steps of nothing, or of any bytes that end in a slash.
+// Emits the steps of nothing, or of any bytes that end in `/`.
 fn put_dirs(steps: &mut Vec<Step>) -> Result<(), AllocError>
     ensures { OnOk result (reverse steps.new.items
         ≡ Step.Fork 2 ∷ Step.Everything ∷ Step.Byte (byte_of Slash) ∷ reverse steps.old.items) }

@@ -1,25 +1,25 @@
-//! What a glob reads as: parts, and the brackets of groups.
+//! Tokens of a glob: its parts, and the delimiters of groups.
 ghost use Rattle.std.specs.Prelude.{◌≡◌, Bool, List, ℕ};
 
 use crate::glob::byte_set::ByteSet;
 use std::marker::Model;
 
-/// How a glob matches: whether `/` stops `?` and `*`, and whether ASCII letters match in either
-/// case.
+/// Options of a match: with `separator`, `?` and `*` do not match `/`; with `icase`, ASCII letters
+/// match in either case.
 #[derive(Clone, Copy, Debug, PartialEq, Eq)]
 pub struct Options {
     pub separator: bool,
     pub icase: bool,
 }
 
-/// The bytes from `first` to `last`.
+/// An inclusive range of bytes.
 #[derive(Clone, Copy, Debug, PartialEq, Eq)]
 pub struct ByteRange {
     pub first: u8,
     pub last: u8,
 }
 
-/// A class, seen as whether it is turned round, and its ranges in order.
+/// A character class. Contracts see whether it is negated, and its ranges in order.
 #[derive(Drop)]
 pub struct Class {
     negated: bool,
@@ -35,7 +35,7 @@ impl Model for Class {
     ghost view = { λ c. (c.negated, c.ranges.items) };
 }
 
-/// What stands for a part of the bytes by itself.
+/// A part of a glob without groups, which matches independently of its neighbors.
 #[derive(Drop)]
 pub enum Part {
     /// This byte.
@@ -56,7 +56,7 @@ pub enum Part {
     OneOf(Class),
 }
 
-/// A part, or a bracket of a group.
+/// A part, or a delimiter of a group: `{`, `,` or `}`.
 #[derive(Drop)]
 pub enum Token {
     Part(Part),
@@ -68,7 +68,7 @@ pub enum Token {
 impl Options {
     ghost use Rattle.jj_globs.specs.GlobMeaning.{same_byte, is_plain};
 
-    /// Whether the two bytes match.
+    /// Whether the bytes are equal, with `icase` up to ASCII case.
     pub fn same_byte(self, a: u8, b: u8) -> bool
         ensures { result ≡ same_byte self a b }
     {
@@ -79,7 +79,7 @@ impl Options {
         }
     }
 
-    /// Whether `?` and `*` stand for the byte.
+    /// Whether `?` and `*` match the byte.
     pub fn is_plain(self, byte: u8) -> bool
         ensures { result ≡ is_plain self byte }
     {
@@ -90,7 +90,7 @@ impl Options {
 impl ByteRange {
     ghost use Rattle.jj_globs.specs.GlobMeaning.{in_range};
 
-    /// The range of one byte.
+    /// Creates a range of one byte.
     pub fn one(byte: u8) -> ByteRange
         ensures { result ≡ record { first = byte; last = byte } }
     {
@@ -112,28 +112,28 @@ impl Class {
     ghost use Rattle.jj_globs.specs.GlobMeaning.{in_class};
     ghost use Rattle.jj_globs.specs.GlobPlaces.{in_set};
 
-    /// The class of these ranges, or of all other bytes.
+    /// Creates a class of these ranges, or with `negated` of all other bytes.
     pub fn new(negated: bool, ranges: Vec<ByteRange>) -> Class
         ensures { result ≡ (negated, ranges.items) }
     {
         Class { negated, ranges }
     }
 
-    /// Whether the class holds all bytes but those of its ranges.
+    /// Whether the class matches the bytes outside of its ranges.
     pub fn is_negated(&self) -> bool
         ensures { result ≡ self.now.0 }
     {
         self.negated
     }
 
-    /// The ranges, in order.
+    /// Returns the ranges in order.
     pub fn ranges(&self) -> &[ByteRange]
         ensures { result.now ≡ self.now.1 }
     {
         self.ranges.as_slice()
     }
 
-    /// The bytes that the class holds.
+    /// Returns the set of bytes that the class matches.
     pub fn set(&self, options: Options) -> ByteSet
         ensures { (b : ℕ) → in_set result b ≡ in_class options self.now b }
     {

@@ -1,4 +1,4 @@
--- The letters so far are put.
+-- The set contains the bytes below this one that it contained in either case.
 use Rattle.std.proofs.Common.{◌≡◌, ◌<◌, ◌↔◌, ◌⊎◌, ℕ, length}
 use Rattle.jj_globs.specs.GlobMeaning.{lower, upper}
 use Rattle.jj_globs.specs.GlobPlaces.{IsLive}

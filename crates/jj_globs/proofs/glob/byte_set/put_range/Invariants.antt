@@ -1,4 +1,4 @@
--- The bytes of the range so far are put.
+-- The set contains the bytes of the range so far.
 use Rattle.std.proofs.Common.{◌≡◌, ◌<◌, ◌↔◌, ◌⊎◌, ℕ, length}
 use Rattle.std.specs.Prelude.{IsTrue}
 use Rattle.jj_globs.specs.GlobMeaning.{in_range}

@@ -1,4 +1,4 @@
--- The bytes of the ranges so far are put.
+-- The set contains the bytes of the ranges so far.
 use Rattle.std.proofs.Common.{◌≡◌, ◌↔◌, ℕ, length, take}
 use Rattle.std.specs.Prelude.{IsTrue}
 use Rattle.jj_globs.specs.GlobMeaning.{any_range}

@@ -1,4 +1,4 @@
--- What is left fits as the whole does.
+-- The remaining bytes end with the remaining literals exactly if the whole ones do.
 use Rattle.std.proofs.Common.{◌≡◌, length, reverse}
 use Rattle.jj_globs.specs.GlobEnding.{fits_back}
 use Rattle.jj_globs.proofs.glob.ending.ends_as.Given as goal

@@ -6,7 +6,7 @@ use Rattle.jj_globs.specs.GlobPlaces.{further_of}
 use Rattle.jj_globs.specs.GlobEnding.{IsByte}
 use Rattle.jj_globs.proofs.glob.ending.literal_end.Goals as goal
 
--- a byte leads to the next place
+-- a literal byte leads to the next state
 far_enough : (k place : ℕ) (s : Step) → k < place → IsByte s → k + 1 + further_of s ≤ place
 far_enough k place s lt (b, is) = subst (λ (x : Step). k + 1 + further_of x ≤ place) (sym is) (omega (arith, lt))
 

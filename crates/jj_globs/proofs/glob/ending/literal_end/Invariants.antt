@@ -1,4 +1,4 @@
--- Each step so far is a byte, or leads no further than the place.
+-- Each step so far is a literal byte or leads no further than `literal`.
 use Rattle.std.proofs.Common.{◌≡◌, ◌⊎◌, ◌<◌, ◌≤◌, ◌+◌, ℕ, length, Some}
 use Rattle.std.specs.Prelude.{slice_get}
 use Rattle.jj_globs.specs.declared.glob.step.Step.{Step}

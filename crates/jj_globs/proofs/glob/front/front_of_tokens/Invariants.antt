@@ -1,4 +1,5 @@
--- The bytes so far and those with which what is left begins are all.
+-- The bytes so far, then the literal prefix of the tokens left, are the literal prefix of all
+-- tokens.
 use Rattle.std.proofs.Common.{◌≡◌, ◌++◌, length}
 use Rattle.jj_globs.specs.GlobFront.{leading_bytes}
 use Rattle.jj_globs.proofs.glob.front.front_of_tokens.Given as goal

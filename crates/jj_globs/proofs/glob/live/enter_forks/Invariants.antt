@@ -1,4 +1,5 @@
--- What the place accepts is what the rows accept more than at the start, and the place that is still to be entered.
+-- The state accepts a string if the sets accept it beyond those at the start, or the target still
+-- to be entered does.
 use Rattle.std.proofs.Common.{◌≤◌, ◌<◌, ◌-◌, ◌↔◌, ◌⊎◌, Bool, ℕ, length}
 use Rattle.std.specs.Prelude.{IsTrue}
 use Rattle.jj_globs.specs.GlobPlain.{Test}

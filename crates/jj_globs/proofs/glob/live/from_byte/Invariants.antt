@@ -1,4 +1,4 @@
--- The bytes before what is left are others.
+-- No byte before those left matches `own`.
 use Rattle.std.proofs.Common.{◌≡◌, ◌≤◌, length}
 use Rattle.jj_globs.specs.GlobMeaning.{same_byte}
 use Rattle.jj_globs.specs.GlobPlain.{Test, one, many, any_byte}

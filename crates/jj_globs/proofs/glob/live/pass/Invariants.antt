@@ -1,4 +1,4 @@
--- What was accepted at the start is accepted now; no place before `from` is left.
+-- The sets accept what they accepted at the start; no state below `from` is in `now`.
 use Rattle.std.proofs.Common.{◌≤◌, ◌-◌, ◌+◌, ◌↔◌, ℕ, length}
 use Rattle.jj_globs.specs.GlobPlain.{Test}
 use Rattle.jj_globs.specs.GlobPlaces.{IsLive, AnyAhead, Solves}

@@ -1,4 +1,4 @@
--- The glob stands for the bytes where a live place accepts what is left of them.
+-- The NFA accepts all bytes exactly if a live state accepts the remaining ones.
 use Rattle.std.proofs.Common.{◌≤◌, ◌↔◌, ℕ, length}
 use Rattle.std.specs.Prelude.{IsTrue}
 use Rattle.jj_globs.specs.GlobPlain.{Test}

@@ -1,4 +1,4 @@
--- What is left accepts what is left of the bytes as the whole does for all of them.
+-- The whole NFA accepts all bytes exactly if the remaining steps accept the remaining bytes.
 use Rattle.std.proofs.Common.{◌≡◌, ◌<◌, length}
 use Rattle.jj_globs.specs.GlobPlaces.{answers, StaysInside}
 use Rattle.jj_globs.proofs.glob.pattern.stand_for.Given as goal

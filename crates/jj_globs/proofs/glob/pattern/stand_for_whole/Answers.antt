@@ -6,7 +6,7 @@ use Rattle.jj_globs.specs.GlobEnding.{fits_back}
 use Rattle.jj_globs.proofs.GlobEnding.{literal_fits}
 use Rattle.jj_globs.proofs.glob.pattern.stand_for_whole.Goals as goal
 
--- what fits alone can be answered
+-- byte strings without the literal suffix are not accepted
 same_false : (answer fit : Bool) → fit ≡ false → (answer ≡ true → fit ≡ true) → fit ≡ answer
 same_false true fit unfit fits = fits refl
 same_false false fit unfit fits = unfit

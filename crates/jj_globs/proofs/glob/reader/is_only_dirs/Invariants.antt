@@ -1,4 +1,4 @@
--- The rest is such a run where the whole text is one.
+-- The rest consists of `**` components exactly if the whole pattern does.
 use Rattle.std.proofs.Common.{◌≡◌, length, map}
 use Rattle.jj_globs.specs.GlobText.{sign_of, only_dirs}
 use Rattle.jj_globs.proofs.glob.reader.is_only_dirs.Given as goal

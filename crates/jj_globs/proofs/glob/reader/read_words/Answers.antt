@@ -9,7 +9,7 @@ use Rattle.jj_globs.proofs.glob.reader.read_words.Goals as goal
 pub loop-sign-init : goal.loop-sign-init
 loop-sign-init c = record { fits = omega arith; reads = start c.args.text.now c.new-tokens.result.items c.requires.plain c.new-tokens.ensures.items }
 
--- the words that begin with a class fault as the whole text does
+-- a syntax error in a class is that of the pattern
 pub returns-in-Err : goal.returns-in-Err
 returns-in-Err c =
     faulty c.in-Err.error (tokens_of c.args.text.now) c.loop-sign.open_groups c.loop-sign.is_after_group (reverse c.loop-sign.tokens.items) (words (c.in-Some.sign ∷ map sign_of c.in-Some.after.now))

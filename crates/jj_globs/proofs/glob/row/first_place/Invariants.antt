@@ -1,4 +1,4 @@
--- No place before the word is live.
+-- No bit before this word is set.
 use Rattle.std.proofs.Common.{◌≤◌, ◌*◌, ◌-◌, ℕ, length}
 use Rattle.jj_globs.specs.GlobPlaces.{IsLive}
 use Rattle.jj_globs.proofs.glob.row.first_place.Given as goal

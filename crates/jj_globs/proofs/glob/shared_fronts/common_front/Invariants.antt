@@ -1,4 +1,4 @@
--- So many bytes are common.
+-- The first `common` bytes are equal.
 use Rattle.std.proofs.Common.{◌≡◌, ◌≤◌, ◌-◌, length, take}
 use Rattle.jj_globs.proofs.glob.shared_fronts.common_front.Given as goal
 

@@ -1,4 +1,4 @@
--- The tokens are those left, the word that is being read, and the words after it.
+-- The tokens are those left, the word that is being collected, and the words after it.
 use Rattle.std.proofs.Common.{◌≡◌, ◌++◌, length, map, reverse}
 use Rattle.jj_globs.specs.GlobSharing.{letters, further_alternatives}
 use Rattle.jj_globs.proofs.glob.shared_fronts.literal_group.Given as goal

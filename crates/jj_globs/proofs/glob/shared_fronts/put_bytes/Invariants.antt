@@ -1,4 +1,4 @@
--- The bytes after those left stand before the steps, with the branches among them.
+-- The bytes of the word after those left were prepended, with the branches among them.
 use Rattle.std.proofs.Common.{◌≡◌, ◌≤◌, ◌++◌, ℕ, List, length, reverse}
 use Rattle.jj_globs.specs.GlobSharing.{PutsBytes}
 use Rattle.jj_globs.proofs.glob.shared_fronts.put_bytes.Given as goal

@@ -1,4 +1,4 @@
--- The words after those left were put before the steps.
+-- The trie of the words after those left was prepended.
 use Rattle.std.proofs.Common.{◌≡◌, length, map, reverse}
 use Rattle.jj_globs.proofs.GlobSharing.{HasPut}
 use Rattle.jj_globs.proofs.glob.shared_fronts.put_words.Given as goal

@@ -1,4 +1,4 @@
--- The steps so far accept what the tokens after those left do.
+-- The steps so far accept what the tokens after those left match.
 use Rattle.std.proofs.Common.{◌≡◌, Bool, length, reverse}
 use Rattle.jj_globs.specs.GlobPlain.{Tests, tests_before}
 use Rattle.jj_globs.specs.GlobPlaces.{end_test, StaysInside}
