@@ -1,4 +1,4 @@
--- One more of a list that is in a set, or is not.
+-- Appending an element that is in the set, or is not.
 use Rattle.std.proofs.Common.{◌≡◌, ℕ, ◌+◌, ◌<◌, List, [], ◌∷◌, ◌++◌, map, take, get_or, length, ◌∙◌, ap, subst, sym}
 use Rattle.std.proofs.lemmas.List.{map-append, take_more}
 use Rattle.jj_globs_tests.specs.Selected.{IsSelected, none, takes, leaves}
@@ -18,7 +18,7 @@ module _ {X Y : Type 0} (InSet : Y → Type 0) (shown : X → Y) (all : List X) 
   one_more : i < length all → map shown (take (i + 1) all) ≡ map shown (take i all) ++ shown (get_or all i d) ∷ []
   one_more below = ap (map shown) (take_more all i d below) ∙ map-append shown (take i all) (get_or all i d ∷ [])
 
-  -- the element at a place is in the set, and is taken
+  -- the element at index i is in the set, and is appended
   pub takes_at : i < length all → IsSelected InSet (map shown (take i all)) (map shown found) → InSet (shown (get_or all i d)) → new ≡ found ++ get_or all i d ∷ []
       → IsSelected InSet (map shown (take (i + 1) all)) (map shown new)
   takes_at below before inside is =
@@ -26,7 +26,7 @@ module _ {X Y : Type 0} (InSet : Y → Type 0) (shown : X → Y) (all : List X) 
       (subst (λ l. IsSelected InSet (map shown (take i all) ++ shown (get_or all i d) ∷ []) l) (sym (ap (map shown) is ∙ map-append shown found (get_or all i d ∷ [])))
       (takes_last InSet (shown (get_or all i d)) _ _ inside before))
 
-  -- it is not in the set, and is left out
+  -- the element at index i is not in the set, and is skipped
   pub leaves_at : i < length all → IsSelected InSet (map shown (take i all)) (map shown found) → (¬ InSet (shown (get_or all i d))) → new ≡ found
       → IsSelected InSet (map shown (take (i + 1) all)) (map shown new)
   leaves_at below before outside is =

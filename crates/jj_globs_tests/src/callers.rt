@@ -1,4 +1,4 @@
-//! Callers of globs, proved from what these promise.
+//! Proved callers of globs.
 ghost use Rattle.std.specs.Prelude.{◌≡◌, ◌↔◌, ℕ, List, map, true, false, IsTrue, IfOk, IfErr, string_bytes};
 ghost use Rattle.jj_globs.specs.GlobMeaning.{IsMatch};
 ghost use Rattle.jj_globs.specs.GlobReads.{IsReadingFault, glob_of_text};
@@ -8,8 +8,8 @@ ghost use Rattle.jj_globs_tests.specs.Selected.{IsSelected};
 use jj_globs::glob::{Glob, GlobError, escape};
 use std::alloc::{AllocError, Global};
 
-/// Whether a pattern stands for a path, where neither `?` nor `*` stands for `/`. An `Err` tells
-/// the first fault of the pattern, or that there was no memory.
+/// Whether a pattern matches a path. Neither `?` nor `*` matches `/`. Fails with the first syntax
+/// error of the pattern, or if memory runs out.
 pub fn matches(alloc: Global, pattern: &str, path: &str) -> Result<bool, GlobError>
     ensures answer { IfOk result (λ yes. IsTrue yes
         ↔ IsMatch (glob_of_text pattern.now true false) path.now) }
@@ -19,7 +19,7 @@ pub fn matches(alloc: Global, pattern: &str, path: &str) -> Result<bool, GlobErr
     Ok(glob.is_match(path.as_bytes()))
 }
 
-/// The paths of a list that a pattern stands for, in the order of the list.
+/// Returns the paths that a pattern matches, in the order of the list.
 pub fn selected<'a>(
     alloc: Global,
     pattern: &str,
@@ -40,7 +40,7 @@ pub fn selected<'a>(
     Ok(found)
 }
 
-/// A pattern that stands for this path, whatever signs it has, and for no other text.
+/// Returns a pattern that matches this path and no other string.
 pub fn pattern_of(alloc: Global, path: &str) -> Result<String, AllocError>
     ensures { IfOk result (λ pattern. (text : List ℕ)
         → IsMatch (glob_of_text (string_bytes pattern) true false) text ↔ (text ≡ path.now)) }

@@ -1,12 +1,12 @@
-//! Globs so long that each size of a match's rows of steps is needed. The conformance table has
-//! all other cases.
+//! Globs of so many states that a match needs each size of state sets. All other cases are rows of
+//! the crate `conformance`.
 use jj_content_tests::once_more::passes;
 use jj_globs::glob::{Glob, GlobError};
 use std::alloc::{AllocError, Global};
 use std::process::Abort;
 use std::test::Fail;
 
-// The glob of the numbered names below a count, in any directory.
+// Parses a glob of numbered names in any directory.
 fn numbered_names<R: Abort>(rt: &R, alloc: Global, count: u32) -> Result<Glob, AllocError> {
     let mut text = String::from_str(alloc, "**/{")?;
     for number in 0..count {

@@ -1,4 +1,4 @@
--- The paths found so far are those of the paths so far that the pattern stands for.
+-- The paths found so far are those among the visited ones that the pattern matches.
 use Rattle.std.proofs.Common.{map, take, true, false}
 use Rattle.jj_globs.specs.GlobMeaning.{IsMatch}
 use Rattle.jj_globs.specs.GlobReads.{glob_of_text}
