@@ -1,4 +1,4 @@
--- Patterns that are seen at once to hold every string do so.
+-- Patterns that trivially match every string do so.
 use Rattle.std.proofs.Common.{◌≡◌, ◌∙◌, sym, ap, refl, ℕ, ◌<◌, inl, inr, true, true≢false, IsTrue, List, [], ◌∷◌, Ok, All, arith}
 use Rattle.std.proofs.lemmas.List.{append-nil}
 use Rattle.std.proofs.lemmas.List.Elements.{All-nil, All-cons}

@@ -1,4 +1,4 @@
--- A regular expression of the empty text has a match in every text.
+-- An empty regular expression has a match in every string.
 use Rattle.std.proofs.Common.{◌≡◌, ◌∙◌, sym, ap, refl, subst, ℕ, ◌<◌, ◌≤◌, inl, inr, true, true≢false, List, [], ◌∷◌, length, Option, None, Some, is_some, IsSome, IsSomeAnd, All, arith}
 use Rattle.regex_hir.specs.Re.{Re, empty}
 use Rattle.regex_hir.specs.Meaning.{meaning}
@@ -46,7 +46,7 @@ empty_text : (text : List ℕ) → is_empty_text text ≡ true → text ≡ []
 empty_text [] h = refl
 empty_text (b ∷ bs) h = absurd (true≢false (sym h))
 
--- the regular expression is what the grammar reads in the empty text, under these options
+-- the regular expression was parsed from the empty string with these options
 read_of : (r : Regex) (config : Config) → regex_source r ≡ [] → regex_config r ≡ config → IsReadFromSource r
     → Reads config [] r.pattern.program.hir (names_of r.pattern.names.items)
 read_of r config source same is_read =

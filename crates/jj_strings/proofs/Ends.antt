@@ -1,16 +1,17 @@
--- Fronts of a text that end at a place, and how a longest one is found by borders.
+-- Correctness of the Knuth-Morris-Pratt search: prefixes of the needle that end at an index, and
+-- the longest one that a byte extends, found by borders.
 use Rattle.std.proofs.Common.{◌≡◌, ◌∙◌, sym, ap, subst, ℕ, ◌+◌, ◌-◌, ◌<◌, ◌≤◌, ◌⊎◌, inl, inr, List, [], ◌∷◌, ◌++◌, length, get_or, drop, arith}
 use Rattle.std.proofs.lemmas.List.{get_or-drop, get_or_push, get_or_append_left, length-append}
 use Rattle.std.proofs.lemmas.Bool.{cases_lt}
 use Rattle.bstr.specs.Find.{OccursAt}
 use Rattle.jj_strings.specs.Borders.{EndsAt, IsLongestEnd, IsLongestBorder, AreBorders}
 
--- what stands at a place stands at another of the same number
+-- elements at equal indices are equal
 pub moved : (xs : List ℕ) (i j : ℕ) → i ≡ j → get_or xs i 0 ≡ get_or xs j 0
 moved xs i j e = ap (λ (m : ℕ). get_or xs m 0) e
 
 module _ (bytes text : List ℕ) where
-  -- the empty front ends everywhere
+  -- the empty prefix ends at every index
   pub empty_ends : (at : ℕ) → EndsAt bytes at text 0
   empty_ends at = record {
     in_text = omega arith;
@@ -18,11 +19,11 @@ module _ (bytes text : List ℕ) where
     reads = λ k low. absurd (omega arith);
   }
 
-  -- before the first byte no other one does
+  -- at the start only the empty prefix ends
   pub none_at_start : IsLongestEnd bytes 0 text 0
   none_at_start = record { ends = empty_ends 0; longest = λ other o. o.fits }
 
-  -- a front that goes on with the next byte ends after it
+  -- a prefix that the next byte extends ends after it
   ends_more : (at len : ℕ) → EndsAt bytes at text len → len < length text
       → get_or bytes at 0 ≡ get_or text len 0 → EndsAt bytes (at + 1) text (len + 1)
   ends_more at len e low same = record {
@@ -41,7 +42,7 @@ module _ (bytes text : List ℕ) where
           let is_len : len ≡ k = omega arith in
           moved bytes _ _ is_at ∙ same ∙ moved text _ _ is_len
 
-  -- and the other way round
+  -- a prefix that ends after a byte is an extension of one that ends before it
   ends_less : (at len : ℕ) → EndsAt bytes (at + 1) text (len + 1) → EndsAt bytes at text len
   ends_less at len e = record {
     in_text = omega (arith, e.in_text);
@@ -59,7 +60,7 @@ module _ (bytes text : List ℕ) where
       let within : len < len + 1 = omega arith in
       moved bytes _ _ same_place ∙ e.reads len within
 
-  -- so a bound on the fronts that end with the next byte follows from one on those before it
+  -- a bound on extended prefixes is one on all prefixes that end after the next byte
   by_front : (at most : ℕ)
       → ((before : ℕ) → EndsAt bytes (at + 1) text (before + 1) → before + 1 ≤ most)
       → (other : ℕ) → EndsAt bytes (at + 1) text other → other ≤ most
@@ -72,7 +73,7 @@ module _ (bytes text : List ℕ) where
           let o' = subst (λ n. EndsAt bytes (at + 1) text n) is_other o in
           omega (arith, bound (other - 1) o')
 
-  -- of two fronts that end at a place, the shorter one ends the longer one
+  -- of two prefixes that end at an index, the shorter one is a suffix of the longer one
   ends_longer : (at len other : ℕ) → EndsAt bytes at text len → EndsAt bytes at text other
       → other ≤ len → EndsAt text len text other
   ends_longer at len other e o shorter = record {
@@ -84,7 +85,7 @@ module _ (bytes text : List ℕ) where
         sym (e.reads (len - other + k) within) ∙ moved bytes _ _ same_place ∙ o.reads k below;
   }
 
-  -- what ends a front that ends at a place ends there too
+  -- a suffix of a prefix that ends at an index ends there too
   ends_through : (at len other : ℕ) → EndsAt bytes at text len → EndsAt text len text other
       → EndsAt bytes at text other
   ends_through at len other e o = record {
@@ -97,7 +98,7 @@ module _ (bytes text : List ℕ) where
         moved bytes _ _ same_place ∙ e.reads (len - other + k) within ∙ o.reads k below;
   }
 
-  -- the front ends at the place, and no longer one does that goes on with the byte
+  -- invariant: the prefix ends at the index, and is the longest one that `byte` may extend
   pub record MayGoOn (at byte len : ℕ) : Type 0 where
     pub ends : EndsAt bytes at text len
     pub longest : (other : ℕ) → other < length text → EndsAt bytes at text other
@@ -109,7 +110,7 @@ module _ (bytes text : List ℕ) where
     longest = λ other low o same. e.longest other o;
   }
 
-  -- where it does not go on, its longest border may
+  -- if the byte does not extend the prefix, its longest border is the next candidate
   pub border_may_go_on : (at byte len border : ℕ) → MayGoOn at byte len
       → (get_or text len 0 ≡ byte → ⊥) → IsLongestBorder text len border → MayGoOn at byte border
   border_may_go_on at byte len border e differs b = record {
@@ -121,7 +122,7 @@ module _ (bytes text : List ℕ) where
         b.longest other below (ends_longer at len other e.ends o most);
   }
 
-  -- where it goes on, it is the longest with the byte
+  -- if the byte extends the prefix, the extension is the longest prefix after it
   pub goes_on : (at byte len : ℕ) → MayGoOn at byte len → len < length text
       → get_or text len 0 ≡ byte → get_or bytes at 0 ≡ byte
       → IsLongestEnd bytes (at + 1) text (len + 1)
@@ -133,7 +134,7 @@ module _ (bytes text : List ℕ) where
         omega (arith, e.longest before low' (ends_less at before o) is_here));
   }
 
-  -- where not even the empty front goes on, no other one ends with the byte
+  -- if the byte does not even extend the empty prefix, only the empty one ends after it
   pub none_goes_on : (at byte len : ℕ) → len ≡ 0 → MayGoOn at byte len
       → (get_or text len 0 ≡ byte → ⊥) → get_or bytes at 0 ≡ byte
       → IsLongestEnd bytes (at + 1) text 0
@@ -147,7 +148,7 @@ module _ (bytes text : List ℕ) where
         absurd (differs (moved text _ _ same ∙ is_here)));
   }
 
-  -- where the text stands, all of it ends
+  -- at the end of an occurrence the whole needle ends
   occurs_ends : (at : ℕ) → OccursAt bytes text at
       → EndsAt bytes (at + length text) text (length text)
   occurs_ends at o = record {
@@ -158,7 +159,7 @@ module _ (bytes text : List ℕ) where
         moved bytes _ _ same_place ∙ o.reads k below;
   }
 
-  -- and the other way round
+  -- if the whole needle ends at an index, it occurs before it
   pub ends_occurs : (at : ℕ) → EndsAt bytes at text (length text) → at ≤ length bytes
       → OccursAt bytes text (at - length text)
   ends_occurs at e within = record {
@@ -166,7 +167,7 @@ module _ (bytes text : List ℕ) where
     reads = λ k below. e.reads k below;
   }
 
-  -- a text that is longer than the longest front that ends at a place does not end there
+  -- a needle longer than the longest prefix that ends at an index does not end there
   pub none_longer : (n at len : ℕ) → length text ≡ n → len < n
       → IsLongestEnd bytes (at + 1) text len
       → ((k : ℕ) → k + n ≤ at → OccursAt bytes text k → ⊥)
@@ -181,7 +182,7 @@ module _ (bytes text : List ℕ) where
           absurd (omega (arith, e.longest (length text) whole))
 
 module _ (text : List ℕ) where
-  -- a border of a front is a front that ends there, where the first byte is left out
+  -- a prefix that ends at an index past the first byte is a border
   to_border : (at len : ℕ) → EndsAt (drop 1 text) at text len → EndsAt text (at + 1) text len
   to_border at len e = record {
     in_text = e.in_text;
@@ -210,7 +211,7 @@ module _ (text : List ℕ) where
         let within : other ≤ at = omega arith in e.longest other (from_border at other within o);
   }
 
-  -- a table with one border more
+  -- appends a border to the table
   pub borders_more : (borders more : List ℕ) (len : ℕ) → more ≡ borders ++ len ∷ []
       → AreBorders text borders → IsLongestBorder text (length borders + 1) len
       → AreBorders text more

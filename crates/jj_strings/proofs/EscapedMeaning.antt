@@ -1,4 +1,4 @@
--- The glob of a pattern: an escaped text, or one between stars, which stands for all that have it as a part.
+-- The glob of an exact pattern or of a substring is equivalent to the pattern.
 use Rattle.std.proofs.Common.{◌≡◌, ◌∙◌, sym, ap, refl, subst, ℕ, ◌+◌, false, ◌↔◌, List, [], ◌∷◌, ◌++◌, length, get_or, take, drop, Option, Some, None, Result, Ok, Err, IfOk, IfSome, option_map, arith, length-append}
 use Rattle.std.proofs.lemmas.List.{append-nil, take-append-drop, get_or_append_left, get_or-append-add}
 use Rattle.std.proofs.lemmas.Option.{none-some, same_Some}
@@ -20,11 +20,11 @@ use Rattle.jj_globs.proofs.EscapedTokens.{tokens_for, tokens_of-part}
 use Rattle.jj_globs.proofs.EscapedMeaning.{same_tokens, stands_to, stands_from, escaped_alone}
 use Rattle.jj_strings.proofs.Occurrences.{occurs_to}
 
--- the options of a glob that tells letters apart and has no separator
+-- the options of a case-sensitive glob without separator
 abbrev plain : Options
 plain = record { separator = false; icase = false }
 
--- the text stands between a front and a rest
+-- t occurs between a prefix and the rest
 occurs_between : (front t rest bytes : List ℕ) → bytes ≡ front ++ (t ++ rest) → Contains bytes t
 occurs_between front t rest bytes e = (
   length front,
@@ -68,7 +68,7 @@ part_match_from b t bytes contained =
       ),
     )
 
--- the glob of a pattern stands for the pattern's set
+-- the glob of a pattern matches exactly the set of the pattern
 reads_back : (p : Pattern) (text : List ℕ) → glob_text p ≡ Some text → (bytes : List ℕ)
     → IsMatch (as_glob (string_glob text (glob_icase p))) bytes ↔ InPattern p bytes
 reads_back (exact t) text h bytes =

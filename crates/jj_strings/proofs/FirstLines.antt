@@ -1,9 +1,9 @@
--- The first line of a text.
+-- Splitting off the first line.
 use Rattle.std.proofs.Common.{◌≡◌, ◌≢◌, ◌∙◌, sym, ap, refl, inl, inr, ℕ, suc, ◌≤◌, ◌<◌, Bool, true, false, ◌==◌, if◌then◌else◌, List, [], ◌∷◌, ◌++◌, length, take, drop, arith}
 use Rattle.std.proofs.lemmas.Bool.Decides.{eqb_tells}
 use Rattle.jj_strings.specs.Lines.{lines, with_byte, first_len, without_feed}
 
--- the text is its first line and the lines of the rest
+-- the lines are the first line, then the lines of the rest
 abbrev pub IsCut : List ℕ → ℕ → Type 0
 IsCut text n = lines text ≡ take n text ∷ lines (drop n text)
 
@@ -26,7 +26,7 @@ first_len-le (b ∷ bs) = le_by (b == 10) bs (first_len-le bs)
     le_by true bs h = omega arith
     le_by false bs h = omega arith
 
--- a text that ends in this byte
+-- a byte string with this last byte
 pub feed-end : (front : List ℕ) (x : ℕ) → without_feed (front ++ x ∷ []) ≡ (if x == 10 then front else front ++ x ∷ [])
 feed-end [] x = refl
 feed-end (b ∷ []) x = end_by (x == 10) b x

@@ -1,4 +1,4 @@
--- The one entry of an ordered list whose key has a text.
+-- Lookup of an entry in a map whose keys are ordered as their strings.
 use Rattle.std.proofs.Common.{◌≡◌, ℕ, Bool, true, false, cond, List, [], ◌∷◌, map, Option, None, Some, option_map, All, refl, sym, ap, ap₂, subst, ◌∙◌, true≢false}
 use Rattle.std.specs.Borrow.{Bor}
 use Rattle.std.specs.Map.Iter.{deref_pair}
@@ -33,7 +33,7 @@ by_test {K} {V} true e key value rest (Some f) k v h =
     let pair : K → V → Option (K × V) = λ a b. Some (a, b) in ap₂ pair (same_Some _ _ k) (same_Some _ _ v)
 by_test false e key value rest found k v h = h k v
 
--- a key and a value that were found are those of one entry
+-- a key and a value that were looked up are those of one entry
 pub same_entry : {K V : Type 0} (test : K → Bool) (es : List (K × V)) (found : Option (K × V))
     → option_map (λ p. p.0) found ≡ lookup_key test es → option_map (λ p. p.1) found ≡ lookup test es → found ≡ lookup_entry test es
 same_entry test [] None k v = refl
@@ -41,13 +41,13 @@ same_entry test [] (Some f) k v = absurd (none-some _ (sym k))
 same_entry test (e ∷ es) found k v =
     by_test (test e.0) e (lookup_key test es) (lookup test es) (lookup_entry test es) found k v (same_entry test es found)
 
--- keys ordered as their texts are equal where their texts are
+-- keys with equal strings are equal
 tie : {K : Type 0} (R : K → K → Ordering) (text : K → List ℕ) → ((a b : K) → R a b ≡ slice_cmp nat_cmp (text a) (text b))
     → (a b : K) → text a ≡ text b → R a b ≡ Equal
 tie R text as_text a b same =
     as_text a b ∙ ap (slice_cmp nat_cmp (text a)) (sym same) ∙ self_equal _ (nat_list_cmp_total.antisymm (text a) (text a))
 
--- such keys, and one that is looked up
+-- keys that are ordered as their strings, and one that is looked up
 module _ {K V : Type 0} (R : K → K → Ordering) (text : K → List ℕ) (as_text : (a b : K) → R a b ≡ slice_cmp nat_cmp (text a) (text b)) (q : K) where
   others : (e : K × V) (es : List (K × V)) → text e.0 ≡ text q → AllByRecursion (λ y. R e.0 y ≡ Less) (keys_of es)
       → All (λ x. text x.0 ≡ text q → ⊥) es
@@ -74,7 +74,7 @@ module _ {K V : Type 0} (R : K → K → Ordering) (text : K → List ℕ) (as_t
     ih.4,
   )
 
-  -- the entry that a look-up finds is the only one of the text
+  -- a lookup finds the only entry with the string
   pub entry_alone : (es : List (K × V)) → IsStrictlySortedBy R (keys_of es)
       → HoldsAllOf (λ x. text x.0 ≡ text q) es (option_to_list (lookup_entry (λ k. is_eq (R q k)) es))
   unfolding IsStrictlySortedBy
@@ -93,7 +93,7 @@ values_shown : {K V : Type 0} (found : Option (Bor K × Bor V)) → option_map (
 values_shown None = refl
 values_shown (Some e) = refl
 
--- what a look-up of a key of the text found are all entries of the text
+-- a lookup by a key of the string finds all entries with the string
 pub found_holds : {K V : Type 0} (R : K → K → Ordering) (text : K → List ℕ) → ((a b : K) → R a b ≡ slice_cmp nat_cmp (text a) (text b))
     → (q : K) (wanted : List ℕ) → text q ≡ wanted → (es : List (K × V)) → IsStrictlySortedBy R (keys_of es)
     → (found : Option (Bor K × Bor V)) → option_map (λ p. p.0.now) found ≡ lookup_key (λ k. is_eq (R q k)) es

@@ -1,4 +1,4 @@
--- Where a text stands in another.
+-- Occurrences of a string in a window of another.
 use Rattle.std.proofs.Common.{◌≡◌, ◌∙◌, sym, ap, ℕ, ◌+◌, ◌<◌, ◌≤◌, List, length, take, drop, get_or, arith}
 use Rattle.std.proofs.lemmas.Grind.{same_number_lists, common_steps}
 use Rattle.std.proofs.lemmas.List.{get_or-take, get_or-drop, take-map, drop-map}
@@ -28,7 +28,7 @@ occurs_to xs ys n at e o =
 pub folded-window : (xs : List ℕ) (n at : ℕ) → take n (drop at (lowercase_text xs)) ≡ lowercase_text (take n (drop at xs))
 folded-window xs n at = grind (arith, take-map, drop-map)
 
--- what stands in a window stands in the whole
+-- an occurrence in a window is one in the whole
 pub occurs_outside : (xs ys : List ℕ) (n from j : ℕ) → from + n ≤ length xs
     → OccursAt (take n (drop from xs)) ys j → OccursAt xs ys (from + j)
 occurs_outside xs ys n from j h o = record {
@@ -39,7 +39,7 @@ occurs_outside xs ys n from j h o = record {
       ap (λ (m : ℕ). get_or xs m 0) at ∙ sym (get_or-window xs n from (j + i) within) ∙ o.reads i low;
 }
 
--- and the other way round, where the window holds all of it
+-- an occurrence in the whole that lies in a window is one in the window
 pub occurs_inside : (xs ys : List ℕ) (n from j : ℕ) → from + n ≤ length xs → j + length ys ≤ n
     → OccursAt xs ys (from + j) → OccursAt (take n (drop from xs)) ys j
 occurs_inside xs ys n from j h holds o = record {

@@ -1,4 +1,4 @@
--- A search for a pattern's regular expression looks for the pattern's strings.
+-- The search of a regular expression matches the strings of its pattern.
 use Rattle.std.proofs.Common.{◌≡◌, ◌∙◌, ◌↔◌, ap, subst, Some, IsSome, Bor}
 use Rattle.regex.specs.Patterns.{find}
 use Rattle.regex.specs.Bytes.{regex_pattern, matcher_pattern}

@@ -6,7 +6,7 @@ use Rattle.jj_strings.specs.declared.str_util.expression.StringExpression.{Strin
 use Rattle.jj_strings.specs.ExpressionViews.{expression_of}
 use Rattle.jj_strings.specs.StringSets.{Expression, union, nothing, IsUnionOf, of_none, of_one, of_halves}
 
--- what the union of these expressions says
+-- the expression is the union of the list
 abbrev IsUnion : List StringExpression → StringExpression → Type 0
 IsUnion es e = IsUnionOf (map expression_of es) (expression_of e)
 

@@ -1,4 +1,4 @@
--- A text that is looked for in windows of bytes, where both are written without case.
+-- Search in lower-case windows.
 use Rattle.std.proofs.Common.{◌≡◌, ◌∙◌, ℕ, ◌+◌, ◌-◌, ◌<◌, ◌≤◌, ◌⊎◌, inl, inr, List, length, take, drop, sym, ap, subst, arith}
 use Rattle.std.proofs.lemmas.List.{length-map}
 use Rattle.std.proofs.lemmas.Bool.{cases_lt}
@@ -7,7 +7,7 @@ use Rattle.bstr.specs.Text.{Contains}
 use Rattle.jj_strings.specs.Folded.{lowercase_text}
 use Rattle.jj_strings.proofs.Occurrences.{length-window, folded-window, occurs_outside, occurs_inside}
 
--- the front of a window that holds so many bytes in lower case
+-- a window: the first bytes of the buffer are bytes in lower case
 window_is : (bytes window : List ℕ) (n m from : ℕ) → m ≡ n → from + n ≤ length bytes
     → take (length (take m (drop from bytes))) window ≡ lowercase_text (take m (drop from bytes))
     → take n window ≡ take n (drop from (lowercase_text bytes))
@@ -28,7 +28,7 @@ module _ (bytes text window lower : List ℕ) (n m from : ℕ) (within : from + 
   whole : from + n ≤ length (lowercase_text bytes)
   whole = omega (arith, within, length-map {A = ℕ} {B = ℕ})
 
-  -- what is found in the window stands in the bytes
+  -- an occurrence in the window is one in the bytes
   pub found_in_window : Contains here lower → Contains (lowercase_text bytes) (lowercase_text text)
   found_in_window found =
       let at = subst (λ l. OccursAt here l found.0) is_lower found.1 in (
@@ -37,7 +37,8 @@ module _ (bytes text window lower : List ℕ) (n m from : ℕ) (within : from + 
             (subst (λ l. OccursAt l (lowercase_text text) found.0) is_here at),
       )
 
-  -- where nothing is found, the text stands at no place from which it lies in the window
+  -- without an occurrence in the window, there is none in the bytes at an offset from which the
+  -- needle lies in the window
   pub none_in_window : (Contains here lower → ⊥) → length text ≤ n
       → ((k : ℕ) → k < from → OccursAt (lowercase_text bytes) (lowercase_text text) k → ⊥)
       → (k : ℕ) → k < from + (n - length text + 1) → OccursAt (lowercase_text bytes) (lowercase_text text) k → ⊥

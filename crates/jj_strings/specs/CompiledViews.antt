@@ -1,4 +1,4 @@
--- What contracts see of compiled patterns and expressions.
+-- Compiled patterns and expressions as contracts see them.
 -- Cited by contracts of public items through MatcherForms, StringMatchers.
 use Rattle.jj_strings.specs.declared.str_util.compiled.CompiledPattern.{CompiledPattern}
 use Rattle.jj_strings.specs.declared.str_util.compiled.CompiledExpression.{CompiledExpression}

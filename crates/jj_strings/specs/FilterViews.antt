@@ -1,4 +1,4 @@
--- What an iterator over matching entries of a map holds.
+-- The state of an iterator over matching entries.
 -- Cited by contracts of public items: filter_entries, filter_matcher.
 use Rattle.std.specs.Prelude.{List}
 use Rattle.jj_strings.specs.declared.str_util.matcher.StringMatcher.{StringMatcher}
@@ -6,12 +6,12 @@ use Rattle.jj_strings.specs.declared.str_util.filter_btree_map.FilterBTreeMap.{F
 use Rattle.jj_strings.specs.EntriesLeft.{entries_left}
 use Rattle.jj_strings.specs.Searchers.{searcher_matcher}
 
--- the matcher whose set is looked for
+-- the matcher of the keys
 abbrev pub filter_matcher : {K V : Type 0} {F : _} {W : _} {m : _} → FilterBTreeMap K V F W m
     → StringMatcher F W m
 filter_matcher s = searcher_matcher s.searcher
 
--- the entries that are left
+-- the remaining entries
 abbrev pub filter_entries : {K V : Type 0} {F : _} {W : _} {m : _} → FilterBTreeMap K V F W m
     → List (K × V)
 filter_entries s = entries_left s.entries

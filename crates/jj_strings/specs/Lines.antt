@@ -1,14 +1,15 @@
--- The lines of a text, and steps that look for those of a set.
+-- Lines of a byte string, and iteration over matching items of a list.
 -- Cited by contracts of public items: GivesNext, GivesNextLine.
 use Rattle.std.specs.Prelude.{◌≡◌, ℕ, suc, ◌==◌, if◌then◌else◌, List, [], ◌∷◌, ◌++◌, All, Option, Some, None, Result, Ok, Err}
 use Rattle.std.specs.Borrow.{Bor}
 use Rattle.std.specs.declared.alloc.AllocError.{AllocError}
 
+-- prepends a byte to the first line
 abbrev pub with_byte : ℕ → List (List ℕ) → List (List ℕ)
 with_byte b [] = (b ∷ []) ∷ []
 with_byte b (l ∷ ls) = (b ∷ l) ∷ ls
 
--- the lines of a text, each with its line feed
+-- the lines, each with its line feed
 abbrev pub lines : List ℕ → List (List ℕ)
 lines [] = []
 lines (b ∷ bs) = if b == 10 then (b ∷ []) ∷ lines bs else with_byte b (lines bs)
@@ -19,14 +20,14 @@ without_feed [] = []
 without_feed (b ∷ []) = if b == 10 then [] else b ∷ []
 without_feed (b ∷ c ∷ bs) = b ∷ without_feed (c ∷ bs)
 
--- how long the first line is, with its line feed
+-- the length of the first line with its line feed
 abbrev pub first_len : List ℕ → ℕ
 first_len [] = 0
 first_len (b ∷ bs) = if b == 10 then 1 else suc (first_len bs)
 
--- One step over a list, where `view` reads an item: the items of which P does not hold are passed
--- over, and the first of which it holds is given. At the end no item is left, nor after an error,
--- which comes only where CanFail holds.
+-- One step of an iterator over the items of a list that satisfy P, where `view` is the value of a
+-- yielded item: it skips items until the first that satisfies P, and yields this one. At the end,
+-- and after an error, no item is left. An error occurs only if CanFail.
 abbrev pub GivesNext : {R X : Type 0} → (R → X) → (X → Type 0) → Type 0 → List X
     → Option (Result R AllocError) → List X → Type 0
 GivesNext view P CanFail old None left = All (λ x. P x → ⊥) old × (left ≡ [])
@@ -35,7 +36,7 @@ GivesNext {X = X} view P CanFail old (Some (Ok item)) left =
     × (old ≡ passed ++ view item ∷ left)
 GivesNext view P CanFail old (Some (Err e)) left = CanFail × (left ≡ [])
 
--- one step over the lines of a text
+-- one step of an iterator over the lines that are in the set without their line feeds
 abbrev pub GivesNextLine : (List ℕ → Type 0) → Type 0 → List ℕ
     → Option (Result (Bor (List ℕ)) AllocError) → List ℕ → Type 0
 GivesNextLine InSet CanFail old r left =

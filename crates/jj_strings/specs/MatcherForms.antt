@@ -1,4 +1,4 @@
--- The form in which a set of strings is asked.
+-- The form of a compiled matcher.
 -- Cited by contracts of public items: expression_form, pattern_form.
 use Rattle.std.specs.Prelude.{ℕ, if◌then◌else◌, List, Option, None, Some, string_bytes}
 use Rattle.jj_strings.specs.declared.str_util.matcher.StringMatcher.{StringMatcher}
@@ -6,7 +6,7 @@ use Rattle.jj_strings.specs.declared.str_util.matcher.StringMatcher.TheVariants.
 use Rattle.jj_strings.specs.CompiledViews.{source_expression}
 use Rattle.jj_strings.specs.StringSets.{Pattern, is_all, exact_text, Expression, of_pattern, not_in, union, intersection}
 
--- every string, one text, an expression, or the caller's predicate
+-- every string, a single string, an expression, or a predicate of the caller
 pub data Form : Type 0 where
   every_string : Form
   one_text : List ℕ → Form
@@ -20,17 +20,17 @@ form_of (Exact text) = one_text (string_bytes text)
 form_of (Expr e) = an_expression (source_expression e)
 form_of (Fn p) = a_predicate
 
--- one text where there is one
+-- a single string if there is one, else the pattern as an expression
 abbrev pub text_or_pattern : Option (List ℕ) → Pattern → Form
 text_or_pattern (Some text) p = one_text text
 text_or_pattern None p = an_expression (of_pattern p)
 
--- the form of a pattern: every string where that is seen at once, else its one text where it is
--- exact
+-- a pattern that trivially matches every string compiles to that, an exact one to its string, any
+-- other to an expression
 abbrev pub pattern_form : Pattern → Form
 pattern_form p = if is_all p then every_string else text_or_pattern (exact_text p) p
 
--- the form of an expression: a lone pattern has that of the pattern
+-- a single pattern compiles as the pattern does
 abbrev pub expression_form : Expression → Form
 expression_form (of_pattern p) = pattern_form p
 expression_form (not_in e) = an_expression (not_in e)

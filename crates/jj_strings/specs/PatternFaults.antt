@@ -1,4 +1,4 @@
--- Which error a text gets that is no pattern of strings.
+-- Errors of parsing string patterns.
 -- Cited by contracts of public items: IsGlobFault, IsRegexFault, of_glob_error, of_regex_error.
 use Rattle.std.specs.Prelude.{◌≡◌, ℕ, List, Err}
 use Rattle.regex.specs.Sources.{IsRefusal}
@@ -12,12 +12,12 @@ use Rattle.jj_strings.specs.declared.str_util.error.StringPatternParseError.{Str
 use Rattle.jj_strings.specs.declared.str_util.error.StringPatternParseError.TheVariants.{GlobPattern, Regex, Memory}
 use Rattle.jj_globs.specs.GlobText.{tokens_of}
 
--- the error for one of the glob
+-- conversion of the error of a glob
 abbrev pub of_glob_error : GlobError → StringPatternParseError
 of_glob_error no_room = Memory
 of_glob_error error = GlobPattern error
 
--- the error for one of the regular expression
+-- conversion of the error of a regular expression
 abbrev pub of_regex_error : regexes.Error → StringPatternParseError
 of_regex_error OutOfMemory = Memory
 of_regex_error error = Regex error
@@ -26,13 +26,13 @@ of_regex_error error = Regex error
 abbrev pub IsMemory : StringPatternParseError → Type 0
 IsMemory error = error ≡ Memory
 
--- the text's first fault as a glob, or memory ran out
+-- the first syntax error of the glob, or memory ran out
 abbrev pub IsGlobFault : List ℕ → StringPatternParseError → Type 0
 IsGlobFault text Memory = Unit {0}
 IsGlobFault text (GlobPattern error) = tokens_of text ≡ Err error
 IsGlobFault text error = ⊥
 
--- a fault that the grammar finds in the text, or a size that is too large, or memory ran out
+-- a syntax error of the regular expression, its excessive size, or memory ran out
 abbrev pub IsRegexFault : Config → List ℕ → StringPatternParseError → Type 0
 IsRegexFault config text Memory = Unit {0}
 IsRegexFault config text (Regex error) = IsRefusal config text error × IsRightKind config text error

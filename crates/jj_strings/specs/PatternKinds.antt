@@ -1,4 +1,4 @@
--- Kinds of patterns by name, and the pattern that a text is as one of a kind.
+-- Parsing of patterns by the name of a kind.
 -- Cited by contracts of public items: IsRegexIOf, IsRegexOf, IsUnknownKind, ReadsAsKind,
 -- bytes_config, bytes_config_i, kind_named.
 use Rattle.std.specs.Prelude.{◌≡◌, ℕ, true, false, if◌then◌else◌, List, Option, None, Some, Result, Ok, Err, codes, string_bytes}
@@ -26,8 +26,7 @@ kind_named name =
     if bytes_eq name (codes "regex") then Some Regex else
     if bytes_eq name (codes "regex-i") then Some RegexI else None
 
--- the options of a regular expression over bytes, with ASCII and other letters in either case or
--- not
+-- the options of a regular expression over bytes, case-sensitive or not
 abbrev pub bytes_config : Config
 bytes_config = record default_config { utf8 = false }
 
@@ -37,18 +36,19 @@ bytes_config_i = record bytes_config {
       { case_insensitive = true };
 }
 
--- the pattern is the regular expression that the grammar reads in the text, under the options
+-- the pattern is the regular expression that parsing the string with these options results in
 abbrev pub IsRegexOf : Config → List ℕ → Pattern → Type 0
 IsRegexOf config text (regex r) = (regex_source r ≡ text) × (regex_config r ≡ config)
     × IsReadFromSource r
 IsRegexOf config text pattern = ⊥
 
+-- the case-insensitive variant
 abbrev pub IsRegexIOf : Config → List ℕ → Pattern → Type 0
 IsRegexIOf config text (regex_i r) = (regex_source r ≡ text) × (regex_config r ≡ config)
     × IsReadFromSource r
 IsRegexIOf config text pattern = ⊥
 
--- the pattern is the text as one of the kind
+-- the pattern is that of the string, parsed as this kind
 abbrev pub IsOfKind : PatternKind → List ℕ → Pattern → Type 0
 IsOfKind Exact text pattern = pattern ≡ exact text
 IsOfKind ExactI text pattern = pattern ≡ exact_i text
@@ -59,7 +59,7 @@ IsOfKind GlobI text pattern = pattern ≡ glob_i (string_glob text true)
 IsOfKind Regex text pattern = IsRegexOf bytes_config text pattern
 IsOfKind RegexI text pattern = IsRegexIOf bytes_config_i text pattern
 
--- the text is none of the kind, and this is why
+-- the error of a string that does not parse as this kind
 abbrev pub IsFaultOfKind : PatternKind → List ℕ → StringPatternParseError → Type 0
 IsFaultOfKind Glob text error = IsGlobFault text error
 IsFaultOfKind GlobI text error = IsGlobFault text error
@@ -67,18 +67,19 @@ IsFaultOfKind Regex text error = IsRegexFault bytes_config text error
 IsFaultOfKind RegexI text error = IsRegexFault bytes_config_i text error
 IsFaultOfKind kind text error = IsMemory error
 
--- the text read as a pattern of the kind
+-- the result of parsing the string as this kind
 abbrev pub ReadsAsKind : PatternKind → List ℕ → Result StringPattern StringPatternParseError
     → Type 0
 ReadsAsKind kind text (Ok pattern) = IsOfKind kind text (pattern_of pattern)
 ReadsAsKind kind text (Err error) = IsFaultOfKind kind text error
 
--- there is no kind of this name
+-- no kind has this name, which the error contains
 abbrev pub IsInvalidKind : List ℕ → StringPatternParseError → Type 0
 IsInvalidKind name Memory = Unit {0}
 IsInvalidKind name (InvalidKind text) = string_bytes text ≡ name
 IsInvalidKind name error = ⊥
 
+-- parsing fails since no kind has this name
 abbrev pub IsUnknownKind : List ℕ → Result StringPattern StringPatternParseError → Type 0
 IsUnknownKind name (Ok pattern) = ⊥
 IsUnknownKind name (Err error) = IsInvalidKind name error

@@ -1,4 +1,4 @@
--- Which bytes the caller's predicate accepts.
+-- Predicates of callers.
 -- Cited by contracts of public items: Accepts.
 use Rattle.std.specs.Prelude.{◌≡◌, ℕ, true, List}
 use Rattle.std.specs.Borrow.{Bor}

@@ -1,4 +1,4 @@
--- A matcher of strings as a set of byte lists.
+-- String matchers as sets of byte strings.
 -- Cited by contracts of public items: Asks, InMatcher, IsExpressionFromText, IsPatternFromText,
 -- MayAllocate.
 use Rattle.std.specs.Prelude.{◌≡◌, ◌↔◌, ◌⊎◌, ◌<◌, ◌^◌, ℕ, List, true, All as Every, string_bytes}
@@ -12,39 +12,40 @@ use Rattle.jj_strings.specs.MatcherForms.{Form, form_of}
 use Rattle.jj_strings.specs.PatternKinds.{bytes_config, bytes_config_i}
 use Rattle.jj_strings.specs.StringSets.{Pattern, regex, regex_i, Expression, of_pattern, InExpression, HasRegex, is_all}
 
--- the matcher's set holds the bytes
+-- the byte string is in the set of the matcher
 abbrev pub InMatcher : {F : _} {V : _} {m : _} → StringMatcher F V m → List ℕ → Type 0
 InMatcher All bytes = Unit {0}
 InMatcher (Exact text) bytes = bytes ≡ string_bytes text
 InMatcher (Expr e) bytes = InExpression (source_expression e) bytes
 InMatcher (Fn p) bytes = Accepts p bytes
 
--- a match may take memory: a regular expression is inside
+-- matching may allocate, and so fail, only for a regular expression
 abbrev pub MayAllocate : {F : _} {V : _} {m : _} → StringMatcher F V m → Type 0
 MayAllocate (Expr e) = HasRegex (source_expression e)
 MayAllocate _ = ⊥
 
--- a regular expression that was made of its text, with letters in either case or not
+-- the regular expression was parsed from its string, case-sensitive or not
 abbrev pub IsFromText : compiled.Regex → Type 0
 IsFromText r = IsReadFromSource r × ((regex_config r ≡ bytes_config)
     ⊎ (regex_config r ≡ bytes_config_i))
 
--- the regular expression of a pattern was made of its text
+-- if the pattern is a regular expression, it was parsed from its string
 abbrev pub IsRegexFromText : Pattern → Type 0
 IsRegexFromText (regex r) = IsFromText r
 IsRegexFromText (regex_i r) = IsFromText r
 IsRegexFromText p = Unit {0}
 
--- an empty regular expression was made of its text; other patterns may be any
+-- if the pattern trivially matches everything, it was parsed from its string
 abbrev pub IsPatternFromText : Pattern → Type 0
 IsPatternFromText p = is_all p ≡ true → IsRegexFromText p
 
+-- IsPatternFromText of a single pattern
 abbrev pub IsExpressionFromText : Expression → Type 0
 IsExpressionFromText (of_pattern p) = IsPatternFromText p
 IsExpressionFromText e = Unit {0}
 
--- a matcher that asks a set: it holds the same strings, where an empty regular expression was made
--- of its text; it has this form; it takes memory only where a regular expression is inside
+-- the result of compilation: a matcher of this set, if an empty regular expression was parsed from
+-- its string; of this form; and without allocation unless there is a regular expression
 pub record Asks {F : _} {V : _} {m : _} (is_from_text : Type 0) (holds : List ℕ → Type 0)
     (wanted : Form) (has_regex : Type 0) (matcher : StringMatcher F V m) : Type 0 where
   pub set : is_from_text → (bytes : List ℕ) → Every (λ byte. byte < 2 ^ 8) bytes

@@ -1,5 +1,5 @@
--- Patterns and expressions of strings: what they say, and the sets of byte lists that they stand
--- for.
+-- String patterns and set expressions over them: syntax, and the sets of byte strings that they
+-- denote.
 -- Cited by contracts of public items: HasRegex, InExpression, InPattern, IsRegex, IsUnionOf,
 -- everything, exact, exact_i, exact_text, exact_texts, glob_i, glob_or_exact, intersection, is_all,
 -- not_in, nothing, of_pattern, string_glob, substring, substring_i, text_of, union.
@@ -18,7 +18,7 @@ use Rattle.jj_globs.specs.GlobMeaning.{IsMatch}
 
 -- 1. Patterns.
 
--- a pattern of strings; those that end in `_i` take ASCII letters in either case
+-- a string pattern; variants that end in `_i` are case-insensitive
 pub data Pattern : Type 0 where
   exact : List ℕ → Pattern
   exact_i : List ℕ → Pattern
@@ -29,7 +29,7 @@ pub data Pattern : Type 0 where
   regex : Regex → Pattern
   regex_i : Regex → Pattern
 
--- the pattern's set holds the bytes
+-- the byte string is in the set of the pattern
 abbrev pub InPattern : Pattern → List ℕ → Type 0
 InPattern (exact text) bytes = bytes ≡ text
 InPattern (exact_i text) bytes = lowercase_text bytes ≡ lowercase_text text
@@ -40,7 +40,7 @@ InPattern (glob_i g) bytes = IsMatch (as_glob g) bytes
 InPattern (regex r) bytes = IsSome (find (regex_pattern r) bytes 0)
 InPattern (regex_i r) bytes = IsSome (find (regex_pattern r) bytes 0)
 
--- the text that the pattern was made of
+-- the string that the pattern was created from
 abbrev pub text_of : Pattern → List ℕ
 text_of (exact text) = text
 text_of (exact_i text) = text
@@ -51,17 +51,17 @@ text_of (glob_i g) = g.text
 text_of (regex r) = regex_source r
 text_of (regex_i r) = regex_source r
 
--- the text is empty
+-- the empty string
 abbrev pub is_empty_text : List ℕ → Bool
 is_empty_text [] = true
 is_empty_text (b ∷ bs) = false
 
--- the text is one star
+-- the string `*`
 abbrev pub is_one_star : List ℕ → Bool
 is_one_star (b ∷ []) = b == 42
 is_one_star text = false
 
--- the pattern is seen at once to hold every string: the empty part, the empty regular expression,
+-- the pattern trivially matches every string: an empty substring, an empty regular expression, or
 -- the glob `*`
 abbrev pub is_all : Pattern → Bool
 is_all (exact text) = false
@@ -73,69 +73,72 @@ is_all (glob_i g) = is_one_star g.text
 is_all (regex r) = is_empty_text (regex_source r)
 is_all (regex_i r) = is_empty_text (regex_source r)
 
--- the one text of an exact pattern
+-- the string of an exact pattern
 abbrev pub exact_text : Pattern → Option (List ℕ)
 exact_text (exact text) = Some text
 exact_text pattern = None
 
--- a regular expression is in the pattern
+-- the pattern is a regular expression
 abbrev pub IsRegex : Pattern → Type 0
 IsRegex (regex r) = Unit {0}
 IsRegex (regex_i r) = Unit {0}
 IsRegex pattern = ⊥
 
--- the regular expression of a pattern, or none where the pattern is no regular expression
+-- the regular expression of a pattern, or none if the pattern is no regular expression
 abbrev pub IsRegexIn : Option (Bor Regex) → Pattern → Type 0
 IsRegexIn (Some r) (regex s) = r.now ≡ s
 IsRegexIn (Some r) (regex_i s) = r.now ≡ s
 IsRegexIn (Some r) p = ⊥
 IsRegexIn None p = IsRegex p → ⊥
 
--- the glob of this text
+-- a glob of this string
 abbrev pub string_glob : List ℕ → Bool → StringGlob
 string_glob text icase = record { text = text; icase = icase }
 
--- a glob without `? * [ ] { } \` is its text alone
+-- a glob without any of `? * [ ] { } \` is an exact pattern
 abbrev pub glob_or_exact : List ℕ → Pattern
 glob_or_exact text = if list_any is_special text then glob (string_glob text false) else exact text
 
 -- 2. Expressions.
 
+-- a set expression over patterns
 pub data Expression : Type 0 where
   of_pattern : Pattern → Expression
   not_in : Expression → Expression
   union : Expression → Expression → Expression
   intersection : Expression → Expression → Expression
 
--- the expression's set holds the bytes
+-- the byte string is in the set of the expression
 abbrev pub InExpression : Expression → List ℕ → Type 0
 InExpression (of_pattern p) bytes = InPattern p bytes
 InExpression (not_in e) bytes = InExpression e bytes → ⊥
 InExpression (union a b) bytes = InExpression a bytes ⊎ InExpression b bytes
 InExpression (intersection a b) bytes = InExpression a bytes × InExpression b bytes
 
--- every string, and none
+-- the set of all strings
 abbrev pub everything : Expression
 everything = of_pattern (substring [])
 
+-- the empty set
 abbrev pub nothing : Expression
 nothing = not_in everything
 
--- the texts of the exact patterns, from left to right
+-- the strings of the exact patterns, from left to right
 abbrev pub exact_texts : Expression → List (List ℕ)
 exact_texts (of_pattern p) = option_to_list (exact_text p)
 exact_texts (not_in e) = exact_texts e
 exact_texts (union a b) = exact_texts a ++ exact_texts b
 exact_texts (intersection a b) = exact_texts a ++ exact_texts b
 
--- a regular expression is inside
+-- the expression contains a regular expression
 abbrev pub HasRegex : Expression → Type 0
 HasRegex (of_pattern p) = IsRegex p
 HasRegex (not_in e) = HasRegex e
 HasRegex (union a b) = HasRegex a ⊎ HasRegex b
 HasRegex (intersection a b) = HasRegex a ⊎ HasRegex b
 
--- the union of the expressions: none is `nothing`, one is itself, more are the union of both halves
+-- the union of a list: of none, `nothing`; of one, itself; of more, the union of those of both
+-- halves
 pub data IsUnionOf : List Expression → Expression → Type 0 where
   of_none : IsUnionOf [] nothing
   of_one : (e : Expression) → IsUnionOf (e ∷ []) e

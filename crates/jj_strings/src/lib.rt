@@ -1,4 +1,4 @@
-//! Sets of strings, and what looks for their members in lines and maps.
+//! Sets of strings: patterns, expressions, matchers, and searches in lines and maps.
 #![tactic(auto)]
 
 pub mod str_util;

@@ -1,5 +1,5 @@
-//! Sets of strings: patterns, expressions of patterns, and what looks for the strings of a set in
-//! lines and maps.
+//! Sets of strings: patterns and expressions, their compilation to matchers, and iterators over
+//! matching lines and map entries.
 mod borders;
 mod compiled;
 mod error;

@@ -1,5 +1,5 @@
-//! Parts without regard to the case of ASCII letters that are found by their borders: what of a
-//! part is shorter than it, and both its front and its end.
+//! Knuth-Morris-Pratt search that ignores ASCII case. A border of a string is shorter than it, and
+//! both its prefix and its suffix.
 ghost use Rattle.std.specs.Prelude.{◌≡◌, ◌↔◌, ℕ, ◌+◌, ◌<◌, ◌≤◌, List, IsTrue, IfOk, length, slice_index};
 ghost use Rattle.bstr.specs.Text.{Contains};
 ghost use Rattle.jj_strings.specs.Folded.{lowercase_text};
@@ -7,7 +7,8 @@ ghost use Rattle.jj_strings.specs.Borders.{AreBorders, IsBorderTable, IsLongestE
 
 use std::alloc::{AllocError, Global};
 
-// How long the longest border is of each front of the text.
+// Returns the table of the search: for each nonempty prefix of the needle, the length of its
+// longest border. O(needle) time.
 pub(crate) fn borders_of(alloc: Global, text: &[u8]) -> Result<Vec<usize>, AllocError>
     ensures { IfOk result (λ borders. IsBorderTable (lowercase_text text.now) borders.items) }
 {
@@ -25,8 +26,7 @@ pub(crate) fn borders_of(alloc: Global, text: &[u8]) -> Result<Vec<usize>, Alloc
     Ok(borders)
 }
 
-// Whether the bytes hold the text, of which these are the borders. The bytes are gone over once:
-// where the text does not go on, its longest border may, and no byte is read again.
+// Whether the bytes contain the needle, whose table this is. O(bytes) time: no byte is read twice.
 pub(crate) fn stands_by_borders(bytes: &[u8], text: &[u8], borders: &[usize]) -> bool
     requires some { 0 < length text.now }
     requires borders { IsBorderTable (lowercase_text text.now) borders.now }
@@ -42,8 +42,8 @@ pub(crate) fn stands_by_borders(bytes: &[u8], text: &[u8], borders: &[usize]) ->
     false
 }
 
-// How long the longest front of the text is that ends with this byte, where the longest one that
-// ends before it has this length.
+// Returns the length of the longest prefix of the needle that ends after this byte, from that of
+// the longest one that ends before it.
 fn next_end(text: &[u8], borders: &[usize], len: usize, byte: u8) -> usize
     requires shorter { len < length text.now }
     requires enough { len ≤ length borders.now }

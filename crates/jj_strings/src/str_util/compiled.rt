@@ -1,4 +1,5 @@
-//! Patterns and expressions in the form in which matchers ask them.
+//! Compiled patterns and expressions: syntax trees with a search table for each long
+//! case-insensitive substring, evaluated with short-circuiting.
 ghost use Rattle.std.specs.Prelude.{◌≡◌, ◌↔◌, IsTrue, IsErr, IfOk};
 ghost use Rattle.jj_strings.specs.PatternViews.{pattern_of};
 ghost use Rattle.jj_strings.specs.LongParts.{HasBorders};
@@ -12,7 +13,7 @@ use regex::bytes::Regex;
 use std::alloc::{AllocError, Global};
 use std::fmt;
 
-/// A pattern to be asked. One that is a long part without regard to case is beside its borders.
+/// A compiled pattern, with the Knuth-Morris-Pratt table of a long case-insensitive substring.
 #[derive(Drop)]
 pub struct CompiledPattern {
     pattern: StringPattern,
@@ -20,20 +21,20 @@ pub struct CompiledPattern {
     ghost tabled: { HasBorders (pattern_of pattern) borders.items },
 }
 
-/// An expression to be asked.
+/// A compiled expression.
 #[derive(Debug, Drop)]
 pub enum CompiledExpression {
-    /// The strings of the pattern.
+    /// Matches the strings of the pattern.
     Pattern(Box<CompiledPattern>),
-    /// All other strings.
+    /// Matches all other strings.
     NotIn(Box<CompiledExpression>),
-    /// The strings of either.
+    /// Matches the strings of either operand.
     Union(Box<CompiledExpression>, Box<CompiledExpression>),
-    /// The strings of both.
+    /// Matches the strings of both operands.
     Intersection(Box<CompiledExpression>, Box<CompiledExpression>),
 }
 
-// The borders of a pattern that is a long part without regard to case; of any other one, none.
+// Returns the table of a long case-insensitive substring; of any other pattern, an empty one.
 fn borders_for(alloc: Global, pattern: &StringPattern) -> Result<Vec<usize>, AllocError>
     ensures { IfOk result (λ borders. HasBorders (pattern_of pattern.now) borders.items) }
 {
@@ -52,7 +53,7 @@ impl CompiledPattern {
     ghost use Rattle.jj_strings.specs.StringSets.{InPattern, IsRegex, IsRegexIn};
     ghost use Rattle.jj_strings.specs.CompiledViews.{source_pattern};
 
-    // The pattern, to be asked.
+    // Compiles the pattern.
     pub(crate) fn new(alloc: Global, pattern: StringPattern) -> Result<CompiledPattern, AllocError>
         ensures { IfOk result (λ compiled. source_pattern compiled ≡ pattern_of pattern) }
     {
@@ -60,7 +61,7 @@ impl CompiledPattern {
         Ok(CompiledPattern { pattern, borders })
     }
 
-    // Whether the pattern's set holds the bytes.
+    // Whether the pattern matches the bytes. Allocates only for a regular expression.
     pub(crate) fn holds(&self, alloc: Global, bytes: &[u8]) -> Result<bool, AllocError>
         ensures answer { IfOk result (λ yes. IsTrue yes
             ↔ InPattern (source_pattern self.now) bytes.now) }
@@ -72,7 +73,7 @@ impl CompiledPattern {
         }
     }
 
-    // The regular expression of a pattern that is one.
+    // Returns the regular expression of a pattern that is one.
     pub(crate) fn as_regex(&self) -> Option<&Regex>
         ensures { IsRegexIn result (source_pattern self.now) }
     {
@@ -83,7 +84,7 @@ impl CompiledPattern {
         }
     }
 
-    // Whether the set of a pattern that is no regular expression holds the bytes.
+    // Whether a pattern other than a regular expression matches the bytes.
     pub(crate) fn holds_without_regex(&self, bytes: &[u8]) -> bool
         ensures { (IsRegex (source_pattern self.now) → ⊥) → IsTrue result
             ↔ InPattern (source_pattern self.now) bytes.now }
@@ -113,7 +114,8 @@ impl StringExpression {
     ghost use Rattle.jj_strings.specs.ExpressionViews.{expression_of};
     ghost use Rattle.jj_strings.specs.CompiledViews.{source_expression};
 
-    // The expression, to be asked.
+    // Compiles the expression. A pattern is cloned, which shares a parsed glob or regular
+    // expression.
     pub(crate) fn compile(&self, alloc: Global) -> Result<CompiledExpression, AllocError>
         ensures { IfOk result (λ compiled. source_expression compiled ≡ expression_of self.now) }
     {
@@ -141,7 +143,7 @@ impl StringPattern {
     ghost use Rattle.jj_strings.specs.StringSets.{of_pattern};
     ghost use Rattle.jj_strings.specs.CompiledViews.{source_expression};
 
-    // The pattern as an expression, to be asked.
+    // Compiles the pattern to an expression.
     pub(crate) fn compile(&self, alloc: Global) -> Result<CompiledExpression, AllocError>
         ensures { IfOk result (λ compiled. source_expression compiled
             ≡ of_pattern (pattern_of self.now)) }
@@ -155,7 +157,7 @@ impl CompiledExpression {
     ghost use Rattle.jj_strings.specs.StringSets.{InExpression, HasRegex};
     ghost use Rattle.jj_strings.specs.CompiledViews.{source_expression};
 
-    // Whether the expression's set holds the bytes.
+    // Whether the expression matches the bytes. Allocates only for regular expressions.
     pub(crate) fn holds(&self, alloc: Global, bytes: &[u8]) -> Result<bool, AllocError>
         ensures answer { IfOk result (λ yes. IsTrue yes
             ↔ InExpression (source_expression self.now) bytes.now) }

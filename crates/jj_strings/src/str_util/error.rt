@@ -1,4 +1,4 @@
-//! Why a text is no pattern of strings.
+//! Errors of parsing a string pattern.
 ghost use Rattle.std.specs.Prelude.{◌≡◌};
 ghost use Rattle.jj_strings.specs.declared.str_util.error.StringPatternParseError.{StringPatternParseError};
 
@@ -6,10 +6,10 @@ use jj_globs::glob::GlobError;
 use std::alloc::{AllocError, AllocFailed};
 use thiserror::Error;
 
-/// Why a text is no pattern of strings.
+/// An error of parsing a string pattern.
 #[derive(Debug, Drop, Error)]
 pub enum StringPatternParseError {
-    /// There is no kind of this name.
+    /// No kind has this name.
     #[error("Invalid string pattern kind `{0}:`")]
     InvalidKind(String),
     #[error(transparent)]

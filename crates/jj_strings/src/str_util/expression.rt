@@ -1,14 +1,14 @@
-//! Expressions of patterns: complements, unions and intersections of their sets.
+//! Set expressions: complements, unions and intersections of string patterns.
 ghost use Rattle.std.specs.Prelude.{◌≡◌, ◌++◌, IfOk, OnOk, map, string_bytes};
 
 use crate::str_util::pattern::StringPattern;
 use std::alloc::{AllocError, Global};
 use std::vec::IntoIter;
 
-/// A set of strings, put together from patterns.
+/// A set of strings, as a syntax tree over patterns.
 #[derive(Debug, Drop)]
 pub enum StringExpression {
-    /// The strings of the pattern.
+    /// The strings that the pattern matches.
     Pattern(Box<StringPattern>),
     /// All other strings.
     NotIn(Box<StringExpression>),
@@ -24,49 +24,49 @@ impl StringExpression {
     ghost use Rattle.jj_strings.specs.PatternViews.{pattern_of};
     ghost use Rattle.jj_strings.specs.ExpressionViews.{expression_of};
 
-    /// No string.
+    /// Creates the empty set.
     pub fn none(alloc: Global) -> Result<Self, AllocError>
         ensures { IfOk result (λ e. expression_of e ≡ nothing) }
     {
         StringExpression::all(alloc)?.negated(alloc)
     }
 
-    /// Every string.
+    /// Creates the set of all strings.
     pub fn all(alloc: Global) -> Result<Self, AllocError>
         ensures { IfOk result (λ e. expression_of e ≡ everything) }
     {
         StringExpression::pattern(alloc, StringPattern::all(alloc))
     }
 
-    /// The strings of the pattern.
+    /// Creates the set of strings that the pattern matches.
     pub fn pattern(alloc: Global, pattern: StringPattern) -> Result<Self, AllocError>
         ensures { IfOk result (λ e. expression_of e ≡ of_pattern (pattern_of pattern)) }
     {
         Ok(StringExpression::Pattern(Box::new(alloc, pattern)?))
     }
 
-    /// The text alone.
+    /// Creates the set of this string only.
     pub fn exact(alloc: Global, text: String) -> Result<Self, AllocError>
         ensures { IfOk result (λ e. expression_of e ≡ of_pattern (exact (string_bytes text))) }
     {
         StringExpression::pattern(alloc, StringPattern::exact(text))
     }
 
-    /// Every string that has the text as a part.
+    /// Creates the set of strings that contain this one.
     pub fn substring(alloc: Global, text: String) -> Result<Self, AllocError>
         ensures { IfOk result (λ e. expression_of e ≡ of_pattern (substring (string_bytes text))) }
     {
         StringExpression::pattern(alloc, StringPattern::substring(text))
     }
 
-    /// All other strings.
+    /// Returns the complement.
     pub fn negated(self, alloc: Global) -> Result<Self, AllocError>
         ensures { IfOk result (λ e. expression_of e ≡ not_in (expression_of self)) }
     {
         Ok(StringExpression::NotIn(Box::new(alloc, self)?))
     }
 
-    /// The strings of either.
+    /// Returns the union.
     pub fn union(self, alloc: Global, other: Self) -> Result<Self, AllocError>
         ensures { IfOk result (λ e. expression_of e
             ≡ union (expression_of self) (expression_of other)) }
@@ -76,8 +76,8 @@ impl StringExpression {
         Ok(StringExpression::Union(left, right))
     }
 
-    /// The strings of any of them: no expression is `none`, one is itself, more are the union of
-    /// both halves, so that the depth grows with the logarithm of their number.
+    /// Returns the union of a list, as a balanced tree: its depth is logarithmic in the length. An
+    /// empty list results in `none`, and a single expression in itself.
     pub fn union_all(alloc: Global, expressions: Vec<Self>) -> Result<Self, AllocError>
         ensures { IfOk result (λ e. IsUnionOf (map expression_of expressions.items)
             (expression_of e)) }
@@ -95,7 +95,7 @@ impl StringExpression {
         left.union(alloc, right)
     }
 
-    /// The strings of both.
+    /// Returns the intersection.
     pub fn intersection(self, alloc: Global, other: Self) -> Result<Self, AllocError>
         ensures { IfOk result (λ e. expression_of e
             ≡ intersection (expression_of self) (expression_of other)) }
@@ -105,7 +105,8 @@ impl StringExpression {
         Ok(StringExpression::Intersection(left, right))
     }
 
-    /// The texts of the exact patterns, from left to right, those below a complement too.
+    /// Iterates over the strings of the exact patterns from left to right, also below a complement.
+    /// Collects them at once.
     pub fn exact_strings(&self, alloc: Global) -> Result<IntoIter<&str>, AllocError>
         ensures { IfOk result (λ texts. map (λ text. text.now) (into_iter_items texts)
             ≡ exact_texts (expression_of self.now)) }
@@ -115,7 +116,7 @@ impl StringExpression {
         Ok(texts.into_iter())
     }
 
-    // Puts the texts of the exact patterns after those that are there.
+    // Appends the strings of the exact patterns.
     fn push_exact_strings<'a>(&'a self, texts: &mut Vec<&'a str>) -> Result<(), AllocError>
         ensures { OnOk result (map (λ text. text.now) texts.new.items
             ≡ map (λ text. text.now) texts.old.items ++ exact_texts (expression_of self.now)) }
@@ -139,7 +140,7 @@ impl StringExpression {
         }
     }
 
-    // A copy, on the allocators of the boxes.
+    // Clones the tree, with the allocators of its boxes.
     fn deep_copy(&self) -> Result<StringExpression, AllocError>
         ensures { IfOk result (λ copy. expression_of copy ≡ expression_of self.now) }
     {

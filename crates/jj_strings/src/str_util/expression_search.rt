@@ -1,22 +1,23 @@
-//! Expressions that are asked string after string: each regular expression keeps its search.
+//! Evaluation of an expression with reusable searches: each regular expression has a matcher that
+//! keeps its memory between strings.
 ghost use Rattle.std.specs.Prelude.{◌≡◌, ◌↔◌, IsTrue, IsErr, IfOk};
 
 use crate::str_util::compiled::{CompiledExpression, CompiledPattern};
 use regex::bytes::Matcher;
 use std::alloc::{AllocError, Global};
 
-// An expression with a search for each of its regular expressions.
+// An expression with a matcher for each of its regular expressions.
 #[derive(Drop)]
 pub(crate) enum ExpressionSearch<'m> {
-    // The strings of a pattern that is no regular expression.
+    // A pattern other than a regular expression.
     Text(&'m CompiledPattern),
-    // The strings in which a regular expression has a match.
+    // The matcher of a regular expression.
     Regex(Matcher<'m>),
-    // All other strings.
+    // The complement.
     NotIn(Box<ExpressionSearch<'m>>),
-    // The strings of either.
+    // The union.
     Union(Box<(ExpressionSearch<'m>, ExpressionSearch<'m>)>),
-    // The strings of both.
+    // The intersection.
     Intersection(Box<(ExpressionSearch<'m>, ExpressionSearch<'m>)>),
 }
 
@@ -25,7 +26,7 @@ impl CompiledExpression {
     ghost use Rattle.jj_strings.specs.StringSets.{HasRegex};
     ghost use Rattle.jj_strings.specs.Searches.{IsSearchOf};
 
-    // Whether a regular expression is inside.
+    // Whether the expression contains a regular expression.
     pub(crate) fn has_regex(&self) -> bool
         ensures { IsTrue result ↔ HasRegex (source_expression self.now) }
     {
@@ -37,7 +38,7 @@ impl CompiledExpression {
         }
     }
 
-    // The expression with a search for each of its regular expressions.
+    // Creates the matchers.
     pub(crate) fn search(&self, alloc: Global) -> Result<ExpressionSearch<'_>, AllocError>
         ensures { IfOk result (λ search. IsSearchOf search (source_expression self.now)) }
     {
@@ -66,7 +67,7 @@ impl<'m> ExpressionSearch<'m> {
     ghost use Rattle.jj_strings.specs.StringSets.{InExpression, Expression};
     ghost use Rattle.jj_strings.specs.Searches.{IsSearchOf};
 
-    // Whether the expression's set holds the bytes.
+    // Whether the expression matches the bytes.
     pub(crate) fn holds(&mut self, bytes: &[u8]) -> bool
         ensures answer { (e : Expression) → IsSearchOf self.old e → IsTrue result
             ↔ InExpression e bytes.now }

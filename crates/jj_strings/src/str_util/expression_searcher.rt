@@ -1,4 +1,4 @@
-//! Expressions that are asked string after string.
+//! Lazy creation of the searches of an expression, at the first string.
 ghost use Rattle.std.specs.Prelude.{◌≡◌, ◌↔◌, IsTrue, IsErr, IfOk};
 ghost use Rattle.jj_strings.specs.CompiledViews.{source_expression};
 ghost use Rattle.jj_strings.specs.StringSets.{InExpression, HasRegex};
@@ -8,7 +8,7 @@ use crate::str_util::expression_search::ExpressionSearch;
 use std::alloc::{AllocError, Global};
 use std::marker::Model;
 
-// An expression, with its searches once they were made.
+// An expression, with its searches once they are created.
 #[derive(Drop)]
 pub(crate) struct ExpressionSearcher<'m> {
     expression: &'m CompiledExpression,
@@ -36,7 +36,7 @@ impl<'m> Model for ExpressionSearcher<'m> {
 }
 
 impl CompiledExpression {
-    // The expression, to be asked string after string.
+    // Creates a searcher; does not allocate.
     pub(crate) fn searcher(&self) -> ExpressionSearcher<'_>
         ensures { result ≡ self.now }
     {
@@ -49,7 +49,7 @@ impl CompiledExpression {
 }
 
 impl<'m> ExpressionSearcher<'m> {
-    // Whether the expression's set holds the bytes. The searches are made at the first string.
+    // Whether the expression matches the bytes. Creates the searches at the first call.
     pub(crate) fn is_match(&mut self, alloc: Global, bytes: &[u8]) -> Result<bool, AllocError>
         ensures answer { IfOk result (λ yes. IsTrue yes
             ↔ InExpression (source_expression self.old) bytes.now) }

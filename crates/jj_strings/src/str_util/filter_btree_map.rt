@@ -1,4 +1,4 @@
-//! The entries of a map whose keys' texts a matcher's set holds.
+//! Iterator over the entries of a map whose keys match: a scan, or a lookup for exact matchers.
 ghost use Rattle.std.specs.Prelude.{◌≡◌, length};
 ghost use Rattle.std.specs.Map.Iter.{TakesFirst, deref_pair};
 ghost use Rattle.jj_strings.specs.EntriesLeft.{entries_left, HoldsAllOf};
@@ -12,11 +12,11 @@ use std::collections::BTreeMap;
 use std::collections::btree_map::Iter;
 use std::option::IntoIter;
 
-// Entries of a map that are still to be looked at: all of them, or the one of a key.
+// The remaining candidates: entries of the map, or the one that was looked up.
 type Entries<'a, K, V> = Either<Iter<'a, K, V>, IntoIter<(&'a K, &'a V)>>;
 
-/// The entries, in order. An error comes only where a regular expression is inside; after it there
-/// are no more.
+/// Iterator over matching entries, in the order of keys. Yields an error only if the matcher
+/// contains a regular expression, and ends after it.
 #[derive(Drop)]
 pub struct FilterBTreeMap<'a, 'm, K: TextKey, V> {
     searcher: StringSearcher<'m>,
@@ -27,9 +27,9 @@ impl StringMatcher {
     ghost use Rattle.jj_strings.specs.StringMatchers.{InMatcher};
     ghost use Rattle.jj_strings.specs.FilterViews.{filter_matcher, filter_entries};
 
-    /// The entries whose keys' texts the set holds, in order. The entry of an exact text is looked
-    /// up by a key made of the text; where there is no memory for that key, all entries are looked
-    /// at. A match takes memory only where a regular expression is inside.
+    /// Iterates over the entries whose keys match, in the order of keys. An exact matcher looks its
+    /// entry up by a key made from its string, and scans all entries if the allocation of that key
+    /// fails. Matching allocates only if the matcher contains a regular expression.
     pub fn filter_btree_map<'a, 'm, K: TextKey, V>(
         &'m self,
         alloc: Global,
@@ -45,7 +45,7 @@ impl StringMatcher {
         }
     }
 
-    /// The entries whose keys' texts the set holds, in order, as `filter_btree_map` gives them.
+    /// Iterates over the entries whose keys match, exactly as `filter_btree_map`.
     pub fn filter_btree_map_as_deref<'a, 'm, K: TextKey, V>(
         &'m self,
         alloc: Global,
@@ -58,8 +58,8 @@ impl StringMatcher {
         self.filter_btree_map(alloc, map)
     }
 
-    // The entries that have to be looked at: that of the text for an exact matcher, else all. Where
-    // there is no memory for the key of the text, all are looked at.
+    // Returns the entries to match: the one of an exact matcher, unless the key for its lookup
+    // cannot be allocated; else all.
     fn candidates<'a, K: TextKey, V>(
         &self,
         alloc: Global,
@@ -111,7 +111,6 @@ impl<'a, 'm, K: TextKey, V> Iterator for FilterBTreeMap<'a, 'm, K, V> {
     }
 }
 
-// The next of the entries that are left.
 fn next_entry<'a, K: TextKey, V>(entries: &mut Entries<'a, K, V>) -> Option<(&'a K, &'a V)>
     ensures { TakesFirst deref_pair (entries_left entries.old) result (entries_left entries.new) }
 {

@@ -1,4 +1,5 @@
-//! Parts of bytes without regard to the case of ASCII letters.
+//! Substring search that ignores ASCII case: direct comparison, a search in lower-case windows on
+//! the stack, or Knuth-Morris-Pratt, by the lengths.
 ghost use Rattle.std.specs.Prelude.{◌≡◌, ◌↔◌, ◌+◌, ◌<◌, ◌≤◌, IsTrue, length, take};
 ghost use Rattle.bstr.specs.Find.{OccursAt};
 ghost use Rattle.bstr.specs.Text.{Contains};
@@ -8,21 +9,21 @@ ghost use Rattle.jj_strings.specs.Folded.{lowercase_text};
 use crate::str_util::borders::stands_by_borders;
 use bstr::ByteSlice;
 
-// Where a text can stand at fewer places than this, it is compared at each.
+// A needle with fewer offsets than this is compared at each.
 const FEW: usize = 16;
 
-// The longest text that is looked for in windows of a few hundred bytes.
+// The longest needle that is searched in the short window.
 const SHORT: usize = 256;
 
 const SHORT_WINDOW: usize = 512;
 
-// The longest text that is looked for in windows at all; a longer one is found by its borders.
+// The longest needle that is searched in windows; longer ones use Knuth-Morris-Pratt.
 pub(crate) const LONG: usize = 4_096;
 
 const LONG_WINDOW: usize = 8_192;
 
-// Whether the bytes hold the text as a part, with ASCII letters in either case. A text that is
-// longer than `LONG` comes with its borders. It takes time that grows with the bytes alone.
+// Whether the bytes contain the needle, ignoring ASCII case. A needle longer than `LONG` comes with
+// its table. The time is linear in the length of the bytes, whatever the needle.
 pub(crate) fn contains_folded(bytes: &[u8], text: &[u8], borders: &[usize]) -> bool
     requires { LONG < length text.now → IsBorderTable (lowercase_text text.now) borders.now }
     ensures { IsTrue result ↔ Contains (lowercase_text bytes.now) (lowercase_text text.now) }
@@ -38,7 +39,8 @@ pub(crate) fn contains_folded(bytes: &[u8], text: &[u8], borders: &[usize]) -> b
     }
 }
 
-// Whether the bytes hold the text, with room on the stack for a text and a window of these lengths.
+// Whether the bytes contain the needle. The lower-case needle and window are arrays of these
+// lengths on the stack.
 #[inline(never)]
 fn stands_in_arrays<const TEXT: usize, const WINDOW: usize>(bytes: &[u8], text: &[u8]) -> bool
     requires text { length text.now ≤ TEXT }
@@ -51,7 +53,8 @@ fn stands_in_arrays<const TEXT: usize, const WINDOW: usize>(bytes: &[u8], text: 
     stands_in_windows(bytes, text, &mut lower, &mut window)
 }
 
-// Whether the bytes hold the text, looked for in windows of them that are written in lower case.
+// Searches the needle in lower-case windows, each of which overlaps the next one by one byte less
+// than the needle.
 fn stands_in_windows(bytes: &[u8], text: &[u8], lower: &mut [u8], window: &mut [u8]) -> bool
     requires lower { length text.now ≤ length lower.old }
     requires window { length text.now < length window.old }
@@ -72,7 +75,7 @@ fn stands_in_windows(bytes: &[u8], text: &[u8], lower: &mut [u8], window: &mut [
     false
 }
 
-// Writes the bytes in lower case to the front of others.
+// Writes the bytes in lower case to the start of `folds`.
 fn fold_into(bytes: &[u8], folds: &mut [u8])
     requires { length bytes.now ≤ length folds.old }
     ensures front { take (length bytes.now) folds.new ≡ lowercase_text bytes.now }
@@ -83,7 +86,7 @@ fn fold_into(bytes: &[u8], folds: &mut [u8])
     }
 }
 
-// Whether the bytes hold the text, compared at each place.
+// Compares the needle at each offset.
 fn stands_at_a_place(bytes: &[u8], text: &[u8]) -> bool
     ensures { IsTrue result ↔ Contains (lowercase_text bytes.now) (lowercase_text text.now) }
 {
@@ -98,7 +101,7 @@ fn stands_at_a_place(bytes: &[u8], text: &[u8]) -> bool
     false
 }
 
-// Whether the text stands in the bytes at this place, with ASCII letters in either case.
+// Whether the needle occurs at this offset, ignoring ASCII case.
 fn stands_at(bytes: &[u8], text: &[u8], at: usize) -> bool
     requires { at + length text.now ≤ length bytes.now }
     ensures { IsTrue result ↔ OccursAt (lowercase_text bytes.now) (lowercase_text text.now) at }

@@ -1,4 +1,4 @@
-//! A glob as a pattern of strings: its `?` and `*` stand for `/` too.
+//! Globs as string patterns: without separator, so that `?` and `*` match `/` too.
 ghost use Rattle.std.specs.Prelude.{◌≡◌, ◌↔◌, IsTrue};
 ghost use Rattle.jj_globs.specs.GlobReads.{ReadsAsGlob};
 ghost use Rattle.jj_strings.specs.StringSets.{string_glob};
@@ -9,8 +9,8 @@ use std::fmt;
 use std::marker::Model;
 use std::rc::Rc;
 
-/// A glob without separator, seen as its text and whether ASCII letters match in either case. A
-/// clone shares the glob.
+/// A glob without separator. Contracts see its string and whether it ignores ASCII case. A clone
+/// shares the compiled glob.
 #[derive(Drop)]
 pub struct GlobPattern {
     parsed: Rc<Glob>,
@@ -34,7 +34,7 @@ impl GlobPattern {
     ghost use Rattle.jj_globs.specs.GlobMeaning.{IsMatch};
     ghost use Rattle.jj_strings.specs.StringGlobs.{as_glob};
 
-    // The pattern that the text is; with `icase` ASCII letters match in either case.
+    // Parses a glob; with `icase`, ASCII letters match in either case.
     pub(crate) fn parse(alloc: Global, text: &str, icase: bool) -> Result<GlobPattern, GlobError>
         ensures { ReadsAsGlob text.now (string_glob text.now icase) result }
     {
@@ -47,19 +47,19 @@ impl GlobPattern {
         })
     }
 
-    /// The text that was parsed.
+    /// Returns the string that was parsed.
     pub fn as_str(&self) -> &str
         ensures { result.now ≡ self.now.text }
     {
         self.parsed.as_str()
     }
 
-    // The text of the regular expression that matches as the glob does.
+    // Returns an equivalent regular expression.
     pub(crate) fn regex_text(&self, alloc: Global) -> Result<String, AllocError> {
         self.parsed.regex_text(alloc)
     }
 
-    // Whether the pattern's set holds the bytes.
+    // Whether the glob matches the bytes.
     pub(crate) fn holds(&self, bytes: &[u8]) -> bool
         ensures { IsTrue result ↔ IsMatch (as_glob self.now) bytes.now }
     {

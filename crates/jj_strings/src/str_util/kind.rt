@@ -1,7 +1,7 @@
-//! The kinds of patterns by name.
+//! Kinds of string patterns.
 ghost use Rattle.std.specs.Prelude.{◌≡◌};
 
-/// A kind of pattern. Those that end in `I` match ASCII letters in either case.
+/// A kind of string pattern. Those that end in `I` ignore ASCII case.
 #[derive(Clone, Copy, Debug, PartialEq, Eq, Drop)]
 pub enum PatternKind {
     Exact,
@@ -17,7 +17,7 @@ pub enum PatternKind {
 impl PatternKind {
     ghost use Rattle.jj_strings.specs.PatternKinds.{kind_named};
 
-    /// The kind of this name.
+    /// Returns the kind of this name, such as `substring-i`.
     pub fn from_name(name: &str) -> Option<PatternKind>
         ensures { result ≡ kind_named name.now }
     {

@@ -1,4 +1,4 @@
-//! The lines of a text that a matcher's set holds.
+//! Iterator over the lines of a byte string that match.
 ghost use Rattle.std.specs.Prelude.{◌≡◌, ◌<◌, ◌∷◌, length};
 ghost use Rattle.jj_strings.specs.Lines.{lines, without_feed, first_len};
 
@@ -6,8 +6,8 @@ use crate::str_util::matcher::StringMatcher;
 use crate::str_util::searcher::StringSearcher;
 use std::alloc::{AllocError, Global};
 
-/// The lines, with their line feeds, in order. An error comes only where a regular expression is
-/// inside; after it there are no more.
+/// Iterator over matching lines with their line feeds, in order. Yields an error only if the
+/// matcher contains a regular expression, and ends after it.
 #[derive(Drop)]
 pub struct MatchLines<'a, 'm> {
     searcher: StringSearcher<'m>,
@@ -17,8 +17,8 @@ pub struct MatchLines<'a, 'm> {
 impl StringMatcher {
     ghost use Rattle.jj_strings.specs.LinesLeft.{matcher_of, rest_of};
 
-    /// The lines of the text that the set holds without their line feeds. Memory is taken only
-    /// where a regular expression is inside.
+    /// Iterates over the lines that match. A line is matched without its line feed, and yielded
+    /// with it. Allocates only if the matcher contains a regular expression.
     pub fn match_lines<'a, 'm>(&'m self, alloc: Global, text: &'a [u8]) -> MatchLines<'a, 'm>
         ensures matcher { matcher_of result ≡ self.now }
         ensures rest { rest_of result ≡ text.now }
@@ -61,7 +61,7 @@ impl<'a, 'm> Iterator for MatchLines<'a, 'm> {
     }
 }
 
-// The first line, and what follows it.
+// Splits off the first line.
 fn cut_line(text: &[u8]) -> (&[u8], &[u8])
     requires { 0 < length text.now }
     ensures lines { lines text.now ≡ result.0.now ∷ lines result.1.now }
@@ -70,7 +70,7 @@ fn cut_line(text: &[u8]) -> (&[u8], &[u8])
     text.split_at(first_line_len(text))
 }
 
-// How long the first line is, with its line feed.
+// Returns the length of the first line with its line feed.
 fn first_line_len(text: &[u8]) -> usize
     ensures { result ≡ first_len text.now }
 {
@@ -82,7 +82,7 @@ fn first_line_len(text: &[u8]) -> usize
     text.len()
 }
 
-// The line without its line feed.
+// Strips the line feed, if there is one.
 fn strip_feed(line: &[u8]) -> &[u8]
     ensures { result.now ≡ without_feed line.now }
 {

@@ -1,4 +1,4 @@
-//! Matchers of strings: sets in the form in which they are asked.
+//! String matchers: compiled sets of strings.
 ghost use Rattle.std.specs.Prelude.{◌≡◌, ◌↔◌, ℕ, List, IsTrue, IsErr, IfOk, string_bytes};
 
 use crate::str_util::compiled::CompiledExpression;
@@ -6,37 +6,38 @@ use crate::str_util::predicate::BytePredicate;
 use std::alloc::{AllocError, Global};
 use std::fmt;
 
-/// A set of strings that can be asked.
+/// A compiled set of strings.
 #[derive(Drop)]
 pub enum StringMatcher {
-    /// Every string.
+    /// Matches every string.
     All,
-    /// This text alone.
+    /// Matches this string only.
     Exact(String),
-    /// The strings of the expression, which the matcher owns.
+    /// Matches the strings of the expression.
     Expr(CompiledExpression),
-    /// The strings that the caller's predicate accepts.
+    /// Matches the strings that the caller's predicate accepts.
     Fn(BytePredicate),
 }
 
 impl StringMatcher {
     ghost use Rattle.jj_strings.specs.StringMatchers.{InMatcher, MayAllocate};
 
-    /// Every string.
+    /// Creates a matcher of every string.
     pub fn all() -> Self
         ensures { (bytes : List ℕ) → InMatcher result bytes }
     {
         StringMatcher::All
     }
 
-    /// The text alone.
+    /// Creates a matcher of this string only.
     pub fn exact(text: String) -> Self
         ensures { (bytes : List ℕ) → InMatcher result bytes ↔ (bytes ≡ string_bytes text) }
     {
         StringMatcher::Exact(text)
     }
 
-    /// Whether the set holds the text. Memory is taken only where a regular expression is inside.
+    /// Whether the string matches. Allocates, and so can fail, only if the matcher contains a
+    /// regular expression.
     pub fn is_match(&self, alloc: Global, haystack: &str) -> Result<bool, AllocError>
         ensures answer { IfOk result (λ yes. IsTrue yes ↔ InMatcher self.now haystack.now) }
         ensures memory { IsErr result → MayAllocate self.now }
@@ -44,7 +45,8 @@ impl StringMatcher {
         self.is_match_bytes(alloc, haystack.as_bytes())
     }
 
-    /// Whether the set holds the bytes. Memory is taken only where a regular expression is inside.
+    /// Whether the byte string matches. Allocates, and so can fail, only if the matcher contains a
+    /// regular expression.
     pub fn is_match_bytes(&self, alloc: Global, haystack: &[u8]) -> Result<bool, AllocError>
         ensures answer { IfOk result (λ yes. IsTrue yes ↔ InMatcher self.now haystack.now) }
         ensures memory { IsErr result → MayAllocate self.now }

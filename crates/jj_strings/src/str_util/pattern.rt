@@ -1,4 +1,4 @@
-//! Patterns of strings.
+//! String patterns: exact, substring, glob or regular expression, each also case-insensitive.
 ghost use Rattle.std.specs.Prelude.{◌≡◌, ◌↔◌, ℕ, [], Bool, true, false, IsTrue, IsOk, IfOk, IfErr, OnOk, MatchOption, MatchResult, option_map, is_some, string_bytes};
 ghost use Rattle.std.specs.List.{list_any};
 ghost use Rattle.jj_globs.specs.GlobEscape.{is_special};
@@ -12,19 +12,20 @@ use regex::bytes::Regex;
 use std::alloc::{AllocError, Global};
 use std::rc::Rc;
 
-/// A pattern of strings. `I` takes ASCII letters in either case.
+/// A string pattern. Variants that end in `I` ignore the case of ASCII letters, and `RegexI` that
+/// of all letters.
 #[derive(Debug, Drop)]
 pub enum StringPattern {
-    /// This text alone.
+    /// Matches this string only.
     Exact(String),
     ExactI(String),
-    /// Every string that has this text as a part.
+    /// Matches every string that contains this one.
     Substring(String),
     SubstringI(String),
-    /// Every string for which the glob stands.
+    /// Matches every string that the glob matches.
     Glob(Box<GlobPattern>),
     GlobI(Box<GlobPattern>),
-    /// Every string in which the regular expression has a match.
+    /// Matches every string in which the regular expression has a match.
     Regex(Rc<Regex>),
     RegexI(Rc<Regex>),
 }
@@ -35,42 +36,43 @@ impl StringPattern {
     ghost use Rattle.jj_strings.specs.PatternFaults.{IsGlobFault, IsRegexFault};
     ghost use Rattle.jj_strings.specs.PatternKinds.{kind_named, ReadsAsKind, IsUnknownKind, IsRegexOf, IsRegexIOf, bytes_config, bytes_config_i};
 
-    /// Every string.
+    /// Creates a pattern that matches every string.
     pub fn all(alloc: Global) -> Self
         ensures { pattern_of result ≡ substring [] }
     {
         StringPattern::Substring(String::new(alloc))
     }
 
-    /// The text alone.
+    /// Creates a pattern that matches this string only.
     pub fn exact(text: String) -> Self
         ensures { pattern_of result ≡ exact (string_bytes text) }
     {
         StringPattern::Exact(text)
     }
 
-    /// Every string that is the text but for the case of ASCII letters.
+    /// Creates a pattern that matches this string in any ASCII case.
     pub fn exact_i(text: String) -> Self
         ensures { pattern_of result ≡ exact_i (string_bytes text) }
     {
         StringPattern::ExactI(text)
     }
 
-    /// Every string that has the text as a part.
+    /// Creates a pattern that matches every string that contains this one.
     pub fn substring(text: String) -> Self
         ensures { pattern_of result ≡ substring (string_bytes text) }
     {
         StringPattern::Substring(text)
     }
 
-    /// Every string that has the text as a part, but for the case of ASCII letters.
+    /// Creates a pattern that matches every string that contains this one in any ASCII case.
     pub fn substring_i(text: String) -> Self
         ensures { pattern_of result ≡ substring_i (string_bytes text) }
     {
         StringPattern::SubstringI(text)
     }
 
-    /// Every string for which the glob stands. A glob without any of `? * [ ] { } \` is exact.
+    /// Parses a glob. A string without any of `? * [ ] { } \` becomes an exact pattern. Fails with
+    /// the first syntax error, or if memory runs out.
     pub fn glob(alloc: Global, text: &str) -> Result<Self, StringPatternParseError>
         ensures { MatchResult result (λ pattern. pattern_of pattern ≡ glob_or_exact text.now)
             (IsGlobFault text.now) }
@@ -82,7 +84,8 @@ impl StringPattern {
         Ok(StringPattern::Glob(Box::new(alloc, pattern)?))
     }
 
-    /// Every string for which the glob stands, with ASCII letters in either case.
+    /// Parses a glob that matches ASCII letters in either case. Fails with the first syntax error,
+    /// or if memory runs out.
     pub fn glob_i(alloc: Global, text: &str) -> Result<Self, StringPatternParseError>
         ensures { MatchResult result (λ pattern. pattern_of pattern
             ≡ glob_i (string_glob text.now true)) (IsGlobFault text.now) }
@@ -91,7 +94,7 @@ impl StringPattern {
         Ok(StringPattern::GlobI(Box::new(alloc, pattern)?))
     }
 
-    /// Every string in which the regular expression has a match.
+    /// Parses a regular expression. Fails if it is malformed or too large, or if memory runs out.
     pub fn regex(alloc: Global, text: &str) -> Result<Self, StringPatternParseError>
         ensures { MatchResult result (λ pattern.
             IsRegexOf bytes_config text.now (pattern_of pattern))
@@ -101,7 +104,8 @@ impl StringPattern {
         Ok(StringPattern::Regex(Rc::new(alloc, pattern)?))
     }
 
-    /// Every string in which the regular expression has a match, with letters in either case.
+    /// Parses a regular expression that matches letters in either case. Fails if it is malformed or
+    /// too large, or if memory runs out.
     pub fn regex_i(alloc: Global, text: &str) -> Result<Self, StringPatternParseError>
         ensures { MatchResult result (λ pattern.
             IsRegexIOf bytes_config_i text.now (pattern_of pattern))
@@ -113,8 +117,9 @@ impl StringPattern {
         Ok(StringPattern::RegexI(Rc::new(alloc, pattern)?))
     }
 
-    /// The pattern that the text is as one of the kind: `exact`, `substring`, `glob`, `regex`, each
-    /// also with `-i`.
+    /// Parses a pattern of a kind: `exact`, `substring`, `glob`, `regex`, each also with `-i`.
+    /// Fails with `InvalidKind` for any other kind, with the error of a malformed glob or regular
+    /// expression, or if memory runs out.
     pub fn from_str_kind(
         alloc: Global,
         text: &str,
@@ -141,8 +146,8 @@ impl StringPattern {
         }
     }
 
-    /// Whether the pattern is seen at once to hold every string: an empty part, an empty regular
-    /// expression, the glob `*`.
+    /// Whether the pattern trivially matches every string: an empty substring, an empty regular
+    /// expression, or the glob `*`.
     pub fn is_all(&self) -> bool
         ensures { result ≡ is_all (pattern_of self.now) }
     {
@@ -158,14 +163,14 @@ impl StringPattern {
         }
     }
 
-    /// Whether the pattern is one text alone.
+    /// Whether the pattern is exact.
     pub fn is_exact(&self) -> bool
         ensures { result ≡ is_some (exact_text (pattern_of self.now)) }
     {
         self.as_exact().is_some()
     }
 
-    /// The one text of an exact pattern.
+    /// Returns the string of an exact pattern, else `None`.
     pub fn as_exact(&self) -> Option<&str>
         ensures { option_map (λ text. text.now) result ≡ exact_text (pattern_of self.now) }
     {
@@ -175,7 +180,7 @@ impl StringPattern {
         }
     }
 
-    /// The text that the pattern was made of.
+    /// Returns the string that the pattern was created from.
     pub fn as_str(&self) -> &str
         ensures { result.now ≡ text_of (pattern_of self.now) }
     {
@@ -192,7 +197,6 @@ impl StringPattern {
     }
 }
 
-// Whether the text has one of the bytes that do not stand for themselves in a glob.
 fn has_special(text: &str) -> bool
     ensures { result ≡ list_any is_special text.now }
 {

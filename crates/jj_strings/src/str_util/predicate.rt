@@ -1,10 +1,10 @@
-//! A predicate on bytes that the caller brings.
+//! Predicate of a caller as a set of byte strings.
 ghost use Rattle.std.specs.Prelude.{◌≡◌, Bool};
 
-/// The caller's test of bytes.
+/// A boxed test of byte strings.
 pub type ByteTest = Box<dyn Fn(&[u8]) -> bool>;
 
-/// A predicate that may be called on all bytes, and has one answer for each.
+/// A test that may be called with every byte string, and always returns the same value for it.
 #[derive(Drop)]
 pub struct BytePredicate {
     test: ByteTest,
@@ -17,7 +17,7 @@ impl BytePredicate {
     ghost use Rattle.std.specs.Prelude.{◌≡◌, ◌↔◌, ℕ, Bool, true, List};
     ghost use Rattle.jj_strings.specs.Predicates.{Accepts};
 
-    /// The predicate of this test.
+    /// Wraps a test.
     pub fn new(test: ByteTest) -> BytePredicate
         requires callable { ByteTest.IsAlwaysCallable test }
         requires one_answer { (x y : _) (r s : Bool) → x.now ≡ y.now → ByteTest.post test x r
@@ -28,7 +28,6 @@ impl BytePredicate {
         BytePredicate { test }
     }
 
-    // Whether the test accepts the bytes.
     pub(crate) fn accepts(&self, bytes: &[u8]) -> bool
         ensures { ByteTest.post self.now.test bytes.entry result }
     {

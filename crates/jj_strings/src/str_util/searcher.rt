@@ -1,19 +1,19 @@
-//! Matchers that are asked string after string.
+//! Matching of many strings, with the memory of regular expressions reused.
 ghost use Rattle.std.specs.Prelude.{◌≡◌, ◌↔◌, IsTrue, IsErr, IfOk};
 
 use crate::str_util::expression_searcher::ExpressionSearcher;
 use crate::str_util::matcher::StringMatcher;
 use std::alloc::{AllocError, Global};
 
-// An expression whose searches are kept, or another matcher.
+// A searcher of an expression, or another matcher.
 #[derive(Drop)]
 pub(crate) enum Searched<'m> {
     Expression(ExpressionSearcher<'m>),
     Matcher(&'m StringMatcher),
 }
 
-/// A matcher's set, asked string after string. What its regular expressions search with is made at
-/// the first string and kept for the next ones; `StringMatcher::is_match` makes it anew each time.
+/// A matcher with the state of its searches. The state of regular expressions is created at the
+/// first string and reused for the next ones; `StringMatcher::is_match` creates it at each call.
 #[derive(Drop)]
 pub struct StringSearcher<'m> {
     searched: Searched<'m>,
@@ -23,8 +23,8 @@ pub struct StringSearcher<'m> {
 impl StringMatcher {
     ghost use Rattle.jj_strings.specs.Searchers.{searcher_matcher};
 
-    /// The set, to be asked string after string. Memory is taken at the first string, and only
-    /// where a regular expression is inside.
+    /// Creates a searcher. Memory is allocated at the first string, and only if the matcher
+    /// contains a regular expression.
     pub fn searcher(&self, alloc: Global) -> StringSearcher<'_>
         ensures { searcher_matcher result ≡ self.now }
     {
@@ -40,7 +40,7 @@ impl<'m> StringSearcher<'m> {
     ghost use Rattle.jj_strings.specs.StringMatchers.{InMatcher, MayAllocate};
     ghost use Rattle.jj_strings.specs.Searchers.{searcher_matcher};
 
-    /// Whether the set holds the text. Refused for want of memory, it can be asked again.
+    /// Whether the string matches. After an allocation failure the call may be repeated.
     pub fn is_match(&mut self, haystack: &str) -> Result<bool, AllocError>
         ensures answer { IfOk result (λ yes. IsTrue yes
             ↔ InMatcher (searcher_matcher self.old) haystack.now) }
@@ -50,7 +50,7 @@ impl<'m> StringSearcher<'m> {
         self.is_match_bytes(haystack.as_bytes())
     }
 
-    /// Whether the set holds the bytes. Refused for want of memory, it can be asked again.
+    /// Whether the byte string matches. After an allocation failure the call may be repeated.
     pub fn is_match_bytes(&mut self, haystack: &[u8]) -> Result<bool, AllocError>
         ensures answer { IfOk result (λ yes. IsTrue yes
             ↔ InMatcher (searcher_matcher self.old) haystack.now) }

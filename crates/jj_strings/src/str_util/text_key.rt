@@ -1,4 +1,4 @@
-//! Keys of maps that are texts.
+//! Map keys that are strings.
 ghost use Rattle.std.specs.Prelude.{◌≡◌, ℕ, List, IfOk, refl, string_bytes};
 ghost use Rattle.std.specs.Ordering.{nat_cmp};
 ghost use Rattle.std.specs.Cmp.Lexicographic.{slice_cmp};
@@ -6,20 +6,20 @@ ghost use Rattle.std.specs.Cmp.Lexicographic.{slice_cmp};
 use jj_ids::ref_name::NameBuf;
 use std::alloc::{AllocError, Global};
 
-/// A key that is a text, and is ordered as that text.
+/// A map key that is a string, and is ordered as that string.
 pub trait TextKey: Ord + Drop {
-    /// The bytes of the text.
+    /// The bytes of the string.
     ghost key_text: { Self → List ℕ };
 
-    /// The text.
+    /// Returns the string.
     fn as_text(&self) -> &str
         ensures { result.now ≡ key_text self.now };
 
-    /// The key of this text.
+    /// Creates the key of a string. Fails if memory runs out.
     fn from_text(alloc: Global, text: &str) -> Result<Self, AllocError>
         ensures { IfOk result (λ key. key_text key ≡ text.now) };
 
-    /// Keys are ordered as their texts.
+    /// Keys are ordered as their strings.
     ghost ordered_as_text: { (a b : Self) → Self.cmp a b
         ≡ slice_cmp nat_cmp (key_text a) (key_text b) };
 }

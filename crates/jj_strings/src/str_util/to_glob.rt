@@ -1,4 +1,4 @@
-//! Globs that stand for the same strings as patterns.
+//! Translation of string patterns to equivalent globs.
 ghost use Rattle.std.specs.Prelude.{◌≡◌, ◌↔◌, ◌++◌, ◌∷◌, [], ℕ, List, IfOk, OnOk, IfSome, option_map, string_bytes};
 ghost use Rattle.std.specs.Cow.{cow_str_bytes};
 ghost use Rattle.jj_strings.specs.GlobsOfPatterns.{glob_text, glob_icase, part_glob};
@@ -14,8 +14,8 @@ impl StringPattern {
     ghost use Rattle.jj_strings.specs.StringSets.{InPattern, string_glob};
     ghost use Rattle.jj_strings.specs.PatternViews.{pattern_of};
 
-    /// The text of a glob that stands for the same strings, for patterns that are exact, a part or
-    /// a glob.
+    /// Returns a glob that matches exactly the strings of the pattern, if it is exact, a substring
+    /// or a glob. Returns `None` for the case-insensitive kinds and for regular expressions.
     pub fn to_glob(&self, alloc: Global) -> Result<Option<CowStr<'_>>, AllocError>
         ensures text { IfOk result (λ glob. option_map cow_str_bytes glob
             ≡ glob_text (pattern_of self.now)) }
@@ -27,7 +27,6 @@ impl StringPattern {
         self.as_glob_text(alloc)
     }
 
-    // The text of the glob, by cases.
     fn as_glob_text(&self, alloc: Global) -> Result<Option<CowStr<'_>>, AllocError>
         ensures { IfOk result (λ glob. option_map cow_str_bytes glob
             ≡ glob_text (pattern_of self.now)) }
@@ -47,7 +46,7 @@ impl StringPattern {
     }
 }
 
-// The glob of all strings that have the text as a part.
+// Returns the glob of all strings that contain this one.
 fn between_stars(alloc: Global, text: &str) -> Result<String, AllocError>
     ensures { IfOk result (λ glob. string_bytes glob ≡ part_glob text.now) }
 {

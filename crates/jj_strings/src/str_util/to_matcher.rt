@@ -1,4 +1,4 @@
-//! Patterns and expressions in the form in which they are asked.
+//! Compilation of patterns and expressions to matchers.
 ghost use Rattle.std.specs.Prelude.{IfOk};
 ghost use Rattle.jj_strings.specs.PatternViews.{pattern_of};
 ghost use Rattle.jj_strings.specs.ExpressionViews.{expression_of};
@@ -12,9 +12,8 @@ use crate::str_util::pattern::StringPattern;
 use std::alloc::{AllocError, Global};
 
 impl StringPattern {
-    /// The set of the pattern, to be asked: `All` where `is_all` says so, `Exact` for an exact
-    /// pattern, else an expression. That an empty regular expression holds every string is claimed
-    /// of those that were made of their texts.
+    /// Compiles the pattern: to `All` if `is_all`, to `Exact` if exact, else to an expression. For
+    /// an empty regular expression this is proved only if it was parsed from a string.
     pub fn to_matcher(&self, alloc: Global) -> Result<StringMatcher, AllocError>
         ensures { let pattern = pattern_of self.now in IfOk result (Asks
             (IsPatternFromText pattern) (InPattern pattern) (pattern_form pattern)
@@ -31,7 +30,7 @@ impl StringPattern {
 }
 
 impl StringExpression {
-    /// The set of the expression, to be asked. A lone pattern has the matcher of the pattern.
+    /// Compiles the expression. A single pattern is compiled as `StringPattern::to_matcher` does.
     pub fn to_matcher(&self, alloc: Global) -> Result<StringMatcher, AllocError>
         ensures { let expression = expression_of self.now in IfOk result (Asks
             (IsExpressionFromText expression) (InExpression expression)

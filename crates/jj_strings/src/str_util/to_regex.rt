@@ -1,4 +1,4 @@
-//! Regular expressions that match as patterns do. That they do so is shown by tests.
+//! Translation of string patterns to regular expressions. The equivalence is tested, not proved.
 use crate::str_util::glob_pattern::GlobPattern;
 use crate::str_util::pattern::StringPattern;
 use regex::bytes::Regex;
@@ -7,7 +7,7 @@ use std::alloc::{AllocError, Global};
 use std::rc::Rc;
 
 impl GlobPattern {
-    /// The regular expression that matches as the glob does.
+    /// Compiles an equivalent regular expression.
     pub fn to_regex(&self, alloc: Global) -> Result<Rc<Regex>, Error> {
         let text = self.regex_text(alloc)?;
         let regex = RegexBuilder::new(text.as_str())
@@ -18,8 +18,8 @@ impl GlobPattern {
 }
 
 impl StringPattern {
-    /// The regular expression that matches as the pattern does, but that a pattern without regard
-    /// to the case of ASCII letters becomes one without regard to the case of any letter.
+    /// Compiles an equivalent regular expression. From a case-insensitive pattern it ignores the
+    /// case of all letters, not only of ASCII ones.
     pub fn to_regex(&self, alloc: Global) -> Result<Rc<Regex>, Error> {
         match self {
             StringPattern::Exact(text) => whole(alloc, text.as_str(), false),
@@ -34,7 +34,7 @@ impl StringPattern {
     }
 }
 
-// The regular expression of the text alone.
+// Compiles a regular expression that matches the whole string.
 fn whole(alloc: Global, text: &str, icase: bool) -> Result<Rc<Regex>, Error> {
     let mut source = String::from_str(alloc, "^")?;
     source.push_str(escape(alloc, text)?.as_str())?;
@@ -42,7 +42,7 @@ fn whole(alloc: Global, text: &str, icase: bool) -> Result<Rc<Regex>, Error> {
     compile_regex(alloc, source.as_str(), icase)
 }
 
-// The regular expression of all that has the text as a part.
+// Compiles a regular expression that matches a substring.
 fn part(alloc: Global, text: &str, icase: bool) -> Result<Rc<Regex>, Error> {
     let source = escape(alloc, text)?;
     compile_regex(alloc, source.as_str(), icase)

@@ -1,4 +1,4 @@
--- The borders of the fronts up to the byte, and that of the last one.
+-- The table of the prefixes so far, of which `len` is the last entry.
 use Rattle.std.proofs.Common.{◌≡◌, ◌-◌, length, drop}
 use Rattle.jj_strings.specs.Folded.{lowercase_text}
 use Rattle.jj_strings.specs.Borders.{IsLongestEnd, AreBorders}

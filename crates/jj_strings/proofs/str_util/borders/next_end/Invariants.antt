@@ -1,4 +1,4 @@
--- The front ends wherever the longest front does, and no longer one goes on with the byte.
+-- A prefix of length `front` is the longest candidate that the byte may extend.
 use Rattle.std.proofs.Common.{ℕ, ◌≤◌, List}
 use Rattle.jj_strings.specs.Folded.{lowercase_text}
 use Rattle.jj_strings.specs.Borders.{IsLongestEnd}

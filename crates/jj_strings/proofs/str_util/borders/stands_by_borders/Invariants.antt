@@ -1,4 +1,5 @@
--- The longest front that ends at the byte, and the text stands at no place that ends before it.
+-- `len` is the length of the longest prefix that ends before the byte, and no occurrence ends
+-- before it.
 use Rattle.std.proofs.Common.{ℕ, ◌+◌, ◌<◌, ◌≤◌, length}
 use Rattle.bstr.specs.Find.{OccursAt}
 use Rattle.jj_strings.specs.Folded.{lowercase_text}

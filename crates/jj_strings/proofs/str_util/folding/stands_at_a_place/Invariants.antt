@@ -1,4 +1,4 @@
--- The text stands at no place before `at`.
+-- The needle does not occur at an offset before `at`.
 use Rattle.std.proofs.Common.{ℕ, ◌<◌}
 use Rattle.bstr.specs.Find.{OccursAt}
 use Rattle.jj_strings.specs.Folded.{lowercase_text}

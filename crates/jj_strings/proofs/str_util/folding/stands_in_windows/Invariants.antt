@@ -1,4 +1,4 @@
--- The text stands at no place before `from`.
+-- The needle does not occur at an offset before `from`.
 use Rattle.std.proofs.Common.{◌≡◌, ℕ, ◌+◌, ◌-◌, ◌<◌, length}
 use Rattle.bstr.specs.Find.{OccursAt}
 use Rattle.jj_strings.specs.Folded.{lowercase_text}

@@ -1,4 +1,4 @@
--- The entries so far are not in the set.
+-- The entries so far do not match.
 use Rattle.std.proofs.Common.{◌≡◌, List, ◌++◌, ◌≤◌, length, All}
 use Rattle.jj_strings.specs.EntriesLeft.{entries_left}
 use Rattle.jj_strings.specs.StringMatchers.{InMatcher}

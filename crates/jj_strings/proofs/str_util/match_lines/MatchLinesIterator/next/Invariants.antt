@@ -1,4 +1,4 @@
--- The lines so far are not in the set.
+-- The lines so far do not match.
 use Rattle.std.proofs.Common.{◌≡◌, ℕ, List, ◌++◌, ◌≤◌, length, All}
 use Rattle.jj_strings.specs.Lines.{lines, without_feed}
 use Rattle.jj_strings.specs.StringMatchers.{InMatcher}
