@@ -1,4 +1,4 @@
--- What an iterator over the matching entries of a list gives until it ends are those entries.
+-- An iterator over the matching entries of a list yields, until it ends, exactly these entries.
 use Rattle.std.proofs.Common.{◌≡◌, ◌∙◌, List, [], ◌∷◌, ◌++◌, Option, Result, Ok, map, All, sym, subst}
 use Rattle.std.specs.Iterator.{Drains}
 use Rattle.std.specs.declared.alloc.AllocError.{AllocError}
@@ -9,7 +9,7 @@ use Rattle.jj_strings_tests.specs.Selected.{Selects}
 use Rattle.jj_strings_tests.specs.Selected.Selects.{at_end, taken, left_out}
 
 module _ {X : Type 0} (P : X → Type 0) where
-  -- items of which P does not hold are left out, before others and behind them
+  -- items that do not satisfy P may be added at either end
   none_before : (before all some : List X) → All (λ x. P x → ⊥) before → Selects P all some → Selects P (before ++ all) some
   none_before [] all some none selects = selects
   none_before (x ∷ before) all some none selects =
@@ -24,17 +24,17 @@ module _ {X : Type 0} (P : X → Type 0) where
   none_behind after none (taken here selects) = taken here (none_behind after none selects)
   none_behind after none (left_out not_here selects) = left_out not_here (none_behind after none selects)
 
-  -- what is selected of a part that has all that can be is selected of the whole
+  -- the selection of a part is one of the whole if P is false outside
   pub of_whole : (all part some : List X) → HoldsAllOf P all part → Selects P part some → Selects P all some
   of_whole all part some (before, after, is, none1, none2) selects =
       subst (λ l. Selects P l some) (sym is) (none_behind after none2 (none_before before part some none1 selects))
 
 module _ {S R X M : Type 0} (view : R → X) (In : M → X → Type 0) (CanFail : M → Type 0) (set : S → M) (left : S → List X) where
-  -- one step over the entries that are left
+  -- one step over the remaining entries
   abbrev pub Steps : S → Option (Result R AllocError) → S → Type 0
   Steps s r t = GivesNext view (In (set s)) (CanFail (set s)) (left s) r (left t) × (set t ≡ set s)
 
-  -- a run that ended gave all that can be
+  -- a run that ended yielded all matching entries
   pub run_selects : (m : M) (given : List R) (s : S) → set s ≡ m → Drains Steps s (map (λ x. Ok x) given) → Selects (In m) (left s) (map view given)
   run_selects m [] s is (u, (t, same, last)) =
       let none = subst (λ (v : S). All (λ (x : X). In (set v) x → ⊥) (left v)) (sym same) last.0.0 in

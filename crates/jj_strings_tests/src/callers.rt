@@ -1,4 +1,4 @@
-//! Callers of sets of strings, proved from what these promise.
+//! Proved callers of string matchers.
 ghost use Rattle.std.specs.Prelude.{◌≡◌, ◌↔◌, IsTrue, IsErr, IfOk, map, false};
 ghost use Rattle.std.specs.Map.Iter.{deref_pair};
 ghost use Rattle.jj_strings.specs.StringMatchers.{InMatcher, MayAllocate};
@@ -13,8 +13,8 @@ use jj_strings::str_util::{StringMatcher, StringPattern};
 use std::alloc::{AllocError, Global};
 use std::collections::BTreeMap;
 
-/// Whether the set holds both names, asked by one searcher. It fails only where a regular
-/// expression is inside.
+/// Whether the matcher matches both names, with one searcher. Fails only if it contains a regular
+/// expression.
 pub fn holds_both(
     alloc: Global,
     matcher: &StringMatcher,
@@ -31,7 +31,7 @@ pub fn holds_both(
     Ok(is_first && is_second)
 }
 
-/// The refs whose names the set holds, with their targets, in the order of names.
+/// Returns the refs whose names match with their targets, ordered by name.
 pub fn refs_named<'a>(
     alloc: Global,
     matcher: &StringMatcher,
@@ -43,7 +43,8 @@ pub fn refs_named<'a>(
     all_of(alloc, matcher.filter_btree_map(alloc, refs))
 }
 
-/// Whether a pattern that is not seen to match everything matches a byte string, by its matcher.
+/// Whether a pattern matches a byte string, by its matcher. Proved for patterns that do not
+/// trivially match everything.
 pub fn is_in_pattern(
     alloc: Global,
     pattern: &StringPattern,

@@ -1,4 +1,4 @@
-//! Patterns of literal texts, and what their debug forms and iterators give.
+//! Parsed patterns, and checks of debug forms, matches and iterators.
 ghost use Rattle.std.specs.Iterator.{IsFinite};
 
 use jj_content_tests::once_more::Passed;
@@ -9,7 +9,7 @@ use std::alloc::{AllocError, Global};
 use std::fmt;
 use std::process::Abort;
 
-/// The pattern that the text is as one of the kind.
+/// Parses a pattern that is known to be valid.
 pub fn pattern<R: Abort>(
     rt: &R,
     alloc: Global,
@@ -23,7 +23,7 @@ pub fn pattern<R: Abort>(
     }
 }
 
-/// The expression of the pattern that the text is as one of the kind.
+/// Parses a pattern as an expression.
 pub fn expression<R: Abort>(
     rt: &R,
     alloc: Global,
@@ -33,7 +33,7 @@ pub fn expression<R: Abort>(
     StringExpression::pattern(alloc, pattern(rt, alloc, kind, text)?)
 }
 
-/// The matcher of the pattern that the text is as one of the kind.
+/// Parses and compiles a pattern.
 pub fn matcher<R: Abort>(
     rt: &R,
     alloc: Global,
@@ -49,12 +49,12 @@ pub fn shows<R: Abort, T: fmt::Debug>(rt: &R, alloc: Global, value: &T, shown: &
     Ok(())
 }
 
-/// Checks what was answered for a string.
+/// Checks the result of a match.
 pub fn answers<R: Abort>(rt: &R, found: bool, wanted: bool, string: &str) {
     assert!(rt; found == wanted, "{found} for {string:?}");
 }
 
-/// Checks whether a matcher holds a string.
+/// Checks whether a matcher matches a string.
 pub fn matches<R: Abort>(
     rt: &R,
     alloc: Global,
@@ -66,7 +66,7 @@ pub fn matches<R: Abort>(
     Ok(())
 }
 
-/// The items of an iterator. After an error there are no more.
+/// Collects the items of an iterator, which must end after an error.
 pub fn items<R: Abort, T: Drop, I: Iterator<Item = Result<T, AllocError>> + Drop>(
     rt: &R,
     alloc: Global,

@@ -1,7 +1,6 @@
-//! Tests of sets of strings, over the public calls.
+//! Tests of jj_strings over its public calls, and proved callers of it.
 //
-// In a run in which one request for memory is refused, a test answers that, and is then run once
-// more, when there is memory.
+// In a run with one failing allocation a test returns the error, and is then run again.
 #![tactic(auto)]
 
 #[cfg(test)]

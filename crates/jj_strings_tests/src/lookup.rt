@@ -1,4 +1,4 @@
-//! An exact text is looked up in a map: a key counts how often its text is asked for.
+//! Test that an exact matcher looks its entry up: keys count how often their strings are read.
 ghost use Rattle.std.specs.Prelude.{refl, string_bytes};
 
 use crate::fixtures::{items, matcher};
@@ -10,7 +10,7 @@ use std::collections::BTreeMap;
 use std::process::Abort;
 use std::test::Fail;
 
-// A text, and how often it was asked for, which makes no difference to its order.
+// A key that counts the reads of its string. The count does not take part in comparisons.
 #[derive(Drop)]
 #[derive_where(PartialEq, Eq, PartialOrd, Ord)]
 struct CountedKey {
@@ -37,7 +37,7 @@ impl TextKey for CountedKey {
     }
 }
 
-// A map whose keys are these texts.
+// Creates a map with these keys.
 fn counted(alloc: Global, texts: &[&str]) -> Result<BTreeMap<CountedKey, ()>, AllocError> {
     let mut map = BTreeMap::new(alloc);
     for text in texts {
@@ -46,7 +46,7 @@ fn counted(alloc: Global, texts: &[&str]) -> Result<BTreeMap<CountedKey, ()>, Al
     Ok(map)
 }
 
-// How often keys were asked for their texts while the one entry of the matcher was found.
+// Returns how often keys were read to find the one matching entry.
 fn asked<R: Abort>(rt: &R, alloc: Global, matcher: &StringMatcher) -> Result<u32, AllocError> {
     let map = counted(alloc, &["a", "b", "c", "d", "e"])?;
     let found = items(rt, alloc, matcher.filter_btree_map(alloc, &map))?;
@@ -57,12 +57,12 @@ fn asked<R: Abort>(rt: &R, alloc: Global, matcher: &StringMatcher) -> Result<u32
     )
 }
 
-// How often keys were asked by the pattern of this kind.
+// Returns how often keys were read by a pattern of this kind.
 fn asked_by<R: Abort>(rt: &R, alloc: Global, kind: &str) -> Result<u32, AllocError> {
     asked(rt, alloc, &matcher(rt, alloc, kind, "d")?)
 }
 
-// Where there is no memory for a key to look up, each key is asked.
+// If the key for the lookup cannot be allocated, each key is read.
 fn looked_up<R: Abort>(rt: &R, alloc: Global) -> Passed {
     assert_eq!(rt; asked_by(rt, alloc, "exact-i")?, 5);
     match asked_by(rt, alloc, "exact")? {

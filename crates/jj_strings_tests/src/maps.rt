@@ -1,5 +1,5 @@
-//! The entries of a map that a matcher finds, by keys of each type, and predicates that a caller
-//! brings.
+//! Tests of iterators over matching map entries, for each type of keys, and of predicates of
+//! callers.
 ghost use Rattle.std.specs.Iterator.{IsFinite};
 
 use crate::fixtures::{items, matcher, matches, shows};
@@ -11,7 +11,7 @@ use std::collections::BTreeMap;
 use std::process::Abort;
 use std::test::Fail;
 
-// A map with these texts as keys, each with its place among them.
+// Creates a map of these keys, each with its index.
 fn numbered<K: TextKey>(alloc: Global, texts: &[&str]) -> Result<BTreeMap<K, usize>, AllocError> {
     let mut map = BTreeMap::new(alloc);
     for (place, text) in texts.iter().enumerate() {
@@ -20,13 +20,13 @@ fn numbered<K: TextKey>(alloc: Global, texts: &[&str]) -> Result<BTreeMap<K, usi
     Ok(map)
 }
 
-// Checks the key and the place of an entry.
+// Checks the key and the value of an entry.
 fn is<R: Abort, K: TextKey>(rt: &R, entry: &(&K, &usize), text: &str, place: usize) {
     assert_eq!(rt; entry.0.as_text(), text);
     assert_eq!(rt; *entry.1, place);
 }
 
-// Checks that these entries have these keys and places.
+// Checks the keys and the values of all entries.
 fn are<R: Abort, K: TextKey>(rt: &R, found: &[(&K, &usize)], wanted: &[(&str, usize)]) {
     assert_eq!(rt; found.len(), wanted.len());
     for (entry, (text, place)) in found.iter().zip(wanted) {
@@ -34,7 +34,7 @@ fn are<R: Abort, K: TextKey>(rt: &R, found: &[(&K, &usize)], wanted: &[(&str, us
     }
 }
 
-// Checks that an iterator gives the entries of these keys, in this order.
+// Checks that an iterator yields these entries in this order.
 fn gives<'a, R: Abort, K: TextKey + 'a, I>(
     rt: &R,
     alloc: Global,
@@ -50,7 +50,7 @@ where
     Ok(())
 }
 
-// Checks that the matcher finds these entries, also by what the keys are dereferenced to.
+// Checks which entries a matcher finds, also by `filter_btree_map_as_deref`.
 fn finds<R: Abort, K: TextKey>(
     rt: &R,
     alloc: Global,
@@ -67,7 +67,7 @@ fn finds<R: Abort, K: TextKey>(
     )
 }
 
-// Kind, text, and the entries that are found.
+// The kind and the string of a pattern, and the entries that it finds.
 type Row = (&'static str, &'static str, &'static [(&'static str, usize)]);
 
 const FOUND: [Row; 10] = [
@@ -106,7 +106,7 @@ fn finds_all<R: Abort, K: TextKey>(
     finds(rt, alloc, &StringMatcher::all(), map, all)
 }
 
-// Checks that these are all entries of the map, and what patterns find.
+// Checks all entries of the map, and those that patterns find.
 fn finds_each<R: Abort, K: TextKey>(
     rt: &R,
     alloc: Global,
@@ -144,7 +144,7 @@ fn filters_empty<R: Abort, K: TextKey>(rt: &R, alloc: Global) -> Passed {
     finds_each(rt, alloc, &empty, &[], &NOT_FOUND)
 }
 
-// Checks what is found in a map of the entries, and in an empty one.
+// Checks the entries found in a map, and in an empty one.
 fn filters_both<R: Abort, K: TextKey>(rt: &R, alloc: Global) -> Passed {
     filters::<R, K>(rt, alloc, &ALL, &FOUND)?;
     filters_empty::<R, K>(rt, alloc)
@@ -161,7 +161,7 @@ fn maps_by_names(rt: HostRuntime) -> Result<(), Fail> {
     })
 }
 
-// Checks what the matcher of three bytes holds.
+// Checks the strings that the matcher of three bytes matches.
 fn holds_three_bytes<R: Abort>(rt: &R, alloc: Global, matcher: &StringMatcher) -> Passed {
     matches(rt, alloc, matcher, "foo", true)?;
     matches(rt, alloc, matcher, "\u{c0}", false)?;
@@ -172,7 +172,7 @@ fn holds_three_bytes<R: Abort>(rt: &R, alloc: Global, matcher: &StringMatcher) -
     finds(rt, alloc, matcher, &map, &[("bar", 2), ("foo", 0)])
 }
 
-// A predicate that the caller brings is asked of the bytes themselves.
+// A predicate sees the bytes, not the characters, of a string.
 #[test]
 fn predicates_of_callers(rt: HostRuntime) -> Result<(), Fail> {
     passes(&rt, |rt, alloc| {

@@ -1,4 +1,4 @@
-//! Matchers that are asked string after string.
+//! Tests of searchers: many strings with one matcher.
 use crate::fixtures::{answers, expression};
 use jj_content_tests::once_more::{Passed, passes};
 use jj_strings::str_util::{StringExpression, StringMatcher, StringSearcher};
@@ -6,13 +6,13 @@ use std::alloc::{AllocError, Global};
 use std::process::Abort;
 use std::test::Fail;
 
-// What ends in `b`, in either case, and the text `ac`.
+// Strings that end in `b` in either case, and the string `ac`.
 fn ends<R: Abort>(rt: &R, alloc: Global) -> Result<StringExpression, AllocError> {
     let in_b = expression(rt, alloc, "regex-i", "B$")?;
     in_b.union(alloc, expression(rt, alloc, "exact", "ac")?)
 }
 
-// What begins with `a` and does not end so.
+// Strings that begin with `a` and are not in `ends`.
 fn starts_alone<R: Abort>(rt: &R, alloc: Global) -> Result<StringMatcher, AllocError> {
     let starts = expression(rt, alloc, "regex", "^a")?;
     let alone = starts.intersection(alloc, ends(rt, alloc)?.negated(alloc)?)?;
@@ -29,7 +29,7 @@ const ASKED: [(&str, bool); 7] = [
     ("", false),
 ];
 
-// Asks once more where memory was refused.
+// Repeats the call after an allocation failure.
 fn answer(searcher: &mut StringSearcher<'_>, text: &str) -> Result<bool, AllocError> {
     match searcher.is_match(text) {
         Ok(yes) => Ok(yes),
@@ -37,7 +37,7 @@ fn answer(searcher: &mut StringSearcher<'_>, text: &str) -> Result<bool, AllocEr
     }
 }
 
-// A searcher that was refused memory is asked for the same text again.
+// Matches all strings with one searcher, which is used again after an allocation failure.
 fn ask_each<R: Abort>(rt: &R, searcher: &mut StringSearcher<'_>, rows: &[(&str, bool)]) -> Passed {
     for (text, holds) in rows {
         answers(rt, answer(searcher, text)?, *holds, text);
