@@ -1,4 +1,4 @@
--- Trees whose values are clones of another's, place by place.
+-- Lemmas of trees whose values are clones of another's, node by node.
 use Rattle.std.proofs.Common.{◌≡◌, ◌&&◌, List, [], ◌∷◌, ◌++◌, refl, ap, sym, ◌∙◌}
 use Rattle.std.specs.Ordering.{is_lt}
 use Rattle.std.specs.FinMap.{is_sorted}
@@ -7,14 +7,14 @@ use Rattle.jj_paths.specs.Paths.{Name, name_cmp}
 use Rattle.jj_paths.specs.Tree.{Tree, tree_of, Branches, none, branch, branches_of, AreClones, IsTreeClone}
 
 module _ {V : Type 0} (is_clone : V → V → Type 0) where
-  -- one more child on both sides
+  -- one more child in both trees
   pub clones-snoc : (xs ys : List (Name × Tree V)) (x y : Name × Tree V) → AreClones is_clone (branches_of xs) (branches_of ys) → x.0 ≡ y.0 → IsTreeClone is_clone x.1 y.1 → AreClones is_clone (branches_of (xs ++ x ∷ [])) (branches_of (ys ++ y ∷ []))
   clones-snoc [] [] x y same name clone = (name, clone.0, clone.1, tt)
   clones-snoc [] (y' ∷ ys) x y same name clone = absurd same
   clones-snoc (x' ∷ xs) [] x y same name clone = absurd same
   clones-snoc (x' ∷ xs) (y' ∷ ys) x y same name clone = (same.0, same.1, same.2, clones-snoc xs ys x y same.3 name clone)
 
-  -- the names ascend as the others' do
+  -- cloned branches are sorted if the originals are
   below_all-clones : (n m : Name) (xs ys : List (Name × Tree V)) → n ≡ m → AreClones is_clone (branches_of xs) (branches_of ys) → below_all name_cmp n xs ≡ below_all name_cmp m ys
   below_all-clones n m [] [] e same = refl
   below_all-clones n m [] (y ∷ ys) e same = absurd same
@@ -32,7 +32,7 @@ module _ {V : Type 0} (is_clone : V → V → Type 0) where
       ap (λ t. t && is_sorted name_cmp xs) (below_all-clones x.0 y.0 xs ys same.0 same.3)
       ∙ ap (λ t. below_all name_cmp y.0 ys && t) (is_sorted-clones xs ys same.3)
 
-  -- where a clone is its source, so is a tree of clones
+  -- a tree of clones equals the original if every clone equals its original
   module _ (exact : (value copied : V) → is_clone value copied → copied ≡ value) where
     same_branches : (b c : Branches V) → AreClones is_clone b c → c ≡ b
     same_branches none none same = refl

@@ -1,4 +1,4 @@
--- How much is left of a tree that is taken apart: the children that were not met yet, and the way back up.
+-- Termination measure of the traversal that drops a tree: unvisited children, and the reversed pointers up.
 use Rattle.std.proofs.Common.{◌≡◌, ℕ, ◌+◌, ◌*◌, true, ◌&&◌, if◌then◌else◌, List, [], ◌∷◌, ◌++◌, refl, ap, ◌∙◌, arith}
 use Rattle.std.specs.Ordering.{is_lt}
 use Rattle.std.specs.FinMap.{is_sorted}
@@ -8,7 +8,7 @@ use Rattle.jj_paths.specs.Paths.{Name, name_cmp}
 use Rattle.jj_paths.specs.Tree.{Tree, Branches, none, branch, branches_of, branch_count, has_branches}
 
 module _ {V : Type 0} where
-  -- the way up: the last branch leads on, and each other one counts twice with what is below it
+  -- the measure of a list with reversed pointers: its last branch leads up, and nodes under the others count twice
   abbrev pub way_count : Branches V → ℕ
   way_count none = 0
   way_count (branch name value below after) = if has_branches after then 2 * (1 + branch_count below) + way_count after else 1 + way_count below
@@ -37,7 +37,7 @@ module _ {V : Type 0} where
   below_all-last k [] name a b = refl
   below_all-last k (y ∷ items) name a b = ap (λ t. is_lt (name_cmp k y.0) && t) (below_all-last k items name a b)
 
-  -- another node under the last name
+  -- replacing the last child keeps the names sorted
   pub is_sorted-last : (items : List (Name × Tree V)) (name : Name) (a b : Tree V) → is_sorted name_cmp (items ++ (name, a) ∷ []) ≡ is_sorted name_cmp (items ++ (name, b) ∷ [])
   is_sorted-last [] name a b = refl
   is_sorted-last (y ∷ items) name a b =

@@ -1,4 +1,4 @@
--- Trees are compared by their values, and then child by child.
+-- Equality of trees by their values and, child by child, their branches.
 use Rattle.std.proofs.Common.{◌≡◌, ◌≢◌, suc, Bool, true, false, not, ◌&&◌, List, length, refl, ap, sym, ◌∙◌}
 use Rattle.std.proofs.Math.Bool.{and-false}
 use mathlib.Core.Bool.{false≢true}
@@ -34,7 +34,7 @@ module _ {V : Type 0} (eq : V → V → Bool) where
   children_as_branches none = refl
   children_as_branches (branch n v b a) = ap (branch n v b) (children_as_branches a)
 
-  -- where the values are equal, the children decide
+  -- trees with equal values are equal if and only if their branches are
   pub children_decide : (s t : Tree V) (v w : V) (b c : Branches V) (mine theirs : List (Name × Tree V)) → tree_of v b ≡ s → tree_of w c ≡ t → false ≡ not (eq v w) → mine ≡ children s.branches → theirs ≡ children t.branches →
       tree_eq eq s t ≡ branches_eq eq (branches_of mine) (branches_of theirs)
   children_decide s t v w b c mine theirs is is' e m n =

@@ -1,4 +1,4 @@
--- The fronts of a path are the path itself, and then those of the path above it.
+-- The ancestors of a path: itself, then those of its parent.
 use Rattle.std.proofs.Common.{◌≡◌, Option, Some, None, [], ◌∷◌, ◌++◌, map, MatchOption, refl, ap, sym, ◌∙◌}
 use Rattle.jj_paths.specs.Paths.{Name, Path, fronts}
 use Rattle.jj_paths.specs.Names.{path_of}

@@ -1,4 +1,4 @@
--- The names between the slashes of a path of the file system, and the paths in a repository that they make.
+-- Components of a file system path, split at slashes, as components of a repository path.
 use Rattle.std.proofs.Common.{◌≡◌, ℕ, suc, ◌+◌, ◌-◌, ◌<◌, ◌≤◌, Bool, true, false, not, cond, ◌||◌, List, [], ◌∷◌, ◌++◌, eqb, length, get_or, take, drop, filter, eqb-true, append-nil, Some, refl, sym, ap, ap₂, subst, ◌∙◌, arith, add-one, drop-cons, take-append-drop, length-take}
 use Rattle.std.specs.List.{list_all, find, slice_index}
 use Rattle.std.specs.Str.{bytes_eq, is_utf8}
@@ -14,11 +14,11 @@ by_test : {G : Type 0} (b : Bool) → (b ≡ true → G) → (b ≡ false → G)
 by_test true holds fails = holds refl
 by_test false holds fails = fails refl
 
--- no byte is a slash
+-- the string has no slash
 abbrev pub Lacks : List ℕ → Type 0
 Lacks text = (k : ℕ) → k < length text → get_or text k 0 ≡ slash → ⊥
 
--- the pieces of a text, a slash and another are those of both
+-- splitting `xs/ys` yields the pieces of `xs` and then those of `ys`
 first-append : (xs ys : List ℕ) → first_piece (xs ++ slash ∷ ys) ≡ first_piece xs
 first-append [] ys = refl
 first-append (x ∷ xs) ys = ap (λ l. cond (eqb x slash) [] (x ∷ l)) (first-append xs ys)
@@ -34,7 +34,7 @@ names-append xs ys =
     ap (filter is_name) (ap₂ (λ a b. a ∷ b) (first-append xs ys) (later-append xs ys))
     ∙ filter-append is_name (first_piece xs ∷ later_pieces xs) (first_piece ys ∷ later_pieces ys)
 
--- a text without a slash is one piece
+-- a string without slashes is one piece
 lacks-rest : (x : ℕ) (xs : List ℕ) → Lacks (x ∷ xs) → Lacks xs
 lacks-rest x xs h = λ k l. h (suc k) (omega arith)
 
@@ -46,12 +46,12 @@ later-none : (xs : List ℕ) → Lacks xs → later_pieces xs ≡ []
 later-none [] h = refl
 later-none (x ∷ xs) h = let e : eqb x slash ≡ false = ne_eqb x slash (h 0 (omega arith)) in rw e (later-none xs (lacks-rest x xs h))
 
--- a text without a slash has no name but itself
+-- a string without slashes has at most one component, itself
 names-plain : (text : List ℕ) → Lacks text → path_names text ≡ filter is_name (text ∷ [])
 unfolding path_names
 names-plain text h = ap (filter is_name) (ap₂ (λ a b. a ∷ b) (first-whole text h) (later-none text h))
 
--- the empty text has no names
+-- the empty string has no components
 names-none : path_names [] ≡ []
 unfolding path_names
 names-none = refl
@@ -60,7 +60,7 @@ pub names-empty : (text : List ℕ) → true ≡ eqb (length text) 0 → path_na
 names-empty [] e = names-none
 names-empty (b ∷ bs) e = let none : length (b ∷ bs) ≡ 0 = eqb-true (length (b ∷ bs)) 0 (sym e) in absurd (omega arith)
 
--- the names of a path, cut at its first slash
+-- the components of a path, split at its first slash
 pub names-cut : (path : List ℕ) (i : ℕ) → i < length path → get_or path i 0 ≡ slash → ((k : ℕ) → k < i → get_or path k 0 ≡ slash → ⊥)
     → path_names path ≡ filter is_name (take i path ∷ []) ++ path_names (take (length path - (i + 1)) (drop (i + 1) path))
 names-cut path i lt here before =
@@ -70,7 +70,7 @@ names-cut path i lt here before =
     ap path_names whole ∙ names-append (take i path) (drop (i + 1) path)
     ∙ ap₂ (λ a b. a ++ path_names b) (names-plain (take i path) plain) (sym (take_rest path (i + 1)))
 
--- the names of a path without a slash
+-- the components of a path without slashes
 pub names-uncut : (path : List ℕ) (i : ℕ) → length path ≤ i → ((k : ℕ) → k < i → get_or path k 0 ≡ slash → ⊥)
     → path_names path ≡ filter is_name (path ∷ []) ++ path_names (take (length path - length path) (drop (length path) path))
 names-uncut path i le before =
@@ -78,7 +78,7 @@ names-uncut path i le before =
     let rest : take (length path - length path) (drop (length path) path) ≡ [] = take_rest path (length path) ∙ drop_all (length path) path (omega arith) in
     names-plain path plain ∙ sym (ap (λ l. filter is_name (path ∷ []) ++ path_names l) rest ∙ ap (λ l. filter is_name (path ∷ []) ++ l) names-none ∙ append-nil (filter is_name (path ∷ [])))
 
--- what is between slashes has none
+-- no piece has a slash
 first-plain : (path : List ℕ) → is_plain (first_piece path) ≡ true
 first-plain [] = refl
 first-plain (b ∷ rest) = by_test (eqb b slash) (λ e. rw e refl) (λ e. rw e (and_from _ _ (ap not e) (first-plain rest)))
@@ -87,7 +87,7 @@ later-plain : (path : List ℕ) → list_all is_plain (later_pieces path) ≡ tr
 later-plain [] = refl
 later-plain (b ∷ rest) = by_test (eqb b slash) (λ e. rw e (and_from _ _ (first-plain rest) (later-plain rest))) (λ e. rw e (later-plain rest))
 
--- a part without a slash that is a name of the file system is one of a repository
+-- a file system component without slashes is a valid repository component
 repo-name : (part : List ℕ) → is_plain part ≡ true → is_name part ≡ true → is_repo_name part ≡ true
 repo-name [] plain named = cc named
 repo-name (b ∷ rest) plain named = plain
@@ -104,7 +104,6 @@ pub names-valid : (path : List ℕ) → list_all is_repo_name (path_names path) 
 unfolding path_names
 names-valid path = repo-names (first_piece path ∷ later_pieces path) (and_from _ _ (first-plain path) (later-plain path))
 
--- what is no empty text and no `.`
 not_or : (a b : Bool) → not (a || b) ≡ true → (a ≡ false) × (b ≡ false)
 not_or true b e = cc e
 not_or false true e = cc e
@@ -122,7 +121,7 @@ no-root : (name : List ℕ) → is_repo_name name ≡ true → bytes_eq name roo
 no-root [] named = cc named
 no-root (b ∷ bs) named = by_test (eqb b 47) (λ e. let f : false ≡ true = rw e at named in cc f) (λ e. rw e refl)
 
--- a name of a path is `..`, or it is refused only where it is no text
+-- a component other than `..` is not allowed if and only if it is not UTF-8
 pub name-refused : (path name : List ℕ) (rest : List (List ℕ)) → path_names path ≡ name ∷ rest → false ≡ bytes_eq name parent_dir → is_refused name ≡ not (is_utf8 name)
 name-refused path name rest is other =
     let named : is_name name ≡ true = (and_parts (is_name name) (list_all is_name rest) (subst (λ l. list_all is_name l ≡ true) is (all-names path))).0 in
@@ -131,7 +130,7 @@ name-refused path name rest is other =
     let cur : bytes_eq name cur_dir ≡ false = (not_or (eqb (length name) 0) (bytes_eq name cur_dir) named).1 in
     rw (root, cur, ← other) refl
 
--- names are kept, since none of them is `.`
+-- `without_lone_dot` changes nothing, since no component is `.`
 kept-first : (part : List ℕ) (parts : List (List ℕ)) → is_name part ≡ true → without_lone_dot (part ∷ parts) ≡ part ∷ parts
 kept-first part (next ∷ parts) named = refl
 kept-first part [] named =
@@ -141,12 +140,12 @@ kept-names : (parts : List (List ℕ)) → without_lone_dot (filter is_name part
 kept-names [] = refl
 kept-names (part ∷ parts) = by_test (is_name part) (λ e. rw e (kept-first part (filter is_name parts) e)) (λ e. rw e (kept-names parts))
 
--- the components of a path that starts with a name
+-- the components of a path without a leading `/` or `.`
 pub relative-names : (path : List ℕ) → eqb (slice_index path 0) slash ≡ false → is_dot_at path 0 ≡ false → relative_components path ≡ path_names path
 unfolding path_components path_names
 relative-names path root cur = rw (root, cur) (kept-names (first_piece path ∷ later_pieces path))
 
--- of one that starts with `/`
+-- a leading `/` is the first component that is not allowed
 root-refused : (names : List (List ℕ)) → find is_refused (without_lone_dot (root_dir ∷ names)) ≡ Some root_dir
 root-refused [] = refl
 root-refused (name ∷ names) = refl
@@ -155,7 +154,7 @@ pub relative-root : (path : List ℕ) → eqb (slice_index path 0) slash ≡ tru
 unfolding path_components
 relative-root path root = rw root (root-refused (path_names path))
 
--- of one that starts with `.`
+-- a leading `.` is the root by itself, and not allowed before further components
 pub relative-dot : (path : List ℕ) → eqb (slice_index path 0) slash ≡ false → is_dot_at path 0 ≡ true → path_names path ≡ [] → relative_components path ≡ []
 unfolding path_components
 relative-dot path root cur none = rw (root, cur, none) refl

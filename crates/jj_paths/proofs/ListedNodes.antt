@@ -1,4 +1,4 @@
--- The nodes that are listed below a directory are those that its branches lead to.
+-- The preorder list of a tree contains a node with its path if and only if `get` finds it there.
 use Rattle.std.proofs.Common.{◌≡◌, ◌⊎◌, inl, inr, zero, suc, Option, Some, None, Bool, true, false, [], ◌∷◌, ◌++◌, refl, ap, sym, subst, ◌∙◌, append_assoc, arith}
 use mathlib.Core.Bool.{false≢true}
 use Rattle.std.specs.Prelude.{◌↔◌, Contains}
@@ -25,18 +25,18 @@ the_one x y (zero, below, is) = sym is
 the_one x y (suc k, below, is) = absurd (omega arith)
 
 module _ {V : Type 0} where
-  -- the node that a name and a path below it lead to
+  -- the node at `name` and, relative to that, `rest`
   abbrev node_below : Branches V → Name → Path → Option (Tree V)
   node_below b name rest = option_and_then (λ sub. get sub rest) (child b name)
 
-  -- a path below a directory, and the node there
+  -- the path is below the directory, and the node is there
   record LeadsTo (dir : Path) (b : Branches V) (path : Path) (node : Tree V) : Type 0 where
     name : Name
     rest : Path
     path_is : path ≡ dir ++ name ∷ rest
     there : node_below b name rest ≡ Some node
 
-  -- a name is not among greater ones
+  -- no child has a name that is less than all names of the children
   not_among : (b : Branches V) (k : Name) → below_all name_cmp k (children b) ≡ true → child b k ≡ None
   not_among none k up = refl
   not_among (branch n value below after) k up =
@@ -44,7 +44,7 @@ module _ {V : Type 0} where
       let other : bytes_eq n k ≡ false = differs n k (λ e. false≢true (sym (not_same k n n (less_from_is_lt _ parts.0) refl) ∙ (bytes_eq-Decides k n).1 e)) in
       rw other (not_among after k parts.1)
 
-  -- what is listed is there
+  -- every listed node is in the tree
   leads_to : (dir : Path) (b : Branches V) (path : Path) (node : Tree V) → is_ordered b ≡ true → Contains (nodes_under dir b) (node_at path node) → LeadsTo dir b path node
   leads_to dir none path node up listed = absurd (nothing_there (node_at path node) listed)
   leads_to dir (branch n value below after) path node up listed =
@@ -93,7 +93,7 @@ module _ {V : Type 0} where
           }
       by_first up deep later (inr h) = by_rest up deep later (Contains-append_cases (nodes_under here below) (nodes_under dir after) (node_at path node) h)
 
-  -- what is there is listed
+  -- every node of the tree is listed
   is_listed : (dir : Path) (b : Branches V) (name : Name) (rest : Path) (node : Tree V) → node_below b name rest ≡ Some node → Contains (nodes_under dir b) (node_at (dir ++ name ∷ rest) node)
   is_listed dir none name rest node there = absurd (none-some _ there)
   is_listed dir (branch n value below after) name rest node there =

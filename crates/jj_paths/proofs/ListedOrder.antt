@@ -1,4 +1,4 @@
--- The paths of the nodes that are listed rise.
+-- The paths of the preorder list strictly ascend.
 use Rattle.std.proofs.Common.{◌≡◌, true, List, [], ◌∷◌, ◌++◌, map, sym, subst, append_assoc}
 use Rattle.std.specs.declared.cmp.Ordering.TheVariants.{Less}
 use Rattle.std.specs.Ordering.{is_lt}
@@ -16,7 +16,7 @@ module _ {V : Type 0} where
   abbrev paths : List (NodeAt V) → List Path
   paths nodes = map (λ (found : NodeAt V). found.path) nodes
 
-  -- what holds below each name of some branches holds of all that is listed
+  -- a property of all paths at or below the names of the branches is one of all listed paths
   all_under : (P : Path → Type 0) (dir : Path) (b : Branches V) → AllByRecursion (λ (c : Name × Tree V). (rest : Path) → P (dir ++ c.0 ∷ rest)) (children b) → AllByRecursion P (paths (nodes_under dir b))
   all_under P dir none h = tt
   all_under P dir (branch name value below after) h =
@@ -29,7 +29,7 @@ module _ {V : Type 0} where
       each none f = tt
       each (branch n v deeper others) f = (f n, each others f)
 
-  -- the same for any names
+  -- a property of all paths strictly below a directory is one of all listed paths
   all_anywhere : (P : Path → Type 0) (dir : Path) (b : Branches V) → ((n : Name) (rest : Path) → P (dir ++ n ∷ rest)) → AllByRecursion P (paths (nodes_under dir b))
   all_anywhere P dir b f = all_under P dir b (each b)
     where
@@ -37,7 +37,7 @@ module _ {V : Type 0} where
       each none = tt
       each (branch n v below after) = (f n, each after)
 
-  -- the names after a name are greater
+  -- paths at or below a name precede those at or below greater names
   greater_names : (dir : Path) (name : Name) (a : Path) (after : Branches V) → below_all name_cmp name (children after) ≡ true → AllByRecursion (λ (c : Name × Tree V). (rest : Path) → path_cmp (dir ++ name ∷ a) (dir ++ c.0 ∷ rest) ≡ Less) (children after)
   greater_names dir name a none up = tt
   greater_names dir name a (branch n v below after) up =

@@ -1,4 +1,4 @@
--- The text of a path that goes on after another, as names are added to it.
+-- Strings of paths that grow as components are appended.
 use Rattle.std.proofs.Common.{◌≡◌, ℕ, ◌<◌, List, [], ◌∷◌, ◌++◌, length, map, true, IsTrue, refl, sym, ap, subst, ◌∙◌, append_assoc, append-nil, arith}
 use Rattle.std.specs.List.{list_all, slice_index}
 use Rattle.std.proofs.lemmas.Bool.{and_parts, and_from}
@@ -32,7 +32,7 @@ pub with_names-append : (text : List ℕ) (names : Path) (name : Name) → with_
 with_names-append text [] name = refl
 with_names-append text (first ∷ names) name = with_names-append (with_name text first) names name
 
--- the components of such a text
+-- the components of a string with an appended component
 components-with_name : (text : List ℕ) (name : Name) → IsTrue (is_path_text text) → IsTrue (is_name name) → IsJoined text name (with_name text name)
 components-with_name [] name valid ok = joined_by [] name name valid ok (components-name name ok)
 components-with_name (b ∷ bs) name valid ok = joined_by (b ∷ bs) name ((b ∷ bs) ++ 47 ∷ name) valid ok (components-join (b ∷ bs) name (omega arith) ok)

@@ -1,4 +1,4 @@
--- Names that ascend at every node of a tree still do when a child is made, and when a child is changed.
+-- Inserting or replacing a child preserves that names ascend at every node.
 use Rattle.std.proofs.Common.{◌≡◌, ℕ, zero, suc, ◌<◌, get_or, Some, ◌∙◌, Bool, true, false, ◌&&◌, List, [], ◌∷◌, length, refl, ap, sym, arith}
 use Rattle.std.specs.List.{insert}
 use Rattle.std.specs.declared.cmp.Ordering.TheVariants.{Less}
@@ -23,7 +23,7 @@ module _ {V : Type 0} where
   below_all-from k [] less = refl
   below_all-from k (a ∷ more) less = and_from _ _ (ap is_lt (less 0 a (omega arith))) (below_all-from k more (λ j d lt. less (suc j) d (omega arith)))
 
-  -- a node without children comes into a gap
+  -- inserting a child without children at its insertion point
   pub is_ordered-insert : (items : List (Name × Tree V)) (i : ℕ) (name : Name) (node : Tree V) → node.branches ≡ none → IsGapFor items name i → is_ordered (branches_of items) ≡ true → is_ordered (branches_of (insert items i (name, node))) ≡ true
   is_ordered-insert [] zero name node bare gap up = ap (λ b. is_ordered b && true) bare
   is_ordered-insert [] (suc i) name node bare gap up = ap (λ b. is_ordered b && true) bare
@@ -56,7 +56,7 @@ module _ {V : Type 0} where
           let there : child after name ≡ Some sub = rw is at e in
           later (and_parts (is_ordered below) _ (and_parts (below_all name_cmp n (children after)) _ up).1).1 there
 
-  -- a change of a child keeps the names
+  -- replacing a child keeps the names
   below_all-update_child : (k : Name) (b : Branches V) (name : Name) (f : Tree V → Tree V) → below_all name_cmp k (children (update_child b name f)) ≡ below_all name_cmp k (children b)
   below_all-update_child k none name f = refl
   below_all-update_child k (branch n value below after) name f = by_name (bytes_eq n name) refl (below_all-update_child k after name f)
@@ -81,7 +81,7 @@ module _ {V : Type 0} where
           let rest = and_parts (is_ordered below) _ parts.1 in
           rw is (and_from _ _ (below_all-update_child n after name f ∙ parts.0) (and_from _ _ rest.0 (later rest.1 (λ sub e. h sub (rw is e)))))
 
-  -- another value at a path keeps every name
+  -- replacing a value keeps the names
   pub is_ordered-put_value : (t : Tree V) (path : Path) (v : V) → is_ordered t.branches ≡ true → is_ordered (put_value t path v).branches ≡ true
   is_ordered-put_value t [] v up = up
   is_ordered-put_value t (name ∷ rest) v up =

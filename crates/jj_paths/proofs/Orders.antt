@@ -1,4 +1,4 @@
--- Two texts are equal where their components are.
+-- Strings are equal if and only if their components are.
 use Rattle.std.proofs.Common.{◌≡◌, ℕ, List, sym, ap, ◌∙◌}
 use Rattle.std.specs.Bool.{one_answer}
 use Rattle.std.specs.Str.{bytes_eq}

@@ -1,4 +1,4 @@
--- Names and paths in their orders.
+-- Lexicographic orders of names and paths.
 use Rattle.std.proofs.Common.{◌≡◌, ◌≤◌, true, List, [], ◌∷◌, ◌++◌, refl, ap, sym, ◌∙◌, arith}
 use mathlib.Core.Bool.{false≢true}
 use Rattle.std.specs.declared.cmp.Ordering.{Ordering}
@@ -33,7 +33,7 @@ least_index Less le = refl
 least_index Equal le = absurd (omega arith)
 least_index Greater le = absurd (omega arith)
 
--- a smaller name compares no higher with any name
+-- comparison with a fixed name is monotone
 pub rises : (x y q : Name) (r : Ordering) → name_cmp y q ≡ r → name_cmp x y ≡ Less → ordering_index (name_cmp x q) ≤ ordering_index r
 rises x y q Less e less = rw (nat_list_cmp_total.trans x y q less e) (omega arith)
 rises x y q Equal e less =
@@ -51,16 +51,16 @@ rises x y q Greater e less = at_most_two (name_cmp x q)
 
 -- 2. Paths.
 
--- two paths below a directory compare as what is below
+-- a common prefix does not affect a comparison
 pub path_cmp-append : (dir a b : Path) → path_cmp (dir ++ a) (dir ++ b) ≡ path_cmp a b
 path_cmp-append [] a b = refl
 path_cmp-append (name ∷ dir) a b = ap (λ r. ordering_then r (path_cmp (dir ++ a) (dir ++ b))) (name_cmp-itself name) ∙ path_cmp-append dir a b
 
--- what is below a name comes before what is below a greater one
+-- paths at or below a name precede those at or below a greater one
 pub before_name : (dir : Path) (n m : Name) (a b : Path) → name_cmp n m ≡ Less → path_cmp (dir ++ n ∷ a) (dir ++ m ∷ b) ≡ Less
 before_name dir n m a b e = path_cmp-append dir (n ∷ a) (m ∷ b) ∙ ap (λ r. ordering_then r (path_cmp a b)) e
 
--- a directory comes before what is below it
+-- a directory precedes the paths below it
 pub before_below : (dir : Path) (n : Name) (a : Path) → path_cmp dir (dir ++ n ∷ a) ≡ Less
 before_below [] n a = refl
 before_below (name ∷ dir) n a = ap (λ r. ordering_then r (path_cmp dir (dir ++ n ∷ a))) (name_cmp-itself name) ∙ before_below dir n a
@@ -70,7 +70,7 @@ module _ {X : Type 0} where
   all-append P [] ys h k = k
   all-append P (x ∷ xs) ys h k = (h.0, all-append P xs ys h.1 k)
 
--- two rising lists, each path of the first before all of the second
+-- the concatenation of two strictly ascending lists, if all of the first precede all of the second
 pub sorted-append : (xs ys : List Path) → IsStrictlySortedBy path_cmp xs → IsStrictlySortedBy path_cmp ys → AllByRecursion (λ x. AllByRecursion (λ y. path_cmp x y ≡ Less) ys) xs → IsStrictlySortedBy path_cmp (xs ++ ys)
 unfolding IsStrictlySortedBy
 sorted-append [] ys h k before = k

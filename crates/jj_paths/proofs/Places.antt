@@ -1,4 +1,4 @@
--- What a binary search finds among named nodes whose names rise.
+-- Binary search among children that are sorted by name.
 use Rattle.std.proofs.Common.{◌≡◌, ℕ, zero, suc, ◌-◌, ◌<◌, true, List, [], ◌∷◌, length, get_or, Result, Ok, Err, IfOk, IfErr, refl, sym, ap, ◌∙◌, arith}
 use Rattle.std.specs.declared.cmp.Ordering.TheVariants.{Less, Equal}
 use Rattle.std.specs.Ordering.{ordering_index}
@@ -38,7 +38,7 @@ module _ {V : Type 0} where
     };
   }
 
-  -- the last name tells where a name that is not below it goes
+  -- the search for a name that is not less than the last one
   module _ (es : List (Name × Tree V)) (q : Name) (last : Name × Tree V) (some : 0 < length es) (at_end : (d : Name × Tree V) → last ≡ get_or es (length es - 1) d) where
     pub behind_last : is_sorted name_cmp es ≡ true → name_cmp last.0 q ≡ Less → IsGapFor es q (length es)
     behind_last sorted less = record {

@@ -1,4 +1,4 @@
--- The text of a path that stands below another.
+-- Strings of paths of which one is a prefix or a suffix of the other, by components.
 use Rattle.std.proofs.Common.{◌≡◌, ◌≢◌, ℕ, ◌<◌, ◌==◌, Bool, true, false, not, List, [], ◌∷◌, ◌++◌, length, IsTrue, ◌⊎◌, inl, inr, get_or, zero, suc, refl, sym, ap, ◌∙◌, append_assoc, append-nil, arith}
 use mathlib.Core.Bool.{false≢true}
 use Rattle.std.proofs.lemmas.List.{append_cancel_left, append_cancel_right}
@@ -19,20 +19,20 @@ components-more text more = by_parts (components text) refl
     by_parts [] is = let empty : [] ≡ text = sym (ap path_text is) ∙ path_text-components text in absurd (omega (arith, more, ap length empty))
     by_parts (name ∷ rest) is = omega arith
 
--- a path below another has its text, alone or before a slash
+-- the string of a path below another starts with the other's, followed by a slash or nothing
 pub text_below : (text base : List ℕ) (rest : Path) → 0 < length base → components text ≡ components base ++ rest → (text ≡ base) ⊎ ((tail : List ℕ) × (text ≡ base ++ 47 ∷ tail))
 text_below text base [] more is = inl (sym (path_text-components text) ∙ ap path_text (is ∙ append-nil (components base)) ∙ path_text-components base)
 text_below text base (name ∷ rest) more is =
     inr (path_text (name ∷ rest), sym (path_text-components text) ∙ ap path_text is ∙ path_text-below (components base) name rest (components-more base more) ∙ ap (λ l. l ++ 47 ∷ path_text (name ∷ rest)) (path_text-components base))
 
--- a text that does not begin as the base does is no path below it
+-- a path whose string does not start with the base's is not below it
 pub not_below-other : (text base : List ℕ) (rest : Path) → 0 < length base → ((tail : List ℕ) → text ≢ base ++ tail) → components text ≢ components base ++ rest
 not_below-other text base rest more other is = elim (text_below text base rest more is) [
   | inl same ↦ other [] (same ∙ sym (append-nil base))
   | inr (tail, e) ↦ other (47 ∷ tail) e
 ]
 
--- nor is one that goes on in the middle of a name
+-- a path whose string continues the base's other than by a slash is not below it
 pub not_below-inside : (text base tail : List ℕ) (rest : Path) → 0 < length base → 0 < length tail → text ≡ base ++ tail → ((more : List ℕ) → tail ≢ 47 ∷ more) → components text ≢ components base ++ rest
 not_below-inside text base tail rest more longer is inside below = elim (text_below text base rest more below) [
   | inl same ↦ let none : tail ≡ [] = append_cancel_left base tail [] (sym is ∙ same ∙ sym (append-nil base)) in absurd (omega (arith, longer, ap length none))
@@ -42,7 +42,7 @@ not_below-inside text base tail rest more longer is inside below = elim (text_be
 pub cut_after : (text base tail more : List ℕ) → IsTrue (is_path_text text) → text ≡ base ++ tail → tail ≡ 47 ∷ more → IsCut text base more
 cut_after text base tail more valid is begins = cut text base more valid (is ∙ ap (λ l. base ++ l) begins)
 
--- the text of a directory
+-- the string of a directory
 pub dir_text-components : (text written : List ℕ) → 0 < length text → written ≡ text ++ 47 ∷ [] → written ≡ dir_text (components text)
 dir_text-components text written more is = by_parts (components text) refl
   where
@@ -50,7 +50,7 @@ dir_text-components text written more is = by_parts (components text) refl
     by_parts [] e = absurd (omega (arith, components-more text more, ap length e))
     by_parts (name ∷ rest) e = is ∙ ap (λ l. l ++ 47 ∷ []) (sym (path_text-components text) ∙ ap path_text e) ∙ ap dir_text (sym e)
 
--- a text that is not empty is a name where it has no slash
+-- a nonempty string is a name if and only if it has no slash
 is_plain-places : (bs : List ℕ) → is_plain bs ≡ true → HasNoSlash bs
 is_plain-places [] plain i lt = absurd (omega arith)
 is_plain-places (b ∷ bs) plain zero lt = λ is. false≢true (ap not (sym (eqb-of is)) ∙ (and_parts (not (b == 47)) (is_plain bs) plain).0)
@@ -68,7 +68,7 @@ no_slash-is_name (b ∷ bs) true more told = let slash = told.0 refl in by_plain
     by_plain false is k lt at = sym is
 no_slash-is_name (b ∷ bs) false more told = sym (is_plain-from_places (b ∷ bs) (λ i lt at. false≢true (told.1 i lt at)))
 
--- a path that ends as another does has that one's text, alone or after a slash
+-- the string of a path with another as suffix ends with the other's, after a slash or nothing
 pub text_before : (text rest : List ℕ) (front : Path) → 0 < length rest → components text ≡ front ++ components rest → (text ≡ rest) ⊎ ((head : List ℕ) × (text ≡ head ++ 47 ∷ rest))
 text_before text rest [] more is = inl (sym (path_text-components text) ∙ ap path_text is ∙ path_text-components rest)
 text_before text rest (first ∷ front) more is = by_parts (components rest) refl
@@ -81,14 +81,14 @@ text_before text rest (first ∷ front) more is = by_parts (components rest) ref
 slash_after : (head rest : List ℕ) → head ++ 47 ∷ rest ≡ (head ++ 47 ∷ []) ++ rest
 slash_after head rest = sym (append_assoc head (47 ∷ []) rest)
 
--- so it has that end
+-- if the rest is a suffix by components, its string is a suffix
 pub ends_so : (text rest : List ℕ) (front : Path) → 0 < length rest → components text ≡ front ++ components rest → ((head : List ℕ) → text ≢ head ++ rest) → ⊥
 ends_so text rest front more is other = elim (text_before text rest front more is) [
   | inl same ↦ other [] same
   | inr (head, e) ↦ other (head ++ 47 ∷ []) (e ∙ slash_after head rest)
 ]
 
--- what stands before it is nothing, or a path's text and a slash
+-- the string before that suffix is empty, or a valid path and a slash
 pub nothing_before : (text rest head : List ℕ) (front : Path) → 0 < length rest → components text ≡ front ++ components rest → text ≡ head ++ rest → ((above : List ℕ) → head ≢ above ++ 47 ∷ []) → components text ≡ components rest
 nothing_before text rest head front more is cut_so none = elim (text_before text rest front more is) [
   | inl same ↦ ap components same

@@ -1,4 +1,4 @@
--- What a tree holds once the node, or the value, at a path is another.
+-- The nodes and values of a tree after the node or the value at a path is replaced.
 use Rattle.std.specs.Prelude.{◌↔◌, IsTrue}
 use Rattle.std.specs.Result.{is_ok}
 use Rattle.std.proofs.Common.{◌≡◌, ◌≢◌, Option, Some, None, IsSome, is_some, Result, Ok, Err, IfOk, MatchResult, ◌∙◌, Bool, true, false, [], ◌∷◌, ◌++◌, refl, ap, sym, subst}
@@ -14,12 +14,12 @@ use Rattle.jj_paths.proofs.Grown.{child-update_same, child-update_other, extende
 use Rattle.jj_paths.proofs.Ordered.{is_ordered-put_value}
 use Rattle.jj_paths.proofs.Puts.{update_child-known}
 
--- a path that is not the root is its first name and the rest
+-- a path other than the root is its first name and the rest
 pub parted : (path rest : Path) → path ≢ [] → rest ≡ rest_of path → path ≡ first_of path ∷ rest
 parted [] rest more is = absurd (more refl)
 parted (name ∷ below) rest more is = ap (λ r. name ∷ r) (sym is)
 
--- the same, where a test tells the root
+-- a path for which `is_root` returns false is its first name and the rest
 pub parted_by : (path rest : Path) (is_root : Bool) → (IsTrue is_root ↔ (path ≡ [])) → is_root ≡ false → rest ≡ rest_of path → path ≡ first_of path ∷ rest
 parted_by path rest is_root tells not_root is = parted path rest (λ e. false≢true (sym not_root ∙ tells.1 e)) is
 
@@ -30,7 +30,7 @@ module _ {V : Type 0} where
   abbrev value_below : Option (Tree V) → Path → Option V
   value_below o r = option_map (λ node. node.value) (below o r)
 
-  -- the child that a path with a node leads through
+  -- the child on the way to a node
   record Through (t : Tree V) (name : Name) (rest : Path) (n : Tree V) : Type 0 where
     sub : Tree V
     is_child : child t.branches name ≡ Some sub
@@ -43,14 +43,14 @@ module _ {V : Type 0} where
       known None is f = absurd (none-some _ f)
       known (Some s) is f = record { sub = s; is_child = is; is_below = f }
 
-  -- at or below the path the tree is what was put there
+  -- at and below the path, the tree is the replacement
   pub get-put-within : (t : Tree V) (path rest : Path) (n w : Tree V) → get t path ≡ Some n → get (put t path w) (path ++ rest) ≡ get w rest
   get-put-within t [] rest n w e = refl
   get-put-within t (name ∷ p) rest n w e =
       let way = through t name p n e in
       ap (λ o. below o (p ++ rest)) (child-update_same t.branches name (λ s. put s p w) way.sub way.is_child) ∙ get-put-within way.sub p rest n w way.is_below
 
-  -- and elsewhere its values are as they were
+  -- elsewhere the values are unchanged
   pub value_at-put-others : (t : Tree V) (path q : Path) (n w : Tree V) → get t path ≡ Some n → ((rest : Path) → q ≢ path ++ rest) → value_at (put t path w) q ≡ value_at t q
   value_at-put-others t [] q n w e off = absurd (off q refl)
   value_at-put-others t (name ∷ p) [] n w e off = refl
@@ -68,7 +68,7 @@ module _ {V : Type 0} where
       by_name later false other =
           ap (λ o. value_below o r) (child-update_other t.branches name m (λ s. put s p w) (λ eq. false≢true (sym other ∙ (bytes_eq-Decides m name).1 eq)))
 
-  -- another value at a path changes that value alone
+  -- replacing a value changes no other value
   pub value_at-put_value : (t : Tree V) (path : Path) (n : Tree V) (v : V) → get t path ≡ Some n → value_at (put_value t path v) path ≡ Some v
   value_at-put_value t [] n v e = refl
   value_at-put_value t (name ∷ p) n v e =
@@ -93,7 +93,7 @@ module _ {V : Type 0} where
       by_name later false other =
           ap (λ o. value_below o r) (child-update_other t.branches name m (λ s. put_value s p v) (λ eq. false≢true (sym other ∙ (bytes_eq-Decides m name).1 eq)))
 
-  -- a value is set in a tree that was extended
+  -- inserting the missing nodes and then replacing the value sets the value
   pub set-as_map : (is_new : V → Type 0) (old tree : Tree V) (path : Path) (node new : Tree V) (v : V) → IsExtended is_new old path tree → get tree path ≡ Some node → new ≡ put_value tree path v → IsSet is_new old path v new
   set-as_map is_new old tree path node new v extended at is = record {
     here = ap (λ t. value_at t path) is ∙ value_at-put_value tree path node v at;
@@ -102,11 +102,11 @@ module _ {V : Type 0} where
     ordered = λ up. ap (λ t. is_ordered t.branches) is ∙ is_ordered-put_value tree path v (extended.ordered up);
   }
 
-  -- two functions that agree on a child change it alike
+  -- `update_child` with functions that agree on the child
   update_child-agree : (b : Branches V) (name : Name) (sub : Tree V) (f g : Tree V → Tree V) → child b name ≡ Some sub → f sub ≡ g sub → update_child b name f ≡ update_child b name g
   update_child-agree b name sub f g at same = sym (update_child-known b name sub f at) ∙ ap (λ t. update_child b name (λ _. t)) same ∙ update_child-known b name sub g at
 
-  -- a node that is put at its own path with another value
+  -- putting a node back with another value replaces the value
   put-other_value : (tree : Tree V) (path : Path) (node : Tree V) (value : V) → get tree path ≡ Some node → put tree path (tree_of value node.branches) ≡ put_value tree path value
   put-other_value tree [] node value at = let same : tree ≡ node = cc in ap (λ (t : Tree V). tree_of value t.branches) (sym same)
   put-other_value tree (name ∷ rest) node value at = through (λ sub. put-other_value sub rest node value) at
@@ -116,7 +116,7 @@ module _ {V : Type 0} where
       through below at = option_and_then_some (λ sub. get sub rest) (child tree.branches name) node at (λ sub is further.
           ap (tree_of tree.value) (update_child-agree tree.branches name sub (λ s. put s rest (tree_of value node.branches)) (λ s. put_value s rest value) is (below sub further)))
 
-  -- a node is put into a tree that was extended
+  -- inserting the missing nodes and then replacing the node
   pub edited : (is_new : V → Type 0) (old tree : Tree V) (path : Path) (node changed : Tree V) → IsExtended is_new old path tree → get tree path ≡ Some node → IsEdited is_new old path node changed (put tree path changed)
   edited is_new old tree path node changed extended at = record {
     tree = tree;
@@ -128,7 +128,7 @@ module _ {V : Type 0} where
     sets = λ value is. set-as_map is_new old tree path node (put tree path changed) value extended at (ap (put tree path) is ∙ put-other_value tree path node value at);
   }
 
-  -- setting a value at the root of a tree, or below one of its children
+  -- setting a value at the root
   pub set-root : (is_new : V → Type 0) (old new : Tree V) (path : Path) (v : V) → path ≡ [] → new ≡ tree_of v old.branches → (t : Tree V) × IsExtended is_new old path t × IsSome (get t path) × (new ≡ put_value t path v)
   set-root is_new old new path v root is = (old, extended-same is_new old path, ap (λ p. is_some (get old p)) root, is ∙ ap (λ p. put_value old p v) (sym root))
 
@@ -148,14 +148,14 @@ module _ {V : Type 0} where
       by_name true is later = rw (is, is) refl
       by_name false is later = rw (is, is) (ap (branch n value below) later)
 
-  -- the child that a call lent, where it did not fail
+  -- the child that a successful call returned by mutable reference
   pub lent_child : {B E : Type 0} (now : B → Tree V) (is_new : V → Type 0) (inside old : Tree V) (name : Name) (answer : Result B E) (lent : B) (changed new : Tree V) → inside ≡ old → answer ≡ Ok lent
       → (is_ok answer ≡ true → IfOk answer (λ sub. IsChildEdited is_new inside name (now sub) changed new)) → IsChildEdited is_new old name (now lent) changed new
   lent_child {B} {E} now is_new inside old name answer lent changed new view was holds =
       subst (λ (t : Tree V). IsChildEdited is_new t name (now lent) changed new) view
       (subst (λ (r : Result B E). IfOk r (λ sub. IsChildEdited is_new inside name (now sub) changed new)) was (holds (ap is_ok was)))
 
-  -- a child is made or found, and then the nodes below it are made, or a value is set there
+  -- finding or inserting a child, and then inserting nodes or setting a value below it
   module _ {is_new : V → Type 0} {old sub sub' new : Tree V} {path : Path} {name : Name} {rest : Path} (is : path ≡ name ∷ rest) (edit : IsChildEdited is_new old name sub sub' new) where
     pub extended-below : IsExtended is_new sub rest sub' → IsExtended is_new old path new
     extended-below below = subst (IsExtended is_new old path) (sym edit.is_put) (extended-step is_new old edit.tree sub sub' path name rest is edit.grown edit.at_name below)

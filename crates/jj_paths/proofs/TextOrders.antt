@@ -1,4 +1,4 @@
--- The order of paths, name by name, is the order of their texts by bytes where a slash comes first.
+-- Comparing paths by components agrees with comparing their strings by bytes, with the slash as the least byte.
 use Rattle.std.proofs.Common.{◌≡◌, ℕ, zero, suc, ◌+◌, ◌==◌, Bool, true, false, cond, List, [], ◌∷◌, drop, length, min, ◌⊎◌, inl, inr, length-drop, refl, sym, ap, ◌∙◌, arith}
 use Rattle.std.specs.List.{slice_split, onto_first}
 use Rattle.std.specs.declared.cmp.Ordering.{Ordering}
@@ -15,7 +15,7 @@ ordering_then-assoc Less b c = refl
 ordering_then-assoc Equal b c = refl
 ordering_then-assoc Greater b c = refl
 
--- the parts of a text, of which there is always one
+-- the parts of a string, of which there is at least one
 record Parted (parts : List (List ℕ)) : Type 0 where
   first : List ℕ
   more : List (List ℕ)
@@ -62,7 +62,7 @@ path_cmp-components [] (y ∷ ys) = let known = parted (y ∷ ys) in ap (λ l. p
 path_cmp-components (x ∷ xs) [] = let known = parted (x ∷ xs) in ap (λ l. path_cmp l []) known.is
 path_cmp-components (x ∷ xs) (y ∷ ys) = parts_cmp (x ∷ xs) (y ∷ ys)
 
--- of two texts that are alike as far as both go, the shorter comes first
+-- if one string is a prefix of the other, the shorter one is less
 ended : (a b : List ℕ) (m n i : ℕ) → length a + i ≡ m → length b + i ≡ n → (length a ≡ 0) ⊎ (length b ≡ 0) → slice_cmp slash_cmp a b ≡ nat_cmp m n
 ended [] [] m n i e f h = nat_cmp_is m n Equal (omega arith)
 ended [] (y ∷ ys) m n i e f h = nat_cmp_is m n Less (omega arith)

@@ -1,4 +1,4 @@
--- The branches of a list of named nodes.
+-- Branches as lists of named children, and lookup in them.
 use Rattle.std.proofs.Common.{◌≡◌, ℕ, zero, suc, ◌<◌, get_or, Some, None, ◌∙◌, inl, inr, Bool, true, false, not, ◌==◌, List, [], ◌∷◌, length, refl, ap, sym, arith}
 use Rattle.std.proofs.lemmas.Bool.{ne_eqb}
 use Rattle.jj_paths.specs.Paths.{Name, name_cmp}
@@ -35,7 +35,7 @@ module _ {V : Type 0} where
   has_branches-branches_of [] = refl
   has_branches-branches_of (x ∷ xs) = ap not (sym (ne_eqb (length (x ∷ xs)) 0 (omega arith)))
 
-  -- the child with the name at a place, and none where there is a gap for it
+  -- the child at the index of its name, and none if the name has only an insertion point
   pub child-at : (items : List (Name × Tree V)) (name : Name) (i : ℕ) (d : Name × Tree V) → is_sorted name_cmp items ≡ true → IsAt items name i → child (branches_of items) name ≡ Some (get_or items i d).1
   child-at [] name i d sorted at = absurd (omega (arith, at.in_range))
   child-at (x ∷ xs) name zero d sorted at = rw ((bytes_eq-Decides x.0 name).1 (at.has_name d))

@@ -1,4 +1,4 @@
--- The nodes on the way to a path stand at the fronts of the path.
+-- The nodes on the way to a path are at the path and its ancestors.
 use Rattle.std.proofs.Common.{◌≡◌, ℕ, zero, suc, ◌<◌, List, [], ◌∷◌, length, get_or, Option, Some, None, refl, ap, ◌∙◌, arith}
 use Rattle.std.specs.Option.{option_and_then}
 use Rattle.jj_paths.specs.Paths.{Path}

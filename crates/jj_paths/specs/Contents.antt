@@ -1,4 +1,4 @@
--- The content bytes of a path, which are those of its text, and that they tell paths apart.
+-- The content bytes of a path, which are those of its string, and that they are injective.
 -- Cited by contracts of public items: IsShortPath, path_content, path_lawful.
 use Rattle.std.specs.Prelude.{◌≡◌, ℕ, ◌<◌, ◌^◌, List, length}
 use Rattle.std.specs.Cmp.Lexicographic.{same_text}
@@ -8,8 +8,8 @@ use Rattle.jj_content.specs.Lawful.{text_lawful}
 use Rattle.jj_paths.specs.Paths.{Path, path_text, components}
 use Rattle.jj_paths.specs.Orders.{path_eq, path_eq-Decides}
 
--- a path whose text gives it back, as each list of names does, and is no longer than a count can
--- say
+-- a path whose string has these components, as for every list of valid names, and is shorter than
+-- 2⁶⁴ bytes
 abbrev pub IsShortPath : Path → Type 0
 IsShortPath path = (components (path_text path) ≡ path) × (length (path_text path) < 2 ^ 64)
 

@@ -1,4 +1,4 @@
--- Trees are equal where they have the same names and equal values, each at its place.
+-- Structural equality of trees: the same names and equal values, node by node.
 -- Cited by contracts of public items: tree_eq, tree_equiv, tree_per.
 use Rattle.std.specs.Prelude.{◌≡◌, Bool, true, false, ◌&&◌}
 use Rattle.std.proofs.Common.{refl}

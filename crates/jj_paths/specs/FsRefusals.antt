@@ -1,4 +1,4 @@
--- What the errors of names and paths say that the file system cannot have.
+-- Errors for names and paths that are not valid in the file system.
 -- Cited by contracts of public items: IsOfPath, IsRefusedName, IsRefusedPath.
 use Rattle.std.specs.Prelude.{◌≡◌, ◌≢◌, ◌⊎◌, ⊤, true, IsSomeAnd, string_bytes}
 use Rattle.std.specs.List.{find}
@@ -9,21 +9,21 @@ use Rattle.jj_paths.specs.declared.repo_path.to_fs.InvalidRepoPathComponentError
 use Rattle.jj_paths.specs.declared.repo_path.to_fs.InvalidRepoPathError.{InvalidRepoPathError}
 use Rattle.jj_paths.specs.declared.repo_path.to_fs.InvalidRepoPathError.TheVariants.{Invalid as of_path, Memory as no_memory}
 
--- the error names this name
+-- the error contains this name
 abbrev pub IsOfName : Name → InvalidRepoPathComponentError → Type 0
 IsOfName name (Invalid component) = string_bytes component ≡ name
 IsOfName name Memory = ⊥
 
--- the name is refused, and the error names it, or there was no memory to do so
+-- the name is `.` or `..`, and the error contains it or is out of memory
 abbrev pub IsRefusedName : Name → InvalidRepoPathComponentError → Type 0
 IsRefusedName name error = (is_dots name ≡ true) × ((error ≡ Memory) ⊎ IsOfName name error)
 
--- the error says this of a path, or that there was no memory to do so
+-- the error adds the path to this error about a component, or is out of memory
 abbrev pub IsOfPath : Path → InvalidRepoPathComponentError → InvalidRepoPathError → Type 0
 IsOfPath path error (of_path at source) = (at ≡ path) × (source ≡ error) × (error ≢ Memory)
 IsOfPath path error no_memory = ⊤
 
--- the path is refused for the first of its names that is, or memory ran out
+-- the error contains the path and its first name that is `.` or `..`, or is out of memory
 abbrev pub IsRefusedPath : Path → InvalidRepoPathError → Type 0
 IsRefusedPath path (of_path at source) =
     (at ≡ path) × IsSomeAnd (find is_dots path) (λ name. IsOfName name source)

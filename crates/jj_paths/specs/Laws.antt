@@ -1,5 +1,5 @@
--- What holds of all paths and of all trees: a text and its path give each other back, a last name
--- is one name, and a tree holds its root and every front of a path that it holds.
+-- Laws of paths and trees: splitting and joining are inverse, a path has one parent, and the paths
+-- of a tree are closed under ancestors.
 -- Cited by contracts of public items: HoldsFronts, HoldsRoot, LastNamesAreOne, PathsGiveBack,
 -- TextsGiveBack.
 use Rattle.std.specs.Prelude.{◌≡◌, IsSome, Some, true, ℕ, List, [], ◌∷◌, ◌++◌}

@@ -1,5 +1,4 @@
--- The equality and the order of paths, name by name, with their laws, and what a path gives to a
--- hash.
+-- Equality, lexicographic order and hash of paths, with their laws.
 -- Cited by contracts of public items: path_cmp_total, path_eq, path_eq_equiv, path_hash,
 -- path_hash-respects_eq, path_po, path_ties.
 use Rattle.std.specs.Prelude.{◌≡◌, ◌==◌, ℕ, Bool, true, Some, if◌then◌else◌}
@@ -15,7 +14,7 @@ use Rattle.std.specs.Hash as fed
 use Rattle.std.specs.Hash.{HashWrites}
 use Rattle.jj_paths.specs.Paths.{Path, name_cmp, path_cmp, path_text}
 
--- the same names, in turn
+-- equality, component by component
 abbrev pub path_eq : Path → Path → Bool
 path_eq = pointwise bytes_eq
 
@@ -34,14 +33,14 @@ path_ties = lists_ties name_cmp texts_ties
 pub path_po : IsPartialOrder path_eq (λ a b. Some (path_cmp a b))
 path_po = po path_cmp_total path_ties
 
--- a path is hashed as its text
+-- the bytes that a path writes to a hasher: those of its string
 abbrev pub path_hash : Path → HashWrites
 path_hash path = fed.str (path_text path)
 
 pub path_hash-respects_eq : (a b : Path) → path_eq a b ≡ true → path_hash a ≡ path_hash b
 path_hash-respects_eq a b same = ap path_hash ((path_eq-Decides a b).0 same)
 
--- bytes in their order, but a slash (byte 47) first
+-- the order of bytes in which a slash (byte 47) is least
 abbrev pub slash_cmp : ℕ → ℕ → Ordering
 slash_cmp x y = if x == 47 then (if y == 47 then Equal else Less) else
     (if y == 47 then Greater else nat_cmp x y)

@@ -1,5 +1,5 @@
--- Which relative paths of the file system are paths in a repository, by their components: the
--- standard library's `path_components`.
+-- Relative file system paths as repository paths, by the components of the standard library
+-- (`path_components`).
 -- Cited by contracts of public items: IsParseError, is_refused, relative_components.
 use Rattle.std.specs.Prelude.{◌≡◌, ⊤, ℕ, Bool, false, true, not, ◌||◌, if◌then◌else◌, List, [], ◌∷◌, Option, Some, IsSomeAnd, string_bytes}
 use Rattle.std.specs.Str.{bytes_eq, is_utf8}
@@ -8,22 +8,22 @@ use Rattle.jj_files.specs.FsTexts.{is_place}
 use Rattle.jj_paths.specs.declared.repo_path.from_relative.RelativePathParseError.{RelativePathParseError}
 use Rattle.jj_paths.specs.declared.repo_path.from_relative.RelativePathParseError.TheVariants.{InvalidComponent, InvalidUtf8, Memory}
 
--- components, or none for `.` alone
+-- the components, where `.` as the only one means the root
 abbrev pub without_lone_dot : List (List ℕ) → List (List ℕ)
 without_lone_dot [] = []
 without_lone_dot (first ∷ []) = if bytes_eq first cur_dir then [] else first ∷ []
 without_lone_dot (first ∷ second ∷ rest) = first ∷ second ∷ rest
 
--- the components of a relative path, of which the directory itself has none
+-- the components of a relative path, and none for `.`
 abbrev pub relative_components : List ℕ → List (List ℕ)
 relative_components path = without_lone_dot (path_components path)
 
--- no path in a repository has the component
+-- the component is not allowed in a repository path: `/`, `.`, `..`, or not UTF-8
 abbrev pub is_refused : List ℕ → Bool
 is_refused component = is_place component || not (is_utf8 component)
 
--- the path is refused for this component, and the error has the path and says why, or there was
--- no memory to do so
+-- the error contains the path and its first component that is not allowed, with the reason, or is
+-- out of memory
 abbrev pub IsParseError : List ℕ → Option (List ℕ) → RelativePathParseError → Type 0
 IsParseError path refused (InvalidComponent component at) =
     (at.items ≡ path) × (refused ≡ Some (string_bytes component))

@@ -1,4 +1,4 @@
--- A tree of values at paths: each node has a value, and branches with names to further nodes.
+-- A trie of values keyed by paths: each node has a value and named branches to its children.
 -- Cited by contracts of public items: IsEdited, IsExtended, IsPartOf, IsSet, IsTreeClone, Tree,
 -- below_wrapper, branch_count, branches_of, child, children, get, has_branches,
 -- most_le-branch_count, nodes_on, none, put_value, tree_code, tree_of, weight_le-pair.
@@ -12,27 +12,26 @@ use Rattle.std.proofs.Common.{ap, ◌∙◌, append_assoc, append-nil, sym, arit
 use denote.Param.Weighed.{most}
 use Rattle.jj_paths.specs.Paths.{Name, Path, name_cmp}
 
--- the branches of a node, one after another: a name, the value and the branches of its node, and
--- the branches after it
+-- the list of branches of a node: the name, value and branches of the first child, and the
+-- branches after it
 pub data Branches (V : Type 0) : Type 0 where
   none : Branches V
   branch : Name → V → Branches V → Branches V → Branches V
 
--- a tree, seen from its root: the value there and the branches
+-- a tree: the value and the branches of its root
 pub record Tree (V : Type 0) : Type 0 where
   pub value : V
   pub branches : Branches V
 
--- the tree of a value and branches
 abbrev pub tree_of : {V : Type 0} → V → Branches V → Tree V
 tree_of value branches = record { value = value; branches = branches }
 
--- the size of a tree is above that of its node
+-- the termination measure of a tree is greater than that of its root node
 pub below_wrapper : (n : ℕ) → max (2 * n + 1) 0 ≤ 2 * n + 1
 below_wrapper n = omega arith
 
 module _ {V : Type 0} where
-  -- branches as a list of names and nodes, and back
+  -- conversions between branches and lists of named children
   abbrev pub children : Branches V → List (Name × Tree V)
   children none = []
   children (branch name value below after) = (name, tree_of value below) ∷ children after
@@ -45,25 +44,25 @@ module _ {V : Type 0} where
   has_branches none = false
   has_branches (branch name value below after) = true
 
-  -- the names ascend at every node
+  -- the names of siblings strictly ascend at every node
   abbrev pub is_ordered : Branches V → Bool
   is_ordered none = true
   is_ordered (branch name value below after) = below_all name_cmp name (children after)
       && (is_ordered below && is_ordered after)
 
-  -- the node of the first branch with that name
+  -- the first child with this name
   abbrev pub child : Branches V → Name → Option (Tree V)
   child none name = None
   child (branch n value below after) name =
       if bytes_eq n name then Some (tree_of value below) else child after name
 
-  -- the node at a path below a node
+  -- the node at a path relative to a node
   abbrev pub get : Tree V → Path → Option (Tree V)
   get tree [] = Some tree
   get tree (name ∷ rest) = option_and_then (λ sub. get sub rest) (child tree.branches name)
 
-  -- the nodes on the way to a path, as far as they go, each with what of the path is below it: all,
-  -- and those below a node
+  -- the nodes on the way to a path, down to the deepest one there is, each with the rest of the
+  -- path below it (`nodes_below`: without the first)
   abbrev pub nodes_on : Tree V → Path → List (Tree V × Path)
   nodes_on tree [] = (tree, []) ∷ []
   nodes_on tree (name ∷ rest) = (tree, name ∷ rest) ∷ elim (child tree.branches name)
@@ -78,12 +77,12 @@ module _ {V : Type 0} where
   nodes_below tree (name ∷ rest) =
       nodes_from (option_map (λ sub. (sub, rest)) (child tree.branches name))
 
-  -- a node with what of the path is below it: the path leads to the node by what is above it
+  -- a node on the way to the path, with the rest of the path below it
   abbrev pub IsPartOf : Tree V → Path → Tree V × Path → Type 0
   IsPartOf tree path step = (front : Path) × (path ≡ front ++ step.1)
       × (get tree front ≡ Some step.0)
 
-  -- the branches with the first node of that name changed
+  -- the branches with `f` applied to the first child with this name
   abbrev pub update_child : Branches V → Name → (Tree V → Tree V) → Branches V
   update_child none name f = none
   update_child (branch n value below after) name f =
@@ -91,26 +90,26 @@ module _ {V : Type 0} where
       (f (tree_of value below)).branches after
       else branch n value below (update_child after name f)
 
-  -- the tree with another node at a path
+  -- the tree with the node at a path replaced
   abbrev pub put : Tree V → Path → Tree V → Tree V
   put tree [] node = node
   put tree (name ∷ rest) node =
       tree_of tree.value (update_child tree.branches name (λ sub. put sub rest node))
 
-  -- the tree with another one at the first name of a path
+  -- the tree with the child at the first name of a path replaced
   abbrev pub put_below : Tree V → Path → Tree V → Tree V
   put_below tree [] sub = sub
   put_below tree (name ∷ rest) sub =
       tree_of tree.value (update_child tree.branches name (λ _. sub))
 
-  -- the tree with another value at a path
+  -- the tree with the value at a path replaced
   abbrev pub put_value : Tree V → Path → V → Tree V
   put_value tree [] value = tree_of value tree.branches
   put_value tree (name ∷ rest) value =
       tree_of tree.value (update_child tree.branches name (λ sub. put_value sub rest value))
 
-  -- a node has the child of that name, which is a new one where it had none, and its other children
-  -- are as they were
+  -- the node is the old one with a child of this name, inserted with a new value if there was none,
+  -- and all else unchanged
   pub record IsGrown (is_new : V → Type 0) (old : Tree V) (name : Name)
       (node : Tree V) : Type 0 where
     pub value : node.value ≡ old.value
@@ -123,7 +122,7 @@ module _ {V : Type 0} where
         → is_new sub.value × (sub.branches ≡ none)
     pub ordered : is_ordered old.branches ≡ true → is_ordered node.branches ≡ true
 
-  -- the child of a node that was grown becomes another, and so the old node becomes the new one
+  -- the new node is the old one, with the child inserted if missing, and the child replaced
   pub record IsChildEdited (is_new : V → Type 0) (old : Tree V) (name : Name)
       (sub changed new : Tree V) : Type 0 where
     pub tree : Tree V
@@ -131,12 +130,11 @@ module _ {V : Type 0} where
     pub at_name : child tree.branches name ≡ Some sub
     pub is_put : new ≡ tree_of tree.value (update_child tree.branches name (λ _. changed))
 
-  -- the value at a path
   abbrev pub value_at : Tree V → Path → Option V
   value_at tree path = option_map (λ node. node.value) (get tree path)
 
-  -- a tree keeps the values of another, and has at most new ones on the fronts of a path, which the
-  -- test passes; names that ascended at every node still do
+  -- the tree has all values of the old one, and beyond them at most new values at the path and its
+  -- ancestors; ascending names stay ascending
   pub record IsExtended (is_new : V → Type 0) (old : Tree V) (path : Path)
       (tree : Tree V) : Type 0 where
     pub keeps : (q : Path) (value : V) → value_at old q ≡ Some value → value_at tree q ≡ Some value
@@ -144,9 +142,8 @@ module _ {V : Type 0} where
         → is_new value × ((rest : Path) × (path ≡ q ++ rest))
     pub ordered : is_ordered old.branches ≡ true → is_ordered tree.branches ≡ true
 
-  -- the value at the path is the given one, every other value is kept, and further values are at
-  -- most new ones on the fronts of the path, which the test passes; names that ascended at every
-  -- node still do
+  -- the value at the path is `value`, the other values of the old tree are unchanged, and beyond
+  -- them there are at most new values at ancestors of the path; ascending names stay ascending
   pub record IsSet (is_new : V → Type 0) (old : Tree V) (path : Path) (value : V)
       (new : Tree V) : Type 0 where
     pub here : value_at new path ≡ Some value
@@ -155,9 +152,9 @@ module _ {V : Type 0} where
         → is_new v × ((rest : Path) × (path ≡ q ++ rest))
     pub ordered : is_ordered old.branches ≡ true → is_ordered new.branches ≡ true
 
-  -- the node at the path of a tree that was extended becomes another, and so the old tree becomes
-  -- the new one: what is at or below the path is the other node's, and every other value is as it
-  -- was; where the other node differs in its value alone, that value was set
+  -- the new tree is the old one with missing nodes on the path inserted, and the node at the path
+  -- replaced: at and below the path it is the replacement, and every other value is unchanged; if
+  -- the replacement differs only in its value, that value is set
   pub record IsEdited (is_new : V → Type 0) (old : Tree V) (path : Path)
       (node changed new : Tree V) : Type 0 where
     pub tree : Tree V
@@ -168,8 +165,7 @@ module _ {V : Type 0} where
     pub others : (q : Path) → ((rest : Path) → q ≢ path ++ rest) → value_at new q ≡ value_at tree q
     pub sets : (value : V) → changed ≡ tree_of value node.branches → IsSet is_new old path value new
 
-  -- branches of the same names, whose values are clones of the others', each at its place; and a
-  -- node's
+  -- trees of the same names whose values are clones, node by node
   abbrev pub AreClones : (V → V → Type 0) → Branches V → Branches V → Type 0
   AreClones is_clone none none = Unit {0}
   AreClones is_clone none (branch name value below after) = ⊥
@@ -182,12 +178,12 @@ module _ {V : Type 0} where
   IsTreeClone is_clone tree copy = is_clone tree.value copy.value
       × AreClones is_clone tree.branches copy.branches
 
-  -- the branch at place i has the name
+  -- the branch at index i has the name
   pub record IsAt (entries : List (Name × Tree V)) (name : Name) (i : ℕ) : Type 0 where
     pub in_range : i < length entries
     pub has_name : (d : Name × Tree V) → (slice_index_or entries i d).0 ≡ name
 
-  -- the name would go at place i: smaller names before it, and greater ones from it on
+  -- i is the insertion point of the name: names before i are smaller, and all others are greater
   pub record IsGapFor (entries : List (Name × Tree V)) (name : Name) (i : ℕ) : Type 0 where
     pub in_range : i ≤ length entries
     pub smaller_before : (j : ℕ) (d : Name × Tree V) → j < i
@@ -195,12 +191,12 @@ module _ {V : Type 0} where
     pub greater_after : (j : ℕ) (d : Name × Tree V) → i ≤ j → j < length entries
         → name_cmp (slice_index_or entries j d).0 name ≡ Greater
 
-  -- how many nodes the branches lead to
+  -- the number of nodes below
   abbrev pub branch_count : Branches V → ℕ
   branch_count none = 0
   branch_count (branch name value below after) = 1 + branch_count below + branch_count after
 
-  -- the size falls from a node to its children, as Rattle counts it
+  -- the termination measure decreases from a node to its children
   pub most_le-branch_count : (μ : Name × Tree V → ℕ)
       → ((x : Name × Tree V) → μ x ≤ 2 * branch_count x.1.branches + 2)
       → (items : List (Name × Tree V))
@@ -208,13 +204,12 @@ module _ {V : Type 0} where
   most_le-branch_count μ h [] = omega arith
   most_le-branch_count μ h (x ∷ xs) = omega (arith, h x, most_le-branch_count μ h xs)
 
-  -- what a pair adds to the size of the branches that it stands in, as the size of a node is
-  -- counted
+  -- the termination measure of one named child
   pub weight_le-pair : (x : Name × Tree V)
       → max 0 (max (2 * branch_count x.1.branches + 1 + 1) 0) ≤ 2 * branch_count x.1.branches + 2
   weight_le-pair x = omega arith
 
-  -- a code: the branches in postorder
+  -- serialization of branches as tokens in postorder, parsed with a stack
   abbrev pub tokens : Branches V → List (Option (Name × V))
   tokens none = None ∷ []
   tokens (branch name value below after) = tokens below ++ (tokens after ++ Some (name, value) ∷ [])

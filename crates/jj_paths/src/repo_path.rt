@@ -1,4 +1,4 @@
-//! Paths in a repository: components, and paths of components joined by slashes.
+//! Repository paths: owned and borrowed slash-separated strings, relative to the repository root.
 ghost use Rattle.std.specs.Prelude.{◌≡◌, ◌≢◌, ◌↔◌, false, [], ◌∷◌, ◌++◌, IsTrue, IsOk, IfOk, IfErr, MatchOption, string_bytes};
 ghost use Rattle.jj_paths.specs.Paths.{Name, Path, is_name, is_path_text, components, path_text, rest_of};
 ghost use Rattle.jj_paths.specs.declared.repo_path.InvalidNewRepoPathError.{InvalidNewRepoPathError};
@@ -21,14 +21,14 @@ use std::marker::Model;
 use thiserror::Error;
 pub use to_fs::{InvalidRepoPathComponentError, InvalidRepoPathError};
 
-/// One name of a path, borrowed: a text that is not empty and has no slash.
+/// A borrowed path component: a nonempty string without slashes.
 #[derive(Clone, Copy)]
 pub struct RepoPathComponent<'a> {
     value: &'a str,
     ghost valid: { IsTrue (is_name value.now) },
 }
 
-/// One name of a path.
+/// An owned path component.
 #[derive(Drop)]
 pub struct RepoPathComponentBuf {
     value: String,
@@ -42,14 +42,14 @@ impl Model for RepoPathComponentBuf {
     ghost invariant = { λ c. IsTrue (is_name (string_bytes c.value)) };
 }
 
-/// A path, borrowed: names joined by slashes.
+/// A borrowed path: components joined by slashes. The root is the empty string.
 #[derive(Clone, Copy)]
 pub struct RepoPath<'a> {
     value: &'a str,
     ghost valid: { IsTrue (is_path_text value.now) },
 }
 
-/// A path.
+/// An owned path.
 #[derive(Drop)]
 pub struct RepoPathBuf {
     value: String,
@@ -67,7 +67,8 @@ impl RepoPathComponentBuf {
     ghost use Rattle.jj_paths.specs.Names.{name_of};
     ghost use Rattle.jj_paths.specs.Refusals.{IsRefusal};
 
-    /// A name of this text. A text that is empty or has a slash is `Invalid`, and is handed back.
+    /// Creates a component of the string, without copying it. Returns `Invalid` with the string if
+    /// it is empty or contains a slash.
     pub fn new(value: String) -> Result<RepoPathComponentBuf, InvalidNewRepoPathError>
         ensures ok { IfOk result (λ name. name ≡ string_bytes value) }
         ensures valid { IsTrue (is_name (string_bytes value)) → IsOk result }
@@ -81,14 +82,14 @@ impl RepoPathComponentBuf {
         }
     }
 
-    /// The name's text.
+    /// Returns the component as a string.
     pub fn as_internal_str(&self) -> &str
         ensures { result.now ≡ self.now }
     {
         self.value.as_str()
     }
 
-    /// The name, borrowed.
+    /// Borrows the component.
     pub fn as_component(&self) -> RepoPathComponent<'_>
         ensures { name_of result ≡ self.now }
     {
@@ -102,7 +103,8 @@ impl<'a> RepoPathComponent<'a> {
     ghost use Rattle.jj_paths.specs.Names.{name_of};
     ghost use Rattle.jj_paths.specs.Refusals.{IsCopiedRefusal};
 
-    /// A name of this text. A text that is empty or has a slash is `Invalid`.
+    /// Creates a component of the string. Returns `Invalid` if it is empty or contains a slash, and
+    /// `Memory` if that error cannot be allocated. Allocates only for the error.
     pub fn new(
         alloc: Global,
         value: &'a str,
@@ -118,14 +120,14 @@ impl<'a> RepoPathComponent<'a> {
         }
     }
 
-    /// The name's text.
+    /// Returns the component as a string.
     pub fn as_internal_str(self) -> &'a str
         ensures { result.now ≡ name_of self.entry }
     {
         self.value
     }
 
-    /// A copy of the name.
+    /// Copies the component.
     pub fn to_owned(self, alloc: Global) -> Result<RepoPathComponentBuf, AllocError>
         ensures { IfOk result (λ owned. owned ≡ name_of self.entry) }
     {
@@ -141,15 +143,16 @@ impl<'a> RepoPath<'a> {
     ghost use Rattle.jj_paths.specs.Paths.{fronts, IsBelow, dir_text, after_common};
     ghost use Rattle.jj_paths.specs.Refusals.{IsCopiedRefusal};
 
-    /// The path of no names.
+    /// Returns the root path, which has no components.
     pub fn root() -> RepoPath<'static>
         ensures { path_of result ≡ [] }
     {
         RepoPath { value: "" }
     }
 
-    /// A path of this text: the empty text, or names joined by slashes. Any other text is
-    /// `Invalid`.
+    /// Creates a path of the string: the empty string, or components joined by slashes. Returns
+    /// `Invalid` for any other string, such as `/a`, `a/` or `a//b`, and `Memory` if that error
+    /// cannot be allocated. Allocates only for the error.
     pub fn from_internal_string(
         alloc: Global,
         value: &'a str,
@@ -165,7 +168,8 @@ impl<'a> RepoPath<'a> {
         }
     }
 
-    /// The text of the path as a directory's: with a slash at its end, except at the root.
+    /// Returns the path as a string with a trailing slash: `a/b` becomes `a/b/`, and the root the
+    /// empty string.
     pub fn to_internal_dir_string(self, alloc: Global) -> Result<String, AllocError>
         ensures { IfOk result (λ text. string_bytes text ≡ dir_text (path_of self.entry)) }
     {
@@ -177,21 +181,21 @@ impl<'a> RepoPath<'a> {
         Ok(text)
     }
 
-    /// The path's text: its names joined by slashes.
+    /// Returns the path as a string, its components joined by slashes.
     pub fn as_internal_file_string(self) -> &'a str
         ensures { result.now ≡ path_text (path_of self.entry) }
     {
         self.value
     }
 
-    /// Whether the path has no names.
+    /// Returns whether the path is the root.
     pub fn is_root(self) -> bool
         ensures { IsTrue result ↔ (path_of self.entry ≡ []) }
     {
         self.value.is_empty()
     }
 
-    /// The path with one more name.
+    /// Appends a component.
     pub fn join(self, alloc: Global, name: RepoPathComponent<'_>) -> Result<RepoPathBuf, AllocError>
         ensures { IfOk result (λ joined. joined ≡ path_of self.entry ++ name_of name.entry ∷ []) }
     {
@@ -203,7 +207,7 @@ impl<'a> RepoPath<'a> {
         Ok(RepoPathBuf { value })
     }
 
-    /// The first name, and the path below it.
+    /// Splits off the first component: `a/b/c` becomes `a` and `b/c`. Returns `None` for the root.
     pub fn split_first(self) -> Option<(RepoPathComponent<'a>, RepoPath<'a>)>
         ensures { MatchOption result (path_of self.entry ≡ [])
             (λ pair. path_of self.entry ≡ name_of pair.0 ∷ path_of pair.1) }
@@ -223,14 +227,16 @@ impl<'a> RepoPath<'a> {
         }
     }
 
-    /// Whether the path is the base, or stands below it.
+    /// Returns whether `base` is the path itself or one of its ancestors, component by component:
+    /// `ab/c` does not start with `a`.
     pub fn starts_with(self, base: RepoPath<'_>) -> bool
         ensures { IsTrue result ↔ IsBelow (path_of self.entry) (path_of base.entry) }
     {
         self.strip_prefix(base).is_some()
     }
 
-    /// The path from a base on, where it is the base or stands below it.
+    /// Returns the rest of the path below `base`, or `None` if the path is not `base` and not below
+    /// it: `a/b/c` without `a` is `b/c`.
     pub fn strip_prefix(self, base: RepoPath<'_>) -> Option<RepoPath<'a>>
         ensures { MatchOption result ((rest : Path)
             → path_of self.entry ≢ path_of base.entry ++ rest)
@@ -249,7 +255,7 @@ impl<'a> RepoPath<'a> {
         }
     }
 
-    /// The path above the last name, and that name.
+    /// Splits off the last component: `a/b/c` becomes `a/b` and `c`. Returns `None` for the root.
     pub fn split(self) -> Option<(RepoPath<'a>, RepoPathComponent<'a>)>
         ensures { MatchOption result (path_of self.entry ≡ [])
             (λ pair. path_of self.entry ≡ path_of pair.0 ++ name_of pair.1 ∷ []) }
@@ -269,7 +275,7 @@ impl<'a> RepoPath<'a> {
         }
     }
 
-    /// The path above the last name.
+    /// Returns the path without its last component, or `None` for the root.
     pub fn parent(self) -> Option<RepoPath<'a>>
         ensures { MatchOption result (path_of self.entry ≡ [])
             (λ above. (name : Name) × (path_of self.entry ≡ path_of above ++ name ∷ [])) }
@@ -280,8 +286,8 @@ impl<'a> RepoPath<'a> {
         }
     }
 
-    /// The longest path that this one and the other begin with, and what comes after it in this
-    /// one.
+    /// Returns the longest common prefix of the two paths, by components, and the rest of this
+    /// path: `a/b/c` and `a/bd` have the prefix `a`, with `b/c` left.
     pub fn split_common_prefix(self, other: RepoPath<'_>) -> (RepoPath<'a>, RepoPath<'a>)
         ensures whole { path_of self.entry ≡ path_of result.0 ++ path_of result.1 }
         ensures common { IsBelow (path_of other.entry) (path_of result.0) }
@@ -292,7 +298,7 @@ impl<'a> RepoPath<'a> {
         (self.before(rest), rest)
     }
 
-    // what comes after the longest path that both begin with
+    // the rest of this path after the longest common prefix
     fn after_common(self, other: RepoPath<'_>) -> RepoPath<'a>
         ensures { path_of result ≡ after_common (path_of self.entry) (path_of other.entry) }
     {
@@ -310,7 +316,7 @@ impl<'a> RepoPath<'a> {
         rest
     }
 
-    // the path that comes before its own last part
+    // the path without a suffix of it and the slash before that
     fn before(self, rest: RepoPath<'_>) -> RepoPath<'a>
         requires { (front : Path) × (path_of self ≡ front ++ path_of rest) }
         ensures { path_of self.entry ≡ path_of result ++ path_of rest.entry }
@@ -327,21 +333,21 @@ impl<'a> RepoPath<'a> {
         RepoPath { value: "" }
     }
 
-    /// The names, from both ends.
+    /// Iterates over the components, from both ends.
     pub fn components(self) -> RepoPathComponentsIter<'a>
         ensures { components_left result ≡ path_of self.entry }
     {
         RepoPathComponentsIter::new(self)
     }
 
-    /// The path itself, then the path above it, and so on up to the root.
+    /// Iterates over the path itself and its ancestors, up to the root.
     pub fn ancestors(self) -> RepoPathAncestors<'a>
         ensures { ancestors_left result ≡ fronts (path_of self.entry) }
     {
         RepoPathAncestors::new(self)
     }
 
-    // the path below the first name
+    // the path without its first component; of the root, the root
     pub(crate) fn rest(self) -> RepoPath<'a>
         ensures { path_of result ≡ rest_of (path_of self.entry) }
     {
@@ -351,7 +357,7 @@ impl<'a> RepoPath<'a> {
         }
     }
 
-    /// A copy of the path.
+    /// Copies the path.
     pub fn to_owned(self, alloc: Global) -> Result<RepoPathBuf, AllocError>
         ensures { IfOk result (λ owned. owned ≡ path_of self.entry) }
     {
@@ -365,7 +371,7 @@ impl RepoPathBuf {
     ghost use Rattle.jj_paths.specs.Names.{path_of};
     ghost use Rattle.jj_paths.specs.Refusals.{IsRefusal};
 
-    /// The path of no names. It takes no memory.
+    /// Returns the root path. Does not allocate.
     pub fn root(alloc: Global) -> RepoPathBuf
         ensures { result ≡ [] }
     {
@@ -374,8 +380,8 @@ impl RepoPathBuf {
         }
     }
 
-    /// A path of this text: the empty text, or names joined by slashes. Any other text is
-    /// `Invalid`, and is handed back.
+    /// Creates a path of the string, without copying it: the empty string, or components joined by
+    /// slashes. Returns `Invalid` with the string for any other one.
     pub fn from_internal_string(value: String) -> Result<RepoPathBuf, InvalidNewRepoPathError>
         ensures ok { IfOk result (λ path. path ≡ components (string_bytes value)) }
         ensures valid { IsTrue (is_path_text (string_bytes value)) → IsOk result }
@@ -389,7 +395,7 @@ impl RepoPathBuf {
         }
     }
 
-    /// The path, borrowed.
+    /// Borrows the path.
     pub fn as_path(&self) -> RepoPath<'_>
         ensures { path_of result ≡ self.now }
     {
@@ -398,7 +404,7 @@ impl RepoPathBuf {
         }
     }
 
-    /// The path's text: its names joined by slashes.
+    /// Returns the path as a string, without copying it.
     pub fn into_internal_string(self) -> String
         ensures { string_bytes result ≡ path_text self }
     {
@@ -406,7 +412,7 @@ impl RepoPathBuf {
     }
 }
 
-/// A text that is no path, or no name of one.
+/// A string that is no valid path, or no valid component.
 #[derive(Clone, Debug, PartialEq, Eq, Drop, Error)]
 pub enum InvalidNewRepoPathError {
     #[error(r#"Invalid repo path input "{value}""#)]
@@ -434,7 +440,6 @@ impl<T: Drop> From<AllocFailed<T>> for InvalidNewRepoPathError {
 impl InvalidNewRepoPathError {
     ghost use Rattle.jj_paths.specs.Refusals.{IsCopiedRefusal};
 
-    // the error for a borrowed text, which is copied
     fn of_text(alloc: Global, value: &str) -> InvalidNewRepoPathError
         ensures { IsCopiedRefusal false value.now result }
     {
@@ -445,7 +450,7 @@ impl InvalidNewRepoPathError {
     }
 }
 
-// a copy of a text, with room for more bytes
+// a copy of a string, with capacity for `more` bytes beyond it
 fn copy_with_room(alloc: Global, text: &str, more: usize) -> Result<String, AllocError>
     ensures { IfOk result (λ copy. string_bytes copy ≡ text.now) }
 {

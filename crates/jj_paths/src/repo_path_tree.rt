@@ -1,5 +1,5 @@
-//! A tree of values at paths: a finite map from paths that holds the root and every front of each
-//! key.
+//! A trie of values keyed by repository paths: each node has a value and a vector of children,
+//! sorted by name. The keys are closed under ancestors.
 ghost use Rattle.std.specs.Prelude.{◌≡◌, ◌≢◌, Some, IsSome, [], ◌∷◌, IsTrue, IfOk, IfErr, MatchResult};
 ghost use Rattle.std.specs.Borrow.{sem, Lends};
 ghost use denote.Struct.Tuple.{Tuple};
@@ -20,14 +20,15 @@ use std::cmp::Ordering;
 use std::marker::Model;
 use std::{fmt, mem};
 
-/// Values at paths: a value at the root, and at each front of a path that has one.
+/// A trie that maps paths to values. With a path it contains all ancestors of it, so never less
+/// than the root.
 #[cycle(tree)]
 #[derive(Drop)]
 pub struct RepoPathTree<V> {
     node: RepoPathNode<V>,
 }
 
-/// A node of a tree, with what is below it.
+/// A node of a trie: its value and its subtrees.
 #[cycle(tree)]
 pub struct RepoPathNode<V> {
     value: V,
@@ -69,9 +70,9 @@ impl<V> Model for RepoPathNode<V> {
     ghost size_decreases = { λ t h. most_le-branch_count _ weight_le-pair t.entries.items };
 }
 
-/// Goes down and up again without a recursion, so that a deep tree takes no more stack than a flat
-/// one. On the way down the place that a child leaves in its parent's list keeps the way back up:
-/// it holds the list above the parent.
+/// Depth-first traversal with pointer reversal (Deutsch, Schorr and Waite), so that dropping a deep
+/// tree takes constant stack and no memory. On the way down, the entry of the visited child stores
+/// the entries above its parent in place of its own children: they lead back up.
 impl<V: Drop> Drop for RepoPathNode<V> {
     fn drop(self) {
         let mut current = self.into_entries();
@@ -106,7 +107,6 @@ impl<V: Drop> Drop for RepoPathNode<V> {
 }
 
 impl<V> RepoPathNode<V> {
-    // the children alone
     fn into_entries(self) -> Vec<(RepoPathComponentBuf, RepoPathTree<V>)>
     where
         V: Drop,
@@ -119,7 +119,6 @@ impl<V> RepoPathNode<V> {
         entries
     }
 
-    // the value and the children
     fn into_parts(self) -> (V, Vec<(RepoPathComponentBuf, RepoPathTree<V>)>)
         ensures parts { self ≡ tree_of result.0 (branches_of result.1.items) }
         ensures by_name { IsTrue (is_sorted name_cmp result.1.items) }
@@ -130,7 +129,6 @@ impl<V> RepoPathNode<V> {
 }
 
 impl<V> RepoPathTree<V> {
-    // the value and the children of the root
     fn into_parts(self) -> (V, Vec<(RepoPathComponentBuf, RepoPathTree<V>)>)
         ensures parts { self ≡ tree_of result.0 (branches_of result.1.items) }
         ensures by_name { IsTrue (is_sorted name_cmp result.1.items) }
@@ -139,7 +137,6 @@ impl<V> RepoPathTree<V> {
         node.into_parts()
     }
 
-    // a tree of a value and children
     fn from_parts(
         value: V,
         entries: Vec<(RepoPathComponentBuf, RepoPathTree<V>)>,
@@ -160,14 +157,14 @@ impl<V> RepoPathNode<V> {
     ghost use Rattle.jj_paths.specs.Names.{name_of, path_of};
     ghost use Rattle.jj_paths.specs.Children.{children_left};
 
-    /// The value at the node.
+    /// Returns the value of the node.
     pub fn value(&self) -> &V
         ensures { result.now ≡ self.now.value }
     {
         &self.value
     }
 
-    /// Sets the value at the node.
+    /// Sets the value of the node.
     pub fn set_value(&mut self, value: V)
     where
         V: Drop,
@@ -176,21 +173,20 @@ impl<V> RepoPathNode<V> {
         self.value = value;
     }
 
-    // swaps the value with another, and keeps what is below
     fn swap(&mut self, value: &mut V)
         ensures { self.new ≡ tree_of value.old self.old.branches }
     {
         mem::swap(&mut self.value, value);
     }
 
-    /// Whether the node has children.
+    /// Returns whether the node has children.
     pub fn has_children(&self) -> bool
         ensures { result ≡ has_branches self.now.branches }
     {
         !self.entries.is_empty()
     }
 
-    /// The children, by name.
+    /// Iterates over the children, in name order.
     pub fn children(&self) -> RepoPathTreeChildren<'_, V>
         ensures listed { children_left result ≡ children self.now.branches }
         ensures by_name { IsTrue (is_sorted name_cmp (children self.now.branches)) }
@@ -200,7 +196,7 @@ impl<V> RepoPathNode<V> {
         }
     }
 
-    /// The children, by name, each with its name as the tree owns it.
+    /// Returns the children as a slice, in name order, with their owned names.
     pub fn entries(&self) -> &[(RepoPathComponentBuf, RepoPathTree<V>)]
         ensures listed { result.now ≡ children self.now.branches }
         ensures by_name { IsTrue (is_sorted name_cmp (children self.now.branches)) }
@@ -208,7 +204,8 @@ impl<V> RepoPathNode<V> {
         self.entries.as_slice()
     }
 
-    /// The tree below, at a name.
+    /// Returns the child with this name. O(log n) name comparisons for n children, and only one if
+    /// no child has a greater name.
     pub fn child(&self, name: RepoPathComponent<'_>) -> Option<&RepoPathTree<V>>
         ensures { option_copied result ≡ child self.now.branches (name_of name.entry) }
     {
@@ -218,7 +215,7 @@ impl<V> RepoPathNode<V> {
         }
     }
 
-    /// The value at the node, to write to.
+    /// Returns the value of the node, mutably.
     pub fn value_mut(&mut self) -> &mut V
         ensures* writes_back { sem 𝓛 (Lends (the_row V.row) V.row self.entry result
             (λ w. tree_of w self.old.branches)) }
@@ -227,7 +224,7 @@ impl<V> RepoPathNode<V> {
         &mut self.value
     }
 
-    // the child of that name, which is made with a default value where the node lacks it
+    // Inserts a child with a default value if there is none with this name.
     fn child_or_new(
         &mut self,
         name: RepoPathComponent<'_>,
@@ -255,7 +252,7 @@ impl<V> RepoPathNode<V> {
         }
     }
 
-    // the same for the first name of a path
+    // `child_or_new` for the first component of a path.
     #[inline(never)]
     fn first_or_new(&mut self, path: RepoPath<'_>) -> Result<&mut RepoPathTree<V>, AllocError>
     where
@@ -276,7 +273,6 @@ impl<V> RepoPathNode<V> {
         }
     }
 
-    // the tree below, at a name
     fn child_mut(&mut self, name: RepoPathComponent<'_>) -> &mut RepoPathTree<V>
         requires { IsSome (child self.old.branches (name_of name)) }
         ensures* writes_back { sem 𝓛 (Lends (the_row V.row) (tree.the_row V.row) self.entry result
@@ -297,7 +293,7 @@ impl<V> RepoPathNode<V> {
     ghost use Rattle.jj_paths.specs.contracts.repo_path_tree.RepoPathTree as tree;
     ghost use Rattle.jj_paths.specs.Names.{name_of, path_of};
 
-    // the tree below, at the first name of a path that the node has
+    // the child at the first component of a path
     fn step_mut(&mut self, path: RepoPath<'_>) -> &mut RepoPathTree<V>
         requires { IsSome (get self.old (path_of path)) × (path_of path ≢ []) }
         ensures* writes_back { sem 𝓛 (Lends (the_row V.row) (tree.the_row V.row) self.entry result
@@ -322,7 +318,7 @@ impl<V> RepoPathTree<V> {
     ghost use Rattle.jj_paths.specs.Names.{name_of, path_of};
     ghost use Rattle.jj_paths.specs.Children.{children_left, walk_left};
 
-    /// A tree that holds the root alone, with a default value.
+    /// Creates a tree of the root only, with a default value.
     pub fn default(alloc: Global) -> RepoPathTree<V>
     where
         V: Default,
@@ -332,7 +328,7 @@ impl<V> RepoPathTree<V> {
         RepoPathTree::new(alloc, V::default())
     }
 
-    // a tree that holds the root alone
+    // a tree of the root only
     fn new(alloc: Global, value: V) -> RepoPathTree<V>
         ensures { result ≡ tree_of value none }
     {
@@ -344,21 +340,21 @@ impl<V> RepoPathTree<V> {
         }
     }
 
-    /// The root's node.
+    /// Returns the node of the root.
     pub fn node(&self) -> &RepoPathNode<V>
         ensures { result.now ≡ self.now }
     {
         &self.node
     }
 
-    /// The value at the root.
+    /// Returns the value of the root.
     pub fn value(&self) -> &V
         ensures { result.now ≡ self.now.value }
     {
         self.node.value()
     }
 
-    /// The value at the root, to write to.
+    /// Returns the value of the root, mutably.
     pub fn value_mut(&mut self) -> &mut V
         ensures* writes_back { sem 𝓛 (Lends (the_row V.row) V.row self.entry result
             (λ w. tree_of w self.old.branches)) }
@@ -367,7 +363,7 @@ impl<V> RepoPathTree<V> {
         self.own_node().value_mut()
     }
 
-    /// Sets the value at the root.
+    /// Sets the value of the root.
     pub fn set_value(&mut self, value: V)
     where
         V: Drop,
@@ -376,14 +372,14 @@ impl<V> RepoPathTree<V> {
         self.node.set_value(value);
     }
 
-    /// Whether the root has children.
+    /// Returns whether the root has children.
     pub fn has_children(&self) -> bool
         ensures { result ≡ has_branches self.now.branches }
     {
         self.node.has_children()
     }
 
-    /// The children of the root, by name.
+    /// Iterates over the children of the root, in name order.
     pub fn children(&self) -> RepoPathTreeChildren<'_, V>
         ensures listed { children_left result ≡ children self.now.branches }
         ensures by_name { IsTrue (is_sorted name_cmp (children self.now.branches)) }
@@ -391,7 +387,7 @@ impl<V> RepoPathTree<V> {
         self.node.children()
     }
 
-    /// The children of the root, by name, each with its name as the tree owns it.
+    /// Returns the children of the root as a slice, in name order, with their owned names.
     pub fn entries(&self) -> &[(RepoPathComponentBuf, RepoPathTree<V>)]
         ensures listed { result.now ≡ children self.now.branches }
         ensures by_name { IsTrue (is_sorted name_cmp (children self.now.branches)) }
@@ -399,14 +395,15 @@ impl<V> RepoPathTree<V> {
         self.node.entries()
     }
 
-    /// The tree below the root, at a name.
+    /// Returns the child of the root with this name.
     pub fn child(&self, name: RepoPathComponent<'_>) -> Option<&RepoPathTree<V>>
         ensures { option_copied result ≡ child self.now.branches (name_of name.entry) }
     {
         self.node.child(name)
     }
 
-    /// The tree at a path.
+    /// Returns the subtree at a path. O(k log n) name comparisons for k components and at most n
+    /// children per node.
     pub fn get(&self, path: RepoPath<'_>) -> Option<&RepoPathTree<V>>
         ensures { option_copied result ≡ get self.now (path_of path.entry) }
     {
@@ -419,7 +416,7 @@ impl<V> RepoPathTree<V> {
         Some(tree)
     }
 
-    // the child that a path leads through, with what of the path is below it
+    // the child at the first component, and the rest of the path
     fn step<'b>(&self, path: RepoPath<'b>) -> Option<(&RepoPathTree<V>, RepoPath<'b>)>
         ensures { nodes_from (option_map (λ step. (step.0.now, path_of step.1)) result)
             ≡ nodes_below self.now (path_of path.entry) }
@@ -428,8 +425,8 @@ impl<V> RepoPathTree<V> {
         Some((self.child(name)?, rest))
     }
 
-    /// The trees on the way to a path, as far as they go, from this one on: each with what of the
-    /// path is below it.
+    /// Iterates over the subtrees on the way to a path, from this tree to the deepest one there is,
+    /// each with the rest of the path below it.
     pub fn walk_to<'a, 'b>(&'a self, path: RepoPath<'b>) -> RepoPathTreeWalk<'a, 'b, V>
         ensures on_the_way { walk_left result ≡ nodes_on self.now (path_of path.entry) }
         ensures parts { All (IsPartOf self.now (path_of path.entry)) (walk_left result) }
@@ -439,7 +436,6 @@ impl<V> RepoPathTree<V> {
         }
     }
 
-    // the root's node, to write to
     fn own_node(&mut self) -> &mut RepoPathNode<V>
         ensures* writes_back { sem 𝓛 (Lends (the_row V.row) (node.the_row V.row) self.entry result
             (λ w. w)) }
@@ -448,7 +444,6 @@ impl<V> RepoPathTree<V> {
         &mut self.node
     }
 
-    // the node at a path that the tree has
     fn node_mut(&mut self, path: RepoPath<'_>) -> &mut RepoPathNode<V>
         requires { IsSome (get self.old (path_of path)) }
         ensures* writes_back { sem 𝓛 (Lends (the_row V.row) (node.the_row V.row) self.entry result
@@ -462,7 +457,7 @@ impl<V> RepoPathTree<V> {
         node.step_mut(path).node_mut(path.rest())
     }
 
-    // makes the nodes that a path lacks, with default values
+    // Inserts the missing nodes on the path, with default values.
     fn extend(&mut self, path: RepoPath<'_>) -> Result<(), AllocError>
     where
         V: Default + Drop,
@@ -475,9 +470,9 @@ impl<V> RepoPathTree<V> {
         self.node.first_or_new(path)?.extend(path.rest())
     }
 
-    /// The node at a path. Where the tree lacks it, it is made with a default value, and so are the
-    /// nodes on the way. Refused for want of memory, every value is kept, and new nodes may stand
-    /// on the way.
+    /// Returns the node at a path, mutably, and first inserts the missing nodes on the path, with
+    /// default values. After an allocation failure every value is unchanged, but nodes with default
+    /// values may have been inserted at ancestors of the path.
     pub fn add(&mut self, path: RepoPath<'_>) -> Result<&mut RepoPathNode<V>, AllocError>
     where
         V: Default + Drop,
@@ -494,8 +489,8 @@ impl<V> RepoPathTree<V> {
         Ok(self.node_mut(path))
     }
 
-    /// Sets the value at a path, with the nodes that `add` makes. Where memory is refused, the tree
-    /// is as `add` leaves it.
+    /// Sets the value at a path, and inserts missing nodes as `add` does. After an allocation
+    /// failure the tree is as after a failed `add`.
     pub fn set(&mut self, path: RepoPath<'_>, mut value: V) -> Result<(), AllocError>
     where
         V: Default + Drop,
@@ -510,8 +505,8 @@ impl<V> RepoPathTree<V> {
         self.swap_value(path, &mut value)
     }
 
-    // Puts the value at a path, with the nodes that `add` makes, and the one that was there in its
-    // place. By reference, since the built code of a recursion that moves a value is no loop.
+    // Swaps the value with the one at a path, and inserts missing nodes as `add` does. The value is
+    // passed by reference, since a recursion that moves a value is not compiled to a loop.
     fn swap_value(&mut self, path: RepoPath<'_>, value: &mut V) -> Result<(), AllocError>
     where
         V: Default + Drop,
@@ -530,7 +525,7 @@ impl<V> RepoPathTree<V> {
 }
 
 impl<V: Clone + Drop> RepoPathTree<V> {
-    /// A copy of the tree, in the same memory.
+    /// Clones the tree, in the allocator of the original.
     #[cycle(copies)]
     pub fn clone(&self) -> Result<RepoPathTree<V>, AllocError>
         ensures clones { IfOk result (IsTreeClone V.is_clone self.now) }
@@ -544,7 +539,7 @@ impl<V: Clone + Drop> RepoPathTree<V> {
 }
 
 impl<V: Clone + Drop> RepoPathNode<V> {
-    /// A copy of the node, with what is below it.
+    /// Clones the node and its subtrees.
     #[cycle(copies)]
     pub fn clone(&self) -> Result<RepoPathNode<V>, AllocError>
         ensures clones { IfOk result (IsTreeClone V.is_clone self.now) }
@@ -560,7 +555,7 @@ impl<V: Clone + Drop> RepoPathNode<V> {
     }
 }
 
-/// Two trees are equal where they have the same paths, and equal values there.
+/// Trees are equal if they have the same paths with equal values.
 impl<V: PartialEq> PartialEq for RepoPathTree<V> {
     ghost use Rattle.jj_paths.specs.Equal.{tree_eq, tree_per};
 
@@ -612,7 +607,7 @@ impl<V: Eq> Eq for RepoPathNode<V> {
     ghost laws = { tree_equiv V.Eq.laws };
 }
 
-/// The value, then the children as a map from their names.
+/// The value of the root, then a map from the names of the children to their subtrees.
 impl<V: fmt::Debug> fmt::Debug for RepoPathTree<V> {
     #[cycle(shown)]
     fn fmt<W: fmt::Write>(&self, f: &mut fmt::Formatter<W>) -> fmt::Result {
@@ -633,7 +628,7 @@ impl<V: fmt::Debug> fmt::Debug for RepoPathNode<V> {
     }
 }
 
-/// The children of a node that have not been given yet, by name.
+/// Iterates over the children of a node, in name order.
 #[derive(Drop)]
 pub struct RepoPathTreeChildren<'a, V> {
     entries: &'a [(RepoPathComponentBuf, RepoPathTree<V>)],
@@ -654,8 +649,7 @@ impl<'a, V> Iterator for RepoPathTreeChildren<'a, V> {
     }
 }
 
-/// The trees on the way to a path that have not been given yet, each with what of the path is below
-/// it.
+/// Iterates over the subtrees on the way to a path, each with the rest of the path below it.
 #[derive(Drop)]
 pub struct RepoPathTreeWalk<'a, 'b, V> {
     next: Option<(&'a RepoPathTree<V>, RepoPath<'b>)>,
@@ -677,7 +671,6 @@ impl<'a, 'b, V> Iterator for RepoPathTreeWalk<'a, 'b, V> {
     }
 }
 
-// the second part of a pair, to write to
 fn second<A, B>(pair: &mut (A, B)) -> &mut B
     ensures* writes_back { sem 𝓛 (Lends (Tuple (A.row ∷ B.row ∷ [])) B.row pair.entry result
         (λ w. (pair.old.0, w))) }
@@ -686,8 +679,8 @@ fn second<A, B>(pair: &mut (A, B)) -> &mut B
     &mut pair.1
 }
 
-// where the branch with that name is, or would go; names that come in their order are looked for at
-// the last branch alone
+// The index of the name, or of its insertion point. Compares with the last name first, so that
+// insertions in name order need one comparison each.
 fn place<V>(
     entries: &[(RepoPathComponentBuf, RepoPathTree<V>)],
     name: RepoPathComponent<'_>,
@@ -706,7 +699,6 @@ fn place<V>(
     }
 }
 
-// the same among all branches
 fn search<V>(
     entries: &[(RepoPathComponentBuf, RepoPathTree<V>)],
     name: RepoPathComponent<'_>,

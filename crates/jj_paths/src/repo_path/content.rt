@@ -1,4 +1,4 @@
-//! Content bytes and JSON values of paths and of their names, which are those of their texts.
+//! Content hashing and JSON serialization of paths and components, as strings.
 ghost use Rattle.std.specs.Prelude.{◌≡◌, ◌<◌, ◌^◌, length, OnOk, OnErr, ⊤};
 ghost use Rattle.serde_json.specs.Data.{string};
 ghost use Rattle.jj_content.specs.Content.{Takes, TakesFront, IsLawful, text_content};
@@ -61,7 +61,6 @@ impl<'a> ContentHash for RepoPath<'a> {
     }
 }
 
-// The JSON value of a text.
 fn text_json(alloc: Global, text: &str) -> Result<Value, ToJsonError>
     ensures { IsAnswer ⊤ (λ d. d ≡ string text.now) result }
 {

@@ -1,4 +1,4 @@
-//! Names added at the end of a path.
+//! `RepoPathBuf::extend`: components appended in place, with rollback after a failed allocation.
 ghost use Rattle.std.specs.Prelude.{◌≡◌, ◌++◌, List, IfOk, IfErr, map, string_bytes};
 ghost use Rattle.std.specs.Iterator.{IsFiniteIterable, Drains};
 ghost use Rattle.jj_paths.specs.Names.{name_of};
@@ -9,7 +9,7 @@ use super::{RepoPathBuf, RepoPathComponent};
 use std::alloc::AllocError;
 
 impl RepoPathBuf {
-    /// Adds names at the end. Refused for want of memory, the path is as it was.
+    /// Appends components. After an allocation failure the path is unchanged.
     pub fn extend<'n, I: IntoIterator<Item = RepoPathComponent<'n>>>(
         &mut self,
         names: I,
@@ -32,7 +32,7 @@ impl RepoPathBuf {
     }
 }
 
-// adds names to a path's text; refused, it may have added some of them, and a slash
+// On failure some components and a trailing slash may be appended.
 fn push_names<'n, I: IntoIterator<Item = RepoPathComponent<'n>>>(
     text: &mut String,
     names: I,
@@ -49,7 +49,7 @@ fn push_names<'n, I: IntoIterator<Item = RepoPathComponent<'n>>>(
     Ok(())
 }
 
-// adds a name to a path's text; refused, it may have added a slash
+// On failure a trailing slash may be appended.
 fn push_name(text: &mut String, name: RepoPathComponent<'_>) -> Result<(), AllocError>
     ensures pushed { IfOk result (λ done. string_bytes text.new
         ≡ with_name (string_bytes text.old) (name_of name.entry)) }

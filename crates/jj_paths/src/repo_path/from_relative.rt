@@ -1,4 +1,4 @@
-//! Paths of a repository from relative paths of the file system, which are bytes.
+//! Parser of relative file system paths, which are byte strings, into repository paths.
 ghost use Rattle.std.specs.Prelude.{◌≡◌, ◌<◌, ◌==◌, ◌++◌, ℕ, List, [], ◌∷◌, Some, None, true, false, OnOk, IfOk, IfErr, length, slice_index, string_bytes};
 ghost use Rattle.std.specs.List.{filter, find};
 ghost use Rattle.std.specs.Str.{is_utf8};
@@ -14,10 +14,11 @@ use std::alloc::{AllocError, AllocFailed, Global};
 use std::error::Error;
 use std::fmt;
 
-/// A path that is not one below the directory that it starts from, or whose names are not texts.
+/// A file system path that is no repository path: one that is absolute, has a component `.` or
+/// `..`, or is not UTF-8.
 #[derive(Clone, Debug, PartialEq, Eq, Drop)]
 pub enum RelativePathParseError {
-    /// A component that is no name: `/`, `.` or `..`.
+    /// The path has this component, which is `/`, `.` or `..`.
     InvalidComponent { component: String, path: Vec<u8> },
     InvalidUtf8 { path: Vec<u8> },
     Memory,
@@ -39,7 +40,7 @@ impl<T: Drop> From<AllocFailed<T>> for RelativePathParseError {
     }
 }
 
-// bytes as they are shown: what is not UTF-8 by U+FFFD
+// A byte string displayed lossily, with U+FFFD for each invalid UTF-8 sequence.
 #[derive(Clone, Copy)]
 struct Shown<'a>(&'a [u8]);
 
@@ -76,7 +77,7 @@ impl fmt::Display for RelativePathParseError {
 
 impl Error for RelativePathParseError {}
 
-// the part of a path before its first slash, and what comes after that slash
+// Without a slash, the second part is empty.
 fn cut_at_slash(path: &[u8]) -> (&[u8], &[u8])
     ensures names { path_names path.now
         ≡ filter is_name (result.0.now ∷ []) ++ path_names result.1.now }
@@ -90,7 +91,7 @@ fn cut_at_slash(path: &[u8]) -> (&[u8], &[u8])
     (path, &path[path.len()..])
 }
 
-// the names of a path that have not been given yet, `..` among them
+// Iterates over the components, `..` included, and skips empty ones and `.`.
 #[derive(Drop)]
 struct Names<'a> {
     rest: &'a [u8],
@@ -129,7 +130,6 @@ fn is_absolute(path: &[u8]) -> bool
     !path.is_empty() && path[0] == b'/'
 }
 
-// whether a path's first component is `.`
 fn starts_at_dot(path: &[u8]) -> bool
     ensures { result ≡ is_dot_at path.now 0 }
 {
@@ -137,7 +137,6 @@ fn starts_at_dot(path: &[u8]) -> bool
 }
 
 impl RelativePathParseError {
-    // that the path has a component which is no name
     fn at_place(alloc: Global, place: &str, path: &[u8]) -> RelativePathParseError
         requires { is_place place.now ≡ true }
         ensures { IsParseError path.now (Some place.now) result }
@@ -151,7 +150,6 @@ impl RelativePathParseError {
         }
     }
 
-    // that the path has a name which is no text
     fn not_utf8(alloc: Global, path: &[u8]) -> RelativePathParseError
         ensures { (name : List ℕ) → is_utf8 name ≡ false →
             IsParseError path.now (Some name) result }
@@ -164,9 +162,10 @@ impl RelativePathParseError {
 }
 
 impl RepoPathBuf {
-    /// The path in a repository that a relative path of the file system names, with no name for
-    /// the directory that it starts from. The first component that is `/`, `.` or `..` is
-    /// `InvalidComponent`, the first that is not UTF-8 is `InvalidUtf8`, whichever comes first.
+    /// Parses a relative path of the file system. Empty components and inner `.` are skipped, as
+    /// by the standard library, so `a//./b` is `a/b`; the empty path and `.` are the root. Returns
+    /// `InvalidComponent` for a leading `/`, for a leading `.` before further components and for
+    /// `..`, and `InvalidUtf8` for a component that is not UTF-8, whichever component is first.
     pub fn from_relative_path(
         alloc: Global,
         path: &[u8],
@@ -189,7 +188,7 @@ impl RepoPathBuf {
     }
 }
 
-// the path of the names of a path that starts with one
+// Joins the components of a path without a leading `/` or `.`.
 fn joined_names(alloc: Global, path: &[u8]) -> Result<RepoPathBuf, RelativePathParseError>
     ensures ok { IfOk result (λ made. (made ≡ path_names path.now)
         × (find is_refused (path_names path.now) ≡ None)) }
@@ -208,7 +207,6 @@ fn joined_names(alloc: Global, path: &[u8]) -> Result<RepoPathBuf, RelativePathP
     Ok(RepoPathBuf { value })
 }
 
-// adds a name to a path's text
 fn push_name_text(text: &mut String, name: &str) -> Result<(), AllocError>
     ensures { OnOk result (string_bytes text.new ≡ with_name (string_bytes text.old) name.now) }
 {

@@ -1,4 +1,4 @@
-//! Iterators over the names of a path, from both ends, and over the paths above it.
+//! Iterators over the components of a path, double-ended, and over its ancestors.
 ghost use Rattle.std.specs.Prelude.{◌≡◌};
 ghost use Rattle.std.specs.Iterator.{YieldsFirstBy, YieldsLastBy, item_count};
 ghost use Rattle.jj_paths.specs.Iterators.{ancestors_left, components_left};
@@ -8,7 +8,7 @@ ghost use Rattle.jj_paths.specs.Names.{name_of, path_of};
 use super::{RepoPath, RepoPathComponent};
 use std::iter::FusedIterator;
 
-/// The names of a path that have not been given yet. Once it has answered `None`, it goes on so.
+/// Iterates over the components of a path, from both ends. Fused.
 #[derive(Clone, Copy, Debug)]
 pub struct RepoPathComponentsIter<'a> {
     path: RepoPath<'a>,
@@ -21,7 +21,7 @@ impl<'a> RepoPathComponentsIter<'a> {
         RepoPathComponentsIter { path }
     }
 
-    /// The path of the names that have not been given yet.
+    /// Returns the path of the components that are not yet yielded.
     pub fn as_path(&self) -> RepoPath<'a>
         ensures { path_of result ≡ components_left self.now }
     {
@@ -55,7 +55,7 @@ impl<'a> DoubleEndedIterator for RepoPathComponentsIter<'a> {
 
 impl<'a> FusedIterator for RepoPathComponentsIter<'a> {}
 
-/// A path and the paths above it that have not been given yet, up to the root.
+/// Iterates over a path and its ancestors, up to the root.
 #[derive(Clone, Copy, Debug)]
 pub struct RepoPathAncestors<'a> {
     next: Option<RepoPath<'a>>,

@@ -1,5 +1,5 @@
-//! Equality, order, hashes and copies of names and paths: names by their bytes, paths name by name.
-//! A borrowed name or path has the order and the hash of the owned one.
+//! Equality, ordering, hash and clone of components (bytewise) and of paths (lexicographic by
+//! component). Borrowed and owned values agree in ordering and hash.
 ghost use Rattle.std.specs.Prelude.{◌≡◌, ◌≢◌, Some, refl};
 ghost use Rattle.std.specs.Str.{bytes_eq};
 ghost use Rattle.std.specs.Cmp;
@@ -231,8 +231,8 @@ impl<'a> Hash for RepoPath<'a> {
     }
 }
 
-// Texts by their bytes, where a slash comes before all others: so a name that goes on comes after
-// one that has ended, and the order is that of the lists of names.
+// Bytewise lexicographic comparison in which `/` is the least byte. It agrees with comparing
+// component by component, without splitting: `a/b` precedes `a.b`, as `a` precedes `a.b`.
 fn slash_first(mine: &[u8], theirs: &[u8]) -> Ordering
     ensures { result ≡ slice_cmp slash_cmp mine.now theirs.now }
 {
@@ -244,7 +244,6 @@ fn slash_first(mine: &[u8], theirs: &[u8]) -> Ordering
     mine.len().cmp(&theirs.len())
 }
 
-// The order of two bytes that differ.
 fn unequal_bytes(mine: u8, theirs: u8) -> Ordering
     requires { mine ≢ theirs }
     ensures { result ≡ slash_cmp mine theirs }

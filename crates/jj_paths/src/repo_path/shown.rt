@@ -1,4 +1,4 @@
-//! The debug form of names and paths: their text in quotes.
+//! `Debug` of paths and components: the quoted string.
 ghost use Rattle.std.specs.Fmt.{debug_str};
 ghost use Rattle.jj_paths.specs.Paths.{path_text};
 ghost use Rattle.jj_paths.specs.Names.{name_of, path_of};

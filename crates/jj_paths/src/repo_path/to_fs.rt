@@ -1,4 +1,4 @@
-//! Names and paths of a repository as names and paths of the file system.
+//! Conversion of paths and components to file system paths and file names.
 ghost use Rattle.std.specs.Prelude.{◌≡◌, ◌≢◌, ◌⊎◌, false, None, IsOk, IfOk, IfErr, string_bytes};
 ghost use Rattle.std.specs.List.{find};
 ghost use Rattle.std.specs.Path.{path_buf_bytes};
@@ -13,7 +13,7 @@ use std::alloc::{AllocError, AllocFailed, Global};
 use std::path::PathBuf;
 use thiserror::Error;
 
-/// A name that the file system keeps for other uses: `.` or `..`.
+/// A component that is no file name, since the file system reserves it: `.` or `..`.
 #[derive(Clone, Debug, PartialEq, Eq, Drop, Error)]
 pub enum InvalidRepoPathComponentError {
     #[error(r#"Invalid path component "{component}""#)]
@@ -38,7 +38,7 @@ impl<T: Drop> From<AllocFailed<T>> for InvalidRepoPathComponentError {
     }
 }
 
-/// A path with a name that no file can have.
+/// A path with a component that is no file name.
 #[derive(Clone, Debug, PartialEq, Eq, Drop, Error)]
 pub enum InvalidRepoPathError {
     #[error(r#"Invalid repository path "{}""#, .path.as_path().as_internal_file_string())]
@@ -70,7 +70,6 @@ impl InvalidRepoPathComponentError {
     ghost use Rattle.jj_paths.specs.FsRefusals.{IsOfName, IsOfPath};
     ghost use Rattle.jj_paths.specs.declared.repo_path.to_fs.InvalidRepoPathComponentError.TheVariants.{Memory};
 
-    // the error for this name, which is copied
     fn of_name(alloc: Global, name: &str) -> InvalidRepoPathComponentError
         ensures { (result ≡ Memory) ⊎ IsOfName name.now result }
     {
@@ -80,7 +79,8 @@ impl InvalidRepoPathComponentError {
         }
     }
 
-    /// The same fault of a whole path, which is copied.
+    /// Adds the path that contains the component. Returns `Memory` if this error is `Memory`, or
+    /// if the path cannot be copied.
     pub fn with_path(self, alloc: Global, path: RepoPath<'_>) -> InvalidRepoPathError
         ensures { IsOfPath (path_of path.entry) self result }
     {
@@ -97,7 +97,8 @@ impl InvalidRepoPathComponentError {
 impl<'a> RepoPathComponent<'a> {
     ghost use Rattle.jj_paths.specs.FsRefusals.{IsRefusedName};
 
-    /// The name as a file's. `.` and `..` are `Invalid`.
+    /// Returns the component as a file name, or `Invalid` for `.` and `..`. Allocates only for the
+    /// error.
     pub fn to_fs_name(self, alloc: Global) -> Result<&'a str, InvalidRepoPathComponentError>
         ensures ok { IfOk result (λ name.
             (name.now ≡ name_of self.entry) × (is_dots (name_of self.entry) ≡ false)) }
@@ -116,8 +117,8 @@ impl<'a> RepoPathComponent<'a> {
 impl<'a> RepoPath<'a> {
     ghost use Rattle.jj_paths.specs.FsRefusals.{IsRefusedPath};
 
-    /// The path below a directory of the file system. A path with a name `.` or `..` is `Invalid`,
-    /// with the first such name.
+    /// Appends the path to the directory `base` of the file system. Returns `Invalid` with the
+    /// first component that is `.` or `..`. An empty result becomes `.`.
     pub fn to_fs_path(self, alloc: Global, base: &str) -> Result<String, InvalidRepoPathError>
         ensures ok { IfOk result (λ text. (string_bytes text
             ≡ fs_text base.now (path_of self.entry))
@@ -134,8 +135,8 @@ impl<'a> RepoPath<'a> {
         Ok(text_or_dot(path)?)
     }
 
-    /// The path below a directory of the file system, whatever its names are: a name `..` leads
-    /// out of the directory.
+    /// Appends the path to the directory `base` of the file system, without checking its
+    /// components: `..` may lead out of the directory. An empty result becomes `.`.
     pub fn to_fs_path_unchecked(self, alloc: Global, base: &str) -> Result<String, AllocError>
         ensures { IfOk result (λ text. string_bytes text ≡ fs_text base.now (path_of self.entry)) }
     {
@@ -146,7 +147,7 @@ impl<'a> RepoPath<'a> {
         text_or_dot(path)
     }
 
-    // the directory, with room for the path below it
+    // a copy of `base`, with capacity for this path
     fn room_below(self, alloc: Global, base: &str) -> Result<PathBuf, AllocError>
         ensures { IfOk result (λ path. path_buf_bytes path ≡ base.now) }
     {

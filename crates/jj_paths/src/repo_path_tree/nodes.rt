@@ -1,4 +1,5 @@
-//! Look-ups, walks and changes below a node, such as the one that `RepoPathTree::add` lends.
+//! Lookup, path iteration and insertion relative to a trie node, such as one from
+//! `RepoPathTree::add`.
 ghost use Rattle.std.specs.Prelude.{◌≡◌, IsSome, IfOk, MatchResult};
 ghost use Rattle.std.specs.Option.{option_copied, option_map};
 ghost use Rattle.std.specs.List.{All};
@@ -12,7 +13,7 @@ use crate::repo_path::RepoPath;
 use std::alloc::AllocError;
 
 impl<V> RepoPathNode<V> {
-    /// Returns the node at a path below this one, which is at the root path.
+    /// Returns the node at a path relative to this node: this node at the root path.
     pub fn get(&self, path: RepoPath<'_>) -> Option<&RepoPathNode<V>>
         ensures { option_copied result ≡ get self.now (path_of path.entry) }
     {
@@ -22,7 +23,7 @@ impl<V> RepoPathNode<V> {
         }
     }
 
-    // the child that a path leads through, with what of the path is below it
+    // the child at the first component, and the rest of the path
     fn step<'b>(&self, path: RepoPath<'b>) -> Option<(&RepoPathNode<V>, RepoPath<'b>)>
         ensures { nodes_from (option_map (λ step. (step.0.now, path_of step.1)) result)
             ≡ nodes_below self.now (path_of path.entry) }
@@ -31,8 +32,8 @@ impl<V> RepoPathNode<V> {
         Some((self.child(name)?.node(), rest))
     }
 
-    /// Iterates over the nodes on the way to a path, from this one on and as far as they go, each
-    /// with the rest of the path.
+    /// Iterates over the nodes on the way to a path, from this node to the deepest one there is,
+    /// each with the rest of the path below it.
     pub fn walk_to<'a, 'b>(&'a self, path: RepoPath<'b>) -> RepoPathNodeWalk<'a, 'b, V>
         ensures on_the_way { node_walk_left result ≡ nodes_on self.now (path_of path.entry) }
         ensures parts { All (IsPartOf self.now (path_of path.entry)) (node_walk_left result) }
@@ -42,7 +43,7 @@ impl<V> RepoPathNode<V> {
         }
     }
 
-    // makes the nodes that a path lacks, with default values
+    // Inserts the missing nodes on the path, with default values.
     fn extend(&mut self, path: RepoPath<'_>) -> Result<(), AllocError>
     where
         V: Default + Drop,
@@ -55,9 +56,9 @@ impl<V> RepoPathNode<V> {
         self.first_or_new(path)?.extend(path.rest())
     }
 
-    /// Sets the value at a path below this node, and creates the missing nodes on the way, with
-    /// default values. After an allocation failure every value is kept, and new nodes may be on the
-    /// way.
+    /// Sets the value at a path relative to this node, and inserts the missing nodes on the way,
+    /// with default values. After an allocation failure every value is unchanged, but nodes with
+    /// default values may have been inserted on the way.
     pub fn set(&mut self, path: RepoPath<'_>, mut value: V) -> Result<(), AllocError>
     where
         V: Default + Drop,
@@ -72,7 +73,7 @@ impl<V> RepoPathNode<V> {
         self.swap_value(path, &mut value)
     }
 
-    // puts the value at a path, with the nodes that `add` makes, and the old one in its place
+    // Swaps the value with the one at a path, and inserts missing nodes as `extend` does.
     fn swap_value(&mut self, path: RepoPath<'_>, value: &mut V) -> Result<(), AllocError>
     where
         V: Default + Drop,
@@ -90,7 +91,7 @@ impl<V> RepoPathNode<V> {
     }
 }
 
-/// The nodes on the way to a path that have not been yielded yet, each with the rest of the path.
+/// Iterates over the nodes on the way to a path, each with the rest of the path below it.
 #[derive(Drop)]
 pub struct RepoPathNodeWalk<'a, 'b, V> {
     next: Option<(&'a RepoPathNode<V>, RepoPath<'b>)>,

@@ -3,7 +3,7 @@ use Rattle.jj_paths.specs.Paths.{after_common}
 use Rattle.jj_paths.specs.Names.{path_of}
 use Rattle.jj_paths.proofs.repo_path.RepoPath.after_common.Given as goal
 
--- what comes after the common front of what is left of both
+-- the common prefix of the remaining paths leaves the rest of the whole
 abbrev pub invariant-loop-name : goal.invariant-loop-name
 invariant-loop-name l = after_common (path_of l.rest) (path_of l.theirs) ≡ after_common (path_of l.fn.self) (path_of l.fn.other)
 

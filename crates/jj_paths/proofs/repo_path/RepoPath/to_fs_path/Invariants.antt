@@ -1,4 +1,4 @@
--- The names that are left, appended to what there is, give the whole text, and the first refused one is among them.
+-- Appending the remaining components to `path` yields the whole path, and the first invalid one is among them.
 use Rattle.std.proofs.Common.{◌≡◌}
 use Rattle.std.specs.List.{find}
 use Rattle.std.specs.Path.{path_buf_bytes}

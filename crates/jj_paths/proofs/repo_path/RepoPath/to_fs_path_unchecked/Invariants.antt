@@ -1,4 +1,4 @@
--- The names that are left, appended to what there is, give the whole text.
+-- Appending the remaining components to `path` yields the whole path.
 use Rattle.std.proofs.Common.{◌≡◌}
 use Rattle.std.specs.Path.{path_buf_bytes}
 use Rattle.jj_paths.specs.Names.{path_of}

@@ -1,4 +1,4 @@
--- No slash was passed.
+-- no slash so far
 use Rattle.std.proofs.Common.{◌≡◌, ℕ, ◌<◌, get_or}
 use Rattle.jj_paths.proofs.repo_path.from_relative.cut_at_slash.Given as goal
 

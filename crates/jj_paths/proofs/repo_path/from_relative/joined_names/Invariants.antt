@@ -1,4 +1,4 @@
--- The names that are left, joined to what there is, give the whole text, and the first refused one is among them.
+-- Appending the remaining components to `value` yields the whole path, and the first invalid one is among them.
 use Rattle.std.proofs.Common.{◌≡◌, [], string_bytes}
 use Rattle.std.specs.List.{find}
 use Rattle.std.specs.Path.{path_names}

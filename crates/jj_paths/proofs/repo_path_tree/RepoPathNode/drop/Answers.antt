@@ -6,7 +6,7 @@ use Rattle.jj_paths.proofs.Descents.{way_count, way_count-last, branch_count-las
 use Rattle.jj_paths.proofs.repo_path_tree.RepoPathNode.drop.Goals as goal
 
 module _ {V : Type 0} where
-  -- what is left, on the way down and on the way up
+  -- the termination measure: it decreases on the way down and on the way up
   abbrev left : List (Name × Tree V) → List (Name × Tree V) → ℕ
   left current above = 2 * branch_count (branches_of current) + way_count (branches_of above)
 

@@ -1,4 +1,4 @@
--- `node_mut` lends the node at a path, and the tree follows it: by recursion on the path. Assumes `Logic`.
+-- `node_mut` returns the node at a path mutably, and writes to it go to the tree: by recursion on the path. Assumes `Logic`.
 use Rattle.std.proofs.Common.{◌≡◌, ℕ, ◌<◌, List, [], ◌∷◌, length, refl, sym, ap, ◌∙◌, subst, Bool, true, false, not, ◌≢◌, IsSome, IsTrue, ◌↔◌, Some, MutBor, arith}
 use seplogic.Ra.Ura.{Ura}
 use base.Logic.{ent, emp, id⊢, via, ex_e, snd∗}
@@ -147,7 +147,7 @@ module _ (V : RattleType) (L : Laws V) where
       abbrev Ref : (R : RattleType) → MutBor R.Denot → Fml
       Ref R r = (MutRef (named 0) κs.0 R).own_val r (mut_vals r)
 
-      -- what the function ends with, at the node that it hands out
+      -- the end of the function, at the returned node
       ends : (r : MutBor Nd.Denot) → node_of s.now (path_of p) ≡ Some r.now
           → ent 𝓤 (⋆ 𝓛 (‵ T₀ ∷ ‵ T₁ ∷ ‵ T₂ ∷ ‵ (Ref Nd r) ∷ ‵ (follows Tr Nd s.ghost_name r.ghost_name (put s.now (path_of p))) ∷ [])) (W.post y (vptr r.ref_ptr.0 r.ref_ptr.1))
       ends r value =
@@ -228,7 +228,7 @@ module _ (V : RattleType) (L : Laws V) where
           use1 𝓛 (later (some (λ (b : Bool). ((‵ T₁ ⊛ ‵ ftrue) ⊛ ‵ (bool.own_val b (v₂ ∷ []))) ⊛ raw (ensured 𝓛 is_root.ended (is_root.clauses 𝓛 𝓜.mem 𝓡.returns) at_root.0.0 at_root.0.3 tt b)))) (id⊢ 𝓤 _) $
           await ! tt $ pick ! (λ b. split ! $ split ! $ split ! $ move ! (1 ∷ []) $ drop ! $ move ! (2 ∷ []) $
           use1 𝓛 (raw (fact 𝓤 (IsTrue b ↔ (path_of p ≡ [])))) (ex_e 𝓤 _ (λ ws. snd∗ 𝓤 (sem 𝓛 (lasts is_root.ended at_root.0.0 at_root.0.3 ws)) _)) $ heard ! _ (λ at_end.
-          -- [the token of the path; the answer; the path; the node; the tree follows it; two tokens]
+          -- [the token of the path; the result; the path; the node; the tree follows it; two tokens]
           move ! (1 ∷ []) $ peeks ! bool (Is bool) (shows 𝓛 bool) b (v₂ ∷ []) (λ is₂.
           let e₂ : v₂ ∷ [] ≡ vbool b ∷ [] = bool_Tells b (v₂ ∷ []) is₂ in
           drop ! $ lands_as ! (ap only e₂) refl (tt, tt) $

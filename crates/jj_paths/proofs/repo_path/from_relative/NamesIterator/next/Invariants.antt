@@ -1,4 +1,4 @@
--- No name was passed.
+-- no component so far
 use Rattle.std.proofs.Common.{◌≡◌, length}
 use Rattle.std.specs.Path.{path_names}
 use Rattle.jj_paths.proofs.repo_path.from_relative.NamesIterator.next.Given as goal
