@@ -1,4 +1,4 @@
--- What a tree says at a path once a value was set, where it says of a new node what it says of none.
+-- Values of a tree after one is set, read by a function for which a new node is like a missing one.
 use Rattle.std.proofs.Common.{◌≡◌, ◌≢◌, Option, Some, None, refl, ap, sym, ◌∙◌}
 use Rattle.std.specs.Option.{option_map}
 use Rattle.jj_paths.specs.Paths.{Path}
@@ -6,29 +6,29 @@ use Rattle.jj_paths.specs.Tree.{Tree, tree_of, value_at, IsExtended, IsEdited, I
 
 module _ {V : Type 0} where
   module _ {W : Type 0} (is_new : V → Type 0) (reading : Option V → W) (blank : (v : V) → is_new v → reading (Some v) ≡ reading None) where
-    -- a value that is kept, or a new one where there was none, is read as before
+    -- an unchanged value, or a new one where there was none, is read as before
     read_again : (old new : Option V) → ((v : V) → old ≡ Some v → new ≡ Some v) → ((v : V) → old ≡ None → new ≡ Some v → is_new v) → reading new ≡ reading old
     read_again (Some v) new keeps makes = ap reading (keeps v refl)
     read_again None None keeps makes = refl
     read_again None (Some v) keeps makes = blank v (makes v refl refl)
 
-    -- where a tree was extended, it is read as before
+    -- after missing nodes are inserted, every path is read as before
     pub extended_reads : (old new : Tree V) (path : Path) → IsExtended is_new old path new → (any : Path) → reading (value_at new any) ≡ reading (value_at old any)
     extended_reads old new path e any = read_again (value_at old any) (value_at new any) (e.keeps any) (λ v was is. (e.makes any v was is).0)
 
-    -- where a value was set, it is read as before elsewhere
+    -- after a value is set, every other path is read as before
     pub set_reads : (old new : Tree V) (path : Path) (value : V) → IsSet is_new old path value new → (other : Path) → other ≢ path → reading (value_at new other) ≡ reading (value_at old other)
     set_reads old new path value s other off = read_again (value_at old other) (value_at new other) (λ v. s.keeps other v off) (λ v was is. (s.makes other v off was is).0)
 
   module _ {W : Type 0} (is_new : V → Type 0) (reading : Option V → W) (blank : (v : V) → is_new v → reading (Some v) ≡ reading None) (old new : Tree V) (path : Path) (node : Tree V) (value : V) (e : IsEdited is_new old path node (tree_of value node.branches) new) where
-    -- what a lent node held is what was read at its path
+    -- the value of the borrowed node is the one that was read at its path
     pub lent_was : reading (Some node.value) ≡ reading (value_at old path)
     lent_was = ap (λ o. reading (option_map (λ (n : Tree V). n.value) o)) (sym e.at_path) ∙ extended_reads is_new reading blank old e.tree path e.extended path
 
-    -- and what it got is read there now
+    -- the value that is written to the node is the one that is read there now
     pub lent_is : reading (value_at new path) ≡ reading (Some value)
     lent_is = ap reading (e.sets value refl).here
 
-    -- elsewhere all is read as before
+    -- every other path is read as before
     pub lent_reads : (other : Path) → other ≢ path → reading (value_at new other) ≡ reading (value_at old other)
     lent_reads = set_reads is_new reading blank old new path value (e.sets value refl)

@@ -1,4 +1,4 @@
-//! Callers of paths, of trees of values and of copies, proved from what these promise.
+//! Callers of paths, path trees and `copy`, proved from the contracts of these.
 ghost use Rattle.std.specs.Prelude.{◌≡◌, ◌≢◌, ◌+◌, ◌-◌, ◌^◌, min, false, IsOk, IfOk, IfErr, OnOk, OnErr, IsTrue, string_bytes};
 ghost use Rattle.std.specs.Option.{option_copied};
 ghost use Rattle.std.specs.Io.KnownBytes.{Appends};
@@ -15,8 +15,8 @@ use jj_paths::repo_path_tree::RepoPathTree;
 use std::alloc::{AllocError, Global};
 use std::io;
 
-/// Keeps a note at a path: the path has it then, and every other path has the note that it had, or
-/// none. Refused for want of memory, so has every path.
+/// Sets the note at a path. The notes at all other paths are unchanged, and so are all notes after
+/// an allocation failure.
 pub fn keep_note(
     notes: &mut RepoPathTree<Option<String>>,
     path: RepoPath<'_>,
@@ -31,15 +31,15 @@ pub fn keep_note(
     notes.set(path, Some(note))
 }
 
-/// The note at a path.
+/// Returns the note at a path.
 pub fn note<'a>(notes: &'a RepoPathTree<Option<String>>, path: RepoPath<'_>) -> Option<&'a String>
     ensures { option_copied result ≡ note_at notes.now (path_of path.entry) }
 {
     notes.get(path)?.value().as_ref()
 }
 
-/// Counts one more change at a path, up to the greatest `u64`: every other path keeps its count.
-/// Refused for want of memory, so does every path.
+/// Increments the count at a path, saturating at the greatest `u64`. The counts at all other paths
+/// are unchanged, and so are all counts after an allocation failure.
 pub fn count_change(counts: &mut RepoPathTree<u64>, path: RepoPath<'_>) -> Result<(), AllocError>
     ensures counted { OnOk result (count_at counts.new (path_of path.entry)
         ≡ min (count_at counts.old (path_of path.entry) + 1) (2 ^ 64 - 1)) }
@@ -54,7 +54,7 @@ pub fn count_change(counts: &mut RepoPathTree<u64>, path: RepoPath<'_>) -> Resul
     Ok(())
 }
 
-/// The text of a path, taken apart at its last name and joined again: the same text.
+/// Splits off the last component of a path and joins it again: returns a copy of the string.
 pub fn rejoined(alloc: Global, text: &str) -> Result<String, InvalidNewRepoPathError>
     ensures same { IfOk result (λ again. string_bytes again ≡ text.now) }
     ensures valid { IsOk result → IsTrue (is_path_text text.now) }
@@ -68,8 +68,7 @@ pub fn rejoined(alloc: Global, text: &str) -> Result<String, InvalidNewRepoPathE
     }
 }
 
-/// Writes the bytes to a sink, in as many writes as it takes. After an `Err` the sink has a
-/// beginning of them.
+/// Writes all bytes to a sink, in one write or more. After an error the sink has a prefix of them.
 pub fn send<W: Sink>(bytes: &[u8], sink: &mut W) -> io::Result<usize>
     requires { W.has_failed sink.old ≡ false }
     ensures all { OnOk result (Appends (W.contents sink.old) (W.contents sink.new) bytes.now) }
@@ -78,7 +77,7 @@ pub fn send<W: Sink>(bytes: &[u8], sink: &mut W) -> io::Result<usize>
     copy(&mut Watched::new(bytes), sink)
 }
 
-/// The bytes, written to a sink that keeps them and taken out of it again.
+/// Copies the bytes through a sink in memory.
 pub fn kept(alloc: Global, bytes: &[u8]) -> io::Result<Vec<u8>>
     ensures { IfOk result (λ list. list.items ≡ bytes.now) }
 {

@@ -1,4 +1,4 @@
-//! Directories in memory, one call of which fails.
+//! Tests of directory operations on an in-memory file system that injects one failure.
 ghost use Rattle.std.specs.Prelude.{◌≡◌, ℕ, Bool, List, Result, Ok, Err, IsTrue};
 
 use crate::fixtures::{equals, is_text};
@@ -13,7 +13,8 @@ use std::io::ErrorKind;
 use std::process::Abort;
 use std::test::Fail;
 
-// One directory, `dir`, with files in it. The call of this number, counted from 0, fails.
+// A file system of one directory, `dir`, with up to three files. After `calls_left` calls, the next
+// one fails, and so do all others.
 #[derive(Drop)]
 struct Memory {
     is_there: bool,
@@ -21,10 +22,8 @@ struct Memory {
     calls_left: Cell<u32>,
 }
 
-// The names of the files.
 const NAMES: [&str; 3] = ["a", "b", "c"];
 
-// Their paths.
 static PATHS: [&str; 3] = ["dir/a", "dir/b", "dir/c"];
 
 impl Memory {
@@ -36,7 +35,7 @@ impl Memory {
         }
     }
 
-    // Counts a call, and says whether it fails.
+    // Counts a call, and returns whether it fails.
     fn fails(&self) -> bool {
         let left = self.calls_left.get();
         self.calls_left.set(left.saturating_sub(1));
@@ -102,7 +101,7 @@ impl DirAccess for Memory {
     }
 }
 
-// That the fault has this path and this kind, or that memory was refused.
+// Checks the path and the kind of an error, and passes on an allocation failure.
 fn is_fault<R: Abort>(rt: &R, fault: &PathError, at: &str, kind: ErrorKind) -> Passed {
     match fault {
         PathError::Invalid { path, source } => {
@@ -162,7 +161,7 @@ fn entries_are_removed(rt: HostRuntime) -> Result<(), Fail> {
     passes(&rt, empties_full)
 }
 
-// Refuses the call of this number: the path is the one that is named, and so many files are left.
+// Fails the call of this number: the error has this path, and this many files are left.
 fn stops_at<R: Abort>(rt: &R, alloc: Global, call: u32, path: &str, left: usize) -> Passed {
     let mut failing = Memory::new(true, [true; 3], call);
     match remove_dir_contents(alloc, &mut failing, "dir") {
@@ -186,7 +185,7 @@ fn entries_are_removed_up_to_the_first_fault(rt: HostRuntime) -> Result<(), Fail
     passes(&rt, stops_at_each)
 }
 
-// Whether a directory is there, its files, and whether it is an empty directory.
+// Whether the directory exists, which files it has, and the result of `is_empty_dir`.
 static EMPTY: [(bool, [bool; 3], bool); 3] = [
     (true, [false; 3], true),
     (true, [false, true, false], false),

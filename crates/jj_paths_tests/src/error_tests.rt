@@ -1,4 +1,4 @@
-//! Errors that become others by `?`, and the message of a failed allocation.
+//! Tests of error conversion by `?`, and of the message of an allocation failure.
 use crate::fixtures::is_text;
 use jj_content_tests::once_more::{Passed, passes};
 use jj_paths::repo_path::{InvalidNewRepoPathError, RepoPathBuf};
@@ -6,7 +6,7 @@ use std::alloc::{AllocError, Global};
 use std::process::Abort;
 use std::test::Fail;
 
-// A path in a box, or why there is none: two requests for memory beside the text's fault.
+// Allocates twice, so that both allocation failures are converted.
 fn boxed_path(alloc: Global, text: &str) -> Result<Box<RepoPathBuf>, InvalidNewRepoPathError> {
     let path = RepoPathBuf::from_internal_string(String::from_str(alloc, text)?)?;
     Ok(Box::new(alloc, path)?)

@@ -1,4 +1,4 @@
-//! Tests of `copy` over readers and writers in memory, whose calls are cut short, or fail in turn.
+//! Tests of `copy` over in-memory readers and writers with short and failing calls.
 ghost use Rattle.std.specs.Prelude.{◌≤◌, length};
 
 use crate::fixtures::equals;
@@ -7,11 +7,10 @@ use std::io;
 use std::io::{ErrorKind, Read, Write};
 use std::process::Abort;
 
-// What is copied: the byte at place `i` is `i` modulo 251.
+// The length of the longest input. Its byte at index `i` is `i` modulo 251.
 const LONGEST: usize = 40000;
 
-// A reader of the first `len` such bytes that gives at most `most` at a time, and fails once
-// `left` reads are made.
+// A reader of `len` bytes that returns at most `most` for one call, and fails after `left` calls.
 #[derive(Drop)]
 struct Cut {
     given: usize,
@@ -36,8 +35,8 @@ impl Read for Cut {
     }
 }
 
-// A writer that takes at most `most` bytes at a time, compares them with those that are copied,
-// and fails once `left` writes are made.
+// A writer that accepts at most `most` bytes for one call, compares them with the expected bytes,
+// and fails after `left` calls.
 #[derive(Drop)]
 struct Taken {
     len: usize,
@@ -69,8 +68,8 @@ fn byte_at(i: usize) -> u8 {
     (i % 251) as u8
 }
 
-// How a copy of so many bytes ends, how many were written, and whether they are a beginning of
-// what was read.
+// Returns the result of a copy of `len` bytes, the number of bytes written, and whether they are a
+// prefix of the input.
 fn copied(
     len: usize,
     most: usize,
@@ -109,7 +108,7 @@ fn copies_across_buffers(rt: HostRuntime) {
 
 #[test]
 fn each_read_fails_in_turn(rt: HostRuntime) {
-    // Ten reads of one byte, and one that finds the end.
+    // Ten reads of one byte, and one at the end of the input.
     for reads in 0..11u32 {
         let cut = (Err(ErrorKind::BrokenPipe), reads as usize, true);
         equals(&rt, &copied(10, 1, reads, u32::MAX), &cut);
@@ -119,7 +118,7 @@ fn each_read_fails_in_turn(rt: HostRuntime) {
 
 #[test]
 fn each_write_fails_in_turn(rt: HostRuntime) {
-    // An interrupted write is a fault like any other.
+    // An interrupted write is not retried.
     for writes in 0..10u32 {
         let cut = (Err(ErrorKind::Interrupted), writes as usize, true);
         equals(&rt, &copied(10, 1, u32::MAX, writes), &cut);
@@ -142,7 +141,7 @@ fn a_writer_that_takes_nothing_has_failed(rt: HostRuntime) {
     }
 }
 
-// How a write of a piece to a watched writer ends.
+// Returns the result of one write to a watched writer.
 fn written(most: usize, left: u32, piece: &[u8]) -> Result<usize, ErrorKind> {
     let mut writer = Watched::new(Taken {
         len: 0,

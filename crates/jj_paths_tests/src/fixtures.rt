@@ -1,10 +1,10 @@
-//! Paths of literal texts, and what tests compare.
+//! Paths from string literals, and assertions.
 use jj_paths::repo_path::RepoPath;
 use std::alloc::Global;
 use std::fmt::Debug;
 use std::process::Abort;
 
-/// A path of this text, which takes no memory.
+/// Creates a path of a literal, or panics. Does not allocate for a valid path.
 pub fn path<R: Abort>(rt: &R, alloc: Global, text: &'static str) -> RepoPath<'static> {
     match RepoPath::from_internal_string(alloc, text) {
         Ok(path) => path,
@@ -12,12 +12,12 @@ pub fn path<R: Abort>(rt: &R, alloc: Global, text: &'static str) -> RepoPath<'st
     }
 }
 
-/// The two values are equal.
+/// Asserts that the values are equal.
 pub fn equals<R: Abort, T: PartialEq + Debug>(rt: &R, found: &T, wanted: &T) {
     assert_eq!(rt; found, wanted);
 }
 
-/// The text is the wanted one.
+/// Asserts that the strings are equal.
 pub fn is_text<R: Abort>(rt: &R, found: &str, wanted: &str) {
     assert_eq!(rt; found, wanted);
 }

@@ -1,8 +1,7 @@
-//! Proved callers of paths, and tests with readers, writers and directories of their own.
-//! The other cases are rows of the conformance table.
+//! Proved callers of paths, and tests with their own readers, writers and directories.
+//! All other cases are rows of the conformance table.
 //
-// In a run in which one request for memory is refused, a test answers that, and is then run once
-// more, when there is memory.
+// In a run with an injected allocation failure, a test returns the failure and is run once more.
 #![tactic(auto)]
 
 #[cfg(test)]

@@ -1,4 +1,4 @@
-//! Trees of values at paths: after an allocation failure, wide and deep.
+//! Tests of path trees: after an allocation failure, with many children, and deep ones.
 use crate::fixtures::{equals, is_text, path};
 use jj_content_tests::once_more::{Passed, passes};
 use jj_paths::repo_path::{RepoPath, RepoPathBuf};
@@ -14,14 +14,14 @@ fn add_values<R: Abort>(rt: &R, alloc: Global, tree: &mut RepoPathTree<u32>) -> 
     Ok(())
 }
 
-// A tree with 1 at `a`, 2 at `a/b` and 3 at `c/d`, and so 0 at the root and at `c`.
+// The value is 1 at `a`, 2 at `a/b`, 3 at `c/d`, and by default 0 at the root and at `c`.
 fn small_tree<R: Abort>(rt: &R, alloc: Global) -> Result<RepoPathTree<u32>, AllocError> {
     let mut tree: RepoPathTree<u32> = RepoPathTree::default(alloc);
     add_values(rt, alloc, &mut tree)?;
     Ok(tree)
 }
 
-// The value at a path, or 99 where the tree has none.
+// Returns the value at a path, or 99 if the tree has no node there.
 fn value_at<R: Abort>(rt: &R, alloc: Global, tree: &RepoPathTree<u32>, text: &'static str) -> u32 {
     match tree.get(path(rt, alloc, text)) {
         Some(found) => *found.value(),
@@ -29,7 +29,7 @@ fn value_at<R: Abort>(rt: &R, alloc: Global, tree: &RepoPathTree<u32>, text: &'s
     }
 }
 
-// The values of the small tree.
+// The values of `small_tree`.
 static SMALL: [(&str, u32); 6] = [
     ("", 0),
     ("a", 1),
@@ -39,7 +39,6 @@ static SMALL: [(&str, u32); 6] = [
     ("b", 99),
 ];
 
-// The tree has these values.
 fn has_values<R: Abort>(
     rt: &R,
     alloc: Global,
@@ -51,7 +50,7 @@ fn has_values<R: Abort>(
     }
 }
 
-// The next child has this name and this value.
+// Asserts the name and the value of the next child.
 fn next_is<R: Abort>(
     rt: &R,
     children: &mut RepoPathTreeChildren<'_, u32>,
@@ -67,7 +66,7 @@ fn next_is<R: Abort>(
     }
 }
 
-// The small tree, also where a request for memory is refused.
+// Builds the small tree, and tries again after an injected allocation failure.
 fn small_tree_at_last<R: Abort>(rt: &R, alloc: Global) -> RepoPathTree<u32> {
     match small_tree(rt, alloc) {
         Ok(tree) => tree,
@@ -78,7 +77,7 @@ fn small_tree_at_last<R: Abort>(rt: &R, alloc: Global) -> RepoPathTree<u32> {
     }
 }
 
-// Where `add` is refused, each value is kept, and what is new on the way has the default value.
+// A failed `add` changes no value, and the nodes that it inserted have the default value.
 #[test]
 fn refused_adds(rt: HostRuntime) {
     let alloc = rt.alloc();
@@ -96,12 +95,11 @@ fn refused_adds(rt: HostRuntime) {
     has_values(&rt, alloc, &tree, &[("a/b/c", 0), ("a/b/c/d", 4)]);
 }
 
-// A name of four digits, written by the caller's number.
+// Formats the number with four digits, so that names ascend with numbers.
 fn numbered(alloc: Global, number: u32) -> Result<String, AllocError> {
     format!(in alloc; "{number:04}")
 }
 
-// The path of one name, that of this number.
 fn numbered_path<R: Abort>(rt: &R, alloc: Global, number: u32) -> Result<RepoPathBuf, AllocError> {
     match RepoPathBuf::from_internal_string(numbered(alloc, number)?) {
         Ok(path) => Ok(path),
@@ -109,7 +107,7 @@ fn numbered_path<R: Abort>(rt: &R, alloc: Global, number: u32) -> Result<RepoPat
     }
 }
 
-// A tree with the even names, whose values are their places.
+// Inserts children with even numbers in descending order; each value is half the number.
 fn tree_of_even<R: Abort>(rt: &R, alloc: Global) -> Result<RepoPathTree<u32>, AllocError> {
     let mut tree: RepoPathTree<u32> = RepoPathTree::default(alloc);
     for number in (0u32..2000).rev() {
@@ -119,7 +117,7 @@ fn tree_of_even<R: Abort>(rt: &R, alloc: Global) -> Result<RepoPathTree<u32>, Al
     Ok(tree)
 }
 
-// The children are the even names, in order.
+// Asserts that `children` yields all even numbers in order.
 fn lists_all<R: Abort>(rt: &R, alloc: Global, tree: &RepoPathTree<u32>) -> Passed {
     let mut children = tree.children();
     for number in 0u32..2000 {
@@ -130,7 +128,6 @@ fn lists_all<R: Abort>(rt: &R, alloc: Global, tree: &RepoPathTree<u32>) -> Passe
     Ok(())
 }
 
-// Whether the tree has the name of this number.
 fn has_number<R: Abort>(
     rt: &R,
     alloc: Global,
@@ -141,7 +138,7 @@ fn has_number<R: Abort>(
     Ok(tree.get(path.as_path()).is_some())
 }
 
-// The tree has the even names and no odd one.
+// Asserts that `get` finds the even numbers and no odd one.
 fn finds_even_alone<R: Abort>(rt: &R, alloc: Global, tree: &RepoPathTree<u32>) -> Passed {
     for number in 0u32..4000 {
         let is_there = has_number(rt, alloc, tree, number)?;
@@ -161,7 +158,7 @@ fn two_thousand_children(rt: HostRuntime) -> Result<(), Fail> {
     passes(&rt, holds_two_thousand)
 }
 
-// The text of a path of 8,001 names.
+// Returns the string of a path of 8,001 components.
 fn deep_text(alloc: Global) -> Result<String, AllocError> {
     let mut text = String::from_str(alloc, "a")?;
     for _ in 0u32..8000 {
@@ -170,7 +167,6 @@ fn deep_text(alloc: Global) -> Result<String, AllocError> {
     Ok(text)
 }
 
-// A tree has one value, at this path.
 fn holds_alone<R: Abort>(rt: &R, alloc: Global, deep: RepoPath<'_>) -> Passed {
     let mut tree: RepoPathTree<u32> = RepoPathTree::default(alloc);
     tree.set(deep, 3)?;
@@ -188,7 +184,7 @@ fn holds_deep<R: Abort>(rt: &R, alloc: Global) -> Passed {
     }
 }
 
-// A tree is dropped by a loop, and not by a recursion as deep as the tree.
+// Dropping a deep tree does not overflow the stack.
 #[test]
 fn deep_trees(rt: HostRuntime) -> Result<(), Fail> {
     passes(&rt, holds_deep)

@@ -76,7 +76,7 @@ fn fs_path(alloc: Global, request: &Request, values: &mut Values) -> Result<(), 
     }
 }
 
-// Appends an error of a relative path; its message and the bytes that it keeps.
+// Appends the error's message, and checks the path that it contains.
 fn put_relative_error(
     values: &mut Values,
     error: &RelativePathParseError,
@@ -118,7 +118,7 @@ fn fs_relative(alloc: Global, request: &Request, values: &mut Values) -> Result<
     Ok(())
 }
 
-// A path, and the home directory where one is given.
+// The second field, the home directory, is optional.
 fn fs_home(alloc: Global, request: &Request, values: &mut Values) -> Result<(), RowError> {
     let fields = request.group(0)?;
     let path = fields.string(0)?;

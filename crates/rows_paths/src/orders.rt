@@ -70,7 +70,6 @@ fn owned_paths(alloc: Global, paths: &[RepoPath<'_>]) -> Result<HashSet<RepoPath
     Ok(set)
 }
 
-// A set of all values.
 fn set_of<T: Eq + Hash + Copy + Drop>(
     alloc: Global,
     items: &[T],
@@ -98,7 +97,7 @@ fn names_of(alloc: Global, fields: &Fields) -> Result<Vec<RepoPathComponent<'_>>
     Ok(names)
 }
 
-// How many paths differ, and whether the path of the second group is among them.
+// Appends the number of distinct paths, and whether the path of the second group is among them.
 fn path_set(alloc: Global, request: &Request, values: &mut Values) -> Result<(), RowError> {
     let path = path_at(alloc, request.group(1)?, 0)?;
     let paths = paths_of(alloc, request.group(0)?)?;
@@ -124,7 +123,7 @@ fn owned_names(
     Ok(set)
 }
 
-// How many names differ.
+// Appends the number of distinct names.
 fn name_set(alloc: Global, request: &Request, values: &mut Values) -> Result<(), RowError> {
     let names = names_of(alloc, request.group(0)?)?;
     let borrowed = set_of(alloc, names.as_slice())?;

@@ -4,7 +4,6 @@ use rows::request::Fields;
 use rows::row_error::RowError;
 use std::alloc::Global;
 
-// Why an argument is no path, or no name.
 fn error_of(error: InvalidNewRepoPathError, what: &'static str) -> RowError {
     match error {
         InvalidNewRepoPathError::Invalid { value: _ } => RowError::Unreadable(what),

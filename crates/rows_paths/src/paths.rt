@@ -1,4 +1,4 @@
-//! Requests that parse paths and names, and put paths together.
+//! Requests that parse and join paths and names.
 use crate::parsing::{name_at, only_string, path_at};
 use jj_paths::repo_path::{
     InvalidNewRepoPathError, RepoPath, RepoPathBuf, RepoPathComponent, RepoPathComponentBuf,
@@ -64,7 +64,7 @@ fn path(alloc: Global, request: &Request, values: &mut Values) -> Result<(), Row
     }
 }
 
-// A path, its clone and its string.
+// Checks a path against its clone and its string.
 fn copies_agree(path: RepoPathBuf, text: &str) -> Result<(), RowError> {
     let copy = path.clone()?;
     let is_text = path.as_path().as_internal_file_string() == text;
@@ -96,7 +96,7 @@ fn path_name(alloc: Global, request: &Request, values: &mut Values) -> Result<()
     }
 }
 
-// A name, its clone and its string.
+// Checks a name against its clone and its string.
 fn name_copies_agree(name: RepoPathComponentBuf, text: &str) -> Result<(), RowError> {
     let copy = name.clone()?;
     let is_text = name.as_internal_str() == text && name.as_component().as_internal_str() == text;
@@ -112,7 +112,7 @@ fn path_directory(alloc: Global, request: &Request, values: &mut Values) -> Resu
     Ok(())
 }
 
-// The names in the fields after the first one.
+// Parses the names in the fields after the first one.
 fn names_of(alloc: Global, fields: &Fields) -> Result<Vec<RepoPathComponent<'_>>, RowError> {
     let mut names = Vec::new(alloc);
     for index in 1..fields.len() {
@@ -143,7 +143,7 @@ fn extended(
     Ok(path)
 }
 
-// A path made of all names of another one.
+// Appends the components of a path to the root.
 fn rebuilt(alloc: Global, path: RepoPath<'_>) -> Result<RepoPathBuf, AllocError> {
     let mut again = RepoPathBuf::root(alloc);
     again.extend(path.components())?;

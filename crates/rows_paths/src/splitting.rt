@@ -1,4 +1,4 @@
-//! Requests that take paths apart.
+//! Requests that split paths, and iterate over components and ancestors.
 use crate::parsing::path_at;
 use jj_paths::repo_path::{RepoPath, RepoPathComponent, RepoPathComponentsIter};
 use rows::request::Request;
@@ -75,7 +75,7 @@ fn put_name(values: &mut Values, name: Option<RepoPathComponent<'_>>) {
     }
 }
 
-// Takes a name from the end for each `<`, and from the start for any other character.
+// Calls `next_back` for each `<`, and `next` for any other character.
 fn path_components(alloc: Global, request: &Request, values: &mut Values) -> Result<(), RowError> {
     let fields = request.group(0)?;
     let mut names = path_at(alloc, fields, 0)?.components();

@@ -1,6 +1,6 @@
-//! Requests on trees of numbers at paths. The first group makes a tree: `a/b=2` sets the value at
-//! a path, `a>b=2` at the path `b` below the node `a`; `a/b:2` and `a/b*2` set that of the node
-//! that `add` lends, and `a/b` only adds it.
+//! Requests on path trees of numbers. The first group builds a tree: `a/b=2` sets the value at a
+//! path, `a>b=2` at the path `b` relative to the node `a`; `a/b:2` and `a/b*2` set the value of the
+//! node that `add` returns, and `a/b` only adds the node.
 use crate::parsing::{parse_name, parse_path, path_at};
 use jj_paths::repo_path::RepoPath;
 use jj_paths::repo_path_tree::RepoPathTree;
@@ -127,7 +127,7 @@ fn put_value(values: &mut Values, found: Option<&RepoPathTree<u64>>) {
     }
 }
 
-// The node at a path, found from the tree and from its root's node.
+// Checks `get` of the tree against `get` of its root node.
 fn nodes_agree(tree: &RepoPathTree<u64>, path: RepoPath<'_>) -> bool {
     match (tree.get(path), tree.node().get(path)) {
         (Some(below), Some(node)) => below.node() == node,
@@ -136,7 +136,7 @@ fn nodes_agree(tree: &RepoPathTree<u64>, path: RepoPath<'_>) -> bool {
     }
 }
 
-// The values at the paths of the second group.
+// Appends the values at the paths of the second group.
 fn tree_get(alloc: Global, request: &Request, values: &mut Values) -> Result<(), RowError> {
     let paths = request.group(1)?;
     let tree = tree_of(alloc, request.group(0)?)?;
@@ -158,7 +158,7 @@ fn tree_walk(alloc: Global, request: &Request, values: &mut Values) -> Result<()
     agree(walks_agree(&tree, path), "walk of nodes")
 }
 
-// The walk to a path from the tree, and from its root's node.
+// Checks `walk_to` of the tree against `walk_to` of its root node.
 fn walks_agree(tree: &RepoPathTree<u64>, path: RepoPath<'_>) -> bool {
     let mut nodes = tree.node().walk_to(path);
     for (below, rest) in tree.walk_to(path) {
@@ -170,7 +170,7 @@ fn walks_agree(tree: &RepoPathTree<u64>, path: RepoPath<'_>) -> bool {
     nodes.next().is_none()
 }
 
-// The children at a path, each with its value.
+// Appends the children of a path with their values.
 fn tree_children(alloc: Global, request: &Request, values: &mut Values) -> Result<(), RowError> {
     let path = path_at(alloc, request.group(1)?, 0)?;
     let tree = tree_of(alloc, request.group(0)?)?;
@@ -192,7 +192,7 @@ fn put_children(values: &mut Values, tree: &RepoPathTree<u64>) {
     }
 }
 
-// The children, the entries, and look-ups by name.
+// Checks the children against the entries and against lookup by name.
 fn children_agree(alloc: Global, tree: &RepoPathTree<u64>) -> Result<(), RowError> {
     let mut count = 0usize;
     for (name, child) in tree.children() {
@@ -210,7 +210,7 @@ fn tree_equal(alloc: Global, request: &Request, values: &mut Values) -> Result<(
     agree((first != second) != (first == second), "comparisons")
 }
 
-// The value at the root is set, and then grows by one.
+// Sets the value at the root, and then increments it.
 fn tree_root(alloc: Global, request: &Request, values: &mut Values) -> Result<(), RowError> {
     let value = request.group(1)?.number(0)?;
     let mut tree = tree_of(alloc, request.group(0)?)?;
@@ -248,7 +248,7 @@ fn set_texts(
     Ok(())
 }
 
-// A clone of a tree of strings, and the tree, which is changed once it is cloned.
+// Clones a tree of strings, and then changes the original.
 fn tree_copy(alloc: Global, request: &Request, values: &mut Values) -> Result<(), RowError> {
     let steps = request.group(1)?;
     let mut tree: RepoPathTree<Option<String>> = RepoPathTree::default(alloc);

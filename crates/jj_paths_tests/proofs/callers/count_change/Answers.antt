@@ -5,7 +5,7 @@ use Rattle.jj_paths.specs.Tree.{IsEdited}
 use Rattle.jj_paths_tests.proofs.SetValues.{lent_was, lent_is, lent_reads}
 use Rattle.jj_paths_tests.proofs.callers.count_change.Goals as goal
 
--- what holds of a lent node, where one was lent
+-- a property of the result of a call that succeeded
 of_lent : {B E : Type 0} (answer : Result B E) (lent : B) (P : B → Type 0) → answer ≡ Ok lent → (IsOk answer → IfOk answer P) → P lent
 of_lent (Ok other) lent P is holds = let same : other ≡ lent = cc in subst P same (holds refl)
 of_lent (Err e) lent P is holds = cc

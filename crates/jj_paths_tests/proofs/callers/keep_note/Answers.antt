@@ -10,14 +10,14 @@ abbrev read : {T : Type 0} → Option (Option T) → Option T
 read note = option_and_then (λ n. n) note
 
 module _ {T U E : Type 0} where
-  -- whatever became of the call, other paths are read as before
+  -- whether the call succeeded or failed, every other path is read as before
   others : (answer : Result U E) (More : U → Type 0) (old new : Tree (Option T)) (path : Path) (note : T)
       → IfOk answer (λ done. IsSet (λ v. v ≡ None) old path (Some note) new) → MatchResult answer More (λ e. IsExtended (λ v. v ≡ None) old path new)
       → (other : Path) → other ≢ path → read (value_at new other) ≡ read (value_at old other)
   others (Ok done) More old new path note set more = set_reads (λ v. v ≡ None) read (λ v e. e) old new path (Some note) set
   others (Err e) More old new path note set extended = λ other off. extended_reads (λ v. v ≡ None) read (λ v e. e) old new path extended other
 
-  -- refused, all paths are
+  -- after a failure, every path is read as before
   refused : (answer : Result U E) (More : U → Type 0) (old new : Tree (Option T)) (path : Path) → MatchResult answer More (λ e. IsExtended (λ v. v ≡ None) old path new)
       → IfErr answer (λ e. (any : Path) → read (value_at new any) ≡ read (value_at old any))
   refused (Ok done) More old new path more = tt

@@ -4,7 +4,7 @@ use Rattle.jj_files.specs.Streams.{AppendsFrontOf}
 use Rattle.jj_files.specs.Watching.{watched_inner}
 use Rattle.jj_paths_tests.proofs.callers.send.Goals as goal
 
--- what was written of bytes that were read is a beginning of them
+-- the written part of the bytes that were read is a prefix of them
 begins : (bytes : List ℕ) (left : Option (List ℕ)) (old new : Option (List ℕ)) → (written lost : List ℕ) × Consumes (Some bytes) left (written ++ lost) × Appends old new written → AppendsFrontOf old new bytes
 begins bytes None old new (written, lost, taken, grown) = absurd taken
 begins bytes (Some rest) old new (written, lost, taken, grown) = (written, lost ++ rest, grown, sym (append_assoc written lost rest) ∙ sym taken)
