@@ -1,4 +1,4 @@
--- Marks are added to a tree part by part, in any order.
+-- Insertion of marks run by run, in any order.
 use Rattle.std.proofs.Common.{◌≡◌, ℕ, ◌+◌, ◌-◌, ◌≤◌, Bool, true, false, List, [], ◌∷◌, ◌++◌, map, take, drop, ap, sym, subst, ◌∙◌, arith, append_assoc, append-nil}
 use Rattle.std.specs.List.Sorted.{IsPermutation}
 use Rattle.std.proofs.lemmas.List.{take-map, drop-map, drop-drop}
@@ -26,7 +26,7 @@ pub adds_list : (xs ys : List Path) (old new : Tree Bool) → xs ≡ ys → Adds
 adds_list xs ys old new same adds = subst (λ l. AddsMarks l old new) same adds
 
 module _ {X Y : Type 0} (f : X → Y) where
-  -- a run after what comes before it, where the list from its start on is as it was at first
+  -- the runs so far and the next one, which is unchanged since the list was sorted
   pub run_next : (now first : List X) (start end : ℕ) → start ≤ end → drop start now ≡ drop start first
       → take start (map f first) ++ map f (take (end - start) (drop start now)) ≡ take end (map f first)
   run_next now first start end le same =
@@ -38,7 +38,7 @@ module _ {X Y : Type 0} (f : X → Y) where
       ∙ ap (λ n. take n (map f first)) k
 
 module _ {X : Type 0} where
-  -- two lists that agree from a place on agree from every later one on
+  -- lists that agree from `start` agree from `end`
   pub later_same : (now first : List X) (start end : ℕ) → start ≤ end → drop start now ≡ drop start first → drop end now ≡ drop end first
   later_same now first start end le same =
       let k : start + (end - start) ≡ end = omega arith in

@@ -1,4 +1,4 @@
--- Which names an answer chooses from.
+-- Visits mention only names of the `candidates` lists.
 use Rattle.std.proofs.Common.{◌≡◌, Bool, true, false, ◌&&◌, ◌||◌, List, [], ◌∷◌, ◌++◌, refl, ap, sym, subst, ◌∙◌, inl, inr, if◌then◌else◌}
 use mathlib.Core.Bool.{false≢true}
 use Rattle.std.specs.Str.{bytes_eq}
@@ -15,7 +15,7 @@ use Rattle.jj_matchers.specs.Candidates.{IsAllOrAmong, ChoosesFrom, any_passes, 
 use Rattle.jj_matchers.specs.Combined.{named_answer, union_answer, difference_answer, intersection_answer}
 use Rattle.jj_matchers.proofs.Wanted.{any_implies, is_at_or_below-append, below_dir, files_sound, prefix_opens, prefix_sound}
 
--- a test that a name passes is passed by some name
+-- if a name of the list satisfies a predicate, then `list_any` finds one
 found_among : (test : Name → Bool) (name : Name) → test name ≡ true → (names : List Name) → is_among names name ≡ true → list_any test names ≡ true
 found_among test name e = any_implies (bytes_eq name) test (λ n same. ap test (sym ((bytes_eq-Decides name n).0 same)) ∙ e)
 
@@ -32,7 +32,7 @@ none_passes (name ∷ names) = none_passes names
 or_true : (a b : Bool) → b ≡ true → (a || b) ≡ true
 or_true a b e = or_right a b e
 
--- the answer that names two sets
+-- the visit of two sets of names
 pub sets_named : (names dirs files : List Name) → IsAllOrAmong names (is_among dirs) → IsAllOrAmong names (is_among files) → sets_answer dirs files ≡ named_answer names (is_among dirs) (is_among files)
 sets_named names [] [] d f = rw (none_passes names)
 sets_named names [] (name ∷ files) d f =
@@ -42,7 +42,7 @@ sets_named names (name ∷ dirs) files d f =
     let some : any_passes names (is_among (name ∷ dirs)) ≡ true = passes_some names (is_among (name ∷ dirs)) d name (or_left _ _ ((bytes_eq-Decides name name).1 refl)) in
     rw (or_left (any_passes names (is_among (name ∷ dirs))) (any_passes names (is_among files)) some)
 
--- where every name passes a test, so does one
+-- the visit of all names is specific
 pub all_named : (names : List Name) (dirs files : Name → Bool) → dirs [] ≡ true → named_answer names dirs files ≡ specific dirs files
 all_named names dirs files e = rw e
 
@@ -62,7 +62,7 @@ module _ (xs ys : List Name) where
   listed_right : (test : Name → Bool) → IsAllOrAmong ys test → IsAllOrAmong (xs ++ ys) test
   listed_right test listed = elim listed [ inl all ↦ inl all | inr among ↦ inr (λ name e. among_right name (among name e)) ]
 
-  -- what chooses from a list chooses from a longer one
+  -- names of a list are names of a longer list
   pub chosen_left : (a : Answer) → ChoosesFrom xs a → ChoosesFrom (xs ++ ys) a
   chosen_left all_recursively chosen = tt
   chosen_left (specific dirs files) chosen = (listed_left dirs chosen.0, listed_left files chosen.1)
@@ -121,14 +121,14 @@ module _ (names : List Name) where
   intersection_chooses (specific dirs files) (specific other_dirs other_files) one other =
       named_chooses (λ name. dirs name && other_dirs name) (λ name. files name && other_files name) (both_listed dirs other_dirs one.0 other.0) (both_listed files other_files one.1 other.1)
 
--- the name of a child on the way to a path is one of the path's names
+-- the name of a child at or above a path is one of the path's components
 on_the_way : (dir : Path) (name : Name) (path : Path) → is_at_or_below (dir ++ name ∷ []) path ≡ true → is_among path name ≡ true
 on_the_way [] name [] h = absurd (false≢true h)
 on_the_way [] name (first ∷ path) h = or_left (bytes_eq name first) (is_among path name) (and_parts (bytes_eq name first) true h).0
 on_the_way (d ∷ dir) name [] h = absurd (false≢true h)
 on_the_way (d ∷ dir) name (first ∷ path) h = or_right (bytes_eq name first) (is_among path name) (on_the_way dir name path (and_parts (bytes_eq d first) (is_at_or_below (dir ++ name ∷ []) path) h).1)
 
--- the name of a child at or above a path of a list is one of the names of the list's paths
+-- the name of a child at or above a path of a list is one of the components of these paths
 pub leads_among : (paths : List Path) (dir : Path) (name : Name) → leads_to_prefix paths (dir ++ name ∷ []) ≡ true → is_among (names_of paths) name ≡ true
 leads_among [] dir name h = absurd (false≢true h)
 leads_among (path ∷ paths) dir name h = elim (or_cases (is_at_or_below (dir ++ name ∷ []) path) (leads_to_prefix paths (dir ++ name ∷ [])) h) [
@@ -167,7 +167,7 @@ prefixes_choose prefixes dir = by_cases (has_prefix prefixes dir) (leads_to_want
     by_cases false true = (inr (λ name e. leads_among prefixes dir name e), inr (λ name e. leads_among prefixes dir name (wanted_leads prefixes (dir ++ name ∷ []) e)))
     by_cases false false = tt
 
--- an answer that is that of the wanted files, or of the prefixes, is sound, and chooses from their names
+-- the visits for a list of files and for a list of prefixes are sound, and mention only components of these paths
 pub files_answered : (marks wanted : List Path) (dir : Path) (answer : Answer) → marks ≡ wanted → answer ≡ files_answer marks dir
     → (answer ≡ files_answer wanted dir) × IsSound (is_wanted wanted) (leads_to_wanted wanted) dir answer × ChoosesFrom (names_of wanted) answer
 files_answered marks wanted dir answer same is =

@@ -1,4 +1,4 @@
--- The sets of the children that pass a test.
+-- The sets of names of the children that satisfy a predicate.
 use Rattle.std.proofs.Common.{◌≡◌, Bool, true, false, ◌&&◌, ◌||◌, List, [], ◌∷◌, refl, ap, sym, ◌∙◌, inl, inr}
 use mathlib.Core.Bool.{false≢true}
 use Rattle.std.specs.Cmp.{both_ways}
@@ -17,14 +17,14 @@ use Rattle.jj_matchers.specs.Visits.{is_among, sets_answer}
 use Rattle.jj_paths.proofs.PathOrders.{name_cmp-itself, less_from_is_lt}
 use Rattle.jj_matchers.proofs.Wanted.{any_implies}
 
--- whether a node of that name passes a test
+-- whether a child with this name satisfies a predicate
 abbrev pub any_named : (Tree Bool → Bool) → Name → List (Name × Tree Bool) → Bool
 any_named test name nodes = list_any (λ node. bytes_eq name node.0 && test node.1) nodes
 
 bytes_eq-sym : (a b : Name) → bytes_eq a b ≡ bytes_eq b a
 bytes_eq-sym a b = both_ways (bytes_eq a b) (bytes_eq b a) (λ e. (bytes_eq-Decides b a).1 (sym ((bytes_eq-Decides a b).0 e))) (λ e. (bytes_eq-Decides a b).1 (sym ((bytes_eq-Decides b a).0 e)))
 
--- a name below all others is none of them
+-- a name that is less than all others is none of them
 none_named : (test : Tree Bool → Bool) (name : Name) (nodes : List (Name × Tree Bool)) → below_all name_cmp name nodes ≡ true → any_named test name nodes ≡ false
 none_named test name [] e = refl
 none_named test name (node ∷ nodes) e =
@@ -32,7 +32,7 @@ none_named test name (node ∷ nodes) e =
     let differs : bytes_eq name node.0 ≡ false = false_from_ne_true (bytes_eq name node.0) (λ same. let equal : Less ≡ Equal = sym (less_from_is_lt _ parts.0) ∙ ap (name_cmp name) (sym ((bytes_eq-Decides name node.0).0 same)) ∙ name_cmp-itself name in cc) in
     ap (λ b. (b && test node.1) || any_named test name nodes) differs ∙ none_named test name nodes parts.1
 
--- names that rise are found once
+-- among sorted children, at most one has a name
 pub any_named-child : (test : Tree Bool → Bool) (b : Branches Bool) → is_sorted name_cmp (children b) ≡ true → (name : Name) → any_named test name (children b) ≡ named_by test b name
 any_named-child test none e name = refl
 any_named-child test (branch n value below after) e name = by_name (bytes_eq n name) refl (λ rising. any_named-child test after rising name)
@@ -50,7 +50,7 @@ any_named-child test (branch n value below after) e name = by_name (bytes_eq n n
         or_none false = refl
     by_name false differs later = rw (differs, bytes_eq-sym name n, differs) (later rise.1)
 
--- where something of a list passes a test, its name does
+-- the name of a child that satisfies the predicate
 some_named : (test : Tree Bool → Bool) (nodes : List (Name × Tree Bool)) → list_any (λ (c : Name × Tree Bool). test c.1) nodes ≡ true → (name : Name) × (any_named test name nodes ≡ true)
 some_named test [] h = absurd (false≢true h)
 some_named test (node ∷ nodes) h = elim (or_cases (test node.1) (list_any (λ (c : Name × Tree Bool). test c.1) nodes) h) [
@@ -61,7 +61,7 @@ some_named test (node ∷ nodes) h = elim (or_cases (test node.1) (list_any (λ 
 named_some : (test : Tree Bool → Bool) (name : Name) (nodes : List (Name × Tree Bool)) → any_named test name nodes ≡ true → list_any (λ (c : Name × Tree Bool). test c.1) nodes ≡ true
 named_some test name = any_implies (λ (c : Name × Tree Bool). bytes_eq name c.0 && test c.1) (λ (c : Name × Tree Bool). test c.1) (λ c h. (and_parts _ _ h).1)
 
--- the set of the names of all nodes that pass a test is empty where none does
+-- the set of names is empty if and only if no child satisfies the predicate
 keys_tell : (test : Tree Bool → Bool) (nodes : List (Name × Tree Bool)) (name : Name) (names : List Name) → ((n : Name) → is_among (name ∷ names) n ≡ any_named test n nodes) → list_any (λ (c : Name × Tree Bool). test c.1) nodes ≡ true
 keys_tell test nodes name names same = named_some test name nodes (sym (same name) ∙ or_left _ _ ((bytes_eq-Decides name name).1 refl))
 
@@ -69,7 +69,7 @@ no_keys_tell : (test : Tree Bool → Bool) (nodes : List (Name × Tree Bool)) �
 no_keys_tell test nodes same = false_from_ne_true _ (λ h. let found = some_named test nodes h in false≢true (same found.0 ∙ found.1))
 
 module _ (dirs files : Tree Bool → Bool) (b : Branches Bool) (sorted : is_sorted name_cmp (children b) ≡ true) where
-  -- the answer of the two sets
+  -- the visit of the two sets
   specific_is : (dir_keys file_keys : List Name) → ((name : Name) → is_among dir_keys name ≡ any_named dirs name (children b)) → ((name : Name) → is_among file_keys name ≡ any_named files name (children b)) →
       (any_child dirs b || any_child files b) ≡ true → specific (is_among dir_keys) (is_among file_keys) ≡ children_answer dirs files b
   specific_is dir_keys file_keys d f some =
@@ -81,7 +81,7 @@ module _ (dirs files : Tree Bool → Bool) (b : Branches Bool) (sorted : is_sort
   sets_are [] (name ∷ names) d f = specific_is [] (name ∷ names) d f (or_right _ _ (keys_tell files (children b) name names f))
   sets_are (name ∷ names) file_keys d f = specific_is (name ∷ names) file_keys d f (or_left _ _ (keys_tell dirs (children b) name names d))
 
--- the names so far are all where none is left
+-- with no children left, the names so far are all of them
 pub none_left : (test : Tree Bool → Bool) (name : Name) (before all : Bool) (left : List (Name × Tree Bool)) → left ≡ [] → (before || any_named test name left) ≡ all → before ≡ all
 none_left test name before all left e whole = or_none before ∙ ap (λ l. before || any_named test name l) (sym e) ∙ whole
   where

@@ -1,4 +1,4 @@
--- The answers of a union, a difference and an intersection are sound where both answers are.
+-- Soundness of the visits of unions, differences and intersections, from that of both operands.
 use Rattle.std.proofs.Common.{◌≡◌, Bool, true, false, not, ◌&&◌, ◌||◌, List, [], ◌∷◌, ◌++◌, refl, ap, sym, ◌∙◌, inl, inr, if◌then◌else◌}
 use mathlib.Core.Bool.{false≢true}
 use Rattle.std.proofs.Math.Bool.{and-false}
@@ -9,7 +9,7 @@ use Rattle.jj_matchers.specs.Candidates.{IsAllOrAmong, ChoosesFrom, any_passes}
 use Rattle.jj_matchers.specs.Combined.{union_answer, difference_answer, named_answer, intersection_answer}
 use Rattle.jj_matchers.proofs.Candidates.{passes_some, both_listed}
 
--- the paths of either set, of both, and of one without those of the other
+-- union, intersection and difference of sets of paths
 abbrev pub either : (Path → Bool) → (Path → Bool) → Path → Bool
 either f g path = f path || g path
 
@@ -36,7 +36,7 @@ only_right : (a b : Bool) → a ≡ false → (a || b) ≡ true → b ≡ true
 only_right a b e whole = ap (λ t. t || b) (sym e) ∙ whole
 
 module _ (f g o p : Path → Bool) (dir : Path) where
-  -- nothing on one side leaves the other's answer
+  -- union with `nothing`
   nothing_left : (b : Answer) → IsSound f o dir nothing → IsSound g p dir b → IsSound (either f g) (either o p) dir b
   nothing_left all_recursively none sound = λ name rest. (or_right _ _ (sound name rest).0, or_right _ _ (sound name rest).1)
   nothing_left (specific dirs files) none sound = record {
@@ -61,7 +61,7 @@ module _ (f g o p : Path → Bool) (dir : Path) where
     dirs_open = λ name e. elim (or_cases _ _ e) [ inl h ↦ or_left _ _ (sound.dirs_open name h) | inr h ↦ or_right _ _ (more.dirs_open name h) ];
   }
 
-  -- everything wanted is as sound an answer, once all names are named
+  -- `all_recursively` as the specific visit of all children
   pub all_names : IsSound f o dir all_recursively → NamesAll (less f g) o dir (λ name. true) (λ name. true)
   all_names sound = record { files_named = λ name e. refl; dirs_named = λ name next rest e. refl; dirs_open = λ name e. (sound name []).1 }
 
@@ -72,11 +72,11 @@ module _ (f g o p : Path → Bool) (dir : Path) where
     dirs_open = sound.dirs_open;
   }
 
-  -- nothing is left where everything is unwanted
+  -- difference with `all_recursively`
   pub none_left : IsSound g p dir all_recursively → IsSound (less f g) o dir nothing
   none_left more = λ name rest. and_false (f (dir ++ name ∷ rest)) (not (g (dir ++ name ∷ rest))) (ap not (more name rest).0)
 
-  -- and nothing is common where one side has nothing
+  -- intersection with `nothing`
   pub none_common : IsSound f o dir nothing → IsSound (both f g) (both o p) dir nothing
   none_common sound = λ name rest. false_and (f (dir ++ name ∷ rest)) (g (dir ++ name ∷ rest)) (sound name rest)
 
@@ -89,7 +89,7 @@ module _ (f g o p : Path → Bool) (dir : Path) where
   difference_sound (specific wanted_dirs wanted_files) (specific dirs files) sound more = less_names wanted_dirs wanted_files sound
   difference_sound nothing (specific dirs files) sound more = λ name rest. false_and (f (dir ++ name ∷ rest)) _ (sound name rest)
 
-  -- everything on one side leaves the other's answer
+  -- intersection with `all_recursively`
   all_left : (b : Answer) → IsSound f o dir all_recursively → IsSound g p dir b → IsSound (both f g) (both o p) dir b
   all_left all_recursively all sound = λ name rest. (and_from _ _ (all name rest).0 (sound name rest).0, and_from _ _ (all name rest).1 (sound name rest).1)
   all_left (specific dirs files) all sound = record {
@@ -107,7 +107,7 @@ module _ (f g o p : Path → Bool) (dir : Path) where
     dirs_open = λ name e. and_from _ _ (sound.dirs_open name (and_parts _ _ e).0) (more.dirs_open name (and_parts _ _ e).1);
   }
 
--- an answer that names all may be `nothing` where no name passes either test
+-- a specific visit without names may be replaced by `nothing`
 pub named_sound : (accepts opens : Path → Bool) (dir : Path) (names : List Name) (dirs files : Name → Bool) → NamesAll accepts opens dir dirs files → IsAllOrAmong names dirs → IsAllOrAmong names files →
     IsSound accepts opens dir (named_answer names dirs files)
 named_sound accepts opens dir names dirs files sound d f = by_cases (any_passes names dirs || any_passes names files) refl
@@ -134,6 +134,6 @@ module _ (f g o p : Path → Bool) (dir : Path) (names : List Name) where
       named_sound (both f g) (both o p) dir names (λ name. dirs name && other_dirs name) (λ name. files name && other_files name) (both_names f g o p dir dirs files other_dirs other_files sound more)
       (both_listed names dirs other_dirs one.0 other.0) (both_listed names files other_files one.1 other.1)
 
--- two tests that agree on every name are one
+-- specific visits of the same names are equal
 pub same_specific : (dirs files dirs' files' : Name → Bool) → ((name : Name) → dirs name ≡ dirs' name) → ((name : Name) → files name ≡ files' name) → specific dirs files ≡ specific dirs' files'
 same_specific dirs files dirs' files' d f = λ i. specific (λ name. d name i) (λ name. f name i)

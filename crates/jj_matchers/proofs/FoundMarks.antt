@@ -1,4 +1,4 @@
--- A walk finds exactly the marks below the root that are accepted, in path order.
+-- `files_of` contains exactly the marks below the root that are accepted, in path order.
 use Rattle.std.proofs.Common.{◌≡◌, ◌≢◌, ◌<◌, ℕ, zero, suc, Bool, true, false, ◌&&◌, cond, List, [], ◌∷◌, length, map, filter, Contains, Option, Some, None, option_map, unwrap_or, is_lt, get_or, refl, ap, subst, sym, ◌∙◌, arith, true≢false}
 use Rattle.std.specs.List.{AllByRecursion}
 use Rattle.std.specs.List.Sorted.{IsStrictlySortedBy}
@@ -17,7 +17,7 @@ use Rattle.jj_matchers.specs.Walk.{files_of, is_file, paths_where}
 equal≢less : Equal ≡ Less → ⊥
 equal≢less h = true≢false (sym (ap is_lt h))
 
--- 1. Nodes that pass a test.
+-- 1. Nodes that satisfy a predicate.
 
 module _ {V : Type 0} (test : NodeAt V → Bool) where
   Contains-node : (node : NodeAt V) (nodes : List (NodeAt V)) → Contains (node ∷ nodes) node
@@ -26,14 +26,14 @@ module _ {V : Type 0} (test : NodeAt V → Bool) where
   Contains-rest : (node other : NodeAt V) (nodes : List (NodeAt V)) → Contains nodes other → Contains (node ∷ nodes) other
   Contains-rest node other nodes h = (suc h.0, omega (arith, h.1), h.2)
 
-  -- a path that is listed is that of a node that passes
+  -- a path is on the filtered list if and only if it is that of a node that satisfies the predicate
   abbrev Passing : List (NodeAt V) → Path → Type 0
   Passing nodes path = (node : NodeAt V) × Contains nodes node × (node.path ≡ path) × (test node ≡ true)
 
   later : (node : NodeAt V) (nodes : List (NodeAt V)) (path : Path) → Passing nodes path → Passing (node ∷ nodes) path
   later node nodes path p = (p.0, Contains-rest node p.0 nodes p.1, p.2, p.3)
 
-  -- the first node passes
+  -- the first node satisfies the predicate
   here : (node : NodeAt V) (nodes : List (NodeAt V)) (path : Path) → ((j : ℕ) → j < length (paths_where test nodes) → get_or (paths_where test nodes) j path ≡ path → Passing nodes path)
       → (k : ℕ) → test node ≡ true → k < length (node.path ∷ paths_where test nodes) → get_or (node.path ∷ paths_where test nodes) k path ≡ path → Passing (node ∷ nodes) path
   here node nodes path deep zero e m i = (node, Contains-node node nodes, i, e)

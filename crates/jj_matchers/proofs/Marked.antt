@@ -1,4 +1,4 @@
--- A tree to which a mark is set.
+-- Setting a mark in a tree of marked paths.
 use Rattle.std.proofs.Common.{◌≡◌, ◌≢◌, Bool, true, false, [], ◌∷◌, ◌++◌, Some, None, Option, refl, ap, sym, ◌∙◌, append_assoc, append-nil}
 use mathlib.Core.Bool.{false≢true}
 use Rattle.std.specs.Option.{option_map, option_and_then}
@@ -11,14 +11,14 @@ use Rattle.jj_matchers.proofs.Marks.{get-append}
 abbrev pub IsBlank : Bool → Type 0
 IsBlank mark = mark ≡ false
 
--- the path has a mark, every other value is kept, and further values are at most blank ones on the fronts of the path
+-- the path is marked, all other values are unchanged, and beyond them there are at most unmarked ancestors of the path
 pub record IsMarkedAt (old : Tree Bool) (path : Path) (new : Tree Bool) : Type 0 where
   pub here : value_at new path ≡ Some true
   pub keeps : (q : Path) (v : Bool) → q ≢ path → value_at old q ≡ Some v → value_at new q ≡ Some v
   pub makes : (q : Path) (v : Bool) → q ≢ path → value_at old q ≡ None → value_at new q ≡ Some v → IsBlank v × ((rest : Path) × (path ≡ q ++ rest))
 
 module _ (old new : Tree Bool) (path : Path) (set : IsMarkedAt old path new) where
-  -- a front of a path with a value has one
+  -- ancestors of a node are nodes
   front_has : (front rest : Path) (v : Bool) → value_at new (front ++ rest) ≡ Some v → value_at new front ≡ None → ⊥
   front_has front rest v e missing = by_node (get new front) refl
     where
@@ -38,7 +38,7 @@ module _ (old new : Tree Bool) (path : Path) (set : IsMarkedAt old path new) whe
       ne : p ≢ path
       ne same = let clash : Some false ≡ Some true = sym blank ∙ ap (value_at new) same ∙ set.here in cc
 
-      -- the old tree had no child there either
+      -- the old tree had no child here either
       old_child : (next : Name) → value_at old (above ++ name ∷ next ∷ []) ≡ None
       old_child next = by_value (value_at old q) refl (path_eq q path) refl
         where

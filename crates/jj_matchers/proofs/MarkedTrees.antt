@@ -1,4 +1,4 @@
--- The marked tree grows by a mark at a time, no order of the marks changes it, and it answers as the list of its marks.
+-- The tree of a list of marks: built one mark at a time, in any order, with the marked paths of the list.
 use Rattle.std.proofs.Common.{◌≡◌, ◌≢◌, ◌⊎◌, inl, inr, Option, Some, None, IsSome, ◌∙◌, Bool, true, false, List, [], ◌∷◌, ◌++◌, refl, ap, sym, subst, append_assoc, append-nil, lit<}
 use Rattle.std.specs.Prelude.{Contains}
 use mathlib.Core.Bool.{false≢true}
@@ -19,12 +19,12 @@ use Rattle.jj_matchers.specs.Wanted.{is_wanted, HasSamePaths}
 use Rattle.jj_matchers.proofs.Marks.{is_wanted-marked}
 use Rattle.jj_matchers.proofs.Wanted.{Decides-is_wanted, same_members}
 
--- 1. Marks, one after another.
+-- 1. Insertion of marks, one after another.
 
 not_some_none : (X : Type 0) → IsSome {T = X} None → ⊥
 not_some_none X e = absurd (false≢true e)
 
--- two paths are the same, or they are not
+-- equality of paths is decidable
 same_or_not : (p q : Path) → (p ≡ q) ⊎ (p ≢ q)
 same_or_not [] [] = inl refl
 same_or_not [] (n ∷ q) = inr (λ e. cc)
@@ -39,7 +39,7 @@ same_or_not (m ∷ p) (n ∷ q) = by_name (bytes_eq m n) refl (same_or_not p q)
     by_name true is rest = by_rest ((bytes_eq-Decides m n).0 is) rest
     by_name false is rest = inr (λ all. false≢true (sym is ∙ (bytes_eq-Decides m n).1 cc))
 
--- the value of a node that is there
+-- the value of an existing node
 pub value_there : (t : Tree Bool) (q : Path) → IsSome (get t q) → (v : Bool) × (value_at t q ≡ Some v)
 value_there t q there = known (get t q) there
   where
@@ -54,7 +54,7 @@ there_by_value t q v is = known (get t q) is
     known None h = absurd (none-some _ h)
     known (Some node) h = refl
 
--- a tree of one node that is not marked has no marks
+-- the tree of an unmarked root is that of no marks
 pub marked_start : (t : Tree Bool) → t.value ≡ false → t.branches ≡ none → IsMarkedTree [] t
 marked_start t unmarked bare = record {
   ordered = ap is_ordered bare;
@@ -127,7 +127,7 @@ marked_step is_new unmarked marks path old new before set = record {
         by_part (inl old_mark) = let (v, was) = value_there old q ((before.nodes q).1 (inr (rest, old_mark))) in there_by_value new q v (set.keeps q v off was)
         by_part (inr one) = holds_fronts Bool new q rest (there_by_value new (q ++ rest) true (ap (value_at new) (the_one path (q ++ rest) one) ∙ set.here))
 
--- the same marks in another order
+-- the order of the marks makes no difference
 pub marked_permutation : (xs ys : List Path) (t : Tree Bool) → IsPermutation xs ys → IsMarkedTree xs t → IsMarkedTree ys t
 marked_permutation xs ys t moved marked = record {
   ordered = marked.ordered;
@@ -161,7 +161,7 @@ module _ (marks : List Path) (tree : Tree Bool) (marked : IsMarkedTree marks tre
       from : (path : Path) → is_wanted marks path ≡ true → is_marked tree path ≡ true
       from path h = ap is_some_true ((marked.marked path).1 ((Decides-is_wanted marks path).0 h))
 
-  -- each node but the root leads to a mark
+  -- every leaf except the root is marked
   pub marked-leads : LeadsToMarks tree
   marked-leads above name blank no_child = by_mark ((marked.nodes path).0 (there_by_value tree path false blank))
     where

@@ -1,4 +1,4 @@
--- A tree of marks answers as the list of its marked paths.
+-- Queries of a tree of marked paths agree with those of the list of the marks.
 use Rattle.std.proofs.Common.{◌≡◌, Bool, true, false, ◌||◌, List, [], ◌∷◌, ◌++◌, Option, Some, None, map, refl, ap, sym, ◌∙◌, append_assoc, append-nil, inl, inr, if◌then◌else◌}
 use mathlib.Core.Bool.{false≢true}
 use Rattle.std.specs.Cmp.{both_ways}
@@ -19,7 +19,7 @@ use Rattle.jj_matchers.specs.Marks.{is_some_true, is_marked, marked_paths, Leads
 use Rattle.jj_matchers.proofs.Wanted.{is_below-append, is_at_or_below-append, below_base, below_dir}
 
 module _ {V : Type 0} where
-  -- the node at a path below another
+  -- the node at a path relative to another node
   pub get-append : (tree : Tree V) (dir rest : Path) → get tree (dir ++ rest) ≡ option_and_then (λ node. get node rest) (get tree dir)
   get-append tree [] rest = refl
   get-append tree (name ∷ dir) rest = by_child (child tree.branches name) (λ sub. get-append sub dir rest)
@@ -39,7 +39,7 @@ module _ {V : Type 0} where
       itself None = refl
       itself (Some sub) = refl
 
-  -- each path with a value is among the paths of the nodes
+  -- a path with a node is among the paths of the nodes
   pub path_listed : (b : Branches V) (dir : Path) (name : Name) (rest : Path) (sub : Tree V) (v : V) → option_and_then (λ n. get n rest) (child b name) ≡ Some sub →
       list_any (path_eq (dir ++ name ∷ rest)) (map (λ (found : NodeAt V). found.path) (nodes_under dir b)) ≡ true
   path_listed none dir name rest sub v e = absurd (no_node e)
@@ -72,7 +72,7 @@ module _ {V : Type 0} where
           let found : option_and_then (λ n. get n rest) (child after name) ≡ Some sub = rw differs at h in
           or_right _ _ (split (dir ++ name ∷ rest) ∙ or_right _ _ (later found))
 
--- a tree has a mark where its list has the path
+-- a path is marked if and only if it is on the list of marked paths
 module _ where
   any_filter : (keep test : Path → Bool) (path : Path) → keep path ≡ true → test path ≡ true → (xs : List Path) → list_any (path_eq path) xs ≡ true → list_any test (filter keep xs) ≡ true
   any_filter keep test path k t [] h = absurd (false≢true h)
@@ -85,7 +85,7 @@ module _ where
       at_later true is later = rw is (or_right (test x) (list_any test (filter keep xs)) later)
       at_later false is later = rw is later
 
-  -- something of a list that passes a test
+  -- an element of a filtered list that satisfies a predicate
   pub found_in : (keep test : Path → Bool) (xs : List Path) → list_any test (filter keep xs) ≡ true → (x : Path) × ((keep x ≡ true) × (test x ≡ true))
   found_in keep test [] h = absurd (false≢true h)
   found_in keep test (x ∷ xs) h = by_keep (keep x) refl (found_in keep test xs)
@@ -94,7 +94,7 @@ module _ where
       by_keep true is further = elim (or_cases (test x) (list_any test (filter keep xs)) (rw is at h)) [ inl e ↦ (x, (is, e)) | inr e ↦ further e ]
       by_keep false is further = further (rw is at h)
 
-  -- a path with a mark is among the paths of the nodes
+  -- a marked path is among the paths of the nodes
   listed : (tree : Tree Bool) (path : Path) → is_marked tree path ≡ true → list_any (path_eq path) ([] ∷ map (λ (found : NodeAt Bool). found.path) (nodes_under [] tree.branches)) ≡ true
   listed tree [] marked = refl
   listed tree (name ∷ rest) marked = by_node (get tree (name ∷ rest)) refl
@@ -115,7 +115,7 @@ module _ where
       (λ h. let found = any_marked tree (path_eq path) h in ap (is_marked tree) ((path_eq-Decides path found.0).0 found.1.1) ∙ found.1.0)
       (λ h. marked_any tree (path_eq path) path h ((path_eq-Decides path path).1 refl))
 
--- the mark of a node that is there, or is not
+-- whether a path is marked, by the node there
 pub marked_at : (tree : Tree Bool) (path : Path) (o : Option (Tree Bool)) → get tree path ≡ o → is_marked tree path ≡ passes has_mark o
 marked_at tree path None e = ap (λ o. is_some_true (option_map (λ (node : Tree Bool). node.value) o)) e
 marked_at tree path (Some node) e = ap (λ o. is_some_true (option_map (λ (node : Tree Bool). node.value) o)) e
@@ -128,13 +128,13 @@ no_branches none e = refl
 no_branches (branch n value below after) e = absurd (false≢true (sym e))
 
 module _ (tree : Tree Bool) (leads : LeadsToMarks tree) where
-  -- a node below the root has a mark or a child
+  -- a node below the root is marked or has a child
   not_idle : (dir : Path) (name : Name) → get tree (dir ++ name ∷ []) ≡ Some (tree_of false none) → ⊥
   not_idle dir name e =
       leads dir name (ap (option_map (λ (node : Tree Bool). node.value)) e)
       (λ next. ap (option_map (λ (node : Tree Bool). node.value)) (ap (get tree) (sym (append_assoc dir (name ∷ []) (next ∷ []))) ∙ get-below tree (tree_of false none) (dir ++ name ∷ []) (next ∷ []) e))
 
-  -- a node with children leads to a mark
+  -- below a node with children there is a mark
   mark_below : (b : Branches Bool) (dir : Path) (v : Bool) → get tree dir ≡ Some (tree_of v b) → has_branches b ≡ true → (name : Name) × ((rest : Path) × (is_marked tree (dir ++ name ∷ rest) ≡ true))
   mark_below none dir v e h = absurd (false≢true h)
   mark_below (branch n value below after) dir v e h = by_value value below here (mark_below below (dir ++ n ∷ []) value here)
@@ -147,7 +147,7 @@ module _ (tree : Tree Bool) (leads : LeadsToMarks tree) where
       by_value false none is deeper = absurd (not_idle dir n is)
       by_value false (branch m u x y) is deeper = let found = deeper refl in (n, (found.0 ∷ found.1.0, ap (is_marked tree) (sym (append_assoc dir (n ∷ []) (found.0 ∷ found.1.0))) ∙ found.1.1))
 
-  -- below a node that is there
+  -- an existing node leads to marks if and only if it has children
   pub leads-get : (dir : Path) (node : Tree Bool) → get tree dir ≡ Some node → leads_to_wanted (marked_paths tree) dir ≡ has_branches node.branches
   leads-get dir node e =
       both_ways (leads_to_wanted (marked_paths tree) dir) (has_branches node.branches)
@@ -196,7 +196,7 @@ module _ (tree : Tree Bool) (leads : LeadsToMarks tree) where
           false≢true (sym (missing_below p below.0 is) ∙ ap (is_marked tree) (sym below.1) ∙ found.1.0)))
       by_child (Some sub) is = sym (there sub.value sub.branches is)
 
-  -- a node has children where one of them has a mark or children
+  -- a node has children if and only if one of them is marked or has children
   files_or_dirs : (dir : Path) (v : Bool) (b : Branches Bool) → get tree dir ≡ Some (tree_of v b) → (any_child has_children b || any_child has_mark b) ≡ has_branches b
   files_or_dirs dir v none e = refl
   files_or_dirs dir v (branch n value below after) e = by_value value below (get-child tree (tree_of v (branch n value below after)) dir n e ∙ child-first n value below after)
@@ -210,7 +210,7 @@ module _ (tree : Tree Bool) (leads : LeadsToMarks tree) where
   nodes_or_marks none = refl
   nodes_or_marks (branch n value below after) = refl
 
-  -- the answers of a node are those of the list of marked paths
+  -- the visits at a node are those of the list of marked paths
   pub files_are : (dir : Path) (node : Tree Bool) → get tree dir ≡ Some node → children_answer has_children has_mark node.branches ≡ files_answer (marked_paths tree) dir
   files_are dir node e =
       let some : (any_child has_children node.branches || any_child has_mark node.branches) ≡ leads_to_wanted (marked_paths tree) dir = files_or_dirs dir node.value node.branches e ∙ sym (leads-get dir node e) in
@@ -233,7 +233,7 @@ module _ (tree : Tree Bool) (leads : LeadsToMarks tree) where
       let none_below : nothing ≡ below_answer dir = ap (λ b. if b then specific (λ name. leads_to_prefix (marked_paths tree) (dir ++ name ∷ [])) (λ name. is_wanted (marked_paths tree) (dir ++ name ∷ [])) else nothing) (sym (leads-none dir e)) in
       none_below ∙ ap (λ b. if b then all_recursively else below_answer dir) (sym refused)
 
--- a marked node on the way to a path
+-- a marked node on the way to a path is a marked ancestor
 on_the_way : (path : Path) (tree : Tree Bool) → list_any (λ (step : Tree Bool × Path). step.0.value) (nodes_on tree path) ≡ true → (front : Path) × ((rest : Path) × ((path ≡ front ++ rest) × (is_marked tree front ≡ true)))
 on_the_way [] tree h = ([], ([], (refl, elim (or_cases tree.value false h) [ inl e ↦ e | inr e ↦ absurd (false≢true e) ])))
 on_the_way (name ∷ path) tree h =

@@ -1,4 +1,4 @@
--- What two sets without names tell of the paths below a directory.
+-- Soundness of a specific visit without names.
 use Rattle.std.proofs.Common.{◌≡◌, Bool, true, false, List, [], ◌∷◌, ◌++◌, ap, sym, ◌∙◌}
 use mathlib.Core.Bool.{false≢true}
 use Rattle.std.proofs.lemmas.Bool.{false_from_ne_true}
@@ -6,7 +6,7 @@ use Rattle.jj_paths.specs.Paths.{Name, Path}
 use Rattle.jj_matchers.specs.Answers.{NamesAll}
 use Rattle.jj_matchers.specs.Visits.{is_among}
 
--- where neither set has a name, no path below the directory is accepted
+-- if neither set has a name, no path below the directory is accepted
 pub none_accepted : (dirs files : List Name) → dirs ≡ [] → files ≡ [] → (accepts opens : Path → Bool) (dir : Path) → NamesAll accepts opens dir (is_among dirs) (is_among files) → (name : Name) (rest : Path) → accepts (dir ++ name ∷ rest) ≡ false
 none_accepted dirs files no_dirs no_files accepts opens dir named name rest = false_from_ne_true (accepts (dir ++ name ∷ rest)) (refused rest)
   where

@@ -1,4 +1,4 @@
--- Globs that are added to those of a directory, in a tree of globs.
+-- Appending globs to those of a directory in a trie of globs.
 use Rattle.std.proofs.Common.{◌≡◌, ◌≢◌, ◌∙◌, ap, sym, refl, Bool, true, false, ◌&&◌, ◌||◌, List, [], ◌∷◌, ◌++◌, map, Option, Some, None}
 use mathlib.Core.Bool.{false≢true}
 use Rattle.std.specs.Prelude.{All}
@@ -15,7 +15,7 @@ use Rattle.jj_matchers.specs.PatternTree.{has_globs, marks_of, globs_or_none, gl
 use Rattle.jj_matchers.proofs.Marked.{IsBlank, IsMarkedAt, leads-set}
 use Rattle.jj_matchers.proofs.PatternTrees.{value_at-marks}
 
--- a directory that is made has no globs
+-- the globs of a directory that was inserted as an ancestor: none
 abbrev pub IsBare : List GlobSpec → Type 0
 IsBare globs = globs ≡ []
 
@@ -63,7 +63,7 @@ module _ (old new : Tree (List GlobSpec)) (dir : Path) (globs all : List GlobSpe
     leads = leads-set (marks_of old) (marks_of new) dir marked;
   }
 
--- patterns of one directory, asked of a directory
+-- patterns that are all of one directory
 any_here : {X : Type 0} (f : X → Path × GlobSpec) (dir path : Path) (test : GlobSpec → Bool) (here : List X) → All (λ x. (f x).0 ≡ dir) here
     → list_any (λ p. path_eq path p.0 && test p.1) (map f here) ≡ (path_eq path dir && list_any test (map (λ x. (f x).1) here))
 any_here f dir path test [] same = by_cases (path_eq path dir)
@@ -98,7 +98,7 @@ any_added old new dir globs adds path test = by_path (path_eq path dir) refl
     by_path false e =
         ap (list_any test) (adds.others path (λ same. false≢true (sym e ∙ (path_eq-Decides path dir).1 same))) ∙ sym (or_false (list_any test (globs_at old path)))
 
--- a tree of patterns to which those of a directory are added
+-- appending the globs of a run of patterns extends the trie of the patterns before it
 pub pattern_tree-more : {X : Type 0} (f : X → Path × GlobSpec) (before here : List X) (old new : Tree (List GlobSpec)) (dir : Path) → All (λ x. (f x).0 ≡ dir) here
     → IsPatternTree (map f before) old → AddsGlobs old dir (map (λ x. (f x).1) here) new → IsPatternTree (map f (before ++ here)) new
 pattern_tree-more f before here old new dir same tree adds = record {

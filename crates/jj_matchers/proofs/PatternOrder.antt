@@ -1,5 +1,5 @@
--- Globs in the order of their fronts: with those whose front is at most a text go all that can fit it, and the last of them
--- tells with how much of the text the others can begin.
+-- Search among globs sorted by literal prefix: all matches have a literal prefix that is at most the path, and the greatest of
+-- these bounds the common prefix of the path and the others.
 use Rattle.std.proofs.Common.{inl, ◌≡◌, ◌∙◌, ap, sym, subst, refl, ℕ, ◌+◌, ◌<◌, ◌≤◌, zero, suc, Bool, true, false, cond, ◌==◌, ◌||◌, List, [], ◌∷◌, ◌++◌, length, take, get_or, arith, nat_eq, nat_lt, if◌then◌else◌}
 use mathlib.Core.Bool.{false≢true}
 use Rattle.std.specs.List.{list_any, list_all, filter, common_prefix_len}
@@ -15,12 +15,12 @@ use Rattle.jj_globs.proofs.GlobFront.{prefix_match_fronted}
 use Rattle.jj_matchers.specs.PatternOrder.{is_at_most, is_in_order, fits_text}
 use Rattle.jj_matchers.proofs.PatternTexts.{Tells-is_match, Tells-is_prefix_match}
 
--- 1. Bytes in their order.
+-- 1. Lexicographic order of byte strings.
 
 itself : (x : ℕ) → (x == x) ≡ true
 itself x = (Decides-eqb x x).1 refl
 
--- one byte and what follows
+-- transitivity at the first byte
 less_then : (x y z : ℕ) (p q r : Bool) → (p ≡ true → q ≡ true → r ≡ true) → (if x == y then p else nat_lt x y) ≡ true → (if y == z then q else nat_lt y z) ≡ true → (if x == z then r else nat_lt x z) ≡ true
 less_then x y z p q r f h g = grind (arith, f)
 
@@ -35,7 +35,7 @@ at_most_itself : (a : List ℕ) → is_at_most a a ≡ true
 at_most_itself [] = refl
 at_most_itself (x ∷ a) = ap (λ t. if t then is_at_most a a else nat_lt x x) (itself x) ∙ at_most_itself a
 
--- a front of a text is at most the text
+-- a prefix is at most the whole
 front_at_most : (a rest : List ℕ) → is_at_most a (a ++ rest) ≡ true
 front_at_most [] rest = refl
 front_at_most (x ∷ a) rest = ap (λ t. if t then is_at_most a (a ++ rest) else nat_lt x x) (itself x) ∙ front_at_most a rest
@@ -43,7 +43,7 @@ front_at_most (x ∷ a) rest = ap (λ t. if t then is_at_most a (a ++ rest) else
 begins_at_most : (front bytes : List ℕ) → BeginsWith bytes front → is_at_most front bytes ≡ true
 begins_at_most front bytes (rest, is) = ap (is_at_most front) is ∙ front_at_most front rest
 
--- both begin with all of a front
+-- the common prefix of a prefix and the whole is the prefix
 shared_all : (a rest : List ℕ) → common_prefix_len nat_eq a (a ++ rest) ≡ length a
 shared_all [] rest = refl
 shared_all (x ∷ a) rest = ap (λ t. cond t (1 + common_prefix_len nat_eq a (a ++ rest)) 0) (itself x) ∙ (let e = shared_all a rest in omega (arith, e))
@@ -51,7 +51,7 @@ shared_all (x ∷ a) rest = ap (λ t. cond t (1 + common_prefix_len nat_eq a (a 
 pub begins_shared : (front bytes : List ℕ) → BeginsWith bytes front → common_prefix_len nat_eq front bytes ≡ length front
 begins_shared front bytes (rest, is) = ap (common_prefix_len nat_eq front) is ∙ shared_all front rest
 
--- a front with all of which the bytes begin
+-- a string whose common prefix with the bytes is all of it is a prefix, so at most the bytes
 pub full_at_most : (front bytes : List ℕ) → length front ≤ common_prefix_len nat_eq front bytes → is_at_most front bytes ≡ true
 full_at_most [] bytes le = refl
 full_at_most (x ∷ front) [] le = absurd (omega (arith, le))
@@ -64,7 +64,7 @@ full_at_most (x ∷ front) (y ∷ bytes) le = by_byte (full_at_most front bytes)
         ∙ later (let h = subst (λ t. length (x ∷ front) ≤ cond t (1 + common_prefix_len nat_eq front bytes) 0) e le in omega (arith, h))
     by_byte later false e le = absurd (let h = subst (λ t. length (x ∷ front) ≤ cond t (1 + common_prefix_len nat_eq front bytes) 0) e le in omega (arith, h))
 
--- a text's front that comes before another front that comes before the text is a front of what those two share
+-- a prefix g of a string with g ≤ f ≤ string is a prefix of the common prefix of f and the string
 shared_keeps : (g f rest : List ℕ) → is_at_most g f ≡ true → is_at_most f (g ++ rest) ≡ true → BeginsWith (take (common_prefix_len nat_eq f (g ++ rest)) (g ++ rest)) g
 shared_keeps [] f rest h k = (take (common_prefix_len nat_eq f rest) rest, refl)
 shared_keeps (x ∷ g) [] rest h k = absurd (false≢true h)
@@ -90,9 +90,9 @@ pub shared_of : (g f bytes : List ℕ) → BeginsWith bytes g → is_at_most g f
 shared_of g f bytes (rest, is) h k =
     subst (λ b. BeginsWith (take (common_prefix_len nat_eq f b) b) g) (sym is) (shared_keeps g f rest h (sym (ap (is_at_most f) is) ∙ k))
 
--- 2. Globs in order.
+-- 2. Sorted globs.
 
--- a text that fits begins with the front
+-- a match starts with the literal prefix
 pub fits_begins : (prefix_paths : Bool) (text : List ℕ) (glob : GlobSpec) → fits_text prefix_paths glob text ≡ true → BeginsWith text (front_of glob)
 fits_begins true text glob h = prefix_match_fronted glob text ((Tells-is_prefix_match glob text).0 h)
 fits_begins false text glob h = prefix_match_fronted glob text (inl ((Tells-is_match glob text).0 h))
@@ -132,7 +132,7 @@ shorter_filter keep (x ∷ xs) = by_test (keep x) (shorter_filter keep xs)
     by_test true later = omega (arith, later)
     by_test false later = omega (arith, later)
 
--- where the last is kept, all are
+-- all literal prefixes are at most the last one
 order_last : (before : List GlobSpec) (last : GlobSpec) → is_in_order (before ++ last ∷ []) ≡ true → list_all (λ glob. is_at_most (front_of glob) (front_of last)) before ≡ true
 order_last [] last h = refl
 order_last (g ∷ before) last h =
@@ -178,7 +178,7 @@ order_push (g ∷ before) last more h le =
         and_from _ _ (and_parts _ _ h).0 (and_from _ _ (at_most_by (front_of g) (front_of last) (front_of more) (and_parts _ _ h).0 le) refl)
     more_all (x ∷ gs) h = and_from _ _ (and_parts _ _ h).0 (more_all gs (and_parts _ _ h).1)
 
--- one more glob leaves them in order exactly where its front is not before the last one's
+-- a list with an appended glob is sorted if and only if its literal prefix is not less than the last one
 pub order_with : (before : List GlobSpec) (last more : GlobSpec) → is_in_order (before ++ last ∷ []) ≡ true → is_at_most (front_of last) (front_of more) ≡ is_in_order ((before ++ last ∷ []) ++ more ∷ [])
 order_with before last more h =
     both_ways (is_at_most (front_of last) (front_of more)) (is_in_order ((before ++ last ∷ []) ++ more ∷ [])) (order_push before last more h) (λ order. at_end before (order_last (before ++ last ∷ []) more order))
@@ -187,7 +187,7 @@ order_with before last more h =
     at_end [] h = (and_parts _ _ h).0
     at_end (x ∷ gs) h = at_end gs (and_parts _ _ h).1
 
--- 3. Globs of which those that pass a test have fronts with which the bytes begin.
+-- 3. The search, for a predicate that requires the literal prefix of a glob to be a prefix of the bytes.
 
 module _ (test : GlobSpec → Bool) where
   abbrev pub AreNear : List ℕ → List GlobSpec → Type 0
@@ -198,7 +198,7 @@ module _ (test : GlobSpec → Bool) where
   near_all bytes f [] = tt
   near_all bytes f (g ∷ globs) = (f g, near_all bytes f globs)
 
-  -- those that are left out do not pass
+  -- globs with a literal prefix greater than the bytes do not satisfy it
   any_up_to : (bytes : List ℕ) (globs : List GlobSpec) → AreNear bytes globs → list_any test (filter (is_up_to bytes) globs) ≡ list_any test globs
   any_up_to bytes [] near = refl
   any_up_to bytes (g ∷ globs) near = by_front (any_up_to bytes globs near.1) (is_up_to bytes g) refl
@@ -228,7 +228,7 @@ module _ (test : GlobSpec → Bool) where
   near_before bytes (g ∷ before) last order upto near =
       ((λ h. shared_of (front_of g) (front_of last) bytes (near.0 h) (and_parts _ _ order).0 upto), near_before bytes before last (and_parts _ _ order).1 upto near.1)
 
-  -- what the loop keeps: of what is left, those that pass are those of all
+  -- loop invariant: a remaining glob satisfies the predicate if and only if any does
   pub record Narrows (all left : List GlobSpec) (bytes : List ℕ) : Type 0 where
     pub same : list_any test left ≡ list_any test all
     pub order : is_in_order left ≡ true
@@ -244,7 +244,7 @@ module _ (test : GlobSpec → Bool) where
     all_by_last : list_any test all ≡ (list_any test before || (test last || false))
     all_by_last = sym held.same ∙ ap (list_any test) split ∙ list_any-append test before (last ∷ [])
 
-    -- the last passes
+    -- the last glob satisfies the predicate
     pub passes_last : test last ≡ true → list_any test all ≡ true
     passes_last h = all_by_last ∙ ap (λ t. list_any test before || (t || false)) h ∙ or_true (list_any test before)
       where
@@ -259,7 +259,7 @@ module _ (test : GlobSpec → Bool) where
         or_false true = refl
         or_false false = refl
 
-    -- the last does not pass, or the bytes do not begin with all of its front
+    -- the last glob does not satisfy the predicate, or its literal prefix is no prefix of the bytes
     pub narrows_before : is_up_to bytes last ≡ true → (test last ≡ true → common_prefix_len nat_eq (front_of last) bytes ≡ length (front_of last) → ⊥) →
         Narrows all before (take (common_prefix_len nat_eq (front_of last) bytes) bytes)
     narrows_before upto fails = record {
@@ -275,7 +275,7 @@ module _ (test : GlobSpec → Bool) where
         nears [] n = tt
         nears (g ∷ gs) n = (n.0, nears gs n.1)
 
-    -- the front of the last is past the bytes
+    -- the literal prefix of the last glob is greater than the bytes
     pub narrows_up_to : is_up_to bytes last ≡ false → Narrows all (filter (is_up_to bytes) before) bytes
     narrows_up_to past = record {
       same = any_up_to bytes before front_near

@@ -1,4 +1,4 @@
--- The answers of a set of patterns are sound, and its test of paths is its meaning.
+-- Soundness of the visits of a set of patterns, and equivalence of `is_accepted` and `IsAccepted`.
 use Rattle.std.proofs.Common.{◌≡◌, ◌∙◌, ap, sym, subst, refl, Bool, true, false, ◌&&◌, [], ◌∷◌, ◌++◌, append_assoc, inl, inr, if◌then◌else◌}
 use mathlib.Core.Bool.{false≢true}
 use Rattle.std.specs.List.{list_any}
@@ -23,7 +23,7 @@ pub tail_passes-append : (test : Path → Bool) (dir tail : Path) → tail_passe
 tail_passes-append test [] tail = refl
 tail_passes-append test (d ∷ dir) tail = ap (λ b. b && tail_passes dir test (dir ++ tail)) ((bytes_eq-Decides d d).1 refl) ∙ tail_passes-append test dir tail
 
--- the tail that has passed
+-- the tail that satisfied the predicate
 pub record Passed (test : Path → Bool) (dir path : Path) : Type 0 where
   pub tail : Path
   pub is : path ≡ dir ++ tail
@@ -40,17 +40,17 @@ passed test (d ∷ dir) (p ∷ path) h =
 pub passes : (test : Path → Bool) (dir path : Path) → Passed test dir path → tail_passes dir test path ≡ true
 passes test dir path p = ap (tail_passes dir test) p.is ∙ tail_passes-append test dir p.tail ∙ p.passes
 
--- the text of a path below another
+-- the string of a path below another
 path_text-below : (name : Name) (path : Path) (next : Name) (rest : Path) → path_text (name ∷ (path ++ next ∷ rest)) ≡ path_text (name ∷ path) ++ 47 ∷ path_text (next ∷ rest)
 path_text-below name [] next rest = refl
 path_text-below name (p ∷ path) next rest = ap (λ l. name ++ 47 ∷ l) (path_text-below p path next rest) ∙ sym (append_assoc name (47 ∷ path_text (p ∷ path)) (47 ∷ path_text (next ∷ rest)))
 
--- what lies below a tail that a glob covers is accepted
+-- all paths below a covered tail are accepted
 covers_below : (g : GlobSpec) (tail : Path) (name : Name) (rest : Path) → covers_tail g tail ≡ true → accepts_tail true g (tail ++ name ∷ rest) ≡ true
 covers_below g [] name rest h = stars_fit g h (path_text (name ∷ rest))
 covers_below g (t ∷ tail) name rest h = ap (is_prefix_match g) (path_text-below t tail name rest) ∙ prefix_match_below g (path_text (t ∷ tail)) (path_text (name ∷ rest)) h
 
--- a child whose path goes through a directory and further lies in it or below it
+-- a child below a base is in a directory at or below the base
 child_within : (base dir : Path) (name first : Name) (tail : Path) → dir ++ name ∷ [] ≡ base ++ first ∷ tail → is_at_or_below base dir ≡ true
 child_within [] dir name first tail e = refl
 child_within (b ∷ base) [] name first tail e = absurd (too_long base (let rest : [] ≡ base ++ first ∷ tail = cc in rest))
@@ -66,18 +66,18 @@ child_within (b ∷ base) (d ∷ dir) name first tail e =
 -- 2. Sets.
 
 module _ (set : Patterns) where
-  -- something of the directories, found by their patterns
+  -- a pattern's directory satisfies a predicate if and only if one of the directories does
   any_dir : (test : Path → Bool) → list_any (λ (pattern : Path × GlobSpec). test pattern.0) set.patterns ≡ list_any test (pattern_dirs set)
   any_dir test = list_any-map (λ (pattern : Path × GlobSpec). pattern.0) test set.patterns
 
-  -- an accepted path lies below a pattern's directory
+  -- an accepted path is at or below a pattern's directory
   accepted_below : (path : Path) → is_accepted set path ≡ true → has_prefix (pattern_dirs set) path ≡ true
   accepted_below path h =
       sym (any_dir (λ dir. is_at_or_below dir path))
       ∙ any_implies (λ (pattern : Path × GlobSpec). tail_passes pattern.0 (accepts_tail set.prefix_paths pattern.1) path) (λ (pattern : Path × GlobSpec). is_at_or_below pattern.0 path)
       (λ pattern e. let p = passed (accepts_tail set.prefix_paths pattern.1) pattern.0 path e in ap (is_at_or_below pattern.0) p.is ∙ is_at_or_below-append pattern.0 p.tail) set.patterns h
 
-  -- strictly below it
+  -- an accepted child is in a directory at or below a pattern's directory
   accepted_child : (dir : Path) (name : Name) → is_accepted set (dir ++ name ∷ []) ≡ true → has_prefix (pattern_dirs set) dir ≡ true
   accepted_child dir name h =
       sym (any_dir (λ d. is_at_or_below d dir))
@@ -88,7 +88,7 @@ module _ (set : Patterns) where
       by_tail pattern [] is e = absurd (false≢true e)
       by_tail pattern (first ∷ tail) is e = child_within pattern.0 dir name first tail is
 
-  -- below a covered directory everything is accepted
+  -- all paths below a covered directory are accepted
   covered_below : (dir : Path) → is_covered set dir ≡ true → (name : Name) (rest : Path) → is_accepted set (dir ++ name ∷ rest) ≡ true
   covered_below dir h name rest =
       let parts = and_parts set.prefix_paths (list_any (λ (pattern : Path × GlobSpec). tail_passes pattern.0 (covers_tail pattern.1) dir) set.patterns) h in
@@ -127,7 +127,7 @@ module _ (set : Patterns) where
       by_cases false false false c w l = λ name rest. false_from_ne_true _ (λ h. false≢true (sym l ∙ prefix_below (pattern_dirs set) dir name rest w (accepted_below (dir ++ name ∷ rest) h)))
 
 module _ (set : Patterns) where
-  -- the answer below a directory that no pattern covers and that has none above
+  -- the visit of a directory that is not covered and has no patterns at or above it
   abbrev pub answer_below : Path → Answer
   answer_below dir = if leads_to_wanted (pattern_dirs set) dir then specific (λ name. leads_to_prefix (pattern_dirs set) (dir ++ name ∷ [])) (λ name. false) else nothing
 
@@ -137,7 +137,7 @@ module _ (set : Patterns) where
   pub answer_is : (covered within : Bool) (dir : Path) → is_covered set dir ≡ covered → has_prefix (pattern_dirs set) dir ≡ within → answer_by covered within dir ≡ patterns_answer set dir
   answer_is covered within dir c w = λ i. answer_by (sym c i) (sym w i) dir
 
-  -- all names, or those of children on the way to a pattern's directory
+  -- the visit mentions all children, or only children at or above a pattern's directory
   pub patterns_choose : (dir : Path) → ChoosesFrom (names_of (pattern_dirs set)) (patterns_answer set dir)
   patterns_choose dir = by_cases (is_covered set dir) (has_prefix (pattern_dirs set) dir) (leads_to_wanted (pattern_dirs set) dir)
     where
@@ -150,14 +150,14 @@ module _ (set : Patterns) where
   pub told_sound : (dir : Path) (answer : Answer) → answer ≡ patterns_answer set dir → IsSound (is_accepted set) (opens_to_patterns set) dir answer
   told_sound dir answer e = subst (IsSound (is_accepted set) (opens_to_patterns set) dir) (sym e) (patterns_sound set dir)
 
--- 3. The meaning.
+-- 3. Equivalence with `IsAccepted`.
 
 accepts_text : (b : Bool) (g : GlobSpec) (name : Name) (rest : Path) → Decides (accepts_tail b g (name ∷ rest)) (AcceptsText b g (path_text (name ∷ rest)))
 accepts_text false g name rest = Tells-is_match g (path_text (name ∷ rest))
 accepts_text true g name rest = Tells-is_prefix_match g (path_text (name ∷ rest))
 
 module _ (set : Patterns) where
-  -- what a pattern that accepts a path says
+  -- the pattern accepts the path
   abbrev Says : Path → Path × GlobSpec → Type 0
   Says path pattern = (name : Name) × (rest : Path) × (path ≡ pattern.0 ++ name ∷ rest) × AcceptsText set.prefix_paths pattern.1 (path_text (name ∷ rest))
 
@@ -180,7 +180,7 @@ module _ (set : Patterns) where
     (λ found. list_any-from_Any (test_of path) set.patterns (found.0, found.1, found.2, found.3, said path found.1 found.4)),
   )
 
-  -- a sound answer tells of the paths that the globs accept
+  -- soundness in terms of `IsAccepted` follows from soundness
   pub tells_accepted : (dir : Path) (answer : Answer)
       → IsSound (is_accepted set) (opens_to_patterns set) dir answer → TellsAccepted set dir answer
   tells_accepted dir all_recursively sound = λ name rest.

@@ -1,4 +1,4 @@
--- The tests of globs, prefix matches among them, answer what the globs stand for; stars alone fit every text.
+-- Correctness of glob matching and prefix matching, and patterns of only stars, which match everything in prefix mode.
 use Rattle.std.proofs.Common.{◌≡◌, ◌∙◌, ◌↔◌, IsTrue, ap, sym, subst, refl, ℕ, Bool, true, false, not, ◌==◌, ◌&&◌, ◌||◌, ◌⊎◌, inl, inr, List, [], ◌∷◌, ◌++◌, map, reverse, Result, Ok, Err, append_assoc, append-nil, zero}
 use mathlib.Core.Bool.{false≢true}
 use mathlib.Core.List.{reverse_aux}
@@ -74,7 +74,7 @@ Tells-is_prefix_match g bytes = (to, from)
       | inr w ↦ or_right (is_match g bytes) (passes_before_slash (is_match g) [] bytes) (ap (passes_before_slash (is_match g) []) w.2 ∙ at_slash (is_match g) [] w.0 w.1 ((Tells-is_match g w.0).1 w.3))
     ]
 
--- what is below a match matches too
+-- paths below a prefix match are prefix matches
 pub prefix_match_below : (g : GlobSpec) (bytes more : List ℕ) → is_prefix_match g bytes ≡ true → is_prefix_match g (bytes ++ 47 ∷ more) ≡ true
 prefix_match_below g bytes more h = (Tells-is_prefix_match g (bytes ++ 47 ∷ more)).1 (longer ((Tells-is_prefix_match g bytes).0 h))
   where
@@ -84,7 +84,7 @@ prefix_match_below g bytes more h = (Tells-is_prefix_match g (bytes ++ 47 ∷ mo
       | inr w ↦ inr (w.0, w.1 ++ 47 ∷ more, ap (λ x. x ++ 47 ∷ more) w.2 ∙ append_assoc w.0 (47 ∷ w.1) (47 ∷ more), w.3)
     ]
 
--- 3. Stars alone.
+-- 3. Patterns of only stars.
 
 abbrev star_words : List ℕ → List Word
 star_words [] = []
@@ -105,7 +105,7 @@ words-stars (b ∷ text) h =
     let first : b ≡ 42 = (Decides-eqb b 42).0 parts.0 in
     ap (λ x. words (sign_of x ∷ map sign_of text)) first ∙ ap (λ ws. asterisk ∷ ws) (words-stars text parts.1)
 
--- after a star, further stars read as as many stars
+-- after a star, each further star is parsed as one
 read-stars : (text : List ℕ) (b : ℕ) (before : List ℕ) → (all : List ℕ) × (read zero false (part Star ∷ star_tokens before) (star_words text) ≡ Ok (reverse (part Star ∷ star_tokens all)))
 unfolding read
 read-stars [] b before = (before, refl)
@@ -136,7 +136,7 @@ first_stars : (d : ℕ) (text : List ℕ) (b c : ℕ) → read zero false [] (st
 unfolding read
 first_stars d text b c = refl
 
--- two stars are one part, any others as many stars
+-- two stars are parsed as one part, any other number as so many stars
 tokens_of-stars : (text : List ℕ) → is_stars text ≡ true → (tokens_of text ≡ Ok (part Everything ∷ [])) ⊎ ((all : List ℕ) × (tokens_of text ≡ Ok (part Star ∷ star_tokens all)))
 tokens_of-stars [] h = absurd (false≢true h)
 tokens_of-stars (b ∷ []) h =
@@ -179,7 +179,7 @@ all_any : (bytes : List ℕ) → list_all any_byte bytes ≡ true
 all_any [] = refl
 all_any (b ∷ bytes) = all_any bytes
 
--- stars alone stand for all bytes without a slash
+-- a pattern of only stars matches all strings without slashes
 stars_match : (g : GlobSpec) → is_stars g.text ≡ true → (bytes : List ℕ) → list_all is_no_slash bytes ≡ true → is_match g bytes ≡ true
 unfolding is_match
 stars_match g stars bytes plain = elim (tokens_of-stars g.text stars) [
@@ -188,7 +188,7 @@ stars_match g stars bytes plain = elim (tokens_of-stars g.text stars) [
       ∙ many_all (is_plain g.options) (tests_of g.options (star_tokens w.0)).here bytes (all_plain g.options bytes plain) (stars_of_nothing g.options w.0)
 ]
 
--- the front of some bytes up to their first slash
+-- the prefix of a string before its first slash
 up_to_slash : (bytes : List ℕ) → (front : List ℕ) × ((list_all is_no_slash front ≡ true) × ((bytes ≡ front) ⊎ ((rest : List ℕ) × (bytes ≡ front ++ 47 ∷ rest))))
 up_to_slash [] = ([], (refl, inl refl))
 up_to_slash (b ∷ bytes) = by_byte (b == 47) refl (up_to_slash bytes)
@@ -207,7 +207,7 @@ up_to_slash (b ∷ bytes) = by_byte (b == 47) refl (up_to_slash bytes)
       ),
     )
 
--- so they fit every text, or a front of it that a slash follows
+-- a pattern of only stars has a prefix match with every string
 pub stars_fit : (g : GlobSpec) → is_stars g.text ≡ true → (bytes : List ℕ) → is_prefix_match g bytes ≡ true
 stars_fit g stars bytes =
     let up = up_to_slash bytes in
@@ -217,7 +217,7 @@ stars_fit g stars bytes =
       | inr w ↦ inr (up.0, w.0, w.1, m)
     ])
 
--- what a test of a glob and bytes means, asked of the same glob and the same bytes
+-- equal arguments: a decision of the proposition is the result of the predicate
 pub told : (test : GlobSpec → List ℕ → Bool) (M : GlobSpec → List ℕ → Type 0) (answer : Bool) (glob glob' : GlobSpec) (bytes bytes' : List ℕ)
     → Decides (test glob bytes) (M glob bytes) → (IsTrue answer ↔ M glob bytes) → glob ≡ glob' → bytes ≡ bytes' → answer ≡ test glob' bytes'
 told test M answer glob glob' bytes bytes' tells asked same_glob same_bytes =

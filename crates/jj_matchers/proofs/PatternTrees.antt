@@ -1,4 +1,4 @@
--- A tree of globs answers as the list of its patterns.
+-- Queries of a trie of globs agree with those of the list of its patterns.
 use Rattle.std.proofs.Common.{◌≡◌, ◌∙◌, ap, sym, refl, Bool, true, false, ◌&&◌, ◌||◌, inl, inr, List, [], ◌∷◌, ◌++◌, map, Option, Some, None, if◌then◌else◌}
 use mathlib.Core.Bool.{false≢true}
 use Rattle.std.specs.Cmp.{both_ways}
@@ -98,7 +98,7 @@ module _ (tree : Tree (List GlobSpec)) where
       let found = some_of (λ dir. list_any test (patterns_at tree dir)) paths (sym (any-flat_map (patterns_at tree) test paths) ∙ h) in
       (found.0, sym (at_dir test found.0) ∙ found.1)
 
-  -- a directory with globs is the path of a node
+  -- a directory with globs is among the paths of the nodes
   listed : (dir : Path) (node : Tree (List GlobSpec)) → get tree dir ≡ Some node → list_any (path_eq dir) paths ≡ true
   listed [] node e = refl
   listed (name ∷ rest) node e = path_listed tree.branches [] name rest node [] e
@@ -220,7 +220,7 @@ module _ (tree : Tree (List GlobSpec)) where
       λ i. list_any (λ (pattern : Path × GlobSpec). always pattern.0 path i) (patterns_of tree) in
       steps ∙ way_passes (λ glob tail. true) path ∙ patterns ∙ sym (any-map (λ (pattern : Path × GlobSpec). pattern.0) (λ dir. is_at_or_below dir path) (patterns_of tree))
 
-  -- the directories of the patterns are the marked ones
+  -- the directories of the patterns are the marked paths
   same_dirs : HasSamePaths (marked_paths (marks_of tree)) dirs
   same_dirs = same_members (marked_paths (marks_of tree)) dirs (λ path. is_wanted-marked (marks_of tree) path ∙ is_marked-marks tree path ∙ both_ways (has_globs (globs_at tree path)) (is_wanted dirs path) (to path) (from path))
     where
@@ -243,7 +243,7 @@ module _ (tree : Tree (List GlobSpec)) where
           some test [] h = absurd (false≢true h)
           some test (glob ∷ globs) h = refl
 
-  -- the answer of the nodes on the way
+  -- the visit at a node on the way to directories with globs
   module _ (leads : LeadsToGlobs tree) where
     abbrev pub children_on_the_way : Path → Answer
     children_on_the_way dir = if leads_to_wanted dirs dir then specific (λ name. leads_to_prefix dirs (dir ++ name ∷ [])) (λ name. false) else nothing
@@ -273,13 +273,13 @@ module _ (tree : Tree (List GlobSpec)) where
         ap (λ b. if b then specific (λ name. leads_to_prefix dirs (dir ++ name ∷ [])) (λ name. false) else nothing)
         (sym (sym (same_dirs (is_below dir)) ∙ leads-none (marks_of tree) leads dir (leads_there dir None e)))
 
--- 6. A tree that is made of a list.
+-- 6. The trie of a list.
 
 or_false : (b : Bool) → (b || false) ≡ b
 or_false true = refl
 or_false false = refl
 
--- a node without globs and without children
+-- a tree of a root without globs has none anywhere
 pub bare_tree : (tree : Tree (List GlobSpec)) → tree.value ≡ [] → tree.branches ≡ none → (dir : Path) → globs_at tree dir ≡ []
 bare_tree tree bare alone [] = bare
 bare_tree tree bare alone (name ∷ rest) = ap (λ b. globs_or_none (option_map (λ (node : Tree (List GlobSpec)). node.value) (option_and_then (λ (sub : Tree (List GlobSpec)). get sub rest) (child b name)))) alone
@@ -288,7 +288,7 @@ pub bare_leads : (tree : Tree (List GlobSpec)) → tree.branches ≡ none → Le
 bare_leads tree alone = leads-blank (marks_of tree) (ap marked_branches alone)
 
 module _ {X : Type 0} where
-  -- a member of a list that passes a test
+  -- an element of a list that satisfies a predicate
   pub record Member (test : X → Bool) (xs : List X) : Type 0 where
     pub item : X
     pub passes : test item ≡ true
@@ -303,7 +303,7 @@ module _ {X : Type 0} where
 
   module _ (tree : Tree (List GlobSpec)) (dir_of : X → Path) (glob_of : X → GlobSpec) (items : List X)
       (known : (dir : Path) (test : GlobSpec → Bool) → list_any test (globs_at tree dir) ≡ list_any (λ x. path_eq dir (dir_of x) && test (glob_of x)) items) where
-    -- its patterns are those of the list
+    -- the patterns of the trie are those of the list
     pub same_patterns : (test : Path × GlobSpec → Bool) → list_any test (patterns_of tree) ≡ list_any (λ x. test (dir_of x, glob_of x)) items
     same_patterns test = both_ways (list_any test (patterns_of tree)) (list_any (λ x. test (dir_of x, glob_of x)) items) to from
       where
@@ -342,14 +342,14 @@ no_names name (node ∷ nodes) = by_name (bytes_eq name node.0) (no_names name n
     by_name true later = later
     by_name false later = later
 
--- the answer that names all children as directories
+-- the visit of all children as directories
 pub directories_are : (b : Branches (List GlobSpec)) (names : List Name) → is_sorted name_cmp (children b) ≡ true → ((name : Name) → is_among names name ≡ any_named any_node name (marked_children (children b))) →
     sets_answer names [] ≡ children_answer any_node no_node (marked_branches b)
 directories_are b names sorted known =
     sets_are any_node no_node (marked_branches b) (ap (is_sorted name_cmp) (children-marks b) ∙ sorted_marks (children b) ∙ sorted) names []
     (λ name. known name ∙ ap (any_named any_node name) (sym (children-marks b))) (λ name. no_names name (children (marked_branches b)))
 
--- where none is left, the names so far are all
+-- with no children left, the names so far are all of them
 pub none_left : (names : List Name) (left all : List (Name × Tree (List GlobSpec))) → left ≡ [] → ((name : Name) → (is_among names name || any_named any_node name (marked_children left)) ≡ any_named any_node name (marked_children all)) →
     (name : Name) → is_among names name ≡ any_named any_node name (marked_children all)
 none_left names left all e known name = sym (or_false (is_among names name)) ∙ ap (λ l. is_among names name || any_named any_node name (marked_children l)) (sym e) ∙ known name

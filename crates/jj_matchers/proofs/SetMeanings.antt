@@ -1,4 +1,4 @@
--- What the sets of matchers have, in the words of lists and of globs.
+-- The paths that matchers accept, in terms of the lists and globs that they are built from.
 use Rattle.std.proofs.Common.{◌≡◌, true, List, Contains, ap, sym, ◌∙◌}
 use Rattle.std.specs.Prelude.{◌↔◌, Any}
 use Rattle.std.specs.List.{list_any}
@@ -25,14 +25,14 @@ has_all_below prefixes path = (
 pub has_matches : HasMatches
 has_matches = Decides-is_accepted
 
--- the members of a set that has the paths of a list
+-- a set of files with the same paths as a list
 pub members_of : (wanted files : List Path) → HasSamePaths wanted files → (path : Path)
     → (is_wanted wanted path ≡ true) ↔ Contains files path
 members_of wanted files same path =
     let decides = has_members files path in
     ((λ h. decides.0 (sym (same (path_eq path)) ∙ h)), (λ h. same (path_eq path) ∙ decides.1 h))
 
--- the members of a set that has the prefixes of a list
+-- a set of prefixes with the same paths as a list
 pub below_prefixes : (own prefixes : List Path) → HasSamePaths own prefixes → (path : Path)
     → (has_prefix own path ≡ true) ↔ Any (IsBelow path) prefixes
 below_prefixes own prefixes same path =
@@ -40,7 +40,7 @@ below_prefixes own prefixes same path =
     let decides = has_all_below prefixes path in
     ((λ h. decides.0 (sym is ∙ h)), (λ h. is ∙ decides.1 h))
 
--- the members of a set that has the patterns of another
+-- a set of patterns with the same patterns as another
 pub matched_by : (own set : Patterns) → HasSamePatterns own set → (path : Path)
     → (is_accepted own path ≡ true) ↔ IsAccepted set path
 matched_by own set same path =

@@ -1,4 +1,4 @@
--- A walk under way: how it goes on below a directory, and what a child adds to what was found.
+-- The loop invariant of `walk_matching` is established at the start and preserved by each step.
 use Rattle.std.proofs.Common.{◌≡◌, ◌⊎◌, inl, inr, ◌+◌, ◌*◌, ◌<◌, arith, Bool, true, false, ◌&&◌, List, [], ◌∷◌, ◌++◌, length, refl, ap, sym, subst, ◌∙◌, append_assoc, append-nil}
 use mathlib.Core.Bool.{false≢true}
 use Rattle.std.proofs.Math.Bool.{and-false}
@@ -22,16 +22,16 @@ use Rattle.jj_matchers.proofs.Walks.{path_if_true, path_if_false, branches_of-ch
 false_and : (a b : Bool) → b ≡ false → (a && b) ≡ false
 false_and a b e = rw e (and-false a)
 
--- a directory, once its next child is taken and these are left
+-- a stack frame with these children left
 abbrev pub with_left : Entered → Bor (List (Name × Tree Bool)) → Entered
 with_left directory left = record { dir = directory.dir; answer = directory.answer; left = left }
 
--- the path that a name makes with a directory, each known by other names
+-- the path of a child, up to equalities
 pub joined_at : (dir at : Path) (name here : Name) (path : Path) → path ≡ at ++ here ∷ [] → at ≡ dir → here ≡ name → path ≡ dir ++ name ∷ []
 joined_at dir at name here path joined d n = joined ∙ ap (λ p. p ++ here ∷ []) d ∙ ap (λ x. dir ++ x ∷ []) n
 
 module _ (accepts opens : Path → Bool) (answer : Path → Answer) where
-  -- a walk goes on at the root by the root's answer
+  -- the visit of the root determines the walk
   pub root_goes_on : (known : Answer) → IsSound accepts opens [] known → answer [] ≡ known → GoesOnBy accepts opens answer [] known
   root_goes_on known sound is = record {
     sound = sound;
@@ -39,14 +39,14 @@ module _ (accepts opens : Path → Bool) (answer : Path → Answer) where
     below = λ name rest. ap (λ a. leads_to a name (enters answer (name ∷ []) rest)) is;
   }
 
-  -- below `nothing` there is no file, and no directory is entered
+  -- with the visit `nothing` no file is found below, and no directory is entered
   pub no_files : (dir : Path) (tree : Tree Bool) → GoesOnBy accepts opens answer dir nothing → paths_below (is_file accepts) dir tree ≡ []
   no_files dir tree on = none_below (is_file accepts) dir tree.branches (λ name rest sub. false_and sub.value _ (on.sound name rest))
 
   pub none_entered : (dir : Path) (tree : Tree Bool) → GoesOnBy accepts opens answer dir nothing → paths_below (is_entered_directory answer) dir tree ≡ []
   none_entered dir tree on = none_below (is_entered_directory answer) dir tree.branches (λ name rest sub. false_and (has_branches sub.branches) _ (on.below name rest))
 
-  -- whether a directory is entered itself
+  -- whether the directory itself is entered
   pub entered_itself : (dir : Path) (tree : Tree Bool) (known : Answer) → GoesOnBy accepts opens answer dir known → has_branches tree.branches ≡ true → is_entered_directory answer (node_at dir tree) ≡ is_entered known
   entered_itself dir tree known on e = ap (λ b. b && enters answer [] dir) e ∙ on.itself
 
@@ -64,7 +64,7 @@ module _ {X : Type 0} where
   all_append_parts P [] ys h = (tt, h)
   all_append_parts P (x ∷ xs) ys h = let later = all_append_parts P xs ys h.1 in ((h.0, later.0), later.1)
 
--- the directory that was entered last is the first that a walk goes on with
+-- the paths of the topmost stack frame come first
 pub left_in_all-snoc : (test : NodeAt Bool → Bool) (further : List Entered) (directory : Entered) → left_in_all test (further ++ directory ∷ []) ≡ left_in test directory ++ left_in_all test further
 left_in_all-snoc test [] directory = sym (append-nil (left_in test directory))
 left_in_all-snoc test (first ∷ further) directory =
@@ -75,21 +75,21 @@ pub work_left-snoc : (further : List Entered) (directory : Entered) → work_lef
 work_left-snoc [] directory = refl
 work_left-snoc (first ∷ further) directory = omega (arith, work_left-snoc further directory)
 
--- what is left of a directory without further children
+-- a stack frame without children has no paths left
 left_none : (test : NodeAt Bool → Bool) (directory : Entered) → directory.left.now ≡ [] → left_in test directory ≡ []
 left_none test directory done = ap (λ l. paths_where test (nodes_under directory.dir (branches_of l))) done
 
 abbrev IsInOrder : (NodeAt Bool → Bool) → Entered → Type 0
 IsInOrder test directory = IsStrictlySortedBy path_cmp (left_in test directory)
 
--- a directory without further children is finished
+-- a stack frame without children can be popped
 finished : (test : NodeAt Bool → Bool) (all found : List Path) (further : List Entered) (directory : Entered) → directory.left.now ≡ [] → GivesAll test all found (further ++ directory ∷ []) → GivesAll test all found further
 finished test all found further directory done gives = record {
   whole = ap (λ l. found ++ l) (sym (left_in_all-snoc test further directory ∙ ap (λ l. l ++ left_in_all test further) (left_none test directory done))) ∙ gives.whole;
   ordered = λ h. gives.ordered (all-append (IsInOrder test) further (directory ∷ []) h (subst (IsStrictlySortedBy path_cmp) (sym (left_none test directory done)) sorted_none, tt));
 }
 
--- a child adds its own path, and leaves what is below it beside what is below the children after it
+-- visiting a child adds its own path, and leaves those below it and those of the later children
 module _ (test : NodeAt Bool → Bool) (further unfinished : List Entered) (directory : Entered) (name : Name) (sub : Tree Bool) (after : List (Name × Tree Bool)) where
   past_child : (all found new : List Path) → directory.left.now ≡ (name, sub) ∷ after → is_sorted name_cmp directory.left.now ≡ true →
       new ≡ found ++ path_if (test (node_at (directory.dir ++ name ∷ []) sub)) (directory.dir ++ name ∷ []) →
@@ -113,7 +113,7 @@ module _ (test : NodeAt Bool → Bool) (further unfinished : List Entered) (dire
       later = paths_where test (nodes_under directory.dir (branches_of after))
 
 module _ (accepts opens : Path → Bool) (answer : Path → Answer) (tree : Tree Bool) (files entered : List Path) (further : List Entered) (directory : Entered) where
-  -- a directory without further children is finished
+  -- a stack frame without children can be popped
   pub way_finished : directory.left.now ≡ [] → IsOnTheWay accepts opens answer tree files entered (further ++ directory ∷ []) → IsOnTheWay accepts opens answer tree files entered further
   way_finished done way = record {
     of_files = finished (is_file accepts) _ files further directory done way.of_files;
@@ -130,7 +130,7 @@ module _ (accepts opens : Path → Bool) (answer : Path → Answer) (tree : Tree
     rest_in : (test : NodeAt Bool → Bool) → left_in test next ≡ paths_where test (nodes_under directory.dir (branches_of after))
     rest_in test = ap (λ d. paths_where test (nodes_under d (branches_of next.left.now))) path ∙ ap (λ l. paths_where test (nodes_under directory.dir (branches_of l))) rest
 
-    -- the directory is still under way
+    -- the rest of the stack frame is valid
     next_under_way : IsUnderWay accepts opens answer directory → IsUnderWay accepts opens answer next
     next_under_way on = record {
       goes_on = subst (λ d. GoesOnBy accepts opens answer d (answer_of next.answer)) (sym path) (subst (λ a. GoesOnBy accepts opens answer directory.dir (answer_of a)) (sym same_answer) on.goes_on);
@@ -185,7 +185,7 @@ module _ (accepts opens : Path → Bool) (answer : Path → Answer) (tree : Tree
             only_open = subst (AllByRecursion (λ dir. (dir ≡ []) ⊎ (opens dir ≡ true))) (sym is) (all-append (λ dir. (dir ≡ []) ⊎ (opens dir ≡ true)) entered (child ∷ []) way.only_open (inr open_there, tt));
           }
 
--- the start: a root that is entered, or not
+-- the invariant at the start: the root is entered, or not
 module _ (accepts opens : Path → Bool) (answer : Path → Answer) (tree : Tree Bool) where
   alone : (test : NodeAt Bool → Bool) (all : List Path) → all ≡ [] → GivesAll test all [] []
   alone test all e = record { whole = sym e; ordered = λ h. subst (IsStrictlySortedBy path_cmp) (sym e) sorted_none }
@@ -242,7 +242,7 @@ module _ (accepts opens : Path → Bool) (answer : Path → Answer) (tree : Tree
       (subst (λ l. IsOnTheWay accepts opens answer tree files l new_unfinished) (sym e)
       (subst (IsOnTheWay accepts opens answer tree files entered) (sym u) way))
 
-  -- a walk begins: without children, or with what the root's answer says
+  -- after `enter_root`, for a root without and with children
   pub begins_without_children : (files entered : List Path) (unfinished : List Entered) → files ≡ [] → entered ≡ [] → unfinished ≡ [] → has_branches tree.branches ≡ false → IsOnTheWay accepts opens answer tree files entered unfinished
   begins_without_children files entered unfinished f e u none = same_way [] files [] entered [] unfinished f e u (way_without_children none)
 
@@ -263,7 +263,7 @@ module _ (accepts opens : Path → Bool) (answer : Path → Answer) (tree : Tree
     own_file : new_files ≡ files ++ path_if (is_file accepts (node_at (directory.dir ++ name ∷ []) sub)) (directory.dir ++ name ∷ [])
     own_file = subst (λ (p : Path). new_files ≡ files ++ path_if (is_file accepts (node_at p sub)) p) (same ∙ at) file_is
 
-    -- a walk goes on past a child that has no children
+    -- a step at a child without children
     pub goes_on_past : (unfinished : List Entered) → unfinished ≡ further ++ with_left directory after ∷ [] → has_branches sub.branches ≡ false →
         IsOnTheWay accepts opens answer tree files entered (further ++ directory ∷ []) → IsOnTheWay accepts opens answer tree new_files old_entered unfinished
     goes_on_past unfinished u none way =
@@ -272,7 +272,7 @@ module _ (accepts opens : Path → Bool) (answer : Path → Answer) (tree : Tree
         (not_without_children accepts opens answer (directory.dir ++ name ∷ []) sub none) e
         (nothing_below (is_file accepts) (directory.dir ++ name ∷ []) sub.branches none) (nothing_below (is_entered_directory answer) (directory.dir ++ name ∷ []) sub.branches none) way)
 
-    -- and with a child that has children, by the child's answer
+    -- a step at a child with children
     pub goes_on_below : (new_entered : List Path) (unfinished new_unfinished : List Entered) (below : Path) (known : Answer) → unfinished ≡ further ++ with_left directory after ∷ [] → below ≡ path →
         has_branches sub.branches ≡ true → GoesOnBy accepts opens answer below known → (is_entered known ≡ true → opens below ≡ true) → Enters path known sub old_entered new_entered unfinished new_unfinished →
         IsOnTheWay accepts opens answer tree files entered (further ++ directory ∷ []) → IsOnTheWay accepts opens answer tree new_files new_entered new_unfinished
@@ -294,7 +294,7 @@ module _ (accepts opens : Path → Bool) (answer : Path → Answer) (tree : Tree
             (way_below accepts opens answer tree files entered further directory (with_left directory after) name sub after.now left refl refl refl new_files new_entered own_file
             h.0 known on h.1 has (ap opens (sym (at' ∙ at)) ∙ open_there h.1.entered) (h.2 ∙ ap (λ s. s ++ (directory.dir ++ name ∷ []) ∷ []) e) way)
 
--- each step of a walk leaves less to do
+-- each step decreases the termination measure
 pub less_finished : (further : List Entered) (directory : Entered) → work_left further < work_left (further ++ directory ∷ [])
 less_finished further directory = omega (arith, work_left-snoc further directory)
 
@@ -316,12 +316,12 @@ module _ (further : List Entered) (directory next : Entered) (name : Name) (sub 
         ap branch_count (ap branches_of h.1.left ∙ branches_of-children sub.branches),
       )
 
--- a list without a length
+-- a list of length zero is empty
 pub no_length : {X : Type 0} (xs : List X) → length xs ≡ 0 → xs ≡ []
 no_length [] e = refl
 no_length (x ∷ xs) e = absurd (omega arith)
 
--- the files after the test of a child
+-- the files after a child is checked
 pub file_taken : (accepts : Path → Bool) (sub : Tree Bool) (child path : Path) (files new : List Path) → sub.value ≡ true → accepts path ≡ true → path ≡ child → new ≡ files ++ path ∷ [] → new ≡ files ++ path_if (is_file accepts (node_at child sub)) child
 file_taken accepts sub child path files new marked accepted at is =
     path_if_true (sub.value && accepts child) child files new (ap (λ b. b && accepts child) marked ∙ ap accepts (sym at) ∙ accepted) (is ∙ ap (λ p. files ++ p ∷ []) at)

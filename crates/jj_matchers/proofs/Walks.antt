@@ -1,4 +1,4 @@
--- The nodes below a directory, branch by branch.
+-- The preorder list of the nodes below a directory, by its first branch and the rest.
 use Rattle.std.proofs.Common.{◌≡◌, Bool, true, false, List, [], ◌∷◌, ◌++◌, refl, ap, sym, subst, ◌∙◌, append_assoc, append-nil}
 use Rattle.std.specs.declared.cmp.Ordering.TheVariants.{Less}
 use Rattle.std.specs.List.{AllByRecursion}
@@ -47,14 +47,14 @@ module _ {V : Type 0} where
       ∙ sym (append_assoc (path_if (test x) x.path) (paths_where test a) (paths_where test b))
       ∙ ap (λ l. l ++ paths_where test b) (sym (paths_where_first test x.path x.node a))
 
-  -- the paths below a directory, where its first branch is known
+  -- the paths below a directory with a first branch
   pub paths_below_first : (test : NodeAt V → Bool) (dir : Path) (name : Name) (sub : Tree V) (after : Branches V) →
       paths_where test (nodes_under dir (branch name sub.value sub.branches after)) ≡ path_if (test (node_at (dir ++ name ∷ []) sub)) (dir ++ name ∷ []) ++ (paths_where test (nodes_under (dir ++ name ∷ []) sub.branches) ++ paths_where test (nodes_under dir after))
   paths_below_first test dir name sub after =
       paths_where_first test (dir ++ name ∷ []) sub (nodes_under (dir ++ name ∷ []) sub.branches ++ nodes_under dir after)
       ∙ ap (λ l. path_if (test (node_at (dir ++ name ∷ []) sub)) (dir ++ name ∷ []) ++ l) (paths_where-append test (nodes_under (dir ++ name ∷ []) sub.branches) (nodes_under dir after))
 
-  -- one step of a walk: what was found before, then what the first branch gives, then the rest
+  -- one step of a walk: the paths found so far, those of the first branch, and the rest
   pub found_step : (test : NodeAt V → Bool) (dir : Path) (name : Name) (sub : Tree V) (after left : List (Name × Tree V)) (found all new : List Path) →
       left ≡ (name, sub) ∷ after →
       found ++ paths_where test (nodes_under dir (branches_of left)) ≡ all →
@@ -71,7 +71,7 @@ module _ {V : Type 0} where
       ∙ ap (λ l. found ++ paths_where test (nodes_under dir (branches_of l))) (sym e)
       ∙ whole
 
-  -- two tests that agree on all that is below a directory find the same there
+  -- predicates that agree below a directory select the same paths there
   pub same_below : (f g : NodeAt V → Bool) (dir : Path) (b : Branches V) → ((name : Name) (rest : Path) (sub : Tree V) → f (node_at (dir ++ name ∷ rest) sub) ≡ g (node_at (dir ++ name ∷ rest) sub)) → paths_where f (nodes_under dir b) ≡ paths_where g (nodes_under dir b)
   same_below f g dir none same = refl
   same_below f g dir (branch name value below after) same =
@@ -84,7 +84,7 @@ module _ {V : Type 0} where
       ∙ ap (λ l. path_if (g (node_at p (tree_of value below))) p ++ (paths_where g (nodes_under p below) ++ l)) (same_below f g dir after same)
       ∙ sym (paths_below_first g dir name (tree_of value below) after)
 
-  -- a test that nothing below a directory passes finds nothing there
+  -- a predicate that fails below a directory selects no paths there
   pub none_below : (f : NodeAt V → Bool) (dir : Path) (b : Branches V) → ((name : Name) (rest : Path) (sub : Tree V) → f (node_at (dir ++ name ∷ rest) sub) ≡ false) → paths_where f (nodes_under dir b) ≡ []
   none_below f dir b fails = same_below f (λ _. false) dir b fails ∙ nowhere (nodes_under dir b)
     where
@@ -92,7 +92,7 @@ module _ {V : Type 0} where
       nowhere [] = refl
       nowhere (x ∷ nodes) = nowhere nodes
 
-  -- what holds of all that is below a directory's names holds of what is found there
+  -- a property of all paths at or below the names of the branches is one of all selected paths
   pub all_below : (P : Path → Type 0) (test : NodeAt V → Bool) (dir : Path) (b : Branches V) → AllByRecursion (λ (c : Name × Tree V). (rest : Path) → P (dir ++ c.0 ∷ rest)) (children b) → AllByRecursion P (paths_where test (nodes_under dir b))
   all_below P test dir none h = tt
   all_below P test dir (branch name value below after) h =
@@ -106,7 +106,7 @@ module _ {V : Type 0} where
       any_children P p none f = tt
       any_children P p (branch n v b a) f = (f n, any_children P p a f)
 
-  -- the same for any names
+  -- a property of all paths strictly below a directory is one of all selected paths
   pub all_anywhere : (P : Path → Type 0) (test : NodeAt V → Bool) (dir : Path) (b : Branches V) → ((n : Name) (rest : Path) → P (dir ++ n ∷ rest)) → AllByRecursion P (paths_where test (nodes_under dir b))
   all_anywhere P test dir b f = all_below P test dir b (each b)
     where
@@ -114,12 +114,12 @@ module _ {V : Type 0} where
       each none = tt
       each (branch n v below after) = (f n, each after)
 
-  -- the names after the first are greater
+  -- paths at or below the first name precede those at or below the other names
   greater_names : (dir : Path) (name : Name) (a : Path) (after : List (Name × Tree V)) → below_all name_cmp name after ≡ true → AllByRecursion (λ (c : Name × Tree V). (rest : Path) → path_cmp (dir ++ name ∷ a) (dir ++ c.0 ∷ rest) ≡ Less) (children (branches_of after))
   greater_names dir name a [] e = tt
   greater_names dir name a (c ∷ after) e = (λ rest. before_name dir name c.0 a rest (less_from_is_lt _ (and_parts _ _ e).0), greater_names dir name a after (and_parts _ _ e).1)
 
-  -- a step of a walk keeps what is found in order
+  -- a step of a walk appends paths in order
   pub ordered_step : (test : NodeAt V → Bool) (dir : Path) (name : Name) (sub : Tree V) (after left : List (Name × Tree V)) (all : List Path) →
       left ≡ (name, sub) ∷ after →
       is_sorted name_cmp left ≡ true →
@@ -143,7 +143,7 @@ module _ {V : Type 0} where
       sorted-append a (b ++ c) (sorted_path_if (test (node_at p sub)) p) bc (all_path_if (λ x. AllByRecursion (λ y. path_cmp x y ≡ Less) (b ++ c)) (test (node_at p sub)) p (λ _. all-append (λ y. path_cmp p y ≡ Less) b c below_p p_first)) in
       whole (subst (IsStrictlySortedBy path_cmp) (sym (paths_below_first test dir name sub (branches_of after)) ∙ ap (λ l. paths_where test (nodes_under dir (branches_of l))) (sym e)) abc)
 
-  -- a node without branches has nothing below it
+  -- a node without branches has no paths below it
   pub nothing_below : (test : NodeAt V → Bool) (dir : Path) (b : Branches V) → has_branches b ≡ false → paths_where test (nodes_under dir b) ≡ []
   nothing_below test dir none e = refl
   nothing_below test dir (branch name value below after) e = absurd (false≢true (sym e))

@@ -1,4 +1,4 @@
--- The answers for sets of paths that are given by a list are sound.
+-- Soundness of the visits for sets of paths from a list.
 use Rattle.std.proofs.Common.{◌≡◌, Bool, true, false, ◌||◌, List, [], ◌∷◌, ◌++◌, map, Contains, Decides, get_or, refl, ap, sym, subst, ◌∙◌, append_assoc, inl, inr, if◌then◌else◌}
 use mathlib.Core.Bool.{false≢true}
 use Rattle.std.proofs.lemmas.Bool.{and_from, and_parts, false_from_ne_true, or_cases, or_left, or_right}
@@ -13,12 +13,12 @@ use Rattle.jj_matchers.specs.Answers.{all_recursively, specific, nothing, IsSoun
 use Rattle.jj_matchers.specs.Wanted.{is_at_or_below, is_below, is_wanted, HasSamePaths, leads_to_wanted, files_answer, has_prefix, leads_to_prefix, prefix_answer}
 
 module _ {X : Type 0} where
-  -- what passes one test passes another, so does something of a list
+  -- `list_any` is monotone in the predicate
   pub any_implies : (p q : X → Bool) → ((x : X) → p x ≡ true → q x ≡ true) → (xs : List X) → list_any p xs ≡ true → list_any q xs ≡ true
   any_implies p q f [] h = absurd (false≢true h)
   any_implies p q f (x ∷ xs) h = elim (or_cases (p x) (list_any p xs) h) [ inl e ↦ or_left (q x) (list_any q xs) (f x e) | inr e ↦ or_right (q x) (list_any q xs) (any_implies p q f xs e) ]
 
-  -- the same, where nothing of the list passes a third
+  -- `list_any` is monotone in the predicate, on a list of which no element satisfies `q`
   pub any_beyond : (p q r : X → Bool) → ((x : X) → p x ≡ true → q x ≡ false → r x ≡ true) → (xs : List X) → list_any q xs ≡ false → list_any p xs ≡ true → list_any r xs ≡ true
   any_beyond p q r f [] none_pass h = absurd (false≢true h)
   any_beyond p q r f (x ∷ xs) none_pass h =
@@ -29,7 +29,7 @@ module _ {X : Type 0} where
 bytes_eq-same : (name : Name) → bytes_eq name name ≡ true
 bytes_eq-same name = (bytes_eq-Decides name name).1 refl
 
--- what is below a directory
+-- paths below a directory
 pub is_below-append : (dir : Path) (name : Name) (rest : Path) → is_below dir (dir ++ name ∷ rest) ≡ true
 is_below-append [] name rest = refl
 is_below-append (d ∷ dir) name rest = and_from (bytes_eq d d) _ (bytes_eq-same d) (is_below-append dir name rest)
@@ -43,7 +43,7 @@ at_or_below_more [] path rest h = refl
 at_or_below_more (d ∷ base) [] rest h = absurd (false≢true h)
 at_or_below_more (d ∷ base) (p ∷ path) rest h = and_from (bytes_eq d p) _ (and_parts (bytes_eq d p) (is_at_or_below base path) h).0 (at_or_below_more base path rest (and_parts (bytes_eq d p) (is_at_or_below base path) h).1)
 
--- the rest of a path below a base
+-- the rest of a path at or below a base
 pub below_base : (base path : Path) → is_at_or_below base path ≡ true → (rest : Path) × (path ≡ base ++ rest)
 below_base [] path h = (path, refl)
 below_base (d ∷ base) [] h = absurd (false≢true h)
@@ -61,7 +61,7 @@ below_dir (d ∷ dir) (p ∷ path) h =
     let below = below_dir dir path parts.1 in
     (below.0, (below.1.0, ap (λ x. x ∷ path) (sym ((bytes_eq-Decides d p).0 parts.0)) ∙ ap (λ l. d ∷ l) below.1.1))
 
--- a prefix of a path below a directory that is none of the directory itself lies below the directory
+-- an ancestor of a path below a directory that is no ancestor of the directory itself is below the directory
 record ReachesBelow (dir rest prefix : Path) : Type 0 where
   pub name : Name
   pub middle : Path
@@ -80,7 +80,7 @@ reaches_below (p ∷ prefix) (d ∷ dir) rest h refused =
     record { name = further.name; middle = further.middle; end = further.end; is = ap (λ x. x ∷ prefix) ((bytes_eq-Decides p d).0 parts.0) ∙ ap (λ l. d ∷ l) further.is; of = further.of }
 
 module _ (wanted : List Path) where
-  -- a wanted path below a directory is found below it
+  -- a directory above a path of the list leads to one
   wanted_below : (dir : Path) (name : Name) (rest : Path) → is_wanted wanted (dir ++ name ∷ rest) ≡ true → leads_to_wanted wanted dir ≡ true
   wanted_below dir name rest = any_implies (path_eq (dir ++ name ∷ rest)) (is_below dir) (λ w e. ap (is_below dir) (sym ((path_eq-Decides (dir ++ name ∷ rest) w).0 e)) ∙ is_below-append dir name rest) wanted
 
@@ -99,7 +99,7 @@ module _ (prefixes : List Path) where
   abbrev pub prefix_opens : Path → Bool
   prefix_opens path = has_prefix prefixes path || leads_to_prefix prefixes path
 
-  -- beyond a directory that has no prefix, a prefix of a path below it lies below it
+  -- if no prefix is at or above a directory, prefixes of paths below it are below it
   pub prefix_below : (dir : Path) (name : Name) (rest : Path) → has_prefix prefixes dir ≡ false → has_prefix prefixes (dir ++ name ∷ rest) ≡ true → leads_to_wanted prefixes dir ≡ true
   prefix_below dir name rest =
       any_beyond (λ prefix. is_at_or_below prefix (dir ++ name ∷ rest)) (λ prefix. is_at_or_below prefix dir) (is_below dir)
@@ -140,12 +140,12 @@ module _ (prefixes : List Path) where
       }
       by_cases false false e f = λ name rest. false_from_ne_true _ (λ h. false≢true (sym f ∙ prefix_below dir name rest e h))
 
-  -- the answer at or below a prefix
+  -- the visit at or below a prefix
   pub prefix_inside : (dir : Path) → has_prefix prefixes dir ≡ true → all_recursively ≡ prefix_answer prefixes dir
   prefix_inside dir e =
       ap (λ b. if b then all_recursively else (if leads_to_wanted prefixes dir then specific (λ name. leads_to_prefix prefixes (dir ++ name ∷ [])) (λ name. is_wanted prefixes (dir ++ name ∷ [])) else nothing)) (sym e)
 
--- whether a path is one of a list
+-- `is_wanted` decides membership
 pub Decides-is_wanted : (paths : List Path) (path : Path) → Decides (is_wanted paths path) (Contains paths path)
 Decides-is_wanted paths path = (
   (λ h. let found = Any-from_list_any (path_eq path) paths h in
@@ -160,7 +160,7 @@ some_passes test (x ∷ xs) h = elim (or_cases (test x) (list_any test xs) h) [
   | inr e ↦ let later = some_passes test xs e in (later.0, (or_right (path_eq later.0 x) _ later.1.0, later.1.1))
 ]
 
--- lists that have the same paths, path by path
+-- lists with the same members have the same paths
 pub same_members : (paths others : List Path) → ((path : Path) → is_wanted paths path ≡ is_wanted others path) → HasSamePaths paths others
 same_members paths others same test = both_ways (list_any test paths) (list_any test others) (moved paths others same) (moved others paths (λ path. sym (same path)))
   where

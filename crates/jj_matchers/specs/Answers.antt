@@ -1,17 +1,16 @@
--- What a matcher answers for a directory, and what the answer promises.
+-- The model of `Visit`, and soundness of a visit for a set of paths.
 -- Cited by contracts of public items: Answer, IsSound, NamesAll, all_recursively, nothing.
 use Rattle.std.specs.Prelude.{◌≡◌, Bool, true, false, [], ◌∷◌, ◌++◌}
 use Rattle.jj_paths.specs.Paths.{Name, Path}
 
--- everything below the directory, or the names of the directories and of the files in it that are
--- worth a look, or nothing below it
+-- everything below a directory; or only these children, as directories and as files; or nothing
 pub data Answer : Type 0 where
   all_recursively : Answer
   specific : (Name → Bool) → (Name → Bool) → Answer
   nothing : Answer
 
--- the promise of an answer that has names: each accepted child is among the files, the first name
--- of each accepted deeper path is among the directories, and each of these may be opened
+-- soundness of a specific visit: each accepted child is among the files, the first name of each
+-- accepted deeper path is among the directories, and each of these directories may be entered
 pub record NamesAll (accepts opens : Path → Bool) (dir : Path)
     (dirs files : Name → Bool) : Type 0 where
   pub files_named : (name : Name) → accepts (dir ++ name ∷ []) ≡ true → files name ≡ true
@@ -19,7 +18,8 @@ pub record NamesAll (accepts opens : Path → Bool) (dir : Path)
       → dirs name ≡ true
   pub dirs_open : (name : Name) → dirs name ≡ true → opens (dir ++ name ∷ []) ≡ true
 
--- what an answer for a directory promises of the paths strictly below it
+-- soundness of a visit of a directory: with `all_recursively` all paths strictly below it are
+-- accepted, and with `nothing` none is
 abbrev pub IsSound : (Path → Bool) → (Path → Bool) → Path → Answer → Type 0
 IsSound accepts opens dir all_recursively = (name : Name) (rest : Path)
     → (accepts (dir ++ name ∷ rest) ≡ true) × (opens (dir ++ name ∷ rest) ≡ true)

@@ -1,4 +1,4 @@
--- What contracts see of a mark with its key: its path.
+-- The path of a mark with a cached key.
 -- Machinery of private functions and fields.
 use Rattle.jj_paths.specs.Paths.{Path}
 use Rattle.jj_paths.specs.Names.{path_of}

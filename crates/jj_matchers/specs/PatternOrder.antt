@@ -1,4 +1,4 @@
--- Globs in the order of their literal fronts.
+-- Globs sorted by their literal prefixes.
 -- Machinery of private functions and fields.
 use Rattle.std.specs.Prelude.{ℕ, Bool, true, false, ◌==◌, ◌&&◌, List, [], ◌∷◌, nat_lt, if◌then◌else◌}
 use Rattle.std.specs.List.{list_all}
@@ -6,19 +6,19 @@ use Rattle.jj_globs.specs.GlobMeaning.{GlobSpec}
 use Rattle.jj_globs.specs.GlobFront.{front_of}
 use Rattle.jj_matchers.specs.Patterns.{is_match, is_prefix_match}
 
--- the order of words in a dictionary
+-- lexicographic order of byte strings
 abbrev pub is_at_most : List ℕ → List ℕ → Bool
 is_at_most [] bytes = true
 is_at_most (x ∷ front) [] = false
 is_at_most (x ∷ front) (y ∷ bytes) = if x == y then is_at_most front bytes else nat_lt x y
 
--- no front comes before that of an earlier glob
+-- the literal prefixes ascend
 abbrev pub is_in_order : List GlobSpec → Bool
 is_in_order [] = true
 is_in_order (glob ∷ globs) =
     list_all (λ later. is_at_most (front_of glob) (front_of later)) globs && is_in_order globs
 
--- whether the glob stands for the text, or with the flag for a front of it that a slash follows
+-- whether the glob matches the path, or with the flag an ancestor
 abbrev pub fits_text : Bool → GlobSpec → List ℕ → Bool
 fits_text prefix_paths glob text =
     if prefix_paths then is_prefix_match glob text else is_match glob text

@@ -1,4 +1,4 @@
--- A tree of the globs that stand in each directory.
+-- The trie of directories with the globs of each.
 -- Cited by contracts of public items: patterns_of.
 use Rattle.std.specs.Prelude.{◌≡◌, ◌≢◌, Bool, true, false, ◌&&◌, List, [], ◌∷◌, ◌++◌, map, Option, Some, None}
 use Rattle.std.specs.List.{flat_map, list_any}
@@ -13,7 +13,7 @@ abbrev pub has_globs : List GlobSpec → Bool
 has_globs [] = false
 has_globs (glob ∷ globs) = true
 
--- the tree of marks at the directories that have globs
+-- the tree of marked paths in which the directories with globs are marked
 abbrev pub marked_branches : Branches (List GlobSpec) → Branches Bool
 marked_branches none = none
 marked_branches (branch name globs below after) =
@@ -25,7 +25,7 @@ marks_of tree = tree_of (has_globs tree.value) (marked_branches tree.branches)
 abbrev pub no_node : Tree Bool → Bool
 no_node node = false
 
--- the globs in a directory
+-- the globs of a directory
 abbrev pub globs_or_none : Option (List GlobSpec) → List GlobSpec
 globs_or_none None = []
 globs_or_none (Some globs) = globs
@@ -40,18 +40,19 @@ patterns_at tree dir = map (λ glob. (dir, glob)) (globs_at tree dir)
 abbrev pub patterns_of : Tree (List GlobSpec) → List (Path × GlobSpec)
 patterns_of tree = flat_map (patterns_at tree) (map (λ found. found.path) (all_nodes tree))
 
--- each directory but the root that has no globs has a child, and so leads to some
+-- every leaf except the root has globs
 abbrev pub LeadsToGlobs : Tree (List GlobSpec) → Type 0
 LeadsToGlobs tree = LeadsToMarks (marks_of tree)
 
--- more globs in a directory, and no others
+-- globs are appended in one directory, and no others are changed
 pub record AddsGlobs (old : Tree (List GlobSpec)) (dir : Path) (globs : List GlobSpec)
     (new : Tree (List GlobSpec)) : Type 0 where
   pub here : globs_at new dir ≡ globs_at old dir ++ globs
   pub others : (path : Path) → path ≢ dir → globs_at new path ≡ globs_at old path
   pub leads : LeadsToGlobs old → LeadsToGlobs new
 
--- a directory has the globs of the patterns there, in any order, as every test on globs tells
+-- each directory has the globs of its patterns, in any order: some glob there satisfies a predicate
+-- if and only if one of the patterns' globs does
 pub record IsPatternTree (patterns : List (Path × GlobSpec))
     (tree : Tree (List GlobSpec)) : Type 0 where
   pub globs : (dir : Path) (test : GlobSpec → Bool) → list_any test (globs_at tree dir)

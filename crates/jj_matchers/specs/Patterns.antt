@@ -1,4 +1,4 @@
--- Globs in directories: the paths that they accept, and what they answer for a directory.
+-- Glob patterns relative to directories: the paths that they accept, and their visits.
 -- Cited by contracts of public items: HasSamePatterns, IsAccepted, Patterns, TellsAccepted,
 -- is_accepted, opens_to_patterns, pattern_dirs, patterns_answer.
 use Rattle.std.specs.Prelude.{◌≡◌, ℕ, Bool, true, false, ◌==◌, ◌&&◌, ◌||◌, List, [], ◌∷◌, ◌++◌, map, if◌then◌else◌, Any}
@@ -12,47 +12,47 @@ use Rattle.jj_globs.specs.GlobPlain.{Verdict, yes, no, faulty, matches}
 use Rattle.jj_globs.specs.GlobText.{byte_of}
 use Rattle.jj_matchers.specs.Wanted.{has_prefix, leads_to_wanted, leads_to_prefix}
 
--- 1. Texts.
+-- 1. Strings.
 
 abbrev pub is_yes : Verdict → Bool
 is_yes yes = true
 is_yes no = false
 is_yes (faulty error) = false
 
--- whether the glob stands for the bytes
+-- whether the glob matches the bytes
 unfoldable pub is_match : GlobSpec → List ℕ → Bool
 is_match glob bytes = is_yes (matches glob.options glob.text bytes)
 
--- whether, after some bytes, a front that a slash follows passes a test
+-- whether `before` with some prefix of the bytes that a slash follows satisfies the predicate
 abbrev pub passes_before_slash : (List ℕ → Bool) → List ℕ → List ℕ → Bool
 passes_before_slash test before [] = false
 passes_before_slash test before (b ∷ bytes) = ((b == 47) && test before)
     || passes_before_slash test (before ++ b ∷ []) bytes
 
--- whether the glob stands for the bytes, or for a front of them that a slash follows
+-- whether the glob matches the bytes, or a prefix of them that a slash follows
 unfoldable pub is_prefix_match : GlobSpec → List ℕ → Bool
 is_prefix_match glob bytes = is_match glob bytes || passes_before_slash (is_match glob) [] bytes
 
--- a text of one or more stars alone
+-- a string of one or more stars, and nothing else
 abbrev pub is_stars : List ℕ → Bool
 is_stars [] = false
 is_stars (b ∷ bytes) = list_all (λ c. c == byte_of Asterisk) (b ∷ bytes)
 
--- 2. Tails: what is left of a path below a pattern's directory.
+-- 2. Tails: the rest of a path below a pattern's directory.
 
--- whether the glob accepts the path at a tail
+-- whether the glob accepts the path with this tail
 abbrev pub accepts_tail : Bool → GlobSpec → Path → Bool
 accepts_tail prefix_paths glob [] = false
 accepts_tail false glob (name ∷ rest) = is_match glob (path_text (name ∷ rest))
 accepts_tail true glob (name ∷ rest) = is_prefix_match glob (path_text (name ∷ rest))
 
--- whether the glob, where it accepts what lies below a match too, is known to accept everything
--- below a tail
+-- whether the glob, if paths below a match are accepted, is known to accept all paths below the
+-- tail
 abbrev pub covers_tail : GlobSpec → Path → Bool
 covers_tail glob [] = is_stars glob.text
 covers_tail glob (name ∷ rest) = is_prefix_match glob (path_text (name ∷ rest))
 
--- whether a path is a directory or lies below it, and its tail passes a test
+-- whether the path is at or below the directory, and its tail satisfies the predicate
 abbrev pub tail_passes : Path → (Path → Bool) → Path → Bool
 tail_passes [] test path = test path
 tail_passes (name ∷ dir) test [] = false
@@ -60,13 +60,12 @@ tail_passes (name ∷ dir) test (first ∷ path) = bytes_eq name first && tail_p
 
 -- 3. Sets of patterns.
 
--- each pattern is a directory and a glob; the flag says that what lies below a match is accepted
--- too
+-- each pattern is a directory and a glob; with the flag paths below a match are accepted too
 pub record Patterns : Type 0 where
   pub prefix_paths : Bool
   pub patterns : List (Path × GlobSpec)
 
--- two sets have the same patterns, in any order and however often
+-- two sets have the same patterns, in any order and with any repetitions
 pub record HasSamePatterns (set other : Patterns) : Type 0 where
   pub mode : set.prefix_paths ≡ other.prefix_paths
   pub members : (test : Path × GlobSpec → Bool)
@@ -80,18 +79,18 @@ abbrev pub is_accepted : Patterns → Path → Bool
 is_accepted set path = list_any (λ pattern.
     tail_passes pattern.0 (accepts_tail set.prefix_paths pattern.1) path) set.patterns
 
--- whether a pattern covers everything below a directory
+-- whether all paths below the directory are known to be accepted
 abbrev pub is_covered : Patterns → Path → Bool
 is_covered set dir = set.prefix_paths && list_any
     (λ pattern. tail_passes pattern.0 (covers_tail pattern.1) dir) set.patterns
 
--- the directories that a walk may open: those at, above or below a pattern's
+-- the directories that a walk may enter: those at, above or below a pattern's directory
 abbrev pub opens_to_patterns : Patterns → Path → Bool
 opens_to_patterns set dir = has_prefix (pattern_dirs set) dir
     || leads_to_prefix (pattern_dirs set) dir
 
--- the answer: everything where a pattern covers it, else all names at or below a pattern's
--- directory, else the children on the way to patterns' directories, as directories alone
+-- the visit of a directory: everything if it is covered, else all children at or below a pattern's
+-- directory, else only directories on the way to one
 abbrev pub patterns_answer : Patterns → Path → Answer
 patterns_answer set dir =
     if is_covered set dir then all_recursively
@@ -99,22 +98,22 @@ patterns_answer set dir =
     else (if leads_to_wanted (pattern_dirs set) dir then specific
     (λ name. leads_to_prefix (pattern_dirs set) (dir ++ name ∷ [])) (λ name. false) else nothing))
 
--- 4. The meaning of a set.
+-- 4. The paths that a set accepts, without an algorithm.
 
--- the glob stands for the text, or with the flag for a front of it that a slash follows
+-- the glob matches the string, or with the flag a prefix of it that a slash follows
 abbrev pub AcceptsText : Bool → GlobSpec → List ℕ → Type 0
 AcceptsText false glob text = IsMatch glob text
 AcceptsText true glob text = IsPrefixMatch glob text
 
--- the path lies strictly below the directory of a pattern whose glob accepts the text of the tail
+-- the path is strictly below the directory of a pattern whose glob matches the tail
 abbrev pub IsAccepted : Patterns → Path → Type 0
 IsAccepted set path = Any (λ pattern. (name : Name) × (rest : Path)
     × (path ≡ pattern.0 ++ name ∷ rest) × AcceptsText set.prefix_paths pattern.1
     (path_text (name ∷ rest))) set.patterns
 
--- what an answer for a directory tells of the paths strictly below it: all are accepted; or the
--- accepted children are among the files, and the first names of the accepted deeper paths among the
--- directories; or none is accepted
+-- soundness of a visit in terms of `IsAccepted`: all paths strictly below the directory are
+-- accepted; or the accepted children are among the files, and the first names of accepted deeper
+-- paths among the directories; or none is accepted
 abbrev pub TellsAccepted : Patterns → Path → Answer → Type 0
 TellsAccepted set dir all_recursively = (name : Name) (rest : Path)
     → IsAccepted set (dir ++ name ∷ rest)

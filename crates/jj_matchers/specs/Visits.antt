@@ -1,4 +1,4 @@
--- What contracts see of a `Visit`.
+-- The model value of a `Visit`.
 -- Cited by contracts of public items: answer_of, dir_names, file_names, is_among, sets_answer.
 use Rattle.std.specs.Prelude.{Bool, true, false, ◌||◌, List, [], ◌∷◌, if◌then◌else◌}
 use Rattle.std.specs.Str.{bytes_eq}
@@ -12,7 +12,7 @@ use Rattle.jj_matchers.specs.declared.matchers.visits.VisitDirs.TheVariants as d
 use Rattle.jj_matchers.specs.declared.matchers.visits.VisitFiles.{VisitFiles}
 use Rattle.jj_matchers.specs.declared.matchers.visits.VisitFiles.TheVariants as files
 
--- whether a name is among the keys
+-- whether the name is on the list
 abbrev pub is_among : List Name → Name → Bool
 is_among keys name = list_any (bytes_eq name) keys
 
@@ -33,7 +33,7 @@ abbrev pub has_names : List Name → Bool
 has_names [] = false
 has_names (name ∷ names) = true
 
--- the answer that names two lists of children, nothing if both are empty
+-- the specific visit of two lists of children, and `nothing` if both are empty
 abbrev pub sets_answer : List Name → List Name → Answer
 sets_answer dirs files =
     if has_names dirs || has_names files then specific (is_among dirs) (is_among files) else nothing

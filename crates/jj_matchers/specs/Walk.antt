@@ -1,4 +1,4 @@
--- What a pruned walk of a tree of marks finds.
+-- The files and directories that a pruned walk of a tree of marked paths finds.
 -- Cited by contracts of public items: AreInOrder, entered_by, files_of.
 use Rattle.std.specs.Prelude.{Bool, true, false, ◌&&◌, List, [], ◌∷◌, ◌++◌, map}
 use Rattle.std.specs.List.{filter}
@@ -8,20 +8,20 @@ use Rattle.jj_paths.specs.Tree.{Tree, has_branches}
 use Rattle.jj_paths.specs.Nodes.{NodeAt, nodes_under, all_nodes}
 use Rattle.jj_matchers.specs.Answers.{Answer, all_recursively, specific, nothing}
 
--- the paths are in path order, and none comes twice
+-- the paths strictly ascend in path order
 abbrev pub AreInOrder : List Path → Type 0
 AreInOrder paths = IsStrictlySortedBy path_cmp paths
 
--- a path, if the test passes
+-- a list of the path if the condition is true, and else an empty one
 abbrev pub path_if : Bool → Path → List Path
 path_if true path = path ∷ []
 path_if false path = []
 
--- the paths of the nodes that pass a test
+-- the paths of the nodes that satisfy a predicate
 abbrev pub paths_where : {V : Type 0} → (NodeAt V → Bool) → List (NodeAt V) → List Path
 paths_where test nodes = map (λ found. found.path) (filter test nodes)
 
--- a marked node whose path is accepted
+-- whether a node is marked and its path accepted
 abbrev pub is_file : (Path → Bool) → NodeAt Bool → Bool
 is_file accepts found = found.node.value && accepts found.path
 
@@ -29,30 +29,29 @@ is_file accepts found = found.node.value && accepts found.path
 abbrev pub files_of : (Path → Bool) → Tree Bool → List Path
 files_of accepts tree = paths_where (is_file accepts) (nodes_under [] tree.branches)
 
--- a directory is entered unless its answer is `nothing`
+-- a directory is entered unless its visit is `nothing`
 abbrev pub is_entered : Answer → Bool
 is_entered all_recursively = true
 is_entered (specific dirs files) = true
 is_entered nothing = false
 
--- whether a walk goes on below a directory to the child of a name, where it may go on from that
--- child
+-- whether a walk that entered a directory with this visit continues into a child, where `on` is
+-- whether it continues from that child
 abbrev pub leads_to : Answer → Name → Bool → Bool
 leads_to all_recursively name on = true
 leads_to (specific dirs files) name on = dirs name && on
 leads_to nothing name on = false
 
--- whether a walk that has come to a directory, and asks for its answer, enters the one at the rest
--- of a path
+-- whether a walk that visits a directory enters the one at this path relative to it
 abbrev pub enters : (Path → Answer) → Path → Path → Bool
 enters answer dir [] = is_entered (answer dir)
 enters answer dir (name ∷ rest) = leads_to (answer dir) name (enters answer (dir ++ name ∷ []) rest)
 
--- a node with children that a walk from the root enters
+-- whether a node has children and a walk from the root enters it
 abbrev pub is_entered_directory : (Path → Answer) → NodeAt Bool → Bool
 is_entered_directory answer found = has_branches found.node.branches
     && enters answer [] found.path
 
--- the directories that a walk enters, from the root on
+-- the directories that a walk enters, in preorder
 abbrev pub entered_by : (Path → Answer) → Tree Bool → List Path
 entered_by answer tree = paths_where (is_entered_directory answer) (all_nodes tree)

@@ -1,5 +1,5 @@
--- A walk under way: the directories that it has entered and not finished, and what it has yet to
--- find there.
+-- Loop invariant of `walk_matching`: the stack of unfinished directories, and the files and
+-- directories still to be found below them.
 -- Machinery of private functions and fields.
 use Rattle.std.specs.Prelude.{◌≡◌, ◌⊎◌, ◌+◌, ◌*◌, ℕ, Bool, true, false, List, [], ◌∷◌, ◌++◌}
 use Rattle.std.specs.List.{AllByRecursion}
@@ -12,11 +12,12 @@ use Rattle.jj_matchers.specs.Visits.{answer_of}
 use Rattle.jj_matchers.specs.Walk.{AreInOrder, paths_where, files_of, entered_by, is_file, is_entered, is_entered_directory, leads_to, enters}
 use Rattle.jj_matchers.specs.declared.matchers.tree_walk.Entered.{Entered}
 
--- the paths of the nodes strictly below a directory that pass a test
+-- the paths of the nodes strictly below a directory that satisfy a predicate
 abbrev pub paths_below : (NodeAt Bool → Bool) → Path → Tree Bool → List Path
 paths_below test dir tree = paths_where test (nodes_under dir tree.branches)
 
--- an answer for a directory that is sound, and by which a walk from the root goes on there
+-- `known` is a sound visit of the directory, and determines how a walk from the root continues
+-- below it
 pub record GoesOnBy (accepts opens : Path → Bool) (answer : Path → Answer) (dir : Path)
     (known : Answer) : Type 0 where
   pub sound : IsSound accepts opens dir known
@@ -24,7 +25,7 @@ pub record GoesOnBy (accepts opens : Path → Bool) (answer : Path → Answer) (
   pub below : (name : Name) (rest : Path) → enters answer [] (dir ++ name ∷ rest)
       ≡ leads_to known name (enters answer (dir ++ name ∷ []) rest)
 
--- a directory that was opened with this answer, where the walk has come to no child yet
+-- the stack frame of a directory that was entered with this visit, before its first child
 pub record IsOpened (dir : Path) (known : Answer) (tree : Tree Bool)
     (directory : Entered) : Type 0 where
   pub entered : is_entered known ≡ true
@@ -33,8 +34,8 @@ pub record IsOpened (dir : Path) (known : Answer) (tree : Tree Bool)
   pub left : directory.left.now ≡ children tree.branches
   pub by_name : is_sorted name_cmp directory.left.now ≡ true
 
--- what entering a directory adds to the directories that were entered and to those not finished,
--- unless nothing is below it
+-- the effect of entering a directory on the list of entered directories and on the stack; none if
+-- the visit is `nothing`
 abbrev pub Enters : Path → Answer → Tree Bool → List Path → List Path → List Entered → List Entered
     → Type 0
 Enters dir known tree entered new_entered unfinished new_unfinished =
@@ -42,14 +43,14 @@ Enters dir known tree entered new_entered unfinished new_unfinished =
     ⊎ ((directory : Entered) × IsOpened dir known tree directory
     × (new_entered ≡ entered ++ dir ∷ []) × (new_unfinished ≡ unfinished ++ directory ∷ []))
 
--- a directory where a walk goes on, child by child
+-- a valid stack frame
 pub record IsUnderWay (accepts opens : Path → Bool) (answer : Path → Answer)
     (directory : Entered) : Type 0 where
   pub goes_on : GoesOnBy accepts opens answer directory.dir (answer_of directory.answer)
   pub by_name : is_sorted name_cmp directory.left.now ≡ true
 
--- the paths that pass a test below the children that a walk has not come to: of one directory, and
--- of all, the last entered first
+-- the paths that satisfy a predicate, at and below the children not yet visited: of one stack
+-- frame, and of all from the top down
 abbrev pub left_in : (NodeAt Bool → Bool) → Entered → List Path
 left_in test directory = paths_where test
     (nodes_under directory.dir (branches_of directory.left.now))
@@ -58,20 +59,21 @@ abbrev pub left_in_all : (NodeAt Bool → Bool) → List Entered → List Path
 left_in_all test [] = []
 left_in_all test (directory ∷ further) = left_in_all test further ++ left_in test directory
 
--- a walk comes to each node that is left once, and to the end of each directory
+-- the termination measure: unvisited nodes count twice, and each stack frame once
 abbrev pub work_left : List Entered → ℕ
 work_left [] = 0
 work_left (directory ∷ further) = 1 + 2 * branch_count
     (branches_of directory.left.now) + work_left further
 
--- what was found and what is left give all, and all is in order if each directory's part is
+-- the paths found so far and those still to be found are all paths, which ascend if those of each
+-- stack frame do
 pub record GivesAll (test : NodeAt Bool → Bool) (all found : List Path)
     (unfinished : List Entered) : Type 0 where
   pub whole : found ++ left_in_all test unfinished ≡ all
   pub ordered : AllByRecursion (λ directory. AreInOrder (left_in test directory)) unfinished
       → AreInOrder all
 
--- a walk of a tree, by what it has found and the directories that it has not finished
+-- the loop invariant
 pub record IsOnTheWay (accepts opens : Path → Bool) (answer : Path → Answer) (tree : Tree Bool)
     (files entered : List Path) (unfinished : List Entered) : Type 0 where
   pub of_files : GivesAll (is_file accepts) (files_of accepts tree) files unfinished

@@ -1,5 +1,4 @@
--- Sets of paths that are given by a list: the paths of the list, and the paths at or below one of
--- them.
+-- Sets of paths from a finite list: the paths of the list, and the paths at or below one of them.
 -- Cited by contracts of public items: HasSamePaths, files_answer, has_prefix, is_wanted,
 -- leads_to_prefix, leads_to_wanted, prefix_answer.
 use Rattle.std.specs.Prelude.{◌≡◌, Bool, true, false, ◌&&◌, List, [], ◌∷◌, ◌++◌, if◌then◌else◌}
@@ -9,48 +8,48 @@ use Rattle.jj_paths.specs.Paths.{Path}
 use Rattle.jj_paths.specs.Orders.{path_eq}
 use Rattle.jj_matchers.specs.Answers.{Answer, all_recursively, specific, nothing}
 
--- whether a path is a base, or lies below it
+-- whether the path is the base or a descendant of it
 abbrev pub is_at_or_below : Path → Path → Bool
 is_at_or_below [] path = true
 is_at_or_below (name ∷ base) [] = false
 is_at_or_below (name ∷ base) (first ∷ path) = bytes_eq name first && is_at_or_below base path
 
--- whether a path lies strictly below a base
+-- whether the path is a proper descendant of the base
 abbrev pub is_below : Path → Path → Bool
 is_below [] [] = false
 is_below [] (first ∷ path) = true
 is_below (name ∷ base) [] = false
 is_below (name ∷ base) (first ∷ path) = bytes_eq name first && is_below base path
 
--- whether a path is one of the list
+-- whether the path is on the list
 abbrev pub is_wanted : List Path → Path → Bool
 is_wanted wanted path = list_any (path_eq path) wanted
 
--- two lists have the same paths, in any order and however often
+-- two lists have the same paths, in any order and with any repetitions
 abbrev pub HasSamePaths : List Path → List Path → Type 0
 HasSamePaths paths others = (test : Path → Bool) → list_any test paths ≡ list_any test others
 
--- whether one of the list lies strictly below a directory
+-- whether a path of the list is a proper descendant of the directory
 abbrev pub leads_to_wanted : List Path → Path → Bool
 leads_to_wanted wanted dir = list_any (is_below dir) wanted
 
--- the answer of a list of files: the children of the directory on the way to one, and those that
--- are one
+-- the visit for a list of files: the children that are proper ancestors of one as directories, and
+-- the children that are one as files
 abbrev pub files_answer : List Path → Path → Answer
 files_answer wanted dir =
     if leads_to_wanted wanted dir then specific (λ name. leads_to_wanted wanted (dir ++ name ∷ []))
     (λ name. is_wanted wanted (dir ++ name ∷ [])) else nothing
 
--- whether a path is a prefix of the list, or lies below one
+-- whether the path is at or below a prefix on the list
 abbrev pub has_prefix : List Path → Path → Bool
 has_prefix prefixes path = list_any (λ prefix. is_at_or_below prefix path) prefixes
 
--- whether a path is a prefix of the list, or lies above one
+-- whether the path is at or above a prefix on the list
 abbrev pub leads_to_prefix : List Path → Path → Bool
 leads_to_prefix prefixes path = list_any (is_at_or_below path) prefixes
 
--- the answer of a list of prefixes: everything at one or below, else the children of the directory
--- at one or on the way to one, and those that are one
+-- the visit for a list of prefixes: everything at or below one; else the children at or above one
+-- as directories, and the children that are one as files
 abbrev pub prefix_answer : List Path → Path → Answer
 prefix_answer prefixes dir =
     if has_prefix prefixes dir then all_recursively

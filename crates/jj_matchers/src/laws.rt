@@ -1,17 +1,16 @@
-//! Laws of the sets of matchers, and of what a walk by one finds. Each function does nothing, and
-//! its contract is the law.
+//! Laws of matchers and of walks, as contracts of functions with empty bodies.
 ghost use Rattle.jj_matchers.specs.Laws.{FindsMarks, FindsInOrder, HasMembers, HasAllBelow, HasMatches};
 
-/// The files that `walk_matching` gives for a tree of marks are exactly the marks below the root
-/// that the matcher accepts, in path order and each once.
+/// Proves that `walk_matching` finds exactly the marked paths below the root that the matcher
+/// accepts, in path order and each once.
 pub fn walks_find_accepted_marks()
     ensures files { FindsMarks }
     ensures ordered { FindsInOrder }
 {}
 
-/// The set of a `FilesMatcher` has exactly its list, that of a `PrefixMatcher` all paths at or
-/// below one of its list, and that of a `GlobsMatcher` all paths strictly below the directory of a
-/// pattern whose glob stands for the text of the rest.
+/// Proves that a `FilesMatcher` accepts exactly its files, a `PrefixMatcher` exactly the paths at
+/// or below one of its prefixes, and a `GlobsMatcher` exactly the paths strictly below the
+/// directory of a pattern whose glob matches the rest of the path.
 pub fn sets_have_their_meaning()
     ensures files { HasMembers }
     ensures prefixes { HasAllBelow }

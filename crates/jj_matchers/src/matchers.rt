@@ -1,4 +1,5 @@
-//! Matchers: sets of paths that can tell where below a directory their paths are.
+//! The trait `Matcher`, a predicate on paths that can prune a directory walk, and its trivial
+//! implementations.
 
 mod children_visit;
 mod difference_matcher;
@@ -36,23 +37,24 @@ pub use visits::{Visit, VisitDirs, VisitFiles};
 
 /// A set of paths.
 pub trait Matcher: Drop {
-    /// The paths of the set.
+    /// The paths in the set.
     ghost accepts: { Self → Path → Bool };
 
-    /// The directories that a walk may open.
+    /// The directories that a walk may enter.
     ghost opens: { Self → Path → Bool };
 
-    /// The answer for a directory.
+    /// The visit of a directory.
     ghost answers: { Self → Path → Answer };
 
-    /// The names from which the answer for a directory chooses, where it does not name every child.
+    /// A finite list of all names that a `Specific` visit of the directory mentions, unless it
+    /// mentions every name. With it, an intersection can decide whether two visits share a name.
     ghost candidates: { Self → Path → List Name };
 
-    /// Whether the path is in the set.
+    /// Returns whether the path is in the set.
     fn matches(&self, file: RepoPath<'_>) -> bool
         ensures { result ≡ accepts self.now (path_of file.entry) };
 
-    /// Where to look for paths of the set strictly below a directory.
+    /// Returns where to look for paths of the set strictly below a directory.
     fn visit(&self, alloc: Global, dir: RepoPath<'_>) -> Result<Visit, AllocError>
         ensures answer { IfOk result (λ visit. answer_of visit
             ≡ answers self.now (path_of dir.entry)) }
@@ -80,7 +82,7 @@ impl<T: Matcher> Matcher for &T {
     }
 }
 
-/// A boxed matcher answers as the matcher that it holds.
+/// Delegates to the matcher in the box.
 impl Matcher for Box<dyn Matcher> {
     ghost accepts = { λ b. (Matcher-box b).accepts b.value };
 
@@ -99,7 +101,7 @@ impl Matcher for Box<dyn Matcher> {
     }
 }
 
-/// No path.
+/// The empty set.
 #[derive(Debug, PartialEq, Eq, Drop)]
 pub struct NothingMatcher;
 
@@ -121,7 +123,7 @@ impl Matcher for NothingMatcher {
     }
 }
 
-/// Every path.
+/// The set of all paths.
 #[derive(Debug, PartialEq, Eq, Drop)]
 pub struct EverythingMatcher;
 

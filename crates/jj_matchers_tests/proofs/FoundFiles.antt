@@ -1,4 +1,4 @@
--- A walk finds the marks below the root that the matcher's set has.
+-- A walk finds the accepted marks below the root, for any description of the accepted paths.
 use Rattle.std.proofs.Common.{◌≡◌, ◌≢◌, Bool, true, List, [], Contains, sym, subst}
 use Rattle.std.specs.Prelude.{◌↔◌}
 use Rattle.jj_paths.specs.Paths.{Path}

@@ -1,4 +1,4 @@
--- A walk by one glob in a directory finds the marks below the directory whose rest it stands for.
+-- A walk with one glob in a directory finds the marks below the directory whose rest it matches.
 use Rattle.std.proofs.Common.{◌≡◌, Bool, true, false, List, [], ◌∷◌, ◌++◌, Contains, ap, sym, subst, ◌∙◌}
 use Rattle.std.specs.Prelude.{◌↔◌}
 use Rattle.jj_paths.specs.Paths.{Name, Path, path_text}
@@ -10,7 +10,7 @@ use Rattle.jj_matchers.specs.Patterns.{Patterns, IsAccepted, is_accepted}
 use Rattle.jj_matchers.specs.Laws.{FindsMarks}
 use Rattle.jj_matchers_tests.proofs.Singles.{any_one, one_any}
 
--- the path lies below the directory, and the glob stands for the text of the rest
+-- the path is below the directory, and the glob matches the rest
 abbrev pub LiesBelow : Path → GlobSpec → Path → Type 0
 LiesBelow dir glob path = (name : Name) × (rest : Path) × (path ≡ dir ++ name ∷ rest)
     × IsMatch glob (path_text (name ∷ rest))
@@ -23,7 +23,7 @@ one_pattern dir glob = record { prefix_paths = false; patterns = (dir, glob) ∷
 abbrev pub with_pattern : Patterns → Path → GlobSpec → Patterns
 with_pattern set dir glob = record { prefix_paths = set.prefix_paths; patterns = set.patterns ++ (dir, glob) ∷ [] }
 
--- a pattern that is added to none is the one
+-- a pattern that is added to an empty set is the only one
 pub one_added : (empty added : Patterns) (dir : Path) (glob known : GlobSpec) → empty ≡ record { prefix_paths = false; patterns = [] } → glob ≡ known → added ≡ with_pattern empty dir glob
     → added ≡ one_pattern dir known
 one_added empty added dir glob known none same is = is ∙ ap (λ set. with_pattern set dir glob) none ∙ ap (one_pattern dir) same
@@ -37,7 +37,7 @@ abbrev pub HasMatchesOf : Patterns → Patterns → Type 0
 HasMatchesOf own set = (path : Path) → (is_accepted own path ≡ true) ↔ IsAccepted set path
 
 module _ (set : Patterns) (dir : Path) (glob : GlobSpec) (accepts : HasMatchesOf set (one_pattern dir glob)) where
-  -- what a walk by it finds
+  -- the files that a walk with it finds
   pub found_by_glob : (marks : List Path) (tree : Tree Bool) (found : List Path) → FindsMarks → IsMarkedTree marks tree → found ≡ files_of (is_accepted set) tree
       → (path : Path) → Contains found path ↔ (Contains marks path × LiesBelow dir glob path)
   found_by_glob marks tree found finds made is path =

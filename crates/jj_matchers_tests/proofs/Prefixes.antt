@@ -1,4 +1,4 @@
--- A set of one prefix has the paths at or below it, and a walk by such a set less another finds them.
+-- Walks with the difference of two sets of one prefix each.
 use Rattle.std.proofs.Common.{◌≡◌, ◌≢◌, Bool, true, false, ◌&&◌, not, List, [], ◌∷◌, Contains, refl, ap, sym, subst, ◌∙◌}
 use Rattle.std.specs.Prelude.{◌↔◌, Any}
 use mathlib.Core.Bool.{false≢true}
@@ -19,7 +19,7 @@ not_false false e = refl
 abbrev pub HasBelow : List Path → Path → Type 0
 HasBelow prefixes base = (path : Path) → (has_prefix prefixes path ≡ true) ↔ Any (IsBelow path) (base ∷ [])
 
--- whether a path is in such a set and not in another
+-- membership in the difference
 pub one_less_another : (wanted unwanted : List Path) (dir without path : Path) → HasBelow wanted dir → HasBelow unwanted without
     → ((has_prefix wanted path && not (has_prefix unwanted path)) ≡ true) ↔ (IsBelow path dir × (¬ IsBelow path without))
 one_less_another wanted unwanted dir without path first second =
@@ -31,7 +31,7 @@ one_less_another wanted unwanted dir without path first second =
           (ap not (false_from_ne_true (has_prefix unwanted path) (λ e. out (any_one (IsBelow path) without (outside.0 e)))))),
     )
 
--- what a walk by two such sets finds
+-- the files that a walk with the difference finds
 pub found_below : (marks : List Path) (tree : Tree Bool) (wanted unwanted : List Path) (dir without : Path) (found : List Path) → FindsMarks → IsMarkedTree marks tree
     → HasBelow wanted dir → HasBelow unwanted without → found ≡ files_of (λ path. has_prefix wanted path && not (has_prefix unwanted path)) tree
     → (path : Path) → Contains found path ↔ (Contains marks path × (path ≢ []) × IsBelow path dir × (¬ IsBelow path without))

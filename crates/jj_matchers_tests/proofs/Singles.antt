@@ -1,4 +1,4 @@
--- What holds of some element of a list of one.
+-- Properties of some element of a list with one element.
 use Rattle.std.proofs.Common.{zero, suc, [], ◌∷◌, refl, sym, subst, arith}
 use Rattle.std.specs.List.{Any}
 

@@ -1,4 +1,4 @@
--- What the matcher of top-level names owes of its visits, and which paths it has.
+-- Soundness of the visits of the matcher of top-level names, and the paths that it accepts.
 use Rattle.std.proofs.Common.{◌≡◌, Bool, true, false, not, List, [], ◌∷◌, Contains, get_or, refl, inr, ap, sym, subst, ◌∙◌, if◌then◌else◌}
 use Rattle.std.specs.Prelude.{◌↔◌, IsTrue}
 use mathlib.Core.Bool.{false≢true}
@@ -12,14 +12,14 @@ use Rattle.jj_matchers.specs.Visits.{has_names, is_among}
 use Rattle.jj_matchers_tests.specs.TopLevel.{starts_among, top_level_answer}
 
 module _ (names : List Name) where
-  -- two sets of the names name all accepted paths at the root
+  -- the visit of the names as directories and as files is sound at the root
   pub names_all : (dir : Path) (dirs files : List Name) → dir ≡ [] → dirs ≡ names → files ≡ names → NamesAll (starts_among names) (starts_among names) dir (is_among dirs) (is_among files)
   names_all dir dirs files root d f = rw (root, d, f) (record { files_named = λ name h. h; dirs_named = λ name next rest h. h; dirs_open = λ name h. h })
 
   pub among : (keys : List Name) → keys ≡ names → IsAllOrAmong names (is_among keys)
   among keys same = inr (λ name h. subst (λ l. is_among l name ≡ true) same h)
 
-  -- below one of the names the answer is everything, and below another name nothing
+  -- the visit is everything at or below one of the names, and nothing below another name
   pub all_below : (dir : Path) → starts_among names dir ≡ true → (all_recursively ≡ top_level_answer names dir) × IsSound (starts_among names) (starts_among names) dir all_recursively
   all_below [] h = absurd (false≢true h)
   all_below (first ∷ rest) h = (ap (λ b. if b then all_recursively else nothing) (sym h), λ name more. (h, h))
@@ -32,7 +32,7 @@ module _ (names : List Name) where
   at_root [] e = refl
   at_root (first ∷ rest) e = absurd (false≢true (sym e))
 
-  -- the names of the list
+  -- `is_among` decides membership
   decides : (name : Name) → (is_among names name ≡ true) ↔ Contains names name
   decides name = (
     (λ h. let found = Any-from_list_any (bytes_eq name) names h in
@@ -46,7 +46,7 @@ module _ (names : List Name) where
   first_same : (a b : Name) (xs ys : Path) → a ∷ xs ≡ b ∷ ys → a ≡ b
   first_same a b xs ys e = cc
 
-  -- the paths of the set, in plain words
+  -- the accepted paths, in terms of list membership
   pub starts_with : (path : Path) → (starts_among names path ≡ true) ↔ ((name : Name) × (rest : Path) × (path ≡ name ∷ rest) × Contains names name)
   starts_with [] = ((λ h. absurd (false≢true h)), (λ found. absurd (no_first found.0 found.1 found.2)))
   starts_with (first ∷ rest) = (

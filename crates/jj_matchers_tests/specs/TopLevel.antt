@@ -5,12 +5,12 @@ use Rattle.jj_paths.specs.Paths.{Name, Path}
 use Rattle.jj_matchers.specs.Answers.{Answer, all_recursively, nothing}
 use Rattle.jj_matchers.specs.Visits.{is_among, sets_answer}
 
--- whether the first name of a path is one of the names
+-- whether the first name of the path is on the list
 abbrev pub starts_among : List Name → Path → Bool
 starts_among names [] = false
 starts_among names (name ∷ rest) = is_among names name
 
--- the answer: the names at the root, and below it everything or nothing
+-- the visit: the names at the root, and below it everything or nothing
 abbrev pub top_level_answer : List Name → Path → Answer
 top_level_answer names [] = sets_answer names names
 top_level_answer names (name ∷ rest) = if is_among names name then all_recursively else nothing

@@ -1,4 +1,4 @@
-//! Callers of matchers and of the walk, proved from what these promise.
+//! Callers of matchers and walks, proved from the contracts of these.
 ghost use Rattle.std.specs.Prelude.{◌≡◌, ◌≢◌, ◌↔◌, true, false, [], ◌∷◌, ◌++◌, map, Contains, IfOk, IfErr};
 ghost use Rattle.std.specs.List.Sorted.{IsStrictlySortedBy};
 ghost use Rattle.jj_paths.specs.Paths.{Name, Path, IsBelow, path_cmp, path_text};
@@ -16,8 +16,8 @@ use jj_matchers::matchers::{
 use jj_paths::repo_path::{RepoPath, RepoPathBuf};
 use std::alloc::{AllocError, Global};
 
-/// The files of a list at or below one directory and not at or below another, in path order and
-/// each once. The root is no file.
+/// Returns the files of a list that are at or below `dir` and not at or below `without`, in path
+/// order and each once, without the root.
 pub fn files_below(
     alloc: Global,
     files: &[RepoPath<'_>],
@@ -37,9 +37,8 @@ pub fn files_below(
     Ok(walk_matching(alloc, &tree, &matcher)?.files)
 }
 
-/// The files of a list that lie below a directory, where a pattern stands for the text of the rest
-/// of their paths, in path order and each once. An `Err` tells the first fault of the pattern, or
-/// that there was no memory.
+/// Returns the files of a list that are below a directory and whose rest matches a pattern, in path
+/// order and each once. Returns the first syntax error of the pattern, or `Memory`.
 pub fn files_matching(
     alloc: Global,
     files: &[RepoPath<'_>],
@@ -62,7 +61,7 @@ pub fn files_matching(
     Ok(walk_matching(alloc, &tree, &matcher)?.files)
 }
 
-/// The files of a list that another list has too, in path order and each once. The root is no file.
+/// Returns the files on both lists, in path order and each once, without the root.
 pub fn files_of_both(
     alloc: Global,
     files: &[RepoPath<'_>],

@@ -1,5 +1,4 @@
-//! Unions, differences and intersections of matchers: which paths they accept, and their answers
-//! for directories.
+//! Tests of unions, differences and intersections of matchers.
 use crate::fixtures::{Wanted, answers, files, globs, prefix};
 use jj_content_tests::once_more::{Passed, passes};
 use jj_matchers::matchers::{
@@ -10,10 +9,10 @@ use std::alloc::Global;
 use std::process::Abort;
 use std::test::Fail;
 
-// Two lists of paths, and what the matcher of their two matchers accepts, refuses and answers.
+// The prefixes of two matchers, and the expectations of their combination.
 type Row = (&'static str, &'static str, Wanted);
 
-// Checks the rows of a kind of matcher.
+// Checks each row with a combination of two matchers.
 fn check_each<R, M, F>(rt: &R, alloc: Global, rows: &[Row], combine: F) -> Passed
 where
     R: Abort,
@@ -162,7 +161,7 @@ const FILES_AND_GLOBS: Wanted = (
     &[". a/d c", "a * *", "d * *"],
 );
 
-// Everything and every name take all, and nothing adds none.
+// Everything absorbs, nothing is neutral, and all names absorb names.
 fn unions_of_kinds<R: Abort>(rt: &R, alloc: Global) -> Passed {
     let all = UnionMatcher::new(files(rt, alloc, "a")?, EverythingMatcher);
     answers(rt, alloc, all, &WHOLE)?;
@@ -201,7 +200,7 @@ fn differences_of_kinds<R: Abort>(rt: &R, alloc: Global) -> Passed {
 
 const WHOLE_FILES: Wanted = ("a/x b", ". a", &[". a b", "a - x", "b - -"]);
 
-// Everything and every name give way, and two empty sets are nothing.
+// Nothing absorbs, everything is neutral, and two empty sets of names are nothing.
 fn intersections_of_kinds<R: Abort>(rt: &R, alloc: Global) -> Passed {
     for (one, other) in [("a", "b"), ("a/x", "a")] {
         let apart = IntersectionMatcher::new(files(rt, alloc, one)?, files(rt, alloc, other)?);
@@ -244,7 +243,7 @@ const SOURCES: Wanted = (
     ],
 );
 
-// The sources less what was built, and one file more, all without temporary files.
+// (src - src/out + readme) & (everything - temporary files)
 fn nested<R: Abort>(rt: &R, alloc: Global) -> Passed {
     let built = prefix(rt, alloc, "src/out")?;
     let sources = DifferenceMatcher::new(prefix(rt, alloc, "src")?, built);

@@ -1,6 +1,6 @@
-//! Paths, patterns and trees of marks of literal texts, and what each test asks of a matcher.
+//! Matchers, visits and paths parsed from string literals, and assertions about matchers.
 //
-// A list in a text is joined by blanks, and in it `.` is the root.
+// Lists are separated by blanks, and `.` is the root.
 use jj_content_tests::once_more::Passed;
 use jj_globs::glob::GlobError;
 use jj_matchers::matchers::{
@@ -13,7 +13,7 @@ use std::alloc::{AllocError, Global};
 use std::collections::HashSet;
 use std::process::Abort;
 
-// A path of this text, which takes no memory.
+// Creates a path, or panics. Does not allocate for a valid path.
 fn path<'a, R: Abort>(rt: &R, alloc: Global, text: &'a str) -> RepoPath<'a> {
     match RepoPath::from_internal_string(alloc, if text == "." { "" } else { text }) {
         Ok(path) => path,
@@ -21,7 +21,6 @@ fn path<'a, R: Abort>(rt: &R, alloc: Global, text: &'a str) -> RepoPath<'a> {
     }
 }
 
-// The items of a list.
 fn listed<'a>(alloc: Global, list: &'a str) -> Result<Vec<&'a str>, AllocError> {
     let mut items = Vec::new(alloc);
     for item in list.split(' ') {
@@ -32,7 +31,6 @@ fn listed<'a>(alloc: Global, list: &'a str) -> Result<Vec<&'a str>, AllocError> 
     Ok(items)
 }
 
-// The paths of a list.
 fn paths<'a, R: Abort>(
     rt: &R,
     alloc: Global,
@@ -45,7 +43,7 @@ fn paths<'a, R: Abort>(
     Ok(paths)
 }
 
-// The set of the names that the text joins by `/`; `-` is the empty set.
+// Parses a set of names, joined by `/`; `-` is the empty set.
 fn names<R: Abort>(
     rt: &R,
     alloc: Global,
@@ -60,8 +58,8 @@ fn names<R: Abort>(
     Ok(names)
 }
 
-// The answer with these children as directories and as files: sets of names, or `*` for every
-// child. `**` stands for everything below, and two empty sets for nothing.
+// Parses a visit: sets of names for directories and for files, or `*` for every child. `**` is
+// `AllRecursively`, and two empty sets are `Nothing`.
 fn answer<R: Abort>(rt: &R, alloc: Global, dirs: &str, files: &str) -> Result<Visit, AllocError> {
     if dirs == "**" {
         return Ok(Visit::AllRecursively);
@@ -82,12 +80,12 @@ fn answer<R: Abort>(rt: &R, alloc: Global, dirs: &str, files: &str) -> Result<Vi
     Ok(Visit::Specific { dirs, files })
 }
 
-/// Lists of the paths that a matcher accepts and that it refuses, and its answers. A row of them is
-/// a directory, and its children that are worth a look as directories and as files, as `answer`
-/// takes them.
+/// Expectations of a matcher: accepted paths, rejected paths, and visits. A visit is a row of a
+/// directory, the children to visit as directories, and those to visit as files, as `answer` parses
+/// them.
 pub type Wanted = (&'static str, &'static str, &'static [&'static str]);
 
-/// Checks which paths a matcher accepts and which it refuses, and its answers.
+/// Asserts which paths a matcher accepts and rejects, and its visits.
 pub fn answers<R: Abort, M: Matcher>(rt: &R, alloc: Global, matcher: M, wanted: &Wanted) -> Passed {
     let (accepted, refused, rows) = wanted;
     for file in paths(rt, alloc, accepted)? {
@@ -105,7 +103,7 @@ pub fn answers<R: Abort, M: Matcher>(rt: &R, alloc: Global, matcher: M, wanted: 
     Ok(())
 }
 
-// Checks the answer for a directory, by its children as directories and as files.
+// Asserts the visit of a directory.
 fn visits<R: Abort, M: Matcher>(
     rt: &R,
     alloc: Global,
@@ -124,17 +122,16 @@ fn visits<R: Abort, M: Matcher>(
     Ok(())
 }
 
-/// The matcher of these files.
+/// Returns the matcher of these files.
 pub fn files<R: Abort>(rt: &R, alloc: Global, list: &str) -> Result<FilesMatcher, AllocError> {
     FilesMatcher::new(alloc, paths(rt, alloc, list)?.as_slice())
 }
 
-/// The matcher of these prefixes.
+/// Returns the matcher of these prefixes.
 pub fn prefix<R: Abort>(rt: &R, alloc: Global, list: &str) -> Result<PrefixMatcher, AllocError> {
     PrefixMatcher::new(alloc, paths(rt, alloc, list)?.as_slice())
 }
 
-// The pattern of this text.
 fn pattern<R: Abort>(rt: &R, alloc: Global, text: &str) -> Result<PathGlobPattern, AllocError> {
     match PathGlobPattern::parse(alloc, text) {
         Ok(pattern) => Ok(pattern),
@@ -143,7 +140,7 @@ fn pattern<R: Abort>(rt: &R, alloc: Global, text: &str) -> Result<PathGlobPatter
     }
 }
 
-/// The matcher of these globs, each behind its directory and a colon.
+/// Returns the matcher of these globs, each after its directory and a colon.
 pub fn globs<R: Abort>(
     rt: &R,
     alloc: Global,
@@ -167,8 +164,8 @@ pub fn globs<R: Abort>(
     builder.build()
 }
 
-/// Checks which files a walk of a tree with marks at these paths finds, and which directories it
-/// enters, both in this order.
+/// Asserts which files a walk of a tree with these marks finds, and which directories it enters,
+/// both in this order.
 pub fn walks<R: Abort, M: Matcher>(
     rt: &R,
     alloc: Global,
@@ -192,7 +189,6 @@ pub fn walks<R: Abort, M: Matcher>(
     Ok(())
 }
 
-// Whether these are just the paths, in this order.
 fn are_paths(paths: &[RepoPathBuf], wanted: &[RepoPath<'_>]) -> bool {
     paths.len() == wanted.len()
         && paths

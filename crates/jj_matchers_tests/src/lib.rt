@@ -1,7 +1,6 @@
 //! Tests of matchers and of the walk, over the public calls.
 //
-// In a run in which one request for memory is refused, a test answers that, and is then run once
-// more, when there is memory.
+// In a run with an injected allocation failure, a test returns the failure and is run once more.
 #![tactic(auto)]
 
 #[cfg(test)]

@@ -1,5 +1,4 @@
-//! A matcher that names the root's children by `Visit::sets`, and a walk by it, proved from what
-//! these promise.
+//! A user-defined matcher that uses `Visit::sets`, and a walk with it, proved from the contracts.
 ghost use Rattle.std.specs.Prelude.{◌≡◌, ◌↔◌, ◌∷◌, map, Contains, IfOk};
 ghost use Rattle.std.specs.List.Sorted.{IsStrictlySortedBy};
 ghost use Rattle.jj_paths.specs.Paths.{Name, Path, path_cmp};
@@ -13,7 +12,7 @@ use jj_paths::repo_path::{RepoPath, RepoPathBuf, RepoPathComponent, RepoPathComp
 use std::alloc::{AllocError, Global};
 use std::collections::HashSet;
 
-/// The paths at or below the root's children of some names.
+/// The paths at or below children of the root with these names.
 #[derive(Drop)]
 pub struct TopLevelMatcher {
     names: HashSet<RepoPathComponentBuf>,
@@ -69,7 +68,8 @@ impl Matcher for TopLevelMatcher {
     }
 }
 
-/// The files of a list at or below the root's children of some names, in path order and each once.
+/// Returns the files of a list that are at or below one of these children of the root, in path
+/// order and each once.
 pub fn files_under(
     alloc: Global,
     files: &[RepoPath<'_>],

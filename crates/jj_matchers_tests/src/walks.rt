@@ -1,4 +1,4 @@
-//! What walks by combined and by boxed matchers find, and where they go.
+//! Tests of walks with combined and with boxed matchers.
 use crate::fixtures::{Wanted, answers, files, globs, prefix, walks};
 use jj_content_tests::once_more::{Passed, passes};
 use jj_matchers::matchers::{
@@ -26,7 +26,7 @@ const AROUND: Wanted = (
     &[". * *", "a - kept", "a/kept - -", "b ** -"],
 );
 
-// Checks a matcher of all that is not below `a`, and of one file there.
+// Checks a matcher of all paths that are not at or below `a`, and of `a/kept`.
 fn walks_around<R: Abort, M: Matcher>(rt: &R, alloc: Global, matcher: M) -> Passed {
     answers(rt, alloc, &matcher, &AROUND)?;
     let marks = "c b/x a/left a/kept a/d/e";
@@ -40,7 +40,7 @@ fn all_but_a<R: Abort>(
     Ok(DifferenceMatcher::new(EverythingMatcher, prefix(rt, alloc, "a")?))
 }
 
-// A box of a named matcher, which is a matcher itself.
+// A matcher that delegates to a boxed matcher of a known type.
 #[derive(Drop)]
 struct Boxed<M> {
     matcher: Box<M>,
@@ -64,8 +64,7 @@ impl<M: Matcher> Matcher for Boxed<M> {
     }
 }
 
-// A box with a matcher gives what the matcher itself gives, in a union, around one, and both at
-// once.
+// Boxed matchers inside a union, a boxed union, and both behave like the matchers themselves.
 fn walks_boxed<R: Abort>(rt: &R, alloc: Global) -> Passed {
     let inner: Box<dyn Matcher> = Box::new(alloc, all_but_a(rt, alloc)?)?;
     let kept = files(rt, alloc, "a/kept")?;

@@ -39,7 +39,7 @@ fn glob_parse(alloc: Global, fields: &Fields, values: &mut Values) -> Result<(),
     agree(glob.as_str() == text, "text of the glob")
 }
 
-// For each further field, whether the glob matches it.
+// Appends for each further field whether the glob matches it.
 fn glob_match(alloc: Global, fields: &Fields, values: &mut Values) -> Result<(), RowError> {
     let Some(glob) = parse(alloc, fields, values)? else {
         return Ok(());
@@ -50,7 +50,7 @@ fn glob_match(alloc: Global, fields: &Fields, values: &mut Values) -> Result<(),
     Ok(())
 }
 
-// For each further field, whether the glob matches it, or a prefix of it that `/` follows.
+// Appends for each further field whether the glob matches it, or a prefix of it that `/` follows.
 fn glob_prefix(alloc: Global, fields: &Fields, values: &mut Values) -> Result<(), RowError> {
     let Some(glob) = parse(alloc, fields, values)? else {
         return Ok(());
@@ -61,7 +61,7 @@ fn glob_prefix(alloc: Global, fields: &Fields, values: &mut Values) -> Result<()
     Ok(())
 }
 
-// The literal bytes before the glob's first sign.
+// Appends the literal prefix of the glob.
 fn glob_front(alloc: Global, fields: &Fields, values: &mut Values) -> Result<(), RowError> {
     if let Some(glob) = parse(alloc, fields, values)? {
         values.bytes(glob.front());
@@ -69,7 +69,7 @@ fn glob_front(alloc: Global, fields: &Fields, values: &mut Values) -> Result<(),
     Ok(())
 }
 
-// The regular expression that matches as the glob does.
+// Appends the equivalent regular expression.
 fn glob_regex(alloc: Global, fields: &Fields, values: &mut Values) -> Result<(), RowError> {
     if let Some(glob) = parse(alloc, fields, values)? {
         values.allocated(glob.regex_text(alloc));
@@ -77,7 +77,7 @@ fn glob_regex(alloc: Global, fields: &Fields, values: &mut Values) -> Result<(),
     Ok(())
 }
 
-// For each field, the glob that matches exactly it.
+// Appends for each field the escaped glob, and checks that it matches the field.
 fn glob_escape(alloc: Global, fields: &Fields, values: &mut Values) -> Result<(), RowError> {
     for index in 0..fields.len() {
         let text = fields.string(index)?;
@@ -90,7 +90,7 @@ fn glob_escape(alloc: Global, fields: &Fields, values: &mut Values) -> Result<()
     Ok(())
 }
 
-// For each byte, whether it is special in a glob.
+// Appends for each byte whether it is special in a glob.
 fn glob_special(fields: &Fields, values: &mut Values) -> Result<(), RowError> {
     for byte in fields.bytes(0)? {
         values.flag(is_special(*byte));
@@ -98,7 +98,7 @@ fn glob_special(fields: &Fields, values: &mut Values) -> Result<(), RowError> {
     Ok(())
 }
 
-// A string, repeated, and then another one.
+// Returns the first field, repeated as often as the second one says, and then the third.
 fn repeat(alloc: Global, fields: &Fields) -> Result<String, RowError> {
     let times = fields.index(1)?;
     let unit = fields.string(0)?;
@@ -111,8 +111,7 @@ fn repeat(alloc: Global, fields: &Fields) -> Result<String, RowError> {
     Ok(whole)
 }
 
-// Whether the repeated glob of the first group matches the repeated string of the second, and
-// whether it matches a prefix.
+// Matches the repeated glob of the first group with the repeated string of the second.
 fn glob_repeat(alloc: Global, request: &Request, values: &mut Values) -> Result<(), RowError> {
     let text = repeat(alloc, request.group(1)?)?;
     let whole = repeat(alloc, request.group(0)?)?;
@@ -123,7 +122,7 @@ fn glob_repeat(alloc: Global, request: &Request, values: &mut Values) -> Result<
     Ok(())
 }
 
-// The glob `**/{n0.rs,n1.rs,..,other}` of so many numbered names.
+// Returns the glob `**/{n0.rs,n1.rs,..,other}` with this many numbered names.
 fn numbered_names(alloc: Global, count: usize) -> Result<String, RowError> {
     let mut text = String::from_str(alloc, "**/{")?;
     for number in 0..count {
@@ -133,7 +132,7 @@ fn numbered_names(alloc: Global, count: usize) -> Result<String, RowError> {
     Ok(text)
 }
 
-// For each further field, whether the glob of so many numbered names matches it.
+// Appends for each further field whether the glob of numbered names matches it.
 fn glob_names(alloc: Global, fields: &Fields, values: &mut Values) -> Result<(), RowError> {
     let text = numbered_names(alloc, fields.index(0)?)?;
     let Some(glob) = parse_text(alloc, text.as_str(), true, false, values)? else {

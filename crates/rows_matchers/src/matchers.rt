@@ -1,6 +1,6 @@
-//! Requests on matchers: which files one accepts, its visits of directories, and what a walk by it
-//! finds. The first field is the kind of matcher, its arguments follow; the last group has the
-//! files, the directories or the marked paths.
+//! Requests on matchers: the files that one accepts, its visits of directories, and walks with it.
+//! The first field is the kind of matcher, its arguments follow; the last group has the files, the
+//! directories or the marked paths.
 use crate::paths::{parse_path, parse_paths};
 use crate::visits::put_visit;
 use jj_globs::glob::GlobError;
@@ -50,7 +50,7 @@ fn put_paths(paths: &[RepoPathBuf], values: &mut Values) {
     }
 }
 
-// The files that a walk finds, and the directories that it enters.
+// Appends the files that a walk finds, and the directories that it enters.
 fn put_walk<M: Matcher>(
     alloc: Global,
     matcher: &M,
@@ -102,7 +102,7 @@ fn ask_prefix(
     ask(alloc, name, &matcher, request.group(1)?, values)
 }
 
-// A glob, which ignores case if it begins with `(?i)`.
+// Parses a glob, which ignores case if it begins with `(?i)`.
 fn parse_glob(alloc: Global, text: &str) -> Result<Result<PathGlobPattern, GlobError>, RowError> {
     let parsed = match text.strip_prefix("(?i)") {
         Some(text) => PathGlobPattern::parse_i(alloc, text),
@@ -114,7 +114,7 @@ fn parse_glob(alloc: Global, text: &str) -> Result<Result<PathGlobPattern, GlobE
     }
 }
 
-// A directory and its glob, joined by a colon.
+// Splits a field into a directory and its glob, at the first colon.
 fn split_pattern(field: &str) -> Result<(&str, &str), RowError> {
     match field.split_once(':') {
         Some(pattern) => Ok(pattern),
@@ -188,8 +188,8 @@ fn ask_kind(
     }
 }
 
-// The matchers of a builder that accepts what lies below a match: of a clone after each pattern, a
-// clone of its own one, and last the one without what lies below a match.
+// Builds a matcher of a clone of the builder after each pattern, a clone of the final matcher, and
+// the final one without paths below a match.
 fn build_each(
     alloc: Global,
     dirs: &[RepoPath<'_>],
@@ -206,7 +206,7 @@ fn build_each(
     Ok(matchers)
 }
 
-// For each of these matchers, whether it accepts each file.
+// Appends for each of these matchers and each file whether it accepts the file.
 fn globs_builder(alloc: Global, request: &Request, values: &mut Values) -> Result<(), RowError> {
     let fields = request.group(0)?;
     let files = request.group(1)?;
@@ -218,7 +218,7 @@ fn globs_builder(alloc: Global, request: &Request, values: &mut Values) -> Resul
     Ok(())
 }
 
-// The regular expression and the debug form of a path's glob, or its error.
+// Appends the regular expression and the debug form of a path's glob, or its error.
 fn path_glob(alloc: Global, fields: &Fields, values: &mut Values) -> Result<(), RowError> {
     let text = fields.string(0)?;
     match parse_glob(alloc, text)? {
@@ -235,7 +235,7 @@ fn path_glob(alloc: Global, fields: &Fields, values: &mut Values) -> Result<(), 
     }
 }
 
-// The debug forms of the matchers of no path and of every path.
+// Appends the debug forms of the matchers of no path and of every path.
 fn debug_matchers(values: &mut Values) -> Result<(), RowError> {
     values.debug(&NothingMatcher);
     values.debug(&EverythingMatcher);

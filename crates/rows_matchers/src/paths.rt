@@ -1,4 +1,4 @@
-//! Paths and names in fields: a path is written in its internal form, the root as `.`.
+//! Parser of paths and names in fields: paths in their internal form, the root as `.`.
 use jj_paths::repo_path::{RepoPath, RepoPathComponentBuf};
 use rows::request::Fields;
 use rows::row_error::RowError;
@@ -12,7 +12,7 @@ pub(crate) fn parse_path(alloc: Global, text: &str) -> Result<RepoPath<'_>, RowE
     }
 }
 
-// The paths of the fields from an index on.
+// Parses the paths in the fields from `start`.
 pub(crate) fn parse_paths(
     alloc: Global,
     fields: &Fields,
@@ -25,7 +25,7 @@ pub(crate) fn parse_paths(
     Ok(paths)
 }
 
-// The set of names that are joined by `/`; `-` is the empty set.
+// Parses a set of names, joined by `/`; `-` is the empty set.
 pub(crate) fn parse_names(
     alloc: Global,
     joined: &str,
@@ -39,7 +39,7 @@ pub(crate) fn parse_names(
     Ok(names)
 }
 
-// The names in order, joined by `/`; `-` if there are none.
+// Joins the sorted names by `/`; `-` is the empty set.
 pub(crate) fn join_names(
     alloc: Global,
     names: &HashSet<RepoPathComponentBuf>,

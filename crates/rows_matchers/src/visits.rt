@@ -1,6 +1,6 @@
 //! Requests on visits. A visit is one field: `**` (everything below), `-` (nothing below), or the
-//! children that are worth a look as directories, a blank, and those as files. `*` is every child,
-//! `-` none, else their names are joined by `/`.
+//! children to visit as directories, a blank, and those to visit as files. `*` is every child, `-`
+//! none, else their names are joined by `/`.
 use crate::paths::{join_names, parse_names};
 use jj_matchers::matchers::{
     Visit, VisitDirs, VisitFiles, difference_visit, intersection_visit, union_visit,
@@ -71,7 +71,7 @@ pub(crate) fn put_visit(alloc: Global, visit: &Visit, values: &mut Values) {
     values.allocated(format_visit(alloc, visit));
 }
 
-// The visits of the union, difference and intersection of two sets, from their visits.
+// Appends the union, difference and intersection of two visits.
 fn combined(alloc: Global, fields: &Fields, values: &mut Values) -> Result<(), RowError> {
     let first = fields.string(0)?;
     let second = fields.string(1)?;
@@ -84,7 +84,7 @@ fn combined(alloc: Global, fields: &Fields, values: &mut Values) -> Result<(), R
     Ok(())
 }
 
-// The visit that names two sets, and whether it is nothing.
+// Appends the visit of two sets of names, and whether it is `Nothing`.
 fn sets(alloc: Global, fields: &Fields, values: &mut Values) -> Result<(), RowError> {
     let dirs = parse_names(alloc, fields.string(0)?)?;
     let visit = Visit::sets(dirs, parse_names(alloc, fields.string(1)?)?);
@@ -96,7 +96,7 @@ fn sets(alloc: Global, fields: &Fields, values: &mut Values) -> Result<(), RowEr
     )
 }
 
-// For each name of a set, whether the visit names it as a directory and as a file.
+// Appends for each name of a set whether it is to be visited as a directory and as a file.
 fn contains(alloc: Global, fields: &Fields, values: &mut Values) -> Result<(), RowError> {
     let dirs = parse_dirs(alloc, fields.string(0)?)?;
     let files = parse_files(alloc, fields.string(1)?)?;

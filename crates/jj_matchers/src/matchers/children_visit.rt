@@ -1,4 +1,4 @@
-//! The answers that the children of a tree of marks give.
+//! The visit of a node in a tree of marked paths.
 ghost use Rattle.std.specs.Prelude.{◌≡◌, IfOk};
 ghost use Rattle.jj_matchers.specs.Marks.{children_answer, counts_as_dir, has_mark};
 ghost use Rattle.jj_matchers.specs.Visits.{answer_of};
@@ -8,8 +8,8 @@ use jj_paths::repo_path_tree::RepoPathTree;
 use std::alloc::{AllocError, Global};
 use std::collections::HashSet;
 
-/// The answer that names the marked children as files, and as directories those with children, or
-/// with `all_dirs` all of them.
+/// Returns the visit of the marked children as files, and of the children with children of their
+/// own (with `all_dirs`: of all children) as directories.
 pub fn visit_children(
     alloc: Global,
     tree: &RepoPathTree<bool>,

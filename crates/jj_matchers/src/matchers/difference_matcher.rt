@@ -1,4 +1,4 @@
-//! The matcher of a difference.
+//! The matcher of the difference of two sets.
 ghost use Rattle.std.specs.Prelude.{◌≡◌, ◌&&◌, not, true};
 ghost use Rattle.jj_matchers.specs.Answers.{specific};
 ghost use Rattle.jj_matchers.specs.Combined.{difference_answer};
@@ -8,7 +8,7 @@ use crate::matchers::{Matcher, Visit, VisitDirs, VisitFiles};
 use jj_paths::repo_path::RepoPath;
 use std::alloc::{AllocError, Global};
 
-/// The paths of one set that are not in the other.
+/// The paths that are in `wanted` and not in `unwanted`.
 #[derive(Clone, Debug, Drop)]
 pub struct DifferenceMatcher<M1, M2> {
     wanted: M1,
@@ -16,7 +16,7 @@ pub struct DifferenceMatcher<M1, M2> {
 }
 
 impl<M1: Matcher, M2: Matcher> DifferenceMatcher<M1, M2> {
-    /// The wanted set less the unwanted one.
+    /// Returns the difference of two sets.
     pub fn new(wanted: M1, unwanted: M2) -> Self
         ensures first { result.wanted ≡ wanted }
         ensures second { result.unwanted ≡ unwanted }
@@ -49,8 +49,9 @@ impl<M1: Matcher, M2: Matcher> Matcher for DifferenceMatcher<M1, M2> {
     }
 }
 
-/// The wanted answer, where something is left of it. What is unwanted below a directory need not be
-/// all of it.
+/// Returns `wanted` minus `unwanted`. A `Specific` unwanted visit may cover only part of the paths
+/// below the names that it mentions, so it removes no names; it only turns `AllRecursively` into
+/// all children.
 pub fn difference_visit(wanted: Visit, unwanted: Visit) -> Visit
     ensures { answer_of result ≡ difference_answer (answer_of wanted) (answer_of unwanted) }
 {
@@ -65,7 +66,6 @@ pub fn difference_visit(wanted: Visit, unwanted: Visit) -> Visit
     }
 }
 
-// Every child is worth a look, as a directory and as a file.
 fn all_children() -> Visit
     ensures { answer_of result ≡ specific (λ name. true) (λ name. true) }
 {

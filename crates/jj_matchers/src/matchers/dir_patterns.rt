@@ -1,4 +1,4 @@
-//! The patterns of one directory.
+//! The glob patterns of one directory: a list that remembers whether it is sorted.
 ghost use Rattle.std.specs.Prelude.{◌≡◌, [], ◌∷◌, ◌++◌, MatchResult};
 ghost use Rattle.std.specs.List.{list_any};
 ghost use Rattle.jj_paths.specs.Names.{path_of};
@@ -11,11 +11,11 @@ use jj_paths::repo_path::RepoPath;
 use std::alloc::{AllocError, Global};
 use std::marker::Model;
 
-/// The patterns of one directory, seen as a list of globs. Without patterns it takes no memory.
+/// A list of glob patterns. An empty one does not allocate.
 #[derive(Debug, Drop)]
 pub struct DirPatterns {
     patterns: Option<Vec<PathGlobPattern>>,
-    // whether they are known to be in the order of their fronts
+    // whether they are known to be sorted by literal prefix
     in_order: bool,
 }
 
@@ -58,7 +58,7 @@ impl Clone for DirPatterns {
 impl DirPatterns {
     ghost use Rattle.jj_matchers.specs.PatternTree.{has_globs};
 
-    /// Adds a pattern. Refused for want of memory, the patterns are as they were.
+    /// Appends a pattern. After an allocation failure the list is unchanged.
     pub fn push(&mut self, alloc: Global, pattern: PathGlobPattern) -> Result<(), AllocError>
         ensures { MatchResult result (λ done. self.new ≡ self.old ++ pattern ∷ [])
             (λ e. self.new ≡ self.old) }
@@ -78,15 +78,15 @@ impl DirPatterns {
         Ok(())
     }
 
-    /// Whether there are patterns.
+    /// Returns whether there are patterns.
     pub fn has_patterns(&self) -> bool
         ensures { result ≡ has_globs self.now }
     {
         !self.as_slice().is_empty()
     }
 
-    /// Whether a pattern accepts the path at this tail below the directory; with `prefix_paths`
-    /// also by a front of it.
+    /// Returns whether a pattern matches the path with this tail below the directory, or with
+    /// `prefix_paths` an ancestor of it below the directory.
     pub fn accept(&self, prefix_paths: bool, tail: RepoPath<'_>) -> bool
         ensures { result ≡ list_any (λ glob. accepts_tail prefix_paths glob
             (path_of tail.entry)) self.now }
@@ -97,7 +97,8 @@ impl DirPatterns {
         self.any_fits(prefix_paths, tail.as_internal_file_string())
     }
 
-    /// Whether a pattern that accepts what lies below a match covers everything below this tail.
+    /// Returns whether all paths below this tail are known to be accepted, if paths below a match
+    /// are: a pattern matches the tail or an ancestor of it, or for the root has only stars.
     pub fn cover(&self, tail: RepoPath<'_>) -> bool
         ensures { result ≡ list_any (λ glob. covers_tail glob (path_of tail.entry)) self.now }
     {
@@ -108,7 +109,6 @@ impl DirPatterns {
         }
     }
 
-    // whether a pattern fits the text
     fn any_fits(&self, prefix_paths: bool, text: &str) -> bool
         ensures { result ≡ list_any (λ glob. fits_text prefix_paths glob text.now) self.now }
     {

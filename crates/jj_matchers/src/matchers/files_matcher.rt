@@ -1,4 +1,4 @@
-//! The matcher of wanted files.
+//! The matcher of an explicit list of files, as a tree of marked paths.
 ghost use Rattle.std.specs.Prelude.{◌≡◌, ◌↔◌, true, Contains, IfOk, map};
 ghost use Rattle.jj_paths.specs.Paths.{Path};
 ghost use Rattle.jj_paths.specs.Names.{path_of};
@@ -12,7 +12,7 @@ use jj_paths::repo_path_tree::RepoPathTree;
 use std::alloc::{AllocError, Global};
 use std::marker::Model;
 
-/// The wanted files. A contract sees them as a list of paths, in no order.
+/// A finite set of files. Contracts model it as a list of paths in unspecified order.
 #[derive(Debug, Drop)]
 pub struct FilesMatcher {
     tree: RepoPathTree<bool>,
@@ -31,7 +31,7 @@ impl Model for FilesMatcher {
 }
 
 impl FilesMatcher {
-    /// Returns the matcher of exactly these files. They may be in any order and repeat.
+    /// Returns the matcher of exactly these files, in any order and with repetitions.
     pub fn new(alloc: Global, files: &[RepoPath<'_>]) -> Result<FilesMatcher, AllocError>
         ensures same { IfOk result (λ matcher. HasSamePaths matcher (map path_of files.now)) }
         ensures accepts { IfOk result (λ matcher. (path : Path) → (is_wanted matcher path ≡ true)

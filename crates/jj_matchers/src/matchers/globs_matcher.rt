@@ -1,4 +1,5 @@
-//! The matcher of globs in directories, and its builder.
+//! The matcher of glob patterns relative to directories, as a trie of directories with their
+//! patterns, and its builder.
 ghost use Rattle.std.specs.Prelude.{◌≡◌, ◌↔◌, ◌<◌, ◌≤◌, true, false, [], ◌∷◌, ◌++◌, All, map, take, length, slice_get, Some, IsTrue, IfOk, MatchResult};
 ghost use Rattle.std.specs.Option.{option_map};
 ghost use Rattle.jj_paths.specs.Paths.{Path};
@@ -19,9 +20,9 @@ use std::alloc::{AllocError, Global};
 use std::collections::HashSet;
 use std::marker::Model;
 
-/// The paths strictly below a directory whose tail, the text of what is left of the path below it,
-/// fits a pattern of the directory. A contract sees the patterns as a list of directories and
-/// globs, in no order.
+/// The paths strictly below a directory whose tail, the rest of the path below it as a string,
+/// matches a pattern of the directory. Contracts model the patterns as a list of directories and
+/// globs, in unspecified order.
 #[derive(Debug, Drop)]
 pub struct GlobsMatcher {
     tree: RepoPathTree<DirPatterns>,
@@ -43,7 +44,7 @@ impl Model for GlobsMatcher {
 }
 
 impl GlobsMatcher {
-    /// A builder without patterns, which takes no memory.
+    /// Returns a builder without patterns. Does not allocate.
     pub fn builder<'a>(alloc: Global) -> GlobsMatcherBuilder<'a>
         ensures { result ≡ record { prefix_paths = false; patterns = [] } }
     {
@@ -53,7 +54,7 @@ impl GlobsMatcher {
         }
     }
 
-    // whether a pattern covers everything below the directory
+    // Returns whether all paths below the directory are known to be accepted.
     fn covers(&self, dir: RepoPath<'_>) -> bool
         ensures { result ≡ is_covered self.now (path_of dir.entry) }
     {
@@ -64,7 +65,7 @@ impl GlobsMatcher {
                 .any(|(node, tail)| node.value().cover(tail))
     }
 
-    // whether the directory is that of a pattern, or below one
+    // Returns whether the directory or an ancestor has patterns.
     fn has_patterns_above(&self, dir: RepoPath<'_>) -> bool
         ensures { result ≡ has_prefix (pattern_dirs self.now) (path_of dir.entry) }
     {
@@ -73,7 +74,6 @@ impl GlobsMatcher {
             .any(|(node, _)| node.value().has_patterns())
     }
 
-    // The answer for a directory.
     fn answer(&self, alloc: Global, dir: RepoPath<'_>) -> Result<Visit, AllocError>
         ensures { IfOk result (λ visit. answer_of visit
             ≡ patterns_answer self.now (path_of dir.entry)) }
@@ -142,7 +142,7 @@ impl Matcher for GlobsMatcher {
     }
 }
 
-// The answer that names all children as directories.
+// Returns the visit of all children as directories, and of none as a file.
 fn visit_directories(alloc: Global, tree: &RepoPathTree<DirPatterns>) -> Result<Visit, AllocError>
     ensures { IfOk result (λ visit. answer_of visit
         ≡ children_answer any_node no_node (marked_branches tree.now.branches)) }
@@ -154,7 +154,7 @@ fn visit_directories(alloc: Global, tree: &RepoPathTree<DirPatterns>) -> Result<
     Ok(Visit::sets(dirs, HashSet::new(alloc)))
 }
 
-/// Directories and patterns in them, of which a matcher is made.
+/// Collects directories with patterns, from which it builds a `GlobsMatcher`.
 #[derive(Debug, Drop)]
 pub struct GlobsMatcherBuilder<'a> {
     dir_patterns: Vec<(RepoPath<'a>, &'a PathGlobPattern)>,
@@ -175,7 +175,7 @@ impl<'a> Model for GlobsMatcherBuilder<'a> {
 }
 
 impl<'a> GlobsMatcherBuilder<'a> {
-    /// Whether what lies below a match is to be accepted too.
+    /// Sets whether paths below a match are accepted too.
     pub fn prefix_paths(mut self, yes: bool) -> Self
         ensures { result ≡ record { prefix_paths = yes; patterns = self.entry.patterns } }
     {
@@ -183,15 +183,15 @@ impl<'a> GlobsMatcherBuilder<'a> {
         self
     }
 
-    /// Whether there are no patterns yet.
+    /// Returns whether there are no patterns yet.
     pub fn is_empty(&self) -> bool
         ensures { IsTrue result ↔ (self.now.patterns ≡ []) }
     {
         self.dir_patterns.is_empty()
     }
 
-    /// Adds a pattern for the paths below a directory. Refused for want of memory, the patterns are
-    /// as they were.
+    /// Adds a pattern for the paths below a directory. After an allocation failure the patterns are
+    /// unchanged.
     pub fn add(&mut self, dir: RepoPath<'a>, pattern: &'a PathGlobPattern) -> Result<(), AllocError>
         ensures { MatchResult result (λ done. self.new
             ≡ record {
@@ -204,8 +204,8 @@ impl<'a> GlobsMatcherBuilder<'a> {
         Ok(())
     }
 
-    /// Returns the matcher of all paths strictly below a pattern's directory whose rest its glob
-    /// matches. The matcher shares the compiled patterns.
+    /// Builds the matcher of all paths strictly below a pattern's directory whose rest the glob
+    /// matches. The matcher shares the compiled patterns. O(n log n) comparisons for n patterns.
     pub fn build(&self) -> Result<GlobsMatcher, AllocError>
         ensures same { IfOk result (λ matcher. HasSamePatterns matcher self.now) }
         ensures accepts { IfOk result (λ matcher. (path : Path) → (is_accepted matcher path ≡ true)
@@ -233,8 +233,8 @@ impl<'a> Clone for GlobsMatcherBuilder<'a> {
     }
 }
 
-// The tree of patterns. Those of a directory are added at once where they stand together, as they
-// do in a sorted list.
+// Builds the trie. Adjacent patterns of one directory are added at once: all of them if the list
+// is sorted by directory.
 fn pattern_tree(
     alloc: Global,
     patterns: &[(RepoPath<'_>, &PathGlobPattern)],
@@ -252,7 +252,6 @@ fn pattern_tree(
     Ok(tree)
 }
 
-// The directory of the first pattern.
 fn first_dir<'a>(patterns: &[(RepoPath<'a>, &PathGlobPattern)]) -> Option<RepoPath<'a>>
     ensures { option_map (λ dir. path_of dir) result
         ≡ option_map (λ first. path_of first.0) (slice_get patterns.now 0) }
@@ -261,7 +260,7 @@ fn first_dir<'a>(patterns: &[(RepoPath<'a>, &PathGlobPattern)]) -> Option<RepoPa
     Some(*dir)
 }
 
-// How many patterns, from the first on, are in the directory.
+// Returns the length of the leading run of patterns of the directory.
 fn run_length(patterns: &[(RepoPath<'_>, &PathGlobPattern)], dir: RepoPath<'_>) -> usize
     ensures in_range { result ≤ length patterns.now }
     ensures same { All (λ pattern. path_of pattern.0 ≡ path_of dir.entry)
@@ -279,7 +278,6 @@ fn run_length(patterns: &[(RepoPath<'_>, &PathGlobPattern)], dir: RepoPath<'_>) 
     count
 }
 
-// Adds patterns to those of a directory.
 fn add_patterns(
     alloc: Global,
     tree: &mut RepoPathTree<DirPatterns>,
@@ -297,7 +295,6 @@ fn add_patterns(
     tree.set(dir, all)
 }
 
-// A copy of the patterns of a directory.
 fn patterns_at(
     tree: &RepoPathTree<DirPatterns>,
     dir: RepoPath<'_>,

@@ -1,4 +1,4 @@
-//! The matcher of an intersection.
+//! The matcher of the intersection of two sets.
 ghost use Rattle.std.specs.Prelude.{◌≡◌, ◌&&◌, ◌++◌, List};
 ghost use Rattle.jj_paths.specs.Paths.{Name};
 ghost use Rattle.jj_matchers.specs.Combined.{intersection_answer, named_answer};
@@ -10,7 +10,7 @@ use jj_paths::repo_path::{RepoPath, RepoPathComponentBuf};
 use std::alloc::{AllocError, Global};
 use std::collections::HashSet;
 
-/// The paths of both sets.
+/// The paths that are in both sets.
 #[derive(Clone, Debug, Drop)]
 pub struct IntersectionMatcher<M1, M2> {
     input1: M1,
@@ -18,7 +18,7 @@ pub struct IntersectionMatcher<M1, M2> {
 }
 
 impl<M1: Matcher, M2: Matcher> IntersectionMatcher<M1, M2> {
-    /// The intersection of two sets.
+    /// Returns the intersection of two sets.
     pub fn new(input1: M1, input2: M2) -> Self
         ensures first { result.input1 ≡ input1 }
         ensures second { result.input2 ≡ input2 }
@@ -52,8 +52,7 @@ impl<M1: Matcher, M2: Matcher> Matcher for IntersectionMatcher<M1, M2> {
     }
 }
 
-/// What both of two answers name, where both choose from one list of names. What the list is makes
-/// no difference.
+/// Returns the intersection of two visits: `Nothing` if they are specific and share no name.
 pub fn intersection_visit(first: Visit, second: Visit) -> Visit
     ensures { (names : List Name) → ChoosesFrom names (answer_of first)
         → ChoosesFrom names (answer_of second)
@@ -76,7 +75,7 @@ pub fn intersection_visit(first: Visit, second: Visit) -> Visit
     }
 }
 
-// The answer that names these; `Nothing` where both are empty sets.
+// Returns the visit of these names, and `Nothing` if both sets are empty.
 fn visit_of_names(dirs: VisitDirs, files: VisitFiles) -> Visit
     ensures { (names : List Name) → IsAllOrAmong names (dir_names dirs)
         → IsAllOrAmong names (file_names files)

@@ -1,4 +1,5 @@
-//! The tree of the paths that are marked.
+//! Builder of the tree of marked paths, which inserts the paths in the order of an MSD string sort
+//! with cached 8-byte keys.
 ghost use Rattle.std.specs.Prelude.{◌≡◌, ◌<◌, ◌≤◌, map, length, IfOk};
 ghost use Rattle.jj_paths.specs.Names.{path_of};
 ghost use Rattle.jj_matchers.specs.Marks.{IsMarkedTree, AddsMarks};
@@ -8,25 +9,24 @@ use jj_paths::repo_path::RepoPath;
 use jj_paths::repo_path_tree::RepoPathTree;
 use std::alloc::{AllocError, Global};
 
-// A mark, and some bytes of its text as a number.
+// A path, and eight bytes of its string as a number.
 #[derive(Clone, Copy)]
 struct KeyedMark<'t> {
     key: u64,
     path: RepoPath<'t>,
 }
 
-// Lists of at most this many marks are sorted by comparing whole texts.
+// Lists of at most this many paths are sorted by comparing whole strings.
 const FEW: usize = 32;
 
-// How many parts of eight bytes are compared as numbers; marks that agree in all of them are
-// compared as texts.
+// The number of keys that are compared; paths that agree in all of them are compared as strings.
 const PARTS: usize = 8;
 
-// The bytes of a part.
+// The length of a key in bytes.
 const PART_LEN: usize = 8;
 
-/// The tree with `true` at each mark, and `false` at the other nodes on the way to one. The marks
-/// may come in any order, and more than once.
+/// Returns the tree with `true` at each mark, and `false` at the ancestors that are no marks. The
+/// marks may be in any order and repeat.
 pub fn marked_tree(alloc: Global, marks: &[RepoPath<'_>]) -> Result<RepoPathTree<bool>, AllocError>
     ensures { IfOk result (IsMarkedTree (map path_of marks.now)) }
 {
@@ -36,7 +36,7 @@ pub fn marked_tree(alloc: Global, marks: &[RepoPath<'_>]) -> Result<RepoPathTree
     Ok(tree)
 }
 
-// The marks, with keys that are still to be read.
+// The keys are set later, by `take_keys`.
 fn keyed_marks<'t>(alloc: Global, marks: &[RepoPath<'t>]) -> Result<Vec<KeyedMark<'t>>, AllocError>
     ensures { IfOk result (λ keyed. map keyed_path keyed.items ≡ map path_of marks.now) }
 {
@@ -50,13 +50,8 @@ fn keyed_marks<'t>(alloc: Global, marks: &[RepoPath<'t>]) -> Result<Vec<KeyedMar
     Ok(keyed)
 }
 
-// Marks are sorted by their texts first, which brings the marks of a directory together and mostly
-// puts a new name after the last one. The order of paths differs from that only where a name goes
-// on with a byte below the slash, and takes longer to compare.
-//
-// Adds marks whose texts agree in the parts before this one. They are sorted by this part as a
-// number, which is read from the text once, and those that agree in it too are added next: so
-// their texts are at hand.
+// Inserts marks that agree in all keys before this one. Each key is read once, as a number; marks
+// that agree in it are inserted next, while their strings are in the cache.
 fn add_marks(
     tree: &mut RepoPathTree<bool>,
     marks: &mut [KeyedMark<'_>],
@@ -78,7 +73,6 @@ fn add_marks(
     Ok(())
 }
 
-// Adds marks in the order of their texts.
 fn add_by_text(tree: &mut RepoPathTree<bool>, marks: &mut [KeyedMark<'_>]) -> Result<(), AllocError>
     ensures { IfOk result (λ done. AddsMarks (map keyed_path marks.old) tree.old tree.new) }
 {
@@ -89,7 +83,7 @@ fn add_by_text(tree: &mut RepoPathTree<bool>, marks: &mut [KeyedMark<'_>]) -> Re
     Ok(())
 }
 
-// Reads the keys of marks from a place of their texts on.
+// Sets the key of each mark to the eight bytes at this offset.
 fn take_keys(marks: &mut [KeyedMark<'_>], from: usize)
     ensures { map keyed_path marks.new ≡ map keyed_path marks.old }
 {
@@ -98,7 +92,7 @@ fn take_keys(marks: &mut [KeyedMark<'_>], from: usize)
     }
 }
 
-// The bytes of a part as one number, the first one highest, and zeros past the end of the text.
+// Returns eight bytes at this offset as a big-endian number, padded with zeros.
 fn key_from(text: &[u8], from: usize) -> u64 {
     let Some(rest) = text.get(from..) else {
         return 0;
@@ -113,7 +107,7 @@ fn key_from(text: &[u8], from: usize) -> u64 {
     }
 }
 
-// Where the marks end that have the key of the one at this place.
+// Returns the end of the run of marks with the same key as the one at `start`.
 fn run_end(marks: &[KeyedMark<'_>], start: usize) -> usize
     requires { start < length marks.now }
     ensures above { start < result }

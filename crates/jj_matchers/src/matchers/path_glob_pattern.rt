@@ -1,4 +1,4 @@
-//! The globs of paths.
+//! Globs of paths: compiled once, shared by reference counting.
 ghost use Rattle.std.specs.Prelude.{◌≡◌, ◌==◌, true, false};
 ghost use Rattle.std.specs.List.{list_all};
 ghost use Rattle.jj_globs.specs.declared.glob.sign.Sign.TheVariants.{Asterisk};
@@ -14,7 +14,7 @@ use std::fmt;
 use std::marker::Model;
 use std::rc::Rc;
 
-/// A glob for paths: neither `?` nor `*` stands for `/`. Copies share what was read.
+/// A glob of paths: neither `?` nor `*` matches `/`. Clones share the compiled glob.
 #[derive(Drop)]
 pub struct PathGlobPattern {
     glob: Rc<Glob>,
@@ -29,14 +29,14 @@ impl Model for PathGlobPattern {
 }
 
 impl PathGlobPattern {
-    /// The pattern that the text is, by the syntax of `Glob`.
+    /// Parses a pattern in the syntax of `Glob`.
     pub fn parse(alloc: Global, input: &str) -> Result<PathGlobPattern, GlobError>
         ensures { ReadsAsGlob input.now (glob_of_text input.now true false) result }
     {
         PathGlobPattern::parse_inner(alloc, input, false)
     }
 
-    /// The same pattern, in which ASCII letters match in either case.
+    /// Parses a pattern that ignores the case of ASCII letters.
     pub fn parse_i(alloc: Global, input: &str) -> Result<PathGlobPattern, GlobError>
         ensures { ReadsAsGlob input.now (glob_of_text input.now true true) result }
     {
@@ -55,34 +55,32 @@ impl PathGlobPattern {
         })
     }
 
-    /// The text that was parsed.
+    /// Returns the pattern as a string, as it was parsed.
     pub fn as_str(&self) -> &str
         ensures { result.now ≡ self.now.text }
     {
         self.glob.as_str()
     }
 
-    /// The text of the regular expression over bytes that matches as the pattern does, where `.`
-    /// matches a line feed too.
+    /// Returns an equivalent regular expression over bytes, in which `.` also matches a line feed.
     pub fn as_regex(&self, alloc: Global) -> Result<String, AllocError> {
         self.glob.regex_text(alloc)
     }
 
-    // whether the pattern stands for the text of a path
     fn is_match(&self, path: &str) -> bool
         ensures { result ≡ is_match self.now path.now }
     {
         self.glob.is_match(path.as_bytes())
     }
 
-    // whether it stands for the text of a path, or for a front of it that `/` follows
+    // Returns whether the pattern matches the path or an ancestor.
     fn is_prefix_match(&self, path: &str) -> bool
         ensures { result ≡ is_prefix_match self.now path.now }
     {
         self.glob.is_prefix_match(path.as_bytes())
     }
 
-    // whether it stands for the text of a path, or with the flag for a front of it that `/` follows
+    // Returns whether the pattern matches the path, or with `prefix_paths` an ancestor.
     pub(super) fn fits(&self, prefix_paths: bool, path: &str) -> bool
         ensures { result ≡ fits_text prefix_paths self.now path.now }
     {
@@ -93,14 +91,14 @@ impl PathGlobPattern {
         }
     }
 
-    // the bytes with which every path begins that the pattern stands for
+    // the literal prefix, with which every match begins
     pub(super) fn front(&self) -> &[u8]
         ensures { result.now ≡ front_of self.now }
     {
         self.glob.front()
     }
 
-    // whether the pattern is one or more stars alone
+    // Returns whether the pattern is one or more `*`, and nothing else.
     pub(super) fn is_stars(&self) -> bool
         ensures { result ≡ is_stars self.now.text }
     {
@@ -119,7 +117,7 @@ impl Clone for PathGlobPattern {
     }
 }
 
-/// The text that was parsed; the rest is not shown.
+/// The pattern as it was parsed, without the compiled glob.
 impl fmt::Debug for PathGlobPattern {
     fn fmt<W: fmt::Write>(&self, f: &mut fmt::Formatter<W>) -> fmt::Result {
         f.debug_struct("PathGlobPattern")
@@ -128,7 +126,6 @@ impl fmt::Debug for PathGlobPattern {
     }
 }
 
-// whether each byte is a star
 fn are_stars(text: &[u8]) -> bool
     ensures { result ≡ list_all (λ c. c == byte_of Asterisk) text.now }
 {

@@ -1,5 +1,5 @@
-//! Patterns in the order of their literal fronts: a text meets only those with whose front it
-//! begins.
+//! Search among patterns that are sorted by literal prefix: only those whose literal prefix is one
+//! of the path are matched.
 ghost use Rattle.std.specs.Prelude.{◌≡◌, ◌∷◌, ◌++◌, [], true, length, nat_eq, IsTrue};
 ghost use Rattle.std.specs.List.{list_any, filter, common_prefix_len};
 ghost use Rattle.jj_globs.specs.GlobFront.{front_of};
@@ -7,8 +7,9 @@ ghost use Rattle.jj_matchers.specs.PatternOrder.{is_at_most, is_in_order, fits_t
 
 use crate::matchers::PathGlobPattern;
 
-// Whether a pattern fits the text, from the greatest front down. Those past the text are passed by
-// a search. Where one is not, the fronts before it share no more with the text than it does.
+// Returns whether a pattern matches. Scans from the greatest prefix down, and skips those greater
+// than the path by binary search. Let the last pattern's prefix share n bytes with the path: then
+// no smaller prefix shares more, so the remaining ones are only compared with these n bytes.
 pub(super) fn any_in_order(patterns: &[PathGlobPattern], prefix_paths: bool, text: &str) -> bool
     requires order { is_in_order patterns.now ≡ true }
     ensures { result ≡ list_any (λ glob. fits_text prefix_paths glob text.now) patterns.now }
@@ -31,7 +32,7 @@ pub(super) fn any_in_order(patterns: &[PathGlobPattern], prefix_paths: bool, tex
     false
 }
 
-// Whether a pattern after these leaves them in order.
+// Returns whether the list is still sorted after the pattern is appended.
 pub(super) fn stay_in_order(patterns: &[PathGlobPattern], pattern: &PathGlobPattern) -> bool
     ensures { is_in_order patterns.now ≡ true
         → result ≡ is_in_order (patterns.now ++ pattern.now ∷ []) }
@@ -42,7 +43,7 @@ pub(super) fn stay_in_order(patterns: &[PathGlobPattern], pattern: &PathGlobPatt
     }
 }
 
-// The patterns whose front is at most these bytes.
+// Returns the patterns whose literal prefix is at most these bytes.
 fn up_to<'a>(patterns: &'a [PathGlobPattern], bytes: &[u8]) -> &'a [PathGlobPattern]
     requires order { is_in_order patterns.now ≡ true }
     ensures { result.now ≡ filter (λ glob. is_at_most (front_of glob) bytes.now) patterns.now }
@@ -57,7 +58,7 @@ fn is_front_at_most(pattern: &PathGlobPattern, bytes: &[u8]) -> bool
     pattern.front().cmp(&bytes).is_le()
 }
 
-// With how many bytes both begin.
+// Returns the length of the longest common prefix.
 fn shared_length(front: &[u8], bytes: &[u8]) -> usize
     ensures { result ≡ common_prefix_len nat_eq front.now bytes.now }
 {

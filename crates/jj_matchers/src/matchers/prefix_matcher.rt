@@ -1,4 +1,4 @@
-//! The matcher of everything at or below some paths.
+//! The matcher of all paths at or below a list of prefixes, as a tree of marked paths.
 ghost use Rattle.std.specs.Prelude.{◌≡◌, ◌↔◌, ◌||◌, true, Any, IfOk, map};
 ghost use Rattle.jj_paths.specs.Paths.{Path, IsBelow};
 ghost use Rattle.jj_paths.specs.Names.{path_of};
@@ -12,7 +12,8 @@ use jj_paths::repo_path_tree::RepoPathTree;
 use std::alloc::{AllocError, Global};
 use std::marker::Model;
 
-/// The paths at or below a prefix. A contract sees the prefixes as a list of paths, in no order.
+/// The paths at or below a prefix. Contracts model the prefixes as a list of paths in unspecified
+/// order.
 #[derive(Debug, Drop)]
 pub struct PrefixMatcher {
     tree: RepoPathTree<bool>,

@@ -1,4 +1,4 @@
-//! A walk of a tree of marks that goes only where a matcher has paths.
+//! Iterative depth-first traversal of a tree of marked paths, pruned by a matcher.
 ghost use Rattle.std.specs.Prelude.{◌≡◌, ◌<◌, ◌⊎◌, Bool, true, List, [], ◌∷◌, ◌++◌, IfOk, OnOk, All};
 ghost use Rattle.jj_paths.specs.Names.{path_of};
 ghost use Rattle.jj_paths.specs.Tree.{Tree};
@@ -13,17 +13,16 @@ use jj_paths::repo_path::{RepoPath, RepoPathBuf, RepoPathComponentBuf};
 use jj_paths::repo_path_tree::RepoPathTree;
 use std::alloc::{AllocError, Global};
 
-/// What a walk found, both lists in path order.
+/// The result of a walk, both lists in path order.
 #[derive(Drop)]
 pub struct Walk {
     /// The marked paths that the matcher accepts.
     pub files: Vec<RepoPathBuf>,
-    /// The directories that were opened to find them.
+    /// The directories that were entered to find them.
     pub entered: Vec<RepoPathBuf>,
 }
 
-// A directory that a walk has entered, with its answer and the children that the walk has not come
-// to yet.
+// A stack frame: a directory that was entered, its visit, and its children not yet visited.
 #[derive(Drop)]
 struct Entered<'t> {
     dir: RepoPathBuf,
@@ -31,9 +30,9 @@ struct Entered<'t> {
     left: &'t [(RepoPathComponentBuf, RepoPathTree<bool>)],
 }
 
-/// The marked paths below the root that the matcher accepts, and the directories that were opened
-/// to find them. The directories on the way down are kept in a list, so that a deep tree takes no
-/// more stack than a flat one.
+/// Returns the marked paths below the root that the matcher accepts, and the directories that were
+/// entered to find them. Looks at each child of an entered directory once. Uses an explicit stack,
+/// so a deep tree does not overflow the call stack.
 pub fn walk_matching<M: Matcher>(
     alloc: Global,
     tree: &RepoPathTree<bool>,
@@ -59,7 +58,7 @@ pub fn walk_matching<M: Matcher>(
     Ok(walk)
 }
 
-// Asks for the answer of the root, and enters it unless there is nothing below it.
+// Enters the root, unless it has no children or its visit is `Nothing`.
 fn enter_root<'t, M: Matcher>(
     alloc: Global,
     tree: &'t RepoPathTree<bool>,
@@ -81,7 +80,7 @@ fn enter_root<'t, M: Matcher>(
     Ok(unfinished)
 }
 
-// Takes the next child of the directory that was entered last: its file, and itself as a directory.
+// Visits the next child of a directory, as a file and as a directory.
 fn go_on<'t, M: Matcher>(
     alloc: Global,
     directory: Entered<'t>,
@@ -122,7 +121,7 @@ fn go_on<'t, M: Matcher>(
     Ok(())
 }
 
-// Takes the file at a child of a directory, if it is marked and accepted.
+// Adds the child to the files, if it is marked and accepted.
 fn take_file<M: Matcher>(
     alloc: Global,
     directory: &Entered<'_>,
@@ -146,7 +145,7 @@ fn take_file<M: Matcher>(
     Ok(())
 }
 
-// Enters a directory with this answer, unless there is nothing below it.
+// Enters a directory, unless its visit is `Nothing`.
 fn enter<'t>(
     alloc: Global,
     tree: &'t RepoPathTree<bool>,
@@ -172,7 +171,7 @@ fn enter<'t>(
     Ok(())
 }
 
-// Whether a child of a directory with this answer is accepted.
+// Returns whether a child is accepted. Calls the matcher only for a file of a `Specific` visit.
 fn is_accepted<M: Matcher>(
     dir: &RepoPathBuf,
     answer: &Visit,
@@ -192,7 +191,7 @@ fn is_accepted<M: Matcher>(
     }
 }
 
-// The answer for a child of a directory with this answer.
+// Returns the visit of a child. Calls the matcher only for a directory of a `Specific` visit.
 fn answer_below<M: Matcher>(
     alloc: Global,
     dir: &RepoPathBuf,

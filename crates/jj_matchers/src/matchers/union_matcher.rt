@@ -1,4 +1,4 @@
-//! The matcher of a union.
+//! The matcher of the union of two sets.
 ghost use Rattle.std.specs.Prelude.{◌≡◌, ◌||◌, ◌++◌, IfOk};
 ghost use Rattle.jj_paths.specs.Paths.{Name};
 ghost use Rattle.jj_matchers.specs.Combined.{union_answer};
@@ -9,7 +9,7 @@ use jj_paths::repo_path::{RepoPath, RepoPathComponentBuf};
 use std::alloc::{AllocError, Global};
 use std::collections::HashSet;
 
-/// The paths of either set.
+/// The paths that are in at least one of two sets.
 #[derive(Clone, Debug, Drop)]
 pub struct UnionMatcher<M1, M2> {
     input1: M1,
@@ -17,7 +17,7 @@ pub struct UnionMatcher<M1, M2> {
 }
 
 impl<M1: Matcher, M2: Matcher> UnionMatcher<M1, M2> {
-    /// The union of two sets.
+    /// Returns the union of two sets.
     pub fn new(input1: M1, input2: M2) -> Self
         ensures first { result.input1 ≡ input1 }
         ensures second { result.input2 ≡ input2 }
@@ -50,8 +50,8 @@ impl<M1: Matcher, M2: Matcher> Matcher for UnionMatcher<M1, M2> {
     }
 }
 
-/// What either of two answers names. A union of many matchers is answered by it step by step, with
-/// no recursion.
+/// Returns the union of two visits. Folded over the visits of many matchers, it computes the visit
+/// of their union without nested matchers.
 pub fn union_visit(first: Visit, second: Visit) -> Result<Visit, AllocError>
     ensures { IfOk result (λ visit. answer_of visit
         ≡ union_answer (answer_of first) (answer_of second)) }

@@ -1,4 +1,4 @@
-//! What a matcher answers for a directory.
+//! Visits: which children of a directory a matcher requires to be visited.
 ghost use Rattle.std.specs.Prelude.{◌≡◌, ◌↔◌, Bool, List, IsTrue};
 ghost use Rattle.jj_paths.specs.Paths.{Name, Path};
 ghost use Rattle.jj_matchers.specs.Answers.{IsSound, NamesAll, nothing};
@@ -8,25 +8,26 @@ ghost use Rattle.jj_matchers.specs.Visits.{answer_of, dir_names, file_names, is_
 use jj_paths::repo_path::RepoPathComponentBuf;
 use std::collections::HashSet;
 
-/// What is worth a look below a directory.
+/// Where paths of a set may be, strictly below a directory.
 #[derive(Debug, PartialEq, Eq, Drop)]
 pub enum Visit {
-    /// Everything below, and all of it is in the set.
+    /// Every path below is in the set.
     AllRecursively,
-    /// The named children as directories, and the named children as files.
+    /// Children that are in the set are in `files`, and deeper paths in the set are below children
+    /// in `dirs`.
     Specific { dirs: VisitDirs, files: VisitFiles },
-    /// Nothing below.
+    /// No path below is in the set.
     Nothing,
 }
 
-/// The children that are worth a look as directories.
+/// The children to visit as directories.
 #[derive(Debug, PartialEq, Eq, Drop)]
 pub enum VisitDirs {
     All,
     Set(HashSet<RepoPathComponentBuf>),
 }
 
-/// The children that are worth a look as files.
+/// The children to visit as files.
 #[derive(Debug, PartialEq, Eq, Drop)]
 pub enum VisitFiles {
     All,
@@ -34,8 +35,8 @@ pub enum VisitFiles {
 }
 
 impl Visit {
-    /// Returns the visit that names these children; `Nothing` if both sets are empty. A matcher
-    /// whose accepted paths below the directory all begin with these names returns it from `visit`.
+    /// Returns the visit of these children; `Nothing` if both sets are empty. It is sound for a
+    /// matcher that accepts no other children, and no paths below other directories.
     pub fn sets(dirs: HashSet<RepoPathComponentBuf>, files: HashSet<RepoPathComponentBuf>) -> Visit
         ensures answer { answer_of result ≡ sets_answer dirs.keys files.keys }
         ensures sound { (accepts opens : Path → Bool) (dir : Path)
@@ -54,7 +55,7 @@ impl Visit {
         }
     }
 
-    /// Whether no file is to be looked for below the directory.
+    /// Returns whether the visit is `Nothing`.
     pub fn is_nothing(&self) -> bool
         ensures { IsTrue result ↔ (answer_of self.now ≡ nothing) }
     {
@@ -63,7 +64,7 @@ impl Visit {
 }
 
 impl VisitDirs {
-    /// Whether the name is named.
+    /// Returns whether the child is to be visited.
     pub fn contains(&self, name: &RepoPathComponentBuf) -> bool
         ensures { result ≡ dir_names self.now name.now }
     {
@@ -75,7 +76,7 @@ impl VisitDirs {
 }
 
 impl VisitFiles {
-    /// Whether the name is named.
+    /// Returns whether the child is to be visited.
     pub fn contains(&self, name: &RepoPathComponentBuf) -> bool
         ensures { result ≡ file_names self.now name.now }
     {

@@ -7,7 +7,7 @@ use Rattle.jj_matchers.specs.Visits.{is_among}
 use Rattle.jj_matchers.proofs.Children.{any_named}
 use Rattle.jj_matchers.proofs.matchers.children_visit.visit_children.Given as goal
 
--- the names so far and those that are left are all
+-- the names so far and the remaining ones are all names
 abbrev pub invariant-loop-name : goal.invariant-loop-name
 invariant-loop-name l = record {
   can : (goal.iterator-loop-name).can_next l.name-iterator;

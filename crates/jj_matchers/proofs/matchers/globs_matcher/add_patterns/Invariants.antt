@@ -1,4 +1,4 @@
--- The patterns so far come after those that the directory had.
+-- the patterns so far are appended to those that the directory had
 use Rattle.std.proofs.Common.{◌≡◌, ◌++◌, map, take}
 use Rattle.jj_paths.specs.Names.{path_of}
 use Rattle.jj_matchers.specs.PatternTree.{globs_at}

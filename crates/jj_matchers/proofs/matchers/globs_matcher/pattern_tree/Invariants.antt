@@ -1,4 +1,4 @@
--- The tree is that of the patterns before the start.
+-- the trie has the patterns before `start`
 use Rattle.std.proofs.Common.{◌≤◌, ◌-◌, map, take, length}
 use Rattle.jj_paths.specs.Names.{path_of}
 use Rattle.jj_matchers.specs.PatternTree.{IsPatternTree}

@@ -1,4 +1,4 @@
--- The patterns so far are in the directory.
+-- the patterns so far are in the directory
 use Rattle.std.proofs.Common.{◌≡◌, All, take}
 use Rattle.jj_paths.specs.Names.{path_of}
 use Rattle.jj_matchers.proofs.matchers.globs_matcher.run_length.Given as goal

@@ -8,7 +8,7 @@ use Rattle.jj_matchers.proofs.Children.{any_named}
 use Rattle.jj_matchers.proofs.PatternTrees.{marked_children}
 use Rattle.jj_matchers.proofs.matchers.globs_matcher.visit_directories.Given as goal
 
--- the names so far and those that are left are all
+-- the names so far and the remaining ones are all names
 abbrev pub invariant-loop-name : goal.invariant-loop-name
 invariant-loop-name l = record {
   can : (goal.iterator-loop-name).can_next l.name-iterator;

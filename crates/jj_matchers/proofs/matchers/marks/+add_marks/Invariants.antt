@@ -1,4 +1,4 @@
--- The marks of the runs before the start are added, and those from the start on are as they were when they were sorted.
+-- the runs before `start` are inserted, and the marks after them are unchanged since they were sorted
 use Rattle.std.proofs.Common.{◌≡◌, ◌-◌, ◌≤◌, map, take, drop, length}
 use Rattle.jj_matchers.specs.Marks.{AddsMarks}
 use Rattle.jj_matchers.specs.KeyedMarks.{keyed_path}

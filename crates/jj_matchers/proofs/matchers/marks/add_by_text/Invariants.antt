@@ -1,4 +1,4 @@
--- The marks so far are added.
+-- the marks so far are inserted
 use Rattle.std.proofs.Common.{map, take}
 use Rattle.jj_matchers.specs.Marks.{AddsMarks}
 use Rattle.jj_matchers.specs.KeyedMarks.{keyed_path}

@@ -1,4 +1,4 @@
--- The paths so far are there.
+-- the marks so far are copied
 use Rattle.std.proofs.Common.{◌≡◌, map, take}
 use Rattle.jj_paths.specs.Names.{path_of}
 use Rattle.jj_matchers.specs.KeyedMarks.{keyed_path}

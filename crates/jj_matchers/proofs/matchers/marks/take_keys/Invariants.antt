@@ -1,4 +1,4 @@
--- No path changes.
+-- the paths are unchanged
 use Rattle.std.proofs.Common.{◌≡◌, map}
 use Rattle.jj_matchers.specs.KeyedMarks.{keyed_path}
 use Rattle.jj_matchers.proofs.matchers.marks.take_keys.Given as goal

@@ -1,4 +1,4 @@
--- Of the patterns that are left those fit that fit of all, and where one fits, the bytes begin with its front.
+-- a remaining pattern matches if and only if any does, and the literal prefix of each match is a prefix of `shared`
 use Rattle.std.proofs.Common.{length}
 use Rattle.jj_matchers.specs.PatternOrder.{fits_text}
 use Rattle.jj_matchers.proofs.PatternOrder.{Narrows}

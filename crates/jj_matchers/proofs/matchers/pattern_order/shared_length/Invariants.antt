@@ -1,4 +1,4 @@
--- The bytes so far and those with which what is left of both begins are all.
+-- the bytes so far are common, and with the common prefix of the rest they are the whole one
 use Rattle.std.proofs.Common.{length, ◌-◌, ◌≡◌, ◌+◌, ◌≤◌, nat_eq, drop}
 use Rattle.std.specs.List.{common_prefix_len}
 use Rattle.jj_matchers.proofs.matchers.pattern_order.shared_length.Given as goal
