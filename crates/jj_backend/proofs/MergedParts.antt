@@ -1,4 +1,4 @@
--- Texts by their bytes: lists of clones, and what is said of lists of texts item by item.
+-- Lists of strings mapped to their bytes: clones, content bytes and lengths.
 use Rattle.std.proofs.Common.{◌≡◌, ℕ, ◌<◌, ◌^◌, List, [], ◌∷◌, ◌++◌, length, map, refl, sym, ap}
 use Rattle.std.specs.List.{AllZip, flat_map}
 use Rattle.std.proofs.lemmas.List.Elements.{All-map}
@@ -23,7 +23,7 @@ module _ {X Y : Type 0} (f : X → Y) where
       let items = flat_map-map content xs in
       λ i. u64_content (long i) ++ items i
 
--- no longer than a count can say, and each item a value
+-- the length is below 2 ^ 64, and P holds for each item
 pub are_values-map : {X Y : Type 0} (f : X → Y) (P : Y → Type 0) (xs : List X) → AreValues (λ x. P (f x)) xs → AreValues P (map f xs)
 are_values-map f P xs values =
     let short : length (map f xs) < 2 ^ 64 = rw (length-map xs f) values.0 in

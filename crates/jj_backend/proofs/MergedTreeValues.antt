@@ -1,4 +1,4 @@
--- Walks over the terms of a merge of what stands at a path, one term on, and images of adds and of removes.
+-- Steps of loops over the terms of a merge of tree values; adds and removes of a mapped list.
 use Rattle.std.proofs.Common.{◌≡◌, ℕ, suc, ◌+◌, ◌∙◌, ◌<◌, List, [], ◌∷◌, ◌++◌, length, map, drop, get_or, Option, Some, None, refl, sym, ap, append_assoc, arith}
 use Rattle.std.specs.List.{AllZip, list_all}
 use Rattle.std.proofs.lemmas.List.{at_drop_more}
@@ -19,20 +19,19 @@ module _ {X Y : Type 0} (f : X → Y) where
     removes-map [] = refl
     removes-map (x ∷ xs) = adds-map xs
 
--- a merge of tree values themselves is its own list of values
 pub values-same : (values : Values) → map (option_map (λ (value : TreeValue). value)) values ≡ values
 values-same [] = refl
 values-same (None ∷ values) = ap (λ rest. None ∷ rest) (values-same values)
 values-same (Some value ∷ values) = ap (λ rest. Some value ∷ rest) (values-same values)
 
--- ---- a conflict
+-- ---- unresolved merges
 
 pub unresolved : (values : Values) → 1 < length values → list_all is_tree_or_absent values ≡ are_trees values
 unresolved [] h = absurd (omega arith)
 unresolved (v ∷ []) h = absurd (omega arith)
 unresolved (v ∷ w ∷ values) h = refl
 
--- ---- parts, after those that are done
+-- ---- fields of files: prepended to the fields collected so far
 
 module _ {A : Type 0} (part : TreeValue → Option A) where
   same : (o : Option (List (Option A))) → o ≡ option_map (λ rest. [] ++ rest) o
@@ -52,7 +51,7 @@ module _ {A : Type 0} (part : TreeValue → Option A) where
   parts-missing : (done : List (Option A)) (v : Option TreeValue) (values : Values) → None ≡ part_at part v → option_map (λ rest. done ++ rest) (parts part (v ∷ values)) ≡ None
   parts-missing done v values e = rw (← e) refl
 
-  -- the same at a place of a list in which these values are seen
+  -- the steps above at index i of a list xs, whose items are mapped to values by seen
   module _ {X : Type 0} (seen : X → Option TreeValue) (xs : List X) (i : ℕ) (x : X) (lt : i < length xs) (at : x ≡ get_or xs i x) (done : List (Option A)) (whole : Option (List (Option A)))
       (made : whole ≡ option_map (λ rest. done ++ rest) (parts part (map seen (drop i xs)))) where
     at_next : whole ≡ option_map (λ rest. done ++ rest) (parts part (seen x ∷ map seen (drop (i + 1) xs)))
@@ -66,13 +65,13 @@ module _ {A : Type 0} (part : TreeValue → Option A) where
     pub parts-missing_at : None ≡ part_at part (seen x) → whole ≡ None
     parts-missing_at e = at_next ∙ parts-missing done (seen x) (map seen (drop (i + 1) xs)) e
 
--- ---- a text after two pieces
+-- ---- a string after two appends
 
 pub after_both : (start first second third : List ℕ) (removed added removed' added' : List ℕ) → first ≡ start → second ≡ first ++ removed → third ≡ second ++ added → removed ≡ removed' → added ≡ added' → third ≡ start ++ (removed' ++ added')
 after_both start first second third removed added removed' added' e f g h i =
     g ∙ ap (λ s. s ++ added) (f ∙ ap (λ s. s ++ removed) e) ∙ append_assoc start removed added ∙ (λ j. start ++ (h j ++ i j))
 
--- ---- new ids
+-- ---- new file ids
 
 pub ids-next : (done : Values) (v : Option TreeValue) (values : Values) (id : Option (List ℕ)) (ids : List (Option (List ℕ))) → done ++ with_file_ids (v ∷ values) (id ∷ ids) ≡ (done ++ with_file_id v id ∷ []) ++ with_file_ids values ids
 ids-next done v values id ids = sym (append_assoc done (with_file_id v id ∷ []) (with_file_ids values ids))

@@ -1,4 +1,4 @@
--- What a binary search finds among entries whose names rise.
+-- Binary search in a list of entries that is sorted by name.
 use Rattle.std.proofs.Common.{◌≡◌, ℕ, zero, suc, ◌<◌, Bool, true, false, [], ◌∷◌, length, get_or, Some, None, Result, Ok, Err, refl, sym, ap, ◌∙◌, arith, inl, inr}
 use Rattle.std.specs.declared.cmp.Ordering.{Ordering}
 use Rattle.std.specs.declared.cmp.Ordering.TheVariants.{Less, Equal, Greater}
@@ -14,7 +14,6 @@ use Rattle.jj_paths.proofs.PathOrders.{name_cmp-same, name_cmp-itself, less_from
 use Rattle.jj_backend.specs.Trees.{Entries, value_at, IsEntryAt}
 use Rattle.jj_backend.specs.declared.backend.tree_value.TreeValue.{TreeValue}
 
--- a name that compares unequal differs
 differs : (x name : Name) (r : Ordering) → name_cmp x name ≡ r → (r ≡ Equal → ⊥) → bytes_eq name x ≡ false
 differs x name r is unequal = by_cases (bytes_eq name x) refl
   where
@@ -40,7 +39,7 @@ comparisons_rise q (e ∷ es) sorted zero (suc j) d le lt = rises e.0 (get_or es
 comparisons_rise q (e ∷ es) sorted (suc i) zero d le lt = absurd (omega arith)
 comparisons_rise q (e ∷ es) sorted (suc i) (suc j) d le lt = comparisons_rise q es (and_parts _ _ sorted).1 i j d (omega arith) (omega arith)
 
--- what stands at the name of a place
+-- value_at finds the value of the entry at index i, by its name
 value-at : (es : Entries) (name : Name) (i : ℕ) (d : Name × TreeValue) → is_sorted name_cmp es ≡ true → i < length es → (get_or es i d).0 ≡ name → value_at es name ≡ Some (get_or es i d).1
 value-at [] name i d sorted lt is = absurd (omega arith)
 value-at (e ∷ es) name zero d sorted lt is = rw ((bytes_eq-Decides name e.0).1 (sym is))
@@ -48,12 +47,12 @@ value-at (e ∷ es) name (suc i) d sorted lt is =
     let less : name_cmp e.0 name ≡ Less = ap (name_cmp e.0) (sym is) ∙ below_all-at e.0 es i d (and_parts _ _ sorted).0 (omega arith) in
     rw (differs e.0 name Less less (less_is_unequal Less refl)) (value-at es name i d (and_parts _ _ sorted).1 (omega arith) is)
 
--- nothing stands at a name that no entry has
+-- value_at finds nothing if no entry has the name
 value-absent : (es : Entries) (name : Name) (d : Name × TreeValue) → ((j : ℕ) → j < length es → bytes_eq name (get_or es j d).0 ≡ false) → value_at es name ≡ None
 value-absent [] name d other = refl
 value-absent (e ∷ es) name d other = rw (other 0 (omega arith)) (value-absent es name d (λ j lt. other (suc j) (omega arith)))
 
--- the place of a name, or that no entry has it
+-- the result of a binary search: the index of the name, or an error if no entry has it
 abbrev pub PlaceOf : Entries → Name → Result ℕ ℕ → Type 0
 PlaceOf es q (Ok at) = IsEntryAt es q at
 PlaceOf es q (Err at) = value_at es q ≡ None

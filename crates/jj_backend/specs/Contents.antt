@@ -1,5 +1,5 @@
--- The content bytes of records: those of the parts, in order; and the values whose lists and texts
--- are no longer than a count can say.
+-- The content bytes of records: the concatenated bytes of their fields. `Is..` are the values whose
+-- lists and strings have lengths below 2 ^ 64.
 -- Cited by contracts of public items: IsCommit, IsCopyHistory, IsMillis, IsSecureSig, IsSignature,
 -- IsTimestamp, bytes_content, commit_content, copy_history_content, millis_content,
 -- secure_sig_content, signature_content, timestamp_content.
@@ -11,7 +11,7 @@ use Rattle.jj_backend.specs.Records.{SignatureValue, SecureSigValue, CopyHistory
 use Rattle.jj_backend.specs.declared.backend.timestamp.MillisSinceEpoch.{MillisSinceEpoch}
 use Rattle.jj_backend.specs.declared.backend.timestamp.Timestamp.{Timestamp}
 
--- ---- texts, and lists of bytes as ids and data are
+-- ---- strings, and byte lists (ids and data)
 
 abbrev pub IsText : List ℕ → Type 0
 IsText text = length text < 2 ^ 64
@@ -22,7 +22,7 @@ AreBytes = AreValues (λ byte. byte < 2 ^ 8)
 abbrev pub bytes_content : List ℕ → List ℕ
 bytes_content = list_content (λ byte. byte ∷ [])
 
--- ---- moments
+-- ---- timestamps
 
 abbrev pub IsMillis : MillisSinceEpoch → Type 0
 IsMillis millis = FitsSigned w64 millis.0
@@ -50,7 +50,7 @@ IsSecureSig s = AreBytes s.signed_data × AreBytes s.sig
 abbrev pub secure_sig_content : SecureSigValue → List ℕ
 secure_sig_content s = bytes_content s.signed_data ++ bytes_content s.sig
 
--- ---- copies
+-- ---- copy histories
 
 abbrev pub IsCopyHistory : CopyHistoryValue → Type 0
 IsCopyHistory h = IsShortPath h.current_path × (AreValues AreBytes h.parents × AreBytes h.salt)
@@ -59,7 +59,7 @@ abbrev pub copy_history_content : CopyHistoryValue → List ℕ
 copy_history_content h =
     path_content h.current_path ++ (list_content bytes_content h.parents ++ bytes_content h.salt)
 
--- ---- commits: parents, predecessors, tree; labels, change, description; author, committer,
+-- ---- commits: ancestry and tree; labels, change id and description; author, committer and
 -- signature
 
 abbrev pub IsOrigin : CommitValue → Type 0

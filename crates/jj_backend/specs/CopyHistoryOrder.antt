@@ -1,4 +1,5 @@
--- The order of copy histories by their parts in turn, with its laws, and what one gives to a hash.
+-- The lexicographic order of copy histories by path, parents and salt, with its laws, and the hash
+-- input of a copy history.
 -- Cited by contracts of public items: copy_history_cmp, copy_history_cmp_total, copy_history_hash,
 -- copy_history_hash-respects_eq, copy_history_po, copy_history_ties.
 use Rattle.std.specs.Prelude.{◌≡◌, ◌++◌, ◌&&◌, Bool, true, false, Some}
@@ -14,7 +15,7 @@ use Rattle.jj_paths.specs.Orders.{path_eq, path_cmp_total, path_ties, path_hash,
 use Rattle.jj_paths.specs.Paths.{path_cmp}
 use Rattle.jj_backend.specs.Records.{CopyHistoryValue, copy_history_eq}
 
--- by the path, then by the parents, id by id, then by the salt
+-- compares the paths, then the lists of parents, then the salts
 abbrev pub copy_history_cmp : CopyHistoryValue → CopyHistoryValue → Ordering
 copy_history_cmp = then_cmp (on (λ h. h.current_path) path_cmp)
     (then_cmp (on (λ h. h.parents) (slice_cmp (slice_cmp nat_cmp)))

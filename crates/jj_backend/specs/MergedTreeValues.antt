@@ -1,5 +1,5 @@
--- Merges of what stands at a path in several trees: whether they are trees or files, the parts of
--- the files, and how a conflict is told.
+-- Merges of the tree values at one path: their classes, the fields of files, new file ids, and
+-- descriptions of conflicts.
 -- Cited by contracts of public items: CanTakeId, Values, are_file_like, are_trees, description,
 -- executable_of, file_id_of, parts, with_file_ids.
 use Rattle.std.specs.Prelude.{ℕ, Bool, true, false, not, List, [], ◌∷◌, ◌++◌, Option, Some, None, ⊤, codes}
@@ -11,7 +11,7 @@ use Rattle.jj_merges.specs.Merge.{adds, removes}
 use Rattle.jj_backend.specs.declared.backend.tree_value.TreeValue.{TreeValue}
 use Rattle.jj_backend.specs.declared.backend.tree_value.TreeValue.TheVariants.{File, Symlink, Tree, GitSubmodule}
 
--- the terms of a merge of what stands at a path
+-- the terms of a merge of tree values; None is an absent value
 abbrev pub Values : Type 0
 Values = List (Option TreeValue)
 
@@ -27,19 +27,19 @@ abbrev pub is_tree_or_absent : Option TreeValue → Bool
 is_tree_or_absent None = true
 is_tree_or_absent (Some value) = is_tree_value value
 
--- resolved to a tree, or unresolved with no present term but trees
+-- resolved to a tree, or unresolved with only trees among the present terms
 abbrev pub are_trees : Values → Bool
 are_trees [] = true
 are_trees (None ∷ []) = false
 are_trees (Some value ∷ []) = is_tree_value value
 are_trees (first ∷ second ∷ values) = list_all is_tree_or_absent (first ∷ second ∷ values)
 
--- resolved to something else than a tree, or unresolved with a present term that is none
+-- neither resolved to absent nor trees by are_trees
 abbrev pub are_file_like : Values → Bool
 are_file_like (None ∷ []) = false
 are_file_like values = not (are_trees values)
 
--- ---- the parts of files
+-- ---- fields of files
 
 abbrev pub file_id_of : TreeValue → Option (List ℕ)
 file_id_of (File id executable copy) = Some id
@@ -53,12 +53,12 @@ executable_of (Symlink id) = None
 executable_of (Tree id) = None
 executable_of (GitSubmodule id) = None
 
--- the part of a term, absent where the term is; none where it is present and has no such part
+-- the field of a term: Some None for an absent term, None for a value without this field
 abbrev pub part_at : {A : Type 0} → (TreeValue → Option A) → Option TreeValue → Option (Option A)
 part_at part None = Some None
 part_at part (Some value) = option_map Some (part value)
 
--- the parts place by place, if each term has one
+-- the fields of the terms in order, or None if a present term has no such field
 abbrev pub parts : {A : Type 0} → (TreeValue → Option A) → Values → Option (List (Option A))
 parts part [] = Some []
 parts part (value ∷ values) =
@@ -66,7 +66,7 @@ parts part (value ∷ values) =
 
 -- ---- new ids of files
 
--- a file takes an id, and what is absent an id or none
+-- a file can take an id; an absent value can take an id or none
 abbrev pub CanTakeId : Option TreeValue → Option (List ℕ) → Type 0
 CanTakeId None id = ⊤
 CanTakeId (Some value) None = ⊥
@@ -75,7 +75,7 @@ CanTakeId (Some (Symlink old)) (Some id) = ⊥
 CanTakeId (Some (Tree old)) (Some id) = ⊥
 CanTakeId (Some (GitSubmodule old)) (Some id) = ⊥
 
--- the file with that id; what was absent becomes a file that is not executable and no copy
+-- the file with this id; an absent value becomes a file that is neither executable nor a copy
 abbrev pub with_file_id : Option TreeValue → Option (List ℕ) → Option TreeValue
 with_file_id value None = None
 with_file_id None (Some id) = Some (File id false [])
@@ -87,7 +87,7 @@ with_file_ids [] ids = []
 with_file_ids (value ∷ values) [] = []
 with_file_ids (value ∷ values) (id ∷ ids) = with_file_id value id ∷ with_file_ids values ids
 
--- ---- conflicts in words
+-- ---- descriptions of conflicts
 
 abbrev pub newline : List ℕ
 newline = 10 ∷ []
@@ -99,30 +99,30 @@ abbrev pub file_kind : Bool → List ℕ
 file_kind true = codes "executable file"
 file_kind false = codes "file"
 
--- what stands there
+-- the kind and id of a tree value
 abbrev pub value_text : TreeValue → List ℕ
 value_text (File id executable copy) = with_id (file_kind executable) id
 value_text (Symlink id) = with_id (codes "symlink") id
 value_text (Tree id) = with_id (codes "tree") id
 value_text (GitSubmodule id) = with_id (codes "Git submodule") id
 
--- a label in parentheses, if it is not empty
+-- a nonempty label in parentheses
 abbrev pub label_text : List ℕ → List ℕ
 label_text [] = []
 label_text (c ∷ label) = codes " (" ++ ((c ∷ label) ++ codes ")")
 
--- the line of a term: what is done, with what, and its label; an absent term has none
+-- the line of a term: verb, value and label; an absent term has no line
 abbrev pub line : List ℕ → Option TreeValue → List ℕ → List ℕ
 line done None label = []
 line done (Some value) label = done ++ (value_text value ++ (label_text label ++ newline))
 
--- the lines of the terms, each with the label at its place
+-- the lines of the terms, each with the label at the same index
 abbrev pub lines : List ℕ → Values → List (List ℕ) → List ℕ
 lines done [] labels = []
 lines done (value ∷ values) [] = line done value [] ++ lines done values []
 lines done (value ∷ values) (label ∷ labels) = line done value label ++ lines done values labels
 
--- the removed terms, and then the added ones
+-- a heading, the lines of the removes, and the lines of the adds
 abbrev pub description : Values → List (List ℕ) → List ℕ
 description values labels =
     codes "Conflict:" ++ (newline

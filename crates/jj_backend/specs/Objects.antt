@@ -1,4 +1,4 @@
--- What a backend keeps, by ids, and what reads and writes of it answer.
+-- The objects of a backend, as finite maps from ids, and the effects of reads and writes.
 -- Cited by contracts of public items: AddsCommit, AddsCopy, AddsFile, AddsSymlink, AddsTree,
 -- IsRead, IsSigned, Objects.
 use Rattle.std.specs.Prelude.{◌≡◌, ℕ, List, Option, Some, None, if◌then◌else◌, ◌⊎◌, Result, Ok, MatchResult}
@@ -11,7 +11,7 @@ use Rattle.jj_backend.specs.Trees.{Entries}
 use Rattle.jj_backend.specs.declared.backend.errors.BackendError.{BackendError}
 use Rattle.jj_backend.specs.declared.signing.SignError.{SignError}
 
--- what is signed of a commit
+-- the bytes that a signer signs: the content of the commit without its signature
 abbrev pub unsigned_content : CommitValue → List ℕ
 unsigned_content commit = commit_content (record commit { secure_sig = None })
 
@@ -20,11 +20,11 @@ abbrev pub ById : Type 0 → Type 0
 ById V = List ℕ → Option V
 
 module _ {V : Type 0} where
-  -- the map in which the id stands for that value
+  -- the map m with id mapped to v
   abbrev pub put : ById V → List ℕ → V → ById V
   put m id v = λ q. if bytes_eq id q then Some v else m q
 
-  -- the id stands for no other value
+  -- the id is unmapped, or already mapped to v
   abbrev pub IsFree : ById V → List ℕ → V → Type 0
   IsFree m id v = (m id ≡ None) ⊎ (m id ≡ Some v)
 
@@ -36,15 +36,15 @@ pub record Objects : Type 0 where
   pub trees : ById Entries
   pub commits : ById CommitValue
 
--- A read of what an id stands for answers that value, or that there is none exactly where there
--- is none; else the backend has failed.
+-- A read returns the value found for the id, or ObjectNotFound only if there is none, or an error
+-- that the backend may fail with.
 abbrev pub IsRead : {V R : Type 0} → (BackendError → Type 0) → Option V → (R → V)
     → Result R BackendError → Type 0
 IsRead may_fail found value result =
     MatchResult result (λ r. found ≡ Some (value r))
     (λ e. MatchBool (is_not_found e) (found ≡ None) (may_fail e))
 
--- the new objects are the old ones and this one
+-- ---- writes: the new objects are the old ones and this one
 
 abbrev pub AddsFile : Objects → Objects → List ℕ → List ℕ → Type 0
 AddsFile old new id contents = IsFree old.files id contents
@@ -66,8 +66,8 @@ abbrev pub AddsCommit : Objects → Objects → List ℕ → CommitValue → Typ
 AddsCommit old new id commit = IsFree old.commits id commit
     × (new ≡ record old { commits = put old.commits id commit })
 
--- the commit as it is kept: itself where nothing signs it, else with its content and a signature of
--- that
+-- kept is the stored form of the commit: unchanged without a signer, else with the signed content
+-- and a signature of it
 abbrev pub IsSigned : {S : Type 0} → (S → List ℕ → Result (List ℕ) SignError → Type 0) → Option S
     → CommitValue → CommitValue → Type 0
 IsSigned may_sign None commit kept = kept ≡ commit

@@ -1,5 +1,5 @@
--- That records are equal by parts, and that content tells them apart, each from the laws of its
--- parts.
+-- Equality of records is an equivalence, and content bytes determine a record: laws of records,
+-- composed of those of their fields.
 -- Cited by contracts of public items: commit_equiv, commit_lawful, copy_history_equiv,
 -- copy_history_lawful, secure_sig_equiv, secure_sig_lawful, signature_equiv, signature_lawful.
 use Rattle.std.specs.Cmp.{IsEquivalence, and_equiv, on_equiv, int_eq_equiv}

@@ -1,5 +1,4 @@
--- What contracts see of records: their parts, with texts and ids by their bytes and paths by their
--- names.
+-- The models of records in contracts: strings and ids are byte lists, paths are lists of names.
 -- Cited by contracts of public items: CommitValue, CopyHistoryValue, SecureSigValue,
 -- SignatureValue, commit_eq, copy_history_eq, root_commit, secure_sig_eq, signature_eq.
 use Rattle.std.specs.Prelude.{ℕ, pos, List, [], ◌∷◌, Option, None, Bool}
@@ -11,24 +10,24 @@ use Rattle.jj_paths.specs.Orders.{path_eq}
 use Rattle.jj_paths.specs.Paths.{Path}
 use Rattle.jj_backend.specs.declared.backend.timestamp.Timestamp.{Timestamp}
 
--- who did something, and when
+-- an author or committer, and the time
 pub record SignatureValue : Type 0 where
   pub name : List ℕ
   pub email : List ℕ
   pub timestamp : Timestamp
 
--- what was signed, and the signature
+-- signed data and its cryptographic signature
 pub record SecureSigValue : Type 0 where
   pub signed_data : List ℕ
   pub sig : List ℕ
 
--- how a file came from others by copies
+-- the copy history of a file
 pub record CopyHistoryValue : Type 0 where
   pub current_path : Path
   pub parents : List (List ℕ)
   pub salt : List ℕ
 
--- a commit; the tree and the labels are merges, by their terms
+-- a commit; root_tree and conflict_labels are the terms of merges
 pub record CommitValue : Type 0 where
   pub parents : List (List ℕ)
   pub predecessors : List (List ℕ)
@@ -40,9 +39,9 @@ pub record CommitValue : Type 0 where
   pub committer : SignatureValue
   pub secure_sig : Option SecureSigValue
 
--- ---- records of a repository that nobody has written to
+-- ---- the root commit
 
--- nobody, at the beginning of time
+-- no name and no email, at the Unix epoch
 abbrev pub no_signature : SignatureValue
 no_signature = record {
   name = [];
@@ -50,7 +49,7 @@ no_signature = record {
   timestamp = record { timestamp = record { 0 = pos 0 }; tz_offset = pos 0 };
 }
 
--- the commit that all others descend from
+-- the commit without parents from which all others descend
 abbrev pub root_commit : List ℕ → List ℕ → CommitValue
 root_commit change_id tree_id = record {
   parents = [];
@@ -64,7 +63,7 @@ root_commit change_id tree_id = record {
   secure_sig = None;
 }
 
--- ---- equality, part by part
+-- ---- equality, field by field
 
 abbrev pub timestamp_eq : Timestamp → Timestamp → Bool
 timestamp_eq = eq_of_both (on (λ time. time.timestamp.0) int_eq)
@@ -83,7 +82,7 @@ copy_history_eq =
     eq_of_both (on (λ h. h.current_path) path_eq)
     (eq_of_both (on (λ h. h.parents) (pointwise bytes_eq)) (on (λ h. h.salt) bytes_eq))
 
--- a commit's parts in threes: where it comes from and its tree, what it says, and who says so
+-- the fields of a commit in groups of three: ancestry and tree, message, and signatures
 abbrev pub origin_eq : CommitValue → CommitValue → Bool
 origin_eq =
     eq_of_both (on (λ c. c.parents) (pointwise bytes_eq))

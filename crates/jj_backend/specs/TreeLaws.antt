@@ -1,4 +1,4 @@
--- Equality and content of trees, entry by entry.
+-- Equality and content bytes of trees, entry by entry, with their laws.
 -- Cited by contracts of public items: IsTree, tree_content, tree_eq, tree_equiv, tree_lawful.
 use Rattle.std.specs.Prelude.{ℕ, List, ◌++◌, Bool}
 use Rattle.std.specs.Cmp.{IsEquivalence, and_equiv, on_equiv}
@@ -16,7 +16,7 @@ use Rattle.jj_backend.specs.contracts.backend.tree_value.TreeValuePartialEq.TheI
 use Rattle.jj_backend.specs.contracts.backend.tree_value.TreeValueEq.TheImpl.Laws.{laws-law}
 use Rattle.jj_backend.specs.declared.backend.tree_value.TreeValue.{TreeValue}
 
--- the same name, and the same there
+-- equal names and equal values
 abbrev pub entry_eq : Name × TreeValue → Name × TreeValue → Bool
 entry_eq = eq_of_both (on (λ e. e.0) bytes_eq) (on (λ e. e.1) ghosts.eq)
 
@@ -27,7 +27,7 @@ pub tree_equiv : IsEquivalence tree_eq
 tree_equiv = lists_equiv (and_equiv (on_equiv (λ e. e.0) nat_list_eq_equiv)
     (on_equiv (λ e. e.1) laws-law))
 
--- ---- content: the list of the entries, each the name and then what stands there
+-- ---- content: the list of the entries, each with its name before its value
 
 abbrev pub IsEntry : Name × TreeValue → Type 0
 IsEntry e = IsText e.0 × IsTreeValue e.1

@@ -1,4 +1,4 @@
--- That content tells what stands at a name apart.
+-- Content bytes determine a tree value.
 -- Cited by contracts of public items: tree_value_lawful.
 use Rattle.std.proofs.Common.{◌≡◌, ℕ, List, ◌++◌, ◌<◌, ◌^◌, true, refl, Bool, arith}
 use Rattle.jj_content.specs.Content.{IsLawful}

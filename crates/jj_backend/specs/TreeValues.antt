@@ -1,4 +1,4 @@
--- What stands at a name of a tree: a file, a symbolic link, a tree or a Git submodule.
+-- Tree values: their copy ids and content bytes.
 -- Cited by contracts of public items: IsTreeValue, copy_id_of, tree_value_content.
 use Rattle.std.specs.Prelude.{ℕ, Bool, List, ◌++◌, Option, Some, None, ⊤}
 use Rattle.jj_content.specs.Content.{u32_content, bool_content}
@@ -6,14 +6,14 @@ use Rattle.jj_backend.specs.Contents.{AreBytes, bytes_content}
 use Rattle.jj_backend.specs.declared.backend.tree_value.TreeValue.{TreeValue}
 use Rattle.jj_backend.specs.declared.backend.tree_value.TreeValue.TheVariants.{File, Symlink, Tree, GitSubmodule}
 
--- the copy that a file came from
+-- the copy id of a file
 abbrev pub copy_id_of : TreeValue → Option (List ℕ)
 copy_id_of (File id executable copy) = Some copy
 copy_id_of (Symlink id) = None
 copy_id_of (Tree id) = None
 copy_id_of (GitSubmodule id) = None
 
--- ---- content: the variant's number, and then its fields
+-- ---- content: the variant's number before its fields
 
 abbrev pub variant_of : TreeValue → ℕ
 variant_of (File id executable copy) = 0

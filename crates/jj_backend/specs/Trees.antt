@@ -1,4 +1,4 @@
--- Trees of one directory: what stands at its names, and what is left of walks over it.
+-- Trees as association lists from names to values, and the remaining items of their iterators.
 -- Cited by contracts of public items: Entries, entries_left, entry_of, names_left, value_at.
 use Rattle.std.specs.Prelude.{◌≡◌, ℕ, ◌<◌, List, map, length, Option, Some, slice_index_or}
 use Rattle.std.specs.Map.{lookup}
@@ -10,26 +10,25 @@ use Rattle.jj_backend.specs.declared.backend.tree.TreeEntry.{TreeEntry}
 use Rattle.jj_backend.specs.declared.backend.tree.TreeNames.{TreeNames}
 use Rattle.jj_backend.specs.declared.backend.tree_value.TreeValue.{TreeValue}
 
--- the entries of a directory, by their names
+-- the entries of a directory in order of their names
 abbrev pub Entries : Type 0
 Entries = List (Name × TreeValue)
 
--- what stands at a name
+-- the value of the entry with this name
 abbrev pub value_at : Entries → Name → Option TreeValue
 value_at entries name = lookup (bytes_eq name) entries
 
--- this place of the list has the name, and so what stands there
+-- the entry at this index has the name, and its value is the one that value_at finds
 pub record IsEntryAt (entries : Entries) (name : Name) (place : ℕ) : Type 0 where
   pub in_range : place < length entries
   pub has_name : (d : Name × TreeValue) → (slice_index_or entries place d).0 ≡ name
   pub has_value : (d : Name × TreeValue) → value_at entries name
       ≡ Some (slice_index_or entries place d).1
 
--- a borrowed entry
 abbrev pub entry_of : TreeEntry → Name × TreeValue
 entry_of entry = (name_of entry.name, entry.value.now)
 
--- the entries, or the names, that have not been given yet
+-- the entries, or the names, that an iterator has not yielded yet
 abbrev pub entries_left : TreeEntriesNonRecursiveIterator → Entries
 entries_left left = left.rest.now
 

@@ -1,4 +1,4 @@
-//! Commits, trees and what else a backend keeps, and the interface of backends.
+//! The objects of a repository (commits, trees, copy histories) and the backend interface.
 mod commit;
 mod content;
 mod copies;

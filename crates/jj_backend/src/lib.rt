@@ -1,4 +1,4 @@
-//! What commits, trees and files are, and where they are kept.
+//! Commits, trees and file values, and the interface of the backends that store them.
 #![tactic(auto)]
 
 pub mod backend;

@@ -1,4 +1,4 @@
-//! Why data could not be signed, or a signature not be verified.
+//! Errors of signing data and of verifying signatures.
 ghost use Rattle.std.specs.Prelude.{◌≡◌};
 ghost use Rattle.jj_backend.specs.declared.signing.SignError.{SignError};
 
@@ -6,7 +6,7 @@ use jj_files::file_util::SourceError;
 use std::alloc::{AllocError, AllocFailed};
 use thiserror::Error;
 
-/// Why data could not be signed, or a signature not be verified.
+/// An error of signing data or of verifying a signature.
 #[derive(Debug, Drop, Error)]
 pub enum SignError {
     #[error("Invalid signature")]
@@ -33,5 +33,5 @@ impl<T: Drop> From<AllocFailed<T>> for SignError {
     }
 }
 
-/// What a call answers that signs or verifies.
+/// The result of signing data or of verifying a signature.
 pub type SignResult<T> = Result<T, SignError>;

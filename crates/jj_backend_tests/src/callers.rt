@@ -1,4 +1,4 @@
-//! Callers of records that a backend keeps, with what they promise of the answers.
+//! Proved callers of commits, copy histories and timestamps.
 ghost use Rattle.std.specs.Prelude.{◌≡◌, ◌↔◌, false, IfOk, IsTrue};
 ghost use Rattle.jiff.specs.Words.{IsTimestampNanos};
 ghost use Rattle.jj_paths.specs.Paths.{path_cmp};
@@ -11,35 +11,35 @@ use jj_backend::backend::{
 use std::alloc::{AllocError, Global};
 use std::cmp::Ordering;
 
-/// A copy of a commit, which is the commit.
+/// Clones a commit; the clone equals the commit.
 pub fn copied(commit: &Commit) -> Result<Commit, AllocError>
     ensures { IfOk result (λ copy. copy ≡ commit.now) }
 {
     commit.clone()
 }
 
-/// Whether two commits are equal in all their parts.
+/// Returns whether two commits are equal in all their fields.
 pub fn are_equal(a: &Commit, b: &Commit) -> bool
     ensures { result ≡ commit_eq a.now b.now }
 {
     a == b
 }
 
-/// Whether a copy history comes before another, as that of an earlier path does.
+/// Returns whether a copy history is less than another: it is if its path is less.
 pub fn is_earlier(a: &CopyHistory, b: &CopyHistory) -> bool
     ensures { path_cmp a.now.current_path b.now.current_path ≡ Ordering.Less → IsTrue result }
 {
     a < b
 }
 
-/// The change of the root commit is the one that it was made with.
+/// Returns the change id of a root commit, which is the one that it was created with.
 pub fn change_of_root(alloc: Global, change: ChangeId, tree: TreeId) -> Result<ChangeId, AllocError>
     ensures { IfOk result (λ id. id ≡ change) }
 {
     make_root_commit(alloc, change, tree).change_id.clone()
 }
 
-/// Whether a moment is out of the range of dates.
+/// Returns whether a timestamp in UTC is outside of the range of dates.
 pub fn is_out_of_range(millis: i64) -> bool
     ensures { (result ≡ false) ↔ IsTimestampNanos (nanoseconds millis) }
 {

@@ -1,4 +1,4 @@
-//! The root commit, and copies of commits.
+//! Tests of the root commit and of clones of commits.
 use crate::callers::{are_equal, copied};
 use crate::records::{BEGINNING, signature, signed_commit};
 use jj_backend::backend::{ChangeId, Commit, TreeId, make_root_commit};
@@ -11,7 +11,7 @@ fn root(alloc: Global) -> Result<Commit, AllocError> {
     Ok(make_root_commit(alloc, change, empty_tree))
 }
 
-// Whether a commit has neither parents nor predecessors, one tree, and no text.
+// Whether a commit has no parents, no predecessors, one tree, one label and no description.
 fn has_no_origin(commit: &Commit) -> bool {
     commit.parents.is_empty()
         && commit.predecessors.is_empty()
@@ -20,7 +20,7 @@ fn has_no_origin(commit: &Commit) -> bool {
         && commit.description.is_empty()
 }
 
-// Whether nobody made a commit, and nobody signed it.
+// Whether a commit has empty author and committer signatures and no cryptographic signature.
 fn is_unsigned(alloc: Global, commit: &Commit) -> Result<bool, AllocError> {
     let nobody = signature(alloc, "", "", BEGINNING)?;
     Ok(commit.author == nobody && commit.committer == nobody && commit.secure_sig.is_none())

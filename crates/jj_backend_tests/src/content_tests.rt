@@ -1,4 +1,4 @@
-//! Content bytes of records, as hex texts.
+//! Tests of the content bytes of records, in hexadecimal.
 use crate::records::{
     commit, directory, file, history, link, sig, signature, signed_commit, submodule,
 };
@@ -25,7 +25,7 @@ fn records_are_their_parts(rt: HostRuntime) {
     assert!(rt; tells_of(&rt, history, content_text, wanted));
 }
 
-// The number of the variant, and its parts.
+// The number of the variant precedes its fields.
 #[test]
 fn tree_values(rt: HostRuntime) {
     let wanted = "00000000010000000000000001010000000000000000";
@@ -35,7 +35,8 @@ fn tree_values(rt: HostRuntime) {
     assert!(rt; tells_of(&rt, submodule, content_text, "03000000010000000000000004"));
 }
 
-// Parents, predecessors; tree, label, change; description, author; committer, and no signature.
+// One line of bytes each: parents and predecessors; tree, label and change id; description and
+// author; committer and no signature.
 #[test]
 fn a_commit_is_its_parts(rt: HostRuntime) {
     let wanted = "010000000000000001000000000000000a010000000000000001000000000000000b\
@@ -45,7 +46,7 @@ fn a_commit_is_its_parts(rt: HostRuntime) {
     assert!(rt; tells_of(&rt, commit, content_text, wanted));
 }
 
-// The signature comes last, after the number of its variant.
+// The cryptographic signature comes last, after the number of its `Option` variant.
 fn ends_with_signature(alloc: Global) -> Result<bool, AllocError> {
     let plain = content_text(alloc, &commit(alloc)?)?;
     let signed = content_text(alloc, &signed_commit(alloc)?)?;

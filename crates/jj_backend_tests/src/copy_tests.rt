@@ -1,4 +1,4 @@
-//! Copies of records that tell of copies and of signatures.
+//! Tests of clones and comparisons of copy records, copy histories and signatures.
 use crate::records;
 use jj_backend::backend::{CommitId, CopyRecord, FileId};
 use jj_content_tests::once_more::holds;

@@ -1,4 +1,4 @@
-//! JSON values of moments and of the records that hold them.
+//! Tests of the JSON values of timestamps, signatures and commits.
 use crate::records::{commit, signature};
 use jj_backend::backend::{MillisSinceEpoch, Timestamp};
 use jj_content::content_hash::{ToJson, ToJsonError};
@@ -13,7 +13,7 @@ const fn time(millis: i64, tz_offset: i32) -> Timestamp {
     }
 }
 
-// Milliseconds, minutes of offset, and the date. An offset of a day is none.
+// Milliseconds, offset in minutes, and date. An offset of a day counts as UTC.
 const DATES: [(i64, i32, &str); 5] = [
     (1, 90, "\"1970-01-01T01:30:00.001+01:30\""),
     (-1, -60, "\"1969-12-31T22:59:59.999-01:00\""),

@@ -1,7 +1,6 @@
-//! Tests of jj_backend over its public calls, and proved callers of it.
+//! Tests and proved callers of jj_backend's public interface.
 //
-// In a run in which one request for memory is refused, a call answers that, and is then made once
-// more, when there is memory.
+// The tests also run with one allocation failing: a call that reports it is repeated once.
 #![tactic(auto)]
 
 #[cfg(test)]

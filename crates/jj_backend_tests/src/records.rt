@@ -1,4 +1,4 @@
-//! Records that the tests are made of.
+//! Sample records of the tests.
 use jj_backend::backend::{
     ChangeId, Commit, CommitId, CopyHistory, CopyId, FileId, MillisSinceEpoch, SecureSig,
     Signature, SymlinkId, Timestamp, TreeId, TreeValue,
@@ -7,13 +7,13 @@ use jj_merges::merge::Merge;
 use jj_paths::repo_path::RepoPathBuf;
 use std::alloc::{AllocError, Global};
 
-/// The beginning of time, in UTC.
+/// The Unix epoch, in UTC.
 pub const BEGINNING: Timestamp = Timestamp {
     timestamp: MillisSinceEpoch(0),
     tz_offset: 0,
 };
 
-/// A signature.
+/// Creates an author or committer signature.
 pub fn signature(
     alloc: Global,
     name: &str,
@@ -27,7 +27,7 @@ pub fn signature(
     })
 }
 
-/// A file with an id of one byte.
+/// Creates a file with an id of one byte.
 pub fn file(alloc: Global, id: u8, executable: bool) -> Result<TreeValue, AllocError> {
     Ok(TreeValue::File {
         id: FileId::from_bytes(alloc, &[id])?,
@@ -36,22 +36,22 @@ pub fn file(alloc: Global, id: u8, executable: bool) -> Result<TreeValue, AllocE
     })
 }
 
-/// A symbolic link with the id 02.
+/// Creates a symbolic link with the id 02.
 pub fn link(alloc: Global) -> Result<TreeValue, AllocError> {
     Ok(TreeValue::Symlink(SymlinkId::from_bytes(alloc, &[2])?))
 }
 
-/// A directory with the id 03.
+/// Creates a subtree with the id 03.
 pub fn directory(alloc: Global) -> Result<TreeValue, AllocError> {
     Ok(TreeValue::Tree(TreeId::from_bytes(alloc, &[3])?))
 }
 
-/// A submodule with the id 04.
+/// Creates a Git submodule with the id 04.
 pub fn submodule(alloc: Global) -> Result<TreeValue, AllocError> {
     Ok(TreeValue::GitSubmodule(CommitId::from_bytes(alloc, &[4])?))
 }
 
-/// How a file at the root came from another.
+/// Creates the copy history of a file with one parent.
 pub fn history(alloc: Global) -> Result<CopyHistory, AllocError> {
     Ok(CopyHistory {
         current_path: RepoPathBuf::root(alloc),
@@ -60,7 +60,7 @@ pub fn history(alloc: Global) -> Result<CopyHistory, AllocError> {
     })
 }
 
-/// A signature of data.
+/// Creates a cryptographic signature.
 pub fn sig(alloc: Global) -> Result<SecureSig, AllocError> {
     Ok(SecureSig {
         signed_data: [1, 2].to_vec(alloc)?,
@@ -74,7 +74,7 @@ fn ids(alloc: Global, byte: u8) -> Result<Vec<CommitId>, AllocError> {
     Ok(ids)
 }
 
-/// A commit whose parts all differ.
+/// Creates a commit in which the ids all differ and the authors do.
 pub fn commit(alloc: Global) -> Result<Commit, AllocError> {
     Ok(Commit {
         parents: ids(alloc, 10)?,
@@ -89,7 +89,7 @@ pub fn commit(alloc: Global) -> Result<Commit, AllocError> {
     })
 }
 
-/// The same commit with a signature.
+/// Creates the commit of `commit`, with a cryptographic signature.
 pub fn signed_commit(alloc: Global) -> Result<Commit, AllocError> {
     let mut commit = commit(alloc)?;
     commit.secure_sig = Some(SecureSig {

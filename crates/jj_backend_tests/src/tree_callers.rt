@@ -1,4 +1,4 @@
-//! Callers of trees and of merges of tree values, with what they promise of the answers.
+//! Proved callers of trees and of merges of tree values.
 ghost use Rattle.std.specs.Prelude.{◌≡◌, ◌++◌, [], ◌∷◌, true, false, Some, IfOk, is_some, codes, string_bytes};
 ghost use Rattle.jj_content.specs.Hex.{hex};
 ghost use Rattle.jj_paths.specs.Names.{name_of};
@@ -13,21 +13,21 @@ use jj_merges::merge::Merge;
 use jj_paths::repo_path::RepoPathComponent;
 use std::alloc::{AllocError, Global};
 
-/// Whether something stands at a name.
+/// Returns whether a tree has an entry with this name.
 pub fn has_name(tree: &Tree, name: RepoPathComponent<'_>) -> bool
     ensures { result ≡ is_some (value_at tree.now (name_of name.entry)) }
 {
     tree.value(name).is_some()
 }
 
-/// Whether these are trees: a merge of tree values is seen as the list of its terms.
+/// Returns whether a merge is a tree; the contract models the merge as the list of its terms.
 pub fn are_all_trees(values: &MergedTreeValue) -> bool
     ensures { result ≡ are_trees values.now }
 {
     values.is_tree()
 }
 
-/// What was absent becomes a file that is not executable and no copy.
+/// Creates a new file from an absent value: it is neither executable nor a copy.
 pub fn new_file(alloc: Global, id: FileId) -> Result<MergedTreeValue, AllocError>
     ensures { IfOk result (λ merge. merge ≡ Some (TreeValue.File id false []) ∷ []) }
 {
@@ -35,7 +35,7 @@ pub fn new_file(alloc: Global, id: FileId) -> Result<MergedTreeValue, AllocError
     MergedTreeValue::absent(alloc).with_new_file_ids(alloc, &ids)
 }
 
-/// An executable file with another id is still executable, and came from the same copy.
+/// Replaces the id of an executable file: it stays executable, with the same copy id.
 pub fn changed_file(
     alloc: Global,
     id: FileId,
@@ -53,7 +53,7 @@ pub fn changed_file(
     MergedTreeValue::normal(alloc, file).with_new_file_ids(alloc, &ids)
 }
 
-/// The description of a new symbolic link without a label: one line, which has its id.
+/// Describes the merge of a new symbolic link without a label: one line with its id.
 pub fn describe_link(alloc: Global, id: SymlinkId) -> Result<String, AllocError>
     ensures { IfOk result (λ text. string_bytes text ≡ codes "Conflict:" ++ (newline
         ++ (codes "  Adding " ++ (codes "symlink with id " ++ (hex id ++ newline))))) }

@@ -1,4 +1,4 @@
-//! Trees of one directory: their names, look-ups, copies and content.
+//! Tests of trees: look-ups, iteration, clones and content bytes.
 use crate::records::{directory, file};
 use jj_backend::backend::{Tree, TreeValue};
 use jj_content_tests::content_texts::content_text;
@@ -7,12 +7,12 @@ use std::alloc::{AllocError, Global};
 use std::process::Abort;
 use std::test::Fail;
 
-// The name of a text that is one: it is refused only for want of memory.
+// The string is a valid name, so that an error can only be an allocation failure.
 fn name(alloc: Global, text: &str) -> Result<RepoPathComponentBuf, AllocError> {
     RepoPathComponentBuf::new(String::from_str(alloc, text)?).map_err(|_| AllocError)
 }
 
-// A file `a`, and a directory `b`.
+// A tree with a file `a` and a subtree `b`.
 fn tree<R: Abort>(rt: &R, alloc: Global) -> Result<Tree, AllocError> {
     let first = name(alloc, "a")?;
     let second = name(alloc, "b")?;
@@ -22,7 +22,7 @@ fn tree<R: Abort>(rt: &R, alloc: Global) -> Result<Tree, AllocError> {
     Ok(Tree::from_sorted_entries(entries))
 }
 
-// What stands at a name, by its value and by its entry.
+// The value at a name, by `value` and by `entry`.
 fn found<'a>(
     alloc: Global,
     tree: &'a Tree,
@@ -52,7 +52,7 @@ fn names_are_looked_up(rt: HostRuntime) -> Result<(), Fail> {
     Ok(())
 }
 
-// The names of a tree, each followed by a slash, and those of its entries.
+// The names by `names` and by `entries`, each followed by a slash.
 fn listed(alloc: Global, tree: &Tree) -> Result<(String, String), AllocError> {
     let mut names = String::new(alloc);
     for name in tree.names() {
@@ -88,7 +88,8 @@ fn content<R: Abort>(rt: &R, alloc: Global) -> Result<(String, String), AllocErr
     Ok((whole, content_text(alloc, &Tree::default(alloc))?))
 }
 
-// The number of entries; `a` and its file, with its id, its flag and no copy; `b` and its tree.
+// The number of entries; `a` and its file, with id, executable bit and empty copy id; `b` and its
+// subtree.
 #[test]
 fn a_tree_is_its_entries(rt: HostRuntime) -> Result<(), Fail> {
     let (whole, empty) = content(&rt, rt.alloc()).or_else(|_| content(&rt, rt.alloc()))?;

@@ -1,5 +1,4 @@
-//! Merges of what stands at a path: whether they are trees, the parts of files, and conflicts in
-//! words.
+//! Tests of merges of tree values: their classes, the fields of files and descriptions.
 use crate::records::{directory, file, link, submodule};
 use crate::tree_callers::{changed_file, new_file};
 use jj_backend::backend::{
@@ -27,7 +26,7 @@ fn merge<R: Abort>(
     Ok(Merge::from_vec(SmallVec::from_vec(terms)))
 }
 
-// A file, and a symbolic link that was made in its place.
+// A conflict between adding a file and adding a symbolic link.
 fn conflict<R: Abort>(rt: &R, alloc: Global) -> Result<MergedTreeValue, AllocError> {
     merge(
         rt,
@@ -63,7 +62,7 @@ fn told_of_submodule<R: Abort>(rt: &R, alloc: Global) -> Result<String, AllocErr
     conflict.describe(alloc, &labels(rt, alloc)?)
 }
 
-// Removed terms come first. The base has an empty label, which is not told.
+// Removes precede adds. The empty label of the base is not printed.
 #[test]
 fn conflicts_in_words(rt: HostRuntime) {
     let wanted = "Conflict:\n  Adding file with id 01 (left)\n\

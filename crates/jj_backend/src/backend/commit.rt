@@ -1,4 +1,4 @@
-//! Commits.
+//! The commit record, with its clone and equality, and the root commit.
 ghost use Rattle.std.specs.Prelude.{◌≡◌, map, IfOk, string_bytes};
 ghost use Rattle.std.specs.Cmp;
 ghost use Rattle.jj_backend.specs.RecordLaws.{commit_equiv};
@@ -11,8 +11,8 @@ use jj_merges::merge::Merge;
 use std::alloc::{AllocError, Global};
 use std::marker::Model;
 
-/// A commit: where it comes from, the tree of its files, and what is said of the change. Trees and
-/// labels are merges of several where the commit has conflicts.
+/// A commit: its ancestry, its tree, its change id and description, and its author and committer.
+/// In a commit with conflicts, `root_tree` and `conflict_labels` are unresolved merges.
 #[derive(Debug, Drop)]
 pub struct Commit {
     pub parents: Vec<CommitId>,
@@ -43,7 +43,6 @@ impl Model for Commit {
 }
 
 impl Commit {
-    // Whether two commits come from the same ones and have the same tree.
     fn has_same_origin(&self, other: &Commit) -> bool
         ensures { result ≡ origin_eq self.now other.now }
     {
@@ -51,7 +50,6 @@ impl Commit {
             && (self.predecessors == other.predecessors && self.root_tree == other.root_tree)
     }
 
-    // Whether two commits have the same labels, change and description.
     fn has_same_message(&self, other: &Commit) -> bool
         ensures { result ≡ message_eq self.now other.now }
     {
@@ -59,7 +57,6 @@ impl Commit {
             && (self.change_id == other.change_id && self.description == other.description)
     }
 
-    // Whether two commits have the same author, committer and signature.
     fn has_same_signers(&self, other: &Commit) -> bool
         ensures { result ≡ signers_eq self.now other.now }
     {
@@ -68,14 +65,12 @@ impl Commit {
     }
 }
 
-// A copy of ids of commits.
 fn copied_ids(ids: &Vec<CommitId>) -> Result<Vec<CommitId>, AllocError>
     ensures { IfOk result (λ copy. copy.items ≡ ids.now.items) }
 {
     ids.clone()
 }
 
-// A copy of a signature, if there is one.
 fn copied_sig(sig: &Option<SecureSig>) -> Result<Option<SecureSig>, AllocError>
     ensures { IfOk result (λ copy. copy ≡ sig.now) }
 {
@@ -85,7 +80,7 @@ fn copied_sig(sig: &Option<SecureSig>) -> Result<Option<SecureSig>, AllocError>
     }
 }
 
-/// Trees and labels are cloned on the allocator of the description.
+/// Clones the tree and the labels with the allocator of the description.
 impl Clone for Commit {
     ghost is_clone = { λ commit c. c ≡ commit };
 
@@ -120,7 +115,7 @@ impl Eq for Commit {
     ghost laws = { commit_equiv };
 }
 
-// Nobody, at the beginning of time.
+// The author and committer of the root commit: no name, no email, the Unix epoch.
 fn nobody(alloc: Global) -> Signature
     ensures { result ≡ no_signature }
 {
@@ -134,7 +129,8 @@ fn nobody(alloc: Global) -> Signature
     }
 }
 
-/// The commit that all others descend from: empty but for its change and its tree.
+/// Returns the root commit, the ancestor of all other commits. All its fields but the change id
+/// and the tree are empty. Does not allocate.
 pub fn make_root_commit(alloc: Global, root_change_id: ChangeId, empty_tree_id: TreeId) -> Commit
     ensures { result ≡ root_commit root_change_id empty_tree_id }
 {

@@ -1,4 +1,4 @@
-//! Content bytes of the records that a backend keeps.
+//! Content hashes of the records that a backend stores.
 ghost use Rattle.std.specs.Prelude.{OnOk, OnErr};
 ghost use Rattle.jj_content.specs.Content.{Takes, TakesFront, IsLawful};
 ghost use Rattle.jj_content.specs.Lawful.{on_lawful, both_lawful, i32_lawful, i64_lawful};
@@ -66,7 +66,6 @@ impl ContentHash for SecureSig {
 }
 
 impl Commit {
-    // Hashes the labels, the change and the description.
     #[tactic(auto, using(jj_content::proofs::Fronts::fronts))]
     fn hash_message<D: DigestUpdate>(&self, alloc: Global, state: &mut D) -> Result<(), AllocError>
         ensures ok { OnOk result (Takes D.stands_for state.old state.new

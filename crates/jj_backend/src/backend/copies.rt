@@ -1,11 +1,11 @@
-//! What is known of copies of files.
+//! Records of file copies.
 ghost use Rattle.jj_backend.specs.Records.{CopyHistoryValue};
 
 use jj_ids::object_id::{CommitId, CopyId, FileId};
 use jj_paths::repo_path::RepoPathBuf;
 use std::marker::Model;
 
-/// A copy that was found between two commits: the file `target` of `target_commit` came from
+/// A copy detected between two commits: the file `target` of `target_commit` was copied from
 /// `source` of `source_commit`.
 #[derive(Debug, PartialEq, Eq, Drop)]
 pub struct CopyRecord {
@@ -16,8 +16,8 @@ pub struct CopyRecord {
     pub source_commit: CommitId,
 }
 
-/// How a file came from others by copies: where it is now, the copies that it came from, and some
-/// bytes that tell it from others of that path and those parents.
+/// The copy history of a file: its path, the copy ids of the files it was copied from, and a salt
+/// that distinguishes histories with equal path and parents.
 #[derive(Debug, Drop)]
 pub struct CopyHistory {
     pub current_path: RepoPathBuf,
@@ -35,7 +35,7 @@ impl Model for CopyHistory {
     } };
 }
 
-/// A copy that a file is related to by its history.
+/// A copy id and its history, returned by `Backend::get_related_copies`.
 #[derive(Debug, PartialEq, Eq, Drop)]
 pub struct RelatedCopy {
     pub id: CopyId,

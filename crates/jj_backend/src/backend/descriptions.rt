@@ -1,4 +1,4 @@
-//! Conflicts in words: a line for each term that is there.
+//! Descriptions of conflicts for users: one line for each present term.
 ghost use Rattle.std.specs.Prelude.{◌≡◌, ◌++◌, map, OnOk, string_bytes};
 ghost use Rattle.std.specs.Option.{option_copied, option_map};
 ghost use Rattle.jj_backend.specs.MergedTreeValues.{file_kind, with_id, value_text, label_text, newline, line, lines};
@@ -9,7 +9,6 @@ use jj_ids::object_id::{Id, IdKind, ObjectId};
 use jj_merges::merge::EverySecond;
 use std::alloc::{AllocError, Global};
 
-// Appends a kind of object and the id.
 fn push_id<K: IdKind>(
     alloc: Global,
     text: &mut String,
@@ -35,7 +34,6 @@ fn file_kind(executable: bool) -> &'static str
     }
 }
 
-// Appends what stands there.
 fn push_value(alloc: Global, text: &mut String, value: &TreeValue) -> Result<(), AllocError>
     ensures { OnOk result (string_bytes text.new ≡ string_bytes text.old ++ value_text value.now) }
 {
@@ -49,7 +47,7 @@ fn push_value(alloc: Global, text: &mut String, value: &TreeValue) -> Result<(),
     }
 }
 
-// Appends a label in parentheses, if it is not empty.
+// Appends a label in parentheses; appends nothing for an empty label.
 fn push_label(text: &mut String, label: &str) -> Result<(), AllocError>
     ensures { OnOk result (string_bytes text.new ≡ string_bytes text.old ++ label_text label.now) }
 {
@@ -61,7 +59,7 @@ fn push_label(text: &mut String, label: &str) -> Result<(), AllocError>
     text.push_str(")")
 }
 
-// Appends the line of a term.
+// Appends nothing for an absent term.
 fn push_line(
     alloc: Global,
     text: &mut String,
@@ -83,7 +81,7 @@ fn push_line(
     }
 }
 
-// Appends the lines of the terms, each with the label at its place.
+// Pairs each term with the label at the same index; a term beyond the labels has none.
 pub(super) fn push_lines<T: AsTreeValue>(
     alloc: Global,
     text: &mut String,

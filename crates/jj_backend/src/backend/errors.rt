@@ -1,4 +1,4 @@
-//! Why a backend could not be made, read or written.
+//! Errors of creating, opening, reading and writing a backend.
 ghost use Rattle.std.specs.Prelude.{◌≡◌};
 ghost use Rattle.jj_backend.specs.declared.backend.errors.BackendError.{BackendError};
 
@@ -9,18 +9,18 @@ use std::alloc::{AllocError, AllocFailed};
 use std::str::Utf8Error;
 use thiserror::Error;
 
-/// Why a backend could not be made.
+/// An error of creating a backend.
 #[derive(Debug, Drop, Error)]
 #[error(transparent)]
 pub struct BackendInitError(pub SourceError);
 
-/// Why a backend could not be opened.
+/// An error of opening a backend.
 #[derive(Debug, Drop, Error)]
 #[error(transparent)]
 pub struct BackendLoadError(pub SourceError);
 
-/// Why an object could not be read or written. Types of objects are named as ids name them, and
-/// hashes are hex texts.
+/// An error of reading or writing an object. `object_type` is the name of the type of the object's
+/// id, and `hash` is the id in hexadecimal.
 #[derive(Debug, Drop, Error)]
 pub enum BackendError {
     #[error("Invalid hash length for object of type {object_type} (expected {expected} bytes, got {actual} bytes): {hash}")]
@@ -89,5 +89,5 @@ impl<T: Drop> From<AllocFailed<T>> for BackendError {
     }
 }
 
-/// What a call of a backend answers.
+/// The result of a backend call.
 pub type BackendResult<T> = Result<T, BackendError>;

@@ -1,4 +1,4 @@
-//! The parts of the files among the terms of a merge.
+//! Merges of file ids, executable bits or copy ids, projected from merges of tree values.
 ghost use Rattle.std.specs.Prelude.{◌≡◌, length, map, IfOk, IfSome};
 ghost use Rattle.std.specs.Option.{option_map};
 ghost use Rattle.jj_merges.specs.Merge.{IsOdd};
@@ -12,12 +12,12 @@ use jj_merges::merge::Merge;
 use smallvec::SmallVec;
 use std::alloc::{AllocError, Global};
 
-// A part that files have.
+// A field of files: the id, the executable bit or the copy id.
 pub(super) trait FilePart: Drop {
     ghost use Rattle.std.specs.Prelude.{◌≡◌, Option, IfOk};
     ghost use Rattle.jj_backend.specs.declared.backend.tree_value.TreeValue.{TreeValue};
 
-    // The part of a file; none of anything else.
+    // The field of a file, and `None` for any other value.
     ghost part_of: { TreeValue → Option Self };
 
     fn part_of(value: &TreeValue) -> Result<Option<Self>, AllocError>
@@ -57,7 +57,7 @@ impl FilePart for CopyId {
     }
 }
 
-// The part of a term; none if it is present and has no such part.
+// Returns `Some(None)` for an absent term, and `None` for a value that is not a file.
 fn part_at<T: AsTreeValue, P: FilePart>(term: &Option<T>) -> Result<Option<Option<P>>, AllocError>
     ensures { IfOk result (λ part. part ≡ part_at P.part_of (option_map T.value_of term.now)) }
 {
@@ -70,7 +70,7 @@ fn part_at<T: AsTreeValue, P: FilePart>(term: &Option<T>) -> Result<Option<Optio
     }
 }
 
-// The part of each term; none if a term is present and has no such part.
+// Returns `None` if a present term is not a file.
 fn parts_of<T: AsTreeValue, P: FilePart>(
     alloc: Global,
     terms: &Merge<Option<T>>,
@@ -90,7 +90,7 @@ fn parts_of<T: AsTreeValue, P: FilePart>(
     Ok(Some(images))
 }
 
-// The merge of the parts of the terms; none if a term is present and has no such part.
+// Returns `None` if a present term is not a file.
 pub(super) fn part_merge<T: AsTreeValue, P: FilePart>(
     alloc: Global,
     terms: &Merge<Option<T>>,

@@ -1,4 +1,4 @@
-//! Where objects are kept, and what signs commits.
+//! The interfaces of object stores and of commit signers.
 ghost use Rattle.std.specs.Prelude.{◌≡◌, ℕ, List, [], Some, IsSome, IfOk, OnErr, Result, string_bytes};
 ghost use Rattle.std.specs.Result.{result_map_both};
 ghost use Rattle.jj_backend.specs.Objects.{IsRead, AddsFile, AddsSymlink, AddsCopy, AddsTree, AddsCommit, IsSigned};
@@ -13,21 +13,21 @@ use crate::signing::{SignError, SignResult};
 use jj_paths::repo_path::{RepoPath, RepoPathBuf};
 use std::alloc::Global;
 
-/// What signs the content of commits.
+/// Signs the content of commits.
 pub trait SigningFn {
     ghost use Rattle.std.specs.Prelude.{ℕ, List, Result};
     ghost use Rattle.jj_backend.specs.declared.signing.SignError.{SignError};
 
-    /// That it may answer so, asked to sign data.
+    /// Relates the signer and data to the results that `sign` may return for them.
     ghost may_sign: { Self → List ℕ → Result (List ℕ) SignError → Type 0 };
 
-    /// The signature of the data.
+    /// Returns a signature of the data.
     fn sign(&mut self, alloc: Global, data: &[u8]) -> SignResult<Vec<u8>>
         ensures { may_sign self.old «data».now (result_map_both (λ v. v.items) (λ e. e) result) };
 }
 
-/// The signer of an unsigned write, which is passed `None::<&mut NoSigner>`. It signs nothing: its
-/// only result is `InvalidSignatureFormat`.
+/// The signer type of an unsigned write, which passes `None::<&mut NoSigner>`. It never signs:
+/// `sign` always fails with `InvalidSignatureFormat`.
 #[derive(Debug, Drop)]
 pub struct NoSigner;
 
@@ -42,7 +42,9 @@ impl SigningFn for NoSigner {
     }
 }
 
-/// Where objects are kept, by ids. A path is where an object is met, which a backend may use.
+/// A store of files, symbolic links, copy histories, trees and commits, each addressed by its id.
+/// Calls pass the path of an object in the repository, which a backend may use or ignore. A write
+/// that fails changes no object.
 pub trait Backend {
     ghost use Rattle.std.specs.Prelude.{ℕ, List, Result};
     ghost use Rattle.jj_paths.specs.Paths.{Path};
@@ -50,44 +52,44 @@ pub trait Backend {
     ghost use Rattle.jj_backend.specs.Trees.{Entries};
     ghost use Rattle.jj_backend.specs.declared.backend.errors.BackendError.{BackendError};
 
-    /// What it keeps.
+    /// The stored objects, by id.
     ghost objects: { Self → Objects };
 
-    /// What a read may answer beside a value and that there is none.
+    /// The errors that a read may return besides `ObjectNotFound`.
     ghost may_fail: { Self → BackendError → Type 0 };
 
-    /// That a read of the tree at this path, with this id, may return this.
+    /// Relates a path and a tree id to the results that `read_tree` may return for them.
     ghost may_read_tree: { Self → Path → List ℕ → Result Entries BackendError → Type 0 };
 
-    /// The name of the kind of backend.
+    /// Returns the name that identifies the type of the backend.
     fn name(&self) -> &str;
 
-    /// How many bytes the ids of commits have.
+    /// Returns the length of commit ids in bytes.
     fn commit_id_length(&self) -> usize;
 
-    /// How many bytes the ids of changes have.
+    /// Returns the length of change ids in bytes.
     fn change_id_length(&self) -> usize;
 
-    /// The id of the commit that all others descend from.
+    /// Returns the id of the root commit, the ancestor of all other commits.
     fn root_commit_id(&self) -> &CommitId
         ensures { IsSome ((objects self.now).commits result.now) };
 
-    /// The change of the root commit.
+    /// Returns the change id of the root commit.
     fn root_change_id(&self) -> &ChangeId;
 
-    /// The id of the tree without entries.
+    /// Returns the id of the tree without entries.
     fn empty_tree_id(&self) -> &TreeId
         ensures { (objects self.now).trees result.now ≡ Some [] };
 
-    /// How many calls at once serve the backend best.
+    /// Returns the number of concurrent calls that suits the backend best.
     fn concurrency(&self) -> usize;
 
-    /// The bytes of a file. The path says where the file is, for backends that can use it.
+    /// Reads the content of a file. `ObjectNotFound` means that no file has the id.
     fn read_file(&self, alloc: Global, path: RepoPath<'_>, id: &FileId) -> BackendResult<Vec<u8>>
         ensures { IsRead (may_fail self.now) ((objects self.now).files id.now)
             (λ v. v.items) result };
 
-    /// Keeps the bytes of a file, and answers its id.
+    /// Stores the content of a file and returns its id.
     fn write_file(
         &mut self,
         alloc: Global,
@@ -98,7 +100,7 @@ pub trait Backend {
             (objects self.new) id contents.now) }
         ensures kept { OnErr result (objects self.new ≡ objects self.old) };
 
-    /// The target of a symbolic link.
+    /// Reads the target of a symbolic link. `ObjectNotFound` means that no link has the id.
     fn read_symlink(
         &self,
         alloc: Global,
@@ -108,7 +110,7 @@ pub trait Backend {
         ensures { IsRead (may_fail self.now)
             ((objects self.now).symlinks id.now) string_bytes result };
 
-    /// Keeps the target of a symbolic link, and answers its id.
+    /// Stores the target of a symbolic link and returns its id.
     fn write_symlink(
         &mut self,
         alloc: Global,
@@ -119,30 +121,30 @@ pub trait Backend {
             (objects self.new) id target.now) }
         ensures kept { OnErr result (objects self.new ≡ objects self.old) };
 
-    /// How a file was copied.
+    /// Reads a copy history. `ObjectNotFound` means that no copy history has the id.
     fn read_copy(&self, alloc: Global, id: &CopyId) -> BackendResult<CopyHistory>
         ensures { IsRead (may_fail self.now) ((objects self.now).copies id.now) (λ c. c) result };
 
-    /// Keeps how a file was copied, and answers its id.
+    /// Stores a copy history and returns its id.
     fn write_copy(&mut self, alloc: Global, copy: &CopyHistory) -> BackendResult<CopyId>
         ensures ok { IfOk result (λ id. AddsCopy (objects self.old)
             (objects self.new) id copy.now) }
         ensures kept { OnErr result (objects self.new ≡ objects self.old) };
 
-    /// The copies that a copy is related to.
+    /// Returns the copy histories that are related to the one with this id.
     fn get_related_copies(
         &self,
         alloc: Global,
         copy_id: &CopyId,
     ) -> BackendResult<Vec<RelatedCopy>>;
 
-    /// Returns the entries of the directory at `path`, whose tree has this id.
+    /// Reads the tree of the directory at `path`. `ObjectNotFound` means that no tree has the id.
     fn read_tree(&self, alloc: Global, path: RepoPath<'_>, id: &TreeId) -> BackendResult<Tree>
         ensures value { IsRead (may_fail self.now)
             ((objects self.now).trees id.now) (λ t. t) result }
         ensures at_path { may_read_tree self.now (path_of path.entry) id.now result };
 
-    /// Keeps the entries of a directory, and answers their id.
+    /// Stores the tree of a directory and returns its id.
     fn write_tree(
         &mut self,
         alloc: Global,
@@ -153,12 +155,12 @@ pub trait Backend {
             (objects self.new) id contents.now) }
         ensures kept { OnErr result (objects self.new ≡ objects self.old) };
 
-    /// A commit as it is kept.
+    /// Reads a commit. `ObjectNotFound` means that no commit has the id.
     fn read_commit(&self, alloc: Global, id: &CommitId) -> BackendResult<Commit>
         ensures { IsRead (may_fail self.now) ((objects self.now).commits id.now) (λ c. c) result };
 
-    /// Keeps a commit, signed if there is something to sign it with. Answers its id, and the
-    /// commit as it is kept.
+    /// Stores a commit and returns its id and the commit as stored. With a signer, the stored
+    /// commit carries a signature of its content; a failure to sign fails the write.
     fn write_commit<S: SigningFn>(
         &mut self,
         alloc: Global,
@@ -171,7 +173,7 @@ pub trait Backend {
             IsSigned S.may_sign (option_map (λ f. f.now) sign_with.entry) contents kept.1) }
         ensures kept { OnErr result (objects self.new ≡ objects self.old) };
 
-    /// The copies that were found between two commits, of these paths or of all.
+    /// Returns the copies detected between two commits, only those of `paths` if it is `Some`.
     fn get_copy_records(
         &self,
         alloc: Global,

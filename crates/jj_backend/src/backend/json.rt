@@ -1,4 +1,4 @@
-//! JSON values of moments and of the records that hold them.
+//! JSON values of timestamps, signatures and commits.
 ghost use Rattle.std.specs.Prelude.{◌≡◌, IfOk};
 ghost use Rattle.serde_json.specs.View.{view};
 ghost use Rattle.jj_content.specs.Json.{IsAnswer};
@@ -12,7 +12,7 @@ use jj_ids::object_id::{Id, IdKind, ObjectId};
 use serde_json::{Value, json};
 use std::alloc::{AllocError, Global};
 
-// The day of a date; the year has at least four digits.
+// The year has at least four digits.
 fn day_text(alloc: Global, date: &Zoned<'_>) -> Result<String, AllocError> {
     let year = date.year();
     let sign = if year < 0 { "-" } else { "" };
@@ -22,7 +22,6 @@ fn day_text(alloc: Global, date: &Zoned<'_>) -> Result<String, AllocError> {
     format!(in alloc; "{sign}{years:04}-{month:02}-{day:02}")
 }
 
-// Appends the time of day of a date, in milliseconds.
 fn push_time(text: &mut String, date: &Zoned<'_>) -> Result<(), AllocError> {
     let hour = date.hour();
     let minute = date.minute();
@@ -31,7 +30,6 @@ fn push_time(text: &mut String, date: &Zoned<'_>) -> Result<(), AllocError> {
     write!(text, "T{hour:02}:{minute:02}:{second:02}.{millis:03}")
 }
 
-// Appends the offset of a date in hours and minutes.
 fn push_offset(text: &mut String, date: &Zoned<'_>) -> Result<(), AllocError> {
     let seconds = date.offset().seconds();
     let sign = if seconds < 0 { "-" } else { "+" };
@@ -41,7 +39,7 @@ fn push_offset(text: &mut String, date: &Zoned<'_>) -> Result<(), AllocError> {
     write!(text, "{sign}{hours:02}:{rest:02}")
 }
 
-/// A moment is the text of its date in its offset, as `1970-01-01T01:30:00.001+01:30`.
+/// Returns a string in ISO 8601 format with the offset, as `1970-01-01T01:30:00.001+01:30`.
 impl ToJson for Timestamp {
     ghost is_in_range = { IsDate };
 
@@ -60,7 +58,6 @@ impl ToJson for Timestamp {
     }
 }
 
-// The array of the ids' hexadecimal strings.
 fn ids_json<K: IdKind>(alloc: Global, ids: &[Id<K>]) -> Result<Value, AllocError>
     ensures { IfOk result (λ ids_value. view ids_value ≡ ids_json ids.now) }
 {
@@ -71,7 +68,7 @@ fn ids_json<K: IdKind>(alloc: Global, ids: &[Id<K>]) -> Result<Value, AllocError
     Ok(Value::Array(strings))
 }
 
-// The object of a signature whose moment has this value.
+// `timestamp` is the JSON value of the signature's timestamp.
 fn signature_object(
     alloc: Global,
     signature: &Signature,
@@ -87,7 +84,7 @@ fn signature_object(
     })
 }
 
-/// A signature is an object of its name, its email and its moment.
+/// Returns an object with the members `name`, `email` and `timestamp`.
 impl ToJson for Signature {
     ghost is_in_range = { λ s. IsDate s.timestamp };
 
@@ -99,7 +96,7 @@ impl ToJson for Signature {
     }
 }
 
-// The object of a commit whose author and committer have these values.
+// `author` and `committer` are the JSON values of the commit's signatures.
 fn commit_object(
     alloc: Global,
     commit: &Commit,
@@ -120,7 +117,8 @@ fn commit_object(
     })
 }
 
-/// A commit is an object of its parents, its change, its description, and who made it.
+/// Returns an object with the members `parents`, `change_id`, `description`, `author` and
+/// `committer`. Ids are hexadecimal, the change id with reverse digits (`z` to `k`).
 impl ToJson for Commit {
     ghost is_in_range = { λ c. IsDate c.author.timestamp × IsDate c.committer.timestamp };
 

@@ -1,5 +1,4 @@
-//! Equality, copies and content of merges of texts and of trees, as the records that hold them
-//! need.
+//! Equality, clones and content hashes of the merges in a commit: its labels and its trees.
 ghost use Rattle.std.specs.Prelude.{◌≡◌, map, string_bytes, IfOk, OnOk, OnErr};
 ghost use Rattle.std.specs.Cmp.Lexicographic.{pointwise};
 ghost use Rattle.std.specs.Str.{bytes_eq};
@@ -11,14 +10,12 @@ use jj_ids::object_id::TreeId;
 use jj_merges::merge::Merge;
 use std::alloc::{AllocError, Global};
 
-// Whether two merges have the same texts.
 pub(super) fn are_same_texts(a: &Merge<String>, b: &Merge<String>) -> bool
     ensures { result ≡ pointwise bytes_eq (map string_bytes a.now) (map string_bytes b.now) }
 {
     a == b
 }
 
-// A copy of a merge of texts.
 pub(super) fn copied_texts(
     alloc: Global,
     texts: &Merge<String>,
@@ -28,7 +25,6 @@ pub(super) fn copied_texts(
     texts.clone(alloc)
 }
 
-// Appends the content of a merge of texts.
 pub(super) fn hash_texts<D: DigestUpdate>(
     alloc: Global,
     state: &mut D,
@@ -43,7 +39,6 @@ pub(super) fn hash_texts<D: DigestUpdate>(
     ContentHash::hash(texts, alloc, state)
 }
 
-// A copy of a merge of trees.
 pub(super) fn copied_trees(
     alloc: Global,
     trees: &Merge<TreeId>,

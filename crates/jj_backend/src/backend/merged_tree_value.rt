@@ -1,4 +1,4 @@
-//! Merges of what stands at a path in several trees.
+//! Merges of the tree values at one path: queries, file projections and descriptions.
 ghost use Rattle.std.specs.Prelude.{◌≡◌, map, Some, IfOk};
 ghost use Rattle.std.specs.List.{AllZip, list_all};
 ghost use Rattle.std.specs.Option.{option_copied, option_map};
@@ -13,20 +13,20 @@ use jj_merges::merge::Merge;
 use smallvec::SmallVec;
 use std::alloc::{AllocError, Global};
 
-/// What stands at a path in several trees, by reference.
+/// A merge of the values at one path in several trees, by reference.
 pub type MergedTreeVal<'a> = Merge<Option<&'a TreeValue>>;
 
-/// What stands at a path in several trees.
+/// A merge of the values at one path in several trees.
 pub type MergedTreeValue = Merge<Option<TreeValue>>;
 
-/// What gives what stands at a name of a tree: that itself, or a reference to it.
+/// A tree value, owned or by reference.
 pub trait AsTreeValue {
     ghost use Rattle.jj_backend.specs.declared.backend.tree_value.TreeValue.{TreeValue};
 
-    /// What stands there.
+    /// The tree value.
     ghost value_of: { Self → TreeValue };
 
-    /// What stands there, by reference.
+    /// Returns the tree value by reference.
     fn as_tree_value(&self) -> &TreeValue
         ensures { result.now ≡ value_of self.now };
 }
@@ -47,7 +47,7 @@ impl<'a> AsTreeValue for &'a TreeValue {
     }
 }
 
-/// What stands at a name, by reference, if anything does.
+/// Returns the tree value of a term by reference, and `None` for an absent term.
 pub fn borrow_tree_value<'a, T: AsTreeValue>(term: Option<&'a T>) -> Option<&'a TreeValue>
     ensures { option_copied result ≡ option_map T.value_of (option_copied term.entry) }
 {
@@ -57,7 +57,6 @@ pub fn borrow_tree_value<'a, T: AsTreeValue>(term: Option<&'a T>) -> Option<&'a 
     }
 }
 
-// What stands at a term, by reference, if anything does.
 pub(super) fn value_at<T: AsTreeValue>(term: &Option<T>) -> Option<&TreeValue>
     ensures { option_copied result ≡ option_map T.value_of term.now }
 {
@@ -79,7 +78,6 @@ fn is_tree_or_absent<T: AsTreeValue>(term: &Option<T>) -> bool
     }
 }
 
-// Whether each term that is there is a tree.
 fn are_trees_or_absent<T: AsTreeValue>(terms: &[Option<T>]) -> bool
     ensures { result ≡ list_all is_tree_or_absent (map (option_map T.value_of) terms.now) }
 {
@@ -91,7 +89,7 @@ fn are_trees_or_absent<T: AsTreeValue>(terms: &[Option<T>]) -> bool
     true
 }
 
-// The file with that id.
+// Replaces the id of a file. An absent term becomes a file that is neither executable nor a copy.
 fn file_with_id(
     alloc: Global,
     value: Option<&TreeValue>,
@@ -122,7 +120,7 @@ fn file_with_id(
     }
 }
 
-// What stands there with that id of a file, if there is one.
+// Returns `None` if the id is absent: by the precondition, so is the value then.
 fn with_id(
     alloc: Global,
     value: Option<&TreeValue>,
@@ -137,7 +135,6 @@ fn with_id(
     }
 }
 
-// The files with these ids, place by place.
 fn with_ids<T: AsTreeValue>(
     alloc: Global,
     terms: &Merge<Option<T>>,
@@ -156,8 +153,8 @@ fn with_ids<T: AsTreeValue>(
     Ok(Merge::from_vec(files))
 }
 
-/// What is asked of merges of what stands at a path. A `Result` is an error only for want of
-/// memory.
+/// Operations on merges of tree values. The calls that return a `Result` fail only if they are out
+/// of memory.
 pub trait MergedTreeValueExt {
     ghost use Rattle.std.specs.Prelude.{◌≡◌, List, IfOk, string_bytes};
     ghost use Rattle.std.specs.List.{AllZip};
@@ -174,30 +171,32 @@ pub trait MergedTreeValueExt {
     };
     ghost use Rattle.jj_backend.specs.TreeValues.{copy_id_of};
 
-    /// The terms.
+    /// The terms of the merge.
     ghost values: { Self → Values };
 
-    /// Whether this is resolved to a tree, or is a conflict of trees and of nothing else.
+    /// Returns whether the merge is resolved to a tree, or is a conflict whose present terms are
+    /// all trees.
     fn is_tree(&self) -> bool
         ensures { result ≡ are_trees (values self.now) };
 
-    /// Whether this is there and is not a tree.
+    /// Returns whether the merge is neither resolved to absent nor a tree by `is_tree`.
     fn is_file_like(&self) -> bool
         ensures { result ≡ are_file_like (values self.now) };
 
-    /// The ids of the files, if no term is anything else.
+    /// Returns the merge of the file ids, or `None` if a present term is not a file.
     fn to_file_merge(&self, alloc: Global) -> Result<Option<Merge<Option<FileId>>>, AllocError>
         ensures { IfOk result (λ merge. merge ≡ parts file_id_of (values self.now)) };
 
-    /// Whether the files are executable, if no term is anything else.
+    /// Returns the merge of the executable bits, or `None` if a present term is not a file.
     fn to_executable_merge(&self, alloc: Global) -> Result<Option<Merge<Option<bool>>>, AllocError>
         ensures { IfOk result (λ merge. merge ≡ parts executable_of (values self.now)) };
 
-    /// The copies that the files came from, if no term is anything else.
+    /// Returns the merge of the copy ids, or `None` if a present term is not a file.
     fn to_copy_id_merge(&self, alloc: Global) -> Result<Option<Merge<Option<CopyId>>>, AllocError>
         ensures { IfOk result (λ merge. merge ≡ parts copy_id_of (values self.now)) };
 
-    /// The files with these ids. An absent term with an id becomes a file that is not executable.
+    /// Returns the merge with these file ids, index by index. An absent term with an id becomes a
+    /// file that is neither executable nor a copy.
     fn with_new_file_ids(
         &self,
         alloc: Global,
@@ -206,7 +205,8 @@ pub trait MergedTreeValueExt {
         requires { AllZip CanTakeId (values self.now) file_ids.now }
         ensures { IfOk result (λ merge. merge ≡ with_file_ids (values self.now) file_ids.now) };
 
-    /// The conflict in words: a line for each term that is there, the removed ones first.
+    /// Returns a description of the conflict: one line for each present term with its label, the
+    /// removes before the adds.
     fn describe(&self, alloc: Global, labels: &ConflictLabels) -> Result<String, AllocError>
         ensures { IfOk result (λ text. string_bytes text
             ≡ description (values self.now) labels.now) };

@@ -1,4 +1,4 @@
-//! Copies, equality, order and hashes of the records that a backend keeps.
+//! Clone, equality, ordering and hash instances of records that a backend stores.
 ghost use Rattle.std.specs.Prelude.{◌≡◌, ◌++◌, Some, refl};
 ghost use Rattle.std.specs.Cmp;
 ghost use Rattle.std.specs.Cmp.Rules.{hashing};
@@ -65,7 +65,7 @@ impl PartialOrd for CopyHistory {
     }
 }
 
-/// By the path, then by the parents, then by the salt.
+/// Compares the paths, then the parents, then the salts.
 impl Ord for CopyHistory {
     ghost cmp = { copy_history_cmp };
 

@@ -1,11 +1,11 @@
-//! Who did something and when, and signatures of data.
+//! Author and committer signatures, and cryptographic signatures.
 ghost use Rattle.std.specs.Prelude.{string_bytes};
 ghost use Rattle.jj_backend.specs.Records.{SignatureValue, SecureSigValue};
 
 use super::Timestamp;
 use std::marker::Model;
 
-/// Who did something, and when.
+/// The name and email of an author or a committer, and the time of the change.
 #[derive(Debug, Drop)]
 pub struct Signature {
     pub name: String,
@@ -23,7 +23,7 @@ impl Model for Signature {
     } };
 }
 
-/// A signature, and the data that was signed.
+/// A cryptographic signature, with the data that it signs.
 #[derive(Debug, Drop)]
 pub struct SecureSig {
     pub signed_data: Vec<u8>,

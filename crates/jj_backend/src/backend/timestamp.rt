@@ -1,4 +1,4 @@
-//! Moments in whole milliseconds, with an offset from UTC.
+//! Timestamps in milliseconds with an offset from UTC, and their conversion from and to dates.
 ghost use Rattle.std.specs.Prelude.{◌≡◌, ◌↔◌, ◌++◌, ◌*ℤ◌, ◌≤ℤ◌, ℤ, pos, negsuc, IsOk, IfOk, FitsSigned, int_div};
 ghost use Rattle.std.specs.Int.{w64, w32, int_div_euclid};
 ghost use Rattle.jiff.specs.Words.{IsTimestampNanos, plain_zoned, fixed_zone};
@@ -8,23 +8,23 @@ use jiff::Zoned;
 use jiff::tz::{Offset, TimeZone};
 use thiserror::Error;
 
-/// Whole milliseconds since 1970-01-01T00:00Z.
+/// Milliseconds since the Unix epoch, 1970-01-01T00:00Z.
 #[derive(Clone, Copy, Debug, PartialEq, Eq, PartialOrd, Ord, Hash)]
 pub struct MillisSinceEpoch(pub i64);
 
-/// A moment, with an offset from UTC in minutes.
+/// A point in time, with an offset from UTC in minutes.
 #[derive(Clone, Copy, Debug, PartialEq, Eq, PartialOrd, Ord, Hash)]
 pub struct Timestamp {
     pub timestamp: MillisSinceEpoch,
     pub tz_offset: i32,
 }
 
-/// The milliseconds are out of the range of dates.
+/// The error for a timestamp outside of the range of dates.
 #[derive(Clone, Copy, Debug, PartialEq, Eq, Error)]
 #[error("Out-of-range date")]
 pub struct TimestampOutOfRange;
 
-// The seconds of an offset in minutes; one of a day or more counts as none.
+// An offset of a day or more counts as UTC.
 fn seconds_of(minutes: i32) -> i32
     ensures value { result ≡ offset_seconds minutes }
     ensures within { IsWithinDay result }
@@ -37,8 +37,8 @@ fn seconds_of(minutes: i32) -> i32
 }
 
 impl Timestamp {
-    /// The last whole millisecond at or before the moment, and the whole minutes of the offset,
-    /// rounded towards zero.
+    /// Returns the timestamp of a point in time, rounded down to milliseconds, with the offset
+    /// rounded towards zero to minutes.
     pub fn now(moment: jiff::Timestamp, offset: Offset) -> Timestamp
         ensures millis { result.timestamp.0 ≡ int_div_euclid moment.nanosecond
             nanoseconds_in_millisecond }
@@ -50,7 +50,7 @@ impl Timestamp {
         }
     }
 
-    /// As `now`, of the moment and the offset of a date.
+    /// Returns the timestamp of a date and time with an offset, rounded as by `now`.
     pub fn from_datetime(datetime: &Zoned<'_>) -> Timestamp
         ensures millis { result.timestamp.0
             ≡ int_div_euclid (plain_zoned datetime.now).timestamp.nanosecond
@@ -61,7 +61,8 @@ impl Timestamp {
         Timestamp::now(datetime.timestamp(), datetime.offset())
     }
 
-    /// The moment in its offset; an offset of a day or more counts as none.
+    /// Returns the date and time in the timestamp's offset; an offset of a day or more counts as
+    /// UTC. Fails if the timestamp is outside of the range of dates.
     pub fn to_datetime(&self) -> Result<Zoned<'static>, TimestampOutOfRange>
         ensures succeeds { IsOk result ↔ IsTimestampNanos (nanoseconds self.now.timestamp.0) }
         ensures moment { IfOk result (λ z. (plain_zoned z).timestamp.nanosecond

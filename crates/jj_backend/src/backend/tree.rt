@@ -1,4 +1,4 @@
-//! Trees: what stands at the names of one directory.
+//! Trees: the sorted list of the entries of one directory, searched by bisection.
 ghost use Rattle.std.specs.Prelude.{◌≡◌, ◌↔◌, [], map, IsTrue, IfSome, MatchOption, None};
 ghost use Rattle.std.specs.FinMap.{is_sorted};
 ghost use Rattle.std.specs.Iterator.{YieldsFirstBy, item_count};
@@ -14,7 +14,7 @@ use std::cmp::Ordering;
 use std::iter::FusedIterator;
 use std::marker::Model;
 
-/// A name of a tree, and what stands there.
+/// An entry of a tree, by reference: a name and a value.
 #[derive(Clone, Copy, Debug, PartialEq, Eq)]
 pub struct TreeEntry<'a> {
     name: RepoPathComponent<'a>,
@@ -22,21 +22,21 @@ pub struct TreeEntry<'a> {
 }
 
 impl<'a> TreeEntry<'a> {
-    /// The entry of this name and value.
+    /// Creates an entry.
     pub fn new(name: RepoPathComponent<'a>, value: &'a TreeValue) -> Self
         ensures { entry_of result ≡ (name_of name.entry, value.now) }
     {
         TreeEntry { name, value }
     }
 
-    /// The name in its directory.
+    /// Returns the name of the entry in its directory.
     pub fn name(&self) -> RepoPathComponent<'a>
         ensures { name_of result ≡ (entry_of self.now).0 }
     {
         self.name
     }
 
-    /// What stands there.
+    /// Returns the value of the entry.
     pub fn value(&self) -> &'a TreeValue
         ensures { result.now ≡ (entry_of self.now).1 }
     {
@@ -44,7 +44,7 @@ impl<'a> TreeEntry<'a> {
     }
 }
 
-/// The entries of a tree, in the order of their names. Once it has answered `None`, it goes on so.
+/// Iterates over the entries of a tree in order of their names, without those of its subtrees.
 #[derive(Clone, Copy)]
 pub struct TreeEntriesNonRecursiveIterator<'a> {
     rest: &'a [(RepoPathComponentBuf, TreeValue)],
@@ -66,7 +66,7 @@ impl<'a> Iterator for TreeEntriesNonRecursiveIterator<'a> {
 
 impl FusedIterator for TreeEntriesNonRecursiveIterator<'_> {}
 
-/// The names of a tree, in order. Once it has answered `None`, it goes on so.
+/// Iterates over the names of a tree in ascending order.
 #[derive(Clone, Copy)]
 pub struct TreeNames<'a> {
     entries: TreeEntriesNonRecursiveIterator<'a>,
@@ -87,7 +87,7 @@ impl<'a> Iterator for TreeNames<'a> {
 
 impl FusedIterator for TreeNames<'_> {}
 
-/// What stands at the names of one directory, which ascend strictly.
+/// The entries of one directory, in strictly ascending order of their names.
 #[derive(Debug, Drop)]
 pub struct Tree {
     pub(super) entries: Vec<(RepoPathComponentBuf, TreeValue)>,
@@ -102,7 +102,7 @@ impl Model for Tree {
 }
 
 impl Tree {
-    /// The tree without entries.
+    /// Creates a tree without entries.
     pub fn default(alloc: Global) -> Self
         ensures { result ≡ [] }
     {
@@ -111,7 +111,7 @@ impl Tree {
         }
     }
 
-    /// The tree of these entries.
+    /// Creates a tree of entries whose names ascend strictly.
     pub fn from_sorted_entries(entries: Vec<(RepoPathComponentBuf, TreeValue)>) -> Self
         requires { IsTrue (is_sorted name_cmp entries.items) }
         ensures { result ≡ entries.items }
@@ -119,14 +119,14 @@ impl Tree {
         Tree { entries }
     }
 
-    /// Whether the tree has no entry.
+    /// Returns whether the tree has no entries.
     pub fn is_empty(&self) -> bool
         ensures { IsTrue result ↔ (self.now ≡ []) }
     {
         self.entries.is_empty()
     }
 
-    /// The names, in order.
+    /// Iterates over the names in ascending order.
     pub fn names(&self) -> TreeNames<'_>
         ensures { names_left result ≡ map (λ entry. entry.0) self.now }
     {
@@ -135,7 +135,7 @@ impl Tree {
         }
     }
 
-    /// The entries, in the order of their names.
+    /// Iterates over the entries in order of their names.
     pub fn entries(&self) -> TreeEntriesNonRecursiveIterator<'_>
         ensures entries { entries_left result ≡ self.now }
         ensures ascending { IsTrue (is_sorted name_cmp self.now) }
@@ -145,7 +145,7 @@ impl Tree {
         }
     }
 
-    /// The entry of a name.
+    /// Returns the entry with this name, by binary search.
     pub fn entry(&self, name: RepoPathComponent<'_>) -> Option<TreeEntry<'_>>
         ensures value { option_map (λ entry. (entry_of entry).1) result
             ≡ value_at self.now (name_of name.entry) }
@@ -160,7 +160,7 @@ impl Tree {
         }
     }
 
-    /// What stands at a name.
+    /// Returns the value of the entry with this name, by binary search.
     pub fn value(&self, name: RepoPathComponent<'_>) -> Option<&TreeValue>
         ensures { option_copied result ≡ value_at self.now (name_of name.entry) }
     {
@@ -171,7 +171,7 @@ impl Tree {
     }
 }
 
-// The place of the entry with a name, by binary search.
+// Returns the index of the entry with this name.
 fn place(
     entries: &[(RepoPathComponentBuf, TreeValue)],
     name: RepoPathComponent<'_>,

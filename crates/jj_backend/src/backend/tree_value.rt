@@ -1,4 +1,4 @@
-//! What stands at a name of a tree.
+//! The values of tree entries: files, symbolic links, subtrees and Git submodules.
 ghost use Rattle.std.specs.Prelude.{◌≡◌};
 ghost use Rattle.std.specs.Option.{option_copied, option_and_then};
 ghost use Rattle.jj_backend.specs.TreeValues.{copy_id_of};
@@ -6,7 +6,7 @@ ghost use Rattle.jj_backend.specs.TreeValues.{copy_id_of};
 use jj_ids::object_id::{CommitId, CopyId, FileId, SymlinkId, TreeId};
 use std::alloc::AllocError;
 
-/// What stands at a name of a tree.
+/// The value of a tree entry: a file, a symbolic link, a subtree or a Git submodule.
 #[derive(Debug, PartialEq, Eq, Hash, Drop)]
 pub enum TreeValue {
     File {
@@ -20,7 +20,7 @@ pub enum TreeValue {
 }
 
 impl TreeValue {
-    /// The copy that a file came from.
+    /// Returns the copy id of a file, and `None` for any other value.
     pub fn copy_id(&self) -> Option<&CopyId>
         ensures { option_copied result ≡ copy_id_of self.now }
     {
