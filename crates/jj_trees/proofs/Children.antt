@@ -1,4 +1,4 @@
--- What stands at a name below a value is found among the entries of the tree that the value is.
+-- Children of values: look-ups in the entries of the trees that the values are.
 use Rattle.std.proofs.Common.{◌≡◌, List, [], ◌∷◌, map, Option, Some, None, unwrap_or, refl}
 use Rattle.std.specs.Prelude.{option_and_then}
 use Rattle.std.specs.Map.{lookup}
@@ -21,7 +21,6 @@ module _ (trees : ById (List (Name × TreeValue))) (name : Name) where
   child-entries (Some (Symlink id)) = refl
   child-entries (Some (GitSubmodule id)) = refl
 
-  -- the values below are those that the trees of the values have at the name
   pub children-entries : (vs : List (Option TreeValue)) → map (λ entries. lookup (bytes_eq name) entries) (map (entries_of trees) vs) ≡ map (child trees name) vs
   children-entries [] = refl
   children-entries (v ∷ vs) = λ i. child-entries v i ∷ children-entries vs i

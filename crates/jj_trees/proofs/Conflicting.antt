@@ -1,4 +1,4 @@
--- A conflict that was appended.
+-- The step of a merge that appends a conflict.
 use Rattle.std.proofs.Common.{◌≡◌, ℕ, Bool, true, inr, List, [], ◌∷◌, ◌++◌, Option, None, Some, refl, ap, ◌∙◌}
 use Rattle.std.specs.Prelude.{All}
 use Rattle.std.specs.List.{AllZip}
@@ -29,7 +29,6 @@ conflict_done eq same_change values labels path old_r new_r old_c new_c terms te
   inr (inr (record { terms = terms; labels = texts }, (undecided, t, l), r, ap conflict_entries c ∙ map-append entry_of old_c ((path, terms, texts) ∷ []))),
 )
 
--- values that were cloned are the values themselves
 pub cloned_values : (IsClone : Option TreeValue → Option TreeValue → Type 0) (values clones : Values) → AllZip IsClone values clones
     → ((v : TreeValue) → IsClone (Some v) None → ⊥) → ((w : TreeValue) → IsClone None (Some w) → ⊥)
     → ((v w : TreeValue) → IsClone (Some v) (Some w) → w ≡ v) → clones ≡ values

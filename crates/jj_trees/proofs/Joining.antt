@@ -1,4 +1,4 @@
--- Lists of entries by paths, put together name by name.
+-- Concatenation of lists of entries that are sorted by path, name by name.
 use Rattle.std.proofs.Common.{◌≡◌, ◌<◌, ℕ, suc, zero, ◌⊎◌, inl, inr, List, [], ◌∷◌, ◌++◌, length, get_or, map, refl, sym, ap, subst, ◌∙◌, arith}
 use Rattle.std.specs.Prelude.{All, AllPairs, Contains, ◌↔◌}
 use Rattle.std.specs.Cmp.{tied_itself}
@@ -47,7 +47,7 @@ module _ {X Y : Type 0} (f : Y → X) where
   pub into_image : (ys : List Y) (y : Y) → Contains ys y → Contains (map f ys) (f y)
   into_image ys y h = into_at ys y h.0 h.1 h.2
 
--- paths whose first names are in order, and paths below one name
+-- order of paths whose first names differ, and of paths below one name
 first_less : (m n : Name) (p q : Path) → name_cmp m n ≡ Less → path_cmp (m ∷ p) (n ∷ q) ≡ Less
 first_less m n p q h = ap (λ r. ordering_then r (path_cmp p q)) h
 
@@ -55,7 +55,7 @@ same_first : (n : Name) (p q : Path) → path_cmp p q ≡ Less → path_cmp (n �
 same_first n p q h = ap (λ r. ordering_then r (path_cmp p q)) (tied_itself nat_list_cmp_total n) ∙ h
 
 module _ {E : Type 0} where
-  -- an entry that was met in a directory, as it is seen from above
+  -- an entry whose path is prefixed with that of its directory
   abbrev pub under : Path → Path × E → Path × E
   under dir e = (dir ++ e.0, e.1)
 
@@ -69,7 +69,7 @@ module _ {E : Type 0} where
   }
 
   module _ (Holds : Name → Path → E → Type 0) where
-    -- it holds below one of these names
+    -- Holds, for the rest of a path that begins with one of these names
     abbrev pub Below : List Name → Path → E → Type 0
     Below names [] e = ⊥
     Below names (name ∷ rest) e = Contains names name × Holds name rest e
@@ -118,7 +118,7 @@ module _ {E : Type 0} where
               subst (λ n. Contains (xs ++ map (below name) ys) (n ∷ p, e)) is
               (Contains-append_right xs (map (below name) ys) (name ∷ p, e) (into_image (below name) ys (p, e) ((new.exactly p e).1 (subst (λ n. Holds n p e) (sym is) h.1))))
 
-      -- with the entries below one name more, which comes after the others
+      -- appends the entries below a greater name
       pub joined : IsListOf (Below (names ++ name ∷ [])) (xs ++ map (below name) ys)
       joined = record {
         in_order = AllPairs-append (λ a b. path_cmp a.0 b.0 ≡ Less) xs (map (below name) ys) old.in_order

@@ -1,4 +1,4 @@
--- What an insertion does to a map by ids.
+-- Look-ups in and insertions into the maps of an in-memory backend.
 use Rattle.std.proofs.Common.{◌≡◌, ◌⊎◌, inl, inr, ℕ, Bool, true, false, cond, List, [], ◌∷◌, Option, Some, None, refl, sym, ap, ◌∙◌, subst}
 use Rattle.std.specs.Ordering.{nat_cmp}
 use Rattle.std.specs.Cmp.Lexicographic.{slice_cmp, texts_ties, same_text, bytes_decides}
@@ -13,7 +13,7 @@ use Rattle.jj_backend.specs.declared.backend.errors.BackendError.TheVariants.{Me
 use Rattle.jj_trees.specs.Kept.{Kept, by_id}
 
 module _ {V : Type 0} where
-  -- what an id stands for is what a look-up finds
+  -- by_id is the map's look-up
   pub by_id-get : (m : BTreeMap (List ℕ) V) (id : List ℕ) → by_id m.entries id ≡ get_by (slice_cmp nat_cmp id) m
   unfolding by_id
   by_id-get m id = λ i. lookup (λ q. texts_ties id q i) m.entries
@@ -35,11 +35,11 @@ module _ {V : Type 0} where
   put_there m id v true q t h = sym h ∙ ap m (same_text id q (sym t))
   put_there m id v false q t h = refl
 
-  -- to put what is there changes nothing
+  -- storing an object again changes nothing
   pub put-same : (m : ById V) (id : List ℕ) (v : V) → m id ≡ Some v → m ≡ put m id v
   put-same m id v h = λ i q. sym (put_there m id v (bytes_eq id q) q refl h) i
 
-  -- what an id stands for stays where a free id is given a value
+  -- storing an object under a free id preserves the other objects
   pub put-kept : (m : ById V) (id : List ℕ) (v : V) (q : List ℕ) (w : V) → IsFree m id v → m q ≡ Some w → put m id v q ≡ Some w
   put-kept m id v q w free there = by (bytes_eq id q) refl
     where
@@ -51,7 +51,7 @@ module _ {V : Type 0} where
       by true t = some_same (m id) (ap m (same_text id q (sym t)) ∙ there) free
       by false t = there
 
--- nothing was found, or want of memory is answered in place of that
+-- a read of a missing object fails with ObjectNotFound, or is out of memory
 pub absent_read : (P : Type 0) (e : BackendError) → (is_not_found e ≡ true) ⊎ (e ≡ Memory) → P → MatchBool (is_not_found e) P (e ≡ Memory)
 absent_read P e (inl t) p = subst (λ b. MatchBool b P (e ≡ Memory)) (sym t) p
 absent_read P e (inr m) p = subst (λ f. MatchBool (is_not_found f) P (f ≡ Memory)) (sym m) refl

@@ -1,4 +1,4 @@
--- What a directory's values merge to, put together from what stands at its names.
+-- The merge of a directory, composed from the outcomes at its names.
 use Rattle.std.proofs.Common.{◌≡◌, ◌<◌, ◌+◌, ℕ, suc, zero, Bool, true, false, ◌⊎◌, inl, inr, List, [], ◌∷◌, ◌++◌, length, get_or, map, Option, Some, None, unwrap_or, refl, sym, ap, subst, ◌∙◌, arith, true≢false}
 use Rattle.std.specs.Prelude.{All, Any, Contains, ◌↔◌}
 use Rattle.std.proofs.lemmas.Option.{none-some}
@@ -57,7 +57,7 @@ module _ {E : Type 0} where
   }
 
 module _ (eq : Option TreeValue → Option TreeValue → Bool) (same : (v w : Option TreeValue) → eq v w ≡ true → v ≡ w) where
-  -- no two outcomes
+  -- the outcome is unique
   pub decided_same : (same_change : SameChange) (m : Values) (v w : Option TreeValue) → ResolvesTo eq same_change m v → ResolvesTo eq same_change m w → v ≡ w
   decided_same Keep m v w a b = same v w (a.1 w (λ z. let one = b.0 in absurd (omega (arith, ints))))
   decided_same Accept m v w a b = same v w (a.1 w b.0)
@@ -70,7 +70,7 @@ module _ (eq : Option TreeValue → Option TreeValue → Bool) (same : (v w : Op
     abbrev pub ConflictFrom : Values → Path → Conflict → Type 0
     ConflictFrom values p c = HasOutcomeFrom trees eq same_change values p × IsConflictOf eq same_change (values_at trees values p) labels c
 
-    -- what is decided here is the value at the path itself
+    -- values that resolve have one entry, at the empty path
     pub resolved_here : (values : Values) (v : TreeValue) → (IsEntered eq same_change values → ⊥) → ResolvesTo eq same_change values (Some v) → IsListOf (ResolvedFrom values) (([], v) ∷ [])
     resolved_here values v not_entered decided = one_list (ResolvedFrom values) v (not_entered, decided) only
       where
@@ -99,7 +99,7 @@ module _ (eq : Option TreeValue → Option TreeValue → Bool) (same : (v w : Op
         only [] f h = (refl, λ i. record { terms = (h.1.1 ∙ sym conflict.1) i; labels = (h.1.2 ∙ sym conflict.2) i })
         only (n ∷ p) f h = absurd (not_entered h.0.0)
 
-    -- what stands below values that are entered is what comes of them
+    -- the entries of values that are merged entry by entry are those below them
     pub resolved_entered : (values : Values) (xs : List (Path × TreeValue)) → IsEntered eq same_change values → IsListOf (IsResolved trees eq same_change values) xs → IsListOf (ResolvedFrom values) xs
     resolved_entered values xs entered = same_list (IsResolved trees eq same_change values) (ResolvedFrom values) xs both
       where
@@ -114,7 +114,7 @@ module _ (eq : Option TreeValue → Option TreeValue → Bool) (same : (v w : Op
         both [] v = (λ h. absurd h.0, λ h. absurd (h.0 entered))
         both (n ∷ p) v = (λ h. ((entered, h.0), h.1), λ h. (h.0.1, h.1))
 
-    -- what has come of the names that were passed
+    -- the loop invariant: the outcomes at the names processed so far are appended
     pub record Passed (levels : ℕ) (values : Values) (dir : Path) (names : List Name) (old_resolved new_resolved : List (Path × TreeValue)) (old_conflicts new_conflicts : List (Path × Conflict)) : Type 0 where
       pub resolved : List (Path × TreeValue)
       pub conflicts : List (Path × Conflict)
@@ -188,7 +188,7 @@ module _ (eq : Option TreeValue → Option TreeValue → Bool) (same : (v w : Op
 
       module _ (names : List Name) (old_r new_r : List (Path × TreeValue)) (old_c new_c : List (Path × Conflict)) (passed : Passed levels values dir names old_r new_r old_c new_c)
           (every : (name : Name) → Contains names name ⊎ ResolvesTo eq same_change (map (child trees name) values) None) where
-        -- where all names were passed but those at which nothing stands, the directory is merged
+        -- the directory is merged once all names that occur in it are processed
         pub merged : IsAppended trees eq same_change values labels dir old_r new_r old_c new_c
         merged = record {
           resolved = passed.resolved;
@@ -243,12 +243,12 @@ module _ (eq : Option TreeValue → Option TreeValue → Bool) (same : (v w : Op
             not_deeper [] o = omega arith
             not_deeper (n ∷ p) o = let lt = (inside n o.0).not_deeper p o.1 in omega arith
 
-      -- why this directory isn't read is why it isn't merged
+      -- an error of reading the directory is an error of merging it
       pub refused_here : (upto : ℕ) (e : BackendError) → (e ≡ Memory) ⊎ Any (fails dir e) values → IsRefused trees eq same_change is_read fails dir values upto e
       refused_here upto e (inl m) = inl m
       refused_here upto e (inr f) = inr (inl ([], tt, subst (λ d. Any (fails d e) values) (sym (append-nil dir)) f))
 
-      -- why a directory below isn't merged is why this one isn't
+      -- an error of merging a subdirectory is an error of merging the directory
       pub refused_below : (name : Name) (upto : ℕ) (e : BackendError) → upto ≡ levels + 1 → IsEntered eq same_change (map (child trees name) values)
           → IsRefused trees eq same_change is_read fails (dir ++ name ∷ []) (map (child trees name) values) levels e → IsRefused trees eq same_change is_read fails dir values upto e
       refused_below name upto e is entered (inl m) = inl m
@@ -259,7 +259,7 @@ module _ (eq : Option TreeValue → Option TreeValue → Bool) (same : (v w : Op
       ))
       refused_below name upto e is entered (inr (inr t)) = inr (inr (t.0, (name ∷ t.1.0, (entered, t.1.1), (let l = t.1.2 in omega arith))))
 
--- the equality of values tells them apart
+-- equal tree values are identical
 pub same_value : (v w : TreeValue) → tree_values.eq-value.it v w ≡ true → v ≡ w
 same_value (Symlink a) (Symlink b) h = ap Symlink ((bytes_decides a b).0 h)
 same_value (Tree a) (Tree b) h = ap Tree ((bytes_decides a b).0 h)

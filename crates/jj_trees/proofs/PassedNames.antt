@@ -1,4 +1,4 @@
--- Entries of trees, taken name by name.
+-- The k-way merge of sorted entry lists: its loop invariant and its steps.
 use Rattle.std.proofs.Common.{◌≡◌, ℕ, zero, suc, ◌+◌, ◌<◌, ◌≤◌, ◌⊎◌, inl, inr, Bool, true, false, cond, List, [], ◌∷◌, ◌++◌, length, map, get_or, take, Option, None, Some, refl, sym, ap, subst, ◌∙◌, true≢false, arith}
 use Rattle.std.specs.Prelude.{All, Any, AllPairs}
 use Rattle.std.specs.Map.{lookup}
@@ -25,7 +25,7 @@ less_from Less e = refl
 less_from Equal e = absurd (true≢false (sym e))
 less_from Greater e = absurd (true≢false (sym e))
 
--- a name that is neither the other nor before it comes after it
+-- a name b that is neither equal to nor less than a is greater
 after_from : (a b : Name) → bytes_eq a b ≡ false → is_lt (name_cmp b a) ≡ false → name_cmp a b ≡ Less
 after_from a b other not_before = by (name_cmp b a) refl
   where
@@ -51,7 +51,7 @@ not_itself a b less = by (bytes_eq a b) refl
 abbrev Entries : Type 0
 Entries = List (Name × TreeValue)
 
--- the name is not after the first one
+-- the name is at most the first one; an absent name is greater than all others
 abbrev IsFront : Name → Option Name → Type 0
 IsFront name front = lesser_name (Some name) front ≡ Some name
 
@@ -83,7 +83,7 @@ absent_below name (e ∷ es) h =
     ∙ absent_below name es parts.1
 
 module _ (name : Name) where
-  -- what stands at a name that is not after the first one is what the first entry has
+  -- a name that is at most the first one is looked up in the first entry
   value_first : (es : Entries) → is_sorted name_cmp es ≡ true → IsFront name (first_name es) → lookup (bytes_eq name) es ≡ first_at name es
   value_first [] sorted front = refl
   value_first (e ∷ es) sorted front = by (bytes_eq name e.0) refl
@@ -94,7 +94,7 @@ module _ (name : Name) where
           absent_below name es (below_later name e.0 es (after_from name e.0 h (not_before name e.0 front h))
           (and_parts (below_all name_cmp e.0 es) (is_sorted name_cmp es) sorted).0)
 
-  -- what is left comes after it
+  -- the remaining names are greater
   below_left : (es : Entries) → is_sorted name_cmp es ≡ true → IsFront name (first_name es) → below_all name_cmp name (without_first name es) ≡ true
   below_left [] sorted front = refl
   below_left (e ∷ es) sorted front = by (bytes_eq name e.0) refl
@@ -166,7 +166,7 @@ IsBelow name es = below_all name_cmp name es ≡ true
 abbrev HasFront : Name → Entries → Type 0
 HasFront name es = IsFront name (first_name es)
 
--- how many entries are left
+-- the number of remaining entries, which each step lowers
 abbrev pub entries_count : List Entries → ℕ
 entries_count [] = 0
 entries_count (es ∷ left) = length es + entries_count left
@@ -197,7 +197,7 @@ module _ (name : Name) where
   each_front (es ∷ left) h =
       (All-head (IsFront name) (first_name es) (map first_name left) h, each_front left (All-tail (IsFront name) (first_name es) (map first_name left) h))
 
-  -- one of the trees has the name in front
+  -- the name is the first remaining one of a tree
   abbrev IsInFront : List Entries → Type 0
   IsInFront [] = ⊥
   IsInFront (es ∷ left) = (first_name es ≡ Some name) ⊎ IsInFront left
@@ -236,7 +236,7 @@ abbrev EachAbsent : List (Option TreeValue) → Type 0
 EachAbsent [] = Unit {0}
 EachAbsent (v ∷ vs) = (v ≡ None) × EachAbsent vs
 
--- where no tree has a name in front, nothing stands at any
+-- if no tree has a first name, all values are absent at every name
 none_left : (name : Name) (left : List Entries) → All (λ front. front ≡ None) (map first_name left) → EachAbsent (at_name left name)
 none_left name [] none = tt
 none_left name (es ∷ left) none = (
@@ -252,7 +252,7 @@ all_absent : (name : Name) (trees : List Entries) → EachAbsent (at_name trees 
 all_absent name [] h = All-nil (λ entries. lookup (bytes_eq name) entries ≡ None)
 all_absent name (t ∷ ts) h = All-cons (λ entries. lookup (bytes_eq name) entries ≡ None) t ts h.0 (all_absent name ts h.1)
 
--- rows that were made of the entries taken so far, and the entries left
+-- the loop invariant: rows of the entries removed so far, and the remaining entries
 pub record Passes (trees left : List Entries) (rows : List (Name × List (Option TreeValue))) : Type 0 where
   pub ascending : AllPairs (λ a b. name_cmp a.0 b.0 ≡ Less) rows
   pub values : All (λ row. row.1 ≡ at_name trees row.0) rows
@@ -260,7 +260,7 @@ pub record Passes (trees left : List Entries) (rows : List (Name × List (Option
   pub above : All (λ row. Each (IsBelow row.0) left) rows
   pub every : (name : Name) → (at_name trees name ≡ at_name left name) ⊎ Any (λ row. row.0 ≡ name) rows
 
--- nothing is taken yet
+-- the invariant holds before the loop
 pub nothing_passed : (trees : List Entries) → Each IsSorted trees → Passes trees trees []
 nothing_passed trees sorted = record {
   ascending = λ i j d lt within. absurd (omega arith);
@@ -271,7 +271,7 @@ nothing_passed trees sorted = record {
 }
 
 module _ (trees left : List Entries) (rows : List (Name × List (Option TreeValue))) (passed : Passes trees left rows) where
-  -- one row more
+  -- one step of the loop
   pub one_passed : (name : Name) → IsLeastName (Some name) (map first_name left)
       → Passes trees (map (without_first name) left) (rows ++ (name, map (first_at name) left) ∷ [])
   one_passed name least = record {
@@ -311,7 +311,7 @@ module _ (trees left : List Entries) (rows : List (Name × List (Option TreeValu
           still (inl same) = inl (same ∙ sym (values_left name other left differs))
           still (inr a) = let c = Contains-append_left rows (row ∷ []) a.1 (a.0, a.2, a.3) in inr (c.0, a.1, c.1, c.2, a.4)
 
-  -- where no entry is left, the rows are those of the trees
+  -- at the end of the loop the rows are those of the trees
   pub all_passed : IsLeastName None (map first_name left) → AreRows trees rows
   all_passed none = record {
     ascending = passed.ascending;
@@ -335,7 +335,7 @@ front_itself name = by (is_lt (name_cmp name name))
 not_less : (name : Name) → name_cmp name name ≡ Less → ⊥
 not_less name less = true≢false (sym ((bytes_decides name name).1 refl) ∙ not_itself name name less)
 
--- a name that is before the least so far is before all others
+-- a name less than the least so far is at most each of the first names seen
 front_before : (name other : Name) (front : Option Name) → name_cmp other name ≡ Less → IsFront name front → IsFront other front
 front_before name other None less h = refl
 front_before name other (Some q) less h = by (is_lt (name_cmp q other)) refl
@@ -373,7 +373,7 @@ front_more (Some name) fronts (Some other) least = by (is_lt (name_cmp other nam
       All-push (IsFront name) fronts (Some other) least.1 (ap (λ t. cond t (Some other) (Some name)) e),
     )
 
--- with the name in front of one tree more
+-- the least of the first names of one tree more
 pub least_more : {F : Type 0} (view : F → Entries) (fronts : List F) (i : ℕ) (x : F) → i < length fronts → x ≡ get_or fronts i x
     → (least now other : Option Name) → now ≡ lesser_name least other → other ≡ first_name (view x)
     → IsLeastName least (map first_name (map view (take i fronts))) → IsLeastName now (map first_name (map view (take (i + 1) fronts)))
@@ -386,13 +386,13 @@ least_more view fronts i x lt at least now other is front h =
     subst (IsLeastName now) (sym told) (subst (λ o. IsLeastName o (map first_name (map view (take i fronts)) ++ other ∷ [])) (sym is)
     (front_more least (map first_name (map view (take i fronts))) other h))
 
--- what is left after a row was taken, as a vector has it
+-- the remaining entries after a step, as the items of a vector
 pub left_in : {F Z : Type 0} (view : F → Entries) (name : Name) (fronts : Vec F Z) (was now : List F) → was ≡ fronts.items → length now ≡ length was
     → map view now ≡ map (without_first name) (map view was) → map view (with_items fronts now).items ≡ map (without_first name) (map view fronts.items)
 left_in view name fronts was now is same_length taken =
     ap (map view) (with_items_is fronts now (same_length ∙ ap length is ∙ sym fronts.ok.0)) ∙ taken ∙ ap (λ l. map (without_first name) (map view l)) is
 
--- ---- the rows as they are kept
+-- ---- the rows as items of a vector
 module _ {F R : Type 0} (view : F → Entries) (parts : R → Name × List (Option TreeValue)) where
   pub start : (trees : List Entries) (fronts : List F) (rows : List R) → map view fronts ≡ trees → rows ≡ [] → Each IsSorted trees
       → Passes trees (map view fronts) (map parts rows)
@@ -414,13 +414,12 @@ module _ {F R : Type 0} (view : F → Entries) (parts : R → Name × List (Opti
     fewer_left = subst (λ left. entries_count left < entries_count (map view fronts)) (sym taken)
         (fewer name (map view fronts) (in_front name (map view fronts) least.0))
 
--- trees whose names ascend
 pub each_ascends : (trees : List Entries) → All (λ tree. is_sorted name_cmp tree ≡ true) trees → Each IsSorted trees
 each_ascends [] h = tt
 each_ascends (es ∷ trees) h =
     (All-head (λ tree. is_sorted name_cmp tree ≡ true) es trees h, each_ascends trees (All-tail (λ tree. is_sorted name_cmp tree ≡ true) es trees h))
 
--- one tree more is walked over
+-- one more tree has an iterator
 pub fronts_more : {F : Type 0} (view : F → Entries) (trees : List Entries) (i : ℕ) (tree : Entries) → i < length trees → tree ≡ get_or trees i tree
     → (fronts after : List F) (front : F) → map view fronts ≡ take i trees → view front ≡ tree → after ≡ fronts ++ front ∷ [] → map view after ≡ take (i + 1) trees
 fronts_more view trees i tree lt at fronts after front same is added =

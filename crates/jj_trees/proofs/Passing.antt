@@ -1,4 +1,4 @@
--- The rows of a directory, passed one after another.
+-- The loop over the rows of a directory: facts about the current row.
 use Rattle.std.proofs.Common.{◌≡◌, ℕ, suc, ◌+◌, ◌⊎◌, inl, inr, List, [], ◌∷◌, ◌++◌, length, map, Option, None, Some, refl, sym, ap, subst, ◌∙◌, arith}
 use Rattle.std.specs.Prelude.{All, AllPairs}
 use Rattle.std.proofs.lemmas.List.Elements.{All-nil, All-cons, All-head, All-tail}
@@ -25,12 +25,10 @@ use Rattle.jj_trees.specs.Rows.{at_name, AreRows}
 use Rattle.jj_backend.specs.declared.backend.tree_value.TreeValue.{TreeValue}
 
 module _ {X Y : Type 0} (f : Y → X) where
-  -- what holds of all images holds of that of one in the middle
   pub at_middle : (P : X → Type 0) (ys : List Y) (y : Y) (zs : List Y) → All P (map f (ys ++ y ∷ zs)) → P (f y)
   at_middle P [] y zs h = All-head P (f y) (map f zs) h
   at_middle P (x ∷ ys) y zs h = at_middle P ys y zs (All-tail P (f x) (map f (ys ++ y ∷ zs)) h)
 
-  -- each image before one in the middle is in order with it
   pub before_middle : (R : X → X → Type 0) (ys : List Y) (y : Y) (zs : List Y) → AllPairs R (map f (ys ++ y ∷ zs)) → All (λ x. R (f x) (f y)) ys
   before_middle R [] y zs h = All-nil (λ x. R (f x) (f y))
   before_middle R (x ∷ ys) y zs h =
@@ -44,18 +42,17 @@ rows_start f ts es rows items h k r = subst (λ l. AreRows es (map f l)) (sym k)
 
 module _ (trees : ById (List (Name × TreeValue))) {Y : Type 0} (f : Y → Name × List (Option TreeValue)) (values : List (Option TreeValue)) (ys : List Y) (y : Y) (zs : List Y)
     (rows : AreRows (map (entries_of trees) values) (map f (ys ++ y ∷ zs))) where
-  -- a row has what stands at its name, below each value
+  -- the values of a row are the children of the directory's values at its name
   pub row_values : (f y).1 ≡ map (child trees (f y).0) values
   row_values = at_middle f (λ row. row.1 ≡ at_name (map (entries_of trees) values) row.0) ys y zs rows.values ∙ children-entries trees (f y).0 values
 
-  -- the rows before it have lesser names
   pub row_above : All (λ x. name_cmp (f x).0 (f y).0 ≡ Less) ys
   row_above = before_middle f (λ a b. name_cmp a.0 b.0 ≡ Less) ys y zs rows.ascending
 
   pub row_length : length (f y).1 ≡ length values
   row_length = ap length row_values ∙ length-map values (child trees (f y).0)
 
--- values that are all absent have the absent one as their outcome
+-- values that are all absent resolve to absent
 module _ (p : Option TreeValue → Bool) where
   abbrev pub weight : Option TreeValue → ℕ
   weight v = cond (p v) 1 0
@@ -85,7 +82,7 @@ module _ (eq : Option TreeValue → Option TreeValue → Bool) (same : (v w : Op
   one : weight (eq None) None ≡ 1
   one = ap (λ (b : Bool). cond b 1 0) reflexive
 
-  -- a value that counts equals the absent one
+  -- a value with a nonzero count equals the absent one
   counts : (w : Option TreeValue) (b : Bool) → eq w None ≡ b → (weight (eq w) None ≡ 0 → ⊥) → eq None w ≡ true
   counts w true e h = subst (λ v. eq None v ≡ true) (sym (same w None e)) reflexive
   counts w false e h = absurd (h (ap (λ (b : Bool). cond b 1 0) e))
@@ -101,7 +98,7 @@ module _ (eq : Option TreeValue → Option TreeValue → Bool) (same : (v w : Op
     λ w x h k. let all = count_absent (eq w) vs absent odd in absurd (omega (arith, ints)),
   )
 
--- where the rows are those of the trees of these values, a name is one of theirs, or nothing stands there
+-- each name is that of a row, or all values are absent there
 module _ (trees : ById (List (Name × TreeValue))) (name : Name) where
   pub absent_below : (vs : List (Option TreeValue)) → All (λ entries. lookup (bytes_eq name) entries ≡ None) (map (entries_of trees) vs) → All (λ v. v ≡ None) (map (child trees name) vs)
   absent_below [] h = All-nil (λ v. v ≡ None)

@@ -1,4 +1,4 @@
--- What was appended in the root directory is the merge.
+-- A merge that is appended to empty lists at the root is the merge.
 use Rattle.std.proofs.Common.{◌≡◌, ℕ, Bool, List, [], ◌∷◌, ◌++◌, map, Option, refl, sym, subst, ◌∙◌}
 use Rattle.jj_paths.specs.Paths.{Name, Path}
 use Rattle.jj_merges.specs.declared.merge.SameChange.{SameChange}

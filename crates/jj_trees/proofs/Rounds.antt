@@ -1,4 +1,4 @@
--- One row of a directory more is passed.
+-- The loop over the rows of a directory: one step, and its end.
 use Rattle.std.proofs.Common.{◌≡◌, ◌+◌, ◌%◌, ℕ, Bool, true, ◌⊎◌, inl, inr, List, [], ◌∷◌, ◌++◌, length, map, Option, None, sym, ap, subst, ◌∙◌}
 use Rattle.std.specs.Prelude.{All, Any, Contains}
 use Rattle.std.specs.Map.{lookup}
@@ -24,7 +24,7 @@ pub rows_passed : {Y : Type 0} (f : Y → Name × Values) (es : List (List (Name
     → AreRows es (map f (ys ++ y ∷ zs)) → AreRows es (map f ((ys ++ y ∷ []) ++ zs))
 rows_passed f es ys y zs rows = subst (λ l. AreRows es (map f l)) (sym (append_assoc ys (y ∷ []) zs)) rows
 
--- no row is left
+-- the loop ends when no row remains
 pub rows_ended : {Y : Type 0} (f : Y → Name × Values) (es : List (List (Name × TreeValue))) (ys left : List Y)
     → left ≡ [] → AreRows es (map f (ys ++ left)) → AreRows es (map f ys)
 rows_ended f es ys left none rows = subst (λ l. AreRows es (map f l)) (ap (λ l. ys ++ l) none ∙ append-nil ys) rows
@@ -72,7 +72,7 @@ module _ (eq : Option TreeValue → Option TreeValue → Bool) (same : (v w : Op
         (subst (λ p. IsWithin trees eq same_change is_read fails p (map (child trees (f y).0) values) levels) at
         (subst (λ vs. IsWithin trees eq same_change is_read fails path vs levels) (is ∙ here) within)))
 
-  -- why a row's directory is refused is why this one is
+  -- an error of merging the directory of a row is an error of merging this directory
   pub row_refused : (ys : List Y) (y : Y) (zs : List Y) (rows : AreRows (map (entries_of trees) values) (map f (ys ++ y ∷ zs)))
       (upto : ℕ) (e : BackendError) (below : Values) (path : Path) → upto ≡ levels + 1 → below ≡ (f y).1 → path ≡ dir ++ (f y).0 ∷ []
       → IsEntered eq same_change (f y).1
@@ -83,7 +83,7 @@ module _ (eq : Option TreeValue → Option TreeValue → Bool) (same : (v w : Op
       (subst (λ p. IsRefused trees eq same_change is_read fails p (map (child trees (f y).0) values) levels e) at
       (subst (λ vs. IsRefused trees eq same_change is_read fails path vs levels e) (same_values ∙ here) refused))
 
-  -- all rows are passed
+  -- the end of the loop
   module _ (reflexive : eq None None ≡ true) (odd : length values % 2 ≡ 1) (ys : List Y) (rows : AreRows (map (entries_of trees) values) (map f ys))
       (old_r new_r : List (Path × TreeValue)) (old_c new_c : List (Path × Conflict)) (passed : RowsPassed ys old_r new_r old_c new_c) where
     every : (name : Name) → Contains (map (λ y. (f y).0) ys) name ⊎ ResolvesTo eq same_change (map (child trees name) values) None
@@ -97,7 +97,7 @@ module _ (eq : Option TreeValue → Option TreeValue → Bool) (same : (v w : Op
             let there = image_of f ys a.1 (a.0, a.2, a.3) in
             inl (subst (Contains (map (λ y. (f y).0) ys)) (ap (λ r. r.0) there.2 ∙ a.4) (into_image (λ y. (f y).0) ys there.0 there.1))
 
-    -- so all is merged, and within one level more than what is below, where all trees are there
+    -- the directory is merged, within one level more than its subdirectories
     pub all_rows : IsAppended trees eq same_change values labels dir old_r new_r old_c new_c
         × (All (is_read dir) values → (upto : ℕ) → upto ≡ levels + 1 → IsWithin trees eq same_change is_read fails dir values upto)
     all_rows = (

@@ -1,4 +1,4 @@
--- The equality of records, part by part, decides whether they are the same.
+-- The equality of records, field by field, decides whether they are identical.
 use Rattle.std.proofs.Common.{◌≡◌, ◌&&◌, ℕ, Bool, true, List, [], ◌∷◌, Option, Some, None, refl, sym, ap, subst, true≢false}
 use Rattle.std.specs.Bool.{Decides}
 use Rattle.std.specs.Cmp.{IsEquivalence}
@@ -20,7 +20,7 @@ use Rattle.jj_backend.specs.declared.backend.tree_value.TreeValue.{TreeValue}
 use Rattle.jj_backend.specs.contracts.backend.tree_value.TreeValuePartialEq.TheImpl as tree_values
 use Rattle.jj_trees.proofs.Merging.{same_value}
 
--- an equality that holds of the same values alone decides whether they are the same
+-- an equivalence that holds only of identical values decides identity
 decides : {X : Type 0} (eq : X → X → Bool) → IsEquivalence eq → ((x y : X) → eq x y ≡ true → x ≡ y) → (x y : X) → Decides (eq x y) (x ≡ y)
 decides eq equiv same x y = (same x y, λ e. subst (λ z. eq x z ≡ true) e (equiv.refl x))
 

@@ -1,4 +1,4 @@
--- The first entries of what is left of a directory's trees.
+-- The first remaining entries of a directory's trees, in a k-way merge.
 -- Machinery of private functions and fields.
 use Rattle.std.specs.Prelude.{◌≡◌, cond, List, [], ◌∷◌, Option, Some, None, All, Any}
 use Rattle.std.specs.Ordering.{is_lt}
@@ -6,28 +6,27 @@ use Rattle.std.specs.Str.{bytes_eq}
 use Rattle.jj_paths.specs.Paths.{Name, name_cmp}
 use Rattle.jj_backend.specs.declared.backend.tree_value.TreeValue.{TreeValue}
 
--- the name of the first entry
 abbrev pub first_name : List (Name × TreeValue) → Option Name
 first_name [] = None
 first_name (e ∷ es) = Some e.0
 
--- what the first entry has, if it has the name
+-- the value of the first entry, if it has the name
 abbrev pub first_at : Name → List (Name × TreeValue) → Option TreeValue
 first_at name [] = None
 first_at name (e ∷ es) = cond (bytes_eq name e.0) (Some e.1) None
 
--- what is left once the first entry is taken, if it has the name
+-- the entries without the first one, if that has the name
 abbrev pub without_first : Name → List (Name × TreeValue) → List (Name × TreeValue)
 without_first name [] = []
 without_first name (e ∷ es) = cond (bytes_eq name e.0) es (e ∷ es)
 
--- the lesser of two names, where there are two
+-- the lesser of two names; an absent name is greater than all others
 abbrev pub lesser_name : Option Name → Option Name → Option Name
 lesser_name None other = other
 lesser_name (Some name) None = Some name
 lesser_name (Some name) (Some other) = cond (is_lt (name_cmp other name)) (Some other) (Some name)
 
--- the least of the names in front: it is one of them, and the lesser of it and any of them
+-- the least of the first names: one of them, and no other is less; None if all are absent
 abbrev pub IsLeastName : Option Name → List (Option Name) → Type 0
 IsLeastName None fronts = All (λ front. front ≡ None) fronts
 IsLeastName (Some name) fronts =

@@ -1,4 +1,4 @@
--- What a backend in memory keeps, and under which ids.
+-- The model of an in-memory backend: its objects, their ids, and its initial state.
 -- Cited by contracts of public items: FailsToKeep, MemoryBackendValue, change_id_length,
 -- digest_length, new_backend, object_id, objects_of.
 use Rattle.std.specs.Prelude.{◌≡◌, ◌≢◌, ◌⊎◌, ℕ, true, List, [], ◌∷◌, take, replicate, Some}
@@ -13,24 +13,24 @@ use Rattle.jj_backend.specs.Trees.{Entries}
 use Rattle.jj_backend.specs.declared.backend.errors.BackendError.{BackendError}
 use Rattle.jj_backend.specs.declared.backend.errors.BackendError.TheVariants.{Memory}
 
--- values with their ids
+-- objects with their ids, as an association list
 abbrev pub Kept : Type 0 → Type 0
 Kept V = List (List ℕ × V)
 
 module _ {V : Type 0} where
-  -- what the ids stand for
+  -- the map from ids to objects
   unfoldable pub by_id : Kept V → ById V
   by_id kept = λ id. lookup (bytes_eq id) kept
 
-  -- the id stands for another value
+  -- the id is that of a different object
   abbrev pub StandsForOther : Kept V → List ℕ → V → Type 0
   StandsForOther kept id value = (other : V) × (by_id kept id ≡ Some other) × (other ≢ value)
 
-  -- why a value is not kept under the id: for want of memory, or since that stands for another
+  -- an error of storing a value under an id: out of memory, or Other if a different object has it
   abbrev pub FailsToKeep : Kept V → List ℕ → V → BackendError → Type 0
   FailsToKeep kept id value e = (e ≡ Memory) ⊎ ((is_other e ≡ true) × StandsForOther kept id value)
 
--- a backend in memory: how long ids are, those that it has from the start, and what it keeps
+-- an in-memory backend: the length of its ids, the ids of its initial objects, and its objects
 pub record MemoryBackendValue : Type 0 where
   pub id_length : ℕ
   pub root_commit_id : List ℕ
@@ -42,7 +42,6 @@ pub record MemoryBackendValue : Type 0 where
   pub trees : Kept Entries
   pub commits : Kept CommitValue
 
--- the objects of a backend, by their ids
 abbrev pub objects_of : MemoryBackendValue → Objects
 objects_of backend = record {
   files = by_id backend.files;
@@ -52,18 +51,18 @@ objects_of backend = record {
   commits = by_id backend.commits;
 }
 
--- how many bytes a digest has, and the id of a change
+-- the lengths in bytes of a digest and of a change id
 abbrev pub digest_length : ℕ
 digest_length = 64
 
 abbrev pub change_id_length : ℕ
 change_id_length = 16
 
--- the id of an object with this content: the front of the digest
+-- the id of an object with this content: a prefix of the digest
 abbrev pub object_id : ℕ → List ℕ → List ℕ
 object_id id_length content = take id_length (blake2b content)
 
--- a backend that nobody has written to: it keeps the root commit and the tree without entries
+-- a new backend, which stores the root commit and the empty tree
 abbrev pub new_backend : ℕ → MemoryBackendValue
 new_backend id_length =
     let root_commit_id = replicate id_length 0 in

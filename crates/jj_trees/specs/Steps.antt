@@ -1,4 +1,4 @@
--- What becomes of the values at one name.
+-- The outcomes of the values at one path.
 -- Machinery of private functions and fields.
 use Rattle.std.specs.Prelude.{◌≡◌, true, Bool, Option, Some, None, All}
 use Rattle.jj_merges.specs.declared.merge.SameChange.{SameChange}
@@ -8,7 +8,7 @@ use Rattle.jj_trees.specs.declared.tree_merge.Step.{Step}
 use Rattle.jj_trees.specs.declared.tree_merge.Step.TheVariants.{Resolved, Absent, Entered, Conflict}
 use Rattle.jj_trees.specs.TreeMerges.{Values, is_tree_or_absent, IsUndecided}
 
--- the step is the one that the values ask for
+-- the step is the outcome of the values
 abbrev pub IsStep : (Option TreeValue → Option TreeValue → Bool) → SameChange → Values → Step
     → Type 0
 IsStep eq same_change values (Resolved v) = ResolvesTo eq same_change values (Some v.now)

@@ -1,4 +1,4 @@
--- What trees merge to, path by path.
+-- The merge of trees: the outcome at each path, which paths have one, and the trees that are read.
 -- Cited by contracts of public items: IsMergeAnswer, most_levels, root_values.
 use Rattle.std.specs.Prelude.{◌≡◌, ◌↔◌, ◌⊎◌, ⊤, ℕ, ◌<◌, Bool, true, false, List, [], ◌∷◌, ◌++◌, map}
 use Rattle.std.specs.Prelude.{length, Option, Some, None, option_and_then, unwrap_or, All, Any}
@@ -21,15 +21,14 @@ use Rattle.jj_backend.specs.declared.backend.errors.BackendError.{BackendError}
 use Rattle.jj_backend.specs.declared.backend.errors.BackendError.TheVariants.{Memory}
 use Rattle.jj_trees.specs.declared.tree_merge.TreeMerge.{TreeMerge}
 
--- what each term has at a path; `None` where it has nothing
+-- the value of each term at a path; None for a term without a value there
 abbrev pub Values : Type 0
 Values = List (Option TreeValue)
 
--- the values at the root: each term's tree
+-- the values at the root: the trees of the terms
 abbrev pub root_values : List (List ℕ) → Values
 root_values ids = map (λ id. Some (Tree id)) ids
 
--- a tree, or nothing
 abbrev pub is_tree_or_absent : Option TreeValue → Bool
 is_tree_or_absent None = true
 is_tree_or_absent (Some (Tree id)) = true
@@ -37,39 +36,38 @@ is_tree_or_absent (Some (File id executable copy_id)) = false
 is_tree_or_absent (Some (Symlink id)) = false
 is_tree_or_absent (Some (GitSubmodule id)) = false
 
--- the terms of a conflict, and their labels
+-- the terms of a conflict and their labels
 pub record Conflict : Type 0 where
   pub terms : Values
   pub labels : List (List ℕ)
 
--- the conflicts of a list of paths, terms and labels
+-- the paths and conflicts of a list of paths, terms and labels
 abbrev pub conflict_entries : List (Path × Values × List (List ℕ)) → List (Path × Conflict)
 conflict_entries = map (λ c. (c.0, record { terms = c.1; labels = c.2 }))
 
--- the entries are in the order of their paths, and are exactly those for which this holds
+-- the entries ascend strictly by path, and are exactly those for which Holds
 pub record IsListOf {E : Type 0} (Holds : Path → E → Type 0)
     (entries : List (Path × E)) : Type 0 where
   pub in_order : AllPairs (λ a b. path_cmp a.0 b.0 ≡ Less) entries
   pub exactly : (path : Path) (e : E) → Contains entries (path, e) ↔ Holds path e
 
 module _ (eq : Option TreeValue → Option TreeValue → Bool) (same_change : SameChange) where
-  -- the terms have no one outcome
+  -- the values do not resolve
   abbrev pub IsUndecided : Values → Type 0
   IsUndecided values = (v : Option TreeValue) → ResolvesTo eq same_change values v → ⊥
 
-  -- the values are merged entry by entry: they are undecided, and those that are present are all
-  -- trees
+  -- the values are merged entry by entry: they do not resolve, and all present ones are trees
   abbrev pub IsEntered : Values → Type 0
   IsEntered values = IsUndecided values × All (λ v. is_tree_or_absent v ≡ true) values
 
-  -- the conflict of these values: they are undecided, and are simplified with their labels
+  -- the conflict of values that do not resolve: the simplified terms with their labels
   abbrev pub IsConflictOf : Values → List (List ℕ) → Conflict → Type 0
   IsConflictOf values labels conflict =
       IsUndecided values × (conflict.terms ≡ at_indices values (simplified_indices eq values))
       × (conflict.labels ≡ normalized_labels (at_indices labels (simplified_indices eq values)))
 
-  -- what comes of values at one path that are not entered: the decided value, or nothing where that
-  -- is absent, or the conflict
+  -- the outcome of values at one path without recursion is appended: the value that they resolve
+  -- to, nothing if they resolve to absent, or else their conflict
   abbrev pub IsHere : Values → List (List ℕ) → Path
       → (old_resolved new_resolved : List (Path × TreeValue))
       → (old_conflicts new_conflicts : List (Path × Conflict)) → Type 0
@@ -82,10 +80,10 @@ module _ (eq : Option TreeValue → Option TreeValue → Bool) (same_change : Sa
       ⊎ ((conflict : Conflict) × IsConflictOf values labels conflict
       × (new_resolved ≡ old_resolved) × (new_conflicts ≡ old_conflicts ++ (path, conflict) ∷ [])))
 
--- `may_read_tree path id result`: a read of the tree at this path, with this id, may return this
+-- may_read_tree path id result: reading the tree with this id at this path may return result
 module _ (trees : ById Entries)
     (may_read_tree : Path → List ℕ → Result Entries BackendError → Type 0) where
-  -- no tree, or a tree that was read at this path
+  -- the value is not a tree, or it is a tree that was read at this path
   abbrev pub IsReadAt : Path → Option TreeValue → Type 0
   IsReadAt path (Some (Tree id)) =
       (entries : Entries) × may_read_tree path id (Ok entries) × (trees id ≡ Some entries)
@@ -94,7 +92,8 @@ module _ (trees : ById Entries)
   IsReadAt path (Some (Symlink id)) = ⊤
   IsReadAt path (Some (GitSubmodule id)) = ⊤
 
-  -- a tree whose read at this path fails with e: it is not stored, or the backend fails
+  -- the value is a tree whose read at this path fails with e: the tree is missing, or the backend
+  -- fails
   abbrev pub FailsAt : (BackendError → Type 0) → Path → BackendError → Option TreeValue → Type 0
   FailsAt may_fail path e (Some (Tree id)) =
       may_read_tree path id (Err e) × MatchBool (is_not_found e) (trees id ≡ None) (may_fail e)
@@ -104,8 +103,7 @@ module _ (trees : ById Entries)
   FailsAt may_fail path e (Some (GitSubmodule id)) = ⊥
 
 module _ (trees : ById (List (Name × TreeValue))) where
-  -- what stands at a name below a value: in a tree what the tree has there, below anything else
-  -- nothing
+  -- the value at a name in the tree that a value is; None for a value that is not a tree
   abbrev pub child : Name → Option TreeValue → Option TreeValue
   child name None = None
   child name (Some (Tree id)) = option_and_then (λ entries. lookup (bytes_eq name) entries)
@@ -114,7 +112,7 @@ module _ (trees : ById (List (Name × TreeValue))) where
   child name (Some (Symlink id)) = None
   child name (Some (GitSubmodule id)) = None
 
-  -- the entries of the tree that a value is; none where it is not one
+  -- the entries of the tree that a value is, empty for a value that is not a tree
   abbrev pub entries_of : Option TreeValue → List (Name × TreeValue)
   entries_of None = []
   entries_of (Some (Tree id)) = unwrap_or (trees id) []
@@ -122,50 +120,50 @@ module _ (trees : ById (List (Name × TreeValue))) where
   entries_of (Some (Symlink id)) = []
   entries_of (Some (GitSubmodule id)) = []
 
-  -- the values at a path below these
+  -- the values at a path relative to the directory of these values
   abbrev pub values_at : Values → Path → Values
   values_at values [] = values
   values_at values (name ∷ rest) = values_at (map (child name) values) rest
 
   module _ (eq : Option TreeValue → Option TreeValue → Bool) (same_change : SameChange) where
-    -- a path is open below these values: it is their own, or each directory on the way, its own
-    -- among them, is entered
+    -- the directory at a path is merged: the path is empty, or each directory on the path below the
+    -- first must be merged entry by entry
     abbrev pub IsOpen : Values → Path → Type 0
     IsOpen values [] = ⊤
     IsOpen values (name ∷ rest) =
         IsEntered eq same_change (map (child name) values) × IsOpen (map (child name) values) rest
 
-    -- a path has an outcome below these values or at them: the directories on the way are entered,
-    -- and it is not
+    -- the path has an outcome of its own: all directories on the path above its end are merged
+    -- entry by entry, and the values at its end are not
     abbrev pub HasOutcomeFrom : Values → Path → Type 0
     HasOutcomeFrom values [] = IsEntered eq same_change values → ⊥
     HasOutcomeFrom values (name ∷ rest) =
         IsEntered eq same_change values × HasOutcomeFrom (map (child name) values) rest
 
-    -- a path has an outcome: it is not open, and the directory above it is
+    -- a nonempty path has an outcome of its own, if the directory of these values is merged
     abbrev pub HasOutcome : Values → Path → Type 0
     HasOutcome values [] = ⊥
     HasOutcome values (name ∷ rest) = HasOutcomeFrom (map (child name) values) rest
 
-    -- a path resolves to a value
+    -- the path resolves to the value v
     abbrev pub IsResolved : Values → Path → TreeValue → Type 0
     IsResolved values path v =
         HasOutcome values path × ResolvesTo eq same_change (values_at values path) (Some v)
 
-    -- a path has a conflict
+    -- the path has this conflict
     abbrev pub IsConflict : Values → List (List ℕ) → Path → Conflict → Type 0
     IsConflict values labels path conflict =
         HasOutcome values path × IsConflictOf eq same_change (values_at values path) labels conflict
 
-    -- the values merge to these: what is resolved and the conflicts, each in the order of their
-    -- paths
+    -- the merge of the values: exactly the paths that resolve to a present value, and exactly the
+    -- conflicts, each in ascending order of paths
     pub record IsMerge (values : Values) (labels : List (List ℕ))
         (resolved : List (Path × TreeValue))
         (conflicts : List (Path × Conflict)) : Type 0 where
       pub resolves : IsListOf (IsResolved values) resolved
       pub conflicted : IsListOf (IsConflict values labels) conflicts
 
-    -- a merge of these values, met in this directory, comes after what was there
+    -- the merge of the values of directory dir is appended to the old lists
     pub record IsAppended (values : Values) (labels : List (List ℕ)) (dir : Path)
         (old_resolved new_resolved : List (Path × TreeValue))
         (old_conflicts new_conflicts : List (Path × Conflict)) : Type 0 where
@@ -177,15 +175,15 @@ module _ (trees : ById (List (Name × TreeValue))) where
 
     module _ (is_read : Path → Option TreeValue → Type 0)
         (fails : Path → BackendError → Option TreeValue → Type 0) where
-      -- the directory dir is merged within so many levels: it and each directory below it that is
-      -- entered is read at its own path, and none is deeper
+      -- every directory that is merged, from dir down, is read at its own path, and is at most
+      -- levels deep
       pub record IsWithin (dir : Path) (values : Values) (levels : ℕ) : Type 0 where
         pub read : (path : Path) → IsOpen values path
             → All (is_read (dir ++ path)) (values_at values path)
         pub not_deeper : (path : Path) → IsOpen values path → length path < levels
 
-      -- why there is no merge: for want of memory, since the read of a tree at its own path fails,
-      -- or since a tree is too deep
+      -- the errors of a merge: out of memory, a failed read of a tree at its own path, or
+      -- Unsupported for a directory to merge below the deepest level
       abbrev pub IsRefused : Path → Values → ℕ → BackendError → Type 0
       IsRefused dir values levels e =
           (e ≡ Memory)
@@ -194,8 +192,8 @@ module _ (trees : ById (List (Name × TreeValue))) where
           ⊎ ((is_unsupported e ≡ true)
           × ((path : Path) × IsOpen values path × (length path ≡ levels)))
 
-      -- what is answered, asked to merge these values within that many levels: their merge, where
-      -- every tree that is met is read at its path and none is deeper, or why there is none
+      -- the result of a merge within so many levels: the merge of the values, with every tree read
+      -- at its path and none deeper, or an error
       pub record IsMergeAnswer (values : Values) (labels : List (List ℕ)) (levels : ℕ)
           (result : Result TreeMerge BackendError) : Type 0 where
         pub merge : IfOk result (λ m. IsMerge values labels m.resolved.items
@@ -203,6 +201,6 @@ module _ (trees : ById (List (Name × TreeValue))) where
         pub within : OnOk result (IsWithin [] values levels)
         pub refused : IfErr result (IsRefused [] values levels)
 
--- how many levels are merged where the caller does not say
+-- the number of levels of merge_trees
 abbrev pub most_levels : ℕ
 most_levels = 1024

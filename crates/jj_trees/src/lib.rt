@@ -1,4 +1,4 @@
-//! A backend in memory, and merges of whole trees over any backend.
+//! An in-memory backend, and recursive merges of trees over any backend.
 #![tactic(auto)]
 
 pub mod memory_backend;

@@ -1,4 +1,4 @@
-//! A backend in memory, whose ids are digests of what they stand for.
+//! In-memory object store, addressed by BLAKE2b digests of the objects' content.
 ghost use Rattle.std.specs.Prelude.{◌≡◌, ◌≢◌, ◌≤◌, ◌⊎◌, [], true, codes, Some};
 ghost use Rattle.std.specs.Prelude.{IfOk, IfErr, OnOk, OnErr, IsErrAnd};
 ghost use Rattle.std.specs.Option.{option_map};
@@ -31,13 +31,12 @@ use std::alloc::{AllocError, Global};
 use std::collections::BTreeMap;
 use std::marker::Model;
 
-// How many bytes digests have.
+// The length of a BLAKE2b digest in bytes.
 const DIGEST_LENGTH: usize = 64;
 
-// How many bytes the ids of changes have.
+// The length of change ids in bytes.
 const CHANGE_ID_LENGTH: usize = 16;
 
-// The error of what this backend does not do.
 fn unsupported_error(alloc: Global, message: &str) -> BackendError
     ensures { (result ≡ BackendError.Memory) ⊎ (is_unsupported result ≡ true) }
 {
@@ -47,8 +46,7 @@ fn unsupported_error(alloc: Global, message: &str) -> BackendError
     }
 }
 
-/// Objects of each type, by ids that are digests of what they stand for, or fronts of digests.
-/// Paths are not looked at.
+/// In-memory object store keyed by content digests, or by prefixes of digests. Ignores paths.
 #[derive(Drop)]
 pub struct MemoryBackend {
     id_length: usize,
@@ -88,14 +86,15 @@ impl Model for MemoryBackend {
 }
 
 impl MemoryBackend {
-    /// A backend with whole digests, of 64 bytes, as ids.
+    /// Creates a backend with whole digests of 64 bytes as ids.
     pub fn new(alloc: Global) -> Result<Self, AllocError>
         ensures { IfOk result (λ backend. backend ≡ new_backend digest_length) }
     {
         MemoryBackend::with_id_length(alloc, DIGEST_LENGTH)
     }
 
-    /// A backend with ids of that many bytes. The ids of changes have 16.
+    /// Creates a backend with ids of `id_length` bytes, from 1 to 64: prefixes of digests. Change
+    /// ids have 16 bytes. A write fails with `Other` if a different object has the id already.
     pub fn with_id_length(alloc: Global, id_length: usize) -> Result<Self, AllocError>
         requires least { 1 ≤ id_length }
         requires greatest { id_length ≤ digest_length }
@@ -118,7 +117,7 @@ impl MemoryBackend {
         })
     }
 
-    // Keeps a commit as it is, and answers it with its id.
+    // Stores a commit and returns its id and the commit.
     fn keep_commit(&mut self, alloc: Global, commit: Commit) -> BackendResult<(CommitId, Commit)>
         ensures ok { IfOk result (λ kept.
             AddsCommit (objects_of self.old) (objects_of self.new) kept.0 kept.1) }
@@ -263,7 +262,7 @@ impl Backend for MemoryBackend {
         keep(alloc, &mut self.copies, id, copy)
     }
 
-    /// Not supported here.
+    /// Always fails with `Unsupported`.
     fn get_related_copies(
         &self,
         alloc: Global,
@@ -271,7 +270,7 @@ impl Backend for MemoryBackend {
     ) -> BackendResult<Vec<RelatedCopy>>
         ensures { IsErrAnd result (λ e. (e ≡ BackendError.Memory) ⊎ (is_unsupported e ≡ true)) }
     {
-        Err(unsupported_error(alloc, "related copies are not kept"))
+        Err(unsupported_error(alloc, "related copies are not supported"))
     }
 
     fn read_tree(&self, alloc: Global, _path: RepoPath<'_>, id: &TreeId) -> BackendResult<Tree> {
@@ -302,7 +301,7 @@ impl Backend for MemoryBackend {
         object_of(alloc, &self.commits, id)
     }
 
-    /// A commit without parents is refused, and the signer not asked.
+    /// Fails with `Other` for a commit without parents, without calling the signer.
     fn write_commit<S: SigningFn>(
         &mut self,
         alloc: Global,
@@ -341,7 +340,7 @@ impl Backend for MemoryBackend {
         }
     }
 
-    /// Not supported here.
+    /// Always fails with `Unsupported`.
     fn get_copy_records(
         &self,
         alloc: Global,
@@ -351,6 +350,6 @@ impl Backend for MemoryBackend {
     ) -> BackendResult<Vec<CopyRecord>>
         ensures { IsErrAnd result (λ e. (e ≡ BackendError.Memory) ⊎ (is_unsupported e ≡ true)) }
     {
-        Err(unsupported_error(alloc, "copies are not found between commits"))
+        Err(unsupported_error(alloc, "copy records are not supported"))
     }
 }

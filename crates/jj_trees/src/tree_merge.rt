@@ -1,4 +1,5 @@
-//! Merges of whole trees, name by name and all the way down.
+//! Recursive merge of trees: trivial resolution of the values at each path, and recursion into
+//! directories that do not resolve.
 ghost use Rattle.std.specs.Prelude.{◌≡◌, ◌↔◌, ◌⊎◌, [], map, length, Option, IsTrue, true};
 ghost use Rattle.std.specs.Prelude.{All, Any, IfOk, IfErr, IfSome, IsNone, OnOk};
 ghost use Rattle.std.specs.NonZero.{non_zero_usize_get};
@@ -22,7 +23,7 @@ use smallvec::SmallVec;
 use std::alloc::{AllocError, Global};
 use std::num::NonZeroUsize;
 
-// What becomes of one name.
+// The outcome of the values at one path.
 enum Step<'a> {
     Resolved(&'a TreeValue),
     Absent,
@@ -30,14 +31,14 @@ enum Step<'a> {
     Conflict,
 }
 
-// A directory whose entries are to be merged, and what each term has at its path.
+// A directory whose entries must be merged, with the value of each term at its path.
 #[derive(Drop)]
 struct Directory {
     path: RepoPathBuf,
     values: Vec<Option<TreeValue>>,
 }
 
-// Whether each value is a tree or absent.
+// Returns whether every present value is a tree.
 fn are_trees(values: &[Option<TreeValue>]) -> bool
     ensures { IsTrue result ↔ All (λ v. is_tree_or_absent v ≡ true) values.now }
 {
@@ -46,15 +47,14 @@ fn are_trees(values: &[Option<TreeValue>]) -> bool
         .all(|value| matches!(value, None | Some(TreeValue::Tree(_))))
 }
 
-/// What trees merge to, in the order of paths: the values that have one outcome, and the
-/// conflicts, simplified, each with the labels of its terms.
+/// The result of a merge of trees: the paths that resolve to a present value, and the conflicts,
+/// simplified, each with the labels of its terms. Both lists are in ascending order of paths.
 #[derive(Drop)]
 pub struct TreeMerge {
     pub resolved: Vec<(RepoPathBuf, TreeValue)>,
     pub conflicts: Vec<(RepoPathBuf, Merge<Option<TreeValue>>, ConflictLabels)>,
 }
 
-// What becomes of the values at one name.
 fn step_of(values: &[Option<TreeValue>], same_change: SameChange) -> Step<'_>
     requires { IsOdd (length values.now) }
     ensures { IsStep ⟦<Option<TreeValue> as PartialEq>⟧.eq same_change values.now result }
@@ -72,7 +72,7 @@ fn step_of(values: &[Option<TreeValue>], same_change: SameChange) -> Step<'_>
     }
 }
 
-// The tree that a value is; an empty one where it is none.
+// Returns an empty tree for a value that is not a tree.
 fn tree_of<B: Backend>(
     alloc: Global,
     backend: &B,
@@ -92,7 +92,6 @@ fn tree_of<B: Backend>(
     }
 }
 
-// The trees of these values; an empty one where there is none.
 fn trees_of<B: Backend>(
     alloc: Global,
     backend: &B,
@@ -115,7 +114,6 @@ fn trees_of<B: Backend>(
     Ok(trees)
 }
 
-// The error of trees that are nested deeper than was asked for.
 fn too_deep(alloc: Global) -> BackendError
     ensures { (result ≡ BackendError.Memory) ⊎ (is_unsupported result ≡ true) }
 {
@@ -125,7 +123,7 @@ fn too_deep(alloc: Global) -> BackendError
     }
 }
 
-// Appends what comes of the values at a path; values that are to be entered are handed back.
+// Appends the outcome of the values at a path, or returns the directory to recurse into.
 fn merge_here(
     alloc: Global,
     path: RepoPathBuf,
@@ -164,7 +162,7 @@ fn merge_here(
     }
 }
 
-// Merges the trees of a directory, and appends what comes of them.
+// Merges the entries of a directory and appends their outcomes.
 fn merge_below<B: Backend>(
     alloc: Global,
     backend: &B,
@@ -221,7 +219,6 @@ fn merge_below<B: Backend>(
     Ok(())
 }
 
-// What each term has at the root.
 fn root_values_of(alloc: Global, ids: &[TreeId]) -> Result<Vec<Option<TreeValue>>, AllocError>
     ensures { IfOk result (λ values. values.items ≡ root_values ids.now) }
 {
@@ -232,9 +229,14 @@ fn root_values_of(alloc: Global, ids: &[TreeId]) -> Result<Vec<Option<TreeValue>
     Ok(values)
 }
 
-/// The merge of trees, by their names all the way down. The trees are level 1, the trees of their
-/// entries level 2; a tree below `levels` that is to be entered is `Unsupported`, and one that is
-/// not there `ObjectNotFound`. Labels are none, or as many as trees.
+/// Merges trees recursively, at most `levels` deep: `trees` are level 1, their subtrees
+/// level 2. The values at each path resolve as by [`trivial_merge`]; values that do not are merged
+/// entry by entry if all present ones are trees, and are a conflict otherwise. There are no labels,
+/// or one for each tree.
+///
+/// Fails with `Unsupported` if a directory below `levels` must be merged, with `ObjectNotFound` if
+/// the backend lacks a tree, and with any other error of a read. Reads one tree for each term of
+/// each directory that is merged.
 pub fn merge_trees_within<B: Backend>(
     alloc: Global,
     backend: &B,
@@ -269,10 +271,10 @@ pub fn merge_trees_within<B: Backend>(
     Ok(merged)
 }
 
-// How many levels are merged where the caller does not say.
+// The number of levels of `merge_trees`.
 const MOST_LEVELS: usize = 1024;
 
-/// The merge of trees, as [`merge_trees_within`] gives it for 1,024 levels.
+/// Merges trees recursively, at most 1,024 levels deep; otherwise as [`merge_trees_within`].
 pub fn merge_trees<B: Backend>(
     alloc: Global,
     backend: &B,

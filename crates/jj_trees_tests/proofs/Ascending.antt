@@ -1,4 +1,4 @@
--- Entries whose neighbours ascend are sorted.
+-- A list in which adjacent names ascend is sorted.
 use Rattle.std.proofs.Common.{◌≡◌, ◌&&◌, ◌<◌, ℕ, suc, Bool, true, false, List, [], ◌∷◌, length, get_or, refl, ap, sym, true≢false, arith}
 use Rattle.std.specs.FinMap.{is_sorted}
 use Rattle.std.specs.FinMap.Entries.{below_all}
@@ -25,7 +25,7 @@ module _ {V : Type 0} where
       let p = and_parts _ _ above in
       both_true _ _ (ap is_lt (nat_list_cmp_total.trans n m e.0 less (less_from_is_lt _ p.0))) (above_smaller n m es less p.1)
 
-  -- neighbours below that place ascend
+  -- adjacent names at indices below n ascend
   abbrev pub AscendBelow : List (Name × V) → ℕ → Type 0
   AscendBelow es n = (i : ℕ) (d : Name × V) → suc i < n → name_cmp (get_or es i d).0 (get_or es (suc i) d).0 ≡ Less
 

@@ -1,4 +1,4 @@
--- The number of values at a path, and the conflicts of a list as entries.
+-- The number of values at a path, and conflicts as entries of a list.
 use Rattle.std.proofs.Common.{◌≡◌, ℕ, List, [], ◌∷◌, length, map, Some, refl, ◌∙◌}
 use Rattle.std.specs.Prelude.{Contains}
 use Rattle.std.proofs.lemmas.List.{length-map}

@@ -1,10 +1,10 @@
--- Why a write is refused.
+-- Errors of writes.
 -- Cited by contracts of public items: IsNotKept.
 use Rattle.std.specs.Prelude.{◌≡◌, ◌⊎◌, true}
 use Rattle.jj_backend.specs.Errors.{is_other}
 use Rattle.jj_backend.specs.declared.backend.errors.BackendError.{BackendError}
 use Rattle.jj_backend.specs.declared.backend.errors.BackendError.TheVariants.{Memory}
 
--- there is no memory, or the backend does not keep the object
+-- out of memory, or the backend's Other
 abbrev pub IsNotKept : BackendError → Type 0
 IsNotKept e = (e ≡ Memory) ⊎ (is_other e ≡ true)

@@ -1,4 +1,4 @@
-//! Trees and merges of trees, made of what a caller has at hand.
+//! Builders of names, paths, trees and merges, for the tests and proved callers.
 ghost use Rattle.std.specs.Prelude.{◌≡◌, IsTrue, IfSome};
 ghost use Rattle.std.specs.FinMap.{is_sorted};
 ghost use Rattle.jj_paths.specs.Paths.{name_cmp};
@@ -10,7 +10,7 @@ use jj_paths::repo_path::{RepoPathBuf, RepoPathComponentBuf};
 use std::alloc::Global;
 use std::cmp::Ordering;
 
-/// Whether the names of these entries ascend.
+/// Returns whether the names of these entries ascend strictly.
 pub fn are_ascending(entries: &[(RepoPathComponentBuf, TreeValue)]) -> bool
     ensures { IsTrue result → IsTrue (is_sorted name_cmp entries.now) }
 {
@@ -23,7 +23,7 @@ pub fn are_ascending(entries: &[(RepoPathComponentBuf, TreeValue)]) -> bool
     true
 }
 
-/// The tree of these entries, if their names ascend.
+/// Creates a tree of entries, or returns `None` if their names do not ascend strictly.
 pub fn tree_of_entries(entries: Vec<(RepoPathComponentBuf, TreeValue)>) -> Option<Tree>
     ensures { IfSome result (λ tree. tree ≡ entries.items) }
 {
@@ -34,7 +34,7 @@ pub fn tree_of_entries(entries: Vec<(RepoPathComponentBuf, TreeValue)>) -> Optio
     }
 }
 
-/// The error of data that are not as they should be.
+/// Returns an error for invalid data.
 pub fn bad_data(alloc: Global, message: &str) -> BackendError {
     match String::from_str(alloc, message) {
         Ok(message) => BackendError::Other(SourceError {
@@ -45,7 +45,7 @@ pub fn bad_data(alloc: Global, message: &str) -> BackendError {
     }
 }
 
-/// The name of an entry.
+/// Creates the name of an entry; fails if the string is not a name.
 pub fn component(alloc: Global, name: &str) -> BackendResult<RepoPathComponentBuf> {
     match RepoPathComponentBuf::new(String::from_str(alloc, name)?) {
         Ok(component) => Ok(component),
@@ -53,7 +53,7 @@ pub fn component(alloc: Global, name: &str) -> BackendResult<RepoPathComponentBu
     }
 }
 
-/// The path of a text.
+/// Creates a path; fails if the string is not a path.
 pub fn path(alloc: Global, text: &str) -> BackendResult<RepoPathBuf> {
     match RepoPathBuf::from_internal_string(String::from_str(alloc, text)?) {
         Ok(path) => Ok(path),
@@ -61,7 +61,7 @@ pub fn path(alloc: Global, text: &str) -> BackendResult<RepoPathBuf> {
     }
 }
 
-/// The tree of entries that ascend.
+/// Creates a tree of entries; fails if their names do not ascend strictly.
 pub fn ascending_tree(
     alloc: Global,
     entries: Vec<(RepoPathComponentBuf, TreeValue)>,
@@ -72,7 +72,7 @@ pub fn ascending_tree(
     }
 }
 
-/// A file that can't be run, and that came from no other.
+/// Creates a file that is neither executable nor a copy.
 pub fn plain_file(alloc: Global, id: FileId) -> TreeValue {
     TreeValue::File {
         id,
@@ -81,7 +81,7 @@ pub fn plain_file(alloc: Global, id: FileId) -> TreeValue {
     }
 }
 
-/// The merge of a first tree with the changes from one tree to another, as pairs.
+/// Creates the merge of a first tree with changes, each a pair of the trees before and after.
 pub fn tree_merge_of(
     alloc: Global,
     first: TreeId,

@@ -1,4 +1,4 @@
-//! Callers of the backend in memory and of merges of whole trees, proved from what these promise.
+//! Proved callers of the in-memory backend and of recursive tree merges.
 ghost use Rattle.std.specs.Prelude.{◌≡◌, ◌↔◌, ◌⊎◌, ℕ, List, [], length, Contains, IfOk, IfErr, string_bytes};
 ghost use Rattle.jj_merges.specs.Merge.{HaveSameCounts, IsDisjoint};
 ghost use Rattle.jj_merges.specs.declared.merge.SameChange.TheVariants.{Accept};
@@ -20,7 +20,7 @@ use jj_trees::memory_backend::MemoryBackend;
 use jj_trees::tree_merge::{TreeMerge, merge_trees};
 use std::alloc::Global;
 
-/// What trees resolve to: each path that has one present outcome, with it, and no other.
+/// Merges trees and returns exactly the paths that resolve to a present value.
 pub fn resolved<B: Backend>(
     alloc: Global,
     backend: &B,
@@ -36,8 +36,8 @@ pub fn resolved<B: Backend>(
     Ok(merged.resolved)
 }
 
-/// The conflicts of trees: the terms at each path have the signed counts of what the trees have
-/// there, and no value is on both sides.
+/// Merges trees and returns the conflicts: the terms at each path have the signed counts of the
+/// trees' values there, and no value is both an add and a remove.
 pub fn conflicts<B: Backend>(
     alloc: Global,
     backend: &B,
@@ -56,7 +56,7 @@ pub fn conflicts<B: Backend>(
     Ok(merged.conflicts)
 }
 
-/// A file that was written is read back.
+/// Writes a file and reads it back.
 pub fn written_file(
     alloc: Global,
     backend: &mut MemoryBackend,
@@ -69,7 +69,7 @@ pub fn written_file(
     backend.read_file(alloc, RepoPath::root(), &id)
 }
 
-/// The target of a link that was written is read back.
+/// Writes a symbolic link and reads its target back.
 pub fn written_symlink(
     alloc: Global,
     backend: &mut MemoryBackend,
@@ -82,7 +82,7 @@ pub fn written_symlink(
     backend.read_symlink(alloc, RepoPath::root(), &id)
 }
 
-/// A copy history that was written is read back.
+/// Writes a copy history and reads it back.
 pub fn written_copy(
     alloc: Global,
     backend: &mut MemoryBackend,
@@ -95,7 +95,7 @@ pub fn written_copy(
     backend.read_copy(alloc, &id)
 }
 
-/// A tree that was written is read back.
+/// Writes a tree and reads it back.
 pub fn written_tree(alloc: Global, backend: &mut MemoryBackend, tree: &Tree) -> BackendResult<Tree>
     ensures read { IfOk result (λ read. read ≡ tree.now) }
     ensures refused { IfErr result IsNotKept }
@@ -104,7 +104,7 @@ pub fn written_tree(alloc: Global, backend: &mut MemoryBackend, tree: &Tree) -> 
     backend.read_tree(alloc, RepoPath::root(), &id)
 }
 
-/// A commit that was written is read back as it was acknowledged.
+/// Writes a commit and reads it back: it equals the commit that the write returned.
 pub fn written_commit<S: SigningFn>(
     alloc: Global,
     backend: &mut MemoryBackend,
@@ -119,8 +119,7 @@ pub fn written_commit<S: SigningFn>(
     Ok((kept, read))
 }
 
-/// The merge of the trees of a backend in memory is what the definition says of the trees that it
-/// keeps.
+/// Merges trees of an in-memory backend: the result is the merge of the stored trees.
 pub fn merge_in_memory(
     alloc: Global,
     backend: &MemoryBackend,

@@ -1,4 +1,4 @@
-//! Trees that are nested as deep as they may be, and one level deeper.
+//! Tests of merges of nested trees at the deepest level and one level below it.
 use crate::building::{ascending_tree, component, plain_file, tree_merge_of};
 use jj_backend::backend::{Backend, BackendError, BackendResult, TreeId, TreeValue};
 use jj_merges::conflict_labels::ConflictLabels;
@@ -10,7 +10,7 @@ use std::alloc::Global;
 use std::process::Abort;
 use std::test::Fail;
 
-// Writes a tree with this below the name `d`.
+// Writes a tree with this value at the name `d`.
 fn write_above(
     alloc: Global,
     backend: &mut MemoryBackend,
@@ -22,7 +22,7 @@ fn write_above(
     backend.write_tree(alloc, RepoPath::root(), &tree)
 }
 
-// A file of one byte below so many levels of directories, the root among them.
+// Writes a file of one byte in nested directories; `levels` counts the root.
 fn nested(
     alloc: Global,
     backend: &mut MemoryBackend,
@@ -37,7 +37,7 @@ fn nested(
     Ok(id)
 }
 
-// The merge of three files below so many levels of directories.
+// Writes three trees that differ in one nested file, and returns their merge.
 fn three_nested(
     alloc: Global,
     backend: &mut MemoryBackend,
@@ -51,7 +51,7 @@ fn three_nested(
     tree_merge_of(alloc, left, changes)
 }
 
-// What three files come to below so many levels of directories.
+// Merges three trees that differ in one nested file.
 fn merge_nested(alloc: Global, levels: usize) -> BackendResult<TreeMerge> {
     let mut backend = MemoryBackend::new(alloc)?;
     let trees = three_nested(alloc, &mut backend, levels)?;
@@ -59,7 +59,7 @@ fn merge_nested(alloc: Global, levels: usize) -> BackendResult<TreeMerge> {
     merge_trees(alloc, &backend, &trees, &labels, SameChange::Accept)
 }
 
-// Whether all that came of it is one conflict of three terms, below a path of so many bytes.
+// Whether the result is a single conflict of three terms at a path of `bytes` bytes.
 fn is_one_conflict(merge: &TreeMerge, bytes: usize) -> bool {
     match merge.conflicts.as_slice() {
         [(path, terms, _)] => {

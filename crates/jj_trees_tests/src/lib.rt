@@ -1,6 +1,6 @@
-//! Tests of jj_trees over its public calls, and proved callers of it.
+//! Tests and proved callers of jj_trees' public interface.
 //
-// A call that fails because a run lets one allocation fail is made once more.
+// The tests also run with one allocation failing: a call that reports it is repeated once.
 #![tactic(auto)]
 
 #[cfg(test)]

@@ -1,10 +1,10 @@
-//! Calls of a backend in memory, each made once more where memory was refused.
+//! Calls of an in-memory backend that are repeated once after an allocation failure.
 use jj_backend::backend::{Backend, BackendError, BackendResult, FileId};
 use jj_paths::repo_path::RepoPath;
 use jj_trees::memory_backend::MemoryBackend;
 use std::alloc::{AllocError, Global};
 
-/// A backend with ids of one byte.
+/// Creates a backend with ids of one byte.
 pub fn ids_of_one_byte(alloc: Global) -> Result<MemoryBackend, AllocError> {
     MemoryBackend::with_id_length(alloc, 1).or_else(|_| MemoryBackend::with_id_length(alloc, 1))
 }

@@ -1,4 +1,4 @@
-//! More files than there are ids of one byte.
+//! Tests of writing more files than there are ids of one byte.
 use crate::memory::{ids_of_one_byte, read_file, write_file};
 use jj_backend::backend::{BackendError, BackendResult, FileId};
 use jj_trees::memory_backend::MemoryBackend;
@@ -6,10 +6,9 @@ use std::alloc::{AllocError, Global};
 use std::process::Abort;
 use std::test::Fail;
 
-// A file that was acknowledged, and its number.
+// The ids of the files that were written, with the number that each contains.
 type Acknowledged = Vec<(FileId, u16)>;
 
-// Remembers a file.
 fn remember(files: &mut Acknowledged, id: FileId, number: u16) -> Result<(), AllocError> {
     if files.try_reserve(1).is_err() {
         files.try_reserve(1)?;
@@ -18,7 +17,7 @@ fn remember(files: &mut Acknowledged, id: FileId, number: u16) -> Result<(), All
     Ok(())
 }
 
-// Whether each file reads as it was written: as its number.
+// Whether each file still contains its number.
 fn all_read(alloc: Global, backend: &MemoryBackend, files: &Acknowledged) -> BackendResult<bool> {
     for (id, number) in files {
         if read_file(alloc, backend, id)?.as_slice() != number.to_le_bytes().as_slice() {
@@ -28,7 +27,7 @@ fn all_read(alloc: Global, backend: &MemoryBackend, files: &Acknowledged) -> Bac
     Ok(true)
 }
 
-// Writes the file of a number; whether it was refused since its id stands for another.
+// Writes the file of a number. Returns whether the write fails because the id is taken.
 fn is_refused(
     alloc: Global,
     backend: &mut MemoryBackend,
@@ -45,8 +44,8 @@ fn is_refused(
     }
 }
 
-// Writes so many files, and looks at all that were acknowledged after each write. Answers how many
-// were refused.
+// Writes `count` files and, after each write, reads all files written so far. Returns the number
+// of failed writes.
 fn count_refused<R: Abort>(rt: &R, alloc: Global, count: u16) -> BackendResult<u16> {
     let mut backend = ids_of_one_byte(alloc)?;
     let mut files = Vec::new(alloc);

@@ -1,4 +1,4 @@
-//! A backend that reads each tree only at the path at which it is stored, and a merge over it.
+//! Tests of the paths at which a merge reads trees, by a backend that fails at any other path.
 use crate::building::{ascending_tree, component, path, plain_file, tree_merge_of};
 use jj_backend::backend::{
     Backend, BackendError, BackendResult, ChangeId, Commit, CommitId, CopyHistory, CopyId,
@@ -13,7 +13,7 @@ use std::alloc::Global;
 use std::process::Abort;
 use std::test::Fail;
 
-// The trees that may be read, each at one path. All other calls fail.
+// Reads each tree only at the path at which it is stored. All other reads and writes fail.
 #[derive(Drop)]
 struct PathBackend {
     inner: MemoryBackend,

@@ -1,5 +1,5 @@
-//! Three sides of a directory of files, merged: what is resolved, the conflicts in words, and the
-//! merge written back.
+//! A three-way merge of a directory of files: its description, and its conflicts written back as
+//! trees.
 ghost use Rattle.std.specs.Prelude.{IfOk};
 ghost use Rattle.jj_merges.specs.declared.merge.SameChange.TheVariants.{Accept};
 ghost use Rattle.jj_backend.specs.declared.backend.tree_value.TreeValue.{TreeValue};
@@ -18,7 +18,7 @@ use jj_trees::memory_backend::MemoryBackend;
 use jj_trees::tree_merge::TreeMerge;
 use std::alloc::{AllocError, Global};
 
-/// Two sides and their base.
+/// Creates the merge of two sides and their base.
 pub fn sides_of(
     alloc: Global,
     left: TreeId,
@@ -30,7 +30,7 @@ pub fn sides_of(
     tree_merge_of(alloc, left, changes)
 }
 
-/// Writes a file, and gives the entry that stands for it.
+/// Writes a file and returns its entry.
 pub fn write_entry(
     alloc: Global,
     backend: &mut MemoryBackend,
@@ -42,7 +42,7 @@ pub fn write_entry(
     Ok((name, plain_file(alloc, id)))
 }
 
-/// Writes a directory of files, whose names ascend.
+/// Writes a directory of files, whose names must ascend strictly.
 pub fn write_files(
     alloc: Global,
     backend: &mut MemoryBackend,
@@ -56,7 +56,7 @@ pub fn write_files(
     backend.write_tree(alloc, RepoPath::root(), &tree)
 }
 
-/// The merge of these sides, each with its label.
+/// Merges sides; fails unless each side has a label.
 pub fn merge_labelled(
     alloc: Global,
     backend: &MemoryBackend,
@@ -73,7 +73,6 @@ pub fn merge_labelled(
     merge_in_memory(alloc, backend, sides, labels, SameChange::Accept)
 }
 
-// Appends a line for each path that is resolved.
 fn tell_resolved(
     resolved: &[(RepoPathBuf, TreeValue)],
     text: &mut String,
@@ -85,7 +84,6 @@ fn tell_resolved(
     Ok(())
 }
 
-// Appends a conflict in words.
 fn tell_conflict(
     alloc: Global,
     path: &RepoPathBuf,
@@ -98,7 +96,7 @@ fn tell_conflict(
     text.push_str(terms.describe(alloc, labels)?.as_str())
 }
 
-/// The paths that are resolved, and the conflicts in words.
+/// Returns the resolved paths, one a line, and the descriptions of the conflicts.
 pub fn told(alloc: Global, merge: &TreeMerge) -> Result<String, AllocError> {
     let mut text = String::new(alloc);
     tell_resolved(&merge.resolved, &mut text)?;
@@ -108,7 +106,7 @@ pub fn told(alloc: Global, merge: &TreeMerge) -> Result<String, AllocError> {
     Ok(text)
 }
 
-// The entry of a path of one name.
+// Returns the entry of a path with a single name.
 fn entry_at(
     alloc: Global,
     path: &RepoPathBuf,
@@ -122,7 +120,6 @@ fn entry_at(
 
 type Entries = Vec<(RepoPathComponentBuf, TreeValue)>;
 
-// Adds what is resolved.
 fn add_resolved(
     alloc: Global,
     resolved: &[(RepoPathBuf, TreeValue)],
@@ -134,7 +131,7 @@ fn add_resolved(
     Ok(())
 }
 
-// Adds the term of one side, where it is there.
+// Adds the term of one side, if it is present.
 fn add_term(
     alloc: Global,
     path: &RepoPathBuf,
@@ -148,13 +145,12 @@ fn add_term(
     Ok(())
 }
 
-// The entries in the order of their names.
 fn sorted(mut entries: Entries) -> Result<Entries, AllocError> {
     entries.sort_by(|a, b| a.0.cmp(&b.0))?;
     Ok(entries)
 }
 
-// What stands at the names of one side: what is resolved, and its term of each conflict.
+// Returns the entries of one side: the resolved values and its terms of the conflicts.
 fn side_entries(alloc: Global, merge: &TreeMerge, side: usize) -> BackendResult<Entries> {
     let mut entries = Vec::new(alloc);
     add_resolved(alloc, &merge.resolved, &mut entries)?;
@@ -164,7 +160,7 @@ fn side_entries(alloc: Global, merge: &TreeMerge, side: usize) -> BackendResult<
     Ok(sorted(entries)?)
 }
 
-/// Writes the directory of one side of a merge.
+/// Writes the directory of one side of a merge: the resolved values and its terms of conflicts.
 pub fn write_side(
     alloc: Global,
     backend: &mut MemoryBackend,
@@ -176,7 +172,7 @@ pub fn write_side(
     backend.write_tree(alloc, RepoPath::root(), &tree)
 }
 
-/// Writes a merge of three terms back: three directories, which merge to the same.
+/// Writes the sides of a merge of three terms as three directories, which merge to the same result.
 pub fn write_back(
     alloc: Global,
     backend: &mut MemoryBackend,

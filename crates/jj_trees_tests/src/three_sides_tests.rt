@@ -1,5 +1,4 @@
-//! The example of three sides as a whole: what it tells, and that the merge that is written back
-//! tells the same.
+//! Test of the three-way merge of `three_sides`: its description, also after it is written back.
 use crate::three_sides::{merge_labelled, sides_of, told, write_back, write_files};
 use jj_backend::backend::{BackendError, BackendResult, TreeId};
 use jj_content_tests::once_more::holds;
@@ -18,7 +17,7 @@ const BASE: &[(&str, &str)] = &[("README", "one\n"), ("main", "a\n"), ("old", "x
 // The right side changes the second, and removes the third.
 const RIGHT: &[(&str, &str)] = &[("README", "one\n"), ("main", "c\n")];
 
-// What the merge tells. The ids are fronts of digests that another program gives.
+// The expected description. The ids are prefixes of digests computed by another program.
 const TOLD: &str = "\
 README
 main: Conflict:
@@ -34,7 +33,7 @@ fn write_sides(alloc: Global, backend: &mut MemoryBackend) -> BackendResult<Merg
     sides_of(alloc, left, base, right)
 }
 
-// The merge of these sides, written back; none where it tells something else.
+// Merges and writes the result back, or returns `None` for an unexpected description.
 fn merged_back(
     alloc: Global,
     backend: &mut MemoryBackend,
@@ -48,7 +47,7 @@ fn merged_back(
     Ok(Some(write_back(alloc, backend, &merge)?))
 }
 
-// Whether the merge tells that, and once more where it was written back.
+// Whether the description is as expected, also of the merge that is written back.
 fn tells_twice(
     alloc: Global,
     backend: &mut MemoryBackend,
@@ -61,7 +60,6 @@ fn tells_twice(
     }
 }
 
-// The labels of the three sides.
 fn side_labels(alloc: Global) -> BackendResult<ConflictLabels> {
     let mut labels = Vec::new(alloc);
     for label in ["left", "base", "right"] {

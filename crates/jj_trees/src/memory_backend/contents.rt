@@ -1,4 +1,4 @@
-//! Contents of files and targets of links as they are kept, and content bytes in a list.
+//! The stored values of files and symbolic links, and a digest that collects content bytes.
 ghost use Rattle.std.specs.Prelude.{◌≡◌, ℕ, List, IfOk, IsTrue, string_bytes};
 ghost use Rattle.std.specs.Cmp;
 ghost use Rattle.std.specs.Cmp.Lexicographic.{nat_list_eq_equiv};
@@ -9,7 +9,6 @@ use jj_content::content_hash::{ContentHash, DigestUpdate};
 use std::alloc::{AllocError, Global};
 use std::marker::Model;
 
-// The content of a file.
 #[derive(Drop)]
 pub(super) struct FileContent {
     pub(super) bytes: Vec<u8>,
@@ -41,7 +40,6 @@ impl PartialEq for FileContent {
     }
 }
 
-// What a symbolic link points to.
 #[derive(Drop)]
 pub(super) struct LinkTarget {
     pub(super) text: String,
@@ -73,7 +71,7 @@ impl PartialEq for LinkTarget {
     }
 }
 
-// Content bytes that were taken in, while there was room for all of them.
+// Collects the hashed bytes. `is_whole` is false after an allocation failure.
 #[derive(Drop)]
 struct TakenBytes {
     bytes: Vec<u8>,
@@ -90,7 +88,7 @@ impl DigestUpdate for TakenBytes {
     }
 }
 
-// The content bytes of a value.
+// Returns the bytes that the content hash of a value digests.
 pub(super) fn content_of<T: ContentHash>(alloc: Global, value: &T) -> Result<Vec<u8>, AllocError>
     ensures { IfOk result (λ bytes. bytes.items ≡ T.content value.now) }
 {

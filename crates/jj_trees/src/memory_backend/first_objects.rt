@@ -1,4 +1,4 @@
-//! What a backend in memory has from the start: the tree without entries and the root commit.
+//! The initial objects of an in-memory backend: the empty tree and the root commit.
 ghost use Rattle.std.specs.Prelude.{◌≡◌, ◌≤◌, [], ◌∷◌, IfOk, replicate};
 ghost use Rattle.jj_backend.specs.Records.{root_commit};
 ghost use Rattle.jj_backend.specs.TreeLaws.{tree_content};
@@ -10,14 +10,13 @@ use jj_ids::object_id::{Id, IdKind};
 use std::alloc::{AllocError, Global};
 use std::collections::BTreeMap;
 
-// The id of that many zeros.
 pub(super) fn zeros<K: IdKind>(alloc: Global, length: usize) -> Result<Id<K>, AllocError>
     ensures { IfOk result (λ id. id ≡ replicate length 0) }
 {
     Ok(Id::new(Vec::from_elem(alloc, 0, length)?))
 }
 
-// The tree without entries, kept, and its id.
+// Returns the id of the empty tree, and the map of trees that stores it.
 pub(super) fn keep_empty_tree(
     alloc: Global,
     id_length: usize,
@@ -32,7 +31,7 @@ pub(super) fn keep_empty_tree(
     Ok((id, trees))
 }
 
-// The root commit, kept.
+// Returns the map of commits that stores the root commit.
 pub(super) fn keep_root_commit(
     alloc: Global,
     id: &CommitId,

@@ -1,4 +1,4 @@
-//! Objects of one type, kept by their ids.
+//! Content-addressed maps: objects of one type by their ids.
 ghost use Rattle.std.specs.Prelude.{◌≡◌, ◌≤◌, ◌⊎◌, [], ◌∷◌, true, IfOk, IfErr, OnOk, OnErr};
 ghost use Rattle.std.specs.Bool.{Decides};
 ghost use Rattle.jj_backend.specs.Errors.{is_not_found, is_other};
@@ -12,12 +12,11 @@ use jj_ids::object_id::{Id, IdKind, ObjectId};
 use std::alloc::{AllocError, Global};
 use std::collections::BTreeMap;
 
-// The name of an id's type of object, and its hex text.
+// Returns the type name of an id and the id in hexadecimal.
 fn texts_of<K: IdKind>(alloc: Global, id: &Id<K>) -> Result<(String, String), AllocError> {
     Ok((id.object_type(alloc)?, id.hex(alloc)?))
 }
 
-// The error that an id stands for nothing.
 fn not_found<K: IdKind>(alloc: Global, id: &Id<K>) -> BackendError
     ensures { (is_not_found result ≡ true) ⊎ (result ≡ BackendError.Memory) }
 {
@@ -31,7 +30,6 @@ fn not_found<K: IdKind>(alloc: Global, id: &Id<K>) -> BackendError
     }
 }
 
-// The error `Other` with this message.
 pub(super) fn other_error(alloc: Global, message: &str) -> BackendError
     ensures { (is_other result ≡ true) ⊎ (result ≡ BackendError.Memory) }
 {
@@ -44,7 +42,7 @@ pub(super) fn other_error(alloc: Global, message: &str) -> BackendError
     }
 }
 
-// The id of a value, of that many bytes.
+// Returns the prefix of the content digest of a value.
 pub(super) fn id_of<K, T: ContentHash>(
     alloc: Global,
     id_length: usize,
@@ -57,7 +55,6 @@ pub(super) fn id_of<K, T: ContentHash>(
     Id::from_bytes(alloc, &digest[..id_length])
 }
 
-// One object, kept by its id.
 pub(super) fn one_object<K: IdKind, V: Drop>(
     alloc: Global,
     id: Id<K>,
@@ -70,7 +67,7 @@ pub(super) fn one_object<K: IdKind, V: Drop>(
     Ok(kept)
 }
 
-// What an id stands for.
+// Clones the object with this id.
 pub(super) fn object_of<K: IdKind, V: Clone>(
     alloc: Global,
     kept: &BTreeMap<Id<K>, V>,
@@ -86,7 +83,7 @@ pub(super) fn object_of<K: IdKind, V: Clone>(
     }
 }
 
-// Keeps a value under an id, and answers the id; an id that stands for another value is refused.
+// Stores a value under an id and returns the id. Fails if a different value has the id.
 pub(super) fn keep<K: IdKind, V: PartialEq + Drop>(
     alloc: Global,
     kept: &mut BTreeMap<Id<K>, V>,
@@ -105,7 +102,7 @@ pub(super) fn keep<K: IdKind, V: PartialEq + Drop>(
             if *other == value {
                 Ok(id)
             } else {
-                Err(other_error(alloc, "the id stands for another object"))
+                Err(other_error(alloc, "the id is already that of a different object"))
             }
         }
         None => {
@@ -116,7 +113,7 @@ pub(super) fn keep<K: IdKind, V: PartialEq + Drop>(
     }
 }
 
-// As `keep`, and answers the value too.
+// Stores a clone of the value and returns the value with the id.
 pub(super) fn keep_copied<K: IdKind, V: Clone + PartialEq + Drop>(
     alloc: Global,
     kept: &mut BTreeMap<Id<K>, V>,

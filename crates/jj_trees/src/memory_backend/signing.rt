@@ -1,4 +1,4 @@
-//! Commits as they are kept, signed or not.
+//! Signatures of commits that are written.
 ghost use Rattle.std.specs.Prelude.{◌≡◌, ◌≢◌, ◌⊎◌, [], true, Some, IfOk, IfErr, OnOk};
 ghost use Rattle.jj_backend.specs.Errors.{is_other};
 ghost use Rattle.jj_backend.specs.Objects.{IsSigned};
@@ -11,7 +11,7 @@ use jj_backend::signing::SignError;
 use jj_files::file_util::{SourceError, SourceKind};
 use std::alloc::Global;
 
-// The backend's error that says why nothing was signed.
+// Converts an error of a signer into one of the backend.
 fn handed_on_error(alloc: Global, error: SignError) -> BackendError
     ensures { (result ≡ BackendError.Memory) ⊎ IsHandedOn error result }
 {
@@ -28,15 +28,14 @@ fn handed_on_error(alloc: Global, error: SignError) -> BackendError
     }
 }
 
-// The error that a commit has no parents.
 pub(super) fn rootless_error(alloc: Global) -> BackendError
     ensures { (is_other result ≡ true) ⊎ (result ≡ BackendError.Memory) }
 {
     other_error(alloc, "a commit needs a parent")
 }
 
-// A commit with a signature of what it says, in place of one that it had. Without parents it is
-// refused, and the signer not asked.
+// Replaces the signature of a commit by one of its content. Fails for a commit without parents,
+// without calling the signer.
 pub(super) fn sign_commit<S: SigningFn>(
     alloc: Global,
     mut commit: Commit,

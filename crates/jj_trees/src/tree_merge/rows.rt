@@ -1,4 +1,4 @@
-//! The names of a directory's trees, each with what stands there, tree by tree.
+//! K-way merge of the sorted entry lists of a directory's trees into rows, one for each name.
 ghost use Rattle.std.specs.Prelude.{◌≡◌, map, true, All, IfOk, OnOk, option_map};
 ghost use Rattle.std.specs.FinMap.{is_sorted};
 ghost use Rattle.jj_paths.specs.Names.{name_of};
@@ -12,14 +12,14 @@ use jj_backend::backend::{Tree, TreeEntriesNonRecursiveIterator, TreeValue};
 use jj_paths::repo_path::{RepoPathComponent, RepoPathComponentBuf};
 use std::alloc::{AllocError, Global};
 
-// A name of a directory, and what each term has there.
+// A name, with the value that each tree has there.
 #[derive(Drop)]
 pub(super) struct Row {
     pub(super) name: RepoPathComponentBuf,
     pub(super) values: Vec<Option<TreeValue>>,
 }
 
-// The name of the first entry.
+// Returns the name of the first remaining entry.
 fn name_in_front<'a>(front: TreeEntriesNonRecursiveIterator<'a>) -> Option<RepoPathComponent<'a>>
     ensures { option_map name_of result ≡ first_name (entries_left front.entry) }
 {
@@ -30,7 +30,7 @@ fn name_in_front<'a>(front: TreeEntriesNonRecursiveIterator<'a>) -> Option<RepoP
     }
 }
 
-// The lesser of two names, where there are two.
+// Returns the lesser of two names; an absent name is greater than all others.
 fn lesser<'a>(
     least: Option<RepoPathComponent<'a>>,
     other: Option<RepoPathComponent<'a>>,
@@ -51,7 +51,7 @@ fn lesser<'a>(
     }
 }
 
-// The least of the names in front.
+// Returns the least of the first remaining names.
 fn least_name<'a>(fronts: &[TreeEntriesNonRecursiveIterator<'a>]) -> Option<RepoPathComponent<'a>>
     ensures { IsLeastName (option_map name_of result)
         (map first_name (map entries_left fronts.now)) }
@@ -63,7 +63,7 @@ fn least_name<'a>(fronts: &[TreeEntriesNonRecursiveIterator<'a>]) -> Option<Repo
     least
 }
 
-// Takes the first entry, if it has the name.
+// Removes the first remaining entry if it has the name, and returns its value.
 fn take_value(
     front: &mut TreeEntriesNonRecursiveIterator<'_>,
     name: RepoPathComponent<'_>,
@@ -88,7 +88,6 @@ fn take_value(
     }
 }
 
-// Takes the first entry of each tree that has the name in front.
 fn take_values(
     alloc: Global,
     fronts: &mut [TreeEntriesNonRecursiveIterator<'_>],
@@ -106,7 +105,6 @@ fn take_values(
     Ok(values)
 }
 
-// The entries of each tree.
 fn fronts_of<'a>(
     alloc: Global,
     trees: &'a [Tree],
@@ -121,7 +119,7 @@ fn fronts_of<'a>(
     Ok(fronts)
 }
 
-// The names that stand in any of the trees, ascending, each with what stands there, tree by tree.
+// Returns the rows of all names that occur in any of the trees, in ascending order.
 pub(super) fn rows_of(alloc: Global, trees: &[Tree]) -> Result<Vec<Row>, AllocError>
     ensures { IfOk result (λ rows.
         AreRows trees.now (map (λ row. (row.name, row.values.items)) rows.items)) }
