@@ -1,4 +1,4 @@
--- Values copied place by place, and a map's entries copied in the order of their keys.
+-- Clones of lists item by item, and of sorted maps by inserting clones in ascending order.
 use Rattle.std.proofs.Common.{◌≡◌, ◌++◌, ◌∷◌, [], ◌∙◌, ◌&&◌, Bool, true, ℕ, List, Option, Some, None, refl, sym, ap, ap₂, subst, string_bytes}
 use Rattle.std.specs.BTreeMap.{BTreeMap, insert_entry}
 use Rattle.std.specs.Cmp.{IsEquivalence, IsTotalOrder}
@@ -24,11 +24,11 @@ use Rattle.jj_stores.specs.OperationLaws.{attributes_eq, predecessors_eq}
 use Rattle.jj_stores.specs.ViewLaws.{named_eq}
 
 module _ {X : Type 0} where
-  -- the same value is equal
+  -- equality is reflexive
   pub equal_same : {eq : X → X → Bool} → IsEquivalence eq → (x y : X) → y ≡ x → eq y x ≡ true
   equal_same {eq} laws x y same = ap (λ (z : X). eq z x) same ∙ laws.refl x
 
-  -- copies that are equal place by place are equal lists
+  -- lists are equal if their items are
   pub pointwise_copied : (R : X → X → Type 0) (eq : X → X → Bool)
       → ((x y : X) → R x y → eq y x ≡ true)
       → (xs ys : List X) → AllZip R xs ys → pointwise eq ys xs ≡ true
@@ -38,7 +38,6 @@ module _ {X : Type 0} where
   pointwise_copied R eq equal (x ∷ xs) (y ∷ ys) z =
       and_from _ _ (equal x y z.0) (pointwise_copied R eq equal xs ys z.1)
 
--- what holds of all keys holds of one among them
 at_key : {K : Type 0} (P : K → Type 0) (before after : List K) (k : K)
     → AllByRecursion P (before ++ k ∷ after) → P k
 at_key P [] after k all = all.0
@@ -46,7 +45,7 @@ at_key P (q ∷ before) after k all = at_key P before after k all.1
 
 module _ {K X : Type 0} where
   module _ {cmp : K → K → Ordering} (total : IsTotalOrder cmp) where
-    -- a key above all others is inserted as the last
+    -- a key greater than all others is inserted at the end
     insert_last : (es : List (K × X)) (k : K) (v : X) (after : List K)
         → IsStrictlySortedBy cmp (keys_of es ++ k ∷ after)
         → insert_entry cmp es k v ≡ es ++ (k, v) ∷ []
@@ -60,7 +59,7 @@ module _ {K X : Type 0} where
         ∙ ap (λ rest. e ∷ rest) (insert_last es k v after sorted.1)
 
   module _ (R : X → X → Type 0) where
-    -- the same key, and a copy of the value
+    -- equal keys, and a clone of the value
     abbrev pub IsCopied : K × X → K × X → Type 0
     IsCopied e f = (f.0 ≡ e.0) × R e.1 f.1
 
@@ -71,7 +70,7 @@ module _ {K X : Type 0} where
     same_keys (e ∷ es) (f ∷ fs) z =
         let first = z.0.0 in let rest = same_keys es fs z.1 in λ i. first i ∷ rest i
 
-    -- the next entry, inserted into the copies of those before it
+    -- inserts the clone of the next entry
     pub copied_push : {cmp : K → K → Ordering} → IsTotalOrder cmp
         → (done rest fs : List (K × X)) (e f : K × X)
         → IsStrictlySortedBy cmp (keys_of (done ++ e ∷ rest))
@@ -87,20 +86,20 @@ module _ {K X : Type 0} where
         subst (AllZip IsCopied (done ++ e ∷ [])) (sym last)
         (AllZip-push IsCopied done fs e f copied next)
 
--- copies of all entries, by names
+-- clones of the entries of a map from names
 pub named_copied : {V : Type 0} (eq : V → V → Bool) (es fs : List (List ℕ × V))
     → AllZip (IsCopied (λ v w. eq w v ≡ true)) es fs → named_eq eq fs es ≡ true
 named_copied eq es fs copied = pointwise_copied (IsCopied (λ v w. eq w v ≡ true)) _
     (λ e f same. and_from _ _ (equal_same nat_list_eq_equiv e.0 f.0 same.0) same.1) es fs copied
 
--- copies of ids by names
+-- clones of maps from names to ids
 pub ids_copied : (es fs : List (List ℕ × List ℕ))
     → AllZip (λ e f. (f.0 ≡ e.0) × (f.1 ≡ e.1)) es fs → named_eq bytes_eq fs es ≡ true
 ids_copied es fs copied = pointwise_copied _ _
     (λ e f same. and_from _ _ (equal_same nat_list_eq_equiv e.0 f.0 same.0)
     (equal_same nat_list_eq_equiv e.1 f.1 same.1)) es fs copied
 
--- copies of texts by texts
+-- clones of maps from strings to strings
 pub texts_copied : {A : Type 0} (es fs : List (String A × String A))
     → AllZip (λ e f. (string_bytes f.0 ≡ string_bytes e.0)
     × (string_bytes f.1 ≡ string_bytes e.1)) es fs
@@ -109,7 +108,6 @@ texts_copied es fs copied = pointwise_copied _ _
     (λ e f same. and_from _ _ (equal_same nat_list_eq_equiv (string_bytes e.0) (string_bytes f.0) same.0)
     (equal_same nat_list_eq_equiv (string_bytes e.1) (string_bytes f.1) same.1)) es fs copied
 
--- a set of the same keys
 pub set_copied : {S : Type 0} (s t : HashSet (List ℕ) S) → t.keys ≡ s.keys
     → hash_set_eq bytes_eq t s ≡ true
 set_copied s t same =
@@ -117,7 +115,6 @@ set_copied s t same =
     && list_all (λ k. list_any (bytes_eq k) ks) s.keys) same
     ∙ (hash_set_eq_equiv nat_list_eq_equiv).refl s
 
--- a copy of an option
 pub option_copied : {A : Type 0} (R : A → A → Type 0) (eq : A → A → Bool)
     → ((x y : A) → R x y → eq y x ≡ true)
     → (o p : Option A) → IsOptionClone R o p → option_eq eq p o ≡ true
@@ -126,7 +123,6 @@ option_copied R eq equal (Some x) None k = absurd k
 option_copied R eq equal None (Some y) k = absurd k
 option_copied R eq equal None None k = refl
 
--- a copy of the predecessors of commits
 pub predecessors_copied : {A : Type 0} (m n : BTreeMap (List ℕ) (Vec (List ℕ) A))
     → AllZip (λ e f. (f.0 ≡ e.0)
     × (AllZip (λ x y. y ≡ x) e.1.items f.1.items × (vec_len f.1 ≡ vec_len e.1)))

@@ -1,4 +1,4 @@
--- The first name of local refs and of the refs of remotes.
+-- The least name of local and remote refs.
 use Rattle.std.proofs.Common.{◌≡◌, ◌⊎◌, inl, inr, ◌<◌, ℕ, zero, suc, List, [], ◌∷◌, true, false, Option, Some, None, length, get_or, sym, refl, subst, ⊎_elim, arith}
 use Rattle.std.specs.Cmp.Lexicographic.{nat_list_eq_equiv}
 use Rattle.std.specs.List.{slice_get, cons_option}
@@ -10,7 +10,7 @@ use Rattle.std.proofs.lemmas.List.Elements.{All-nil, All-weaker}
 use Rattle.jj_stores.specs.ViewJoins.{Named, IsLeast, join_of, join_at, remotes_with, IsFirstName, IsFirstOfRemotes}
 use Rattle.jj_stores.proofs.NamesLeft.{cmp, least_lower}
 
--- ---- where a name stands, the join has a row
+-- ---- the join has a row for each name of a ref
 
 abbrev pub IsMore : {X : Type 0} → List X → Type 0
 IsMore {X} xs = (x : X) × (others : List X) × (xs ≡ x ∷ others)
@@ -61,7 +61,7 @@ module _ {R : Type 0} where
   none_left [] h = refl
   none_left (e ∷ es) h = cc
 
--- ---- the first name of all remotes, and the first local one
+-- ---- the least name of all remotes, and the least local one
 
 module _ {T R : Type 0} (locals : Named T) (remotes : Named (Named R)) where
   stands_at_remote : (name : List ℕ) → IsFirstOfRemotes remotes (Some name) → IsSome (join_at locals remotes name)

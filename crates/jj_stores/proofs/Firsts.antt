@@ -1,4 +1,4 @@
--- The earliest of the first names of remotes.
+-- The heap of first names: its top is the least name, and removal and insertion preserve it.
 use Rattle.std.proofs.Common.{◌≡◌, ◌+◌, ◌<◌, ◌≤◌, ℕ, zero, suc, List, [], ◌∷◌, ◌++◌, Bool, true, false, not, cond, ◌&&◌, Option, Some, None, length, map, take, get_or, set, eqb, true≢false, ⊎_elim, sym, refl, ap, subst, ◌∙◌, arith}
 use Rattle.std.specs.Cmp.{nat_cmp_is}
 use Rattle.std.specs.Cmp.Lexicographic.{nat_list_eq_equiv, nat_list_cmp_total, texts_ties}
@@ -87,7 +87,7 @@ here_itself name place =
     let Q : Bool → Type 0 = λ b. once (true && b) ≡ 1 in
     subst P (sym (nat_list_eq_equiv.refl name)) (subst Q (sym ((Decides-eqb place place).1 refl)) refl)
 
--- the remote at this place has this first name
+-- the remote at this index has this first name
 abbrev pub StandsAt : {R : Type 0} → List ℕ → Named (Named R) → ℕ → Type 0
 StandsAt {R} name remotes i = (i < length remotes)
     × ((d : List ℕ × Named R) → Some name ≡ slice_get (keys_of (get_or remotes i d).1) 0)
@@ -118,7 +118,7 @@ module _ {R : Type 0} where
       stands_or name m place k v remote es rs (is_here name place (m, k)) refl (subst (λ n. 0 < n) whole some)
       (stands_at name place (suc k) rs)
 
--- ---- no first name is before the earliest
+-- ---- no first name is less than the top
 
 abbrev pub is_before : List ℕ → ℕ → List ℕ × ℕ → Bool
 is_before name place q = is_lt (earlier_cmp (name, place) q)
@@ -140,13 +140,13 @@ not_before : (b : Bool) (n : ℕ) → once b + n ≡ 0 → (b ≡ false) × (n �
 not_before false n h = (refl, omega (arith, h))
 not_before true n h = absurd (omega (arith, h))
 
--- the name is not below where the pair is not before
+-- a pair that is not less has a name that is not less
 not_below : (r s : Ordering) → is_lt (ordering_then r s) ≡ false → false ≡ is_lt r
 not_below Less s h = sym h
 not_below Equal s h = refl
 not_below Greater s h = refl
 
--- and is another one where its place is lower
+-- a pair that is not less, with a lower index, has a different name
 above_of : (r s : Ordering) → s ≡ Less → is_lt (ordering_then r s) ≡ false → true ≡ not (is_eq r)
 above_of Less s low h = refl
 above_of Equal s low h = let lower : is_lt s ≡ true = ap is_lt low in cc
@@ -156,7 +156,7 @@ lower_place : (a b : ℕ) → a < b → nat_cmp a b ≡ Less
 lower_place a b low = sym (nat_cmp_is a b Less low)
 
 module _ {R : Type 0} (name : List ℕ) (place : ℕ) where
-  -- what is known of the remotes from a place on
+  -- no first name of the remotes from this index is less
   abbrev pub IsEarliest : ℕ → Named (Named R) → Type 0
   IsEarliest k remotes = All (λ r. IsLeast name r.1) remotes
       × ((i : ℕ) → k + i ≤ place → remotes_with (take i remotes) name ≡ [])
@@ -195,7 +195,7 @@ module _ {R : Type 0} (name : List ℕ) (place : ℕ) where
             h.1 low,
       )
 
--- ---- the earliest of all
+-- ---- the top of the heap
 
 empty_of : {X : Type 0} (xs : List X) → length xs ≡ 0 → xs ≡ []
 empty_of [] none = refl
@@ -238,7 +238,7 @@ module _ {X R : Type 0} (shows : X → List ℕ × ℕ) (remotes : Named (Named 
       let here : h.0 ≡ (shows x).1 = omega (arith, h.1) in
       subst (StandsAt (shows x).0 remotes) here h.2
 
-  -- the place of the top is that of a remote
+  -- the index of the top is in range
   pub top_below : (x : X) → 0 < length xs → x ≡ get_or xs 0 x → (shows x).1 < length remotes
   top_below x some top = (top_stands x some top).0
 
@@ -251,7 +251,7 @@ pub same_top : {X : Type 0} (xs : List X) (x y : X) → 0 < length xs → x ≡ 
 same_top [] x y some a b = absurd (omega (arith, some))
 same_top (z ∷ zs) x y some a b = a ∙ sym b
 
--- ---- first names come and go
+-- ---- removal and insertion
 
 pub pushed : {X : Type 0} (shows : X → List ℕ × ℕ) (x : X) (xs ys : List X) → IsPermutation (x ∷ xs) ys
     → (o : Option (List ℕ × ℕ)) → Some (shows x) ≡ o → (count : List ℕ × ℕ → ℕ)
@@ -310,7 +310,7 @@ module _ {R : Type 0} (remotes : Named (Named R)) where
     ascending = All-set (λ r. IsAscending r.1) remotes place new up are.ascending;
   }
 
-  -- the top is gone, and its remote is a new one: with the first of that one, the firsts are those of the remotes again
+  -- the invariant holds again once the top is replaced by the next first name of its remote
   pub firsts_left : {X : Type 0} (shows : X → List ℕ × ℕ) (xs ys : List X) (x : X) (new there : List ℕ × Named R) (now : List (List ℕ × ℕ))
       → AreFirsts remotes (map shows xs) → 0 < length xs → x ≡ get_or xs 0 x → IsPermutation xs (x ∷ ys)
       → there ≡ get_or (set remotes (shows x).1 new) (shows x).1 there
@@ -323,7 +323,7 @@ module _ {R : Type 0} (remotes : Named (Named R)) where
       (λ count. come count ∙ ap (λ r. sum_by count (option_to_list (first_at (shows x).1 r.1)) + sum_by count (map shows ys)) is)
       (subst (λ r. IsAscending r.1) is up)
 
-  -- ---- a name that is above none, and is not the first
+  -- ---- a name that is at most each name, and is not the first
 
   tied_of : (r s : Ordering) → s ≡ ordering_reverse r → is_gt r ≡ false → is_gt s ≡ false → is_eq r ≡ true
   tied_of Less s e p q = absurd (true≢false (sym (ap is_gt e) ∙ q))
@@ -348,7 +348,7 @@ same_of : (b : Bool) → false ≡ not b → b ≡ true
 same_of true h = refl
 same_of false h = cc
 
--- the top of a heap, looked at and then taken out
+-- peek and pop return the same item
 pub named_top : {X R : Type 0} (shows : X → List ℕ × ℕ) (remotes : Named (Named R)) (xs : List X) → AreFirsts remotes (map shows xs)
     → (x y : X) (name shown : List ℕ) → 0 < length xs → x ≡ get_or xs 0 x → y ≡ get_or xs 0 y → shown ≡ name
     → false ≡ not (bytes_eq (shows x).0 shown) → StandsAt name remotes (shows y).1 × ((shows y).0 ≡ name)
@@ -361,7 +361,7 @@ none_mapped : {A B : Type 0} (f : A → B) (o : Option A) → IsSome o → None 
 none_mapped f (Some a) some h = cc
 none_mapped f None some h = cc
 
--- the remote where a name stands has its ref
+-- a remote with this first name has its ref
 pub never_missed : {R : Type 0} (name : List ℕ) (remotes : Named (Named R)) (place : ℕ) (remote : List ℕ × Named R)
     → StandsAt name remotes place → remote ≡ get_or remotes place remote
     → None ≡ option_map (λ (r : R). at_remote remote.0 r) (lookup (bytes_eq name) remote.1) → ⊥

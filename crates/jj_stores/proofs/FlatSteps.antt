@@ -1,4 +1,4 @@
--- A ref of the least name, taken from the first remote that has it, comes before all that are left.
+-- Steps of the merge of remote refs: the least name's ref at the first remote precedes the rest.
 use Rattle.std.proofs.Common.{◌≡◌, inr, ◌<◌, ℕ, List, [], ◌∷◌, ◌++◌, Bool, true, false, cond, Option, Some, None, length, sym, refl, ap, ap₂, subst, ◌∙◌, arith}
 use Rattle.std.specs.Cmp.Lexicographic.{nat_list_eq_equiv}
 use Rattle.std.specs.List.{All, AllByRecursion, cons_option, sum_by}
@@ -56,7 +56,7 @@ module _ {R : Type 0} where
       filter_map-append (λ remote. option_map (λ v. (remote.0, v)) (lookup (bytes_eq name) remote.1)) before after
 
   module _ (name : List ℕ) (old : Named (Named R)) (found : List ℕ × R) (new : Named (Named R)) (taken : TakesRef name old found new) where
-    -- the remotes that have the name: one more, at the front
+    -- the remotes that have the name: the removed one is prepended
     pub one_more : remotes_with old name ≡ found ∷ remotes_with new name
     one_more =
         let old_with = ap (λ v. remotes_with v name) taken.old_is
@@ -80,7 +80,7 @@ module _ {R : Type 0} where
         ∙ sym (with_append taken.before ((found.0, (name, found.1) ∷ taken.others) ∷ taken.after) other)
         ∙ sym (ap (λ v. remotes_with v other) taken.old_is)
 
-  -- ---- no name of a remote is below the least one
+  -- ---- the least name is at most each name of a remote
 
   found_least : (name : List ℕ) (refs : Named R) (other : List ℕ) → AllByRecursion (λ q. is_gt (cmp name q) ≡ false) (keys_of refs)
       → IsSome (lookup (bytes_eq other) refs) → is_gt (cmp name other) ≡ false

@@ -1,4 +1,4 @@
--- The first remote that has a name loses its ref.
+-- Removal of the ref of a name from the first remote that has it.
 use Rattle.std.proofs.Common.{◌≡◌, ◌<◌, ℕ, suc, List, [], ◌∷◌, ◌++◌, Option, Some, None, length, take, drop, get_or, set, sym, ap, subst, ◌∙◌, arith}
 use Rattle.std.specs.Map.{lookup}
 use Rattle.std.specs.Option.{option_map, option_to_list}
@@ -13,7 +13,7 @@ abbrev pub at_remote : {R : Type 0} → List ℕ → R → List ℕ × R
 at_remote remote ref = (remote, ref)
 
 module _ {R : Type 0} where
-  -- what was lost is what was found
+  -- the removed ref is the one that is returned
   found_first : (name : List ℕ) (remote new : List ℕ × Named R) (o : Option R) (found : List ℕ × R)
       → Some found ≡ option_map (λ r. (remote.0, r)) o → remote.1 ≡ option_to_list (option_map (λ v. (name, v)) o) ++ new.1
       → remote ≡ (found.0, (name, found.1) ∷ new.1)

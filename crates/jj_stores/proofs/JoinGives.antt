@@ -1,4 +1,4 @@
--- What `next` of a join gives, and what it leaves.
+-- The row that `next` of a join yields, and the remaining refs.
 use Rattle.std.proofs.Common.{◌≡◌, ◌<◌, ℕ, List, [], ◌∷◌, Bool, true, false, Option, Some, None, sym, refl, ap, ap₂, subst, ◌∙◌}
 use Rattle.std.specs.List.{AllZip}
 use Rattle.std.proofs.lemmas.List.Elements.{All-nil}

@@ -1,4 +1,4 @@
--- A row of a join is what its first name has, and the others are the join of what is left.
+-- Steps of the join: the first row is that of the least name, the others join the remaining refs.
 use Rattle.std.proofs.Common.{◌≡◌, ◌+◌, ◌<◌, ℕ, List, [], ◌∷◌, Bool, true, false, cond, Option, Some, None, length, sym, refl, ap, ap₂, length-append, subst, ◌∙◌, ⊎_elim, arith}
 use Rattle.std.specs.Cmp.Lexicographic.{nat_list_eq_equiv}
 use Rattle.std.specs.List.{All, AllZip, AllByRecursion, cons_option, sum_by}
@@ -17,7 +17,7 @@ use Rattle.jj_stores.specs.ViewJoins.{Named, IsAscending, IsLeast, TakesAt, Lose
 use Rattle.jj_stores.proofs.NamesLeft.{cmp, Above, below}
 use Rattle.jj_stores.proofs.FirstNames.{IsMore, some_joined}
 
--- ---- what is left of the refs of one place, when those of its least name were taken
+-- ---- the remaining refs of one map after its ref of the least name is removed
 
 module _ {V : Type 0} (name : List ℕ) where
   missed : (b : Bool) (v : V) (rest : Option V) → None ≡ cond b (Some v) rest → (b ≡ false) × (None ≡ rest)
@@ -58,7 +58,7 @@ module _ {V : Type 0} (name : List ℕ) where
   found_above (e ∷ es) other up some =
       hit other e.0 e.1 (bytes_eq other e.0) (lookup (bytes_eq other) es) refl up.0 (found_above es other up.1) some
 
--- ---- the same of all remotes
+-- ---- the remaining refs of all remotes
 
 module _ {R : Type 0} (name : List ℕ) where
   pub remotes_left_same : (old new : Named (Named R)) → AllZip (LosesAt name) old new
@@ -87,7 +87,7 @@ module _ {R : Type 0} (name : List ℕ) where
       (found_above name n.1 other (left_above name o.1 n.1 _ lost.0.ascending (All-head Q o os least) lost.0.refs))
       (remotes_above os ns (All-tail Q o os least) lost.1 other) more
 
--- where no name is left, neither is a row
+-- if no refs remain, no row does
 pub no_remotes : {R : Type 0} (remotes : Named (Named R)) (q : List ℕ) → All (λ r. r.1 ≡ []) remotes → remotes_with remotes q ≡ []
 no_remotes [] q none = refl
 no_remotes {R} (r ∷ rs) q none =
@@ -144,7 +144,7 @@ module _ {T R : Type 0} where
       → IsFirstName locals remotes (Some name) → IsViewJoin locals remotes [] → ⊥
   some_row locals remotes name first join = let h = subst IsSome (sym (join.at_each name)) first.0 in cc
 
--- ---- how many refs are left
+-- ---- the number of remaining refs
 
 length_found : {V X : Type 0} (f : V → X) (found : Option V)
     → length (option_to_list (option_map f found)) ≡ length (option_to_list found)

@@ -1,4 +1,4 @@
--- Taking the first name out of names in order.
+-- Removing the first name of an ascending list.
 use Rattle.std.proofs.Common.{◌≡◌, ℕ, List, [], ◌∷◌, ◌++◌, Bool, true, false, Option, Some, None, not, true≢false, sym, refl, ap, subst, ◌∙◌}
 use Rattle.std.specs.Cmp.Lexicographic.{slice_cmp, nat_list_cmp_total, texts_ties}
 use Rattle.std.specs.List.{AllByRecursion}
@@ -22,12 +22,12 @@ below_of Less s e p q = absurd (true≢false (sym (ap is_gt e) ∙ p))
 below_of Equal s e p q = cc
 below_of Greater s e p q = e
 
--- of two names that differ, the one that is not above the other is below it
+-- of two different names, the one that is not greater is less
 pub below : (name other : List ℕ) → is_gt (cmp name other) ≡ false → bytes_eq other name ≡ false → cmp name other ≡ Less
 below name other p q = below_of (cmp other name) (cmp name other) (nat_list_cmp_total.antisymm name other) p
     (sym (texts_ties other name) ∙ q)
 
--- a name is none that is above it
+-- a name differs from a greater one
 pub apart : (a b : List ℕ) → cmp a b ≡ Less → bytes_eq a b ≡ false
 apart a b p = texts_ties a b ∙ ap is_eq p
 
@@ -55,7 +55,7 @@ pub none_above : {V : Type 0} (name : List ℕ) (refs : Named V) → Above name 
 none_above name [] h = refl
 none_above name (e ∷ es) h = rw (apart name e.0 h.0) (none_above name es h.1)
 
--- no other name stands where the first name is not below it
+-- a name that is at most the first one, and is not the first one, does not occur
 pub none_at : {V : Type 0} (name first : List ℕ) (value : V) (rest refs : Named V)
     → refs ≡ (first, value) ∷ rest → IsAscending refs → IsLeast name refs
     → true ≡ not (bytes_eq first name) → None ≡ lookup (bytes_eq name) refs
@@ -66,7 +66,7 @@ none_at name first value rest refs same up least other =
     subst P (sym same) (none_above name ((first, value) ∷ rest)
     (above_first name first value rest under (subst IsAscending same up)))
 
--- the first of refs in order is taken: the others are in order
+-- the refs ascend after the first one is removed
 pub still_ascending : {V A : Type 0} (shows : A → List ℕ × V) (old : Named V) (next : Option A)
     (new : Named V) → TakesFirst shows old next new → IsAscending old
     → IsAscending (option_to_list (option_map shows next) ++ new) × (IsNone next → new ≡ [])

@@ -1,4 +1,4 @@
--- A list that has the elements of a list of one is that list.
+-- A list with the elements of a singleton is that singleton.
 use Rattle.std.proofs.Common.{◌≡◌, List, [], ◌∷◌, length, refl, arith}
 use Rattle.std.specs.List.{AllByRecursion}
 use Rattle.std.specs.List.Sorted.{IsPermutation}

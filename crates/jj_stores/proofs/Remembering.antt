@@ -1,4 +1,4 @@
--- What a cache does at a look-up that finds, and at a pair that is put, is `cache_with`.
+-- A hit and an insertion of the LRU cache are `cache_with`.
 use Rattle.std.proofs.Common.{◌≡◌, ℕ, zero, suc, ◌+◌, ◌-◌, ◌<◌, ◌≤◌, true, false, List, [], ◌∷◌, length, take, Option, Some, None, refl, sym, arith}
 use Rattle.std.specs.Str.{bytes_eq}
 use Rattle.std.specs.Cmp.Lexicographic.{same_text}
@@ -8,7 +8,7 @@ use Rattle.lru.specs.LruCache.{lru_cache, promoted, put_entries}
 use Rattle.jj_stores.specs.Verdict.{Verdict}
 use Rattle.jj_stores.specs.Asked.{cache_with}
 
--- a look-up that finds finds the one pair of the id, and without it there is one pair fewer
+-- a hit finds the only pair of the id; removing it leaves one pair fewer
 found : (id : List ℕ) (v : Verdict) (es : List (List ℕ × Verdict)) → lookup (bytes_eq id) es ≡ Some v
     → (lookup_entry (bytes_eq id) es ≡ Some (id, v)) × (length (remove_entry (bytes_eq id) es) + 1 ≡ length es)
 found id v [] h = cc

@@ -1,4 +1,4 @@
--- The refs that a closure shows of each remote, where it shows always the same of one view.
+-- The refs that a closure selects of each remote, if it is a function of the view.
 use Rattle.std.proofs.Common.{◌≡◌, ℕ, List, [], ◌∷◌, map, refl, ap, ap₂, ◌∙◌, Bor}
 use Rattle.std.specs.BTreeMap.{BTreeMap}
 use Rattle.std.specs.Fn.{CalledAt}

@@ -1,4 +1,4 @@
--- Refs of one name are taken from remotes, one after another.
+-- The loop that removes the refs of one name from all remotes.
 use Rattle.std.proofs.Common.{◌≡◌, ◌⊎◌, inl, inr, ℕ, List, [], ◌∷◌, ◌++◌, Bool, cond, false, Option, Some, None, map, sym, refl, ap, subst, ◌∙◌}
 use Rattle.std.specs.Cmp.Lexicographic.{nat_list_eq_equiv}
 use Rattle.std.specs.List.{All, AllZip, cons_option}
@@ -38,7 +38,7 @@ not_both None a e h = cc
 not_both (Some b) a e h = cc
 
 module _ {R : Type 0} (name : List ℕ) where
-  -- a remote is as it was, or has lost its ref of the name
+  -- a remote is unchanged, or its ref of the name is removed
   abbrev pub IsLosing : List ℕ × Named R → List ℕ × Named R → Type 0
   IsLosing old now = (old ≡ now) ⊎ (LosesAt name old now × (None ≡ lookup (bytes_eq name) now.1))
 
@@ -47,7 +47,7 @@ module _ {R : Type 0} (name : List ℕ) where
       let P : Bool → Type 0 = λ b. cond b (Some ref) (lookup (bytes_eq name) others) ≡ Some ref in
       subst P (sym (nat_list_eq_equiv.refl name)) refl
 
-  -- the refs are those of the name, if there are any, and then the others
+  -- the refs are that of the name, if there is one, and the others
   cut : (refs others : Named R) (o : Option R) → lookup (bytes_eq name) refs ≡ o
       → refs ≡ option_to_list (option_map (λ v. (name, v)) o) ++ others
       → TakesAt name refs (lookup (bytes_eq name) refs) others

@@ -1,4 +1,4 @@
--- The first names of remotes, each with the place of its remote.
+-- The heap of a k-way merge: the first names of remotes, each with the index of its remote.
 -- Machinery of private functions and fields.
 use Rattle.std.specs.Prelude.{◌≡◌, ℕ, suc, List, [], ◌∷◌, Option}
 use Rattle.std.specs.Cmp.Lexicographic.{slice_cmp}
@@ -12,26 +12,26 @@ use Rattle.jj_ids.specs.Names.{name_of}
 use Rattle.jj_ids.specs.declared.ref_name.names.Name.{Name}
 use Rattle.jj_stores.specs.ViewJoins.{Named, IsAscending}
 
--- a first name and the place of its remote, as a heap keeps them
+-- the name and index of a heap item
 abbrev pub first_of : {K : Type 0} → Reverse (Name K × ℕ) → List ℕ × ℕ
 first_of f = (name_of f.0.0, f.0.1)
 
--- earlier is greater: the lesser name, and of one name the lesser place
+-- the order of a max-heap with the least name on top; of equal names, the least index
 abbrev pub earlier_cmp : List ℕ × ℕ → List ℕ × ℕ → Ordering
 earlier_cmp a b = ordering_then (slice_cmp nat_cmp b.0 a.0) (nat_cmp b.1 a.1)
 
 module _ {R : Type 0} where
-  -- the first name, if there is any, with a place
+  -- the first name, if there is any, with an index
   abbrev pub first_at : ℕ → Named R → Option (List ℕ × ℕ)
   first_at place refs = option_map (λ name. (name, place)) (slice_get (keys_of refs) 0)
 
-  -- the first names of remotes whose places are counted from this one
+  -- the first names of remotes whose indices are counted from this one
   abbrev pub firsts_from : ℕ → Named (Named R) → List (List ℕ × ℕ)
   firsts_from place [] = []
   firsts_from place (remote ∷ remotes) =
       cons_option (first_at place remote.1) (firsts_from (suc place) remotes)
 
-  -- these are the first names of remotes whose refs are in order, each as often as it is there
+  -- firsts is a permutation of the first names of remotes, whose refs ascend by name
   pub record AreFirsts (remotes : Named (Named R)) (firsts : List (List ℕ × ℕ)) : Type 0 where
     pub same : (count : List ℕ × ℕ → ℕ)
         → sum_by count firsts ≡ sum_by count (firsts_from 0 remotes)

@@ -1,4 +1,4 @@
--- The refs of all remotes in one list.
+-- The refs of all remotes in one list, ordered by ref name and then by remote.
 -- Cited by contracts of public items: GivesRef.
 use Rattle.std.specs.Prelude.{◌≡◌, ℕ, List, [], ◌∷◌, ◌++◌, false, cond, Option, Some, None}
 use Rattle.std.specs.Borrow.{Bor}
@@ -10,28 +10,28 @@ use Rattle.jj_ids.specs.Names.{name_of}
 use Rattle.jj_ids.specs.declared.ref_name.symbols.RemoteRefSymbol.{RemoteRefSymbol}
 use Rattle.jj_stores.specs.ViewJoins.{Named, IsAscending, remotes_with}
 
--- refs, each with its name and that of its remote
+-- refs, each with its name and the name of its remote
 abbrev pub AtRemotes : Type 0 → Type 0
 AtRemotes R = List ((List ℕ × List ℕ) × R)
 
 module _ {R : Type 0} where
-  -- no name is above one after it
+  -- the names ascend, not necessarily strictly
   abbrev pub AreByName : AtRemotes R → Type 0
   AreByName [] = Unit {0}
   AreByName (r ∷ rs) =
       AllByRecursion (λ s. is_gt (slice_cmp nat_cmp r.0.0 s.0.0) ≡ false) rs × AreByName rs
 
-  -- those of one name, each with its remote
+  -- the refs of one name, each with its remote
   abbrev pub refs_at : AtRemotes R → List ℕ → Named R
   refs_at refs name =
       filter_map (λ r. cond (bytes_eq name r.0.0) (Some (r.0.1, r.1)) None) refs
 
-  -- these are all refs of the remotes, by name, and those of one name in the remotes' order
+  -- refs are all refs of the remotes, in order of names, and of one name in order of remotes
   pub record AreFlat (remotes : Named (Named R)) (refs : AtRemotes R) : Type 0 where
     pub by_name : AreByName refs
     pub at_each : (name : List ℕ) → refs_at refs name ≡ remotes_with remotes name
 
-  -- the ref of this name was taken from the first remote that has it
+  -- the ref of this name is removed from the first remote that has it
   pub record TakesRef (name : List ℕ) (old : Named (Named R)) (found : List ℕ × R)
       (new : Named (Named R)) : Type 0 where
     pub before : Named (Named R)
@@ -42,11 +42,10 @@ module _ {R : Type 0} where
     pub none_before : remotes_with before name ≡ []
     pub ascending : IsAscending ((name, found.1) ∷ others)
 
-  -- a ref with its name and that of its remote
   abbrev pub symbol_ref_of : RemoteRefSymbol × Bor R → (List ℕ × List ℕ) × R
   symbol_ref_of item = ((name_of item.0.name, name_of item.0.remote), item.1.now)
 
-  -- the first of the refs that are left is given, and the others are left; or there is none
+  -- one step of the iterator: the first remaining ref is yielded, or none remains
   abbrev pub GivesRef : Named (Named R) → Option (RemoteRefSymbol × Bor R)
       → Named (Named R) → Type 0
   GivesRef old None new = AreFlat old [] × AreFlat new []

@@ -1,4 +1,4 @@
--- What contracts see of the joins: what is left of them, and the rows that they give.
+-- The models of join iterators: their remaining refs and rows.
 -- Cited by contracts of public items: JoinLeft, ShowsRefs, left_unless, refs_left.
 use Rattle.std.specs.Prelude.{◌≡◌, ◌+◌, ℕ, List, [], length, Bool, true, false, Option}
 use Rattle.std.specs.Borrow.{Bor}
@@ -13,29 +13,28 @@ use Rattle.std.specs.BTreeMap.{BTreeMap}
 use Rattle.std.specs.Fn.{CalledAt}
 use denote.Param.Members.{Mut}
 
--- the name of a remote and its ref
 abbrev pub ref_of : {K : Type 0} → Name K × Bor RemoteRef → List ℕ × RemoteRef
 ref_of r = (name_of r.0, r.1.now)
 
--- the local refs and the refs of remotes that are left of a join
+-- the remaining local refs and remote refs of a join
 pub record JoinLeft : Type 0 where
   pub locals : Named Target
   pub remotes : Named (Named RemoteRef)
 
--- what is left of a join that may have ended
+-- the remaining refs of a join; none after an error
 abbrev pub left_unless : Bool → Named Target → Named (Named RemoteRef) → JoinLeft
 left_unless true locals remotes = record { locals = []; remotes = [] }
 left_unless false locals remotes = record { locals = locals; remotes = remotes }
 
--- these rows are left of a join
+-- these are the remaining rows of a join
 abbrev pub AreLeft : JoinLeft → Named (Option Target × Named RemoteRef) → Type 0
 AreLeft left rows = IsViewJoin left.locals left.remotes rows
 
--- how many refs are left
+-- the number of remaining refs
 abbrev pub refs_left : JoinLeft → ℕ
 refs_left left = length left.locals + sum_by (λ remote. length remote.1) left.remotes
 
--- a closure is called for the view of a remote, and shows these refs of it
+-- the closure, called with the view of a remote, returns these refs of it
 abbrev pub ShowsRefs : {F : Type 0}
     → Mut F (Bor RemoteView × Unit {0}) (Bor (BTreeMap (List ℕ) RemoteRef)) → F
     → List ℕ × RemoteView → List ℕ × Named RemoteRef → F → Type 0

@@ -1,4 +1,4 @@
--- One step of a join: the row that it gives, and what it leaves.
+-- One step of a join iterator: the yielded row and the remaining ones.
 -- Cited by contracts of public items: GivesRow.
 use Rattle.std.specs.Prelude.{ℕ, List, [], ◌∷◌, map, Option, Some, None, Result, Ok, Err}
 use Rattle.std.specs.Option.{option_copied}
@@ -11,7 +11,7 @@ use Rattle.jj_stores.specs.declared.op_store.ref_target.RemoteRef.{RemoteRef}
 use Rattle.jj_stores.specs.declared.op_store.view_joins.LocalRemoteRefTarget.{LocalRemoteRefTarget}
 
 module _ {K : Type 0} where
-  -- a name, the local target, and the remotes with their refs
+  -- the name, the local target and the remote refs of a row
   abbrev pub row_of : Name K × LocalRemoteRefTarget
       → List ℕ × (Option Target × Named RemoteRef)
   row_of row = (
@@ -19,8 +19,7 @@ module _ {K : Type 0} where
     (option_copied row.1.local_target, map ref_of row.1.remote_refs.items),
   )
 
-  -- the first of the rows that are left is given, and the others are left; or there is none; or
-  -- there is one that is refused, and then none is left
+  -- the first remaining row is yielded, or none remains; or a row fails, after which none remains
   abbrev pub GivesRow : {E : Type 0} → JoinLeft
       → Option (Result (Name K × LocalRemoteRefTarget) E) → JoinLeft → Type 0
   GivesRow old None new = AreLeft old [] × AreLeft new []

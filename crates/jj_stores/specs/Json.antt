@@ -1,4 +1,4 @@
--- JSON values of operations. The strings of times are not determined here.
+-- JSON values of operations. The strings of timestamps are not determined here.
 -- Cited by contracts of public items: IsMetadataJson, IsOperationJson, IsRangeJson.
 use Rattle.std.specs.Prelude.{◌≡◌, ℕ, List, Option, Some, None, fold, codes, string_bytes}
 use Rattle.std.specs.declared.string.String.{String}
@@ -7,27 +7,26 @@ use Rattle.jj_backend.specs.Json.{IsJsonString, ids_json}
 use Rattle.jj_stores.specs.declared.op_store.operation.Operation.{Operation}
 use Rattle.jj_stores.specs.declared.op_store.operation.OperationMetadata.{OperationMetadata}
 
--- ---- times
+-- ---- time ranges
 
--- the object of the values of a start and an end, its members in the order of their keys
+-- the object of the JSON values of a start and an end; the keys ascend
 abbrev pub range_json : Data → Data → Data
 range_json start end =
     object (member (codes "end") end (member (codes "start") start no_members))
 
--- the object of the strings of a start and an end
+-- value is the object of two strings, the start and the end
 abbrev pub IsRangeJson : Data → Type 0
 IsRangeJson value = (start : Data) × (end : Data) × IsJsonString start × IsJsonString end
     × (value ≡ range_json start end)
 
--- ---- how an operation was done
+-- ---- metadata
 
 -- `A` is the allocator of the strings
 module _ {A : Type 0} where
-  -- the members, with that of an attribute
+  -- the members with an attribute added
   abbrev pub with_attribute : Members → String A × String A → Members
   with_attribute members e = put (string_bytes e.0) (string (string_bytes e.1)) members
 
-  -- the members of these attributes
   abbrev pub attribute_members : List (String A × String A) → Members
   attribute_members = fold with_attribute no_members
 
@@ -39,14 +38,14 @@ abbrev pub workspace_json : Option (List ℕ) → Data
 workspace_json None = null
 workspace_json (Some name) = string name
 
--- the members, and those of the description, the host and the user
+-- the members with description, hostname and username added
 abbrev pub with_strings : OperationMetadata → Members → Members
 with_strings m members =
     put (codes "username") (string (string_bytes m.username))
     (put (codes "hostname") (string (string_bytes m.hostname))
     (put (codes "description") (string (string_bytes m.description)) members))
 
--- the members of an operation whose time has this value, in the order of their keys
+-- the members of metadata whose time range has this JSON value; the keys ascend
 abbrev pub metadata_members : OperationMetadata → Data → Members
 metadata_members m time =
     member (codes "attributes") (attributes_json m.attributes.entries)
@@ -61,7 +60,7 @@ abbrev pub IsMetadataJson : OperationMetadata → Data → Type 0
 IsMetadataJson m value = (time : Data) × IsRangeJson time
     × (value ≡ object (metadata_members m time))
 
--- ---- operations: those members, and the parents
+-- ---- operations: the members of the metadata, and the parents
 
 abbrev pub IsOperationJson : Operation → Data → Type 0
 IsOperationJson o value = (time : Data) × IsRangeJson time

@@ -1,5 +1,4 @@
--- When operations are equal, part by part, and that content tells them apart, from the laws of
--- their parts.
+-- Equality of operations, field by field, and that content bytes determine an operation.
 -- Cited by contracts of public items: metadata_eq, metadata_lawful, operation_eq, operation_lawful,
 -- range_lawful.
 use Rattle.std.specs.Prelude.{ℕ, List, Bool, string_bytes}
@@ -20,7 +19,7 @@ use Rattle.jj_stores.specs.declared.op_store.operation.Operation.{Operation}
 use Rattle.jj_stores.specs.declared.op_store.operation.OperationMetadata.{OperationMetadata}
 use Rattle.jj_stores.specs.declared.op_store.operation.TimestampRange.{TimestampRange}
 
--- ---- times
+-- ---- time ranges
 
 abbrev pub range_eq : TimestampRange → TimestampRange → Bool
 range_eq = eq_of_both (on (λ r. r.start) timestamp_eq) (on (λ r. r.end) timestamp_eq)
@@ -29,9 +28,9 @@ pub range_lawful : IsLawful IsRange range_eq range_content
 range_lawful = both_lawful (on_lawful (λ r. r.start) timestamp_lawful)
     (on_lawful (λ r. r.end) timestamp_lawful)
 
--- ---- how an operation was done
+-- ---- metadata
 
--- `A` is the allocator of the texts and lists
+-- `A` is the allocator of the strings and lists
 module _ {A : Type 0} where
   abbrev pub text_eq : String A → String A → Bool
   text_eq = on string_bytes bytes_eq
@@ -45,7 +44,6 @@ module _ {A : Type 0} where
       (on_lawful (λ e. e.0) (on_lawful string_bytes text_lawful))
       (on_lawful (λ e. e.1) (on_lawful string_bytes text_lawful)))
 
--- all parts are equal
 abbrev pub metadata_eq : OperationMetadata → OperationMetadata → Bool
 metadata_eq =
     eq_of_both (on (λ m. m.time) range_eq)
@@ -79,7 +77,6 @@ module _ {A : Type 0} where
       (list_lawful (both_lawful (on_lawful (λ e. e.0) bytes_lawful)
       (on_lawful (λ e. e.1) (on_lawful (λ ids. ids.items) (list_lawful bytes_lawful)))))
 
--- all parts are equal
 abbrev pub operation_eq : Operation → Operation → Bool
 operation_eq =
     eq_of_both (on (λ o. o.view_id) bytes_eq)

@@ -1,4 +1,4 @@
--- The content bytes of operations, part by part, and the operation that all others descend from.
+-- The content bytes of operations, field by field, and the root operation.
 -- Cited by contracts of public items: HasDates, IsMetadata, IsOperation, IsRange, IsRootOperation,
 -- metadata_content, operation_content, range_content.
 use Rattle.std.specs.Prelude.{◌≡◌, ℕ, pos, false, List, [], ◌++◌, None, IsSomeAnd, string_bytes}
@@ -13,7 +13,7 @@ use Rattle.jj_stores.specs.declared.op_store.operation.Operation.{Operation}
 use Rattle.jj_stores.specs.declared.op_store.operation.OperationMetadata.{OperationMetadata}
 use Rattle.jj_stores.specs.declared.op_store.operation.TimestampRange.{TimestampRange}
 
--- ---- times
+-- ---- time ranges
 
 abbrev pub IsRange : TimestampRange → Type 0
 IsRange range = IsTimestamp range.start × IsTimestamp range.end
@@ -21,12 +21,11 @@ IsRange range = IsTimestamp range.start × IsTimestamp range.end
 abbrev pub range_content : TimestampRange → List ℕ
 range_content range = timestamp_content range.start ++ timestamp_content range.end
 
--- the beginning and the end are within the range of dates
+-- the start and the end are within the range of dates
 abbrev pub HasDates : TimestampRange → Type 0
 HasDates range = IsDate range.start × IsDate range.end
 
--- ---- how an operation was done: what and when; where and by whom; in which workspace, and what
--- else is said
+-- ---- metadata: time and description; host and user; snapshot flag, workspace and attributes
 
 abbrev pub IsAct : OperationMetadata → Type 0
 IsAct m = IsRange m.time × IsText (string_bytes m.description)
@@ -40,7 +39,7 @@ IsActor m = IsText (string_bytes m.hostname) × IsText (string_bytes m.username)
 abbrev pub actor_content : OperationMetadata → List ℕ
 actor_content m = text_content (string_bytes m.hostname) ++ text_content (string_bytes m.username)
 
--- `A` is the allocator of the texts and lists
+-- `A` is the allocator of the strings and lists
 module _ {A : Type 0} where
   abbrev pub AreAttributes : List (String A × String A) → Type 0
   AreAttributes = AreValues (λ e. IsText (string_bytes e.0) × IsText (string_bytes e.1))
@@ -64,7 +63,7 @@ metadata_content m = act_content m ++ (actor_content m ++ setting_content m)
 
 -- ---- operations
 
--- the predecessors of commits, by the commits' ids
+-- predecessors by commit id
 module _ {A : Type 0} where
   abbrev pub ArePredecessors : BTreeMap (List ℕ) (Vec (List ℕ) A) → Type 0
   ArePredecessors m = AreValues (λ e. AreBytes e.0 × AreValues AreBytes e.1.items) m.entries
@@ -73,7 +72,7 @@ module _ {A : Type 0} where
   predecessors_content m = list_content (entry_content bytes_content
       (λ ids. list_content bytes_content ids.items)) m.entries
 
--- the view and the parents, and what else there is
+-- the view and the parents; the metadata and the predecessors
 abbrev pub AreLinks : Operation → Type 0
 AreLinks o = AreBytes o.view_id × AreValues AreBytes o.parents.items
 
@@ -93,8 +92,7 @@ IsOperation o = AreLinks o × IsAccount o
 abbrev pub operation_content : Operation → List ℕ
 operation_content o = links_content o ++ account_content o
 
--- ---- the root operation: of that view, without parents, at the beginning of time, and with no
--- commits
+-- ---- the root operation: no parents, empty metadata at the Unix epoch, and no predecessors
 
 abbrev pub beginning : Timestamp
 beginning = record { timestamp = record { 0 = pos 0 }; tz_offset = pos 0 }

@@ -1,4 +1,4 @@
--- That content tells targets and remote refs apart, from the laws of their parts.
+-- Content bytes determine a target and a remote ref, and their equality is an equivalence.
 -- Cited by contracts of public items: remote_ref_lawful, state_lawful.
 use Rattle.std.proofs.Common.{◌≡◌, ℕ, ◌++◌, List, Bool, true, refl, lit<, arith}
 use Rattle.jj_content.specs.Content.{IsLawful}

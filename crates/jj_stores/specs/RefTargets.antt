@@ -1,4 +1,4 @@
--- Where refs point to, here and at remotes, and their content bytes.
+-- The targets of local and remote refs, and their content bytes.
 -- Cited by contracts of public items: IsRemoteRef, absent_ref, absent_target, remote_ref_content,
 -- state_content, tracked_target.
 use Rattle.std.specs.Prelude.{ℕ, List, [], ◌∷◌, ◌++◌, Option, Some, None}
@@ -8,18 +8,18 @@ use Rattle.jj_stores.specs.declared.op_store.ref_target.RemoteRef.{RemoteRef}
 use Rattle.jj_stores.specs.declared.op_store.ref_target.RemoteRefState.{RemoteRefState}
 use Rattle.jj_stores.specs.declared.op_store.ref_target.RemoteRefState.TheVariants.{New, Tracked}
 
--- the commits that a ref points to, by their bytes, added and removed by turns
+-- the terms of a ref's target, adds and removes alternating; None is an absent commit
 abbrev pub Target : Type 0
 Target = List (Option (List ℕ))
 
--- no such ref
+-- the target of a ref that does not exist
 abbrev pub absent_target : Target
 absent_target = None ∷ []
 
 abbrev pub absent_ref : RemoteRef
 absent_ref = record { target = absent_target; state = New }
 
--- the target of a ref that is tracked
+-- the target of a tracked ref
 abbrev pub tracked_of : RemoteRefState → Target → Option Target
 tracked_of New target = None
 tracked_of Tracked target = Some target

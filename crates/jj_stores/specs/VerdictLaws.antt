@@ -1,4 +1,4 @@
--- Equality of verifications, part by part.
+-- Equality of verifications, field by field.
 -- Cited by contracts of public items: verdict_eq, verdict_equiv.
 use Rattle.std.specs.Prelude.{Bool}
 use Rattle.std.specs.Cmp.{IsEquivalence, and_equiv, on_equiv}
@@ -10,7 +10,7 @@ use Rattle.jj_stores.specs.Verdict.{Verdict}
 use Rattle.jj_stores.specs.contracts.signing.SigStatusPartialEq.TheImpl.{ghosts}
 use Rattle.jj_stores.specs.contracts.signing.SigStatusEq.TheImpl.Laws.{laws-law}
 
--- the same status, key and displayed name
+-- equal status, key and display name
 abbrev pub verdict_eq : Verdict → Verdict → Bool
 verdict_eq =
     eq_of_both (on (λ v. v.status) ghosts.eq)

@@ -1,5 +1,4 @@
--- When views are equal, part by part, and that content tells them apart, from the laws of their
--- parts.
+-- Equality of views, field by field, and that content bytes determine a view.
 -- Cited by contracts of public items: remote_view_eq, remote_view_lawful, view_eq, view_lawful.
 use Rattle.std.specs.Prelude.{ℕ, List, Bool}
 use Rattle.std.specs.Cmp.{IsEquivalence, and_equiv, on_equiv}
@@ -16,7 +15,7 @@ use Rattle.jj_stores.specs.Views.{AreNamed, named_content, IsRemoteView, remote_
 use Rattle.jj_stores.specs.declared.op_store.view.RemoteView.{RemoteView}
 use Rattle.jj_stores.specs.declared.op_store.view.View.{View}
 
--- ---- values by names
+-- ---- association lists from names
 
 module _ {V : Type 0} where
   abbrev pub named_eq : (V → V → Bool) → List (List ℕ × V) → List (List ℕ × V) → Bool
@@ -47,7 +46,6 @@ remote_view_lawful = both_lawful (on_lawful (λ v. v.bookmarks.entries)
 
 -- ---- views
 
--- all parts are equal
 abbrev pub view_eq : View → View → Bool
 view_eq =
     eq_of_both (on (λ v. v.head_ids) (hash_set_eq bytes_eq))

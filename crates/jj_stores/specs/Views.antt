@@ -1,5 +1,4 @@
--- The content bytes of views, part by part, and the view of a repository that has only its root
--- commit.
+-- The content bytes of views, field by field, and the root view.
 -- Cited by contracts of public items: IsRemoteView, IsRootView, IsView, remote_view_content,
 -- view_content.
 use Rattle.std.specs.Prelude.{◌≡◌, ℕ, List, [], ◌∷◌, ◌++◌}
@@ -13,7 +12,7 @@ use Rattle.jj_stores.specs.RefTargets.{IsTarget, target_content, IsRemoteRef, re
 use Rattle.jj_stores.specs.declared.op_store.view.RemoteView.{RemoteView}
 use Rattle.jj_stores.specs.declared.op_store.view.View.{View}
 
--- values by names, in the order of the names
+-- association lists from names
 module _ {V : Type 0} where
   abbrev pub AreNamed : (V → Type 0) → List (List ℕ × V) → Type 0
   AreNamed is_value = AreValues (λ e. IsText e.0 × is_value e.1)
@@ -31,7 +30,7 @@ abbrev pub remote_view_content : RemoteView → List ℕ
 remote_view_content view = named_content remote_ref_content view.bookmarks.entries
     ++ named_content remote_ref_content view.tags.entries
 
--- ---- views: heads and local refs; refs of remotes and of Git; workspaces
+-- ---- views: heads and local refs; remote and Git refs; Git heads and working-copy commits
 
 abbrev pub IsLocal : View → Type 0
 IsLocal view =
@@ -56,7 +55,7 @@ view_content view = local_content view
     ++ (named_content target_content view.git_heads.entries
     ++ named_content bytes_content view.wc_commit_ids.entries))
 
--- ---- the root view: its one head is that commit, and it has no refs and no workspaces
+-- ---- the root view: the root commit is its only head, and it has no refs and no workspaces
 
 pub record IsRootView (root : List ℕ) (view : View) : Type 0 where
   pub heads : view.head_ids.keys ≡ root ∷ []

@@ -1,4 +1,4 @@
-//! Views of a repository and operations on it, signatures of commits, and where workspaces are.
+//! Views and operations of a repository, commit signing, and the paths of workspaces.
 #![tactic(auto)]
 
 pub mod op_store;

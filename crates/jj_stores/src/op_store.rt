@@ -1,4 +1,4 @@
-//! Views of a repository and operations on it, and the interface of stores that keep them.
+//! Views and operations of a repository, and the interface of the stores that persist them.
 mod content;
 mod copies;
 mod errors;

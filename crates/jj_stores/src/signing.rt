@@ -1,4 +1,4 @@
-//! Signing of commits, and verification of their signatures.
+//! Commit signing, and signature verification with an LRU cache of the results.
 ghost use Rattle.std.specs.Prelude.{◌≡◌, ◌↔◌, ◌≤◌, ◌⊎◌, ◌++◌, ℕ, Bool, List, [], ◌∷◌, map, length, Option, Some, None, Result, Ok, Err, IsTrue, IfOk, IfErr, OnOk, OnErr, IsSome, IsNone, is_some, option_map, MatchBool, MatchOption, MatchResult, bytes_eq, string_bytes};
 ghost use Rattle.std.specs.Option.{ForSome};
 ghost use Rattle.std.specs.Result.{result_map_both};
@@ -15,7 +15,7 @@ use std::fmt;
 use std::marker::Model;
 use std::num::NonZeroUsize;
 
-/// What is known of a signature.
+/// The status of a signature.
 #[derive(Clone, Copy, Debug, PartialEq, Eq)]
 pub enum SigStatus {
     Good,
@@ -48,7 +48,7 @@ impl fmt::Display for SigStatus {
     }
 }
 
-/// What verification of a signature has found.
+/// The result of verifying a signature, with the key and the signer's display name if known.
 #[derive(Debug, Drop)]
 pub struct Verification {
     pub status: SigStatus,
@@ -70,7 +70,7 @@ impl Model for Verification {
 }
 
 impl Verification {
-    /// Nothing is known.
+    /// Returns a verification with status `Unknown`, no key and no display name.
     pub fn unknown() -> Self
         ensures { result ≡ unknown_verdict }
     {
@@ -81,7 +81,7 @@ impl Verification {
         }
     }
 
-    /// The answer of this status, with the key and the name that are shown, if they are known.
+    /// Creates a verification.
     pub fn new(status: SigStatus, key: Option<String>, display: Option<String>) -> Self
         ensures { result ≡ record {
           status = status;
@@ -96,7 +96,7 @@ impl Verification {
         }
     }
 
-    /// What is known of the signature.
+    /// Returns the status of the signature.
     pub fn status(&self) -> SigStatus
         ensures { result ≡ self.now.status }
     {
@@ -135,39 +135,39 @@ impl Clone for Verification {
     }
 }
 
-/// What signs, and what verifies signatures.
+/// Signs data and verifies signatures.
 pub trait SigningBackend: Drop {
     ghost use Rattle.std.specs.Prelude.{ℕ, List, Bool, Option, Result};
     ghost use Rattle.jj_stores.specs.Verdict.{Verdict};
     ghost use Rattle.jj_backend.specs.declared.signing.SignError.{SignError};
 
-    /// The name of its kind.
+    /// The name of the type of the backend.
     ghost kind_name: { Self → List ℕ };
 
-    /// Whether it can read a signature.
+    /// Whether `can_read` accepts a signature.
     ghost reads: { Self → List ℕ → Bool };
 
-    /// That it may answer so, asked whether data have a signature. The answer to one question
-    /// may change, as when a key is imported.
+    /// Relates the backend, data and a signature to the results that `verify` may return. Equal
+    /// calls may have different results, for example after a key is imported.
     ghost may_verify: { Self → List ℕ → List ℕ → Result Verdict SignError → Type 0 };
 
-    /// That it may answer so, asked to sign data by a key.
+    /// Relates the backend, data and a key to the results that `sign` may return.
     ghost may_sign: { Self → List ℕ → Option (List ℕ) → Result (List ℕ) SignError → Type 0 };
 
-    /// Returns the name of the kind of backend.
+    /// Returns the name of the type of the backend.
     fn name(&self) -> &str
         ensures { result.now ≡ kind_name self.now };
 
-    /// Whether the signature is of the kind that it reads.
+    /// Returns whether the backend supports the format of the signature.
     fn can_read(&self, signature: &[u8]) -> bool
         ensures { result ≡ reads self.now signature.now };
 
-    /// The signature of the data by a key, or by the default one.
+    /// Signs data with a key, or with the default key for `None`.
     fn sign(&self, alloc: Global, data: &[u8], key: Option<&str>) -> SignResult<Vec<u8>>
         ensures { may_sign self.now «data».now (option_map (λ k. k.now) key.entry)
             (result_map_both (λ v. v.items) (λ e. e) result) };
 
-    /// What is known of the signature of these data.
+    /// Verifies a signature of the data.
     fn verify(&self, alloc: Global, data: &[u8], signature: &[u8]) -> SignResult<Verification>
         ensures { may_verify self.now «data».now signature.now result };
 }
@@ -211,7 +211,7 @@ impl SigningBackend for Box<dyn SigningBackend> {
     }
 }
 
-// The first decisive answer of those that can read the signature.
+// Returns the first decisive result of the backends that can read the signature.
 fn ask<B: SigningBackend>(
     alloc: Global,
     backends: &[B],
@@ -232,7 +232,7 @@ fn ask<B: SigningBackend>(
     None
 }
 
-// The same of a first backend, if there is one, and then the others.
+// Queries the first backend, if there is one, before the others.
 fn ask_first<B: SigningBackend>(
     alloc: Global,
     first: &Option<B>,
@@ -269,10 +269,11 @@ fn can_any_read<B: SigningBackend>(first: &Option<B>, others: &[B], signature: &
     }
 }
 
-// How many verifications a signer remembers if it is not told.
+// The cache capacity of `Signer::new`.
 const COMMIT_CACHE_CAPACITY: usize = 100;
 
-/// Signs commits, and verifies their signatures by the first backend that can.
+/// Signs with a main backend, and verifies signatures with the first backend that is decisive.
+/// Verifications are cached by commit id in an LRU cache.
 #[derive(Drop)]
 pub struct Signer {
     main: Option<Box<dyn SigningBackend>>,
@@ -280,7 +281,8 @@ pub struct Signer {
     cache: LruCache<CommitId, Verification>,
 }
 
-/// Shows the names of the backends and the number of remembered verifications.
+/// Formats the name of the main backend, the number of others and the number of cached
+/// verifications.
 impl fmt::Debug for Signer {
     fn fmt<W: fmt::Write>(&self, f: &mut fmt::Formatter<W>) -> fmt::Result {
         let main = match &self.main {
@@ -299,8 +301,8 @@ impl Signer {
     ghost use Rattle.std.specs.NonZero.{non_zero_usize_get};
     ghost use Rattle.jj_stores.specs.Signer.{cache_entries, capacity_of, usual_capacity};
 
-    /// Creates a signer that remembers up to `capacity` verified commits (`new`: 100). Memory for
-    /// them is allocated as they come.
+    /// Creates a signer that caches the verifications of up to `capacity` commits. The cache is
+    /// allocated as it fills.
     pub fn with_capacity(
         alloc: Global,
         main: Option<Box<dyn SigningBackend>>,
@@ -319,7 +321,7 @@ impl Signer {
         })
     }
 
-    /// A signer that remembers 100 verifications.
+    /// Creates a signer that caches the verifications of up to 100 commits.
     pub fn new(
         alloc: Global,
         main: Option<Box<dyn SigningBackend>>,
@@ -335,14 +337,14 @@ impl Signer {
         }
     }
 
-    /// Whether there is a main backend, which signs.
+    /// Returns whether there is a main backend.
     pub fn can_sign(&self) -> bool
         ensures { result ≡ is_some self.now.main }
     {
         self.main.is_some()
     }
 
-    /// The main backend's answer.
+    /// Signs data with the main backend, which must exist.
     pub fn sign(&self, data: &[u8], key: Option<&str>) -> SignResult<Vec<u8>>
         requires { IsSome self.now.main }
         ensures { ForSome self.now.main (λ b. may_sign b «data».now
@@ -354,8 +356,12 @@ impl Signer {
         }
     }
 
-    /// What is remembered of the commit, or else the first decisive answer of the backends that
-    /// can read the signature.
+    /// Returns the cached verification of the commit, or else the first decisive result of the
+    /// backends that can read the signature, the main one first. `Unknown` and
+    /// `InvalidSignatureFormat` are not decisive; without a decisive result, returns `Unknown`.
+    ///
+    /// Caches `Good`, `Bad`, and `Unknown` if no backend can read the signature. Any other error
+    /// is returned and not cached.
     pub fn verify(
         &mut self,
         commit_id: &CommitId,

@@ -1,4 +1,4 @@
-//! Where the workspaces of a repository are.
+//! The interface of stores that map workspace names to paths.
 ghost use Rattle.std.specs.Prelude.{◌≡◌, ℕ, List, Option, OnOk, OnErr, IfOk, map, option_map, string_bytes};
 ghost use Rattle.jj_ids.specs.Names.{name_of};
 ghost use Rattle.jj_stores.specs.Workspaces.{SamePlaces, with_name_changed, with_place, without_places};
@@ -9,7 +9,7 @@ use jj_ids::ref_name::WorkspaceName;
 use std::alloc::{AllocError, AllocFailed, Global};
 use thiserror::Error;
 
-/// Why a store of workspaces could not answer.
+/// An error of a workspace store.
 #[derive(Debug, Drop, Error)]
 pub enum WorkspaceStoreError {
     #[error("{0}")]
@@ -44,16 +44,15 @@ impl From<SourceError> for WorkspaceStoreError {
     }
 }
 
-/// What keeps the paths of workspaces by their names. A call that fails leaves all places as they
-/// were.
+/// Maps workspace names to paths. A call that fails changes no path.
 pub trait WorkspaceStore {
-    /// The path of each name that has one.
+    /// The path of each workspace, `None` for an unknown name.
     ghost places: { Self → List ℕ → Option (List ℕ) };
 
-    /// The name of this kind of store.
+    /// Returns the name of the type of the store.
     fn name(&self) -> &str;
 
-    /// Puts a workspace at a path, in the place of one of its name.
+    /// Sets the path of a workspace.
     fn add(
         &mut self,
         alloc: Global,
@@ -65,7 +64,7 @@ pub trait WorkspaceStore {
             (places self.new)) }
         ensures refused { OnErr result (SamePlaces (places self.old) (places self.new)) };
 
-    /// Forgets workspaces. A name without a place stays so.
+    /// Removes workspaces; unknown names are ignored.
     fn forget(
         &mut self,
         alloc: Global,
@@ -76,7 +75,7 @@ pub trait WorkspaceStore {
             (places self.new)) }
         ensures refused { OnErr result (SamePlaces (places self.old) (places self.new)) };
 
-    /// Gives the place of one name to another.
+    /// Moves the path of one name to another, whose own path is overwritten.
     fn rename(
         &mut self,
         alloc: Global,
@@ -88,7 +87,7 @@ pub trait WorkspaceStore {
             (places self.new)) }
         ensures refused { OnErr result (SamePlaces (places self.old) (places self.new)) };
 
-    /// The path of a workspace, if it has one.
+    /// Returns the path of a workspace, or `None` for an unknown name.
     fn get_workspace_path(
         &self,
         alloc: Global,

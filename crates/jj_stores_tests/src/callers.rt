@@ -1,4 +1,4 @@
-//! What users of signers and of joins rely on.
+//! Proved callers of signers, views and joins.
 ghost use Rattle.std.specs.Prelude.{◌≡◌, ◌∷◌, [], false, Some, None, OnOk, IfOk, map};
 ghost use Rattle.std.specs.Map.{lookup};
 ghost use Rattle.std.specs.Str.{bytes_eq};
@@ -17,8 +17,7 @@ use jj_stores::signing::{SignError, SignResult, Signer, SigningBackend, Verifica
 use std::alloc::{AllocError, Global};
 use std::collections::HashSet;
 
-/// Verifies a commit that is remembered: the answer is what is remembered, whatever the data and
-/// the signature are.
+/// Verifies a cached commit: the result is the cached verification, for any data and signature.
 pub fn verify_again(
     signer: &mut Signer,
     commit_id: &CommitId,
@@ -30,8 +29,7 @@ pub fn verify_again(
     signer.verify(commit_id, b"", b"")
 }
 
-/// Verifies a commit with one backend, by a signer that remembers nothing: a signature that is
-/// good or bad is so by the backend.
+/// Verifies a commit with one backend and an empty cache: `Good` or `Bad` comes from the backend.
 pub fn verify_first(
     alloc: Global,
     backend: Box<dyn SigningBackend>,
@@ -47,7 +45,7 @@ pub fn verify_first(
     Ok(found)
 }
 
-/// Signs data with a backend and its default key: the signature is one that the backend makes.
+/// Signs data with the default key of a backend: the signature is one that the backend returns.
 pub fn sign_with(
     alloc: Global,
     backend: Box<dyn SigningBackend>,
@@ -60,7 +58,7 @@ pub fn sign_with(
     Ok(signature)
 }
 
-/// The heads of a repository that nobody has written to: its root commit, and no other.
+/// Returns the heads of a new repository: only its root commit.
 pub fn root_heads(alloc: Global, root: CommitId) -> Result<HashSet<CommitId>, AllocError>
     ensures { IfOk result (λ heads. heads.keys ≡ root ∷ []) }
 {
@@ -68,8 +66,8 @@ pub fn root_heads(alloc: Global, root: CommitId) -> Result<HashSet<CommitId>, Al
     Ok(view.head_ids)
 }
 
-/// All bookmarks of a view, here and at remotes: those of one name stand together, in the order of
-/// names, and the remotes of a name in the order of theirs.
+/// Joins the local and remote bookmarks of a view: one row for each name, in ascending order, with
+/// its remotes in ascending order.
 pub fn joined_bookmarks<'a>(
     alloc: Global,
     view: &'a View,
@@ -86,7 +84,7 @@ pub fn joined_bookmarks<'a>(
     Ok(rows)
 }
 
-/// The tags of all remotes of a view: by name, and those of one name by remote.
+/// Returns the tags of all remotes of a view, ordered by tag name and then by remote.
 pub fn remote_tags<'a>(
     alloc: Global,
     view: &'a View,

@@ -1,5 +1,4 @@
-//! Joins of local refs with those of remotes, as texts: a row for each name, with the commit that
-//! it has here, and with the remotes that have it and theirs.
+//! Tests of joins of local and remote refs, formatted as strings: one row for each name.
 use crate::callers::joined_bookmarks;
 use jj_backend::backend::CommitId;
 use jj_content_tests::once_more::{holds, tells};
@@ -26,7 +25,7 @@ fn add_local(alloc: Global, view: &mut View, name: &str, byte: u8) -> Result<(),
     Ok(())
 }
 
-// The refs of a remote, a commit's byte for each name.
+// The bookmarks of a remote, each with the byte of its commit id.
 fn remote(alloc: Global, refs: &[(&str, u8)]) -> Result<RemoteView, AllocError> {
     let mut remote = RemoteView::default(alloc);
     for (name, byte) in refs {
@@ -52,7 +51,7 @@ fn add_remote(
     Ok(())
 }
 
-// Adds the hex text of a target's commit.
+// Appends the id of a target's commit in hexadecimal.
 fn push_target(alloc: Global, text: &mut String, target: &RefTarget) -> Result<(), AllocError> {
     if let Some(commit) = target.as_normal() {
         text.push_str(commit.hex(alloc)?.as_str())?;
@@ -90,10 +89,10 @@ fn joined(alloc: Global, view: &View) -> Result<String, AllocError> {
     Ok(text)
 }
 
-// Refs by name, each with a commit's byte.
+// Names of refs, each with the byte of its commit id.
 type Refs = &'static [(&'static str, u8)];
 
-// Local refs, those of remotes by the remotes' names, and the text of their join.
+// Local refs, remote refs by remote, and their expected join.
 #[derive(Clone, Copy)]
 struct Row {
     locals: Refs,
@@ -101,7 +100,7 @@ struct Row {
     outcome: &'static str,
 }
 
-// A remote ref alone, a local one alone, refs of one name by remote, names that ascend over all
+// Only a remote ref, only a local ref, several remotes with one name, names interleaved over all
 // maps, and no refs.
 const ROWS: [Row; 5] = [
     Row {
@@ -139,7 +138,6 @@ const ROWS: [Row; 5] = [
     },
 ];
 
-// The view of a row.
 fn view_of(alloc: Global, row: &Row) -> Result<View, AllocError> {
     let mut view = empty_view(alloc)?;
     for (name, byte) in row.locals {

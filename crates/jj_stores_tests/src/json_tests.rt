@@ -1,4 +1,4 @@
-//! JSON values of times and of operations.
+//! Tests of the JSON values of time ranges and operations.
 use jj_backend::backend::{MillisSinceEpoch, Timestamp};
 use jj_content::content_hash::{ToJson, ToJsonError};
 use jj_content_tests::json_texts::json_text;
@@ -89,7 +89,7 @@ fn operation(alloc: Global) -> Result<Operation, AllocError> {
     })
 }
 
-// What is known of how an operation was done stands beside its parents.
+// The members of the metadata are in one object with the parents.
 #[test]
 fn operations_as_objects(rt: HostRuntime) {
     let wanted = "{\"attributes\":{\"args\":\"log\"},\"description\":\"d\",\"hostname\":\"h\",\

@@ -1,7 +1,6 @@
-//! Tests of `jj_stores` over its public calls, and callers that are proved by its contracts.
+//! Tests and proved callers of `jj_stores`' public interface.
 //
-// In a run in which one request for memory is refused, a test answers that, and is then run once
-// more, when there is memory.
+// The tests also run with one allocation failing: a test that reports it is repeated once.
 #![tactic(auto)]
 
 #[cfg(test)]

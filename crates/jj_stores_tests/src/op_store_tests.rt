@@ -1,4 +1,5 @@
-//! Views and operations: root records, tracked refs, equality, and content bytes as hex texts.
+//! Tests of views and operations: root records, tracked refs, equality, and content bytes in
+//! hexadecimal.
 use jj_backend::backend::CommitId;
 use jj_content_tests::content_texts::content_text;
 use jj_content_tests::once_more::{holds, tells_of};
@@ -115,7 +116,7 @@ fn root(alloc: Global) -> Result<Operation, AllocError> {
     Ok(Operation::make_root(alloc, ViewId::from_bytes(alloc, &[3])?))
 }
 
-// Whether the root operation has nothing but its view.
+// Whether the fields of the root operation other than its view are empty.
 fn is_empty_root(alloc: Global) -> Result<bool, AllocError> {
     let operation = root(alloc)?;
     let metadata = &operation.metadata;
@@ -149,8 +150,8 @@ fn child(alloc: Global) -> Result<Operation, AllocError> {
     Ok(operation)
 }
 
-// View, parents; start, end; description, host, user; snapshot, workspace, attributes;
-// predecessors.
+// View and parents; start and end; description, host and user; snapshot flag, workspace and
+// attributes; predecessors.
 #[test]
 fn content_of_an_operation(rt: HostRuntime) {
     let wanted = "0100000000000000030100000000000000010000000000000009\

@@ -1,4 +1,4 @@
-//! Signers over backends in memory that count how often they are asked.
+//! Tests of signers: cache hits and evictions, by backends that count their calls.
 ghost use Rattle.std.specs.Prelude.{codes};
 
 use jj_backend::signing::SignError;
@@ -13,10 +13,10 @@ use std::process::Abort;
 use std::rc::Rc;
 use std::test::Fail;
 
-// How often something was asked.
+// The number of calls of a backend's `verify`.
 type Counter = Rc<Cell<u32>>;
 
-// What a backend in memory does with a signature.
+// The result of a fake backend's `verify`.
 #[derive(Clone, Copy)]
 enum Does {
     CannotRead,
@@ -25,7 +25,7 @@ enum Does {
     Fails,
 }
 
-// A backend that does one thing, and counts how often it is asked to verify.
+// A fake backend with a fixed result, which counts the calls of `verify`.
 #[derive(Drop)]
 struct Fake {
     reads: bool,
@@ -84,19 +84,17 @@ fn id_of(alloc: Global, byte: u8) -> Result<CommitId, AllocError> {
     Ok(CommitId::new(Vec::from_slice(alloc, &[byte])?))
 }
 
-// A backend that counts so.
 fn boxed(alloc: Global, does: Does, asked: &Counter) -> SignResult<Box<dyn SigningBackend>> {
     let backend: Box<dyn SigningBackend> = Box::new(alloc, Fake::new(does, asked.clone()?))?;
     Ok(backend)
 }
 
-// A signer with a main backend alone.
+// A signer with only a main backend.
 fn one_backend(alloc: Global, does: Does, asked: &Counter) -> SignResult<Signer> {
     let main = boxed(alloc, does, asked)?;
     Ok(Signer::new(alloc, Some(main), Vec::new(alloc))?)
 }
 
-// A signer with a main backend and another one.
 fn two_backends(
     alloc: Global,
     main: (Does, &Counter),
@@ -108,8 +106,7 @@ fn two_backends(
     Ok(Signer::new(alloc, Some(main), others)?)
 }
 
-// What a backend that reads and then another one, asked twice about one commit, answer, and how
-// often each was asked.
+// Verifies one commit twice, and checks the status and the number of calls of each backend.
 fn asked_twice<R: Abort>(
     rt: &R,
     alloc: Global,
@@ -145,7 +142,6 @@ fn backends_in_turn(rt: HostRuntime) -> Result<(), Fail> {
     })
 }
 
-// A backend whose failure is the answer, and is not remembered.
 #[test]
 fn failures_are_not_remembered(rt: HostRuntime) -> Result<(), Fail> {
     succeeds(&rt, |rt, alloc| {
@@ -166,7 +162,7 @@ fn failures_are_not_remembered(rt: HostRuntime) -> Result<(), Fail> {
     })
 }
 
-// A signer with a backend that finds each signature good.
+// A signer whose backend finds every signature good.
 fn good_backend(
     alloc: Global,
     capacity: Option<NonZeroUsize>,
@@ -180,7 +176,7 @@ fn good_backend(
     Ok(Signer::with_capacity(alloc, Some(main), Vec::new(alloc), capacity)?)
 }
 
-// How often a good backend is asked about these commits, one after the other.
+// Verifies commits in order and returns the number of calls of the backend.
 fn times_asked(
     alloc: Global,
     capacity: Option<NonZeroUsize>,
@@ -194,7 +190,7 @@ fn times_asked(
     Ok(counter.get())
 }
 
-// So many commits, and then these.
+// The commits below `count`, followed by `last`.
 fn numbered(alloc: Global, count: u8, last: &[u8]) -> Result<Vec<u8>, AllocError> {
     let mut commits = Vec::new(alloc);
     for commit in 0..count {
@@ -222,7 +218,7 @@ fn as_many_as_there_is_room_for(rt: HostRuntime) -> Result<(), Fail> {
     })
 }
 
-// What a main backend signs, where it can.
+// Signs with the main backend, if there is one.
 fn signed(alloc: Global) -> SignResult<Option<Vec<u8>>> {
     let asked = Rc::new(alloc, Cell::new(0))?;
     let signer = one_backend(alloc, Does::CannotRead, &asked)?;

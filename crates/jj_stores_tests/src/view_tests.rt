@@ -1,4 +1,4 @@
-//! A view with something in each part: its content bytes, and its copies.
+//! Tests of a view without empty fields: its content bytes and its clones.
 use jj_backend::backend::CommitId;
 use jj_content_tests::content_texts::content_text;
 use jj_content_tests::once_more::{holds, tells_of};
@@ -16,7 +16,6 @@ fn target(alloc: Global, byte: u8) -> Result<RefTarget, AllocError> {
     Ok(Merge::normal(alloc, commit(alloc, byte)?))
 }
 
-// Puts a value at a name.
 fn put<K, V: Drop>(
     alloc: Global,
     map: &mut BTreeMap<NameBuf<K>, V>,
@@ -73,8 +72,8 @@ fn a_copy_of_a_view_is_equal(rt: HostRuntime) {
     assert!(rt; holds(&rt, is_copied));
 }
 
-// Heads; local bookmarks, local tags; views of remotes, each with its bookmarks and tags; refs of
-// Git; heads of Git, commits of workspaces.
+// Heads; local bookmarks and tags; remote views with their bookmarks and tags; Git refs; Git heads
+// and working-copy commits.
 #[test]
 fn a_view_is_its_parts(rt: HostRuntime) {
     let wanted = "0100000000000000010000000000000007\

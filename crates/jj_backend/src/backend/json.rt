@@ -39,7 +39,7 @@ fn push_offset(text: &mut String, date: &Zoned<'_>) -> Result<(), AllocError> {
     write!(text, "{sign}{hours:02}:{rest:02}")
 }
 
-/// Returns a string in ISO 8601 format with the offset, as `1970-01-01T01:30:00.001+01:30`.
+/// Returns the date and time in the offset as a string: `1970-01-01T01:30:00.001+01:30`.
 impl ToJson for Timestamp {
     ghost is_in_range = { IsDate };
 

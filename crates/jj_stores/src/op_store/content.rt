@@ -1,4 +1,4 @@
-//! Content bytes of views and of operations.
+//! Content hashes of views and operations.
 ghost use Rattle.std.specs.Prelude.{OnOk, OnErr};
 ghost use Rattle.jj_content.specs.Content.{Takes, TakesFront, IsLawful};
 ghost use Rattle.jj_stores.specs.RefTargets.{state_content, IsRemoteRef, remote_ref_content};

@@ -1,4 +1,4 @@
-//! Copies of sorted maps whose values take an allocator to be copied.
+//! Clones of sorted maps whose values need an allocator to be cloned.
 ghost use Rattle.std.specs.Prelude.{◌≡◌, true, IfOk};
 ghost use Rattle.jj_stores.specs.ViewLaws.{named_eq};
 
@@ -6,14 +6,12 @@ use jj_ids::ref_name::NameBuf;
 use std::alloc::{AllocError, Global};
 use std::collections::BTreeMap;
 
-// A value that takes an allocator to be copied.
+// A value that needs an allocator to be cloned.
 pub(super) trait CloneIn: PartialEq + Drop {
-    // A copy of the value.
     fn clone_in(&self, alloc: Global) -> Result<Self, AllocError>
         ensures { IfOk result (λ copy. Self.eq copy self.now ≡ true) };
 }
 
-// A copy of a map by names, entry by entry.
 pub(super) fn copied_map<K, V: CloneIn>(
     alloc: Global,
     map: &BTreeMap<NameBuf<K>, V>,

@@ -1,4 +1,4 @@
-//! Why a view or an operation could not be read or written.
+//! Errors of reading and writing views and operations.
 ghost use Rattle.std.specs.Prelude.{◌≡◌};
 ghost use Rattle.jj_stores.specs.declared.op_store.errors.OpStoreError.{OpStoreError};
 
@@ -6,8 +6,8 @@ use jj_files::file_util::SourceError;
 use std::alloc::{AllocError, AllocFailed};
 use thiserror::Error;
 
-/// Why a view or an operation could not be read or written. Types of objects are named as ids name
-/// them, and hashes are hex texts.
+/// An error of reading or writing a view or an operation. `object_type` is the name of the type of
+/// the object's id, and `hash` is the id in hexadecimal.
 #[derive(Debug, Drop, Error)]
 pub enum OpStoreError {
     #[error("Object {hash} of type {object_type} not found")]
@@ -49,5 +49,5 @@ impl<T: Drop> From<AllocFailed<T>> for OpStoreError {
     }
 }
 
-/// What a call of a store of operations answers.
+/// The result of a call of an operation store.
 pub type OpStoreResult<T> = Result<T, OpStoreError>;

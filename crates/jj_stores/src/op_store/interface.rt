@@ -1,41 +1,42 @@
-//! Where views and operations are kept.
+//! The interface of stores of views and operations.
 use super::{OpStoreResult, Operation, OperationId, View, ViewId};
 use jj_backend::backend::MillisSinceEpoch;
 use jj_ids::object_id::{HexPrefix, PrefixResolution};
 use std::alloc::Global;
 
-/// Where views and operations are kept, by ids.
+/// A store of views and operations, addressed by id.
 pub trait OpStore {
-    /// The name of the kind of store.
+    /// Returns the name of the type of the store.
     fn name(&self) -> &str;
 
-    /// The id of the operation that all others descend from.
+    /// Returns the id of the root operation, the ancestor of all other operations.
     fn root_operation_id(&self) -> &OperationId;
 
-    /// The view of an id.
+    /// Reads a view.
     fn read_view(&self, alloc: Global, id: &ViewId) -> OpStoreResult<View>;
 
-    /// Keeps a view, and answers its id.
+    /// Stores a view and returns its id.
     fn write_view(&mut self, alloc: Global, contents: &View) -> OpStoreResult<ViewId>;
 
-    /// The operation of an id.
+    /// Reads an operation.
     fn read_operation(&self, alloc: Global, id: &OperationId) -> OpStoreResult<Operation>;
 
-    /// Keeps an operation, and answers its id.
+    /// Stores an operation and returns its id.
     fn write_operation(
         &mut self,
         alloc: Global,
         contents: &Operation,
     ) -> OpStoreResult<OperationId>;
 
-    /// The operations whose ids begin with a prefix.
+    /// Resolves a prefix of an operation id.
     fn resolve_operation_id_prefix(
         &self,
         alloc: Global,
         prefix: &HexPrefix,
     ) -> OpStoreResult<PrefixResolution<OperationId>>;
 
-    /// Lets go of what these operations do not reach, but for what was kept after that moment.
+    /// Deletes views and operations that are not reachable from `head_ids` and are not newer than
+    /// `keep_newer`.
     fn gc(
         &mut self,
         alloc: Global,

@@ -1,4 +1,4 @@
-//! JSON values of times and of operations.
+//! JSON values of operations and their metadata.
 ghost use Rattle.std.specs.Prelude.{◌≡◌, OnOk, IfOk, string_bytes};
 ghost use Rattle.serde_json.specs.View.{view, members_view};
 ghost use Rattle.jj_backend.specs.Json.{ids_json};
@@ -14,14 +14,13 @@ use serde_json::{Map, Value, json, put};
 use std::alloc::{AllocError, Global};
 use std::collections::BTreeMap;
 
-// The object of the values of a start and an end.
 fn range_object(alloc: Global, start: Value, end: Value) -> Result<Value, AllocError>
     ensures { IfOk result (λ object. view object ≡ range_json (view start) (view end)) }
 {
     json!(in alloc; {"start": start, "end": end})
 }
 
-/// A range is an object of its start and its end.
+/// Returns an object with the members `start` and `end`.
 impl ToJson for TimestampRange {
     ghost is_in_range = { HasDates };
 
@@ -34,7 +33,6 @@ impl ToJson for TimestampRange {
     }
 }
 
-// The object of the attributes.
 fn attributes_json(
     alloc: Global,
     attributes: &BTreeMap<String, String>,
@@ -53,7 +51,6 @@ fn attributes_json(
     Ok(Value::Object(members))
 }
 
-// The name of a workspace, or null.
 fn workspace_json(alloc: Global, name: &Option<WorkspaceNameBuf>) -> Result<Value, AllocError>
     ensures { IfOk result (λ value. view value ≡ workspace_json name.now) }
 {
@@ -63,7 +60,7 @@ fn workspace_json(alloc: Global, name: &Option<WorkspaceNameBuf>) -> Result<Valu
     }
 }
 
-// Adds the members that tell who did an operation, and what.
+// Adds the description, the hostname and the username.
 fn put_strings(
     alloc: Global,
     members: &mut Map<String, Value>,
@@ -80,7 +77,7 @@ fn put_strings(
     put(members, alloc, "username", username)
 }
 
-// The members that tell how an operation was done, at a time of this value.
+// `time` is the JSON value of the operation's time range.
 fn metadata_members(
     alloc: Global,
     metadata: &OperationMetadata,
@@ -101,7 +98,7 @@ fn metadata_members(
     Ok(members)
 }
 
-/// All that is known of how an operation was done is an object; no name of a workspace is null.
+/// Returns an object with a member for each field; an absent workspace name is null.
 impl ToJson for OperationMetadata {
     ghost is_in_range = { λ m. HasDates m.time };
 
@@ -113,7 +110,6 @@ impl ToJson for OperationMetadata {
     }
 }
 
-// The array of the ids' hexadecimal strings.
 fn parents_json(alloc: Global, parents: &[OperationId]) -> Result<Value, AllocError>
     ensures { IfOk result (λ value. view value ≡ ids_json parents.now) }
 {
@@ -124,7 +120,7 @@ fn parents_json(alloc: Global, parents: &[OperationId]) -> Result<Value, AllocEr
     Ok(Value::Array(strings))
 }
 
-/// An operation is an object of its parents and of what is known of how it was done.
+/// Returns the object of the operation's metadata with the member `parents` added.
 impl ToJson for Operation {
     ghost is_in_range = { λ o. HasDates o.metadata.time };
 

@@ -1,4 +1,4 @@
-//! Operations on a repository, and what is known of how they were done.
+//! Operations on a repository and their metadata.
 ghost use Rattle.std.specs.Prelude.{◌≡◌, true};
 ghost use Rattle.jj_stores.specs.Operations.{IsRootOperation};
 ghost use Rattle.jj_stores.specs.OperationLaws.{metadata_eq, operation_eq};
@@ -9,15 +9,15 @@ use jj_ids::ref_name::WorkspaceNameBuf;
 use std::alloc::{AllocError, Global};
 use std::collections::BTreeMap;
 
-/// When something began and ended.
+/// The start and the end of an operation.
 #[derive(Clone, Copy, Debug, PartialEq, Eq)]
 pub struct TimestampRange {
     pub start: Timestamp,
     pub end: Timestamp,
 }
 
-/// What is known of how an operation was done: when, what and where, by whom, and what else is
-/// said of it.
+/// The metadata of an operation: its time range, description, host, user and workspace, whether it
+/// is a working-copy snapshot, and further attributes.
 #[derive(Debug, PartialEq, Eq, Drop)]
 pub struct OperationMetadata {
     pub time: TimestampRange,
@@ -29,7 +29,7 @@ pub struct OperationMetadata {
     pub attributes: BTreeMap<String, String>,
 }
 
-/// A copy equals its source.
+/// Clones the metadata; the clone equals it.
 impl Clone for OperationMetadata {
     ghost is_clone = { λ metadata c. metadata_eq c metadata ≡ true };
 
@@ -46,8 +46,8 @@ impl Clone for OperationMetadata {
     }
 }
 
-/// An operation on a repository: the view that it led to, the operations that it followed, and the
-/// predecessors of the commits that it made, if they are known.
+/// An operation on a repository: the view that results from it, its parent operations, its
+/// metadata, and the predecessors of the commits that it created, if recorded.
 #[derive(Debug, PartialEq, Eq, Drop)]
 pub struct Operation {
     pub view_id: ViewId,
@@ -56,7 +56,7 @@ pub struct Operation {
     pub commit_predecessors: Option<BTreeMap<CommitId, Vec<CommitId>>>,
 }
 
-/// A copy equals its source.
+/// Clones the operation; the clone equals it.
 impl Clone for Operation {
     ghost is_clone = { λ operation c. operation_eq c operation ≡ true };
 
@@ -71,7 +71,7 @@ impl Clone for Operation {
 }
 
 impl Operation {
-    /// The operation that all others descend from, at the beginning of time.
+    /// Creates the root operation, the ancestor of all other operations, at the Unix epoch.
     pub fn make_root(alloc: Global, root_view_id: ViewId) -> Self
         ensures { IsRootOperation root_view_id result }
     {
@@ -100,7 +100,7 @@ impl Operation {
     }
 }
 
-/// What the root operation of a store is made of.
+/// The data from which a store creates its root operation.
 #[derive(Debug, Drop)]
 pub struct RootOperationData {
     pub root_commit_id: CommitId,

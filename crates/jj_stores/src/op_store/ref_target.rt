@@ -1,4 +1,4 @@
-//! Where refs point to, here and at remotes.
+//! Targets of local and remote refs.
 ghost use Rattle.std.specs.Prelude.{◌≡◌, ◌↔◌, IsTrue, None, IfOk};
 ghost use Rattle.std.specs.Cmp;
 ghost use Rattle.std.specs.Option.{option_copied};
@@ -9,10 +9,9 @@ use jj_backend::backend::CommitId;
 use jj_merges::merge::Merge;
 use std::alloc::{AllocError, Global};
 
-/// The commit that a ref points to, or a conflict of several; absent, where there is no such ref.
+/// The target of a ref: a commit, a conflict, or absent if there is no such ref.
 pub type RefTarget = Merge<Option<CommitId>>;
 
-// A copy of a target.
 fn copied_target(alloc: Global, target: &RefTarget) -> Result<RefTarget, AllocError>
     ensures { IfOk result (λ copy. copy ≡ target.now) }
 {
@@ -25,14 +24,14 @@ impl CloneIn for RefTarget {
     }
 }
 
-/// Whether what a remote says of a ref is followed here.
+/// Whether a remote ref is tracked: merged into the local ref of its name.
 #[derive(Clone, Copy, Debug, PartialEq, Eq, Hash)]
 pub enum RemoteRefState {
     New,
     Tracked,
 }
 
-/// Where a ref points to at a remote.
+/// The target of a ref at a remote, and whether it is tracked.
 #[derive(Debug, PartialEq, Eq, Hash, Drop)]
 pub struct RemoteRef {
     pub target: RefTarget,
@@ -40,7 +39,7 @@ pub struct RemoteRef {
 }
 
 impl RemoteRef {
-    /// A ref that is not there.
+    /// Creates an absent ref, which is not tracked.
     pub fn absent(alloc: Global) -> Self
         ensures { result ≡ absent_ref }
     {
@@ -50,7 +49,7 @@ impl RemoteRef {
         }
     }
 
-    /// A copy of the ref.
+    /// Clones the ref.
     pub fn clone(&self, alloc: Global) -> Result<Self, AllocError>
         ensures { IfOk result (λ copy. copy ≡ self.now) }
     {
@@ -60,28 +59,29 @@ impl RemoteRef {
         })
     }
 
-    /// Whether the remote has no such ref.
+    /// Returns whether the target is absent.
     pub fn is_absent(&self) -> bool
         ensures { IsTrue result ↔ (self.now.target ≡ absent_target) }
     {
         self.target.is_absent()
     }
 
-    /// Whether the remote has such a ref.
+    /// Returns whether the target is not absent.
     pub fn is_present(&self) -> bool
         ensures { IsTrue result ↔ (self.now.target ≡ absent_target → ⊥) }
     {
         self.target.is_present()
     }
 
-    /// Whether the ref is merged into the local one.
+    /// Returns whether the ref is tracked.
     pub fn is_tracked(&self) -> bool
         ensures { IsTrue result ↔ (self.now.state ≡ RemoteRefState.Tracked) }
     {
         matches!(self.state, RemoteRefState::Tracked)
     }
 
-    /// The target of a tracked ref. `None` is the absent target.
+    /// Returns the target of a tracked ref, and `None`, which represents the absent target, for a
+    /// ref that is not tracked.
     pub fn tracked_target(&self) -> Option<&RefTarget>
         ensures { option_copied result ≡ tracked_target self.now }
     {
@@ -98,16 +98,16 @@ impl CloneIn for RemoteRef {
     }
 }
 
-/// An option of what may be absent, without the option. A borrowed option stays as it is: `None`
-/// is what is absent.
+/// Flattens an option of a target or remote ref. An owned `None` becomes the absent value; a
+/// borrowed option is returned as it is, `None` representing the absent value.
 pub trait RefTargetOptionExt {
-    /// What it is without the option.
+    /// The flattened type.
     type Value;
 
-    /// What it is without the option.
+    /// Relates the option to its flattened value.
     ghost flattens: { Self → Self.Value → Type 0 };
 
-    /// The value, or what is absent.
+    /// Returns the value, or the absent value for `None`.
     fn flatten(self, alloc: Global) -> Self::Value
         ensures { flattens self result };
 }

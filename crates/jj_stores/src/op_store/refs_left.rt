@@ -1,4 +1,4 @@
-//! Refs by name that are left to be joined.
+//! Peekable iterator over the refs of a map in ascending order of names.
 ghost use Rattle.std.specs.Prelude.{◌≡◌, ◌⊎◌, false, IfSome};
 ghost use Rattle.std.specs.Cmp.Lexicographic.{slice_cmp};
 ghost use Rattle.std.specs.List.{slice_get};
@@ -12,7 +12,7 @@ use std::collections::BTreeMap;
 use std::collections::btree_map::Iter;
 use std::marker::Model;
 
-// The refs of a map that are left, by name, with the first of them at hand.
+// The remaining refs of a map, the first one peeked.
 #[derive(Drop)]
 pub(super) struct RefsLeft<'a, V> {
     first: Option<(&'a RefNameBuf, &'a V)>,
@@ -35,7 +35,6 @@ impl<'a, V> Model for RefsLeft<'a, V> {
 }
 
 impl<'a, V> RefsLeft<'a, V> {
-    // All refs of a map.
     pub(super) fn new(refs: &'a BTreeMap<RefNameBuf, V>) -> Self
         ensures { result ≡ refs.now.entries }
     {
@@ -44,7 +43,6 @@ impl<'a, V> RefsLeft<'a, V> {
         RefsLeft { first, rest }
     }
 
-    // The first name.
     pub(super) fn first_name(&self) -> Option<&'a RefNameBuf>
         ensures first { option_copied result ≡ slice_get (keys_of self.now) 0 }
         ensures least { IfSome (option_copied result) (λ name. IsLeast name self.now) }
@@ -54,7 +52,7 @@ impl<'a, V> RefsLeft<'a, V> {
         Some(name)
     }
 
-    // Takes the ref of this name, if there is one.
+    // Removes the first ref if it has this name.
     pub(super) fn take_at(&mut self, name: &RefNameBuf) -> Option<&'a V>
         requires { IsLeast name.now self.old }
         ensures taken { TakesAt name.now self.old (option_copied result) self.new }
@@ -69,7 +67,6 @@ impl<'a, V> RefsLeft<'a, V> {
     }
 }
 
-// The lesser of two names.
 pub(super) fn lesser<'a>(name: &'a RefNameBuf, other: &'a RefNameBuf) -> &'a RefNameBuf
     ensures one { (result.now ≡ name.now) ⊎ (result.now ≡ other.now) }
     ensures first { is_gt (slice_cmp nat_cmp result.now name.now) ≡ false }

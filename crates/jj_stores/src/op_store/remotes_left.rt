@@ -1,4 +1,4 @@
-//! Refs of remotes that are left to be joined.
+//! K-way merge of the refs of remotes, by a binary heap of their first names.
 ghost use Rattle.std.specs.Prelude.{◌≡◌, map, option_map, [], IfOk, OnOk, MatchOption};
 ghost use Rattle.std.specs.List.{slice_get, All, AllZip};
 ghost use Rattle.std.specs.Option.{option_copied};
@@ -17,7 +17,7 @@ use std::cmp::Reverse;
 use std::collections::{BTreeMap, BinaryHeap};
 use std::marker::Model;
 
-// The refs of a remote that are left.
+// The remaining refs of a remote.
 #[derive(Drop)]
 pub(super) struct RemoteLeft<'a> {
     remote: RemoteName<'a>,
@@ -36,7 +36,6 @@ impl<'a> Model for RemoteLeft<'a> {
 }
 
 impl<'a> RemoteLeft<'a> {
-    // The first name.
     fn first_name(&self) -> Option<&'a RefNameBuf>
         ensures first { option_copied result ≡ slice_get (keys_of self.now.1) 0 }
         ensures ascending { IsAscending self.now.1 }
@@ -44,7 +43,7 @@ impl<'a> RemoteLeft<'a> {
         self.refs.first_name()
     }
 
-    // Takes the ref of this name, if there is one.
+    // Removes the first ref if it has this name.
     fn take_at(&mut self, name: &RefNameBuf) -> Option<(RemoteName<'a>, &'a RemoteRef)>
         requires { IsLeast name.now self.old.1 }
         ensures found { option_map ref_of result ≡ option_map (λ r. (self.old.0, r))
@@ -56,8 +55,8 @@ impl<'a> RemoteLeft<'a> {
     }
 }
 
-// The refs of remotes that are left, with the first name of each remote that has any and the
-// remote's place, the earliest on top.
+// The remaining refs of remotes, and a min-heap of the first name of each remote that has refs
+// left, with the index of the remote.
 #[derive(Drop)]
 pub(super) struct RemotesLeft<'a> {
     remotes: Vec<RemoteLeft<'a>>,
@@ -81,7 +80,6 @@ impl<'a> Model for RemotesLeft<'a> {
 }
 
 impl<'a> RemotesLeft<'a> {
-    // The refs of these remotes.
     fn new(alloc: Global, remotes: Vec<RemoteLeft<'a>>) -> Result<Self, AllocError>
         ensures { IfOk result (λ left. left ≡ remotes.entry.items) }
     {
@@ -94,7 +92,7 @@ impl<'a> RemotesLeft<'a> {
         Ok(RemotesLeft { remotes, firsts })
     }
 
-    // The first name that has a ref at a remote.
+    // Returns the least remaining name.
     pub(super) fn first_name(&self) -> Option<&'a RefNameBuf>
         ensures { IsFirstOfRemotes self.now (option_copied result) }
     {
@@ -102,7 +100,7 @@ impl<'a> RemotesLeft<'a> {
         self.remotes[*place].first_name()
     }
 
-    // Takes the ref of this name, which is above none, from the first remote that has it.
+    // Removes the ref of the least name from the first remote that has it.
     pub(super) fn take_ref(&mut self, name: &RefNameBuf) -> Option<(RemoteName<'a>, &'a RemoteRef)>
         requires { All (λ remote. IsLeast name.now remote.1) self.old }
         ensures { MatchOption result
@@ -127,7 +125,7 @@ impl<'a> RemotesLeft<'a> {
         Some(found)
     }
 
-    // Takes the refs of this name, which is above none, from all remotes, in their order.
+    // Removes the refs of the least name from all remotes, in order of the remotes.
     pub(super) fn take_refs(
         &mut self,
         alloc: Global,
@@ -146,7 +144,7 @@ impl<'a> RemotesLeft<'a> {
     }
 }
 
-// The first name that has a ref here or at a remote.
+// Returns the least remaining name of local and remote refs.
 pub(super) fn first_name<'a>(
     locals: &RefsLeft<'a, RefTarget>,
     remotes: &RemotesLeft<'a>,
@@ -163,7 +161,6 @@ pub(super) fn first_name<'a>(
     }
 }
 
-// What remotes have of the refs that `get_remote_refs` shows, in the order of their names.
 fn shown_of_remotes<'a, F: FnMut(&'a RemoteView) -> &'a BTreeMap<RefNameBuf, RemoteRef>>(
     alloc: Global,
     remote_views: &'a BTreeMap<RemoteNameBuf, RemoteView>,
@@ -185,7 +182,6 @@ fn shown_of_remotes<'a, F: FnMut(&'a RemoteView) -> &'a BTreeMap<RefNameBuf, Rem
     Ok(remotes)
 }
 
-// What remotes have of the refs that `get_remote_refs` shows, the least name at hand.
 pub(super) fn remotes_left<'a, F: FnMut(&'a RemoteView) -> &'a BTreeMap<RefNameBuf, RemoteRef>>(
     alloc: Global,
     remote_views: &'a BTreeMap<RemoteNameBuf, RemoteView>,

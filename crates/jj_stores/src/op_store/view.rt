@@ -1,4 +1,4 @@
-//! Views of a repository: where its refs point to, here and at remotes.
+//! Views: the refs, heads and workspaces of a repository at one operation.
 ghost use Rattle.std.specs.Prelude.{◌≡◌, [], true, IfOk};
 ghost use Rattle.jj_stores.specs.Views.{IsRootView};
 ghost use Rattle.jj_stores.specs.ViewLaws.{remote_view_eq, view_eq};
@@ -10,7 +10,7 @@ use jj_ids::ref_name::{GitRefNameBuf, RefNameBuf, RemoteNameBuf, WorkspaceNameBu
 use std::alloc::{AllocError, Global};
 use std::collections::{BTreeMap, HashSet};
 
-/// Where the refs of a remote point to, by their names.
+/// The bookmarks and tags of a remote, by name.
 #[derive(Debug, PartialEq, Eq, Drop)]
 pub struct RemoteView {
     pub bookmarks: BTreeMap<RefNameBuf, RemoteRef>,
@@ -18,7 +18,7 @@ pub struct RemoteView {
 }
 
 impl RemoteView {
-    /// A remote without refs.
+    /// Creates a view without refs.
     pub fn default(alloc: Global) -> Self
         ensures bookmarks { result.bookmarks.entries ≡ [] }
         ensures tags { result.tags.entries ≡ [] }
@@ -29,7 +29,7 @@ impl RemoteView {
         }
     }
 
-    /// A copy of the view.
+    /// Clones the view.
     pub fn clone(&self, alloc: Global) -> Result<Self, AllocError>
         ensures { IfOk result (λ copy. remote_view_eq copy self.now ≡ true) }
     {
@@ -46,8 +46,8 @@ impl CloneIn for RemoteView {
     }
 }
 
-/// A repository at an operation: its heads, where its refs point to, and the commits of its
-/// workspaces. Names are in order, and heads in none.
+/// The state of a repository at an operation: its heads, its local, remote and Git refs, and the
+/// working-copy commits of its workspaces.
 #[derive(Debug, PartialEq, Eq, Drop)]
 pub struct View {
     pub head_ids: HashSet<CommitId>,
@@ -60,7 +60,7 @@ pub struct View {
 }
 
 impl View {
-    /// The view of a repository that has only its root commit.
+    /// Creates the view of a repository that has only a root commit.
     pub fn make_root(alloc: Global, root_commit_id: CommitId) -> Result<Self, AllocError>
         ensures { IfOk result (IsRootView root_commit_id) }
     {
@@ -77,7 +77,7 @@ impl View {
         })
     }
 
-    /// A copy of the view.
+    /// Clones the view.
     pub fn clone(&self, alloc: Global) -> Result<Self, AllocError>
         ensures { IfOk result (λ copy. view_eq copy self.now ≡ true) }
     {

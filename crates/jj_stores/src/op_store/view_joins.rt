@@ -1,4 +1,4 @@
-//! Refs here and at remotes, joined by name.
+//! Merge join of local and remote refs by name, and the k-way merge of the refs of all remotes.
 ghost use Rattle.std.specs.Prelude.{◌≡◌, IfOk};
 ghost use Rattle.jj_merges.specs.Calls.{CallsReturn};
 ghost use Rattle.jj_stores.specs.JoinRows.{ShowsRefs};
@@ -11,16 +11,16 @@ use std::alloc::{AllocError, Global};
 use std::collections::BTreeMap;
 use std::marker::Model;
 
-/// A local ref and the refs of remotes that have one name. No local target is that there is no
-/// such ref here.
+/// The local ref and the remote refs of one name. `local_target` is `None` if there is no local
+/// ref.
 #[derive(Clone, Debug, PartialEq, Eq, Drop)]
 pub struct LocalRemoteRefTarget<'a> {
     pub local_target: Option<&'a RefTarget>,
     pub remote_refs: Vec<(RemoteName<'a>, &'a RemoteRef)>,
 }
 
-/// The join of local refs with those of remotes, name by name. An error comes only where there is
-/// no memory for a row; after it there are no more rows.
+/// Iterates over the join of local and remote refs in ascending order of names. Yields an error,
+/// and nothing more, if a row cannot be allocated.
 #[derive(Drop)]
 pub struct MergeJoinRefViews<'a> {
     alloc: Global,
@@ -70,8 +70,9 @@ impl<'a> Iterator for MergeJoinRefViews<'a> {
     }
 }
 
-/// Joins local refs with those of remotes by name. `get_remote_refs` is called once for each
-/// remote, in the order of their names, and shows which of its refs are joined.
+/// Joins local and remote refs by name. `get_remote_refs` selects the refs of a remote; it is
+/// called once for each remote, in order of their names. O(r log r) for r remotes, and O(log r)
+/// for each remote ref of a row.
 pub fn merge_join_ref_views<'a, F>(
     alloc: Global,
     local_refs: &'a BTreeMap<RefNameBuf, RefTarget>,
@@ -94,7 +95,7 @@ where
     })
 }
 
-/// The refs of all remotes, by name, and those of one name by remote.
+/// Iterates over the refs of all remotes, ordered by ref name and then by remote name.
 #[derive(Drop)]
 pub struct FlattenRemoteRefs<'a> {
     remotes: RemotesLeft<'a>,
@@ -128,8 +129,9 @@ impl<'a> Iterator for FlattenRemoteRefs<'a> {
     }
 }
 
-/// The refs of all remotes, by name, and those of one name by remote. `get_remote_refs` is called
-/// once for each remote, in the order of their names, and shows which of its refs are meant.
+/// Merges the refs of all remotes, ordered by ref name and then by remote name. `get_remote_refs`
+/// selects the refs of a remote; it is called once for each remote, in order of their names.
+/// O(r log r) for r remotes, and O(log r) for each ref.
 pub fn flatten_remote_refs<'a, F>(
     alloc: Global,
     remote_views: &'a BTreeMap<RemoteNameBuf, RemoteView>,

@@ -1,4 +1,4 @@
--- What the backends that are left decide, all of them do.
+-- The decision of the remaining backends is that of all backends.
 use Rattle.std.proofs.Common.{Option, drop}
 use Rattle.jj_stores.specs.Asked.{Decide, Answer}
 use Rattle.jj_stores.proofs.signing.ask.Given as goal

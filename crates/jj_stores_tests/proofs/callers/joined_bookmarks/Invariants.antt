@@ -1,4 +1,4 @@
--- The rows so far, before those that are left, are the join.
+-- The collected rows, followed by the remaining ones, are the join.
 use Rattle.std.proofs.Common.{◌++◌, map}
 use Rattle.jj_stores.specs.JoinRows.{AreLeft}
 use Rattle.jj_stores.specs.JoinSteps.{row_of}

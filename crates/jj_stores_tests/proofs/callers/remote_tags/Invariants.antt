@@ -1,4 +1,4 @@
--- The tags so far, before those that are left, are all tags.
+-- The collected tags, followed by the remaining ones, are all tags.
 use Rattle.std.proofs.Common.{◌++◌, map}
 use Rattle.jj_stores.specs.FlatRefs.{AreFlat, symbol_ref_of}
 use Rattle.jj_stores_tests.proofs.callers.remote_tags.Given as goal

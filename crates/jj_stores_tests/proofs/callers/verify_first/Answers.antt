@@ -6,7 +6,7 @@ use Rattle.jj_stores.specs.Asked.{Answer, Decide, IsVerified, backends, is_decis
 use Rattle.jj_stores.specs.Verdict.{Verdict, is_unknown, unknown_verdict}
 use Rattle.jj_stores_tests.proofs.callers.verify_first.Goals as goal
 
--- what the first of two choices decides is that choice
+-- the result found is the given one, which must be decisive
 by_choice : (decisive : Bool) (given found : Answer) (May : Answer → Type 0) → May given
     → MatchBool decisive (Some found ≡ Some given) (Some found ≡ None) → May found
 by_choice true given found May may same = let e : given ≡ found = cc in subst May e may
@@ -19,7 +19,7 @@ by_reading : (reads : Bool) (found : Answer) (May : Answer → Type 0)
 by_reading true found May h = by_choice (is_decisive h.0) h.0 found May h.1 h.2
 by_reading false found May h = absurd cc
 
--- a verdict of one backend that is not unknown is an answer of it
+-- with one backend, a verdict that is not unknown is a result of that backend
 by_verified : {B : Type 0} (R : B → Bool) (May : B → Answer → Type 0) (main : Option B)
     (others : List B) (b : B) (id : List ℕ) (n : ℕ) (v : Verdict)
     (old new : List (List ℕ × Verdict)) → main ≡ Some b → others ≡ []

@@ -1,4 +1,4 @@
--- The entries so far, copied.
+-- The clones of the entries so far.
 use Rattle.std.proofs.Common.{◌≡◌, ◌++◌, true, map}
 use Rattle.std.specs.Cmp.Lexicographic.{slice_cmp}
 use Rattle.std.specs.List.{AllZip}

@@ -1,4 +1,4 @@
--- The attributes that are left, added to the members so far, are all attributes.
+-- Adding the remaining attributes to the members so far adds all attributes.
 use Rattle.std.proofs.Common.{◌≡◌}
 use Rattle.std.specs.Prelude.{fold}
 use Rattle.serde_json.specs.View.{members_view}

@@ -3,7 +3,7 @@ use Rattle.std.proofs.lemmas.List.Elements.{same_from_all_zip}
 use Rattle.std.proofs.lemmas.Result.{IfOk-weaker}
 use Rattle.jj_stores.proofs.op_store.ref_target.copied_target.Goals as goal
 
--- a relation that ties the same values alone, where it ties two options
+-- a relation that implies equality, on options
 same_option : {A : Type 0} (R : Option A → Option A → Type 0) → ((x y : A) → R (Some x) (Some y) → y ≡ x)
     → ((x : A) → R (Some x) None → ⊥) → ((y : A) → R None (Some y) → ⊥)
     → (x y : Option A) → R x y → y ≡ x

@@ -1,4 +1,4 @@
--- The remotes so far, each with the refs that the closure showed.
+-- The remotes so far, each with the refs that the closure selected.
 use Rattle.std.proofs.Common.{◌≡◌, ◌++◌, map}
 use Rattle.std.specs.Map.Iter.{deref_pair}
 use Rattle.jj_merges.specs.Calls.{CallsReturn}

@@ -1,4 +1,4 @@
--- The first names of the remotes so far are in the heap, which is in order.
+-- The heap contains the first names of the remotes so far.
 use Rattle.std.proofs.Common.{map, take}
 use Rattle.std.specs.BinaryHeap.{heap_items, IsHeap}
 use Rattle.jj_stores.specs.Firsts.{AreFirsts, earlier_cmp, first_of}

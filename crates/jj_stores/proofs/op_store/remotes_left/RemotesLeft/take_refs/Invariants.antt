@@ -1,4 +1,4 @@
--- Remotes have lost the refs that were taken so far, and the others are as they were.
+-- The refs removed so far; the other remotes are unchanged.
 use Rattle.std.proofs.Common.{◌≡◌, ◌++◌, length, map}
 use Rattle.std.specs.List.{All, AllZip, sum_by}
 use Rattle.jj_stores.specs.JoinRows.{ref_of}
