@@ -1,14 +1,14 @@
--- Ids that a longer list still holds, and those of a list's parts.
+-- Membership of ids in longer lists and in parts of a list.
 use Rattle.std.proofs.Common.{◌≡◌, ◌++◌, ℕ, List, get_or, subst, sym}
 use Rattle.std.specs.Prelude.{All}
 use Rattle.std.specs.List.{Contains}
 use Rattle.std.proofs.lemmas.List.Elements.{All-contains, All-weaker, Contains-append_left, Contains-append_right, Contains-get_or}
 
--- what held all of the front still does where more ids were added
+-- membership is preserved when ids are appended
 pub still_held : (old added new asked : List ℕ) → new ≡ old ++ added → All (Contains old) asked → All (Contains new) asked
 still_held old added new asked grown held = All-weaker (Contains old) (Contains new) (λ id among. subst (λ ids. Contains ids id) (sym grown) (Contains-append_left old added id among)) asked held
 
--- the ids that were added are held
+-- appended ids are members
 pub added_held : (old added new : List ℕ) → new ≡ old ++ added → All (Contains new) added
 added_held old added new grown k d within = subst (λ ids. Contains ids (get_or added k d)) (sym grown) (Contains-append_right old added (get_or added k d) (Contains-get_or added k d within))
 

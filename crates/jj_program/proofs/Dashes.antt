@@ -1,11 +1,11 @@
--- Where the fields of a line hold one dash.
+-- Splitting the fields of a line at its only dash.
 use Rattle.std.proofs.Common.{◌≡◌, ◌+◌, ◌<◌, ℕ, List, [], ◌∷◌, Bool, true, false, not, cond, length, get_or, map, take, Bor, sym, ◌∙◌, ap, refl, arith}
 use Rattle.std.specs.List.{count_by, position_or_len}
 use Rattle.std.proofs.lemmas.List.{get_or-map, length-map, take_more}
 use Rattle.std.proofs.lemmas.List.Sums.{sum_by-cons, sum_by_push}
 use Rattle.jj_program.specs.GraphCommand.{is_dash}
 
--- where one element passes, the first that passes is one of them
+-- if the count is one, the first index that passes is below the length
 pub counted_within : {X : Type 0} (p : X → Bool) (xs : List X) → count_by p xs ≡ 1 → position_or_len p xs < length xs
 counted_within p [] one = omega arith
 counted_within p (x ∷ xs) one =
@@ -20,11 +20,11 @@ counted_within p (x ∷ xs) one =
     ] refl
 
 module _ (fields : List (Bor (List ℕ))) where
-  -- a field that was tested
+  -- a field after the test
   pub tested : (i : ℕ) (d : Bor (List ℕ)) → i < length fields → (b : Bool) → b ≡ is_dash (get_or fields i d).now → is_dash (get_or (map (λ field. field.now) fields) i []) ≡ b
   tested i d within b is = ap is_dash (get_or-map (λ (field : Bor (List ℕ)). field.now) fields i d [] within) ∙ sym is
 
-  -- one field more is counted
+  -- one more field is counted
   pub counted_more : (i : ℕ) (d : Bor (List ℕ)) → i < length fields → (n m : ℕ) (b : Bool) → n ≡ count_by is_dash (take i (map (λ field. field.now) fields)) → b ≡ is_dash (get_or fields i d).now
       → m ≡ n + cond b 1 0 → m ≡ count_by is_dash (take (i + 1) (map (λ field. field.now) fields))
   counted_more i d within n m b so_far is more =

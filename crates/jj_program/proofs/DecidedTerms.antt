@@ -1,4 +1,4 @@
--- The value that decides a merge of texts is one of its terms.
+-- The value that a merge of strings resolves to is one of its terms.
 use Rattle.std.proofs.Common.{◌≡◌, ℕ, suc, ◌+◌, ◌<◌, ◌≤◌, Bool, true, false, List, [], ◌∷◌, cond, refl, sym, ap, arith, Contains}
 use Rattle.std.specs.Prelude.{count_by}
 use Rattle.std.specs.Str.{bytes_eq}
@@ -23,7 +23,7 @@ module _ {X : Type 0} (p : X → Bool) where
     removes_counted [] = omega arith
     removes_counted (x ∷ xs) = omega (arith, adds_counted xs, count_cons x xs)
 
--- a text that is counted stands there
+-- a string with a positive count is a member
 counted_stands : (v : List ℕ) (m : List (List ℕ)) → 0 < count_by (bytes_eq v) m → Contains m v
 counted_stands v [] some = absurd (omega arith)
 counted_stands v (x ∷ m) some = by_test (λ more. counted_stands v m more) (bytes_eq v x) refl

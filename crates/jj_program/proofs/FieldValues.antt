@@ -1,4 +1,4 @@
--- What one field of a line says of all of them, where each has to pass a test and has a value then.
+-- Induction over the fields of a line: the value or the fault of all fields, one field at a time.
 use Rattle.std.proofs.Common.{◌≡◌, ◌∙◌, ℕ, ◌+◌, ◌<◌, List, [], ◌∷◌, ◌++◌, take, get_or, length, arith, Bool, true, false, cond, Ok, Err, map, refl, sym, ap}
 use Rattle.std.specs.Prelude.{◌&&◌}
 use Rattle.std.specs.List.{list_all}
@@ -9,7 +9,7 @@ use Rattle.jj_program.specs.declared.fault.StepFault.TheVariants.{Memory, Line}
 use Rattle.jj_program.specs.Steps.{value_at, values_at, IsStepFaultOf}
 
 module _ {A : Type 0} (test : List ℕ → Bool) (value : List ℕ → A) (kind : LineFault) where
-  -- a field that has a value
+  -- a valid field
   pub record HasValue (text : List ℕ) (x : A) : Type 0 where
     pub passes : test text ≡ true
     pub same : x ≡ value text
@@ -21,7 +21,7 @@ module _ {A : Type 0} (test : List ℕ → Bool) (value : List ℕ → A) (kind 
       by_test true is e = record { passes = is; same = cc }
       by_test false is e = cc
 
-  -- a field's fault is that of all fields
+  -- an invalid field is the fault of the line
   pub field-fault : (fault : StepFault) (text : List ℕ) (texts : List (List ℕ)) (rest : Bool) → list_all test texts ≡ (test text && rest)
       → IsStepFaultOf fault (value_at test value kind text) → IsStepFaultOf fault (values_at test value kind texts)
   field-fault Memory text texts rest all h = tt
@@ -34,7 +34,7 @@ module _ {A : Type 0} (test : List ℕ → Bool) (value : List ℕ → A) (kind 
           let same : kind ≡ found = cc in
           rw none (ap Err same)
 
-  -- one more field and its value
+  -- one more valid field
   pub values_more : {V B : Type 0} (view : V → A) (text_of : B → List ℕ) (values grown : List V) (x : V) (fields : List B) (i : ℕ) (d : B) → i < length fields
       → map view values ≡ map value (take i (map text_of fields)) → grown ≡ values ++ x ∷ [] → HasValue (text_of (get_or fields i d)) (view x)
       → map view grown ≡ map value (take (i + 1) (map text_of fields))

@@ -1,4 +1,4 @@
--- A line's fault is that of the first faulty line.
+-- Line faults name the first faulty line.
 use Rattle.std.proofs.Common.{◌≡◌, ◌∙◌, ℕ, ◌+◌, ◌-◌, ◌<◌, ◌≤◌, zero, suc, Bool, true, false, List, [], ◌∷◌, length, take, drop, Result, Ok, Err, is_ok, refl, ap, sym, subst, arith, true≢false}
 use Rattle.jj_program.specs.declared.fault.Fault.{Fault}
 use Rattle.jj_program.specs.declared.fault.Fault.TheVariants.{Memory, Line}
@@ -13,7 +13,7 @@ use Rattle.jj_program.specs.SetTrees.{SetTree}
 use Rattle.jj_paths.specs.Paths.{Path}
 use Rattle.jj_program.specs.WalkCommand.{WalkState, NamedSet, walk_step, walk_start, walk_end, only_set}
 
--- 1. What tells faults apart.
+-- 1. Faults of different lines differ.
 
 abbrev names_line : Fault → Bool
 names_line (Line number kind) = true
@@ -43,7 +43,7 @@ same_head x y xs ys e = ap (first_or x) e
 same_tail : {X : Type 0} (x y : X) (xs ys : List X) → x ∷ xs ≡ y ∷ ys → xs ≡ ys
 same_tail x y xs ys e = ap (drop 1) e
 
--- 2. Steps over lines.
+-- 2. The fold over lines.
 
 module _ {S : Type 0} (step : S → List (List ℕ) → Result S LineFault) where
   -- a line's fault has its number
@@ -55,7 +55,7 @@ module _ {S : Type 0} (step : S → List (List ℕ) → Result S LineFault) wher
   own number state [] k kind e = absurd (ok≢err state (Line k kind) e)
   own number state (b ∷ bs) k kind e = own_at number (step state (fields_of (b ∷ bs))) k kind e
 
-  -- a fault lies in one of the lines
+  -- the line number of a fault is in range
   within : (number : ℕ) (state : S) (lines : List (List ℕ)) (k : ℕ) (kind : LineFault) → after_lines step number state lines ≡ Err (Line k kind) → (number ≤ k) × (k < number + length lines)
   within number state [] k kind e = absurd (ok≢err state (Line k kind) e)
   within number state (line ∷ lines) k kind e = by_line (λ next. within (number + 1) next lines k kind) (after_line step number state line) refl e
@@ -65,7 +65,7 @@ module _ {S : Type 0} (step : S → List (List ℕ) → Result S LineFault) wher
       by_line deep (Ok next) is h = let later = deep next h in (omega (arith, later.0), omega (arith, later.1))
       by_line deep (Err fault) is h = let here = own number state line k kind (is ∙ h) in (omega (arith, here), omega (arith, here))
 
-  -- lines after the faulty one have no part in it
+  -- later lines do not change the fault
   decided : (number : ℕ) (state : S) (lines others : List (List ℕ)) (m : ℕ) (kind : LineFault) → after_lines step number state lines ≡ Err (Line (number + m) kind) → take (suc m) lines ≡ take (suc m) others → after_lines step number state others ≡ Err (Line (number + m) kind)
   decided number state [] others m kind e alike = absurd (ok≢err state (Line (number + m) kind) e)
   decided number state (line ∷ lines) [] m kind e alike = absurd (none≢cons line (take m lines) alike)
@@ -81,7 +81,7 @@ module _ {S : Type 0} (step : S → List (List ℕ) → Result S LineFault) wher
           let same : number + suc n ≡ (number + 1) + n = omega arith in
           deep next n (h ∙ ap (λ k. Err (Line k kind)) same) tails ∙ ap (λ k. Err (Line k kind)) (sym same)
 
-  -- the lines before it have no fault, whatever follows them
+  -- earlier lines have no fault, whatever follows them
   none_before : (number : ℕ) (state : S) (lines others : List (List ℕ)) (m j : ℕ) (kind fault : LineFault) → after_lines step number state lines ≡ Err (Line (number + m) kind) → take m lines ≡ take m others → after_lines step number state others ≡ Err (Line j fault) → number + m ≤ j
   none_before number state lines others zero j kind fault e alike f = omega (arith, (within number state others j fault f).0)
   none_before number state [] others (suc m) j kind fault e alike f = absurd (ok≢err state (Line (number + suc m) kind) e)
@@ -98,7 +98,7 @@ module _ {S : Type 0} (step : S → List (List ℕ) → Result S LineFault) wher
           let later = deep next (h ∙ ap (λ n. Err (Line n kind)) same) (same_tail line other (take m lines) (take m others) alike) k in
           omega (arith, later)
 
-  -- 3. A whole text.
+  -- 3. A whole input.
 
   pub whole : (start : S) (text : List ℕ) (number : ℕ) (kind : LineFault) → after_lines step 1 start (lines_of text) ≡ Err (Line number kind) → (1 ≤ number) × (number ≤ length (lines_of text))
   whole start text number kind e = let w = within 1 start (lines_of text) number kind e in (w.0, omega (arith, w.1))

@@ -1,4 +1,4 @@
--- Which fields are globs.
+-- Fields that parse as globs.
 use Rattle.std.proofs.Common.{◌≡◌, ◌≢◌, ℕ, false, List, Result, Ok, Err, cond, refl, ap}
 use Rattle.std.specs.Prelude.{is_ok, IsOk}
 use Rattle.jj_globs.specs.declared.glob.error.GlobError.{GlobError}

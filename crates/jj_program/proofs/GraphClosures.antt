@@ -1,4 +1,4 @@
--- Closures over a listed graph: one that numbers ids, and one that lists the neighbours of a node.
+-- The closures that a walk calls implement the listed graph.
 use Rattle.std.proofs.Common.{◌≡◌, ℕ, List, Iter, Result, Ok, map, eqb}
 use Rattle.std.specs.Prelude.{IsOkAnd}
 use Rattle.std.specs.Fn.{Called, FnReturnsAt, Mut, Shared}
@@ -20,7 +20,7 @@ use Rattle.jj_program.specs.SoundIds.{sound_left}
 use Rattle.jj_program.proofs.ListedGraphs.{copied_ids, items_neighbors, lists_neighbors, sound_neighbors}
 use Rattle.jj_program.proofs.NumberedWalks.{number_stands, numbered, numbers_apart}
 
--- the graph as a walk knows it, and the items of a node where none can fail
+-- the model of the closures, and lists of which no item fails
 abbrev pub walk_over : ListedGraph → Numbered ℕ ℕ
 walk_over g = numbered (shown_by g) (named_by g)
 
@@ -31,7 +31,7 @@ module _ (g : ListedGraph) {F N : Type 0} (ids : Shared F (Bor ℕ × Unit {0}) 
     (neighbors_fn : N)
     (numbers : (id number : ℕ) → FnReturnsAt ids id_fn id number → Contains (named_by g) id
     → IsNumberOf (named_by g) id number) where
-  -- the closure lists the neighbours of a node
+  -- the closure returns the neighbours of a node
   pub shows_lists : (lists : Mut N (Bor ℕ × Unit {0}) (Copied (Iter ℕ)))
       → ((a : Bor ℕ × Unit {0}) (r : Copied (Iter ℕ)) (after : N) → Called lists neighbors_fn a r after
       → (iter_rest (copied_source r) ≡ shown_by g a.0.now) × (after ≡ neighbors_fn))
@@ -44,7 +44,7 @@ module _ (g : ListedGraph) {F N : Type 0} (ids : Shared F (Bor ℕ × Unit {0}) 
         let k = looks a r after h in (λ xs here d. copied_ids r xs (shown_by g a.0.now) k.0 d, k.1));
   }
 
-  -- it shows them as items of which none fails
+  -- in the form of items of which none fails
   shows_sound : {U : Type 0} (lists : Mut N (Bor ℕ × Unit {0}) U) (says : U → List (Result ℕ (Fault ℕ)) → Type 0)
       → ((a : Bor ℕ × Unit {0}) (r : U) (after : N) → Called lists neighbors_fn a r after → says r (items_over g a.0.now) × (after ≡ neighbors_fn))
       → ShowsBy (walk_over g) (items_over g) eqb ids lists says id_fn neighbors_fn
@@ -57,7 +57,7 @@ module _ (g : ListedGraph) {F N : Type 0} (ids : Shared F (Bor ℕ × Unit {0}) 
         let k = looks a r after h in (λ here. k.0, k.1));
   }
 
-  -- it lists them, or could fail in their place
+  -- in the form of a list that may fail
   pub shows_sound_lists : (lists : Mut N (Bor ℕ × Unit {0}) (Result (Copied (Iter ℕ)) ℕ))
       → ((a : Bor ℕ × Unit {0}) (r : Result (Copied (Iter ℕ)) ℕ) (after : N) → Called lists neighbors_fn a r after
       → IsOkAnd r (λ list. iter_rest (copied_source list) ≡ shown_by g a.0.now) × (after ≡ neighbors_fn))
@@ -65,7 +65,7 @@ module _ (g : ListedGraph) {F N : Type 0} (ids : Shared F (Bor ℕ × Unit {0}) 
   shows_sound_lists lists looks = shows_sound lists (AnswersItems (λ (a : ℕ). a) (λ s t. t ≡ s) (copies fronts)) (λ a r after h.
       let k = looks a r after h in (lists_neighbors r (shown_by g a.0.now) k.0, k.1))
 
-  -- it gives them as items that could fail
+  -- in the form of items that may fail
   pub shows_sound_items : (lists : Mut N (Bor ℕ × Unit {0}) SoundIds)
       → ((a : Bor ℕ × Unit {0}) (r : SoundIds) (after : N) → Called lists neighbors_fn a r after
       → (r.ids.now ≡ shown_by g a.0.now) × (after ≡ neighbors_fn))

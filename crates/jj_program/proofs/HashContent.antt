@@ -1,4 +1,4 @@
--- What lines of texts digest: the content of borrowed texts is that of their bytes.
+-- The content of borrowed strings is that of their bytes.
 use Rattle.std.proofs.Common.{◌≡◌, ◌∙◌, ℕ, ◌-◌, ◌%◌, ◌<◌, ◌≤◌, ◌==◌, List, [], ◌∷◌, ◌++◌, length, take, drop, get_or, Ok, Err, true, false, cond, sym, ap, arith}
 use Rattle.std.specs.Prelude.{flat_map, codes}
 use Rattle.std.proofs.lemmas.List.Folds.{flat_map-map}

@@ -1,4 +1,4 @@
--- A hex text has one reading: its bytes are those that a decoder finds.
+-- The two definitions of hex decoding agree.
 use Rattle.std.proofs.Common.{◌≡◌, ◌∙◌, ℕ, ◌+◌, ◌*◌, ◌/◌, ◌%◌, ◌<◌, List, [], ◌∷◌, get_or, Option, Some, None, refl, sym, subst, arith, true≢false, false}
 use Rattle.std.specs.Str.{str_to_ascii_lowercase}
 use Rattle.std.specs.Char.{to_ascii_lowercase}
@@ -11,12 +11,12 @@ use Rattle.jj_program.specs.HashCommand.{bytes_of_hex, with_byte}
 abbrev Reads : List ℕ → List ℕ → Type 0
 Reads text bytes = ReadsAs hex_digits text bytes
 
--- a character that is written as a digit has the digit's value
+-- a hex digit has its value
 value_of : (c v : ℕ) → v < 16 → to_ascii_lowercase c ≡ get_or hex_digits v 0 → digit_value hex_digits c ≡ Some v
 value_of c v small is =
     digit_value-same hex_digits c (get_or hex_digits v 0) (is ∙ sym (are_hex_digits.lower v small)) ∙ are_hex_digits.back v small
 
--- the bytes that a text reads as are those that are found
+-- encoded bytes decode
 pub found_bytes : (text bytes : List ℕ) → Reads text bytes → bytes_of_hex text ≡ Some bytes
 found_bytes [] [] reads = refl
 found_bytes [] (x ∷ xs) reads = absurd (omega (arith, ReadsAs-length hex_digits [] (x ∷ xs) reads))
@@ -35,7 +35,7 @@ found_bytes (a ∷ b ∷ text) (x ∷ xs) reads =
     let whole : x / 16 * 16 + x % 16 ≡ x = omega arith in
     rw (high, low, rest, whole) refl
 
--- the bytes that are found are those that the text reads as
+-- decoded bytes encode
 pub found_reads : (text bytes : List ℕ) → bytes_of_hex text ≡ Some bytes → Reads text bytes
 found_reads [] [] found = ReadsAs-nil hex_digits
 found_reads [] (x ∷ xs) found = cc
@@ -51,7 +51,7 @@ found_reads (a ∷ b ∷ text) bytes found = by_digits (found_reads text) (digit
     by_digits further (Some high) None rest h l r is = absurd (none-some _ is)
     by_digits further None low rest h l r is = absurd (none-some _ is)
 
--- where the text is no hex text of whole bytes, no bytes are found
+-- other strings do not decode
 pub found_nothing : (text : List ℕ) → is_text_of hex_digits text ≡ false → bytes_of_hex text ≡ None
 found_nothing text none = by_found (bytes_of_hex text) refl
   where

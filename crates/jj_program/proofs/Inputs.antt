@@ -1,4 +1,4 @@
--- What a command gives for an input that is text, and for one that is not.
+-- Results on UTF-8 input and on other input.
 use Rattle.std.proofs.Common.{◌≡◌, ℕ, List, true, false, refl, subst, sym, Result, Ok, Err, IfOk, IfErr}
 use Rattle.std.proofs.lemmas.Result.{IfOk-weaker, IfErr-weaker}
 use Rattle.std.specs.Str.{IsUtf8, is_utf8}
@@ -10,19 +10,19 @@ use Rattle.jj_program.specs.declared.fault.Fault.TheVariants.{ReadInput, NotUtf8
 use Rattle.jj_program.specs.Lines.{IsFaultOf}
 use Rattle.jj_program.specs.Program.{Gives, GivesText, IsFaultOfInput}
 
--- bytes that are UTF-8 have what is given for their text
+-- the result on UTF-8 input is that of its string
 pub gives_text : (command : Command) (input : List ℕ) (answer : Result (List ℕ) Fault) → IsUtf8 input → GivesText command input answer → Gives command input answer
 gives_text command input answer utf8 given = let e : is_utf8 input ≡ true = is_utf8-from_IsUtf8 input utf8 in rw e given
 
--- other bytes have that fault
+-- other input is the fault `NotUtf8`
 pub gives_not_utf8 : (command : Command) (input : List ℕ) → ¬ (IsUtf8 input) → Gives command input (Err NotUtf8)
 gives_not_utf8 command input f = let e : is_utf8 input ≡ false = false_from_ne_true (is_utf8 input) (λ h. f (IsUtf8-from_is_utf8 input h)) in rw e refl
 
--- what is given for a known command's text is given for the input
+-- the result on the string is the result on the input
 pub known_gives : (command known : Command) (input : List ℕ) (answer : Result (List ℕ) Fault) → command ≡ known → IsUtf8 input → GivesText known input answer → Gives command input answer
 known_gives command known input answer is utf8 given = gives_text command input answer utf8 (subst (λ c. GivesText c input answer) (sym is) given)
 
--- a fault of what a text asks for is a fault of the input
+-- a fault of the string is a fault of the input
 pub known_fault : {A : Type 0} (command known : Command) (input : List ℕ) (asked : Result A Fault) → ((fault : Fault) → asked ≡ Err fault → GivesText known input (Err fault)) → command ≡ known
     → (fault : Fault) → IsUtf8 input → IsFaultOf fault asked → IsFaultOfInput command input fault
 known_fault command known input asked given is Memory utf8 h = tt
@@ -32,7 +32,7 @@ known_fault command known input asked given is NotUtf8 utf8 h = known_gives comm
 known_fault command known input asked given is (Matchers count) utf8 h = known_gives command known input (Err (Matchers count)) is utf8 (given (Matchers count) h)
 known_fault command known input asked given is (Line line kind) utf8 h = known_gives command known input (Err (Line line kind)) is utf8 (given (Line line kind) h)
 
--- what a known command was called with is the input's text, so its output and its fault are the input's
+-- each command is called with the input's string, so its output and its fault are the input's
 module _ {X : Type 0} (command known : Command) (input text : List ℕ) (result : Result X Fault) (is : command ≡ known) (read : (text ≡ input) × IsUtf8 input) where
   pub known_output : (items : X → List ℕ) → IfOk result (λ output. GivesText known text (Ok (items output))) → IfOk result (λ output. Gives command input (Ok (items output)))
   known_output items = IfOk-weaker result (λ output. GivesText known text (Ok (items output))) (λ output. Gives command input (Ok (items output)))

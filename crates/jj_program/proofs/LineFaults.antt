@@ -1,4 +1,4 @@
--- A command's fault is the first kind of the first line that has one.
+-- The fault of a command is the first kind of the first faulty line.
 use Rattle.std.proofs.Common.{◌≡◌, ◌∙◌, ◌==◌, ◌&&◌, ◌||◌, ℕ, ◌+◌, ◌%◌, ◌^◌, ◌≤◌, Bool, true, false, cond, nat_lt, map, List, [], ◌∷◌, ◌++◌, length, codes, Option, Some, None, is_some, Result, Ok, Err, refl, ap, sym, subst, arith, append_assoc, append-nil}
 use Rattle.std.specs.List.{after_first, before_first, count_by, list_all, list_any}
 use Rattle.std.specs.Option.{option_map, option_or}
@@ -32,18 +32,18 @@ use Rattle.jj_program.specs.Numbers.{is_number}
 use Rattle.jj_program.specs.SetTrees.{SetTree}
 use Rattle.jj_program.specs.WalkCommand.{NamedSet, WalkState, Everything, Nothing, Files, Prefix, walk_start, walk_step, walk_end, walk_request, only_set, mark_step, with_set_alone, with_paths, paths_of, globs_step, combined_step, is_glob_text}
 
--- 1. A step's answer, and the kind of fault that the line is said to have.
+-- 1. The transition at a line agrees with the definition of its fault.
 
 abbrev HasKind : {S : Type 0} → Result S LineFault → Option LineFault → Type 0
 HasKind (Ok state) kind = kind ≡ None
 HasKind (Err own) kind = kind ≡ Some own
 
--- what is known of the state after a step that had no fault
+-- the invariant holds after a step without fault
 abbrev After : {S : Type 0} → Result S LineFault → (S → Type 0) → Type 0
 After (Ok state) P = P state
 After (Err kind) P = Unit {0}
 
--- of all lines, with what is known of the last state
+-- after all lines, with the invariant of the last state
 abbrev Told : {S : Type 0} → (S → Type 0) → Result S Fault → Option Fault → Type 0
 Told P (Ok state) found = (found ≡ None) × P state
 Told P (Err ReadInput) found = ⊥
@@ -53,7 +53,7 @@ Told P (Err WriteOutput) found = ⊥
 Told P (Err (Matchers count)) found = ⊥
 Told P (Err (Line line kind)) found = found ≡ Some (Line line kind)
 
--- a step at these fields of a line has the kind of fault that they have, and keeps what is known
+-- a step has the defined fault, and preserves the invariant
 abbrev StepAgrees : {S : Type 0} → Command → (S → List (List ℕ) → Result S LineFault) → (List (List ℕ) → S → Type 0) → List (List ℕ) → S → List ℕ → List (List ℕ) → Type 0
 StepAgrees command step Keeps earlier state line fields = HasKind (step state fields) (kind_of_fields command earlier fields) × After (step state fields) (Keeps (earlier ++ line ∷ []))
 
@@ -62,7 +62,7 @@ StepAgrees command step Keeps earlier state line fields = HasKind (step state fi
 module _ {S : Type 0} (command : Command) (step : S → List (List ℕ) → Result S LineFault) (Keeps : List (List ℕ) → S → Type 0)
     (skips : (earlier : List (List ℕ)) (state : S) → Keeps earlier state → Keeps (earlier ++ [] ∷ []) state)
     (steps : (earlier : List (List ℕ)) (state : S) (line : List ℕ) → Keeps earlier state → StepAgrees command step Keeps earlier state line (fields_of line)) where
-  -- the first line's answer, and then that of the others
+  -- the first line, then the others
   at_first : (number : ℕ) (earlier lines : List (List ℕ)) (r : Result S LineFault) (kind : Option LineFault) (line : List ℕ) → HasKind r kind → After r (Keeps (earlier ++ line ∷ []))
       → ((next : S) → Keeps (earlier ++ line ∷ []) next → Told (Keeps ((earlier ++ line ∷ []) ++ lines)) (after_lines step (number + 1) next lines) (first_fault command (earlier ++ line ∷ []) (number + 1) lines))
       → Told (Keeps ((earlier ++ line ∷ []) ++ lines)) (result_and_then (at_line number r) (λ next. after_lines step (number + 1) next lines))
@@ -87,7 +87,7 @@ module _ {S : Type 0} (command : Command) (step : S → List (List ℕ) → Resu
       (option_or (option_map (Line number) (kind_of_fields command earlier (fields_of line))) (first_fault command (earlier ++ line ∷ []) (number + 1) lines)) in
       subst P (append_assoc earlier (line ∷ []) lines) deep
 
--- a line begins with a name, or has no field
+-- a line has a name, or no field
 by_name : {S : Type 0} (command : Command) (step : S → List (List ℕ) → Result S LineFault) (Keeps : List (List ℕ) → S → Type 0) (earlier : List (List ℕ)) (state : S) (line : List ℕ) → step state [] ≡ Err UnknownCommand
     → ((name : List ℕ) (fields : List (List ℕ)) → fields_of line ≡ name ∷ fields → StepAgrees command step Keeps earlier state line (name ∷ fields)) → StepAgrees command step Keeps earlier state line (fields_of line)
 by_name command step Keeps earlier state line none named = by (fields_of line) refl
@@ -96,9 +96,9 @@ by_name command step Keeps earlier state line none named = by (fields_of line) r
     by [] is = rw none (refl, tt)
     by (name ∷ fields) is = named name fields is
 
--- 3. The command `walk`: the height of the stack is the number of sets that are left.
+-- 3. The command `walk`: invariant, the height of the stack.
 
--- the stack is as much higher as the form of the line says
+-- the change of the height is that of the line's form
 abbrev Grows : WalkState → LineForm → Result WalkState LineFault → Type 0
 Grows state form (Ok next) = length next.stack + cond (combines form) 1 0 ≡ length state.stack + cond (pushes form) 1 0
 Grows state form (Err kind) = Unit {0}
@@ -151,7 +151,7 @@ sets_combined earlier marks (second ∷ first ∷ stack) combination [] height =
 no_set : (earlier : List (List ℕ)) (state : WalkState) (fields : List (List ℕ)) → WalkTells earlier state fields unknown (Err UnknownCommand)
 no_set earlier state fields = (refl, tt)
 
--- the stack's height: sets that were pushed, less those that were combined
+-- the height is the number of pushes less that of combinations
 abbrev IsHigh : List (List ℕ) → WalkState → Type 0
 IsHigh earlier state = length state.stack + count_by (λ line. combines (form_of_line Walk line)) earlier ≡ count_by (λ line. pushes (form_of_line Walk line)) earlier
 
@@ -177,7 +177,7 @@ walk_names earlier state fields height name =
     by false false false false false false false false false true = sets_combined earlier state.marks state.stack Intersection fields height
     by false false false false false false false false false false = no_set earlier state fields
 
--- the height of the stack after one line more
+-- the height after one more line
 higher : (earlier : List (List ℕ)) (state : WalkState) (line : List ℕ) (form : LineForm) (r : Result WalkState LineFault) → form_of_line Walk line ≡ form → IsHigh earlier state → Grows state form r
     → After r (IsHigh (earlier ++ line ∷ []))
 higher earlier state line form (Err kind) is high grows = tt
@@ -211,12 +211,12 @@ walk_told text = by (after_lines walk_step 1 walk_start (lines_of text)) (told W
     by (Err (Matchers count)) h = absurd h
     by (Err (Line line kind)) h = h
 
--- 4. The command `graph`: the nodes that are listed are those of the lines.
+-- 4. The command `graph`: invariant, the nodes that have adjacency lists.
 
 own_text : (a : List ℕ) → is_number a ≡ true → decimal (digits_value 10 a) ≡ a
 own_text a h = (bytes_eq-Decides _ _).0 (and_parts (nat_lt (digits_value 10 a) (2 ^ 64)) (bytes_eq (decimal (digits_value 10 a)) a) h).1
 
--- two numbers are equal just where their texts are
+-- two numbers are equal exactly if their decimal strings are
 two_numbers : (a b : List ℕ) → is_number a ≡ true → is_number b ≡ true → (digits_value 10 a == digits_value 10 b) ≡ bytes_eq a b
 two_numbers a b h k = by (digits_value 10 a == digits_value 10 b) (bytes_eq a b) refl refl
   where
@@ -228,17 +228,17 @@ two_numbers a b h k = by (digits_value 10 a == digits_value 10 b) (bytes_eq a b)
         sym ((bytes_eq-Decides a b).1 same) ∙ f
     by false true e f = sym e ∙ eq-eqb _ _ (ap (digits_value 10) ((bytes_eq-Decides a b).0 f))
 
--- a node is listed just where an earlier line has its text
+-- a node has a list exactly if an earlier line has its id
 abbrev IsListing : List (List ℕ) → GraphState → Type 0
 IsListing earlier state = (id : List ℕ) → is_number id ≡ true
     → is_some (state.listed (digits_value 10 id)) ≡ list_any (λ line. lists_node id (fields_of line)) earlier
 
--- whether these fields of a line, which may be that of a node, begin with this text
+-- whether these fields begin with this node's id
 abbrev begins : Bool → List (List ℕ) → List ℕ → Bool
 begins is_node [] id = false
 begins is_node (own ∷ neighbors) id = is_node && bytes_eq own id
 
--- what the next state lists beside the last one's
+-- the lists of the next state
 abbrev Lists : GraphState → Bool → List (List ℕ) → Result GraphState LineFault → Type 0
 Lists state is_node fields (Ok next) = (id : List ℕ) → is_number id ≡ true
     → is_some (next.listed (digits_value 10 id)) ≡ (is_some (state.listed (digits_value 10 id)) || begins is_node fields id)
@@ -255,7 +255,7 @@ or_true : (b : Bool) → true ≡ (b || true)
 or_true true = refl
 or_true false = refl
 
--- a line that is none of a node lists nothing more
+-- other lines add no list
 lists_as_before : (state : GraphState) (fields : List (List ℕ)) (id : List ℕ) → is_some (state.listed (digits_value 10 id)) ≡ (is_some (state.listed (digits_value 10 id)) || begins false fields id)
 lists_as_before state [] id = or_false _
 lists_as_before state (own ∷ neighbors) id = or_false _
@@ -312,7 +312,7 @@ graph_names earlier state fields listing name = by (bytes_eq name (codes "node")
     by false false false true = common_asked earlier state fields
     by false false false false = (refl, tt)
 
--- what is listed after one line more
+-- the lists after one more line
 longer : (earlier : List (List ℕ)) (state : GraphState) (line name : List ℕ) (fields : List (List ℕ)) (r : Result GraphState LineFault) → fields_of line ≡ name ∷ fields → IsListing earlier state
     → Lists state (bytes_eq name (codes "node")) fields r → After r (IsListing (earlier ++ line ∷ []))
 longer earlier state line name fields (Err kind) is listing lists = tt
@@ -334,7 +334,7 @@ graph_skips : (earlier : List (List ℕ)) (state : GraphState) → IsListing ear
 graph_skips earlier state listing = λ id number.
     listing id number ∙ or_false _ ∙ sym (list_any-append (λ l. lists_node id (fields_of l)) earlier ([] ∷ []))
 
--- 5. The commands whose lines do not depend on those before.
+-- 5. The commands whose lines are independent.
 
 abbrev IsAny : {S : Type 0} → List (List ℕ) → S → Type 0
 IsAny earlier state = Unit {0}
@@ -391,9 +391,9 @@ hash_agrees earlier output (name ∷ fields) = by (bytes_eq name (codes "raw")) 
     by false false false true = odd (length fields % 2 == 1) refl
     by false false false false = refl
 
--- 6. Whole texts.
+-- 6. Whole inputs.
 
--- a command without an end of its own
+-- a command without a condition on the last state
 plain : {S : Type 0} (command : Command) (P : S → Type 0) (lines : List (List ℕ)) (leaves : LeavesOneSet command lines) (r : Result S Fault) → Told P r (first_fault command [] 1 lines) → IsToldBy command lines r
 plain command P lines leaves (Ok state) h = (h.0, leaves)
 plain command P lines leaves (Err ReadInput) h = absurd h

@@ -1,4 +1,4 @@
--- The neighbours that a map lists are among the ids of its lists.
+-- Every neighbour is in the collected ids.
 use Rattle.std.proofs.Common.{◌≡◌, ◌==◌, ℕ, Bool, true, false, List, [], ◌∷◌, Option, Some, None, refl, arith}
 use Rattle.std.specs.Prelude.{All, cond, unwrap_or}
 use Rattle.std.specs.BTreeMap.{BTreeMap, get, is_at, values}
@@ -23,7 +23,7 @@ found_value {K} {X} test (e ∷ es) v is =
       | false ↦ λ later. Contains-append_right (e.1 ∷ []) (values_of es) v (found_value test es v later)
     ] is
 
--- where the ids hold each list of the map, they hold each neighbour
+-- if the ids contain every list of the map, they contain every neighbour
 pub neighbors_held : (m : BTreeMap ℕ (Vec ℕ Global)) (ids : List ℕ)
     → ((list : Vec ℕ Global) → Contains (values m) list → All (Contains ids) list.items)
     → HoldsNeighbors (graph_of (listed_in m)) ids

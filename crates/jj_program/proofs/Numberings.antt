@@ -1,4 +1,4 @@
--- Ids in ascending order, and their places.
+-- Binary search in a sorted list of ids.
 use Rattle.std.proofs.Common.{◌≡◌, ◌∙◌, ◌<◌, ◌≤◌, ℕ, List, length, get_or, arith, ap, sym, ⊎_elim}
 use Rattle.std.proofs.lemmas.Bool.{cases_eq, cases_lt}
 use Rattle.std.specs.Prelude.{Err}
@@ -16,7 +16,7 @@ rises ids up i j le within =
     (λ apart. let less = AllPairs-from_increasing ids up i j 0 (omega arith) within in omega (arith, less))
     (cases_eq i j)
 
--- a search that does not find an id was for none of them
+-- an unsuccessful search means that the id is not in the list
 pub none_missed : (ids : List ℕ) (id place : ℕ) → IsStrictlyIncreasing ids
     → IsBinarySearchResult (λ y. nat_cmp y id) ids (Err place) → Contains ids id → ⊥
 none_missed ids id place up missed (k, within, is) =

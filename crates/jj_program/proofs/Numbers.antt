@@ -1,4 +1,4 @@
--- What `parse` answers for a text with no plus and no leading zero.
+-- `parse` on strings without a leading plus or zero.
 use Rattle.std.proofs.Common.{◌≡◌, ◌≢◌, ℕ, ◌<◌, ◌^◌, List, Bool, true, false, Result, Ok, Err, Some, None, length, get_or, refl, sym, ap, ◌∙◌, arith, rules, subst, nat_lt, suc, lit<}
 use Prim.Native.Nat.{zero}
 use Rattle.std.specs.Prelude.{◌&&◌}
@@ -20,7 +20,7 @@ and_parts true true h = (refl, refl)
 and_parts true false h = cc
 and_parts false b h = cc
 
--- a text of digits with no leading zero is its value's text
+-- digits without a leading zero are the decimal string of their value
 pub number_of_digits : (text : List ℕ) → AllDigits 10 text → 0 < length text → (get_or text 0 0 ≡ 48 → length text ≡ 1) → digits_value 10 text < 2 ^ 64
     → number_of text ≡ Some (digits_value 10 text)
 number_of_digits text all some alone small =
@@ -29,7 +29,7 @@ number_of_digits text all some alone small =
     let below : nat_lt (digits_value 10 text) (2 ^ 64) ≡ true = search rules in
     rw (below, eq)
 
--- a number's text is of digits, with no leading zero and no plus
+-- a decimal string has only digits, and no leading zero or plus
 pub record IsPlainNumeral (text : List ℕ) : Type 0 where
   pub digits : AllDigits 10 text
   pub some : 0 < length text
@@ -62,7 +62,7 @@ number_is_digits text h =
 pub no_number : (text : List ℕ) → (is_number text ≡ true → ⊥) → number_of text ≡ None
 no_number text h = let e : is_number text ≡ false = false_from_ne_true (is_number text) h in rw e
 
--- what `parse` answers for a plain text is its number
+-- `parse` of a plain string returns its number
 pub number_of-parse : {E : Type 0} (text : List ℕ) (r : Result ℕ E) → ParsesUnsigned 64 10 text r → IsPlain text → result_ok r ≡ number_of text
 number_of-parse {E = E} text (Ok n) parsed plain =
     let ((digits, some, small), value) = parse_plain own {E = E} 64 text (Ok n) parsed plain.1 in
@@ -71,6 +71,6 @@ number_of-parse {E = E} text (Err e) parsed plain =
     let refused = parse_plain own {E = E} 64 text (Err e) parsed plain.1 in
     sym (no_number text (λ h. let it = number_is_digits text h in refused (it.digits, it.some, it.small)))
 
--- no other text is a number's
+-- no other string is canonical
 pub number_of-not_plain : (text : List ℕ) → ¬ (IsPlain text) → number_of text ≡ None
 number_of-not_plain text h = no_number text (λ is. let it = number_is_digits text is in h ((λ e. omega (arith, it.zero e)), it.no_plus))

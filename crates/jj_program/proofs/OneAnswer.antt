@@ -1,4 +1,4 @@
--- A command gives one answer for an input.
+-- Determinism of the commands.
 use Rattle.std.proofs.Common.{◌≡◌, ◌∙◌, ℕ, List, Bool, true, false, Option, Some, None, Result, Ok, Err, ap, refl, sym, subst}
 use Rattle.std.specs.Prelude.{pos}
 use Rattle.std.specs.Bool.{MatchBool}
@@ -25,7 +25,7 @@ use Rattle.jj_program.proofs.OneTree.{one_marked_tree}
 use Rattle.jj_program.proofs.OneGraph.{graph_gives_one}
 use Rattle.jj_program.proofs.Requests.{AnswersEach-once}
 
--- the marks of one request have one tree
+-- the tree of marks is unique
 one_walk : (request : WalkRequest) (s t : Tree Bool) → IsMarkedTree request.marks s → IsMarkedTree request.marks t → walk_lines request.set s ≡ walk_lines request.set t
 one_walk request s t of_s of_t = ap (walk_lines request.set) (one_marked_tree request.marks s t of_s of_t)
 
@@ -39,7 +39,7 @@ walk_gives_one text (Ok one) (Err fault) (request, asked, found) asked' = let bo
 walk_gives_one text (Err fault) (Ok one) asked (request, asked', found) = let both : Err fault ≡ Ok request = sym asked ∙ asked' in cc
 walk_gives_one text (Err fault) (Err other) asked asked' = let both : Err fault ≡ Err other = sym asked ∙ asked' in let same : fault ≡ other = cc in ap Err same
 
--- texts that decide a merge are the same
+-- a merge resolves to at most one string
 decided_once : (same_change : SameChange) (terms : List (List ℕ)) (one other : List ℕ) → ResolvesTo bytes_eq same_change terms one → ResolvesTo bytes_eq same_change terms other → one ≡ other
 decided_once Keep terms one other d d' = (bytes_eq-Decides one other).0 (d.1 other (λ none. let one_is_none : pos 1 ≡ pos 0 = sym d'.0 ∙ none in cc))
 decided_once Accept terms one other d d' = (bytes_eq-Decides one other).0 (d.1 other d'.0)

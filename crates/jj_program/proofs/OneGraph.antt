@@ -1,4 +1,4 @@
--- A request of a graph has one answer.
+-- The result of a graph request is unique.
 use Rattle.std.proofs.Common.{◌≡◌, ◌≢◌, ◌∙◌, ℕ, ◌<◌, ◌≤◌, ◌==◌, List, [], ◌∷◌, ◌++◌, Bool, true, false, Result, Ok, Err, ap, refl, sym, subst, arith, rules, nat_lt, length, get_or, ◌⊎◌, inl, inr, length-append, ⊎_elim}
 use Rattle.std.specs.Prelude.{◌↔◌, eqb, codes}
 use Rattle.std.specs.Bool.{one_answer}
@@ -17,7 +17,7 @@ use Rattle.jj_program.specs.Requests.{AnswersEach}
 use Rattle.jj_program.specs.GraphCommand.{GraphRequest, Order, Heads, Common, numbers_line, AnswersRequest, IsGraphAnswer, GivesGraph, graph_of}
 use Rattle.jj_program.proofs.Requests.{AnswersEach-once}
 
--- the two lists do not first differ anywhere
+-- the two lists have no first difference
 abbrev DifferNowhere : List ℕ → List ℕ → Type 0
 DifferNowhere one other = (front xs ys : List ℕ) (a b : ℕ) → one ≡ front ++ a ∷ xs → other ≡ front ++ b ∷ ys → a ≢ b → ⊥
 
@@ -35,7 +35,7 @@ apart a b differ = by_test (nat_lt a b) refl
     by_test true is = inl (search rules)
     by_test false is = let from : b ≤ a = search rules in inr (omega arith)
 
--- lists of one length that do not first differ anywhere are the same
+-- lists of equal length without a first difference are equal
 same_lists : (one other : List ℕ) → length one ≡ length other → DifferNowhere one other → one ≡ other
 same_lists [] [] len none = refl
 same_lists [] (b ∷ ys) len none = absurd (omega (arith, len))
@@ -46,7 +46,7 @@ same_lists (a ∷ xs) (b ∷ ys) len none =
     λ i. first i ∷ rest i)
     (λ differ. absurd (none [] xs ys a b refl refl differ)) (same_or_not a b)
 
--- distinct lists of the same members have one length
+-- distinct lists of the same members have equal length
 same_length : (one other : List ℕ) → IsDistinct eqb one → IsDistinct eqb other → ((a : ℕ) → Contains one a ↔ Contains other a) → length one ≡ length other
 same_length one other once once' same =
     length-from_same_keys nat_eq_equiv one other once once'
@@ -63,7 +63,7 @@ greatest_once graph ids one other of_one of_other =
     let low : a < b = of_other.greatest one first front ys xs b a e' e (λ same. differ (sym same)) in
     omega arith)
 
--- ascending lists of the same members are the same
+-- ascending lists of the same members are equal
 ascending_once : (one other : List ℕ) → IsStrictlyIncreasing one → IsStrictlyIncreasing other → IsDistinct eqb one → IsDistinct eqb other → ((a : ℕ) → Contains one a ↔ Contains other a) → one ≡ other
 ascending_once one other up up' once once' same = same_lists one other (same_length one other once once' same) nowhere
   where

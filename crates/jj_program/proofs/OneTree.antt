@@ -1,4 +1,5 @@
--- A tree whose names ascend at every node is known by its values, and so there is one tree of some marks.
+-- A tree with ascending names at every node is determined by its values, so the tree of some marks
+-- is unique.
 use Rattle.std.proofs.Common.{◌≡◌, Option, Some, None, IsSome, ◌∙◌, Bool, true, false, List, [], ◌∷◌, refl, ap, sym, subst}
 use mathlib.Core.Bool.{false≢true}
 use Rattle.std.specs.Str.{bytes_eq}
@@ -30,11 +31,11 @@ name_cmp-itself : (n : Name) → name_cmp n n ≡ Less → ⊥
 name_cmp-itself n less = let back : name_cmp n n ≡ ordering_reverse (name_cmp n n) = nat_list_cmp_total.antisymm n n in let e : Less ≡ Greater = sym less ∙ back ∙ ap ordering_reverse less in cc
 
 module _ {V : Type 0} where
-  -- the value at a path below a node that may be missing
+  -- the value at a path below an optional node
   abbrev value_below : Option (Tree V) → Path → Option V
   value_below o rest = option_map (λ node. node.value) (option_and_then (λ sub. get sub rest) o)
 
-  -- a child's name is greater than a name that is below all
+  -- a lower bound of the names is below each child's name
   less_than_child : (a : Branches V) (m n : Name) (sub : Tree V) → below_all name_cmp m (children a) ≡ true → child a n ≡ Some sub → name_cmp m n ≡ Less
   less_than_child none m n sub least e = absurd (none_some e)
   less_than_child (branch f value below after) m n sub least e = by_name (bytes_eq f n) refl (less_than_child after m n sub)
@@ -43,7 +44,7 @@ module _ {V : Type 0} where
       by_name true is later = subst (λ k. name_cmp m k ≡ Less) ((bytes_eq-Decides f n).0 is) (less_of (name_cmp m f) (and_parts (is_lt (name_cmp m f)) _ least).0)
       by_name false is later = let there : child after n ≡ Some sub = rw is at e in later (and_parts (is_lt (name_cmp m f)) _ least).1 there
 
-  -- no child has a name that is below all
+  -- no child has a name below the lower bound
   no_child_at_least : (a : Branches V) (n : Name) → below_all name_cmp n (children a) ≡ true → child a n ≡ None
   no_child_at_least a n least = known (child a n) refl
     where
@@ -51,7 +52,7 @@ module _ {V : Type 0} where
       known None is = refl
       known (Some sub) is = absurd (name_cmp-itself n (less_than_child a n n sub least is))
 
-  -- the same first name
+  -- equal first names
   same_first : (n m : Name) (a b : Branches V) (v w : V) (x y : Branches V) → below_all name_cmp n (children x) ≡ true → below_all name_cmp m (children y) ≡ true
       → ((name : Name) (rest : Path) → value_below (child (branch n v a x) name) rest ≡ value_below (child (branch m w b y) name) rest) → bytes_eq n m ≡ true
   same_first n m a b v w x y least least' same = by_name (bytes_eq n m) refl
@@ -97,7 +98,7 @@ module _ {V : Type 0} where
   no_first : (m : Name) (w : V) (b y : Branches V) → ((name : Name) (rest : Path) → value_below (child none name) rest ≡ value_below (child (branch m w b y) name) rest) → ⊥
   no_first m w b y same = let here : value_below (child (branch m w b y) m) [] ≡ Some w = rw ((bytes_eq-Decides m m).1 refl) refl in none_some (same m [] ∙ here)
 
-  -- the same values, and so the same branches
+  -- equal values give equal branches
   pub same_branches : (b c : Branches V) → is_ordered b ≡ true → is_ordered c ≡ true → ((name : Name) (rest : Path) → value_below (child b name) rest ≡ value_below (child c name) rest) → b ≡ c
   same_branches none none up up' same = refl
   same_branches none (branch m w b y) up up' same = absurd (no_first m w b y same)
@@ -134,7 +135,7 @@ module _ {V : Type 0} where
               ap (λ k. value_below (child x k) rest) (sym eq) ∙ ap (λ o. value_below o rest) (no_child_at_least x n least ∙ sym (no_child_at_least y n least')) ∙ ap (λ k. value_below (child y k) rest) eq
           later name rest false is = rw is at (same_here name rest)
 
-  -- the same values, and so the same tree
+  -- equal values give equal trees
   pub same_tree : (s t : Tree V) → is_ordered s.branches ≡ true → is_ordered t.branches ≡ true → ((path : Path) → value_at s path ≡ value_at t path) → s ≡ t
   same_tree s t up up' same =
       let root : Some s.value ≡ Some t.value = same [] in
@@ -142,7 +143,7 @@ module _ {V : Type 0} where
       let below : s.branches ≡ t.branches = same_branches s.branches t.branches up up' (λ name rest. same (name ∷ rest)) in
       λ i. tree_of (value i) (below i)
 
--- two trees of the same marks have the same values
+-- trees of the same marks have equal values
 pub one_marked_tree : (marks : List Path) (s t : Tree Bool) → IsMarkedTree marks s → IsMarkedTree marks t → s ≡ t
 one_marked_tree marks s t of_s of_t = same_tree s t of_s.ordered of_t.ordered (λ path. same path (value_at s path) refl (value_at t path) refl)
   where

@@ -1,4 +1,4 @@
--- Counts of two lists whose elements are taken one after another.
+-- Signed counts are invariant while two lists are consumed.
 use Rattle.std.proofs.Common.{◌≡◌, ◌∙◌, ℕ, ◌+◌, ◌-◌, ◌<◌, Bool, true, false, List, [], ◌∷◌, ◌++◌, cond, length, take, drop, refl, sym, ap, arith, get_or, length-drop}
 use Rattle.std.specs.Prelude.{count_by}
 use Rattle.std.proofs.lemmas.List.Sums.{count_by_more_yes, count_by_more_no, sum_by-append}
@@ -20,7 +20,7 @@ module _ {X : Type 0} (p : X → Bool) where
   count_one : (x : X) → count_by p (x ∷ []) ≡ cond (p x) 1 0
   count_one x = omega arith
 
-  -- an element that goes from one list's rest to the end of another is counted in the same way
+  -- moving an element from one list to the end of another preserves its count
   pub one_kept : (old new xs : List X) (i : ℕ) (d : X) (a b : ℕ) → i < length xs
       → new ≡ old ++ get_or xs i d ∷ [] → count_by p old + a ≡ b + count_by p (take i xs)
       → count_by p new + a ≡ b + count_by p (take (i + 1) xs)
@@ -29,7 +29,7 @@ module _ {X : Type 0} (p : X → Bool) where
       let pushed = ap (count_by p) e ∙ count_joined old (x ∷ []) in
       omega (arith, before, pushed, count_one x, count_step xs i d within)
 
-  -- two elements that are counted alike go together
+  -- a cancelled pair preserves the counts
   pub both_gone : (xs ys : List X) (i j : ℕ) (d : X) (a b : ℕ) → i < length xs → j < length ys
       → p (get_or xs i d) ≡ p (get_or ys j d)
       → a + count_by p (take j ys) ≡ b + count_by p (take i xs)
@@ -38,7 +38,7 @@ module _ {X : Type 0} (p : X → Bool) where
       let same = ap (λ (t : Bool). let n : ℕ = cond t 1 0 in n) alike in
       omega (arith, before, same, count_step xs i d within_xs, count_step ys j d within_ys)
 
-  -- the rest at the end
+  -- the remaining elements
   pub rest_kept : (old new xs : List X) (i : ℕ) → new ≡ old ++ take (length xs - i) (drop i xs)
       → count_by p new + count_by p (take i xs) ≡ count_by p old + count_by p xs
   rest_kept old new xs i e =

@@ -1,17 +1,17 @@
--- Outputs that answer requests one after the other.
+-- Outputs of lists of requests.
 use Rattle.std.proofs.Common.{◌≡◌, ◌∙◌, ℕ, ◌+◌, ◌<◌, List, [], ◌∷◌, ◌++◌, length, get_or, map, take, refl, ap, subst, sym, append_assoc}
 use Rattle.std.proofs.lemmas.List.{append-nil, map-append, take_more}
 use Rattle.jj_program.specs.Requests.{AnswersEach}
 
 module _ {Q : Type 0} (IsAnswer : Q → List ℕ → Type 0) where
-  -- one more request and its answer
+  -- one more request and its line
   pub AnswersEach-push : (requests : List Q) (request : Q) (output answer : List ℕ) → AnswersEach IsAnswer requests output → IsAnswer request answer
       → AnswersEach IsAnswer (requests ++ request ∷ []) (output ++ answer)
   AnswersEach-push [] request output answer none is = (answer, [], is, refl, ap (λ l. l ++ answer) none ∙ sym (append-nil answer))
   AnswersEach-push (first ∷ requests) request output answer (head, rest, is_first, more, e) is =
       (head, rest ++ answer, is_first, AnswersEach-push requests request rest answer more is, ap (λ l. l ++ answer) e ∙ append_assoc head rest answer)
 
-  -- where a request has one answer, the requests have one output
+  -- unique lines give a unique output
   pub AnswersEach-once : ((request : Q) (a b : List ℕ) → IsAnswer request a → IsAnswer request b → a ≡ b) → (requests : List Q) (one other : List ℕ)
       → AnswersEach IsAnswer requests one → AnswersEach IsAnswer requests other → one ≡ other
   AnswersEach-once once [] one other none none' = none ∙ sym none'
@@ -20,7 +20,7 @@ module _ {Q : Type 0} (IsAnswer : Q → List ℕ → Type 0) where
       let others = AnswersEach-once once requests rest rest' more more' in
       e ∙ (λ i. (first i) ++ (others i)) ∙ sym e'
 
-  -- the item at i is answered after those before it
+  -- the line of request i follows those before it
   pub AnswersEach-more : {V : Type 0} (view : V → Q) (items : List V) (i : ℕ) (item : V) (output grown answer : List ℕ) → i < length items → item ≡ get_or items i item
       → AnswersEach IsAnswer (map view (take i items)) output → IsAnswer (view item) answer → grown ≡ output ++ answer → AnswersEach IsAnswer (map view (take (i + 1) items)) grown
   AnswersEach-more view items i item output grown answer within found so_far is written =

@@ -1,4 +1,4 @@
--- A line said in parts.
+-- A line written in parts.
 use Rattle.std.proofs.Common.{◌≡◌, ◌∙◌, ◌+◌, ◌<◌, ℕ, suc, List, [], ◌∷◌, ◌++◌, length, take, drop, get_or, flat_map, Option, Result, Ok, Err, OnOk, is_err, true, false, sym, ap, subst, append_assoc, append-nil, take-append-drop, arith}
 use Rattle.std.proofs.Math.Seq.{take-suc}
 use Rattle.std.proofs.lemmas.Grind.{flat_map-append}
@@ -13,7 +13,7 @@ said texts = flat_map (λ text. text.now) texts
 next_place : (n : ℕ) → suc n ≡ n + 1
 next_place n = omega arith
 
--- one text more
+-- one more part
 pub said_more : (texts : List (Bor (List ℕ))) (place : ℕ) (d : Bor (List ℕ)) → place < length texts
     → said (take (place + 1) texts) ≡ said (take place texts) ++ (get_or texts place d).now
 said_more texts place d within =
@@ -21,7 +21,7 @@ said_more texts place d within =
     ∙ flat_map-append (λ text. text.now) (take place texts) (get_or texts place d ∷ [])
     ∙ ap (λ l. said (take place texts) ++ l) (append-nil (get_or texts place d).now)
 
--- a beginning of a text is a beginning of all texts from those before it on
+-- a prefix of a part, after the earlier parts, is a prefix of the line
 pub said_front : (texts : List (Bor (List ℕ))) (place : ℕ) (d : Bor (List ℕ)) (text : List ℕ) → text ≡ (get_or texts place d).now → place < length texts
     → (old middle new : Option (List ℕ)) → Appends old middle (said (take place texts)) → AppendsFrontOf middle new text → AppendsFrontOf old new (said texts)
 said_front texts place d text is within old middle new before (written, rest, appended, unmarked) =
@@ -37,7 +37,7 @@ said_front texts place d text is within old middle new before (written, rest, ap
           ∙ sym (append_assoc front (get_or texts place d).now back) ∙ sym whole,
     )
 
--- the texts so far and the next one were said
+-- the parts so far and the next one are written
 pub said_next : (texts : List (Bor (List ℕ))) (place : ℕ) (d : Bor (List ℕ)) (text : List ℕ) → text ≡ (get_or texts place d).now → place < length texts
     → (old middle new : Option (List ℕ)) → Appends old middle (said (take place texts)) → Appends middle new text → Appends old new (said (take (place + 1) texts))
 said_next texts place d text is within old middle new before appended =

@@ -1,4 +1,4 @@
--- Lists with the same paths give the same answers.
+-- Lists with the same members have the same visits.
 use Rattle.std.proofs.Common.{◌≡◌, Bool, List, [], ◌∷◌, ◌++◌, refl, if◌then◌else◌}
 use Rattle.jj_paths.specs.Paths.{Name, Path}
 use Rattle.jj_paths.specs.Orders.{path_eq}

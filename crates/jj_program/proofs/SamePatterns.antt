@@ -1,4 +1,4 @@
--- Sets of patterns with the same patterns, and lists with the same paths, give the same answers.
+-- Pattern sets with the same patterns, and lists with the same paths, have the same visits.
 use Rattle.std.proofs.Common.{◌≡◌, ◌∙◌, Bool, true, false, List, [], ◌∷◌, ◌++◌, refl, ap, sym, ◌||◌, ◌&&◌, if◌then◌else◌}
 use Rattle.std.specs.List.{list_any}
 use Rattle.std.proofs.lemmas.List.Folds.{list_any-append}
@@ -14,12 +14,12 @@ names_any : (test : Name → Bool) (paths : List Path) → list_any test (names_
 names_any test [] = refl
 names_any test (path ∷ paths) = list_any-append test path (names_of paths) ∙ ap (λ b. list_any test path || b) (names_any test paths)
 
--- the names of the same paths are the same
+-- lists of the same paths have the same names
 pub same_names : (paths others : List Path) → HasSamePaths paths others → (test : Name → Bool) → list_any test (names_of paths) ≡ list_any test (names_of others)
 same_names paths others same test = names_any test paths ∙ same (λ path. list_any test path) ∙ sym (names_any test others)
 
 module _ (own set : Patterns) (same : HasSamePatterns own set) where
-  -- the directories are the same
+  -- the directories are equal
   pub same_dirs : HasSamePaths (pattern_dirs own) (pattern_dirs set)
   same_dirs test =
       any-map (λ (pattern : Path × GlobSpec). pattern.0) test own.patterns

@@ -1,4 +1,4 @@
--- Steps that make one set make its parts, and these make the set again.
+-- Compiling the steps of a set, and rebuilding the set from its code, are inverse.
 use Rattle.std.proofs.Common.{◌≡◌, ◌∙◌, List, [], ◌∷◌, ◌++◌, refl, ap, sym, map, reverse}
 use Rattle.std.proofs.lemmas.List.{append_assoc, append-nil, reverse-append}
 use Rattle.jj_program.specs.declared.file_set.Combination.{Combination}
@@ -29,7 +29,7 @@ module _ {A : Type 0} where
       ∙ ap (λ l. parts_of second ++ BeforeSecond c ∷ l) (along_alone first rest)
       ∙ sym (append_assoc (parts_of second) (BeforeSecond c ∷ parts_of first) (parts_along [] rest)))
 
-  -- the steps of one set make its parts
+  -- steps compile to the code of the set
   pub parts_of_steps : (set : SetTree A) → parts_along [] (steps_to_all (set ∷ [])) ≡ parts_of set
   parts_of_steps set = along_alone set [] ∙ append-nil (parts_of set)
 
@@ -39,20 +39,20 @@ module _ {A : Type 0} where
       ap (λ l. combined_stack k (sets_of l)) (append_assoc (parts_of second) (BeforeSecond k ∷ parts_of first) rest)
       ∙ ap (combined_stack k) (sets_from second (BeforeSecond k ∷ (parts_of first ++ rest)) ∙ ap (λ l. second ∷ l) (sets_from first rest))
 
-  -- and the parts make the set
+  -- the code builds the set
   pub sets_of_parts : (set : SetTree A) → sets_of (parts_of set) ≡ set ∷ []
   sets_of_parts set = ap sets_of (sym (append-nil (parts_of set))) ∙ sets_from set []
 
-  -- two sets that are combined leave steps that make the stack
+  -- after a combination the steps still build the stack
   pub whole_joined : (k : Combination) (first second : SetTree A) (stack : List (SetTree A)) →
       Combine k ∷ steps_to_all (second ∷ first ∷ stack) ≡ steps_to_all (both k first second ∷ stack)
   whole_joined k first second stack = ap (λ l. Combine k ∷ l) (sym (append_assoc (steps_to second) (steps_to first) (steps_to_all stack)))
 
--- the last item comes first
+-- the last item is first in reverse
 pub reverse_more : {A : Type 0} (xs : List A) (x : A) → reverse (xs ++ x ∷ []) ≡ x ∷ reverse xs
 reverse_more xs x = reverse-append xs (x ∷ [])
 
--- the parts of values are the values' parts
+-- compilation commutes with the model
 pub parts_along-map : (wanting : List Combination) (steps : List (SetStep FileSet)) → map part_of (parts_along wanting steps) ≡ parts_along wanting (map step_of steps)
 parts_along-map wanting [] = refl
 parts_along-map wanting (Combine k ∷ earlier) = ap (λ l. AfterBoth k ∷ l) (parts_along-map (k ∷ wanting) earlier)

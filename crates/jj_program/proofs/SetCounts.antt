@@ -1,4 +1,4 @@
--- How many sets steps make, and that the steps of a stack are those that make it.
+-- Heights of stacks, and steps as the inverse of stacks.
 use Rattle.std.proofs.Common.{◌≡◌, ◌∙◌, ◌≤◌, true, List, [], ◌∷◌, refl, ap, arith, length, reverse}
 use mathlib.Core.Bool.{false≢true}
 use Rattle.std.proofs.lemmas.Bool.{and_parts}
@@ -37,7 +37,7 @@ whole_joined_stack k steps [] is two = absurd (false≢true two)
 whole_joined_stack k steps (alone ∷ []) is two = absurd (false≢true two)
 whole_joined_stack k steps (second ∷ first ∷ stack) is two = ap (λ l. Combine k ∷ l) is ∙ whole_joined k first second stack
 
--- steps that find their sets are those that make the stack
+-- complete steps are those of the stack
 pub steps_from : (steps : List (SetStep NamedSet)) → is_whole steps ≡ true → steps ≡ steps_to_all (stack_of steps)
 steps_from [] whole = refl
 steps_from (Push set ∷ earlier) whole = ap (λ l. Push set ∷ l) (steps_from earlier whole)

@@ -1,4 +1,4 @@
--- Matchers in place of the sets at the leaves make a matcher of the combined set.
+-- Replacing each leaf by its matcher implements the combined set.
 use Rattle.std.proofs.Common.{◌≡◌, ◌∙◌, Bool, true, false, List, [], ◌∷◌, ◌++◌, refl, ap, sym, subst, map, reverse, length, ◌||◌, ◌&&◌, if◌then◌else◌}
 use Rattle.std.specs.List.{list_any}
 use Rattle.std.proofs.lemmas.List.{append_assoc, append-nil}
@@ -24,13 +24,13 @@ use Rattle.jj_program.proofs.SetBuilds.{parts_along-map, parts_of_steps, sets_of
 use Rattle.jj_program.proofs.SetCounts.{only_item, steps_from}
 use Rattle.jj_program.proofs.SetPasses.{told}
 
--- a matcher answers as a set does, from the same names
+-- a matcher implements a set
 pub record StandsForSet (matcher : SetTree LeafMatcher) (set : SetTree NamedSet) : Type 0 where
   pub accepts : (path : Path) → set_accepts matcher path ≡ accepted_by set path
   pub answers : (dir : Path) → set_answer matcher dir ≡ answered_by set dir
   pub names : (test : Name → Bool) → list_any test (names_by leaf_names matcher) ≡ list_any test (names_by named_names set)
 
--- an intersection's answer depends on which names there are, and not on their order
+-- the visit of an intersection depends on the set of names, not on their order
 same_intersection : (names others : List Name) → ((test : Name → Bool) → list_any test names ≡ list_any test others) → (a b : Answer) →
     intersection_answer names a b ≡ intersection_answer others a b
 same_intersection names others same all_recursively b = refl
@@ -72,7 +72,7 @@ module _ (m n : SetTree LeafMatcher) (s t : SetTree NamedSet) (first : StandsFor
 stands_alone : (matcher : LeafMatcher) (set : NamedSet) → StandsFor matcher set → StandsForSet (one matcher) (one set)
 stands_alone matcher set stands = record { accepts = stands.accepts; answers = stands.answers; names = stands.names }
 
--- the parts of a matcher of a set, and the parts after them
+-- the code of a matcher followed by more code
 pub record Built (set : SetTree NamedSet) (parts : List (Part LeafMatcher)) (rest : List (Part NamedSet)) : Type 0 where
   pub matcher : SetTree LeafMatcher
   pub left : List (Part LeafMatcher)
@@ -80,7 +80,7 @@ pub record Built (set : SetTree NamedSet) (parts : List (Part LeafMatcher)) (res
   pub stands : StandsForSet matcher set
   pub others : StandForParts left rest
 
--- how the parts of a set are taken off, where it is known for some
+-- splitting code into that of a set and the remainder
 abbrev Builds : SetTree NamedSet → Type 0
 Builds set = (parts : List (Part LeafMatcher)) (rest : List (Part NamedSet)) → StandForParts parts (parts_of set ++ rest) → Built set parts rest
 
@@ -119,7 +119,7 @@ build (both k first second) (Leaf matcher ∷ parts) rest stand = absurd stand.0
 build (both k first second) (BeforeSecond own ∷ parts) rest stand = absurd stand.0
 build (both k first second) (AfterBoth own ∷ parts) rest stand = build_both k first second (build first) (build second) own stand.0 parts rest stand.1
 
--- parts with a matcher in place of each set of a set's parts are those of a matcher of the set
+-- code with matchers for leaves is the code of a matcher
 pub record IsMatcherOf (set : SetTree NamedSet) (parts : List (Part LeafMatcher)) : Type 0 where
   pub matcher : SetTree LeafMatcher
   pub made : parts ≡ parts_of matcher
@@ -138,14 +138,14 @@ matcher_of set parts stand =
       stands = built.stands;
     }
 
--- one more matcher for one more part
+-- one more instruction
 pub stand_more : (own : List (Part LeafMatcher)) (parts : List (Part NamedSet)) (one_own : Part LeafMatcher) (part : Part NamedSet) → StandForParts own parts → StandsForPart one_own part → StandForParts (own ++ one_own ∷ []) (parts ++ part ∷ [])
 stand_more [] [] one_own part h stands = (stands, tt)
 stand_more [] (other ∷ parts) one_own part h stands = absurd h
 stand_more (first ∷ own) [] one_own part h stands = absurd h
 stand_more (first ∷ own) (other ∷ parts) one_own part h stands = (h.0, stand_more own parts one_own part h.1 stands)
 
--- what the matchers of the parts of a stack of one set make
+-- the matcher of the only set of a stack
 pub record NewMatcher (sets : List (SetTree NamedSet)) (parts : List (Part LeafMatcher)) : Type 0 where
   pub told_by : IsTold parts
   pub stands : (set : SetTree NamedSet) → sets ≡ set ∷ [] → StandsForSet (made_by parts) set

@@ -1,4 +1,4 @@
--- One pass over the parts of a set tells whether the set passes a test.
+-- Correctness of short-circuit evaluation.
 use Rattle.std.proofs.Common.{◌≡◌, ◌∙◌, ◌<◌, ◌≤◌, ◌+◌, ℕ, zero, suc, Bool, true, false, List, [], ◌∷◌, ◌++◌, refl, ap, sym, arith, length, get_or, drop, drop-cons, if◌then◌else◌}
 use Rattle.std.proofs.lemmas.List.{drop_all}
 use Rattle.jj_program.specs.declared.file_set.Combination.{Combination}
@@ -14,7 +14,7 @@ module _ {A : Type 0} (test : A → Bool) where
   pass_over-append [] ys p = refl
   pass_over-append (x ∷ xs) ys p = ap (after_part test x) (pass_over-append xs ys p)
 
-  -- what is decided stays so
+  -- a short-circuited operand does not change the state
   kept : (set : SetTree A) (n : ℕ) (b : Bool) → pass_over test (parts_of set) (pass_at (suc n) b) ≡ pass_at (suc n) b
   kept (one x) n b = refl
   kept (both k first second) n b =
@@ -23,7 +23,7 @@ module _ {A : Type 0} (test : A → Bool) where
       ∙ ap (λ p. pass_over test (parts_of second) (after_part test (BeforeSecond k) p)) (kept first n b)
       ∙ kept second (suc n) b)
 
-  -- the second set is asked where the first leaves it open
+  -- the second operand is evaluated unless the first determines the result
   second_set : (k : Combination) (u : Bool) (second : SetTree A) → ((b : Bool) → pass_over test (parts_of second) (pass_at 0 b) ≡ pass_at 0 (passes test second)) →
       after_part test (AfterBoth k) (pass_over test (parts_of second) (before_second k 0 u)) ≡ pass_at 0 (combined_test k u (passes test second))
   second_set Union true second asked = ap (after_part test (AfterBoth Union)) (kept second 0 true)
@@ -41,7 +41,7 @@ module _ {A : Type 0} (test : A → Bool) where
       ∙ ap (λ p. pass_over test (parts_of second) (after_part test (BeforeSecond k) p)) (told first b))
       ∙ second_set k (passes test first) second (told second)
 
--- one more part, the one before those that were passed
+-- one more instruction
 pub pass_next : {A : Type 0} (test : A → Bool) (parts : List (Part A)) (start p : Pass) (left : ℕ) (part : Part A) → left < length parts → part ≡ get_or parts left part →
     p ≡ pass_over test (drop (suc left) parts) start → after_part test part p ≡ pass_over test (drop left parts) start
 pass_next test parts start p left part within is so_far =
@@ -49,7 +49,7 @@ pass_next test parts start p left part within is so_far =
     ∙ ap (λ x. after_part test x (pass_over test (drop (suc left) parts) start)) is
     ∙ sym (ap (λ l. pass_over test l start) (drop-cons parts left part within))
 
--- one part decides one combination at most
+-- an instruction short-circuits at most one combination
 pub after_part-few : {A : Type 0} (test : A → Bool) (part : Part A) (p : Pass) → (after_part test part p).decided ≤ p.decided + 1
 after_part-few test (Leaf set) p = leaf p.decided p.is_in
   where
@@ -71,6 +71,6 @@ after_part-few test (AfterBoth k) p = combined p.decided p.is_in
     combined zero b = omega arith
     combined (suc n) b = omega arith
 
--- no part comes after the last one
+-- the code ends after the last instruction
 pub pass_none : {A : Type 0} (test : A → Bool) (parts : List (Part A)) (start : Pass) (n : ℕ) → length parts ≤ n → start ≡ pass_over test (drop n parts) start
 pass_none test parts start n h = sym (ap (λ l. pass_over test l start) (drop_all n parts h))

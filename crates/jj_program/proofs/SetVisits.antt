@@ -1,4 +1,4 @@
--- The answers for a directory of the sets of a stack.
+-- Visits of a directory by the sets of a stack.
 use Rattle.std.proofs.Common.{◌≡◌, ◌∙◌, List, [], ◌∷◌, ◌++◌, refl, ap, sym, subst, reverse}
 use Rattle.jj_paths.specs.Paths.{Name, Path}
 use Rattle.jj_matchers.specs.Answers.{Answer, IsSound}
@@ -39,7 +39,7 @@ module _ (dir : Path) (s t : SetTree LeafMatcher) (a b : Answer) (one : IsAnswer
   chosen_joined Difference = difference_chooses ours a b one.chosen
   chosen_joined Intersection = intersection_chooses (ours ++ theirs) a b from_first from_second
 
-  -- two answers combine to that of the combination
+  -- the visit of a combination is that of its operands combined
   pub joined_is_answer : (k : Combination) (c : Answer) → ((names : List Name) → ChoosesFrom names a → ChoosesFrom names b → c ≡ combined_answer k names a b) → IsAnswerOf dir (both k s t) c
   joined_is_answer k c combined =
       let is : c ≡ combined_answer k (ours ++ theirs) a b = combined (ours ++ theirs) from_first from_second in
@@ -57,7 +57,7 @@ module _ (dir : Path) (k : Combination) where
   join_two (t ∷ []) second first visit visits combined h = absurd h.1
   join_two (t ∷ s ∷ stack) second first visit visits combined h = (joined_is_answer dir s t (answer_of first) (answer_of second) h.1.0 h.0 k (answer_of visit) combined, h.1.1)
 
-  -- two are combined
+  -- the top two are combined
   pub combine_two : (stack : List (SetTree LeafMatcher)) (second first visit : Visit) (old mid rest new : List Visit) → old ≡ mid ++ second ∷ [] → mid ≡ rest ++ first ∷ [] → new ≡ rest ++ visit ∷ [] →
       ((names : List Name) → ChoosesFrom names (answer_of first) → ChoosesFrom names (answer_of second) → answer_of visit ≡ combined_answer k names (answer_of first) (answer_of second)) →
       AnswerAll dir stack (reverse old) → AnswerAll dir (combined_stack k stack) (reverse new)
@@ -65,7 +65,7 @@ module _ (dir : Path) (k : Combination) where
       let before : reverse old ≡ second ∷ first ∷ reverse rest = ap reverse e ∙ reverse_more mid second ∙ ap (λ l. second ∷ l) (ap reverse f ∙ reverse_more rest first) in
       subst (AnswerAll dir (combined_stack k stack)) (sym (ap reverse g ∙ reverse_more rest visit)) (join_two stack second first visit (reverse rest) combined (subst (AnswerAll dir stack) before h))
 
--- the answer on top is that of the set on top, and with no set it is that of nothing
+-- the top visit is that of the top set; an empty stack visits nothing
 pub answer_top : (dir : Path) (sets : List (SetTree LeafMatcher)) (visits rest : List Visit) (visit : Visit) → visits ≡ rest ++ visit ∷ [] → AnswerAll dir sets (reverse visits) → IsAnswerOf dir (top_set sets) (answer_of visit)
 answer_top dir sets visits rest visit is answers = top sets (subst (AnswerAll dir sets) (ap reverse is ∙ reverse_more rest visit) answers)
   where

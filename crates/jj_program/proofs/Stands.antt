@@ -1,4 +1,4 @@
--- A matcher of the same paths or patterns stands for a set.
+-- A matcher with the same paths or patterns implements a set.
 use Rattle.std.proofs.Common.{List, refl}
 use Rattle.jj_paths.specs.Paths.{Path}
 use Rattle.jj_paths.specs.Orders.{path_eq}

@@ -1,4 +1,4 @@
--- The first line of a text, and its fault; the items that are left of a list.
+-- The first line of an input and its fault; the remaining items of a list.
 use Rattle.std.proofs.Common.{◌≡◌, ◌≢◌, ℕ, ◌<◌, ◌==◌, false, List, [], ◌∷◌, Option, Some, None, Result, Ok, Err, ◌+◌, Bor, All, map, drop, drop-cons, add-one, suc, get_or, length, length-append, refl, ap, sym, ◌∙◌, arith, lit<}
 use Rattle.std.proofs.lemmas.Bool.{ne_eqb}
 use Rattle.std.proofs.lemmas.List.{drop-map}
@@ -10,7 +10,7 @@ use Rattle.jj_program.specs.declared.fault.Fault.{Fault}
 use Rattle.jj_program.specs.declared.fault.Fault.TheVariants.{ReadInput, NotUtf8, Memory, WriteOutput, Matchers, Line}
 use Rattle.jj_program.specs.Lines.{lines_of, after_line, after_lines, result_and_then, IsFaultOf}
 
--- the items from i on, seen by `view`
+-- the models of the items after the first i
 pub drop_map_next : {A : Type 0} (view : A → List ℕ) (items : List A) (i : ℕ) (d : A) → i < length items
     → drop i (map view items) ≡ view (get_or items i d) ∷ drop (i + 1) (map view items)
 drop_map_next view items i d h =
@@ -19,7 +19,7 @@ drop_map_next view items i d h =
 ends_no_line : (text : List ℕ) → ((i : ℕ) → i < length text → get_or text i 0 ≢ 10) → All (λ b. (b == 10) ≡ false) text
 ends_no_line text other = All-from_get_or (λ b. (b == 10) ≡ false) text 0 (λ i within. ne_eqb (get_or text i 0) 10 (other i within))
 
--- the first line of a text that has a line feed, and what follows it
+-- an input with a line feed is its first line and a remainder
 pub record IsFirstLine (text line behind : List ℕ) : Type 0 where
   pub first : lines_of text ≡ line ∷ lines_of behind
   pub shorter : length behind < length text
@@ -33,13 +33,13 @@ first_line text r x split is =
       shorter = omega (arith, ap length cut, length-append x.0.now (10 ∷ x.1.now));
     }
 
--- a text without a line feed is one line
+-- an input without a line feed is one line
 pub one_line : (text : List ℕ) (r : Option (Bor (List ℕ) × Bor (List ℕ))) → IsSplitOnceResult 10 text r → r ≡ None → lines_of text ≡ text ∷ []
 one_line text r split is =
     let plain = rw is at (split_parts 10 text r split (lit< tt)) in
     slice_split_none (λ b. b == 10) text (ends_no_line text plain)
 
--- a line's fault is the fault of all lines
+-- a line's fault is that of the remaining lines
 pub IsFaultOf-first : {S : Type 0} (fault : Fault) (first : Result S Fault) (more : S → Result S Fault) (whole : Result S Fault)
     → result_and_then first more ≡ whole → IsFaultOf fault first → IsFaultOf fault whole
 IsFaultOf-first Memory first more whole e h = tt
@@ -50,7 +50,7 @@ IsFaultOf-first (Matchers count) first more whole e h = sym e ∙ ap (λ r. resu
 IsFaultOf-first (Line line kind) first more whole e h = sym e ∙ ap (λ r. result_and_then r more) h
 
 module _ {S : Type 0} (step : S → List (List ℕ) → Result S LineFault) where
-  -- one more line of those that are left
+  -- one more line
   pub next_line : (number : ℕ) (state next : S) (text line behind : List ℕ) (whole : Result S Fault) → IsFirstLine text line behind
       → after_lines step number state (lines_of text) ≡ whole → after_line step number state line ≡ Ok next
       → after_lines step (number + 1) next (lines_of behind) ≡ whole
@@ -58,7 +58,7 @@ module _ {S : Type 0} (step : S → List (List ℕ) → Result S LineFault) wher
       sym (ap (λ r. result_and_then r (λ further. after_lines step (number + 1) further (lines_of behind))) taken)
       ∙ sym (ap (after_lines step number state) cut.first) ∙ all
 
-  -- a line's fault is that of all lines
+  -- a line's fault is that of the input
   pub line_fault : (fault : Fault) (number : ℕ) (state : S) (text line behind : List ℕ) (whole : Result S Fault) → IsFirstLine text line behind
       → after_lines step number state (lines_of text) ≡ whole → IsFaultOf fault (after_line step number state line) → IsFaultOf fault whole
   line_fault fault number state text line behind whole cut all found =

@@ -1,4 +1,4 @@
--- What holds of a merge of borrowed texts, which are equal where their bytes are, holds of the bytes.
+-- Merges of borrowed strings behave as merges of their bytes.
 use Rattle.std.proofs.Common.{◌≡◌, ◌∙◌, ℕ, ◌+◌, Bool, List, [], ◌∷◌, Option, Some, None, cond, length, refl, sym, ap, subst}
 use Rattle.std.specs.Prelude.{pos, ◌-ℤ◌, ◌<ℤ◌, codes, count_by, slice_get}
 use Rattle.std.specs.Str.{bytes_eq}
@@ -21,7 +21,7 @@ use Rattle.jj_program.specs.MergeCommand.{AnswersQuestion, outcome_line}
 use Rattle.jj_program.specs.Texts.{Text, texts_of}
 use Rattle.jj_program.specs.TextMerges.{text_eq, IsTextOutcome}
 
--- a text of these bytes
+-- a borrowed string with these bytes
 abbrev text_of : List ℕ → Text
 text_of bytes = record { ref_ptr = (0, 0); now = bytes }
 
@@ -43,7 +43,7 @@ signed-bytes m v =
     let removed = ap (count_by (bytes_eq v.now)) (removes-bytes m) ∙ count-bytes (bytes_eq v.now) (removes m) in
     λ i. pos (added i) -ℤ pos (removed i)
 
--- a decided text's bytes are decided
+-- resolution carries over to the bytes
 pub decided_bytes : (same_change : SameChange) (m : List Text) (v : Text) → ResolvesTo text_eq same_change m v → ResolvesTo bytes_eq same_change (texts_of m) v.now
 decided_bytes Keep m v d = (signed-bytes m v ∙ d.0, λ w some. d.1 (text_of w) (λ none. some (signed-bytes m (text_of w) ∙ none)))
 decided_bytes Accept m v d = (
@@ -52,7 +52,7 @@ decided_bytes Accept m v d = (
   λ w x down down'. d.2 (text_of w) (text_of x) (subst (λ n. n <ℤ pos 0) (signed-bytes m (text_of w)) down) (subst (λ n. n <ℤ pos 0) (signed-bytes m (text_of x)) down'),
 )
 
--- and the other way round
+-- and back
 pub decided_text : (same_change : SameChange) (m : List Text) (v : List ℕ) → ResolvesTo bytes_eq same_change (texts_of m) v → ResolvesTo text_eq same_change m (text_of v)
 decided_text Keep m v d = (sym (signed-bytes m (text_of v)) ∙ d.0, λ w some. d.1 w.now (λ none. some (sym (signed-bytes m w) ∙ none)))
 decided_text Accept m v d = (
@@ -103,7 +103,7 @@ same_texts [] (y ∷ ys) h = absurd h
 same_texts (x ∷ xs) [] h = absurd h
 same_texts (x ∷ xs) (y ∷ ys) h = let first : y.now ≡ x.now = ap (λ (text : Text). text.now) h.0 in let rest = same_texts xs ys h.1 in λ i. (first i) ∷ (rest i)
 
--- the bytes of what is left of a merge of texts
+-- the bytes of a simplified merge
 pub left_bytes : (m left : List Text) → AllZip (λ x y. y ≡ x) (at_indices m (simplified_indices text_eq m)) left → texts_of left ≡ at_indices (texts_of m) (simplified_indices bytes_eq (texts_of m))
 left_bytes m left h =
     same_texts (at_indices m (simplified_indices text_eq m)) left h
@@ -115,13 +115,13 @@ member_bytes : (same_change : SameChange) (m : List Text) (v : Text)
 member_bytes same_change m v decided =
     decided_stands same_change (texts_of m) v.now (decided_bytes same_change m v decided)
 
--- what is left answers a request to simplify
+-- the simplified merge is the result of `simplify`
 pub answers_simplify : (question : Question) (m left : List Text) → question ≡ Simplify → AllZip (λ x y. y ≡ x) (at_indices m (simplified_indices text_eq m)) left
     → AnswersQuestion question (texts_of m) (line_text (codes "terms") (texts_of left))
 answers_simplify question m left asked kept =
     subst (λ q. AnswersQuestion q (texts_of m) (line_text (codes "terms") (texts_of left))) (sym asked) (ap (line_text (codes "terms")) (left_bytes m left kept))
 
--- the text that the counts decide, or none, answers a request for the outcome
+-- the resolved string, if any, is the result of `keep` and `accept`
 pub answers_outcome : (question : Question) (same_change : SameChange) (m : List Text)
     (o : Option Text) → question ≡ Resolve same_change → IsTextOutcome same_change m o
     → AnswersQuestion question (texts_of m) (outcome_line (option_map (λ text. text.now) o))

@@ -1,4 +1,4 @@
--- Merges of equal counts have the same outcome, and it is one of their terms.
+-- Merges with equal signed counts resolve alike, to one of their terms.
 use Rattle.std.proofs.Common.{◌≡◌, ◌∙◌, ◌+◌, ◌%◌, Bool, List, [], ◌∷◌, Option, Some, None, length, refl, sym, subst, arith}
 use Rattle.std.specs.Prelude.{pos, ◌<ℤ◌}
 use Rattle.jj_merges.specs.declared.merge.SameChange.{SameChange}
@@ -26,7 +26,7 @@ outcome_by_counts same_change m n (Some v) h d = decided_by_counts text_eq same_
 outcome_by_counts same_change m n None h none =
     λ v d. none v (decided_by_counts text_eq same_change n m v (λ w. sym (h w)) d)
 
--- an odd number of terms has one more add than removes
+-- an odd list has one more add than removes
 pub one_more_add : {T : Type 0} (m : List T) → length m % 2 ≡ 1 → length (adds m) ≡ length (removes m) + 1
 one_more_add [] odd = absurd (omega arith)
 one_more_add (x ∷ []) odd = refl

@@ -1,4 +1,4 @@
--- The texts that name a fault.
+-- Messages of faults.
 -- Cited by contracts of public items: fault_text, line_fault_text.
 use Rattle.std.specs.Prelude.{ℕ, List, ◌++◌, codes}
 use Rattle.std.specs.Fmt.{decimal}
@@ -7,7 +7,6 @@ use Rattle.jj_program.specs.declared.fault.LineFault.TheVariants.{UnknownCommand
 use Rattle.jj_program.specs.declared.fault.Fault.{Fault}
 use Rattle.jj_program.specs.declared.fault.Fault.TheVariants.{ReadInput, NotUtf8, Memory, WriteOutput, Matchers, Line}
 
--- what is wrong with a line
 abbrev pub line_fault_text : LineFault → List ℕ
 line_fault_text UnknownCommand = codes "unknown command"
 line_fault_text BadFieldCount = codes "bad field count"
@@ -18,7 +17,6 @@ line_fault_text BadNumber = codes "bad number"
 line_fault_text RepeatedNode = codes "repeated node"
 line_fault_text BadHex = codes "bad hex"
 
--- what a run failed by
 abbrev pub fault_text : Fault → List ℕ
 fault_text ReadInput = codes "cannot read input"
 fault_text NotUtf8 = codes "input is not UTF-8"

@@ -1,4 +1,4 @@
--- Fields that come in pairs.
+-- Alternating fields.
 -- Cited by contracts of public items through LineFaults, WalkCommand.
 use Rattle.std.specs.Prelude.{Bool, true, false, List, [], ◌∷◌}
 
@@ -8,7 +8,7 @@ is_paired [] = true
 is_paired (alone ∷ []) = false
 is_paired (first ∷ second ∷ fields) = is_paired fields
 
--- the first of each pair, and the second of each
+-- the fields at even and at odd indices; an unpaired last field is dropped
 abbrev pub firsts : {A : Type 0} → List A → List A
 firsts [] = []
 firsts (alone ∷ []) = []

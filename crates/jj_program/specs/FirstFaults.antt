@@ -1,4 +1,4 @@
--- Which line's fault a command answers.
+-- Line faults name the first faulty line.
 -- Cited by contracts of public items: GivesFirstFault.
 use Rattle.std.specs.Prelude.{◌≡◌, ℕ, ◌-◌, ◌<◌, ◌≤◌, List, length, take, Err}
 use Rattle.jj_program.specs.declared.fault.Fault.TheVariants.{Line}
@@ -7,12 +7,12 @@ use Rattle.jj_program.specs.declared.program.Command.{Command}
 use Rattle.jj_program.specs.Lines.{lines_of}
 use Rattle.jj_program.specs.Program.{GivesText}
 
--- two texts begin with the same lines, as many as this
+-- two inputs have the same first `count` lines
 abbrev pub BeginAlike : ℕ → List ℕ → List ℕ → Type 0
 BeginAlike count text other = take count (lines_of text) ≡ take count (lines_of other)
 
--- the faulty line is there; every text that begins with the lines up to it has its fault; and no
--- text that begins with the lines before it has a fault in one of them
+-- the line exists; every input with the same lines up to it has the same fault; and no input with
+-- the same earlier lines has a fault in one of those
 pub record IsFirstFault (command : Command) (text : List ℕ) (line_number : ℕ) (kind : LineFault)
     : Type 0 where
   pub there : (1 ≤ line_number) × (line_number ≤ length (lines_of text))
@@ -22,7 +22,7 @@ pub record IsFirstFault (command : Command) (text : List ℕ) (line_number : ℕ
       → BeginAlike (line_number - 1) text other → earlier < line_number
       → GivesText command other (Err (Line earlier fault)) → ⊥
 
--- a fault that a command gives with a line is that of the first faulty line
+-- a line fault of a command is that of the first faulty line
 abbrev pub GivesFirstFault : Type 0
 GivesFirstFault = (command : Command) (text : List ℕ) (line_number : ℕ) (kind : LineFault)
     → GivesText command text (Err (Line line_number kind))

@@ -1,4 +1,4 @@
--- The paths of the set that a text names, and what its walk finds, in the words of sets.
+-- The files that a walk finds, as a set.
 -- Cited by contracts of public items: FindsItsFiles.
 use Rattle.std.specs.Prelude.{◌≡◌, ◌≢◌, ◌↔◌, ◌⊎◌, ℕ, List, [], ◌++◌, codes, Contains, Ok}
 use Rattle.std.specs.List.Sorted.{IsStrictlySortedBy}
@@ -9,8 +9,8 @@ use Rattle.jj_program.specs.SetTrees.{SetTree, one, both}
 use Rattle.jj_program.specs.Walked.{GivesWalk, path_lines}
 use Rattle.jj_program.specs.WalkCommand.{NamedSet, Everything, Nothing, Files, Prefix, Globs, WalkRequest, walk_request}
 
--- the path is in the set that a line names: all are, none is, those of a list, those at or below
--- one of a list, or those whose rest below a pattern's directory its glob stands for
+-- the path is in a leaf: all paths, none, those of a list, those at or below one of a list, or
+-- those whose suffix below a pattern's directory its glob matches
 abbrev pub IsNamed : NamedSet → Path → Type 0
 IsNamed Everything path = Unit {0}
 IsNamed Nothing path = ⊥
@@ -25,13 +25,13 @@ IsIn (both Union first second) path = IsIn first path ⊎ IsIn second path
 IsIn (both Difference first second) path = IsIn first path × (IsIn second path → ⊥)
 IsIn (both Intersection first second) path = IsIn first path × IsIn second path
 
--- these are the marked paths below the root that are in the set, each once, in path order
+-- exactly the marked paths below the root that are in the set, each once, in path order
 pub record AreFound (request : WalkRequest) (found : List Path) : Type 0 where
   pub exact : (path : Path) → Contains found path
       ↔ (Contains request.marks path × (path ≢ []) × IsIn request.set path)
   pub ordered : IsStrictlySortedBy path_cmp found
 
--- the output of a walk is the lines of those files, and then those of the directories entered
+-- the output of a walk: a line per file, then a line per directory entered
 abbrev pub FindsItsFiles : Type 0
 FindsItsFiles = (text output : List ℕ) → GivesWalk text (Ok output) → (request : WalkRequest)
     × (found entered : List Path) × (walk_request text ≡ Ok request) × AreFound request found

@@ -1,4 +1,4 @@
--- What is seen of what the command `graph` has read.
+-- The model of the state of `graph`.
 -- Machinery of private functions and fields.
 use Rattle.std.specs.Prelude.{map}
 use Rattle.jj_program.specs.declared.graph_command.GraphRequest.{GraphRequest as GraphRequestValue}
@@ -7,13 +7,11 @@ use Rattle.jj_program.specs.declared.graph_command.GraphReading.{GraphReading}
 use Rattle.jj_program.specs.Neighbors.{listed_in}
 use Rattle.jj_program.specs.GraphCommand.{GraphRequest, Order, Heads, Common, GraphState}
 
--- the request that a value stands for
 abbrev pub graph_request_of : GraphRequestValue → GraphRequest
 graph_request_of (Order' ids) = Order ids.items
 graph_request_of (Heads' ids) = Heads ids.items
 graph_request_of (Common' set1 set2) = Common set1.items set2.items
 
--- the state that has been read
 abbrev pub graph_state_of : GraphReading → GraphState
 graph_state_of reading = record {
   listed = listed_in reading.neighbors;

@@ -1,5 +1,5 @@
--- The command `hash`: each line names bytes, by their hex text or as the content of texts, and is
--- answered by their digest.
+-- The command `hash`: the digest of each line's bytes, which are given in hex or are the content of
+-- strings.
 -- Cited by contracts of public items through LineFaults, Program.
 use Rattle.std.specs.Prelude.{◌≡◌, ◌==◌, ◌%◌, ℕ, ◌+◌, ◌*◌, List, [], ◌∷◌, ◌++◌, cond, codes, length, Option, None, Some, Result, Ok, Err}
 use Rattle.std.specs.Str.{bytes_eq}
@@ -11,34 +11,33 @@ use Rattle.jj_program.specs.declared.fault.LineFault.{LineFault}
 use Rattle.jj_program.specs.declared.fault.LineFault.TheVariants.{UnknownCommand, BadFieldCount, BadHex}
 use Rattle.jj_program.specs.Lines.{lines_of, after_lines}
 
--- a byte of two digits' values, before the bytes of further digits
+-- prepends a byte of two hex digits
 abbrev pub with_byte : Option ℕ → Option ℕ → Option (List ℕ) → Option (List ℕ)
 with_byte (Some high) (Some low) (Some bytes) = Some ((high * 16 + low) ∷ bytes)
 with_byte (Some high) (Some low) None = None
 with_byte (Some high) None bytes = None
 with_byte None low bytes = None
 
--- the bytes of a hex text, two digits each in either case
+-- decodes hex of either case
 abbrev pub bytes_of_hex : List ℕ → Option (List ℕ)
 bytes_of_hex [] = Some []
 bytes_of_hex (alone ∷ []) = None
 bytes_of_hex (high ∷ low ∷ text) =
     with_byte (digit_value hex_digits high) (digit_value hex_digits low) (bytes_of_hex text)
 
--- the bytes, or that a text is no hex text
+-- the decoded bytes, or the fault
 abbrev pub or_bad_hex : Option (List ℕ) → Result (List ℕ) LineFault
 or_bad_hex (Some bytes) = Ok bytes
 or_bad_hex None = Err BadHex
 
--- what one field names, where there is one alone
+-- the value of a line with exactly one field
 abbrev pub of_one_field : (List ℕ → Result (List ℕ) LineFault) → List (List ℕ)
     → Result (List ℕ) LineFault
 of_one_field named [] = Err BadFieldCount
 of_one_field named (field ∷ []) = named field
 of_one_field named (field ∷ other ∷ fields) = Err BadFieldCount
 
--- the bytes of one hex text, the content of one text, and that of a merge of texts, which are odd
--- in number
+-- the bytes of a hex field, the content of a string, and the content of a merge of strings
 abbrev pub raw_bytes : List (List ℕ) → Result (List ℕ) LineFault
 raw_bytes fields = of_one_field (λ text. or_bad_hex (bytes_of_hex text)) fields
 
@@ -49,7 +48,7 @@ abbrev pub content_of_merge : List (List ℕ) → Result (List ℕ) LineFault
 content_of_merge fields =
     cond (length fields % 2 == 1) (Ok (list_content text_content fields)) (Err BadFieldCount)
 
--- the bytes that a line's fields name
+-- the bytes that a line describes
 abbrev pub named_bytes : List (List ℕ) → Result (List ℕ) LineFault
 named_bytes [] = Err UnknownCommand
 named_bytes (name ∷ fields) =
@@ -59,16 +58,16 @@ named_bytes (name ∷ fields) =
     (cond (bytes_eq name (codes "merge")) (content_of_merge fields)
     (Err UnknownCommand))))
 
--- the digest of these bytes, or the same fault
+-- the digest of the bytes
 abbrev pub digest_of : Result (List ℕ) LineFault → Result (List ℕ) LineFault
 digest_of (Ok bytes) = Ok (blake2b bytes)
 digest_of (Err kind) = Err kind
 
--- a digest as a line: 128 hex digits
+-- a line of 128 hex digits
 abbrev pub digest_line : List ℕ → List ℕ
 digest_line digest = hex digest ++ 10 ∷ []
 
--- the output with one more digest, or what is wrong with the line
+-- appends a digest to the output
 abbrev pub with_digest : List ℕ → Result (List ℕ) LineFault → Result (List ℕ) LineFault
 with_digest output (Ok digest) = Ok (output ++ digest_line digest)
 with_digest output (Err kind) = Err kind
@@ -76,7 +75,7 @@ with_digest output (Err kind) = Err kind
 abbrev pub hash_step : List ℕ → List (List ℕ) → Result (List ℕ) LineFault
 hash_step output fields = with_digest output (digest_of (named_bytes fields))
 
--- the digests of a text's lines in turn, or its first fault
+-- the digests of all lines, or the first fault
 abbrev pub hash_output : List ℕ → Result (List ℕ) Fault
 hash_output text = after_lines hash_step 1 [] (lines_of text)
 

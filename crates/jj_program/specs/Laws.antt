@@ -1,11 +1,11 @@
--- What holds of all inputs: a command gives one answer.
+-- Determinism of the commands.
 -- Cited by contracts of public items: GivesOneAnswer.
 use Rattle.std.specs.Prelude.{◌≡◌, ℕ, List, Result}
 use Rattle.jj_program.specs.declared.fault.Fault.{Fault}
 use Rattle.jj_program.specs.declared.program.Command.{Command}
 use Rattle.jj_program.specs.Program.{Gives}
 
--- two answers that a command gives for an input are the same
+-- any two results of a command on an input are equal
 abbrev pub GivesOneAnswer : Type 0
 GivesOneAnswer = (command : Command) (input : List ℕ) (first second : Result (List ℕ) Fault)
     → Gives command input first → Gives command input second → first ≡ second

@@ -1,4 +1,4 @@
--- What is seen of the matcher of a named set: the set whose members it was given.
+-- The matcher of a leaf and its model.
 -- Machinery of private functions and fields.
 use Rattle.std.specs.Prelude.{◌≡◌, Bool, true, false, ◌||◌, List}
 use Rattle.std.specs.List.{list_any}
@@ -11,7 +11,7 @@ use Rattle.jj_program.specs.declared.file_set.leaf_matcher.LeafMatcher.TheVarian
 use Rattle.jj_program.specs.WalkCommand.{NamedSet, Everything, Nothing, Files, Prefix, Globs}
 use Rattle.jj_program.specs.Walked.{named_accepts, named_answer, named_names}
 
--- the set that it matches
+-- the leaf that the matcher was built for
 abbrev pub leaf_set : LeafMatcher → NamedSet
 leaf_set leaf.Everything = Everything
 leaf_set leaf.Nothing = Nothing
@@ -19,7 +19,7 @@ leaf_set (leaf.Files wanted) = Files wanted
 leaf_set (leaf.Prefix prefixes) = Prefix prefixes
 leaf_set (leaf.Globs patterns) = Globs patterns
 
--- whether it accepts a path, its answer for a directory, and the names that its answers choose from
+-- membership, the visit of a directory, and names that visits may list
 abbrev pub leaf_accepts : Path → LeafMatcher → Bool
 leaf_accepts path matcher = named_accepts path (leaf_set matcher)
 
@@ -29,7 +29,7 @@ leaf_answer dir matcher = named_answer dir (leaf_set matcher)
 abbrev pub leaf_names : LeafMatcher → List Name
 leaf_names matcher = named_names (leaf_set matcher)
 
--- whether it may open a directory
+-- whether a directory may contain members
 abbrev pub named_opens : Path → NamedSet → Bool
 named_opens dir Everything = true
 named_opens dir Nothing = false
@@ -40,7 +40,7 @@ named_opens dir (Globs patterns) = opens_to_patterns patterns dir
 abbrev pub leaf_opens : Path → LeafMatcher → Bool
 leaf_opens dir matcher = named_opens dir (leaf_set matcher)
 
--- it answers as the set does, from the same names
+-- the matcher implements the leaf
 pub record StandsFor (matcher : LeafMatcher) (set : NamedSet) : Type 0 where
   pub accepts : (path : Path) → leaf_accepts path matcher ≡ named_accepts path set
   pub answers : (dir : Path) → leaf_answer dir matcher ≡ named_answer dir set

@@ -1,5 +1,5 @@
--- What is wrong with a line, kind by kind, in the words of the input alone, and which fault of a
--- text is its first.
+-- Faults of lines, kind by kind, defined over the fields of the input only, and the first fault of
+-- an input.
 -- Cited by contracts of public items: AnswersFirstFault.
 use Rattle.std.specs.Prelude.{◌≡◌, ◌≢◌, ◌==◌, ◌&&◌, ◌++◌, ◌+◌, ◌-◌, ◌%◌, ℕ, Bool, true, false, not, nat_lt, List, [], ◌∷◌, cond, codes, length, Option, Some, None, is_some, Result, Ok, Err}
 use Rattle.std.specs.List.{after_first, before_first, count_by, find, list_all, list_any}
@@ -20,10 +20,10 @@ use Rattle.jj_program.specs.Numbers.{is_number}
 use Rattle.jj_program.specs.Program.{GivesText}
 use Rattle.jj_program.specs.WalkCommand.{is_glob_text}
 
--- what a line's name asks of the fields after it: a path, paths, directories and globs in turn, no
--- field (of a line that puts a set on the stack, or that takes two from it), a node's number and
--- those of its neighbours, numbers, two lists of them that a dash parts, an odd number of texts,
--- one hex text, one text, or any texts; a name that the command does not have asks nothing
+-- the form of a line's fields after its name: one path, any paths, alternating directories and
+-- globs, none (of a line that pushes a set, or one that pops two), a node's id and its neighbours'
+-- ids, numbers, two lists of numbers separated by a dash, an odd number of strings, one hex string,
+-- one string, any strings; `unknown` for a name that the command does not have
 pub data LineForm : Type 0 where
   one_path : LineForm
   any_paths : LineForm
@@ -39,7 +39,7 @@ pub data LineForm : Type 0 where
   any_texts : LineForm
   unknown : LineForm
 
--- the lines of each command
+-- the line forms of each command
 abbrev pub walk_form : List ℕ → LineForm
 walk_form name =
     cond (bytes_eq name (codes "mark")) one_path
@@ -87,7 +87,7 @@ abbrev pub is_unknown : LineForm → Bool
 is_unknown unknown = true
 is_unknown form = false
 
--- there is no field; there is one alone
+-- there is no field; there is exactly one
 abbrev pub is_empty : List (List ℕ) → Bool
 is_empty [] = true
 is_empty (field ∷ fields) = false
@@ -97,7 +97,7 @@ is_single [] = false
 is_single (field ∷ []) = true
 is_single (field ∷ other ∷ fields) = false
 
--- so many fields are wrong for the form
+-- the number of fields is wrong for the form
 abbrev pub is_bad_count : LineForm → List (List ℕ) → Bool
 is_bad_count one_path fields = not (is_single fields)
 is_bad_count one_hex fields = not (is_single fields)
@@ -110,7 +110,7 @@ is_bad_count two_lists fields = not (count_by is_dash fields == 1)
 is_bad_count odd_texts fields = not (length fields % 2 == 1)
 is_bad_count form fields = false
 
--- the fields that have to be paths, globs, numbers, hex texts
+-- the fields that must be paths, globs, numbers, hex strings
 abbrev pub path_fields : LineForm → List (List ℕ) → List (List ℕ)
 path_fields one_path fields = fields
 path_fields any_paths fields = fields
@@ -131,7 +131,7 @@ abbrev pub hex_fields : LineForm → List (List ℕ) → List (List ℕ)
 hex_fields one_hex fields = fields
 hex_fields form fields = []
 
--- a line puts a set on the stack, or combines two to one
+-- a line pushes a set; a line combines the top two
 abbrev pub pushes : LineForm → Bool
 pushes set_alone = true
 pushes any_paths = true
@@ -142,7 +142,7 @@ abbrev pub combines : LineForm → Bool
 combines two_sets = true
 combines form = false
 
--- a line's form, which is that of its first field; an empty line has none
+-- the form of a line, by its first field
 abbrev pub form_of_fields : Command → List (List ℕ) → LineForm
 form_of_fields command [] = unknown
 form_of_fields command (name ∷ fields) = form_of command name
@@ -150,17 +150,17 @@ form_of_fields command (name ∷ fields) = form_of command name
 abbrev pub form_of_line : Command → List ℕ → LineForm
 form_of_line command line = form_of_fields command (fields_of line)
 
--- how many sets are left on the stack after these lines
+-- the height of the stack after these lines
 abbrev pub sets_left : List (List ℕ) → ℕ
 sets_left lines = count_by (λ line. pushes (form_of_line Walk line)) lines
     - count_by (λ line. combines (form_of_line Walk line)) lines
 
--- a line lists the neighbours of the node with this text
+-- a line is the adjacency list of the node with this id
 abbrev pub lists_node : List ℕ → List (List ℕ) → Bool
 lists_node id (name ∷ own ∷ neighbors) = bytes_eq name (codes "node") && bytes_eq own id
 lists_node id fields = false
 
--- an earlier line has listed the node of the first field
+-- an earlier line is the adjacency list of the node in the first field
 abbrev pub is_listed : List (List ℕ) → List (List ℕ) → Bool
 is_listed earlier [] = false
 is_listed earlier (id ∷ neighbors) = list_any (λ line. lists_node id (fields_of line)) earlier
@@ -169,7 +169,7 @@ abbrev pub repeats_node : LineForm → List (List ℕ) → List (List ℕ) → B
 repeats_node node_line earlier fields = is_listed earlier fields
 repeats_node form earlier fields = false
 
--- whether a line of this form with these fields, after these earlier lines, has a fault of a kind
+-- a line of this form with these fields, after these earlier lines, has a fault of this kind
 abbrev pub has_fault : LineForm → (earlier fields : List (List ℕ)) → LineFault → Bool
 has_fault form earlier fields UnknownCommand = is_unknown form
 has_fault form earlier fields BadFieldCount = is_bad_count form fields
@@ -181,7 +181,7 @@ has_fault form earlier fields RepeatedNode = repeats_node form earlier fields
 has_fault form earlier fields BadHex =
     not (list_all (λ text. is_some (bytes_of_hex text)) (hex_fields form fields))
 
--- the kinds, the first that a line has being the one that is named
+-- the kinds in order of precedence
 abbrev pub kinds : List LineFault
 kinds = UnknownCommand ∷ BadFieldCount ∷ BadPath ∷ BadGlob ∷ EmptyStack ∷ BadNumber ∷ RepeatedNode
     ∷ BadHex ∷ []
@@ -189,7 +189,7 @@ kinds = UnknownCommand ∷ BadFieldCount ∷ BadPath ∷ BadGlob ∷ EmptyStack 
 abbrev pub first_kind : LineForm → (earlier fields : List (List ℕ)) → Option LineFault
 first_kind form earlier fields = find (has_fault form earlier fields) kinds
 
--- a line's kind of fault, if it has one; an empty line has none
+-- the fault of a line; an empty line has none
 abbrev pub kind_of_fields : Command → (earlier fields : List (List ℕ)) → Option LineFault
 kind_of_fields command earlier [] = Some UnknownCommand
 kind_of_fields command earlier (name ∷ fields) = first_kind (form_of command name) earlier fields
@@ -198,20 +198,20 @@ abbrev pub kind_of_line : Command → (earlier : List (List ℕ)) → List ℕ �
 kind_of_line command earlier [] = None
 kind_of_line command earlier (b ∷ bs) = kind_of_fields command earlier (fields_of (b ∷ bs))
 
--- the first fault of lines that stand after these earlier ones, the first of which has this number
+-- the first fault of lines after these earlier ones, numbered starting at `number`
 abbrev pub first_fault : Command → (earlier : List (List ℕ)) → ℕ → List (List ℕ) → Option Fault
 first_fault command earlier number [] = None
 first_fault command earlier number (line ∷ lines) =
     option_or (option_map (Line number) (kind_of_line command earlier line))
     (first_fault command (earlier ++ line ∷ []) (number + 1) lines)
 
--- of a walk one set has to be left after all lines
+-- a walk must leave exactly one set
 abbrev pub LeavesOneSet : Command → List (List ℕ) → Type 0
 LeavesOneSet Walk lines = sets_left lines ≡ 1
 LeavesOneSet command lines = Unit {0}
 
--- an answer for a text's lines: an output where no line has a fault, and of a walk one set is left;
--- another number of sets; or the first fault of the first line that has one
+-- a result agrees with the lines of its input: an output if no line has a fault (and a walk leaves
+-- one set); the number of sets left if it is not one; or the first fault of the first faulty line
 abbrev pub IsToldBy : {A : Type 0} → Command → List (List ℕ) → Result A Fault → Type 0
 IsToldBy command lines (Ok output) =
     (first_fault command [] 1 lines ≡ None) × LeavesOneSet command lines

@@ -1,4 +1,4 @@
--- Input as numbered lines of fields, and what a command makes of them in turn.
+-- Input as numbered lines of TAB-separated fields, folded by the transition of a command.
 -- Cited by contracts of public items through FirstFaults, GraphCommand, HashCommand, LineFaults,
 -- MergeCommand, WalkCommand, Walked.
 use Rattle.std.specs.Prelude.{ℕ, ◌≡◌, ◌==◌, ◌+◌, List, [], ◌∷◌, ◌++◌, flat_map, Result, Ok, Err}
@@ -7,35 +7,36 @@ use Rattle.jj_program.specs.declared.fault.LineFault.{LineFault}
 use Rattle.jj_program.specs.declared.fault.Fault.{Fault}
 use Rattle.jj_program.specs.declared.fault.Fault.TheVariants.{ReadInput, Memory, WriteOutput, Line}
 
--- the lines of an input, which LF ends; what follows the last LF is a line too, and may be empty
+-- the lines of an input, separated by LF; the part after the last LF is a line too, maybe an empty
+-- one
 abbrev pub lines_of : List ℕ → List (List ℕ)
 lines_of input = slice_split (λ b. b == 10) input
 
--- the fields of a line, which TAB parts
+-- the fields of a line, separated by TAB
 abbrev pub fields_of : List ℕ → List (List ℕ)
 fields_of line = slice_split (λ b. b == 9) line
 
--- a line that is written: its first field, and each other field after a TAB
+-- an output line
 abbrev pub line_text : List ℕ → List (List ℕ) → List ℕ
 line_text name fields = name ++ flat_map (λ field. 9 ∷ field) fields ++ 10 ∷ []
 
--- a line's fault with the line's number
+-- adds the line's number to its fault
 abbrev pub at_line : {S : Type 0} → ℕ → Result S LineFault → Result S Fault
 at_line number (Ok state) = Ok state
 at_line number (Err kind) = Err (Line number kind)
 
--- an empty line is skipped, and `step` takes the fields of any other
+-- the state after a line: an empty line is skipped
 abbrev pub after_line : {S : Type 0} → (S → List (List ℕ) → Result S LineFault) → ℕ → S → List ℕ
     → Result S Fault
 after_line step number state [] = Ok state
 after_line step number state (b ∷ bs) = at_line number (step state (fields_of (b ∷ bs)))
 
--- `f` of the value, or the error
+-- std's `and_then`
 abbrev pub result_and_then : {A B E : Type 0} → Result A E → (A → Result B E) → Result B E
 result_and_then (Ok x) f = f x
 result_and_then (Err e) f = Err e
 
--- the state after all lines, the first of which has this number, or the first line's fault
+-- the state after lines numbered starting at `number`, or the first fault
 abbrev pub after_lines : {S : Type 0} → (S → List (List ℕ) → Result S LineFault) → ℕ → S
     → List (List ℕ) → Result S Fault
 after_lines step number state [] = Ok state
@@ -43,7 +44,7 @@ after_lines step number state (line ∷ lines) =
     result_and_then (after_line step number state line)
     (λ next. after_lines step (number + 1) next lines)
 
--- the fault is the expected one, or memory ran out
+-- the fault is the expected one, or out of memory
 abbrev pub IsFaultOf : {A : Type 0} → Fault → Result A Fault → Type 0
 IsFaultOf Memory expected = Unit {0}
 IsFaultOf ReadInput expected = ⊥

@@ -1,4 +1,4 @@
--- What is seen of a graph whose edges a map lists.
+-- The model of a graph stored as adjacency lists.
 -- Machinery of private functions and fields.
 use Rattle.std.specs.Prelude.{ℕ, List}
 use Rattle.jj_dag.specs.Graph.{Graph}

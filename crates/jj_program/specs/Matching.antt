@@ -1,4 +1,4 @@
--- Sets that lines have combined, with a matcher at each leaf.
+-- Combined sets with a matcher at each leaf.
 -- Machinery of private functions and fields.
 use Rattle.std.specs.Prelude.{◌≡◌, Bool, false, List, [], ◌∷◌}
 use Rattle.jj_paths.specs.Paths.{Name, Path}
@@ -15,7 +15,7 @@ use Rattle.jj_program.specs.SetTrees.{SetTree, one, passes, is_open, names_by, a
 use Rattle.jj_program.specs.SetParts.{pass_at, pass_over, sets_of}
 use Rattle.jj_program.specs.WalkCommand.{NamedSet}
 
--- the set on top of a stack, and the one that parts make
+-- the top of a stack, and the set that code builds
 abbrev pub top_set : List (SetTree LeafMatcher) → SetTree LeafMatcher
 top_set [] = one Nothing
 top_set (set ∷ stack) = set
@@ -23,8 +23,7 @@ top_set (set ∷ stack) = set
 abbrev pub made_by : List (Part LeafMatcher) → SetTree LeafMatcher
 made_by parts = top_set (sets_of parts)
 
--- the paths that a set accepts, the directories that it may open, its answers and the names from
--- which they choose
+-- membership, directories that may contain members, visits, and names that visits may list
 abbrev pub set_accepts : SetTree LeafMatcher → Path → Bool
 set_accepts set path = passes (leaf_accepts path) set
 
@@ -37,18 +36,18 @@ set_answer set dir = answer_by leaf_names (leaf_answer dir) set
 abbrev pub set_names : SetTree LeafMatcher → List Name
 set_names set = names_by leaf_names set
 
--- one pass over the parts tells whether the set passes a test
+-- one pass over the code decides membership for every test of the leaves
 abbrev pub IsTold : List (Part LeafMatcher) → Type 0
 IsTold parts = (test : LeafMatcher → Bool)
     → (pass_over test parts (pass_at 0 false)).is_in ≡ passes test (made_by parts)
 
--- an answer for a directory is a set's, and promises what a matcher's has to
+-- a visit of a directory is the set's, and is sound
 pub record IsAnswerOf (dir : Path) (set : SetTree LeafMatcher) (answer : Answer) : Type 0 where
   pub same : answer ≡ set_answer set dir
   pub sound : IsSound (set_accepts set) (set_opens set) dir answer
   pub chosen : ChoosesFrom (set_names set) answer
 
--- there is such an answer for each set of a stack
+-- there is such a visit for each set of a stack
 abbrev pub AnswerAll : Path → List (SetTree LeafMatcher) → List Visit → Type 0
 AnswerAll dir [] [] = Unit {0}
 AnswerAll dir [] (visit ∷ visits) = ⊥
@@ -56,7 +55,7 @@ AnswerAll dir (set ∷ sets) [] = ⊥
 AnswerAll dir (set ∷ sets) (visit ∷ visits) = IsAnswerOf dir set (answer_of visit)
     × AnswerAll dir sets visits
 
--- a part with a matcher in place of its set
+-- equal instructions up to a matcher for the leaf
 abbrev pub StandsForPart : Part LeafMatcher → Part NamedSet → Type 0
 StandsForPart (Leaf matcher) (Leaf set) = StandsFor matcher set
 StandsForPart (Leaf matcher) (BeforeSecond combination) = ⊥

@@ -1,4 +1,4 @@
--- The command `merge`: each line asks what is left of a merge of texts, or for its outcome.
+-- The command `merge`: simplifies or resolves a merge of strings per line.
 -- Cited by contracts of public items through Program.
 use Rattle.std.specs.Prelude.{◌≡◌, ◌==◌, ◌%◌, ℕ, List, [], ◌∷◌, ◌++◌, cond, codes, length, Contains, Option, Some, None, Result, Ok, Err}
 use Rattle.std.specs.Str.{bytes_eq}
@@ -14,12 +14,12 @@ use Rattle.jj_program.specs.declared.merge_command.Question.TheVariants.{Simplif
 use Rattle.jj_program.specs.Lines.{line_text, lines_of, after_lines}
 use Rattle.jj_program.specs.Requests.{AnswersEach}
 
--- what a line asks of a merge, adds at even places and removes at odd ones
+-- a requested operation and its merge, adds at even indices and removes at odd ones
 pub record MergeRequest : Type 0 where
   pub question : Question
   pub terms : List (List ℕ)
 
--- what a line of this name asks
+-- the operation of a name
 abbrev pub question_named : List ℕ → Option Question
 question_named name =
     cond (bytes_eq name (codes "simplify")) (Some Simplify)
@@ -27,34 +27,34 @@ question_named name =
     (cond (bytes_eq name (codes "accept")) (Some (Resolve Accept))
     None))
 
--- the requests with one more, where its terms are odd in number
+-- appends a request, whose terms must be odd in number
 abbrev pub request_step : List MergeRequest → Option Question → List (List ℕ)
     → Result (List MergeRequest) LineFault
 request_step requests None terms = Err UnknownCommand
 request_step requests (Some question) terms = cond (length terms % 2 == 1)
     (Ok (requests ++ record { question = question; terms = terms } ∷ [])) (Err BadFieldCount)
 
--- what a line's fields make of the requests so far, or what is wrong with them
+-- the transition at a line
 abbrev pub merge_step : List MergeRequest → List (List ℕ) → Result (List MergeRequest) LineFault
 merge_step requests [] = Err UnknownCommand
 merge_step requests (name ∷ terms) = request_step requests (question_named name) terms
 
--- what a text asks, or its first fault
+-- the requests of an input, or its first fault
 abbrev pub merge_requests : List ℕ → Result (List MergeRequest) Fault
 merge_requests text = after_lines merge_step 1 [] (lines_of text)
 
--- the one term that decides the merge, if there is one
+-- the term that the merge resolves to, if there is one
 abbrev pub IsOutcome : SameChange → List (List ℕ) → Option (List ℕ) → Type 0
 IsOutcome same_change terms (Some term) = Contains terms term
     × ResolvesTo bytes_eq same_change terms term
 IsOutcome same_change terms None = (term : List ℕ) → ResolvesTo bytes_eq same_change terms term → ⊥
 
--- the line of an outcome
+-- the line of a resolved merge or of a conflict
 abbrev pub outcome_line : Option (List ℕ) → List ℕ
 outcome_line (Some term) = line_text (codes "resolved") (term ∷ [])
 outcome_line None = line_text (codes "conflict") []
 
--- the answer to a question on these terms
+-- the line of an operation on these terms
 abbrev pub AnswersQuestion : Question → List (List ℕ) → List ℕ → Type 0
 AnswersQuestion Simplify terms answer = answer
     ≡ line_text (codes "terms") (at_indices terms (simplified_indices bytes_eq terms))
@@ -64,7 +64,7 @@ AnswersQuestion (Resolve same_change) terms answer = (outcome : Option (List ℕ
 abbrev pub IsMergeAnswer : MergeRequest → List ℕ → Type 0
 IsMergeAnswer request answer = AnswersQuestion request.question request.terms answer
 
--- the output for a text answers each of its requests, or the text has this fault
+-- the output has one line per request; or the input has this fault
 abbrev pub GivesMerge : List ℕ → Result (List ℕ) Fault → Type 0
 GivesMerge text (Ok output) = (requests : List MergeRequest) × (merge_requests text ≡ Ok requests)
     × AnswersEach IsMergeAnswer requests output

@@ -1,5 +1,4 @@
--- A map from ids to the lists of their neighbours, seen as a function, and the ids that a graph
--- names.
+-- The map of adjacency lists as a function, and the ids in the lists.
 -- Machinery of private functions and fields.
 use Rattle.std.specs.Prelude.{◌≡◌, ◌==◌, true, ℕ, List, Option}
 use Rattle.std.specs.Option.{option_map}
@@ -10,11 +9,11 @@ use Rattle.std.specs.List.{Contains, list_any}
 use Rattle.std.specs.declared.vec.Vec.{Vec}
 use Rattle.jj_dag.specs.Graph.{Graph}
 
--- the neighbours of an id, if the map has them
+-- the adjacency list of an id
 abbrev pub listed_in : BTreeMap ℕ (Vec ℕ Global) → ℕ → Option (List ℕ)
 listed_in map id = option_map (λ neighbors. neighbors.items) (get nat_cmp map id)
 
--- each neighbour of a node is one of these ids
+-- every neighbour is one of these ids
 abbrev pub HoldsNeighbors : Graph → List ℕ → Type 0
 HoldsNeighbors graph ids = (a b : ℕ) → Contains (graph a) b
     → list_any (λ id. b == id) ids ≡ true

@@ -5,15 +5,15 @@ use Rattle.std.specs.Fmt.{decimal}
 use Rattle.std.specs.Str.{bytes_eq}
 use Rattle.std.specs.Str.Parse.{digits_value}
 
--- a text is a number's where it is just the number's decimal text
+-- the string is the canonical decimal form of a number below 2^64
 abbrev pub is_number : List ℕ → Bool
 is_number text = nat_lt (digits_value 10 text) (2 ^ 64)
     && bytes_eq (decimal (digits_value 10 text)) text
 
--- the number that a text writes
+-- the number of a canonical decimal string
 abbrev pub number_of : List ℕ → Option ℕ
 number_of text = cond (is_number text) (Some (digits_value 10 text)) None
 
--- no plus stands first, and a zero only alone
+-- no leading `+`, and no leading zero before another digit
 abbrev pub IsPlain : List ℕ → Type 0
 IsPlain text = (slice_index text 0 ≡ 48 → length text < 2) × (slice_index text 0 ≢ 43)

@@ -1,4 +1,4 @@
--- What a command writes for an input, and what a run leaves.
+-- The result of a command on an input, and the streams after a run.
 -- Cited by contracts of public items: FailsBy, WritesOutput, command_line, command_named,
 -- is_read_failure, is_read_fault, is_write_failure, is_write_fault.
 use Rattle.std.specs.Prelude.{◌≡◌, ℕ, List, [], ◌∷◌, Bool, true, false, cond, codes, Option, Some, None, Result, Ok, Err}
@@ -15,7 +15,7 @@ use Rattle.jj_program.specs.MergeCommand.{GivesMerge}
 use Rattle.jj_program.specs.GraphCommand.{GivesGraph}
 use Rattle.jj_program.specs.HashCommand.{GivesHash}
 
--- the command of this name
+-- the command with this name
 abbrev pub command_named : List ℕ → Option Command
 command_named name =
     cond (bytes_eq name (codes "walk")) (Some Walk)
@@ -24,60 +24,61 @@ command_named name =
     (cond (bytes_eq name (codes "hash")) (Some Hash)
     None)))
 
--- the command that the words of a command line name, if they are its name alone
+-- the command of a command line: exactly one word, the name of a command
 abbrev pub command_line : List (List ℕ) → Option Command
 command_line [] = None
 command_line (word ∷ []) = command_named word
 command_line (word ∷ other ∷ words) = None
 
--- what a command gives for a text: its output, or the text's first fault
+-- the result of a command on UTF-8 input: its output, or the first fault
 abbrev pub GivesText : Command → List ℕ → Result (List ℕ) Fault → Type 0
 GivesText Walk text = GivesWalk text
 GivesText Merge text = GivesMerge text
 GivesText Graph text = GivesGraph text
 GivesText Hash text = GivesHash text
 
--- what a command gives for an input: that of its text, if it is UTF-8
+-- the result of a command on any input: input that is not UTF-8 is a fault
 abbrev pub Gives : Command → List ℕ → Result (List ℕ) Fault → Type 0
 Gives command input answer = MatchBool (is_utf8 input) (GivesText command input answer)
     (answer ≡ Err NotUtf8)
 
--- a read failed
+-- the fault is a failed read
 abbrev pub is_read_failure : Fault → Bool
 is_read_failure ReadInput = true
 is_read_failure other = false
 
--- a write failed
+-- the fault is a failed write
 abbrev pub is_write_failure : Fault → Bool
 is_write_failure WriteOutput = true
 is_write_failure other = false
 
--- whether a run failed by a read
+-- a run ended with a failed read
 abbrev pub is_read_fault : {A : Type 0} → Result A Fault → Bool
 is_read_fault (Err fault) = is_read_failure fault
 is_read_fault (Ok x) = false
 
--- whether a run failed by a write
+-- a run ended with a failed write
 abbrev pub is_write_fault : {A : Type 0} → Result A Fault → Bool
 is_write_fault (Err fault) = is_write_failure fault
 is_write_fault (Ok x) = false
 
--- the source was read to its end, and the command gives this answer for its bytes
+-- the source was read to its end, and this is the command's result for its bytes
 abbrev pub Answers : Command → (before after : Streams) → Result (List ℕ) Fault → Type 0
 Answers command before after answer = (input : List ℕ)
     × Consumes before.unread after.unread input × IsAtEnd after.unread × Gives command input answer
 
--- the output of all the source's bytes was written
+-- the source was read to its end, and the whole output was written
 abbrev pub WritesOutput : Command → (before after : Streams) → Type 0
 WritesOutput command before after = (output : List ℕ)
     × Answers command before after (Ok output) × Appends before.written after.written output
 
--- the source was read to its end, the command gives this fault, and nothing was written
+-- the source was read to its end, the input has this fault, and nothing was written
 abbrev pub GivesFault : Command → (before after : Streams) → Fault → Type 0
 GivesFault command before after fault =
     Answers command before after (Err fault) × Keeps before.written after.written
 
--- what a run that fails leaves, by its fault: nothing was written, except where a write failed
+-- the streams after a failed run: nothing was written, unless a write failed, which leaves a prefix
+-- of the output
 abbrev pub FailsBy : Command → (before after : Streams) → Fault → Type 0
 FailsBy command before after ReadInput = Keeps before.written after.written
 FailsBy command before after Memory = Keeps before.written after.written

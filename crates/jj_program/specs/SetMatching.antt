@@ -1,4 +1,4 @@
--- What is seen of the matcher of a set that lines have combined.
+-- The ghost members of the matcher of a combined set.
 -- Machinery of private functions and fields.
 use Rattle.std.specs.Prelude.{Bool, List}
 use Rattle.jj_paths.specs.Paths.{Name, Path}
@@ -6,8 +6,6 @@ use Rattle.jj_matchers.specs.Answers.{Answer}
 use Rattle.jj_program.specs.declared.file_set.matcher.SetMatcher.{SetMatcher}
 use Rattle.jj_program.specs.Matching.{made_by, set_accepts, set_opens, set_answer, set_names}
 
--- the paths that it accepts, the directories that it may open, its answers and the names from which
--- they choose
 abbrev pub accepts_of : SetMatcher → Path → Bool
 accepts_of matcher path = set_accepts (made_by matcher.parts.items) path
 

@@ -1,6 +1,5 @@
--- Sets that are combined of sets: the steps that build them on a stack, and what holds of them by
--- their leaves.
--- Cited by contracts of public items through FoundFiles, WalkCommand, Walked.
+-- Combined sets as binary trees: the postfix steps that build them, and their meaning as a fold
+-- over the leaves. Cited by contracts of public items through FoundFiles, WalkCommand, Walked.
 use Rattle.std.specs.Prelude.{Bool, not, ◌&&◌, ◌||◌, List, [], ◌∷◌, ◌++◌}
 use Rattle.jj_paths.specs.Paths.{Name}
 use Rattle.jj_matchers.specs.Answers.{Answer}
@@ -10,26 +9,26 @@ use Rattle.jj_program.specs.declared.file_set.Combination.TheVariants.{Union, Di
 use Rattle.jj_program.specs.declared.file_set.SetStep.{SetStep}
 use Rattle.jj_program.specs.declared.file_set.SetStep.TheVariants.{Push, Combine}
 
--- a set alone, or a combination of two, the first argument first
+-- a leaf, or a combination of two sets
 pub data SetTree (A : Type 0) : Type 0 where
   one : A → SetTree A
   both : Combination → SetTree A → SetTree A → SetTree A
 
--- 1. Stacks, the last set first.
+-- 1. Stacks, top first.
 
--- the stack with the two sets on top combined; of a stack of fewer sets nothing is left
+-- combines the top two sets; empty for a stack of fewer sets
 abbrev pub combined_stack : {A : Type 0} → Combination → List (SetTree A) → List (SetTree A)
 combined_stack combination [] = []
 combined_stack combination (alone ∷ []) = []
 combined_stack combination (second ∷ first ∷ stack) = both combination first second ∷ stack
 
--- the stack that steps make, the last step first
+-- the stack after these steps, which are listed last first
 abbrev pub stack_of : {A : Type 0} → List (SetStep A) → List (SetTree A)
 stack_of [] = []
 stack_of (Push set ∷ earlier) = one set ∷ stack_of earlier
 stack_of (Combine combination ∷ earlier) = combined_stack combination (stack_of earlier)
 
--- the steps that make a set, and those that make a stack, the last step first
+-- the steps that build a set, and those that build a stack, last first
 abbrev pub steps_to : {A : Type 0} → SetTree A → List (SetStep A)
 steps_to (one set) = Push set ∷ []
 steps_to (both combination first second) = Combine combination ∷ (steps_to second ++ steps_to first)
@@ -38,21 +37,21 @@ abbrev pub steps_to_all : {A : Type 0} → List (SetTree A) → List (SetStep A)
 steps_to_all [] = []
 steps_to_all (set ∷ stack) = steps_to set ++ steps_to_all stack
 
--- 2. What holds of a set by its leaves.
+-- 2. Folds over the leaves.
 
--- whether a combination has what the sets have of which it is made
+-- membership in a combination, by membership in its operands
 abbrev pub combined_test : Combination → Bool → Bool → Bool
 combined_test Union first second = first || second
 combined_test Difference first second = first && not second
 combined_test Intersection first second = first && second
 
--- whether a set passes a test, by which of its leaves pass it
+-- membership in a set, by a test of the leaves
 abbrev pub passes : {A : Type 0} → (A → Bool) → SetTree A → Bool
 passes test (one set) = test set
 passes test (both combination first second) =
     combined_test combination (passes test first) (passes test second)
 
--- the same, where nothing of the second set of a difference counts
+-- whether a directory may contain members; the second operand of a difference is ignored
 abbrev pub open_test : Combination → Bool → Bool → Bool
 open_test Union first second = first || second
 open_test Difference first second = first
@@ -63,7 +62,7 @@ is_open test (one set) = test set
 is_open test (both combination first second) =
     open_test combination (is_open test first) (is_open test second)
 
--- the names from which the answers of a set choose, by those of its leaves
+-- names that visits may list, by those of the leaves
 abbrev pub combined_names : Combination → List Name → List Name → List Name
 combined_names Union first second = first ++ second
 combined_names Difference first second = first
@@ -74,7 +73,7 @@ names_by names (one set) = names set
 names_by names (both combination first second) =
     combined_names combination (names_by names first) (names_by names second)
 
--- the answer of a set, by those of its leaves
+-- the visit of a directory, by those of the leaves
 abbrev pub combined_answer : Combination → List Name → Answer → Answer → Answer
 combined_answer Union names first second = union_answer first second
 combined_answer Difference names first second = difference_answer first second

@@ -1,4 +1,4 @@
--- What is seen of the sets that lines name, and of the steps that they take.
+-- Models of leaves, steps and instructions.
 -- Machinery of private functions and fields.
 use Rattle.std.specs.Prelude.{Bool, true, false, ◌&&◌, List, [], ◌∷◌, map, reverse}
 use Rattle.std.specs.List.{zip}
@@ -12,7 +12,6 @@ use Rattle.jj_program.specs.declared.file_set.parts.Part.TheVariants.{Leaf, Befo
 use Rattle.jj_program.specs.WalkCommand.{NamedSet, Everything, Nothing, Files, Prefix, Globs}
 use Rattle.jj_program.specs.SetTrees.{SetTree, stack_of}
 
--- the set that a value stands for
 abbrev pub set_of : FileSet → NamedSet
 set_of Everything' = Everything
 set_of Nothing' = Nothing
@@ -30,11 +29,11 @@ part_of (Leaf set) = Leaf (set_of set)
 part_of (BeforeSecond combination) = BeforeSecond combination
 part_of (AfterBoth combination) = AfterBoth combination
 
--- the steps of a list of values, the last first
+-- the steps, last first
 abbrev pub steps_back : List (SetStep FileSet) → List (SetStep NamedSet)
 steps_back steps = map step_of (reverse steps)
 
--- steps that each find the sets that they combine, the last step first
+-- each combining step finds two sets on the stack; steps are listed last first
 abbrev pub has_two : {A : Type 0} → List A → Bool
 has_two [] = false
 has_two (alone ∷ []) = false
@@ -45,7 +44,7 @@ is_whole [] = true
 is_whole (Push set ∷ earlier) = is_whole earlier
 is_whole (Combine combination ∷ earlier) = has_two (stack_of earlier) && is_whole earlier
 
--- the sets that steps make, and whether each step finds its sets
+-- steps in order, as values
 abbrev pub sets_by : List (SetStep FileSet) → List (SetTree NamedSet)
 sets_by steps = stack_of (steps_back steps)
 

@@ -1,4 +1,4 @@
--- What is left of ids that are given as items which may fail.
+-- The remaining items of the fallible iterator over ids.
 -- Machinery of private functions and fields.
 use Rattle.std.specs.Prelude.{ℕ, List, map, Result}
 use Rattle.std.specs.declared.result.Result.TheVariants.{Ok}

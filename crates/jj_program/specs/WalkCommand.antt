@@ -1,6 +1,5 @@
--- The command `walk`: lines that mark paths, and lines that put file sets on a stack, of which one
--- has to be left.
--- Cited by contracts of public items through FoundFiles, LineFaults, Walked.
+-- The command `walk`: its input marks paths and builds one file set on a stack, in postfix
+-- notation. Cited by contracts of public items through FoundFiles, LineFaults, Walked.
 use Rattle.std.specs.Prelude.{ℕ, Bool, true, false, List, [], ◌∷◌, ◌++◌, cond, codes, length, is_ok, Result, Ok, Err}
 use Rattle.std.specs.Str.{bytes_eq}
 use Rattle.std.specs.List.{zip}
@@ -19,7 +18,7 @@ use Rattle.jj_program.specs.Steps.{value_at, values_at}
 use Rattle.jj_program.specs.FieldPairs.{is_paired, firsts, seconds}
 use Rattle.jj_program.specs.SetTrees.{SetTree, one, both}
 
--- a set of files that a line names
+-- a set of files described by one line
 pub data NamedSet : Type 0 where
   Everything : NamedSet
   Nothing : NamedSet
@@ -27,55 +26,55 @@ pub data NamedSet : Type 0 where
   Prefix : List Path → NamedSet
   Globs : Patterns → NamedSet
 
--- what the lines so far have marked, and the sets that they left, the last first
+-- the marked paths, and the stack with its top first
 pub record WalkState : Type 0 where
   pub marks : List Path
   pub stack : List (SetTree NamedSet)
 
--- the state before the first line
+-- the initial state
 abbrev pub walk_start : WalkState
 walk_start = record { marks = []; stack = [] }
 
--- the state with a path marked
+-- marks a path
 abbrev pub with_mark : WalkState → Result Path LineFault → Result WalkState LineFault
 with_mark state (Ok path) = Ok (record { marks = state.marks ++ path ∷ []; stack = state.stack })
 with_mark state (Err kind) = Err kind
 
--- the state with a named set on the stack
+-- pushes a set
 abbrev pub with_set : WalkState → NamedSet → WalkState
 with_set state set = record { marks = state.marks; stack = one set ∷ state.stack }
 
--- the path of a text
+-- parses a path
 abbrev pub path_at : List ℕ → Result Path LineFault
 path_at text = value_at is_path_text components BadPath text
 
--- the paths of these texts, where all are paths
+-- parses paths
 abbrev pub paths_of : List (List ℕ) → Result (List Path) LineFault
 paths_of texts = values_at is_path_text components BadPath texts
 
--- the state with a set of the paths of these texts on the stack
+-- pushes a set of paths
 abbrev pub with_paths : WalkState → (List Path → NamedSet) → Result (List Path) LineFault
     → Result WalkState LineFault
 with_paths state set (Ok paths) = Ok (with_set state (set paths))
 with_paths state set (Err kind) = Err kind
 
--- the state with a set on the stack that takes no fields
+-- pushes a set that has no fields
 abbrev pub with_set_alone : WalkState → NamedSet → List (List ℕ) → Result WalkState LineFault
 with_set_alone state set [] = Ok (with_set state set)
 with_set_alone state set (field ∷ fields) = Err BadFieldCount
 
--- the glob of a text, whose stars do not pass a `/`
+-- the glob of a field; `*` does not match `/`
 abbrev pub glob_of : List ℕ → GlobSpec
 glob_of text = record { text = text; options = record { separator = true; icase = false } }
 
 unfoldable pub is_glob_text : List ℕ → Bool
 is_glob_text text = is_ok (tokens_of text)
 
--- the globs of these texts, where all are globs
+-- parses globs
 abbrev pub globs_of : List (List ℕ) → Result (List GlobSpec) LineFault
 globs_of texts = values_at is_glob_text glob_of BadGlob texts
 
--- the state with a set of globs in directories on the stack; a bad path comes before a bad glob
+-- pushes a set of globs in directories; a bad path takes precedence over a bad glob
 abbrev pub with_globs : WalkState → Bool → Result (List Path) LineFault
     → Result (List GlobSpec) LineFault → Result WalkState LineFault
 with_globs state prefix_paths (Ok dirs) (Ok globs) =
@@ -83,12 +82,12 @@ with_globs state prefix_paths (Ok dirs) (Ok globs) =
 with_globs state prefix_paths (Ok dirs) (Err kind) = Err kind
 with_globs state prefix_paths (Err kind) globs = Err kind
 
--- the directories and the globs of fields that are one and the other in turn
+-- splits alternating directories and globs
 abbrev pub paired_fields : List (List ℕ) → Result (List (List ℕ) × List (List ℕ)) LineFault
 paired_fields fields = cond (is_paired fields) (Ok (firsts fields, seconds fields))
     (Err BadFieldCount)
 
--- the state with the set of such fields on the stack
+-- pushes the set of alternating directories and globs
 abbrev pub with_pairs : WalkState → Bool → Result (List (List ℕ) × List (List ℕ)) LineFault
     → Result WalkState LineFault
 with_pairs state prefix_paths (Ok pairs) =
@@ -98,8 +97,7 @@ with_pairs state prefix_paths (Err kind) = Err kind
 abbrev pub globs_step : WalkState → Bool → List (List ℕ) → Result WalkState LineFault
 globs_step state prefix_paths fields = with_pairs state prefix_paths (paired_fields fields)
 
--- the state with the two sets on top of the stack combined, of which the one that was pushed first
--- is the first
+-- combines the top two sets; the first operand is the one that was pushed first
 abbrev pub with_combined : List Path → Combination → List (SetTree NamedSet)
     → Result WalkState LineFault
 with_combined marks combination [] = Err EmptyStack
@@ -107,18 +105,18 @@ with_combined marks combination (alone ∷ []) = Err EmptyStack
 with_combined marks combination (second ∷ first ∷ stack) =
     Ok (record { marks = marks; stack = both combination first second ∷ stack })
 
--- the same, where no field is left
+-- combines the top two sets for a line without fields
 abbrev pub combined_step : WalkState → Combination → List (List ℕ) → Result WalkState LineFault
 combined_step state combination [] = with_combined state.marks combination state.stack
 combined_step state combination (field ∷ fields) = Err BadFieldCount
 
--- the state with the path of the one field marked
+-- marks the path of a line with one field
 abbrev pub mark_step : WalkState → List (List ℕ) → Result WalkState LineFault
 mark_step state [] = Err BadFieldCount
 mark_step state (text ∷ []) = with_mark state (path_at text)
 mark_step state (text ∷ other ∷ texts) = Err BadFieldCount
 
--- what a line's fields make of the state, or what is wrong with them
+-- the transition at a line
 abbrev pub walk_step : WalkState → List (List ℕ) → Result WalkState LineFault
 walk_step state [] = Err UnknownCommand
 walk_step state (name ∷ fields) =
@@ -134,12 +132,12 @@ walk_step state (name ∷ fields) =
     (cond (bytes_eq name (codes "intersection")) (combined_step state Intersection fields)
     (Err UnknownCommand))))))))))
 
--- what a whole text asks for: the marks, and the one set
+-- the meaning of a whole input: the marked paths and one set
 pub record WalkRequest : Type 0 where
   pub marks : List Path
   pub set : SetTree NamedSet
 
--- the request with the one set that is left; where none or more are left, their number is the fault
+-- the only set left on the stack; any other number of sets is a fault
 abbrev pub only_set : List Path → List (SetTree NamedSet) → Result WalkRequest Fault
 only_set marks [] = Err (Matchers 0)
 only_set marks (set ∷ []) = Ok (record { marks = marks; set = set })
@@ -149,6 +147,6 @@ abbrev pub walk_end : Result WalkState Fault → Result WalkRequest Fault
 walk_end (Ok state) = only_set state.marks state.stack
 walk_end (Err fault) = Err fault
 
--- what a text asks for, or its first fault
+-- the request of an input, or its first fault
 abbrev pub walk_request : List ℕ → Result WalkRequest Fault
 walk_request text = walk_end (after_lines walk_step 1 walk_start (lines_of text))

@@ -1,4 +1,4 @@
--- What a walk that a text asks for finds, in lines.
+-- The output of a walk.
 -- Cited by contracts of public items through FoundFiles, Program.
 use Rattle.std.specs.Prelude.{◌≡◌, ℕ, List, [], ◌∷◌, ◌++◌, Bool, true, false, codes, flat_map, Result, Ok, Err}
 use Rattle.jj_paths.specs.Paths.{Name, Path, path_text}
@@ -14,7 +14,7 @@ use Rattle.jj_matchers.specs.Marks.{IsMarkedTree}
 use Rattle.jj_program.specs.SetTrees.{SetTree, passes, answer_by}
 use Rattle.jj_program.specs.WalkCommand.{NamedSet, Everything, Nothing, Files, Prefix, Globs, WalkRequest, walk_request}
 
--- the paths of a named set
+-- membership in a leaf
 abbrev pub named_accepts : Path → NamedSet → Bool
 named_accepts path Everything = true
 named_accepts path Nothing = false
@@ -22,7 +22,7 @@ named_accepts path (Files paths) = is_wanted paths path
 named_accepts path (Prefix paths) = has_prefix paths path
 named_accepts path (Globs patterns) = is_accepted patterns path
 
--- what a named set answers for a directory
+-- the visit of a directory by a leaf
 abbrev pub named_answer : Path → NamedSet → Answer
 named_answer dir Everything = all_recursively
 named_answer dir Nothing = nothing
@@ -30,7 +30,7 @@ named_answer dir (Files paths) = files_answer paths dir
 named_answer dir (Prefix paths) = prefix_answer paths dir
 named_answer dir (Globs patterns) = patterns_answer patterns dir
 
--- the names that its answers choose from
+-- names that visits by a leaf may list
 abbrev pub named_names : NamedSet → List Name
 named_names Everything = []
 named_names Nothing = []
@@ -38,25 +38,24 @@ named_names (Files paths) = names_of paths
 named_names (Prefix paths) = names_of paths
 named_names (Globs patterns) = names_of (pattern_dirs patterns)
 
--- the paths of a set
+-- membership in a set
 abbrev pub accepted_by : SetTree NamedSet → Path → Bool
 accepted_by set path = passes (named_accepts path) set
 
--- what a set answers for a directory
+-- the visit of a directory by a set
 abbrev pub answered_by : SetTree NamedSet → Path → Answer
 answered_by set dir = answer_by named_names (named_answer dir) set
 
--- a line of this name for each path
+-- a line with this name for each path
 abbrev pub path_lines : List ℕ → List Path → List ℕ
 path_lines name paths = flat_map (λ path. line_text name (path_text path ∷ [])) paths
 
--- the lines of what is found in a tree of marks
+-- the files found in a tree of marks, then the directories entered
 abbrev pub walk_lines : SetTree NamedSet → Tree Bool → List ℕ
 walk_lines set tree = path_lines (codes "file") (files_of (accepted_by set) tree)
     ++ path_lines (codes "enter") (entered_by (answered_by set) tree)
 
--- the output for a text is the lines of what is found in the tree of its marks, or the text has
--- this fault
+-- the output of an input is that of a walk over the tree of its marks; or the input has this fault
 abbrev pub GivesWalk : List ℕ → Result (List ℕ) Fault → Type 0
 GivesWalk text (Ok output) = (request : WalkRequest) × (walk_request text ≡ Ok request)
     × ((tree : Tree Bool) × IsMarkedTree request.marks tree

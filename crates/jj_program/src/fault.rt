@@ -1,4 +1,4 @@
-//! Why a run of the program fails.
+//! Error types of the program.
 ghost use Rattle.std.specs.Prelude.{◌≡◌, ◌++◌, Some};
 ghost use Rattle.jj_program.specs.Faults.{line_fault_text, fault_text};
 ghost use Rattle.jj_program.specs.declared.fault.Fault.{Fault};
@@ -9,7 +9,7 @@ use std::alloc::{AllocError, AllocFailed};
 use std::error::Error;
 use std::fmt;
 
-/// What is wrong with a line of the input; of several kinds the first one here is named.
+/// An error in a line of the input. A line with several errors is reported with the first of these.
 #[derive(Clone, Copy, Debug, PartialEq, Eq)]
 pub enum LineFault {
     UnknownCommand,
@@ -22,14 +22,14 @@ pub enum LineFault {
     BadHex,
 }
 
-// Why the fields of a line were not taken.
+// Error of processing one line; the line number is added by the line loop.
 #[derive(Clone, Copy)]
 pub(crate) enum StepFault {
     Memory,
     Line(LineFault),
 }
 
-/// Why a run of the program failed.
+/// An error of a run of the program. `Matchers` counts the sets left on the stack of a walk.
 #[derive(Clone, Copy, Debug, PartialEq, Eq)]
 pub enum Fault {
     ReadInput,
@@ -41,7 +41,6 @@ pub enum Fault {
 }
 
 impl LineFault {
-    // what is wrong, in words
     fn as_str(self) -> &'static str
         ensures { result.now ≡ line_fault_text self }
     {
@@ -59,7 +58,7 @@ impl LineFault {
 }
 
 impl Fault {
-    // what failed, in words, as four texts that follow one another; a number stands in `digits`
+    // The message as four parts to be concatenated; a number is formatted into `digits`.
     pub(crate) fn as_texts(self, digits: &mut Buffer) -> (&str, &str, &str, &str)
         ensures { result.0.now ++ result.1.now ++ result.2.now ++ result.3.now ≡ fault_text self }
     {

@@ -1,4 +1,4 @@
-//! Fields of a line, and the values that they stand for.
+//! Parsing of the fields of a line.
 ghost use Rattle.std.specs.Prelude.{◌≡◌, ◌<◌, Bool, List, ℕ, map, true, Ok};
 ghost use Rattle.jj_program.specs.declared.fault.LineFault.{LineFault};
 ghost use Rattle.jj_program.specs.Steps.{Agrees, value_at, values_at};
@@ -7,27 +7,28 @@ ghost use Rattle.jj_program.specs.Texts.{texts_of};
 use crate::fault::{LineFault, StepFault};
 use std::alloc::Global;
 
-/// A value that a field can stand for.
+/// A type that a field of a line can be parsed as.
 pub trait Field<'t>: Drop {
-    /// What is seen of it.
+    /// The model of a parsed value.
     ghost Value: { Type 0 };
 
     ghost value: { Self → Value };
 
-    /// Which texts stand for a value, and for which.
+    /// Whether a field is valid.
     ghost is_one: { List ℕ → Bool };
 
+    /// The value of a valid field.
     ghost value_of: { List ℕ → Value };
 
-    /// What is wrong with a line that has another text there.
+    /// The fault of a line with an invalid field.
     ghost otherwise: { LineFault };
 
-    /// The value of a field.
+    /// Parses a field.
     fn parse(alloc: Global, text: &'t str) -> Result<Self, StepFault>
         ensures { Agrees result value (value_at is_one value_of otherwise text.now) };
 }
 
-/// The values of fields, each of which has to stand for one.
+/// Parses every field as an `F`, and returns the fault of the first invalid one.
 pub fn parse_fields<'t, F: Field<'t>>(
     alloc: Global,
     fields: &[&'t str],

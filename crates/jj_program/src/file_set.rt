@@ -1,5 +1,5 @@
-//! The sets of files that lines of an input name, what lines do with the stack of sets, and the
-//! matcher of the set that is left.
+//! Sets of files in postfix notation: their leaves, the stack that lines of an input operate on,
+//! and the matcher that evaluates the last set left.
 
 mod leaf_matcher;
 mod matcher;
@@ -11,14 +11,14 @@ use jj_paths::repo_path::RepoPath;
 pub(crate) use matcher::walk_set;
 pub(crate) use stack::SetStack;
 
-// A set of files that a line names.
+// A leaf: a set of files described by one line.
 #[derive(Drop)]
 pub(crate) enum FileSet<'t> {
     Everything,
     Nothing,
     Files(Vec<RepoPath<'t>>),
     Prefix(Vec<RepoPath<'t>>),
-    /// Each directory has the glob at the same place.
+    /// `globs[i]` is relative to `dirs[i]`.
     Globs {
         prefix_paths: bool,
         dirs: Vec<RepoPath<'t>>,
@@ -26,7 +26,7 @@ pub(crate) enum FileSet<'t> {
     },
 }
 
-// How a line combines two sets, of which the one that was put on the stack first is the first.
+// A set operation; the first operand is the one that was pushed first.
 #[derive(Clone, Copy, Debug, PartialEq, Eq)]
 pub(crate) enum Combination {
     Union,
@@ -34,7 +34,7 @@ pub(crate) enum Combination {
     Intersection,
 }
 
-// What a line does with the stack of sets.
+// An instruction of the postfix code of a set.
 #[derive(Drop)]
 pub(crate) enum SetStep<S> {
     Push(S),

@@ -1,5 +1,5 @@
-//! The command `graph`: lines list the neighbours of nodes, or ask for the order, the heads or the
-//! closest common nodes of some.
+//! The command `graph`: reads adjacency lists, then prints the topological order, the heads or the
+//! closest common nodes of the ids of each request.
 ghost use Rattle.std.specs.Prelude.{◌≡◌, ◌==◌, ◌<◌, ◌++◌, ℕ, All, List, length, map, true, false, Ok, MatchOption, MatchResult, IfOk, IfErr, OnOk, string_bytes};
 ghost use Rattle.std.specs.List.{Contains, after_first, before_first, count_by, position_or_len};
 ghost use Rattle.std.specs.Str.Parse.{digits_value};
@@ -21,7 +21,7 @@ use crate::reading::{Reading, take_lines};
 use std::alloc::{AllocError, Global};
 use std::collections::BTreeMap;
 
-// What a line asks.
+// A request with its ids.
 #[derive(Drop)]
 pub(crate) enum GraphRequest {
     Order(Vec<u64>),
@@ -29,7 +29,7 @@ pub(crate) enum GraphRequest {
     Common(Vec<u64>, Vec<u64>),
 }
 
-// The neighbours of each node that has a line so far, and what the lines ask.
+// The adjacency lists and the requests of the lines so far.
 #[derive(Drop)]
 pub(crate) struct GraphReading {
     neighbors: BTreeMap<u64, Vec<u64>>,
@@ -55,7 +55,7 @@ impl<'t> Field<'t> for u64 {
     }
 }
 
-// Whether a field parts two sets.
+// Whether a field is the separator between two sets.
 fn is_dash(field: &str) -> bool
     ensures { result ≡ is_dash field.now }
 {
@@ -74,7 +74,7 @@ fn dash_count(fields: &[&str]) -> usize
     dashes
 }
 
-// The place of the first field `-`, or the number of fields.
+// Returns the index of the first separator, or the number of fields.
 fn dash_place(fields: &[&str]) -> usize
     ensures place { result ≡ position_or_len is_dash (texts_of fields.now) }
     ensures within { count_by is_dash (texts_of fields.now) ≡ 1
@@ -90,7 +90,7 @@ fn dash_place(fields: &[&str]) -> usize
     place
 }
 
-// The fields before the field `-`, and those after it, where there is one.
+// Splits the fields at the separator. Returns `None` unless there is exactly one.
 fn split_sets<'a, 't>(fields: &'a [&'t str]) -> Option<(&'a [&'t str], &'a [&'t str])>
     ensures { MatchOption result ((count_by is_dash (texts_of fields.now) == 1)
         ≡ false)
@@ -108,7 +108,7 @@ fn split_sets<'a, 't>(fields: &'a [&'t str]) -> Option<(&'a [&'t str], &'a [&'t 
 }
 
 impl GraphReading {
-    // Lists the neighbours of the node of the first field.
+    // `node ID NEIGHBOR..`
     fn list(&mut self, alloc: Global, fields: &[&str]) -> Result<(), StepFault>
         ensures { Agrees result (λ _. graph_state_of self.new)
             (node_step (graph_state_of self.old) (texts_of fields.now)) }
@@ -125,7 +125,7 @@ impl GraphReading {
         Ok(())
     }
 
-    // Takes a request for the order of the ids of the fields.
+    // `order ID..`
     fn ask_order(&mut self, alloc: Global, fields: &[&str]) -> Result<(), StepFault>
         ensures { Agrees result (λ _. graph_state_of self.new)
             (with_request (graph_state_of self.old) Order (numbers_of (texts_of fields.now))) }
@@ -135,7 +135,7 @@ impl GraphReading {
         Ok(())
     }
 
-    // Takes a request for the heads of the ids of the fields.
+    // `heads ID..`
     fn ask_heads(&mut self, alloc: Global, fields: &[&str]) -> Result<(), StepFault>
         ensures { Agrees result (λ _. graph_state_of self.new)
             (with_request (graph_state_of self.old) Heads (numbers_of (texts_of fields.now))) }
@@ -145,8 +145,7 @@ impl GraphReading {
         Ok(())
     }
 
-    // Takes a request for the closest common nodes of the ids before the field `-` and those after
-    // it.
+    // `common ID.. - ID..`
     fn ask_common(&mut self, alloc: Global, fields: &[&str]) -> Result<(), StepFault>
         ensures { Agrees result (λ _. graph_state_of self.new)
             (common_step (graph_state_of self.old) (texts_of fields.now)) }
@@ -182,7 +181,7 @@ impl<'t> Reading<'t> for GraphReading {
     }
 }
 
-// What the command `graph` writes for a text.
+// Returns the output of `graph` for an input.
 pub(crate) fn graph_output(alloc: Global, text: &str) -> Result<Vec<u8>, Fault>
     ensures done { IfOk result (λ output. GivesGraph text.now (Ok output.items)) }
     ensures fault { IfErr result (λ fault. IsFaultOf fault (graph_state text.now)) }
@@ -209,7 +208,7 @@ pub(crate) fn graph_output(alloc: Global, text: &str) -> Result<Vec<u8>, Fault>
     Ok(output.into_bytes())
 }
 
-// The ids that requests name.
+// Collects the ids of all requests.
 fn asked_ids(alloc: Global, requests: &[GraphRequest]) -> Result<Vec<u64>, AllocError>
     ensures { IfOk result (λ ids. All
         (λ request. All (Contains ids.items) (ids_of (graph_request_of request))) requests.now) }
@@ -221,7 +220,7 @@ fn asked_ids(alloc: Global, requests: &[GraphRequest]) -> Result<Vec<u64>, Alloc
     Ok(ids)
 }
 
-// Adds the ids that a request names.
+// Appends the ids of a request.
 fn push_asked(ids: &mut Vec<u64>, request: &GraphRequest) -> Result<(), AllocError>
     ensures { OnOk result (ids.new.items
         ≡ ids.old.items ++ ids_of (graph_request_of request.now)) }
@@ -236,7 +235,7 @@ fn push_asked(ids: &mut Vec<u64>, request: &GraphRequest) -> Result<(), AllocErr
     }
 }
 
-// Adds the answer to a request to the output, where the graph has no cycle.
+// Runs a request on an acyclic graph and appends its line to the output.
 fn push_answer(
     alloc: Global,
     output: &mut String,
@@ -265,7 +264,7 @@ fn push_answer(
     }
 }
 
-// Adds a line to the output: its first field, and each number after a TAB.
+// Appends a line of TAB-separated numbers to the output, the name first.
 fn push_numbers(output: &mut String, name: &str, numbers: &[u64]) -> Result<(), AllocError>
     ensures { OnOk result (string_bytes output.new ≡ string_bytes output.old
         ++ numbers_line name.now numbers.now) }

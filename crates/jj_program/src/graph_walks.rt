@@ -1,4 +1,4 @@
-//! Answers about graphs, by the walks over them.
+//! Adapters from the listed graph to the walks of `jj_dag`.
 ghost use Rattle.std.specs.Prelude.{◌≡◌, All, IfOk, IsOkAnd, MatchBool};
 ghost use Rattle.std.specs.List.{Contains};
 ghost use Rattle.std.specs.Iterator.{YieldsFirst, item_count};
@@ -17,7 +17,7 @@ use std::alloc::{AllocError, Global};
 use std::iter::Copied;
 use std::slice;
 
-// The neighbours of a node as a list that may fail in the eyes of a walk. It never does.
+// Returns the neighbours of a node in the fallible form that `closest_common_nodes` takes.
 fn sound_neighbors_of(graph: &ListedGraph, id: u64) -> Result<Copied<slice::Iter<'_, u64>>, u64>
     ensures { IsOkAnd result (λ list. iter_rest (copied_source list)
         ≡ shown_by graph.now id) }
@@ -25,7 +25,7 @@ fn sound_neighbors_of(graph: &ListedGraph, id: u64) -> Result<Copied<slice::Iter
     Ok(graph.neighbors_of(id).iter().copied())
 }
 
-// Ids as items that may fail in the eyes of a walk. None does.
+// Iterates over ids in the fallible form that `topo_order_reverse_ord` takes.
 #[derive(Drop)]
 struct SoundIds<'a> {
     ids: &'a [u64],
@@ -47,7 +47,6 @@ impl<'a> Iterator for SoundIds<'a> {
     }
 }
 
-// The neighbours of a node, as such items.
 fn sound_items_of(graph: &ListedGraph, id: u64) -> SoundIds<'_>
     ensures { result.ids.now ≡ shown_by graph.now id }
 {
@@ -77,7 +76,7 @@ pub(crate) fn has_cycle(alloc: Global, graph: &ListedGraph) -> Result<bool, Allo
     }
 }
 
-// The greatest child-first order of what these ids reach.
+// Returns the lexicographically greatest topological order of the nodes reachable from `ids`.
 pub(crate) fn greatest_order(
     alloc: Global,
     graph: &ListedGraph,
@@ -99,13 +98,13 @@ pub(crate) fn greatest_order(
         Ok(order) => Ok(order),
         Err(error) => match error {
             WalkError::Memory => Err(AllocError),
-            // Only a cycle would be refused.
+            // Only a cycle makes a node error.
             WalkError::Node(_) => unreachable!(),
         },
     }
 }
 
-// The ids that no other of them reaches, in ascending order.
+// Returns the ids that are reachable from no other of them, in ascending order.
 pub(crate) fn ascending_heads(
     alloc: Global,
     graph: &ListedGraph,
@@ -128,7 +127,7 @@ pub(crate) fn ascending_heads(
     Ok(ascending)
 }
 
-// The closest common nodes of two sets of ids, in ascending order.
+// Returns the maximal nodes reachable from both sets of ids, in ascending order.
 pub(crate) fn ascending_common(
     alloc: Global,
     graph: &ListedGraph,

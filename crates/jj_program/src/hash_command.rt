@@ -1,4 +1,4 @@
-//! The command `hash`: each line names bytes, and is answered by their digest.
+//! The command `hash`: prints the BLAKE2b-512 digest of the content that each line describes.
 ghost use Rattle.std.specs.Prelude.{◌≡◌, ◌++◌, ℕ, List, Ok, IfOk, IfErr, OnOk};
 ghost use Rattle.jj_program.specs.Lines.{IsFaultOf};
 ghost use Rattle.jj_program.specs.Steps.{Agrees};
@@ -13,7 +13,7 @@ use jj_content::content_hash::blake2b_hash;
 use jj_content::hex_util::{decode_hex, encode_hex};
 use std::alloc::{AllocError, Global};
 
-// The answers to the lines so far.
+// The output for the lines so far.
 #[derive(Drop)]
 pub(crate) struct HashReading {
     output: Vec<u8>,
@@ -33,7 +33,7 @@ impl<'t> Reading<'t> for HashReading {
     }
 }
 
-// What the command `hash` writes for a text.
+// Returns the output of `hash` for an input.
 pub(crate) fn hash_lines(alloc: Global, text: &str) -> Result<Vec<u8>, Fault>
     ensures done { IfOk result (λ output. GivesHash text.now (Ok output.items)) }
     ensures fault { IfErr result (λ fault. IsFaultOf fault (hash_output text.now)) }
@@ -45,7 +45,7 @@ pub(crate) fn hash_lines(alloc: Global, text: &str) -> Result<Vec<u8>, Fault>
     Ok(reading.output)
 }
 
-// The digest of the bytes that a line's fields name.
+// Dispatches on the line's first field.
 fn line_digest(alloc: Global, fields: &[&str]) -> Result<[u8; 64], StepFault>
     ensures { Agrees result (λ digest. digest) (digest_of (named_bytes (texts_of fields.now))) }
 {
@@ -61,7 +61,7 @@ fn line_digest(alloc: Global, fields: &[&str]) -> Result<[u8; 64], StepFault>
     }
 }
 
-// The digest of the bytes of one field's hex text.
+// `raw HEX`: the digest of the decoded bytes themselves
 fn raw_digest(alloc: Global, fields: &[&str]) -> Result<[u8; 64], StepFault>
     ensures { Agrees result (λ digest. digest) (digest_of (raw_bytes (texts_of fields.now))) }
 {
@@ -76,7 +76,7 @@ fn raw_digest(alloc: Global, fields: &[&str]) -> Result<[u8; 64], StepFault>
     Ok(hasher.finalize())
 }
 
-// The digest of the content of one field.
+// `text STRING`: the digest of a string's content bytes
 fn text_digest(alloc: Global, fields: &[&str]) -> Result<[u8; 64], StepFault>
     ensures { Agrees result (λ digest. digest) (digest_of (content_of_one (texts_of fields.now))) }
 {
@@ -86,7 +86,7 @@ fn text_digest(alloc: Global, fields: &[&str]) -> Result<[u8; 64], StepFault>
     Ok(blake2b_hash(alloc, text)?)
 }
 
-// The digest of the content of the merge of the fields.
+// `merge TERM..`: the digest of the content bytes of a merge of strings
 fn merge_digest(alloc: Global, fields: &[&str]) -> Result<[u8; 64], StepFault>
     ensures { Agrees result (λ digest. digest)
         (digest_of (content_of_merge (texts_of fields.now))) }
@@ -98,7 +98,7 @@ fn merge_digest(alloc: Global, fields: &[&str]) -> Result<[u8; 64], StepFault>
     Ok(blake2b_hash(alloc, &terms)?)
 }
 
-// Adds a line with a digest to the output.
+// Appends a line with the digest in hex to the output.
 fn push_digest(alloc: Global, output: &mut Vec<u8>, digest: &[u8; 64]) -> Result<(), AllocError>
     ensures { OnOk result (output.new.items ≡ output.old.items ++ digest_line digest.now) }
 {

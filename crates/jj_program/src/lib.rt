@@ -1,4 +1,5 @@
-//! The engine of the program `jj-core`: what it writes for an input, or the first fault.
+//! The engine of the program `jj-core`: parses an input, runs its command and formats the output,
+//! or reports the first fault.
 #![tactic(auto)]
 
 mod fault;

@@ -1,5 +1,5 @@
-//! Graphs whose edges a map lists, and numbers for their nodes. A walk keeps the numbers in hashed
-//! maps, so no input chooses what is hashed.
+//! A graph as adjacency lists, with dense numbers for its ids. Walks hash these numbers and not the
+//! ids, so an input cannot choose hash collisions.
 ghost use Rattle.std.specs.Prelude.{◌≡◌, All, IfOk};
 ghost use Rattle.std.specs.List.{Contains};
 ghost use Rattle.jj_program.specs.Neighbors.{listed_in, HoldsNeighbors};
@@ -9,8 +9,7 @@ use crate::numbering::Numbering;
 use std::alloc::AllocError;
 use std::collections::BTreeMap;
 
-// A graph by the neighbours of its nodes, and the numbers by which walks know them. Each id that
-// a list names is numbered.
+// Adjacency lists by id. Each id in a list has a number.
 #[derive(Drop)]
 pub(crate) struct ListedGraph {
     neighbors: BTreeMap<u64, Vec<u64>>,
@@ -22,7 +21,7 @@ impl ListedGraph {
     ghost use Rattle.jj_program.specs.ListedGraphs.{named_by, shown_by};
     ghost use Rattle.jj_program.specs.Numbering.{IsNumberOf};
 
-    // The graph of these lists, which numbers the ids asked for too.
+    // Numbers the ids of the lists and of the requests.
     pub(crate) fn new(
         neighbors: BTreeMap<u64, Vec<u64>>,
         asked: Vec<u64>,
@@ -40,21 +39,21 @@ impl ListedGraph {
         })
     }
 
-    // The ids that are numbered: each that a list names, and those asked for.
+    // The numbered ids, ascending.
     pub(crate) fn ids(&self) -> &[u64]
         ensures { result.now ≡ named_by self.now }
     {
         self.numbering.ids()
     }
 
-    // The number of an id, which no other of the graph has.
+    // The number of an id, unique among the numbered ids.
     pub(crate) fn number(&self, id: u64) -> usize
         ensures { Contains (named_by self.now) id → IsNumberOf (named_by self.now) id result }
     {
         self.numbering.number(id)
     }
 
-    // The neighbours of a node, none where it has no list.
+    // The neighbours of a node; empty if it has no list.
     pub(crate) fn neighbors_of(&self, id: u64) -> &[u64]
         ensures { result.now ≡ shown_by self.now id }
     {

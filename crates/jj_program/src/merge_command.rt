@@ -1,4 +1,4 @@
-//! The command `merge`: each line asks what is left of a merge of texts, or for its outcome.
+//! The command `merge`: simplifies or resolves a merge of strings per line.
 ghost use Rattle.std.specs.Prelude.{◌≡◌, ◌++◌, map, ℕ, List, Ok, IfOk, IfErr, OnOk, length};
 ghost use Rattle.jj_merges.specs.Merge.{IsOdd};
 ghost use Rattle.jj_program.specs.Lines.{IsFaultOf};
@@ -12,7 +12,7 @@ use crate::reading::{Reading, take_lines};
 use jj_merges::merge::{Merge, MergeBuilder, SameChange};
 use std::alloc::{AllocError, Global};
 
-// What a line asks of a merge.
+// The operation that a line requests.
 #[derive(Clone, Copy)]
 pub(crate) enum Question {
     Simplify,
@@ -20,7 +20,7 @@ pub(crate) enum Question {
 }
 
 impl Question {
-    // What a line of this name asks.
+    // Parses a line's first field.
     fn from_name(name: &str) -> Option<Question>
         ensures { result ≡ question_named name.now }
     {
@@ -33,20 +33,20 @@ impl Question {
     }
 }
 
-// A line's question, and the merge of its terms.
+// A requested operation and its operand.
 #[derive(Drop)]
 pub(crate) struct MergeRequest<'t> {
     question: Question,
     terms: Merge<&'t str>,
 }
 
-// The requests of the lines so far.
+// The requests of the lines so far. They run only when the whole input is valid.
 #[derive(Drop)]
 pub(crate) struct MergeReading<'t> {
     requests: Vec<MergeRequest<'t>>,
 }
 
-// The merge of these terms.
+// Builds a merge of an odd number of terms.
 pub(crate) fn merge_of<'t>(alloc: Global, terms: &[&'t str]) -> Result<Merge<&'t str>, AllocError>
     requires { IsOdd (length terms.now) }
     ensures { IfOk result (λ merge. merge ≡ terms.now) }
@@ -79,7 +79,7 @@ impl<'t> Reading<'t> for MergeReading<'t> {
     }
 }
 
-// What the command `merge` writes for a text.
+// Returns the output of `merge` for an input.
 pub(crate) fn merge_output(alloc: Global, text: &str) -> Result<Vec<u8>, Fault>
     ensures done { IfOk result (λ output. GivesMerge text.now (Ok output.items)) }
     ensures fault { IfErr result (λ fault. IsFaultOf fault (merge_requests text.now)) }
@@ -95,7 +95,7 @@ pub(crate) fn merge_output(alloc: Global, text: &str) -> Result<Vec<u8>, Fault>
     Ok(output)
 }
 
-// Adds the answer to a request to the output.
+// Runs a request and appends its line to the output.
 fn push_answer(
     alloc: Global,
     output: &mut Vec<u8>,

@@ -1,4 +1,5 @@
-//! The outcome of a merge of texts, in time that grows with sorting where it has many terms.
+//! Trivial resolution of a merge of strings in O(n log n): cancels adds with equal removes by
+//! merging their sorted lists first.
 ghost use Rattle.std.specs.Prelude.{◌≡◌, ◌+◌, ◌++◌, ◌∷◌, [], ℕ, List, IfOk, IfSome, IfNone, count_by, length, map, Contains};
 ghost use Rattle.std.specs.List.Sorted.{IsPermutation};
 ghost use Rattle.jj_merges.specs.Merge.{IsOdd, HaveSameCounts};
@@ -9,11 +10,11 @@ ghost use Rattle.jj_program.specs.TextMerges.{text_eq, HaveCountsOf, IsTextOutco
 use jj_merges::merge::{EverySecond, Merge, SameChange};
 use std::alloc::{AllocError, Global};
 
-// From so many terms on, the adds and the removes of a merge are sorted before they are compared.
+// Merges with at least this many terms are sorted first; shorter ones are compared directly.
 const MANY_TERMS: usize = 64;
 
-// The outcome of the merge, where the counts of its terms decide it. It takes memory where the
-// merge has many terms.
+// Resolves the merge if the signed counts of its terms determine one value. Allocates only if the
+// merge has at least `MANY_TERMS` terms.
 pub(crate) fn outcome<'t>(
     alloc: Global,
     terms: &Merge<&'t str>,
@@ -28,7 +29,6 @@ pub(crate) fn outcome<'t>(
     Ok(decided_text(&left, same_change))
 }
 
-// The outcome of the merge, where the counts of its terms decide it.
 fn decided_text<'t>(terms: &Merge<&'t str>, same_change: SameChange) -> Option<&'t str>
     ensures { IsTextOutcome same_change terms.now result }
 {
@@ -38,7 +38,7 @@ fn decided_text<'t>(terms: &Merge<&'t str>, same_change: SameChange) -> Option<&
     }
 }
 
-// A merge of what is left where adds and equal removes are taken out in pairs.
+// Returns a merge with the same signed counts and no value on both sides.
 fn with_pairs_cancelled<'t>(
     alloc: Global,
     terms: &Merge<&'t str>,
@@ -53,7 +53,7 @@ fn with_pairs_cancelled<'t>(
     Ok(left)
 }
 
-// The texts in ascending order.
+// Sorts one side of the merge.
 fn sorted_texts<'t>(
     alloc: Global,
     texts: EverySecond<'_, &'t str>,
@@ -68,7 +68,7 @@ fn sorted_texts<'t>(
     Ok(sorted)
 }
 
-// The merge of these removes and adds, of which there is one more.
+// Builds a merge of these removes and one more adds.
 fn merge_of_sides<'t>(
     alloc: Global,
     removes: Vec<&'t str>,
@@ -82,8 +82,8 @@ fn merge_of_sides<'t>(
     Ok(merge)
 }
 
-// The adds and the removes that are left where equal ones in front are taken out in pairs. Where
-// both ascend, no add is left that equals a remove.
+// Cancels equal adds and removes by merging the two lists. Cancels every such pair if both are
+// sorted.
 fn without_pairs<'t>(
     alloc: Global,
     adds: &[&'t str],

@@ -2,7 +2,7 @@
 ghost use Rattle.std.specs.Prelude.{◌≡◌, ◌↔◌, IsTrue};
 ghost use Rattle.jj_program.specs.Numbers.{number_of, IsPlain};
 
-// The number below 2^64 that a text writes in decimal, without leading zeros.
+// Parses a decimal number below 2^64. A sign and leading zeros are invalid.
 pub(crate) fn parse_number(text: &str) -> Option<u64>
     ensures { result ≡ number_of text.now }
 {
@@ -12,7 +12,7 @@ pub(crate) fn parse_number(text: &str) -> Option<u64>
     text.parse::<u64>().ok()
 }
 
-// Whether a text begins with no plus, and with no zero that a digit follows.
+// Rejects what `u64::from_str` accepts beyond that: a leading `+` and leading zeros.
 fn is_plain(text: &[u8]) -> bool
     ensures { IsTrue result ↔ IsPlain text.now }
 {

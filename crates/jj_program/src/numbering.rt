@@ -1,4 +1,4 @@
-//! Ids numbered by their places in ascending order.
+//! Dense numbering of ids: the number of an id is its index in the sorted list.
 ghost use Rattle.std.specs.Prelude.{◌≡◌, ◌<◌, ℕ, IfOk, All, length};
 ghost use Rattle.std.specs.List.{Contains};
 ghost use Rattle.std.specs.List.Sorted.{IsStrictlyIncreasing};
@@ -6,7 +6,7 @@ ghost use Rattle.jj_program.specs.Numbering.{IsNumberOf};
 
 use std::alloc::{AllocError, Global};
 
-// Ids in ascending order, each once.
+// A sorted list without duplicates.
 #[derive(Drop)]
 pub(crate) struct Numbering {
     ids: Vec<u64>,
@@ -14,7 +14,7 @@ pub(crate) struct Numbering {
 }
 
 impl Numbering {
-    // The numbers of these ids.
+    // Sorts and deduplicates the ids.
     pub(crate) fn new(mut ids: Vec<u64>) -> Numbering
         ensures { All (Contains result.ids.items) ids.items }
     {
@@ -23,14 +23,13 @@ impl Numbering {
         Numbering { ids }
     }
 
-    // The ids.
     pub(crate) fn ids(&self) -> &[u64]
         ensures { result.now ≡ self.now.ids.items }
     {
         &self.ids
     }
 
-    // The number of an id; what it is of another is not said.
+    // The index of an id by binary search; unspecified for an id that is not in the list.
     pub(crate) fn number(&self, id: u64) -> usize
         ensures { Contains self.now.ids.items id → IsNumberOf self.now.ids.items id result }
     {

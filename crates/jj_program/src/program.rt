@@ -1,4 +1,5 @@
-//! The program: it reads a command's input to the end, and writes the output of all of it.
+//! Entry points of the program: read the whole input, run one command on it, write the whole
+//! output.
 ghost use Rattle.std.specs.Prelude.{◌≡◌, ◌≢◌, ◌<◌, length, map, false, Ok, IfOk, IfErr, OnOk, IsSome, IfSome, None, string_bytes};
 ghost use Rattle.std.specs.Io.KnownBytes.{Consumes, IsAtEnd, Keeps};
 ghost use Rattle.jj_files.specs.Streams.{streams};
@@ -16,7 +17,7 @@ use crate::walk_command::walk_output;
 use jj_files::file_util::{Sink, Source, write_all};
 use std::alloc::Global;
 
-/// What the program can be asked for.
+/// A command of the program.
 #[derive(Clone, Copy, Debug, PartialEq, Eq)]
 pub enum Command {
     Walk,
@@ -28,7 +29,7 @@ pub enum Command {
 impl Command {
     ghost use Rattle.jj_program.specs.Program.{command_named};
 
-    /// The command of this name.
+    /// Parses the name of a command. Returns `None` for any other word.
     pub fn from_name(name: &str) -> Option<Command>
         ensures { result ≡ command_named name.now }
     {
@@ -42,10 +43,9 @@ impl Command {
     }
 }
 
-// The bytes that are taken from the reader at a time.
+// Bytes per read.
 const READ_BUFFER: usize = 65536;
 
-// Reads a source to its end.
 fn read_input<R: Source>(alloc: Global, reader: &mut R) -> Result<Vec<u8>, Fault>
     requires { R.has_failed reader.old ≡ false }
     ensures all { IfOk result (λ input. Consumes (R.remaining reader.old)
@@ -70,7 +70,7 @@ fn read_input<R: Source>(alloc: Global, reader: &mut R) -> Result<Vec<u8>, Fault
     }
 }
 
-// What a command writes for an input.
+// Validates the input as UTF-8 and runs the command on it.
 fn output(alloc: Global, command: Command, input: &[u8]) -> Result<Vec<u8>, Fault>
     ensures done { IfOk result (λ output. Gives command input.now (Ok output.items)) }
     ensures fault { IfErr result (λ fault. IsFaultOfInput command input.now fault) }
@@ -86,8 +86,11 @@ fn output(alloc: Global, command: Command, input: &[u8]) -> Result<Vec<u8>, Faul
     }
 }
 
-/// Reads a source to its end, and writes what the command gives for its bytes. For faulty input
-/// nothing is written.
+/// Reads the source to its end, runs the command on its bytes and writes the output.
+///
+/// Nothing is written unless the whole input is valid. Fails with `ReadInput` or `WriteOutput` if
+/// the source or the sink does, with `NotUtf8`, `Matchers` or `Line` for an invalid input, and with
+/// `Memory` when out of memory.
 pub fn run<R: Source, W: Sink>(
     alloc: Global,
     command: Command,
@@ -113,7 +116,7 @@ pub fn run<R: Source, W: Sink>(
     Ok(())
 }
 
-// The command that these words name, if they are its name alone.
+// Parses a command line: exactly one word, the name of a command.
 fn command_of(words: &[String]) -> Option<Command>
     ensures { result ≡ command_line (map string_bytes words.now) }
 {
@@ -123,9 +126,11 @@ fn command_of(words: &[String]) -> Option<Command>
     }
 }
 
-/// Runs the program on the words after its name, and answers its exit status: 0 where the output
-/// was written, 1 after a fault, which is said in a line to `errors`, and 2, with a line on the
-/// usage, where the words name no command. Saying a fault takes no memory.
+/// Runs the program with these arguments (without the program's name) and returns its exit status.
+///
+/// Returns 0 when the output was written, 1 after a fault, with one line about it on `errors`, and
+/// 2 when the arguments are no command, with the usage line on `errors`. Error reporting does not
+/// allocate; a failing `errors` does not change the status.
 pub fn start<R: Source, W: Sink, E: Sink>(
     alloc: Global,
     words: &[String],

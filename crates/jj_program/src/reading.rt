@@ -1,4 +1,5 @@
-//! Input as lines, which a command takes one after the other.
+//! The line loop that all commands share: splits the input into lines and fields, and passes each
+//! nonempty line to the command.
 ghost use Rattle.std.specs.Prelude.{◌≡◌, ◌+◌, List, ℕ, Result, Ok, MatchResult, OnOk};
 ghost use Rattle.jj_program.specs.declared.fault.LineFault.{LineFault};
 ghost use Rattle.jj_program.specs.Lines.{lines_of, fields_of, after_line, after_lines, IsFaultOf};
@@ -8,24 +9,24 @@ ghost use Rattle.jj_program.specs.Texts.{texts_of};
 use crate::fault::{Fault, StepFault};
 use std::alloc::{AllocError, Global};
 
-/// What a command has read so far, which each line's fields change.
+/// State of a command between two lines of its input.
 pub trait Reading<'t> {
-    /// What is seen of it.
+    /// The model of the state.
     ghost State: { Type 0 };
 
     ghost state: { Self → State };
 
-    /// What a line's fields make of it, or the line's fault.
+    /// The transition of the state at a line with these fields, or the line's fault.
     ghost step: { State → List (List ℕ) → Result State LineFault };
 
-    /// Takes the fields of a line. After a fault the value is not used again.
+    /// Processes the fields of a line. After an error the value is not used again.
     fn take(&mut self, alloc: Global, fields: &[&'t str]) -> Result<(), StepFault>
         ensures { Agrees result (λ _. state self.new)
             (step (state self.old) (texts_of fields.now)) };
 }
 
-// Takes a line: an empty one is skipped. The list is for its fields, so that each line takes no
-// memory of its own.
+// Processes a line, unless it is empty. `fields` is a buffer that all lines share, so that a line
+// needs no allocation of its own.
 fn take_line<'t, M: Reading<'t>>(
     alloc: Global,
     reading: &mut M,
@@ -52,7 +53,7 @@ fn take_line<'t, M: Reading<'t>>(
     }
 }
 
-/// Takes the lines of a text as they come, up to the first fault.
+/// Processes the lines of the input in order, and returns the first fault with its line number.
 pub fn take_lines<'t, M: Reading<'t>>(
     alloc: Global,
     reading: &mut M,
@@ -75,7 +76,7 @@ pub fn take_lines<'t, M: Reading<'t>>(
     take_line(alloc, reading, &mut fields, line_number, rest)
 }
 
-// Puts the fields of a line in the place of those that a list has.
+// Replaces the contents of `fields` by the fields of the line.
 fn split_fields<'t>(fields: &mut Vec<&'t str>, line: &'t str) -> Result<(), AllocError>
     ensures { OnOk result (texts_of fields.new.items ≡ fields_of line.now) }
 {

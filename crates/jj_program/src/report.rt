@@ -1,4 +1,4 @@
-//! What the program says on standard error, for which it takes no memory.
+//! Error reporting on standard error, without allocation.
 ghost use Rattle.std.specs.Prelude.{◌≡◌, ℕ, List, ◌++◌, flat_map, false};
 ghost use Rattle.jj_program.specs.Reports.{usage_text, report_text, Says};
 
@@ -6,10 +6,9 @@ use crate::fault::Fault;
 use itoa::Buffer;
 use jj_files::file_util::{Sink, write_all};
 
-// what the program says of a command line that it cannot read
 const USAGE: &str = "usage: jj-core walk|merge|graph|hash\n";
 
-// Says a line of these texts. A fault of the sink changes nothing but that it ends there.
+// Writes these parts of a line, and stops silently at the first write that fails.
 fn say<E: Sink>(errors: &mut E, texts: &[&str])
     requires { E.has_failed errors.old ≡ false }
     ensures { Says (E.contents errors.old) (E.contents errors.new) (E.has_failed errors.new)
@@ -22,7 +21,7 @@ fn say<E: Sink>(errors: &mut E, texts: &[&str])
     }
 }
 
-// Says how the program is called.
+// Prints the usage line.
 pub(crate) fn report_usage<E: Sink>(errors: &mut E)
     requires { E.has_failed errors.old ≡ false }
     ensures { Says (E.contents errors.old) (E.contents errors.new) (E.has_failed errors.new)
@@ -31,7 +30,7 @@ pub(crate) fn report_usage<E: Sink>(errors: &mut E)
     say(errors, &[USAGE]);
 }
 
-// Says what a run failed by.
+// Prints one line that describes the fault.
 pub(crate) fn report_fault<E: Sink>(errors: &mut E, fault: Fault)
     requires { E.has_failed errors.old ≡ false }
     ensures { Says (E.contents errors.old) (E.contents errors.new) (E.has_failed errors.new)

@@ -1,5 +1,5 @@
-//! The command `walk`: it marks paths, builds one set of files, and writes what a walk by the set
-//! finds.
+//! The command `walk`: marks paths, builds a set of files in postfix notation, and lists the marked
+//! files in the set and the directories that a pruned walk enters.
 ghost use Rattle.std.specs.Prelude.{◌≡◌, ◌++◌, List, [], ◌∷◌, length, map, Bool, Ok, MatchResult, IfOk, IfErr, OnOk};
 ghost use Rattle.jj_paths.specs.Names.{path_of};
 ghost use Rattle.jj_paths.specs.Paths.{Path, components, is_path_text};
@@ -27,7 +27,7 @@ use jj_matchers::matchers::{PathGlobPattern, marked_tree};
 use jj_paths::repo_path::{InvalidNewRepoPathError, RepoPath, RepoPathBuf};
 use std::alloc::{AllocError, Global};
 
-// The marks and the sets of the lines so far.
+// The marks and the stack of sets after the lines so far.
 #[derive(Drop)]
 pub(crate) struct WalkReading<'t> {
     marks: Vec<RepoPath<'t>>,
@@ -78,7 +78,7 @@ impl<'t> Field<'t> for PathGlobPattern {
     }
 }
 
-// The directories and the globs of fields that come in pairs.
+// Splits alternating fields into directories and globs.
 fn pairs<'t>(alloc: Global, fields: &[&'t str]) -> Result<(Vec<&'t str>, Vec<&'t str>), StepFault>
     ensures { Agrees result (λ pairs. (texts_of pairs.0.items, texts_of pairs.1.items))
         (paired_fields (texts_of fields.now)) }
@@ -98,7 +98,7 @@ fn pairs<'t>(alloc: Global, fields: &[&'t str]) -> Result<(Vec<&'t str>, Vec<&'t
 }
 
 impl<'t> WalkReading<'t> {
-    // Marks the path of the one field.
+    // `mark PATH`
     fn mark(&mut self, alloc: Global, fields: &[&'t str]) -> Result<(), StepFault>
         ensures { Agrees result (λ _. state_of self.new)
             (mark_step (state_of self.old) (texts_of fields.now)) }
@@ -111,7 +111,7 @@ impl<'t> WalkReading<'t> {
         Ok(())
     }
 
-    // Puts a set on the stack, where no field is left.
+    // Pushes a constant set; there must be no fields.
     fn push_alone(&mut self, fields: &[&'t str], set: FileSet<'t>) -> Result<(), StepFault>
         ensures { Agrees result (λ _. state_of self.new)
             (with_set_alone (state_of self.old) (set_of set.entry) (texts_of fields.now)) }
@@ -123,7 +123,7 @@ impl<'t> WalkReading<'t> {
         Ok(())
     }
 
-    // Puts the set of these files on the stack.
+    // `files PATH..`
     fn push_files(&mut self, alloc: Global, fields: &[&'t str]) -> Result<(), StepFault>
         ensures { Agrees result (λ _. state_of self.new)
             (with_paths (state_of self.old) Files (paths_of (texts_of fields.now))) }
@@ -133,7 +133,7 @@ impl<'t> WalkReading<'t> {
         Ok(())
     }
 
-    // Puts the set of what is at and below these paths on the stack.
+    // `prefix PATH..`
     fn push_prefix(&mut self, alloc: Global, fields: &[&'t str]) -> Result<(), StepFault>
         ensures { Agrees result (λ _. state_of self.new)
             (with_paths (state_of self.old) Prefix (paths_of (texts_of fields.now))) }
@@ -143,7 +143,7 @@ impl<'t> WalkReading<'t> {
         Ok(())
     }
 
-    // Puts the set of what these globs accept, each in its directory, on the stack.
+    // `globs (DIR GLOB)..` and `prefix-globs (DIR GLOB)..`
     fn push_globs(
         &mut self,
         alloc: Global,
@@ -164,7 +164,7 @@ impl<'t> WalkReading<'t> {
         Ok(())
     }
 
-    // Combines the two sets on top of the stack, where no field is left.
+    // Replaces the top two sets by their combination; there must be no fields.
     fn combine(&mut self, fields: &[&'t str], combination: Combination) -> Result<(), StepFault>
         ensures { Agrees result (λ _. state_of self.new)
             (combined_step (state_of self.old) combination (texts_of fields.now)) }
@@ -207,7 +207,7 @@ impl<'t> Reading<'t> for WalkReading<'t> {
     }
 }
 
-// What the command `walk` writes for a text.
+// Returns the output of `walk` for an input.
 pub(crate) fn walk_output<'t>(alloc: Global, text: &'t str) -> Result<Vec<u8>, Fault>
     ensures done { IfOk result (λ output. GivesWalk text.now (Ok output.items)) }
     ensures fault { IfErr result (λ fault. IsFaultOf fault (walk_request text.now)) }
@@ -224,7 +224,7 @@ pub(crate) fn walk_output<'t>(alloc: Global, text: &'t str) -> Result<Vec<u8>, F
     }
 }
 
-// The lines of what a walk by a set finds in the tree of the marks.
+// Walks the tree of the marks by the only set on the stack, and formats the result.
 fn found_lines(
     alloc: Global,
     marks: Vec<RepoPath<'_>>,
@@ -243,7 +243,7 @@ fn found_lines(
     Ok(output)
 }
 
-// Adds a line of this name for each path.
+// Appends a line with this name for each path.
 fn push_paths(output: &mut Vec<u8>, name: &str, paths: &[RepoPathBuf]) -> Result<(), AllocError>
     ensures { OnOk result (output.new.items ≡ output.old.items ++ path_lines name.now paths.now) }
 {

@@ -1,4 +1,4 @@
--- What a run over ends in memory leaves.
+-- Runs over readers and writers in memory.
 use Rattle.std.proofs.Common.{◌≡◌, ◌∙◌, ℕ, List, [], ◌++◌, Option, None, Some, Result, Ok, Err, IfErr, true, ap, sym, subst, append-nil}
 use Rattle.std.specs.Io.KnownBytes.{Consumes, IsAtEnd}
 use Rattle.std.specs.Str.{IsUtf8, is_utf8}
@@ -12,13 +12,13 @@ use Rattle.jj_program.specs.LineFaults.{AnswersFirstFault}
 use Rattle.jj_program.specs.Program.{Answers, FailsBy, Gives, GivesText, WritesOutput}
 use Rattle.jj_program_tests.specs.Answered.{CanFailBy, IsFaultOfWalk}
 
--- a source that was read to its end gave all of its bytes
+-- a source that was read to its end was consumed whole
 read_all : (input read : List ℕ) (after : Option (List ℕ)) → Consumes (Some input) after read → IsAtEnd after → read ≡ input
 read_all input read None consumed end = absurd consumed
 read_all input read (Some rest) consumed end = sym (consumed ∙ ap (λ l. read ++ l) end ∙ append-nil read)
 
 module _ (command : Command) (input source : List ℕ) (is : source ≡ input) (unread written left : Option (List ℕ)) where
-  -- the answer for what was read is that for the input
+  -- the bytes consumed are the input, so its result is that of the input
   answer_of_input : (answer : Result (List ℕ) Fault) → Answers command (streams (Some source) written) (streams unread left) answer → Gives command input answer
   answer_of_input answer (read, consumed, end, given) = subst (λ bytes. Gives command bytes answer) (read_all source read unread consumed end ∙ is) given
 
@@ -31,18 +31,18 @@ module _ (command : Command) (input source : List ℕ) (is : source ≡ input) (
   failed (Matchers count) (answers, kept) = answer_of_input (Err (Matchers count)) answers
   failed (Line number kind) (answers, kept) = answer_of_input (Err (Line number kind)) answers
 
--- what was written to an empty sink is what the command gives
+-- the contents of a sink that was empty are the output
 pub wrote : (command : Command) (input source : List ℕ) → source ≡ input → (unread : Option (List ℕ)) (sunk bytes given : List ℕ) → sunk ≡ [] → given ≡ bytes
     → WritesOutput command (streams (Some source) (Some sunk)) (streams unread (Some bytes)) → Gives command input (Ok given)
 wrote command input source is unread sunk bytes given empty same (output, answers, appended) =
     let whole : given ≡ output = same ∙ appended ∙ ap (λ l. l ++ output) empty in
     subst (λ b. Gives command input (Ok b)) (sym whole) (answer_of_input command input source is unread (Some sunk) (Some bytes) (Ok output) answers)
 
--- what is given for the bytes of a text is given for the text
+-- the result on a string's bytes is the result on the string
 pub text_gives : (command : Command) (text : List ℕ) (answer : Result (List ℕ) Fault) → IsUtf8 text → Gives command text answer → GivesText command text answer
 text_gives command text answer utf8 given = let e : is_utf8 text ≡ true = is_utf8-from_IsUtf8 text utf8 in rw e at given
 
--- the fault of a walk is told by its text
+-- the fault of a walk is determined by its input
 pub walk_fault : AnswersFirstFault → (text : List ℕ) → IsUtf8 text → (fault : Fault) → CanFailBy Walk text fault → IsFaultOfWalk text fault
 walk_fault law text utf8 ReadInput h = tt
 walk_fault law text utf8 Memory h = tt
@@ -51,6 +51,6 @@ walk_fault law text utf8 NotUtf8 h = law Walk text (Err NotUtf8) (text_gives Wal
 walk_fault law text utf8 (Matchers count) h = law Walk text (Err (Matchers count)) (text_gives Walk text (Err (Matchers count)) utf8 h)
 walk_fault law text utf8 (Line number kind) h = law Walk text (Err (Line number kind)) (text_gives Walk text (Err (Line number kind)) utf8 h)
 
--- what the exit of a `?` returns fails by the fault that it was given
+-- `?` propagates the fault
 pub fails_at : {A : Type 0} (command : Command) (input : List ℕ) (r : Result A Fault) (y e : Fault) → r ≡ Err y → y ≡ e → CanFailBy command input e → IfErr r (CanFailBy command input)
 fails_at command input r y e is same h = subst (λ x. IfErr x (CanFailBy command input)) (sym is) (subst (CanFailBy command input) (sym same) h)

@@ -1,4 +1,4 @@
--- What a caller is told of an input that is all in memory.
+-- Results of runs on an input in memory.
 -- Cited by contracts of public items: CanFailBy, FindsFiles, IsFaultOfWalk.
 use Rattle.std.specs.Prelude.{◌≡◌, ℕ, ◌++◌, List, codes, Ok, Err}
 use Rattle.jj_paths.specs.Paths.{Path}
@@ -13,27 +13,26 @@ use Rattle.jj_program.specs.Program.{Gives}
 use Rattle.jj_program.specs.WalkCommand.{WalkRequest, walk_request}
 use Rattle.jj_program.specs.Walked.{path_lines}
 
--- the command gives this fault for the input; or there was no memory for the work or for the
--- output, or more reads were made than can be counted
+-- the input has this fault; or out of memory, for the work or for the output; or more reads than
+-- can be counted
 abbrev pub CanFailBy : Command → List ℕ → Fault → Type 0
 CanFailBy command input ReadInput = Unit {0}
 CanFailBy command input Memory = Unit {0}
 CanFailBy command input WriteOutput = (output : List ℕ) × Gives command input (Ok output)
 CanFailBy command input fault = Gives command input (Err fault)
 
--- the output is the lines of the marked paths that are in the set that the text names, and of no
--- other path, and then those of the directories that were entered
+-- the output: a line for exactly each marked path in the set that the input describes, then a line
+-- for each directory entered
 abbrev pub FindsFiles : List ℕ → List ℕ → Type 0
 FindsFiles text output = (request : WalkRequest) × (found entered : List Path)
     × (walk_request text ≡ Ok request) × AreFound request found
     × (output ≡ path_lines (codes "file") found ++ path_lines (codes "enter") entered)
 
--- the fault is the first that a line of the text has, or the number of sets that are left where no
--- line has one
+-- the fault is that of the first faulty line, or the number of sets left if no line is faulty
 abbrev pub IsTold : List ℕ → Fault → Type 0
 IsTold text fault = IsToldBy {A = List ℕ} Walk (lines_of text) (Err fault)
 
--- the same; or the text was not at fault
+-- likewise, or the input was not at fault
 abbrev pub IsFaultOfWalk : List ℕ → Fault → Type 0
 IsFaultOfWalk text NotUtf8 = ⊥
 IsFaultOfWalk text (Matchers count) = IsTold text (Matchers count)

@@ -1,4 +1,4 @@
-//! Proved callers: what a command writes for an input that is all in memory.
+//! Proved callers: running a command on an input in memory.
 ghost use Rattle.std.specs.Prelude.{IfErr, IfOk, Ok};
 ghost use Rattle.jj_program.specs.Program.{Gives};
 ghost use Rattle.jj_program_tests.specs.Answered.{CanFailBy, FindsFiles, IsFaultOfWalk};
@@ -8,7 +8,7 @@ use jj_program::laws::{faults_are_of_first_kinds, walks_find_their_files};
 use jj_program::program::{Command, Fault, run};
 use std::alloc::Global;
 
-/// What a command writes for these bytes.
+/// Returns the output of a command for these bytes.
 pub fn answered(alloc: Global, command: Command, input: &[u8]) -> Result<Vec<u8>, Fault>
     ensures done { IfOk result (λ output. Gives command input.now (Ok output.items)) }
     ensures fails { IfErr result (CanFailBy command input.now) }
@@ -19,9 +19,8 @@ pub fn answered(alloc: Global, command: Command, input: &[u8]) -> Result<Vec<u8>
     Ok(writer.into_inner())
 }
 
-/// What a walk writes for a text: the marked paths that are in the set of the text, each once and
-/// in path order, and then the directories that it entered. Its fault is that of the first faulty
-/// line.
+/// Returns the output of `walk`: the marked paths in the set that the input describes, each once
+/// and in path order, then the directories entered. A fault is that of the first faulty line.
 pub fn found_files(alloc: Global, text: &str) -> Result<Vec<u8>, Fault>
     ensures found { IfOk result (λ output. FindsFiles text.now output.items) }
     ensures fails { IfErr result (IsFaultOfWalk text.now) }

@@ -1,11 +1,10 @@
-//! Readers and writers over memory, whose calls are cut short, or fail in turn.
+//! Fake readers and writers in memory with short and failing calls.
 ghost use Rattle.std.specs.Prelude.{◌≤◌};
 
 use std::io;
 use std::io::{ErrorKind, Read, Write};
 
-/// A reader of a text that gives at most `most` bytes at a time, and fails once `left` reads are
-/// made.
+/// A reader of a string that returns at most `most` bytes per read, and fails after `left` reads.
 #[derive(Drop)]
 pub struct Cut<'a> {
     pub rest: &'a [u8],
@@ -26,11 +25,10 @@ impl Read for Cut<'_> {
     }
 }
 
-// The bytes that a test's writer has room for.
+// Capacity of a writer.
 const ROOM: usize = 512;
 
-/// A writer that keeps what it takes, at most `most` bytes at a time, and fails once `left` writes
-/// are made.
+/// A writer that stores at most `most` bytes per write, and fails after `left` writes.
 #[derive(Drop)]
 pub struct Kept {
     bytes: [u8; ROOM],
@@ -50,7 +48,7 @@ impl Kept {
         }
     }
 
-    /// What was written.
+    /// Returns the bytes written.
     pub fn as_slice(&self) -> &[u8] {
         &self.bytes[..self.len]
     }

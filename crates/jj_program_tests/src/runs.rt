@@ -1,12 +1,12 @@
-//! Runs of the program over memory, whose reads and writes are cut short, or fail in turn.
+//! Runs of the program with short and failing reads and writes.
 use crate::ends::{Cut, Kept};
 use jj_files::file_util::Watched;
 use jj_program::program::{Command, Fault, run};
 use std::alloc::Global;
 use std::process::Abort;
 
-/// What a run answers and writes where reads and writes are cut to `most` bytes, and fail after so
-/// many.
+/// Returns the result and the output of a run whose reads and writes process at most `most` bytes
+/// and fail after the given numbers of calls.
 pub fn outcome(
     alloc: Global,
     command: Command,
@@ -26,7 +26,7 @@ pub fn outcome(
     (result, kept)
 }
 
-/// The input writes this output, however its reads and writes are cut; memory may run out.
+/// The output is the expected one for every size of reads and writes, unless out of memory.
 pub fn writes(rt: &(impl Abort + AllocGlobal), command: Command, input: &str, output: &str) {
     for most in [1, 7, 1000] {
         let (result, kept) = outcome(rt.alloc(), command, input.as_bytes(), most, 1000, 1000);
@@ -42,7 +42,7 @@ pub fn writes(rt: &(impl Abort + AllocGlobal), command: Command, input: &str, ou
     }
 }
 
-// The calls of `most` bytes that a text takes.
+// The number of calls of `most` bytes for a string.
 fn calls(text: &str, most: usize) -> usize {
     match most {
         0 => 0,
@@ -50,8 +50,8 @@ fn calls(text: &str, most: usize) -> usize {
     }
 }
 
-// Whether a run succeeded, which it has to where reads and writes last for all of it; else it has
-// this fault, or memory ran out.
+// Whether a run succeeded. It must if reads and writes do not fail; otherwise it must have this
+// fault, or be out of memory.
 fn is_done<R: Abort>(rt: &R, answer: Result<(), Fault>, lasts: bool, expected: Fault) -> bool {
     match answer {
         Ok(()) => {
@@ -68,10 +68,10 @@ fn is_done<R: Abort>(rt: &R, answer: Result<(), Fault>, lasts: bool, expected: F
     }
 }
 
-/// Each read of the input fails in turn, and then nothing is written.
+/// Each read fails in turn, and then nothing is written.
 pub fn reads_fail(rt: &(impl Abort + AllocGlobal), command: Command, input: &str, output: &str) {
     for most in [1, 7, 1000] {
-        // The last read finds the end.
+        // The last read returns the end of input.
         let needed = calls(input, most);
         for reads in 0..60u32 {
             let (result, kept) = outcome(rt.alloc(), command, input.as_bytes(), most, reads, 1000);
@@ -83,7 +83,7 @@ pub fn reads_fail(rt: &(impl Abort + AllocGlobal), command: Command, input: &str
     }
 }
 
-/// Each write of the output fails in turn, and then a beginning of it was written.
+/// Each write fails in turn, and then a prefix of the output was written.
 pub fn writes_fail(rt: &(impl Abort + AllocGlobal), command: Command, input: &str, output: &str) {
     for most in [1, 7, 1000] {
         let needed = calls(output, most);

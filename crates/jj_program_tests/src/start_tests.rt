@@ -1,4 +1,4 @@
-//! Tests of `start` where reads and writes fail: statuses, and what is said on standard error.
+//! Tests of `start` with failing reads and writes: exit statuses and lines on standard error.
 
 #[cfg(test)]
 mod tests {
@@ -9,16 +9,21 @@ mod tests {
 
     const OUT_OF_MEMORY: &str = "jj-core: out of memory\n";
 
-    /// The status, what was written and what was said, where standard error fails after so many
-    /// writes.
-    fn outcome(alloc: Global, words: &[String], input: &[u8], says: u32) -> (u8, Kept, Kept) {
+    /// The exit status, the output and standard error of a run whose standard error fails after
+    /// `error_writes` writes.
+    fn outcome(
+        alloc: Global,
+        words: &[String],
+        input: &[u8],
+        error_writes: u32,
+    ) -> (u8, Kept, Kept) {
         let mut reader = Watched::new(Cut {
             rest: input,
             most: 1000,
             left: 1000,
         });
         let mut output = Kept::new(1000, 1000);
-        let mut errors = Kept::new(1000, says);
+        let mut errors = Kept::new(1000, error_writes);
         let status = start(
             alloc,
             words,

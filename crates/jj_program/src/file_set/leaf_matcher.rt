@@ -1,4 +1,4 @@
-//! The matchers of the sets that a line names.
+//! Matchers of the leaves of a set.
 ghost use Rattle.std.specs.Prelude.{IfOk, map};
 ghost use Rattle.std.specs.List.{zip};
 ghost use Rattle.jj_paths.specs.Names.{path_of};
@@ -13,7 +13,6 @@ use jj_matchers::matchers::{
 use jj_paths::repo_path::RepoPath;
 use std::alloc::{AllocError, Global};
 
-// The matcher of a set that a line names.
 #[derive(Drop)]
 pub(crate) enum LeafMatcher {
     Everything,
@@ -58,7 +57,6 @@ impl Matcher for LeafMatcher {
 impl LeafMatcher {
     ghost use Rattle.jj_program.specs.Leaves.{StandsFor};
 
-    // The matcher of this set.
     pub(crate) fn new(alloc: Global, set: &FileSet<'_>) -> Result<LeafMatcher, AllocError>
         ensures { IfOk result (λ matcher. StandsFor matcher (set_of set.now)) }
     {
@@ -76,7 +74,7 @@ impl LeafMatcher {
     }
 }
 
-// The matcher of globs in directories.
+// `globs[i]` is relative to `dirs[i]`.
 fn globs_matcher(
     alloc: Global,
     prefix_paths: bool,

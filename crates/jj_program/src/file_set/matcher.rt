@@ -1,4 +1,4 @@
-//! The matchers of the sets that the lines of an input build.
+//! The matcher of a combined set, evaluated over its postfix code.
 ghost use Rattle.std.specs.Prelude.{◌≡◌, ◌+◌, ◌<◌, ◌^◌, false, List, [], ◌∷◌, length, map, reverse, IfOk};
 ghost use Rattle.jj_paths.specs.Names.{path_of};
 ghost use Rattle.jj_paths.specs.Paths.{Name, Path};
@@ -25,7 +25,7 @@ use jj_paths::repo_path::RepoPath;
 use jj_paths::repo_path_tree::RepoPathTree;
 use std::alloc::{AllocError, Global};
 
-// The matcher of a set that lines have combined. However deep they nest, nothing here recurses.
+// A combined set. No operation recurses, however deep the combinations nest.
 #[derive(Drop)]
 pub(crate) struct SetMatcher {
     parts: Vec<Part<LeafMatcher>>,
@@ -52,7 +52,7 @@ impl Matcher for SetMatcher {
     }
 }
 
-// Whether the file is in the set that these parts make.
+// Membership of a file, by one pass over the code.
 fn parts_match(parts: &[Part<LeafMatcher>], file: RepoPath<'_>) -> bool
     ensures { result ≡ (pass_over (leaf_accepts (path_of file.entry)) parts.now
         (pass_at 0 false)).is_in }
@@ -66,7 +66,7 @@ fn parts_match(parts: &[Part<LeafMatcher>], file: RepoPath<'_>) -> bool
     pass.is_in
 }
 
-// The answer for a directory of the set that these parts make.
+// The visit of a directory, on a stack of the visits of operands.
 fn visit_parts(
     alloc: Global,
     parts: &[Part<LeafMatcher>],
@@ -87,7 +87,6 @@ fn visit_parts(
     }
 }
 
-// The pass after one more part.
 fn after_part(pass: Pass, part: &Part<LeafMatcher>, file: RepoPath<'_>) -> Pass
     requires { pass.decided + 1 < 2 ^ 64 }
     ensures { result ≡ after_part (leaf_accepts (path_of file.entry)) part.now pass }
@@ -105,7 +104,6 @@ fn after_part(pass: Pass, part: &Part<LeafMatcher>, file: RepoPath<'_>) -> Pass
     }
 }
 
-// The answers after one more part.
 fn visit_part(
     alloc: Global,
     visits: &mut Vec<Visit>,
@@ -127,7 +125,7 @@ fn visit_part(
     }
 }
 
-// Puts in place of the two answers on top what they combine to.
+// Replaces the top two visits by their combination.
 fn combine_top(visits: &mut Vec<Visit>, combination: Combination) -> Result<(), AllocError>
     ensures { IfOk result (λ done. (dir : Path) (stack : List (SetTree LeafMatcher))
         → AnswerAll dir stack (reverse visits.old.items)
@@ -141,7 +139,6 @@ fn combine_top(visits: &mut Vec<Visit>, combination: Combination) -> Result<(), 
     Ok(())
 }
 
-// The answer of a combination, from those of its operands.
 fn combined_visit(
     combination: Combination,
     first: Visit,
@@ -163,7 +160,7 @@ impl SetMatcher {
     ghost use Rattle.jj_program.specs.SetMatching.{accepts_of, answers_of};
     ghost use Rattle.jj_program.specs.SetStacks.{sets_in};
 
-    // The matcher of the one set of a stack.
+    // Compiles the only set of a stack.
     fn new(alloc: Global, sets: SetStack<'_>) -> Result<SetMatcher, AllocError>
         requires { length (sets_in sets) ≡ 1 }
         ensures accepts { IfOk result (λ matcher. (set : SetTree NamedSet)
@@ -180,7 +177,7 @@ impl SetMatcher {
     }
 }
 
-// The same parts, with the matcher of each set in its place.
+// Builds the matcher of each leaf.
 fn part_matchers(
     alloc: Global,
     parts: &[Part<FileSet<'_>>],
@@ -194,7 +191,6 @@ fn part_matchers(
     Ok(matchers)
 }
 
-// The same part, with the matcher of its set in its place.
 fn part_matcher(alloc: Global, part: &Part<FileSet<'_>>) -> Result<Part<LeafMatcher>, AllocError>
     ensures { IfOk result (λ own. StandsForPart own (part_of part.now)) }
 {
@@ -208,7 +204,7 @@ fn part_matcher(alloc: Global, part: &Part<FileSet<'_>>) -> Result<Part<LeafMatc
     }
 }
 
-// What a walk by the one set of a stack finds in a tree of marks.
+// Walks a tree of marks by the only set of a stack.
 pub(crate) fn walk_set(
     alloc: Global,
     tree: &RepoPathTree<bool>,

@@ -1,5 +1,5 @@
-//! A set as a list of parts, over which one pass, that goes from the last to the first, tells
-//! whether a file is in the set.
+//! Compilation of a set to postfix code with short-circuit marks, and its evaluator: membership of
+//! a file is decided in one pass without a stack.
 ghost use Rattle.std.specs.Prelude.{◌≡◌, ◌+◌, ◌<◌, ◌^◌, List, [], ◌∷◌, ◌++◌, false, reverse, IfOk};
 ghost use Rattle.jj_program.specs.declared.file_set.SetStep.{SetStep};
 ghost use Rattle.jj_program.specs.SetParts.{parts_along, is_decided_by, with_second, pass_at, after_leaf, before_second, after_both};
@@ -7,8 +7,8 @@ ghost use Rattle.jj_program.specs.SetParts.{parts_along, is_decided_by, with_sec
 use crate::file_set::{Combination, SetStep};
 use std::alloc::{AllocError, Global};
 
-// A part of a set: a leaf, the place between the two operands of a combination, or the place
-// after both. The list has them backwards.
+// An instruction: a leaf, the point between the operands of a combination, or the point after both.
+// Code is stored in reverse.
 #[derive(Drop)]
 pub(crate) enum Part<S> {
     Leaf(S),
@@ -16,7 +16,7 @@ pub(crate) enum Part<S> {
     AfterBoth(Combination),
 }
 
-// The parts of the set that these steps make.
+// Compiles the postfix steps of a set.
 pub(crate) fn parts<S: Drop>(
     alloc: Global,
     mut steps: Vec<SetStep<S>>,
@@ -24,7 +24,7 @@ pub(crate) fn parts<S: Drop>(
     ensures { IfOk result (λ parts. parts.items ≡ parts_along [] (reverse steps.items)) }
 {
     let mut parts = Vec::new(alloc);
-    // The combinations whose second operand has a step that was not gone over yet.
+    // Combinations whose second operand is not yet complete.
     let mut wanting = Vec::new(alloc);
     while let Some(step) = steps.pop() {
         add_parts(step, &mut parts, &mut wanting)?;
@@ -32,7 +32,7 @@ pub(crate) fn parts<S: Drop>(
     Ok(parts)
 }
 
-// Adds the parts of a step, the last of those that are left.
+// Compiles the last of the remaining steps.
 fn add_parts<S: Drop>(
     step: SetStep<S>,
     parts: &mut Vec<Part<S>>,
@@ -58,8 +58,8 @@ fn add_parts<S: Drop>(
     }
 }
 
-// How far a pass has come: whether the file is in the set that was passed last, and of how many
-// combinations around here the second operand need not be asked.
+// Evaluator state: the value of the last operand, and how many enclosing combinations are
+// short-circuited.
 #[derive(Clone, Copy, Debug, PartialEq, Eq)]
 pub(crate) struct Pass {
     pub(crate) decided: usize,
@@ -67,7 +67,6 @@ pub(crate) struct Pass {
 }
 
 impl Pass {
-    // The pass before the first part.
     pub(crate) fn new() -> Pass
         ensures { result ≡ pass_at 0 false }
     {
@@ -77,7 +76,6 @@ impl Pass {
         }
     }
 
-    // The pass after a leaf that has this answer.
     pub(crate) fn after_leaf(self, is_in: bool) -> Pass
         ensures { result ≡ after_leaf is_in self.decided self.is_in }
     {
@@ -88,7 +86,7 @@ impl Pass {
         }
     }
 
-    // The pass before the second operand.
+    // Short-circuits the combination if its first operand decides it.
     pub(crate) fn before_second(self, combination: Combination) -> Pass
         requires { self.decided + 1 < 2 ^ 64 }
         ensures { result ≡ before_second combination self.decided self.is_in }
@@ -108,7 +106,6 @@ impl Pass {
         }
     }
 
-    // The pass after both operands.
     pub(crate) fn after_both(self, combination: Combination) -> Pass
         ensures { result ≡ after_both combination self.decided self.is_in }
     {
@@ -127,7 +124,7 @@ impl Pass {
 }
 
 impl Combination {
-    // Whether the answer for the first set is that for the combination.
+    // Whether the first operand determines the result.
     fn is_decided_by(self, first: bool) -> bool
         ensures { result ≡ is_decided_by self first }
     {
@@ -137,7 +134,7 @@ impl Combination {
         }
     }
 
-    // The answer for the combination, where that for the first operand leaves it to the second.
+    // The result if the first operand does not determine it.
     fn with_second(self, second: bool) -> bool
         ensures { result ≡ with_second self second }
     {

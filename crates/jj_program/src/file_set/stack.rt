@@ -1,4 +1,4 @@
-//! The stack of the sets that lines have built.
+//! The stack of sets that lines of an input operate on, in postfix notation.
 ghost use Rattle.std.specs.Prelude.{◌≡◌, ◌≤◌, [], ◌∷◌, true, length, MatchResult};
 ghost use Rattle.jj_program.specs.SetTrees.{one, combined_stack};
 ghost use Rattle.jj_program.specs.SetViews.{are_whole, set_of, sets_by};
@@ -6,8 +6,7 @@ ghost use Rattle.jj_program.specs.SetViews.{are_whole, set_of, sets_by};
 use crate::file_set::{Combination, FileSet, SetStep};
 use std::alloc::{AllocError, Global};
 
-// A stack of sets, kept as the steps that made it. Its height is counted, and no set is ever
-// moved.
+// A stack of sets, stored as the steps that built it, so that combining two sets moves neither.
 #[derive(Drop)]
 pub(crate) struct SetStack<'t> {
     steps: Vec<SetStep<FileSet<'t>>>,
@@ -19,7 +18,6 @@ pub(crate) struct SetStack<'t> {
 impl<'t> SetStack<'t> {
     ghost use Rattle.jj_program.specs.SetStacks.{sets_in};
 
-    // The stack without sets.
     pub(crate) fn new(alloc: Global) -> SetStack<'t>
         ensures { sets_in result ≡ [] }
     {
@@ -29,14 +27,12 @@ impl<'t> SetStack<'t> {
         }
     }
 
-    // How many sets there are.
     pub(crate) fn height(&self) -> usize
         ensures { result ≡ length (sets_in self.now) }
     {
         self.height
     }
 
-    // Puts a set on the stack.
     pub(crate) fn push(&mut self, set: FileSet<'t>) -> Result<(), AllocError>
         ensures { MatchResult result (λ done. sets_in self.new
             ≡ one (set_of set.entry) ∷ sets_in self.old)
@@ -47,7 +43,7 @@ impl<'t> SetStack<'t> {
         Ok(())
     }
 
-    // Puts in place of the two sets on top what they combine to.
+    // Replaces the top two sets by their combination.
     pub(crate) fn combine(&mut self, combination: Combination) -> Result<(), AllocError>
         requires { 2 ≤ length (sets_in self.old) }
         ensures { MatchResult result
@@ -59,7 +55,6 @@ impl<'t> SetStack<'t> {
         Ok(())
     }
 
-    // The steps that made the stack.
     pub(crate) fn into_steps(self) -> Vec<SetStep<FileSet<'t>>>
         ensures sets { sets_by result.items ≡ sets_in self.entry }
         ensures whole { are_whole result.items ≡ true }

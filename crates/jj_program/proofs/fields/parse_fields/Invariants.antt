@@ -1,4 +1,4 @@
--- The values are those of the fields so far, and so it is for the others to tell whether all have one.
+-- The values are those of the fields so far, all of which are valid.
 use Rattle.std.proofs.Common.{◌≡◌, map, take, drop}
 use Rattle.std.specs.List.{list_all}
 use Rattle.jj_program.specs.Texts.{texts_of}

@@ -8,7 +8,7 @@ use Rattle.jj_program.specs.GraphViews.{graph_request_of}
 use Rattle.jj_program.proofs.AskedIds.{added_held, still_held}
 use Rattle.jj_program.proofs.graph_command.asked_ids.Goals as goal
 
--- the ids of a request are there
+-- the ids of a request are collected
 abbrev HoldsIds : List ℕ → GraphRequest → Type 0
 HoldsIds ids request = All (Contains ids) (ids_of (graph_request_of request))
 

@@ -1,4 +1,4 @@
--- The ids of the requests so far are there.
+-- The ids of the requests so far are collected.
 use Rattle.std.proofs.Common.{All, take}
 use Rattle.std.specs.List.{Contains}
 use Rattle.jj_program.specs.GraphCommand.{ids_of}

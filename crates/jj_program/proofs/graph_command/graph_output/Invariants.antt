@@ -1,4 +1,4 @@
--- The requests so far are answered.
+-- The output has the lines of the requests so far.
 use Rattle.std.proofs.Common.{map, take}
 use Rattle.std.specs.Prelude.{string_bytes}
 use Rattle.jj_program.specs.ListedGraphs.{shown_by}

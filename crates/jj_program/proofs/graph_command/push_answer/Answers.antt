@@ -32,7 +32,7 @@ ascending_common-requires-clause-named_second c =
     let named = subst (All (Contains ids)) (ap (λ request. ids_of (graph_request_of request)) c.in-Common.is) c.requires.named in
     subst (All (Contains ids)) (sym c.deref-in-Common-2.ensures.value) (back_held ids c.in-Common.set1.items c.in-Common.set2.items named)
 
--- the line of these numbers, which answers a request, was written
+-- the line of the request was appended
 answered : {X E : Type 0} (result : Result X E) (graph : Graph) (request known : GraphRequest) (name numbers given old new : List ℕ) → request ≡ known → given ≡ numbers
     → AnswersRequest graph known (numbers_line name numbers) → IfOk result (λ _. new ≡ old ++ numbers_line name given)
     → IfOk result (λ _. (answer : List ℕ) × AnswersRequest graph request answer × (new ≡ old ++ answer))

@@ -8,7 +8,7 @@ use Rattle.jj_program.specs.TextMerges.{text_eq}
 use Rattle.jj_program.proofs.PairCounts.{one_kept, both_gone, rest_kept}
 use Rattle.jj_program.proofs.merge_outcome.without_pairs.Goals as goal
 
--- what is read where no text is
+-- the default value out of range
 abbrev no_text : Text
 no_text = record { ref_ptr = (0, 0); now = [] }
 

@@ -1,4 +1,4 @@
--- What left the source stands in the input, and the source has not failed.
+-- The bytes consumed so far are the input, and the source has not failed.
 use Rattle.std.proofs.Common.{◌≡◌, false}
 use Rattle.std.specs.Io.KnownBytes.{Consumes}
 use Rattle.jj_program.proofs.program.read_input.Given as goal

@@ -1,4 +1,4 @@
--- What the lines that are left make of the state so far is what all lines make of the first one.
+-- Folding the remaining lines over the state so far equals folding all lines over the first state.
 use Rattle.std.proofs.Common.{◌≡◌, ◌+◌, ◌≤◌, length}
 use denote.Shadow.{shadow}
 use denote.Text.{Utf8}

@@ -1,4 +1,4 @@
--- The texts so far were said, and the sink works.
+-- The parts so far are written, and the sink has not failed.
 use Rattle.std.proofs.Common.{◌≡◌, take, false}
 use Rattle.std.specs.Io.KnownBytes.{Appends}
 use Rattle.jj_program.proofs.Said.{said}

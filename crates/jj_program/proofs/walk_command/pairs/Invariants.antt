@@ -1,4 +1,4 @@
--- The pairs so far, and those that are left, are all pairs.
+-- The pairs so far, followed by the remaining ones, are all pairs.
 use Rattle.std.proofs.Common.{◌≡◌, ◌++◌, map, length}
 use Rattle.jj_program.specs.FieldPairs.{is_paired, firsts, seconds}
 use Rattle.jj_program.proofs.walk_command.pairs.Given as goal

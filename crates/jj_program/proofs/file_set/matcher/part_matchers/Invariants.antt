@@ -1,4 +1,4 @@
--- The matchers so far stand for the parts so far.
+-- The matchers so far implement the instructions so far.
 use Rattle.std.proofs.Common.{map, take}
 use Rattle.jj_program.specs.Matching.{StandForParts}
 use Rattle.jj_program.specs.SetViews.{part_of}

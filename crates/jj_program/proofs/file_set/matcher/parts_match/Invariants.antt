@@ -1,4 +1,4 @@
--- The pass over the parts after `left`; no more combinations are decided than these are.
+-- The state after the instructions after `left`; at most as many combinations are short-circuited.
 use Rattle.std.proofs.Common.{◌≡◌, ◌+◌, ◌≤◌, false, drop, length}
 use Rattle.jj_paths.specs.Names.{path_of}
 use Rattle.jj_program.specs.Leaves.{leaf_accepts}

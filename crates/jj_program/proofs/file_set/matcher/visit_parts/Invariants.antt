@@ -1,4 +1,4 @@
--- There is an answer for each set that the parts after `left` make.
+-- There is a visit for each set that the instructions after `left` build.
 use Rattle.std.proofs.Common.{◌≤◌, drop, length, reverse}
 use Rattle.jj_paths.specs.Names.{path_of}
 use Rattle.jj_program.specs.Matching.{AnswerAll}

@@ -9,7 +9,7 @@ use Rattle.jj_program.specs.WalkCommand.{NamedSet}
 use Rattle.jj_program.specs.Walked.{accepted_by, answered_by}
 use Rattle.jj_program.proofs.file_set.matcher.walk_set.Goals as goal
 
--- what a walk finds by the matcher is what one finds by the set that the matcher was made of
+-- a walk by the matcher finds what a walk by the set finds
 found_alike : {B W E : Type 0} (result : Result W E) (found : W → List Path) (finds : (Path → B) → List Path) (by_matcher : Path → B) (by_set : SetTree NamedSet → Path → B) (sets : List (SetTree NamedSet))
     → ((set : SetTree NamedSet) → sets ≡ set ∷ [] → (path : Path) → by_matcher path ≡ by_set set path)
     → IfOk result (λ walk. found walk ≡ finds by_matcher) → IfOk result (λ walk. (set : SetTree NamedSet) → sets ≡ set ∷ [] → found walk ≡ finds (by_set set))

@@ -1,4 +1,4 @@
--- The parts so far, and those along the steps that are left, are the parts along all steps.
+-- The code so far, followed by that of the remaining steps, is the code of all steps.
 use Rattle.std.proofs.Common.{◌≡◌, ◌++◌, [], reverse, vec_len}
 use Rattle.jj_program.specs.SetParts.{parts_along}
 use Rattle.jj_program.proofs.file_set.parts.parts.Given as goal

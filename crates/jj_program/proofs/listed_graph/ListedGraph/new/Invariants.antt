@@ -1,4 +1,4 @@
--- The ids asked for are taken, and the ids of each list before this place.
+-- The ids of the requests and of the lists so far are collected.
 use Rattle.std.proofs.Common.{All, ℕ, ◌⊎◌}
 use Rattle.std.specs.BTreeMap.{values}
 use Rattle.std.specs.Global.{Global}
