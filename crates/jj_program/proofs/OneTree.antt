@@ -98,7 +98,7 @@ module _ {V : Type 0} where
   no_first : (m : Name) (w : V) (b y : Branches V) → ((name : Name) (rest : Path) → value_below (child none name) rest ≡ value_below (child (branch m w b y) name) rest) → ⊥
   no_first m w b y same = let here : value_below (child (branch m w b y) m) [] ≡ Some w = rw ((bytes_eq-Decides m m).1 refl) refl in none_some (same m [] ∙ here)
 
-  -- equal values give equal branches
+  -- equal values imply equal branches
   pub same_branches : (b c : Branches V) → is_ordered b ≡ true → is_ordered c ≡ true → ((name : Name) (rest : Path) → value_below (child b name) rest ≡ value_below (child c name) rest) → b ≡ c
   same_branches none none up up' same = refl
   same_branches none (branch m w b y) up up' same = absurd (no_first m w b y same)
@@ -135,7 +135,7 @@ module _ {V : Type 0} where
               ap (λ k. value_below (child x k) rest) (sym eq) ∙ ap (λ o. value_below o rest) (no_child_at_least x n least ∙ sym (no_child_at_least y n least')) ∙ ap (λ k. value_below (child y k) rest) eq
           later name rest false is = rw is at (same_here name rest)
 
-  -- equal values give equal trees
+  -- equal values imply equal trees
   pub same_tree : (s t : Tree V) → is_ordered s.branches ≡ true → is_ordered t.branches ≡ true → ((path : Path) → value_at s path ≡ value_at t path) → s ≡ t
   same_tree s t up up' same =
       let root : Some s.value ≡ Some t.value = same [] in

@@ -11,7 +11,7 @@ module _ {Q : Type 0} (IsAnswer : Q → List ℕ → Type 0) where
   AnswersEach-push (first ∷ requests) request output answer (head, rest, is_first, more, e) is =
       (head, rest ++ answer, is_first, AnswersEach-push requests request rest answer more is, ap (λ l. l ++ answer) e ∙ append_assoc head rest answer)
 
-  -- unique lines give a unique output
+  -- unique lines make a unique output
   pub AnswersEach-once : ((request : Q) (a b : List ℕ) → IsAnswer request a → IsAnswer request b → a ≡ b) → (requests : List Q) (one other : List ℕ)
       → AnswersEach IsAnswer requests one → AnswersEach IsAnswer requests other → one ≡ other
   AnswersEach-once once [] one other none none' = none ∙ sym none'

@@ -11,8 +11,8 @@ use Rattle.jj_program.specs.Program.{GivesText}
 abbrev pub BeginAlike : ℕ → List ℕ → List ℕ → Type 0
 BeginAlike count text other = take count (lines_of text) ≡ take count (lines_of other)
 
--- the line exists; every input with the same lines up to it has the same fault; and no input with
--- the same earlier lines has a fault in one of those
+-- the line exists; every input with the same lines up to it has the same fault; and an input
+-- with the same earlier lines has no fault in one of those
 pub record IsFirstFault (command : Command) (text : List ℕ) (line_number : ℕ) (kind : LineFault)
     : Type 0 where
   pub there : (1 ≤ line_number) × (line_number ≤ length (lines_of text))
