@@ -1,6 +1,6 @@
 -- How nodes are collected by the closures that show a graph.
-use Rattle.std.proofs.Common.{◌≡◌, ℕ, ◌+◌, ◌<◌, get_or, take, Bool, true, List, [], ◌∷◌, ◌++◌, map, length, Some, Result, cond, refl, sym, ◌∙◌, ap, subst, arith}
-use Rattle.std.specs.Fn.{Called, Mut, Shared}
+use Rattle.std.proofs.Common.{◌≡◌, ℕ, ◌+◌, ◌<◌, get_or, take, Bool, true, List, [], ◌∷◌, ◌++◌, map, length, Some, Result, Ok, cond, refl, sym, ◌∙◌, ap, subst, arith}
+use Rattle.std.specs.Fn.{CalledAt, Mut, Shared}
 use Rattle.std.specs.Global.{Global}
 use Rattle.std.specs.HashMap.{get}
 use Rattle.std.specs.List.{AllZip, Contains}
@@ -14,7 +14,12 @@ use denote.Param.Always.{always_mut}
 use Rattle.jj_dag.specs.declared.greatest_order.Collected.{Collected}
 use Rattle.jj_dag.specs.declared.shown.Shown.{Shown}
 use Rattle.jj_dag.specs.Collecting.{IsFilled}
-use Rattle.jj_dag.specs.Asking.{GoesOn}
+use Rattle.jj_dag.specs.Asking.{GoesOn, graph_at, whole}
+use Rattle.jj_dag.specs.ClosureGraph.{CallsLead}
+use Rattle.jj_dag.specs.ClosureGraph.CallsLead.{none, more as one_more}
+use Rattle.std.specs.declared.alloc.AllocError.{AllocError}
+use Rattle.jj_dag.proofs.ClosureGraphs.{implements_after}
+use Rattle.jj_dag.proofs.GreatestOrder.{map_twice}
 use Rattle.jj_dag.specs.Failing.{FailingGraph, Fault, ReachesFailure, sound}
 use Rattle.jj_dag.specs.Graph.{Graph, ReachedFrom}
 use Rattle.jj_dag.specs.Owed.{CanShow}
@@ -25,28 +30,43 @@ use Rattle.jj_dag.proofs.Plain.{only}
 use Rattle.jj_dag.proofs.Reaching.{Reaches-trans}
 use Rattle.jj_dag.proofs.Walking.{AlwaysReturns-call}
 
-module _ {T ID E F N U J : Type 0} (eq : ID → ID → Bool) (ids : Shared F (Bor T × Unit {0}) ID) (lists : Mut N (Bor T × Unit {0}) U) (value : into.Ghosts U (Result T E) J)
+module _ {T ID E F N U J : Type 0} (eq : ID → ID → Bool) (ids : Shared F (Bor T × Unit {0}) (Result ID AllocError)) (lists : Mut N (Bor T × Unit {0}) U) (value : into.Ghosts U (Result T E) J)
     (items : iter.Ghosts J (Result T E)) where
   -- closures that have not been called
   pub goes_on-none : (s : Shown F N) → CanShow ids lists value items s.id_fn s.neighbors_fn → GoesOn eq ids lists value items s s
-  goes_on-none s k = record { id_fn = refl; can_show = k; shown = λ walk shown q. q }
+  goes_on-none s k = record { id_fn = refl; can_show = k; calls = none; implemented = λ walk q. q }
 
-  -- one call
-  pub goes_on-call : (s t : Shown F N) {a : Bor T × Unit {0}} {r : U} → CanShow ids lists value items s.id_fn s.neighbors_fn → t.id_fn ≡ s.id_fn → always_mut lists t.neighbors_fn
-      → Called lists s.neighbors_fn a r t.neighbors_fn → GoesOn eq ids lists value items s t
-  goes_on-call s t k same callable called = record {
-    id_fn = same;
-    can_show = record { id_fn = rw same k.id_fn; neighbors_fn = callable; lists = (AlwaysReturns-call lists _ k.lists called).1 };
-    shown = λ walk shown q. record { sound_graph = q.sound_graph; closed = q.closed; apart = q.apart; ids_stand = q.ids_stand; neighbors = (AlwaysReturns-call lists _ q.neighbors called).1 };
+  -- one call more
+  pub goes_on-call : (s t u : Shown F N) {x : T} {r : U} → GoesOn eq ids lists value items s t → u.id_fn ≡ t.id_fn → always_mut lists u.neighbors_fn
+      → CalledAt lists t.neighbors_fn x r u.neighbors_fn → GoesOn eq ids lists value items s u
+  goes_on-call s t u k same callable did = record {
+    id_fn = same ∙ k.id_fn;
+    can_show = record { id_fn = rw same k.can_show.id_fn; neighbors_fn = callable; lists = (AlwaysReturns-call lists _ k.can_show.lists did.called).1 };
+    calls = one_more k.calls did.called;
+    implemented = λ walk q. (implements_after walk eq ids lists _ (k.implemented walk q) did).0;
   }
+
+  leads_through : {first f f' : N} → CallsLead lists first f → CallsLead lists f f' → CallsLead lists first f'
+  leads_through k none = k
+  leads_through k (one_more before called) = one_more (leads_through k before) called
 
   -- more calls
   pub goes_on-more : (s t u : Shown F N) → GoesOn eq ids lists value items s t → GoesOn eq ids lists value items t u → GoesOn eq ids lists value items s u
   goes_on-more s t u first second = record {
     id_fn = second.id_fn ∙ first.id_fn;
     can_show = second.can_show;
-    shown = λ walk shown q. rw first.id_fn at (second.shown walk shown (rw first.id_fn (first.shown walk shown q)));
+    calls = leads_through first.calls second.calls;
+    implemented = λ walk q. rw first.id_fn at (second.implemented walk (rw first.id_fn (first.implemented walk q)));
   }
+
+  -- what may be returned after calls, may be returned
+  pub fails_before : (s t : Shown F N) → GoesOn eq ids lists value items s t → (x : T) (e : E) → (graph_at eq ids lists value items t.id_fn t.neighbors_fn).fails x e
+      → (graph_at eq ids lists value items s.id_fn s.neighbors_fn).fails x e
+  fails_before s t k x e (r, (f, f', leads, did), fails) = (r, (f, f', leads_through k.calls leads, did), fails)
+
+-- a model's list of a node, as items
+pub whole_listed : {T ID : Type 0} (walk : Numbered T ID) (a : ℕ) (xs : List T) → map walk.node xs ≡ walk.graph a → whole walk a ≡ map (λ x. Ok (walk.node x)) xs
+whole_listed walk a xs e = ap (map (λ b. Ok b)) (sym e) ∙ map_twice (λ (b : ℕ). Ok b) walk.node xs
 
 -- one node more is kept
 pub filled_more : {T ID : Type 0} (eq : ID → ID → Bool) (s t : Collected T ID) (node : T) (id : ID) (kept : Vec ID Global) (filled : IsFilled eq s) → t.nodes.items ≡ s.nodes.items ++ Some node ∷ []

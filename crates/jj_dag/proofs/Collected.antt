@@ -13,7 +13,7 @@ use Rattle.jj_dag.specs.GreatestOrder.{IsGreatestOrder}
 use Rattle.jj_dag.specs.Outcomes.{IsReachedBesideCycle}
 use Rattle.jj_dag.specs.ReadyNodes.{TakesGreatestFirst}
 use Rattle.jj_dag.specs.Walk.{AreNodes, Numbered}
-use Rattle.jj_dag.proofs.GreatestOrder.{cycle_is, map_twice, nothing_failed, order_is, place_reached}
+use Rattle.jj_dag.proofs.GreatestOrder.{cycle_is, map_twice, order_is, place_reached}
 
 module _ {T ID E : Type 0} (w : Numbered T ID) (items : FailingGraph E) (cmp : T → T → Ordering) (eq : ID → ID → Bool) (found : Collected T ID) (filled : IsFilled eq found) (starts : List ℕ)
     (sound_graph : (a : ℕ) → w.graph a ≡ sound items a) (closed : (a : ℕ) → w.is_node a ≡ true → AreNodes w (w.graph a)) (nodes : AreNodes w starts)
@@ -28,14 +28,13 @@ module _ {T ID E : Type 0} (w : Numbered T ID) (items : FailingGraph E) (cmp : T
   sizes : length ids ≡ length filled.given
   sizes = length-map found.neighbor_ids.items (λ v. v.items) ∙ filled.ids
 
-  pub whole_order : r.1 ≡ None → IsGreatestOrder cmp w items starts (map w.node r.0.items)
+  pub whole_order : r.1 ≡ None → IsGreatestOrder cmp w starts (map w.node r.0.items)
   whole_order none =
       let o = order_is w items cmp starts (get eq found.index_of) filled.given ids (neighbor_places eq found) sound_graph closed nodes collected sizes places filled.places taken.0
       (rw filled.nodes at taken.2) r.0.items (rw filled.nodes at taken.1) (rw (none, filled.nodes) at taken.3) in
       record {
         child_first = o.0;
         no_cycle = o.1;
-        no_failure = nothing_failed w items cmp starts (get eq found.index_of) filled.given ids (neighbor_places eq found) sound_graph closed nodes collected sizes places filled.places;
         greatest = o.2;
       }
 

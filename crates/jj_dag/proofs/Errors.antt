@@ -1,5 +1,7 @@
 -- Lemmas on what a clause says of the error of a walk.
-use Rattle.std.proofs.Common.{◌≡◌, subst}
+use Rattle.std.proofs.Common.{◌≡◌, subst, Result, IfOk}
+use Rattle.std.proofs.lemmas.Result.{IfOk-weaker, IfErr-weaker}
+use Rattle.jj_dag.specs.Outcomes.{IfFails}
 use Rattle.jj_dag.specs.declared.walk_error.WalkError.{WalkError}
 use Rattle.jj_dag.specs.declared.walk_error.WalkError.TheVariants.{Memory, Node}
 use Rattle.jj_dag.specs.Errors.{IfNode}
@@ -11,3 +13,10 @@ node_says P refused error node h = subst (λ e. IfNode e P) node h
 pub node_weaker : {E : Type 0} (refused : WalkError E) (P Q : E → Type 0) → ((e : E) → P e → Q e) → IfNode refused P → IfNode refused Q
 node_weaker Memory P Q f h = tt
 node_weaker (Node e) P Q f h = f e h
+
+-- what is known of each success, and of each error of a node, and what follows from it
+pub if_ok : {V E : Type 0} {P Q : V → Type 0} (r : Result V E) → IfOk r P → ((v : V) → P v → Q v) → IfOk r Q
+if_ok r h f = IfOk-weaker r _ _ f h
+
+pub if_fails : {V E : Type 0} {P Q : E → Type 0} (r : Result V (WalkError E)) → IfFails r P → ((e : E) → P e → Q e) → IfFails r Q
+if_fails r h f = IfErr-weaker r _ _ (λ refused. node_weaker refused _ _ f) h

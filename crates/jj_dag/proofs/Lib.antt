@@ -28,3 +28,4 @@ pub mod Calling
 pub mod Owing
 pub mod Postorders
 pub mod Renumbered
+pub mod ClosureGraphs

@@ -4,12 +4,13 @@ use Rattle.std.specs.Fn.{Shared, Mut, Called, AlwaysReturns}
 use Rattle.std.specs.Iterator.{Count, Drains, IsFinite, IsFiniteIterable, Yields}
 use denote.Param.Always.{always_mut}
 use denote.Ref.{Bor}
-use Rattle.jj_dag.specs.Failing.{AnswersItems, AreItems, FailingGraph, Fault, ListsItems, ShowsItems, ShowsLists}
+use Rattle.jj_dag.specs.Failing.{AnswersItems, AreItems, FailsAfterNodes, FailingGraph, Fault, ListsItems, ShowsItems, ShowsLists}
 use Rattle.jj_dag.specs.ListOrError.{CanList, GivesListed, StandsFor, listed_left}
 use Rattle.jj_dag.specs.Walk.{DrainsTo, Numbered}
 use Rattle.jj_dag.specs.declared.list_or_error.ListOrError.{ListOrError}
 use Rattle.jj_dag.specs.declared.list_or_error.ListOrError.TheVariants.{List, Error}
-use Rattle.jj_dag.proofs.Wrapped.{AlwaysReturns-through, always_mut-through, no_error}
+use Rattle.jj_dag.specs.ClosureGraph.{YieldsOk}
+use Rattle.jj_dag.proofs.Wrapped.{AlwaysReturns-through, always_mut-through, no_error, ok_same}
 
 module _ {I T E : Type 0} (steps : I → Option T → I → Type 0) where
   -- the items of a list come in an `Ok`
@@ -82,8 +83,41 @@ module _ {U I T E : Type 0} (becomes : U → I → Type 0) (steps : I → Option
       one : AreItems node (Err e ∷ []) items
       one = subst (λ (l : list (Result ℕ (Fault E))). AreItems {T = T} node (Err e ∷ []) l) (sym is_list) (is, tt)
 
+last_error : {T E : Type 0} (xs : list T) (x e : E) → map {B = Result T E} (λ y. Ok y) xs ++ Err x ∷ [] ≡ Err e ∷ [] → x ≡ e
+last_error [] x e is = cc
+last_error (y ∷ ys) x e is = absurd cc
+
+module _ {U I T E : Type 0} (becomes : U → I → Type 0) (steps : I → Option T → I → Type 0) where
+  -- a complete list of what stands for an answer is one of the answer
+  pub list_answered : (answer : Result U E) (s : ListOrError I E) → StandsFor becomes answer s → (xs : list T) → DrainsTo (λ v k. k ≡ v) (GivesListed steps) s (map (λ x. Ok x) xs)
+      → YieldsOk (DrainsTo becomes steps) answer xs
+  unfolding StandsFor
+  list_answered (Ok value) (Error o) h xs d = absurd h
+  list_answered (Err e) (List it) h xs d = absurd h
+  list_answered (Err e) (Error o) h xs (j, same, d) =
+      let all = drained_error steps (map (λ x. Ok x) xs) e (subst (λ v. Drains (GivesListed steps) v (map (λ x. Ok x) xs)) (same ∙ ap (λ p. Error p) h) d) in
+      absurd (no_error [] e [] xs (sym all))
+  list_answered (Ok value) (List it) h xs (j, same, (u, (t, run, end))) =
+      let r = from_list steps (map (λ x. Ok x) xs) it t (subst (λ v. Yields (GivesListed steps) v (map (λ x. Ok x) xs) t) same run) in
+      (it, h, subst (λ (l : list T). Drains steps it l) (sym (ok_same E xs r.0 r.2)) (ended r.0 r.1 u r.4 (subst (λ v. GivesListed steps v None u) r.3 end)))
+    where
+      ended : (xs : list T) (after : I) (u : ListOrError I E) → Yields steps it xs after → GivesListed steps (List after) None u → Drains steps it xs
+      ended xs after (List last) run end = (last, (after, run, end))
+      ended xs after (Error o) run end = absurd end
+
+  -- and its error is that of the answer
+  pub error_answered : (answer : Result U E) (s : ListOrError I E) → StandsFor becomes answer s → (x : E) → FailsAfterNodes (λ v k. k ≡ v) (GivesListed steps) s x → answer ≡ Err x
+  unfolding StandsFor
+  error_answered (Ok value) (Error o) h x k = absurd h
+  error_answered (Err e) (List it) h x k = absurd h
+  error_answered (Ok value) (List it) h x (xs, (j, same, (t, run))) =
+      let r = from_list steps (map (λ y. Ok y) xs ++ Err x ∷ []) it t (subst (λ v. Yields (GivesListed steps) v (map (λ y. Ok y) xs ++ Err x ∷ []) t) same run) in
+      absurd (no_error (map (λ y. Ok y) xs) x [] r.0 r.2)
+  error_answered (Err e) (Error o) h x (xs, (j, same, (t, run))) =
+      ap (λ z. Err z) (sym (last_error xs x e (begun_error steps (map (λ y. Ok y) xs) x e t (subst (λ v. Yields (GivesListed steps) v (map (λ y. Ok y) xs ++ Err x ∷ []) t) (same ∙ ap (λ p. Error p) h) run))))
+
 -- A closure that hands on the answers of another one.
-module _ {T ID E F N G U I : Type 0} (eq : ID → ID → Bool) (ids : Shared F (Bor T × Unit {0}) ID) (lists : Mut N (Bor T × Unit {0}) (Result U E)) (becomes : U → I → Type 0) (steps : I → Option T → I → Type 0)
+module _ {T E N G U I : Type 0} (lists : Mut N (Bor T × Unit {0}) (Result U E)) (becomes : U → I → Type 0) (steps : I → Option T → I → Type 0)
     (outer : Mut G (Bor T × Unit {0}) (ListOrError I E)) (inner : G → N)
     (hands_on : (f : G) (a : Bor T × Unit {0}) (r : ListOrError I E) (f' : G) → Called outer f a r f' → (n : Result U E) × Called lists (inner f) a n (inner f') × StandsFor becomes n r) where
   -- what may be called still may
@@ -104,6 +138,10 @@ module _ {T ID E F N G U I : Type 0} (eq : ID → ID → Bool) (ids : Shared F (
       ends_of (Err e) (Error None) h ends = (tt, tt)
       ends_of (Err e) (Error (Some x)) h ends = (tt, tt)
 
+-- Such a closure shows the lists by items.
+module _ {T ID E F N G U I : Type 0} (eq : ID → ID → Bool) (ids : Shared F (Bor T × Unit {0}) ID) (lists : Mut N (Bor T × Unit {0}) (Result U E)) (becomes : U → I → Type 0) (steps : I → Option T → I → Type 0)
+    (outer : Mut G (Bor T × Unit {0}) (ListOrError I E)) (inner : G → N)
+    (hands_on : (f : G) (a : Bor T × Unit {0}) (r : ListOrError I E) (f' : G) → Called outer f a r f' → (n : Result U E) × Called lists (inner f) a n (inner f') × StandsFor becomes n r) where
   -- the lists that are shown are shown by items
   pub shows_listed : (w : Numbered T ID) (items : FailingGraph (Fault E)) (id_fn : F) (f : G) → ShowsLists w items eq ids lists becomes steps id_fn (inner f)
       → ShowsItems w items eq ids outer (λ v k. k ≡ v) (GivesListed steps) id_fn f

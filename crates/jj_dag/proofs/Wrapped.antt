@@ -9,6 +9,7 @@ use denote.Ref.{Bor}
 use Rattle.jj_dag.specs.AllOk.{GivesOk}
 use Rattle.jj_dag.specs.Failing.{AreItems, BeginsWith, Fault, ListsItems, ShowsItems, sound_items}
 use Rattle.jj_dag.specs.Outcomes.{Ends}
+use Rattle.jj_dag.specs.ClosureGraph.{IsWalkable}
 use Rattle.jj_dag.specs.Owed.{CanShow}
 use Rattle.jj_dag.specs.Stops.{IfFailed, IfCycle}
 use Rattle.jj_dag.specs.Walk.{DrainsTo, IsShownBy, Numbered}
@@ -122,12 +123,26 @@ pub can_show_wrapped : {T ID E F N G U I : Type 0} (ids : Shared F (Bor T × Uni
     → ((f : G) (a : Bor T × Unit {0}) (r : AllOk I E) (f' : G) → Called outer f a r f' → (n : U) × Called lists (inner f) a n (inner f') × value.into_iter_gives n r.items)
     → ((f : G) (a : Bor T × Unit {0}) → always_mut lists (inner f) → outer.pre f a)
     → ((r : AllOk I E) → IsFiniteIterable (λ v k. k ≡ v) (λ k. items.can_next k.items) (λ k. items.remaining k.items) r → Ends whole whole_items r)
-    → (id_fn : F) (f : G) → CanShow ids lists value items id_fn (inner f) → CanShow ids outer whole whole_items id_fn f
+    → (id_fn : F) (f : G) → IsWalkable ids lists (IsFiniteIterable value.into_iter_gives items.can_next items.remaining) id_fn (inner f) → CanShow ids outer whole whole_items id_fn f
 can_show_wrapped ids lists value items outer inner whole whole_items hands_on asks ends id_fn f k = record {
   id_fn = k.id_fn;
   neighbors_fn = always_mut-through outer lists inner asks (λ f a r after h. let q = hands_on f a r after h in (q.0, q.1)) f k.neighbors_fn;
   lists = AlwaysReturns-through outer lists _ _ inner (λ f a r after h.
       let q = hands_on f a r after h in (q.0, q.1, λ left. ends r (λ it is. subst (λ v. items.can_next v.items × IsFinite (items.remaining v.items)) (sym is) (left r.items q.2)))) f k.lists;
+}
+
+-- the same of a walk that asks it by `IsWalkable`
+pub walkable_wrapped : {T ID E F N G U I : Type 0} (ids : Shared F (Bor T × Unit {0}) ID) (lists : Mut N (Bor T × Unit {0}) U) (value : into.Ghosts U T I) (items : iter.Ghosts I T)
+    (outer : Mut G (Bor T × Unit {0}) (AllOk I E)) (inner : G → N) (ends : AllOk I E → Type 0)
+    → ((f : G) (a : Bor T × Unit {0}) (r : AllOk I E) (f' : G) → Called outer f a r f' → (n : U) × Called lists (inner f) a n (inner f') × value.into_iter_gives n r.items)
+    → ((f : G) (a : Bor T × Unit {0}) → always_mut lists (inner f) → outer.pre f a)
+    → ((r : AllOk I E) → IsFiniteIterable (λ v k. k ≡ v) (λ k. items.can_next k.items) (λ k. items.remaining k.items) r → ends r)
+    → (id_fn : F) (f : G) → IsWalkable ids lists (IsFiniteIterable value.into_iter_gives items.can_next items.remaining) id_fn (inner f) → IsWalkable ids outer ends id_fn f
+walkable_wrapped ids lists value items outer inner ends hands_on asks finite id_fn f k = record {
+  id_fn = k.id_fn;
+  neighbors_fn = always_mut-through outer lists inner asks (λ f a r after h. let q = hands_on f a r after h in (q.0, q.1)) f k.neighbors_fn;
+  lists = AlwaysReturns-through outer lists _ _ inner (λ f a r after h.
+      let q = hands_on f a r after h in (q.0, q.1, λ left. finite r (λ it is. subst (λ v. items.can_next v.items × IsFinite (items.remaining v.items)) (sym is) (left r.items q.2)))) f k.lists;
 }
 
 -- what is known of the node on a cycle

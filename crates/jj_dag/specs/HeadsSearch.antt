@@ -9,7 +9,8 @@ use Rattle.std.specs.declared.iter.IntoIterator as into
 use Rattle.std.specs.declared.iter.Iterator as iter
 use denote.Ref.{Bor}
 use Rattle.jj_dag.specs.declared.walk_error.WalkError.{WalkError}
-use Rattle.jj_dag.specs.Failing.{FailingGraph, Fault, ReachesFailure, ShowsItems}
+use Rattle.jj_dag.specs.ClosureGraph.{ClosureGraph}
+use Rattle.jj_dag.specs.Graph.{ReachedFrom}
 use Rattle.jj_dag.specs.Found.{AreHeads}
 use Rattle.jj_dag.specs.Outcomes.{IfFails}
 use Rattle.jj_dag.specs.Walk.{AreNodes, DrainsTo, Numbered, StandsForNodes}
@@ -74,22 +75,20 @@ module _ {T ID S R : Type 0} (same : T → T → Bool) (eq : ID → ID → Bool)
     pub met : MeetsNodes tells heads visited waiting nodes heads2 visited2 waiting2
     pub none : MatchBool empty (nodes ≡ []) ((x : T) × Contains nodes x)
 
-module _ {T ID E F N U J S R : Type 0} (same : T → T → Bool) (eq : ID → ID → Bool)
-    (ids : Shared F (Bor T × Unit {0}) ID) (lists : Mut N (Bor T × Unit {0}) U)
-    (value : into.Ghosts U (Result T E) J) (items : iter.Ghosts J (Result T E)) (id_fn : F)
-    (neighbors_fn : N) (heads : HashSet T S) (visited : HashSet ID R) (waiting : List T) where
-  -- P of each graph that the closures show, and of starts that were taken so
-  abbrev pub FromStarted : (Numbered T ID → FailingGraph (Fault E) → List ℕ → Type 0) → Type 0
-  FromStarted P = (walk : Numbered T ID) (shown : FailingGraph (Fault E)) (xs : List T)
-      → ShowsItems walk shown eq ids lists value.into_iter_gives items.next_gives id_fn neighbors_fn
-      → AreNodes walk (map walk.node xs) → ((x : T) → Contains waiting x → Contains xs x)
-      → (StandsForNodes walk same → IsStarted walk (map walk.node xs) heads.keys
-      (contains same heads) (contains eq visited) (map walk.node waiting))
-      → P walk shown (map walk.node xs)
+module _ {T ID E S R : Type 0} (same : T → T → Bool) (eq : ID → ID → Bool)
+    (graph : ClosureGraph T ID E) (heads : HashSet T S) (visited : HashSet ID R) (waiting : List T)
+  where
+    -- P of each model that the closures implement, and of starts that were taken so
+    abbrev pub FromStarted : (Numbered T ID → List ℕ → Type 0) → Type 0
+    FromStarted P = (walk : Numbered T ID) (xs : List T) → graph.implements walk
+        → AreNodes walk (map walk.node xs) → ((x : T) → Contains waiting x → Contains xs x)
+        → (StandsForNodes walk same → IsStarted walk (map walk.node xs) heads.keys
+        (contains same heads) (contains eq visited) (map walk.node waiting))
+        → P walk (map walk.node xs)
 
-  -- the heads are left, or an item of a node that the starts reach failed with this error
-  pub record LeavesHeads {V : Type 0} (r : Result V (WalkError E)) (left : HashSet T S)
-      : Type 0 where
-    pub found : IfOk r (λ _. FromStarted (λ walk shown nodes. AreHeads same walk nodes left.keys))
-    pub refused : IfFails r (λ error. FromStarted (λ walk shown nodes.
-        ReachesFailure shown nodes error))
+    -- the heads are left, or the closures returned this error for a node that the starts reach
+    pub record LeavesHeads {V : Type 0} (r : Result V (WalkError E)) (left : HashSet T S)
+        : Type 0 where
+      pub found : IfOk r (λ _. FromStarted (λ walk nodes. AreHeads same walk nodes left.keys))
+      pub refused : IfFails r (λ error. (x : T) × graph.fails x error
+          × FromStarted (λ walk nodes. ReachedFrom walk.graph nodes (walk.node x)))

@@ -1,6 +1,7 @@
 pub mod Graph
 pub mod Walk
 pub mod Failing
+pub mod ClosureGraph
 pub mod Errors
 pub mod ReadyNodes
 pub mod Collecting

@@ -19,9 +19,9 @@ module _ {T ID X F N U J : Type 0} (ids : Shared F (Bor T × Unit {0}) ID)
 
   -- they can show a graph, an error can be made of a node on a cycle, the starts end, and a clone
   -- of an id is equal to it
-  pub record CanBeOrdered {C E II I : Type 0} (cycles : Once C (T × Unit {0}) E)
+  pub record CanBeOrdered {C E II I K : Type 0} (cycles : Once C (T × Unit {0}) E)
       (starts : into.Ghosts II X I) (start_items : iter.Ghosts I X) (value : into.Ghosts U X J)
-      (items : iter.Ghosts J X) (clone : ID → ID → Type 0) (eq : ID → ID → Bool) (id_of : F)
+      (items : iter.Ghosts J X) (clone : K → K → Type 0) (eq : K → K → Bool) (id_of : F)
       (neighbors_of : N) (cycle_of : C) (from : II) : Type 0 where
     pub graph : CanShow value items id_of neighbors_of
     pub cycle_fn : always_once cycles cycle_of

@@ -1,17 +1,12 @@
 -- What the walk that gives a node after its neighbours gives, and why it stopped.
 -- Machinery of private functions and fields.
 use Rattle.std.specs.Prelude.{◌≡◌, ℕ, Bool, false, List, map, Result, IfOk, IfErr}
-use Rattle.std.specs.Fn.{Shared, Mut}
 use Rattle.std.specs.Global.{Global}
-use Rattle.std.specs.declared.iter.IntoIterator as into
-use Rattle.std.specs.declared.iter.Iterator as iter
 use Rattle.std.specs.declared.vec.Vec.{Vec}
-use denote.Ref.{Bor}
-use Rattle.jj_dag.specs.Failing.{FailingGraph, Fault, ReachesFailure}
-use Rattle.jj_dag.specs.Graph.{OnCycleFrom}
-use Rattle.jj_dag.specs.Orders.{GivesSoundPostorder, IsSoundPostorder}
-use Rattle.jj_dag.specs.Outcomes.{InItems, ItemFails, OverItems}
-use Rattle.jj_dag.specs.Walk.{Numbered}
+use Rattle.jj_dag.specs.ClosureGraph.{ClosureGraph, InEachModel, IsInputError, Listing}
+use Rattle.jj_dag.specs.Graph.{OnCycleFrom, ReachedFrom}
+use Rattle.jj_dag.specs.Orders.{IsWholePostorder}
+use Rattle.jj_dag.specs.Walk.{AreNodes, Numbered}
 use Rattle.jj_dag.specs.declared.forward.Stop.{Stop}
 use Rattle.jj_dag.specs.declared.forward.Stop.TheVariants.{Memory, Failed, Cycle}
 
@@ -27,36 +22,30 @@ IfCycle Memory P = Unit {0}
 IfCycle (Failed e) P = Unit {0}
 IfCycle (Cycle x) P = P x
 
-module _ {T ID E II I F N U J : Type 0} (eq : ID → ID → Bool) (ids : Shared F (Bor T × Unit {0}) ID)
-    (lists : Mut N (Bor T × Unit {0}) U) (starts : into.Ghosts II (Result T E) I)
-    (start_items : iter.Ghosts I (Result T E)) (value : into.Ghosts U (Result T E) J)
-    (items : iter.Ghosts J (Result T E)) (id_fn : F) (neighbors_fn : N) (start : II) where
-  -- the whole postorder; where the walk stopped at a failed item, it is a start or of a node that
-  -- the starts reach; where it stopped at a node on a cycle, the starts reach that node
-  pub record WalksForward (r : Result (Vec T Global) (Stop T E)) : Type 0 where
-    pub order : IfOk r (GivesSoundPostorder eq ids lists starts start_items value items id_fn
-        neighbors_fn start)
-    pub failed : IfErr r (λ stop. IfFailed stop
-        (ItemFails eq ids lists starts start_items value items id_fn neighbors_fn start))
-    pub cycle : IfErr r (λ stop. IfCycle stop (λ x.
-        OverItems eq ids lists starts start_items value items id_fn neighbors_fn start
-        (λ walk shown nodes. OnCycleFrom walk.graph nodes (walk.node x))))
+module _ {T ID E : Type 0} (graph : ClosureGraph T ID E) where
+  -- the whole postorder; where the walk stopped at an error, it is one of the input; where it
+  -- stopped at a node on a cycle, the starts reach that node
+  pub record WalksForward (start : Listing T E) (r : Result (Vec T Global) (Stop T E)) : Type 0
+    where
+      pub order : IfOk r (λ v. InEachModel graph start (λ walk nodes.
+          IsWholePostorder walk.graph nodes (map walk.node v.items)))
+      pub failed : IfErr r (λ stop. IfFailed stop (IsInputError graph start))
+      pub cycle : IfErr r (λ stop. IfCycle stop (λ x. InEachModel graph start (λ walk nodes.
+          OnCycleFrom walk.graph nodes (walk.node x))))
 
-module _ {T ID E F N U J : Type 0} (eq : ID → ID → Bool) (ids : Shared F (Bor T × Unit {0}) ID)
-    (lists : Mut N (Bor T × Unit {0}) U) (value : into.Ghosts U (Result T E) J)
-    (items : iter.Ghosts J (Result T E)) (id_fn : F) (neighbors_fn : N)
-    (stack : List (T × Bool)) where
-  -- P of each graph that the closures show, and of the nodes that wait on the stack, none of which
-  -- was entered
-  abbrev pub FromStack : (Numbered T ID → FailingGraph (Fault E) → List ℕ → Type 0) → Type 0
-  FromStack P = (xs : List T) → stack ≡ map (λ x. (x, false)) xs
-      → InItems eq ids lists value items id_fn neighbors_fn xs P
+  module _ (stack : List (T × Bool)) where
+    -- P of each model that the closures implement, and of the nodes that wait on the stack, none
+    -- of which was entered
+    abbrev pub FromStack : (Numbered T ID → List ℕ → Type 0) → Type 0
+    FromStack P = (xs : List T) → stack ≡ map (λ x. (x, false)) xs
+        → (walk : Numbered T ID) → graph.implements walk → AreNodes walk (map walk.node xs)
+        → P walk (map walk.node xs)
 
-  -- the same from such a stack
-  pub record UnwindsFrom (r : Result (Vec T Global) (Stop T E)) : Type 0 where
-    pub order : IfOk r (λ v. FromStack (λ walk shown nodes.
-        IsSoundPostorder walk.graph shown nodes (map walk.node v.items)))
-    pub failed : IfErr r (λ stop. IfFailed stop (λ error. FromStack (λ walk shown nodes.
-        ReachesFailure shown nodes error)))
-    pub cycle : IfErr r (λ stop. IfCycle stop (λ x. FromStack (λ walk shown nodes.
-        OnCycleFrom walk.graph nodes (walk.node x))))
+    -- the same from such a stack
+    pub record UnwindsFrom (r : Result (Vec T Global) (Stop T E)) : Type 0 where
+      pub order : IfOk r (λ v. FromStack (λ walk nodes.
+          IsWholePostorder walk.graph nodes (map walk.node v.items)))
+      pub failed : IfErr r (λ stop. IfFailed stop (λ error. (x : T) × graph.fails x error
+          × FromStack (λ walk nodes. ReachedFrom walk.graph nodes (walk.node x))))
+      pub cycle : IfErr r (λ stop. IfCycle stop (λ x. FromStack (λ walk nodes.
+          OnCycleFrom walk.graph nodes (walk.node x))))

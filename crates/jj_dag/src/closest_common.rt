@@ -1,9 +1,10 @@
 //! The closest of the nodes that two sets reach.
 ghost use Rattle.std.specs.Prelude.{◌≡◌, ◌+◌, ◌≤◌, ◌<◌, ◌^◌, ◌&&◌, ◌∷◌, ◌++◌, [], IfOk, IsTrue, Ok, Err, OnOk, MatchBool, cond, map};
 ghost use Rattle.std.specs.BinaryHeap.{heap_items, heap_len};
-ghost use Rattle.std.specs.Fn.{CalledAt, FnReturnsAt};
+ghost use Rattle.std.specs.Fn.{CalledAt};
 ghost use Rattle.std.specs.List.Sorted.{IsPermutation};
-ghost use Rattle.jj_dag.specs.Found.{FindsClosestCommon};
+ghost use Rattle.jj_dag.specs.ClosureGraph.{InEachModelOfTwo, IsNeighborsErrorOfTwo, ReturnsId, graph_of_lists, list_of};
+ghost use Rattle.jj_dag.specs.Found.{AreClosestNodes, FindsClosestCommon};
 ghost use Rattle.jj_dag.specs.CommonSearch.{SearchesCommon};
 ghost use Rattle.jj_dag.specs.Marks.{MarksAll, mark_at, reach_of_both, grows, mark_with, starts_waiting, without_waiting, handed_on, sides_met, closest_of};
 ghost use Rattle.jj_dag.specs.Outcomes.{Ends, IfFails};
@@ -216,14 +217,21 @@ where
     II1: IntoIterator<Item = T, IntoIter: Drop>,
     II2: IntoIterator<Item = T, IntoIter: Drop> + Drop,
     NI: IntoIterator<Item = T, IntoIter: Drop>,
-    F: Fn(&T) -> ID + Drop,
+    F: Fn(&T) -> Result<ID, AllocError> + Drop,
     N: FnMut(&T) -> Result<NI, E> + Drop,
-    requires graph { MayShow F.Fn N.FnMut NI.IntoIterator NI.IntoIter.Iterator id_fn neighbors_fn }
-    requires set1 { Ends II1.IntoIterator II1.IntoIter.Iterator set1 }
-    requires set2 { Ends II2.IntoIterator II2.IntoIter.Iterator set2 }
-    ensures { FindsClosestCommon ID.eq F.Fn N.FnMut NI.IntoIterator NI.IntoIter.Iterator id_fn
-        neighbors_fn II1.IntoIterator II1.IntoIter.Iterator II2.IntoIterator II2.IntoIter.Iterator
-        set1 set2 result (λ v. v.items) }
+    requires graph { (graph_of_lists ID.eq F.Fn N.FnMut NI.IntoIterator NI.IntoIter.Iterator id_fn
+        neighbors_fn).walkable }
+    requires set1 { (list_of {E = E} II1.IntoIterator II1.IntoIter.Iterator set1).finite }
+    requires set2 { (list_of {E = E} II2.IntoIterator II2.IntoIter.Iterator set2).finite }
+    ensures closest { IfOk result (λ v. InEachModelOfTwo
+        (graph_of_lists ID.eq F.Fn N.FnMut NI.IntoIterator NI.IntoIter.Iterator id_fn neighbors_fn)
+        (list_of II1.IntoIterator II1.IntoIter.Iterator set1)
+        (list_of II2.IntoIterator II2.IntoIter.Iterator set2)
+        (λ g nodes1 nodes2. AreClosestNodes g nodes1 nodes2 v.items)) }
+    ensures error { IfFails result (IsNeighborsErrorOfTwo
+        (graph_of_lists ID.eq F.Fn N.FnMut NI.IntoIterator NI.IntoIter.Iterator id_fn neighbors_fn)
+        (list_of II1.IntoIterator II1.IntoIter.Iterator set1)
+        (list_of II2.IntoIterator II2.IntoIter.Iterator set2)) }
 {
     let met = common_nodes(alloc, set1, set2, &id_fn, &mut neighbors_fn)?;
     Ok(closest(alloc, met)?)
@@ -239,10 +247,10 @@ fn mark_all<T: Ord + Drop, ID: Hash + Eq + Drop, I, F>(
 ) -> Result<bool, AllocError>
 where
     I: IntoIterator<Item = T, IntoIter: Drop>,
-    F: Fn(&T) -> ID,
+    F: Fn(&T) -> Result<ID, AllocError>,
     requires id_fn { F.IsAlwaysCallable id_fn.now }
     requires nodes { Ends I.IntoIterator I.IntoIter.Iterator nodes }
-    ensures marks { IfOk result (MarksAll ID.eq (FnReturnsAt F.Fn id_fn.now) I.into_iter_gives
+    ensures marks { IfOk result (MarksAll ID.eq (ReturnsId F.Fn id_fn.now) I.into_iter_gives
         I.IntoIter.next_gives nodes reach (mark_at ID.eq known.old) (mark_at ID.eq known.new)
         (heap_items waiting.old) (heap_items waiting.new)) }
     ensures balance { OnOk result (sides_met known.old + heap_len waiting.new
@@ -252,7 +260,7 @@ where
     let mut empty = true;
     for node in nodes {
         empty = false;
-        let id = id_fn(&node);
+        let id = id_fn(&node)?;
         mark_node(known, waiting, node, id, reach)?;
     }
     Ok(empty)
@@ -269,7 +277,7 @@ fn mark_neighbors<T: Ord + Drop, ID: Hash + Eq + Drop, E: Drop, NI, F, N>(
 ) -> Result<bool, WalkError<E>>
 where
     NI: IntoIterator<Item = T, IntoIter: Drop>,
-    F: Fn(&T) -> ID,
+    F: Fn(&T) -> Result<ID, AllocError>,
     N: FnMut(&T) -> Result<NI, E>,
     requires { MayShow F.Fn N.FnMut NI.IntoIterator NI.IntoIter.Iterator id_fn.now
         neighbors_fn.old }
@@ -277,7 +285,7 @@ where
         neighbors_fn.new }
     ensures marks { IfOk result (λ empty. (list : NI)
         × CalledAt N.FnMut neighbors_fn.old node.now (Ok list) neighbors_fn.new
-        × MarksAll ID.eq (FnReturnsAt F.Fn id_fn.now) NI.into_iter_gives NI.IntoIter.next_gives
+        × MarksAll ID.eq (ReturnsId F.Fn id_fn.now) NI.into_iter_gives NI.IntoIter.next_gives
         list reach (mark_at ID.eq known.old) (mark_at ID.eq known.new) (heap_items waiting.old)
         (heap_items waiting.new) empty) }
     ensures balance { OnOk result (sides_met known.old + heap_len waiting.new
@@ -302,19 +310,20 @@ fn search<T: Ord + Drop, ID: Hash + Eq + Drop, E: Drop, NI, F, N>(
 ) -> Result<(), WalkError<E>>
 where
     NI: IntoIterator<Item = T, IntoIter: Drop>,
-    F: Fn(&T) -> ID,
+    F: Fn(&T) -> Result<ID, AllocError>,
     N: FnMut(&T) -> Result<NI, E>,
     requires graph { MayShow F.Fn N.FnMut NI.IntoIterator NI.IntoIter.Iterator id_fn.now
         neighbors_fn.old }
     requires small { sides_met met.old.known < 2 ^ 64 }
     requires none { met.old.common.items ≡ [] }
-    ensures { SearchesCommon ID.eq F.Fn N.FnMut NI.IntoIterator NI.IntoIter.Iterator id_fn.now
-        neighbors_fn.old (mark_at ID.eq met.old.known) (heap_items waiting.old) result
+    ensures { SearchesCommon (graph_of_lists ID.eq F.Fn N.FnMut NI.IntoIterator
+        NI.IntoIter.Iterator id_fn.now neighbors_fn.old) (mark_at ID.eq met.old.known)
+        (heap_items waiting.old) result
         (λ _. closest_of (mark_at ID.eq met.new.known) met.new.common.items) }
 {
     let mut root_met = false;
     while let Some(node) = waiting.pop() {
-        let id = id_fn(&node);
+        let id = id_fn(&node)?;
         let reach = ask(&mut met.known, &id);
         if reach.is_common() && waiting.is_empty() && !root_met {
             met.common.push((node, id))?;
@@ -342,15 +351,16 @@ where
     II1: IntoIterator<Item = T, IntoIter: Drop>,
     II2: IntoIterator<Item = T, IntoIter: Drop> + Drop,
     NI: IntoIterator<Item = T, IntoIter: Drop>,
-    F: Fn(&T) -> ID,
+    F: Fn(&T) -> Result<ID, AllocError>,
     N: FnMut(&T) -> Result<NI, E>,
     requires graph { MayShow F.Fn N.FnMut NI.IntoIterator NI.IntoIter.Iterator id_fn.now
         neighbors_fn.old }
     requires set1 { Ends II1.IntoIterator II1.IntoIter.Iterator set1 }
     requires set2 { Ends II2.IntoIterator II2.IntoIter.Iterator set2 }
-    ensures { FindsClosestCommon ID.eq F.Fn N.FnMut NI.IntoIterator NI.IntoIter.Iterator id_fn.now
-        neighbors_fn.old II1.IntoIterator II1.IntoIter.Iterator II2.IntoIterator
-        II2.IntoIter.Iterator set1 set2 result
+    ensures { FindsClosestCommon (graph_of_lists ID.eq F.Fn N.FnMut NI.IntoIterator
+        NI.IntoIter.Iterator id_fn.now neighbors_fn.old)
+        (list_of II1.IntoIterator II1.IntoIter.Iterator set1)
+        (list_of II2.IntoIterator II2.IntoIter.Iterator set2) result
         (λ met. closest_of (mark_at ID.eq met.known) met.common.items) }
 {
     let mut met = Met {

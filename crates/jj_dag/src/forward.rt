@@ -3,6 +3,7 @@ ghost use Rattle.std.specs.Prelude.{◌≡◌, ◌+◌, ◌≤◌, ◌<◌, ◌^
 ghost use Rattle.std.specs.Fn.{CalledAt};
 ghost use Rattle.std.specs.HashSet.{contains, hash_set_len, Updates};
 ghost use Rattle.std.specs.Iterator.{Drains, IsFinite, Yields};
+ghost use Rattle.jj_dag.specs.ClosureGraph.{graph_of_items, list_of_items};
 ghost use Rattle.jj_dag.specs.Failing.{FailsAfterNodes};
 ghost use Rattle.jj_dag.specs.Outcomes.{ClonesAreEqual, Ends, ListsEnd};
 ghost use Rattle.jj_dag.specs.Owed.{CanShow};
@@ -51,13 +52,13 @@ pub fn walk_forward<T: Drop, ID: Hash + Eq + Clone + Drop, E: Drop, II, NI, F, N
 where
     II: IntoIterator<Item = Result<T, E>, IntoIter: Drop> + Drop,
     NI: IntoIterator<Item = Result<T, E>, IntoIter: Drop>,
-    F: Fn(&T) -> ID + Drop,
+    F: Fn(&T) -> Result<ID, AllocError> + Drop,
     N: FnMut(&T) -> NI + Drop,
     requires graph { CanShow F.Fn N.FnMut NI.IntoIterator NI.IntoIter.Iterator id_fn neighbors_fn }
     requires start { Ends II.IntoIterator II.IntoIter.Iterator start }
     requires clones { ClonesAreEqual ID.is_clone ID.eq }
-    ensures { WalksForward ID.eq F.Fn N.FnMut II.IntoIterator II.IntoIter.Iterator NI.IntoIterator
-        NI.IntoIter.Iterator id_fn neighbors_fn start result }
+    ensures { WalksForward (graph_of_items ID.eq F.Fn N.FnMut NI.IntoIterator NI.IntoIter.Iterator
+        id_fn neighbors_fn) (list_of_items II.IntoIterator II.IntoIter.Iterator start) result }
 {
     let mut stack: Vec<(T, bool)> = Vec::new(alloc);
     match push_all(&mut stack, start.into_iter()) {
@@ -158,19 +159,19 @@ fn unwind<T: Drop, ID: Hash + Eq + Clone + Drop, E: Drop, NI, F, N>(
 ) -> Result<Vec<T>, Stop<T, E>>
 where
     NI: IntoIterator<Item = Result<T, E>, IntoIter: Drop>,
-    F: Fn(&T) -> ID,
+    F: Fn(&T) -> Result<ID, AllocError>,
     N: FnMut(&T) -> NI,
     requires graph { CanShow F.Fn N.FnMut NI.IntoIterator NI.IntoIter.Iterator id_fn.now
         neighbors_fn.old }
     requires clones { ClonesAreEqual ID.is_clone ID.eq }
-    ensures { UnwindsFrom ID.eq F.Fn N.FnMut NI.IntoIterator NI.IntoIter.Iterator id_fn.now
-        neighbors_fn.old stack.old.items result }
+    ensures { UnwindsFrom (graph_of_items ID.eq F.Fn N.FnMut NI.IntoIterator NI.IntoIter.Iterator
+        id_fn.now neighbors_fn.old) stack.old.items result }
 {
     let mut visiting = HashSet::new(alloc);
     let mut emitted = HashSet::new(alloc);
     let mut given = Vec::new(alloc);
     while let Some((node, neighbors_visited)) = stack.pop() {
-        let id = id_fn(&node);
+        let id = id_fn(&node)?;
         if emitted.contains(&id) {
             continue;
         }

@@ -1,14 +1,14 @@
 //! The greatest of the orders in which each node stands before its neighbours.
-ghost use Rattle.std.specs.Prelude.{◌≡◌, ℕ, ◌<◌, ◌∷◌, ◌++◌, [], cond, map, length, slice_index, slice_index_or, slice_set, IfOk, IsSome, OnOk, MatchOption};
+ghost use Rattle.std.specs.Prelude.{◌≡◌, ◌⊎◌, ℕ, ◌<◌, ◌∷◌, ◌++◌, [], cond, map, length, slice_index, slice_index_or, slice_set, IfOk, IsSome, OnOk, MatchOption};
 ghost use Rattle.std.specs.HashMap.{get};
 ghost use Rattle.std.specs.List.{Contains, filter_map};
 ghost use Rattle.std.specs.List.Sorted.{IsPermutation};
 ghost use Rattle.std.specs.BinaryHeap.{heap_items, KeepsHeap};
 ghost use Rattle.std.specs.Ordering.{nat_cmp, ordering_then};
 ghost use Rattle.jj_dag.specs.Collecting.{IsFilled, neighbor_places};
-ghost use Rattle.jj_dag.specs.GreatestOrder.{FindsGreatestOrder};
-ghost use Rattle.jj_dag.specs.Outcomes.{Ends};
-ghost use Rattle.jj_dag.specs.Owed.{CanShow};
+ghost use Rattle.jj_dag.specs.ClosureGraph.{InEachModel, IsInputError, IsMadeFrom, graph_of_items, list_of_items};
+ghost use Rattle.jj_dag.specs.GreatestOrder.{IsGreatestOrder};
+ghost use Rattle.jj_dag.specs.Outcomes.{IfFails, IsReachedBesideCycle};
 ghost use Rattle.jj_dag.specs.ReadyNodes.{TakesGreatestFirst, edges_to, places_graph};
 
 use crate::shown::Shown;
@@ -32,14 +32,23 @@ pub fn topo_order_reverse_ord<T: Ord + Drop, ID: Hash + Eq + Drop, E: Drop, II, 
 where
     II: IntoIterator<Item = Result<T, E>, IntoIter: Drop>,
     NI: IntoIterator<Item = Result<T, E>, IntoIter: Drop>,
-    F: Fn(&T) -> ID + Drop,
+    F: Fn(&T) -> Result<ID, AllocError> + Drop,
     N: FnMut(&T) -> NI + Drop,
     C: FnOnce(T) -> E + Drop,
-    requires graph { CanShow F.Fn N.FnMut NI.IntoIterator NI.IntoIter.Iterator id_fn neighbors_fn }
+    requires graph { (graph_of_items ID.eq F.Fn N.FnMut NI.IntoIterator NI.IntoIter.Iterator id_fn
+        neighbors_fn).walkable }
     requires cycle_fn { C.IsAlwaysCallable cycle_fn }
-    requires start { Ends II.IntoIterator II.IntoIter.Iterator start }
-    ensures { FindsGreatestOrder T.cmp ID.eq F.Fn N.FnMut II.IntoIterator II.IntoIter.Iterator
-        NI.IntoIterator NI.IntoIter.Iterator id_fn neighbors_fn start (C.post cycle_fn) result }
+    requires start { (list_of_items II.IntoIterator II.IntoIter.Iterator start).finite }
+    ensures order { IfOk result (λ v. InEachModel
+        (graph_of_items ID.eq F.Fn N.FnMut NI.IntoIterator NI.IntoIter.Iterator id_fn neighbors_fn)
+        (list_of_items II.IntoIterator II.IntoIter.Iterator start)
+        (λ g starts. IsGreatestOrder T.cmp g starts (map g.node v.items))) }
+    ensures error { IfFails result (λ e. IsInputError
+        (graph_of_items ID.eq F.Fn N.FnMut NI.IntoIterator NI.IntoIter.Iterator id_fn neighbors_fn)
+        (list_of_items II.IntoIterator II.IntoIter.Iterator start) e
+        ⊎ IsMadeFrom (C.post cycle_fn) IsReachedBesideCycle
+        (graph_of_items ID.eq F.Fn N.FnMut NI.IntoIterator NI.IntoIter.Iterator id_fn neighbors_fn)
+        (list_of_items II.IntoIterator II.IntoIter.Iterator start) e) }
 {
     let nodes = match sound_nodes(alloc, start) {
         Ok(nodes) => nodes,

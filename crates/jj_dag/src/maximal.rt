@@ -1,10 +1,11 @@
 //! The nodes of a set that no other node of it reaches; `heads_ok` is over items that may fail.
 ghost use Rattle.std.specs.Prelude.{◌≡◌, ◌⊎◌, ◌+◌, ◌≤◌, ◌++◌, ◌∷◌, [], true, false, cond, IfOk, OnOk, IfSome, IfNone, IsTrue, length};
-ghost use Rattle.std.specs.Fn.{CalledAt, FnReturnsAt};
+ghost use Rattle.std.specs.Fn.{CalledAt};
 ghost use Rattle.std.specs.HashSet.{contains, Updates, hash_set_len, IsUnique};
 ghost use Rattle.std.specs.List.{Contains};
 ghost use Rattle.jj_dag.specs.Failing.{FailsAfterNodes};
-ghost use Rattle.jj_dag.specs.Found.{GivesHeads, FindsHeadsOfItems};
+ghost use Rattle.jj_dag.specs.ClosureGraph.{InEachModel, IsInputError, ReturnsId, graph_of, graph_of_items, list_of, list_of_items};
+ghost use Rattle.jj_dag.specs.Found.{AreHeads};
 ghost use Rattle.jj_dag.specs.HeadsSearch.{LeavesHeads, MeetsAll, TakesStarts};
 ghost use Rattle.jj_dag.specs.Outcomes.{ClonesAreEqual, Ends, IfFails};
 ghost use Rattle.jj_dag.specs.Owed.{CanShow};
@@ -73,13 +74,16 @@ pub fn heads<T: Hash + Eq + Clone + Drop, ID: Hash + Eq + Drop, II, NI, F, N>(
 where
     II: IntoIterator<Item = T, IntoIter: Drop> + Drop,
     NI: IntoIterator<Item = T, IntoIter: Drop>,
-    F: Fn(&T) -> ID + Drop,
+    F: Fn(&T) -> Result<ID, AllocError> + Drop,
     N: FnMut(&T) -> NI + Drop,
-    requires graph { CanShow F.Fn N.FnMut NI.IntoIterator NI.IntoIter.Iterator id_fn neighbors_fn }
-    requires start { Ends II.IntoIterator II.IntoIter.Iterator start }
+    requires graph { (graph_of ID.eq F.Fn {E = Infallible} N.FnMut NI.IntoIterator
+        NI.IntoIter.Iterator id_fn neighbors_fn).walkable }
+    requires start { (list_of {E = Infallible} II.IntoIterator II.IntoIter.Iterator start).finite }
     requires clones { ClonesAreEqual T.is_clone T.eq }
-    ensures heads { IfOk result (GivesHeads T.eq ID.eq F.Fn N.FnMut II.IntoIterator
-        II.IntoIter.Iterator NI.IntoIterator NI.IntoIter.Iterator id_fn neighbors_fn start) }
+    ensures heads { IfOk result (λ heads. InEachModel {E = Infallible}
+        (graph_of ID.eq F.Fn N.FnMut NI.IntoIterator NI.IntoIter.Iterator id_fn neighbors_fn)
+        (list_of II.IntoIterator II.IntoIter.Iterator start)
+        (λ g starts. AreHeads T.eq g starts heads.keys)) }
 {
     let start = AllOk {
         items: start.into_iter(),
@@ -114,13 +118,19 @@ pub fn heads_ok<T: Hash + Eq + Clone + Drop, ID: Hash + Eq + Drop, E: Drop, II, 
 where
     II: IntoIterator<Item = Result<T, E>, IntoIter: Drop> + Drop,
     NI: IntoIterator<Item = Result<T, E>, IntoIter: Drop>,
-    F: Fn(&T) -> ID + Drop,
+    F: Fn(&T) -> Result<ID, AllocError> + Drop,
     N: FnMut(&T) -> NI + Drop,
-    requires graph { CanShow F.Fn N.FnMut NI.IntoIterator NI.IntoIter.Iterator id_fn neighbors_fn }
-    requires start { Ends II.IntoIterator II.IntoIter.Iterator start }
+    requires graph { (graph_of_items ID.eq F.Fn N.FnMut NI.IntoIterator NI.IntoIter.Iterator
+        id_fn neighbors_fn).walkable }
+    requires start { (list_of_items II.IntoIterator II.IntoIter.Iterator start).finite }
     requires clones { ClonesAreEqual T.is_clone T.eq }
-    ensures { FindsHeadsOfItems T.eq ID.eq F.Fn N.FnMut II.IntoIterator II.IntoIter.Iterator
-        NI.IntoIterator NI.IntoIter.Iterator id_fn neighbors_fn start result }
+    ensures heads { IfOk result (λ heads. InEachModel
+        (graph_of_items ID.eq F.Fn N.FnMut NI.IntoIterator NI.IntoIter.Iterator id_fn neighbors_fn)
+        (list_of_items II.IntoIterator II.IntoIter.Iterator start)
+        (λ g starts. AreHeads T.eq g starts heads.keys)) }
+    ensures error { IfFails result (IsInputError
+        (graph_of_items ID.eq F.Fn N.FnMut NI.IntoIterator NI.IntoIter.Iterator id_fn neighbors_fn)
+        (list_of_items II.IntoIterator II.IntoIter.Iterator start)) }
 {
     let mut heads = HashSet::new(alloc);
     let mut visited = HashSet::new(alloc);
@@ -174,7 +184,7 @@ fn take_starts<T: Hash + Eq + Clone + Drop, ID: Hash + Eq + Drop, E: Drop, II, F
 ) -> Result<(), WalkError<E>>
 where
     II: IntoIterator<Item = Result<T, E>, IntoIter: Drop>,
-    F: Fn(&T) -> ID,
+    F: Fn(&T) -> Result<ID, AllocError>,
     requires id_fn { F.IsAlwaysCallable id_fn.now }
     requires start { Ends II.IntoIterator II.IntoIter.Iterator start }
     requires clones { ClonesAreEqual T.is_clone T.eq }
@@ -183,7 +193,7 @@ where
     requires no_ids { visited.old.keys ≡ [] }
     requires none_waits { waiting.old.items ≡ [] }
     ensures unique { OnOk result (IsUnique T.eq heads.new) }
-    ensures starts { OnOk result (TakesStarts T.eq ID.eq (FnReturnsAt F.Fn id_fn.now)
+    ensures starts { OnOk result (TakesStarts T.eq ID.eq (ReturnsId F.Fn id_fn.now)
         II.into_iter_gives II.IntoIter.next_gives start heads.new visited.new waiting.new.items) }
     ensures failed { IfFails result (FailsAfterNodes II.into_iter_gives II.IntoIter.next_gives
         start) }
@@ -196,7 +206,7 @@ where
         if heads.contains(&node) {
             continue;
         }
-        let id = id_fn(&node);
+        let id = id_fn(&node)?;
         take_start(heads, visited, waiting, node, id)?;
     }
     Ok(())
@@ -213,7 +223,7 @@ fn meet_neighbors<T: Hash + Eq + Drop, ID: Hash + Eq + Drop, E: Drop, NI, F, N>(
 ) -> Result<bool, WalkError<E>>
 where
     NI: IntoIterator<Item = Result<T, E>, IntoIter: Drop>,
-    F: Fn(&T) -> ID,
+    F: Fn(&T) -> Result<ID, AllocError>,
     N: FnMut(&T) -> NI,
     requires graph { CanShow F.Fn N.FnMut NI.IntoIterator NI.IntoIter.Iterator id_fn.now
         neighbors_fn.old }
@@ -223,7 +233,7 @@ where
     ensures unique { OnOk result (IsUnique T.eq heads.new) }
     ensures met { IfOk result (λ empty. (list : NI)
         × CalledAt N.FnMut neighbors_fn.old node.now list neighbors_fn.new
-        × MeetsAll T.eq ID.eq (FnReturnsAt F.Fn id_fn.now) NI.into_iter_gives
+        × MeetsAll T.eq ID.eq (ReturnsId F.Fn id_fn.now) NI.into_iter_gives
         NI.IntoIter.next_gives list heads.old heads.new visited.old visited.new
         waiting.old.items waiting.new.items empty) }
     ensures grows { OnOk result (length waiting.old.items ≤ length waiting.new.items) }
@@ -240,7 +250,7 @@ where
             Ok(neighbor) => neighbor,
             Err(error) => return Err(WalkError::Node(error)),
         };
-        let id = id_fn(&neighbor);
+        let id = id_fn(&neighbor)?;
         meet(heads, visited, waiting, neighbor, id)?;
     }
     Ok(empty)
@@ -256,13 +266,14 @@ fn ask_all<T: Hash + Eq + Drop, ID: Hash + Eq + Drop, E: Drop, NI, F, N>(
 ) -> Result<(), WalkError<E>>
 where
     NI: IntoIterator<Item = Result<T, E>, IntoIter: Drop>,
-    F: Fn(&T) -> ID,
+    F: Fn(&T) -> Result<ID, AllocError>,
     N: FnMut(&T) -> NI,
     requires graph { CanShow F.Fn N.FnMut NI.IntoIterator NI.IntoIter.Iterator id_fn.now
         neighbors_fn.old }
     requires unique { IsUnique T.eq heads.old }
-    ensures { LeavesHeads T.eq ID.eq F.Fn N.FnMut NI.IntoIterator NI.IntoIter.Iterator id_fn.now
-        neighbors_fn.old heads.old visited.old waiting.old.items result heads.new }
+    ensures { LeavesHeads T.eq ID.eq (graph_of_items ID.eq F.Fn N.FnMut NI.IntoIterator
+        NI.IntoIter.Iterator id_fn.now neighbors_fn.old) heads.old visited.old waiting.old.items
+        result heads.new }
 {
     let mut root_met = false;
     let mut level = 0;

@@ -1,15 +1,15 @@
 //! The maximal nodes of a set, where a list of neighbours may fail as a whole.
-ghost use Rattle.std.specs.Prelude.{Result};
-ghost use Rattle.jj_dag.specs.Found.{FindsHeadsOfLists};
+ghost use Rattle.std.specs.Prelude.{IfOk, Result};
+ghost use Rattle.jj_dag.specs.ClosureGraph.{InEachModel, IsInputError, graph_of_lists, list_of};
+ghost use Rattle.jj_dag.specs.Found.{AreHeads};
 ghost use Rattle.jj_dag.specs.ListOrError.{StandsFor};
-ghost use Rattle.jj_dag.specs.Outcomes.{ClonesAreEqual, Ends};
-ghost use Rattle.jj_dag.specs.Owed.{MayShow};
+ghost use Rattle.jj_dag.specs.Outcomes.{ClonesAreEqual, IfFails};
 
 use crate::all_ok::AllOk;
 use crate::list_or_error::as_list_or_error;
 use crate::maximal::heads_ok;
 use crate::walk_error::WalkError;
-use std::alloc::Global;
+use std::alloc::{AllocError, Global};
 use std::collections::HashSet;
 use std::hash::Hash;
 use std::marker::PhantomData;
@@ -24,13 +24,19 @@ pub fn heads<T: Hash + Eq + Clone + Drop, ID: Hash + Eq + Drop, E: Drop, II, NI,
 where
     II: IntoIterator<Item = T, IntoIter: Drop> + Drop,
     NI: IntoIterator<Item = T, IntoIter: Drop>,
-    F: Fn(&T) -> ID + Drop,
+    F: Fn(&T) -> Result<ID, AllocError> + Drop,
     N: FnMut(&T) -> Result<NI, E> + Drop,
-    requires graph { MayShow F.Fn N.FnMut NI.IntoIterator NI.IntoIter.Iterator id_fn neighbors_fn }
-    requires start { Ends II.IntoIterator II.IntoIter.Iterator start }
+    requires graph { (graph_of_lists ID.eq F.Fn N.FnMut NI.IntoIterator NI.IntoIter.Iterator id_fn
+        neighbors_fn).walkable }
+    requires start { (list_of {E = E} II.IntoIterator II.IntoIter.Iterator start).finite }
     requires clones { ClonesAreEqual T.is_clone T.eq }
-    ensures { FindsHeadsOfLists T.eq ID.eq F.Fn N.FnMut NI.IntoIterator NI.IntoIter.Iterator id_fn
-        neighbors_fn II.IntoIterator II.IntoIter.Iterator start result }
+    ensures heads { IfOk result (λ heads. InEachModel
+        (graph_of_lists ID.eq F.Fn N.FnMut NI.IntoIterator NI.IntoIter.Iterator id_fn neighbors_fn)
+        (list_of II.IntoIterator II.IntoIter.Iterator start)
+        (λ g starts. AreHeads T.eq g starts heads.keys)) }
+    ensures error { IfFails result (IsInputError
+        (graph_of_lists ID.eq F.Fn N.FnMut NI.IntoIterator NI.IntoIter.Iterator id_fn neighbors_fn)
+        (list_of II.IntoIterator II.IntoIter.Iterator start)) }
 {
     let start = AllOk {
         items: start.into_iter(),

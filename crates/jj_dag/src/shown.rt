@@ -1,8 +1,8 @@
 //! The closures that show a graph, and all nodes that starts reach by them.
 ghost use Rattle.std.specs.Prelude.{IfOk};
-ghost use Rattle.std.specs.Fn.{FnReturnsAt};
 ghost use Rattle.std.specs.List.{AllZip};
 ghost use Rattle.jj_dag.specs.Asking.{CollectsFrom, ListsNode};
+ghost use Rattle.jj_dag.specs.ClosureGraph.{ReturnsId};
 ghost use Rattle.jj_dag.specs.Owed.{CanShow};
 
 use crate::greatest_order::Collected;
@@ -19,17 +19,18 @@ pub struct Shown<F, N> {
 }
 
 /// The ids of these nodes, in their order.
-pub fn ids_of<T, ID: Drop, F: Fn(&T) -> ID>(
+pub fn ids_of<T, ID: Drop, F: Fn(&T) -> Result<ID, AllocError>>(
     alloc: Global,
     id_fn: &F,
     nodes: &[T],
 ) -> Result<Vec<ID>, AllocError>
     requires { F.IsAlwaysCallable id_fn.now }
-    ensures { IfOk result (λ ids. AllZip (FnReturnsAt F.Fn id_fn.now) nodes.now ids.items) }
+    ensures { IfOk result (λ ids. AllZip (ReturnsId F.Fn id_fn.now) nodes.now ids.items) }
 {
     let mut ids = Vec::new(alloc);
     for node in nodes {
-        ids.push(id_fn(node))?;
+        let id = id_fn(node)?;
+        ids.push(id)?;
     }
     Ok(ids)
 }
@@ -43,7 +44,7 @@ impl<F, N> Shown<F, N> {
     ) -> Result<Vec<T>, WalkError<E>>
     where
         NI: IntoIterator<Item = Result<T, E>, IntoIter: Drop>,
-        F: Fn(&T) -> ID,
+        F: Fn(&T) -> Result<ID, AllocError>,
         N: FnMut(&T) -> NI,
         requires { CanShow F.Fn N.FnMut NI.IntoIterator NI.IntoIter.Iterator self.old.id_fn
             self.old.neighbors_fn }
@@ -62,7 +63,7 @@ impl<F, N> Shown<F, N> {
     ) -> Result<Collected<T, ID>, WalkError<E>>
     where
         NI: IntoIterator<Item = Result<T, E>, IntoIter: Drop>,
-        F: Fn(&T) -> ID,
+        F: Fn(&T) -> Result<ID, AllocError>,
         N: FnMut(&T) -> NI,
         requires { CanShow F.Fn N.FnMut NI.IntoIterator NI.IntoIter.Iterator self.old.id_fn
             self.old.neighbors_fn }
@@ -72,7 +73,7 @@ impl<F, N> Shown<F, N> {
         let mut stack = start;
         let mut found = Collected::new(alloc);
         while let Some(node) = stack.pop() {
-            let id = (self.id_fn)(&node);
+            let id = (self.id_fn)(&node)?;
             if found.index_of.contains_key(&id) {
                 continue;
             }

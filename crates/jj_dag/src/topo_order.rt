@@ -1,13 +1,14 @@
 //! Orders in which each node stands after, or before, its neighbours; the forms `_ok` are over
 //! items that may fail.
-ghost use Rattle.std.specs.Prelude.{IfOk};
-ghost use Rattle.jj_dag.specs.Orders.{FailsOnCycle, GivesPostorder, GivesPostorderFromEnd, FailsOrOnCycle, GivesSoundPostorder, GivesSoundPostorderFromEnd};
-ghost use Rattle.jj_dag.specs.Owed.{CanBeOrdered};
+ghost use Rattle.std.specs.Prelude.{◌⊎◌, IfOk, map, reverse};
+ghost use Rattle.jj_dag.specs.ClosureGraph.{InEachModel, IsCycleError, IsInputError, graph_of, graph_of_items, list_of, list_of_items};
+ghost use Rattle.jj_dag.specs.Orders.{IsWholePostorder};
+ghost use Rattle.jj_dag.specs.Outcomes.{ClonesAreEqual, IfFails};
 
 use crate::all_ok::AllOk;
 use crate::forward::{Stop, walk_forward};
 use crate::walk_error::WalkError;
-use std::alloc::Global;
+use std::alloc::{AllocError, Global};
 use std::convert::Infallible;
 use std::hash::Hash;
 use std::marker::PhantomData;
@@ -24,15 +25,21 @@ pub fn topo_order_forward<T: Drop, ID: Hash + Eq + Clone + Drop, E, II, NI, F, N
 where
     II: IntoIterator<Item = T, IntoIter: Drop> + Drop,
     NI: IntoIterator<Item = T, IntoIter: Drop>,
-    F: Fn(&T) -> ID + Drop,
+    F: Fn(&T) -> Result<ID, AllocError> + Drop,
     N: FnMut(&T) -> NI + Drop,
     C: FnOnce(T) -> E + Drop,
-    requires { CanBeOrdered F.Fn N.FnMut C.FnOnce II.IntoIterator II.IntoIter.Iterator
-        NI.IntoIterator NI.IntoIter.Iterator ID.is_clone ID.eq id_fn neighbors_fn cycle_fn start }
-    ensures order { IfOk result (GivesPostorder ID.eq F.Fn N.FnMut II.IntoIterator
-        II.IntoIter.Iterator NI.IntoIterator NI.IntoIter.Iterator id_fn neighbors_fn start) }
-    ensures cycle { FailsOnCycle result (C.post cycle_fn) ID.eq F.Fn N.FnMut II.IntoIterator
-        II.IntoIter.Iterator NI.IntoIterator NI.IntoIter.Iterator id_fn neighbors_fn start }
+    requires graph { (graph_of ID.eq F.Fn {E = E} N.FnMut NI.IntoIterator NI.IntoIter.Iterator
+        id_fn neighbors_fn).walkable }
+    requires start { (list_of {E = E} II.IntoIterator II.IntoIter.Iterator start).finite }
+    requires clones { ClonesAreEqual ID.is_clone ID.eq }
+    requires cycle_fn { C.IsAlwaysCallable cycle_fn }
+    ensures order { IfOk result (λ v. InEachModel {E = E}
+        (graph_of ID.eq F.Fn N.FnMut NI.IntoIterator NI.IntoIter.Iterator id_fn neighbors_fn)
+        (list_of II.IntoIterator II.IntoIter.Iterator start)
+        (λ g starts. IsWholePostorder g.graph starts (map g.node v.items))) }
+    ensures cycle { IfFails result (IsCycleError {E = E} (C.post cycle_fn)
+        (graph_of ID.eq F.Fn N.FnMut NI.IntoIterator NI.IntoIter.Iterator id_fn neighbors_fn)
+        (list_of II.IntoIterator II.IntoIter.Iterator start)) }
 {
     let start = AllOk {
         items: start.into_iter(),
@@ -69,15 +76,21 @@ pub fn topo_order_reverse<T: Drop, ID: Hash + Eq + Clone + Drop, E, II, NI, F, N
 where
     II: IntoIterator<Item = T, IntoIter: Drop> + Drop,
     NI: IntoIterator<Item = T, IntoIter: Drop>,
-    F: Fn(&T) -> ID + Drop,
+    F: Fn(&T) -> Result<ID, AllocError> + Drop,
     N: FnMut(&T) -> NI + Drop,
     C: FnOnce(T) -> E + Drop,
-    requires { CanBeOrdered F.Fn N.FnMut C.FnOnce II.IntoIterator II.IntoIter.Iterator
-        NI.IntoIterator NI.IntoIter.Iterator ID.is_clone ID.eq id_fn neighbors_fn cycle_fn start }
-    ensures order { IfOk result (GivesPostorderFromEnd ID.eq F.Fn N.FnMut II.IntoIterator
-        II.IntoIter.Iterator NI.IntoIterator NI.IntoIter.Iterator id_fn neighbors_fn start) }
-    ensures cycle { FailsOnCycle result (C.post cycle_fn) ID.eq F.Fn N.FnMut II.IntoIterator
-        II.IntoIter.Iterator NI.IntoIterator NI.IntoIter.Iterator id_fn neighbors_fn start }
+    requires graph { (graph_of ID.eq F.Fn {E = E} N.FnMut NI.IntoIterator NI.IntoIter.Iterator
+        id_fn neighbors_fn).walkable }
+    requires start { (list_of {E = E} II.IntoIterator II.IntoIter.Iterator start).finite }
+    requires clones { ClonesAreEqual ID.is_clone ID.eq }
+    requires cycle_fn { C.IsAlwaysCallable cycle_fn }
+    ensures order { IfOk result (λ v. InEachModel {E = E}
+        (graph_of ID.eq F.Fn N.FnMut NI.IntoIterator NI.IntoIter.Iterator id_fn neighbors_fn)
+        (list_of II.IntoIterator II.IntoIter.Iterator start)
+        (λ g starts. IsWholePostorder g.graph starts (reverse (map g.node v.items)))) }
+    ensures cycle { IfFails result (IsCycleError {E = E} (C.post cycle_fn)
+        (graph_of ID.eq F.Fn N.FnMut NI.IntoIterator NI.IntoIter.Iterator id_fn neighbors_fn)
+        (list_of II.IntoIterator II.IntoIter.Iterator start)) }
 {
     let mut order = topo_order_forward(alloc, start, id_fn, neighbors_fn, cycle_fn)?;
     order.reverse();
@@ -97,15 +110,24 @@ pub fn topo_order_forward_ok<T: Drop, ID: Hash + Eq + Clone + Drop, E: Drop, II,
 where
     II: IntoIterator<Item = Result<T, E>, IntoIter: Drop> + Drop,
     NI: IntoIterator<Item = Result<T, E>, IntoIter: Drop>,
-    F: Fn(&T) -> ID + Drop,
+    F: Fn(&T) -> Result<ID, AllocError> + Drop,
     N: FnMut(&T) -> NI + Drop,
     C: FnOnce(T) -> E + Drop,
-    requires { CanBeOrdered F.Fn N.FnMut C.FnOnce II.IntoIterator II.IntoIter.Iterator
-        NI.IntoIterator NI.IntoIter.Iterator ID.is_clone ID.eq id_fn neighbors_fn cycle_fn start }
-    ensures order { IfOk result (GivesSoundPostorder ID.eq F.Fn N.FnMut II.IntoIterator
-        II.IntoIter.Iterator NI.IntoIterator NI.IntoIter.Iterator id_fn neighbors_fn start) }
-    ensures refused { FailsOrOnCycle result (C.post cycle_fn) ID.eq F.Fn N.FnMut II.IntoIterator
-        II.IntoIter.Iterator NI.IntoIterator NI.IntoIter.Iterator id_fn neighbors_fn start }
+    requires graph { (graph_of_items ID.eq F.Fn N.FnMut NI.IntoIterator NI.IntoIter.Iterator
+        id_fn neighbors_fn).walkable }
+    requires start { (list_of_items II.IntoIterator II.IntoIter.Iterator start).finite }
+    requires clones { ClonesAreEqual ID.is_clone ID.eq }
+    requires cycle_fn { C.IsAlwaysCallable cycle_fn }
+    ensures order { IfOk result (λ v. InEachModel
+        (graph_of_items ID.eq F.Fn N.FnMut NI.IntoIterator NI.IntoIter.Iterator id_fn neighbors_fn)
+        (list_of_items II.IntoIterator II.IntoIter.Iterator start)
+        (λ g starts. IsWholePostorder g.graph starts (map g.node v.items))) }
+    ensures error { IfFails result (λ e. IsInputError
+        (graph_of_items ID.eq F.Fn N.FnMut NI.IntoIterator NI.IntoIter.Iterator id_fn neighbors_fn)
+        (list_of_items II.IntoIterator II.IntoIter.Iterator start) e
+        ⊎ IsCycleError (C.post cycle_fn)
+        (graph_of_items ID.eq F.Fn N.FnMut NI.IntoIterator NI.IntoIter.Iterator id_fn neighbors_fn)
+        (list_of_items II.IntoIterator II.IntoIter.Iterator start) e) }
 {
     match walk_forward(alloc, start, id_fn, neighbors_fn) {
         Ok(order) => Ok(order),
@@ -130,15 +152,24 @@ pub fn topo_order_reverse_ok<T: Drop, ID: Hash + Eq + Clone + Drop, E: Drop, II,
 where
     II: IntoIterator<Item = Result<T, E>, IntoIter: Drop> + Drop,
     NI: IntoIterator<Item = Result<T, E>, IntoIter: Drop>,
-    F: Fn(&T) -> ID + Drop,
+    F: Fn(&T) -> Result<ID, AllocError> + Drop,
     N: FnMut(&T) -> NI + Drop,
     C: FnOnce(T) -> E + Drop,
-    requires { CanBeOrdered F.Fn N.FnMut C.FnOnce II.IntoIterator II.IntoIter.Iterator
-        NI.IntoIterator NI.IntoIter.Iterator ID.is_clone ID.eq id_fn neighbors_fn cycle_fn start }
-    ensures order { IfOk result (GivesSoundPostorderFromEnd ID.eq F.Fn N.FnMut II.IntoIterator
-        II.IntoIter.Iterator NI.IntoIterator NI.IntoIter.Iterator id_fn neighbors_fn start) }
-    ensures refused { FailsOrOnCycle result (C.post cycle_fn) ID.eq F.Fn N.FnMut II.IntoIterator
-        II.IntoIter.Iterator NI.IntoIterator NI.IntoIter.Iterator id_fn neighbors_fn start }
+    requires graph { (graph_of_items ID.eq F.Fn N.FnMut NI.IntoIterator NI.IntoIter.Iterator
+        id_fn neighbors_fn).walkable }
+    requires start { (list_of_items II.IntoIterator II.IntoIter.Iterator start).finite }
+    requires clones { ClonesAreEqual ID.is_clone ID.eq }
+    requires cycle_fn { C.IsAlwaysCallable cycle_fn }
+    ensures order { IfOk result (λ v. InEachModel
+        (graph_of_items ID.eq F.Fn N.FnMut NI.IntoIterator NI.IntoIter.Iterator id_fn neighbors_fn)
+        (list_of_items II.IntoIterator II.IntoIter.Iterator start)
+        (λ g starts. IsWholePostorder g.graph starts (reverse (map g.node v.items)))) }
+    ensures error { IfFails result (λ e. IsInputError
+        (graph_of_items ID.eq F.Fn N.FnMut NI.IntoIterator NI.IntoIter.Iterator id_fn neighbors_fn)
+        (list_of_items II.IntoIterator II.IntoIter.Iterator start) e
+        ⊎ IsCycleError (C.post cycle_fn)
+        (graph_of_items ID.eq F.Fn N.FnMut NI.IntoIterator NI.IntoIter.Iterator id_fn neighbors_fn)
+        (list_of_items II.IntoIterator II.IntoIter.Iterator start) e) }
 {
     let mut order = topo_order_forward_ok(alloc, start, id_fn, neighbors_fn, cycle_fn)?;
     order.reverse();

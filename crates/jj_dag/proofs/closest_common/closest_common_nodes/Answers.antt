@@ -1,12 +1,19 @@
-use Rattle.std.proofs.Common.{◌≡◌}
+use Rattle.std.proofs.Common.{◌≡◌, List, subst, sym}
+use Rattle.jj_dag.specs.Found.{AreClosestNodes}
 use Rattle.jj_dag.specs.Marks.{mark_at, closest_of}
 use Rattle.jj_dag.proofs.closest_common.closest_common_nodes.Goals as goal
 
-pub returns : goal.returns
-returns g c = record {
-  closest =
-      let p = c.in_ok-met.ensures.closest in
-      let left : c.in_ok-closest.field-0.items ≡ closest_of (mark_at g.ID.PartialEq.eq c.in_ok-met.met.known) c.in_ok-met.met.common.items = c.in_ok-closest.ensures in
-      (p.0, p.1, p.2, p.3, λ walk items shown first second acyclic. rw left (p.4 walk items shown first second acyclic));
-  refused = tt;
-}
+pub returns-clause-closest : goal.returns-clause-closest
+returns-clause-closest g c =
+    let p = c.in_ok-met.ensures.closest in
+    let left : c.in_ok-closest.field-0.items ≡ closest_of (mark_at g.ID.PartialEq.eq c.in_ok-met.met.known) c.in_ok-met.met.common.items = c.in_ok-closest.ensures in
+    record {
+      set1 = p.set1;
+      set2 = p.set2;
+      yielded1 = p.yielded1;
+      yielded2 = p.yielded2;
+      holds = λ walk implemented first second acyclic. rw left (p.holds walk implemented first second acyclic);
+    }
+
+pub common_nodes-requires-clause-graph : goal.common_nodes-requires-clause-graph
+common_nodes-requires-clause-graph g c = record { id_fn = c.requires.graph.id_fn; neighbors_fn = c.requires.graph.neighbors_fn; lists = c.requires.graph.lists }

@@ -13,18 +13,22 @@ search-requires-clause-small g c =
 pub returns-in-Err : goal.returns-in-Err
 returns-in-Err g c = record {
   closest = tt;
-  refused =
+  error =
       let one = c.in_ok-mark_all.ensures.marks in
       let two = c.in_ok-mark_all-2.ensures.marks in
       let none : c.new-2.result.entries ≡ [] = c.new-2.ensures.empty in
-      node_weaker c.in-Err.refused _ _ (λ error failed. (
-        one.nodes,
-        two.nodes,
-        one.drained,
-        two.drained,
-        λ walk items shown first second. failed walk items (map walk.node one.nodes) (map walk.node two.nodes) shown first second
-            (sets_marked walk shown.apart shown.ids_stand c.new-waiting.ensures.items (λ i. rw none refl) one.marks two.marks first second),
-      )) c.in-Err.ensures.refused;
+      node_weaker c.in-Err.refused _ _ (λ error failed. record {
+        node = failed.0;
+        fails = failed.1;
+        reached = record {
+          set1 = one.nodes;
+          set2 = two.nodes;
+          yielded1 = one.drained;
+          yielded2 = two.drained;
+          holds = λ walk implemented first second. failed.2 walk (map walk.node one.nodes) (map walk.node two.nodes) implemented first second
+              (sets_marked walk implemented.apart implemented.ids_match c.new-waiting.ensures.items (λ i. rw none refl) one.marks two.marks first second);
+        };
+      }) c.in-Err.ensures.refused;
 }
 
 pub returns-in-Ok : goal.returns-in-Ok
@@ -32,13 +36,14 @@ returns-in-Ok g c = record {
   closest =
       let one = c.in_ok-mark_all.ensures.marks in
       let two = c.in_ok-mark_all-2.ensures.marks in
-      let none : c.new-2.result.entries ≡ [] = c.new-2.ensures.empty in (
-        one.nodes,
-        two.nodes,
-        one.drained,
-        two.drained,
-        λ walk items shown first second. c.in-Ok.ensures.closest walk items (map walk.node one.nodes) (map walk.node two.nodes) shown first second
-            (sets_marked walk shown.apart shown.ids_stand c.new-waiting.ensures.items (λ i. rw none refl) one.marks two.marks first second),
-      );
-  refused = tt;
+      let none : c.new-2.result.entries ≡ [] = c.new-2.ensures.empty in
+      record {
+        set1 = one.nodes;
+        set2 = two.nodes;
+        yielded1 = one.drained;
+        yielded2 = two.drained;
+        holds = λ walk implemented first second. c.in-Ok.ensures.closest walk (map walk.node one.nodes) (map walk.node two.nodes) implemented first second
+            (sets_marked walk implemented.apart implemented.ids_match c.new-waiting.ensures.items (λ i. rw none refl) one.marks two.marks first second);
+      };
+  error = tt;
 }

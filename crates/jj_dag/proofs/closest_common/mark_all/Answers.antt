@@ -1,7 +1,7 @@
 use Rattle.std.proofs.Common.{rules, arith, refl}
 use Rattle.std.proofs.lemmas.List.Elements.{Contains-push}
 use Rattle.jj_dag.specs.Marks.MarksNodes.{none, more}
-use Rattle.jj_dag.proofs.Walking.{returned}
+use Rattle.jj_dag.proofs.ClosureGraphs.{returns_id}
 use Rattle.jj_dag.proofs.closest_common.mark_all.Goals as goal
 
 pub loop-node-init : goal.loop-node-init
@@ -17,7 +17,7 @@ loop-node-preserved g c =
     record {
       can = search rules;
       finite = search rules;
-      marks = more node c.id_fn-id.result before.marks (returned g.F.Fn c.id_fn-id.ensures) (record { marks = done.known; waits = done.waiting });
+      marks = more node c.in_ok-id.id before.marks (returns_id g.F.Fn c.id_fn.ensures c.in_ok-id.was) (record { marks = done.known; waits = done.waiting });
       balance = omega (arith, before.balance, done.balance);
       small = λ h. done.small;
       some = (node, Contains-push c.loop-node.yielded node);

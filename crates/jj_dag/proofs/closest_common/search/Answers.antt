@@ -1,4 +1,4 @@
-use Rattle.std.proofs.Common.{rules, arith, append-nil, ◌≡◌, ℕ, Bool, ◌++◌, ◌∷◌, List, [], map, length, sym, ◌∙◌, ap, subst}
+use Rattle.std.proofs.Common.{rules, arith, append-nil, ◌≡◌, ℕ, Bool, ◌++◌, ◌∷◌, List, [], map, length, refl, sym, ◌∙◌, ap, subst}
 use Rattle.std.specs.BinaryHeap.{heap_items, heap_len}
 use Rattle.std.specs.Bool.{MatchBool}
 use Rattle.std.specs.List.{Contains}
@@ -6,23 +6,22 @@ use Rattle.std.specs.List.Sorted.{IsPermutation}
 use Rattle.std.proofs.lemmas.List.{nil_from_length}
 use Rattle.std.proofs.lemmas.Bool.{and_parts}
 use Rattle.jj_dag.specs.CommonSearch.{reach_of_sets}
-use Rattle.jj_dag.specs.Failing.{AnswersItems, Fault, sound_items, sound as sound_graph}
+use Rattle.jj_dag.specs.ClosureGraph.CallsLead.{none}
 use Rattle.jj_dag.specs.Marks.{mark_at}
-use Rattle.jj_dag.proofs.Calling.{shown_after}
 use Rattle.jj_dag.proofs.ClosestCommon.{asks, closest_at_end, ends, ends_early, hands_over, ids_more, started_holds, was_reached}
+use Rattle.jj_dag.proofs.ClosureGraphs.{implements_after, leads_on, returns_id}
 use Rattle.jj_dag.proofs.Errors.{node_weaker}
-use Rattle.jj_dag.proofs.FailingOrders.{ReachedFrom-same, sound_items-nodes, failed_list}
 use Rattle.jj_dag.proofs.Heads.{Contains-map}
 use Rattle.jj_dag.proofs.Marking.{all_handed}
-use Rattle.jj_dag.proofs.Walking.{returned}
 use Rattle.jj_dag.proofs.closest_common.search.Goals as goal
 
 pub loop-node-init : goal.loop-node-init
 loop-node-init g c = record {
-  graph = c.requires.graph;
+  can = c.requires.graph;
+  calls = none;
   small = c.requires.small;
-  walking = λ walk items set1 set2 shown first second start. (
-    shown,
+  walking = λ walk set1 set2 implemented first second start. (
+    implemented,
     (reach_of_sets set1 set2, started_holds walk set1 set2 (heap_items c.args.waiting.now) c.args.met.now.common.items (mark_at g.ID.PartialEq.eq c.args.met.now.known) c.requires.none start),
   );
 }
@@ -31,24 +30,23 @@ pub loop-node-preserved : goal.loop-node-preserved
 loop-node-preserved g c =
     let before = c.loop-node.invariant in
     let node = c.in-Some.node in
-    let id = c.id_fn-id.result in
+    let id = c.in_ok-id.id in
     let popped : IsPermutation (heap_items c.loop-node.waiting) (node ∷ heap_items c.pop.new.self) = c.in-Some.ensures.permutation in
     let did = c.in-Ok.ensures.marks in
     let marked = did.2 in
     let nodes = marked.nodes in
     record {
-      graph = c.mark_neighbors.ensures.graph;
+      can = c.mark_neighbors.ensures.graph;
+      calls = leads_on before.calls did.1;
       small = c.in-Ok.ensures.small (omega (arith, c.ask-reach.ensures.sides, before.small));
-      walking = λ walk items set1 set2 shown first second start.
-          let known = before.walking walk items set1 set2 shown first second start in
+      walking = λ walk set1 set2 implemented first second start.
+          let known = before.walking walk set1 set2 implemented first second start in
           let held = known.1.1 in
-          let at = asks walk g.ID.PartialEq.eq (mark_at g.ID.PartialEq.eq c.ask-reach.new.known) node id c.ask-reach.result shown.closed shown.apart first second held popped
-          (λ here. shown.ids_stand node id here (returned g.F.Fn c.id_fn-id.ensures)) c.ask-reach.ensures.reach c.ask-reach.ensures.known in
-          let turn = shown_after walk items g.ID.PartialEq.eq g.F.Fn g.N.FnMut (AnswersItems walk.node g.NI.IntoIterator.into_iter_gives g.NI.IntoIter.Iterator.next_gives) known.0 did.1 in
-          let whole = (turn.1 at.0) nodes marked.drained in
-          let listed : map walk.node nodes ≡ walk.graph (walk.node node) =
-          sym (shown.sound_graph (walk.node node) ∙ ap sound_items whole ∙ sound_items-nodes (Fault g.row.E.Denot) walk.node nodes) in
-          let inner = all_handed walk set1 set2 known.1.0 (walk.node node) c.ask-reach.result c.loop-node.met.common.items c.loop-node.root_met [] shown.apart shown.ids_stand shown.closed
+          let at = asks walk g.ID.PartialEq.eq (mark_at g.ID.PartialEq.eq c.ask-reach.new.known) node id c.ask-reach.result implemented.closed implemented.apart first second held popped
+          (λ here. implemented.ids_match node id here (returns_id g.F.Fn c.id_fn.ensures c.in_ok-id.was)) c.ask-reach.ensures.reach c.ask-reach.ensures.known in
+          let turn = implements_after walk g.ID.PartialEq.eq g.F.Fn g.N.FnMut _ known.0 did.1 in
+          let listed : map walk.node nodes ≡ walk.graph (walk.node node) = turn.1 nodes at.0 marked.drained in
+          let inner = all_handed walk set1 set2 known.1.0 (walk.node node) c.ask-reach.result c.loop-node.met.common.items c.loop-node.root_met [] implemented.apart implemented.ids_match implemented.closed
           (rw c.handed_on-above.ensures at marked.marks) at.0 at.2 (append-nil (map walk.node nodes) ∙ listed) in (
             turn.0,
             (
@@ -65,48 +63,49 @@ loop-node-preserved g c =
 pub returns-in-Err : goal.returns-in-Err
 returns-in-Err g c = record {
   closest = tt;
-  refused = node_weaker c.in-Err.refused _ _ (λ error called. λ walk items set1 set2 shown first second start.
+  refused = node_weaker c.in-Err.refused _ _ (λ error called.
       let node = c.in-Some.node in
-      let popped : IsPermutation (heap_items c.loop-node.waiting) (node ∷ heap_items c.pop.new.self) = c.in-Some.ensures.permutation in
-      let known = c.loop-node.invariant.walking walk items set1 set2 shown first second start in
-      let at = was_reached walk (heap_items c.pop.new.self) node shown.closed first second known.1.1 popped in
-      let turn = shown_after walk items g.ID.PartialEq.eq g.F.Fn g.N.FnMut (AnswersItems walk.node g.NI.IntoIterator.into_iter_gives g.NI.IntoIter.Iterator.next_gives) known.0 called in
-      let one = failed_list (items (walk.node node)) error (turn.1 at.1) in
-      (walk.node node, one.0, ReachedFrom-same walk.graph (sound_graph items) shown.sound_graph _ (walk.node node) at.0, one.1, one.2)) c.in-Err.ensures.refused;
+      let popped : IsPermutation (heap_items c.loop-node.waiting) (node ∷ heap_items c.pop.new.self) = c.in-Some.ensures.permutation in (
+        node,
+        (_, (c.loop-node.neighbors_fn, c.mark_neighbors.new.neighbors_fn, c.loop-node.invariant.calls, called), refl),
+        λ walk set1 set2 implemented first second start.
+            let known = c.loop-node.invariant.walking walk set1 set2 implemented first second start in
+            (was_reached walk (heap_items c.pop.new.self) node implemented.closed first second known.1.1 popped).0,
+      )) c.in-Err.ensures.refused;
 }
 
 pub returns-then-not-root_met : goal.returns-then-not-root_met
 returns-then-not-root_met g c = record {
   closest =
       let node = c.in-Some.node in
-      let id = c.id_fn-id.result in
+      let id = c.in_ok-id.id in
       let popped : IsPermutation (heap_items c.loop-node.waiting) (node ∷ heap_items c.pop.new.self) = c.in-Some.ensures.permutation in
       let more : c.push.new.self.items ≡ c.loop-node.met.common.items ++ (node, id) ∷ [] = c.in_ok-push.ensures.items in
       let ok = c.pop.new.self.data.ok in
-      let none : heap_len c.pop.new.self ≡ 0 = search rules in
-      let nothing : length c.pop.new.self.data.items ≡ 0 = omega (arith, ok, none) in
+      let left : heap_len c.pop.new.self ≡ 0 = search rules in
+      let nothing : length c.pop.new.self.data.items ≡ 0 = omega (arith, ok, left) in
       let empty : heap_items c.pop.new.self ≡ [] = nil_from_length _ nothing in
-      λ walk items set1 set2 shown first second start acyclic.
-      let known = c.loop-node.invariant.walking walk items set1 set2 shown first second start in
+      λ walk set1 set2 implemented first second start acyclic.
+      let known = c.loop-node.invariant.walking walk set1 set2 implemented first second start in
       let held = known.1.1 in
-      let at = asks walk g.ID.PartialEq.eq (mark_at g.ID.PartialEq.eq c.ask-reach.new.known) node id c.ask-reach.result shown.closed shown.apart first second held popped
-      (λ here. shown.ids_stand node id here (returned g.F.Fn c.id_fn-id.ensures)) c.ask-reach.ensures.reach c.ask-reach.ensures.known in
+      let at = asks walk g.ID.PartialEq.eq (mark_at g.ID.PartialEq.eq c.ask-reach.new.known) node id c.ask-reach.result implemented.closed implemented.apart first second held popped
+      (λ here. implemented.ids_match node id here (returns_id g.F.Fn c.id_fn.ensures c.in_ok-id.was)) c.ask-reach.ensures.reach c.ask-reach.ensures.known in
       let end = ends_early walk node id at.2 empty (and_parts _ _ (sym c.is_common.ensures ∙ c.if-is_common.true)) c.if-not-root_met.true in
       rw more (closest_at_end walk (walk.node node ∷ []) (map (λ entry. walk.node entry.0) c.loop-node.met.common.items) (c.loop-node.met.common.items ++ (node, id) ∷ []) end at.2.marks
-      (ids_more walk c.loop-node.met.common.items node id held.ids at.1) shown.closed first acyclic);
+      (ids_more walk c.loop-node.met.common.items node id held.ids at.1) implemented.closed first acyclic);
   refused = tt;
 }
 
 pub returns : goal.returns
 returns g c = record {
   closest =
-      let none : c.loop-node.waiting.data.len ≡ 0 = c.in_default.ensures.none in
+      let left : c.loop-node.waiting.data.len ≡ 0 = c.in_default.ensures.none in
       let ok = c.loop-node.waiting.data.ok in
       let nothing : length c.loop-node.waiting.data.items ≡ 0 = omega arith in
       let empty : heap_items c.loop-node.waiting ≡ [] = nil_from_length _ nothing in
-      λ walk items set1 set2 shown first second start acyclic.
-      let known = c.loop-node.invariant.walking walk items set1 set2 shown first second start in
+      λ walk set1 set2 implemented first second start acyclic.
+      let known = c.loop-node.invariant.walking walk set1 set2 implemented first second start in
       let held = known.1.1 in
-      closest_at_end walk [] (map (λ entry. walk.node entry.0) c.loop-node.met.common.items) c.loop-node.met.common.items (ends walk held empty) held.marks held.ids shown.closed first acyclic;
+      closest_at_end walk [] (map (λ entry. walk.node entry.0) c.loop-node.met.common.items) c.loop-node.met.common.items (ends walk held empty) held.marks held.ids implemented.closed first acyclic;
   refused = tt;
 }

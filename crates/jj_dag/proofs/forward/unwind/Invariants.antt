@@ -1,21 +1,22 @@
 use Rattle.std.proofs.Common.{◌+◌, ◌-◌, ◌*◌, ◌^◌, length}
 use Rattle.std.specs.HashSet.{contains, hash_set_len}
-use Rattle.jj_dag.specs.Failing.{ShowsItems}
+use Rattle.jj_dag.specs.ClosureGraph.{CallsLead, graph_of_items}
 use Rattle.jj_dag.specs.Owed.{CanShow}
 use Rattle.jj_dag.specs.Stops.{FromStack}
-use Rattle.jj_dag.proofs.FailingOrders.{NoneFails}
-use Rattle.jj_dag.proofs.Unwinding.{IsUnwinding, from_top, visited_above}
+use Rattle.jj_dag.proofs.Unwinding.{IsUnwinding, from_top}
 use Rattle.jj_dag.proofs.Walking.{numbers}
 use Rattle.jj_dag.proofs.forward.unwind.Given as goal
 
 abbrev pub invariant-loop-node : goal.invariant-loop-node
-invariant-loop-node g l = record {
-  graph : CanShow g.F.Fn g.N.FnMut g.NI.IntoIterator g.NI.IntoIter.Iterator l.id_fn l.neighbors_fn;
-  walking : FromStack g.ID.PartialEq.eq g.F.Fn g.N.FnMut g.NI.IntoIterator g.NI.IntoIter.Iterator l.id_fn l.initial.neighbors_fn l.initial.stack.items (λ walk items nodes.
-      ShowsItems walk items g.ID.PartialEq.eq g.F.Fn g.N.FnMut g.NI.IntoIterator.into_iter_gives g.NI.IntoIter.Iterator.next_gives l.id_fn l.neighbors_fn
-      × IsUnwinding walk nodes (contains g.ID.PartialEq.eq l.visiting) (contains g.ID.PartialEq.eq l.emitted) (from_top walk l.stack.items) (numbers walk l.given.items)
-      × NoneFails items (numbers walk l.given.items) × NoneFails items (visited_above (from_top walk l.stack.items)));
-}
+invariant-loop-node g l =
+    let graph = graph_of_items g.ID.PartialEq.eq g.F.Fn g.N.FnMut g.NI.IntoIterator g.NI.IntoIter.Iterator l.id_fn in
+    record {
+      can : CanShow g.F.Fn g.N.FnMut g.NI.IntoIterator g.NI.IntoIter.Iterator l.id_fn l.neighbors_fn;
+      calls : CallsLead g.N.FnMut l.initial.neighbors_fn l.neighbors_fn;
+      walking : FromStack (graph l.initial.neighbors_fn) l.initial.stack.items (λ walk nodes.
+          (graph l.neighbors_fn).implements walk
+          × IsUnwinding walk nodes (contains g.ID.PartialEq.eq l.visiting) (contains g.ID.PartialEq.eq l.emitted) (from_top walk l.stack.items) (numbers walk l.given.items));
+    }
 
 abbrev pub decreases-loop-node : goal.decreases-loop-node
 decreases-loop-node g l = (2 ^ 65 - (hash_set_len l.visiting + length l.given.items)) * 2 ^ 64 + length l.stack.items

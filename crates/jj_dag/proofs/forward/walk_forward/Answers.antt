@@ -10,9 +10,9 @@ returns-in-Ok g c =
     let waits : c.push_all.new.stack.items ≡ map (λ x. (x, false)) k.0 = k.2 ∙ ap (λ l. l ++ map (λ x. (x, false)) k.0) c.new-stack.ensures.items in
     let drained : DrainsTo g.II.IntoIterator.into_iter_gives g.II.IntoIter.Iterator.next_gives c.args.start (map (λ x. Ok x) k.0) = (c.into_iter.result, c.into_iter.ensures.into_iter_gives, k.1) in
     record {
-      order = IfOk-weaker c.unwind.result _ _ (λ v from. (k.0, drained, from k.0 waits)) c.unwind.ensures.order;
-      failed = IfErr-weaker c.unwind.result _ _ (λ stop. failed_weaker stop _ _ (λ error from. inr (k.0, drained, from k.0 waits))) c.unwind.ensures.failed;
-      cycle = IfErr-weaker c.unwind.result _ _ (λ stop. cycle_weaker stop _ _ (λ x from. (k.0, drained, from k.0 waits))) c.unwind.ensures.cycle;
+      order = IfOk-weaker c.unwind.result _ _ (λ v from. record { starts = k.0; yielded = drained; holds = from k.0 waits }) c.unwind.ensures.order;
+      failed = IfErr-weaker c.unwind.result _ _ (λ stop. failed_weaker stop _ _ (λ error from. inr (record { node = from.0; fails = from.1; reached = record { starts = k.0; yielded = drained; holds = from.2 k.0 waits } }))) c.unwind.ensures.failed;
+      cycle = IfErr-weaker c.unwind.result _ _ (λ stop. cycle_weaker stop _ _ (λ x from. record { starts = k.0; yielded = drained; holds = from k.0 waits })) c.unwind.ensures.cycle;
     }
 
 pub returns : goal.returns

@@ -1,12 +1,10 @@
-use Rattle.std.proofs.Common.{arith, append-nil, ◌≡◌, ℕ, ◌≤◌, Bool, true, ◌∷◌, List, [], length, refl, sym, ◌∙◌, ap, subst, map, Ok}
+use Rattle.std.proofs.Common.{arith, append-nil, ◌≡◌, ℕ, ◌≤◌, Bool, true, ◌∷◌, List, [], length, refl, sym, ◌∙◌, ap, subst}
 use Rattle.std.specs.Bool.{MatchBool}
 use Rattle.std.specs.HashSet.{hash_set_len}
 use Rattle.std.specs.List.{Contains}
-use Rattle.jj_dag.specs.Failing.{Fault, ListsItems, sound_items}
-use Rattle.jj_dag.proofs.Calling.{shown_after}
+use Rattle.jj_dag.specs.ClosureGraph.CallsLead.{none}
+use Rattle.jj_dag.proofs.ClosureGraphs.{implements_after, leads_on}
 use Rattle.jj_dag.proofs.Errors.{node_weaker}
-use Rattle.jj_dag.proofs.FailingOrders.{reaches_failed, sound_items-nodes}
-use Rattle.jj_dag.proofs.FailingWalks.{AreItems-nodes}
 use Rattle.jj_dag.proofs.Heads.{Contains-map, holds_asked, holds_maximal, no_root_waits, one_waits, search_falls, started_holds, starts_reached, still_reached}
 use Rattle.jj_dag.proofs.Meeting.{all_met, all_waiting}
 use Rattle.jj_dag.proofs.Plain.{neither}
@@ -15,9 +13,10 @@ use Rattle.jj_dag.proofs.maximal.ask_all.Goals as goal
 
 pub loop-node-init : goal.loop-node-init
 loop-node-init g c = record {
-  graph = c.requires.graph;
+  can = c.requires.graph;
   unique = c.requires.unique;
-  walking = λ walk items xs shown nodes among started. (shown, starts_reached walk xs c.args.waiting.now.items nodes among, λ stands. ([], started_holds walk nodes (started stands)));
+  calls = none;
+  walking = λ walk xs implemented nodes among started. (implemented, starts_reached walk xs c.args.waiting.now.items nodes among, λ stands. ([], started_holds walk nodes (started stands)));
 }
 
 pub loop-node-preserved : goal.loop-node-preserved
@@ -29,21 +28,20 @@ loop-node-preserved g c =
     let meets = did.2 in
     let ys = meets.nodes in
     record {
-      graph = c.in-Ok.ensures.graph;
+      can = c.in-Ok.ensures.graph;
       unique = c.in-Ok.ensures.unique;
-      walking = λ walk items xs shown nodes among started.
-          let known = before.walking walk items xs shown nodes among started in
-          let turn = shown_after walk items g.ID.PartialEq.eq g.F.Fn g.N.FnMut (ListsItems walk.node g.NI.IntoIterator.into_iter_gives g.NI.IntoIter.Iterator.next_gives) known.0 did.1 in
+      calls = leads_on before.calls did.1;
+      walking = λ walk xs implemented nodes among started.
+          let known = before.walking walk xs implemented nodes among started in
+          let turn = implements_after walk g.ID.PartialEq.eq g.F.Fn g.N.FnMut _ known.0 did.1 in
           let reached = rw popped at known.1 in
-          let whole = AreItems-nodes walk.node ys (items (walk.node node)) ((turn.1 (reached (walk.node node) (0, omega arith, refl)).0).whole (map (λ x. Ok x) ys) meets.drained) in
-          let listed : numbers walk ys ≡ walk.graph (walk.node node) =
-          sym (sound_items-nodes (Fault g.row.E.Denot) walk.node ys) ∙ ap sound_items (sym whole) ∙ sym (shown.sound_graph (walk.node node)) in (
+          let listed : numbers walk ys ≡ walk.graph (walk.node node) = turn.1 ys (reached (walk.node node) (0, omega arith, refl)).0 meets.drained in (
             turn.0,
-            still_reached walk (numbers walk xs) node c.next_to_ask.new.waiting.items c.meet_neighbors.new.waiting.items ys (all_waiting meets.met) listed shown.closed reached,
+            still_reached walk (numbers walk xs) node c.next_to_ask.new.waiting.items c.meet_neighbors.new.waiting.items ys (all_waiting meets.met) listed implemented.closed reached,
             λ stands.
                 let search = known.2 stands in
                 let held = rw popped at search.1 in
-                let inner = all_met walk (numbers walk xs) search.0 c.loop-node.root_met (walk.node node) [] stands (record { apart = shown.apart; ids_stand = shown.ids_stand }) shown.closed meets.met held
+                let inner = all_met walk (numbers walk xs) search.0 c.loop-node.root_met (walk.node node) [] stands (record { apart = implemented.apart; ids_stand = implemented.ids_match }) implemented.closed meets.met held
                 (append-nil (numbers walk ys) ∙ listed) in (
                   inner.0,
                   holds_asked walk (numbers walk c.meet_neighbors.new.waiting.items) _ (walk.node node) inner.1
@@ -69,13 +67,15 @@ loop-node-smaller g c =
 pub returns-in-Err : goal.returns-in-Err
 returns-in-Err g c = record {
   found = tt;
-  refused = node_weaker c.in-Err.refused _ _ (λ error did. λ walk items xs shown nodes among started.
+  refused = node_weaker c.in-Err.refused _ _ (λ error did.
       let node = c.in-Some.node in
-      let popped : c.loop-node.waiting.items ≡ node ∷ c.next_to_ask.new.waiting.items = c.in-Some.ensures.first in
-      let known = c.loop-node.invariant.walking walk items xs shown nodes among started in
-      let reached = (rw popped at known.1) (walk.node node) (0, omega arith, refl) in
-      let turn = shown_after walk items g.ID.PartialEq.eq g.F.Fn g.N.FnMut (ListsItems walk.node g.NI.IntoIterator.into_iter_gives g.NI.IntoIter.Iterator.next_gives) known.0 did.1 in
-      reaches_failed walk.node _ _ _ walk.graph items (numbers walk xs) (walk.node node) did.2.0 error shown.sound_graph reached.1 (turn.1 reached.0) did.2.1) c.in-Err.ensures.refused;
+      let popped : c.loop-node.waiting.items ≡ node ∷ c.next_to_ask.new.waiting.items = c.in-Some.ensures.first in (
+        node,
+        (did.0, (c.loop-node.neighbors_fn, c.meet_neighbors.new.neighbors_fn, c.loop-node.invariant.calls, did.1), (_, did.2.1)),
+        λ walk xs implemented nodes among started.
+            let known = c.loop-node.invariant.walking walk xs implemented nodes among started in
+            ((rw popped at known.1) (walk.node node) (0, omega arith, refl)).1,
+      )) c.in-Err.ensures.refused;
 }
 
 pub returns : goal.returns
@@ -83,8 +83,8 @@ returns g c = record {
   found =
       let short : length c.loop-node.waiting.items ≤ 1 = c.in_default.ensures.few in
       let none : c.loop-node.root_met ≡ true → c.loop-node.waiting.items ≡ [] = c.in_default.ensures.rootless in
-      λ walk items xs shown nodes among started acyclic stands.
-      let search = (c.loop-node.invariant.walking walk items xs shown nodes among started).2 stands in
+      λ walk xs implemented nodes among started acyclic stands.
+      let search = (c.loop-node.invariant.walking walk xs implemented nodes among started).2 stands in
       holds_maximal walk g.T.PartialEq.eq xs search.1 stands c.loop-node.invariant.unique
       (one_waits walk c.loop-node.waiting.items short) (no_root_waits walk c.loop-node.waiting.items c.loop-node.root_met none) acyclic;
   refused = tt;

@@ -3,7 +3,8 @@ use Rattle.std.proofs.lemmas.Fn.{called_at}
 use Rattle.std.proofs.lemmas.List.Elements.{Contains-push}
 use Rattle.jj_dag.specs.HeadsSearch.MeetsNodes.{none, more}
 use Rattle.jj_dag.proofs.FailingOrders.{begins_failed, drained_nodes, ok-push}
-use Rattle.jj_dag.proofs.Walking.{AlwaysReturns-call, returned}
+use Rattle.jj_dag.proofs.ClosureGraphs.{returns_id}
+use Rattle.jj_dag.proofs.Walking.{AlwaysReturns-call}
 use Rattle.jj_dag.proofs.maximal.meet_neighbors.Goals as goal
 
 pub loop-neighbor-init : goal.loop-neighbor-init
@@ -27,7 +28,7 @@ loop-neighbor-preserved g c =
       sound = (
         sound.0 ++ y ∷ [],
         ap (λ x. c.loop-neighbor.yielded ++ x ∷ []) is ∙ ok-push c.loop-neighbor.yielded sound.0 y sound.1,
-        more y c.id_fn-id.result sound.2 (returned g.F.Fn c.id_fn-id.ensures) (record { keys = did.keys; leaves = did.heads; visits = did.visited; known = did.known; new = did.new }),
+        more y c.in_ok-id.id sound.2 (returns_id g.F.Fn c.id_fn.ensures c.in_ok-id.was) (record { keys = did.keys; leaves = did.heads; visits = did.visited; known = did.known; new = did.new }),
         (y, Contains-push sound.0 y),
       );
     }

@@ -2,8 +2,9 @@ use Rattle.std.proofs.Common.{rules, ◌≡◌, ◌++◌, ◌∷◌, [], refl, s
 use Rattle.std.specs.HashSet.{contains}
 use Rattle.std.proofs.lemmas.List.Elements.{Contains-append_left, Contains-push}
 use Rattle.jj_dag.proofs.FailingOrders.{begins_failed, drained_nodes, ok-push}
+use Rattle.jj_dag.proofs.ClosureGraphs.{returns_id}
 use Rattle.jj_dag.proofs.Heads.{none_contained, put_for, start_waits, started_again, started_new, started_none}
-use Rattle.jj_dag.proofs.Walking.{numbers, numbers-push, returned}
+use Rattle.jj_dag.proofs.Walking.{numbers, numbers-push}
 use Rattle.jj_dag.proofs.maximal.take_starts.Goals as goal
 
 pub loop-item-init : goal.loop-item-init
@@ -59,9 +60,9 @@ loop-item-preserved g c =
             let split = numbers-push walk before.0 node in
             let here = nodes (walk.node node) (rw split (Contains-push (numbers walk before.0) (walk.node node))) in
             rw (split, more, numbers-push walk c.loop-item.waiting.items node) (started_new walk g.T.PartialEq.eq g.ID.PartialEq.eq
-            c.take_start.new.heads.keys (contains g.T.PartialEq.eq c.take_start.new.heads) (contains g.ID.PartialEq.eq c.take_start.new.visited) node c.id_fn-id.result stands knows.apart
+            c.take_start.new.heads.keys (contains g.T.PartialEq.eq c.take_start.new.heads) (contains g.ID.PartialEq.eq c.take_start.new.visited) node c.in_ok-id.id stands knows.apart
             (before.3 walk knows stands (λ a h. nodes a (rw split (Contains-append_left (numbers walk before.0) (walk.node node ∷ []) a h))))
-            here (knows.ids_stand node c.id_fn-id.result here (returned g.F.Fn c.id_fn-id.ensures))
+            here (knows.ids_stand node c.in_ok-id.id here (returns_id g.F.Fn c.id_fn.ensures c.in_ok-id.was))
             (put_for walk stands c.loop-item.heads.keys c.take_start.new.heads.keys node here did.keys) did.heads did.visited.0),
       );
     }
@@ -90,8 +91,8 @@ drop-item-iterator-requires g c κs within = search rules
 pub loop-item-smaller-then-contains : goal.loop-item-smaller-then-contains
 loop-item-smaller-then-contains g c = search rules
 
-pub id_fn-id-requires : goal.id_fn-id-requires
-id_fn-id-requires g c = search rules
+pub id_fn-requires : goal.id_fn-requires
+id_fn-requires g c = search rules
 
 pub take_start-requires : goal.take_start-requires
 take_start-requires g c = record { clones = c.requires.clones }

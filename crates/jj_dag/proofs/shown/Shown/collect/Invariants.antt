@@ -1,8 +1,7 @@
 use Rattle.std.proofs.Common.{map}
 use Rattle.std.specs.HashMap.{get}
 use Rattle.jj_dag.specs.Collecting.{IsCollecting, IsFilled}
-use Rattle.jj_dag.specs.Asking.{GoesOn}
-use Rattle.jj_dag.specs.Outcomes.{InItems}
+use Rattle.jj_dag.specs.Asking.{GoesOn, InModels, whole}
 use Rattle.jj_dag.proofs.Walking.{left}
 use Rattle.jj_dag.proofs.shown.Shown.collect.Given as goal
 
@@ -10,8 +9,8 @@ abbrev pub invariant-loop-node : goal.invariant-loop-node
 invariant-loop-node g l = record {
   graph : GoesOn g.ID.PartialEq.eq g.F.Fn g.N.FnMut g.NI.IntoIterator g.NI.IntoIter.Iterator l.initial.self l.self;
   found : (filled : IsFilled g.ID.PartialEq.eq l.found)
-      × InItems g.ID.PartialEq.eq g.F.Fn g.N.FnMut g.NI.IntoIterator g.NI.IntoIter.Iterator l.initial.self.id_fn l.initial.self.neighbors_fn l.fn.start.items (λ walk shown nodes.
-      IsCollecting walk shown nodes (get g.ID.PartialEq.eq l.found.index_of) l.stack.items filled.given (map (λ v. v.items) l.found.neighbor_ids.items));
+      × InModels g.ID.PartialEq.eq g.F.Fn g.N.FnMut g.NI.IntoIterator g.NI.IntoIter.Iterator l.initial.self l.fn.start.items (λ walk nodes.
+      IsCollecting walk (whole walk) nodes (get g.ID.PartialEq.eq l.found.index_of) l.stack.items filled.given (map (λ v. v.items) l.found.neighbor_ids.items));
 }
 
 abbrev pub decreases-loop-node : goal.decreases-loop-node
