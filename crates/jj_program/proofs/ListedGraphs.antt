@@ -1,6 +1,6 @@
--- Listed graphs: cycles, and sorted results of walks.
+-- Graphs whose edges a map lists: where their cycles lie, and their maximal nodes in ascending order.
 use Rattle.std.proofs.Common.{◌≡◌, ◌∙◌, Iter, ℕ, ◌<◌, List, [], ◌∷◌, length, get_or, Result, Ok, Err, None, ap, refl, sym, arith, eqb, map}
-use Rattle.std.specs.Prelude.{IsOkAnd, ◌++◌}
+use Rattle.std.specs.Prelude.{◌++◌}
 use Rattle.std.specs.Iterator.{YieldsFirst}
 use Rattle.std.specs.declared.iter.Copied.{Copied}
 use Rattle.std.specs.Iterator.Adapters.{copied_source}
@@ -21,7 +21,7 @@ use Rattle.std.proofs.lemmas.List.Sorted.{Contains-permutation, IsPermutation-sy
 use Rattle.std.proofs.lemmas.Map.Keys.{IsDistinct-IsPermutation, IsStrictlyIncreasing-from_distinct}
 use Rattle.jj_dag.specs.CommonNodes.{AreClosestCommon}
 use Rattle.jj_dag.specs.Graph.{Graph, HasNoCycle, IsMaximalIn}
-use Rattle.jj_dag.specs.Failing.{Fault, AreItems, AnswersItems, BeginsWith, ListsItems, sound_items}
+use Rattle.jj_dag.specs.Failing.{BeginsWith}
 use Rattle.jj_dag.proofs.FailingWalks.{begun_are}
 use Rattle.jj_program.specs.declared.graph_walks.SoundIds.{SoundIds}
 use Rattle.jj_program.specs.SoundIds.{sound_left}
@@ -30,50 +30,20 @@ use Rattle.jj_dag.proofs.Walking.{drained_are, eqb-flip, Contains-from_has}
 use Rattle.jj_program.specs.Neighbors.{listed_in, HoldsNeighbors}
 use Rattle.jj_program.specs.GraphCommand.{HasCycle}
 
--- if no id reaches a cycle, the graph is acyclic
+-- where none of the ids reaches a cycle, there is none
 pub none_listed : (graph : Graph) (ids : List ℕ) → HoldsNeighbors graph ids → HasNoCycle graph ids → HasCycle graph → ⊥
 none_listed graph ids held none (id, (steps, (next, edge, way))) =
     none id (next, Contains-from_has ids next (held id next edge), (steps, way)) (steps, (next, edge, way))
 
--- in an acyclic graph no node reaches a cycle
+-- where there is no cycle, no nodes reach one
 pub none_reached : (graph : Graph) (starts : List ℕ) → (HasCycle graph → ⊥) → HasNoCycle graph starts
 none_reached graph starts none a reached cycle = none (a, cycle)
 
--- lists without errors
-pub sound_neighbors : (E : Type 0) (ids : List ℕ) → ids ≡ sound_items {K = E} (map (λ id. Ok id) ids)
-sound_neighbors E [] = refl
-sound_neighbors E (id ∷ ids) = ap (λ l. id ∷ l) (sound_neighbors E ids)
-
--- no item is an error
-pub none_failed : (E : Type 0) (ids : List ℕ) (e : E) → Contains (map (λ id. Ok id) ids) (Err e) → ⊥
-none_failed E ids e (k, within, is) =
-    let sound_item : ℕ → Result ℕ E = λ id. Ok id in
-    let inside : k < length ids = omega (arith, length-map ids sound_item) in
-    let sound : get_or (map sound_item ids) k (Err e) ≡ Ok (get_or ids k 0) = get_or-map sound_item ids k 0 (Err e) inside in
-    let both : Ok (get_or ids k 0) ≡ Err e = sym sound ∙ is in cc
-
--- the items of a copied slice iterator
+-- ids that an iterator over a slice copies
 pub copied_ids : (value : Copied (Iter ℕ)) (xs ids : List ℕ) → iter_rest (copied_source value) ≡ ids → DrainsTo (λ s t. t ≡ s) (copies fronts) value xs → map (λ x. x) xs ≡ ids
 copied_ids value xs ids rest d = drained_are (λ s t. t ≡ s) (copies fronts) value xs (λ x. x) ids (λ it b. YieldsList-from_copied (YieldsList-from_slice ids (ap (λ s. iter_rest (copied_source s)) b ∙ rest))) d
 
--- draining such an iterator
-pub lists_neighbors : (r : Result (Copied (Iter ℕ)) ℕ) (ids : List ℕ) → IsOkAnd r (λ list. iter_rest (copied_source list) ≡ ids)
-    → AnswersItems (λ x. x) (λ s t. t ≡ s) (copies fronts) r (map (λ id. Ok id) ids)
-lists_neighbors (Ok list) ids rest = λ xs d. ap (map {B = Result ℕ (Fault ℕ)} (λ id. Ok id)) (sym (copied_ids list xs ids rest d) ∙ map-id xs)
-lists_neighbors (Err e) ids none = absurd none
-
--- ids in the fallible form are the nodes with these numbers
-are_sound : (xs : List (Result ℕ ℕ)) (ids : List ℕ) → map (λ x. x) xs ≡ map (λ id. Ok id) ids → AreItems (λ x. x) xs (map (λ id. Ok id) ids)
-are_sound [] [] e = tt
-are_sound [] (id ∷ ids) e = absurd cc
-are_sound (x ∷ xs) [] e = absurd cc
-are_sound (Err x ∷ xs) (id ∷ ids) e = absurd cc
-are_sound (Ok x ∷ xs) (id ∷ ids) e =
-    let first : x ≡ id = cc in
-    let rest : map (λ y. y) xs ≡ map (λ n. Ok n) ids = cc in
-    (first, are_sound xs ids rest)
-
--- an iterator over ids does not fail
+-- what an iterator over ids gives, up to an error, is no list of them
 pub no_beginning : (value : SoundIds) (xs : List (Result ℕ ℕ)) (e : ℕ) → BeginsWith (λ s t. t ≡ s) (YieldsFirst sound_left) value (xs ++ Err e ∷ []) → ⊥
 no_beginning value xs e d =
     let begun = begun_are (λ s t. t ≡ s) (YieldsFirst sound_left) value (xs ++ Err e ∷ []) (λ x. x) (sound_left value) (λ it b. YieldsList-from_first (λ x. x) sound_left (sound_left value) (ap sound_left b)) d in
@@ -85,15 +55,7 @@ no_beginning value xs e d =
     has_error (y ∷ ys) [] rest same = cc
     has_error (y ∷ ys) (id ∷ ids) rest same = let more : map (λ n. Ok n) ids ≡ map (λ x. x) (ys ++ Err e ∷ []) ++ rest = cc in has_error ys ids rest more
 
--- the iterator yields exactly the ids
-pub items_neighbors : (value : SoundIds) (ids : List ℕ) → value.ids.now ≡ ids → ListsItems (λ x. x) (λ s t. t ≡ s) (YieldsFirst sound_left) value (map (λ id. Ok id) ids)
-items_neighbors value ids e = record {
-  whole = λ xs d. are_sound xs ids (drained_are (λ s t. t ≡ s) (YieldsFirst sound_left) value xs (λ x. x) (map (λ id. Ok id) ids)
-      (λ it b. YieldsList-from_first (λ x. x) sound_left (map (λ id. Ok id) ids) (ap sound_left b ∙ ap (map (λ id. Ok id)) e)) d);
-  first = λ xs error d. absurd (no_beginning value xs error d);
-}
-
--- ids in the fallible form
+-- ids that were given as items
 pub given_ids : (value : SoundIds) (xs : List ℕ) → DrainsTo (λ s t. t ≡ s) (YieldsFirst sound_left) value (map (λ x. Ok x) xs) → map (λ x. x) xs ≡ value.ids.now
 given_ids value xs d = same xs value.ids.now (drained_are (λ s t. t ≡ s) (YieldsFirst sound_left) value (map (λ x. Ok x) xs) (λ x. x) (sound_left value)
     (λ it b. YieldsList-from_first (λ x. x) sound_left (sound_left value) (ap sound_left b)) d)
@@ -111,24 +73,24 @@ given_ids value xs d = same xs value.ids.now (drained_are (λ s t. t ≡ s) (Yie
 pub listed_in-empty : (m : BTreeMap ℕ (Vec ℕ Global)) → m.entries ≡ [] → listed_in m ≡ (λ id. None)
 listed_in-empty m empty = λ i id. option_map (λ v. v.items) (lookup (is_at (nat_cmp id)) (empty i))
 
--- maximal elements under permutation
+-- the maximal nodes in another order
 pub maximal_permuted : (graph : Graph) (ids found sorted : List ℕ) → IsPermutation found sorted → IsMaximalIn graph ids found → IsMaximalIn graph ids sorted
 maximal_permuted graph ids found sorted moved of_found = record {
   all = λ a. ((λ h. (of_found.all a).0 (Contains-permutation sorted found a (IsPermutation-sym found sorted moved) h)), λ h. Contains-permutation found sorted a moved ((of_found.all a).1 h));
   once = IsDistinct-IsPermutation eqb eqb-flip found sorted moved of_found.once;
 }
 
--- a sorted list of distinct ids is strictly increasing
+-- sorted, they rise
 pub maximal_rising : (graph : Graph) (ids sorted : List ℕ) → IsSorted nat_cmp sorted → IsMaximalIn graph ids sorted → IsStrictlyIncreasing sorted
 maximal_rising graph ids sorted in_order of_sorted = IsStrictlyIncreasing-from_distinct sorted (IsNonDecreasingBy-from_sort (λ x. x) sorted in_order) of_sorted.once
 
--- closest common nodes under permutation
+-- the closest common nodes in another order
 pub closest_permuted : (graph : Graph) (set1 set2 found sorted : List ℕ) → IsPermutation found sorted → AreClosestCommon graph set1 set2 found → AreClosestCommon graph set1 set2 sorted
 closest_permuted graph set1 set2 found sorted moved of_found = record {
   all = λ a. ((λ h. (of_found.all a).0 (Contains-permutation sorted found a (IsPermutation-sym found sorted moved) h)), λ h. Contains-permutation found sorted a moved ((of_found.all a).1 h));
   once = IsDistinct-IsPermutation eqb eqb-flip found sorted moved of_found.once;
 }
 
--- a sorted list of distinct ids is strictly increasing
+-- sorted, they rise
 pub closest_rising : (graph : Graph) (set1 set2 sorted : List ℕ) → IsSorted nat_cmp sorted → AreClosestCommon graph set1 set2 sorted → IsStrictlyIncreasing sorted
 closest_rising graph set1 set2 sorted in_order of_sorted = IsStrictlyIncreasing-from_distinct sorted (IsNonDecreasingBy-from_sort (λ x. x) sorted in_order) of_sorted.once

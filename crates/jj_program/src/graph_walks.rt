@@ -63,7 +63,7 @@ pub(crate) fn has_cycle(alloc: Global, graph: &ListedGraph) -> Result<bool, Allo
     let order = topo_order_forward(
         alloc,
         graph.ids().iter().copied(),
-        |id: &u64| graph.number(*id),
+        |id: &u64| Ok(graph.number(*id)),
         |id: &u64| graph.neighbors_of(*id).iter().copied(),
         |id: u64| id,
     );
@@ -90,7 +90,7 @@ pub(crate) fn greatest_order(
     let order = topo_order_reverse_ord(
         alloc,
         SoundIds { ids },
-        |id: &u64| graph.number(*id),
+        |id: &u64| Ok(graph.number(*id)),
         |id: &u64| sound_items_of(graph, *id),
         |id: u64| id,
     );
@@ -119,7 +119,7 @@ pub(crate) fn ascending_heads(
     let found = heads(
         alloc,
         ids.iter().copied(),
-        |id: &u64| graph.number(*id),
+        |id: &u64| Ok(graph.number(*id)),
         |id: &u64| graph.neighbors_of(*id).iter().copied(),
     )?;
     let mut ascending: Vec<u64> = found.iter().copied().collect(alloc)?;
@@ -145,7 +145,7 @@ pub(crate) fn ascending_common(
         alloc,
         set1.iter().copied(),
         set2.iter().copied(),
-        |id: &u64| graph.number(*id),
+        |id: &u64| Ok(graph.number(*id)),
         |id: &u64| sound_neighbors_of(graph, *id),
     );
     match found {

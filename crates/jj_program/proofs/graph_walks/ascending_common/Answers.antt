@@ -2,12 +2,11 @@ use Rattle.std.proofs.Common.{rules, of_calls, ◌≡◌, ℕ, subst, map}
 use Rattle.std.proofs.lemmas.Fn.{always_returns_same}
 use Rattle.std.proofs.lemmas.List.{map-id}
 use Rattle.jj_dag.specs.CommonNodes.{AreClosestCommon}
-use Rattle.jj_dag.specs.Failing.{Fault}
 use Rattle.jj_dag.proofs.Errors.{node_says}
 use Rattle.jj_program.specs.ListedGraphs.{named_by, shown_by}
-use Rattle.jj_program.proofs.GraphClosures.{items_over, shows_sound_lists, walk_over}
+use Rattle.jj_program.proofs.GraphClosures.{implements_oks, no_error, walk_over}
 use Rattle.jj_program.proofs.NumberedWalks.{nodes_among}
-use Rattle.jj_program.proofs.ListedGraphs.{copied_ids, none_failed, closest_permuted, closest_rising}
+use Rattle.jj_program.proofs.ListedGraphs.{copied_ids, closest_permuted, closest_rising}
 use Rattle.jj_program.proofs.graph_walks.ascending_common.Goals as goal
 
 pub closest_common_nodes-found-requires-clause-graph : goal.closest_common_nodes-found-requires-clause-graph
@@ -19,30 +18,23 @@ closest_common_nodes-found-requires-clause-graph c = record {
 
 pub unreachable-requires : goal.unreachable-requires
 unreachable-requires c =
-    let graph = c.args.graph.now in
-    let ids = named_by graph in
-    let (xs, ys, drains, drains', shown) = node_says _ c.in-Err.error c.in-Node.field-0 c.in-Node.is c.in-Err.ensures.refused in
-    let first : map (λ x. x) xs ≡ c.args.set1.now = copied_ids c.copied.result xs c.args.set1.now (search (rules, c.copied.ensures, c.iter.ensures)) drains in
-    let second : map (λ x. x) ys ≡ c.args.set2.now = copied_ids c.copied-2.result ys c.args.set2.now (search (rules, c.copied-2.ensures, c.iter-2.ensures)) drains' in
-    let (a, fault, reached, here, is) = shown (walk_over graph) (items_over graph)
-    (shows_sound_lists graph _ _ _ (λ x i h. search (rules, of_calls, h.says.met, h.shows)) _ (λ a r f h. (search (rules, of_calls, h), search (rules, of_calls, h))))
-    (nodes_among ids (map (λ x. x) xs) c.args.set1.now first c.requires.named) (nodes_among ids (map (λ x. x) ys) c.args.set2.now second c.requires.named_second) in
-    none_failed (Fault ℕ) (shown_by graph a) fault here
+    let k = node_says _ c.in-Err.error c.in-Node.field-0 c.in-Node.is c.in-Err.ensures.error in
+    no_error c.args.graph.now _ _ (λ a r f h. (search (rules, of_calls, h), search (rules, of_calls, h))) k.node c.in-Node.field-0 k.fails
 
 pub returns-in-Ok-clause-closest : goal.returns-in-Ok-clause-closest
 returns-in-Ok-clause-closest c =
     let graph = c.args.graph.now in
     let ids = named_by graph in
     let p = c.in-Ok.ensures.closest in
-    let first : map (λ x. x) p.0 ≡ c.args.set1.now = copied_ids c.copied.result p.0 c.args.set1.now (search (rules, c.copied.ensures, c.iter.ensures)) p.2 in
-    let second : map (λ x. x) p.1 ≡ c.args.set2.now = copied_ids c.copied-2.result p.1 c.args.set2.now (search (rules, c.copied-2.ensures, c.iter-2.ensures)) p.3 in
-    let k = p.4 (walk_over graph) (items_over graph)
-    (shows_sound_lists graph _ _ _ (λ x i h. search (rules, of_calls, h.says.met, h.shows)) _ (λ a r f h. (search (rules, of_calls, h), search (rules, of_calls, h))))
-    (nodes_among ids (map (λ x. x) p.0) c.args.set1.now first c.requires.named) (nodes_among ids (map (λ x. x) p.1) c.args.set2.now second c.requires.named_second) (λ a both round. c.requires.acyclic (a, round)) in
+    let first : map (λ x. x) p.set1 ≡ c.args.set1.now = copied_ids c.copied.result p.set1 c.args.set1.now (search (rules, c.copied.ensures, c.iter.ensures)) p.yielded1 in
+    let second : map (λ x. x) p.set2 ≡ c.args.set2.now = copied_ids c.copied-2.result p.set2 c.args.set2.now (search (rules, c.copied-2.ensures, c.iter-2.ensures)) p.yielded2 in
+    let k = p.holds (walk_over graph)
+    (implements_oks graph _ _ _ (λ x i h. search (rules, of_calls, h.says.met, h.shows)) _ (λ a r f h. (search (rules, of_calls, h), search (rules, of_calls, h))))
+    (nodes_among ids (map (λ x. x) p.set1) c.args.set1.now first c.requires.named) (nodes_among ids (map (λ x. x) p.set2) c.args.set2.now second c.requires.named_second) (λ a both round. c.requires.acyclic (a, round)) in
     let of_sets : AreClosestCommon (shown_by graph) c.args.set1.now c.args.set2.now c.in-Ok.common.items =
     subst (λ set. AreClosestCommon (shown_by graph) c.args.set1.now set c.in-Ok.common.items) second
-    (subst (λ set. AreClosestCommon (shown_by graph) set (map (λ x. x) p.1) c.in-Ok.common.items) first
-    (subst (λ nodes. AreClosestCommon (shown_by graph) (map (λ x. x) p.0) (map (λ x. x) p.1) nodes) (map-id c.in-Ok.common.items) k)) in
+    (subst (λ set. AreClosestCommon (shown_by graph) set (map (λ x. x) p.set2) c.in-Ok.common.items) first
+    (subst (λ nodes. AreClosestCommon (shown_by graph) (map (λ x. x) p.set1) (map (λ x. x) p.set2) nodes) (map-id c.in-Ok.common.items) k)) in
     closest_permuted (shown_by graph) c.args.set1.now c.args.set2.now c.in-Ok.common.items c.sort_unstable.new.self.items c.sort_unstable.ensures.permutation of_sets
 
 pub returns-in-Ok-clause-ascending : goal.returns-in-Ok-clause-ascending
