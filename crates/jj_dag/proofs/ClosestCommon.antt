@@ -1,4 +1,4 @@
--- What the map and the heap of a search for the closest common nodes hold.
+-- Invariant of the search for closest common nodes, on the map and the heap.
 use Rattle.std.proofs.Common.{◌≡◌, ℕ, zero, suc, ◌==◌, Bool, true, false, not, cond, ◌&&◌, ◌||◌, List, [], ◌∷◌, ◌++◌, map, refl, sym, ◌∙◌, ap, subst, arith, inl, inr, ◌⊎◌, ⊎_elim, true≢false, eqb}
 use Rattle.std.specs.Prelude.{IsTrue}
 use Rattle.std.specs.Bool.{MatchBool, one_answer}
@@ -101,7 +101,7 @@ Contains-passed p (x ∷ xs) a h e =
       | false ↦ λ t. ⊎_elim (λ same. absurd (true_not_false e (subst (λ n. p n ≡ false) same t))) (λ l. Contains-passed p xs a l e) (head_or_rest x xs a h)
     ] refl
 
--- a filter of values by what their numbers pass
+-- filtering values by a test of their numbers
 filter_numbers : {A B : Type 0} (value : A → B) (number : B → ℕ) (p : A → Bool) (q : ℕ → Bool) (xs : List A) → ((x : A) → Contains xs x → p x ≡ q (number (value x)))
     → map number (map value (filter p xs)) ≡ filter q (map (λ x. number (value x)) xs)
 filter_numbers value number p q [] same = refl
@@ -124,7 +124,7 @@ module _ {T ID : Type 0} (w : Numbered T ID) where
 
   -- ---- a node is marked
 
-  -- by which one more may wait
+  -- which may make it pending
   abbrev pub Joins : (waiting waiting2 : List T) (y : ℕ) (known added : Reach) → Type 0
   Joins waiting waiting2 y known added = (b : ℕ) → has (map w.node waiting2) b ≡ (has (map w.node waiting) b || ((b == y) && grows known added))
 
@@ -328,7 +328,7 @@ module _ {T ID : Type 0} (w : Numbered T ID) where
         );
       })
 
-  -- the node a has been taken from those that wait, and hands on what is known of it to its neighbours, as far as they were given
+  -- the node a is dequeued, and its state was propagated to the neighbors yielded so far
   pub record HandsOn (set1 set2 : List ℕ) (m : ℕ → Reach) (a : ℕ) (known : Reach) (waiting : List T) (common : List (T × ID)) (rooted : Bool) (find : ID → Mark) (given : List ℕ) : Type 0 where
     pub marking : IsMarking w.graph set1 set2 m (a ∷ map w.node waiting) (map (λ entry. w.node entry.0) common) rooted
     pub marks : KnowsMarks w m waiting find
@@ -339,7 +339,7 @@ module _ {T ID : Type 0} (w : Numbered T ID) where
     pub same_right : (m a).right ≡ known.right
     pub handed : (b : ℕ) → Contains given b → Passes known (m b)
 
-  -- it waits no longer
+  -- it is no longer pending
   hands_none : (eq : ID → ID → Bool) (set1 set2 : List ℕ) (m : ℕ → Reach) (waiting waiting2 : List T) (common : List (T × ID)) (rooted : Bool) (find find2 : ID → Mark) (x : T) (i : ID) (known : Reach)
       → Apart eq → HoldsMarks set1 set2 m waiting common rooted find → IsPermutation waiting (x ∷ waiting2) → w.is_node (w.node x) ≡ true → w.id i ≡ w.node x → known ≡ (find i).reach
       → (IsTrue (find i).waits → (q : ID) → find2 q ≡ cond (eq i q) (without_waiting (find i)) (find q)) → HandsOn set1 set2 m (w.node x) known waiting2 common rooted find2 []
@@ -392,7 +392,7 @@ module _ {T ID : Type 0} (w : Numbered T ID) where
         handed = λ b h. absurd (nothing b h);
       }
 
-  -- a node that waited is reached
+  -- pending nodes are reachable
   pub was_reached : {set1 set2 : List ℕ} {m : ℕ → Reach} {waiting : List T} {common : List (T × ID)} {rooted : Bool} {find : ID → Mark} (waiting2 : List T) (x : T)
       → ((a : ℕ) → w.is_node a ≡ true → AreNodes w (w.graph a)) → AreNodes w set1 → AreNodes w set2 → HoldsMarks set1 set2 m waiting common rooted find → IsPermutation waiting (x ∷ waiting2)
       → ReachedFrom w.graph (set1 ++ set2) (w.node x) × (w.is_node (w.node x) ≡ true)
@@ -403,7 +403,7 @@ module _ {T ID : Type 0} (w : Numbered T ID) where
       let reached = k.reached (w.node x) waited in
       (reached, are_nodes {E = ℕ} w (λ a. []) (set1 ++ set2) closed (both_nodes set1 set2 first second) (w.node x) reached)
 
-  -- it is asked: its neighbours are to be met
+  -- it is expanded: its neighbors are to be visited
   pub asks : {set1 set2 : List ℕ} {m : ℕ → Reach} {waiting waiting2 : List T} {common : List (T × ID)} {rooted : Bool} {find : ID → Mark} (eq : ID → ID → Bool) (find2 : ID → Mark) (x : T) (i : ID) (known : Reach)
       → ((a : ℕ) → w.is_node a ≡ true → AreNodes w (w.graph a)) → Apart eq → AreNodes w set1 → AreNodes w set2 → HoldsMarks set1 set2 m waiting common rooted find
       → IsPermutation waiting (x ∷ waiting2) → (w.is_node (w.node x) ≡ true → w.id i ≡ w.node x) → known ≡ (find i).reach
@@ -431,7 +431,7 @@ module _ {T ID : Type 0} (w : Numbered T ID) where
       ap (λ t. (added.left && not t) || (added.right && not known.right)) l ∙ ap (λ t. (added.left && not added.left) || (added.right && not t)) r
       ∙ ap (λ t. t || (added.right && not added.right)) (not_self added.left) ∙ not_self added.right
 
-  -- one neighbour more has it
+  -- one more neighbor has it
   pub hands_more : (eq : ID → ID → Bool) (set1 set2 : List ℕ) (m : ℕ → Reach) (a : ℕ) (known : Reach) (waiting waiting2 : List T) (common : List (T × ID)) (rooted : Bool) (find find2 : ID → Mark) (given : List ℕ) (x : T) (i : ID)
       → Apart eq → HandsOn set1 set2 m a known waiting common rooted find given → HasEdge w.graph a (w.node x) → w.is_node (w.node x) ≡ true → w.id i ≡ w.node x
       → ((q : ID) → find2 q ≡ cond (eq i q) (mark_with (find i) (handed_on known)) (find q))
@@ -494,7 +494,7 @@ module _ {T ID : Type 0} (w : Numbered T ID) where
       → (entry : T × ID) → Contains (common ++ (x, i) ∷ []) entry → w.id entry.1 ≡ w.node entry.0
   ids_more common x i ids same entry h = ⊎_elim (λ old. ids entry old) (λ new. subst (λ (e : T × ID). w.id e.1 ≡ w.node e.0) new same) (Contains-push_cases common (x, i) entry h)
 
-  -- all its neighbours have it, and the node is common
+  -- all its neighbors have it, and the node is common
   hands_common : {set1 set2 : List ℕ} {m : ℕ → Reach} {known : Reach} {waiting : List T} {common : List (T × ID)} {rooted : Bool} {find : ID → Mark} {given : List ℕ} (x : T) (i : ID) (is_root : Bool)
       → HandsOn set1 set2 m (w.node x) known waiting common rooted find given → w.id i ≡ w.node x → IsBoth known
       → ((b : ℕ) → HasEdge w.graph (w.node x) b → Contains given b) → (is_root ≡ false → (b : ℕ) × HasEdge w.graph (w.node x) b)
@@ -516,7 +516,7 @@ module _ {T ID : Type 0} (w : Numbered T ID) where
         reached = λ b h. k.reached b (Contains-append_right (y ∷ []) W b h);
       }
 
-  -- all its neighbours have it, and the node is on one side
+  -- all its neighbors have it, and the node is on one side
   hands_side : {set1 set2 : List ℕ} {m : ℕ → Reach} {a : ℕ} {known : Reach} {waiting : List T} {common : List (T × ID)} {rooted : Bool} {find : ID → Mark} {given : List ℕ} (is_root : Bool)
       → HandsOn set1 set2 m a known waiting common rooted find given → (known.left && known.right) ≡ false
       → ((b : ℕ) → HasEdge w.graph a b → Contains given b) → (is_root ≡ false → (b : ℕ) × HasEdge w.graph a b)
@@ -537,7 +537,7 @@ module _ {T ID : Type 0} (w : Numbered T ID) where
         reached = λ b h. k.reached b (Contains-append_right (a ∷ []) W b h);
       }
 
-  -- an asked node whose neighbours were all met is kept where both sets reach it
+  -- an expanded node is collected if both sides reach it
   pub hands_over : {set1 set2 : List ℕ} {m : ℕ → Reach} {known : Reach} {waiting : List T} {common common2 : List (T × ID)} {rooted : Bool} {find : ID → Mark} {given : List ℕ} (x : T) (i : ID) (is_root : Bool)
       → HandsOn set1 set2 m (w.node x) known waiting common rooted find given → w.id i ≡ w.node x → common2 ≡ cond (known.left && known.right) (common ++ (x, i) ∷ []) common
       → ((b : ℕ) → HasEdge w.graph (w.node x) b → Contains given b) → (is_root ≡ false → (b : ℕ) × HasEdge w.graph (w.node x) b)
@@ -553,7 +553,7 @@ module _ {T ID : Type 0} (w : Numbered T ID) where
 
   -- ---- the end
 
-  -- one node was left, which both sets reach
+  -- one node is left, and it is common
   pub ends_early : {set1 set2 : List ℕ} {m : ℕ → Reach} {known : Reach} {waiting : List T} {common : List (T × ID)} {rooted : Bool} {find : ID → Mark} {given : List ℕ} (x : T) (i : ID)
       → HandsOn set1 set2 m (w.node x) known waiting common rooted find given → waiting ≡ [] → IsBoth known → rooted ≡ false
       → IsAtEnd w.graph set1 set2 m (w.node x ∷ []) (map (λ entry. w.node entry.0) common) (map (λ entry. w.node entry.0) (common ++ (x, i) ∷ [])) rooted
@@ -572,7 +572,7 @@ module _ {T ID : Type 0} (w : Numbered T ID) where
         each_once = IsDistinct-push nat_eq_equiv found y k.marking.once (not_found k);
       })
 
-  -- no node waits
+  -- no node is pending
   pub ends : {set1 set2 : List ℕ} {m : ℕ → Reach} {waiting : List T} {common : List (T × ID)} {rooted : Bool} {find : ID → Mark} → HoldsMarks set1 set2 m waiting common rooted find → waiting ≡ []
       → IsAtEnd w.graph set1 set2 m [] (map (λ entry. w.node entry.0) common) (map (λ entry. w.node entry.0) common) rooted
   ends {set1} {set2} {m} {waiting} {common} {rooted} {find} k none = record {
@@ -583,7 +583,7 @@ module _ {T ID : Type 0} (w : Numbered T ID) where
     each_once = k.marking.once;
   }
 
-  -- so the nodes without a common one above them are the closest ones
+  -- so the common nodes that lie strictly below none are the closest ones
   pub closest_at_end : {set1 set2 : List ℕ} {m : ℕ → Reach} {waiting : List T} {rooted : Bool} {find : ID → Mark} (todo found : List ℕ) (all : List (T × ID))
       → IsAtEnd w.graph set1 set2 m todo found (map (λ entry. w.node entry.0) all) rooted → KnowsMarks w m waiting find → ((entry : T × ID) → Contains all entry → w.id entry.1 ≡ w.node entry.0)
       → ((a : ℕ) → w.is_node a ≡ true → AreNodes w (w.graph a)) → AreNodes w set1 → HasNoCommonCycle w.graph set1 set2

@@ -1,4 +1,4 @@
--- What was collected, once the greatest of it was taken first, as long as something could be.
+-- Result of Kahn's algorithm on a collected graph.
 use Rattle.std.proofs.Common.{◌≡◌, ℕ, Bool, true, List, [], map, length, Option, None, Some, sym, ◌∙◌}
 use Rattle.std.specs.Global.{Global}
 use Rattle.std.specs.HashMap.{get}

@@ -1,4 +1,4 @@
--- Lemmas about depth-first walks over items that may fail.
+-- Lemmas about depth-first search over fallible items.
 use Rattle.std.proofs.Common.{◌≡◌, ℕ, zero, suc, Bool, true, false, cond, List, [], ◌∷◌, ◌++◌, map, reverse, refl, sym, ◌∙◌, ap, subst, arith, ◌==◌, append-nil, ⊎_elim, true≢false, Option, Result, Ok, Err}
 use Rattle.std.proofs.lemmas.List.{reverse-append}
 use Rattle.std.proofs.lemmas.List.Elements.{Contains-push, Contains-append_left, Contains-append_right, Contains-append_cases, filter_map-append}
@@ -13,7 +13,7 @@ use Rattle.jj_dag.specs.Walk.{Numbered, AreNodes}
 use Rattle.jj_dag.proofs.Walking.{has, has-push, has-from_Contains, Contains-from_has, eqb-flip}
 use Rattle.jj_dag.proofs.Plain.{or_cond}
 
--- ---- items that did not fail
+-- ---- nodes among the items
 
 pub sound_items-append : {X K : Type 0} (xs ys : List (Result X K)) → sound_items (xs ++ ys) ≡ sound_items xs ++ sound_items ys
 sound_items-append xs ys = filter_map-append result_ok xs ys
@@ -31,7 +31,7 @@ Contains-from_sound (Ok x ∷ xs) a (zero, lt, e) = (0, omega arith, ap (λ (n :
 Contains-from_sound {K} (Ok x ∷ xs) a (suc k, lt, e) = Contains-append_right {X = Result ℕ K} (Ok x ∷ []) xs (Ok a) (Contains-from_sound xs a (k, omega arith, e))
 Contains-from_sound {K} (Err y ∷ xs) a h = Contains-append_right {X = Result ℕ K} (Err y ∷ []) xs (Ok a) (Contains-from_sound xs a h)
 
--- ---- items and what the graph has in their places
+-- ---- items and the graph's items
 
 module _ {T E : Type 0} (node : T → ℕ) where
   pub AreItems-append : (xs ys : List (Result T E)) (ns ms : List (Result ℕ (Fault E))) → AreItems node xs ns → AreItems node ys ms → AreItems node (xs ++ ys) (ns ++ ms)
@@ -75,14 +75,14 @@ module _ {T E : Type 0} (node : T → ℕ) where
         | Err fault ↦ λ e is. (last.0, fault, e, last.3, is)
       ] last.2 last.4
 
-  -- where no item failed, the graph has the nodes' numbers
+  -- if no item failed, the graph has the nodes' numbers
   pub AreItems-nodes : (xs : List T) (ns : List (Result ℕ (Fault E))) → AreItems node (map (λ x. Ok x) xs) ns → ns ≡ map (λ x. Ok (node x)) xs
   AreItems-nodes [] ns h = AreItems-none ns h
   AreItems-nodes (x ∷ xs) [] h = absurd h
   AreItems-nodes (x ∷ xs) (Ok a ∷ ns) h = ap (λ (n : ℕ). Ok n ∷ ns) (sym h.0) ∙ ap (λ l. Ok (node x) ∷ l) (AreItems-nodes xs ns h.1)
   AreItems-nodes (x ∷ xs) (Err fault ∷ ns) h = absurd h.0
 
-  -- an error that came first is that of a failed item
+  -- an error of a prefix is that of a failed item
   pub failed_first : (items begun rest : List (Result ℕ (Fault E))) (xs : List (Result T E)) (e : E) → items ≡ begun ++ rest → AreItems node (xs ++ Err e ∷ []) begun
       → (fault : Fault E) × Contains items (Err fault) × IsFault fault e
   failed_first items begun rest xs e same h =
@@ -90,7 +90,7 @@ module _ {T E : Type 0} (node : T → ℕ) where
       let P : List (Result ℕ (Fault E)) → Type 0 = λ l. Contains l (Err last.1) in
       (last.1, subst P (sym same) (Contains-append_left begun rest (Err last.1) (subst P (sym last.2) (Contains-push last.0 (Err last.1)))), last.4)
 
--- an item as it is: its error is that very value
+-- an item with its exact error
 abbrev pub exact_item : {T E : Type 0} → (T → ℕ) → Result T E → Result ℕ (Fault E)
 exact_item node (Ok x) = Ok (node x)
 exact_item node (Err e) = Err (exactly e)
@@ -102,7 +102,7 @@ AreItems-exact node (Err e ∷ xs) = (refl, AreItems-exact node xs)
 
 -- ---- the walk
 
--- a walk over two lists is a walk over the one and then over the other
+-- searching the concatenation of two lists is searching one and then the other
 FailingPreorder-append : {K : Type 0} (g : FailingGraph K) (xs todo given out : List (Result ℕ K)) → FailingPreorder g (xs ++ todo) given out
     → (mid : List (Result ℕ K)) × FailingPreorder g xs given mid × FailingPreorder g todo mid out
 FailingPreorder-append g [] todo given out p = (given, ended, p)
@@ -113,7 +113,7 @@ FailingPreorder-append g (Ok x ∷ xs) todo given out (passed h p) =
 FailingPreorder-append g (Ok x ∷ xs) todo given out (entered {below = below} h b p) =
     let q = FailingPreorder-append g xs todo below out p in (q.0, entered h b q.1, q.2)
 
--- a walk gives one list alone
+-- the preorder is unique
 pub FailingPreorder-unique : {K : Type 0} (g : FailingGraph K) (todo given a b : List (Result ℕ K)) → FailingPreorder g todo given a → FailingPreorder g todo given b → a ≡ b
 FailingPreorder-unique g [] given a b ended ended = refl
 FailingPreorder-unique g (Err e ∷ todo) given a b (failed p) (failed q) = FailingPreorder-unique g todo (given ++ Err e ∷ []) a b p q
@@ -148,7 +148,7 @@ module _ {T ID K : Type 0} (w : Numbered T ID) (items : FailingGraph K) where
       let ns : sound_items work ≡ sound_items rest ++ sound_items (x ∷ []) = ap sound_items e ∙ sound_items-append rest (x ∷ []) in
       λ a h. k.nodes a (rw ns (Contains-append_left (sound_items rest) (sound_items (x ∷ [])) a h))
 
-  -- where the top of the work may be put before what was done, the rest is what is left
+  -- replacing the top of the stack by its expansion preserves the completion
   continues : (starts work given rest : List (Result ℕ K)) (x : Result ℕ K) → work ≡ rest ++ x ∷ []
       → ((out : List (Result ℕ K)) → FailingPreorder items (reverse work) given out → FailingPreorder items (reverse starts) [] out)
       → (out : List (Result ℕ K)) → FailingPreorder items (x ∷ reverse rest) given out → FailingPreorder items (reverse starts) [] out
@@ -197,13 +197,13 @@ module _ {T ID K : Type 0} (w : Numbered T ID) (items : FailingGraph K) where
             continues starts work given rest (Ok a) e k.rest out (entered fresh all.1 all.2);
       }
 
-  -- where nothing is left to do, what was given is the whole walk
+  -- with an empty stack the emitted list is the whole preorder
   pub walked_items : {starts : List (Result ℕ K)} {test : ID → Bool} {work given : List (Result ℕ K)} → IsWalkingItems w items starts test work given → work ≡ []
       → FailingPreorder items (reverse starts) [] given
   walked_items {given = given} k none =
       k.rest given (subst (λ (l : List (Result ℕ K)). FailingPreorder items (reverse l) given given) (sym none) ended)
 
--- ---- what an iterator gives first
+-- ---- prefixes of an iterator's items
 
 begun : {S A B : Type 0} (steps : S → Option A → S → Type 0) (v : A → B) (xs : List A) (ys : List B) (s t : S) → AlwaysYields steps v s ys → Yields steps s xs t → (rest : List B) × (ys ≡ map v xs ++ rest)
 begun steps v [] ys s t h y = (ys, refl)
@@ -213,7 +213,7 @@ begun steps v (x ∷ xs) (b ∷ ys) s t h (j, step, y) =
     let more = begun steps v xs ys j t now.1 y in
     (more.0, cc (now.0, more.1))
 
--- what a value that yields a list begins with is a beginning of that list
+-- a prefix that an iterator yields is a prefix of its list
 pub begun_are : {U S A B : Type 0} (becomes : U → S → Type 0) (steps : S → Option A → S → Type 0) (value : U) (xs : List A) (v : A → B) (ys : List B)
     → ((it : S) → becomes value it → YieldsList steps v it ys) → BeginsWith becomes steps value xs → (rest : List B) × (ys ≡ map v xs ++ rest)
 begun_are becomes steps value xs v ys h d = begun steps v xs ys d.0 d.2.0 (h d.0 d.1).runs d.2.1

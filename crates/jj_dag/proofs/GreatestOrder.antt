@@ -1,4 +1,4 @@
--- The order of the places that were taken is the greatest child-first order of the nodes that were collected there.
+-- The order of the taken indices is the greatest topological order of the collected nodes.
 use Rattle.std.proofs.Common.{◌≡◌, ◌↔◌, ℕ, zero, suc, ◌<◌, ◌≤◌, true, false, Option, None, Some, IsSome, MatchOption, List, [], ◌∷◌, length, map, get_or, refl, sym, ◌∙◌, ap, subst, arith, inl, inr, ◌⊎◌, ⊎_elim}
 use Rattle.std.specs.List.{Contains, filter_map, cons_option}
 use Rattle.std.proofs.lemmas.List.Elements.{Contains-append_cases, Contains-get_or}
@@ -20,7 +20,7 @@ use Rattle.jj_dag.proofs.ReadyOrders.{here, later, IsChildFirst-from_taken, IsGr
 use Rattle.jj_dag.proofs.Relabelled.{Contains-map, AtPlaces, relabelled, StrictlyReaches-up}
 use Rattle.jj_dag.proofs.Plain.{nothing}
 
--- ---- places of a list
+-- ---- indices of a list
 
 -- the numbers below n
 below_all : ℕ → List ℕ
@@ -32,7 +32,7 @@ unfolding below_all
 has_below zero k lt = absurd (omega arith)
 has_below (suc n) k lt = elim (cases_eq k n) [ inl e ↦ subst (λ (m : ℕ). Contains (n ∷ below_all n) m) (sym e) (here n (below_all n)) | inr ne ↦ later n (below_all n) k (has_below n k (omega arith)) ]
 
--- a number that a look-up of some element finds
+-- an index that a look-up returns
 pub found_by : {X : Type 0} (find : X → Option ℕ) (xs : List X) (b : ℕ) → Contains (filter_map find xs) b → (x : X) × (find x ≡ Some b)
 found_by find [] b (k, lt, e) = absurd (omega arith)
 found_by {X} find (x ∷ xs) b h =
@@ -41,7 +41,7 @@ found_by {X} find (x ∷ xs) b h =
       | Some y ↦ λ e c. ⊎_elim (λ l. (x, e ∙ ap (λ n. Some n) (only_one y b l))) (λ r. found_by find xs b r) (Contains-append_cases (y ∷ []) (filter_map find xs) b c)
     ] refl h
 
--- the places that are linked are among those of the nodes
+-- linked indices are in range
 pub linked_within : {X : Type 0} (find : X → Option ℕ) (ids : List (List X)) (ts : List (List ℕ)) (n : ℕ) → ts ≡ map (λ is. filter_map find is) ids → ((i : X) (k : ℕ) → find i ≡ Some k → k < n)
     → (a b : ℕ) → Contains (places_graph ts a) b → b < n
 linked_within {X} find ids ts n e places a b h =
@@ -106,7 +106,7 @@ module _ {T ID E : Type 0} (w : Numbered T ID) (items : FailingGraph E) (cmp : T
     none_waits : (a : ℕ) → Contains ns a ⊎ Contains [] a → Contains ns a
     none_waits a h = ⊎_elim (λ l. l) (λ (k, lt, e). absurd (omega arith)) h
 
-    -- the numbers are those that the starts reach
+    -- the numbers are the reachable nodes
     are_reached : (a : ℕ) → Contains ns a ↔ ReachedFrom w.graph starts a
     are_reached a = (
       collected.given_reached a,
@@ -185,7 +185,7 @@ module _ {T ID E : Type 0} (w : Numbered T ID) (items : FailingGraph E) (cmp : T
         let below : r.0 < length ns = rw (← same) r.1 in
         (get_or ns r.0 0, (collected.given_reached _ (Contains-get_or ns r.0 0 below), StrictlyReaches-up w.graph ns ts collected.injective edges_stand within r.0 r.0 below r.2))
 
-    -- the node at a place is reached
+    -- the node at an index is reachable
     pub place_reached : (k : ℕ) (x : T) → get_or (map (λ x. Some x) given) k None ≡ Some x → k < length (map (λ x. Some x) given) → ReachedFrom w.graph starts (w.node x)
     place_reached k x e lt =
         let same : length (map (λ x. Some x) given) ≡ length ns = length-map given (λ x. Some x) ∙ sym (length-map given w.node) in

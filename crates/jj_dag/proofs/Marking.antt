@@ -1,4 +1,4 @@
--- What the marks say where the nodes of a list were marked one after the other.
+-- Marking the nodes of a list in order.
 use Rattle.std.proofs.Common.{◌≡◌, ℕ, Bool, true, append_assoc, List, [], ◌∷◌, ◌++◌, map, refl, sym, ◌∙◌, ap, subst, arith}
 use Rattle.std.specs.List.{Contains}
 use Rattle.std.proofs.lemmas.List.Elements.{Contains-append_left, Contains-append_right, Contains-push}
@@ -13,12 +13,12 @@ use Rattle.jj_dag.proofs.ClosestCommon.{Apart, HandsOn, hands_more, on_left, on_
 use Rattle.jj_dag.proofs.CommonMarks.{marks_more}
 use Rattle.jj_dag.proofs.Walking.{numbers-push}
 
--- each id that is told of a node stands for it
+-- the ID of a node is its ID in the model
 abbrev pub Stand : {T ID : Type 0} → Numbered T ID → (T → ID → Type 0) → Type 0
 Stand {T} {ID} w tells = (x : T) (i : ID) → w.is_node (w.node x) ≡ true → tells x i → w.id i ≡ w.node x
 
 module _ {T ID : Type 0} (w : Numbered T ID) {eq : ID → ID → Bool} {tells : T → ID → Type 0} where
-  -- the first set was marked
+  -- the first set is marked
   pub all_left : {find : ID → Mark} {waiting : List T} {xs : List T} {find2 : ID → Mark} {waiting2 : List T} → Apart w eq → Stand w tells → MarksNodes eq tells (on_left w) find waiting xs find2 waiting2
       → IsStarting w [] [] waiting find → AreNodes w (map w.node xs) → IsStarting w (map w.node xs) [] waiting2 find2
   all_left apart stand none start nodes = start
@@ -46,7 +46,7 @@ module _ {T ID : Type 0} (w : Numbered T ID) {eq : ID → ID → Bool} {tells : 
   sets_marked {find} {waiting = waiting} {xs = xs} apart stand nobody unknown left right first second =
       all_right (map w.node xs) apart stand right (all_left apart stand left (starting_none w waiting find nobody unknown) first) second
 
-  -- a node that was taken from those that wait handed on what is known of it to its neighbours
+  -- a dequeued node has propagated its state to its neighbors
   pub all_handed : {find : ID → Mark} {waiting : List T} (set1 set2 : List ℕ) (m : ℕ → Reach) (a : ℕ) (known : Reach) (common : List (T × ID)) (rooted : Bool) (zs : List ℕ) {xs : List T} {find2 : ID → Mark} {waiting2 : List T}
       → Apart w eq → Stand w tells → ((b : ℕ) → w.is_node b ≡ true → AreNodes w (w.graph b)) → MarksNodes eq tells (handed_on known) find waiting xs find2 waiting2 → w.is_node a ≡ true
       → HandsOn w set1 set2 m a known waiting common rooted find [] → map w.node xs ++ zs ≡ w.graph a

@@ -1,9 +1,9 @@
--- What an iterator gives whose items stand in an `Ok`.
+-- The iterator that wraps each item in `Ok`.
 -- Machinery of private functions and fields.
 use Rattle.std.specs.Prelude.{Option, Result, MatchOption, MatchResult}
 use Rattle.std.specs.declared.option.Option.TheVariants.{None, Some}
 
--- a call gives the end, or an item in an `Ok`, where one of the other iterator gives the same
+-- a call returns the end, or `Ok` of the item that the inner iterator returns
 abbrev pub GivesOk : {S T E : Type 0} → (S → Option T → S → Type 0) → S → Option (Result T E) → S
     → Type 0
 GivesOk steps s r t = MatchOption r (steps s None t)

@@ -1,9 +1,9 @@
--- What a topological order gives, and what its error tells.
+-- Results of topological orders.
 -- Cited by contracts of public items: IsWholePostorder.
 use Rattle.std.specs.Prelude.{ℕ, List}
 use Rattle.jj_dag.specs.Graph.{Graph, HasNoCycle, IsPostorder}
 
--- the list is the postorder of what the starts reach, which has no cycle
+-- the list is the postorder of the nodes reachable from the starts, which are acyclic
 pub record IsWholePostorder (g : Graph) (starts order : List ℕ) : Type 0 where
   pub postorder : IsPostorder g starts order
   pub no_cycle : HasNoCycle g starts

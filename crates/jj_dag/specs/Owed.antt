@@ -1,4 +1,4 @@
--- What a walk asks of those who call it.
+-- Preconditions of walks.
 -- Cited by contracts of public items: CanBeOrdered, CanShow, MayShow.
 use Rattle.std.specs.Prelude.{Bool, Result}
 use Rattle.std.specs.Fn.{Once, Shared, Mut}
@@ -10,15 +10,14 @@ use Rattle.jj_dag.specs.Outcomes.{ClonesAreEqual, Ends, ListsEnd, ListsEndOrFail
 
 module _ {T ID X F N U J : Type 0} (ids : Shared F (Bor T × Unit {0}) ID)
     (lists_of : Mut N (Bor T × Unit {0}) U) where
-  -- the closures that show a graph may always be called, and each list that they answer ends
+  -- the closures are always callable, and every list that they return is finite
   pub record CanShow (value : into.Ghosts U X J) (items : iter.Ghosts J X) (id_of : F)
       (neighbors_of : N) : Type 0 where
     pub id_fn : always_fn ids id_of
     pub neighbors_fn : always_mut lists_of neighbors_of
     pub lists : ListsEnd lists_of value items neighbors_of
 
-  -- they can show a graph, an error can be made of a node on a cycle, the starts end, and a clone
-  -- of an id is equal to it
+  -- they are walkable, `cycle_fn` is callable, the starts are finite, and clones of IDs are equal
   pub record CanBeOrdered {C E II I K : Type 0} (cycles : Once C (T × Unit {0}) E)
       (starts : into.Ghosts II X I) (start_items : iter.Ghosts I X) (value : into.Ghosts U X J)
       (items : iter.Ghosts J X) (clone : K → K → Type 0) (eq : K → K → Bool) (id_of : F)
@@ -28,7 +27,7 @@ module _ {T ID X F N U J : Type 0} (ids : Shared F (Bor T × Unit {0}) ID)
     pub start : Ends starts start_items from
     pub clones : ClonesAreEqual clone eq
 
--- as `CanShow`, where the closure answers a list, or an error in its place
+-- as `CanShow`, for a closure that returns a list or an error
 pub record MayShow {T ID E F N U J : Type 0} (ids : Shared F (Bor T × Unit {0}) ID)
     (lists_of : Mut N (Bor T × Unit {0}) (Result U E)) (value : into.Ghosts U T J)
     (items : iter.Ghosts J T) (id_of : F) (neighbors_of : N) : Type 0 where

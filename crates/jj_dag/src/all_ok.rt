@@ -1,7 +1,7 @@
-//! An iterator's items as items that did not fail.
+//! Iterator adapter: wraps every item in `Ok`.
 use std::marker::PhantomData;
 
-/// The items of `I`, each in an `Ok`.
+/// Yields the items of `I`, each in an `Ok`.
 #[derive(Drop)]
 pub struct AllOk<I, E> {
     pub items: I,

@@ -1,4 +1,5 @@
-//! The closest of the nodes that two sets reach.
+//! Closest common nodes of two sets (merge bases): a search from the greatest pending node, which
+//! propagates to each node the sides that reach it.
 ghost use Rattle.std.specs.Prelude.{◌≡◌, ◌+◌, ◌≤◌, ◌<◌, ◌^◌, ◌&&◌, ◌∷◌, ◌++◌, [], IfOk, IsTrue, Ok, Err, OnOk, MatchBool, cond, map};
 ghost use Rattle.std.specs.BinaryHeap.{heap_items, heap_len};
 ghost use Rattle.std.specs.Fn.{CalledAt};
@@ -15,8 +16,7 @@ use std::alloc::{AllocError, Global};
 use std::collections::{BinaryHeap, HashMap};
 use std::hash::Hash;
 
-// What is known to reach a node: the first set, the second, and a common node that is strictly
-// above it.
+// What reaches a node: the first set, the second set, and (strictly) a common node.
 #[derive(Clone, Copy)]
 struct Reach {
     left: bool,
@@ -24,7 +24,7 @@ struct Reach {
     below: bool,
 }
 
-// What is known of a node, and whether it waits to be asked for its neighbours.
+// State of a visited node: what reaches it, and whether it is pending.
 #[derive(Clone, Copy)]
 struct Mark {
     reach: Reach,
@@ -50,7 +50,7 @@ impl Reach {
         self.left && self.right
     }
 
-    // What a node tells of its neighbours: those of a common node are below it.
+    // The state a node propagates to its neighbors; neighbors of a common node lie below one.
     fn handed_on(self) -> Reach
         ensures { result ≡ handed_on self }
     {
@@ -71,7 +71,7 @@ impl Reach {
         }
     }
 
-    // Whether what is added has a set more.
+    // Whether `added` has a new side.
     fn grows(self, added: Reach) -> bool
         ensures { result ≡ grows self added }
     {
@@ -89,7 +89,7 @@ impl Mark {
         }
     }
 
-    // Whether the node joins those that wait by what is added.
+    // Whether `added` makes the node pending.
     fn starts_waiting(self, added: Reach) -> bool
         ensures { result ≡ starts_waiting self added }
     {
@@ -97,7 +97,7 @@ impl Mark {
     }
 }
 
-// What is known of the node of this id.
+// Returns the state of the node with this ID.
 fn mark_of<ID: Hash + Eq>(known: &HashMap<ID, Mark>, id: &ID) -> Mark
     ensures { result ≡ mark_at ID.eq known.now id.now }
 {
@@ -114,7 +114,7 @@ fn mark_of<ID: Hash + Eq>(known: &HashMap<ID, Mark>, id: &ID) -> Mark
     }
 }
 
-// Adds to what is known of a node. Where a set more reaches it, it waits to be asked.
+// Merges `reach` into the state of the node, and enqueues it if a new side reaches it.
 fn mark_node<T: Ord + Drop, ID: Hash + Eq + Drop>(
     known: &mut HashMap<ID, Mark>,
     waiting: &mut BinaryHeap<T>,
@@ -134,7 +134,7 @@ fn mark_node<T: Ord + Drop, ID: Hash + Eq + Drop>(
 {
     let mark = mark_of(known, &id);
     known.insert(id, mark.with_reach(reach))?;
-    // A map never holds 2^63 ids, so a search ends.
+    // A map has fewer than 2^63 IDs, so the search terminates.
     let _count = known.len();
     if mark.starts_waiting(reach) {
         waiting.push(node)?;
@@ -142,7 +142,7 @@ fn mark_node<T: Ord + Drop, ID: Hash + Eq + Drop>(
     Ok(())
 }
 
-// What is known of a waiting node, which waits no longer.
+// Marks the node as no longer pending, and returns what reaches it.
 fn ask<ID: Hash + Eq>(known: &mut HashMap<ID, Mark>, id: &ID) -> Reach
     ensures reach { result ≡ (mark_at ID.eq known.old id.now).reach }
     ensures known { IsTrue (mark_at ID.eq known.old id.now).waits → (i : ID)
@@ -163,7 +163,7 @@ fn ask<ID: Hash + Eq>(known: &mut HashMap<ID, Mark>, id: &ID) -> Reach
     }
 }
 
-// Puts a node that both sets reach behind the common nodes that were met before.
+// Appends the node to the common nodes if both sides reach it.
 fn keep_common<T: Drop, ID: Drop>(
     common: &mut Vec<(T, ID)>,
     reach: Reach,
@@ -179,14 +179,14 @@ fn keep_common<T: Drop, ID: Drop>(
     Ok(())
 }
 
-// The common nodes that were met, with their ids, and what is known of all nodes that were met.
+// Result of the search: the common nodes with their IDs, and the states of all visited nodes.
 #[derive(Drop)]
 struct Met<T, ID: Hash + Eq> {
     common: Vec<(T, ID)>,
     known: HashMap<ID, Mark>,
 }
 
-// The nodes of which no common node is known to be strictly above them.
+// Filters out the common nodes that lie strictly below another one.
 fn closest<T: Drop, ID: Hash + Eq + Drop>(
     alloc: Global,
     met: Met<T, ID>,
@@ -203,9 +203,12 @@ fn closest<T: Drop, ID: Hash + Eq + Drop>(
     Ok(closest)
 }
 
-/// The nodes that both sets reach and no other such node reaches, each once. The greatest of the
-/// nodes that wait is asked for its neighbours, once for one set and once for both; the search ends
-/// early where one node waits, both sets reach it, and no root, a node without neighbours, was met.
+/// Returns the closest common nodes of two sets: the nodes reachable from both that no other such
+/// node reaches, each once, in the order in which the search finds them.
+///
+/// The search expands the greatest pending node, each node at most twice (once per side), and ends
+/// early when the only pending node is common and no root (a node without neighbors) was visited.
+/// Fails with `Node` of the first failed list that the search reaches.
 pub fn closest_common_nodes<T: Ord + Drop, ID: Hash + Eq + Drop, E: Drop, II1, II2, NI, F, N>(
     alloc: Global,
     set1: II1,
@@ -237,7 +240,7 @@ where
     Ok(closest(alloc, met)?)
 }
 
-// Adds to what is known of each node of a list. It answers whether there was none.
+// Merges `reach` into the state of each node of a list. Returns whether the list was empty.
 fn mark_all<T: Ord + Drop, ID: Hash + Eq + Drop, I, F>(
     known: &mut HashMap<ID, Mark>,
     waiting: &mut BinaryHeap<T>,
@@ -266,7 +269,7 @@ where
     Ok(empty)
 }
 
-// Adds to what is known of each neighbour of a node. It answers whether there was none.
+// Merges `reach` into the state of each neighbor. Returns whether the node is a root.
 fn mark_neighbors<T: Ord + Drop, ID: Hash + Eq + Drop, E: Drop, NI, F, N>(
     known: &mut HashMap<ID, Mark>,
     waiting: &mut BinaryHeap<T>,
@@ -300,8 +303,7 @@ where
     }
 }
 
-// Asks the greatest of the nodes that wait, as long as there is one to ask, and keeps those that
-// both sets reach.
+// Expands the greatest pending node until none is left, or one is and it can be decided at once.
 fn search<T: Ord + Drop, ID: Hash + Eq + Drop, E: Drop, NI, F, N>(
     met: &mut Met<T, ID>,
     waiting: &mut BinaryHeap<T>,
@@ -339,7 +341,7 @@ where
     Ok(())
 }
 
-// The common nodes that a search for the closest meets.
+// Runs the search from both sets.
 fn common_nodes<T: Ord + Drop, ID: Hash + Eq + Drop, E: Drop, II1, II2, NI, F, N>(
     alloc: Global,
     set1: II1,

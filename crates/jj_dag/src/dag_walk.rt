@@ -1,5 +1,4 @@
-//! Walks that end before they answer. Two closures show the graph: the id of a node, and its
-//! neighbours.
+//! Walks over nodes, and over items that may fail (`_ok`). Edges go from a commit to its parents.
 pub use crate::maximal::{heads, heads_ok};
 pub use crate::topo_order::{
     topo_order_forward, topo_order_forward_ok, topo_order_reverse, topo_order_reverse_ok,

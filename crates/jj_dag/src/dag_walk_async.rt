@@ -1,5 +1,4 @@
-//! Walks over items that may fail, under the names that callers of asynchronous graphs know. They
-//! are plain functions.
+//! Fallible walks under the names of the Rust crate's asynchronous ones. They are plain functions.
 pub use crate::closest_common::closest_common_nodes;
 pub use crate::greatest_order::topo_order_reverse_ord;
 pub use crate::maximal_lists::heads;

@@ -1,4 +1,5 @@
-//! The greatest of the orders in which each node stands before its neighbours.
+//! Lexicographically greatest topological order: Kahn's algorithm with a max-heap, on dense indices
+//! of the collected nodes.
 ghost use Rattle.std.specs.Prelude.{◌≡◌, ◌⊎◌, ℕ, ◌<◌, ◌∷◌, ◌++◌, [], cond, map, length, slice_index, slice_index_or, slice_set, IfOk, IsSome, OnOk, MatchOption};
 ghost use Rattle.std.specs.HashMap.{get};
 ghost use Rattle.std.specs.List.{Contains, filter_map};
@@ -19,9 +20,11 @@ use std::collections::{BinaryHeap, HashMap};
 use std::hash::Hash;
 use std::mem;
 
-/// The nodes that the starts reach, each before its neighbours: at each place the greatest node
-/// whose children stand before it. A failed start or neighbour that is met is `Node` of its error;
-/// where a cycle is reached, `cycle_fn` makes the error of a node that the starts reach.
+/// Returns the lexicographically greatest topological order of the nodes reachable from the starts:
+/// children first, and at each position the greatest node whose children come before it.
+///
+/// Fails with `Node` of the first failed start or neighbor, or with `Node(cycle_fn(node))` of some
+/// reachable node if a cycle is reachable. O(edges + nodes log nodes).
 pub fn topo_order_reverse_ord<T: Ord + Drop, ID: Hash + Eq + Drop, E: Drop, II, NI, F, N, C>(
     alloc: Global,
     start: II,
@@ -69,7 +72,7 @@ where
     }
 }
 
-// Moves the node at this index, if it still waits, to the nodes that are ready.
+// Moves the node at `index` to the ready heap, unless it is already there.
 fn make_ready<T: Ord + Drop>(
     waiting: &mut Vec<Option<T>>,
     ready: &mut BinaryHeap<(T, usize)>,
@@ -90,7 +93,7 @@ fn make_ready<T: Ord + Drop>(
     Ok(())
 }
 
-/// The nodes that a walk visited, in that order, with the ids of the neighbours of each.
+/// A collected graph: the visited nodes in order of visit, with their neighbors' IDs and an index.
 #[derive(Drop)]
 pub struct Collected<T, ID: Hash + Eq> {
     pub nodes: Vec<Option<T>>,
@@ -99,7 +102,7 @@ pub struct Collected<T, ID: Hash + Eq> {
 }
 
 impl<T: Drop, ID: Hash + Eq + Drop> Collected<T, ID> {
-    /// No nodes.
+    /// Creates a graph without nodes.
     pub fn new(alloc: Global) -> Self
         ensures nodes { result.nodes.items ≡ [] }
         ensures ids { result.neighbor_ids.items ≡ [] }
@@ -112,7 +115,7 @@ impl<T: Drop, ID: Hash + Eq + Drop> Collected<T, ID> {
         }
     }
 
-    /// Puts a node behind the others.
+    /// Appends a node with its ID and its neighbors' IDs.
     pub fn keep(&mut self, node: T, id: ID, neighbor_ids: Vec<ID>) -> Result<(), AllocError>
         ensures nodes { OnOk result (self.new.nodes.items
             ≡ self.old.nodes.items ++ Some node ∷ []) }
@@ -130,7 +133,8 @@ impl<T: Drop, ID: Hash + Eq + Drop> Collected<T, ID> {
 }
 
 impl<T: Ord + Drop, ID: Hash + Eq + Drop> Collected<T, ID> {
-    /// The nodes, as `take_greatest_first` takes them.
+    /// Returns the greatest topological order of the nodes; beside it, a node that a cycle keeps
+    /// back, if there is one.
     pub fn greatest_first(self, alloc: Global) -> Result<(Vec<T>, Option<T>), AllocError>
         requires { IsFilled ID.eq self }
         ensures { IfOk result
@@ -146,7 +150,7 @@ impl<T: Ord + Drop, ID: Hash + Eq + Drop> Collected<T, ID> {
     }
 }
 
-// The places of the neighbours of each node, and how many edges lead to each place.
+// Returns the indices of each node's neighbors, and the in-degree of each node.
 fn link<ID: Hash + Eq + Drop>(
     alloc: Global,
     index_of: &HashMap<ID, usize>,
@@ -179,8 +183,8 @@ fn link<ID: Hash + Eq + Drop>(
     Ok((targets, indegrees))
 }
 
-// Takes the greatest node all of whose children were taken, as long as there is one. Beside the
-// nodes taken stands one of those left, which all are on or below a cycle.
+// Kahn's algorithm with a max-heap. Returns the order and, if a cycle kept some nodes back, one of
+// them.
 fn take_greatest_first<T: Ord + Drop>(
     alloc: Global,
     mut waiting: Vec<Option<T>>,

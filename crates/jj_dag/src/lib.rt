@@ -1,5 +1,5 @@
-//! Walks of whole directed graphs that closures show: their orders, their maximal nodes, and the
-//! closest nodes that two sets reach both.
+//! Walks of directed graphs that run to the end: topological orders, maximal nodes and closest
+//! common nodes. Two closures implement the graph: the ID of a node, and its neighbors.
 #![tactic(auto)]
 
 mod all_ok;

@@ -1,11 +1,11 @@
-//! What is asked of a node where its list of neighbours may fail as a whole.
+//! Iterator adapter: a list that may fail as a whole, as items that may fail.
 ghost use Rattle.jj_dag.specs.ListOrError.{StandsFor};
 
-/// The items of a list, or one failed item in the place of the list.
+/// Yields the items of a list, or one error.
 #[derive(Drop)]
 pub enum ListOrError<I, E> {
     List(I),
-    /// The error, until it was given.
+    /// The error, until it was yielded.
     Error(Option<E>),
 }
 
@@ -34,7 +34,7 @@ impl<I: Iterator, E: Drop> Iterator for ListOrError<I, E> {
     }
 }
 
-/// What a closure answered, as such items.
+/// Converts the result of a closure to fallible items.
 pub fn as_list_or_error<L: IntoIterator, E: Drop>(
     answer: Result<L, E>,
 ) -> ListOrError<L::IntoIter, E>

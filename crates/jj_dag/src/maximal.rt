@@ -1,4 +1,5 @@
-//! The nodes of a set that no other node of it reaches; `heads_ok` is over items that may fail.
+//! Maximal elements of a set of nodes (heads), by a breadth-first search that removes every node it
+//! reaches. `heads_ok` takes items that may fail.
 ghost use Rattle.std.specs.Prelude.{◌≡◌, ◌⊎◌, ◌+◌, ◌≤◌, ◌++◌, ◌∷◌, [], true, false, cond, IfOk, OnOk, IfSome, IfNone, IsTrue, length};
 ghost use Rattle.std.specs.Fn.{CalledAt};
 ghost use Rattle.std.specs.HashSet.{contains, Updates, hash_set_len, IsUnique};
@@ -18,7 +19,7 @@ use std::convert::Infallible;
 use std::hash::Hash;
 use std::marker::PhantomData;
 
-/// Takes a neighbour out of the heads, and lets it wait if its id is new.
+/// Removes a neighbor from the heads, and enqueues it on the first visit.
 pub fn meet<T: Hash + Eq + Drop, ID: Hash + Eq + Drop>(
     heads: &mut HashSet<T>,
     visited: &mut HashSet<ID>,
@@ -45,8 +46,8 @@ pub fn meet<T: Hash + Eq + Drop, ID: Hash + Eq + Drop>(
     Ok(())
 }
 
-/// The next node to ask for its neighbours. Within a level there is one; after a level there is
-/// none where no node waits, or where one waits and no root was met.
+/// Dequeues the next node to expand. At the end of a level, returns `None` if the queue is empty,
+/// or if only one node is left and no root was visited: that node cannot reach a head.
 pub fn next_to_ask<T>(waiting: &mut VecDeque<T>, level: &mut usize, root_met: bool) -> Option<T>
     ensures first { IfSome result (λ node. waiting.old.items ≡ node ∷ waiting.new.items) }
     ensures few { IfNone result (length waiting.old.items ≤ 1) }
@@ -63,8 +64,10 @@ pub fn next_to_ask<T>(waiting: &mut VecDeque<T>, level: &mut usize, root_met: bo
     Some(node)
 }
 
-/// The nodes of `start` that no other of them reaches. A walk by levels ends early where one node
-/// waits and no root, a node without neighbours, was met.
+/// Returns the maximal elements of `start`: the nodes that no other of them reaches.
+///
+/// The breadth-first search ends early when one node is pending and no root (a node without
+/// neighbors) was visited. Calls `neighbors_fn` at most once per reachable node.
 pub fn heads<T: Hash + Eq + Clone + Drop, ID: Hash + Eq + Drop, II, NI, F, N>(
     alloc: Global,
     start: II,
@@ -107,8 +110,10 @@ where
     }
 }
 
-/// `heads` over items that may fail: `Node` of the first failed item that is met. Failed items
-/// below the place where the walk ends early are not met.
+/// Returns the maximal elements of `start`, as [`heads`] does, over items that may fail.
+///
+/// Fails with `Node` of the first failed item that the search reaches; items below the point where
+/// it ends early are not read.
 pub fn heads_ok<T: Hash + Eq + Clone + Drop, ID: Hash + Eq + Drop, E: Drop, II, NI, F, N>(
     alloc: Global,
     start: II,
@@ -151,7 +156,7 @@ where
     }
 }
 
-// Makes a start a head that waits, and its id a visited one.
+// Adds a start to the heads and to the queue.
 fn take_start<T: Hash + Eq + Clone + Drop, ID: Hash + Eq + Drop>(
     heads: &mut HashSet<T>,
     visited: &mut HashSet<ID>,
@@ -174,7 +179,7 @@ fn take_start<T: Hash + Eq + Clone + Drop, ID: Hash + Eq + Drop>(
     Ok(())
 }
 
-// Takes each start that is equal to none before it.
+// Adds the distinct starts.
 fn take_starts<T: Hash + Eq + Clone + Drop, ID: Hash + Eq + Drop, E: Drop, II, F>(
     heads: &mut HashSet<T>,
     visited: &mut HashSet<ID>,
@@ -212,7 +217,7 @@ where
     Ok(())
 }
 
-// Meets each neighbour of a node. It answers whether there was none.
+// Removes each neighbor of a node from the heads. Returns whether the node is a root.
 fn meet_neighbors<T: Hash + Eq + Drop, ID: Hash + Eq + Drop, E: Drop, NI, F, N>(
     heads: &mut HashSet<T>,
     visited: &mut HashSet<ID>,
@@ -256,7 +261,7 @@ where
     Ok(empty)
 }
 
-// Asks the nodes that wait, level by level, and takes their neighbours out of the heads.
+// Expands the queue level by level.
 fn ask_all<T: Hash + Eq + Drop, ID: Hash + Eq + Drop, E: Drop, NI, F, N>(
     heads: &mut HashSet<T>,
     visited: &mut HashSet<ID>,
@@ -278,7 +283,7 @@ where
     let mut root_met = false;
     let mut level = 0;
     while let Some(node) = next_to_ask(waiting, &mut level, root_met) {
-        // A set never holds 2^63 ids, so the walk ends.
+        // A set has fewer than 2^63 IDs, so the search terminates.
         let _count = visited.len();
         match meet_neighbors(heads, visited, waiting, id_fn, neighbors_fn, &node) {
             Ok(is_root) => root_met |= is_root,

@@ -1,4 +1,4 @@
-//! The closures that show a graph, and all nodes that starts reach by them.
+//! A graph implemented by closures, and the collection of all reachable nodes (depth-first).
 ghost use Rattle.std.specs.Prelude.{IfOk};
 ghost use Rattle.std.specs.List.{AllZip};
 ghost use Rattle.jj_dag.specs.Asking.{CollectsFrom, ListsNode};
@@ -11,14 +11,14 @@ use crate::walk_error::WalkError;
 use std::alloc::{AllocError, Global};
 use std::hash::Hash;
 
-/// The closures that show a graph.
+/// The two closures that implement a graph.
 #[derive(Drop)]
 pub struct Shown<F, N> {
     pub id_fn: F,
     pub neighbors_fn: N,
 }
 
-/// The ids of these nodes, in their order.
+/// Returns the IDs of the nodes, in order.
 pub fn ids_of<T, ID: Drop, F: Fn(&T) -> Result<ID, AllocError>>(
     alloc: Global,
     id_fn: &F,
@@ -36,7 +36,7 @@ pub fn ids_of<T, ID: Drop, F: Fn(&T) -> Result<ID, AllocError>>(
 }
 
 impl<F, N> Shown<F, N> {
-    /// The neighbours of a node.
+    /// Returns the neighbors of a node, or the first error of its list.
     pub fn neighbors<T: Drop, ID: Hash + Eq + Drop, E: Drop, NI>(
         &mut self,
         alloc: Global,
@@ -54,8 +54,8 @@ impl<F, N> Shown<F, N> {
         sound_nodes(alloc, (self.neighbors_fn)(node))
     }
 
-    /// All nodes that the starts reach, in the order in which they are visited: the last start and
-    /// the last neighbour first.
+    /// Collects all reachable nodes with their neighbors' IDs, in order of visit: the last start
+    /// and the last neighbor first. O(nodes + edges) calls of the closures.
     pub fn collect<T: Drop, ID: Hash + Eq + Drop, E: Drop, NI>(
         &mut self,
         alloc: Global,

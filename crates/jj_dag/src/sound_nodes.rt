@@ -1,4 +1,4 @@
-//! The nodes of a list of items none of which failed.
+//! Collects fallible items, up to the first error.
 ghost use Rattle.std.specs.Prelude.{IfOk, Ok, map};
 ghost use Rattle.jj_dag.specs.Failing.{FailsAfterNodes};
 ghost use Rattle.jj_dag.specs.Outcomes.{Ends, IfFails};
@@ -7,7 +7,7 @@ ghost use Rattle.jj_dag.specs.Walk.{DrainsTo};
 use crate::walk_error::WalkError;
 use std::alloc::Global;
 
-/// The nodes that the items are, or the error of the first that failed.
+/// Collects the nodes, or returns the first error.
 pub fn sound_nodes<T: Drop, E: Drop, L>(alloc: Global, items: L) -> Result<Vec<T>, WalkError<E>>
 where
     L: IntoIterator<Item = Result<T, E>, IntoIter: Drop>,

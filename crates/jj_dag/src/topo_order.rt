@@ -1,4 +1,4 @@
-//! Orders in which each node stands after, or before, its neighbours; the forms `_ok` are over
+//! Topological orders by depth-first search: postorder and reverse postorder. The forms `_ok` take
 //! items that may fail.
 ghost use Rattle.std.specs.Prelude.{◌⊎◌, IfOk, map, reverse};
 ghost use Rattle.jj_dag.specs.ClosureGraph.{InEachModel, IsCycleError, IsInputError, graph_of, graph_of_items, list_of, list_of_items};
@@ -13,8 +13,11 @@ use std::convert::Infallible;
 use std::hash::Hash;
 use std::marker::PhantomData;
 
-/// The nodes that the starts reach, each once and after its neighbours; later starts and later
-/// neighbours come first. A cycle is `Node(cycle_fn(node))` of some node on it.
+/// Returns the nodes reachable from the starts in postorder: each once, after its neighbors; later
+/// starts and later neighbors first.
+///
+/// Fails with `Node(cycle_fn(node))` for a node on a cycle, if one is reachable. Calls
+/// `neighbors_fn` once per node.
 pub fn topo_order_forward<T: Drop, ID: Hash + Eq + Clone + Drop, E, II, NI, F, N, C>(
     alloc: Global,
     start: II,
@@ -64,8 +67,10 @@ where
     }
 }
 
-/// The nodes that the starts reach, each once and before its neighbours: `topo_order_forward`'s
-/// list from its end. A cycle is `Node(cycle_fn(node))` of some node on it.
+/// Returns the nodes reachable from the starts in reverse postorder: each once, before its
+/// neighbors.
+///
+/// Fails with `Node(cycle_fn(node))` for a node on a cycle, if one is reachable.
 pub fn topo_order_reverse<T: Drop, ID: Hash + Eq + Clone + Drop, E, II, NI, F, N, C>(
     alloc: Global,
     start: II,
@@ -97,9 +102,11 @@ where
     Ok(order)
 }
 
-/// The nodes that the starts reach, each once and after its neighbours; later starts and later
-/// neighbours come first. A failed item that is met is `Node` of its error, and a cycle is
-/// `Node(cycle_fn(node))` of some node on it.
+/// Returns the nodes reachable from the starts in postorder, as [`topo_order_forward`] does, over
+/// items that may fail.
+///
+/// Fails with `Node` of the first failed item, or with `Node(cycle_fn(node))` for a node on a
+/// cycle, whichever the search reaches first.
 pub fn topo_order_forward_ok<T: Drop, ID: Hash + Eq + Clone + Drop, E: Drop, II, NI, F, N, C>(
     alloc: Global,
     start: II,
@@ -139,9 +146,9 @@ where
     }
 }
 
-/// The nodes that the starts reach, each once and before its neighbours: `topo_order_forward_ok`'s
-/// list from its end. A failed item that is met is `Node` of its error, and a cycle is
-/// `Node(cycle_fn(node))` of some node on it.
+/// Returns the nodes reachable from the starts in reverse postorder, over items that may fail.
+///
+/// Fails as [`topo_order_forward_ok`] does.
 pub fn topo_order_reverse_ok<T: Drop, ID: Hash + Eq + Clone + Drop, E: Drop, II, NI, F, N, C>(
     alloc: Global,
     start: II,

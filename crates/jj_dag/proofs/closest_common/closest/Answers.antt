@@ -7,14 +7,14 @@ use Rattle.jj_dag.specs.Marks.{mark_at, closest_of}
 use Rattle.jj_dag.specs.declared.closest_common.Mark.{Mark}
 use Rattle.jj_dag.proofs.closest_common.closest.Goals as goal
 
--- a node that no common node is known to be above is the next of the closest
+-- a node that lies strictly below no common node is the next closest one
 kept : {T ID : Type 0} (find : ID → Mark) (xs : List (T × ID)) (ys zs : List T) (x : T) (i : ID) (m : Mark) → m ≡ find i → not m.reach.below ≡ true
     → ys ≡ closest_of find xs → zs ≡ ys ++ x ∷ [] → zs ≡ closest_of find (xs ++ (x, i) ∷ [])
 kept find xs ys zs x i m is e before more =
     let none : not (find i).reach.below ≡ true = ap (λ (k : Mark). not k.reach.below) (sym is) ∙ e in
     rw (more, before, filter-append, none, map_push) refl
 
--- another is left out
+-- any other is dropped
 left_out : {T ID : Type 0} (find : ID → Mark) (xs : List (T × ID)) (ys : List T) (x : T) (i : ID) (m : Mark) → m ≡ find i → not m.reach.below ≡ false
     → ys ≡ closest_of find xs → ys ≡ closest_of find (xs ++ (x, i) ∷ [])
 left_out find xs ys x i m is e before =
