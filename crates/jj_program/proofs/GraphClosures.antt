@@ -1,5 +1,4 @@
--- The closures over a listed graph implement it: one returns the number of an id, the other the
--- neighbours of a node.
+-- The closures over a listed graph implement it.
 use Rattle.std.proofs.Common.{◌≡◌, ℕ, List, Iter, Result, Ok, Err, map, eqb, subst, ◌∙◌}
 use Rattle.std.specs.Prelude.{IsOkAnd}
 use Rattle.std.specs.Fn.{Called, Mut, Shared}
@@ -27,14 +26,14 @@ use Rattle.jj_program.proofs.NumberedWalks.{number_stands, numbered, numbers_apa
 abbrev pub walk_over : ListedGraph → Numbered ℕ ℕ
 walk_over g = numbered (shown_by g) (named_by g)
 
--- a complete list of copied ids, of a result that holds such a list, and of items
+-- a complete list of copied ids, and of fallible ids
 abbrev YieldsIds : Copied (Iter ℕ) → List ℕ → Type 0
 YieldsIds = DrainsTo (λ s t. t ≡ s) (copies fronts)
 
 abbrev YieldsItems : SoundIds → List ℕ → Type 0
 YieldsItems r xs = DrainsTo (λ s t. t ≡ s) (YieldsFirst sound_left) r (map Ok xs)
 
--- a result that holds the neighbours
+-- a successful result with the neighbors
 abbrev HoldsIds : List ℕ → Result (Copied (Iter ℕ)) ℕ → Type 0
 HoldsIds neighbors r = IsOkAnd r (λ list. iter_rest (copied_source list) ≡ neighbors)
 
@@ -59,7 +58,7 @@ module _ (g : ListedGraph) {F N : Type 0}
         let k = looks a r after h in (λ xs here d. k.0 xs d, k.1));
   }
 
-  -- where the closure returns the neighbours
+  -- a closure that returns the neighbors
   pub implements_lists : (lists : Mut N (Bor ℕ × Unit {0}) (Copied (Iter ℕ)))
       → ((a : Bor ℕ × Unit {0}) (r : Copied (Iter ℕ)) (after : N) → Called lists neighbors_fn a r after
       → (iter_rest (copied_source r) ≡ shown_by g a.0.now) × (after ≡ neighbors_fn))
@@ -67,7 +66,7 @@ module _ (g : ListedGraph) {F N : Type 0}
   implements_lists lists looks = implements lists YieldsIds (λ a r after h.
       let k = looks a r after h in (λ xs d. copied_ids r xs (shown_by g a.0.now) k.0 d, k.1))
 
-  -- where it returns them in an `Ok`
+  -- a closure that returns them in an `Ok`
   pub implements_oks : (lists : Mut N (Bor ℕ × Unit {0}) (Result (Copied (Iter ℕ)) ℕ))
       → ((a : Bor ℕ × Unit {0}) (r : Result (Copied (Iter ℕ)) ℕ) (after : N) → Called lists neighbors_fn a r after
       → HoldsIds (shown_by g a.0.now) r × (after ≡ neighbors_fn))
@@ -75,7 +74,7 @@ module _ (g : ListedGraph) {F N : Type 0}
   implements_oks lists looks = implements lists (YieldsOk YieldsIds) (λ a r after h.
       let k = looks a r after h in (λ xs d. yields_held (shown_by g a.0.now) r xs k.0 d, k.1))
 
-  -- where it returns each in an `Ok`
+  -- a closure that returns each in an `Ok`
   pub implements_items : (lists : Mut N (Bor ℕ × Unit {0}) SoundIds)
       → ((a : Bor ℕ × Unit {0}) (r : SoundIds) (after : N) → Called lists neighbors_fn a r after
       → (r.ids.now ≡ shown_by g a.0.now) × (after ≡ neighbors_fn))

@@ -1,4 +1,4 @@
--- Graphs whose edges a map lists: where their cycles lie, and their maximal nodes in ascending order.
+-- Listed graphs: cycles, and sorted results of walks.
 use Rattle.std.proofs.Common.{◌≡◌, ◌∙◌, Iter, ℕ, ◌<◌, List, [], ◌∷◌, length, get_or, Result, Ok, Err, None, ap, refl, sym, arith, eqb, map}
 use Rattle.std.specs.Prelude.{◌++◌}
 use Rattle.std.specs.Iterator.{YieldsFirst}
@@ -30,20 +30,20 @@ use Rattle.jj_dag.proofs.Walking.{drained_are, eqb-flip, Contains-from_has}
 use Rattle.jj_program.specs.Neighbors.{listed_in, HoldsNeighbors}
 use Rattle.jj_program.specs.GraphCommand.{HasCycle}
 
--- where none of the ids reaches a cycle, there is none
+-- if no id reaches a cycle, the graph is acyclic
 pub none_listed : (graph : Graph) (ids : List ℕ) → HoldsNeighbors graph ids → HasNoCycle graph ids → HasCycle graph → ⊥
 none_listed graph ids held none (id, (steps, (next, edge, way))) =
     none id (next, Contains-from_has ids next (held id next edge), (steps, way)) (steps, (next, edge, way))
 
--- where there is no cycle, no nodes reach one
+-- in an acyclic graph no node reaches a cycle
 pub none_reached : (graph : Graph) (starts : List ℕ) → (HasCycle graph → ⊥) → HasNoCycle graph starts
 none_reached graph starts none a reached cycle = none (a, cycle)
 
--- ids that an iterator over a slice copies
+-- the items of a copied slice iterator
 pub copied_ids : (value : Copied (Iter ℕ)) (xs ids : List ℕ) → iter_rest (copied_source value) ≡ ids → DrainsTo (λ s t. t ≡ s) (copies fronts) value xs → map (λ x. x) xs ≡ ids
 copied_ids value xs ids rest d = drained_are (λ s t. t ≡ s) (copies fronts) value xs (λ x. x) ids (λ it b. YieldsList-from_copied (YieldsList-from_slice ids (ap (λ s. iter_rest (copied_source s)) b ∙ rest))) d
 
--- what an iterator over ids gives, up to an error, is no list of them
+-- an iterator over ids does not fail
 pub no_beginning : (value : SoundIds) (xs : List (Result ℕ ℕ)) (e : ℕ) → BeginsWith (λ s t. t ≡ s) (YieldsFirst sound_left) value (xs ++ Err e ∷ []) → ⊥
 no_beginning value xs e d =
     let begun = begun_are (λ s t. t ≡ s) (YieldsFirst sound_left) value (xs ++ Err e ∷ []) (λ x. x) (sound_left value) (λ it b. YieldsList-from_first (λ x. x) sound_left (sound_left value) (ap sound_left b)) d in
@@ -55,7 +55,7 @@ no_beginning value xs e d =
     has_error (y ∷ ys) [] rest same = cc
     has_error (y ∷ ys) (id ∷ ids) rest same = let more : map (λ n. Ok n) ids ≡ map (λ x. x) (ys ++ Err e ∷ []) ++ rest = cc in has_error ys ids rest more
 
--- ids that were given as items
+-- ids in the fallible form
 pub given_ids : (value : SoundIds) (xs : List ℕ) → DrainsTo (λ s t. t ≡ s) (YieldsFirst sound_left) value (map (λ x. Ok x) xs) → map (λ x. x) xs ≡ value.ids.now
 given_ids value xs d = same xs value.ids.now (drained_are (λ s t. t ≡ s) (YieldsFirst sound_left) value (map (λ x. Ok x) xs) (λ x. x) (sound_left value)
     (λ it b. YieldsList-from_first (λ x. x) sound_left (sound_left value) (ap sound_left b)) d)
@@ -69,28 +69,28 @@ given_ids value xs d = same xs value.ids.now (drained_are (λ s t. t ≡ s) (Yie
         let rest : map (λ x. x) (map {B = Result ℕ ℕ} (λ x. Ok x) ys) ≡ map (λ n. Ok n) ids = cc in
         ap (λ n. n ∷ map (λ x. x) ys) first ∙ ap (λ l. id ∷ l) (same ys ids rest)
 
--- an empty map lists nothing
+-- an empty map has no adjacency list
 pub listed_in-empty : (m : BTreeMap ℕ (Vec ℕ Global)) → m.entries ≡ [] → listed_in m ≡ (λ id. None)
 listed_in-empty m empty = λ i id. option_map (λ v. v.items) (lookup (is_at (nat_cmp id)) (empty i))
 
--- the maximal nodes in another order
+-- maximal elements under permutation
 pub maximal_permuted : (graph : Graph) (ids found sorted : List ℕ) → IsPermutation found sorted → IsMaximalIn graph ids found → IsMaximalIn graph ids sorted
 maximal_permuted graph ids found sorted moved of_found = record {
   all = λ a. ((λ h. (of_found.all a).0 (Contains-permutation sorted found a (IsPermutation-sym found sorted moved) h)), λ h. Contains-permutation found sorted a moved ((of_found.all a).1 h));
   once = IsDistinct-IsPermutation eqb eqb-flip found sorted moved of_found.once;
 }
 
--- sorted, they rise
+-- a sorted list of distinct ids is strictly increasing
 pub maximal_rising : (graph : Graph) (ids sorted : List ℕ) → IsSorted nat_cmp sorted → IsMaximalIn graph ids sorted → IsStrictlyIncreasing sorted
 maximal_rising graph ids sorted in_order of_sorted = IsStrictlyIncreasing-from_distinct sorted (IsNonDecreasingBy-from_sort (λ x. x) sorted in_order) of_sorted.once
 
--- the closest common nodes in another order
+-- closest common nodes under permutation
 pub closest_permuted : (graph : Graph) (set1 set2 found sorted : List ℕ) → IsPermutation found sorted → AreClosestCommon graph set1 set2 found → AreClosestCommon graph set1 set2 sorted
 closest_permuted graph set1 set2 found sorted moved of_found = record {
   all = λ a. ((λ h. (of_found.all a).0 (Contains-permutation sorted found a (IsPermutation-sym found sorted moved) h)), λ h. Contains-permutation found sorted a moved ((of_found.all a).1 h));
   once = IsDistinct-IsPermutation eqb eqb-flip found sorted moved of_found.once;
 }
 
--- sorted, they rise
+-- a sorted list of distinct ids is strictly increasing
 pub closest_rising : (graph : Graph) (set1 set2 sorted : List ℕ) → IsSorted nat_cmp sorted → AreClosestCommon graph set1 set2 sorted → IsStrictlyIncreasing sorted
 closest_rising graph set1 set2 sorted in_order of_sorted = IsStrictlyIncreasing-from_distinct sorted (IsNonDecreasingBy-from_sort (λ x. x) sorted in_order) of_sorted.once
