@@ -16,7 +16,7 @@ use std::alloc::{AllocError, Global};
 use std::collections::{BinaryHeap, HashMap};
 use std::hash::Hash;
 
-// What reaches a node: the first set, the second set, and (strictly) a common node.
+// The sides that reach a node: the first set, the second set, and (strictly) a common node.
 #[derive(Clone, Copy)]
 struct Reach {
     left: bool,
@@ -24,7 +24,7 @@ struct Reach {
     below: bool,
 }
 
-// State of a visited node: what reaches it, and whether it is pending.
+// State of a visited node: the sides that reach it, and whether it is pending.
 #[derive(Clone, Copy)]
 struct Mark {
     reach: Reach,
