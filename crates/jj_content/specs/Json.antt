@@ -1,5 +1,5 @@
 -- The result of a conversion to JSON.
--- Cited by contracts of public items: IsAnswer, IsJsonList.
+-- Cited by contracts of public items: IsJsonResult, IsJsonList.
 use Rattle.std.specs.Prelude.{◌≡◌, List, Result, Ok, Err}
 use Rattle.std.specs.List.{AllZip}
 use Rattle.serde_json.specs.Data.{Data, array}
@@ -10,10 +10,10 @@ use Rattle.jj_content.specs.declared.to_json.ToJsonError.TheVariants.{Memory, Ti
 
 -- Ok with the JSON value only if every timestamp has a date, TimestampOutOfRange only if one has
 -- none, or Memory.
-abbrev pub IsAnswer : Type 0 → (Data → Type 0) → Result Value ToJsonError → Type 0
-IsAnswer in_range is_json (Ok value) = in_range × is_json (view value)
-IsAnswer in_range is_json (Err TimestampOutOfRange) = in_range → ⊥
-IsAnswer in_range is_json (Err Memory) = Unit {0}
+abbrev pub IsJsonResult : Type 0 → (Data → Type 0) → Result Value ToJsonError → Type 0
+IsJsonResult in_range is_json (Ok value) = in_range × is_json (view value)
+IsJsonResult in_range is_json (Err TimestampOutOfRange) = in_range → ⊥
+IsJsonResult in_range is_json (Err Memory) = Unit {0}
 
 -- the JSON array of the items' JSON values
 abbrev pub IsJsonList : {X : Type 0} → (X → Data → Type 0) → List X → Data → Type 0

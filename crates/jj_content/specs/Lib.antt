@@ -1,10 +1,10 @@
 pub mod Hex
-pub mod HexKinds
+pub mod HexDigits
 pub mod Symbols
 pub mod Content
-pub mod Lawful
-pub mod InOrder
-pub mod Tables
+pub mod PrefixFreeProofs
+pub mod SortingProofs
+pub mod HashTableProofs
 pub mod Json
 pub mod Blake2b
 pub mod Blake2bState

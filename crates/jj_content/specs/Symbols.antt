@@ -1,5 +1,5 @@
 -- Double-quoted strings: the escape of each byte, and the character that each escape represents.
--- Cited by contracts of public items: IsEscapeOf, escaped_text, quoted_text.
+-- Cited by contracts of public items: IsEscapeOf, escaped_string, quoted_string.
 use Rattle.std.specs.Prelude.{◌≡◌, ℕ, ◌<◌, ◌^◌, List, [], ◌∷◌, ◌++◌, ◌==◌, codes, if◌then◌else◌, Option, Some, find, ◌⊎◌}
 use Rattle.std.specs.Option.{option_map, option_map_or}
 use Rattle.std.specs.List.{flat_map}
@@ -24,12 +24,12 @@ escaped_byte byte =
     (if is_ascii_control byte then hex_escape byte else byte ∷ [])
 
 -- escapes a string
-unfoldable pub escaped_text : List ℕ → List ℕ
-escaped_text text = flat_map escaped_byte text
+unfoldable pub escaped_string : List ℕ → List ℕ
+escaped_string text = flat_map escaped_byte text
 
 -- escapes a string and encloses it in double quotes
-abbrev pub quoted_text : List ℕ → List ℕ
-quoted_text text = (34 ∷ escaped_text text) ++ 34 ∷ []
+abbrev pub quoted_string : List ℕ → List ℕ
+quoted_string text = (34 ∷ escaped_string text) ++ 34 ∷ []
 
 -- the character of a letter after a backslash; `e` is the escape character
 abbrev pub letter_char : ℕ → Option ℕ

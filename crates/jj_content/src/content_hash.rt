@@ -6,26 +6,26 @@ ghost use Rattle.std.specs.HashMap.{IsUnique};
 ghost use Rattle.std.specs.HashSet.{IsUnique as HasUniqueKeys};
 ghost use Rattle.std.specs.Ordering.{on};
 ghost use Rattle.jj_content.specs.Blake2b.{blake2b};
-ghost use Rattle.jj_content.specs.Blake2bState.{Holds};
+ghost use Rattle.jj_content.specs.Blake2bState.{HasAbsorbed};
 ghost use Rattle.std.specs.Int.{w32, w64};
 ghost use Rattle.std.specs.String.{string_bytes};
-ghost use Rattle.jj_content.specs.Content.{Takes, TakesFront, IsLawful, AreValues, IsOptionOf, bool_content, u32_content, u64_content, i32_content, i64_content, list_content, text_content, option_content, entry_content, in_order, map_content, set_content};
-ghost use Rattle.jj_content.specs.Lawful.{unit_lawful, bool_lawful, u8_lawful, u32_lawful, u64_lawful, i32_lawful, i64_lawful, text_lawful, list_lawful, option_lawful, on_lawful, both_lawful};
-ghost use Rattle.jj_content.specs.Tables.{hash_map_lawful, hash_set_lawful};
+ghost use Rattle.jj_content.specs.Content.{Absorbs, AbsorbsPrefix, IsLawful, AreValues, IsOptionOf, bool_content, u32_content, u64_content, i32_content, i64_content, list_content, string_content, option_content, entry_content, insertion_sort, map_content, set_content};
+ghost use Rattle.jj_content.specs.PrefixFreeProofs.{unit_lawful, bool_lawful, u8_lawful, u32_lawful, u64_lawful, i32_lawful, i64_lawful, string_lawful, list_lawful, option_lawful, on_lawful, both_lawful};
+ghost use Rattle.jj_content.specs.HashTableProofs.{hash_map_lawful, hash_set_lawful};
 
 use crate::blake2b::Blake2b512;
 pub use crate::to_json::{ToJson, ToJsonError};
 use std::alloc::{AllocError, Global};
 use std::collections::{BTreeMap, HashMap, HashSet};
 
-/// A consumer of bytes, such as a digest.
+/// A state that absorbs bytes, such as a digest.
 pub trait DigestUpdate {
-    /// The bytes that the state has consumed.
-    ghost stands_for: { Self → List ℕ → Type 0 };
+    /// The bytes that the state has absorbed.
+    ghost absorbed: { Self → List ℕ → Type 0 };
 
-    /// Appends `bytes` to the consumed bytes.
+    /// Appends `bytes` to the absorbed bytes.
     fn update(&mut self, bytes: &[u8])
-        ensures { Takes stands_for self.old self.new bytes.now };
+        ensures { Absorbs absorbed self.old self.new bytes.now };
 }
 
 /// A value with a canonical, prefix-free serialization, its content.
@@ -37,11 +37,11 @@ pub trait ContentHash: Eq {
     ghost content: { Self → List ℕ };
 
     /// Appends the content of the value to the state. Returns an error if memory runs out. The
-    /// state has then consumed a prefix of the content.
+    /// state has then absorbed a prefix of the content.
     fn hash<D: DigestUpdate>(&self, alloc: Global, state: &mut D) -> Result<(), AllocError>
-        ensures ok { OnOk result (Takes D.stands_for state.old state.new (content self.now)) }
+        ensures ok { OnOk result (Absorbs D.absorbed state.old state.new (content self.now)) }
         ensures value { OnOk result (is_value self.now) }
-        ensures err { OnErr result (TakesFront D.stands_for state.old state.new
+        ensures err { OnErr result (AbsorbsPrefix D.absorbed state.old state.new
             (content self.now)) };
 
     /// Equal values have equal contents, and the contents of unequal values are not prefixes of
@@ -145,9 +145,9 @@ impl ContentHash for i64 {
 }
 
 // Appends the length in bytes, then the bytes.
-#[tactic(auto, unfolding(crate::specs::Content::text_content, crate::specs::Content::u64_content))]
-fn hash_text<D: DigestUpdate>(text: &str, state: &mut D)
-    ensures { Takes D.stands_for state.old state.new (text_content text.now) }
+#[tactic(auto, unfolding(crate::specs::Content::string_content, crate::specs::Content::u64_content))]
+fn hash_str<D: DigestUpdate>(text: &str, state: &mut D)
+    ensures { Absorbs D.absorbed state.old state.new (string_content text.now) }
 {
     state.update(&(text.len() as u64).to_le_bytes());
     state.update(text.as_bytes());
@@ -160,10 +160,10 @@ fn hash_items<T: ContentHash, D: DigestUpdate>(
     items: &[T],
     state: &mut D,
 ) -> Result<(), AllocError>
-    ensures ok { OnOk result (Takes D.stands_for state.old state.new
+    ensures ok { OnOk result (Absorbs D.absorbed state.old state.new
         (list_content T.content items.now)) }
     ensures value { OnOk result (AreValues T.is_value items.now) }
-    ensures err { OnErr result (TakesFront D.stands_for state.old state.new
+    ensures err { OnErr result (AbsorbsPrefix D.absorbed state.old state.new
         (list_content T.content items.now)) }
 {
     state.update(&(items.len() as u64).to_le_bytes());
@@ -176,12 +176,12 @@ fn hash_items<T: ContentHash, D: DigestUpdate>(
 impl ContentHash for &str {
     ghost is_value = { λ s. length s.now < 2 ^ 64 };
 
-    ghost content = { λ s. text_content s.now };
+    ghost content = { λ s. string_content s.now };
 
-    ghost lawful = { on_lawful (λ s. s.now) text_lawful };
+    ghost lawful = { on_lawful (λ s. s.now) string_lawful };
 
     fn hash<D: DigestUpdate>(&self, _alloc: Global, state: &mut D) -> Result<(), AllocError> {
-        hash_text(*self, state);
+        hash_str(*self, state);
         Ok(())
     }
 }
@@ -189,12 +189,12 @@ impl ContentHash for &str {
 impl ContentHash for String {
     ghost is_value = { λ s. length (string_bytes s) < 2 ^ 64 };
 
-    ghost content = { λ s. text_content (string_bytes s) };
+    ghost content = { λ s. string_content (string_bytes s) };
 
-    ghost lawful = { on_lawful (λ s. string_bytes s) text_lawful };
+    ghost lawful = { on_lawful (λ s. string_bytes s) string_lawful };
 
     fn hash<D: DigestUpdate>(&self, _alloc: Global, state: &mut D) -> Result<(), AllocError> {
-        hash_text(self.as_str(), state);
+        hash_str(self.as_str(), state);
         Ok(())
     }
 }
@@ -246,17 +246,17 @@ impl<T: ContentHash> ContentHash for Option<T> {
 }
 
 /// Appends the contents of two values, in order.
-#[tactic(auto, using(crate::proofs::Fronts::fronts))]
+#[tactic(auto, using(crate::proofs::AbsorbedPrefixes::prefixes))]
 pub fn hash_both<A: ContentHash, B: ContentHash, D: DigestUpdate>(
     alloc: Global,
     first: &A,
     second: &B,
     state: &mut D,
 ) -> Result<(), AllocError>
-    ensures ok { OnOk result (Takes D.stands_for state.old state.new
+    ensures ok { OnOk result (Absorbs D.absorbed state.old state.new
         (A.content first.now ++ B.content second.now)) }
     ensures value { OnOk result (A.is_value first.now × B.is_value second.now) }
-    ensures err { OnErr result (TakesFront D.stands_for state.old state.new
+    ensures err { OnErr result (AbsorbsPrefix D.absorbed state.old state.new
         (A.content first.now ++ B.content second.now)) }
 {
     first.hash(alloc, state)?;
@@ -264,7 +264,7 @@ pub fn hash_both<A: ContentHash, B: ContentHash, D: DigestUpdate>(
 }
 
 /// Appends the contents of three values, in order.
-#[tactic(auto, using(crate::proofs::Fronts::fronts))]
+#[tactic(auto, using(crate::proofs::AbsorbedPrefixes::prefixes))]
 pub fn hash_three<A: ContentHash, B: ContentHash, C: ContentHash, D: DigestUpdate>(
     alloc: Global,
     first: &A,
@@ -272,11 +272,11 @@ pub fn hash_three<A: ContentHash, B: ContentHash, C: ContentHash, D: DigestUpdat
     third: &C,
     state: &mut D,
 ) -> Result<(), AllocError>
-    ensures ok { OnOk result (Takes D.stands_for state.old state.new
+    ensures ok { OnOk result (Absorbs D.absorbed state.old state.new
         (A.content first.now ++ (B.content second.now ++ C.content third.now))) }
     ensures value { OnOk result (A.is_value first.now
         × (B.is_value second.now × C.is_value third.now)) }
-    ensures err { OnErr result (TakesFront D.stands_for state.old state.new
+    ensures err { OnErr result (AbsorbsPrefix D.absorbed state.old state.new
         (A.content first.now ++ (B.content second.now ++ C.content third.now))) }
 {
     first.hash(alloc, state)?;
@@ -317,7 +317,7 @@ fn sorted_pairs<K: Ord + std::hash::Hash, V>(
     map: &HashMap<K, V>,
 ) -> Result<Vec<(&K, &V)>, AllocError>
     ensures pairs { IfOk result (λ pairs. map_of deref_pair pairs.items
-        ≡ in_order (on (λ e. e.0) K.cmp) map.now.entries) }
+        ≡ insertion_sort (on (λ e. e.0) K.cmp) map.now.entries) }
     ensures unique { IsUnique K.eq map.now }
 {
     let mut pairs = pairs_of(alloc, map)?;
@@ -332,11 +332,11 @@ fn hash_pairs<K: ContentHash, V: ContentHash, D: DigestUpdate>(
     pairs: &[(&K, &V)],
     state: &mut D,
 ) -> Result<(), AllocError>
-    ensures ok { OnOk result (Takes D.stands_for state.old state.new
+    ensures ok { OnOk result (Absorbs D.absorbed state.old state.new
         (list_content (entry_content K.content V.content) (map_of deref_pair pairs.now))) }
     ensures value { OnOk result (AreValues (λ e. K.is_value e.0 × V.is_value e.1)
         (map_of deref_pair pairs.now)) }
-    ensures err { OnErr result (TakesFront D.stands_for state.old state.new
+    ensures err { OnErr result (AbsorbsPrefix D.absorbed state.old state.new
         (list_content (entry_content K.content V.content) (map_of deref_pair pairs.now))) }
 {
     state.update(&(pairs.len() as u64).to_le_bytes());
@@ -377,7 +377,7 @@ fn sorted_members<K: Ord + std::hash::Hash>(
     set: &HashSet<K>,
 ) -> Result<Vec<&K>, AllocError>
     ensures members { IfOk result (λ members. map_of deref members.items
-        ≡ in_order K.cmp set.now.keys) }
+        ≡ insertion_sort K.cmp set.now.keys) }
     ensures unique { HasUniqueKeys K.eq set.now }
 {
     let mut members = members_of(alloc, set)?;
@@ -392,10 +392,10 @@ fn hash_members<K: ContentHash, D: DigestUpdate>(
     members: &[&K],
     state: &mut D,
 ) -> Result<(), AllocError>
-    ensures ok { OnOk result (Takes D.stands_for state.old state.new
+    ensures ok { OnOk result (Absorbs D.absorbed state.old state.new
         (list_content K.content (map_of deref members.now))) }
     ensures value { OnOk result (AreValues K.is_value (map_of deref members.now)) }
-    ensures err { OnErr result (TakesFront D.stands_for state.old state.new
+    ensures err { OnErr result (AbsorbsPrefix D.absorbed state.old state.new
         (list_content K.content (map_of deref members.now))) }
 {
     state.update(&(members.len() as u64).to_le_bytes());
@@ -452,7 +452,7 @@ impl<A: ContentHash, B: ContentHash, C: ContentHash> ContentHash for (A, B, C) {
     ghost lawful = { both_lawful (both_lawful (on_lawful (λ p. p.0) A.lawful)
         (on_lawful (λ p. p.1) B.lawful)) (on_lawful (λ p. p.2) C.lawful) };
 
-    #[tactic(auto, using(crate::proofs::Fronts::fronts))]
+    #[tactic(auto, using(crate::proofs::AbsorbedPrefixes::prefixes))]
     fn hash<D: DigestUpdate>(&self, alloc: Global, state: &mut D) -> Result<(), AllocError> {
         hash_both(alloc, &self.0, &self.1, state)?;
         self.2.hash(alloc, state)
@@ -468,7 +468,7 @@ impl<A: ContentHash, B: ContentHash, C: ContentHash, D: ContentHash> ContentHash
         (both_lawful (on_lawful (λ p. p.0) A.lawful) (on_lawful (λ p. p.1) B.lawful))
         (on_lawful (λ p. p.2) C.lawful)) (on_lawful (λ p. p.3) D.lawful) };
 
-    #[tactic(auto, using(crate::proofs::Fronts::fronts))]
+    #[tactic(auto, using(crate::proofs::AbsorbedPrefixes::prefixes))]
     fn hash<S: DigestUpdate>(&self, alloc: Global, state: &mut S) -> Result<(), AllocError> {
         hash_both(alloc, &self.0, &self.1, state)?;
         self.2.hash(alloc, state)?;
@@ -477,7 +477,7 @@ impl<A: ContentHash, B: ContentHash, C: ContentHash, D: ContentHash> ContentHash
 }
 
 impl DigestUpdate for Blake2b512 {
-    ghost stands_for = { Holds };
+    ghost absorbed = { HasAbsorbed };
 
     fn update(&mut self, bytes: &[u8]) {
         Blake2b512::update(self, bytes);

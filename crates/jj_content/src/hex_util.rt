@@ -1,10 +1,11 @@
 //! Hexadecimal encoding and decoding with two alphabets: forward hex, `0` to `f`, and reverse hex,
 //! `z` (0) down to `k` (15).
-ghost use Rattle.std.specs.Prelude.{◌≡◌, ◌==◌, ℕ, ◌+◌, ◌*◌, ◌/◌, ◌%◌, ◌<◌, ◌≤◌, List, length, slice_index, All, IfOk, IsAscii, IfSome, Option, Some, None};
+ghost use Rattle.std.specs.Prelude.{◌≡◌, nat_eq, ◌==◌, ℕ, ◌+◌, ◌*◌, ◌/◌, ◌%◌, ◌<◌, ◌≤◌, List, length, slice_index, All, IfOk, IsAscii, IfSome, Option, Some, None};
 ghost use Rattle.std.specs.String.{string_bytes};
 ghost use Rattle.std.specs.Str.{str_to_ascii_lowercase};
-ghost use Rattle.jj_content.specs.Hex.{IsByte, hex, reverse_hex, text_with, hex_digits, reverse_hex_digits, ReadsAs, IsReading, IsPrefixReading, digit_value, common_length};
-ghost use Rattle.jj_content.specs.HexKinds.{digits_of};
+ghost use Rattle.std.specs.List.{common_prefix_len};
+ghost use Rattle.jj_content.specs.Hex.{IsByte, hex, reverse_hex, encode_with, hex_digits, reverse_hex_digits, DecodesTo, IsDecoding, IsPrefixDecoding, digit_value};
+ghost use Rattle.jj_content.specs.HexDigits.{digits_of};
 
 use std::alloc::{AllocError, Global};
 use std::convert::AsSlice;
@@ -91,7 +92,7 @@ fn decode_hex_prefix_inner(
     digits: Digits,
 ) -> Result<Option<(Vec<u8>, bool)>, AllocError>
     ensures { IfOk result
-        (IsPrefixReading (λ bytes. bytes.items) (digits_of digits) hex.now) }
+        (IsPrefixDecoding (λ bytes. bytes.items) (digits_of digits) hex.now) }
 {
     let mut decoded = Vec::with_capacity(alloc, hex.len().div_ceil(2))?;
     let (pairs, rest) = hex.as_chunks::<2>();
@@ -119,7 +120,7 @@ fn decode_hex_inner(
     hex: &[u8],
     digits: Digits,
 ) -> Result<Option<Vec<u8>>, AllocError>
-    ensures { IfOk result (IsReading (λ bytes. bytes.items) (digits_of digits) hex.now) }
+    ensures { IfOk result (IsDecoding (λ bytes. bytes.items) (digits_of digits) hex.now) }
 {
     if hex.len() % 2 != 0 {
         return Ok(None);
@@ -135,7 +136,7 @@ fn decode_hex_inner(
 pub fn decode_hex<H>(alloc: Global, hex: H) -> Result<Option<Vec<u8>>, AllocError>
 where
     H: AsSlice<u8> + Drop,
-    ensures { IfOk result (IsReading (λ bytes. bytes.items) hex_digits (H.items hex)) }
+    ensures { IfOk result (IsDecoding (λ bytes. bytes.items) hex_digits (H.items hex)) }
 {
     decode_hex_inner(alloc, hex.as_slice(), Digits::Forward)
 }
@@ -146,7 +147,7 @@ pub fn decode_reverse_hex<H>(alloc: Global, reverse_hex: H) -> Result<Option<Vec
 where
     H: AsSlice<u8> + Drop,
     ensures { IfOk result
-        (IsReading (λ bytes. bytes.items) reverse_hex_digits (H.items reverse_hex)) }
+        (IsDecoding (λ bytes. bytes.items) reverse_hex_digits (H.items reverse_hex)) }
 {
     decode_hex_inner(alloc, reverse_hex.as_slice(), Digits::Reverse)
 }
@@ -157,7 +158,7 @@ where
 pub fn decode_hex_prefix<H>(alloc: Global, hex: H) -> Result<Option<(Vec<u8>, bool)>, AllocError>
 where
     H: AsSlice<u8> + Drop,
-    ensures { IfOk result (IsPrefixReading (λ bytes. bytes.items) hex_digits (H.items hex)) }
+    ensures { IfOk result (IsPrefixDecoding (λ bytes. bytes.items) hex_digits (H.items hex)) }
 {
     decode_hex_prefix_inner(alloc, hex.as_slice(), Digits::Forward)
 }
@@ -170,15 +171,15 @@ pub fn decode_reverse_hex_prefix<H: AsSlice<u8> + Drop>(
     reverse_hex: H,
 ) -> Result<Option<(Vec<u8>, bool)>, AllocError>
     ensures { IfOk result
-        (IsPrefixReading (λ bytes. bytes.items) reverse_hex_digits (H.items reverse_hex)) }
+        (IsPrefixDecoding (λ bytes. bytes.items) reverse_hex_digits (H.items reverse_hex)) }
 {
     decode_hex_prefix_inner(alloc, reverse_hex.as_slice(), Digits::Reverse)
 }
 
-#[tactic(auto, unfolding(crate::specs::Hex::text_with))]
+#[tactic(auto, unfolding(crate::specs::Hex::encode_with))]
 fn encode_hex_inner(alloc: Global, data: &[u8], chars: &[u8; 16]) -> Result<String, AllocError>
     requires { IsAscii chars.now }
-    ensures { IfOk result (λ text. string_bytes text ≡ text_with chars.now «data».now) }
+    ensures { IfOk result (λ text. string_bytes text ≡ encode_with chars.now «data».now) }
 {
     let mut encoded = String::with_capacity(alloc, data.len() * 2)?;
     for byte in data {
@@ -212,7 +213,7 @@ pub(crate) fn hex_digit_char(value: u8) -> char
 
 /// Returns the number of leading hex digits that two byte strings share. Does not allocate.
 pub fn common_hex_len(bytes_a: &[u8], bytes_b: &[u8]) -> usize
-    ensures { result ≡ common_length (hex bytes_a.now) (hex bytes_b.now) }
+    ensures { result ≡ common_prefix_len nat_eq (hex bytes_a.now) (hex bytes_b.now) }
 {
     let shared = bytes_a.len().min(bytes_b.len());
     for i in 0..shared {
@@ -225,25 +226,25 @@ pub fn common_hex_len(bytes_a: &[u8], bytes_b: &[u8]) -> usize
 }
 
 /// Decoding the encoding of bytes returns these bytes, in both alphabets.
-pub fn decoding_undoes_encoding()
+pub fn decoding_inverts_encoding()
     ensures forward { (bytes : List ℕ) → All IsByte bytes
-        → ReadsAs hex_digits (hex bytes) bytes }
+        → DecodesTo hex_digits (hex bytes) bytes }
     ensures reverse { (bytes : List ℕ) → All IsByte bytes
-        → ReadsAs reverse_hex_digits (reverse_hex bytes) bytes }
+        → DecodesTo reverse_hex_digits (reverse_hex bytes) bytes }
 {}
 
 /// A string decodes to at most one list of bytes, in both alphabets.
-pub fn reading_is_unique()
-    ensures forward { (text xs ys : List ℕ) → ReadsAs hex_digits text xs
-        → ReadsAs hex_digits text ys → xs ≡ ys }
-    ensures reverse { (text xs ys : List ℕ) → ReadsAs reverse_hex_digits text xs
-        → ReadsAs reverse_hex_digits text ys → xs ≡ ys }
+pub fn decoding_is_unique()
+    ensures forward { (text xs ys : List ℕ) → DecodesTo hex_digits text xs
+        → DecodesTo hex_digits text ys → xs ≡ ys }
+    ensures reverse { (text xs ys : List ℕ) → DecodesTo reverse_hex_digits text xs
+        → DecodesTo reverse_hex_digits text ys → xs ≡ ys }
 {}
 
 /// Encoding the decoded bytes returns the string in lower case, in both alphabets.
-pub fn encoding_gives_lower_case()
-    ensures forward { (text bytes : List ℕ) → ReadsAs hex_digits text bytes
+pub fn encoding_is_lower_case()
+    ensures forward { (text bytes : List ℕ) → DecodesTo hex_digits text bytes
         → hex bytes ≡ str_to_ascii_lowercase text }
-    ensures reverse { (text bytes : List ℕ) → ReadsAs reverse_hex_digits text bytes
+    ensures reverse { (text bytes : List ℕ) → DecodesTo reverse_hex_digits text bytes
         → reverse_hex bytes ≡ str_to_ascii_lowercase text }
 {}

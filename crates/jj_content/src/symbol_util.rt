@@ -1,7 +1,7 @@
 //! Escaping and unescaping of double-quoted strings.
 ghost use Rattle.std.specs.Prelude.{◌≡◌, ◌==◌, ℕ, ◌<◌, ◌++◌, None, IfOk, OnOk, MatchOption, is_ok, encode_utf8, find, flat_map, string_bytes};
 ghost use Rattle.std.specs.Fmt.{WritesInCalls};
-ghost use Rattle.jj_content.specs.Symbols.{letter_escapes, escaped_byte, escaped_text, quoted_text, letter_char, IsEscapeOf};
+ghost use Rattle.jj_content.specs.Symbols.{letter_escapes, escaped_byte, escaped_string, quoted_string, letter_char, IsEscapeOf};
 
 use crate::hex_util::hex_digit_char;
 use std::alloc::{AllocError, Global};
@@ -41,7 +41,7 @@ fn push_escaped(escaped: &mut String, c: char) -> Result<(), AllocError>
 
 fn escape_string_to_buf(escaped: &mut String, unescaped: &str) -> Result<(), AllocError>
     ensures { OnOk result (string_bytes escaped.new ≡ string_bytes escaped.old
-        ++ escaped_text unescaped.now) }
+        ++ escaped_string unescaped.now) }
 {
     for c in unescaped.chars() {
         push_escaped(escaped, c)?;
@@ -54,7 +54,7 @@ fn escape_string_to_buf(escaped: &mut String, unescaped: &str) -> Result<(), All
 /// ` and `\0`, and any other ASCII control character as `\x` and two hex digits. All other
 /// characters are unchanged.
 pub fn escape_string(alloc: Global, unescaped: &str) -> Result<String, AllocError>
-    ensures { IfOk result (λ text. string_bytes text ≡ escaped_text unescaped.now) }
+    ensures { IfOk result (λ text. string_bytes text ≡ escaped_string unescaped.now) }
 {
     let mut escaped = String::with_capacity(alloc, unescaped.len())?;
     escape_string_to_buf(&mut escaped, unescaped)?;
@@ -63,7 +63,7 @@ pub fn escape_string(alloc: Global, unescaped: &str) -> Result<String, AllocErro
 
 /// Returns the string in double quotes, escaped as by `escape_string`.
 pub fn format_string(alloc: Global, unescaped: &str) -> Result<String, AllocError>
-    ensures { IfOk result (λ text. string_bytes text ≡ quoted_text unescaped.now) }
+    ensures { IfOk result (λ text. string_bytes text ≡ quoted_string unescaped.now) }
 {
     let mut escaped = String::with_capacity(alloc, unescaped.len() + 2)?;
     escaped.push('"')?;
@@ -92,7 +92,7 @@ fn write_escaped<W: fmt::Write>(writer: &mut W, c: char) -> fmt::Result
 /// Writes the string in double quotes, escaped as by `escape_string`. Does not allocate.
 pub fn write_quoted<W: fmt::Write>(writer: &mut W, text: &str) -> fmt::Result
     ensures { OnOk result (WritesInCalls W.write_str_gives writer.old
-        (quoted_text text.now) writer.new) }
+        (quoted_string text.now) writer.new) }
 {
     writer.write_char('"')?;
     for c in text.chars() {
@@ -102,7 +102,7 @@ pub fn write_quoted<W: fmt::Write>(writer: &mut W, text: &str) -> fmt::Result
     Ok(())
 }
 
-fn char_of_letter(letter: u8) -> Option<char>
+fn unescape_letter(letter: u8) -> Option<char>
     ensures { result ≡ letter_char letter }
 {
     match letter {
@@ -125,7 +125,7 @@ pub fn unescape_char(escaped: &str) -> Option<char>
         (λ c. IsEscapeOf escaped.now c) }
 {
     match escaped.as_bytes() {
-        [b'\\', letter] => char_of_letter(*letter),
+        [b'\\', letter] => unescape_letter(*letter),
         [b'\\', b'x', ..] => match u8::from_str_radix(&escaped[2..], 16) {
             Ok(code) => Some(char::from(code)),
             Err(_) => None,

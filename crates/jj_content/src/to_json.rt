@@ -1,7 +1,7 @@
 //! Conversion to JSON values: strings, options and slices.
 ghost use Rattle.std.specs.Prelude.{◌≡◌, ⊤, All, MatchOption, string_bytes};
 ghost use Rattle.serde_json.specs.Data.{null, string};
-ghost use Rattle.jj_content.specs.Json.{IsAnswer, IsJsonList};
+ghost use Rattle.jj_content.specs.Json.{IsJsonResult, IsJsonList};
 ghost use Rattle.jj_content.specs.declared.to_json.ToJsonError.{ToJsonError};
 
 use serde_json::Value;
@@ -22,7 +22,7 @@ impl fmt::Display for ToJsonError {
     fn fmt<W: fmt::Write>(&self, f: &mut fmt::Formatter<W>) -> fmt::Result {
         f.write_str(match self {
             ToJsonError::Memory => "out of memory",
-            ToJsonError::TimestampOutOfRange => "a time is out of the range of dates",
+            ToJsonError::TimestampOutOfRange => "timestamp out of range",
         })
     }
 }
@@ -32,7 +32,7 @@ impl Error for ToJsonError {}
 impl From<AllocError> for ToJsonError {
     ghost from_gives = { λ _ error. error ≡ ToJsonError.Memory };
 
-    fn from(_refused: AllocError) -> Self {
+    fn from(_error: AllocError) -> Self {
         ToJsonError::Memory
     }
 }
@@ -40,7 +40,7 @@ impl From<AllocError> for ToJsonError {
 impl<T: Drop> From<AllocFailed<T>> for ToJsonError {
     ghost from_gives = { λ _ error. error ≡ ToJsonError.Memory };
 
-    fn from(_refused: AllocFailed<T>) -> Self {
+    fn from(_error: AllocFailed<T>) -> Self {
         ToJsonError::Memory
     }
 }
@@ -58,7 +58,7 @@ pub trait ToJson {
     /// Converts the value to JSON. Returns `TimestampOutOfRange` if a timestamp in the value has no
     /// date, and `Memory` if memory runs out.
     fn to_json(&self, alloc: Global) -> Result<Value, ToJsonError>
-        ensures { IsAnswer (is_in_range self.now) (is_json self.now) result };
+        ensures { IsJsonResult (is_in_range self.now) (is_json self.now) result };
 }
 
 /// A string converts to a JSON string.

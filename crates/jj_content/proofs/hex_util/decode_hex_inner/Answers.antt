@@ -1,5 +1,5 @@
 use Rattle.std.proofs.Common.{refl}
-use Rattle.jj_content.proofs.HexTexts.{eqb_differ}
+use Rattle.jj_content.proofs.HexCoding.{eqb_differ}
 use Rattle.jj_content.proofs.hex_util.decode_hex_inner.Goals as goal
 
 pub returns-then-hex-ne0 : goal.returns-then-hex-ne0

@@ -1,4 +1,4 @@
-use Rattle.jj_content.proofs.SymbolTexts.{escaped_step, escaped_end}
+use Rattle.jj_content.proofs.SymbolEscapes.{escaped_step, escaped_end}
 use Rattle.jj_content.proofs.symbol_util.escape_string_to_buf.Goals as goal
 
 pub loop-c-preserved : goal.loop-c-preserved

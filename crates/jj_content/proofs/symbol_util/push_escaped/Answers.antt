@@ -1,5 +1,5 @@
 use Rattle.std.proofs.Common.{rules}
-use Rattle.jj_content.proofs.SymbolTexts.{escaped_plain}
+use Rattle.jj_content.proofs.SymbolEscapes.{escaped_plain}
 use Rattle.jj_content.proofs.symbol_util.push_escaped.Goals as goal
 
 pub returns-in-None-2 : goal.returns-in-None-2

@@ -1,8 +1,8 @@
 use Rattle.std.proofs.Common.{refl}
 use Rattle.std.proofs.lemmas.Nat.{and_mask}
 use Rattle.std.proofs.Output.{writes_in_calls_single}
-use Rattle.jj_content.proofs.SymbolTexts.{escaped_plain}
-use Rattle.jj_content.proofs.Written.{writes_same, writes_escape, writes_control}
+use Rattle.jj_content.proofs.SymbolEscapes.{escaped_plain}
+use Rattle.jj_content.proofs.QuotedWrites.{writes_same, writes_escape, writes_control}
 use Rattle.jj_content.proofs.symbol_util.write_escaped.Goals as goal
 
 pub returns-in_ok-write_str-in-Some : goal.returns-in_ok-write_str-in-Some

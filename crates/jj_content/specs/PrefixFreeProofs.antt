@@ -1,6 +1,6 @@
 -- Proofs that the content of each type is injective and prefix-free, from the same of its parts.
 -- Cited by contracts of public items: bool_lawful, both_lawful, i32_lawful, i64_lawful,
--- list_lawful, on_lawful, option_lawful, text_lawful, u32_lawful, u64_lawful, u8_lawful,
+-- list_lawful, on_lawful, option_lawful, string_lawful, u32_lawful, u64_lawful, u8_lawful,
 -- unit_lawful.
 use Rattle.std.proofs.Common.{◌≡◌, ◌&&◌, ℕ, ◌<◌, ◌^◌, List, [], ◌∷◌, ◌++◌, length, take, drop, Bool, true, false, refl, sym, ap, ◌∙◌, arith, Option, Some, None, eq-eqb}
 use Rattle.std.proofs.lemmas.List.{append_assoc, append_cancel_left}
@@ -19,35 +19,39 @@ use Rattle.std.proofs.Math.Seq.{take-append_seam}
 use Rattle.std.proofs.lemmas.Cmp.{nat_list_eq_equiv}
 use Rattle.std.specs.Option.{option_eq}
 use Rattle.std.specs.Ordering.{eq_of_both, on, int_eq}
-use Rattle.jj_content.specs.Content.{IsLawful, u32_content, u64_content, list_content, text_content, option_content, bool_content, i32_content, i64_content, AreValues, IsOptionOf}
+use Rattle.jj_content.specs.Content.{IsLawful, u32_content, u64_content, list_content, string_content, option_content, bool_content, i32_content, i64_content, AreValues, IsOptionOf}
 
 -- the bytes after an integer's content are equal if the contents with them are
-after_u64 : (m n : ℕ) (s t : List ℕ) → u64_content m ++ s ≡ u64_content n ++ t → s ≡ t
+cancel_u64 : (m n : ℕ) (s t : List ℕ) → u64_content m ++ s ≡ u64_content n ++ t → s ≡ t
 unfolding u64_content
-after_u64 m n s t e = ap (drop 8) e
+cancel_u64 m n s t e = ap (drop 8) e
 
-after_u32 : (m n : ℕ) (s t : List ℕ) → u32_content m ++ s ≡ u32_content n ++ t → s ≡ t
+cancel_u32 : (m n : ℕ) (s t : List ℕ) → u32_content m ++ s ≡ u32_content n ++ t → s ≡ t
 unfolding u32_content
-after_u32 m n s t e = ap (drop 4) e
+cancel_u32 m n s t e = ap (drop 4) e
 
 -- integers below a limit are equal if bytes that begin with their contents are
-abbrev pub AreToldApart : (ℕ → List ℕ) → ℕ → Type 0
-AreToldApart content limit = (m n : ℕ) (s t : List ℕ) → m < limit → n < limit
+abbrev pub IsPrefixFreeBelow : (ℕ → List ℕ) → ℕ → Type 0
+IsPrefixFreeBelow content limit = (m n : ℕ) (s t : List ℕ) → m < limit → n < limit
     → content m ++ s ≡ content n ++ t → m ≡ n
 
 -- content is injective and prefix-free if a function reads the integer back
-read_back : (content : ℕ → List ℕ) (limit : ℕ) (read : List ℕ → ℕ)
-    → ((n : ℕ) (s : List ℕ) → n < limit → read (content n ++ s) ≡ n) → AreToldApart content limit
-read_back content limit read back m n s t p q e = sym (back m s p) ∙ ap read e ∙ back n t q
+prefix_free_by_decoding : (content : ℕ → List ℕ) (limit : ℕ) (read : List ℕ → ℕ)
+    → ((n : ℕ) (s : List ℕ) → n < limit → read (content n ++ s) ≡ n)
+    → IsPrefixFreeBelow content limit
+prefix_free_by_decoding content limit read back m n s t p q e =
+    sym (back m s p) ∙ ap read e ∙ back n t q
 
-pub same_u64 : AreToldApart u64_content (2 ^ 64)
+pub u64_prefix_free : IsPrefixFreeBelow u64_content (2 ^ 64)
 unfolding u64_content
-same_u64 = read_back u64_content (2 ^ 64) (λ (xs : List ℕ). from_le_bytes w64 (take 8 xs))
+u64_prefix_free = prefix_free_by_decoding u64_content (2 ^ 64)
+    (λ (xs : List ℕ). from_le_bytes w64 (take 8 xs))
     (λ n s p. from_le_bytes-to_le_bytes_8 n p)
 
-pub same_u32 : AreToldApart u32_content (2 ^ 32)
+pub u32_prefix_free : IsPrefixFreeBelow u32_content (2 ^ 32)
 unfolding u32_content
-same_u32 = read_back u32_content (2 ^ 32) (λ (xs : List ℕ). from_le_bytes w32 (take 4 xs))
+u32_prefix_free = prefix_free_by_decoding u32_content (2 ^ 32)
+    (λ (xs : List ℕ). from_le_bytes w32 (take 4 xs))
     (λ n s p. from_le_bytes-to_le_bytes_4 n p)
 
 pub unit_lawful : IsLawful {X = Unit {0}} (λ _. ⊤) (λ _ _. true) (λ _. [])
@@ -62,13 +66,13 @@ u8_lawful = record {
 pub u32_lawful : IsLawful (λ n. n < 2 ^ 32) nat_eq u32_content
 u32_lawful = record {
   same = λ m n _ _ h. ap u32_content (eqb-true m n h);
-  decides = λ m n s t p q h. eq-eqb m n (same_u32 m n s t p q h);
+  decides = λ m n s t p q h. eq-eqb m n (u32_prefix_free m n s t p q h);
 }
 
 pub u64_lawful : IsLawful (λ n. n < 2 ^ 64) nat_eq u64_content
 u64_lawful = record {
   same = λ m n _ _ h. ap u64_content (eqb-true m n h);
-  decides = λ m n s t p q h. eq-eqb m n (same_u64 m n s t p q h);
+  decides = λ m n s t p q h. eq-eqb m n (u64_prefix_free m n s t p q h);
 }
 
 -- content of a part of the value, where equality compares that part only
@@ -99,9 +103,9 @@ both_lawful {X} {v} {w} {e} {f} {c} {d} l m = record {
 }
 
 -- replaces equality by a function that agrees with it
-same_lawful : {X : Type 0} {v : X → Type 0} {e f : X → X → Bool} {c : X → List ℕ}
+lawful_by_equality : {X : Type 0} {v : X → Type 0} {e f : X → X → Bool} {c : X → List ℕ}
     → ((x y : X) → f x y ≡ e x y) → IsLawful v e c → IsLawful v f c
-same_lawful alike l = record {
+lawful_by_equality alike l = record {
   same = λ x y p q h. l.same x y p q (sym (alike x y) ∙ h);
   decides = λ x y s t p q h. alike x y ∙ l.decides x y s t p q h;
 }
@@ -111,13 +115,13 @@ module _ {X : Type 0} {u v w : X → Type 0} {e f g : X → X → Bool} {a b c :
     (first : IsLawful u e a) (second : IsLawful v f b) (third : IsLawful w g c) where
   pub two_then_lawful : IsLawful (λ x. (u x × v x) × w x) (eq_of_both e (eq_of_both f g))
       (λ x. (a x ++ b x) ++ c x)
-  two_then_lawful = same_lawful (λ x y. sym (and_assoc (e x y) (f x y) (g x y)))
+  two_then_lawful = lawful_by_equality (λ x y. sym (and_assoc (e x y) (f x y) (g x y)))
       (both_lawful (both_lawful first second) third)
 
   pub three_then_lawful : {y : X → Type 0} {h : X → X → Bool} {d : X → List ℕ} → IsLawful y h d
       → IsLawful (λ x. (u x × (v x × w x)) × y x) (eq_of_both e (eq_of_both f (eq_of_both g h)))
       (λ x. (a x ++ (b x ++ c x)) ++ d x)
-  three_then_lawful {h = h} fourth = same_lawful
+  three_then_lawful {h = h} fourth = lawful_by_equality
       (λ x y. ap (λ rest. e x y && rest) (sym (and_assoc (f x y) (g x y) (h x y)))
       ∙ sym (and_assoc (e x y) (f x y && g x y) (h x y)))
       (both_lawful (both_lawful first (both_lawful second third)) fourth)
@@ -164,9 +168,9 @@ module _ {X : Type 0} {v : X → Type 0} {e : X → X → Bool} {c : X → List 
         ++ (flat_map c ys ++ t) =
         sym (append_assoc (u64_content (length xs)) (flat_map c xs) s) ∙ h
         ∙ append_assoc (u64_content (length ys)) (flat_map c ys) t in
-        let len = same_u64 (length xs) (length ys) _ _ p.0 q.0 h' in
+        let len = u64_prefix_free (length xs) (length ys) _ _ p.0 q.0 h' in
         items_decide xs ys s t (recursion_from_All v xs p.1) (recursion_from_All v ys q.1) len
-        (after_u64 _ _ _ _ h');
+        (cancel_u64 _ _ _ _ h');
   }
 
   option_same : (x y : Option X) → IsOptionOf v x → IsOptionOf v y → option_eq e x y ≡ true
@@ -189,16 +193,16 @@ module _ {X : Type 0} {v : X → Type 0} {e : X → X → Bool} {c : X → List 
   option_lawful = record { same = option_same; decides = option_decides }
 
 -- strings
-pub text_lawful : IsLawful (λ bytes. length bytes < 2 ^ 64) (pointwise nat_eq) text_content
-unfolding text_content
-text_lawful = record {
-  same = λ xs ys _ _ h. ap text_content (same_text xs ys (sym h));
+pub string_lawful : IsLawful (λ bytes. length bytes < 2 ^ 64) (pointwise nat_eq) string_content
+unfolding string_content
+string_lawful = record {
+  same = λ xs ys _ _ h. ap string_content (same_text xs ys (sym h));
   decides = λ xs ys s t p q h.
       let h' : u64_content (length xs) ++ (xs ++ s) ≡ u64_content (length ys) ++ (ys ++ t) =
       sym (append_assoc (u64_content (length xs)) xs s) ∙ h
       ∙ append_assoc (u64_content (length ys)) ys t in
-      let len = same_u64 (length xs) (length ys) _ _ p q h' in
-      let rest : xs ++ s ≡ ys ++ t = after_u64 _ _ _ _ h' in
+      let len = u64_prefix_free (length xs) (length ys) _ _ p q h' in
+      let rest : xs ++ s ≡ ys ++ t = cancel_u64 _ _ _ _ h' in
       let same : xs ≡ ys =
       sym (take-append_seam xs s) ∙ ap (take (length xs)) rest
       ∙ ap (λ (k : ℕ). take k (ys ++ t)) len ∙ take-append_seam ys t in
@@ -223,9 +227,9 @@ pub bool_lawful : IsLawful (λ _. ⊤) beq bool_content
 bool_lawful = record { same = bool_same; decides = bool_decides }
 
 -- a signed integer is determined by its two's complement
-same_signed : (w : Width) (m n : ℤ) → FitsSigned w m → FitsSigned w n
+cast_unsigned_injective : (w : Width) (m n : ℤ) → FitsSigned w m → FitsSigned w n
     → cast_unsigned w m ≡ cast_unsigned w n → m ≡ n
-same_signed w m n p q e = sym (to_z-of_z w m p) ∙ ap (cast_signed w) e ∙ to_z-of_z w n q
+cast_unsigned_injective w m n p q e = sym (to_z-of_z w m p) ∙ ap (cast_signed w) e ∙ to_z-of_z w n q
 
 -- signed integers, by the content of their two's complement
 signed_lawful : (w : Width) (content : ℤ → List ℕ)
@@ -235,18 +239,18 @@ signed_lawful : (w : Width) (content : ℤ → List ℕ)
 signed_lawful w content same_bits = record {
   same = λ m n _ _ h. ap content ((Decides-int_eq m n).0 h);
   decides = λ m n s t p q h.
-      (Decides-int_eq m n).1 (same_signed w m n p q (same_bits m n s t p q h));
+      (Decides-int_eq m n).1 (cast_unsigned_injective w m n p q (same_bits m n s t p q h));
 }
 
 pub i32_lawful : IsLawful (FitsSigned w32) int_eq i32_content
 unfolding i32_content
 i32_lawful = signed_lawful w32 i32_content
-    (λ m n s t p q. same_u32 _ _ s t (omega (arith, ints)) (omega (arith, ints)))
+    (λ m n s t p q. u32_prefix_free _ _ s t (omega (arith, ints)) (omega (arith, ints)))
 
 pub i64_lawful : IsLawful (FitsSigned w64) int_eq i64_content
 unfolding i64_content
 i64_lawful = signed_lawful w64 i64_content
-    (λ m n s t p q. same_u64 _ _ s t (omega (arith, ints)) (omega (arith, ints)))
+    (λ m n s t p q. u64_prefix_free _ _ s t (omega (arith, ints)) (omega (arith, ints)))
 
 -- enums: the variant's index, then the fields
 pub enum_lawful : {X : Type 0} {v : X → Type 0} {e : X → X → Bool} (variant : X → ℕ)
@@ -255,12 +259,13 @@ pub enum_lawful : {X : Type 0} {v : X → Type 0} {e : X → X → Bool} (varian
     → ((x y : X) (s t : List ℕ) → v x → v y → variant x ≡ variant y → fields x ++ s ≡ fields y ++ t
     → e x y ≡ true)
     → IsLawful v e (λ x. u32_content (variant x) ++ fields x)
-enum_lawful variant fields small alike told = record {
+enum_lawful variant fields small alike fields_decide = record {
   same = λ x y p q h. let a = alike x y p q h in λ i. u32_content (a.0 i) ++ a.1 i;
   decides = λ x y s t p q h.
       let h' : u32_content (variant x) ++ (fields x ++ s) ≡ u32_content (variant y)
       ++ (fields y ++ t) =
       sym (append_assoc (u32_content (variant x)) (fields x) s) ∙ h
       ∙ append_assoc (u32_content (variant y)) (fields y) t in
-      told x y s t p q (same_u32 _ _ _ _ (small x) (small y) h') (after_u32 _ _ _ _ h');
+      fields_decide x y s t p q (u32_prefix_free _ _ _ _ (small x) (small y) h')
+      (cancel_u32 _ _ _ _ h');
 }

@@ -9,8 +9,8 @@ use Rattle.std.proofs.lemmas.Bool.Decides.{nat_tests}
 use Rattle.std.proofs.lemmas.Str.{encode_ascii}
 use lib.Utf8.{encode}
 use Rattle.jj_content.specs.Hex.{hex_digits}
-use Rattle.jj_content.specs.Symbols.{letter_escapes, escaped_byte, escaped_text}
-use Rattle.jj_content.proofs.SymbolTexts.{escaped_letter, control_byte, escaped_step, escaped_end}
+use Rattle.jj_content.specs.Symbols.{letter_escapes, escaped_byte, escaped_string}
+use Rattle.jj_content.proofs.SymbolEscapes.{escaped_letter, control_byte, escaped_step, escaped_end}
 
 -- rewrites the written string by an equality
 pub writes_same : {W : Type 0} (took : W → List ℕ → W → Type 0) (w v : W) (text bytes : List ℕ) → text ≡ bytes → WritesInCalls took w bytes v → WritesInCalls took w text v
@@ -41,24 +41,24 @@ writes_control took w a b v c high low n none control is_high small_high is_low 
     writes_same took w v _ _ text all
 
 -- before the loop, its step and its exit
-pub quote_begun : {W : Type 0} (took : W → List ℕ → W → Type 0) (w v : W) (rest whole : List ℕ) → took w (encode 34) v → rest ≡ whole
-    → (front : List ℕ) × WritesInCalls took w (34 ∷ front) v × (front ++ escaped_text rest ≡ escaped_text whole)
-quote_begun took w v rest whole h e =
-    ([], rw (← encode_ascii 34 (omega arith)) (writes_in_calls_single took w (encode 34) v h), ap escaped_text e)
+pub quote_start : {W : Type 0} (took : W → List ℕ → W → Type 0) (w v : W) (rest whole : List ℕ) → took w (encode 34) v → rest ≡ whole
+    → (prefix : List ℕ) × WritesInCalls took w (34 ∷ prefix) v × (prefix ++ escaped_string rest ≡ escaped_string whole)
+quote_start took w v rest whole h e =
+    ([], rw (← encode_ascii 34 (omega arith)) (writes_in_calls_single took w (encode 34) v h), ap escaped_string e)
 
-pub quote_more : {W : Type 0} (took : W → List ℕ → W → Type 0) (w v u : W) (piece rest rest' whole : List ℕ)
-    → ((front : List ℕ) × WritesInCalls took w (34 ∷ front) v × (front ++ escaped_text rest ≡ whole)) → WritesInCalls took v (flat_map escaped_byte piece) u → rest ≡ piece ++ rest'
-    → (front : List ℕ) × WritesInCalls took w (34 ∷ front) u × (front ++ escaped_text rest' ≡ whole)
-quote_more took w v u piece rest rest' whole (front, written, before) more split = (
-  front ++ flat_map escaped_byte piece,
-  writes_in_calls_append took w (34 ∷ front) v (flat_map escaped_byte piece) u written more,
-  escaped_step front (front ++ flat_map escaped_byte piece) piece rest rest' whole refl split before,
+pub quote_next : {W : Type 0} (took : W → List ℕ → W → Type 0) (w v u : W) (piece rest rest' whole : List ℕ)
+    → ((prefix : List ℕ) × WritesInCalls took w (34 ∷ prefix) v × (prefix ++ escaped_string rest ≡ whole)) → WritesInCalls took v (flat_map escaped_byte piece) u → rest ≡ piece ++ rest'
+    → (prefix : List ℕ) × WritesInCalls took w (34 ∷ prefix) u × (prefix ++ escaped_string rest' ≡ whole)
+quote_next took w v u piece rest rest' whole (prefix, written, before) more split = (
+  prefix ++ flat_map escaped_byte piece,
+  writes_in_calls_append took w (34 ∷ prefix) v (flat_map escaped_byte piece) u written more,
+  escaped_step prefix (prefix ++ flat_map escaped_byte piece) piece rest rest' whole refl split before,
 )
 
-pub quote_ended : {W : Type 0} (took : W → List ℕ → W → Type 0) (w v u : W) (rest whole : List ℕ)
-    → ((front : List ℕ) × WritesInCalls took w (34 ∷ front) v × (front ++ escaped_text rest ≡ whole)) → length rest ≡ 0 → took v (encode 34) u
+pub quote_end : {W : Type 0} (took : W → List ℕ → W → Type 0) (w v u : W) (rest whole : List ℕ)
+    → ((prefix : List ℕ) × WritesInCalls took w (34 ∷ prefix) v × (prefix ++ escaped_string rest ≡ whole)) → length rest ≡ 0 → took v (encode 34) u
     → WritesInCalls took w (34 ∷ (whole ++ 34 ∷ [])) u
-quote_ended took w v u rest whole (front, written, before) empty last =
-    let is : front ≡ whole = escaped_end front rest whole empty before in
-    let end = writes_in_calls_append took w (34 ∷ front) v (encode 34) u written (writes_in_calls_single took v (encode 34) u last) in
-    writes_same took w u _ _ (ap (λ t. 34 ∷ (t ++ 34 ∷ [])) (sym is) ∙ ap (λ q. 34 ∷ (front ++ q)) (sym (encode_ascii 34 (omega arith)))) end
+quote_end took w v u rest whole (prefix, written, before) empty last =
+    let is : prefix ≡ whole = escaped_end prefix rest whole empty before in
+    let end = writes_in_calls_append took w (34 ∷ prefix) v (encode 34) u written (writes_in_calls_single took v (encode 34) u last) in
+    writes_same took w u _ _ (ap (λ t. 34 ∷ (t ++ 34 ∷ [])) (sym is) ∙ ap (λ q. 34 ∷ (prefix ++ q)) (sym (encode_ascii 34 (omega arith)))) end

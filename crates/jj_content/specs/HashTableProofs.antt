@@ -20,9 +20,9 @@ use Rattle.std.proofs.lemmas.Bool.{cond_both, and_parts, and_from, cases_Bool}
 use Rattle.std.proofs.lemmas.Cmp.{on_total}
 use Rattle.std.proofs.lemmas.List.Elements.{All-from_recursion, recursion_from_All}
 use Rattle.std.proofs.lemmas.Map.Lookups.{hash_set_eq_decides}
-use Rattle.jj_content.specs.Content.{insert_in_order, in_order, IsLawful, AreValues, map_content, set_content}
-use Rattle.jj_content.specs.Lawful.{on_lawful, both_lawful, list_lawful}
-use Rattle.jj_content.specs.InOrder.{weaker, all_in_order, all_from_in_order, length_in_order, sorted_in_order}
+use Rattle.jj_content.specs.Content.{insert_sorted, insertion_sort, IsLawful, AreValues, map_content, set_content}
+use Rattle.jj_content.specs.PrefixFreeProofs.{on_lawful, both_lawful, list_lawful}
+use Rattle.jj_content.specs.SortingProofs.{all_weaken, all_sorted, all_from_sorted, length_sorted, sorted_sort}
 
 swap_conds : {A : Type 0} (a b : Bool) (u v w : A) → (a ≡ true → b ≡ true → ⊥)
     → cond a u (cond b v w) ≡ cond b v (cond a u w)
@@ -60,25 +60,26 @@ module _ {X K : Type 0} (key : X → K) {R : K → K → Ordering} (o : IsTotalO
   alike : (q x y : K) → E x y ≡ true → E q x ≡ E q y
   alike q x y e = laws.symm q x ∙ laws.congr x y q e ∙ laws.symm y q
 
-  found_placed : (q : K) (x : X) (ys : List X) → AllByRecursion (λ y. E (key x) (key y) ≡ false) ys
-      → found q (insert_in_order (on key R) x ys) ≡ found q (x ∷ ys)
-  found_placed q x [] a = refl
-  found_placed q x (y ∷ ys) a =
-      cond_both (is_gt (R (key x) (key y))) (y ∷ insert_in_order (on key R) x ys) (x ∷ y ∷ ys)
+  found_inserted : (q : K) (x : X) (ys : List X)
+      → AllByRecursion (λ y. E (key x) (key y) ≡ false) ys
+      → found q (insert_sorted (on key R) x ys) ≡ found q (x ∷ ys)
+  found_inserted q x [] a = refl
+  found_inserted q x (y ∷ ys) a =
+      cond_both (is_gt (R (key x) (key y))) (y ∷ insert_sorted (on key R) x ys) (x ∷ y ∷ ys)
       (λ l. found q l ≡ found q (x ∷ y ∷ ys))
-      (λ e. ap (cond (E q (key y)) (Some y)) (found_placed q x ys a.1)
+      (λ e. ap (cond (E q (key y)) (Some y)) (found_inserted q x ys a.1)
       ∙ swap_conds (E q (key y)) (E q (key x)) (Some y) (Some x) (found q ys)
       (λ h k. let c : true ≡ false = sym h ∙ laws.congr q (key x) (key y) k ∙ a.0 in cc))
       (λ e. refl)
 
-  found_in_order : (q : K) (xs : List X) → IsDistinct (on key E) xs
-      → found q (in_order (on key R) xs) ≡ found q xs
-  unfolding in_order IsDistinct
-  found_in_order q [] d = refl
-  found_in_order q (x ∷ xs) d =
-      found_placed q x (in_order (on key R) xs)
-      (all_in_order (on key R) (λ y. E (key x) (key y) ≡ false) xs d.0)
-      ∙ ap (cond (E q (key x)) (Some x)) (found_in_order q xs d.1)
+  found_sorted : (q : K) (xs : List X) → IsDistinct (on key E) xs
+      → found q (insertion_sort (on key R) xs) ≡ found q xs
+  unfolding insertion_sort IsDistinct
+  found_sorted q [] d = refl
+  found_sorted q (x ∷ xs) d =
+      found_inserted q x (insertion_sort (on key R) xs)
+      (all_sorted (on key R) (λ y. E (key x) (key y) ≡ false) xs d.0)
+      ∙ ap (cond (E q (key x)) (Some x)) (found_sorted q xs d.1)
 
   none_found : (q : K) (xs : List X) → AllByRecursion (λ x. E q (key x) ≡ false) xs
       → found q xs ≡ None
@@ -93,7 +94,7 @@ module _ {X K : Type 0} (key : X → K) {R : K → K → Ordering} (o : IsTotalO
       → AllByRecursion (λ z. R (key y) (key z) ≡ Less) ys → found (key x) (y ∷ ys) ≡ None
   none_below x y ys p s = none_found (key x) (y ∷ ys) (
     apart x y p,
-    weaker (λ z. R (key y) (key z) ≡ Less) (λ z. E (key x) (key z) ≡ false)
+    all_weaken (λ z. R (key y) (key z) ≡ Less) (λ z. E (key x) (key z) ≡ false)
         (λ z k. apart x z (o.trans (key x) (key y) (key z) p k)) ys s,
   )
 
@@ -101,7 +102,7 @@ module _ {X K : Type 0} (key : X → K) {R : K → K → Ordering} (o : IsTotalO
   none_past : (q : K) (x : X) (xs : List X) → E q (key x) ≡ true
       → AllByRecursion (λ z. R (key x) (key z) ≡ Less) xs → found q xs ≡ None
   none_past q x xs e s = none_found q xs
-      (weaker (λ z. R (key x) (key z) ≡ Less) (λ z. E q (key z) ≡ false)
+      (all_weaken (λ z. R (key x) (key z) ≡ Less) (λ z. E q (key z) ≡ false)
       (λ z k. laws.congr q (key x) (key z) e ∙ apart x z k) xs s)
 
   pointwise_from_agree : (xs ys : List X) → IsStrictlySortedBy (on key R) xs
@@ -154,20 +155,22 @@ module _ {X K : Type 0} (key : X → K) {R : K → K → Ordering} (o : IsTotalO
             (cond ((other ∙ miss) i) (Some y) (found q ys))) ∙ agree_from_pointwise xs ys parts.1 q
       ]
 
-  pub in_order_from_agree : (xs ys : List X) → IsDistinct (on key E) xs → IsDistinct (on key E) ys
-      → Agree xs ys
-      → pointwise same (in_order (on key R) xs) (in_order (on key R) ys) ≡ true
-  in_order_from_agree xs ys d e h =
-      pointwise_from_agree (in_order (on key R) xs) (in_order (on key R) ys)
-      (sorted_in_order (on_total key o) xs (distinct_by_order key R E ties xs d))
-      (sorted_in_order (on_total key o) ys (distinct_by_order key R E ties ys e))
-      (λ q. (λ i. option_eq F (found_in_order q xs d i) (found_in_order q ys e i)) ∙ h q)
+  pub sorted_equal_from_agree : (xs ys : List X) → IsDistinct (on key E) xs
+      → IsDistinct (on key E) ys → Agree xs ys
+      → pointwise same (insertion_sort (on key R) xs) (insertion_sort (on key R) ys) ≡ true
+  sorted_equal_from_agree xs ys d e h =
+      pointwise_from_agree (insertion_sort (on key R) xs) (insertion_sort (on key R) ys)
+      (sorted_sort (on_total key o) xs (distinct_by_order key R E ties xs d))
+      (sorted_sort (on_total key o) ys (distinct_by_order key R E ties ys e))
+      (λ q. (λ i. option_eq F (found_sorted q xs d i) (found_sorted q ys e i)) ∙ h q)
 
-  pub agree_from_in_order : (xs ys : List X) → IsDistinct (on key E) xs → IsDistinct (on key E) ys
-      → pointwise same (in_order (on key R) xs) (in_order (on key R) ys) ≡ true → Agree xs ys
-  agree_from_in_order xs ys d e h = λ q.
-      sym (λ i. option_eq F (found_in_order q xs d i) (found_in_order q ys e i))
-      ∙ agree_from_pointwise (in_order (on key R) xs) (in_order (on key R) ys) h q
+  pub agree_from_sorted_equal : (xs ys : List X) → IsDistinct (on key E) xs
+      → IsDistinct (on key E) ys
+      → pointwise same (insertion_sort (on key R) xs) (insertion_sort (on key R) ys) ≡ true
+      → Agree xs ys
+  agree_from_sorted_equal xs ys d e h = λ q.
+      sym (λ i. option_eq F (found_sorted q xs d i) (found_sorted q ys e i))
+      ∙ agree_from_pointwise (insertion_sort (on key R) xs) (insertion_sort (on key R) ys) h q
 
 -- ---- hash maps and hash sets
 pub distinct_items : {X K : Type 0} (key : X → K) (E : K → K → Bool) (xs : List X)
@@ -181,22 +184,22 @@ distinct_items key E (x ∷ xs) d = (apart_items xs d.0, distinct_items key E xs
     apart_items [] a = tt
     apart_items (y ∷ ys) a = (a.0, apart_items ys a.1)
 
-values_in_order : {X : Type 0} (S : X → X → Ordering) (v : X → Type 0) (xs : List X)
-    → AreValues v xs → AreValues v (in_order S xs)
-values_in_order S v xs a =
-    let long = length_in_order S xs in (
+values_sorted : {X : Type 0} (S : X → X → Ordering) (v : X → Type 0) (xs : List X)
+    → AreValues v xs → AreValues v (insertion_sort S xs)
+values_sorted S v xs a =
+    let long = length_sorted S xs in (
       omega arith,
-      All-from_recursion v (in_order S xs)
-          (all_in_order S v xs (recursion_from_All v xs a.1)),
+      All-from_recursion v (insertion_sort S xs)
+          (all_sorted S v xs (recursion_from_All v xs a.1)),
     )
 
-pub values_from_in_order : {X : Type 0} (S : X → X → Ordering) (v : X → Type 0) (xs : List X)
-    → AreValues v (in_order S xs) → AreValues v xs
-values_from_in_order S v xs a =
-    let long = length_in_order S xs in (
+pub values_from_sorted : {X : Type 0} (S : X → X → Ordering) (v : X → Type 0) (xs : List X)
+    → AreValues v (insertion_sort S xs) → AreValues v xs
+values_from_sorted S v xs a =
+    let long = length_sorted S xs in (
       omega arith,
-      All-from_recursion v xs (all_from_in_order S v xs
-          (recursion_from_All v (in_order S xs) a.1)),
+      All-from_recursion v xs (all_from_sorted S v xs
+          (recursion_from_All v (insertion_sort S xs) a.1)),
     )
 
 -- `lookup` returns the value of the entry that `find` returns
@@ -267,18 +270,18 @@ module _ {K : Type 0} {R : K → K → Ordering} (o : IsTotalOrder R) {E : K →
       ∙ option_eq_values F (find (λ e. E q e.0) m.entries) (find (λ e. E q e.0) n.entries) in
       record {
         same = λ m n p q h.
-            lists.same (in_order (on key R) m.entries) (in_order (on key R) n.entries)
-            (values_in_order (on key R) is_value m.entries p.1)
-            (values_in_order (on key R) is_value n.entries q.1)
-            (in_order_from_agree key o laws ties rest m.entries n.entries
+            lists.same (insertion_sort (on key R) m.entries) (insertion_sort (on key R) n.entries)
+            (values_sorted (on key R) is_value m.entries p.1)
+            (values_sorted (on key R) is_value n.entries q.1)
+            (sorted_equal_from_agree key o laws ties rest m.entries n.entries
             (distinct_items key E m.entries p.0) (distinct_items key E n.entries q.0)
             (λ k. sym (at m n k) ∙ get_from_hash_map_eq E F laws m n h k));
         decides = λ m n s t p q h.
-            let equal = lists.decides (in_order (on key R) m.entries)
-            (in_order (on key R) n.entries) s t
-            (values_in_order (on key R) is_value m.entries p.1)
-            (values_in_order (on key R) is_value n.entries q.1) h in
-            let agree = agree_from_in_order key o laws ties rest m.entries n.entries
+            let equal = lists.decides (insertion_sort (on key R) m.entries)
+            (insertion_sort (on key R) n.entries) s t
+            (values_sorted (on key R) is_value m.entries p.1)
+            (values_sorted (on key R) is_value n.entries q.1) h in
+            let agree = agree_from_sorted_equal key o laws ties rest m.entries n.entries
             (distinct_items key E m.entries p.0) (distinct_items key E n.entries q.0) equal in
             hash_map_eq_from_get E F m n (λ k. at m n k ∙ agree k);
       }
@@ -296,16 +299,16 @@ module _ {K : Type 0} {R : K → K → Ordering} (o : IsTotalOrder R) {E : K →
             let has : (k : K) → is_some (find (E k) s.keys) ≡ is_some (find (E k) t.keys) =
             λ k. sym (any_is (E k) s.keys) ∙ (hash_set_eq_decides laws s t).0 h k
             ∙ any_is (E k) t.keys in
-            let equal = in_order_from_agree key o laws ties rest s.keys t.keys p.0 q.0
+            let equal = sorted_equal_from_agree key o laws ties rest s.keys t.keys p.0 q.0
             (λ k. both_from_alike (find (E k) s.keys) (find (E k) t.keys) (has k)) in
-            lists.same (in_order R s.keys) (in_order R t.keys) (values_in_order R vk s.keys p.1)
-            (values_in_order R vk t.keys q.1)
-            (sym (only_keys (in_order R s.keys) (in_order R t.keys)) ∙ equal);
+            lists.same (insertion_sort R s.keys) (insertion_sort R t.keys)
+            (values_sorted R vk s.keys p.1) (values_sorted R vk t.keys q.1)
+            (sym (only_keys (insertion_sort R s.keys) (insertion_sort R t.keys)) ∙ equal);
         decides = λ s t a b p q h.
-            let equal = lists.decides (in_order R s.keys) (in_order R t.keys) a b
-            (values_in_order R vk s.keys p.1) (values_in_order R vk t.keys q.1) h in
-            let agree = agree_from_in_order key o laws ties rest s.keys t.keys p.0 q.0
-            (only_keys (in_order R s.keys) (in_order R t.keys) ∙ equal) in
+            let equal = lists.decides (insertion_sort R s.keys) (insertion_sort R t.keys) a b
+            (values_sorted R vk s.keys p.1) (values_sorted R vk t.keys q.1) h in
+            let agree = agree_from_sorted_equal key o laws ties rest s.keys t.keys p.0 q.0
+            (only_keys (insertion_sort R s.keys) (insertion_sort R t.keys) ∙ equal) in
             (hash_set_eq_decides laws s t).1
             (λ k. any_is (E k) s.keys ∙ alike_from_both (find (E k) s.keys) (find (E k) t.keys)
             (agree k) ∙ sym (any_is (E k) t.keys));

@@ -1,16 +1,16 @@
 -- Known digests (RFC 7693, appendix A, and others): a check of the constants and steps of the
 -- definition.
 use Rattle.std.proofs.Common.{◌≡◌, [], ◌∷◌, codes, refl, take}
-use Rattle.jj_content.specs.Blake2b.{blake2b, final_state, state_after, folded_state, compress, start_vector, words, rounds, columns_mixed, diagonals_mixed, mix_at, mix}
+use Rattle.jj_content.specs.Blake2b.{blake2b, final_state, state_after, xor_halves, compress, work_vector, words, rounds, mix_columns, mix_diagonals, mix_at, mix}
 
 pub digest_of_abc : blake2b (codes "abc") ≡
     0xba ∷ 0x80 ∷ 0xa5 ∷ 0x3f ∷ 0x98 ∷ 0x1c ∷ 0x4d ∷ 0x0d ∷ 0x6a ∷ 0x27 ∷ 0x97 ∷ 0xb6 ∷ 0x9f ∷ 0x12 ∷ 0xf6 ∷ 0xe9 ∷
     0x4c ∷ 0x21 ∷ 0x2f ∷ 0x14 ∷ 0x68 ∷ 0x5a ∷ 0xc4 ∷ 0xb7 ∷ 0x4b ∷ 0x12 ∷ 0xbb ∷ 0x6f ∷ 0xdb ∷ 0xff ∷ 0xa2 ∷ 0xd1 ∷
     0x7d ∷ 0x87 ∷ 0xc5 ∷ 0x39 ∷ 0x2a ∷ 0xab ∷ 0x79 ∷ 0x2d ∷ 0xc2 ∷ 0x52 ∷ 0xd5 ∷ 0xde ∷ 0x45 ∷ 0x33 ∷ 0xcc ∷ 0x95 ∷
     0x18 ∷ 0xd3 ∷ 0x8a ∷ 0xa8 ∷ 0xdb ∷ 0xf1 ∷ 0x92 ∷ 0x5a ∷ 0xb9 ∷ 0x23 ∷ 0x86 ∷ 0xed ∷ 0xd4 ∷ 0x00 ∷ 0x99 ∷ 0x23 ∷ []
-unfolding blake2b final_state state_after folded_state compress start_vector words rounds columns_mixed diagonals_mixed mix_at mix
+unfolding blake2b final_state state_after xor_halves compress work_vector words rounds mix_columns mix_diagonals mix_at mix
 digest_of_abc = refl
 
 pub digest_of_nothing-begins : take 8 (blake2b []) ≡ 0x78 ∷ 0x6a ∷ 0x02 ∷ 0xf7 ∷ 0x42 ∷ 0x01 ∷ 0x59 ∷ 0x03 ∷ []
-unfolding blake2b final_state state_after folded_state compress start_vector words rounds columns_mixed diagonals_mixed mix_at mix
+unfolding blake2b final_state state_after xor_halves compress work_vector words rounds mix_columns mix_diagonals mix_at mix
 digest_of_nothing-begins = refl

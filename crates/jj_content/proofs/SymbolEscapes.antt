@@ -8,8 +8,8 @@ use Rattle.std.proofs.lemmas.List.{append-nil}
 use Rattle.std.proofs.lemmas.Str.{encode_ascii}
 use Rattle.std.proofs.lemmas.Bool.Decides.{nat_tests}
 use lib.Utf8.{encode}
-use Rattle.jj_content.specs.Symbols.{letter_escapes, hex_escape, escaped_byte, escaped_text}
-use Rattle.jj_content.proofs.EscapedTexts.{plain_character, one_more_written, all_written}
+use Rattle.jj_content.specs.Symbols.{letter_escapes, hex_escape, escaped_byte, escaped_string}
+use Rattle.jj_content.proofs.EscapeLoops.{plain_character, one_more_written, all_written}
 
 -- a character with a letter escape
 pub escaped_letter : (c : ℕ) (piece : List ℕ) → c < 128 → escaped_byte c ≡ piece → flat_map escaped_byte (encode c) ≡ piece
@@ -30,11 +30,11 @@ pub escaped_plain : (c : ℕ) → find (λ e. e.0 == c) letter_escapes ≡ None 
 escaped_plain c none plain = plain_character escaped_byte c (plain_byte c none plain) high_byte
 
 -- loop step: one more character
-pub escaped_step : (buffer buffer' piece rest rest' whole : List ℕ) → buffer' ≡ buffer ++ flat_map escaped_byte piece → rest ≡ piece ++ rest' → buffer ++ escaped_text rest ≡ whole → buffer' ++ escaped_text rest' ≡ whole
-unfolding escaped_text
+pub escaped_step : (buffer buffer' piece rest rest' whole : List ℕ) → buffer' ≡ buffer ++ flat_map escaped_byte piece → rest ≡ piece ++ rest' → buffer ++ escaped_string rest ≡ whole → buffer' ++ escaped_string rest' ≡ whole
+unfolding escaped_string
 escaped_step = one_more_written escaped_byte
 
 -- loop exit
-pub escaped_end : (buffer rest whole : List ℕ) → length rest ≡ 0 → buffer ++ escaped_text rest ≡ whole → buffer ≡ whole
-unfolding escaped_text
+pub escaped_end : (buffer rest whole : List ℕ) → length rest ≡ 0 → buffer ++ escaped_string rest ≡ whole → buffer ≡ whole
+unfolding escaped_string
 escaped_end = all_written escaped_byte
