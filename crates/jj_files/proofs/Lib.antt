@@ -1,5 +1,5 @@
-pub mod FsTextLemmas
-pub mod Contexts
+pub mod PathJoiningLemmas
+pub mod ErrorContexts
 pub mod Removals
 pub mod NormalForms
-pub mod CommonFronts
+pub mod CommonPrefixes

@@ -1,8 +1,8 @@
 pub mod Streams
-pub mod Watching
+pub mod WatchedFields
 pub mod Causes
 pub mod PathErrors
-pub mod FsTexts
-pub mod PathTexts
+pub mod PathJoining
+pub mod HomeExpansion
 pub mod Directories
 pub mod PathComponents

@@ -2,18 +2,18 @@
 ghost use Rattle.std.specs.Prelude.{◌≡◌, ℕ, ◌<◌, ◌-◌, Bool, false, List, IfOk, IsErr, OnOk, Option, is_err, ◌||◌};
 ghost use Rattle.std.specs.Io.{ReadsAtMost, WritesAtMost};
 ghost use Rattle.std.specs.Io.KnownBytes.{Appends, ReadConsumes, WriteAppends};
-ghost use Rattle.jj_files.specs.Streams.{LowersReads, NotesFailure, SettlesWrite, TakesSome, CopiesAll, CopiesFront, AppendsFrontOf, streams};
-ghost use Rattle.jj_files.specs.Watching.{most_reads, watched_inner, watched_failed, watched_reads_left};
+ghost use Rattle.jj_files.specs.Streams.{DecreasesReads, RecordsFailure, ReportsWriteZero, WritesSome, CopiesAll, CopiesPrefix, AppendsPrefixOf, streams};
+ghost use Rattle.jj_files.specs.WatchedFields.{most_reads, watched_inner, watched_failed, watched_reads_left};
 
 mod dirs;
 mod errors;
 mod path_components;
-mod path_texts;
+mod path_strings;
 
 pub use dirs::{DirAccess, create_or_reuse_dir, is_empty_dir, remove_dir_contents};
 pub use errors::{IoResultExt, PathError, SourceError, SourceKind};
 pub use path_components::{normalize_path, relative_path};
-pub use path_texts::{
+pub use path_strings::{
     BadPathEncoding, expand_home_path, path_from_bytes, path_to_bytes, slash_path,
 };
 use std::io;
@@ -35,8 +35,8 @@ pub trait Source {
     fn read(&mut self, buf: &mut [u8]) -> io::Result<usize>
         ensures bound { ReadsAtMost result buf.new }
         ensures bytes { ReadConsumes (remaining self.old) (remaining self.new) result buf.new }
-        ensures failure { NotesFailure (has_failed self.old) (has_failed self.new) result }
-        ensures fewer { LowersReads result (reads_left self.old) (reads_left self.new) };
+        ensures failure { RecordsFailure (has_failed self.old) (has_failed self.new) result }
+        ensures fewer { DecreasesReads result (reads_left self.old) (reads_left self.new) };
 }
 
 /// A sink of bytes.
@@ -51,8 +51,8 @@ pub trait Sink {
     fn write(&mut self, piece: &[u8]) -> io::Result<usize>
         ensures bound { WritesAtMost result piece.now }
         ensures bytes { WriteAppends (contents self.old) (contents self.new) result piece.now }
-        ensures some { TakesSome result piece.now }
-        ensures failure { NotesFailure (has_failed self.old) (has_failed self.new) result };
+        ensures some { WritesSome result piece.now }
+        ensures failure { RecordsFailure (has_failed self.old) (has_failed self.new) result };
 }
 
 /// An adapter of `Read` and `Write` that records failures and limits the number of reads.
@@ -87,33 +87,35 @@ impl<T> Watched<T> {
 
 impl<T> Watched<T> {
     // Counts a read and records whether it failed.
-    fn note_read(&mut self, answer: io::Result<usize>) -> io::Result<usize>
+    fn record_read(&mut self, outcome: io::Result<usize>) -> io::Result<usize>
         requires { 0 < watched_reads_left self.old }
-        ensures answer { result ≡ answer }
+        ensures outcome { result ≡ outcome }
         ensures inner { watched_inner self.new ≡ watched_inner self.old }
-        ensures failure { NotesFailure (watched_failed self.old) (watched_failed self.new) result }
+        ensures failure { RecordsFailure
+            (watched_failed self.old) (watched_failed self.new) result }
         ensures counted { watched_reads_left self.new ≡ watched_reads_left self.old - 1 }
     {
         self.reads_left -= 1;
-        self.failed = self.failed || answer.is_err();
-        answer
+        self.failed = self.failed || outcome.is_err();
+        outcome
     }
 
     // Turns a write of no bytes of a nonempty piece into `WriteZero`, and records whether the write
     // failed.
-    fn note_write(&mut self, answer: io::Result<usize>, offered: usize) -> io::Result<usize>
-        ensures answer { SettlesWrite answer offered result }
+    fn record_write(&mut self, outcome: io::Result<usize>, offered: usize) -> io::Result<usize>
+        ensures outcome { ReportsWriteZero outcome offered result }
         ensures inner { watched_inner self.new ≡ watched_inner self.old }
-        ensures failure { NotesFailure (watched_failed self.old) (watched_failed self.new) result }
+        ensures failure { RecordsFailure
+            (watched_failed self.old) (watched_failed self.new) result }
     {
-        if let Ok(0) = answer
+        if let Ok(0) = outcome
             && offered > 0
         {
             self.failed = true;
             return Err(io::Error::from(ErrorKind::WriteZero));
         }
-        self.failed = self.failed || answer.is_err();
-        answer
+        self.failed = self.failed || outcome.is_err();
+        outcome
     }
 }
 
@@ -130,8 +132,9 @@ impl<R: Read> Source for Watched<R> {
         ensures bytes { ReadConsumes
             (R.remaining (watched_inner self.old))
             (R.remaining (watched_inner self.new)) result buf.new }
-        ensures failure { NotesFailure (watched_failed self.old) (watched_failed self.new) result }
-        ensures fewer { LowersReads result
+        ensures failure { RecordsFailure
+            (watched_failed self.old) (watched_failed self.new) result }
+        ensures fewer { DecreasesReads result
             (watched_reads_left self.old) (watched_reads_left self.new) }
         ensures counted { watched_reads_left self.new ≡ watched_reads_left self.old - 1 }
         ensures spent { watched_reads_left self.old ≡ 0 →
@@ -141,8 +144,8 @@ impl<R: Read> Source for Watched<R> {
             self.failed = true;
             return Err(io::Error::other("too many reads"));
         }
-        let answer = self.inner.read(buf);
-        self.note_read(answer)
+        let outcome = self.inner.read(buf);
+        self.record_read(outcome)
     }
 }
 
@@ -154,8 +157,8 @@ impl<W: Write> Sink for Watched<W> {
     /// Writes to the wrapped writer. Fails with `WriteZero` if that writes nothing of a nonempty
     /// piece.
     fn write(&mut self, piece: &[u8]) -> io::Result<usize> {
-        let answer = self.inner.write(piece);
-        self.note_write(answer, piece.len())
+        let outcome = self.inner.write(piece);
+        self.record_write(outcome, piece.len())
     }
 }
 
@@ -165,8 +168,8 @@ const COPY_BUFFER: usize = 16384;
 /// `piece` was then written.
 pub fn write_all<W: Sink>(writer: &mut W, piece: &[u8]) -> io::Result<()>
     ensures ok { OnOk result (Appends (W.contents writer.old) (W.contents writer.new) piece.now) }
-    ensures front { AppendsFrontOf (W.contents writer.old) (W.contents writer.new) piece.now }
-    ensures failure { NotesFailure (W.has_failed writer.old) (W.has_failed writer.new) result }
+    ensures prefix { AppendsPrefixOf (W.contents writer.old) (W.contents writer.new) piece.now }
+    ensures failure { RecordsFailure (W.has_failed writer.old) (W.has_failed writer.new) result }
 {
     let mut rest = piece;
     while !rest.is_empty() {
@@ -185,7 +188,7 @@ pub fn copy<R: Source, W: Sink>(reader: &mut R, writer: &mut W) -> io::Result<us
     ensures all { IfOk result (CopiesAll
         (streams (R.remaining reader.old) (W.contents writer.old))
         (streams (R.remaining reader.new) (W.contents writer.new))) }
-    ensures front { CopiesFront (streams (R.remaining reader.old) (W.contents writer.old))
+    ensures prefix { CopiesPrefix (streams (R.remaining reader.old) (W.contents writer.old))
         (streams (R.remaining reader.new) (W.contents writer.new)) }
     ensures failure { is_err result ≡ (R.has_failed reader.new || W.has_failed writer.new) }
 {

@@ -1,7 +1,7 @@
 //! Conversion of paths to strings.
 ghost use Rattle.std.specs.Prelude.{◌≡◌, IfOk, string_bytes};
 ghost use Rattle.std.specs.Path.{path_buf_bytes};
-ghost use Rattle.jj_files.specs.FsTexts.{or_dot};
+ghost use Rattle.jj_files.specs.PathJoining.{or_dot};
 
 use std::alloc::AllocError;
 use std::path::PathBuf;

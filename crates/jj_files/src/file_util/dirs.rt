@@ -3,7 +3,7 @@ ghost use Rattle.std.specs.Prelude.{◌≡◌, ℕ, Bool, List, IfOk, IfErr, Res
 ghost use Rattle.std.specs.Result.{result_map_both};
 ghost use Rattle.std.specs.Path.{path_join};
 ghost use Rattle.std.specs.declared.io.Error.{Error};
-ghost use Rattle.jj_files.specs.Directories.{CreatesOrReuses, EmptiesDir, IsEmptyDir, IsListFault};
+ghost use Rattle.jj_files.specs.Directories.{CreatesOrReuses, EmptiesDir, IsEmptyDir, IsListError};
 ghost use Rattle.jj_files.specs.declared.file_util.errors.PathError.{PathError};
 
 use super::{IoResultExt, PathError};
@@ -42,7 +42,7 @@ pub trait DirAccess {
     fn list(&self, alloc: Global, path: &str) -> Result<Vec<String>, PathError>
         ensures listed { may_list self.now path.now
             (result_map_both (λ names. map string_bytes names.items) (λ e. e) result) }
-        ensures fault { IfErr result (IsListFault path.now) };
+        ensures fault { IfErr result (IsListError path.now) };
 }
 
 /// Creates a directory, unless there is one already. Returns the error of `create_dir` if there is

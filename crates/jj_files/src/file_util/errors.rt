@@ -48,7 +48,7 @@ pub enum PathError {
 impl From<AllocError> for PathError {
     ghost from_gives = { λ _ error. error ≡ PathError.Memory };
 
-    fn from(_refused: AllocError) -> Self {
+    fn from(_error: AllocError) -> Self {
         PathError::Memory
     }
 }
@@ -56,7 +56,7 @@ impl From<AllocError> for PathError {
 impl<T: Drop> From<AllocFailed<T>> for PathError {
     ghost from_gives = { λ _ error. error ≡ PathError.Memory };
 
-    fn from(_refused: AllocFailed<T>) -> Self {
+    fn from(_error: AllocFailed<T>) -> Self {
         PathError::Memory
     }
 }

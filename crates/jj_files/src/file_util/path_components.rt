@@ -2,8 +2,8 @@
 ghost use Rattle.std.specs.Prelude.{◌≡◌, ℕ, List, [], ◌∷◌, ◌++◌, map, false, true, IfOk, OnOk, MatchOption, string_bytes};
 ghost use Rattle.std.specs.Str.{bytes_eq};
 ghost use Rattle.std.specs.Path.{component_bytes, parent_dir, path_bytes, path_buf_bytes, path_components};
-ghost use Rattle.jj_files.specs.FsTexts.{join_all, fs_text, is_place};
-ghost use Rattle.jj_files.specs.PathComponents.{ends_in_name, IsNormalized, IsRelativeTo, SharesFront};
+ghost use Rattle.jj_files.specs.PathJoining.{join_all, fs_text, is_special};
+ghost use Rattle.jj_files.specs.PathComponents.{ends_in_name, IsNormalized, IsRelativeTo, HasCommonPrefix};
 
 use crate::fs_text::text_or_dot;
 use std::alloc::{AllocError, Global};
@@ -14,30 +14,30 @@ use std::path::{Component, Path, PathBuf};
 pub fn normalize_path(alloc: Global, path: &str) -> Result<String, AllocError>
     ensures { IfOk result (λ text. IsNormalized path.now (string_bytes text)) }
 {
-    let mut kept: Vec<&str> = Vec::new(alloc);
+    let mut stack: Vec<&str> = Vec::new(alloc);
     for component in Path::new(path).components() {
         match component {
             Component::CurDir => {}
-            Component::ParentDir if ends_in_name(&kept) => {
-                kept.pop();
+            Component::ParentDir if ends_in_name(&stack) => {
+                stack.pop();
             }
-            _ => kept.push(component.as_os_str())?,
+            _ => stack.push(component.as_os_str())?,
         }
     }
-    join_components(alloc, &kept)
+    join_components(alloc, &stack)
 }
 
 fn ends_in_name(components: &[&str]) -> bool
     ensures { result ≡ ends_in_name (map (λ text. text.now) components.now) }
 {
     match components.split_last() {
-        Some((last, _front)) => !is_place(last),
+        Some((last, _front)) => !is_special(last),
         None => false,
     }
 }
 
-fn is_place(component: &str) -> bool
-    ensures { result ≡ is_place component.now }
+fn is_special(component: &str) -> bool
+    ensures { result ≡ is_special component.now }
 {
     component == "/" || component == "." || component == ".."
 }
@@ -47,8 +47,8 @@ fn join_components(alloc: Global, components: &[&str]) -> Result<String, AllocEr
         ≡ fs_text [] (map (λ component. component.now) components.now)) }
 {
     let mut text = PathBuf::new(alloc);
-    for place in 0..components.len() {
-        text.push(components[place])?;
+    for index in 0..components.len() {
+        text.push(components[index])?;
     }
     text_or_dot(text)
 }
@@ -60,7 +60,7 @@ fn join_components(alloc: Global, components: &[&str]) -> Result<String, AllocEr
 pub fn relative_path(alloc: Global, from: &str, to: &str) -> Result<String, AllocError>
     ensures { IfOk result (λ text. IsRelativeTo from.now to.now (string_bytes text)) }
 {
-    let Some((from_left, to_left)) = strip_common_front(from, to) else {
+    let Some((from_left, to_left)) = strip_common_prefix(from, to) else {
         return String::from_str(alloc, to);
     };
     let mut text = PathBuf::new(alloc);
@@ -91,11 +91,11 @@ fn push_components(text: &mut PathBuf, path: Path<'_>) -> Result<(), AllocError>
 }
 
 // Strips the longest common prefix of components, or returns `None` if it is empty.
-fn strip_common_front<'a, 'b>(from: &'a str, to: &'b str) -> Option<(Path<'a>, Path<'b>)>
+fn strip_common_prefix<'a, 'b>(from: &'a str, to: &'b str) -> Option<(Path<'a>, Path<'b>)>
     ensures { MatchOption result
-        (SharesFront from.now to.now [] (path_components from.now) (path_components to.now))
-        (λ left. (first : List ℕ) × (front : List (List ℕ))
-        × SharesFront from.now to.now (first ∷ front) (path_components (path_bytes left.0))
+        (HasCommonPrefix from.now to.now [] (path_components from.now) (path_components to.now))
+        (λ left. (first : List ℕ) × (prefix : List (List ℕ))
+        × HasCommonPrefix from.now to.now (first ∷ prefix) (path_components (path_bytes left.0))
         (path_components (path_bytes left.1))) }
 {
     let mut from_left = Path::new(from).components();

@@ -16,14 +16,14 @@ loop-n-preserved g c =
       c.in_ok-write_all.ensures.failure ∙ writer_works,
     )
 
-pub returns-in_err-write_all-clause-front : goal.returns-in_err-write_all-clause-front
-returns-in_err-write_all-clause-front g c =
+pub returns-in_err-write_all-clause-prefix : goal.returns-in_err-write_all-clause-prefix
+returns-in_err-write_all-clause-prefix g c =
     let (moved, count, read, written, reader_works, writer_works) = c.loop-n.invariant in
-    let (front, rest, more, split) = c.write_all.ensures.front in
+    let (prefix, rest, more, split) = c.write_all.ensures.prefix in
     let piece = take c.in_ok-n.n c.read.new.buf in
     let all_read = Consumes-trans _ _ _ _ _ read c.in_ok-n.ensures.bytes.0 in (
-      moved ++ front,
+      moved ++ prefix,
       rest,
-      subst (Consumes _ _) (ap (λ l. moved ++ l) (sym split) ∙ sym (append_assoc moved front rest)) all_read,
+      subst (Consumes _ _) (ap (λ l. moved ++ l) (sym split) ∙ sym (append_assoc moved prefix rest)) all_read,
       Appends-trans _ _ _ _ _ written more,
     )

@@ -4,8 +4,8 @@ use Rattle.std.proofs.KnownBytes.{Appends-trans}
 use Rattle.jj_files.proofs.file_util.write_all.Goals as goal
 
 -- moves the next n bytes from the remaining to the finished ones
-moves_front : (all done rest : List ℕ) (n : ℕ) → done ++ rest ≡ all → (done ++ take n rest) ++ take (length rest - n) (drop n rest) ≡ all
-moves_front all done rest n e =
+moves_prefix : (all done rest : List ℕ) (n : ℕ) → done ++ rest ≡ all → (done ++ take n rest) ++ take (length rest - n) (drop n rest) ≡ all
+moves_prefix all done rest n e =
     ap (λ l. (done ++ take n rest) ++ l) (take_rest rest n) ∙ append_assoc done (take n rest) (drop n rest) ∙ ap (λ l. done ++ l) (take-append-drop n rest) ∙ e
 
 pub loop-rest-preserved : goal.loop-rest-preserved
@@ -13,4 +13,4 @@ loop-rest-preserved g c =
     let (done, appended, split, works) = c.loop-rest.invariant in
     let rest = c.loop-rest.rest.now in
     let n = c.in_ok-n.n in
-    (done ++ take n rest, Appends-trans _ _ _ _ _ appended c.in_ok-n.ensures.bytes, moves_front _ done rest n split, c.in_ok-n.ensures.failure ∙ works)
+    (done ++ take n rest, Appends-trans _ _ _ _ _ appended c.in_ok-n.ensures.bytes, moves_prefix _ done rest n split, c.in_ok-n.ensures.failure ∙ works)

@@ -1,6 +1,6 @@
 use Rattle.std.proofs.Common.{◌∙◌, ap}
 use Rattle.std.specs.Path.{path_buf_bytes}
-use Rattle.jj_files.proofs.FsTextLemmas.{or_dot-empty, or_dot-same}
+use Rattle.jj_files.proofs.PathJoiningLemmas.{or_dot-empty, or_dot-same}
 use Rattle.jj_files.proofs.fs_text.text_or_dot.Goals as goal
 use Rattle.jj_files.proofs.fs_text.text_or_dot.Goals.{then-is_empty+in_ok-push, else-is_empty}
 

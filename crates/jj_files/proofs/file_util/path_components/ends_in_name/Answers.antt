@@ -7,6 +7,6 @@ use Rattle.jj_files.proofs.file_util.path_components.ends_in_name.Goals as goal
 pub returns-in-Some : goal.returns-in-Some
 returns-in-Some c =
     let last = c.in-Some.last.now in
-    let front = c.in-Some._front.now in
-    let whole = ap (map (λ text. text.now)) c.in-Some.ensures.cases.0 ∙ map-append (λ text. text.now) front (last ∷ []) in
-    ap not c.is_place.ensures ∙ sym (ends_in_name-last (map (λ text. text.now) front) last.now) ∙ sym (ap ends_in_name whole)
+    let prefix = c.in-Some._front.now in
+    let whole = ap (map (λ text. text.now)) c.in-Some.ensures.cases.0 ∙ map-append (λ text. text.now) prefix (last ∷ []) in
+    ap not c.is_special.ensures ∙ sym (ends_in_name-last (map (λ text. text.now) prefix) last.now) ∙ sym (ap ends_in_name whole)

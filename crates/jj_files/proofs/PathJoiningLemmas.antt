@@ -5,7 +5,7 @@ use Rattle.std.proofs.lemmas.List.{map-append}
 use Rattle.std.specs.List.{slice_index}
 use denote.Ref.{Bor}
 use Rattle.std.specs.Path.{path_join, cur_dir, slash}
-use Rattle.jj_files.specs.FsTexts.{or_dot, join_all}
+use Rattle.jj_files.specs.PathJoining.{or_dot, join_all}
 
 -- appending to the empty path
 pub path_join-empty : (text : List ℕ) → path_join [] text ≡ text
@@ -30,15 +30,15 @@ appended-last base [] part = refl
 appended-last base (first ∷ parts) part = appended-last (path_join base first) parts part
 
 -- the components before an index, and the one at it
-pub appended-place : (texts : List (Bor (List ℕ))) (place : ℕ) (d : Bor (List ℕ)) (old new : List ℕ) → place < length texts
-    → new ≡ path_join old (get_or texts place d).now → old ≡ join_all [] (map (λ text. text.now) (take place texts))
-    → new ≡ join_all [] (map (λ text. text.now) (take (place + 1) texts))
-appended-place texts place d old new within pushed so_far =
-    let next : suc place ≡ place + 1 = omega arith in
-    pushed ∙ ap (λ text. path_join text (get_or texts place d).now) so_far
-    ∙ sym (appended-last [] (map (λ text. text.now) (take place texts)) (get_or texts place d).now)
-    ∙ ap (join_all []) (sym (map-append (λ text. text.now) (take place texts) (get_or texts place d ∷ [])))
-    ∙ ap (λ l. join_all [] (map (λ text. text.now) l)) (sym (take-suc texts place d within))
+pub appended-index : (texts : List (Bor (List ℕ))) (index : ℕ) (d : Bor (List ℕ)) (old new : List ℕ) → index < length texts
+    → new ≡ path_join old (get_or texts index d).now → old ≡ join_all [] (map (λ text. text.now) (take index texts))
+    → new ≡ join_all [] (map (λ text. text.now) (take (index + 1) texts))
+appended-index texts index d old new within pushed so_far =
+    let next : suc index ≡ index + 1 = omega arith in
+    pushed ∙ ap (λ text. path_join text (get_or texts index d).now) so_far
+    ∙ sym (appended-last [] (map (λ text. text.now) (take index texts)) (get_or texts index d).now)
+    ∙ ap (join_all []) (sym (map-append (λ text. text.now) (take index texts) (get_or texts index d ∷ [])))
+    ∙ ap (λ l. join_all [] (map (λ text. text.now) l)) (sym (take-suc texts index d within))
     ∙ ap (λ n. join_all [] (map (λ text. text.now) (take n texts))) next
 
 -- appending a concatenation

@@ -2,7 +2,7 @@
 ghost use Rattle.std.specs.Prelude.{◌≡◌, IsOk, IfOk, MatchResult, string_bytes};
 ghost use Rattle.std.specs.Option.{option_map};
 ghost use Rattle.std.specs.Str.{IsUtf8};
-ghost use Rattle.jj_files.specs.PathTexts.{expand_home};
+ghost use Rattle.jj_files.specs.HomeExpansion.{expand_home};
 
 use std::alloc::{AllocError, Global};
 use std::path::PathBuf;
