@@ -1,7 +1,7 @@
 //! Laws of all libraries: empty functions whose contracts state properties of definitions, for use
 //! in proofs.
 pub use jj_ids::object_id::sum_laws;
-pub use jj_ids::ref_name::remote_symbols_print_apart;
+pub use jj_ids::ref_name::remote_symbol_display_is_injective;
 pub use jj_matchers::laws::{sets_have_their_meaning, walks_find_accepted_marks};
 pub use jj_merges::laws::simplified_indices_laws;
 pub use jj_paths::laws::{

@@ -9,5 +9,5 @@ pub use kinds::{
 };
 pub use names::{Name, NameBuf, NameKind};
 pub use symbols::{
-    AtRemote, RefSymbol, RemoteRefSymbol, RemoteRefSymbolBuf, remote_symbols_print_apart,
+    AtRemote, RefSymbol, RemoteRefSymbol, RemoteRefSymbolBuf, remote_symbol_display_is_injective,
 };

@@ -1,7 +1,7 @@
 //! The kinds of objects and their id types.
 ghost use Rattle.std.specs.Prelude.{◌≡◌, [], codes, true, false, IfOk};
 ghost use Rattle.std.specs.String.{string_bytes};
-ghost use Rattle.jj_content.specs.Hex.{reverse_hex, reverse_hex_digits, IsReading};
+ghost use Rattle.jj_content.specs.Hex.{reverse_hex, reverse_hex_digits, IsDecoding};
 
 use super::{Id, IdKind};
 use jj_content::hex_util::{decode_reverse_hex, encode_reverse_hex};
@@ -57,7 +57,7 @@ impl ChangeId {
         alloc: Global,
         reverse_hex: H,
     ) -> Result<Option<Self>, AllocError>
-        ensures { IfOk result (IsReading (λ id. id) reverse_hex_digits (H.items reverse_hex)) }
+        ensures { IfOk result (IsDecoding (λ id. id) reverse_hex_digits (H.items reverse_hex)) }
     {
         Ok(decode_reverse_hex(alloc, reverse_hex)?.map(ChangeId::new))
     }

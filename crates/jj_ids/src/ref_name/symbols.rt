@@ -5,8 +5,8 @@ ghost use Rattle.std.specs.Fmt.{WritesInCalls, WritesOnOk};
 ghost use Rattle.std.specs.Hash as fed;
 ghost use Rattle.std.specs.Option.{option_copied};
 ghost use Rattle.std.specs.Ordering.{nat_cmp, ordering_then};
-ghost use Rattle.jj_ids.specs.Names.{name_of, ref_symbol_of};
-ghost use Rattle.jj_ids.specs.SymbolTexts.{is_separator, is_safe_byte, is_safe_symbol, symbol_text, remote_symbol_text, printed_text};
+ghost use Rattle.jj_ids.specs.Names.{name_bytes, symbol_bytes};
+ghost use Rattle.jj_ids.specs.SymbolDisplay.{is_separator, is_safe_byte, is_safe_identifier, symbol_display, remote_symbol_display, symbol_at_display};
 
 use super::{RefName, RefNameBuf, RemoteName, RemoteNameBuf};
 use jj_content::symbol_util::write_quoted;
@@ -38,23 +38,23 @@ pub struct RemoteRefSymbolBuf {
 /// A name at a remote. It is ordered, and hashed, by the name and then the remote.
 pub trait AtRemote: Ord + Hash {
     /// The bytes of the name.
-    ghost name_text: { Self → List ℕ };
+    ghost ref_name_bytes: { Self → List ℕ };
 
     /// The bytes of the remote's name.
-    ghost remote_text: { Self → List ℕ };
+    ghost remote_name_bytes: { Self → List ℕ };
 
     ghost ordered: { (a b : Self) → Self.cmp a b ≡ ordering_then
-        (slice_cmp nat_cmp (name_text a) (name_text b))
-        (slice_cmp nat_cmp (remote_text a) (remote_text b)) };
+        (slice_cmp nat_cmp (ref_name_bytes a) (ref_name_bytes b))
+        (slice_cmp nat_cmp (remote_name_bytes a) (remote_name_bytes b)) };
 
-    ghost hashed: { (a : Self) → Self.hash_input a ≡ fed.str (name_text a)
-        ++ fed.str (remote_text a) };
+    ghost hashed: { (a : Self) → Self.hash_input a ≡ fed.str (ref_name_bytes a)
+        ++ fed.str (remote_name_bytes a) };
 }
 
 impl<'a> AtRemote for RemoteRefSymbol<'a> {
-    ghost name_text = { λ symbol. name_of symbol.name };
+    ghost ref_name_bytes = { λ symbol. name_bytes symbol.name };
 
-    ghost remote_text = { λ symbol. name_of symbol.remote };
+    ghost remote_name_bytes = { λ symbol. name_bytes symbol.remote };
 
     ghost ordered = { λ a b. refl };
 
@@ -62,9 +62,9 @@ impl<'a> AtRemote for RemoteRefSymbol<'a> {
 }
 
 impl AtRemote for RemoteRefSymbolBuf {
-    ghost name_text = { λ symbol. symbol.name };
+    ghost ref_name_bytes = { λ symbol. symbol.name };
 
-    ghost remote_text = { λ symbol. symbol.remote };
+    ghost remote_name_bytes = { λ symbol. symbol.remote };
 
     ghost ordered = { λ a b. refl };
 
@@ -73,7 +73,7 @@ impl AtRemote for RemoteRefSymbolBuf {
 
 impl<'a> RefSymbol<'a> {
     pub(super) fn new(text: &'a str) -> Self
-        ensures { ref_symbol_of result ≡ text.now }
+        ensures { symbol_bytes result ≡ text.now }
     {
         RefSymbol { text }
     }
@@ -82,8 +82,8 @@ impl<'a> RefSymbol<'a> {
 impl<'a> RemoteRefSymbol<'a> {
     /// Clones the symbol.
     pub fn to_owned(self, alloc: Global) -> Result<RemoteRefSymbolBuf, AllocError>
-        ensures name { IfOk result (λ owned. owned.name ≡ name_of self.entry.name) }
-        ensures remote { IfOk result (λ owned. owned.remote ≡ name_of self.entry.remote) }
+        ensures name { IfOk result (λ owned. owned.name ≡ name_bytes self.entry.name) }
+        ensures remote { IfOk result (λ owned. owned.remote ≡ name_bytes self.entry.remote) }
     {
         Ok(RemoteRefSymbolBuf {
             name: self.name.to_owned(alloc)?,
@@ -95,8 +95,8 @@ impl<'a> RemoteRefSymbol<'a> {
 impl RemoteRefSymbolBuf {
     /// Borrows the symbol.
     pub fn as_ref(&self) -> RemoteRefSymbol<'_>
-        ensures name { name_of result.name ≡ self.now.name }
-        ensures remote { name_of result.remote ≡ self.now.remote }
+        ensures name { name_bytes result.name ≡ self.now.name }
+        ensures remote { name_bytes result.remote ≡ self.now.remote }
     {
         RemoteRefSymbol {
             name: self.name.as_name(),
@@ -105,13 +105,13 @@ impl RemoteRefSymbolBuf {
     }
 }
 
-fn is_separator_byte(byte: u8) -> bool
+fn is_separator(byte: u8) -> bool
     ensures { result ≡ is_separator byte }
 {
     matches!(byte, b'.' | b'-' | b'+')
 }
 
-fn is_plain_byte(byte: u8) -> bool
+fn is_safe_byte(byte: u8) -> bool
     ensures { result ≡ is_safe_byte byte }
 {
     byte.is_ascii_alphanumeric() || matches!(byte, b'_' | b'/')
@@ -120,13 +120,13 @@ fn is_plain_byte(byte: u8) -> bool
 // Returns whether `symbol` is a nonempty sequence of parts without quotable characters, joined by
 // single separators.
 fn is_safe_identifier(symbol: &str) -> bool
-    ensures { result ≡ is_safe_symbol symbol.now }
+    ensures { result ≡ is_safe_identifier symbol.now }
 {
     let mut part_is_empty = true;
     for byte in symbol.as_bytes() {
-        if is_plain_byte(*byte) {
+        if is_safe_byte(*byte) {
             part_is_empty = false;
-        } else if part_is_empty || !is_separator_byte(*byte) {
+        } else if part_is_empty || !is_separator(*byte) {
             return false;
         } else {
             part_is_empty = true;
@@ -137,7 +137,7 @@ fn is_safe_identifier(symbol: &str) -> bool
 
 fn write_symbol<W: Write>(writer: &mut W, text: &str) -> fmt::Result
     ensures { OnOk result (WritesInCalls W.write_str_gives writer.old
-        (symbol_text text.now) writer.new) }
+        (symbol_display text.now) writer.new) }
 {
     if is_safe_identifier(text) {
         writer.write_str(text)?;
@@ -148,9 +148,9 @@ fn write_symbol<W: Write>(writer: &mut W, text: &str) -> fmt::Result
 }
 
 // Writes `name` or `name@remote`.
-fn write_printed<W: Write>(writer: &mut W, name: &str, remote: Option<&str>) -> fmt::Result
+fn write_symbol_at<W: Write>(writer: &mut W, name: &str, remote: Option<&str>) -> fmt::Result
     ensures { OnOk result (WritesInCalls W.write_str_gives writer.old
-        (printed_text name.now (option_copied remote.entry)) writer.new) }
+        (symbol_at_display name.now (option_copied remote.entry)) writer.new) }
 {
     write_symbol(writer, name)?;
     let Some(remote) = remote else {
@@ -196,7 +196,7 @@ impl<W: Write> Write for FirstChars<W> {
 }
 
 // Returns how many of the padding characters precede the displayed string.
-fn fill_before(alignment: Option<Alignment>, padding: usize) -> usize {
+fn leading_fill(alignment: Option<Alignment>, padding: usize) -> usize {
     match alignment {
         None | Some(Alignment::Left) => 0,
         Some(Alignment::Center) => padding / 2,
@@ -213,47 +213,47 @@ fn write_fill<W: Write>(f: &mut fmt::Formatter<W>, count: usize) -> fmt::Result 
 }
 
 // Displays the symbol, truncated to the formatter's precision and padded to its width.
-fn pad_printed<W: Write>(
+fn pad_symbol_at<W: Write>(
     f: &mut fmt::Formatter<W>,
     name: &str,
     remote: Option<&str>,
 ) -> fmt::Result {
     let mut whole = CharCount { count: 0 };
-    write_printed(&mut whole, name, remote)?;
+    write_symbol_at(&mut whole, name, remote)?;
     let shown = whole.count.min(f.precision().unwrap_or(usize::MAX));
     let padding = f.width().unwrap_or(0).saturating_sub(shown);
-    let before = fill_before(f.align(), padding);
+    let before = leading_fill(f.align(), padding);
     write_fill(f, before)?;
     let mut first = FirstChars {
         writer: &mut *f,
         left: shown,
     };
-    write_printed(&mut first, name, remote)?;
+    write_symbol_at(&mut first, name, remote)?;
     write_fill(f, padding.saturating_sub(before))
 }
 
-fn display_printed<W: Write>(
+fn display_symbol_at<W: Write>(
     f: &mut fmt::Formatter<W>,
     name: &str,
     remote: Option<&str>,
 ) -> fmt::Result
     ensures { WritesOnOk W.write_str_gives f.old result
-        (printed_text name.now (option_copied remote.entry)) f.new }
+        (symbol_at_display name.now (option_copied remote.entry)) f.new }
 {
     if f.width().is_some() {
-        return pad_printed(f, name, remote);
+        return pad_symbol_at(f, name, remote);
     }
     if f.precision().is_some() {
-        return pad_printed(f, name, remote);
+        return pad_symbol_at(f, name, remote);
     }
-    write_printed(f, name, remote)
+    write_symbol_at(f, name, remote)
 }
 
 impl<'a> fmt::Display for RefSymbol<'a> {
-    ghost output = { λ symbol. Some (symbol_text (ref_symbol_of symbol)) };
+    ghost output = { λ symbol. Some (symbol_display (symbol_bytes symbol)) };
 
     fn fmt<W: Write>(&self, f: &mut fmt::Formatter<W>) -> fmt::Result {
-        display_printed(f, self.text, None)
+        display_symbol_at(f, self.text, None)
     }
 }
 
@@ -264,28 +264,28 @@ impl<'a> fmt::Debug for RefSymbol<'a> {
 }
 
 impl<'a> fmt::Display for RemoteRefSymbol<'a> {
-    ghost output = { λ symbol. Some (remote_symbol_text (name_of symbol.name)
-        (name_of symbol.remote)) };
+    ghost output = { λ symbol. Some (remote_symbol_display (name_bytes symbol.name)
+        (name_bytes symbol.remote)) };
 
     fn fmt<W: Write>(&self, f: &mut fmt::Formatter<W>) -> fmt::Result {
-        display_printed(f, self.name.as_str(), Some(self.remote.as_str()))
+        display_symbol_at(f, self.name.as_str(), Some(self.remote.as_str()))
     }
 }
 
 impl fmt::Display for RemoteRefSymbolBuf {
-    ghost output = { λ symbol. Some (remote_symbol_text symbol.name symbol.remote) };
+    ghost output = { λ symbol. Some (remote_symbol_display symbol.name symbol.remote) };
 
     fn fmt<W: Write>(&self, f: &mut fmt::Formatter<W>) -> fmt::Result {
         let symbol = self.as_ref();
-        display_printed(f, symbol.name.as_str(), Some(symbol.remote.as_str()))
+        display_symbol_at(f, symbol.name.as_str(), Some(symbol.remote.as_str()))
     }
 }
 
 /// Two names at remotes have the same display form if and only if they are equal.
-pub fn remote_symbols_print_apart()
-    ensures apart { (name remote other other_remote : List ℕ)
-        → remote_symbol_text name remote ≡ remote_symbol_text other other_remote → (name ≡ other)
-        × (remote ≡ other_remote) }
+pub fn remote_symbol_display_is_injective()
+    ensures injective { (name remote other other_remote : List ℕ)
+        → remote_symbol_display name remote ≡ remote_symbol_display other other_remote
+        → (name ≡ other) × (remote ≡ other_remote) }
     ensures same { (name remote other other_remote : List ℕ) → name ≡ other → remote ≡ other_remote
-        → remote_symbol_text name remote ≡ remote_symbol_text other other_remote }
+        → remote_symbol_display name remote ≡ remote_symbol_display other other_remote }
 {}

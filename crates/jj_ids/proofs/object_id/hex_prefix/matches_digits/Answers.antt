@@ -1,9 +1,9 @@
 use Rattle.std.proofs.Common.{◌≡◌, ◌+◌, ◌-◌, ◌∙◌, sym, length, arith}
 use Rattle.std.proofs.lemmas.Bool.{eqb-true, eq-eqb, false_from_ne_true}
 use Rattle.std.proofs.lemmas.Bool.Decides.{same_from_decides}
-use Rattle.jj_ids.proofs.Prefixes.{matches-whole, matches-half, front-Decides}
-use Rattle.jj_ids.proofs.object_id.hex_prefix.has_prefix.Goals as goal
-use Rattle.jj_ids.proofs.object_id.hex_prefix.has_prefix.Goals.{then-id_bytes-whole-via-then-id_bytes-whole, then-id_bytes-whole-via-else-id_bytes-whole+then-not-starts_with}
+use Rattle.jj_ids.proofs.HexPrefixDigits.{matches-whole, matches-half, front-Decides}
+use Rattle.jj_ids.proofs.object_id.hex_prefix.matches_digits.Goals as goal
+use Rattle.jj_ids.proofs.object_id.hex_prefix.matches_digits.Goals.{then-id_bytes-whole-via-then-id_bytes-whole, then-id_bytes-whole-via-else-id_bytes-whole+then-not-starts_with}
 
 pub returns-then-not-has_odd_byte : goal.returns-then-not-has_odd_byte
 returns-then-not-has_odd_byte c = matches-whole c.args.id_bytes.now c.args.bytes.now c.args.has_odd_byte c.starts_with.result c.if-not-has_odd_byte.true (λ i. omega (arith, c.type_inv.id_bytes i)) c.requires c.starts_with.ensures.value
