@@ -5,7 +5,7 @@ use lib.Pointwise.{pointwise}
 use Rattle.std.proofs.lemmas.Bool.{and_parts}
 use Rattle.std.proofs.lemmas.Slice.Eq.{bytes_eq-Decides}
 use Rattle.jj_content.specs.Blake2b.{blake2b}
-use Rattle.jj_content.specs.Content.{list_content, text_content, u32_content, u64_content}
+use Rattle.jj_content.specs.Content.{list_content, string_content, u32_content, u64_content}
 use Rattle.jj_content_tests.specs.declared.records.Note.{Note}
 use Rattle.jj_content_tests.specs.declared.records.Review.{Review}
 use Rattle.jj_content_tests.specs.Notes.{note_content, AreSame, Collide}
@@ -19,7 +19,7 @@ same_note x y equal =
     ((bytes_eq-Decides _ _).0 parts.0, (bytes_eq-Decides _ _).0 parts.1)
 
 content_of_same : (x y : Note) → AreSame x y → note_content x ≡ note_content y
-content_of_same x y (texts, lines) = λ i. text_content (texts i) ++ list_content u32_content (lines i)
+content_of_same x y (texts, lines) = λ i. string_content (texts i) ++ list_content u32_content (lines i)
 
 same_notes : (xs ys : List Note) → pointwise notes.eq xs ys ≡ true → AreSameNotes xs ys
 same_notes [] [] equal = tt
@@ -65,9 +65,9 @@ module _ (first second : Review) where
     same_or_collide false decides digests = inr ((λ e. true≢false (sym (decides.1 e))), digests)
 
     -- the digests are equal if and only if the reviews are, or their contents collide
-    pub one_digest : (result : Bool) (k l : List ℕ) → k ≡ blake2b (review_content first) → l ≡ blake2b (review_content second) → result ≡ bytes_eq k l
+    pub equal_digests : (result : Bool) (k l : List ℕ) → k ≡ blake2b (review_content first) → l ≡ blake2b (review_content second) → result ≡ bytes_eq k l
         → IsTrue result ↔ (AreSameReviews first second ⊎ Collide (review_content first) (review_content second))
-    one_digest result k l is_first is_second is =
+    equal_digests result k l is_first is_second is =
         let decides = bytes_eq-Decides k l in (
           λ holds. same_or_collide _ (bytes_eq-Decides (review_content first) (review_content second)) (sym is_first ∙ decides.0 (sym is ∙ holds) ∙ is_second),
           λ cause. is ∙ decides.1 (is_first ∙ digest_of_cause cause ∙ sym is_second),

@@ -3,7 +3,7 @@
 use Rattle.std.proofs.Common.{◌≡◌, ℕ, List, ◌++◌, ◌<◌, ◌^◌, true, refl, Bool, arith}
 use Rattle.std.proofs.Common.{Vec, Global}
 use Rattle.jj_content.specs.Content.{IsLawful}
-use Rattle.jj_content.specs.Lawful.{enum_lawful, both_lawful, on_lawful, list_lawful, u8_lawful, u64_lawful, bool_lawful}
+use Rattle.jj_content.specs.PrefixFreeProofs.{enum_lawful, both_lawful, on_lawful, list_lawful, u8_lawful, u64_lawful, bool_lawful}
 use Rattle.jj_content_tests.specs.KindContent.{kind_content, kind_variant, kind_fields, IsKind}
 use Rattle.jj_content_tests.specs.declared.records.Kind.{Kind}
 use Rattle.jj_content_tests.specs.declared.records.Kind.TheVariants.{File, Symlink, Absent}
@@ -24,15 +24,15 @@ kind_alike (Symlink a) (Symlink b) p q h = (refl, u64_lawful.same a b p q h)
 kind_alike Absent Absent p q h = (refl, refl)
 kind_alike x y p q h = cc
 
-kind_told : (x y : Kind) (s t : List ℕ) → IsKind x → IsKind y → kind_variant x ≡ kind_variant y
+kind_decides : (x y : Kind) (s t : List ℕ) → IsKind x → IsKind y → kind_variant x ≡ kind_variant y
     → kind_fields x ++ s ≡ kind_fields y ++ t → ghosts.eq x y ≡ true
-kind_told (File a b) (File c d) s t p q n h =
+kind_decides (File a b) (File c d) s t p q n h =
     let file = both_lawful (on_lawful (λ (f : Vec ℕ Global × Bool). f.0.items)
     (list_lawful u8_lawful)) (on_lawful (λ (f : Vec ℕ Global × Bool). f.1) bool_lawful) in
     file.decides (a, b) (c, d) s t p q h
-kind_told (Symlink a) (Symlink b) s t p q n h = u64_lawful.decides a b s t p q h
-kind_told Absent Absent s t p q n h = refl
-kind_told x y s t p q n h = absurd (omega arith)
+kind_decides (Symlink a) (Symlink b) s t p q n h = u64_lawful.decides a b s t p q h
+kind_decides Absent Absent s t p q n h = refl
+kind_decides x y s t p q n h = absurd (omega arith)
 
 pub kind_lawful : IsLawful IsKind ghosts.eq kind_content
-kind_lawful = enum_lawful kind_variant kind_fields kind_small kind_alike kind_told
+kind_lawful = enum_lawful kind_variant kind_fields kind_small kind_alike kind_decides

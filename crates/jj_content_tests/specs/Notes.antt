@@ -2,7 +2,7 @@
 -- Cited by contracts of public items: AreSame, Collide, IsNote, note_content.
 use Rattle.std.specs.Prelude.{◌≡◌, ◌≢◌, ℕ, ◌<◌, ◌^◌, ◌++◌, List, length, string_bytes}
 use Rattle.jj_content.specs.Blake2b.{blake2b}
-use Rattle.jj_content.specs.Content.{AreValues, u32_content, text_content, list_content}
+use Rattle.jj_content.specs.Content.{AreValues, u32_content, string_content, list_content}
 use Rattle.jj_content_tests.specs.declared.records.Note.{Note}
 
 -- the string and the list have fewer than 2 ^ 64 elements
@@ -12,7 +12,7 @@ IsNote note = (length (string_bytes note.text) < 2 ^ 64)
 
 -- the string, then the lines
 abbrev pub note_content : Note → List ℕ
-note_content note = text_content (string_bytes note.text)
+note_content note = string_content (string_bytes note.text)
     ++ list_content u32_content note.lines.items
 
 -- equal strings and equal lists of lines

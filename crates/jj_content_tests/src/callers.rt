@@ -19,7 +19,7 @@ pub fn key(alloc: Global, note: &Note) -> Result<[u8; 64], AllocError>
 
 /// Returns whether two notes have the same key. They do if and only if they are equal or their
 /// contents collide.
-pub fn have_one_key(alloc: Global, first: &Note, second: &Note) -> Result<bool, AllocError>
+pub fn have_equal_keys(alloc: Global, first: &Note, second: &Note) -> Result<bool, AllocError>
     ensures { IfOk result (λ yes. IsTrue yes ↔ (AreSame first.now second.now
         ⊎ Collide (note_content first.now) (note_content second.now))) }
 {
@@ -31,7 +31,11 @@ pub fn have_one_key(alloc: Global, first: &Note, second: &Note) -> Result<bool, 
 
 /// Returns whether two reviews have the same digest. They do if and only if they are equal or their
 /// contents collide.
-pub fn have_one_digest(alloc: Global, first: &Review, second: &Review) -> Result<bool, AllocError>
+pub fn have_equal_digests(
+    alloc: Global,
+    first: &Review,
+    second: &Review,
+) -> Result<bool, AllocError>
     ensures { IfOk result (λ yes. IsTrue yes ↔ (AreSameReviews first.now second.now
         ⊎ Collide (review_content first.now) (review_content second.now))) }
 {

@@ -8,7 +8,7 @@ use std::alloc::{AllocError, Global};
 use std::test::Fail;
 
 // The digest of `Foo { x: [None, Some(42)], y: 17 }`.
-const OF_RECORD: [u8; 64] = [
+const FOO_DIGEST: [u8; 64] = [
     0xe3, 0x3c, 0x42, 0x3b, 0x4b, 0x77, 0x4b, 0x13, 0x53, 0xc4, 0x14, 0xe0, 0xf9, 0xef, 0x10, 0x88,
     0x22, 0xfd, 0xe2, 0xfd, 0x51, 0x13, 0xfc, 0xd5, 0x3b, 0xf7, 0xbd, 0x9e, 0x74, 0xe3, 0x20, 0x66,
     0x90, 0xb9, 0x6a, 0xf9, 0x63, 0x73, 0xf2, 0x68, 0xed, 0x95, 0xdd, 0x02, 0x0c, 0x7c, 0xbe, 0x17,
@@ -50,7 +50,7 @@ fn enums(rt: HostRuntime) -> Result<(), Fail> {
 }
 
 #[test]
-fn no_content_begins_another(rt: HostRuntime) -> Result<(), Fail> {
+fn content_is_prefix_free(rt: HostRuntime) -> Result<(), Fail> {
     let alloc = rt.alloc();
     let none = [0u8; 0].as_slice();
     let one = [1u8].as_slice();
@@ -74,7 +74,7 @@ fn no_content_begins_another(rt: HostRuntime) -> Result<(), Fail> {
 }
 
 #[test]
-fn structs_of_numbers_are_as_tuples(rt: HostRuntime) -> Result<(), Fail> {
+fn structs_hash_like_tuples(rt: HostRuntime) -> Result<(), Fail> {
     let alloc = rt.alloc();
     assert_eq!(rt; digest_of(alloc, &Single(0))?, digest_of(alloc, &(0i32,))?);
     let double = GenericFoo { x: 0i32, y: 1i32 };
@@ -104,12 +104,12 @@ fn record_vector(rt: HostRuntime) -> Result<(), Fail> {
     let content =
         b"\x02\x00\x00\x00\x00\x00\x00\x00\x00\x00\x00\x00\x01\x00\x00\x00\x2a\x00\x00\x00\x11\x00\x00\x00\x00\x00\x00\x00";
     assert_content(&rt, alloc, &foo, content);
-    assert_eq!(rt; digest_of(alloc, &foo)?, OF_RECORD);
+    assert_eq!(rt; digest_of(alloc, &foo)?, FOO_DIGEST);
     let items = [None, Some(42i32)];
     let generic = GenericFoo {
         x: items.as_slice(),
         y: 17i64,
     };
-    assert_eq!(rt; digest_of(alloc, &generic)?, OF_RECORD);
+    assert_eq!(rt; digest_of(alloc, &generic)?, FOO_DIGEST);
     Ok(())
 }

@@ -5,12 +5,12 @@
 pub mod callers;
 #[cfg(test)]
 mod content;
-pub mod content_texts;
-pub mod drained;
-pub mod json_texts;
-pub mod once_more;
-#[cfg(test)]
-mod once_more_tests;
+pub mod content_hex;
+pub mod fallible_iterators;
+pub mod json_strings;
 #[cfg(test)]
 mod recorder;
 pub mod records;
+pub mod retry;
+#[cfg(test)]
+mod retry_tests;

@@ -12,9 +12,9 @@ struct Recorder {
 
 impl DigestUpdate for Recorder {
     ghost use Rattle.std.specs.Prelude.{⊤};
-    ghost use Rattle.jj_content.specs.Content.{Takes};
+    ghost use Rattle.jj_content.specs.Content.{Absorbs};
 
-    ghost stands_for = { λ _ _. ⊤ };
+    ghost absorbed = { λ _ _. ⊤ };
 
     fn update(&mut self, bytes: &[u8]) {
         for byte in bytes {

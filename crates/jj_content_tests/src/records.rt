@@ -1,7 +1,7 @@
 //! Records and enums with hand-written `ContentHash`, whose laws follow from those of their fields.
 ghost use Rattle.std.specs.Prelude.{◌≡◌, ℕ, ◌++◌, List, OnOk, OnErr};
-ghost use Rattle.jj_content.specs.Content.{Takes, TakesFront, IsLawful};
-ghost use Rattle.jj_content.specs.Lawful.{on_lawful, both_lawful, list_lawful, option_lawful, i32_lawful, i64_lawful};
+ghost use Rattle.jj_content.specs.Content.{Absorbs, AbsorbsPrefix, IsLawful};
+ghost use Rattle.jj_content.specs.PrefixFreeProofs.{on_lawful, both_lawful, list_lawful, option_lawful, i32_lawful, i64_lawful};
 
 use jj_content::content_hash::{ContentHash, DigestUpdate, hash_both, hash_three};
 use std::alloc::{AllocError, Global};
@@ -56,15 +56,15 @@ pub struct Note {
 
 impl ContentHash for Note {
     ghost use Rattle.std.specs.Prelude.{OnOk, OnErr, string_bytes};
-    ghost use Rattle.jj_content.specs.Content.{Takes, TakesFront, IsLawful};
-    ghost use Rattle.jj_content.specs.Lawful.{text_lawful, u32_lawful};
+    ghost use Rattle.jj_content.specs.Content.{Absorbs, AbsorbsPrefix, IsLawful};
+    ghost use Rattle.jj_content.specs.PrefixFreeProofs.{string_lawful, u32_lawful};
     ghost use Rattle.jj_content_tests.specs.Notes.{note_content, IsNote};
 
     ghost is_value = { IsNote };
 
     ghost content = { note_content };
 
-    ghost lawful = { both_lawful (on_lawful (λ note. string_bytes note.text) text_lawful)
+    ghost lawful = { both_lawful (on_lawful (λ note. string_bytes note.text) string_lawful)
         (on_lawful (λ note. note.lines.items) (list_lawful u32_lawful)) };
 
     fn hash<D: DigestUpdate>(&self, alloc: Global, state: &mut D) -> Result<(), AllocError> {
@@ -81,7 +81,7 @@ pub struct Review {
 
 impl ContentHash for Review {
     ghost use Rattle.std.specs.Prelude.{OnOk, OnErr};
-    ghost use Rattle.jj_content.specs.Content.{Takes, TakesFront, IsLawful};
+    ghost use Rattle.jj_content.specs.Content.{Absorbs, AbsorbsPrefix, IsLawful};
     ghost use Rattle.jj_content_tests.specs.Reviews.{review_content, IsReview};
     ghost use Rattle.jj_content_tests.specs.ReviewLaw.{review_lawful};
 
@@ -148,7 +148,7 @@ impl ContentHash for Quadruple {
         (both_lawful (on_lawful (λ r. r.1) i32_lawful)
         (both_lawful (on_lawful (λ r. r.2) i32_lawful) (on_lawful (λ r. r.3) i32_lawful))) };
 
-    #[tactic(auto, using(jj_content::proofs::Fronts::fronts))]
+    #[tactic(auto, using(jj_content::proofs::AbsorbedPrefixes::prefixes))]
     fn hash<D: DigestUpdate>(&self, alloc: Global, state: &mut D) -> Result<(), AllocError> {
         self.0.hash(alloc, state)?;
         hash_three(alloc, &self.1, &self.2, &self.3, state)
@@ -164,7 +164,7 @@ pub enum Maybe {
 
 impl ContentHash for Maybe {
     ghost use Rattle.std.specs.Prelude.{OnOk, OnErr};
-    ghost use Rattle.jj_content.specs.Content.{Takes, TakesFront, IsLawful};
+    ghost use Rattle.jj_content.specs.Content.{Absorbs, AbsorbsPrefix, IsLawful};
     ghost use Rattle.jj_content_tests.specs.MaybeContent.{maybe_content, IsMaybe};
     ghost use Rattle.jj_content_tests.specs.MaybeLaw.{maybe_lawful};
 
@@ -195,7 +195,7 @@ pub enum Kind {
 
 impl ContentHash for Kind {
     ghost use Rattle.std.specs.Prelude.{OnOk, OnErr};
-    ghost use Rattle.jj_content.specs.Content.{Takes, TakesFront, IsLawful};
+    ghost use Rattle.jj_content.specs.Content.{Absorbs, AbsorbsPrefix, IsLawful};
     ghost use Rattle.jj_content_tests.specs.KindContent.{kind_content, IsKind};
     ghost use Rattle.jj_content_tests.specs.KindLaw.{kind_lawful};
 

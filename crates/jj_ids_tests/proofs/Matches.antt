@@ -5,34 +5,34 @@ use Rattle.std.proofs.lemmas.List.{take_more, take_all}
 use denote.Ref.{Bor}
 use Rattle.jj_ids.specs.declared.object_id.prefix_resolution.PrefixResolution.{PrefixResolution}
 use Rattle.jj_ids.specs.declared.object_id.prefix_resolution.PrefixResolution.TheVariants.{NoMatch, SingleMatch, AmbiguousMatch}
-use Rattle.jj_ids_tests.specs.Lookups.{BeginsWith, StandsFor}
+use Rattle.jj_ids_tests.specs.Lookups.{EncodesWithPrefix, IsLookupResult}
 
-module _ (shows : List ℕ → List ℕ) (ids : List (List ℕ)) (prefix id : List ℕ) where
+module _ (encode : List ℕ → List ℕ) (ids : List (List ℕ)) (prefix id : List ℕ) where
   -- an id that does not start with the prefix changes nothing
-  pub passed : (found : PrefixResolution (Bor (List ℕ))) → StandsFor shows ids prefix found → (BeginsWith shows id prefix → ⊥) → StandsFor shows (ids ++ id ∷ []) prefix found
-  passed NoMatch none other = λ it among begins.
-      elim (Contains-push_cases ids id it among) [ inl before ↦ none it before begins | inr same ↦ other (subst (λ i. BeginsWith shows i prefix) (sym same) begins) ]
-  passed (SingleMatch only) (there, begins, alone) other = (
+  pub no_match : (found : PrefixResolution (Bor (List ℕ))) → IsLookupResult encode ids prefix found → (EncodesWithPrefix encode id prefix → ⊥) → IsLookupResult encode (ids ++ id ∷ []) prefix found
+  no_match NoMatch none other = λ it among begins.
+      elim (Contains-push_cases ids id it among) [ inl before ↦ none it before begins | inr same ↦ other (subst (λ i. EncodesWithPrefix encode i prefix) (sym same) begins) ]
+  no_match (SingleMatch only) (there, begins, alone) other = (
     Contains-append_left ids (id ∷ []) only.now there,
     begins,
     λ it among starts.
-        elim (Contains-push_cases ids id it among) [ inl before ↦ alone it before starts | inr same ↦ absurd (other (subst (λ i. BeginsWith shows i prefix) (sym same) starts)) ],
+        elim (Contains-push_cases ids id it among) [ inl before ↦ alone it before starts | inr same ↦ absurd (other (subst (λ i. EncodesWithPrefix encode i prefix) (sym same) starts)) ],
   )
-  passed AmbiguousMatch (first, second, among1, begins1, among2, begins2, differ) other =
+  no_match AmbiguousMatch (first, second, among1, begins1, among2, begins2, differ) other =
       (first, second, Contains-append_left ids (id ∷ []) first among1, begins1, Contains-append_left ids (id ∷ []) second among2, begins2, differ)
 
-  module _ (begins : BeginsWith shows id prefix) where
+  module _ (begins : EncodesWithPrefix encode id prefix) where
     -- the first id that starts with the prefix is a single match
-    pub first_match : (found : Bor (List ℕ)) → found.now ≡ id → StandsFor shows ids prefix NoMatch → StandsFor shows (ids ++ id ∷ []) prefix (SingleMatch found)
+    pub first_match : (found : Bor (List ℕ)) → found.now ≡ id → IsLookupResult encode ids prefix NoMatch → IsLookupResult encode (ids ++ id ∷ []) prefix (SingleMatch found)
     first_match found is none = (
       subst (Contains (ids ++ id ∷ [])) (sym is) (Contains-push ids id),
-      subst (λ i. BeginsWith shows i prefix) (sym is) begins,
+      subst (λ i. EncodesWithPrefix encode i prefix) (sym is) begins,
       λ it among starts.
           elim (Contains-push_cases ids id it among) [ inl before ↦ absurd (none it before starts) | inr same ↦ sym same ∙ sym is ],
     )
 
     -- a duplicate of the single match changes nothing
-    pub same_match : (only : Bor (List ℕ)) → only.now ≡ id → StandsFor shows ids prefix (SingleMatch only) → StandsFor shows (ids ++ id ∷ []) prefix (SingleMatch only)
+    pub same_match : (only : Bor (List ℕ)) → only.now ≡ id → IsLookupResult encode ids prefix (SingleMatch only) → IsLookupResult encode (ids ++ id ∷ []) prefix (SingleMatch only)
     same_match only is (there, starts, alone) = (
       Contains-append_left ids (id ∷ []) only.now there,
       starts,
@@ -41,20 +41,20 @@ module _ (shows : List ℕ → List ℕ) (ids : List (List ℕ)) (prefix id : Li
     )
 
     -- a second, different match is ambiguous
-    pub second_match : (only : Bor (List ℕ)) → only.now ≢ id → StandsFor shows ids prefix (SingleMatch only) → StandsFor shows (ids ++ id ∷ []) prefix AmbiguousMatch
+    pub second_match : (only : Bor (List ℕ)) → only.now ≢ id → IsLookupResult encode ids prefix (SingleMatch only) → IsLookupResult encode (ids ++ id ∷ []) prefix AmbiguousMatch
     second_match only differ (there, starts, alone) =
         (only.now, id, Contains-append_left ids (id ∷ []) only.now there, starts, Contains-push ids id, begins, differ)
 
-    pub more_matches : StandsFor shows ids prefix AmbiguousMatch → StandsFor shows (ids ++ id ∷ []) prefix AmbiguousMatch
+    pub more_matches : IsLookupResult encode ids prefix AmbiguousMatch → IsLookupResult encode (ids ++ id ∷ []) prefix AmbiguousMatch
     more_matches (first, second, among1, begins1, among2, begins2, differ) =
         (first, second, Contains-append_left ids (id ∷ []) first among1, begins1, Contains-append_left ids (id ∷ []) second among2, begins2, differ)
 
 -- the ids up to index i, and the one at it
-pub next_id : (shows : List ℕ → List ℕ) (ids : List (List ℕ)) (i : ℕ) (id prefix : List ℕ) (found : PrefixResolution (Bor (List ℕ))) → i < length ids → id ≡ get_or ids i id
-    → StandsFor shows (take i ids ++ id ∷ []) prefix found → StandsFor shows (take (i + 1) ids) prefix found
-next_id shows ids i id prefix found within is so_far =
-    subst (λ l. StandsFor shows l prefix found) (ap (λ x. take i ids ++ x ∷ []) is ∙ sym (take_more ids i id within)) so_far
+pub next_id : (encode : List ℕ → List ℕ) (ids : List (List ℕ)) (i : ℕ) (id prefix : List ℕ) (found : PrefixResolution (Bor (List ℕ))) → i < length ids → id ≡ get_or ids i id
+    → IsLookupResult encode (take i ids ++ id ∷ []) prefix found → IsLookupResult encode (take (i + 1) ids) prefix found
+next_id encode ids i id prefix found within is so_far =
+    subst (λ l. IsLookupResult encode l prefix found) (ap (λ x. take i ids ++ x ∷ []) is ∙ sym (take_more ids i id within)) so_far
 
 -- all ids were searched
-pub all_ids : (shows : List ℕ → List ℕ) (ids : List (List ℕ)) (n : ℕ) (prefix : List ℕ) (found : PrefixResolution (Bor (List ℕ))) → length ids ≤ n → StandsFor shows (take n ids) prefix found → StandsFor shows ids prefix found
-all_ids shows ids n prefix found all so_far = subst (λ l. StandsFor shows l prefix found) (take_all n ids all) so_far
+pub all_ids : (encode : List ℕ → List ℕ) (ids : List (List ℕ)) (n : ℕ) (prefix : List ℕ) (found : PrefixResolution (Bor (List ℕ))) → length ids ≤ n → IsLookupResult encode (take n ids) prefix found → IsLookupResult encode ids prefix found
+all_ids encode ids n prefix found all so_far = subst (λ l. IsLookupResult encode l prefix found) (take_all n ids all) so_far

@@ -19,7 +19,7 @@ struct Recorder {
 impl DigestUpdate for Recorder {
     ghost use Rattle.std.specs.Prelude.{⊤};
 
-    ghost stands_for = { λ _ _. ⊤ };
+    ghost absorbed = { λ _ _. ⊤ };
 
     fn update(&mut self, bytes: &[u8]) {
         if self.is_whole && self.bytes.extend_from_slice(bytes).is_err() {

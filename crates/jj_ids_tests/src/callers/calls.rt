@@ -7,9 +7,9 @@ ghost use Rattle.std.specs.BTreeMap.{get_by};
 ghost use Rattle.std.specs.Ordering.{nat_cmp, ordering_then};
 ghost use Rattle.std.specs.Cmp.Lexicographic.{slice_cmp};
 ghost use Rattle.serde_json.specs.Data.{string};
-ghost use Rattle.jj_content.specs.Hex.{hex, reverse_hex, hex_digits, reverse_hex_digits, ReadsAs, IsReading};
-ghost use Rattle.jj_content.specs.Json.{IsAnswer};
-ghost use Rattle.jj_ids.specs.Names.{name_of};
+ghost use Rattle.jj_content.specs.Hex.{hex, reverse_hex, hex_digits, reverse_hex_digits, DecodesTo, IsDecoding};
+ghost use Rattle.jj_content.specs.Json.{IsJsonResult};
+ghost use Rattle.jj_ids.specs.Names.{name_bytes};
 
 use jj_content::content_hash::{ToJson, ToJsonError};
 use jj_ids::object_id::{ChangeId, CommitId, HexPrefix, ObjectId};
@@ -23,14 +23,14 @@ use std::cmp::Ordering;
 use std::collections::BTreeMap;
 
 /// A trait of this crate, implemented for types of jj_ids.
-pub trait Named {
+pub trait Labeled {
     ghost label_text: { List ℕ };
 
     fn label(&self) -> &'static str
         ensures { result.now ≡ label_text };
 }
 
-impl Named for CommitId {
+impl Labeled for CommitId {
     ghost label_text = { codes "a commit" };
 
     fn label(&self) -> &'static str {
@@ -38,7 +38,7 @@ impl Named for CommitId {
     }
 }
 
-impl Named for ChangeId {
+impl Labeled for ChangeId {
     ghost label_text = { codes "a change" };
 
     fn label(&self) -> &'static str {
@@ -46,7 +46,7 @@ impl Named for ChangeId {
     }
 }
 
-impl Named for RefNameBuf {
+impl Labeled for RefNameBuf {
     ghost label_text = { codes "a ref" };
 
     fn label(&self) -> &'static str {
@@ -54,7 +54,7 @@ impl Named for RefNameBuf {
     }
 }
 
-impl Named for GitRefNameBuf {
+impl Labeled for GitRefNameBuf {
     ghost label_text = { codes "a Git ref" };
 
     fn label(&self) -> &'static str {
@@ -62,7 +62,7 @@ impl Named for GitRefNameBuf {
     }
 }
 
-pub fn made(bytes: Vec<u8>) -> CommitId
+pub fn commit_id(bytes: Vec<u8>) -> CommitId
     ensures { result ≡ bytes.items }
 {
     CommitId::new(bytes)
@@ -81,13 +81,13 @@ pub fn change_text(alloc: Global, id: &ChangeId) -> Result<String, AllocError>
 }
 
 pub fn commit_json(alloc: Global, id: &CommitId) -> Result<Value, ToJsonError>
-    ensures { IsAnswer ⊤ (λ d. d ≡ string (hex id.now)) result }
+    ensures { IsJsonResult ⊤ (λ d. d ≡ string (hex id.now)) result }
 {
     id.to_json(alloc)
 }
 
 pub fn change_json(alloc: Global, id: &ChangeId) -> Result<Value, ToJsonError>
-    ensures { IsAnswer ⊤ (λ d. d ≡ string (reverse_hex id.now)) result }
+    ensures { IsJsonResult ⊤ (λ d. d ≡ string (reverse_hex id.now)) result }
 {
     id.to_json(alloc)
 }
@@ -104,26 +104,26 @@ pub fn change_type(alloc: Global, id: &ChangeId) -> Result<String, AllocError>
     id.object_type(alloc)
 }
 
-pub fn order(a: &CommitId, b: &CommitId) -> Ordering
+pub fn compare_ids(a: &CommitId, b: &CommitId) -> Ordering
     ensures { result ≡ slice_cmp nat_cmp a.now b.now }
 {
     a.cmp(b)
 }
 
-pub fn copied(id: &ChangeId) -> Result<ChangeId, AllocError>
+pub fn clone_change_id(id: &ChangeId) -> Result<ChangeId, AllocError>
     ensures { IfOk result (λ copy. copy ≡ id.now) }
 {
     id.clone()
 }
 
 pub fn root(alloc: Global) -> Result<CommitId, AllocError>
-    ensures { IfOk result (ReadsAs hex_digits (codes "0000")) }
+    ensures { IfOk result (DecodesTo hex_digits (codes "0000")) }
 {
     CommitId::from_hex(alloc, "0000")
 }
 
 pub fn read_change(alloc: Global, text: &str) -> Result<Option<ChangeId>, AllocError>
-    ensures { IfOk result (IsReading (λ id. id) reverse_hex_digits text.now) }
+    ensures { IfOk result (IsDecoding (λ id. id) reverse_hex_digits text.now) }
 {
     ChangeId::try_from_reverse_hex(alloc, text)
 }
@@ -134,26 +134,26 @@ pub fn prefix_of(alloc: Global, id: &CommitId) -> Result<HexPrefix, AllocError>
     HexPrefix::from_id(alloc, id)
 }
 
-pub fn borrowed(name: &RefNameBuf) -> RefName<'_>
-    ensures { name_of result ≡ name.now }
+pub fn borrow_name(name: &RefNameBuf) -> RefName<'_>
+    ensures { name_bytes result ≡ name.now }
 {
     name.as_name()
 }
 
 pub fn default_workspace() -> WorkspaceName<'static>
-    ensures { name_of result ≡ codes "default" }
+    ensures { name_bytes result ≡ codes "default" }
 {
     WorkspaceName::default_name()
 }
 
 pub fn same_name(a: RefName<'_>, b: RefName<'_>) -> bool
-    ensures { result ≡ bytes_eq (name_of a.entry) (name_of b.entry) }
+    ensures { result ≡ bytes_eq (name_bytes a.entry) (name_bytes b.entry) }
 {
     a == b
 }
 
 pub fn name_order(a: RefName<'_>, b: RefName<'_>) -> Ordering
-    ensures { result ≡ slice_cmp nat_cmp (name_of a.entry) (name_of b.entry) }
+    ensures { result ≡ slice_cmp nat_cmp (name_bytes a.entry) (name_bytes b.entry) }
 {
     a.cmp(&b)
 }
@@ -163,7 +163,7 @@ pub fn named_id<'a>(
     name: RefName<'a>,
 ) -> Option<&'a CommitId>
     ensures { option_copied result
-        ≡ get_by (λ other. slice_cmp nat_cmp (name_of name.entry) (name_of other)) ids.now }
+        ≡ get_by (λ other. slice_cmp nat_cmp (name_bytes name.entry) (name_bytes other)) ids.now }
 {
     ids.get(&name)
 }
@@ -183,7 +183,7 @@ pub trait OrderedAsText: Ord {
 }
 
 impl<'a> OrderedAsText for RefName<'a> {
-    ghost text_of = { λ name. name_of name };
+    ghost text_of = { λ name. name_bytes name };
 
     ghost ordered_as_text = { λ a b. refl };
 
@@ -196,8 +196,8 @@ impl<'a> OrderedAsText for RefName<'a> {
 
 pub fn symbol_order(a: RemoteRefSymbol<'_>, b: RemoteRefSymbol<'_>) -> Ordering
     ensures { result ≡ ordering_then
-        (slice_cmp nat_cmp (name_of a.entry.name) (name_of b.entry.name))
-        (slice_cmp nat_cmp (name_of a.entry.remote) (name_of b.entry.remote)) }
+        (slice_cmp nat_cmp (name_bytes a.entry.name) (name_bytes b.entry.name))
+        (slice_cmp nat_cmp (name_bytes a.entry.remote) (name_bytes b.entry.remote)) }
 {
     a.cmp(&b)
 }
@@ -210,7 +210,7 @@ pub fn owned_symbol_order(a: &RemoteRefSymbolBuf, b: &RemoteRefSymbolBuf) -> Ord
     a.cmp(b)
 }
 
-/// Compares symbols, borrowed or owned, in generic code.
+/// Compares symbols, borrow_name or owned, in generic code.
 pub fn order_at_remote<S: AtRemote>(a: &S, b: &S) -> Ordering
     ensures { result ≡ S.cmp a.now b.now }
 {

@@ -76,6 +76,6 @@ pub fn workspaces(alloc: Global) -> BTreeMap<WorkspaceNameBuf, CommitId>
     BTreeMap::new(alloc)
 }
 
-pub fn tracked(name: RefName<'_>, remote: RemoteName<'_>) -> bool {
+pub fn has_own_name(name: RefName<'_>, remote: RemoteName<'_>) -> bool {
     name.to_remote_symbol(remote).name == name
 }

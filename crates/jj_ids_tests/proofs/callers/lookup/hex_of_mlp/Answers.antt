@@ -1,11 +1,11 @@
 use Rattle.std.proofs.Common.{◌≡◌, ◌∙◌, refl}
 use Rattle.std.specs.Prelude.{codes}
 use Rattle.std.specs.Str.{str_to_ascii_lowercase}
-use Rattle.jj_ids.specs.Prefix.{forward_text}
+use Rattle.jj_ids.specs.HexPrefixes.{to_forward_hex}
 use Rattle.jj_ids_tests.proofs.callers.lookup.hex_of_mlp.Goals as goal
 
-forward_mlp : forward_text (str_to_ascii_lowercase (codes "mlp")) ≡ codes "dea"
-unfolding forward_text
+forward_mlp : to_forward_hex (str_to_ascii_lowercase (codes "mlp")) ≡ codes "dea"
+unfolding to_forward_hex
 forward_mlp = refl
 
 pub returns-in_ok-hex-in-Some : goal.returns-in_ok-hex-in-Some

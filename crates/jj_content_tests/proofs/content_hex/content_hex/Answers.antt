@@ -1,5 +1,5 @@
 use Rattle.std.proofs.Common.{◌≡◌, ◌∙◌, []}
-use Rattle.jj_content_tests.proofs.content_texts.content_text.Goals as goal
+use Rattle.jj_content_tests.proofs.content_hex.content_hex.Goals as goal
 
 pub returns : goal.returns
 returns g c =

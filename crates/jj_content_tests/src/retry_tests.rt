@@ -1,5 +1,5 @@
 //! Tests of the helpers that retry.
-use crate::once_more::{holds, passes, tells, tells_of};
+use crate::retry::{holds, passes, returns_shown, returns_string};
 use std::alloc::{AllocError, Global};
 use std::cell::Cell;
 use std::process::Abort;
@@ -14,10 +14,10 @@ fn refused<T>(_alloc: Global) -> Result<T, AllocError> {
 }
 
 #[test]
-fn texts_are_compared(rt: HostRuntime) {
-    assert!(rt; tells(&rt, letter, "a"));
-    assert!(rt; !tells(&rt, letter, "b"));
-    assert!(rt; !tells(&rt, refused, "a"));
+fn strings_are_compared(rt: HostRuntime) {
+    assert!(rt; returns_string(&rt, letter, "a"));
+    assert!(rt; !returns_string(&rt, letter, "b"));
+    assert!(rt; !returns_string(&rt, refused, "a"));
 }
 
 fn copied(_alloc: Global, text: &String) -> Result<String, AllocError> {
@@ -25,14 +25,14 @@ fn copied(_alloc: Global, text: &String) -> Result<String, AllocError> {
 }
 
 #[test]
-fn texts_of_what_is_made_are_compared(rt: HostRuntime) {
-    assert!(rt; tells_of(&rt, letter, copied, "a"));
-    assert!(rt; !tells_of(&rt, letter, copied, "b"));
-    assert!(rt; !tells_of(&rt, refused, copied, "a"));
+fn shown_values_are_compared(rt: HostRuntime) {
+    assert!(rt; returns_shown(&rt, letter, copied, "a"));
+    assert!(rt; !returns_shown(&rt, letter, copied, "b"));
+    assert!(rt; !returns_shown(&rt, refused, copied, "a"));
 }
 
 #[test]
-fn claims_have_to_be_true(rt: HostRuntime) {
+fn claims_must_hold(rt: HostRuntime) {
     assert!(rt; holds(&rt, |_| Ok::<bool, AllocError>(true)));
     assert!(rt; !holds(&rt, |_| Ok::<bool, AllocError>(false)));
     assert!(rt; !holds(&rt, refused));
@@ -48,7 +48,7 @@ fn second(tried: &Cell<bool>) -> Result<bool, AllocError> {
 }
 
 #[test]
-fn what_was_refused_once_is_done_again(rt: HostRuntime) -> Result<(), Fail> {
+fn failed_allocations_are_retried(rt: HostRuntime) -> Result<(), Fail> {
     let tried = Cell::new(false);
     assert!(rt; holds(&rt, |_| second(&tried)));
     let tried = Cell::new(false);

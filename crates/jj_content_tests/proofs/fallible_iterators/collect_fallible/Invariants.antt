@@ -1,5 +1,5 @@
 use Rattle.std.proofs.Common.{◌≡◌, Ok, map}
-use Rattle.jj_content_tests.proofs.drained.all_of.Given as goal
+use Rattle.jj_content_tests.proofs.fallible_iterators.collect_fallible.Given as goal
 
 abbrev pub invariant-loop-item : goal.invariant-loop-item
 invariant-loop-item g l = record {

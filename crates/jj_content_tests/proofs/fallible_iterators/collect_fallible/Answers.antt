@@ -1,5 +1,5 @@
 use Rattle.std.proofs.Common.{◌≡◌, refl}
-use Rattle.jj_content_tests.proofs.drained.all_of.Goals as goal
+use Rattle.jj_content_tests.proofs.fallible_iterators.collect_fallible.Goals as goal
 
 pub loop-item-init : goal.loop-item-init
 loop-item-init g c =

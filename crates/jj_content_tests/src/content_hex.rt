@@ -8,15 +8,15 @@ use std::alloc::{AllocError, Global};
 
 // A recorder of content. `is_whole` is false once an allocation failed.
 #[derive(Drop)]
-struct TakenBytes {
+struct ContentRecorder {
     bytes: Vec<u8>,
     is_whole: bool,
 }
 
-impl DigestUpdate for TakenBytes {
+impl DigestUpdate for ContentRecorder {
     ghost use Rattle.std.specs.Prelude.{◌≡◌, true};
 
-    ghost stands_for = { λ taken bytes. taken.is_whole ≡ true → taken.bytes.items ≡ bytes };
+    ghost absorbed = { λ taken bytes. taken.is_whole ≡ true → taken.bytes.items ≡ bytes };
 
     fn update(&mut self, bytes: &[u8]) {
         if self.is_whole && self.bytes.extend_from_slice(bytes).is_err() {
@@ -26,10 +26,10 @@ impl DigestUpdate for TakenBytes {
 }
 
 /// Returns the content of a value as hex.
-pub fn content_text<T: ContentHash>(alloc: Global, value: &T) -> Result<String, AllocError>
+pub fn content_hex<T: ContentHash>(alloc: Global, value: &T) -> Result<String, AllocError>
     ensures { IfOk result (λ text. string_bytes text ≡ hex (T.content value.now)) }
 {
-    let mut taken = TakenBytes {
+    let mut taken = ContentRecorder {
         bytes: Vec::new(alloc),
         is_whole: true,
     };

@@ -5,7 +5,7 @@ ghost use Rattle.std.specs.Iterator.{Drains, IsFinite};
 use std::alloc::{AllocError, Global};
 
 /// Collects the items of an iterator, up to its first error, which it returns.
-pub fn all_of<T: Drop, I>(alloc: Global, items: I) -> Result<Vec<T>, AllocError>
+pub fn collect_fallible<T: Drop, I>(alloc: Global, items: I) -> Result<Vec<T>, AllocError>
 where
     I: Iterator<Item = Result<T, AllocError>> + Drop,
     requires callable { I.can_next items }

@@ -7,7 +7,7 @@ use std::test::Fail;
 pub type Passed = Result<(), AllocError>;
 
 /// Returns whether `made` returns the expected string. Retries once after an allocation failure.
-pub fn tells<R, F>(rt: &R, made: F, wanted: &str) -> bool
+pub fn returns_string<R, F>(rt: &R, made: F, wanted: &str) -> bool
 where
     R: AllocGlobal,
     F: Fn(Global) -> Result<String, AllocError>,
@@ -22,7 +22,7 @@ where
 
 /// Returns whether `text_of`, applied to the value that `made` returns, is the expected string.
 /// Retries once after an allocation failure.
-pub fn tells_of<R, T, F, G>(rt: &R, made: F, text_of: G, wanted: &str) -> bool
+pub fn returns_shown<R, T, F, G>(rt: &R, made: F, text_of: G, wanted: &str) -> bool
 where
     R: AllocGlobal,
     T: Drop,
@@ -31,7 +31,7 @@ where
     requires made { F.IsAlwaysCallable made }
     requires text_of { G.IsAlwaysCallable text_of }
 {
-    tells(rt, |alloc| text_of(alloc, &made(alloc)?), wanted)
+    returns_string(rt, |alloc| text_of(alloc, &made(alloc)?), wanted)
 }
 
 /// Returns whether `claim` returns true. Retries once after an error.
