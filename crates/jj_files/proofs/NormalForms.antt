@@ -5,7 +5,7 @@ use Rattle.std.specs.Path.{slash, dot, cur_dir, parent_dir, is_name, component_b
 use Rattle.std.specs.declared.path.components.Component.{Component}
 use Rattle.std.specs.declared.path.components.Component.TheVariants.{RootDir, CurDir, ParentDir, Normal}
 use denote.Ref.{Bor}
-use Rattle.jj_files.specs.PathJoining.{is_special}
+use Rattle.jj_files.specs.PathJoining.{is_special_component}
 use Rattle.jj_files.specs.PathComponents.{Reduces, ReducesTo, ends_in_name}
 use Rattle.jj_files.specs.PathComponents.ReducesTo.{more}
 
@@ -28,7 +28,7 @@ snoc_split (k ∷ stack) (f ∷ prefix) back c x e =
 abbrev pub IsIrreducible : List (List ℕ) → Type 0
 IsIrreducible components = (less : List (List ℕ)) → Reduces components less → ⊥
 
-pub ends_in_name-last : (prefix : List (List ℕ)) (last : List ℕ) → ends_in_name (prefix ++ last ∷ []) ≡ not (is_special last)
+pub ends_in_name-last : (prefix : List (List ℕ)) (last : List ℕ) → ends_in_name (prefix ++ last ∷ []) ≡ not (is_special_component last)
 ends_in_name-last [] last = refl
 ends_in_name-last (first ∷ []) last = refl
 ends_in_name-last (first ∷ second ∷ prefix) last = ends_in_name-last (second ∷ prefix) last
@@ -82,7 +82,7 @@ name_last false h = refl
 pub dot_reduces : (components stack rest : List (List ℕ)) → ReducesTo components (stack ++ cur_dir ∷ rest) → ReducesTo components (stack ++ rest)
 dot_reduces components stack rest so_far = more so_far (stack, rest, refl, inl refl)
 
-pub name_reduces : (components prefix rest : List (List ℕ)) (name : List ℕ) → is_special name ≡ false
+pub name_reduces : (components prefix rest : List (List ℕ)) (name : List ℕ) → is_special_component name ≡ false
     → ReducesTo components ((prefix ++ name ∷ []) ++ parent_dir ∷ rest) → ReducesTo components (prefix ++ rest)
 name_reduces components prefix rest name names so_far =
     more so_far (prefix, rest, refl, inr (name, names, append_assoc prefix (name ∷ []) (parent_dir ∷ rest)))
@@ -101,9 +101,9 @@ other_component (Normal name) formed dot up = ((λ e. dot_is_name (subst (λ n. 
 -- popping a name
 pub popped_name : (old new : List (Bor (List ℕ))) (last : Option (Bor (List ℕ))) (n m : ℕ) → n ≡ length old → old ≡ new ++ option_to_list last
     → MatchOption last ((n ≡ 0) × (m ≡ 0)) (λ _. m + 1 ≡ n) → true ≡ ends_in_name (map (λ text. text.now) old)
-    → (name : List ℕ) × (map (λ text. text.now) old ≡ map (λ text. text.now) new ++ name ∷ []) × (is_special name ≡ false)
+    → (name : List ℕ) × (map (λ text. text.now) old ≡ map (λ text. text.now) new ++ name ∷ []) × (is_special_component name ≡ false)
 popped_name [] new None n m len whole empty named = let h : true ≡ false = named in cc h
 popped_name (first ∷ old) new None n m len whole empty named = let h = empty.0 in absurd (omega (arith, h, len))
 popped_name old new (Some last) n m len whole empty named =
     let split = ap (map (λ text. text.now)) whole ∙ map-append (λ text. text.now) new (last ∷ []) in
-    (last.now, split, name_last (is_special last.now) (named ∙ ap ends_in_name split ∙ ends_in_name-last (map (λ text. text.now) new) last.now))
+    (last.now, split, name_last (is_special_component last.now) (named ∙ ap ends_in_name split ∙ ends_in_name-last (map (λ text. text.now) new) last.now))

@@ -2,13 +2,14 @@
 -- Cited by contracts of public items: IsNormalized, IsRelativeTo.
 use Rattle.std.specs.Prelude.{◌≡◌, ◌⊎◌, ℕ, Bool, false, not, List, [], ◌∷◌, ◌++◌, map}
 use Rattle.std.specs.Path.{cur_dir, parent_dir, path_components}
-use Rattle.jj_files.specs.PathJoining.{fs_text, is_special}
+use Rattle.jj_files.specs.PathJoining.{fs_text, is_special_component}
 
 -- one rewriting step: removes a `.`, or a name and the `..` after it
 abbrev pub Reduces : List (List ℕ) → List (List ℕ) → Type 0
 Reduces before after = (prefix back : List (List ℕ)) × (after ≡ prefix ++ back)
     × ((before ≡ prefix ++ cur_dir ∷ back)
-    ⊎ ((name : List ℕ) × (is_special name ≡ false) × (before ≡ prefix ++ name ∷ parent_dir ∷ back)))
+    ⊎ ((name : List ℕ) × (is_special_component name ≡ false)
+    × (before ≡ prefix ++ name ∷ parent_dir ∷ back)))
 
 -- zero or more steps
 pub data ReducesTo : List (List ℕ) → List (List ℕ) → Type 0 where
@@ -29,7 +30,7 @@ IsNormalized path text =
 -- the last component is a name: not `/`, `.` or `..`
 abbrev pub ends_in_name : List (List ℕ) → Bool
 ends_in_name [] = false
-ends_in_name (last ∷ []) = not (is_special last)
+ends_in_name (last ∷ []) = not (is_special_component last)
 ends_in_name (first ∷ second ∷ rest) = ends_in_name (second ∷ rest)
 
 -- `prefix` is the longest common prefix of the components, and `from_left` and `to_left` are the

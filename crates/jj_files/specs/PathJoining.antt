@@ -23,5 +23,5 @@ abbrev pub is_dots : List ℕ → Bool
 is_dots name = bytes_eq name cur_dir || bytes_eq name parent_dir
 
 -- the component is not a name: `/`, `.` or `..`
-abbrev pub is_special : List ℕ → Bool
-is_special component = bytes_eq component root_dir || is_dots component
+abbrev pub is_special_component : List ℕ → Bool
+is_special_component component = bytes_eq component root_dir || is_dots component

@@ -2,7 +2,7 @@
 ghost use Rattle.std.specs.Prelude.{◌≡◌, ℕ, List, [], ◌∷◌, ◌++◌, map, false, true, IfOk, OnOk, MatchOption, string_bytes};
 ghost use Rattle.std.specs.Str.{bytes_eq};
 ghost use Rattle.std.specs.Path.{component_bytes, parent_dir, path_bytes, path_buf_bytes, path_components};
-ghost use Rattle.jj_files.specs.PathJoining.{join_all, fs_text, is_special};
+ghost use Rattle.jj_files.specs.PathJoining.{join_all, fs_text, is_special_component};
 ghost use Rattle.jj_files.specs.PathComponents.{ends_in_name, IsNormalized, IsRelativeTo, HasCommonPrefix};
 
 use crate::fs_text::text_or_dot;
@@ -31,13 +31,13 @@ fn ends_in_name(components: &[&str]) -> bool
     ensures { result ≡ ends_in_name (map (λ text. text.now) components.now) }
 {
     match components.split_last() {
-        Some((last, _front)) => !is_special(last),
+        Some((last, _front)) => !is_special_component(last),
         None => false,
     }
 }
 
-fn is_special(component: &str) -> bool
-    ensures { result ≡ is_special component.now }
+fn is_special_component(component: &str) -> bool
+    ensures { result ≡ is_special_component component.now }
 {
     component == "/" || component == "." || component == ".."
 }

@@ -9,4 +9,4 @@ returns-in-Some c =
     let last = c.in-Some.last.now in
     let prefix = c.in-Some._front.now in
     let whole = ap (map (λ text. text.now)) c.in-Some.ensures.cases.0 ∙ map-append (λ text. text.now) prefix (last ∷ []) in
-    ap not c.is_special.ensures ∙ sym (ends_in_name-last (map (λ text. text.now) prefix) last.now) ∙ sym (ap ends_in_name whole)
+    ap not c.is_special_component.ensures ∙ sym (ends_in_name-last (map (λ text. text.now) prefix) last.now) ∙ sym (ap ends_in_name whole)
