@@ -6,10 +6,10 @@ use Rattle.jj_globs.specs.declared.glob.token.Part.{Part}
 use Rattle.jj_globs.specs.declared.glob.token.Part.TheVariants.{Byte, Star, OneOf}
 use Rattle.jj_globs.specs.declared.glob.token.Token.{Token}
 use Rattle.jj_globs.specs.declared.glob.token.Token.TheVariants.{Part as part}
-use Rattle.jj_globs.specs.declared.glob.sign.Sign.{Sign}
-use Rattle.jj_globs.specs.declared.glob.sign.Sign.TheVariants.{Asterisk, Other}
-use Rattle.jj_globs.specs.GlobText.{tokens_of, words, read, only_dirs, sign_of, asterisk}
-use Rattle.jj_globs.proofs.GlobSteps.{tokens_of-read}
+use Rattle.jj_globs.specs.declared.glob.symbol.Symbol.{Symbol}
+use Rattle.jj_globs.specs.declared.glob.symbol.Symbol.TheVariants.{Asterisk, Other}
+use Rattle.jj_globs.specs.GlobSyntax.{tokens_of, lexemes, parse, only_dirs, symbol_of, asterisk}
+use Rattle.jj_globs.proofs.ParserSteps.{tokens_of-parse}
 use Rattle.jj_globs.specs.GlobEscape.{is_special, escaped_byte, literal_glob}
 
 -- the part of an escaped byte
@@ -27,7 +27,7 @@ pushed (b ∷ bs) ts = pushed bs (part (part_of b) ∷ ts)
 
 -- a byte without a role in the syntax
 record IsPlainByte (b : ℕ) : Type 0 where
-  sign : sign_of b ≡ Other b
+  symbol : symbol_of b ≡ Other b
   special : is_special b ≡ false
 
 decide : (n b : ℕ) (P : ℕ → Type 0) → P n → ((b == n) ≡ false → P b) → P b
@@ -36,7 +36,7 @@ decide n b P here there = elim (eqb_tells b n) [ inl w ↦ subst P (sym w.1) her
 plain_byte : (b : ℕ) → (b == 63) ≡ false → (b == 42) ≡ false → (b == 47) ≡ false → (b == 123) ≡ false → (b == 44) ≡ false → (b == 125) ≡ false
     → (b == 91) ≡ false → (b == 93) ≡ false → (b == 33) ≡ false → (b == 94) ≡ false → (b == 45) ≡ false → (b == 92) ≡ false → IsPlainByte b
 plain_byte b h0 h1 h2 h3 h4 h5 h6 h7 h8 h9 h10 h11 = record {
-  sign = rw (h0, h1, h2, h3, h4, h5, h6, h7, h8, h9, h10, h11) refl;
+  symbol = rw (h0, h1, h2, h3, h4, h5, h6, h7, h8, h9, h10, h11) refl;
   special = rw (h0, h1, h6, h7, h3, h5, h11) refl;
 }
 
@@ -57,40 +57,40 @@ plain-part b plain = ap (λ (s : Bool). if s then OneOf (false, record { first =
 
 -- an escaped byte after other tokens
 abbrev Steps : ℕ → Type 0
-Steps b = (ts : List Token) (s : List Sign) → read zero false ts (words (map sign_of (escaped_byte b) ++ s)) ≡ read zero false (part (part_of b) ∷ ts) (words s)
+Steps b = (ts : List Token) (s : List Symbol) → parse zero false ts (lexemes (map symbol_of (escaped_byte b) ++ s)) ≡ parse zero false (part (part_of b) ∷ ts) (lexemes s)
 
 step : (b : ℕ) → Steps b
-unfolding words read
+unfolding lexemes parse
 step =
     by_byte Steps (λ ts s. refl) (λ ts s. refl) (λ ts s. refl) (λ ts s. refl) (λ ts s. refl) (λ ts s. refl) (λ ts s. refl) (λ ts s. refl)
     (λ ts s. refl) (λ ts s. refl) (λ ts s. refl) (λ ts s. refl)
-    (λ b plain ts s. ap (λ (l : List ℕ). read zero false ts (words (map sign_of l ++ s))) (plain-escaped b plain)
-    ∙ ap (λ (g : Sign). read zero false ts (words (g ∷ s))) plain.sign
-    ∙ ap (λ (p : Part). read zero false (part p ∷ ts) (words s)) (sym (plain-part b plain)))
+    (λ b plain ts s. ap (λ (l : List ℕ). parse zero false ts (lexemes (map symbol_of l ++ s))) (plain-escaped b plain)
+    ∙ ap (λ (g : Symbol). parse zero false ts (lexemes (g ∷ s))) plain.symbol
+    ∙ ap (λ (p : Part). parse zero false (part p ∷ ts) (lexemes s)) (sym (plain-part b plain)))
 
 -- an escaped byte after a star that begins the pattern
 abbrev StarSteps : ℕ → Type 0
-StarSteps b = (s : List Sign) → read zero false [] (asterisk ∷ words (map sign_of (escaped_byte b) ++ s)) ≡ read zero false (part (part_of b) ∷ part Star ∷ []) (words s)
+StarSteps b = (s : List Symbol) → parse zero false [] (asterisk ∷ lexemes (map symbol_of (escaped_byte b) ++ s)) ≡ parse zero false (part (part_of b) ∷ part Star ∷ []) (lexemes s)
 
 star_step : (b : ℕ) → StarSteps b
-unfolding words read
+unfolding lexemes parse
 star_step =
     by_byte StarSteps (λ s. refl) (λ s. refl) (λ s. refl) (λ s. refl) (λ s. refl) (λ s. refl) (λ s. refl) (λ s. refl)
     (λ s. refl) (λ s. refl) (λ s. refl) (λ s. refl)
-    (λ b plain s. ap (λ (l : List ℕ). read zero false [] (asterisk ∷ words (map sign_of l ++ s))) (plain-escaped b plain)
-    ∙ ap (λ (g : Sign). read zero false [] (asterisk ∷ words (g ∷ s))) plain.sign
-    ∙ ap (λ (p : Part). read zero false (part p ∷ part Star ∷ []) (words s)) (sym (plain-part b plain)))
+    (λ b plain s. ap (λ (l : List ℕ). parse zero false [] (asterisk ∷ lexemes (map symbol_of l ++ s))) (plain-escaped b plain)
+    ∙ ap (λ (g : Symbol). parse zero false [] (asterisk ∷ lexemes (g ∷ s))) plain.symbol
+    ∙ ap (λ (p : Part). parse zero false (part p ∷ part Star ∷ []) (lexemes s)) (sym (plain-part b plain)))
 
-regroup : (b : ℕ) (t : List ℕ) (s : List Sign) → map sign_of (literal_glob (b ∷ t)) ++ s ≡ map sign_of (escaped_byte b) ++ (map sign_of (literal_glob t) ++ s)
+regroup : (b : ℕ) (t : List ℕ) (s : List Symbol) → map symbol_of (literal_glob (b ∷ t)) ++ s ≡ map symbol_of (escaped_byte b) ++ (map symbol_of (literal_glob t) ++ s)
 unfolding literal_glob
 regroup b t s =
-    ap (λ (l : List Sign). l ++ s) (map-append sign_of (escaped_byte b) (literal_glob t)) ∙ append_assoc (map sign_of (escaped_byte b)) (map sign_of (literal_glob t)) s
+    ap (λ (l : List Symbol). l ++ s) (map-append symbol_of (escaped_byte b) (literal_glob t)) ∙ append_assoc (map symbol_of (escaped_byte b)) (map symbol_of (literal_glob t)) s
 
-steps : (t : List ℕ) (ts : List Token) (s : List Sign) → read zero false ts (words (map sign_of (literal_glob t) ++ s)) ≡ read zero false (pushed t ts) (words s)
+steps : (t : List ℕ) (ts : List Token) (s : List Symbol) → parse zero false ts (lexemes (map symbol_of (literal_glob t) ++ s)) ≡ parse zero false (pushed t ts) (lexemes s)
 unfolding literal_glob
 steps [] ts s = refl
 steps (b ∷ t) ts s =
-    ap (λ (l : List Sign). read zero false ts (words l)) (regroup b t s) ∙ step b ts (map sign_of (literal_glob t) ++ s)
+    ap (λ (l : List Symbol). parse zero false ts (lexemes l)) (regroup b t s) ∙ step b ts (map symbol_of (literal_glob t) ++ s)
     ∙ steps t (part (part_of b) ∷ ts) s
 
 reverse_pushed : (t : List ℕ) (ts : List Token) → reverse (pushed t ts) ≡ reverse ts ++ tokens_for t
@@ -103,39 +103,39 @@ reverse_pushed (b ∷ t) ts =
 -- an escaped string does not begin with a star, so it is no list of `**` components, nor is a star
 -- with it
 abbrev NoRun : ℕ → Type 0
-NoRun b = (s : List Sign) → (only_dirs (map sign_of (escaped_byte b) ++ s) ≡ false) × (only_dirs (Asterisk ∷ (map sign_of (escaped_byte b) ++ s)) ≡ false)
+NoRun b = (s : List Symbol) → (only_dirs (map symbol_of (escaped_byte b) ++ s) ≡ false) × (only_dirs (Asterisk ∷ (map symbol_of (escaped_byte b) ++ s)) ≡ false)
 
 no_run : (b : ℕ) → NoRun b
 no_run =
     by_byte NoRun (λ s. (refl, refl)) (λ s. (refl, refl)) (λ s. (refl, refl)) (λ s. (refl, refl)) (λ s. (refl, refl)) (λ s. (refl, refl))
     (λ s. (refl, refl)) (λ s. (refl, refl)) (λ s. (refl, refl)) (λ s. (refl, refl)) (λ s. (refl, refl)) (λ s. (refl, refl))
     (λ b plain s.
-    let signs : map sign_of (escaped_byte b) ++ s ≡ Other b ∷ s =
-    ap (λ (l : List ℕ). map sign_of l ++ s) (plain-escaped b plain) ∙ ap (λ (g : Sign). g ∷ s) plain.sign in
-    (ap only_dirs signs, ap (λ (l : List Sign). only_dirs (Asterisk ∷ l)) signs))
+    let signs : map symbol_of (escaped_byte b) ++ s ≡ Other b ∷ s =
+    ap (λ (l : List ℕ). map symbol_of l ++ s) (plain-escaped b plain) ∙ ap (λ (g : Symbol). g ∷ s) plain.symbol in
+    (ap only_dirs signs, ap (λ (l : List Symbol). only_dirs (Asterisk ∷ l)) signs))
 
-no_run-escaped : (t : List ℕ) → only_dirs (map sign_of (literal_glob t)) ≡ false
+no_run-escaped : (t : List ℕ) → only_dirs (map symbol_of (literal_glob t)) ≡ false
 unfolding literal_glob
 no_run-escaped [] = refl
-no_run-escaped (b ∷ t) = ap only_dirs (map-append sign_of (escaped_byte b) (literal_glob t)) ∙ (no_run b (map sign_of (literal_glob t))).0
+no_run-escaped (b ∷ t) = ap only_dirs (map-append symbol_of (escaped_byte b) (literal_glob t)) ∙ (no_run b (map symbol_of (literal_glob t))).0
 
 -- an escaped string parses as its bytes
 pub tokens_of-escaped : (t : List ℕ) → tokens_of (literal_glob t) ≡ Ok (tokens_for t)
-unfolding words read
+unfolding lexemes parse
 tokens_of-escaped t =
-    tokens_of-read (literal_glob t) (no_run-escaped t)
-    ∙ ap (λ (l : List Sign). read zero false [] (words l)) (sym (append-nil (map sign_of (literal_glob t)))) ∙ steps t [] []
+    tokens_of-parse (literal_glob t) (no_run-escaped t)
+    ∙ ap (λ (l : List Symbol). parse zero false [] (lexemes l)) (sym (append-nil (map symbol_of (literal_glob t)))) ∙ steps t [] []
     ∙ ap Ok (reverse_pushed t [])
 
 -- an escaped string between two stars parses as its bytes between two stars
 pub tokens_of-part : (b : ℕ) (t : List ℕ) → tokens_of (42 ∷ (literal_glob (b ∷ t) ++ 42 ∷ [])) ≡ Ok (part Star ∷ (tokens_for (b ∷ t) ++ part Star ∷ []))
-unfolding words read
+unfolding lexemes parse
 tokens_of-part b t =
     let end = Asterisk ∷ [] in
-    let signs = map-append sign_of (literal_glob (b ∷ t)) (42 ∷ []) ∙ regroup b t end in
-    tokens_of-read (42 ∷ (literal_glob (b ∷ t) ++ 42 ∷ []))
-    (ap (λ (l : List Sign). only_dirs (Asterisk ∷ l)) signs ∙ (no_run b (map sign_of (literal_glob t) ++ end)).1)
-    ∙ ap (λ (l : List Sign). read zero false [] (asterisk ∷ words l)) signs
-    ∙ star_step b (map sign_of (literal_glob t) ++ end) ∙ steps t (part (part_of b) ∷ part Star ∷ []) end
+    let signs = map-append symbol_of (literal_glob (b ∷ t)) (42 ∷ []) ∙ regroup b t end in
+    tokens_of-parse (42 ∷ (literal_glob (b ∷ t) ++ 42 ∷ []))
+    (ap (λ (l : List Symbol). only_dirs (Asterisk ∷ l)) signs ∙ (no_run b (map symbol_of (literal_glob t) ++ end)).1)
+    ∙ ap (λ (l : List Symbol). parse zero false [] (asterisk ∷ lexemes l)) signs
+    ∙ star_step b (map symbol_of (literal_glob t) ++ end) ∙ steps t (part (part_of b) ∷ part Star ∷ []) end
     ∙ ap Ok (reverse-append (part Star ∷ []) (pushed t (part (part_of b) ∷ part Star ∷ []))
     ∙ ap (λ (l : List Token). l ++ part Star ∷ []) (reverse_pushed t (part (part_of b) ∷ part Star ∷ [])))

@@ -1,9 +1,9 @@
 -- Escaping: a glob that matches one string only.
--- Cited by contracts of public items: StandsForAlone, is_special, literal_glob.
+-- Cited by contracts of public items: MatchesOnly, is_special, literal_glob.
 use Rattle.std.specs.Prelude.{◌≡◌, ◌↔◌, ℕ, Bool, false, ◌==◌, ◌||◌, if◌then◌else◌, List, [], ◌∷◌}
 use Rattle.std.specs.List.{flat_map}
 use Rattle.jj_globs.specs.GlobMeaning.{IsMatch}
-use Rattle.jj_globs.specs.GlobReads.{glob_of_text}
+use Rattle.jj_globs.specs.GlobParsing.{glob_spec}
 
 -- one of `? * [ ] { } \`
 abbrev pub is_special : ℕ → Bool
@@ -18,6 +18,6 @@ unfoldable pub literal_glob : List ℕ → List ℕ
 literal_glob text = flat_map escaped_byte text
 
 -- with or without separator, the glob matches this byte string and no other
-abbrev pub StandsForAlone : List ℕ → List ℕ → Type 0
-StandsForAlone glob text = (separator : Bool) (bytes : List ℕ)
-    → IsMatch (glob_of_text glob separator false) bytes ↔ (bytes ≡ text)
+abbrev pub MatchesOnly : List ℕ → List ℕ → Type 0
+MatchesOnly glob text = (separator : Bool) (bytes : List ℕ)
+    → IsMatch (glob_spec glob separator false) bytes ↔ (bytes ≡ text)

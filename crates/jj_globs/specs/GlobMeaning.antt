@@ -8,7 +8,7 @@ use Rattle.jj_globs.specs.declared.glob.token.Part.TheVariants.{Byte, AnyByte, S
 use Rattle.jj_globs.specs.declared.glob.token.Token.{Token}
 use Rattle.jj_globs.specs.declared.glob.token.Token.TheVariants.{Part as part, Open, Or, Close}
 use Rattle.jj_globs.specs.declared.glob.token.Options.{Options}
-use Rattle.jj_globs.specs.GlobText.{tokens_of}
+use Rattle.jj_globs.specs.GlobSyntax.{tokens_of}
 
 -- 1. Single bytes.
 
@@ -45,20 +45,20 @@ in_class o (negated, rs) b = if negated then not (in_ranges o rs b) else in_rang
 -- 2. Parts.
 
 -- a single byte, which passes the test
-abbrev pub IsOne : (ℕ → Bool) → List ℕ → Type 0
-IsOne p bytes = (b : ℕ) × (bytes ≡ b ∷ []) × IsTrue (p b)
+abbrev pub IsSingle : (ℕ → Bool) → List ℕ → Type 0
+IsSingle p bytes = (b : ℕ) × (bytes ≡ b ∷ []) × IsTrue (p b)
 
 -- the part matches the bytes
-abbrev pub StandsAlone : Options → Part → List ℕ → Type 0
-StandsAlone o (Byte c) bytes = IsOne (same_byte o c) bytes
-StandsAlone o AnyByte bytes = IsOne (is_plain o) bytes
-StandsAlone o (OneOf c) bytes = IsOne (in_class o c) bytes
-StandsAlone o Star bytes = All (λ b. IsTrue (is_plain o b)) bytes
-StandsAlone o LeadingDirs bytes = (bytes ≡ []) ⊎ ((dirs : List ℕ) × (bytes ≡ dirs ++ 47 ∷ []))
-StandsAlone o InnerDirs bytes = (bytes ≡ 47 ∷ [])
+abbrev pub MatchesPart : Options → Part → List ℕ → Type 0
+MatchesPart o (Byte c) bytes = IsSingle (same_byte o c) bytes
+MatchesPart o AnyByte bytes = IsSingle (is_plain o) bytes
+MatchesPart o (OneOf c) bytes = IsSingle (in_class o c) bytes
+MatchesPart o Star bytes = All (λ b. IsTrue (is_plain o b)) bytes
+MatchesPart o LeadingDirs bytes = (bytes ≡ []) ⊎ ((dirs : List ℕ) × (bytes ≡ dirs ++ 47 ∷ []))
+MatchesPart o InnerDirs bytes = (bytes ≡ 47 ∷ [])
     ⊎ ((dirs : List ℕ) × (bytes ≡ 47 ∷ (dirs ++ 47 ∷ [])))
-StandsAlone o Below bytes = (rest : List ℕ) × (bytes ≡ 47 ∷ rest)
-StandsAlone o Everything bytes = Unit {0}
+MatchesPart o Below bytes = (rest : List ℕ) × (bytes ≡ 47 ∷ rest)
+MatchesPart o Everything bytes = Unit {0}
 
 -- 3. The syntax tree of a token list.
 
@@ -104,20 +104,20 @@ reading_of (t ∷ ts) = before t (reading_of ts)
 -- 4. Globs.
 
 -- concatenation: P of a prefix and Q of the rest
-abbrev pub IsSplit : (List ℕ → Type 0) → (List ℕ → Type 0) → List ℕ → Type 0
-IsSplit P Q bytes = (front rest : List ℕ) × (bytes ≡ front ++ rest) × P front × Q rest
+abbrev pub IsConcatenation : (List ℕ → Type 0) → (List ℕ → Type 0) → List ℕ → Type 0
+IsConcatenation P Q bytes = (prefix rest : List ℕ) × (bytes ≡ prefix ++ rest) × P prefix × Q rest
 
 abbrev mutual
   -- the sequence matches the bytes
-  pub Stands : Options → Sequence → List ℕ → Type 0
-  Stands o done bytes = bytes ≡ []
-  Stands o (next p s) bytes = IsSplit (StandsAlone o p) (Stands o s) bytes
-  Stands o (group a s) bytes = IsSplit (StandsForOne o a) (Stands o s) bytes
+  pub Matches : Options → Sequence → List ℕ → Type 0
+  Matches o done bytes = bytes ≡ []
+  Matches o (next p s) bytes = IsConcatenation (MatchesPart o p) (Matches o s) bytes
+  Matches o (group a s) bytes = IsConcatenation (MatchesAny o a) (Matches o s) bytes
 
   -- one of the alternatives matches the bytes
-  pub StandsForOne : Options → Alternatives → List ℕ → Type 0
-  StandsForOne o no_more bytes = ⊥
-  StandsForOne o (either s a) bytes = Stands o s bytes ⊎ StandsForOne o a bytes
+  pub MatchesAny : Options → Alternatives → List ℕ → Type 0
+  MatchesAny o no_more bytes = ⊥
+  MatchesAny o (either s a) bytes = Matches o s bytes ⊎ MatchesAny o a bytes
 
 -- a glob, as contracts see it
 pub record GlobSpec : Type 0 where
@@ -127,9 +127,9 @@ pub record GlobSpec : Type 0 where
 -- the pattern parses as tokens whose syntax tree matches the byte string
 abbrev pub IsMatch : GlobSpec → List ℕ → Type 0
 IsMatch g bytes = (ts : List Token) × (tokens_of g.text ≡ Ok ts)
-    × Stands g.options (reading_of ts).here bytes
+    × Matches g.options (reading_of ts).here bytes
 
 -- the glob matches the byte string or a prefix of it that `/` follows
 abbrev pub IsPrefixMatch : GlobSpec → List ℕ → Type 0
-IsPrefixMatch g bytes = IsMatch g bytes ⊎ ((front rest : List ℕ) × (bytes ≡ front ++ 47 ∷ rest)
-    × IsMatch g front)
+IsPrefixMatch g bytes = IsMatch g bytes ⊎ ((prefix rest : List ℕ) × (bytes ≡ prefix ++ 47 ∷ rest)
+    × IsMatch g prefix)

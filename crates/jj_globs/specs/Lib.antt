@@ -1,11 +1,12 @@
-pub mod GlobText
+-- in reading order
+pub mod GlobSyntax
 pub mod GlobMeaning
-pub mod GlobPlain
-pub mod GlobKept
-pub mod GlobReads
+pub mod GlobParsing
 pub mod GlobEscape
-pub mod GlobPlaces
-pub mod GlobLowering
-pub mod GlobEnding
-pub mod GlobFront
-pub mod GlobSharing
+pub mod GlobPrefix
+pub mod GlobBacktracking
+pub mod GlobNfa
+pub mod GlobCompilation
+pub mod GlobTrie
+pub mod GlobSuffix
+pub mod GlobInvariant

@@ -1,22 +1,22 @@
 //! Globs over byte strings: a parser, a compiler to an NFA (Thompson's construction), and its
 //! simulation with bit sets.
+mod actions;
 mod byte_set;
 mod class;
-mod ending;
+mod compiler;
 mod error;
 mod escaping;
-mod front;
-mod live;
+mod parser;
 mod pattern;
-mod put;
-mod reader;
+mod prefix;
 mod regex_text;
-mod row;
-mod shared_fronts;
-mod sign;
+mod simulation;
+mod state_set;
 mod step;
-mod steps;
+mod suffix;
+mod symbol;
 mod token;
+mod trie;
 
 pub use error::GlobError;
 pub use escaping::{escape, is_special};

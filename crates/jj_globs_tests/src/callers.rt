@@ -1,8 +1,8 @@
 //! Proved callers of globs.
 ghost use Rattle.std.specs.Prelude.{◌≡◌, ◌↔◌, ℕ, List, map, true, false, IsTrue, IfOk, IfErr, string_bytes};
 ghost use Rattle.jj_globs.specs.GlobMeaning.{IsMatch};
-ghost use Rattle.jj_globs.specs.GlobReads.{IsReadingFault, glob_of_text};
-ghost use Rattle.jj_globs.specs.GlobText.{tokens_of};
+ghost use Rattle.jj_globs.specs.GlobParsing.{IsGlobParseError, glob_spec};
+ghost use Rattle.jj_globs.specs.GlobSyntax.{tokens_of};
 ghost use Rattle.jj_globs_tests.specs.Selected.{IsSelected};
 
 use jj_globs::glob::{Glob, GlobError, escape};
@@ -11,9 +11,9 @@ use std::alloc::{AllocError, Global};
 /// Whether a pattern matches a path. Neither `?` nor `*` matches `/`. Fails with the first syntax
 /// error of the pattern, or if memory runs out.
 pub fn matches(alloc: Global, pattern: &str, path: &str) -> Result<bool, GlobError>
-    ensures answer { IfOk result (λ yes. IsTrue yes
-        ↔ IsMatch (glob_of_text pattern.now true false) path.now) }
-    ensures fault { IfErr result (λ error. IsReadingFault error (tokens_of pattern.now)) }
+    ensures matched { IfOk result (λ yes. IsTrue yes
+        ↔ IsMatch (glob_spec pattern.now true false) path.now) }
+    ensures error { IfErr result (λ error. IsGlobParseError error (tokens_of pattern.now)) }
 {
     let glob = Glob::parse(alloc, pattern, true, false)?;
     Ok(glob.is_match(path.as_bytes()))
@@ -26,9 +26,9 @@ pub fn selected<'a>(
     paths: &[&'a str],
 ) -> Result<Vec<&'a str>, GlobError>
     ensures selected { IfOk result (λ found. IsSelected
-        (IsMatch (glob_of_text pattern.now true false))
+        (IsMatch (glob_spec pattern.now true false))
         (map (λ path. path.now) paths.now) (map (λ path. path.now) found.items)) }
-    ensures fault { IfErr result (λ error. IsReadingFault error (tokens_of pattern.now)) }
+    ensures error { IfErr result (λ error. IsGlobParseError error (tokens_of pattern.now)) }
 {
     let glob = Glob::parse(alloc, pattern, true, false)?;
     let mut found = Vec::new(alloc);
@@ -43,7 +43,7 @@ pub fn selected<'a>(
 /// Returns a pattern that matches this path and no other string.
 pub fn pattern_of(alloc: Global, path: &str) -> Result<String, AllocError>
     ensures { IfOk result (λ pattern. (text : List ℕ)
-        → IsMatch (glob_of_text (string_bytes pattern) true false) text ↔ (text ≡ path.now)) }
+        → IsMatch (glob_spec (string_bytes pattern) true false) text ↔ (text ≡ path.now)) }
 {
     escape(alloc, path)
 }

@@ -17,8 +17,8 @@ use Rattle.regex.specs.Patterns.{find, Config}
 use Rattle.regex.specs.Names.{names_of}
 use Rattle.regex.specs.declared.bytes.regex.Regex.{Regex}
 use Rattle.jj_strings.specs.PatternKinds.{bytes_config, bytes_config_i}
-use Rattle.jj_strings.specs.StringMatchers.{IsFromText}
-use Rattle.jj_strings.specs.StringSets.{is_empty_text}
+use Rattle.jj_strings.specs.StringMatchers.{IsParsed}
+use Rattle.jj_strings.specs.StringSets.{is_empty_string}
 
 written : IsReadAs bytes_config [] empty
 unfolding grammar
@@ -42,7 +42,7 @@ holds_read config hir names is_read as_empty bytes small =
     ∙ ap is_some (seen.find_alike (meaning hir) empty (alike_to _ config.nest_limit (meaning hir) empty names is_read as_empty) bytes small 0)
     ∙ is_some-option_map seen.spans _ ∙ find_complete empty bytes 0 0 0 (omega arith) (omega arith) refl
 
-empty_text : (text : List ℕ) → is_empty_text text ≡ true → text ≡ []
+empty_text : (text : List ℕ) → is_empty_string text ≡ true → text ≡ []
 empty_text [] h = refl
 empty_text (b ∷ bs) h = absurd (true≢false (sym h))
 
@@ -53,7 +53,7 @@ read_of r config source same is_read =
     subst (λ (k : Config). Reads k [] r.pattern.program.hir (names_of r.pattern.names.items)) same
     (subst (λ (t : List ℕ). Reads r.pattern.config t r.pattern.program.hir (names_of r.pattern.names.items)) source is_read)
 
-pub holds_everything : (r : Regex) → is_empty_text (regex_source r) ≡ true → IsFromText r → (bytes : List ℕ)
+pub holds_everything : (r : Regex) → is_empty_string (regex_source r) ≡ true → IsParsed r → (bytes : List ℕ)
     → All (λ b. b < 256) bytes → IsSome (find (regex_pattern r) bytes 0)
 holds_everything r h made bytes small =
     let source = empty_text (regex_source r) h in

@@ -1,10 +1,10 @@
 pub mod Occurrences
 pub mod Windows
-pub mod Ends
+pub mod KmpSearch
 pub mod RegexSearches
-pub mod FirstLines
+pub mod LineSplitting
 pub mod EmptyRegex
-pub mod AllStrings
-pub mod FoundEntries
+pub mod TrivialPatterns
+pub mod EntryLookup
 pub mod Unions
-pub mod EscapedMeaning
+pub mod EquivalentGlobs

@@ -3,7 +3,7 @@ use Rattle.std.proofs.Common.{◌≡◌, ◌∙◌, sym, ap, ℕ, ◌+◌, ◌<�
 use Rattle.std.proofs.lemmas.Grind.{same_number_lists, common_steps}
 use Rattle.std.proofs.lemmas.List.{get_or-take, get_or-drop, take-map, drop-map}
 use Rattle.bstr.specs.Find.{OccursAt}
-use Rattle.jj_strings.specs.Folded.{lowercase_text}
+use Rattle.jj_strings.specs.CaseFolding.{lowercase}
 
 pub length-window : (xs : List ℕ) (n at : ℕ) → at + n ≤ length xs → length (take n (drop at xs)) ≡ n
 length-window xs n at h = grind (arith, common_steps)
@@ -25,7 +25,7 @@ occurs_to xs ys n at e o =
     (λ k low. let low' : k < n = omega (arith, length-window xs n at fits) in let low'' : k < length ys = omega arith in
     get_or-window xs n at k low' ∙ o.reads k low'')
 
-pub folded-window : (xs : List ℕ) (n at : ℕ) → take n (drop at (lowercase_text xs)) ≡ lowercase_text (take n (drop at xs))
+pub folded-window : (xs : List ℕ) (n at : ℕ) → take n (drop at (lowercase xs)) ≡ lowercase (take n (drop at xs))
 folded-window xs n at = grind (arith, take-map, drop-map)
 
 -- an occurrence in a window is one in the whole

@@ -1,5 +1,5 @@
 -- Parsing of patterns by the name of a kind.
--- Cited by contracts of public items: IsRegexIOf, IsRegexOf, IsUnknownKind, ReadsAsKind,
+-- Cited by contracts of public items: IsRegexIOf, IsRegexOf, IsUnknownKind, ParsesAsKind,
 -- bytes_config, bytes_config_i, kind_named.
 use Rattle.std.specs.Prelude.{◌≡◌, ℕ, true, false, if◌then◌else◌, List, Option, None, Some, Result, Ok, Err, codes, string_bytes}
 use Rattle.std.specs.Str.{bytes_eq}
@@ -10,7 +10,7 @@ use Rattle.jj_strings.specs.declared.str_util.kind.PatternKind.TheVariants.{Exac
 use Rattle.jj_strings.specs.declared.str_util.pattern.StringPattern.{StringPattern}
 use Rattle.jj_strings.specs.declared.str_util.error.StringPatternParseError.{StringPatternParseError}
 use Rattle.jj_strings.specs.declared.str_util.error.StringPatternParseError.TheVariants.{InvalidKind, Memory}
-use Rattle.jj_strings.specs.PatternFaults.{IsMemory, IsGlobFault, IsRegexFault}
+use Rattle.jj_strings.specs.PatternErrors.{IsMemory, IsGlobError, IsRegexError}
 use Rattle.jj_strings.specs.PatternViews.{pattern_of}
 use Rattle.jj_strings.specs.StringSets.{Pattern, exact, exact_i, substring, substring_i, glob_i, regex, regex_i, string_glob, glob_or_exact}
 
@@ -60,18 +60,18 @@ IsOfKind Regex text pattern = IsRegexOf bytes_config text pattern
 IsOfKind RegexI text pattern = IsRegexIOf bytes_config_i text pattern
 
 -- the error of a string that does not parse as this kind
-abbrev pub IsFaultOfKind : PatternKind → List ℕ → StringPatternParseError → Type 0
-IsFaultOfKind Glob text error = IsGlobFault text error
-IsFaultOfKind GlobI text error = IsGlobFault text error
-IsFaultOfKind Regex text error = IsRegexFault bytes_config text error
-IsFaultOfKind RegexI text error = IsRegexFault bytes_config_i text error
-IsFaultOfKind kind text error = IsMemory error
+abbrev pub IsErrorOfKind : PatternKind → List ℕ → StringPatternParseError → Type 0
+IsErrorOfKind Glob text error = IsGlobError text error
+IsErrorOfKind GlobI text error = IsGlobError text error
+IsErrorOfKind Regex text error = IsRegexError bytes_config text error
+IsErrorOfKind RegexI text error = IsRegexError bytes_config_i text error
+IsErrorOfKind kind text error = IsMemory error
 
 -- the result of parsing the string as this kind
-abbrev pub ReadsAsKind : PatternKind → List ℕ → Result StringPattern StringPatternParseError
+abbrev pub ParsesAsKind : PatternKind → List ℕ → Result StringPattern StringPatternParseError
     → Type 0
-ReadsAsKind kind text (Ok pattern) = IsOfKind kind text (pattern_of pattern)
-ReadsAsKind kind text (Err error) = IsFaultOfKind kind text error
+ParsesAsKind kind text (Ok pattern) = IsOfKind kind text (pattern_of pattern)
+ParsesAsKind kind text (Err error) = IsErrorOfKind kind text error
 
 -- no kind has this name, which the error contains
 abbrev pub IsInvalidKind : List ℕ → StringPatternParseError → Type 0

@@ -1,5 +1,5 @@
 -- String matchers as sets of byte strings.
--- Cited by contracts of public items: Asks, InMatcher, IsExpressionFromText, IsPatternFromText,
+-- Cited by contracts of public items: InMatcher, IsMatcherOf, IsParsedExpression, IsParsedPattern,
 -- MayAllocate.
 use Rattle.std.specs.Prelude.{◌≡◌, ◌↔◌, ◌⊎◌, ◌<◌, ◌^◌, ℕ, List, true, All as Every, string_bytes}
 use Rattle.regex.specs.Bytes.{regex_config, IsReadFromSource}
@@ -25,30 +25,30 @@ MayAllocate (Expr e) = HasRegex (source_expression e)
 MayAllocate _ = ⊥
 
 -- the regular expression was parsed from its string, case-sensitive or not
-abbrev pub IsFromText : compiled.Regex → Type 0
-IsFromText r = IsReadFromSource r × ((regex_config r ≡ bytes_config)
+abbrev pub IsParsed : compiled.Regex → Type 0
+IsParsed r = IsReadFromSource r × ((regex_config r ≡ bytes_config)
     ⊎ (regex_config r ≡ bytes_config_i))
 
 -- if the pattern is a regular expression, it was parsed from its string
-abbrev pub IsRegexFromText : Pattern → Type 0
-IsRegexFromText (regex r) = IsFromText r
-IsRegexFromText (regex_i r) = IsFromText r
-IsRegexFromText p = Unit {0}
+abbrev pub IsParsedRegex : Pattern → Type 0
+IsParsedRegex (regex r) = IsParsed r
+IsParsedRegex (regex_i r) = IsParsed r
+IsParsedRegex p = Unit {0}
 
 -- if the pattern trivially matches everything, it was parsed from its string
-abbrev pub IsPatternFromText : Pattern → Type 0
-IsPatternFromText p = is_all p ≡ true → IsRegexFromText p
+abbrev pub IsParsedPattern : Pattern → Type 0
+IsParsedPattern p = is_all p ≡ true → IsParsedRegex p
 
--- IsPatternFromText of a single pattern
-abbrev pub IsExpressionFromText : Expression → Type 0
-IsExpressionFromText (of_pattern p) = IsPatternFromText p
-IsExpressionFromText e = Unit {0}
+-- IsParsedPattern of a single pattern
+abbrev pub IsParsedExpression : Expression → Type 0
+IsParsedExpression (of_pattern p) = IsParsedPattern p
+IsParsedExpression e = Unit {0}
 
 -- the result of compilation: a matcher of this set, if an empty regular expression was parsed from
 -- its string; of this form; and without allocation unless there is a regular expression
-pub record Asks {F : _} {V : _} {m : _} (is_from_text : Type 0) (holds : List ℕ → Type 0)
-    (wanted : Form) (has_regex : Type 0) (matcher : StringMatcher F V m) : Type 0 where
-  pub set : is_from_text → (bytes : List ℕ) → Every (λ byte. byte < 2 ^ 8) bytes
-      → InMatcher matcher bytes ↔ holds bytes
-  pub form : form_of matcher ≡ wanted
+pub record IsMatcherOf {F : _} {V : _} {m : _} (is_parsed : Type 0) (in_set : List ℕ → Type 0)
+    (expected : Form) (has_regex : Type 0) (matcher : StringMatcher F V m) : Type 0 where
+  pub set : is_parsed → (bytes : List ℕ) → Every (λ byte. byte < 2 ^ 8) bytes
+      → InMatcher matcher bytes ↔ in_set bytes
+  pub form : form_of matcher ≡ expected
   pub memory : MayAllocate matcher → has_regex

@@ -1,8 +1,8 @@
 -- String patterns and set expressions over them: syntax, and the sets of byte strings that they
 -- denote.
 -- Cited by contracts of public items: HasRegex, InExpression, InPattern, IsRegex, IsUnionOf,
--- everything, exact, exact_i, exact_text, exact_texts, glob_i, glob_or_exact, intersection, is_all,
--- not_in, nothing, of_pattern, string_glob, substring, substring_i, text_of, union.
+-- all_exact_strings, everything, exact, exact_i, exact_string, glob_i, glob_or_exact, intersection,
+-- is_all, not_in, nothing, of_pattern, source_of, string_glob, substring, substring_i, union.
 use Rattle.std.specs.Prelude.{◌≡◌, ℕ, ◌/◌, ◌<◌, ◌⊎◌, Bool, true, false, ◌==◌, if◌then◌else◌, List, [], ◌∷◌, ◌++◌, length, Option, None, Some, IsSome}
 use Rattle.std.specs.Option.{option_to_list}
 use Rattle.std.specs.List.{list_any}
@@ -11,7 +11,7 @@ use Rattle.bstr.specs.Text.{Contains}
 use Rattle.regex.specs.Patterns.{find}
 use Rattle.regex.specs.Bytes.{regex_pattern, regex_source}
 use Rattle.regex.specs.declared.bytes.regex.Regex.{Regex}
-use Rattle.jj_strings.specs.Folded.{lowercase_text}
+use Rattle.jj_strings.specs.CaseFolding.{lowercase}
 use Rattle.jj_globs.specs.GlobEscape.{is_special}
 use Rattle.jj_strings.specs.StringGlobs.{StringGlob, as_glob}
 use Rattle.jj_globs.specs.GlobMeaning.{IsMatch}
@@ -32,29 +32,29 @@ pub data Pattern : Type 0 where
 -- the byte string is in the set of the pattern
 abbrev pub InPattern : Pattern → List ℕ → Type 0
 InPattern (exact text) bytes = bytes ≡ text
-InPattern (exact_i text) bytes = lowercase_text bytes ≡ lowercase_text text
+InPattern (exact_i text) bytes = lowercase bytes ≡ lowercase text
 InPattern (substring text) bytes = Contains bytes text
-InPattern (substring_i text) bytes = Contains (lowercase_text bytes) (lowercase_text text)
+InPattern (substring_i text) bytes = Contains (lowercase bytes) (lowercase text)
 InPattern (glob g) bytes = IsMatch (as_glob g) bytes
 InPattern (glob_i g) bytes = IsMatch (as_glob g) bytes
 InPattern (regex r) bytes = IsSome (find (regex_pattern r) bytes 0)
 InPattern (regex_i r) bytes = IsSome (find (regex_pattern r) bytes 0)
 
 -- the string that the pattern was created from
-abbrev pub text_of : Pattern → List ℕ
-text_of (exact text) = text
-text_of (exact_i text) = text
-text_of (substring text) = text
-text_of (substring_i text) = text
-text_of (glob g) = g.text
-text_of (glob_i g) = g.text
-text_of (regex r) = regex_source r
-text_of (regex_i r) = regex_source r
+abbrev pub source_of : Pattern → List ℕ
+source_of (exact text) = text
+source_of (exact_i text) = text
+source_of (substring text) = text
+source_of (substring_i text) = text
+source_of (glob g) = g.text
+source_of (glob_i g) = g.text
+source_of (regex r) = regex_source r
+source_of (regex_i r) = regex_source r
 
 -- the empty string
-abbrev pub is_empty_text : List ℕ → Bool
-is_empty_text [] = true
-is_empty_text (b ∷ bs) = false
+abbrev pub is_empty_string : List ℕ → Bool
+is_empty_string [] = true
+is_empty_string (b ∷ bs) = false
 
 -- the string `*`
 abbrev pub is_one_star : List ℕ → Bool
@@ -66,17 +66,17 @@ is_one_star text = false
 abbrev pub is_all : Pattern → Bool
 is_all (exact text) = false
 is_all (exact_i text) = false
-is_all (substring text) = is_empty_text text
-is_all (substring_i text) = is_empty_text text
+is_all (substring text) = is_empty_string text
+is_all (substring_i text) = is_empty_string text
 is_all (glob g) = is_one_star g.text
 is_all (glob_i g) = is_one_star g.text
-is_all (regex r) = is_empty_text (regex_source r)
-is_all (regex_i r) = is_empty_text (regex_source r)
+is_all (regex r) = is_empty_string (regex_source r)
+is_all (regex_i r) = is_empty_string (regex_source r)
 
 -- the string of an exact pattern
-abbrev pub exact_text : Pattern → Option (List ℕ)
-exact_text (exact text) = Some text
-exact_text pattern = None
+abbrev pub exact_string : Pattern → Option (List ℕ)
+exact_string (exact text) = Some text
+exact_string pattern = None
 
 -- the pattern is a regular expression
 abbrev pub IsRegex : Pattern → Type 0
@@ -124,11 +124,11 @@ abbrev pub nothing : Expression
 nothing = not_in everything
 
 -- the strings of the exact patterns, from left to right
-abbrev pub exact_texts : Expression → List (List ℕ)
-exact_texts (of_pattern p) = option_to_list (exact_text p)
-exact_texts (not_in e) = exact_texts e
-exact_texts (union a b) = exact_texts a ++ exact_texts b
-exact_texts (intersection a b) = exact_texts a ++ exact_texts b
+abbrev pub all_exact_strings : Expression → List (List ℕ)
+all_exact_strings (of_pattern p) = option_to_list (exact_string p)
+all_exact_strings (not_in e) = all_exact_strings e
+all_exact_strings (union a b) = all_exact_strings a ++ all_exact_strings b
+all_exact_strings (intersection a b) = all_exact_strings a ++ all_exact_strings b
 
 -- the expression contains a regular expression
 abbrev pub HasRegex : Expression → Type 0
@@ -142,6 +142,6 @@ HasRegex (intersection a b) = HasRegex a ⊎ HasRegex b
 pub data IsUnionOf : List Expression → Expression → Type 0 where
   of_none : IsUnionOf [] nothing
   of_one : (e : Expression) → IsUnionOf (e ∷ []) e
-  of_halves : (es front back : List Expression) (a b : Expression) → es ≡ front ++ back
-      → length front ≡ length es / 2 → 1 < length es
-      → IsUnionOf front a → IsUnionOf back b → IsUnionOf es (union a b)
+  of_halves : (es prefix back : List Expression) (a b : Expression) → es ≡ prefix ++ back
+      → length prefix ≡ length es / 2 → 1 < length es
+      → IsUnionOf prefix a → IsUnionOf back b → IsUnionOf es (union a b)

@@ -1,15 +1,15 @@
 //! Sets of strings: patterns and expressions, their compilation to matchers, and iterators over
 //! matching lines and map entries.
-mod borders;
+mod caseless_search;
 mod compiled;
 mod error;
 mod expression;
 mod expression_search;
 mod expression_searcher;
 mod filter_btree_map;
-mod folding;
 mod glob_pattern;
 mod kind;
+mod kmp;
 mod match_lines;
 mod matcher;
 mod pattern;

@@ -3,8 +3,8 @@ use Rattle.std.proofs.Common.{◌≡◌, ◌∙◌, List, [], ◌∷◌, ◌++�
 use Rattle.std.specs.Iterator.{Drains}
 use Rattle.std.specs.declared.alloc.AllocError.{AllocError}
 use Rattle.std.proofs.lemmas.List.Elements.{All-head, All-tail}
-use Rattle.jj_strings.specs.EntriesLeft.{HoldsAllOf}
-use Rattle.jj_strings.specs.Lines.{GivesNext}
+use Rattle.jj_strings.specs.RemainingEntries.{CoversAll}
+use Rattle.jj_strings.specs.Lines.{YieldsNext}
 use Rattle.jj_strings_tests.specs.Selected.{Selects}
 use Rattle.jj_strings_tests.specs.Selected.Selects.{at_end, taken, left_out}
 
@@ -25,14 +25,14 @@ module _ {X : Type 0} (P : X → Type 0) where
   none_behind after none (left_out not_here selects) = left_out not_here (none_behind after none selects)
 
   -- the selection of a part is one of the whole if P is false outside
-  pub of_whole : (all part some : List X) → HoldsAllOf P all part → Selects P part some → Selects P all some
+  pub of_whole : (all part some : List X) → CoversAll P all part → Selects P part some → Selects P all some
   of_whole all part some (before, after, is, none1, none2) selects =
       subst (λ l. Selects P l some) (sym is) (none_behind after none2 (none_before before part some none1 selects))
 
 module _ {S R X M : Type 0} (view : R → X) (In : M → X → Type 0) (CanFail : M → Type 0) (set : S → M) (left : S → List X) where
   -- one step over the remaining entries
   abbrev pub Steps : S → Option (Result R AllocError) → S → Type 0
-  Steps s r t = GivesNext view (In (set s)) (CanFail (set s)) (left s) r (left t) × (set t ≡ set s)
+  Steps s r t = YieldsNext view (In (set s)) (CanFail (set s)) (left s) r (left t) × (set t ≡ set s)
 
   -- a run that ended yielded all matching entries
   pub run_selects : (m : M) (given : List R) (s : S) → set s ≡ m → Drains Steps s (map (λ x. Ok x) given) → Selects (In m) (left s) (map view given)

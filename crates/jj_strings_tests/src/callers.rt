@@ -15,7 +15,7 @@ use std::collections::BTreeMap;
 
 /// Whether the matcher matches both names, with one searcher. Fails only if it contains a regular
 /// expression.
-pub fn holds_both(
+pub fn matches_both(
     alloc: Global,
     matcher: &StringMatcher,
     first: &str,
@@ -54,6 +54,5 @@ pub fn is_in_pattern(
         → IfOk result (λ yes. IsTrue yes ↔ InPattern (pattern_of pattern.now) bytes.now) }
 {
     let matcher = pattern.to_matcher(alloc)?;
-    let yes = matcher.is_match_bytes(alloc, bytes)?;
-    Ok(yes)
+    matcher.is_match_bytes(alloc, bytes)
 }

@@ -44,30 +44,35 @@ pub fn matcher<R: Abort>(
 }
 
 /// Checks the debug form of a value.
-pub fn shows<R: Abort, T: fmt::Debug>(rt: &R, alloc: Global, value: &T, shown: &str) -> Passed {
-    assert_eq!(rt; format!(in alloc; "{value:?}")?.as_str(), shown);
+pub fn check_debug<R: Abort, T: fmt::Debug>(
+    rt: &R,
+    alloc: Global,
+    value: &T,
+    debug: &str,
+) -> Passed {
+    assert_eq!(rt; format!(in alloc; "{value:?}")?.as_str(), debug);
     Ok(())
 }
 
 /// Checks the result of a match.
-pub fn answers<R: Abort>(rt: &R, found: bool, wanted: bool, string: &str) {
-    assert!(rt; found == wanted, "{found} for {string:?}");
+pub fn check_result<R: Abort>(rt: &R, found: bool, expected: bool, string: &str) {
+    assert!(rt; found == expected, "{found} for {string:?}");
 }
 
 /// Checks whether a matcher matches a string.
-pub fn matches<R: Abort>(
+pub fn check_match<R: Abort>(
     rt: &R,
     alloc: Global,
     matcher: &StringMatcher,
     string: &str,
-    wanted: bool,
+    expected: bool,
 ) -> Passed {
-    answers(rt, matcher.is_match(alloc, string)?, wanted, string);
+    check_result(rt, matcher.is_match(alloc, string)?, expected, string);
     Ok(())
 }
 
 /// Collects the items of an iterator, which must end after an error.
-pub fn items<R: Abort, T: Drop, I: Iterator<Item = Result<T, AllocError>> + Drop>(
+pub fn collect<R: Abort, T: Drop, I: Iterator<Item = Result<T, AllocError>> + Drop>(
     rt: &R,
     alloc: Global,
     found: I,

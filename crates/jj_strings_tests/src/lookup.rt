@@ -1,7 +1,7 @@
 //! Test that an exact matcher looks its entry up: keys count how often their strings are read.
 ghost use Rattle.std.specs.Prelude.{refl, string_bytes};
 
-use crate::fixtures::{items, matcher};
+use crate::fixtures::{collect, matcher};
 use jj_content_tests::once_more::{Passed, passes};
 use jj_strings::str_util::{StringMatcher, TextKey};
 use std::alloc::{AllocError, Global};
@@ -16,7 +16,7 @@ use std::test::Fail;
 struct CountedKey {
     text: String,
     #[derive_where(skip)]
-    asked: Cell<u32>,
+    reads: Cell<u32>,
 }
 
 impl TextKey for CountedKey {
@@ -25,53 +25,53 @@ impl TextKey for CountedKey {
     ghost ordered_as_text = { λ a b. refl };
 
     fn as_text(&self) -> &str {
-        self.asked.set(self.asked.get().wrapping_add(1));
+        self.reads.set(self.reads.get().wrapping_add(1));
         self.text.as_str()
     }
 
     fn from_text(alloc: Global, text: &str) -> Result<Self, AllocError> {
         Ok(CountedKey {
             text: String::from_str(alloc, text)?,
-            asked: Cell::new(0),
+            reads: Cell::new(0),
         })
     }
 }
 
 // Creates a map with these keys.
-fn counted(alloc: Global, texts: &[&str]) -> Result<BTreeMap<CountedKey, ()>, AllocError> {
+fn map_of_keys(alloc: Global, strings: &[&str]) -> Result<BTreeMap<CountedKey, ()>, AllocError> {
     let mut map = BTreeMap::new(alloc);
-    for text in texts {
+    for text in strings {
         let _ = map.insert(CountedKey::from_text(alloc, text)?, ())?;
     }
     Ok(map)
 }
 
 // Returns how often keys were read to find the one matching entry.
-fn asked<R: Abort>(rt: &R, alloc: Global, matcher: &StringMatcher) -> Result<u32, AllocError> {
-    let map = counted(alloc, &["a", "b", "c", "d", "e"])?;
-    let found = items(rt, alloc, matcher.filter_btree_map(alloc, &map))?;
+fn reads<R: Abort>(rt: &R, alloc: Global, matcher: &StringMatcher) -> Result<u32, AllocError> {
+    let map = map_of_keys(alloc, &["a", "b", "c", "d", "e"])?;
+    let found = collect(rt, alloc, matcher.filter_btree_map(alloc, &map))?;
     assert_eq!(rt; found.len(), 1);
     Ok(
         map.keys()
-            .fold(0, |sum, key| key.asked.get().wrapping_add(sum)),
+            .fold(0, |sum, key| key.reads.get().wrapping_add(sum)),
     )
 }
 
 // Returns how often keys were read by a pattern of this kind.
-fn asked_by<R: Abort>(rt: &R, alloc: Global, kind: &str) -> Result<u32, AllocError> {
-    asked(rt, alloc, &matcher(rt, alloc, kind, "d")?)
+fn reads_by_kind<R: Abort>(rt: &R, alloc: Global, kind: &str) -> Result<u32, AllocError> {
+    reads(rt, alloc, &matcher(rt, alloc, kind, "d")?)
 }
 
 // If the key for the lookup cannot be allocated, each key is read.
-fn looked_up<R: Abort>(rt: &R, alloc: Global) -> Passed {
-    assert_eq!(rt; asked_by(rt, alloc, "exact-i")?, 5);
-    match asked_by(rt, alloc, "exact")? {
+fn check_lookup<R: Abort>(rt: &R, alloc: Global) -> Passed {
+    assert_eq!(rt; reads_by_kind(rt, alloc, "exact-i")?, 5);
+    match reads_by_kind(rt, alloc, "exact")? {
         1 => Ok(()),
         _ => Err(AllocError),
     }
 }
 
 #[test]
-fn exact_texts_are_looked_up(rt: HostRuntime) -> Result<(), Fail> {
-    passes(&rt, looked_up)
+fn exact_strings_are_looked_up(rt: HostRuntime) -> Result<(), Fail> {
+    passes(&rt, check_lookup)
 }

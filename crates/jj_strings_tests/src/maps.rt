@@ -2,7 +2,7 @@
 //! callers.
 ghost use Rattle.std.specs.Iterator.{IsFinite};
 
-use crate::fixtures::{items, matcher, matches, shows};
+use crate::fixtures::{check_debug, check_match, collect, matcher};
 use jj_content_tests::once_more::{Passed, passes};
 use jj_ids::ref_name::{GitRefNameBuf, RefNameBuf, RemoteNameBuf, WorkspaceNameBuf};
 use jj_strings::str_util::{BytePredicate, ByteTest, StringMatcher, TextKey};
@@ -12,58 +12,61 @@ use std::process::Abort;
 use std::test::Fail;
 
 // Creates a map of these keys, each with its index.
-fn numbered<K: TextKey>(alloc: Global, texts: &[&str]) -> Result<BTreeMap<K, usize>, AllocError> {
+fn map_of_indices<K: TextKey>(
+    alloc: Global,
+    strings: &[&str],
+) -> Result<BTreeMap<K, usize>, AllocError> {
     let mut map = BTreeMap::new(alloc);
-    for (place, text) in texts.iter().enumerate() {
-        let _ = map.insert(K::from_text(alloc, text)?, place)?;
+    for (index, text) in strings.iter().enumerate() {
+        let _ = map.insert(K::from_text(alloc, text)?, index)?;
     }
     Ok(map)
 }
 
 // Checks the key and the value of an entry.
-fn is<R: Abort, K: TextKey>(rt: &R, entry: &(&K, &usize), text: &str, place: usize) {
+fn check_entry<R: Abort, K: TextKey>(rt: &R, entry: &(&K, &usize), text: &str, index: usize) {
     assert_eq!(rt; entry.0.as_text(), text);
-    assert_eq!(rt; *entry.1, place);
+    assert_eq!(rt; *entry.1, index);
 }
 
 // Checks the keys and the values of all entries.
-fn are<R: Abort, K: TextKey>(rt: &R, found: &[(&K, &usize)], wanted: &[(&str, usize)]) {
-    assert_eq!(rt; found.len(), wanted.len());
-    for (entry, (text, place)) in found.iter().zip(wanted) {
-        is(rt, entry, text, *place);
+fn check_entries<R: Abort, K: TextKey>(rt: &R, found: &[(&K, &usize)], expected: &[(&str, usize)]) {
+    assert_eq!(rt; found.len(), expected.len());
+    for (entry, (text, index)) in found.iter().zip(expected) {
+        check_entry(rt, entry, text, *index);
     }
 }
 
 // Checks that an iterator yields these entries in this order.
-fn gives<'a, R: Abort, K: TextKey + 'a, I>(
+fn check_yields<'a, R: Abort, K: TextKey + 'a, I>(
     rt: &R,
     alloc: Global,
     found: I,
-    wanted: &[(&str, usize)],
+    expected: &[(&str, usize)],
 ) -> Passed
 where
     I: Iterator<Item = Result<(&'a K, &'a usize), AllocError>> + Drop,
     requires callable { I.can_next found }
     requires finite { IsFinite (I.remaining found) }
 {
-    are(rt, items(rt, alloc, found)?.as_slice(), wanted);
+    check_entries(rt, collect(rt, alloc, found)?.as_slice(), expected);
     Ok(())
 }
 
 // Checks which entries a matcher finds, also by `filter_btree_map_as_deref`.
-fn finds<R: Abort, K: TextKey>(
+fn check_finds<R: Abort, K: TextKey>(
     rt: &R,
     alloc: Global,
     matcher: &StringMatcher,
     map: &BTreeMap<K, usize>,
-    wanted: &[(&str, usize)],
+    expected: &[(&str, usize)],
 ) -> Passed {
-    gives(rt, alloc, matcher.filter_btree_map(alloc, map), wanted)?;
-    gives(
+    check_yields(rt, alloc, matcher.filter_btree_map(alloc, map), expected)?;
+    check_yields(
         rt,
         alloc,
         matcher.filter_btree_map_as_deref(alloc, map),
-        wanted,
+        expected,
     )
 }
 
@@ -87,89 +90,89 @@ const FOUND: [Row; 10] = [
     ),
 ];
 
-fn finds_row<R: Abort, K: TextKey>(
+fn check_row<R: Abort, K: TextKey>(
     rt: &R,
     alloc: Global,
     map: &BTreeMap<K, usize>,
     row: &Row,
 ) -> Passed {
-    let (kind, text, wanted) = row;
-    finds(rt, alloc, &matcher(rt, alloc, kind, text)?, map, *wanted)
+    let (kind, text, expected) = row;
+    check_finds(rt, alloc, &matcher(rt, alloc, kind, text)?, map, *expected)
 }
 
-fn finds_all<R: Abort, K: TextKey>(
+fn check_all<R: Abort, K: TextKey>(
     rt: &R,
     alloc: Global,
     map: &BTreeMap<K, usize>,
     all: &[(&str, usize)],
 ) -> Passed {
-    finds(rt, alloc, &StringMatcher::all(), map, all)
+    check_finds(rt, alloc, &StringMatcher::all(), map, all)
 }
 
 // Checks all entries of the map, and those that patterns find.
-fn finds_each<R: Abort, K: TextKey>(
+fn check_each<R: Abort, K: TextKey>(
     rt: &R,
     alloc: Global,
     map: &BTreeMap<K, usize>,
     all: &[(&str, usize)],
     rows: &[Row],
 ) -> Passed {
-    finds_all(rt, alloc, map, all)?;
+    check_all(rt, alloc, map, all)?;
     for row in rows {
-        finds_row(rt, alloc, map, row)?;
+        check_row(rt, alloc, map, row)?;
     }
     Ok(())
 }
 
 const ALL: [(&str, usize); 4] = [("Bar", 2), ("bar", 3), ("baz", 1), ("foo", 0)];
 
-fn of_entries<K: TextKey>(alloc: Global) -> Result<BTreeMap<K, usize>, AllocError> {
-    numbered(alloc, &["foo", "baz", "Bar", "bar"])
+fn map_of_entries<K: TextKey>(alloc: Global) -> Result<BTreeMap<K, usize>, AllocError> {
+    map_of_indices(alloc, &["foo", "baz", "Bar", "bar"])
 }
 
-fn filters<R: Abort, K: TextKey>(
+fn check_map<R: Abort, K: TextKey>(
     rt: &R,
     alloc: Global,
     all: &[(&str, usize)],
     rows: &[Row],
 ) -> Passed {
-    let map: BTreeMap<K, usize> = of_entries(alloc)?;
-    finds_each(rt, alloc, &map, all, rows)
+    let map: BTreeMap<K, usize> = map_of_entries(alloc)?;
+    check_each(rt, alloc, &map, all, rows)
 }
 
 const NOT_FOUND: [Row; 1] = [("exact", "o", &[])];
 
-fn filters_empty<R: Abort, K: TextKey>(rt: &R, alloc: Global) -> Passed {
+fn check_empty_map<R: Abort, K: TextKey>(rt: &R, alloc: Global) -> Passed {
     let empty: BTreeMap<K, usize> = BTreeMap::new(alloc);
-    finds_each(rt, alloc, &empty, &[], &NOT_FOUND)
+    check_each(rt, alloc, &empty, &[], &NOT_FOUND)
 }
 
 // Checks the entries found in a map, and in an empty one.
-fn filters_both<R: Abort, K: TextKey>(rt: &R, alloc: Global) -> Passed {
-    filters::<R, K>(rt, alloc, &ALL, &FOUND)?;
-    filters_empty::<R, K>(rt, alloc)
+fn check_maps<R: Abort, K: TextKey>(rt: &R, alloc: Global) -> Passed {
+    check_map::<R, K>(rt, alloc, &ALL, &FOUND)?;
+    check_empty_map::<R, K>(rt, alloc)
 }
 
 #[test]
 fn maps_by_names(rt: HostRuntime) -> Result<(), Fail> {
     passes(&rt, |rt, alloc| {
-        filters_both::<_, String>(rt, alloc)?;
-        filters_both::<_, GitRefNameBuf>(rt, alloc)?;
-        filters_both::<_, RefNameBuf>(rt, alloc)?;
-        filters_both::<_, RemoteNameBuf>(rt, alloc)?;
-        filters_both::<_, WorkspaceNameBuf>(rt, alloc)
+        check_maps::<_, String>(rt, alloc)?;
+        check_maps::<_, GitRefNameBuf>(rt, alloc)?;
+        check_maps::<_, RefNameBuf>(rt, alloc)?;
+        check_maps::<_, RemoteNameBuf>(rt, alloc)?;
+        check_maps::<_, WorkspaceNameBuf>(rt, alloc)
     })
 }
 
 // Checks the strings that the matcher of three bytes matches.
-fn holds_three_bytes<R: Abort>(rt: &R, alloc: Global, matcher: &StringMatcher) -> Passed {
-    matches(rt, alloc, matcher, "foo", true)?;
-    matches(rt, alloc, matcher, "\u{c0}", false)?;
-    matches(rt, alloc, matcher, "\u{c0}b", true)?;
-    matches(rt, alloc, matcher, "", false)?;
-    shows(rt, alloc, matcher, "Fn(..)")?;
-    let map: BTreeMap<String, usize> = numbered(alloc, &["foo", "ba", "bar"])?;
-    finds(rt, alloc, matcher, &map, &[("bar", 2), ("foo", 0)])
+fn check_three_bytes<R: Abort>(rt: &R, alloc: Global, matcher: &StringMatcher) -> Passed {
+    check_match(rt, alloc, matcher, "foo", true)?;
+    check_match(rt, alloc, matcher, "\u{c0}", false)?;
+    check_match(rt, alloc, matcher, "\u{c0}b", true)?;
+    check_match(rt, alloc, matcher, "", false)?;
+    check_debug(rt, alloc, matcher, "Fn(..)")?;
+    let map: BTreeMap<String, usize> = map_of_indices(alloc, &["foo", "ba", "bar"])?;
+    check_finds(rt, alloc, matcher, &map, &[("bar", 2), ("foo", 0)])
 }
 
 // A predicate sees the bytes, not the characters, of a string.
@@ -178,6 +181,6 @@ fn predicates_of_callers(rt: HostRuntime) -> Result<(), Fail> {
     passes(&rt, |rt, alloc| {
         let test: ByteTest = Box::new(alloc, |bytes: &[u8]| bytes.len() == 3)?;
         let matcher = StringMatcher::Fn(BytePredicate::new(test));
-        holds_three_bytes(rt, alloc, &matcher)
+        check_three_bytes(rt, alloc, &matcher)
     })
 }

@@ -1,60 +1,62 @@
 //! Parser of character classes such as `[a-z]` or `[!.]`.
 ghost use Rattle.std.specs.Prelude.{◌≡◌, ◌≢◌, ◌<◌, ℕ, List, [], ◌∷◌, ◌++◌, map, length, MatchOption, MatchResult, IfOk, IfErr, ◌≤◌};
-ghost use Rattle.jj_globs.specs.GlobText.{sign_of, words, items, first_item, single, class, fault, range_fault};
-ghost use Rattle.jj_globs.specs.GlobReads.{IsClassRead, IsFault};
+ghost use Rattle.jj_globs.specs.GlobSyntax.{symbol_of, lexemes, items, first_item, single, class, syntax_error, range_error};
+ghost use Rattle.jj_globs.specs.GlobParsing.{IsParsedClass, IsSyntaxError};
 
 use crate::glob::error::GlobError;
-use crate::glob::sign::{Sign, next_sign};
+use crate::glob::symbol::{Symbol, next_symbol};
 use crate::glob::token::{ByteRange, Class};
 use std::alloc::Global;
 
 // Parses a class after its `[`. Returns it and the remaining pattern.
-pub(crate) fn read_class<'a>(alloc: Global, text: &'a [u8]) -> Result<(Class, &'a [u8]), GlobError>
-    ensures read { MatchResult result
-        (λ read. IsClassRead (words (Sign.OpenBracket ∷ map sign_of text.now)) read.0 read.1.now)
-        (λ error. IsFault error (words (Sign.OpenBracket ∷ map sign_of text.now))) }
-    ensures shorter { IfOk result (λ read. length read.1.now ≤ length text.now) }
+pub(crate) fn parse_class<'a>(alloc: Global, text: &'a [u8]) -> Result<(Class, &'a [u8]), GlobError>
+    ensures parsed { MatchResult result
+        (λ parsed. IsParsedClass (lexemes (Symbol.OpenBracket ∷ map symbol_of text.now))
+        parsed.0 parsed.1.now)
+        (λ error. IsSyntaxError error (lexemes (Symbol.OpenBracket ∷ map symbol_of text.now))) }
+    ensures shorter { IfOk result (λ parsed. length parsed.1.now ≤ length text.now) }
 {
-    let Some((sign, rest)) = next_sign(text) else {
+    let Some((symbol, rest)) = next_symbol(text) else {
         return Err(GlobError::UnclosedClass);
     };
-    match sign {
-        Sign::Bang => read_items(alloc, true, rest),
-        Sign::Caret => read_items(alloc, true, rest),
-        _ => read_items(alloc, false, text),
+    match symbol {
+        Symbol::Bang => parse_items(alloc, true, rest),
+        Symbol::Caret => parse_items(alloc, true, rest),
+        _ => parse_items(alloc, false, text),
     }
 }
 
 // Parses the items of a class up to its `]`. The first item is literal, whatever it is.
-fn read_items<'a>(
+fn parse_items<'a>(
     alloc: Global,
     negated: bool,
     text: &'a [u8],
 ) -> Result<(Class, &'a [u8]), GlobError>
-    ensures read { MatchResult result
-        (λ read. IsClassRead (first_item negated (map sign_of text.now)) read.0 read.1.now)
-        (λ error. IsFault error (first_item negated (map sign_of text.now))) }
-    ensures shorter { IfOk result (λ read. length read.1.now ≤ length text.now) }
+    ensures parsed { MatchResult result
+        (λ parsed. IsParsedClass (first_item negated (map symbol_of text.now))
+        parsed.0 parsed.1.now)
+        (λ error. IsSyntaxError error (first_item negated (map symbol_of text.now))) }
+    ensures shorter { IfOk result (λ parsed. length parsed.1.now ≤ length text.now) }
 {
-    let Some((first, mut rest)) = next_sign(text) else {
+    let Some((first, mut rest)) = next_symbol(text) else {
         return Err(GlobError::UnclosedClass);
     };
     let mut ranges = Vec::new(alloc);
     let mut range = ByteRange::one(first.byte());
-    while let Some((sign, after)) = next_sign(rest) {
+    while let Some((symbol, after)) = next_symbol(rest) {
         rest = after;
-        match sign {
-            Sign::CloseBracket => {
+        match symbol {
+            Symbol::CloseBracket => {
                 ranges.push(range)?;
                 return Ok((Class::new(negated, ranges), rest));
             }
-            Sign::Dash => {
-                let Some((bound, after)) = next_sign(rest) else {
+            Symbol::Dash => {
+                let Some((bound, after)) = next_symbol(rest) else {
                     return Err(GlobError::UnclosedClass);
                 };
                 rest = after;
                 match bound {
-                    Sign::CloseBracket => {
+                    Symbol::CloseBracket => {
                         ranges.push(range)?;
                         ranges.push(ByteRange::one(b'-'))?;
                         return Ok((Class::new(negated, ranges), rest));
@@ -78,8 +80,8 @@ fn read_items<'a>(
 fn byte_range(first: u8, last: u8) -> Result<ByteRange, GlobError>
     ensures { MatchResult result
         (λ range. (range ≡ record { first = first; last = last })
-        × ((good : _) → range_fault first last good ≡ good))
-        (λ error. (good : _) → IsFault error (range_fault first last good)) }
+        × ((good : _) → range_error first last good ≡ good))
+        (λ error. (good : _) → IsSyntaxError error (range_error first last good)) }
 {
     if first >= 128 || last >= 128 {
         Err(GlobError::NonAsciiRange)

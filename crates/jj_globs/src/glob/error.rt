@@ -27,7 +27,7 @@ pub enum GlobError {
 impl From<AllocError> for GlobError {
     ghost from_gives = { λ _ error. error ≡ GlobError.Memory };
 
-    fn from(_refused: AllocError) -> Self {
+    fn from(_error: AllocError) -> Self {
         GlobError::Memory
     }
 }
@@ -35,7 +35,7 @@ impl From<AllocError> for GlobError {
 impl<T: Drop> From<AllocFailed<T>> for GlobError {
     ghost from_gives = { λ _ error. error ≡ GlobError.Memory };
 
-    fn from(_refused: AllocFailed<T>) -> Self {
+    fn from(_error: AllocFailed<T>) -> Self {
         GlobError::Memory
     }
 }

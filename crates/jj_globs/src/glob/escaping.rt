@@ -2,7 +2,7 @@
 ghost use Rattle.std.specs.Prelude.{◌≡◌, ◌++◌, IfOk, OnOk, encode_utf8};
 ghost use Rattle.std.specs.List.{flat_map};
 ghost use Rattle.std.specs.String.{string_bytes};
-ghost use Rattle.jj_globs.specs.GlobEscape.{StandsForAlone, literal_glob, escaped_byte, is_special};
+ghost use Rattle.jj_globs.specs.GlobEscape.{MatchesOnly, literal_glob, escaped_byte, is_special};
 
 use std::alloc::{AllocError, Global};
 
@@ -34,7 +34,7 @@ fn push_escaped(glob: &mut String, c: char) -> Result<(), AllocError>
 /// the string and nothing else: `a[?]` matches `a?` only.
 pub fn escape(alloc: Global, text: &str) -> Result<String, AllocError>
     ensures text { IfOk result (λ glob. string_bytes glob ≡ literal_glob text.now) }
-    ensures alone { IfOk result (λ glob. StandsForAlone (string_bytes glob) text.now) }
+    ensures alone { IfOk result (λ glob. MatchesOnly (string_bytes glob) text.now) }
 {
     let mut glob = String::with_capacity(alloc, text.len())?;
     for c in text.chars() {

@@ -1,7 +1,7 @@
 //! Instructions of the NFA.
 ghost use Rattle.std.specs.Prelude.{◌≡◌, ◌+◌, ◌∷◌, ℕ, false, None, Some, IfSome};
-ghost use Rattle.jj_globs.specs.GlobPlaces.{by_step, takes_byte};
-ghost use Rattle.jj_globs.specs.GlobPlain.{Test};
+ghost use Rattle.jj_globs.specs.GlobNfa.{step_at, consumes_byte};
+ghost use Rattle.jj_globs.specs.GlobBacktracking.{Test};
 
 use crate::glob::byte_set::ByteSet;
 use crate::glob::token::Options;
@@ -28,15 +28,15 @@ pub enum Step {
 
 // Consumes the first byte by a step. Returns the bytes after it, `Some(None)` if the step does not
 // match it, and `None` if the step is none that consumes exactly one byte.
-pub(crate) fn take_byte<'t>(
+pub(crate) fn consume_byte<'t>(
     options: Options,
     step: &Step,
     text: &'t [u8],
 ) -> Option<Option<&'t [u8]>>
-    ensures none { result ≡ None → takes_byte step.now ≡ false }
-    ensures same { IfSome result (λ taken. (P : ℕ → Test) (place : ℕ)
-        → by_step options P step.now place text.now
-        ≡ elim taken [ None ↦ false | Some rest ↦ P (place + 1) rest.now ]) }
+    ensures none { result ≡ None → consumes_byte step.now ≡ false }
+    ensures same { IfSome result (λ taken. (P : ℕ → Test) (state : ℕ)
+        → step_at options P step.now state text.now
+        ≡ elim taken [ None ↦ false | Some rest ↦ P (state + 1) rest.now ]) }
     ensures rest { IfSome result (λ taken. IfSome taken (λ rest. (byte : ℕ)
         × (text.now ≡ byte ∷ rest.now))) }
 {
@@ -49,7 +49,7 @@ pub(crate) fn take_byte<'t>(
     let is_taken = match step {
         Step::Byte(own) => options.same_byte(*own, *first),
         Step::AnyByte => options.is_plain(*first),
-        Step::OneOf(set) => set.holds(*first),
+        Step::OneOf(set) => set.contains(*first),
         _ => return None,
     };
     Some(if is_taken { Some(rest) } else { None })

@@ -110,7 +110,7 @@ impl ByteRange {
 
 impl Class {
     ghost use Rattle.jj_globs.specs.GlobMeaning.{in_class};
-    ghost use Rattle.jj_globs.specs.GlobPlaces.{in_set};
+    ghost use Rattle.jj_globs.specs.GlobNfa.{in_set};
 
     /// Creates a class of these ranges, or with `negated` of all other bytes.
     pub fn new(negated: bool, ranges: Vec<ByteRange>) -> Class
@@ -137,6 +137,6 @@ impl Class {
     pub fn set(&self, options: Options) -> ByteSet
         ensures { (b : ℕ) → in_set result b ≡ in_class options self.now b }
     {
-        ByteSet::of_ranges(self.ranges.as_slice(), options, self.negated)
+        ByteSet::from_ranges(self.ranges.as_slice(), options, self.negated)
     }
 }

@@ -2,11 +2,11 @@
 //! case-insensitive substring, evaluated with short-circuiting.
 ghost use Rattle.std.specs.Prelude.{◌≡◌, ◌↔◌, IsTrue, IsErr, IfOk};
 ghost use Rattle.jj_strings.specs.PatternViews.{pattern_of};
-ghost use Rattle.jj_strings.specs.LongParts.{HasBorders};
+ghost use Rattle.jj_strings.specs.LongNeedles.{HasBorders};
 
-use crate::str_util::borders::borders_of;
+use crate::str_util::caseless_search::{LONG, contains_ignore_case};
 use crate::str_util::expression::StringExpression;
-use crate::str_util::folding::{LONG, contains_folded};
+use crate::str_util::kmp::border_table;
 use crate::str_util::pattern::StringPattern;
 use bstr::ByteSlice;
 use regex::bytes::Regex;
@@ -35,7 +35,7 @@ pub enum CompiledExpression {
 }
 
 // Returns the table of a long case-insensitive substring; of any other pattern, an empty one.
-fn borders_for(alloc: Global, pattern: &StringPattern) -> Result<Vec<usize>, AllocError>
+fn table_for(alloc: Global, pattern: &StringPattern) -> Result<Vec<usize>, AllocError>
     ensures { IfOk result (λ borders. HasBorders (pattern_of pattern.now) borders.items) }
 {
     match pattern {
@@ -43,7 +43,7 @@ fn borders_for(alloc: Global, pattern: &StringPattern) -> Result<Vec<usize>, All
             if text.len() <= LONG {
                 return Ok(Vec::new(alloc));
             }
-            borders_of(alloc, text.as_bytes())
+            border_table(alloc, text.as_bytes())
         }
         _ => Ok(Vec::new(alloc)),
     }
@@ -57,19 +57,19 @@ impl CompiledPattern {
     pub(crate) fn new(alloc: Global, pattern: StringPattern) -> Result<CompiledPattern, AllocError>
         ensures { IfOk result (λ compiled. source_pattern compiled ≡ pattern_of pattern) }
     {
-        let borders = borders_for(alloc, &pattern)?;
+        let borders = table_for(alloc, &pattern)?;
         Ok(CompiledPattern { pattern, borders })
     }
 
     // Whether the pattern matches the bytes. Allocates only for a regular expression.
-    pub(crate) fn holds(&self, alloc: Global, bytes: &[u8]) -> Result<bool, AllocError>
-        ensures answer { IfOk result (λ yes. IsTrue yes
+    pub(crate) fn is_match(&self, alloc: Global, bytes: &[u8]) -> Result<bool, AllocError>
+        ensures matches { IfOk result (λ yes. IsTrue yes
             ↔ InPattern (source_pattern self.now) bytes.now) }
         ensures memory { IsErr result → IsRegex (source_pattern self.now) }
     {
         match self.as_regex() {
             Some(regex) => Ok(regex.matcher(alloc)?.is_match(bytes)),
-            None => Ok(self.holds_without_regex(bytes)),
+            None => Ok(self.is_match_without_regex(bytes)),
         }
     }
 
@@ -85,7 +85,7 @@ impl CompiledPattern {
     }
 
     // Whether a pattern other than a regular expression matches the bytes.
-    pub(crate) fn holds_without_regex(&self, bytes: &[u8]) -> bool
+    pub(crate) fn is_match_without_regex(&self, bytes: &[u8]) -> bool
         ensures { (IsRegex (source_pattern self.now) → ⊥) → IsTrue result
             ↔ InPattern (source_pattern self.now) bytes.now }
     {
@@ -94,10 +94,10 @@ impl CompiledPattern {
             StringPattern::ExactI(text) => bytes.eq_ignore_ascii_case(text.as_bytes()),
             StringPattern::Substring(text) => bytes.contains_str(text.as_bytes()),
             StringPattern::SubstringI(text) => {
-                contains_folded(bytes, text.as_bytes(), self.borders.as_slice())
+                contains_ignore_case(bytes, text.as_bytes(), self.borders.as_slice())
             }
-            StringPattern::Glob(pattern) => pattern.holds(bytes),
-            StringPattern::GlobI(pattern) => pattern.holds(bytes),
+            StringPattern::Glob(pattern) => pattern.is_match(bytes),
+            StringPattern::GlobI(pattern) => pattern.is_match(bytes),
             StringPattern::Regex(_) => false,
             StringPattern::RegexI(_) => false,
         }
@@ -158,28 +158,25 @@ impl CompiledExpression {
     ghost use Rattle.jj_strings.specs.CompiledViews.{source_expression};
 
     // Whether the expression matches the bytes. Allocates only for regular expressions.
-    pub(crate) fn holds(&self, alloc: Global, bytes: &[u8]) -> Result<bool, AllocError>
-        ensures answer { IfOk result (λ yes. IsTrue yes
+    pub(crate) fn is_match(&self, alloc: Global, bytes: &[u8]) -> Result<bool, AllocError>
+        ensures matches { IfOk result (λ yes. IsTrue yes
             ↔ InExpression (source_expression self.now) bytes.now) }
         ensures memory { IsErr result → HasRegex (source_expression self.now) }
     {
         match self {
-            CompiledExpression::Pattern(pattern) => pattern.holds(alloc, bytes),
-            CompiledExpression::NotIn(inner) => {
-                let yes = inner.holds(alloc, bytes)?;
-                Ok(!yes)
-            }
+            CompiledExpression::Pattern(pattern) => pattern.is_match(alloc, bytes),
+            CompiledExpression::NotIn(inner) => Ok(!inner.is_match(alloc, bytes)?),
             CompiledExpression::Union(left, right) => {
-                if left.holds(alloc, bytes)? {
+                if left.is_match(alloc, bytes)? {
                     return Ok(true);
                 }
-                right.holds(alloc, bytes)
+                right.is_match(alloc, bytes)
             }
             CompiledExpression::Intersection(left, right) => {
-                if !left.holds(alloc, bytes)? {
+                if !left.is_match(alloc, bytes)? {
                     return Ok(false);
                 }
-                right.holds(alloc, bytes)
+                right.is_match(alloc, bytes)
             }
         }
     }

@@ -23,7 +23,7 @@ pub enum StringPatternParseError {
 impl From<AllocError> for StringPatternParseError {
     ghost from_gives = { λ _ error. error ≡ StringPatternParseError.Memory };
 
-    fn from(_refused: AllocError) -> Self {
+    fn from(_error: AllocError) -> Self {
         StringPatternParseError::Memory
     }
 }
@@ -31,14 +31,14 @@ impl From<AllocError> for StringPatternParseError {
 impl<T: Drop> From<AllocFailed<T>> for StringPatternParseError {
     ghost from_gives = { λ _ error. error ≡ StringPatternParseError.Memory };
 
-    fn from(_refused: AllocFailed<T>) -> Self {
+    fn from(_error: AllocFailed<T>) -> Self {
         StringPatternParseError::Memory
     }
 }
 
 impl From<GlobError> for StringPatternParseError {
     ghost use Rattle.std.specs.Prelude.{◌≡◌};
-    ghost use Rattle.jj_strings.specs.PatternFaults.{of_glob_error};
+    ghost use Rattle.jj_strings.specs.PatternErrors.{of_glob_error};
 
     ghost from_gives = { λ given error. error ≡ of_glob_error given };
 
@@ -52,7 +52,7 @@ impl From<GlobError> for StringPatternParseError {
 
 impl From<regex::Error> for StringPatternParseError {
     ghost use Rattle.std.specs.Prelude.{◌≡◌};
-    ghost use Rattle.jj_strings.specs.PatternFaults.{of_regex_error};
+    ghost use Rattle.jj_strings.specs.PatternErrors.{of_regex_error};
 
     ghost from_gives = { λ given error. error ≡ of_regex_error given };
 

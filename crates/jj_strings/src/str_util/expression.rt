@@ -20,7 +20,7 @@ pub enum StringExpression {
 
 impl StringExpression {
     ghost use Rattle.std.specs.Vec.Iter.{into_iter_items};
-    ghost use Rattle.jj_strings.specs.StringSets.{IsUnionOf, exact_texts, everything, nothing, of_pattern, exact, substring, not_in, union, intersection};
+    ghost use Rattle.jj_strings.specs.StringSets.{IsUnionOf, all_exact_strings, everything, nothing, of_pattern, exact, substring, not_in, union, intersection};
     ghost use Rattle.jj_strings.specs.PatternViews.{pattern_of};
     ghost use Rattle.jj_strings.specs.ExpressionViews.{expression_of};
 
@@ -109,7 +109,7 @@ impl StringExpression {
     /// Collects them at once.
     pub fn exact_strings(&self, alloc: Global) -> Result<IntoIter<&str>, AllocError>
         ensures { IfOk result (λ texts. map (λ text. text.now) (into_iter_items texts)
-            ≡ exact_texts (expression_of self.now)) }
+            ≡ all_exact_strings (expression_of self.now)) }
     {
         let mut texts = Vec::new(alloc);
         self.push_exact_strings(&mut texts)?;
@@ -119,7 +119,8 @@ impl StringExpression {
     // Appends the strings of the exact patterns.
     fn push_exact_strings<'a>(&'a self, texts: &mut Vec<&'a str>) -> Result<(), AllocError>
         ensures { OnOk result (map (λ text. text.now) texts.new.items
-            ≡ map (λ text. text.now) texts.old.items ++ exact_texts (expression_of self.now)) }
+            ≡ map (λ text. text.now) texts.old.items
+            ++ all_exact_strings (expression_of self.now)) }
     {
         match self {
             StringExpression::Pattern(pattern) => {
@@ -141,19 +142,19 @@ impl StringExpression {
     }
 
     // Clones the tree, with the allocators of its boxes.
-    fn deep_copy(&self) -> Result<StringExpression, AllocError>
+    fn clone_tree(&self) -> Result<StringExpression, AllocError>
         ensures { IfOk result (λ copy. expression_of copy ≡ expression_of self.now) }
     {
         match self {
             StringExpression::Pattern(pattern) => Ok(StringExpression::Pattern(pattern.clone()?)),
-            StringExpression::NotIn(inner) => inner.deep_copy()?.negated(*Box::allocator(inner)),
+            StringExpression::NotIn(inner) => inner.clone_tree()?.negated(*Box::allocator(inner)),
             StringExpression::Union(left, right) => {
-                let right_copy = right.deep_copy()?;
-                left.deep_copy()?.union(*Box::allocator(left), right_copy)
+                let right_copy = right.clone_tree()?;
+                left.clone_tree()?.union(*Box::allocator(left), right_copy)
             }
             StringExpression::Intersection(left, right) => {
-                let right_copy = right.deep_copy()?;
-                left.deep_copy()?
+                let right_copy = right.clone_tree()?;
+                left.clone_tree()?
                     .intersection(*Box::allocator(left), right_copy)
             }
         }
@@ -166,6 +167,6 @@ impl Clone for StringExpression {
     ghost is_clone = { λ expression copy. expression_of copy ≡ expression_of expression };
 
     fn clone(&self) -> Result<StringExpression, AllocError> {
-        self.deep_copy()
+        self.clone_tree()
     }
 }

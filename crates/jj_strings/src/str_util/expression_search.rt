@@ -68,17 +68,18 @@ impl<'m> ExpressionSearch<'m> {
     ghost use Rattle.jj_strings.specs.Searches.{IsSearchOf};
 
     // Whether the expression matches the bytes.
-    pub(crate) fn holds(&mut self, bytes: &[u8]) -> bool
-        ensures answer { (e : Expression) → IsSearchOf self.old e → IsTrue result
+    pub(crate) fn is_match(&mut self, bytes: &[u8]) -> bool
+        ensures matches { (e : Expression) → IsSearchOf self.old e → IsTrue result
             ↔ InExpression e bytes.now }
-        ensures same { (e : Expression) → IsSearchOf self.old e → IsSearchOf self.new e }
+        ensures unchanged { (e : Expression) → IsSearchOf self.old e → IsSearchOf self.new e }
     {
         match self {
-            ExpressionSearch::Text(pattern) => pattern.holds_without_regex(bytes),
+            ExpressionSearch::Text(pattern) => pattern.is_match_without_regex(bytes),
             ExpressionSearch::Regex(matcher) => matcher.is_match(bytes),
-            ExpressionSearch::NotIn(inner) => !inner.holds(bytes),
-            ExpressionSearch::Union(sides) => sides.0.holds(bytes) || sides.1.holds(bytes),
-            ExpressionSearch::Intersection(sides) => sides.0.holds(bytes) && sides.1.holds(bytes),
+            ExpressionSearch::NotIn(inner) => !inner.is_match(bytes),
+            ExpressionSearch::Union(sides) => sides.0.is_match(bytes) || sides.1.is_match(bytes),
+            ExpressionSearch::Intersection(sides) => sides.0.is_match(bytes)
+                && sides.1.is_match(bytes),
         }
     }
 }

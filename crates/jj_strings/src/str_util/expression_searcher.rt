@@ -51,20 +51,20 @@ impl CompiledExpression {
 impl<'m> ExpressionSearcher<'m> {
     // Whether the expression matches the bytes. Creates the searches at the first call.
     pub(crate) fn is_match(&mut self, alloc: Global, bytes: &[u8]) -> Result<bool, AllocError>
-        ensures answer { IfOk result (λ yes. IsTrue yes
+        ensures matches { IfOk result (λ yes. IsTrue yes
             ↔ InExpression (source_expression self.old) bytes.now) }
         ensures memory { IsErr result → HasRegex (source_expression self.old) }
-        ensures same { self.new ≡ self.old }
+        ensures unchanged { self.new ≡ self.old }
     {
         if let Some(searches) = &mut self.searches {
-            return Ok(searches.holds(bytes));
+            return Ok(searches.is_match(bytes));
         }
         if !self.has_regex {
-            return self.expression.holds(alloc, bytes);
+            return self.expression.is_match(alloc, bytes);
         }
         let mut searches = self.expression.search(alloc)?;
-        let holds = searches.holds(bytes);
+        let is_match = searches.is_match(bytes);
         self.searches = Some(searches);
-        Ok(holds)
+        Ok(is_match)
     }
 }

@@ -1,7 +1,7 @@
 //! Iterator over the entries of a map whose keys match: a scan, or a lookup for exact matchers.
 ghost use Rattle.std.specs.Prelude.{◌≡◌, length};
 ghost use Rattle.std.specs.Map.Iter.{TakesFirst, deref_pair};
-ghost use Rattle.jj_strings.specs.EntriesLeft.{entries_left, HoldsAllOf};
+ghost use Rattle.jj_strings.specs.RemainingEntries.{remaining_entries, CoversAll};
 
 use crate::str_util::matcher::StringMatcher;
 use crate::str_util::searcher::StringSearcher;
@@ -36,7 +36,7 @@ impl StringMatcher {
         map: &'a BTreeMap<K, V>,
     ) -> FilterBTreeMap<'a, 'm, K, V>
         ensures matcher { filter_matcher result ≡ self.now }
-        ensures entries { HoldsAllOf (λ e. InMatcher self.now (K.key_text e.0)) map.now.entries
+        ensures entries { CoversAll (λ e. InMatcher self.now (K.key_text e.0)) map.now.entries
             (filter_entries result) }
     {
         FilterBTreeMap {
@@ -52,7 +52,7 @@ impl StringMatcher {
         map: &'a BTreeMap<K, V>,
     ) -> FilterBTreeMap<'a, 'm, K, V>
         ensures matcher { filter_matcher result ≡ self.now }
-        ensures entries { HoldsAllOf (λ e. InMatcher self.now (K.key_text e.0)) map.now.entries
+        ensures entries { CoversAll (λ e. InMatcher self.now (K.key_text e.0)) map.now.entries
             (filter_entries result) }
     {
         self.filter_btree_map(alloc, map)
@@ -65,8 +65,8 @@ impl StringMatcher {
         alloc: Global,
         map: &'a BTreeMap<K, V>,
     ) -> Entries<'a, K, V>
-        ensures { HoldsAllOf (λ e. InMatcher self.now (K.key_text e.0)) map.now.entries
-            (entries_left result) }
+        ensures { CoversAll (λ e. InMatcher self.now (K.key_text e.0)) map.now.entries
+            (remaining_entries result) }
     {
         let entries = map.iter();
         let StringMatcher::Exact(text) = self else {
@@ -82,19 +82,19 @@ impl StringMatcher {
 impl<'a, 'm, K: TextKey, V> Iterator for FilterBTreeMap<'a, 'm, K, V> {
     ghost use Rattle.std.specs.Iterator.{at_most};
     ghost use Rattle.std.specs.Map.Iter.{deref_pair};
-    ghost use Rattle.jj_strings.specs.Lines.{GivesNext};
+    ghost use Rattle.jj_strings.specs.Lines.{YieldsNext};
     ghost use Rattle.jj_strings.specs.StringMatchers.{InMatcher, MayAllocate};
     ghost use Rattle.jj_strings.specs.Searchers.{searcher_matcher};
 
     type Item = Result<(&'a K, &'a V), AllocError>;
 
-    ghost next_gives = { λ s r t. GivesNext deref_pair
+    ghost next_gives = { λ s r t. YieldsNext deref_pair
         (λ e. InMatcher (searcher_matcher s.searcher) (K.key_text e.0))
         (MayAllocate (searcher_matcher s.searcher))
-        (entries_left s.entries) r (entries_left t.entries)
+        (remaining_entries s.entries) r (remaining_entries t.entries)
         × (searcher_matcher t.searcher ≡ searcher_matcher s.searcher) };
 
-    ghost remaining = { λ s. at_most (length (entries_left s.entries)) };
+    ghost remaining = { λ s. at_most (length (remaining_entries s.entries)) };
 
     fn next(&mut self) -> Option<Result<(&'a K, &'a V), AllocError>> {
         while let Some(entry) = next_entry(&mut self.entries) {
@@ -112,7 +112,8 @@ impl<'a, 'm, K: TextKey, V> Iterator for FilterBTreeMap<'a, 'm, K, V> {
 }
 
 fn next_entry<'a, K: TextKey, V>(entries: &mut Entries<'a, K, V>) -> Option<(&'a K, &'a V)>
-    ensures { TakesFirst deref_pair (entries_left entries.old) result (entries_left entries.new) }
+    ensures { TakesFirst deref_pair (remaining_entries entries.old) result
+        (remaining_entries entries.new) }
 {
     match entries {
         Left(all) => all.next(),

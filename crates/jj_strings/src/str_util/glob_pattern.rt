@@ -1,6 +1,6 @@
 //! Globs as string patterns: without separator, so that `?` and `*` match `/` too.
 ghost use Rattle.std.specs.Prelude.{◌≡◌, ◌↔◌, IsTrue};
-ghost use Rattle.jj_globs.specs.GlobReads.{ReadsAsGlob};
+ghost use Rattle.jj_globs.specs.GlobParsing.{ParsesAsGlob};
 ghost use Rattle.jj_strings.specs.StringSets.{string_glob};
 
 use jj_globs::glob::{Glob, GlobError};
@@ -36,12 +36,9 @@ impl GlobPattern {
 
     // Parses a glob; with `icase`, ASCII letters match in either case.
     pub(crate) fn parse(alloc: Global, text: &str, icase: bool) -> Result<GlobPattern, GlobError>
-        ensures { ReadsAsGlob text.now (string_glob text.now icase) result }
+        ensures { ParsesAsGlob text.now (string_glob text.now icase) result }
     {
-        let glob = match Glob::parse(alloc, text, false, icase) {
-            Ok(glob) => glob,
-            Err(error) => return Err(error),
-        };
+        let glob = Glob::parse(alloc, text, false, icase)?;
         Ok(GlobPattern {
             parsed: Rc::new(alloc, glob)?,
         })
@@ -60,7 +57,7 @@ impl GlobPattern {
     }
 
     // Whether the glob matches the bytes.
-    pub(crate) fn holds(&self, bytes: &[u8]) -> bool
+    pub(crate) fn is_match(&self, bytes: &[u8]) -> bool
         ensures { IsTrue result ↔ IsMatch (as_glob self.now) bytes.now }
     {
         self.parsed.is_match(bytes)

@@ -1,7 +1,7 @@
 //! Kinds of string patterns.
 ghost use Rattle.std.specs.Prelude.{◌≡◌};
 
-/// A kind of string pattern. Those that end in `I` ignore ASCII case.
+/// A kind of string pattern. Those that end in `I` are case-insensitive.
 #[derive(Clone, Copy, Debug, PartialEq, Eq, Drop)]
 pub enum PatternKind {
     Exact,

@@ -1,6 +1,6 @@
 //! Iterator over the lines of a byte string that match.
 ghost use Rattle.std.specs.Prelude.{◌≡◌, ◌<◌, ◌∷◌, length};
-ghost use Rattle.jj_strings.specs.Lines.{lines, without_feed, first_len};
+ghost use Rattle.jj_strings.specs.Lines.{lines, without_line_feed, first_len};
 
 use crate::str_util::matcher::StringMatcher;
 use crate::str_util::searcher::StringSearcher;
@@ -15,7 +15,7 @@ pub struct MatchLines<'a, 'm> {
 }
 
 impl StringMatcher {
-    ghost use Rattle.jj_strings.specs.LinesLeft.{matcher_of, rest_of};
+    ghost use Rattle.jj_strings.specs.LineViews.{matcher_of, rest_of};
 
     /// Iterates over the lines that match. A line is matched without its line feed, and yielded
     /// with it. Allocates only if the matcher contains a regular expression.
@@ -33,12 +33,12 @@ impl StringMatcher {
 impl<'a, 'm> Iterator for MatchLines<'a, 'm> {
     ghost use Rattle.std.specs.Iterator.{at_most};
     ghost use Rattle.jj_strings.specs.StringMatchers.{InMatcher, MayAllocate};
-    ghost use Rattle.jj_strings.specs.Lines.{GivesNextLine};
+    ghost use Rattle.jj_strings.specs.Lines.{YieldsNextLine};
     ghost use Rattle.jj_strings.specs.Searchers.{searcher_matcher};
 
     type Item = Result<&'a [u8], AllocError>;
 
-    ghost next_gives = { λ s r t. GivesNextLine (InMatcher (searcher_matcher s.searcher))
+    ghost next_gives = { λ s r t. YieldsNextLine (InMatcher (searcher_matcher s.searcher))
         (MayAllocate (searcher_matcher s.searcher)) s.rest.now r t.rest.now
         × (searcher_matcher t.searcher ≡ searcher_matcher s.searcher) };
 
@@ -46,9 +46,9 @@ impl<'a, 'm> Iterator for MatchLines<'a, 'm> {
 
     fn next(&mut self) -> Option<Result<&'a [u8], AllocError>> {
         while !self.rest.is_empty() {
-            let (line, rest) = cut_line(self.rest);
+            let (line, rest) = split_line(self.rest);
             self.rest = rest;
-            match self.searcher.is_match_bytes(strip_feed(line)) {
+            match self.searcher.is_match_bytes(strip_line_feed(line)) {
                 Ok(true) => return Some(Ok(line)),
                 Ok(false) => {}
                 Err(error) => {
@@ -62,7 +62,7 @@ impl<'a, 'm> Iterator for MatchLines<'a, 'm> {
 }
 
 // Splits off the first line.
-fn cut_line(text: &[u8]) -> (&[u8], &[u8])
+fn split_line(text: &[u8]) -> (&[u8], &[u8])
     requires { 0 < length text.now }
     ensures lines { lines text.now ≡ result.0.now ∷ lines result.1.now }
     ensures shorter { length result.1.now < length text.now }
@@ -83,11 +83,11 @@ fn first_line_len(text: &[u8]) -> usize
 }
 
 // Strips the line feed, if there is one.
-fn strip_feed(line: &[u8]) -> &[u8]
-    ensures { result.now ≡ without_feed line.now }
+fn strip_line_feed(line: &[u8]) -> &[u8]
+    ensures { result.now ≡ without_line_feed line.now }
 {
     match line.split_last() {
-        Some((last, front)) => { if *last == b'\n' { front } else { line } }
+        Some((last, prefix)) => { if *last == b'\n' { prefix } else { line } }
         None => line,
     }
 }

@@ -39,7 +39,7 @@ impl StringMatcher {
     /// Whether the string matches. Allocates, and so can fail, only if the matcher contains a
     /// regular expression.
     pub fn is_match(&self, alloc: Global, haystack: &str) -> Result<bool, AllocError>
-        ensures answer { IfOk result (λ yes. IsTrue yes ↔ InMatcher self.now haystack.now) }
+        ensures matches { IfOk result (λ yes. IsTrue yes ↔ InMatcher self.now haystack.now) }
         ensures memory { IsErr result → MayAllocate self.now }
     {
         self.is_match_bytes(alloc, haystack.as_bytes())
@@ -48,14 +48,14 @@ impl StringMatcher {
     /// Whether the byte string matches. Allocates, and so can fail, only if the matcher contains a
     /// regular expression.
     pub fn is_match_bytes(&self, alloc: Global, haystack: &[u8]) -> Result<bool, AllocError>
-        ensures answer { IfOk result (λ yes. IsTrue yes ↔ InMatcher self.now haystack.now) }
+        ensures matches { IfOk result (λ yes. IsTrue yes ↔ InMatcher self.now haystack.now) }
         ensures memory { IsErr result → MayAllocate self.now }
     {
         match self {
             StringMatcher::All => Ok(true),
             StringMatcher::Exact(needle) => Ok(haystack == needle.as_bytes()),
-            StringMatcher::Expr(expression) => expression.holds(alloc, haystack),
-            StringMatcher::Fn(predicate) => Ok(predicate.accepts(haystack)),
+            StringMatcher::Expr(expression) => expression.is_match(alloc, haystack),
+            StringMatcher::Fn(predicate) => Ok(predicate.accepts_from(haystack)),
         }
     }
 }

@@ -31,10 +31,10 @@ pub enum StringPattern {
 }
 
 impl StringPattern {
-    ghost use Rattle.jj_strings.specs.StringSets.{exact, exact_i, substring, substring_i, glob_i, glob_or_exact, string_glob, text_of, is_all, exact_text};
+    ghost use Rattle.jj_strings.specs.StringSets.{exact, exact_i, substring, substring_i, glob_i, glob_or_exact, string_glob, source_of, is_all, exact_string};
     ghost use Rattle.jj_strings.specs.PatternViews.{pattern_of};
-    ghost use Rattle.jj_strings.specs.PatternFaults.{IsGlobFault, IsRegexFault};
-    ghost use Rattle.jj_strings.specs.PatternKinds.{kind_named, ReadsAsKind, IsUnknownKind, IsRegexOf, IsRegexIOf, bytes_config, bytes_config_i};
+    ghost use Rattle.jj_strings.specs.PatternErrors.{IsGlobError, IsRegexError};
+    ghost use Rattle.jj_strings.specs.PatternKinds.{kind_named, ParsesAsKind, IsUnknownKind, IsRegexOf, IsRegexIOf, bytes_config, bytes_config_i};
 
     /// Creates a pattern that matches every string.
     pub fn all(alloc: Global) -> Self
@@ -75,7 +75,7 @@ impl StringPattern {
     /// the first syntax error, or if memory runs out.
     pub fn glob(alloc: Global, text: &str) -> Result<Self, StringPatternParseError>
         ensures { MatchResult result (λ pattern. pattern_of pattern ≡ glob_or_exact text.now)
-            (IsGlobFault text.now) }
+            (IsGlobError text.now) }
     {
         if !has_special(text) {
             return Ok(StringPattern::exact(String::from_str(alloc, text)?));
@@ -88,7 +88,7 @@ impl StringPattern {
     /// or if memory runs out.
     pub fn glob_i(alloc: Global, text: &str) -> Result<Self, StringPatternParseError>
         ensures { MatchResult result (λ pattern. pattern_of pattern
-            ≡ glob_i (string_glob text.now true)) (IsGlobFault text.now) }
+            ≡ glob_i (string_glob text.now true)) (IsGlobError text.now) }
     {
         let pattern = GlobPattern::parse(alloc, text, true)?;
         Ok(StringPattern::GlobI(Box::new(alloc, pattern)?))
@@ -98,7 +98,7 @@ impl StringPattern {
     pub fn regex(alloc: Global, text: &str) -> Result<Self, StringPatternParseError>
         ensures { MatchResult result (λ pattern.
             IsRegexOf bytes_config text.now (pattern_of pattern))
-            (IsRegexFault bytes_config text.now) }
+            (IsRegexError bytes_config text.now) }
     {
         let pattern = Regex::new(alloc, text)?;
         Ok(StringPattern::Regex(Rc::new(alloc, pattern)?))
@@ -109,7 +109,7 @@ impl StringPattern {
     pub fn regex_i(alloc: Global, text: &str) -> Result<Self, StringPatternParseError>
         ensures { MatchResult result (λ pattern.
             IsRegexIOf bytes_config_i text.now (pattern_of pattern))
-            (IsRegexFault bytes_config_i text.now) }
+            (IsRegexError bytes_config_i text.now) }
     {
         let pattern = RegexBuilder::new(text)
             .case_insensitive(true)
@@ -126,7 +126,7 @@ impl StringPattern {
         kind: &str,
     ) -> Result<Self, StringPatternParseError>
         ensures { MatchOption (kind_named kind.now) (IsUnknownKind kind.now result)
-            (λ k. ReadsAsKind k text.now result) }
+            (λ k. ParsesAsKind k text.now result) }
     {
         let Some(kind) = PatternKind::from_name(kind) else {
             let kind = String::from_str(alloc, kind)?;
@@ -165,14 +165,14 @@ impl StringPattern {
 
     /// Whether the pattern is exact.
     pub fn is_exact(&self) -> bool
-        ensures { result ≡ is_some (exact_text (pattern_of self.now)) }
+        ensures { result ≡ is_some (exact_string (pattern_of self.now)) }
     {
         self.as_exact().is_some()
     }
 
     /// Returns the string of an exact pattern, else `None`.
     pub fn as_exact(&self) -> Option<&str>
-        ensures { option_map (λ text. text.now) result ≡ exact_text (pattern_of self.now) }
+        ensures { option_map (λ text. text.now) result ≡ exact_string (pattern_of self.now) }
     {
         match self {
             StringPattern::Exact(text) => Some(text.as_str()),
@@ -182,7 +182,7 @@ impl StringPattern {
 
     /// Returns the string that the pattern was created from.
     pub fn as_str(&self) -> &str
-        ensures { result.now ≡ text_of (pattern_of self.now) }
+        ensures { result.now ≡ source_of (pattern_of self.now) }
     {
         match self {
             StringPattern::Exact(text) => text.as_str(),

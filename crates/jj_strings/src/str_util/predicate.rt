@@ -9,7 +9,7 @@ pub type ByteTest = Box<dyn Fn(&[u8]) -> bool>;
 pub struct BytePredicate {
     test: ByteTest,
     ghost callable: { ByteTest.IsAlwaysCallable test },
-    ghost one_answer: { (x y : _) (r s : Bool) → x.now ≡ y.now → ByteTest.post test x r
+    ghost deterministic: { (x y : _) (r s : Bool) → x.now ≡ y.now → ByteTest.post test x r
         → ByteTest.post test y s → r ≡ s },
 }
 
@@ -20,7 +20,7 @@ impl BytePredicate {
     /// Wraps a test.
     pub fn new(test: ByteTest) -> BytePredicate
         requires callable { ByteTest.IsAlwaysCallable test }
-        requires one_answer { (x y : _) (r s : Bool) → x.now ≡ y.now → ByteTest.post test x r
+        requires deterministic { (x y : _) (r s : Bool) → x.now ≡ y.now → ByteTest.post test x r
             → ByteTest.post test y s → r ≡ s }
         ensures { (bytes : List ℕ) → Accepts result bytes
             ↔ ((x : _) × (x.now ≡ bytes) × ByteTest.post test x true) }
@@ -28,7 +28,7 @@ impl BytePredicate {
         BytePredicate { test }
     }
 
-    pub(crate) fn accepts(&self, bytes: &[u8]) -> bool
+    pub(crate) fn accepts_from(&self, bytes: &[u8]) -> bool
         ensures { ByteTest.post self.now.test bytes.entry result }
     {
         (self.test)(bytes)

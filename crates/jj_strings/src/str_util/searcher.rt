@@ -7,7 +7,7 @@ use std::alloc::{AllocError, Global};
 
 // A searcher of an expression, or another matcher.
 #[derive(Drop)]
-pub(crate) enum Searched<'m> {
+pub(crate) enum SearcherKind<'m> {
     Expression(ExpressionSearcher<'m>),
     Matcher(&'m StringMatcher),
 }
@@ -16,7 +16,7 @@ pub(crate) enum Searched<'m> {
 /// first string and reused for the next ones; `StringMatcher::is_match` creates it at each call.
 #[derive(Drop)]
 pub struct StringSearcher<'m> {
-    searched: Searched<'m>,
+    kind: SearcherKind<'m>,
     alloc: Global,
 }
 
@@ -28,11 +28,11 @@ impl StringMatcher {
     pub fn searcher(&self, alloc: Global) -> StringSearcher<'_>
         ensures { searcher_matcher result ≡ self.now }
     {
-        let searched = match self {
-            StringMatcher::Expr(expression) => Searched::Expression(expression.searcher()),
-            _ => Searched::Matcher(self),
+        let kind = match self {
+            StringMatcher::Expr(expression) => SearcherKind::Expression(expression.searcher()),
+            _ => SearcherKind::Matcher(self),
         };
-        StringSearcher { searched, alloc }
+        StringSearcher { kind, alloc }
     }
 }
 
@@ -42,24 +42,24 @@ impl<'m> StringSearcher<'m> {
 
     /// Whether the string matches. After an allocation failure the call may be repeated.
     pub fn is_match(&mut self, haystack: &str) -> Result<bool, AllocError>
-        ensures answer { IfOk result (λ yes. IsTrue yes
+        ensures matches { IfOk result (λ yes. IsTrue yes
             ↔ InMatcher (searcher_matcher self.old) haystack.now) }
         ensures memory { IsErr result → MayAllocate (searcher_matcher self.old) }
-        ensures same { searcher_matcher self.new ≡ searcher_matcher self.old }
+        ensures unchanged { searcher_matcher self.new ≡ searcher_matcher self.old }
     {
         self.is_match_bytes(haystack.as_bytes())
     }
 
     /// Whether the byte string matches. After an allocation failure the call may be repeated.
     pub fn is_match_bytes(&mut self, haystack: &[u8]) -> Result<bool, AllocError>
-        ensures answer { IfOk result (λ yes. IsTrue yes
+        ensures matches { IfOk result (λ yes. IsTrue yes
             ↔ InMatcher (searcher_matcher self.old) haystack.now) }
         ensures memory { IsErr result → MayAllocate (searcher_matcher self.old) }
-        ensures same { searcher_matcher self.new ≡ searcher_matcher self.old }
+        ensures unchanged { searcher_matcher self.new ≡ searcher_matcher self.old }
     {
-        match &mut self.searched {
-            Searched::Expression(expression) => expression.is_match(self.alloc, haystack),
-            Searched::Matcher(matcher) => matcher.is_match_bytes(self.alloc, haystack),
+        match &mut self.kind {
+            SearcherKind::Expression(expression) => expression.is_match(self.alloc, haystack),
+            SearcherKind::Matcher(matcher) => matcher.is_match_bytes(self.alloc, haystack),
         }
     }
 }

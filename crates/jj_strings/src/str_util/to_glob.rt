@@ -1,7 +1,7 @@
 //! Translation of string patterns to equivalent globs.
 ghost use Rattle.std.specs.Prelude.{◌≡◌, ◌↔◌, ◌++◌, ◌∷◌, [], ℕ, List, IfOk, OnOk, IfSome, option_map, string_bytes};
 ghost use Rattle.std.specs.Cow.{cow_str_bytes};
-ghost use Rattle.jj_strings.specs.GlobsOfPatterns.{glob_text, glob_icase, part_glob};
+ghost use Rattle.jj_strings.specs.PatternGlobs.{equivalent_glob, glob_icase, substring_glob};
 
 use crate::str_util::pattern::StringPattern;
 use jj_globs::glob::escape;
@@ -18,7 +18,7 @@ impl StringPattern {
     /// or a glob. Returns `None` for the case-insensitive kinds and for regular expressions.
     pub fn to_glob(&self, alloc: Global) -> Result<Option<CowStr<'_>>, AllocError>
         ensures text { IfOk result (λ glob. option_map cow_str_bytes glob
-            ≡ glob_text (pattern_of self.now)) }
+            ≡ equivalent_glob (pattern_of self.now)) }
         ensures set { IfOk result (λ glob. IfSome glob (λ text. (bytes : List ℕ)
             → IsMatch (as_glob (string_glob (cow_str_bytes text)
             (glob_icase (pattern_of self.now)))) bytes
@@ -29,7 +29,7 @@ impl StringPattern {
 
     fn as_glob_text(&self, alloc: Global) -> Result<Option<CowStr<'_>>, AllocError>
         ensures { IfOk result (λ glob. option_map cow_str_bytes glob
-            ≡ glob_text (pattern_of self.now)) }
+            ≡ equivalent_glob (pattern_of self.now)) }
     {
         match self {
             StringPattern::Exact(text) => {
@@ -48,7 +48,7 @@ impl StringPattern {
 
 // Returns the glob of all strings that contain this one.
 fn between_stars(alloc: Global, text: &str) -> Result<String, AllocError>
-    ensures { IfOk result (λ glob. string_bytes glob ≡ part_glob text.now) }
+    ensures { IfOk result (λ glob. string_bytes glob ≡ substring_glob text.now) }
 {
     let mut glob = String::from_str(alloc, "*")?;
     if !text.is_empty() {

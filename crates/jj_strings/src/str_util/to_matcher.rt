@@ -4,7 +4,7 @@ ghost use Rattle.jj_strings.specs.PatternViews.{pattern_of};
 ghost use Rattle.jj_strings.specs.ExpressionViews.{expression_of};
 ghost use Rattle.jj_strings.specs.StringSets.{InPattern, IsRegex, InExpression, HasRegex};
 ghost use Rattle.jj_strings.specs.MatcherForms.{pattern_form, expression_form};
-ghost use Rattle.jj_strings.specs.StringMatchers.{Asks, IsPatternFromText, IsExpressionFromText};
+ghost use Rattle.jj_strings.specs.StringMatchers.{IsMatcherOf, IsParsedPattern, IsParsedExpression};
 
 use crate::str_util::expression::StringExpression;
 use crate::str_util::matcher::StringMatcher;
@@ -15,8 +15,8 @@ impl StringPattern {
     /// Compiles the pattern: to `All` if `is_all`, to `Exact` if exact, else to an expression. For
     /// an empty regular expression this is proved only if it was parsed from a string.
     pub fn to_matcher(&self, alloc: Global) -> Result<StringMatcher, AllocError>
-        ensures { let pattern = pattern_of self.now in IfOk result (Asks
-            (IsPatternFromText pattern) (InPattern pattern) (pattern_form pattern)
+        ensures { let pattern = pattern_of self.now in IfOk result (IsMatcherOf
+            (IsParsedPattern pattern) (InPattern pattern) (pattern_form pattern)
             (IsRegex pattern)) }
     {
         if self.is_all() {
@@ -32,8 +32,8 @@ impl StringPattern {
 impl StringExpression {
     /// Compiles the expression. A single pattern is compiled as `StringPattern::to_matcher` does.
     pub fn to_matcher(&self, alloc: Global) -> Result<StringMatcher, AllocError>
-        ensures { let expression = expression_of self.now in IfOk result (Asks
-            (IsExpressionFromText expression) (InExpression expression)
+        ensures { let expression = expression_of self.now in IfOk result (IsMatcherOf
+            (IsParsedExpression expression) (InExpression expression)
             (expression_form expression) (HasRegex expression)) }
     {
         match self {

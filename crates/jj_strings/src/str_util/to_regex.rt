@@ -22,10 +22,10 @@ impl StringPattern {
     /// case of all letters, not only of ASCII ones.
     pub fn to_regex(&self, alloc: Global) -> Result<Rc<Regex>, Error> {
         match self {
-            StringPattern::Exact(text) => whole(alloc, text.as_str(), false),
-            StringPattern::ExactI(text) => whole(alloc, text.as_str(), true),
-            StringPattern::Substring(text) => part(alloc, text.as_str(), false),
-            StringPattern::SubstringI(text) => part(alloc, text.as_str(), true),
+            StringPattern::Exact(text) => compile_exact(alloc, text.as_str(), false),
+            StringPattern::ExactI(text) => compile_exact(alloc, text.as_str(), true),
+            StringPattern::Substring(text) => compile_substring(alloc, text.as_str(), false),
+            StringPattern::SubstringI(text) => compile_substring(alloc, text.as_str(), true),
             StringPattern::Glob(pattern) => pattern.to_regex(alloc),
             StringPattern::GlobI(pattern) => pattern.to_regex(alloc),
             StringPattern::Regex(regex) => Ok(regex.clone()?),
@@ -35,7 +35,7 @@ impl StringPattern {
 }
 
 // Compiles a regular expression that matches the whole string.
-fn whole(alloc: Global, text: &str, icase: bool) -> Result<Rc<Regex>, Error> {
+fn compile_exact(alloc: Global, text: &str, icase: bool) -> Result<Rc<Regex>, Error> {
     let mut source = String::from_str(alloc, "^")?;
     source.push_str(escape(alloc, text)?.as_str())?;
     source.push('$')?;
@@ -43,7 +43,7 @@ fn whole(alloc: Global, text: &str, icase: bool) -> Result<Rc<Regex>, Error> {
 }
 
 // Compiles a regular expression that matches a substring.
-fn part(alloc: Global, text: &str, icase: bool) -> Result<Rc<Regex>, Error> {
+fn compile_substring(alloc: Global, text: &str, icase: bool) -> Result<Rc<Regex>, Error> {
     let source = escape(alloc, text)?;
     compile_regex(alloc, source.as_str(), icase)
 }

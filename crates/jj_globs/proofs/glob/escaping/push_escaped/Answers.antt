@@ -1,5 +1,5 @@
 use Rattle.std.proofs.Common.{arith, rules}
-use Rattle.jj_globs.proofs.GlobEscapes.{escaped_plain}
+use Rattle.jj_globs.proofs.EscapedCharacters.{escaped_plain}
 use Rattle.jj_globs.proofs.glob.escaping.push_escaped.Goals as goal
 
 pub returns-in_default : goal.returns-in_default

@@ -1,7 +1,7 @@
 use Rattle.std.proofs.Common.{◌∙◌, sym, [], arith, string_bytes}
 use Rattle.std.proofs.lemmas.List.{append-nil}
 use Rattle.std.specs.Iterator.Adapters.{once_item}
-use Rattle.jj_strings.proofs.FoundEntries.{found_holds}
+use Rattle.jj_strings.proofs.EntryLookup.{found_holds}
 use Rattle.jj_strings.proofs.str_util.matcher.StringMatcher.candidates.Goals as goal
 
 pub returns-in_default : goal.returns-in_default

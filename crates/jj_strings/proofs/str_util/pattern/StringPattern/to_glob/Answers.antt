@@ -1,5 +1,5 @@
 use Rattle.jj_strings.specs.PatternViews.{pattern_of}
-use Rattle.jj_strings.proofs.EscapedMeaning.{reads_back_ok}
+use Rattle.jj_strings.proofs.EquivalentGlobs.{reads_back_ok}
 use Rattle.jj_strings.proofs.str_util.pattern.StringPattern.to_glob.Goals as goal
 
 pub returns-clause-set : goal.returns-clause-set

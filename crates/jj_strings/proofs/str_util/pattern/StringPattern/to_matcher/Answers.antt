@@ -1,6 +1,6 @@
 use Rattle.std.proofs.Common.{sym, ◌∙◌, rules}
 use Rattle.jj_strings.specs.PatternViews.{pattern_of}
-use Rattle.jj_strings.proofs.AllStrings.{all_strings}
+use Rattle.jj_strings.proofs.TrivialPatterns.{all_strings}
 use Rattle.jj_strings.proofs.str_util.pattern.StringPattern.to_matcher.Goals as goal
 
 pub returns-then-is_all : goal.returns-then-is_all
