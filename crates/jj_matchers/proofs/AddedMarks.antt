@@ -5,14 +5,14 @@ use Rattle.std.proofs.lemmas.List.{take-map, drop-map, drop-drop}
 use Rattle.std.proofs.lemmas.List.Sorted.{IsPermutation-append_right}
 use Rattle.std.proofs.Math.Seq.{take-add}
 use Rattle.jj_paths.specs.Paths.{Path}
-use Rattle.jj_paths.specs.Tree.{Tree, IsSet}
+use Rattle.jj_paths.specs.Tree.{Tree, SetsValue}
 use Rattle.jj_matchers.specs.Marks.{IsMarkedTree, AddsMarks}
 use Rattle.jj_matchers.proofs.MarkedTrees.{marked_step, marked_permutation}
 
 pub adds_none : (tree : Tree Bool) → AddsMarks [] tree tree
 adds_none tree = λ before marked. subst (λ l. IsMarkedTree l tree) (sym (append-nil before)) marked
 
-pub adds_one : (path : Path) (old new : Tree Bool) → IsSet (λ v. v ≡ false) old path true new → AddsMarks (path ∷ []) old new
+pub adds_one : (path : Path) (old new : Tree Bool) → SetsValue (λ v. v ≡ false) old path true new → AddsMarks (path ∷ []) old new
 adds_one path old new set = λ before marked. marked_step (λ v. v ≡ false) (λ v e. e) before path old new marked set
 
 pub adds_more : (xs ys : List Path) (old mid new : Tree Bool) → AddsMarks xs old mid → AddsMarks ys mid new → AddsMarks (xs ++ ys) old new

@@ -11,11 +11,11 @@ use Rattle.std.specs.FinMap.Entries.{below_all}
 use Rattle.std.proofs.lemmas.Slice.Eq.{bytes_eq-Decides}
 use Rattle.jj_paths.specs.Paths.{Name, name_cmp}
 use Rattle.jj_paths.specs.Tree.{Tree, tree_of, Branches, none, branch, children}
-use Rattle.jj_matchers.specs.Answers.{specific}
-use Rattle.jj_matchers.specs.Marks.{named_by, any_child, children_answer}
-use Rattle.jj_matchers.specs.Visits.{is_among, sets_answer}
+use Rattle.jj_matchers.specs.VisitSpecs.{specific}
+use Rattle.jj_matchers.specs.Marks.{child_satisfies, any_child, children_spec}
+use Rattle.jj_matchers.specs.Visits.{is_among, sets_spec}
 use Rattle.jj_paths.proofs.PathOrders.{name_cmp-itself, less_from_is_lt}
-use Rattle.jj_matchers.proofs.Wanted.{any_implies}
+use Rattle.jj_matchers.proofs.PathLists.{any_implies}
 
 -- whether a child with this name satisfies a predicate
 abbrev pub any_named : (Tree Bool → Bool) → Name → List (Name × Tree Bool) → Bool
@@ -33,14 +33,14 @@ none_named test name (node ∷ nodes) e =
     ap (λ b. (b && test node.1) || any_named test name nodes) differs ∙ none_named test name nodes parts.1
 
 -- among sorted children, at most one has a name
-pub any_named-child : (test : Tree Bool → Bool) (b : Branches Bool) → is_sorted name_cmp (children b) ≡ true → (name : Name) → any_named test name (children b) ≡ named_by test b name
+pub any_named-child : (test : Tree Bool → Bool) (b : Branches Bool) → is_sorted name_cmp (children b) ≡ true → (name : Name) → any_named test name (children b) ≡ child_satisfies test b name
 any_named-child test none e name = refl
 any_named-child test (branch n value below after) e name = by_name (bytes_eq n name) refl (λ rising. any_named-child test after rising name)
   where
     rise : (below_all name_cmp n (children after) ≡ true) × (is_sorted name_cmp (children after) ≡ true)
     rise = and_parts _ _ e
 
-    by_name : (t : Bool) → bytes_eq n name ≡ t → (is_sorted name_cmp (children after) ≡ true → any_named test name (children after) ≡ named_by test after name) → any_named test name (children (branch n value below after)) ≡ named_by test (branch n value below after) name
+    by_name : (t : Bool) → bytes_eq n name ≡ t → (is_sorted name_cmp (children after) ≡ true → any_named test name (children after) ≡ child_satisfies test after name) → any_named test name (children (branch n value below after)) ≡ child_satisfies test (branch n value below after) name
     by_name true same later =
         let is : n ≡ name = (bytes_eq-Decides n name).0 same in
         rw (same, bytes_eq-sym name n, same) (ap (λ b. test (tree_of value below) || b) (ap (λ m. any_named test m (children after)) (sym is) ∙ none_named test n (children after) rise.0) ∙ or_none (test (tree_of value below)))
@@ -71,12 +71,12 @@ no_keys_tell test nodes same = false_from_ne_true _ (λ h. let found = some_name
 module _ (dirs files : Tree Bool → Bool) (b : Branches Bool) (sorted : is_sorted name_cmp (children b) ≡ true) where
   -- the visit of the two sets
   specific_is : (dir_keys file_keys : List Name) → ((name : Name) → is_among dir_keys name ≡ any_named dirs name (children b)) → ((name : Name) → is_among file_keys name ≡ any_named files name (children b)) →
-      (any_child dirs b || any_child files b) ≡ true → specific (is_among dir_keys) (is_among file_keys) ≡ children_answer dirs files b
+      (any_child dirs b || any_child files b) ≡ true → specific (is_among dir_keys) (is_among file_keys) ≡ children_spec dirs files b
   specific_is dir_keys file_keys d f some =
       rw some (λ i. specific (λ name. (d name ∙ any_named-child dirs b sorted name) i) (λ name. (f name ∙ any_named-child files b sorted name) i))
 
   pub sets_are : (dir_keys file_keys : List Name) → ((name : Name) → is_among dir_keys name ≡ any_named dirs name (children b)) → ((name : Name) → is_among file_keys name ≡ any_named files name (children b)) →
-      sets_answer dir_keys file_keys ≡ children_answer dirs files b
+      sets_spec dir_keys file_keys ≡ children_spec dirs files b
   sets_are [] [] d f = rw (no_keys_tell dirs (children b) d, no_keys_tell files (children b) f)
   sets_are [] (name ∷ names) d f = specific_is [] (name ∷ names) d f (or_right _ _ (keys_tell files (children b) name names f))
   sets_are (name ∷ names) file_keys d f = specific_is (name ∷ names) file_keys d f (or_left _ _ (keys_tell dirs (children b) name names d))

@@ -4,10 +4,10 @@ use mathlib.Core.Bool.{false≢true}
 use Rattle.std.proofs.Math.Bool.{and-false}
 use Rattle.std.proofs.lemmas.Bool.{and_from, and_parts, false_from_ne_true, or_cases, or_left, or_right}
 use Rattle.jj_paths.specs.Paths.{Name, Path}
-use Rattle.jj_matchers.specs.Answers.{Answer, all_recursively, specific, nothing, IsSound, NamesAll}
-use Rattle.jj_matchers.specs.Candidates.{IsAllOrAmong, ChoosesFrom, any_passes}
-use Rattle.jj_matchers.specs.Combined.{union_answer, difference_answer, named_answer, intersection_answer}
-use Rattle.jj_matchers.proofs.Candidates.{passes_some, both_listed}
+use Rattle.jj_matchers.specs.VisitSpecs.{VisitSpec, all_recursively, specific, nothing, IsSound, NamesAll}
+use Rattle.jj_matchers.specs.MentionedNames.{IsAllOrAmong, MentionsOnly, mentions_any}
+use Rattle.jj_matchers.specs.Combined.{union_spec, difference_spec, spec_of_names, intersection_spec}
+use Rattle.jj_matchers.proofs.MentionedNames.{passes_some, both_listed}
 
 -- union, intersection and difference of sets of paths
 abbrev pub either : (Path → Bool) → (Path → Bool) → Path → Bool
@@ -37,7 +37,7 @@ only_right a b e whole = ap (λ t. t || b) (sym e) ∙ whole
 
 module _ (f g o p : Path → Bool) (dir : Path) where
   -- union with `nothing`
-  nothing_left : (b : Answer) → IsSound f o dir nothing → IsSound g p dir b → IsSound (either f g) (either o p) dir b
+  nothing_left : (b : VisitSpec) → IsSound f o dir nothing → IsSound g p dir b → IsSound (either f g) (either o p) dir b
   nothing_left all_recursively none sound = λ name rest. (or_right _ _ (sound name rest).0, or_right _ _ (sound name rest).1)
   nothing_left (specific dirs files) none sound = record {
     files_named = λ name e. sound.files_named name (only_right _ _ (none name []) e);
@@ -46,7 +46,7 @@ module _ (f g o p : Path → Bool) (dir : Path) where
   }
   nothing_left nothing none sound = λ name rest. or_false _ _ (none name rest) (sound name rest)
 
-  pub union_sound : (a b : Answer) → IsSound f o dir a → IsSound g p dir b → IsSound (either f g) (either o p) dir (union_answer a b)
+  pub union_sound : (a b : VisitSpec) → IsSound f o dir a → IsSound g p dir b → IsSound (either f g) (either o p) dir (union_spec a b)
   union_sound all_recursively b sound more = λ name rest. (or_left _ _ (sound name rest).0, or_left _ _ (sound name rest).1)
   union_sound nothing b sound more = nothing_left b sound more
   union_sound (specific dirs files) all_recursively sound more = λ name rest. (or_right _ _ (more name rest).0, or_right _ _ (more name rest).1)
@@ -80,7 +80,7 @@ module _ (f g o p : Path → Bool) (dir : Path) where
   pub none_common : IsSound f o dir nothing → IsSound (both f g) (both o p) dir nothing
   none_common sound = λ name rest. false_and (f (dir ++ name ∷ rest)) (g (dir ++ name ∷ rest)) (sound name rest)
 
-  pub difference_sound : (a b : Answer) → IsSound f o dir a → IsSound g p dir b → IsSound (less f g) o dir (difference_answer a b)
+  pub difference_sound : (a b : VisitSpec) → IsSound f o dir a → IsSound g p dir b → IsSound (less f g) o dir (difference_spec a b)
   difference_sound a all_recursively sound more = none_left more
   difference_sound all_recursively nothing sound more = λ name rest. (and_from (f (dir ++ name ∷ rest)) (not (g (dir ++ name ∷ rest))) (sound name rest).0 (ap not (more name rest)), (sound name rest).1)
   difference_sound (specific wanted_dirs wanted_files) nothing sound more = less_names wanted_dirs wanted_files sound
@@ -90,7 +90,7 @@ module _ (f g o p : Path → Bool) (dir : Path) where
   difference_sound nothing (specific dirs files) sound more = λ name rest. false_and (f (dir ++ name ∷ rest)) _ (sound name rest)
 
   -- intersection with `all_recursively`
-  all_left : (b : Answer) → IsSound f o dir all_recursively → IsSound g p dir b → IsSound (both f g) (both o p) dir b
+  all_left : (b : VisitSpec) → IsSound f o dir all_recursively → IsSound g p dir b → IsSound (both f g) (both o p) dir b
   all_left all_recursively all sound = λ name rest. (and_from _ _ (all name rest).0 (sound name rest).0, and_from _ _ (all name rest).1 (sound name rest).1)
   all_left (specific dirs files) all sound = record {
     files_named = λ name e. sound.files_named name (and_parts _ _ e).1;
@@ -109,19 +109,19 @@ module _ (f g o p : Path → Bool) (dir : Path) where
 
 -- a specific visit without names may be replaced by `nothing`
 pub named_sound : (accepts opens : Path → Bool) (dir : Path) (names : List Name) (dirs files : Name → Bool) → NamesAll accepts opens dir dirs files → IsAllOrAmong names dirs → IsAllOrAmong names files →
-    IsSound accepts opens dir (named_answer names dirs files)
-named_sound accepts opens dir names dirs files sound d f = by_cases (any_passes names dirs || any_passes names files) refl
+    IsSound accepts opens dir (spec_of_names names dirs files)
+named_sound accepts opens dir names dirs files sound d f = by_cases (mentions_any names dirs || mentions_any names files) refl
   where
-    by_cases : (t : Bool) → (any_passes names dirs || any_passes names files) ≡ t → IsSound accepts opens dir (if t then specific dirs files else nothing)
+    by_cases : (t : Bool) → (mentions_any names dirs || mentions_any names files) ≡ t → IsSound accepts opens dir (if t then specific dirs files else nothing)
     by_cases true e = sound
     by_cases false e = refused
       where
         refused : (name : Name) (rest : Path) → accepts (dir ++ name ∷ rest) ≡ false
-        refused name [] = false_from_ne_true _ (λ h. false≢true (sym e ∙ or_right (any_passes names dirs) (any_passes names files) (passes_some names files f name (sound.files_named name h))))
-        refused name (next ∷ rest) = false_from_ne_true _ (λ h. false≢true (sym e ∙ or_left (any_passes names dirs) (any_passes names files) (passes_some names dirs d name (sound.dirs_named name next rest h))))
+        refused name [] = false_from_ne_true _ (λ h. false≢true (sym e ∙ or_right (mentions_any names dirs) (mentions_any names files) (passes_some names files f name (sound.files_named name h))))
+        refused name (next ∷ rest) = false_from_ne_true _ (λ h. false≢true (sym e ∙ or_left (mentions_any names dirs) (mentions_any names files) (passes_some names dirs d name (sound.dirs_named name next rest h))))
 
 module _ (f g o p : Path → Bool) (dir : Path) (names : List Name) where
-  pub intersection_sound : (a b : Answer) → IsSound f o dir a → IsSound g p dir b → ChoosesFrom names a → ChoosesFrom names b → IsSound (both f g) (both o p) dir (intersection_answer names a b)
+  pub intersection_sound : (a b : VisitSpec) → IsSound f o dir a → IsSound g p dir b → MentionsOnly names a → MentionsOnly names b → IsSound (both f g) (both o p) dir (intersection_spec names a b)
   intersection_sound all_recursively b sound more one other = all_left f g o p dir b sound more
   intersection_sound nothing b sound more one other = none_common f g o p dir sound
   intersection_sound (specific dirs files) all_recursively sound more one other = record {

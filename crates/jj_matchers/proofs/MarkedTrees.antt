@@ -1,5 +1,5 @@
 -- The tree of a list of marks: built one mark at a time, in any order, with the marked paths of the list.
-use Rattle.std.proofs.Common.{◌≡◌, ◌≢◌, ◌⊎◌, inl, inr, Option, Some, None, IsSome, ◌∙◌, Bool, true, false, List, [], ◌∷◌, ◌++◌, refl, ap, sym, subst, append_assoc, append-nil, lit<}
+use Rattle.std.proofs.Common.{◌≡◌, ◌≢◌, ◌⊎◌, inl, inr, Option, Some, None, IsSome, ◌∙◌, Bool, true, false, List, [], ◌∷◌, ◌++◌, refl, ap, sym, subst, append_assoc, append-nil, lit<, unwrap_or}
 use Rattle.std.specs.Prelude.{Contains}
 use mathlib.Core.Bool.{false≢true}
 use Rattle.std.specs.Str.{bytes_eq}
@@ -11,13 +11,13 @@ use Rattle.std.proofs.lemmas.Option.{none-some}
 use Rattle.std.proofs.lemmas.List.Elements.{Contains-append_left, Contains-append_right, Contains-append_cases}
 use Rattle.std.proofs.lemmas.List.Sorted.{Contains-permutation, IsPermutation-sym}
 use Rattle.jj_paths.specs.Paths.{Path}
-use Rattle.jj_paths.specs.Tree.{Tree, none, get, child, value_at, is_ordered, IsSet}
+use Rattle.jj_paths.specs.Tree.{Tree, none, get, child, value_at, is_ordered, SetsValue}
 use Rattle.jj_paths.proofs.ListedNodes.{nothing_there, the_one}
-use Rattle.jj_paths.proofs.LawsOfPaths.{holds_fronts}
-use Rattle.jj_matchers.specs.Marks.{is_some_true, is_marked, marked_paths, IsMarkedTree, LeadsToMarks}
-use Rattle.jj_matchers.specs.Wanted.{is_wanted, HasSamePaths}
-use Rattle.jj_matchers.proofs.Marks.{is_wanted-marked}
-use Rattle.jj_matchers.proofs.Wanted.{Decides-is_wanted, same_members}
+use Rattle.jj_paths.proofs.PathLaws.{has_ancestors}
+use Rattle.jj_matchers.specs.Marks.{is_marked, marked_paths, IsMarkedTree, LeadsToMarks}
+use Rattle.jj_matchers.specs.PathLists.{is_listed, HasSamePaths}
+use Rattle.jj_matchers.proofs.Marks.{is_listed-marked}
+use Rattle.jj_matchers.proofs.PathLists.{Decides-is_listed, same_members}
 
 -- 1. Insertion of marks, one after another.
 
@@ -75,7 +75,7 @@ marked_start t unmarked bare = record {
     back path (inr (rest, h)) = absurd (nothing_there (path ++ rest) h)
 
 -- one more mark
-pub marked_step : (is_new : Bool → Type 0) → ((v : Bool) → is_new v → v ≡ false) → (marks : List Path) (path : Path) (old new : Tree Bool) → IsMarkedTree marks old → IsSet is_new old path true new → IsMarkedTree (marks ++ path ∷ []) new
+pub marked_step : (is_new : Bool → Type 0) → ((v : Bool) → is_new v → v ≡ false) → (marks : List Path) (path : Path) (old new : Tree Bool) → IsMarkedTree marks old → SetsValue is_new old path true new → IsMarkedTree (marks ++ path ∷ []) new
 marked_step is_new unmarked marks path old new before set = record {
   ordered = set.ordered before.ordered;
   marked = λ q. (is_mark q (same_or_not q path), has_mark q (same_or_not q path));
@@ -125,7 +125,7 @@ marked_step is_new unmarked marks path old new before set = record {
       where
         by_part : Contains marks (q ++ rest) ⊎ Contains (path ∷ []) (q ++ rest) → IsSome (get new q)
         by_part (inl old_mark) = let (v, was) = value_there old q ((before.nodes q).1 (inr (rest, old_mark))) in there_by_value new q v (set.keeps q v off was)
-        by_part (inr one) = holds_fronts Bool new q rest (there_by_value new (q ++ rest) true (ap (value_at new) (the_one path (q ++ rest) one) ∙ set.here))
+        by_part (inr one) = has_ancestors Bool new q rest (there_by_value new (q ++ rest) true (ap (value_at new) (the_one path (q ++ rest) one) ∙ set.here))
 
 -- the order of the marks makes no difference
 pub marked_permutation : (xs ys : List Path) (t : Tree Bool) → IsPermutation xs ys → IsMarkedTree xs t → IsMarkedTree ys t
@@ -148,18 +148,18 @@ marked_permutation xs ys t moved marked = record {
 module _ (marks : List Path) (tree : Tree Bool) (marked : IsMarkedTree marks tree) where
   -- the marked paths of the tree are those of the list
   pub marked-paths : HasSamePaths (marked_paths tree) marks
-  marked-paths = same_members (marked_paths tree) marks (λ path. is_wanted-marked tree path ∙ both_ways (is_marked tree path) (is_wanted marks path) (to path) (from path))
+  marked-paths = same_members (marked_paths tree) marks (λ path. is_listed-marked tree path ∙ both_ways (is_marked tree path) (is_listed marks path) (to path) (from path))
     where
-      value_true : (o : Option Bool) → is_some_true o ≡ true → o ≡ Some true
+      value_true : (o : Option Bool) → unwrap_or o false ≡ true → o ≡ Some true
       value_true None h = absurd (false≢true h)
       value_true (Some true) h = refl
       value_true (Some false) h = absurd (false≢true h)
 
-      to : (path : Path) → is_marked tree path ≡ true → is_wanted marks path ≡ true
-      to path h = (Decides-is_wanted marks path).1 ((marked.marked path).0 (value_true (value_at tree path) h))
+      to : (path : Path) → is_marked tree path ≡ true → is_listed marks path ≡ true
+      to path h = (Decides-is_listed marks path).1 ((marked.marked path).0 (value_true (value_at tree path) h))
 
-      from : (path : Path) → is_wanted marks path ≡ true → is_marked tree path ≡ true
-      from path h = ap is_some_true ((marked.marked path).1 ((Decides-is_wanted marks path).0 h))
+      from : (path : Path) → is_listed marks path ≡ true → is_marked tree path ≡ true
+      from path h = ap (λ (o : Option Bool). unwrap_or o false) ((marked.marked path).1 ((Decides-is_listed marks path).0 h))
 
   -- every leaf except the root is marked
   pub marked-leads : LeadsToMarks tree
@@ -180,7 +180,7 @@ module _ (marks : List Path) (tree : Tree Bool) (marked : IsMarkedTree marks tre
           let child = above ++ name ∷ next ∷ [] in
           let whole : path ++ next ∷ rest ≡ child ++ rest = append_assoc above (name ∷ []) (next ∷ rest) ∙ sym (append_assoc above (name ∷ next ∷ []) rest) in
           let is : value_at tree (child ++ rest) ≡ Some true = (marked.marked (child ++ rest)).1 (subst (Contains marks) whole h) in
-          let (v, at) = value_there tree child (holds_fronts Bool tree child rest (there_by_value tree (child ++ rest) true is)) in
+          let (v, at) = value_there tree child (has_ancestors Bool tree child rest (there_by_value tree (child ++ rest) true is)) in
           none-some _ (sym (no_child next) ∙ at)
 
       by_mark : (path ≡ []) ⊎ ((rest : Path) × Contains marks (path ++ rest)) → ⊥

@@ -1,5 +1,5 @@
 -- Queries of a tree of marked paths agree with those of the list of the marks.
-use Rattle.std.proofs.Common.{◌≡◌, Bool, true, false, ◌||◌, List, [], ◌∷◌, ◌++◌, Option, Some, None, map, refl, ap, sym, ◌∙◌, append_assoc, append-nil, inl, inr, if◌then◌else◌}
+use Rattle.std.proofs.Common.{◌≡◌, Bool, true, false, ◌||◌, List, [], ◌∷◌, ◌++◌, Option, Some, None, map, refl, ap, sym, ◌∙◌, append_assoc, append-nil, inl, inr, if◌then◌else◌, unwrap_or}
 use mathlib.Core.Bool.{false≢true}
 use Rattle.std.specs.Cmp.{both_ways}
 use Rattle.std.specs.Option.{option_and_then, option_map}
@@ -13,10 +13,10 @@ use Rattle.jj_paths.specs.Paths.{Name, Path}
 use Rattle.jj_paths.specs.Orders.{path_eq, path_eq-Decides}
 use Rattle.jj_paths.specs.Tree.{Tree, tree_of, Branches, none, branch, child, get, has_branches, nodes_on}
 use Rattle.jj_paths.specs.Nodes.{NodeAt, nodes_under}
-use Rattle.jj_matchers.specs.Answers.{Answer, all_recursively, specific, nothing}
-use Rattle.jj_matchers.specs.Wanted.{is_at_or_below, is_below, is_wanted, leads_to_wanted, files_answer, has_prefix, leads_to_prefix, prefix_answer}
-use Rattle.jj_matchers.specs.Marks.{is_some_true, is_marked, marked_paths, LeadsToMarks, passes, named_by, any_child, children_answer, has_children, has_mark, any_node}
-use Rattle.jj_matchers.proofs.Wanted.{is_below-append, is_at_or_below-append, below_base, below_dir}
+use Rattle.jj_matchers.specs.VisitSpecs.{VisitSpec, all_recursively, specific, nothing}
+use Rattle.jj_matchers.specs.PathLists.{is_at_or_below, is_below, is_listed, leads_to_listed, files_spec, has_prefix, leads_to_prefix, prefix_spec}
+use Rattle.jj_matchers.specs.Marks.{is_marked, marked_paths, LeadsToMarks, option_satisfies, child_satisfies, any_child, children_spec, has_children, has_mark, any_node}
+use Rattle.jj_matchers.proofs.PathLists.{is_below-append, is_at_or_below-append, below_base, below_dir}
 
 module _ {V : Type 0} where
   -- the node at a path relative to another node
@@ -100,7 +100,7 @@ module _ where
   listed tree (name ∷ rest) marked = by_node (get tree (name ∷ rest)) refl
     where
       by_node : (o : Option (Tree Bool)) → get tree (name ∷ rest) ≡ o → list_any (path_eq (name ∷ rest)) ([] ∷ map (λ (found : NodeAt Bool). found.path) (nodes_under [] tree.branches)) ≡ true
-      by_node None is = absurd (false≢true (sym (ap (λ o. is_some_true (option_map (λ (node : Tree Bool). node.value) o)) is) ∙ marked))
+      by_node None is = absurd (false≢true (sym (ap (λ o. unwrap_or (option_map (λ (node : Tree Bool). node.value) o) false) is) ∙ marked))
       by_node (Some sub) is = path_listed tree.branches [] name rest sub true is
 
   pub any_marked : (tree : Tree Bool) (test : Path → Bool) → list_any test (marked_paths tree) ≡ true → (path : Path) × ((is_marked tree path ≡ true) × (test path ≡ true))
@@ -109,16 +109,16 @@ module _ where
   pub marked_any : (tree : Tree Bool) (test : Path → Bool) (path : Path) → is_marked tree path ≡ true → test path ≡ true → list_any test (marked_paths tree) ≡ true
   marked_any tree test path marked passing = any_filter (is_marked tree) test path marked passing ([] ∷ map (λ (found : NodeAt Bool). found.path) (nodes_under [] tree.branches)) (listed tree path marked)
 
-  pub is_wanted-marked : (tree : Tree Bool) (path : Path) → is_wanted (marked_paths tree) path ≡ is_marked tree path
-  is_wanted-marked tree path =
-      both_ways (is_wanted (marked_paths tree) path) (is_marked tree path)
+  pub is_listed-marked : (tree : Tree Bool) (path : Path) → is_listed (marked_paths tree) path ≡ is_marked tree path
+  is_listed-marked tree path =
+      both_ways (is_listed (marked_paths tree) path) (is_marked tree path)
       (λ h. let found = any_marked tree (path_eq path) h in ap (is_marked tree) ((path_eq-Decides path found.0).0 found.1.1) ∙ found.1.0)
       (λ h. marked_any tree (path_eq path) path h ((path_eq-Decides path path).1 refl))
 
 -- whether a path is marked, by the node there
-pub marked_at : (tree : Tree Bool) (path : Path) (o : Option (Tree Bool)) → get tree path ≡ o → is_marked tree path ≡ passes has_mark o
-marked_at tree path None e = ap (λ o. is_some_true (option_map (λ (node : Tree Bool). node.value) o)) e
-marked_at tree path (Some node) e = ap (λ o. is_some_true (option_map (λ (node : Tree Bool). node.value) o)) e
+pub marked_at : (tree : Tree Bool) (path : Path) (o : Option (Tree Bool)) → get tree path ≡ o → is_marked tree path ≡ option_satisfies has_mark o
+marked_at tree path None e = ap (λ o. unwrap_or (option_map (λ (node : Tree Bool). node.value) o) false) e
+marked_at tree path (Some node) e = ap (λ o. unwrap_or (option_map (λ (node : Tree Bool). node.value) o) false) e
 
 child-first : (n : Name) (value : Bool) (below after : Branches Bool) → child (branch n value below after) n ≡ Some (tree_of value below)
 child-first n value below after = rw ((bytes_eq-Decides n n).1 refl)
@@ -148,9 +148,9 @@ module _ (tree : Tree Bool) (leads : LeadsToMarks tree) where
       by_value false (branch m u x y) is deeper = let found = deeper refl in (n, (found.0 ∷ found.1.0, ap (is_marked tree) (sym (append_assoc dir (n ∷ []) (found.0 ∷ found.1.0))) ∙ found.1.1))
 
   -- an existing node leads to marks if and only if it has children
-  pub leads-get : (dir : Path) (node : Tree Bool) → get tree dir ≡ Some node → leads_to_wanted (marked_paths tree) dir ≡ has_branches node.branches
+  pub leads-get : (dir : Path) (node : Tree Bool) → get tree dir ≡ Some node → leads_to_listed (marked_paths tree) dir ≡ has_branches node.branches
   leads-get dir node e =
-      both_ways (leads_to_wanted (marked_paths tree) dir) (has_branches node.branches)
+      both_ways (leads_to_listed (marked_paths tree) dir) (has_branches node.branches)
       (λ h. let found = any_marked tree (is_below dir) h in let below = below_dir dir found.0 found.1.1 in by_branches node.branches refl below.0 below.1.0 (ap (is_marked tree) (sym below.1.1) ∙ found.1.0))
       (λ h. let found = mark_below node.branches dir node.value e h in marked_any tree (is_below dir) (dir ++ found.0 ∷ found.1.0) found.1.1 (is_below-append dir found.0 found.1.0))
     where
@@ -163,23 +163,23 @@ module _ (tree : Tree Bool) (leads : LeadsToMarks tree) where
   missing_below : (dir rest : Path) → get tree dir ≡ None → is_marked tree (dir ++ rest) ≡ false
   missing_below dir rest e = marked_at tree (dir ++ rest) None (get-append tree dir rest ∙ ap (option_and_then (λ n. get n rest)) e)
 
-  pub leads-none : (dir : Path) → get tree dir ≡ None → leads_to_wanted (marked_paths tree) dir ≡ false
+  pub leads-none : (dir : Path) → get tree dir ≡ None → leads_to_listed (marked_paths tree) dir ≡ false
   leads-none dir e = false_from_ne_true _ (λ h.
       let found = any_marked tree (is_below dir) h in let below = below_dir dir found.0 found.1.1 in
       false≢true (sym (missing_below dir (below.0 ∷ below.1.0) e) ∙ ap (is_marked tree) (sym below.1.1) ∙ found.1.0))
 
-  pub leads_to-child : (dir : Path) (node : Tree Bool) (name : Name) → get tree dir ≡ Some node → named_by has_children node.branches name ≡ leads_to_wanted (marked_paths tree) (dir ++ name ∷ [])
+  pub leads_to-child : (dir : Path) (node : Tree Bool) (name : Name) → get tree dir ≡ Some node → child_satisfies has_children node.branches name ≡ leads_to_listed (marked_paths tree) (dir ++ name ∷ [])
   leads_to-child dir node name e = by_child (child node.branches name) (get-child tree node dir name e)
     where
-      by_child : (o : Option (Tree Bool)) → get tree (dir ++ name ∷ []) ≡ o → passes has_children o ≡ leads_to_wanted (marked_paths tree) (dir ++ name ∷ [])
+      by_child : (o : Option (Tree Bool)) → get tree (dir ++ name ∷ []) ≡ o → option_satisfies has_children o ≡ leads_to_listed (marked_paths tree) (dir ++ name ∷ [])
       by_child None is = sym (leads-none (dir ++ name ∷ []) is)
       by_child (Some sub) is = sym (leads-get (dir ++ name ∷ []) sub is)
 
-  pub wanted-child : (dir : Path) (node : Tree Bool) (name : Name) → get tree dir ≡ Some node → named_by has_mark node.branches name ≡ is_wanted (marked_paths tree) (dir ++ name ∷ [])
-  wanted-child dir node name e = sym (is_wanted-marked tree (dir ++ name ∷ []) ∙ marked_at tree (dir ++ name ∷ []) (child node.branches name) (get-child tree node dir name e))
+  pub wanted-child : (dir : Path) (node : Tree Bool) (name : Name) → get tree dir ≡ Some node → child_satisfies has_mark node.branches name ≡ is_listed (marked_paths tree) (dir ++ name ∷ [])
+  wanted-child dir node name e = sym (is_listed-marked tree (dir ++ name ∷ []) ∙ marked_at tree (dir ++ name ∷ []) (child node.branches name) (get-child tree node dir name e))
 
   -- a node below the root is at or above a mark
-  pub prefix-child : (dir : Path) (node : Tree Bool) (name : Name) → get tree dir ≡ Some node → named_by any_node node.branches name ≡ leads_to_prefix (marked_paths tree) (dir ++ name ∷ [])
+  pub prefix-child : (dir : Path) (node : Tree Bool) (name : Name) → get tree dir ≡ Some node → child_satisfies any_node node.branches name ≡ leads_to_prefix (marked_paths tree) (dir ++ name ∷ [])
   prefix-child dir node name e = by_child (child node.branches name) (get-child tree node dir name e)
     where
       p : Path
@@ -190,7 +190,7 @@ module _ (tree : Tree Bool) (leads : LeadsToMarks tree) where
       there false none is = absurd (not_idle dir name is)
       there false (branch n u x y) is = let found = mark_below (branch n u x y) p false is refl in marked_any tree (is_at_or_below p) (p ++ found.0 ∷ found.1.0) found.1.1 (is_at_or_below-append p (found.0 ∷ found.1.0))
 
-      by_child : (o : Option (Tree Bool)) → get tree p ≡ o → passes any_node o ≡ leads_to_prefix (marked_paths tree) p
+      by_child : (o : Option (Tree Bool)) → get tree p ≡ o → option_satisfies any_node o ≡ leads_to_prefix (marked_paths tree) p
       by_child None is = sym (false_from_ne_true _ (λ h.
           let found = any_marked tree (is_at_or_below p) h in let below = below_base p found.0 found.1.1 in
           false≢true (sym (missing_below p below.0 is) ∙ ap (is_marked tree) (sym below.1) ∙ found.1.0)))
@@ -211,26 +211,26 @@ module _ (tree : Tree Bool) (leads : LeadsToMarks tree) where
   nodes_or_marks (branch n value below after) = refl
 
   -- the visits at a node are those of the list of marked paths
-  pub files_are : (dir : Path) (node : Tree Bool) → get tree dir ≡ Some node → children_answer has_children has_mark node.branches ≡ files_answer (marked_paths tree) dir
+  pub files_are : (dir : Path) (node : Tree Bool) → get tree dir ≡ Some node → children_spec has_children has_mark node.branches ≡ files_spec (marked_paths tree) dir
   files_are dir node e =
-      let some : (any_child has_children node.branches || any_child has_mark node.branches) ≡ leads_to_wanted (marked_paths tree) dir = files_or_dirs dir node.value node.branches e ∙ sym (leads-get dir node e) in
+      let some : (any_child has_children node.branches || any_child has_mark node.branches) ≡ leads_to_listed (marked_paths tree) dir = files_or_dirs dir node.value node.branches e ∙ sym (leads-get dir node e) in
       λ i. if some i then specific (λ name. leads_to-child dir node name e i) (λ name. wanted-child dir node name e i) else nothing
 
-  pub no_files_are : (dir : Path) → get tree dir ≡ None → nothing ≡ files_answer (marked_paths tree) dir
-  no_files_are dir e = ap (λ b. if b then specific (λ name. leads_to_wanted (marked_paths tree) (dir ++ name ∷ [])) (λ name. is_wanted (marked_paths tree) (dir ++ name ∷ [])) else nothing) (sym (leads-none dir e))
+  pub no_files_are : (dir : Path) → get tree dir ≡ None → nothing ≡ files_spec (marked_paths tree) dir
+  no_files_are dir e = ap (λ b. if b then specific (λ name. leads_to_listed (marked_paths tree) (dir ++ name ∷ [])) (λ name. is_listed (marked_paths tree) (dir ++ name ∷ [])) else nothing) (sym (leads-none dir e))
 
-  abbrev below_answer : Path → Answer
-  below_answer dir = if leads_to_wanted (marked_paths tree) dir then specific (λ name. leads_to_prefix (marked_paths tree) (dir ++ name ∷ [])) (λ name. is_wanted (marked_paths tree) (dir ++ name ∷ [])) else nothing
+  abbrev below_answer : Path → VisitSpec
+  below_answer dir = if leads_to_listed (marked_paths tree) dir then specific (λ name. leads_to_prefix (marked_paths tree) (dir ++ name ∷ [])) (λ name. is_listed (marked_paths tree) (dir ++ name ∷ [])) else nothing
 
-  pub prefixes_are : (dir : Path) (node : Tree Bool) → get tree dir ≡ Some node → has_prefix (marked_paths tree) dir ≡ false → children_answer any_node has_mark node.branches ≡ prefix_answer (marked_paths tree) dir
+  pub prefixes_are : (dir : Path) (node : Tree Bool) → get tree dir ≡ Some node → has_prefix (marked_paths tree) dir ≡ false → children_spec any_node has_mark node.branches ≡ prefix_spec (marked_paths tree) dir
   prefixes_are dir node e refused =
-      let some : (any_child any_node node.branches || any_child has_mark node.branches) ≡ leads_to_wanted (marked_paths tree) dir = nodes_or_marks node.branches ∙ sym (leads-get dir node e) in
-      let named : children_answer any_node has_mark node.branches ≡ below_answer dir = λ i. if some i then specific (λ name. prefix-child dir node name e i) (λ name. wanted-child dir node name e i) else nothing in
+      let some : (any_child any_node node.branches || any_child has_mark node.branches) ≡ leads_to_listed (marked_paths tree) dir = nodes_or_marks node.branches ∙ sym (leads-get dir node e) in
+      let named : children_spec any_node has_mark node.branches ≡ below_answer dir = λ i. if some i then specific (λ name. prefix-child dir node name e i) (λ name. wanted-child dir node name e i) else nothing in
       named ∙ ap (λ b. if b then all_recursively else below_answer dir) (sym refused)
 
-  pub no_prefixes_are : (dir : Path) → get tree dir ≡ None → has_prefix (marked_paths tree) dir ≡ false → nothing ≡ prefix_answer (marked_paths tree) dir
+  pub no_prefixes_are : (dir : Path) → get tree dir ≡ None → has_prefix (marked_paths tree) dir ≡ false → nothing ≡ prefix_spec (marked_paths tree) dir
   no_prefixes_are dir e refused =
-      let none_below : nothing ≡ below_answer dir = ap (λ b. if b then specific (λ name. leads_to_prefix (marked_paths tree) (dir ++ name ∷ [])) (λ name. is_wanted (marked_paths tree) (dir ++ name ∷ [])) else nothing) (sym (leads-none dir e)) in
+      let none_below : nothing ≡ below_answer dir = ap (λ b. if b then specific (λ name. leads_to_prefix (marked_paths tree) (dir ++ name ∷ [])) (λ name. is_listed (marked_paths tree) (dir ++ name ∷ [])) else nothing) (sym (leads-none dir e)) in
       none_below ∙ ap (λ b. if b then all_recursively else below_answer dir) (sym refused)
 
 -- a marked node on the way to a path is a marked ancestor
@@ -247,7 +247,7 @@ on_the_way (name ∷ path) tree h =
     by_child None is further e = absurd (false≢true e)
     by_child (Some sub) is further e =
         let found = further sub e in
-        (name ∷ found.0, (found.1.0, (ap (λ l. name ∷ l) found.1.1.0, ap (λ o. is_some_true (option_map (λ (node : Tree Bool). node.value) (option_and_then (λ n. get n found.0) o))) is ∙ found.1.1.1)))
+        (name ∷ found.0, (found.1.0, (ap (λ l. name ∷ l) found.1.1.0, ap (λ o. unwrap_or (option_map (λ (node : Tree Bool). node.value) (option_and_then (λ n. get n found.0) o)) false) is ∙ found.1.1.1)))
 
 pass_the_way : (front rest : Path) (tree : Tree Bool) → is_marked tree front ≡ true → list_any (λ (step : Tree Bool × Path). step.0.value) (nodes_on tree (front ++ rest)) ≡ true
 pass_the_way [] [] tree h = or_left _ _ h
@@ -255,7 +255,7 @@ pass_the_way [] (name ∷ rest) tree h = or_left _ _ h
 pass_the_way (name ∷ front) rest tree h = or_right tree.value _ (by_child (child tree.branches name) (pass_the_way front rest) h)
   where
     by_child : (o : Option (Tree Bool)) → ((sub : Tree Bool) → is_marked sub front ≡ true → list_any (λ (step : Tree Bool × Path). step.0.value) (nodes_on sub (front ++ rest)) ≡ true) →
-        is_some_true (option_map (λ (node : Tree Bool). node.value) (option_and_then (λ n. get n front) o)) ≡ true → list_any (λ (step : Tree Bool × Path). step.0.value) (elim o [ None ↦ [] | Some sub ↦ nodes_on sub (front ++ rest) ]) ≡ true
+        unwrap_or (option_map (λ (node : Tree Bool). node.value) (option_and_then (λ n. get n front) o)) false ≡ true → list_any (λ (step : Tree Bool × Path). step.0.value) (elim o [ None ↦ [] | Some sub ↦ nodes_on sub (front ++ rest) ]) ≡ true
     by_child None further e = absurd (false≢true e)
     by_child (Some sub) further e = further sub e
 

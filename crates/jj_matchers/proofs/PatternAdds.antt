@@ -1,5 +1,5 @@
 -- Appending globs to those of a directory in a trie of globs.
-use Rattle.std.proofs.Common.{◌≡◌, ◌≢◌, ◌∙◌, ap, sym, refl, Bool, true, false, ◌&&◌, ◌||◌, List, [], ◌∷◌, ◌++◌, map, Option, Some, None}
+use Rattle.std.proofs.Common.{◌≡◌, ◌≢◌, ◌∙◌, ap, sym, refl, Bool, true, false, ◌&&◌, ◌||◌, List, [], ◌∷◌, ◌++◌, map, Option, Some, None, unwrap_or}
 use mathlib.Core.Bool.{false≢true}
 use Rattle.std.specs.Prelude.{All}
 use Rattle.std.specs.List.{list_any}
@@ -9,10 +9,10 @@ use Rattle.std.proofs.lemmas.List.Elements.{All-head, All-tail}
 use Rattle.std.proofs.lemmas.List.Folds.{list_any-append}
 use Rattle.jj_paths.specs.Paths.{Path}
 use Rattle.jj_paths.specs.Orders.{path_eq, path_eq-Decides}
-use Rattle.jj_paths.specs.Tree.{Tree, value_at, IsSet}
+use Rattle.jj_paths.specs.Tree.{Tree, value_at, SetsValue}
 use Rattle.jj_globs.specs.GlobMeaning.{GlobSpec}
-use Rattle.jj_matchers.specs.PatternTree.{has_globs, marks_of, globs_or_none, globs_at, AddsGlobs, IsPatternTree}
-use Rattle.jj_matchers.proofs.Marked.{IsBlank, IsMarkedAt, leads-set}
+use Rattle.jj_matchers.specs.PatternTree.{has_globs, marks_of, globs_at, AddsGlobs, IsPatternTree}
+use Rattle.jj_matchers.proofs.SetMark.{IsBlank, IsMarkedAt, leads-set}
 use Rattle.jj_matchers.proofs.PatternTrees.{value_at-marks}
 
 -- the globs of a directory that was inserted as an ancestor: none
@@ -23,11 +23,11 @@ has_globs-append : (front globs : List GlobSpec) → has_globs globs ≡ true �
 has_globs-append [] globs some = some
 has_globs-append (g ∷ front) globs some = refl
 
-module _ (old new : Tree (List GlobSpec)) (dir : Path) (globs all : List GlobSpec) (is : all ≡ globs_at old dir ++ globs) (some : has_globs globs ≡ true) (set : IsSet IsBare old dir all new) where
+module _ (old new : Tree (List GlobSpec)) (dir : Path) (globs all : List GlobSpec) (is : all ≡ globs_at old dir ++ globs) (some : has_globs globs ≡ true) (set : SetsValue IsBare old dir all new) where
   kept : (path : Path) → path ≢ dir → (o : Option (List GlobSpec)) → value_at old path ≡ o → (n : Option (List GlobSpec)) → value_at new path ≡ n → globs_at new path ≡ globs_at old path
-  kept path off (Some g) e n f = ap globs_or_none (set.keeps path g off e ∙ sym e)
-  kept path off None e None f = ap globs_or_none (f ∙ sym e)
-  kept path off None e (Some g) f = ap globs_or_none f ∙ (set.makes path g off e f).0 ∙ ap globs_or_none (sym e)
+  kept path off (Some g) e n f = ap (λ (o : Option (List GlobSpec)). unwrap_or o []) (set.keeps path g off e ∙ sym e)
+  kept path off None e None f = ap (λ (o : Option (List GlobSpec)). unwrap_or o []) (f ∙ sym e)
+  kept path off None e (Some g) f = ap (λ (o : Option (List GlobSpec)). unwrap_or o []) f ∙ (set.makes path g off e f).0 ∙ ap (λ (o : Option (List GlobSpec)). unwrap_or o []) (sym e)
 
   marked : IsMarkedAt (marks_of old) dir (marks_of new)
   marked = record {
@@ -58,7 +58,7 @@ module _ (old new : Tree (List GlobSpec)) (dir : Path) (globs all : List GlobSpe
 
   pub adds-set : AddsGlobs old dir globs new
   adds-set = record {
-    here = ap globs_or_none set.here ∙ is;
+    here = ap (λ (o : Option (List GlobSpec)). unwrap_or o []) set.here ∙ is;
     others = λ path off. kept path off (value_at old path) refl (value_at new path) refl;
     leads = leads-set (marks_of old) (marks_of new) dir marked;
   }

@@ -12,7 +12,7 @@ use Rattle.jj_globs.specs.GlobMeaning.{GlobSpec}
 use Rattle.jj_globs.specs.GlobFront.{front_of}
 use Rattle.jj_globs.proofs.GlobFront.{BeginsWith}
 use Rattle.jj_globs.proofs.GlobFront.{prefix_match_fronted}
-use Rattle.jj_matchers.specs.PatternOrder.{is_at_most, is_in_order, fits_text}
+use Rattle.jj_matchers.specs.PatternOrder.{is_at_most, is_sorted_by_prefix, matches_string}
 use Rattle.jj_matchers.proofs.PatternTexts.{Tells-is_match, Tells-is_prefix_match}
 
 -- 1. Lexicographic order of byte strings.
@@ -93,7 +93,7 @@ shared_of g f bytes (rest, is) h k =
 -- 2. Sorted globs.
 
 -- a match starts with the literal prefix
-pub fits_begins : (prefix_paths : Bool) (text : List ℕ) (glob : GlobSpec) → fits_text prefix_paths glob text ≡ true → BeginsWith text (front_of glob)
+pub fits_begins : (prefix_paths : Bool) (text : List ℕ) (glob : GlobSpec) → matches_string prefix_paths glob text ≡ true → BeginsWith text (front_of glob)
 fits_begins true text glob h = prefix_match_fronted glob text ((Tells-is_prefix_match glob text).0 h)
 fits_begins false text glob h = prefix_match_fronted glob text (inl ((Tells-is_match glob text).0 h))
 
@@ -105,7 +105,7 @@ order_at glob [] j d lt h = absurd (omega (arith, lt))
 order_at glob (g ∷ globs) zero d lt h = (and_parts _ _ h).0
 order_at glob (g ∷ globs) (suc j) d lt h = order_at glob globs j d (omega (arith, lt)) (and_parts _ _ h).1
 
-pub partitioned : (bytes : List ℕ) (globs : List GlobSpec) → is_in_order globs ≡ true → IsPartitionedBy (is_up_to bytes) globs
+pub partitioned : (bytes : List ℕ) (globs : List GlobSpec) → is_sorted_by_prefix globs ≡ true → IsPartitionedBy (is_up_to bytes) globs
 partitioned bytes [] order i j d le lt h = absurd (omega (arith, lt))
 partitioned bytes (g ∷ globs) order zero zero d le lt h = h
 partitioned bytes (g ∷ globs) order zero (suc j) d le lt h =
@@ -133,7 +133,7 @@ shorter_filter keep (x ∷ xs) = by_test (keep x) (shorter_filter keep xs)
     by_test false later = omega (arith, later)
 
 -- all literal prefixes are at most the last one
-order_last : (before : List GlobSpec) (last : GlobSpec) → is_in_order (before ++ last ∷ []) ≡ true → list_all (λ glob. is_at_most (front_of glob) (front_of last)) before ≡ true
+order_last : (before : List GlobSpec) (last : GlobSpec) → is_sorted_by_prefix (before ++ last ∷ []) ≡ true → list_all (λ glob. is_at_most (front_of glob) (front_of last)) before ≡ true
 order_last [] last h = refl
 order_last (g ∷ before) last h =
     let parts = and_parts _ _ h in
@@ -143,7 +143,7 @@ order_last (g ∷ before) last h =
     last_all [] h = (and_parts _ _ h).0
     last_all (x ∷ gs) h = last_all gs (and_parts _ _ h).1
 
-order-filter : (keep : GlobSpec → Bool) (globs : List GlobSpec) → is_in_order globs ≡ true → is_in_order (filter keep globs) ≡ true
+order-filter : (keep : GlobSpec → Bool) (globs : List GlobSpec) → is_sorted_by_prefix globs ≡ true → is_sorted_by_prefix (filter keep globs) ≡ true
 order-filter keep [] h = refl
 order-filter keep (g ∷ globs) h = by_test (order-filter keep globs (and_parts _ _ h).1) (keep g) refl
   where
@@ -154,12 +154,12 @@ order-filter keep (g ∷ globs) h = by_test (order-filter keep globs (and_parts 
       | false ↦ all-filter p gs (and_parts _ _ all).1
     ]
 
-    by_test : is_in_order (filter keep globs) ≡ true → (t : Bool) → keep g ≡ t → is_in_order (cond (keep g) (g ∷ filter keep globs) (filter keep globs)) ≡ true
+    by_test : is_sorted_by_prefix (filter keep globs) ≡ true → (t : Bool) → keep g ≡ t → is_sorted_by_prefix (cond (keep g) (g ∷ filter keep globs) (filter keep globs)) ≡ true
     by_test later true e =
-        ap (λ t. is_in_order (cond t (g ∷ filter keep globs) (filter keep globs))) e ∙ and_from _ _ (all-filter _ globs (and_parts _ _ h).0) later
-    by_test later false e = ap (λ t. is_in_order (cond t (g ∷ filter keep globs) (filter keep globs))) e ∙ later
+        ap (λ t. is_sorted_by_prefix (cond t (g ∷ filter keep globs) (filter keep globs))) e ∙ and_from _ _ (all-filter _ globs (and_parts _ _ h).0) later
+    by_test later false e = ap (λ t. is_sorted_by_prefix (cond t (g ∷ filter keep globs) (filter keep globs))) e ∙ later
 
-pub order_before : (before : List GlobSpec) (last : GlobSpec) → is_in_order (before ++ last ∷ []) ≡ true → is_in_order before ≡ true
+pub order_before : (before : List GlobSpec) (last : GlobSpec) → is_sorted_by_prefix (before ++ last ∷ []) ≡ true → is_sorted_by_prefix before ≡ true
 order_before [] last h = refl
 order_before (g ∷ before) last h =
     and_from _ _ (front_all before (and_parts _ _ h).0) (order_before before last (and_parts _ _ h).1)
@@ -168,7 +168,7 @@ order_before (g ∷ before) last h =
     front_all [] h = refl
     front_all (x ∷ gs) h = and_from _ _ (and_parts _ _ h).0 (front_all gs (and_parts _ _ h).1)
 
-pub order_push : (before : List GlobSpec) (last more : GlobSpec) → is_in_order (before ++ last ∷ []) ≡ true → is_at_most (front_of last) (front_of more) ≡ true → is_in_order ((before ++ last ∷ []) ++ more ∷ []) ≡ true
+pub order_push : (before : List GlobSpec) (last more : GlobSpec) → is_sorted_by_prefix (before ++ last ∷ []) ≡ true → is_at_most (front_of last) (front_of more) ≡ true → is_sorted_by_prefix ((before ++ last ∷ []) ++ more ∷ []) ≡ true
 order_push [] last more h le = and_from _ _ (and_from _ _ le refl) refl
 order_push (g ∷ before) last more h le =
     and_from _ _ (more_all before (and_parts _ _ h).0) (order_push before last more (and_parts _ _ h).1 le)
@@ -179,9 +179,9 @@ order_push (g ∷ before) last more h le =
     more_all (x ∷ gs) h = and_from _ _ (and_parts _ _ h).0 (more_all gs (and_parts _ _ h).1)
 
 -- a list with an appended glob is sorted if and only if its literal prefix is not less than the last one
-pub order_with : (before : List GlobSpec) (last more : GlobSpec) → is_in_order (before ++ last ∷ []) ≡ true → is_at_most (front_of last) (front_of more) ≡ is_in_order ((before ++ last ∷ []) ++ more ∷ [])
+pub order_with : (before : List GlobSpec) (last more : GlobSpec) → is_sorted_by_prefix (before ++ last ∷ []) ≡ true → is_at_most (front_of last) (front_of more) ≡ is_sorted_by_prefix ((before ++ last ∷ []) ++ more ∷ [])
 order_with before last more h =
-    both_ways (is_at_most (front_of last) (front_of more)) (is_in_order ((before ++ last ∷ []) ++ more ∷ [])) (order_push before last more h) (λ order. at_end before (order_last (before ++ last ∷ []) more order))
+    both_ways (is_at_most (front_of last) (front_of more)) (is_sorted_by_prefix ((before ++ last ∷ []) ++ more ∷ [])) (order_push before last more h) (λ order. at_end before (order_last (before ++ last ∷ []) more order))
   where
     at_end : (gs : List GlobSpec) → list_all (λ glob. is_at_most (front_of glob) (front_of more)) (gs ++ last ∷ []) ≡ true → is_at_most (front_of last) (front_of more) ≡ true
     at_end [] h = (and_parts _ _ h).0
@@ -231,15 +231,15 @@ module _ (test : GlobSpec → Bool) where
   -- loop invariant: a remaining glob satisfies the predicate if and only if any does
   pub record Narrows (all left : List GlobSpec) (bytes : List ℕ) : Type 0 where
     pub same : list_any test left ≡ list_any test all
-    pub order : is_in_order left ≡ true
+    pub order : is_sorted_by_prefix left ≡ true
     pub near : AreNear bytes left
 
   module _ (all left before : List GlobSpec) (last : GlobSpec) (bytes : List ℕ) (held : Narrows all left bytes) (split : left ≡ before ++ last ∷ []) where
     near : AreNear bytes (before ++ last ∷ [])
     near = subst (AreNear bytes) split held.near
 
-    order : is_in_order (before ++ last ∷ []) ≡ true
-    order = sym (ap is_in_order split) ∙ held.order
+    order : is_sorted_by_prefix (before ++ last ∷ []) ≡ true
+    order = sym (ap is_sorted_by_prefix split) ∙ held.order
 
     all_by_last : list_any test all ≡ (list_any test before || (test last || false))
     all_by_last = sym held.same ∙ ap (list_any test) split ∙ list_any-append test before (last ∷ [])

@@ -7,15 +7,15 @@ use Rattle.std.specs.Str.{bytes_eq}
 use Rattle.std.proofs.lemmas.Bool.{and_from, and_parts, false_from_ne_true, or_left, or_right}
 use Rattle.std.proofs.lemmas.List.Folds.{Any-from_list_any, list_any-from_Any}
 use Rattle.std.proofs.lemmas.Slice.Eq.{bytes_eq-Decides}
-use Rattle.jj_paths.specs.Paths.{Name, Path, path_text}
-use Rattle.jj_matchers.specs.Answers.{Answer, all_recursively, specific, nothing, IsSound}
+use Rattle.jj_paths.specs.Paths.{Name, Path, path_string}
+use Rattle.jj_matchers.specs.VisitSpecs.{VisitSpec, all_recursively, specific, nothing, IsSound}
 use Rattle.jj_globs.specs.GlobMeaning.{GlobSpec}
-use Rattle.jj_matchers.specs.Candidates.{ChoosesFrom, names_of}
-use Rattle.jj_matchers.specs.Wanted.{is_at_or_below, has_prefix, leads_to_wanted, leads_to_prefix}
-use Rattle.jj_matchers.specs.Patterns.{Patterns, is_prefix_match, accepts_tail, covers_tail, tail_passes, pattern_dirs, is_accepted, is_covered, opens_to_patterns, patterns_answer, AcceptsText, IsAccepted, TellsAccepted}
+use Rattle.jj_matchers.specs.MentionedNames.{MentionsOnly, names_of}
+use Rattle.jj_matchers.specs.PathLists.{is_at_or_below, has_prefix, leads_to_listed, leads_to_prefix}
+use Rattle.jj_matchers.specs.Patterns.{Patterns, is_prefix_match, accepts_tail, covers_tail, tail_passes, pattern_dirs, is_accepted, is_covered, opens_to_patterns, patterns_spec, MatchesString, IsAccepted, IsSoundForGlobs}
 use Rattle.jj_matchers.proofs.PatternTexts.{Tells-is_match, Tells-is_prefix_match, prefix_match_below, stars_fit}
-use Rattle.jj_matchers.proofs.Candidates.{leads_among}
-use Rattle.jj_matchers.proofs.Wanted.{any_implies, list_any-map, is_at_or_below-append, at_or_below_more, prefix_below, prefix_deeper}
+use Rattle.jj_matchers.proofs.MentionedNames.{leads_among}
+use Rattle.jj_matchers.proofs.PathLists.{any_implies, list_any-map, is_at_or_below-append, at_or_below_more, prefix_below, prefix_deeper}
 
 -- 1. Tails.
 
@@ -41,14 +41,14 @@ pub passes : (test : Path → Bool) (dir path : Path) → Passed test dir path �
 passes test dir path p = ap (tail_passes dir test) p.is ∙ tail_passes-append test dir p.tail ∙ p.passes
 
 -- the string of a path below another
-path_text-below : (name : Name) (path : Path) (next : Name) (rest : Path) → path_text (name ∷ (path ++ next ∷ rest)) ≡ path_text (name ∷ path) ++ 47 ∷ path_text (next ∷ rest)
-path_text-below name [] next rest = refl
-path_text-below name (p ∷ path) next rest = ap (λ l. name ++ 47 ∷ l) (path_text-below p path next rest) ∙ sym (append_assoc name (47 ∷ path_text (p ∷ path)) (47 ∷ path_text (next ∷ rest)))
+path_string-below : (name : Name) (path : Path) (next : Name) (rest : Path) → path_string (name ∷ (path ++ next ∷ rest)) ≡ path_string (name ∷ path) ++ 47 ∷ path_string (next ∷ rest)
+path_string-below name [] next rest = refl
+path_string-below name (p ∷ path) next rest = ap (λ l. name ++ 47 ∷ l) (path_string-below p path next rest) ∙ sym (append_assoc name (47 ∷ path_string (p ∷ path)) (47 ∷ path_string (next ∷ rest)))
 
 -- all paths below a covered tail are accepted
 covers_below : (g : GlobSpec) (tail : Path) (name : Name) (rest : Path) → covers_tail g tail ≡ true → accepts_tail true g (tail ++ name ∷ rest) ≡ true
-covers_below g [] name rest h = stars_fit g h (path_text (name ∷ rest))
-covers_below g (t ∷ tail) name rest h = ap (is_prefix_match g) (path_text-below t tail name rest) ∙ prefix_match_below g (path_text (t ∷ tail)) (path_text (name ∷ rest)) h
+covers_below g [] name rest h = stars_fit g h (path_string (name ∷ rest))
+covers_below g (t ∷ tail) name rest h = ap (is_prefix_match g) (path_string-below t tail name rest) ∙ prefix_match_below g (path_string (t ∷ tail)) (path_string (name ∷ rest)) h
 
 -- a child below a base is in a directory at or below the base
 child_within : (base dir : Path) (name first : Name) (tail : Path) → dir ++ name ∷ [] ≡ base ++ first ∷ tail → is_at_or_below base dir ≡ true
@@ -104,10 +104,10 @@ module _ (set : Patterns) where
   further_below : (dir rest : Path) → has_prefix (pattern_dirs set) dir ≡ true → has_prefix (pattern_dirs set) (dir ++ rest) ≡ true
   further_below dir rest = any_implies (λ d. is_at_or_below d dir) (λ d. is_at_or_below d (dir ++ rest)) (λ d e. at_or_below_more d dir rest e) (pattern_dirs set)
 
-  pub patterns_sound : (dir : Path) → IsSound (is_accepted set) (opens_to_patterns set) dir (patterns_answer set dir)
-  patterns_sound dir = by_cases (is_covered set dir) (has_prefix (pattern_dirs set) dir) (leads_to_wanted (pattern_dirs set) dir) refl refl refl
+  pub patterns_sound : (dir : Path) → IsSound (is_accepted set) (opens_to_patterns set) dir (patterns_spec set dir)
+  patterns_sound dir = by_cases (is_covered set dir) (has_prefix (pattern_dirs set) dir) (leads_to_listed (pattern_dirs set) dir) refl refl refl
     where
-      by_cases : (covered within leads : Bool) → is_covered set dir ≡ covered → has_prefix (pattern_dirs set) dir ≡ within → leads_to_wanted (pattern_dirs set) dir ≡ leads →
+      by_cases : (covered within leads : Bool) → is_covered set dir ≡ covered → has_prefix (pattern_dirs set) dir ≡ within → leads_to_listed (pattern_dirs set) dir ≡ leads →
           IsSound (is_accepted set) (opens_to_patterns set) dir (if covered then all_recursively
           else (if within then specific (λ name. true) (λ name. true)
           else (if leads then specific (λ name. leads_to_prefix (pattern_dirs set) (dir ++ name ∷ [])) (λ name. false) else nothing)))
@@ -128,38 +128,38 @@ module _ (set : Patterns) where
 
 module _ (set : Patterns) where
   -- the visit of a directory that is not covered and has no patterns at or above it
-  abbrev pub answer_below : Path → Answer
-  answer_below dir = if leads_to_wanted (pattern_dirs set) dir then specific (λ name. leads_to_prefix (pattern_dirs set) (dir ++ name ∷ [])) (λ name. false) else nothing
+  abbrev pub uncovered_spec : Path → VisitSpec
+  uncovered_spec dir = if leads_to_listed (pattern_dirs set) dir then specific (λ name. leads_to_prefix (pattern_dirs set) (dir ++ name ∷ [])) (λ name. false) else nothing
 
-  abbrev pub answer_by : Bool → Bool → Path → Answer
-  answer_by covered within dir = if covered then all_recursively else (if within then specific (λ name. true) (λ name. true) else answer_below dir)
+  abbrev pub answer_by : Bool → Bool → Path → VisitSpec
+  answer_by covered within dir = if covered then all_recursively else (if within then specific (λ name. true) (λ name. true) else uncovered_spec dir)
 
-  pub answer_is : (covered within : Bool) (dir : Path) → is_covered set dir ≡ covered → has_prefix (pattern_dirs set) dir ≡ within → answer_by covered within dir ≡ patterns_answer set dir
+  pub answer_is : (covered within : Bool) (dir : Path) → is_covered set dir ≡ covered → has_prefix (pattern_dirs set) dir ≡ within → answer_by covered within dir ≡ patterns_spec set dir
   answer_is covered within dir c w = λ i. answer_by (sym c i) (sym w i) dir
 
   -- the visit mentions all children, or only children at or above a pattern's directory
-  pub patterns_choose : (dir : Path) → ChoosesFrom (names_of (pattern_dirs set)) (patterns_answer set dir)
-  patterns_choose dir = by_cases (is_covered set dir) (has_prefix (pattern_dirs set) dir) (leads_to_wanted (pattern_dirs set) dir)
+  pub patterns_choose : (dir : Path) → MentionsOnly (names_of (pattern_dirs set)) (patterns_spec set dir)
+  patterns_choose dir = by_cases (is_covered set dir) (has_prefix (pattern_dirs set) dir) (leads_to_listed (pattern_dirs set) dir)
     where
-      by_cases : (t u v : Bool) → ChoosesFrom (names_of (pattern_dirs set)) (if t then all_recursively else (if u then specific (λ name. true) (λ name. true) else (if v then specific (λ name. leads_to_prefix (pattern_dirs set) (dir ++ name ∷ [])) (λ name. false) else nothing)))
+      by_cases : (t u v : Bool) → MentionsOnly (names_of (pattern_dirs set)) (if t then all_recursively else (if u then specific (λ name. true) (λ name. true) else (if v then specific (λ name. leads_to_prefix (pattern_dirs set) (dir ++ name ∷ [])) (λ name. false) else nothing)))
       by_cases true u v = tt
       by_cases false true v = (inl (λ name. refl), inl (λ name. refl))
       by_cases false false true = (inr (λ name e. leads_among (pattern_dirs set) dir name e), inr (λ name e. absurd (false≢true e)))
       by_cases false false false = tt
 
-  pub told_sound : (dir : Path) (answer : Answer) → answer ≡ patterns_answer set dir → IsSound (is_accepted set) (opens_to_patterns set) dir answer
-  told_sound dir answer e = subst (IsSound (is_accepted set) (opens_to_patterns set) dir) (sym e) (patterns_sound set dir)
+  pub told_sound : (dir : Path) (visit : VisitSpec) → visit ≡ patterns_spec set dir → IsSound (is_accepted set) (opens_to_patterns set) dir visit
+  told_sound dir visit e = subst (IsSound (is_accepted set) (opens_to_patterns set) dir) (sym e) (patterns_sound set dir)
 
 -- 3. Equivalence with `IsAccepted`.
 
-accepts_text : (b : Bool) (g : GlobSpec) (name : Name) (rest : Path) → Decides (accepts_tail b g (name ∷ rest)) (AcceptsText b g (path_text (name ∷ rest)))
-accepts_text false g name rest = Tells-is_match g (path_text (name ∷ rest))
-accepts_text true g name rest = Tells-is_prefix_match g (path_text (name ∷ rest))
+accepts_text : (b : Bool) (g : GlobSpec) (name : Name) (rest : Path) → Decides (accepts_tail b g (name ∷ rest)) (MatchesString b g (path_string (name ∷ rest)))
+accepts_text false g name rest = Tells-is_match g (path_string (name ∷ rest))
+accepts_text true g name rest = Tells-is_prefix_match g (path_string (name ∷ rest))
 
 module _ (set : Patterns) where
   -- the pattern accepts the path
   abbrev Says : Path → Path × GlobSpec → Type 0
-  Says path pattern = (name : Name) × (rest : Path) × (path ≡ pattern.0 ++ name ∷ rest) × AcceptsText set.prefix_paths pattern.1 (path_text (name ∷ rest))
+  Says path pattern = (name : Name) × (rest : Path) × (path ≡ pattern.0 ++ name ∷ rest) × MatchesString set.prefix_paths pattern.1 (path_string (name ∷ rest))
 
   abbrev test_of : Path → Path × GlobSpec → Bool
   test_of path pattern = tail_passes pattern.0 (accepts_tail set.prefix_paths pattern.1) path
@@ -181,14 +181,14 @@ module _ (set : Patterns) where
   )
 
   -- soundness in terms of `IsAccepted` follows from soundness
-  pub tells_accepted : (dir : Path) (answer : Answer)
-      → IsSound (is_accepted set) (opens_to_patterns set) dir answer → TellsAccepted set dir answer
-  tells_accepted dir all_recursively sound = λ name rest.
+  pub sound_for_globs : (dir : Path) (visit : VisitSpec)
+      → IsSound (is_accepted set) (opens_to_patterns set) dir visit → IsSoundForGlobs set dir visit
+  sound_for_globs dir all_recursively sound = λ name rest.
       (Decides-is_accepted (dir ++ name ∷ rest)).0 (sound name rest).0
-  tells_accepted dir (specific dirs files) sound = (
+  sound_for_globs dir (specific dirs files) sound = (
     (λ name h. sound.files_named name ((Decides-is_accepted (dir ++ name ∷ [])).1 h)),
     (λ name next rest h. sound.dirs_named name next rest
         ((Decides-is_accepted (dir ++ name ∷ next ∷ rest)).1 h)),
   )
-  tells_accepted dir nothing sound = λ name rest h.
+  sound_for_globs dir nothing sound = λ name rest h.
       false≢true (sym (sound name rest) ∙ (Decides-is_accepted (dir ++ name ∷ rest)).1 h)

@@ -218,8 +218,8 @@ stars_fit g stars bytes =
     ])
 
 -- equal arguments: a decision of the proposition is the result of the predicate
-pub told : (test : GlobSpec → List ℕ → Bool) (M : GlobSpec → List ℕ → Type 0) (answer : Bool) (glob glob' : GlobSpec) (bytes bytes' : List ℕ)
-    → Decides (test glob bytes) (M glob bytes) → (IsTrue answer ↔ M glob bytes) → glob ≡ glob' → bytes ≡ bytes' → answer ≡ test glob' bytes'
-told test M answer glob glob' bytes bytes' tells asked same_glob same_bytes =
-    both_ways answer (test glob bytes) (λ h. tells.1 (asked.0 h)) (λ h. asked.1 (tells.0 h))
+pub told : (test : GlobSpec → List ℕ → Bool) (M : GlobSpec → List ℕ → Type 0) (result : Bool) (glob glob' : GlobSpec) (bytes bytes' : List ℕ)
+    → Decides (test glob bytes) (M glob bytes) → (IsTrue result ↔ M glob bytes) → glob ≡ glob' → bytes ≡ bytes' → result ≡ test glob' bytes'
+told test M result glob glob' bytes bytes' tells asked same_glob same_bytes =
+    both_ways result (test glob bytes) (λ h. tells.1 (asked.0 h)) (λ h. asked.1 (tells.0 h))
     ∙ ap (λ g. test g bytes) same_glob ∙ ap (test glob') same_bytes

@@ -1,5 +1,5 @@
 -- Queries of a trie of globs agree with those of the list of its patterns.
-use Rattle.std.proofs.Common.{◌≡◌, ◌∙◌, ap, sym, refl, Bool, true, false, ◌&&◌, ◌||◌, inl, inr, List, [], ◌∷◌, ◌++◌, map, Option, Some, None, if◌then◌else◌}
+use Rattle.std.proofs.Common.{◌≡◌, ◌∙◌, ap, sym, refl, Bool, true, false, ◌&&◌, ◌||◌, inl, inr, List, [], ◌∷◌, ◌++◌, map, Option, Some, None, if◌then◌else◌, unwrap_or}
 use mathlib.Core.Bool.{false≢true}
 use Rattle.std.specs.Cmp.{both_ways}
 use Rattle.std.specs.Option.{option_and_then, option_map}
@@ -14,18 +14,18 @@ use Rattle.jj_paths.specs.Paths.{Name, Path, name_cmp}
 use Rattle.jj_paths.specs.Orders.{path_eq, path_eq-Decides}
 use Rattle.jj_paths.specs.Tree.{Tree, tree_of, Branches, none, branch, child, children, get, has_branches, nodes_on, value_at}
 use Rattle.jj_paths.specs.Nodes.{NodeAt, nodes_under}
-use Rattle.jj_matchers.specs.Answers.{Answer, specific, nothing}
+use Rattle.jj_matchers.specs.VisitSpecs.{VisitSpec, specific, nothing}
 use Rattle.jj_globs.specs.GlobMeaning.{GlobSpec}
-use Rattle.jj_matchers.specs.Wanted.{is_at_or_below, is_below, is_wanted, HasSamePaths, has_prefix, leads_to_wanted, leads_to_prefix}
-use Rattle.jj_matchers.specs.Marks.{is_some_true, is_marked, marked_paths, passes, any_child, children_answer, any_node}
+use Rattle.jj_matchers.specs.PathLists.{is_at_or_below, is_below, is_listed, HasSamePaths, has_prefix, leads_to_listed, leads_to_prefix}
+use Rattle.jj_matchers.specs.Marks.{is_marked, marked_paths, option_satisfies, any_child, children_spec, any_node}
 use Rattle.jj_matchers.specs.Patterns.{tail_passes}
-use Rattle.jj_matchers.specs.PatternTree.{has_globs, marked_branches, marks_of, no_node, globs_or_none, globs_at, patterns_at, patterns_of, LeadsToGlobs}
-use Rattle.jj_matchers.proofs.Marks.{path_listed, is_wanted-marked, leads-get, leads-none, prefix-child}
+use Rattle.jj_matchers.specs.PatternTree.{has_globs, marked_branches, marks_of, no_node, globs_at, patterns_at, patterns_of, LeadsToGlobs}
+use Rattle.jj_matchers.proofs.Marks.{path_listed, is_listed-marked, leads-get, leads-none, prefix-child}
 use Rattle.jj_matchers.proofs.PatternSound.{tail_passes-append, passed, passes as tail_is_passed}
-use Rattle.jj_matchers.specs.Visits.{is_among, sets_answer}
+use Rattle.jj_matchers.specs.Visits.{is_among, sets_spec}
 use Rattle.jj_matchers.proofs.Children.{any_named, sets_are}
-use Rattle.jj_matchers.proofs.Marked.{leads-blank}
-use Rattle.jj_matchers.proofs.Wanted.{any_implies, same_members}
+use Rattle.jj_matchers.proofs.SetMark.{leads-blank}
+use Rattle.jj_matchers.proofs.PathLists.{any_implies, same_members}
 
 -- 1. Lists.
 
@@ -70,9 +70,9 @@ value_at-marks tree path = ap (option_map (λ (node : Tree Bool). node.value)) (
     by_node (Some node) = refl
 
 pub is_marked-marks : (tree : Tree (List GlobSpec)) (path : Path) → is_marked (marks_of tree) path ≡ has_globs (globs_at tree path)
-is_marked-marks tree path = ap is_some_true (value_at-marks tree path) ∙ by_value (value_at tree path)
+is_marked-marks tree path = ap (λ (o : Option Bool). unwrap_or o false) (value_at-marks tree path) ∙ by_value (value_at tree path)
   where
-    by_value : (o : Option (List GlobSpec)) → is_some_true (option_map has_globs o) ≡ has_globs (globs_or_none o)
+    by_value : (o : Option (List GlobSpec)) → unwrap_or (option_map has_globs o) false ≡ has_globs (unwrap_or o [])
     by_value None = refl
     by_value (Some globs) = refl
 
@@ -107,7 +107,7 @@ module _ (tree : Tree (List GlobSpec)) where
   node_of dir test h = by_node (get tree dir) refl
     where
       by_node : (o : Option (Tree (List GlobSpec))) → get tree dir ≡ o → (node : Tree (List GlobSpec)) × (get tree dir ≡ Some node)
-      by_node None e = absurd (false≢true (sym (ap (λ o. list_any test (globs_or_none (option_map (λ (node : Tree (List GlobSpec)). node.value) o))) e) ∙ h))
+      by_node None e = absurd (false≢true (sym (ap (λ o. list_any test (unwrap_or (option_map (λ (node : Tree (List GlobSpec)). node.value) o) [])) e) ∙ h))
       by_node (Some node) e = (node, e)
 
   pub pattern_any : (test : Path × GlobSpec → Bool) (dir : Path) → list_any (λ glob. test (dir, glob)) (globs_at tree dir) ≡ true → list_any test (patterns_of tree) ≡ true
@@ -187,7 +187,7 @@ module _ (tree : Tree (List GlobSpec)) where
     to_patterns : list_any step_test (nodes_on tree path) ≡ true → list_any pattern_test (patterns_of tree) ≡ true
     to_patterns h =
         let found = on_the_way step_test path tree h in
-        let globs : globs_at tree found.front ≡ found.node.value = ap (λ o. globs_or_none (option_map (λ (node : Tree (List GlobSpec)). node.value) o)) found.at in
+        let globs : globs_at tree found.front ≡ found.node.value = ap (λ o. unwrap_or (option_map (λ (node : Tree (List GlobSpec)). node.value) o) []) found.at in
         let here : list_any (λ glob. test glob found.tail) (globs_at tree found.front) ≡ true = ap (list_any (λ glob. test glob found.tail)) globs ∙ found.passes in
         pattern_any tree pattern_test found.front
         (any_implies (λ glob. test glob found.tail) (λ glob. tail_passes found.front (test glob) path)
@@ -200,7 +200,7 @@ module _ (tree : Tree (List GlobSpec)) where
         let one = some_of (λ glob. tail_passes dir (test glob) path) (globs_at tree dir) found.1 in
         let way = passed (test one.0) dir path one.1 in
         let node = node_of tree dir (λ glob. tail_passes dir (test glob) path) found.1 in
-        let globs : globs_at tree dir ≡ node.0.value = ap (λ o. globs_or_none (option_map (λ (n : Tree (List GlobSpec)). n.value) o)) node.1 in
+        let globs : globs_at tree dir ≡ node.0.value = ap (λ o. unwrap_or (option_map (λ (n : Tree (List GlobSpec)). n.value) o) []) node.1 in
         let here : list_any (λ glob. test glob way.tail) (globs_at tree dir) ≡ true =
         any_implies (λ glob. tail_passes dir (test glob) path) (λ glob. test glob way.tail)
         (λ glob e. sym (ap (tail_passes dir (test glob)) way.is ∙ tail_passes-append (test glob) dir way.tail) ∙ e) (globs_at tree dir) found.1 in
@@ -222,9 +222,9 @@ module _ (tree : Tree (List GlobSpec)) where
 
   -- the directories of the patterns are the marked paths
   same_dirs : HasSamePaths (marked_paths (marks_of tree)) dirs
-  same_dirs = same_members (marked_paths (marks_of tree)) dirs (λ path. is_wanted-marked (marks_of tree) path ∙ is_marked-marks tree path ∙ both_ways (has_globs (globs_at tree path)) (is_wanted dirs path) (to path) (from path))
+  same_dirs = same_members (marked_paths (marks_of tree)) dirs (λ path. is_listed-marked (marks_of tree) path ∙ is_marked-marks tree path ∙ both_ways (has_globs (globs_at tree path)) (is_listed dirs path) (to path) (from path))
     where
-      to : (path : Path) → has_globs (globs_at tree path) ≡ true → is_wanted dirs path ≡ true
+      to : (path : Path) → has_globs (globs_at tree path) ≡ true → is_listed dirs path ≡ true
       to path h =
           any-map (λ (pattern : Path × GlobSpec). pattern.0) (path_eq path) (patterns_of tree)
           ∙ pattern_any tree (λ (pattern : Path × GlobSpec). path_eq path pattern.0) path (some (globs_at tree path) h)
@@ -233,7 +233,7 @@ module _ (tree : Tree (List GlobSpec)) where
           some [] h = absurd (false≢true h)
           some (glob ∷ globs) h = or_left (path_eq path path) (list_any (λ g. path_eq path path) globs) ((path_eq-Decides path path).1 refl)
 
-      from : (path : Path) → is_wanted dirs path ≡ true → has_globs (globs_at tree path) ≡ true
+      from : (path : Path) → is_listed dirs path ≡ true → has_globs (globs_at tree path) ≡ true
       from path h =
           let found = any_pattern tree (λ (pattern : Path × GlobSpec). path_eq path pattern.0) (sym (any-map (λ (pattern : Path × GlobSpec). pattern.0) (path_eq path) (patterns_of tree)) ∙ h) in
           let one = some_of (λ glob. path_eq path found.0) (globs_at tree found.0) found.1 in
@@ -245,13 +245,13 @@ module _ (tree : Tree (List GlobSpec)) where
 
   -- the visit at a node on the way to directories with globs
   module _ (leads : LeadsToGlobs tree) where
-    abbrev pub children_on_the_way : Path → Answer
-    children_on_the_way dir = if leads_to_wanted dirs dir then specific (λ name. leads_to_prefix dirs (dir ++ name ∷ [])) (λ name. false) else nothing
+    abbrev pub children_on_the_way : Path → VisitSpec
+    children_on_the_way dir = if leads_to_listed dirs dir then specific (λ name. leads_to_prefix dirs (dir ++ name ∷ [])) (λ name. false) else nothing
 
     leads_there : (dir : Path) (o : Option (Tree (List GlobSpec))) → get tree dir ≡ o → get (marks_of tree) dir ≡ option_map marks_of o
     leads_there dir o e = get-marks dir tree ∙ ap (option_map marks_of) e
 
-    unmarked : (o : Option (Tree Bool)) → passes no_node o ≡ false
+    unmarked : (o : Option (Tree Bool)) → option_satisfies no_node o ≡ false
     unmarked None = refl
     unmarked (Some node) = refl
 
@@ -259,10 +259,10 @@ module _ (tree : Tree (List GlobSpec)) where
     nodes none = refl
     nodes (branch n value below after) = refl
 
-    pub children_are : (dir : Path) (node : Tree (List GlobSpec)) → get tree dir ≡ Some node → children_answer any_node no_node (marked_branches node.branches) ≡ children_on_the_way dir
+    pub children_are : (dir : Path) (node : Tree (List GlobSpec)) → get tree dir ≡ Some node → children_spec any_node no_node (marked_branches node.branches) ≡ children_on_the_way dir
     children_are dir node e =
         let there : get (marks_of tree) dir ≡ Some (marks_of node) = leads_there dir (Some node) e in
-        let some : (any_child any_node (marked_branches node.branches) || any_child no_node (marked_branches node.branches)) ≡ leads_to_wanted dirs dir =
+        let some : (any_child any_node (marked_branches node.branches) || any_child no_node (marked_branches node.branches)) ≡ leads_to_listed dirs dir =
         nodes (marked_branches node.branches) ∙ sym (leads-get (marks_of tree) leads dir (marks_of node) there) ∙ same_dirs (is_below dir) in
         λ i. if some i then specific
         (λ name. (prefix-child (marks_of tree) leads dir (marks_of node) name there ∙ same_dirs (is_at_or_below (dir ++ name ∷ []))) i)
@@ -282,7 +282,7 @@ or_false false = refl
 -- a tree of a root without globs has none anywhere
 pub bare_tree : (tree : Tree (List GlobSpec)) → tree.value ≡ [] → tree.branches ≡ none → (dir : Path) → globs_at tree dir ≡ []
 bare_tree tree bare alone [] = bare
-bare_tree tree bare alone (name ∷ rest) = ap (λ b. globs_or_none (option_map (λ (node : Tree (List GlobSpec)). node.value) (option_and_then (λ (sub : Tree (List GlobSpec)). get sub rest) (child b name)))) alone
+bare_tree tree bare alone (name ∷ rest) = ap (λ b. unwrap_or (option_map (λ (node : Tree (List GlobSpec)). node.value) (option_and_then (λ (sub : Tree (List GlobSpec)). get sub rest) (child b name))) []) alone
 
 pub bare_leads : (tree : Tree (List GlobSpec)) → tree.branches ≡ none → LeadsToGlobs tree
 bare_leads tree alone = leads-blank (marks_of tree) (ap marked_branches alone)
@@ -344,7 +344,7 @@ no_names name (node ∷ nodes) = by_name (bytes_eq name node.0) (no_names name n
 
 -- the visit of all children as directories
 pub directories_are : (b : Branches (List GlobSpec)) (names : List Name) → is_sorted name_cmp (children b) ≡ true → ((name : Name) → is_among names name ≡ any_named any_node name (marked_children (children b))) →
-    sets_answer names [] ≡ children_answer any_node no_node (marked_branches b)
+    sets_spec names [] ≡ children_spec any_node no_node (marked_branches b)
 directories_are b names sorted known =
     sets_are any_node no_node (marked_branches b) (ap (is_sorted name_cmp) (children-marks b) ∙ sorted_marks (children b) ∙ sorted) names []
     (λ name. known name ∙ ap (any_named any_node name) (sym (children-marks b))) (λ name. no_names name (children (marked_branches b)))

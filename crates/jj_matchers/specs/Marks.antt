@@ -1,11 +1,11 @@
 -- Trees of marked paths: the tree of a list of marks, and the list of the marks of a tree.
 -- Cited by contracts of public items: IsMarkedTree, marked_paths.
-use Rattle.std.specs.Prelude.{◌≡◌, ◌↔◌, ◌⊎◌, Bool, true, false, ◌||◌, List, [], ◌∷◌, ◌++◌, Option, Some, None, IsSome, map, if◌then◌else◌, Contains}
+use Rattle.std.specs.Prelude.{◌≡◌, ◌↔◌, ◌⊎◌, Bool, true, false, ◌||◌, List, [], ◌∷◌, ◌++◌, Option, Some, None, IsSome, map, if◌then◌else◌, Contains, unwrap_or}
 use Rattle.std.specs.List.{filter, list_any}
 use Rattle.jj_paths.specs.Paths.{Name, Path}
 use Rattle.jj_paths.specs.Tree.{Tree, Branches, child, children, get, has_branches, is_ordered, value_at}
 use Rattle.jj_paths.specs.Nodes.{all_nodes}
-use Rattle.jj_matchers.specs.Answers.{Answer, specific, nothing}
+use Rattle.jj_matchers.specs.VisitSpecs.{VisitSpec, specific, nothing}
 
 -- the tree of these marks: its nodes are the root, the marks and their ancestors, in path order,
 -- and exactly the marks are marked
@@ -20,13 +20,9 @@ abbrev pub AddsMarks : List Path → Tree Bool → Tree Bool → Type 0
 AddsMarks marks old new = (before : List Path) → IsMarkedTree before old
     → IsMarkedTree (before ++ marks) new
 
-abbrev pub is_some_true : Option Bool → Bool
-is_some_true None = false
-is_some_true (Some mark) = mark
-
 -- whether the path is marked
 abbrev pub is_marked : Tree Bool → Path → Bool
-is_marked tree path = is_some_true (value_at tree path)
+is_marked tree path = unwrap_or (value_at tree path) false
 
 abbrev pub marked_paths : Tree Bool → List Path
 marked_paths tree = filter (is_marked tree) (map (λ found. found.path) (all_nodes tree))
@@ -37,22 +33,22 @@ LeadsToMarks tree = (above : Path) (name : Name) → value_at tree (above ++ nam
     → ((next : Name) → value_at tree (above ++ name ∷ next ∷ []) ≡ None) → ⊥
 
 -- whether the child with a name exists and satisfies a predicate, and whether any child does
-abbrev pub passes : (Tree Bool → Bool) → Option (Tree Bool) → Bool
-passes test None = false
-passes test (Some node) = test node
+abbrev pub option_satisfies : (Tree Bool → Bool) → Option (Tree Bool) → Bool
+option_satisfies test None = false
+option_satisfies test (Some node) = test node
 
-abbrev pub named_by : (Tree Bool → Bool) → Branches Bool → Name → Bool
-named_by test branches name = passes test (child branches name)
+abbrev pub child_satisfies : (Tree Bool → Bool) → Branches Bool → Name → Bool
+child_satisfies test branches name = option_satisfies test (child branches name)
 
 abbrev pub any_child : (Tree Bool → Bool) → Branches Bool → Bool
 any_child test branches = list_any (λ child. test child.1) (children branches)
 
 -- the visit of the children that satisfy `dirs` as directories, and of those that satisfy `files`
 -- as files
-abbrev pub children_answer : (Tree Bool → Bool) → (Tree Bool → Bool) → Branches Bool → Answer
-children_answer dirs files branches = if any_child dirs branches
-    || any_child files branches then specific (named_by dirs branches)
-    (named_by files branches) else nothing
+abbrev pub children_spec : (Tree Bool → Bool) → (Tree Bool → Bool) → Branches Bool → VisitSpec
+children_spec dirs files branches = if any_child dirs branches
+    || any_child files branches then specific (child_satisfies dirs branches)
+    (child_satisfies files branches) else nothing
 
 abbrev pub has_children : Tree Bool → Bool
 has_children node = has_branches node.branches

@@ -13,12 +13,13 @@ is_at_most (x ∷ front) [] = false
 is_at_most (x ∷ front) (y ∷ bytes) = if x == y then is_at_most front bytes else nat_lt x y
 
 -- the literal prefixes ascend
-abbrev pub is_in_order : List GlobSpec → Bool
-is_in_order [] = true
-is_in_order (glob ∷ globs) =
-    list_all (λ later. is_at_most (front_of glob) (front_of later)) globs && is_in_order globs
+abbrev pub is_sorted_by_prefix : List GlobSpec → Bool
+is_sorted_by_prefix [] = true
+is_sorted_by_prefix (glob ∷ globs) =
+    list_all (λ later. is_at_most (front_of glob) (front_of later)) globs
+    && is_sorted_by_prefix globs
 
 -- whether the glob matches the path, or with the flag an ancestor
-abbrev pub fits_text : Bool → GlobSpec → List ℕ → Bool
-fits_text prefix_paths glob text =
+abbrev pub matches_string : Bool → GlobSpec → List ℕ → Bool
+matches_string prefix_paths glob text =
     if prefix_paths then is_prefix_match glob text else is_match glob text

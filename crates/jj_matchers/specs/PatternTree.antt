@@ -1,6 +1,6 @@
 -- The trie of directories with the globs of each.
 -- Cited by contracts of public items: patterns_of.
-use Rattle.std.specs.Prelude.{◌≡◌, ◌≢◌, Bool, true, false, ◌&&◌, List, [], ◌∷◌, ◌++◌, map, Option, Some, None}
+use Rattle.std.specs.Prelude.{◌≡◌, ◌≢◌, Bool, true, false, ◌&&◌, List, [], ◌∷◌, ◌++◌, map, unwrap_or}
 use Rattle.std.specs.List.{flat_map, list_any}
 use Rattle.jj_paths.specs.Paths.{Path}
 use Rattle.jj_paths.specs.Orders.{path_eq}
@@ -26,12 +26,8 @@ abbrev pub no_node : Tree Bool → Bool
 no_node node = false
 
 -- the globs of a directory
-abbrev pub globs_or_none : Option (List GlobSpec) → List GlobSpec
-globs_or_none None = []
-globs_or_none (Some globs) = globs
-
 abbrev pub globs_at : Tree (List GlobSpec) → Path → List GlobSpec
-globs_at tree dir = globs_or_none (value_at tree dir)
+globs_at tree dir = unwrap_or (value_at tree dir) []
 
 -- the patterns of a directory, and of all directories
 abbrev pub patterns_at : Tree (List GlobSpec) → Path → List (Path × GlobSpec)

@@ -1,16 +1,16 @@
 -- Glob patterns relative to directories: the paths that they accept, and their visits.
--- Cited by contracts of public items: HasSamePatterns, IsAccepted, Patterns, TellsAccepted,
--- is_accepted, opens_to_patterns, pattern_dirs, patterns_answer.
+-- Cited by contracts of public items: HasSamePatterns, IsAccepted, IsSoundForGlobs, Patterns,
+-- is_accepted, opens_to_patterns, pattern_dirs, patterns_spec.
 use Rattle.std.specs.Prelude.{◌≡◌, ℕ, Bool, true, false, ◌==◌, ◌&&◌, ◌||◌, List, [], ◌∷◌, ◌++◌, map, if◌then◌else◌, Any}
 use Rattle.std.specs.List.{list_any, list_all}
 use Rattle.std.specs.Str.{bytes_eq}
-use Rattle.jj_paths.specs.Paths.{Name, Path, path_text}
-use Rattle.jj_matchers.specs.Answers.{Answer, all_recursively, specific, nothing}
+use Rattle.jj_paths.specs.Paths.{Name, Path, path_string}
+use Rattle.jj_matchers.specs.VisitSpecs.{VisitSpec, all_recursively, specific, nothing}
 use Rattle.jj_globs.specs.declared.glob.sign.Sign.TheVariants.{Asterisk}
 use Rattle.jj_globs.specs.GlobMeaning.{GlobSpec, IsMatch, IsPrefixMatch}
 use Rattle.jj_globs.specs.GlobPlain.{Verdict, yes, no, faulty, matches}
 use Rattle.jj_globs.specs.GlobText.{byte_of}
-use Rattle.jj_matchers.specs.Wanted.{has_prefix, leads_to_wanted, leads_to_prefix}
+use Rattle.jj_matchers.specs.PathLists.{has_prefix, leads_to_listed, leads_to_prefix}
 
 -- 1. Strings.
 
@@ -43,14 +43,14 @@ is_stars (b ∷ bytes) = list_all (λ c. c == byte_of Asterisk) (b ∷ bytes)
 -- whether the glob accepts the path with this tail
 abbrev pub accepts_tail : Bool → GlobSpec → Path → Bool
 accepts_tail prefix_paths glob [] = false
-accepts_tail false glob (name ∷ rest) = is_match glob (path_text (name ∷ rest))
-accepts_tail true glob (name ∷ rest) = is_prefix_match glob (path_text (name ∷ rest))
+accepts_tail false glob (name ∷ rest) = is_match glob (path_string (name ∷ rest))
+accepts_tail true glob (name ∷ rest) = is_prefix_match glob (path_string (name ∷ rest))
 
 -- whether the glob, if paths below a match are accepted, is known to accept all paths below the
 -- tail
 abbrev pub covers_tail : GlobSpec → Path → Bool
 covers_tail glob [] = is_stars glob.text
-covers_tail glob (name ∷ rest) = is_prefix_match glob (path_text (name ∷ rest))
+covers_tail glob (name ∷ rest) = is_prefix_match glob (path_string (name ∷ rest))
 
 -- whether the path is at or below the directory, and its tail satisfies the predicate
 abbrev pub tail_passes : Path → (Path → Bool) → Path → Bool
@@ -91,35 +91,35 @@ opens_to_patterns set dir = has_prefix (pattern_dirs set) dir
 
 -- the visit of a directory: everything if it is covered, else all children at or below a pattern's
 -- directory, else only directories on the way to one
-abbrev pub patterns_answer : Patterns → Path → Answer
-patterns_answer set dir =
+abbrev pub patterns_spec : Patterns → Path → VisitSpec
+patterns_spec set dir =
     if is_covered set dir then all_recursively
     else (if has_prefix (pattern_dirs set) dir then specific (λ name. true) (λ name. true)
-    else (if leads_to_wanted (pattern_dirs set) dir then specific
+    else (if leads_to_listed (pattern_dirs set) dir then specific
     (λ name. leads_to_prefix (pattern_dirs set) (dir ++ name ∷ [])) (λ name. false) else nothing))
 
 -- 4. The paths that a set accepts, without an algorithm.
 
 -- the glob matches the string, or with the flag a prefix of it that a slash follows
-abbrev pub AcceptsText : Bool → GlobSpec → List ℕ → Type 0
-AcceptsText false glob text = IsMatch glob text
-AcceptsText true glob text = IsPrefixMatch glob text
+abbrev pub MatchesString : Bool → GlobSpec → List ℕ → Type 0
+MatchesString false glob text = IsMatch glob text
+MatchesString true glob text = IsPrefixMatch glob text
 
 -- the path is strictly below the directory of a pattern whose glob matches the tail
 abbrev pub IsAccepted : Patterns → Path → Type 0
 IsAccepted set path = Any (λ pattern. (name : Name) × (rest : Path)
-    × (path ≡ pattern.0 ++ name ∷ rest) × AcceptsText set.prefix_paths pattern.1
-    (path_text (name ∷ rest))) set.patterns
+    × (path ≡ pattern.0 ++ name ∷ rest) × MatchesString set.prefix_paths pattern.1
+    (path_string (name ∷ rest))) set.patterns
 
 -- soundness of a visit in terms of `IsAccepted`: all paths strictly below the directory are
 -- accepted; or the accepted children are among the files, and the first names of accepted deeper
 -- paths among the directories; or none is accepted
-abbrev pub TellsAccepted : Patterns → Path → Answer → Type 0
-TellsAccepted set dir all_recursively = (name : Name) (rest : Path)
+abbrev pub IsSoundForGlobs : Patterns → Path → VisitSpec → Type 0
+IsSoundForGlobs set dir all_recursively = (name : Name) (rest : Path)
     → IsAccepted set (dir ++ name ∷ rest)
-TellsAccepted set dir (specific dirs files) =
+IsSoundForGlobs set dir (specific dirs files) =
     ((name : Name) → IsAccepted set (dir ++ name ∷ []) → files name ≡ true)
     × ((name next : Name) (rest : Path) → IsAccepted set (dir ++ name ∷ next ∷ rest)
     → dirs name ≡ true)
-TellsAccepted set dir nothing = (name : Name) (rest : Path)
+IsSoundForGlobs set dir nothing = (name : Name) (rest : Path)
     → IsAccepted set (dir ++ name ∷ rest) → ⊥

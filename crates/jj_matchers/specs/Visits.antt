@@ -1,10 +1,10 @@
 -- The model value of a `Visit`.
--- Cited by contracts of public items: answer_of, dir_names, file_names, is_among, sets_answer.
+-- Cited by contracts of public items: dir_names, file_names, is_among, sets_spec, visit_spec.
 use Rattle.std.specs.Prelude.{Bool, true, false, ◌||◌, List, [], ◌∷◌, if◌then◌else◌}
 use Rattle.std.specs.Str.{bytes_eq}
 use Rattle.std.specs.List.{list_any}
 use Rattle.jj_paths.specs.Paths.{Name}
-use Rattle.jj_matchers.specs.Answers.{Answer, all_recursively, specific, nothing}
+use Rattle.jj_matchers.specs.VisitSpecs.{VisitSpec, all_recursively, specific, nothing}
 use Rattle.jj_matchers.specs.declared.matchers.visits.Visit.{Visit}
 use Rattle.jj_matchers.specs.declared.matchers.visits.Visit.TheVariants.{AllRecursively, Specific, Nothing}
 use Rattle.jj_matchers.specs.declared.matchers.visits.VisitDirs.{VisitDirs}
@@ -24,16 +24,16 @@ abbrev pub file_names : VisitFiles → Name → Bool
 file_names files.All name = true
 file_names (files.Set names) name = is_among names.keys name
 
-abbrev pub answer_of : Visit → Answer
-answer_of AllRecursively = all_recursively
-answer_of (Specific dirs files) = specific (dir_names dirs) (file_names files)
-answer_of Nothing = nothing
+abbrev pub visit_spec : Visit → VisitSpec
+visit_spec AllRecursively = all_recursively
+visit_spec (Specific dirs files) = specific (dir_names dirs) (file_names files)
+visit_spec Nothing = nothing
 
 abbrev pub has_names : List Name → Bool
 has_names [] = false
 has_names (name ∷ names) = true
 
 -- the specific visit of two lists of children, and `nothing` if both are empty
-abbrev pub sets_answer : List Name → List Name → Answer
-sets_answer dirs files =
+abbrev pub sets_spec : List Name → List Name → VisitSpec
+sets_spec dirs files =
     if has_names dirs || has_names files then specific (is_among dirs) (is_among files) else nothing

@@ -6,7 +6,7 @@ use Rattle.std.specs.List.Sorted.{IsStrictlySortedBy}
 use Rattle.jj_paths.specs.Paths.{Name, Path, path_cmp}
 use Rattle.jj_paths.specs.Tree.{Tree, has_branches}
 use Rattle.jj_paths.specs.Nodes.{NodeAt, nodes_under, all_nodes}
-use Rattle.jj_matchers.specs.Answers.{Answer, all_recursively, specific, nothing}
+use Rattle.jj_matchers.specs.VisitSpecs.{VisitSpec, all_recursively, specific, nothing}
 
 -- the paths strictly ascend in path order
 abbrev pub AreInOrder : List Path → Type 0
@@ -30,28 +30,29 @@ abbrev pub files_of : (Path → Bool) → Tree Bool → List Path
 files_of accepts tree = paths_where (is_file accepts) (nodes_under [] tree.branches)
 
 -- a directory is entered unless its visit is `nothing`
-abbrev pub is_entered : Answer → Bool
+abbrev pub is_entered : VisitSpec → Bool
 is_entered all_recursively = true
 is_entered (specific dirs files) = true
 is_entered nothing = false
 
 -- whether a walk that entered a directory with this visit continues into a child, where `on` is
 -- whether it continues from that child
-abbrev pub leads_to : Answer → Name → Bool → Bool
-leads_to all_recursively name on = true
-leads_to (specific dirs files) name on = dirs name && on
-leads_to nothing name on = false
+abbrev pub continues_into : VisitSpec → Name → Bool → Bool
+continues_into all_recursively name on = true
+continues_into (specific dirs files) name on = dirs name && on
+continues_into nothing name on = false
 
 -- whether a walk that visits a directory enters the one at this path relative to it
-abbrev pub enters : (Path → Answer) → Path → Path → Bool
-enters answer dir [] = is_entered (answer dir)
-enters answer dir (name ∷ rest) = leads_to (answer dir) name (enters answer (dir ++ name ∷ []) rest)
+abbrev pub walk_enters : (Path → VisitSpec) → Path → Path → Bool
+walk_enters visit dir [] = is_entered (visit dir)
+walk_enters visit dir (name ∷ rest) =
+    continues_into (visit dir) name (walk_enters visit (dir ++ name ∷ []) rest)
 
 -- whether a node has children and a walk from the root enters it
-abbrev pub is_entered_directory : (Path → Answer) → NodeAt Bool → Bool
-is_entered_directory answer found = has_branches found.node.branches
-    && enters answer [] found.path
+abbrev pub is_entered_directory : (Path → VisitSpec) → NodeAt Bool → Bool
+is_entered_directory visit found = has_branches found.node.branches
+    && walk_enters visit [] found.path
 
 -- the directories that a walk enters, in preorder
-abbrev pub entered_by : (Path → Answer) → Tree Bool → List Path
-entered_by answer tree = paths_where (is_entered_directory answer) (all_nodes tree)
+abbrev pub entered_by : (Path → VisitSpec) → Tree Bool → List Path
+entered_by visit tree = paths_where (is_entered_directory visit) (all_nodes tree)

@@ -1,5 +1,5 @@
 //! Laws of matchers and of walks, as contracts of functions with empty bodies.
-ghost use Rattle.jj_matchers.specs.Laws.{FindsMarks, FindsInOrder, HasMembers, HasAllBelow, HasMatches};
+ghost use Rattle.jj_matchers.specs.Laws.{FindsMarks, FindsInOrder, AcceptsMembers, AcceptsBelow, AcceptsMatches};
 
 /// Proves that `walk_matching` finds exactly the marked paths below the root that the matcher
 /// accepts, in path order and each once.
@@ -11,8 +11,8 @@ pub fn walks_find_accepted_marks()
 /// Proves that a `FilesMatcher` accepts exactly its files, a `PrefixMatcher` exactly the paths at
 /// or below one of its prefixes, and a `GlobsMatcher` exactly the paths strictly below the
 /// directory of a pattern whose glob matches the rest of the path.
-pub fn sets_have_their_meaning()
-    ensures files { HasMembers }
-    ensures prefixes { HasAllBelow }
-    ensures globs { HasMatches }
+pub fn acceptance_laws()
+    ensures files { AcceptsMembers }
+    ensures prefixes { AcceptsBelow }
+    ensures globs { AcceptsMatches }
 {}

@@ -18,9 +18,9 @@ mod visits;
 ghost use Rattle.std.specs.Prelude.{◌≡◌, Bool, true, false, List, [], IfOk};
 ghost use Rattle.jj_paths.specs.Paths.{Name, Path};
 ghost use Rattle.jj_paths.specs.Names.{path_of};
-ghost use Rattle.jj_matchers.specs.Answers.{Answer, IsSound, all_recursively, nothing};
-ghost use Rattle.jj_matchers.specs.Candidates.{ChoosesFrom};
-ghost use Rattle.jj_matchers.specs.Visits.{answer_of};
+ghost use Rattle.jj_matchers.specs.VisitSpecs.{VisitSpec, IsSound, all_recursively, nothing};
+ghost use Rattle.jj_matchers.specs.MentionedNames.{MentionsOnly};
+ghost use Rattle.jj_matchers.specs.Visits.{visit_spec};
 
 pub use difference_matcher::{DifferenceMatcher, difference_visit};
 pub use files_matcher::FilesMatcher;
@@ -44,11 +44,11 @@ pub trait Matcher: Drop {
     ghost opens: { Self → Path → Bool };
 
     /// The visit of a directory.
-    ghost answers: { Self → Path → Answer };
+    ghost visits: { Self → Path → VisitSpec };
 
     /// A finite list of all names that a `Specific` visit of the directory mentions, unless it
     /// mentions every name. With it, an intersection can decide whether two visits share a name.
-    ghost candidates: { Self → Path → List Name };
+    ghost mentioned: { Self → Path → List Name };
 
     /// Returns whether the path is in the set.
     fn matches(&self, file: RepoPath<'_>) -> bool
@@ -56,12 +56,12 @@ pub trait Matcher: Drop {
 
     /// Returns where to look for paths of the set strictly below a directory.
     fn visit(&self, alloc: Global, dir: RepoPath<'_>) -> Result<Visit, AllocError>
-        ensures answer { IfOk result (λ visit. answer_of visit
-            ≡ answers self.now (path_of dir.entry)) }
+        ensures visit { IfOk result (λ visit. visit_spec visit
+            ≡ visits self.now (path_of dir.entry)) }
         ensures sound { IfOk result (λ visit.
-            IsSound (accepts self.now) (opens self.now) (path_of dir.entry) (answer_of visit)) }
-        ensures chosen { IfOk result (λ visit.
-            ChoosesFrom (candidates self.now (path_of dir.entry)) (answer_of visit)) };
+            IsSound (accepts self.now) (opens self.now) (path_of dir.entry) (visit_spec visit)) }
+        ensures names { IfOk result (λ visit.
+            MentionsOnly (mentioned self.now (path_of dir.entry)) (visit_spec visit)) };
 }
 
 impl<T: Matcher> Matcher for &T {
@@ -69,9 +69,9 @@ impl<T: Matcher> Matcher for &T {
 
     ghost opens = { λ m. T.opens m.now };
 
-    ghost answers = { λ m. T.answers m.now };
+    ghost visits = { λ m. T.visits m.now };
 
-    ghost candidates = { λ m. T.candidates m.now };
+    ghost mentioned = { λ m. T.mentioned m.now };
 
     fn matches(&self, file: RepoPath<'_>) -> bool {
         (**self).matches(file)
@@ -88,9 +88,9 @@ impl Matcher for Box<dyn Matcher> {
 
     ghost opens = { λ b. (Matcher-box b).opens b.value };
 
-    ghost answers = { λ b. (Matcher-box b).answers b.value };
+    ghost visits = { λ b. (Matcher-box b).visits b.value };
 
-    ghost candidates = { λ b. (Matcher-box b).candidates b.value };
+    ghost mentioned = { λ b. (Matcher-box b).mentioned b.value };
 
     fn matches(&self, file: RepoPath<'_>) -> bool {
         (**self).matches(file)
@@ -110,9 +110,9 @@ impl Matcher for NothingMatcher {
 
     ghost opens = { λ _ path. false };
 
-    ghost answers = { λ _ dir. nothing };
+    ghost visits = { λ _ dir. nothing };
 
-    ghost candidates = { λ _ dir. [] };
+    ghost mentioned = { λ _ dir. [] };
 
     fn matches(&self, _file: RepoPath<'_>) -> bool {
         false
@@ -132,9 +132,9 @@ impl Matcher for EverythingMatcher {
 
     ghost opens = { λ _ path. true };
 
-    ghost answers = { λ _ dir. all_recursively };
+    ghost visits = { λ _ dir. all_recursively };
 
-    ghost candidates = { λ _ dir. [] };
+    ghost mentioned = { λ _ dir. [] };
 
     fn matches(&self, _file: RepoPath<'_>) -> bool {
         true

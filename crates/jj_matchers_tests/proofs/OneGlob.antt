@@ -1,7 +1,7 @@
 -- A walk with one glob in a directory finds the marks below the directory whose rest it matches.
 use Rattle.std.proofs.Common.{◌≡◌, Bool, true, false, List, [], ◌∷◌, ◌++◌, Contains, ap, sym, subst, ◌∙◌}
 use Rattle.std.specs.Prelude.{◌↔◌}
-use Rattle.jj_paths.specs.Paths.{Name, Path, path_text}
+use Rattle.jj_paths.specs.Paths.{Name, Path, path_string}
 use Rattle.jj_paths.specs.Tree.{Tree}
 use Rattle.jj_globs.specs.GlobMeaning.{GlobSpec, IsMatch}
 use Rattle.jj_matchers.specs.Marks.{IsMarkedTree}
@@ -13,7 +13,7 @@ use Rattle.jj_matchers_tests.proofs.Singles.{any_one, one_any}
 -- the path is below the directory, and the glob matches the rest
 abbrev pub LiesBelow : Path → GlobSpec → Path → Type 0
 LiesBelow dir glob path = (name : Name) × (rest : Path) × (path ≡ dir ++ name ∷ rest)
-    × IsMatch glob (path_text (name ∷ rest))
+    × IsMatch glob (path_string (name ∷ rest))
 
 -- the set of one pattern
 abbrev pub one_pattern : Path → GlobSpec → Patterns

@@ -7,7 +7,7 @@ use Rattle.jj_paths.specs.Paths.{Path, IsBelow}
 use Rattle.jj_paths.specs.Tree.{Tree}
 use Rattle.jj_matchers.specs.Marks.{IsMarkedTree}
 use Rattle.jj_matchers.specs.Walk.{files_of}
-use Rattle.jj_matchers.specs.Wanted.{has_prefix}
+use Rattle.jj_matchers.specs.PathLists.{has_prefix}
 use Rattle.jj_matchers.specs.Laws.{FindsMarks}
 use Rattle.jj_matchers_tests.proofs.Singles.{any_one, one_any}
 

@@ -6,10 +6,10 @@ use Rattle.std.specs.Str.{bytes_eq}
 use Rattle.std.proofs.lemmas.List.Folds.{Any-from_list_any, list_any_at}
 use Rattle.std.proofs.lemmas.Slice.Eq.{bytes_eq-Decides}
 use Rattle.jj_paths.specs.Paths.{Name, Path}
-use Rattle.jj_matchers.specs.Answers.{IsSound, NamesAll, all_recursively, nothing}
-use Rattle.jj_matchers.specs.Candidates.{IsAllOrAmong}
+use Rattle.jj_matchers.specs.VisitSpecs.{IsSound, NamesAll, all_recursively, nothing}
+use Rattle.jj_matchers.specs.MentionedNames.{IsAllOrAmong}
 use Rattle.jj_matchers.specs.Visits.{has_names, is_among}
-use Rattle.jj_matchers_tests.specs.TopLevel.{starts_among, top_level_answer}
+use Rattle.jj_matchers_tests.specs.TopLevel.{starts_among, top_level_spec}
 
 module _ (names : List Name) where
   -- the visit of the names as directories and as files is sound at the root
@@ -20,11 +20,11 @@ module _ (names : List Name) where
   among keys same = inr (λ name h. subst (λ l. is_among l name ≡ true) same h)
 
   -- the visit is everything at or below one of the names, and nothing below another name
-  pub all_below : (dir : Path) → starts_among names dir ≡ true → (all_recursively ≡ top_level_answer names dir) × IsSound (starts_among names) (starts_among names) dir all_recursively
+  pub all_below : (dir : Path) → starts_among names dir ≡ true → (all_recursively ≡ top_level_spec names dir) × IsSound (starts_among names) (starts_among names) dir all_recursively
   all_below [] h = absurd (false≢true h)
   all_below (first ∷ rest) h = (ap (λ b. if b then all_recursively else nothing) (sym h), λ name more. (h, h))
 
-  pub none_below : (dir : Path) → starts_among names dir ≡ false → has_names dir ≡ true → (nothing ≡ top_level_answer names dir) × IsSound (starts_among names) (starts_among names) dir nothing
+  pub none_below : (dir : Path) → starts_among names dir ≡ false → has_names dir ≡ true → (nothing ≡ top_level_spec names dir) × IsSound (starts_among names) (starts_among names) dir nothing
   none_below [] h below = absurd (false≢true below)
   none_below (first ∷ rest) h below = (ap (λ b. if b then all_recursively else nothing) (sym h), λ name more. h)
 

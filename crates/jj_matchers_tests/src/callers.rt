@@ -1,7 +1,7 @@
 //! Callers of matchers and walks, proved from the contracts of these.
 ghost use Rattle.std.specs.Prelude.{◌≡◌, ◌≢◌, ◌↔◌, true, false, [], ◌∷◌, ◌++◌, map, Contains, IfOk, IfErr};
 ghost use Rattle.std.specs.List.Sorted.{IsStrictlySortedBy};
-ghost use Rattle.jj_paths.specs.Paths.{Name, Path, IsBelow, path_cmp, path_text};
+ghost use Rattle.jj_paths.specs.Paths.{Name, Path, IsBelow, path_cmp, path_string};
 ghost use Rattle.jj_paths.specs.Names.{path_of};
 ghost use Rattle.jj_globs.specs.GlobMeaning.{IsMatch};
 ghost use Rattle.jj_globs.specs.GlobReads.{IsReadingFault, glob_of_text};
@@ -48,7 +48,7 @@ pub fn files_matching(
     ensures found { IfOk result (λ found. (path : Path) → Contains found.items path
         ↔ (Contains (map path_of files.now) path × ((name : Name) × (rest : Path)
         × (path ≡ path_of dir.entry ++ name ∷ rest)
-        × IsMatch (glob_of_text pattern.now true false) (path_text (name ∷ rest))))) }
+        × IsMatch (glob_of_text pattern.now true false) (path_string (name ∷ rest))))) }
     ensures ordered { IfOk result (λ found. IsStrictlySortedBy path_cmp found.items) }
     ensures fault { IfErr result (λ error. IsReadingFault error (tokens_of pattern.now)) }
 {

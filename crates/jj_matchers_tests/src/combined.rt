@@ -1,5 +1,5 @@
 //! Tests of unions, differences and intersections of matchers.
-use crate::fixtures::{Wanted, answers, files, globs, prefix};
+use crate::fixtures::{Expected, check_matcher, files, globs, prefix};
 use jj_content_tests::once_more::{Passed, passes};
 use jj_matchers::matchers::{
     DifferenceMatcher, EverythingMatcher, IntersectionMatcher, Matcher, NothingMatcher,
@@ -10,7 +10,7 @@ use std::process::Abort;
 use std::test::Fail;
 
 // The prefixes of two matchers, and the expectations of their combination.
-type Row = (&'static str, &'static str, Wanted);
+type Row = (&'static str, &'static str, Expected);
 
 // Checks each row with a combination of two matchers.
 fn check_each<R, M, F>(rt: &R, alloc: Global, rows: &[Row], combine: F) -> Passed
@@ -20,9 +20,9 @@ where
     F: Fn(PrefixMatcher, PrefixMatcher) -> M,
     requires { F.IsAlwaysCallable combine }
 {
-    for (one, other, wanted) in rows {
+    for (one, other, expected) in rows {
         let matcher = combine(prefix(rt, alloc, one)?, prefix(rt, alloc, other)?);
-        answers(rt, alloc, matcher, wanted)?;
+        check_matcher(rt, alloc, matcher, expected)?;
     }
     Ok(())
 }
@@ -145,91 +145,91 @@ fn combined_prefixes(rt: HostRuntime) -> Result<(), Fail> {
     })
 }
 
-const WHOLE: Wanted = (". a b", "", &[". ** -", "a ** -"]);
+const WHOLE: Expected = (". a b", "", &[". ** -", "a ** -"]);
 
-const PREFIX_ALONE: Wanted = (
+const PREFIX_ALONE: Expected = (
     "foo foo/bar",
     ". bar",
     &[". foo foo", "foo ** -", "bar - -"],
 );
 
-const FILES_ALONE: Wanted = ("a/b c", ". a", &[". a c", "a - b", "c - -"]);
+const FILES_ALONE: Expected = ("a/b c", ". a", &[". a c", "a - b", "c - -"]);
 
-const FILES_AND_GLOBS: Wanted = (
+const FILES_AND_GLOBS: Expected = (
     "a/b a/x.rs c d/x",
     "a a/c d d/x/y",
     &[". a/d c", "a * *", "d * *"],
 );
 
 // Everything absorbs, nothing is neutral, and all names absorb names.
-fn unions_of_kinds<R: Abort>(rt: &R, alloc: Global) -> Passed {
+fn check_unions<R: Abort>(rt: &R, alloc: Global) -> Passed {
     let all = UnionMatcher::new(files(rt, alloc, "a")?, EverythingMatcher);
-    answers(rt, alloc, all, &WHOLE)?;
+    check_matcher(rt, alloc, all, &WHOLE)?;
     let first = UnionMatcher::new(prefix(rt, alloc, "foo")?, NothingMatcher);
-    answers(rt, alloc, first, &PREFIX_ALONE)?;
+    check_matcher(rt, alloc, first, &PREFIX_ALONE)?;
     let second = UnionMatcher::new(NothingMatcher, files(rt, alloc, "a/b c")?);
-    answers(rt, alloc, second, &FILES_ALONE)?;
+    check_matcher(rt, alloc, second, &FILES_ALONE)?;
     let sources = globs(rt, alloc, false, "a:*.rs d:*")?;
     let names = UnionMatcher::new(files(rt, alloc, "a/b c")?, sources);
-    answers(rt, alloc, names, &FILES_AND_GLOBS)
+    check_matcher(rt, alloc, names, &FILES_AND_GLOBS)
 }
 
-const ALL_BUT_A_PREFIX: Wanted = (". b ab/c", "a a/b", &[". * *", "a - -", "b ** -"]);
+const ALL_BUT_A_PREFIX: Expected = (". b ab/c", "a a/b", &[". * *", "a - -", "b ** -"]);
 
-const NO_PATH: Wanted = ("", ". a", &[". - -", "a - -"]);
+const NO_PATH: Expected = ("", ". a", &[". - -", "a - -"]);
 
-const FILES_LESS_FILES: Wanted = ("c", "a/b d", &[". a c", "a - b", "b - -"]);
+const FILES_LESS_FILES: Expected = ("c", "a/b d", &[". a c", "a - b", "b - -"]);
 
-const GLOBS_LESS_GLOBS: Wanted = (
+const GLOBS_LESS_GLOBS: Expected = (
     "d/b.rs d/b.rs/a",
     "d/a.rs d/b d/a.rs/b",
     &[". d -", "d * *", "d/b.rs * *", "d/a.rs - -"],
 );
 
-fn differences_of_kinds<R: Abort>(rt: &R, alloc: Global) -> Passed {
+fn check_differences<R: Abort>(rt: &R, alloc: Global) -> Passed {
     let rest = DifferenceMatcher::new(EverythingMatcher, prefix(rt, alloc, "a")?);
-    answers(rt, alloc, rest, &ALL_BUT_A_PREFIX)?;
+    check_matcher(rt, alloc, rest, &ALL_BUT_A_PREFIX)?;
     let none = DifferenceMatcher::new(EverythingMatcher, EverythingMatcher);
-    answers(rt, alloc, none, &NO_PATH)?;
+    check_matcher(rt, alloc, none, &NO_PATH)?;
     let named = DifferenceMatcher::new(files(rt, alloc, "a/b c")?, files(rt, alloc, "a/b d")?);
-    answers(rt, alloc, named, &FILES_LESS_FILES)?;
+    check_matcher(rt, alloc, named, &FILES_LESS_FILES)?;
     let sources = globs(rt, alloc, true, "d:*.rs")?;
     let unlike = DifferenceMatcher::new(sources, globs(rt, alloc, true, "d:a*")?);
-    answers(rt, alloc, unlike, &GLOBS_LESS_GLOBS)
+    check_matcher(rt, alloc, unlike, &GLOBS_LESS_GLOBS)
 }
 
-const WHOLE_FILES: Wanted = ("a/x b", ". a", &[". a b", "a - x", "b - -"]);
+const WHOLE_FILES: Expected = ("a/x b", ". a", &[". a b", "a - x", "b - -"]);
 
 // Nothing absorbs, everything is neutral, and two empty sets of names are nothing.
-fn intersections_of_kinds<R: Abort>(rt: &R, alloc: Global) -> Passed {
+fn check_intersections<R: Abort>(rt: &R, alloc: Global) -> Passed {
     for (one, other) in [("a", "b"), ("a/x", "a")] {
         let apart = IntersectionMatcher::new(files(rt, alloc, one)?, files(rt, alloc, other)?);
-        answers(rt, alloc, apart, &NO_PATH)?;
+        check_matcher(rt, alloc, apart, &NO_PATH)?;
     }
     let none = IntersectionMatcher::new(EverythingMatcher, NothingMatcher);
-    answers(rt, alloc, none, &NO_PATH)?;
+    check_matcher(rt, alloc, none, &NO_PATH)?;
     let whole = IntersectionMatcher::new(files(rt, alloc, "a/x b")?, EverythingMatcher);
-    answers(rt, alloc, whole, &WHOLE_FILES)
+    check_matcher(rt, alloc, whole, &WHOLE_FILES)
 }
 
-const GLOBS_IN_A_PREFIX: Wanted = (
+const GLOBS_IN_A_PREFIX: Expected = (
     "a/b/x.rs a/b/c/x.rs",
     "x.rs a/b a/b/x a/x.rs",
     &[". a -", "a b b", "a/b * *", "c - -"],
 );
 
-const GLOBS_OF_BOTH: Wanted = ("a.rs", "b.rs a a/b.rs", &[". * *", "a * *"]);
+const GLOBS_OF_BOTH: Expected = ("a.rs", "b.rs a a/b.rs", &[". * *", "a * *"]);
 
-fn intersections_with_globs<R: Abort>(rt: &R, alloc: Global) -> Passed {
+fn check_glob_intersections<R: Abort>(rt: &R, alloc: Global) -> Passed {
     let sources = globs(rt, alloc, false, ".:**/*.rs")?;
     let named = IntersectionMatcher::new(sources, prefix(rt, alloc, "a/b")?);
-    answers(rt, alloc, named, &GLOBS_IN_A_PREFIX)?;
+    check_matcher(rt, alloc, named, &GLOBS_IN_A_PREFIX)?;
     let sources = globs(rt, alloc, false, ".:*.rs")?;
     let both = IntersectionMatcher::new(sources, globs(rt, alloc, false, ".:a*")?);
-    answers(rt, alloc, both, &GLOBS_OF_BOTH)
+    check_matcher(rt, alloc, both, &GLOBS_OF_BOTH)
 }
 
-const SOURCES: Wanted = (
+const SOURCES: Expected = (
     "src src/a src/a/b readme",
     ". doc src/out/a src/a.tmp src/x.tmp/y",
     &[
@@ -244,22 +244,22 @@ const SOURCES: Wanted = (
 );
 
 // (src - src/out + readme) & (everything - temporary files)
-fn nested<R: Abort>(rt: &R, alloc: Global) -> Passed {
+fn check_nested<R: Abort>(rt: &R, alloc: Global) -> Passed {
     let built = prefix(rt, alloc, "src/out")?;
     let sources = DifferenceMatcher::new(prefix(rt, alloc, "src")?, built);
     let more = UnionMatcher::new(sources, files(rt, alloc, "readme")?);
     let temporary = globs(rt, alloc, true, ".:**/*.tmp")?;
     let lasting = DifferenceMatcher::new(EverythingMatcher, temporary);
-    answers(rt, alloc, IntersectionMatcher::new(more, lasting), &SOURCES)
+    check_matcher(rt, alloc, IntersectionMatcher::new(more, lasting), &SOURCES)
 }
 
 #[test]
 fn combined_kinds(rt: HostRuntime) -> Result<(), Fail> {
     passes(&rt, |rt, alloc| {
-        unions_of_kinds(rt, alloc)?;
-        differences_of_kinds(rt, alloc)?;
-        intersections_of_kinds(rt, alloc)?;
-        intersections_with_globs(rt, alloc)?;
-        nested(rt, alloc)
+        check_unions(rt, alloc)?;
+        check_differences(rt, alloc)?;
+        check_intersections(rt, alloc)?;
+        check_glob_intersections(rt, alloc)?;
+        check_nested(rt, alloc)
     })
 }

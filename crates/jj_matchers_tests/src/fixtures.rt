@@ -21,7 +21,7 @@ fn path<'a, R: Abort>(rt: &R, alloc: Global, text: &'a str) -> RepoPath<'a> {
     }
 }
 
-fn listed<'a>(alloc: Global, list: &'a str) -> Result<Vec<&'a str>, AllocError> {
+fn split_list<'a>(alloc: Global, list: &'a str) -> Result<Vec<&'a str>, AllocError> {
     let mut items = Vec::new(alloc);
     for item in list.split(' ') {
         if !item.is_empty() {
@@ -37,14 +37,14 @@ fn paths<'a, R: Abort>(
     list: &'a str,
 ) -> Result<Vec<RepoPath<'a>>, AllocError> {
     let mut paths = Vec::new(alloc);
-    for text in listed(alloc, list)? {
+    for text in split_list(alloc, list)? {
         paths.push(path(rt, alloc, text))?;
     }
     Ok(paths)
 }
 
 // Parses a set of names, joined by `/`; `-` is the empty set.
-fn names<R: Abort>(
+fn parse_names<R: Abort>(
     rt: &R,
     alloc: Global,
     joined: &str,
@@ -60,7 +60,12 @@ fn names<R: Abort>(
 
 // Parses a visit: sets of names for directories and for files, or `*` for every child. `**` is
 // `AllRecursively`, and two empty sets are `Nothing`.
-fn answer<R: Abort>(rt: &R, alloc: Global, dirs: &str, files: &str) -> Result<Visit, AllocError> {
+fn parse_visit<R: Abort>(
+    rt: &R,
+    alloc: Global,
+    dirs: &str,
+    files: &str,
+) -> Result<Visit, AllocError> {
     if dirs == "**" {
         return Ok(Visit::AllRecursively);
     }
@@ -70,41 +75,46 @@ fn answer<R: Abort>(rt: &R, alloc: Global, dirs: &str, files: &str) -> Result<Vi
     let dirs = if dirs == "*" {
         VisitDirs::All
     } else {
-        VisitDirs::Set(names(rt, alloc, dirs)?)
+        VisitDirs::Set(parse_names(rt, alloc, dirs)?)
     };
     let files = if files == "*" {
         VisitFiles::All
     } else {
-        VisitFiles::Set(names(rt, alloc, files)?)
+        VisitFiles::Set(parse_names(rt, alloc, files)?)
     };
     Ok(Visit::Specific { dirs, files })
 }
 
 /// Expectations of a matcher: accepted paths, rejected paths, and visits. A visit is a row of a
-/// directory, the children to visit as directories, and those to visit as files, as `answer` parses
-/// them.
-pub type Wanted = (&'static str, &'static str, &'static [&'static str]);
+/// directory, the children to visit as directories, and those to visit as files, in the syntax of
+/// `parse_visit`.
+pub type Expected = (&'static str, &'static str, &'static [&'static str]);
 
 /// Asserts which paths a matcher accepts and rejects, and its visits.
-pub fn answers<R: Abort, M: Matcher>(rt: &R, alloc: Global, matcher: M, wanted: &Wanted) -> Passed {
-    let (accepted, refused, rows) = wanted;
+pub fn check_matcher<R: Abort, M: Matcher>(
+    rt: &R,
+    alloc: Global,
+    matcher: M,
+    expected: &Expected,
+) -> Passed {
+    let (accepted, rejected, rows) = expected;
     for file in paths(rt, alloc, accepted)? {
         assert!(rt; matcher.matches(file), "{file:?} is accepted");
     }
-    for file in paths(rt, alloc, refused)? {
-        assert!(rt; !matcher.matches(file), "{file:?} is refused");
+    for file in paths(rt, alloc, rejected)? {
+        assert!(rt; !matcher.matches(file), "{file:?} is rejected");
     }
     for row in *rows {
         let Some((dir, children)) = row.split_once(' ') else {
             panic!(rt; "three columns: {row}");
         };
-        visits(rt, alloc, &matcher, dir, children)?;
+        check_visit(rt, alloc, &matcher, dir, children)?;
     }
     Ok(())
 }
 
 // Asserts the visit of a directory.
-fn visits<R: Abort, M: Matcher>(
+fn check_visit<R: Abort, M: Matcher>(
     rt: &R,
     alloc: Global,
     matcher: &M,
@@ -116,7 +126,7 @@ fn visits<R: Abort, M: Matcher>(
     };
     let visit = matcher.visit(alloc, path(rt, alloc, dir))?;
     assert!(rt;
-        visit == answer(rt, alloc, dirs, files)?,
+        visit == parse_visit(rt, alloc, dirs, files)?,
         "{children} at {dir}"
     );
     Ok(())
@@ -149,7 +159,7 @@ pub fn globs<R: Abort>(
 ) -> Result<GlobsMatcher, AllocError> {
     let mut dirs = Vec::new(alloc);
     let mut patterns = Vec::new(alloc);
-    for item in listed(alloc, list)? {
+    for item in split_list(alloc, list)? {
         let Some((dir, text)) = item.split_once(':') else {
             panic!(rt; "a directory and a glob: {item}");
         };
@@ -166,7 +176,7 @@ pub fn globs<R: Abort>(
 
 /// Asserts which files a walk of a tree with these marks finds, and which directories it enters,
 /// both in this order.
-pub fn walks<R: Abort, M: Matcher>(
+pub fn check_walk<R: Abort, M: Matcher>(
     rt: &R,
     alloc: Global,
     matcher: M,
@@ -189,10 +199,10 @@ pub fn walks<R: Abort, M: Matcher>(
     Ok(())
 }
 
-fn are_paths(paths: &[RepoPathBuf], wanted: &[RepoPath<'_>]) -> bool {
-    paths.len() == wanted.len()
+fn are_paths(paths: &[RepoPathBuf], expected: &[RepoPath<'_>]) -> bool {
+    paths.len() == expected.len()
         && paths
             .iter()
-            .zip(wanted)
+            .zip(expected)
             .all(|(path, other)| path.as_path() == *other)
 }

@@ -4,7 +4,7 @@ ghost use Rattle.std.specs.List.Sorted.{IsStrictlySortedBy};
 ghost use Rattle.jj_paths.specs.Paths.{Name, Path, path_cmp};
 ghost use Rattle.jj_paths.specs.Names.{name_of, path_of};
 ghost use Rattle.jj_matchers.specs.Visits.{has_names, is_among};
-ghost use Rattle.jj_matchers_tests.specs.TopLevel.{starts_among, top_level_answer};
+ghost use Rattle.jj_matchers_tests.specs.TopLevel.{starts_among, top_level_spec};
 
 use jj_matchers::laws::walks_find_accepted_marks;
 use jj_matchers::matchers::{Matcher, Visit, marked_tree, walk_matching};
@@ -44,9 +44,9 @@ impl Matcher for TopLevelMatcher {
 
     ghost opens = { λ m. starts_among m.names.keys };
 
-    ghost answers = { λ m. top_level_answer m.names.keys };
+    ghost visits = { λ m. top_level_spec m.names.keys };
 
-    ghost candidates = { λ m dir. m.names.keys };
+    ghost mentioned = { λ m dir. m.names.keys };
 
     fn matches(&self, file: RepoPath<'_>) -> bool {
         match file.split_first() {

@@ -1,5 +1,5 @@
 //! Tests of walks with combined and with boxed matchers.
-use crate::fixtures::{Wanted, answers, files, globs, prefix, walks};
+use crate::fixtures::{Expected, check_matcher, check_walk, files, globs, prefix};
 use jj_content_tests::once_more::{Passed, passes};
 use jj_matchers::matchers::{
     DifferenceMatcher, EverythingMatcher, IntersectionMatcher, Matcher, PrefixMatcher,
@@ -11,16 +11,16 @@ use std::process::Abort;
 use std::test::Fail;
 
 fn walks_combined<R: Abort>(rt: &R, alloc: Global) -> Passed {
-    walks(rt, alloc, globs(rt, alloc, true, "d:")?, "d/x", "", ". d")?;
+    check_walk(rt, alloc, globs(rt, alloc, true, "d:")?, "d/x", "", ". d")?;
     let any = globs(rt, alloc, true, "d:*")?;
-    walks(rt, alloc, any, "d/x", "d/x", ". d")?;
+    check_walk(rt, alloc, any, "d/x", "d/x", ". d")?;
     let names = globs(rt, alloc, false, "a:*")?;
     let both = IntersectionMatcher::new(prefix(rt, alloc, "a")?, names);
-    walks(rt, alloc, both, "a/x a/y/z", "a/x", ". a a/y")?;
-    walks(rt, alloc, all_but_a(rt, alloc)?, "a/x b", "b", ".")
+    check_walk(rt, alloc, both, "a/x a/y/z", "a/x", ". a a/y")?;
+    check_walk(rt, alloc, all_but_a(rt, alloc)?, "a/x b", "b", ".")
 }
 
-const AROUND: Wanted = (
+const AROUND: Expected = (
     "a/kept b",
     "a a/left",
     &[". * *", "a - kept", "a/kept - -", "b ** -"],
@@ -28,9 +28,9 @@ const AROUND: Wanted = (
 
 // Checks a matcher of all paths that are not at or below `a`, and of `a/kept`.
 fn walks_around<R: Abort, M: Matcher>(rt: &R, alloc: Global, matcher: M) -> Passed {
-    answers(rt, alloc, &matcher, &AROUND)?;
+    check_matcher(rt, alloc, &matcher, &AROUND)?;
     let marks = "c b/x a/left a/kept a/d/e";
-    walks(rt, alloc, matcher, marks, "a/kept b/x c", ". a b")
+    check_walk(rt, alloc, matcher, marks, "a/kept b/x c", ". a b")
 }
 
 fn all_but_a<R: Abort>(
@@ -51,9 +51,9 @@ impl<M: Matcher> Matcher for Boxed<M> {
 
     ghost opens = { λ b. M.opens b.matcher.value };
 
-    ghost answers = { λ b. M.answers b.matcher.value };
+    ghost visits = { λ b. M.visits b.matcher.value };
 
-    ghost candidates = { λ b. M.candidates b.matcher.value };
+    ghost mentioned = { λ b. M.mentioned b.matcher.value };
 
     fn matches(&self, file: RepoPath<'_>) -> bool {
         self.matcher.matches(file)

@@ -13,9 +13,9 @@ use Rattle.std.proofs.lemmas.List.Elements.{Contains-append_left, Contains-appen
 use Rattle.jj_paths.specs.Paths.{Name, Path, name_cmp}
 use Rattle.jj_paths.specs.Tree.{Tree, tree_of, Branches, none, branch, children, child, get, is_ordered}
 use Rattle.jj_paths.specs.Nodes.{NodeAt, node_at, nodes_under, all_nodes}
-use Rattle.jj_paths.proofs.Grown.{differs, some_same}
+use Rattle.jj_paths.proofs.Insertion.{differs, some_same}
 use Rattle.jj_paths.proofs.PathOrders.{less_from_is_lt}
-use Rattle.jj_paths.proofs.Trees.{not_same}
+use Rattle.jj_paths.proofs.ChildLookup.{not_same}
 
 pub nothing_there : {X : Type 0} (x : X) → Contains [] x → ⊥
 nothing_there x (k, below, is) = absurd (omega arith)

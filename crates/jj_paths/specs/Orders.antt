@@ -12,7 +12,7 @@ use Rattle.std.specs.declared.cmp.Ordering.TheVariants.{Less, Equal, Greater}
 use Rattle.std.specs.Ordering.{nat_cmp, eq_by_cmp}
 use Rattle.std.specs.Hash as fed
 use Rattle.std.specs.Hash.{HashWrites}
-use Rattle.jj_paths.specs.Paths.{Path, name_cmp, path_cmp, path_text}
+use Rattle.jj_paths.specs.Paths.{Path, name_cmp, path_cmp, path_string}
 
 -- equality, component by component
 abbrev pub path_eq : Path → Path → Bool
@@ -35,7 +35,7 @@ path_po = po path_cmp_total path_ties
 
 -- the bytes that a path writes to a hasher: those of its string
 abbrev pub path_hash : Path → HashWrites
-path_hash path = fed.str (path_text path)
+path_hash path = fed.str (path_string path)
 
 pub path_hash-respects_eq : (a b : Path) → path_eq a b ≡ true → path_hash a ≡ path_hash b
 path_hash-respects_eq a b same = ap path_hash ((path_eq-Decides a b).0 same)

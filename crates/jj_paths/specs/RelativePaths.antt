@@ -1,6 +1,6 @@
 -- Relative file system paths as repository paths, by the components of the standard library
 -- (`path_components`).
--- Cited by contracts of public items: IsParseError, is_refused, relative_components.
+-- Cited by contracts of public items: IsParseError, is_disallowed, relative_components.
 use Rattle.std.specs.Prelude.{◌≡◌, ⊤, ℕ, Bool, false, true, not, ◌||◌, if◌then◌else◌, List, [], ◌∷◌, Option, Some, IsSomeAnd, string_bytes}
 use Rattle.std.specs.Str.{bytes_eq, is_utf8}
 use Rattle.std.specs.Path.{cur_dir, path_components}
@@ -19,8 +19,8 @@ abbrev pub relative_components : List ℕ → List (List ℕ)
 relative_components path = without_lone_dot (path_components path)
 
 -- the component is not allowed in a repository path: `/`, `.`, `..`, or not UTF-8
-abbrev pub is_refused : List ℕ → Bool
-is_refused component = is_place component || not (is_utf8 component)
+abbrev pub is_disallowed : List ℕ → Bool
+is_disallowed component = is_place component || not (is_utf8 component)
 
 -- the error contains the path and its first component that is not allowed, with the reason, or is
 -- out of memory

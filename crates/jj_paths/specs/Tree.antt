@@ -1,6 +1,6 @@
 -- A trie of values keyed by paths: each node has a value and named branches to its children.
--- Cited by contracts of public items: IsEdited, IsExtended, IsPartOf, IsSet, IsTreeClone, Tree,
--- below_wrapper, branch_count, branches_of, child, children, get, has_branches,
+-- Cited by contracts of public items: AddsDefaults, IsOnPath, IsTreeClone, SetsValue, Tree,
+-- WritesAt, below_wrapper, branch_count, branches_of, child, children, get, has_branches,
 -- most_le-branch_count, nodes_on, none, put_value, tree_code, tree_of, weight_le-pair.
 use Rattle.std.specs.Prelude.{◌≡◌, ◌≢◌, IsSome, Bool, true, false, ◌&&◌, ℕ, ◌+◌, ◌*◌, ◌≤◌, ◌<◌, length, slice_index_or, if◌then◌else◌, List, [], ◌∷◌, ◌++◌, Option, None, Some, refl, max}
 use Rattle.std.specs.declared.cmp.Ordering.TheVariants.{Less, Greater}
@@ -78,9 +78,9 @@ module _ {V : Type 0} where
       nodes_from (option_map (λ sub. (sub, rest)) (child tree.branches name))
 
   -- a node on the way to the path, with the rest of the path below it
-  abbrev pub IsPartOf : Tree V → Path → Tree V × Path → Type 0
-  IsPartOf tree path step = (front : Path) × (path ≡ front ++ step.1)
-      × (get tree front ≡ Some step.0)
+  abbrev pub IsOnPath : Tree V → Path → Tree V × Path → Type 0
+  IsOnPath tree path step = (prefix : Path) × (path ≡ prefix ++ step.1)
+      × (get tree prefix ≡ Some step.0)
 
   -- the branches with `f` applied to the first child with this name
   abbrev pub update_child : Branches V → Name → (Tree V → Tree V) → Branches V
@@ -110,7 +110,7 @@ module _ {V : Type 0} where
 
   -- the node is the old one with a child of this name, inserted with a new value if there was none,
   -- and all else unchanged
-  pub record IsGrown (is_new : V → Type 0) (old : Tree V) (name : Name)
+  pub record AddsDefaultChild (is_new : V → Type 0) (old : Tree V) (name : Name)
       (node : Tree V) : Type 0 where
     pub value : node.value ≡ old.value
     pub there : IsSome (child node.branches name)
@@ -123,10 +123,10 @@ module _ {V : Type 0} where
     pub ordered : is_ordered old.branches ≡ true → is_ordered node.branches ≡ true
 
   -- the new node is the old one, with the child inserted if missing, and the child replaced
-  pub record IsChildEdited (is_new : V → Type 0) (old : Tree V) (name : Name)
+  pub record WritesAtChild (is_new : V → Type 0) (old : Tree V) (name : Name)
       (sub changed new : Tree V) : Type 0 where
     pub tree : Tree V
-    pub grown : IsGrown is_new old name tree
+    pub grown : AddsDefaultChild is_new old name tree
     pub at_name : child tree.branches name ≡ Some sub
     pub is_put : new ≡ tree_of tree.value (update_child tree.branches name (λ _. changed))
 
@@ -135,7 +135,7 @@ module _ {V : Type 0} where
 
   -- the tree has all values of the old one, and beyond them at most new values at the path and its
   -- ancestors; ascending names stay ascending
-  pub record IsExtended (is_new : V → Type 0) (old : Tree V) (path : Path)
+  pub record AddsDefaults (is_new : V → Type 0) (old : Tree V) (path : Path)
       (tree : Tree V) : Type 0 where
     pub keeps : (q : Path) (value : V) → value_at old q ≡ Some value → value_at tree q ≡ Some value
     pub makes : (q : Path) (value : V) → value_at old q ≡ None → value_at tree q ≡ Some value
@@ -144,7 +144,7 @@ module _ {V : Type 0} where
 
   -- the value at the path is `value`, the other values of the old tree are unchanged, and beyond
   -- them there are at most new values at ancestors of the path; ascending names stay ascending
-  pub record IsSet (is_new : V → Type 0) (old : Tree V) (path : Path) (value : V)
+  pub record SetsValue (is_new : V → Type 0) (old : Tree V) (path : Path) (value : V)
       (new : Tree V) : Type 0 where
     pub here : value_at new path ≡ Some value
     pub keeps : (q : Path) (v : V) → q ≢ path → value_at old q ≡ Some v → value_at new q ≡ Some v
@@ -155,15 +155,16 @@ module _ {V : Type 0} where
   -- the new tree is the old one with missing nodes on the path inserted, and the node at the path
   -- replaced: at and below the path it is the replacement, and every other value is unchanged; if
   -- the replacement differs only in its value, that value is set
-  pub record IsEdited (is_new : V → Type 0) (old : Tree V) (path : Path)
+  pub record WritesAt (is_new : V → Type 0) (old : Tree V) (path : Path)
       (node changed new : Tree V) : Type 0 where
     pub tree : Tree V
-    pub extended : IsExtended is_new old path tree
+    pub extended : AddsDefaults is_new old path tree
     pub at_path : get tree path ≡ Some node
     pub is_put : new ≡ put tree path changed
     pub within : (rest : Path) → get new (path ++ rest) ≡ get changed rest
     pub others : (q : Path) → ((rest : Path) → q ≢ path ++ rest) → value_at new q ≡ value_at tree q
-    pub sets : (value : V) → changed ≡ tree_of value node.branches → IsSet is_new old path value new
+    pub sets : (value : V) → changed ≡ tree_of value node.branches
+        → SetsValue is_new old path value new
 
   -- trees of the same names whose values are clones, node by node
   abbrev pub AreClones : (V → V → Type 0) → Branches V → Branches V → Type 0
@@ -179,12 +180,12 @@ module _ {V : Type 0} where
       × AreClones is_clone tree.branches copy.branches
 
   -- the branch at index i has the name
-  pub record IsAt (entries : List (Name × Tree V)) (name : Name) (i : ℕ) : Type 0 where
+  pub record IsIndexOf (entries : List (Name × Tree V)) (name : Name) (i : ℕ) : Type 0 where
     pub in_range : i < length entries
     pub has_name : (d : Name × Tree V) → (slice_index_or entries i d).0 ≡ name
 
   -- i is the insertion point of the name: names before i are smaller, and all others are greater
-  pub record IsGapFor (entries : List (Name × Tree V)) (name : Name) (i : ℕ) : Type 0 where
+  pub record IsInsertionPoint (entries : List (Name × Tree V)) (name : Name) (i : ℕ) : Type 0 where
     pub in_range : i ≤ length entries
     pub smaller_before : (j : ℕ) (d : Name × Tree V) → j < i
         → name_cmp (slice_index_or entries j d).0 name ≡ Less

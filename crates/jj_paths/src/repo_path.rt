@@ -1,14 +1,14 @@
 //! Repository paths: owned and borrowed slash-separated strings, relative to the repository root.
 ghost use Rattle.std.specs.Prelude.{◌≡◌, ◌≢◌, ◌↔◌, false, [], ◌∷◌, ◌++◌, IsTrue, IsOk, IfOk, IfErr, MatchOption, string_bytes};
-ghost use Rattle.jj_paths.specs.Paths.{Name, Path, is_name, is_path_text, components, path_text, rest_of};
+ghost use Rattle.jj_paths.specs.Paths.{Name, Path, is_name, is_path_string, components, path_string, rest_of};
 ghost use Rattle.jj_paths.specs.declared.repo_path.InvalidNewRepoPathError.{InvalidNewRepoPathError};
 
 mod content;
+mod debug;
 mod extend;
 mod from_relative;
 mod iter;
 mod orders;
-mod shown;
 mod to_fs;
 
 pub use crate::repo_path_tree::{
@@ -46,7 +46,7 @@ impl Model for RepoPathComponentBuf {
 #[derive(Clone, Copy)]
 pub struct RepoPath<'a> {
     value: &'a str,
-    ghost valid: { IsTrue (is_path_text value.now) },
+    ghost valid: { IsTrue (is_path_string value.now) },
 }
 
 /// An owned path.
@@ -60,19 +60,19 @@ impl Model for RepoPathBuf {
 
     ghost view = { λ p. components (string_bytes p.value) };
 
-    ghost invariant = { λ p. IsTrue (is_path_text (string_bytes p.value)) };
+    ghost invariant = { λ p. IsTrue (is_path_string (string_bytes p.value)) };
 }
 
 impl RepoPathComponentBuf {
     ghost use Rattle.jj_paths.specs.Names.{name_of};
-    ghost use Rattle.jj_paths.specs.Refusals.{IsRefusal};
+    ghost use Rattle.jj_paths.specs.StringErrors.{IsStringError};
 
     /// Creates a component of the string, without copying it. Returns `Invalid` with the string if
     /// it is empty or contains a slash.
     pub fn new(value: String) -> Result<RepoPathComponentBuf, InvalidNewRepoPathError>
         ensures ok { IfOk result (λ name. name ≡ string_bytes value) }
         ensures valid { IsTrue (is_name (string_bytes value)) → IsOk result }
-        ensures refused { IfErr result (IsRefusal (is_name (string_bytes value))
+        ensures error { IfErr result (IsStringError (is_name (string_bytes value))
             (string_bytes value)) }
     {
         if is_valid_repo_path_component_str(value.as_str()) {
@@ -101,7 +101,7 @@ impl RepoPathComponentBuf {
 
 impl<'a> RepoPathComponent<'a> {
     ghost use Rattle.jj_paths.specs.Names.{name_of};
-    ghost use Rattle.jj_paths.specs.Refusals.{IsCopiedRefusal};
+    ghost use Rattle.jj_paths.specs.StringErrors.{IsCopiedStringError};
 
     /// Creates a component of the string. Returns `Invalid` if it is empty or contains a slash, and
     /// `Memory` if that error cannot be allocated. Allocates only for the error.
@@ -111,12 +111,12 @@ impl<'a> RepoPathComponent<'a> {
     ) -> Result<RepoPathComponent<'a>, InvalidNewRepoPathError>
         ensures ok { IfOk result (λ name. name_of name ≡ value.now) }
         ensures valid { IsTrue (is_name value.now) → IsOk result }
-        ensures refused { IfErr result (IsCopiedRefusal (is_name value.now) value.now) }
+        ensures error { IfErr result (IsCopiedStringError (is_name value.now) value.now) }
     {
         if is_valid_repo_path_component_str(value) {
             Ok(RepoPathComponent { value })
         } else {
-            Err(InvalidNewRepoPathError::of_text(alloc, value))
+            Err(InvalidNewRepoPathError::for_string(alloc, value))
         }
     }
 
@@ -139,9 +139,9 @@ impl<'a> RepoPathComponent<'a> {
 
 impl<'a> RepoPath<'a> {
     ghost use Rattle.jj_paths.specs.Names.{name_of, path_of};
-    ghost use Rattle.jj_paths.specs.Iterators.{components_left, ancestors_left};
-    ghost use Rattle.jj_paths.specs.Paths.{fronts, IsBelow, dir_text, after_common};
-    ghost use Rattle.jj_paths.specs.Refusals.{IsCopiedRefusal};
+    ghost use Rattle.jj_paths.specs.Iterators.{remaining_components, remaining_ancestors};
+    ghost use Rattle.jj_paths.specs.Paths.{ancestors, IsBelow, dir_string, after_common};
+    ghost use Rattle.jj_paths.specs.StringErrors.{IsCopiedStringError};
 
     /// Returns the root path, which has no components.
     pub fn root() -> RepoPath<'static>
@@ -158,32 +158,32 @@ impl<'a> RepoPath<'a> {
         value: &'a str,
     ) -> Result<RepoPath<'a>, InvalidNewRepoPathError>
         ensures ok { IfOk result (λ path. path_of path ≡ components value.now) }
-        ensures valid { IsTrue (is_path_text value.now) → IsOk result }
-        ensures refused { IfErr result (IsCopiedRefusal (is_path_text value.now) value.now) }
+        ensures valid { IsTrue (is_path_string value.now) → IsOk result }
+        ensures error { IfErr result (IsCopiedStringError (is_path_string value.now) value.now) }
     {
         if is_valid_repo_path_str(value) {
             Ok(RepoPath { value })
         } else {
-            Err(InvalidNewRepoPathError::of_text(alloc, value))
+            Err(InvalidNewRepoPathError::for_string(alloc, value))
         }
     }
 
     /// Returns the path as a string with a trailing slash: `a/b` becomes `a/b/`, and the root the
     /// empty string.
     pub fn to_internal_dir_string(self, alloc: Global) -> Result<String, AllocError>
-        ensures { IfOk result (λ text. string_bytes text ≡ dir_text (path_of self.entry)) }
+        ensures { IfOk result (λ text. string_bytes text ≡ dir_string (path_of self.entry)) }
     {
         if self.value.is_empty() {
             return Ok(String::new(alloc));
         }
-        let mut text = copy_with_room(alloc, self.value, 1)?;
+        let mut text = copy_with_capacity(alloc, self.value, 1)?;
         text.push('/')?;
         Ok(text)
     }
 
     /// Returns the path as a string, its components joined by slashes.
     pub fn as_internal_file_string(self) -> &'a str
-        ensures { result.now ≡ path_text (path_of self.entry) }
+        ensures { result.now ≡ path_string (path_of self.entry) }
     {
         self.value
     }
@@ -199,7 +199,7 @@ impl<'a> RepoPath<'a> {
     pub fn join(self, alloc: Global, name: RepoPathComponent<'_>) -> Result<RepoPathBuf, AllocError>
         ensures { IfOk result (λ joined. joined ≡ path_of self.entry ++ name_of name.entry ∷ []) }
     {
-        let mut value = copy_with_room(alloc, self.value, name.value.len().saturating_add(1))?;
+        let mut value = copy_with_capacity(alloc, self.value, name.value.len().saturating_add(1))?;
         if !self.value.is_empty() {
             value.push('/')?;
         }
@@ -291,11 +291,11 @@ impl<'a> RepoPath<'a> {
     pub fn split_common_prefix(self, other: RepoPath<'_>) -> (RepoPath<'a>, RepoPath<'a>)
         ensures whole { path_of self.entry ≡ path_of result.0 ++ path_of result.1 }
         ensures common { IsBelow (path_of other.entry) (path_of result.0) }
-        ensures longest { (front : Path) → IsBelow (path_of self.entry) front
-            → IsBelow (path_of other.entry) front → IsBelow (path_of result.0) front }
+        ensures longest { (prefix : Path) → IsBelow (path_of self.entry) prefix
+            → IsBelow (path_of other.entry) prefix → IsBelow (path_of result.0) prefix }
     {
         let rest = self.after_common(other);
-        (self.before(rest), rest)
+        (self.without_suffix(rest), rest)
     }
 
     // the rest of this path after the longest common prefix
@@ -317,8 +317,8 @@ impl<'a> RepoPath<'a> {
     }
 
     // the path without a suffix of it and the slash before that
-    fn before(self, rest: RepoPath<'_>) -> RepoPath<'a>
-        requires { (front : Path) × (path_of self ≡ front ++ path_of rest) }
+    fn without_suffix(self, rest: RepoPath<'_>) -> RepoPath<'a>
+        requires { (prefix : Path) × (path_of self ≡ prefix ++ path_of rest) }
         ensures { path_of self.entry ≡ path_of result ++ path_of rest.entry }
     {
         if rest.value.is_empty() {
@@ -335,14 +335,14 @@ impl<'a> RepoPath<'a> {
 
     /// Iterates over the components, from both ends.
     pub fn components(self) -> RepoPathComponentsIter<'a>
-        ensures { components_left result ≡ path_of self.entry }
+        ensures { remaining_components result ≡ path_of self.entry }
     {
         RepoPathComponentsIter::new(self)
     }
 
     /// Iterates over the path itself and its ancestors, up to the root.
     pub fn ancestors(self) -> RepoPathAncestors<'a>
-        ensures { ancestors_left result ≡ fronts (path_of self.entry) }
+        ensures { remaining_ancestors result ≡ ancestors (path_of self.entry) }
     {
         RepoPathAncestors::new(self)
     }
@@ -369,7 +369,7 @@ impl<'a> RepoPath<'a> {
 
 impl RepoPathBuf {
     ghost use Rattle.jj_paths.specs.Names.{path_of};
-    ghost use Rattle.jj_paths.specs.Refusals.{IsRefusal};
+    ghost use Rattle.jj_paths.specs.StringErrors.{IsStringError};
 
     /// Returns the root path. Does not allocate.
     pub fn root(alloc: Global) -> RepoPathBuf
@@ -384,8 +384,8 @@ impl RepoPathBuf {
     /// slashes. Returns `Invalid` with the string for any other one.
     pub fn from_internal_string(value: String) -> Result<RepoPathBuf, InvalidNewRepoPathError>
         ensures ok { IfOk result (λ path. path ≡ components (string_bytes value)) }
-        ensures valid { IsTrue (is_path_text (string_bytes value)) → IsOk result }
-        ensures refused { IfErr result (IsRefusal (is_path_text (string_bytes value))
+        ensures valid { IsTrue (is_path_string (string_bytes value)) → IsOk result }
+        ensures error { IfErr result (IsStringError (is_path_string (string_bytes value))
             (string_bytes value)) }
     {
         if is_valid_repo_path_str(value.as_str()) {
@@ -406,7 +406,7 @@ impl RepoPathBuf {
 
     /// Returns the path as a string, without copying it.
     pub fn into_internal_string(self) -> String
-        ensures { string_bytes result ≡ path_text self }
+        ensures { string_bytes result ≡ path_string self }
     {
         self.value
     }
@@ -424,7 +424,7 @@ pub enum InvalidNewRepoPathError {
 impl From<AllocError> for InvalidNewRepoPathError {
     ghost from_gives = { λ _ error. error ≡ InvalidNewRepoPathError.Memory };
 
-    fn from(_refused: AllocError) -> Self {
+    fn from(_failure: AllocError) -> Self {
         InvalidNewRepoPathError::Memory
     }
 }
@@ -432,16 +432,16 @@ impl From<AllocError> for InvalidNewRepoPathError {
 impl<T: Drop> From<AllocFailed<T>> for InvalidNewRepoPathError {
     ghost from_gives = { λ _ error. error ≡ InvalidNewRepoPathError.Memory };
 
-    fn from(_refused: AllocFailed<T>) -> Self {
+    fn from(_failure: AllocFailed<T>) -> Self {
         InvalidNewRepoPathError::Memory
     }
 }
 
 impl InvalidNewRepoPathError {
-    ghost use Rattle.jj_paths.specs.Refusals.{IsCopiedRefusal};
+    ghost use Rattle.jj_paths.specs.StringErrors.{IsCopiedStringError};
 
-    fn of_text(alloc: Global, value: &str) -> InvalidNewRepoPathError
-        ensures { IsCopiedRefusal false value.now result }
+    fn for_string(alloc: Global, value: &str) -> InvalidNewRepoPathError
+        ensures { IsCopiedStringError false value.now result }
     {
         match String::from_str(alloc, value) {
             Ok(value) => InvalidNewRepoPathError::Invalid { value },
@@ -451,7 +451,7 @@ impl InvalidNewRepoPathError {
 }
 
 // a copy of a string, with capacity for `more` bytes beyond it
-fn copy_with_room(alloc: Global, text: &str, more: usize) -> Result<String, AllocError>
+fn copy_with_capacity(alloc: Global, text: &str, more: usize) -> Result<String, AllocError>
     ensures { IfOk result (λ copy. string_bytes copy ≡ text.now) }
 {
     let mut copy = String::with_capacity(alloc, text.len().saturating_add(more))?;
@@ -466,7 +466,7 @@ fn is_valid_repo_path_component_str(value: &str) -> bool
 }
 
 fn is_valid_repo_path_str(value: &str) -> bool
-    ensures { result ≡ is_path_text value.now }
+    ensures { result ≡ is_path_string value.now }
 {
     value.is_empty() || value.split('/').all(|part| !part.is_empty())
 }

@@ -9,7 +9,7 @@ ghost use Rattle.jj_paths.specs.Paths.{Name, Path, name_cmp, first_of, rest_of};
 ghost use Rattle.jj_paths.specs.Names.{name_of, path_of};
 ghost use Rattle.std.specs.FinMap.{is_sorted};
 ghost use Rattle.std.specs.Iterator.{YieldsFirstBy, item_count};
-ghost use Rattle.jj_paths.specs.Tree.{Tree, tree_of, branches_of, none, children, child, get, has_branches, put, put_value, update_child, put_below, nodes_on, nodes_below, nodes_from, IsPartOf, IsExtended, IsEdited, IsSet, IsGrown, IsChildEdited, IsAt, IsGapFor, IsTreeClone};
+ghost use Rattle.jj_paths.specs.Tree.{Tree, tree_of, branches_of, none, children, child, get, has_branches, put, put_value, update_child, put_below, nodes_on, nodes_below, nodes_from, IsOnPath, AddsDefaults, WritesAt, SetsValue, AddsDefaultChild, WritesAtChild, IsIndexOf, IsInsertionPoint, IsTreeClone};
 
 mod nodes;
 
@@ -151,11 +151,12 @@ impl<V> RepoPathTree<V> {
 }
 
 impl<V> RepoPathNode<V> {
-    ghost use Rattle.std.specs.Borrow.{sem, Lends, LendsSoOk};
+    ghost use Rattle.std.specs.Borrow.{sem, Lends};
+    ghost use Rattle.jj_paths.specs.TreeLends.{LendsChild};
     ghost use Rattle.jj_paths.specs.contracts.repo_path_tree.RepoPathNode.{the_row};
     ghost use Rattle.jj_paths.specs.contracts.repo_path_tree.RepoPathTree as tree;
     ghost use Rattle.jj_paths.specs.Names.{name_of, path_of};
-    ghost use Rattle.jj_paths.specs.Children.{children_left};
+    ghost use Rattle.jj_paths.specs.Children.{remaining_children};
 
     /// Returns the value of the node.
     pub fn value(&self) -> &V
@@ -188,7 +189,7 @@ impl<V> RepoPathNode<V> {
 
     /// Iterates over the children, in name order.
     pub fn children(&self) -> RepoPathTreeChildren<'_, V>
-        ensures listed { children_left result ≡ children self.now.branches }
+        ensures listed { remaining_children result ≡ children self.now.branches }
         ensures by_name { IsTrue (is_sorted name_cmp (children self.now.branches)) }
     {
         RepoPathTreeChildren {
@@ -209,7 +210,7 @@ impl<V> RepoPathNode<V> {
     pub fn child(&self, name: RepoPathComponent<'_>) -> Option<&RepoPathTree<V>>
         ensures { option_copied result ≡ child self.now.branches (name_of name.entry) }
     {
-        match place(&self.entries, name) {
+        match find_child(&self.entries, name) {
             Ok(at) => Some(&self.entries[at].1),
             Err(_) => None,
         }
@@ -225,51 +226,48 @@ impl<V> RepoPathNode<V> {
     }
 
     // Inserts a child with a default value if there is none with this name.
-    fn child_or_new(
+    fn child_or_default(
         &mut self,
         name: RepoPathComponent<'_>,
     ) -> Result<&mut RepoPathTree<V>, AllocError>
     where
         V: Default + Drop,
-        ensures* writes_back { sem 𝓛 (LendsSoOk (the_row V.row)
-            (tree.the_row V.row) self.entry result
-            (λ new changed. IfOk result (λ sub.
-            IsChildEdited V.is_default self.old (name_of name.entry) sub.now changed new))
-            (λ new. new ≡ self.old)) }
-        ensures value { IfOk result (λ sub. (t : Tree V)
-            × IsGrown V.is_default self.old (name_of name.entry) t
+        ensures* loan { sem 𝓛
+            (LendsChild V.row V.is_default self.entry (name_of name.entry) result) }
+        ensures child { IfOk result (λ sub. (t : Tree V)
+            × AddsDefaultChild V.is_default self.old (name_of name.entry) t
             × (child t.branches (name_of name.entry) ≡ Some sub.now)) }
     {
-        match place(&self.entries, name) {
-            Ok(at) => Ok(second(&mut self.entries[at])),
+        match find_child(&self.entries, name) {
+            Ok(at) => Ok(second_mut(&mut self.entries[at])),
             Err(at) => {
                 let alloc = *self.entries.allocator();
                 let tree = RepoPathTree::new(alloc, V::default());
                 let owned = name.to_owned(alloc)?;
                 self.entries.insert(at, (owned, tree))?;
-                Ok(second(&mut self.entries[at]))
+                Ok(second_mut(&mut self.entries[at]))
             }
         }
     }
 
-    // `child_or_new` for the first component of a path.
+    // `child_or_default` for the first component of a path.
     #[inline(never)]
-    fn first_or_new(&mut self, path: RepoPath<'_>) -> Result<&mut RepoPathTree<V>, AllocError>
+    fn first_child_or_default(
+        &mut self,
+        path: RepoPath<'_>,
+    ) -> Result<&mut RepoPathTree<V>, AllocError>
     where
         V: Default + Drop,
         requires { path_of path ≢ [] }
-        ensures* writes_back { sem 𝓛 (LendsSoOk (the_row V.row)
-            (tree.the_row V.row) self.entry result
-            (λ new changed. IfOk result (λ sub.
-            IsChildEdited V.is_default self.old (first_of
-            (path_of path.entry)) sub.now changed new)) (λ new. new ≡ self.old)) }
-        ensures value { IfOk result (λ sub. (t : Tree V)
-            × IsGrown V.is_default self.old (first_of (path_of path.entry)) t
+        ensures* loan { sem 𝓛 (LendsChild V.row V.is_default self.entry
+            (first_of (path_of path.entry)) result) }
+        ensures child { IfOk result (λ sub. (t : Tree V)
+            × AddsDefaultChild V.is_default self.old (first_of (path_of path.entry)) t
             × (child t.branches (first_of (path_of path.entry)) ≡ Some sub.now)) }
     {
         match path.split_first() {
             None => unreachable!(),
-            Some((name, _rest)) => self.child_or_new(name),
+            Some((name, _rest)) => self.child_or_default(name),
         }
     }
 
@@ -280,8 +278,8 @@ impl<V> RepoPathNode<V> {
             (update_child self.old.branches (name_of name.entry) (λ sub. w)))) }
         ensures value { child self.old.branches (name_of name.entry) ≡ Some result.now }
     {
-        match place(&self.entries, name) {
-            Ok(at) => second(&mut self.entries[at]),
+        match find_child(&self.entries, name) {
+            Ok(at) => second_mut(&mut self.entries[at]),
             Err(_) => unreachable!(),
         }
     }
@@ -312,11 +310,12 @@ impl<V> RepoPathNode<V> {
 }
 
 impl<V> RepoPathTree<V> {
-    ghost use Rattle.std.specs.Borrow.{sem, Lends, LendsSoOk};
+    ghost use Rattle.std.specs.Borrow.{sem, Lends};
+    ghost use Rattle.jj_paths.specs.TreeLends.{LendsNodeAt};
     ghost use Rattle.jj_paths.specs.contracts.repo_path_tree.RepoPathTree.{the_row};
     ghost use Rattle.jj_paths.specs.contracts.repo_path_tree.RepoPathNode as node;
     ghost use Rattle.jj_paths.specs.Names.{name_of, path_of};
-    ghost use Rattle.jj_paths.specs.Children.{children_left, walk_left};
+    ghost use Rattle.jj_paths.specs.Children.{remaining_children, remaining_walk};
 
     /// Creates a tree of the root only, with a default value.
     pub fn default(alloc: Global) -> RepoPathTree<V>
@@ -381,7 +380,7 @@ impl<V> RepoPathTree<V> {
 
     /// Iterates over the children of the root, in name order.
     pub fn children(&self) -> RepoPathTreeChildren<'_, V>
-        ensures listed { children_left result ≡ children self.now.branches }
+        ensures listed { remaining_children result ≡ children self.now.branches }
         ensures by_name { IsTrue (is_sorted name_cmp (children self.now.branches)) }
     {
         self.node.children()
@@ -428,8 +427,8 @@ impl<V> RepoPathTree<V> {
     /// Iterates over the subtrees on the way to a path, from this tree to the deepest one there is,
     /// each with the rest of the path below it.
     pub fn walk_to<'a, 'b>(&'a self, path: RepoPath<'b>) -> RepoPathTreeWalk<'a, 'b, V>
-        ensures on_the_way { walk_left result ≡ nodes_on self.now (path_of path.entry) }
-        ensures parts { All (IsPartOf self.now (path_of path.entry)) (walk_left result) }
+        ensures on_the_way { remaining_walk result ≡ nodes_on self.now (path_of path.entry) }
+        ensures parts { All (IsOnPath self.now (path_of path.entry)) (remaining_walk result) }
     {
         RepoPathTreeWalk {
             next: Some((self, path)),
@@ -462,12 +461,12 @@ impl<V> RepoPathTree<V> {
     where
         V: Default + Drop,
         ensures there { IfOk result (λ done. IsSome (get self.new (path_of path.entry))) }
-        ensures extended { IsExtended V.is_default self.old (path_of path.entry) self.new }
+        ensures extended { AddsDefaults V.is_default self.old (path_of path.entry) self.new }
     {
         if path.is_root() {
             return Ok(());
         }
-        self.node.first_or_new(path)?.extend(path.rest())
+        self.node.first_child_or_default(path)?.extend(path.rest())
     }
 
     /// Returns the node at a path, mutably, and first inserts the missing nodes on the path, with
@@ -476,13 +475,10 @@ impl<V> RepoPathTree<V> {
     pub fn add(&mut self, path: RepoPath<'_>) -> Result<&mut RepoPathNode<V>, AllocError>
     where
         V: Default + Drop,
-        ensures* writes_back { sem 𝓛 (LendsSoOk (the_row V.row)
-            (node.the_row V.row) self.entry result
-            (λ new changed. IfOk result (λ node.
-            IsEdited V.is_default self.old (path_of path.entry) node.now changed new))
-            (λ new. IsExtended V.is_default self.old (path_of path.entry) new)) }
-        ensures value { IfOk result (λ node. (t : Tree V)
-            × IsExtended V.is_default self.old (path_of path.entry) t
+        ensures* loan { sem 𝓛
+            (LendsNodeAt V.row V.is_default self.entry (path_of path.entry) result) }
+        ensures node { IfOk result (λ node. (t : Tree V)
+            × AddsDefaults V.is_default self.old (path_of path.entry) t
             × (get t (path_of path.entry) ≡ Some node.now)) }
     {
         self.extend(path)?;
@@ -495,12 +491,12 @@ impl<V> RepoPathTree<V> {
     where
         V: Default + Drop,
         ensures as_map { IfOk result (λ done.
-            IsSet V.is_default self.old (path_of path.entry) value self.new) }
+            SetsValue V.is_default self.old (path_of path.entry) value self.new) }
         ensures edited { MatchResult result (λ done. (t : Tree V)
-            × IsExtended V.is_default self.old (path_of path.entry) t
+            × AddsDefaults V.is_default self.old (path_of path.entry) t
             × IsSome (get t (path_of path.entry))
             × (self.new ≡ put_value t (path_of path.entry) value))
-            (λ e. IsExtended V.is_default self.old (path_of path.entry) self.new) }
+            (λ e. AddsDefaults V.is_default self.old (path_of path.entry) self.new) }
     {
         self.swap_value(path, &mut value)
     }
@@ -511,16 +507,18 @@ impl<V> RepoPathTree<V> {
     where
         V: Default + Drop,
         ensures edited { MatchResult result (λ done. (t : Tree V)
-            × IsExtended V.is_default self.old (path_of path.entry) t
+            × AddsDefaults V.is_default self.old (path_of path.entry) t
             × IsSome (get t (path_of path.entry))
             × (self.new ≡ put_value t (path_of path.entry) value.old))
-            (λ e. IsExtended V.is_default self.old (path_of path.entry) self.new) }
+            (λ e. AddsDefaults V.is_default self.old (path_of path.entry) self.new) }
     {
         if path.is_root() {
             self.node.swap(value);
             return Ok(());
         }
-        self.node.first_or_new(path)?.swap_value(path.rest(), value)
+        self.node
+            .first_child_or_default(path)?
+            .swap_value(path.rest(), value)
     }
 }
 
@@ -656,13 +654,13 @@ pub struct RepoPathTreeWalk<'a, 'b, V> {
 }
 
 impl<'a, 'b, V> Iterator for RepoPathTreeWalk<'a, 'b, V> {
-    ghost use Rattle.jj_paths.specs.Children.{walk_left};
+    ghost use Rattle.jj_paths.specs.Children.{remaining_walk};
 
     type Item = (&'a RepoPathTree<V>, RepoPath<'b>);
 
-    ghost next_gives = { YieldsFirstBy (λ step. (step.0.now, path_of step.1)) walk_left };
+    ghost next_gives = { YieldsFirstBy (λ step. (step.0.now, path_of step.1)) remaining_walk };
 
-    ghost remaining = { item_count walk_left };
+    ghost remaining = { item_count remaining_walk };
 
     fn next(&mut self) -> Option<(&'a RepoPathTree<V>, RepoPath<'b>)> {
         let (tree, path) = self.next?;
@@ -671,7 +669,7 @@ impl<'a, 'b, V> Iterator for RepoPathTreeWalk<'a, 'b, V> {
     }
 }
 
-fn second<A, B>(pair: &mut (A, B)) -> &mut B
+fn second_mut<A, B>(pair: &mut (A, B)) -> &mut B
     ensures* writes_back { sem 𝓛 (Lends (Tuple (A.row ∷ B.row ∷ [])) B.row pair.entry result
         (λ w. (pair.old.0, w))) }
     ensures value { result.now ≡ pair.old.1 }
@@ -681,13 +679,13 @@ fn second<A, B>(pair: &mut (A, B)) -> &mut B
 
 // The index of the name, or of its insertion point. Compares with the last name first, so that
 // insertions in name order need one comparison each.
-fn place<V>(
+fn find_child<V>(
     entries: &[(RepoPathComponentBuf, RepoPathTree<V>)],
     name: RepoPathComponent<'_>,
 ) -> Result<usize, usize>
     requires { IsTrue (is_sorted name_cmp entries.now) }
-    ensures found { IfOk result (λ at. IsAt entries.now (name_of name.entry) at) }
-    ensures absent { IfErr result (λ at. IsGapFor entries.now (name_of name.entry) at) }
+    ensures found { IfOk result (λ at. IsIndexOf entries.now (name_of name.entry) at) }
+    ensures absent { IfErr result (λ at. IsInsertionPoint entries.now (name_of name.entry) at) }
 {
     let Some(last) = entries.last() else {
         return Err(0);
@@ -695,17 +693,17 @@ fn place<V>(
     match last.0.as_component().cmp(&name) {
         Ordering::Less => Err(entries.len()),
         Ordering::Equal => Ok(entries.len() - 1),
-        Ordering::Greater => search(entries, name),
+        Ordering::Greater => search_children(entries, name),
     }
 }
 
-fn search<V>(
+fn search_children<V>(
     entries: &[(RepoPathComponentBuf, RepoPathTree<V>)],
     name: RepoPathComponent<'_>,
 ) -> Result<usize, usize>
     requires { IsTrue (is_sorted name_cmp entries.now) }
-    ensures found { IfOk result (λ at. IsAt entries.now (name_of name.entry) at) }
-    ensures absent { IfErr result (λ at. IsGapFor entries.now (name_of name.entry) at) }
+    ensures found { IfOk result (λ at. IsIndexOf entries.now (name_of name.entry) at) }
+    ensures absent { IfErr result (λ at. IsInsertionPoint entries.now (name_of name.entry) at) }
 {
     entries.binary_search_by(
         move |entry| -> Ordering

@@ -2,7 +2,7 @@
 use Rattle.std.proofs.Common.{◌≡◌, ◌≢◌, Option, Some, None, refl, ap, sym, ◌∙◌}
 use Rattle.std.specs.Option.{option_map}
 use Rattle.jj_paths.specs.Paths.{Path}
-use Rattle.jj_paths.specs.Tree.{Tree, tree_of, value_at, IsExtended, IsEdited, IsSet}
+use Rattle.jj_paths.specs.Tree.{Tree, tree_of, value_at, AddsDefaults, WritesAt, SetsValue}
 
 module _ {V : Type 0} where
   module _ {W : Type 0} (is_new : V → Type 0) (reading : Option V → W) (blank : (v : V) → is_new v → reading (Some v) ≡ reading None) where
@@ -13,22 +13,22 @@ module _ {V : Type 0} where
     read_again None (Some v) keeps makes = blank v (makes v refl refl)
 
     -- after missing nodes are inserted, every path is read as before
-    pub extended_reads : (old new : Tree V) (path : Path) → IsExtended is_new old path new → (any : Path) → reading (value_at new any) ≡ reading (value_at old any)
+    pub extended_reads : (old new : Tree V) (path : Path) → AddsDefaults is_new old path new → (any : Path) → reading (value_at new any) ≡ reading (value_at old any)
     extended_reads old new path e any = read_again (value_at old any) (value_at new any) (e.keeps any) (λ v was is. (e.makes any v was is).0)
 
     -- after a value is set, every other path is read as before
-    pub set_reads : (old new : Tree V) (path : Path) (value : V) → IsSet is_new old path value new → (other : Path) → other ≢ path → reading (value_at new other) ≡ reading (value_at old other)
+    pub set_reads : (old new : Tree V) (path : Path) (value : V) → SetsValue is_new old path value new → (other : Path) → other ≢ path → reading (value_at new other) ≡ reading (value_at old other)
     set_reads old new path value s other off = read_again (value_at old other) (value_at new other) (λ v. s.keeps other v off) (λ v was is. (s.makes other v off was is).0)
 
-  module _ {W : Type 0} (is_new : V → Type 0) (reading : Option V → W) (blank : (v : V) → is_new v → reading (Some v) ≡ reading None) (old new : Tree V) (path : Path) (node : Tree V) (value : V) (e : IsEdited is_new old path node (tree_of value node.branches) new) where
+  module _ {W : Type 0} (is_new : V → Type 0) (reading : Option V → W) (blank : (v : V) → is_new v → reading (Some v) ≡ reading None) (old new : Tree V) (path : Path) (node : Tree V) (value : V) (e : WritesAt is_new old path node (tree_of value node.branches) new) where
     -- the value of the borrowed node is the one that was read at its path
-    pub lent_was : reading (Some node.value) ≡ reading (value_at old path)
-    lent_was = ap (λ o. reading (option_map (λ (n : Tree V). n.value) o)) (sym e.at_path) ∙ extended_reads is_new reading blank old e.tree path e.extended path
+    pub borrowed_before : reading (Some node.value) ≡ reading (value_at old path)
+    borrowed_before = ap (λ o. reading (option_map (λ (n : Tree V). n.value) o)) (sym e.at_path) ∙ extended_reads is_new reading blank old e.tree path e.extended path
 
     -- the value that is written to the node is the one that is read there now
-    pub lent_is : reading (value_at new path) ≡ reading (Some value)
-    lent_is = ap reading (e.sets value refl).here
+    pub borrowed_after : reading (value_at new path) ≡ reading (Some value)
+    borrowed_after = ap reading (e.sets value refl).here
 
     -- every other path is read as before
-    pub lent_reads : (other : Path) → other ≢ path → reading (value_at new other) ≡ reading (value_at old other)
-    lent_reads = set_reads is_new reading blank old new path value (e.sets value refl)
+    pub borrowed_others : (other : Path) → other ≢ path → reading (value_at new other) ≡ reading (value_at old other)
+    borrowed_others = set_reads is_new reading blank old new path value (e.sets value refl)

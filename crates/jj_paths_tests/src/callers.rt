@@ -2,14 +2,14 @@
 ghost use Rattle.std.specs.Prelude.{◌≡◌, ◌≢◌, ◌+◌, ◌-◌, ◌^◌, min, false, IsOk, IfOk, IfErr, OnOk, OnErr, IsTrue, string_bytes};
 ghost use Rattle.std.specs.Option.{option_copied};
 ghost use Rattle.std.specs.Io.KnownBytes.{Appends};
-ghost use Rattle.jj_paths.specs.Paths.{Path, is_path_text};
+ghost use Rattle.jj_paths.specs.Paths.{Path, is_path_string};
 ghost use Rattle.jj_paths.specs.Names.{path_of};
 ghost use Rattle.jj_files.specs.Streams.{AppendsFrontOf};
 ghost use Rattle.jj_paths_tests.specs.Notes.{note_at, count_at};
-ghost use Rattle.jj_paths_tests.specs.PathRefusals.{IsNoPath};
+ghost use Rattle.jj_paths_tests.specs.PathErrors.{IsNoPathError};
 
 use jj_files::file_util::{Sink, Watched, copy};
-use jj_paths::laws::texts_and_paths_give_back;
+use jj_paths::laws::path_string_laws;
 use jj_paths::repo_path::{InvalidNewRepoPathError, RepoPath};
 use jj_paths::repo_path_tree::RepoPathTree;
 use std::alloc::{AllocError, Global};
@@ -17,15 +17,15 @@ use std::io;
 
 /// Sets the note at a path. The notes at all other paths are unchanged, and so are all notes after
 /// an allocation failure.
-pub fn keep_note(
+pub fn set_note(
     notes: &mut RepoPathTree<Option<String>>,
     path: RepoPath<'_>,
     note: String,
 ) -> Result<(), AllocError>
-    ensures kept { OnOk result (note_at notes.new (path_of path.entry) ≡ Some note) }
+    ensures note { OnOk result (note_at notes.new (path_of path.entry) ≡ Some note) }
     ensures others { (other : Path) → other ≢ path_of path.entry
         → note_at notes.new other ≡ note_at notes.old other }
-    ensures refused { OnErr result ((any : Path) →
+    ensures error { OnErr result ((any : Path) →
         note_at notes.new any ≡ note_at notes.old any) }
 {
     notes.set(path, Some(note))
@@ -40,12 +40,12 @@ pub fn note<'a>(notes: &'a RepoPathTree<Option<String>>, path: RepoPath<'_>) -> 
 
 /// Increments the count at a path, saturating at the greatest `u64`. The counts at all other paths
 /// are unchanged, and so are all counts after an allocation failure.
-pub fn count_change(counts: &mut RepoPathTree<u64>, path: RepoPath<'_>) -> Result<(), AllocError>
+pub fn increment_count(counts: &mut RepoPathTree<u64>, path: RepoPath<'_>) -> Result<(), AllocError>
     ensures counted { OnOk result (count_at counts.new (path_of path.entry)
         ≡ min (count_at counts.old (path_of path.entry) + 1) (2 ^ 64 - 1)) }
     ensures others { (other : Path) → other ≢ path_of path.entry
         → count_at counts.new other ≡ count_at counts.old other }
-    ensures refused { OnErr result ((any : Path) →
+    ensures error { OnErr result ((any : Path) →
         count_at counts.new any ≡ count_at counts.old any) }
 {
     let node = counts.add(path)?;
@@ -55,12 +55,12 @@ pub fn count_change(counts: &mut RepoPathTree<u64>, path: RepoPath<'_>) -> Resul
 }
 
 /// Splits off the last component of a path and joins it again: returns a copy of the string.
-pub fn rejoined(alloc: Global, text: &str) -> Result<String, InvalidNewRepoPathError>
+pub fn rejoin(alloc: Global, text: &str) -> Result<String, InvalidNewRepoPathError>
     ensures same { IfOk result (λ again. string_bytes again ≡ text.now) }
-    ensures valid { IsOk result → IsTrue (is_path_text text.now) }
-    ensures refused { IfErr result (IsNoPath text.now) }
+    ensures valid { IsOk result → IsTrue (is_path_string text.now) }
+    ensures error { IfErr result (IsNoPathError text.now) }
 {
-    texts_and_paths_give_back();
+    path_string_laws();
     let path = RepoPath::from_internal_string(alloc, text)?;
     match path.split() {
         None => Ok(String::new(alloc)),
@@ -72,13 +72,13 @@ pub fn rejoined(alloc: Global, text: &str) -> Result<String, InvalidNewRepoPathE
 pub fn send<W: Sink>(bytes: &[u8], sink: &mut W) -> io::Result<usize>
     requires { W.has_failed sink.old ≡ false }
     ensures all { OnOk result (Appends (W.contents sink.old) (W.contents sink.new) bytes.now) }
-    ensures front { AppendsFrontOf (W.contents sink.old) (W.contents sink.new) bytes.now }
+    ensures prefix { AppendsFrontOf (W.contents sink.old) (W.contents sink.new) bytes.now }
 {
     copy(&mut Watched::new(bytes), sink)
 }
 
 /// Copies the bytes through a sink in memory.
-pub fn kept(alloc: Global, bytes: &[u8]) -> io::Result<Vec<u8>>
+pub fn copy_through_sink(alloc: Global, bytes: &[u8]) -> io::Result<Vec<u8>>
     ensures { IfOk result (λ list. list.items ≡ bytes.now) }
 {
     let mut sink = Watched::new(Vec::new(alloc));

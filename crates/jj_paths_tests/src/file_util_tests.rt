@@ -12,25 +12,25 @@ const LONGEST: usize = 40000;
 
 // A reader of `len` bytes that returns at most `most` for one call, and fails after `left` calls.
 #[derive(Drop)]
-struct Cut {
-    given: usize,
+struct ShortReader {
+    position: usize,
     len: usize,
     most: usize,
     left: u32,
-    ghost within: { given ≤ len },
+    ghost within: { position ≤ len },
 }
 
-impl Read for Cut {
+impl Read for ShortReader {
     fn read(&mut self, buf: &mut [u8]) -> io::Result<usize> {
         if self.left == 0 {
             return Err(io::Error::from(ErrorKind::BrokenPipe));
         }
         self.left -= 1;
-        let n = self.most.min(buf.len()).min(self.len - self.given);
+        let n = self.most.min(buf.len()).min(self.len - self.position);
         for (i, byte) in buf[..n].iter_mut().enumerate() {
-            *byte = byte_at(self.given + i);
+            *byte = byte_at(self.position + i);
         }
-        self.given += n;
+        self.position += n;
         Ok(n)
     }
 }
@@ -38,14 +38,14 @@ impl Read for Cut {
 // A writer that accepts at most `most` bytes for one call, compares them with the expected bytes,
 // and fails after `left` calls.
 #[derive(Drop)]
-struct Taken {
+struct ShortWriter {
     len: usize,
     same: bool,
     most: usize,
     left: u32,
 }
 
-impl Write for Taken {
+impl Write for ShortWriter {
     fn write(&mut self, piece: &[u8]) -> io::Result<usize> {
         if self.left == 0 {
             return Err(io::Error::from(ErrorKind::Interrupted));
@@ -70,19 +70,19 @@ fn byte_at(i: usize) -> u8 {
 
 // Returns the result of a copy of `len` bytes, the number of bytes written, and whether they are a
 // prefix of the input.
-fn copied(
+fn run_copy(
     len: usize,
     most: usize,
     reads: u32,
     writes: u32,
 ) -> (Result<usize, ErrorKind>, usize, bool) {
-    let mut reader = Watched::new(Cut {
-        given: 0,
+    let mut reader = Watched::new(ShortReader {
+        position: 0,
         len,
         most,
         left: reads,
     });
-    let mut taken = Taken {
+    let mut taken = ShortWriter {
         len: 0,
         same: true,
         most,
@@ -101,7 +101,7 @@ fn copies_across_buffers(rt: HostRuntime) {
     for len in [0, 1, 16384, 16385, LONGEST] {
         for most in [1, 1000, LONGEST] {
             let whole = (Ok(len), len, true);
-            equals(&rt, &copied(len, most, u32::MAX, u32::MAX), &whole);
+            equals(&rt, &run_copy(len, most, u32::MAX, u32::MAX), &whole);
         }
     }
 }
@@ -111,9 +111,9 @@ fn each_read_fails_in_turn(rt: HostRuntime) {
     // Ten reads of one byte, and one at the end of the input.
     for reads in 0..11u32 {
         let cut = (Err(ErrorKind::BrokenPipe), reads as usize, true);
-        equals(&rt, &copied(10, 1, reads, u32::MAX), &cut);
+        equals(&rt, &run_copy(10, 1, reads, u32::MAX), &cut);
     }
-    equals(&rt, &copied(10, 1, 11, u32::MAX), &(Ok(10), 10, true));
+    equals(&rt, &run_copy(10, 1, 11, u32::MAX), &(Ok(10), 10, true));
 }
 
 #[test]
@@ -121,29 +121,29 @@ fn each_write_fails_in_turn(rt: HostRuntime) {
     // An interrupted write is not retried.
     for writes in 0..10u32 {
         let cut = (Err(ErrorKind::Interrupted), writes as usize, true);
-        equals(&rt, &copied(10, 1, u32::MAX, writes), &cut);
+        equals(&rt, &run_copy(10, 1, u32::MAX, writes), &cut);
     }
-    equals(&rt, &copied(10, 1, u32::MAX, 10), &(Ok(10), 10, true));
+    equals(&rt, &run_copy(10, 1, u32::MAX, 10), &(Ok(10), 10, true));
 }
 
 #[test]
 fn a_writer_that_takes_nothing_has_failed(rt: HostRuntime) {
     let mut reader = Watched::new(b"abc".as_slice());
-    let mut writer = Watched::new(Taken {
+    let mut writer = Watched::new(ShortWriter {
         len: 0,
         same: true,
         most: 0,
         left: 1,
     });
     match copy(&mut reader, &mut writer) {
-        Ok(_) => panic!(rt; "nothing was written"),
+        Ok(_) => panic!(rt; "nothing was run_write"),
         Err(e) => equals(&rt, &e.kind(), &ErrorKind::WriteZero),
     }
 }
 
 // Returns the result of one write to a watched writer.
-fn written(most: usize, left: u32, piece: &[u8]) -> Result<usize, ErrorKind> {
-    let mut writer = Watched::new(Taken {
+fn run_write(most: usize, left: u32, piece: &[u8]) -> Result<usize, ErrorKind> {
+    let mut writer = Watched::new(ShortWriter {
         len: 0,
         same: true,
         most,
@@ -157,8 +157,8 @@ fn written(most: usize, left: u32, piece: &[u8]) -> Result<usize, ErrorKind> {
 
 #[test]
 fn kinds_of_failed_writes(rt: HostRuntime) {
-    equals(&rt, &written(2, 1, b"abc"), &Ok(2));
-    equals(&rt, &written(0, 1, b"abc"), &Err(ErrorKind::WriteZero));
-    equals(&rt, &written(0, 1, b""), &Ok(0));
-    equals(&rt, &written(2, 0, b"abc"), &Err(ErrorKind::Interrupted));
+    equals(&rt, &run_write(2, 1, b"abc"), &Ok(2));
+    equals(&rt, &run_write(0, 1, b"abc"), &Err(ErrorKind::WriteZero));
+    equals(&rt, &run_write(0, 1, b""), &Ok(0));
+    equals(&rt, &run_write(2, 0, b"abc"), &Err(ErrorKind::Interrupted));
 }

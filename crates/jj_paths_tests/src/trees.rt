@@ -67,21 +67,21 @@ fn next_is<R: Abort>(
 }
 
 // Builds the small tree, and tries again after an injected allocation failure.
-fn small_tree_at_last<R: Abort>(rt: &R, alloc: Global) -> RepoPathTree<u32> {
+fn retry_small_tree<R: Abort>(rt: &R, alloc: Global) -> RepoPathTree<u32> {
     match small_tree(rt, alloc) {
         Ok(tree) => tree,
         Err(AllocError) => match small_tree(rt, alloc) {
             Ok(tree) => tree,
-            Err(AllocError) => panic!(rt; "memory was refused twice"),
+            Err(AllocError) => panic!(rt; "allocation failed twice"),
         },
     }
 }
 
 // A failed `add` changes no value, and the nodes that it inserted have the default value.
 #[test]
-fn refused_adds(rt: HostRuntime) {
+fn failed_adds(rt: HostRuntime) {
     let alloc = rt.alloc();
-    let mut tree = small_tree_at_last(&rt, alloc);
+    let mut tree = retry_small_tree(&rt, alloc);
     let added = path(&rt, alloc, "a/b/c/d");
     match tree.add(added) {
         Ok(node) => node.set_value(4),
@@ -139,7 +139,7 @@ fn has_number<R: Abort>(
 }
 
 // Asserts that `get` finds the even numbers and no odd one.
-fn finds_even_alone<R: Abort>(rt: &R, alloc: Global, tree: &RepoPathTree<u32>) -> Passed {
+fn finds_only_even<R: Abort>(rt: &R, alloc: Global, tree: &RepoPathTree<u32>) -> Passed {
     for number in 0u32..4000 {
         let is_there = has_number(rt, alloc, tree, number)?;
         equals(rt, &is_there, &(number % 2 == 0));
@@ -147,15 +147,15 @@ fn finds_even_alone<R: Abort>(rt: &R, alloc: Global, tree: &RepoPathTree<u32>) -
     Ok(())
 }
 
-fn holds_two_thousand<R: Abort>(rt: &R, alloc: Global) -> Passed {
+fn check_two_thousand<R: Abort>(rt: &R, alloc: Global) -> Passed {
     let tree = tree_of_even(rt, alloc)?;
     lists_all(rt, alloc, &tree)?;
-    finds_even_alone(rt, alloc, &tree)
+    finds_only_even(rt, alloc, &tree)
 }
 
 #[test]
 fn two_thousand_children(rt: HostRuntime) -> Result<(), Fail> {
-    passes(&rt, holds_two_thousand)
+    passes(&rt, check_two_thousand)
 }
 
 // Returns the string of a path of 8,001 components.
@@ -167,7 +167,7 @@ fn deep_text(alloc: Global) -> Result<String, AllocError> {
     Ok(text)
 }
 
-fn holds_alone<R: Abort>(rt: &R, alloc: Global, deep: RepoPath<'_>) -> Passed {
+fn check_single_value<R: Abort>(rt: &R, alloc: Global, deep: RepoPath<'_>) -> Passed {
     let mut tree: RepoPathTree<u32> = RepoPathTree::default(alloc);
     tree.set(deep, 3)?;
     match tree.get(deep) {
@@ -177,9 +177,9 @@ fn holds_alone<R: Abort>(rt: &R, alloc: Global, deep: RepoPath<'_>) -> Passed {
     Ok(())
 }
 
-fn holds_deep<R: Abort>(rt: &R, alloc: Global) -> Passed {
+fn check_deep<R: Abort>(rt: &R, alloc: Global) -> Passed {
     match RepoPathBuf::from_internal_string(deep_text(alloc)?) {
-        Ok(deep) => holds_alone(rt, alloc, deep.as_path()),
+        Ok(deep) => check_single_value(rt, alloc, deep.as_path()),
         Err(_) => panic!(rt; "the names are joined by slashes"),
     }
 }
@@ -187,5 +187,5 @@ fn holds_deep<R: Abort>(rt: &R, alloc: Global) -> Passed {
 // Dropping a deep tree does not overflow the stack.
 #[test]
 fn deep_trees(rt: HostRuntime) -> Result<(), Fail> {
-    passes(&rt, holds_deep)
+    passes(&rt, check_deep)
 }

@@ -62,7 +62,11 @@ fn glob_prefix(alloc: Global, fields: &Fields, values: &mut Values) -> Result<()
 }
 
 // Appends the literal prefix of the glob.
-fn glob_front(alloc: Global, fields: &Fields, values: &mut Values) -> Result<(), RowError> {
+fn glob_literal_prefix(
+    alloc: Global,
+    fields: &Fields,
+    values: &mut Values,
+) -> Result<(), RowError> {
     if let Some(glob) = parse(alloc, fields, values)? {
         values.bytes(glob.front());
     }
@@ -158,7 +162,7 @@ pub(crate) fn call(
         "glob-parse" => glob_parse(alloc, fields, values),
         "glob-match" => glob_match(alloc, fields, values),
         "glob-prefix" => glob_prefix(alloc, fields, values),
-        "glob-front" => glob_front(alloc, fields, values),
+        "glob-front" => glob_literal_prefix(alloc, fields, values),
         "glob-regex" => glob_regex(alloc, fields, values),
         "glob-escape" => glob_escape(alloc, fields, values),
         "glob-special" => glob_special(fields, values),

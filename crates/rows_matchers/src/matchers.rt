@@ -66,7 +66,7 @@ fn put_walk<M: Matcher>(
 }
 
 // Runs the request of this name on a matcher.
-fn ask<M: Matcher>(
+fn run<M: Matcher>(
     alloc: Global,
     name: &str,
     matcher: &M,
@@ -80,7 +80,7 @@ fn ask<M: Matcher>(
     }
 }
 
-fn ask_files(
+fn run_files(
     alloc: Global,
     name: &str,
     request: &Request,
@@ -88,10 +88,10 @@ fn ask_files(
 ) -> Result<(), RowError> {
     let files = parse_paths(alloc, request.group(0)?, 1)?;
     let matcher = FilesMatcher::new(alloc, files.as_slice())?;
-    ask(alloc, name, &matcher, request.group(1)?, values)
+    run(alloc, name, &matcher, request.group(1)?, values)
 }
 
-fn ask_prefix(
+fn run_prefix(
     alloc: Global,
     name: &str,
     request: &Request,
@@ -99,7 +99,7 @@ fn ask_prefix(
 ) -> Result<(), RowError> {
     let prefixes = parse_paths(alloc, request.group(0)?, 1)?;
     let matcher = PrefixMatcher::new(alloc, prefixes.as_slice())?;
-    ask(alloc, name, &matcher, request.group(1)?, values)
+    run(alloc, name, &matcher, request.group(1)?, values)
 }
 
 // Parses a glob, which ignores case if it begins with `(?i)`.
@@ -156,7 +156,7 @@ fn build_globs(
     builder.build()
 }
 
-fn ask_globs(
+fn run_globs(
     alloc: Global,
     name: &str,
     prefix_paths: bool,
@@ -167,23 +167,23 @@ fn ask_globs(
     let dirs = parse_dirs(alloc, fields)?;
     let globs = parse_globs(alloc, fields)?;
     let matcher = build_globs(alloc, prefix_paths, dirs.as_slice(), globs.as_slice())?;
-    ask(alloc, name, &matcher, request.group(1)?, values)
+    run(alloc, name, &matcher, request.group(1)?, values)
 }
 
 // Runs the request of this name on a matcher of the kind in the first field.
-fn ask_kind(
+fn run_kind(
     alloc: Global,
     name: &str,
     request: &Request,
     values: &mut Values,
 ) -> Result<(), RowError> {
     match request.group(0)?.string(0)? {
-        "everything" => ask(alloc, name, &EverythingMatcher, request.group(1)?, values),
-        "nothing" => ask(alloc, name, &NothingMatcher, request.group(1)?, values),
-        "files" => ask_files(alloc, name, request, values),
-        "prefix" => ask_prefix(alloc, name, request, values),
-        "globs" => ask_globs(alloc, name, false, request, values),
-        "prefix-globs" => ask_globs(alloc, name, true, request, values),
+        "everything" => run(alloc, name, &EverythingMatcher, request.group(1)?, values),
+        "nothing" => run(alloc, name, &NothingMatcher, request.group(1)?, values),
+        "files" => run_files(alloc, name, request, values),
+        "prefix" => run_prefix(alloc, name, request, values),
+        "globs" => run_globs(alloc, name, false, request, values),
+        "prefix-globs" => run_globs(alloc, name, true, request, values),
         _ => Err(RowError::Unreadable("kind of matcher")),
     }
 }
@@ -250,7 +250,7 @@ pub(crate) fn call(
     values: &mut Values,
 ) -> Result<bool, RowError> {
     let called = match name {
-        "accepts" | "visit" | "walk" => ask_kind(alloc, name, request, values),
+        "accepts" | "visit" | "walk" => run_kind(alloc, name, request, values),
         "globs-builder" => globs_builder(alloc, request, values),
         "path-glob" => path_glob(alloc, request.group(0)?, values),
         "debug-matchers" => debug_matchers(values),

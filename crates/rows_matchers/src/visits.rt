@@ -72,7 +72,7 @@ pub(crate) fn put_visit(alloc: Global, visit: &Visit, values: &mut Values) {
 }
 
 // Appends the union, difference and intersection of two visits.
-fn combined(alloc: Global, fields: &Fields, values: &mut Values) -> Result<(), RowError> {
+fn visit_combined(alloc: Global, fields: &Fields, values: &mut Values) -> Result<(), RowError> {
     let first = fields.string(0)?;
     let second = fields.string(1)?;
     let visit = union_visit(parse_visit(alloc, first)?, parse_visit(alloc, second)?)?;
@@ -85,7 +85,7 @@ fn combined(alloc: Global, fields: &Fields, values: &mut Values) -> Result<(), R
 }
 
 // Appends the visit of two sets of names, and whether it is `Nothing`.
-fn sets(alloc: Global, fields: &Fields, values: &mut Values) -> Result<(), RowError> {
+fn visit_sets(alloc: Global, fields: &Fields, values: &mut Values) -> Result<(), RowError> {
     let dirs = parse_names(alloc, fields.string(0)?)?;
     let visit = Visit::sets(dirs, parse_names(alloc, fields.string(1)?)?);
     put_visit(alloc, &visit, values);
@@ -97,7 +97,7 @@ fn sets(alloc: Global, fields: &Fields, values: &mut Values) -> Result<(), RowEr
 }
 
 // Appends for each name of a set whether it is to be visited as a directory and as a file.
-fn contains(alloc: Global, fields: &Fields, values: &mut Values) -> Result<(), RowError> {
+fn visit_contains(alloc: Global, fields: &Fields, values: &mut Values) -> Result<(), RowError> {
     let dirs = parse_dirs(alloc, fields.string(0)?)?;
     let files = parse_files(alloc, fields.string(1)?)?;
     for name in parse_names(alloc, fields.string(2)?)?.iter() {
@@ -118,9 +118,9 @@ pub(crate) fn call(
     }
     let fields = request.group(0)?;
     let called = match name {
-        "visit-combined" => combined(alloc, fields, values),
-        "visit-sets" => sets(alloc, fields, values),
-        "visit-contains" => contains(alloc, fields, values),
+        "visit-combined" => visit_combined(alloc, fields, values),
+        "visit-sets" => visit_sets(alloc, fields, values),
+        "visit-contains" => visit_contains(alloc, fields, values),
         _ => return Ok(false),
     };
     called?;

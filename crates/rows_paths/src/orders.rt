@@ -70,7 +70,7 @@ fn owned_paths(alloc: Global, paths: &[RepoPath<'_>]) -> Result<HashSet<RepoPath
     Ok(set)
 }
 
-fn set_of<T: Eq + Hash + Copy + Drop>(
+fn collect_set<T: Eq + Hash + Copy + Drop>(
     alloc: Global,
     items: &[T],
 ) -> Result<HashSet<T>, AllocError> {
@@ -101,7 +101,7 @@ fn names_of(alloc: Global, fields: &Fields) -> Result<Vec<RepoPathComponent<'_>>
 fn path_set(alloc: Global, request: &Request, values: &mut Values) -> Result<(), RowError> {
     let path = path_at(alloc, request.group(1)?, 0)?;
     let paths = paths_of(alloc, request.group(0)?)?;
-    let borrowed = set_of(alloc, paths.as_slice())?;
+    let borrowed = collect_set(alloc, paths.as_slice())?;
     values.index(borrowed.len());
     values.flag(borrowed.contains(&path));
     let owned = owned_paths(alloc, paths.as_slice())?;
@@ -126,7 +126,7 @@ fn owned_names(
 // Appends the number of distinct names.
 fn name_set(alloc: Global, request: &Request, values: &mut Values) -> Result<(), RowError> {
     let names = names_of(alloc, request.group(0)?)?;
-    let borrowed = set_of(alloc, names.as_slice())?;
+    let borrowed = collect_set(alloc, names.as_slice())?;
     values.index(borrowed.len());
     let owned = owned_names(alloc, names.as_slice())?;
     agree(owned.len() == borrowed.len(), "owned names")

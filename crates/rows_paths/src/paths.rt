@@ -121,7 +121,7 @@ fn names_of(alloc: Global, fields: &Fields) -> Result<Vec<RepoPathComponent<'_>>
     Ok(names)
 }
 
-fn joined(
+fn join_names(
     alloc: Global,
     base: RepoPath<'_>,
     names: &[RepoPathComponent<'_>],
@@ -133,7 +133,7 @@ fn joined(
     Ok(path)
 }
 
-fn extended(
+fn extend_with_names(
     alloc: Global,
     base: RepoPath<'_>,
     names: &[RepoPathComponent<'_>],
@@ -144,7 +144,7 @@ fn extended(
 }
 
 // Appends the components of a path to the root.
-fn rebuilt(alloc: Global, path: RepoPath<'_>) -> Result<RepoPathBuf, AllocError> {
+fn rebuild(alloc: Global, path: RepoPath<'_>) -> Result<RepoPathBuf, AllocError> {
     let mut again = RepoPathBuf::root(alloc);
     again.extend(path.components())?;
     Ok(again)
@@ -154,9 +154,9 @@ fn path_join(alloc: Global, request: &Request, values: &mut Values) -> Result<()
     let fields = request.group(0)?;
     let base = path_at(alloc, fields, 0)?;
     let names = names_of(alloc, fields)?;
-    let path = joined(alloc, base, names.as_slice())?;
+    let path = join_names(alloc, base, names.as_slice())?;
     values.string(path.as_path().as_internal_file_string());
-    let longer = extended(alloc, base, names.as_slice())?;
-    let again = rebuilt(alloc, path.as_path())?;
+    let longer = extend_with_names(alloc, base, names.as_slice())?;
+    let again = rebuild(alloc, path.as_path())?;
     agree(longer == path && again == path, "join and extend")
 }

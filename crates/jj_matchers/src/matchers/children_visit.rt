@@ -1,7 +1,7 @@
 //! The visit of a node in a tree of marked paths.
 ghost use Rattle.std.specs.Prelude.{◌≡◌, IfOk};
-ghost use Rattle.jj_matchers.specs.Marks.{children_answer, counts_as_dir, has_mark};
-ghost use Rattle.jj_matchers.specs.Visits.{answer_of};
+ghost use Rattle.jj_matchers.specs.Marks.{children_spec, counts_as_dir, has_mark};
+ghost use Rattle.jj_matchers.specs.Visits.{visit_spec};
 
 use crate::matchers::Visit;
 use jj_paths::repo_path_tree::RepoPathTree;
@@ -15,8 +15,8 @@ pub fn visit_children(
     tree: &RepoPathTree<bool>,
     all_dirs: bool,
 ) -> Result<Visit, AllocError>
-    ensures { IfOk result (λ visit. answer_of visit
-        ≡ children_answer (counts_as_dir all_dirs) has_mark tree.now.branches) }
+    ensures { IfOk result (λ visit. visit_spec visit
+        ≡ children_spec (counts_as_dir all_dirs) has_mark tree.now.branches) }
 {
     let mut dirs = HashSet::new(alloc);
     let mut files = HashSet::new(alloc);

@@ -1,8 +1,8 @@
 //! The matcher of the difference of two sets.
 ghost use Rattle.std.specs.Prelude.{◌≡◌, ◌&&◌, not, true};
-ghost use Rattle.jj_matchers.specs.Answers.{specific};
-ghost use Rattle.jj_matchers.specs.Combined.{difference_answer};
-ghost use Rattle.jj_matchers.specs.Visits.{answer_of};
+ghost use Rattle.jj_matchers.specs.VisitSpecs.{specific};
+ghost use Rattle.jj_matchers.specs.Combined.{difference_spec};
+ghost use Rattle.jj_matchers.specs.Visits.{visit_spec};
 
 use crate::matchers::{Matcher, Visit, VisitDirs, VisitFiles};
 use jj_paths::repo_path::RepoPath;
@@ -30,10 +30,10 @@ impl<M1: Matcher, M2: Matcher> Matcher for DifferenceMatcher<M1, M2> {
 
     ghost opens = { λ m path. M1.opens m.wanted path };
 
-    ghost answers = { λ m dir. difference_answer (M1.answers m.wanted dir)
-        (M2.answers m.unwanted dir) };
+    ghost visits = { λ m dir. difference_spec (M1.visits m.wanted dir)
+        (M2.visits m.unwanted dir) };
 
-    ghost candidates = { λ m dir. M1.candidates m.wanted dir };
+    ghost mentioned = { λ m dir. M1.mentioned m.wanted dir };
 
     fn matches(&self, file: RepoPath<'_>) -> bool {
         self.wanted.matches(file) && !self.unwanted.matches(file)
@@ -53,7 +53,7 @@ impl<M1: Matcher, M2: Matcher> Matcher for DifferenceMatcher<M1, M2> {
 /// below the names that it mentions, so it removes no names; it only turns `AllRecursively` into
 /// all children.
 pub fn difference_visit(wanted: Visit, unwanted: Visit) -> Visit
-    ensures { answer_of result ≡ difference_answer (answer_of wanted) (answer_of unwanted) }
+    ensures { visit_spec result ≡ difference_spec (visit_spec wanted) (visit_spec unwanted) }
 {
     match unwanted {
         Visit::AllRecursively => Visit::Nothing,
@@ -67,7 +67,7 @@ pub fn difference_visit(wanted: Visit, unwanted: Visit) -> Visit
 }
 
 fn all_children() -> Visit
-    ensures { answer_of result ≡ specific (λ name. true) (λ name. true) }
+    ensures { visit_spec result ≡ specific (λ name. true) (λ name. true) }
 {
     Visit::Specific {
         dirs: VisitDirs::All,

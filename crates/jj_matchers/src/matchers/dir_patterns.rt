@@ -3,10 +3,10 @@ ghost use Rattle.std.specs.Prelude.{◌≡◌, [], ◌∷◌, ◌++◌, MatchRes
 ghost use Rattle.std.specs.List.{list_any};
 ghost use Rattle.jj_paths.specs.Names.{path_of};
 ghost use Rattle.jj_matchers.specs.Patterns.{is_stars, accepts_tail, covers_tail};
-ghost use Rattle.jj_matchers.specs.PatternOrder.{fits_text};
+ghost use Rattle.jj_matchers.specs.PatternOrder.{matches_string};
 
 use crate::matchers::PathGlobPattern;
-use crate::matchers::pattern_order::{any_in_order, stay_in_order};
+use crate::matchers::pattern_order::{any_match_sorted, stays_sorted};
 use jj_paths::repo_path::RepoPath;
 use std::alloc::{AllocError, Global};
 use std::marker::Model;
@@ -16,21 +16,21 @@ use std::marker::Model;
 pub struct DirPatterns {
     patterns: Option<Vec<PathGlobPattern>>,
     // whether they are known to be sorted by literal prefix
-    in_order: bool,
+    is_sorted: bool,
 }
 
 impl Model for DirPatterns {
     ghost use Rattle.std.specs.Prelude.{◌≡◌, true, List, []};
     ghost use Rattle.std.specs.Option.{option_map_or};
     ghost use Rattle.jj_globs.specs.GlobMeaning.{GlobSpec};
-    ghost use Rattle.jj_matchers.specs.PatternOrder.{is_in_order};
+    ghost use Rattle.jj_matchers.specs.PatternOrder.{is_sorted_by_prefix};
 
     ghost Value = { List GlobSpec };
 
     ghost view = { λ d. option_map_or (λ patterns. patterns.items) d.patterns [] };
 
-    ghost invariant = { λ d. d.in_order ≡ true
-        → is_in_order (option_map_or (λ patterns. patterns.items) d.patterns []) ≡ true };
+    ghost invariant = { λ d. d.is_sorted ≡ true
+        → is_sorted_by_prefix (option_map_or (λ patterns. patterns.items) d.patterns []) ≡ true };
 }
 
 impl Default for DirPatterns {
@@ -39,7 +39,7 @@ impl Default for DirPatterns {
     fn default() -> DirPatterns {
         DirPatterns {
             patterns: None,
-            in_order: true,
+            is_sorted: true,
         }
     }
 }
@@ -50,7 +50,7 @@ impl Clone for DirPatterns {
     fn clone(&self) -> Result<DirPatterns, AllocError> {
         Ok(DirPatterns {
             patterns: self.patterns.clone()?,
-            in_order: self.in_order,
+            is_sorted: self.is_sorted,
         })
     }
 }
@@ -65,9 +65,9 @@ impl DirPatterns {
     {
         match &mut self.patterns {
             Some(patterns) => {
-                let in_order = self.in_order && stay_in_order(patterns.as_slice(), &pattern);
+                let is_sorted = self.is_sorted && stays_sorted(patterns.as_slice(), &pattern);
                 patterns.push(pattern)?;
-                self.in_order = in_order;
+                self.is_sorted = is_sorted;
             }
             None => {
                 let mut patterns = Vec::new(alloc);
@@ -94,7 +94,7 @@ impl DirPatterns {
         if tail.is_root() {
             return false;
         }
-        self.any_fits(prefix_paths, tail.as_internal_file_string())
+        self.any_matches(prefix_paths, tail.as_internal_file_string())
     }
 
     /// Returns whether all paths below this tail are known to be accepted, if paths below a match
@@ -105,19 +105,19 @@ impl DirPatterns {
         if tail.is_root() {
             self.any_stars()
         } else {
-            self.any_fits(true, tail.as_internal_file_string())
+            self.any_matches(true, tail.as_internal_file_string())
         }
     }
 
-    fn any_fits(&self, prefix_paths: bool, text: &str) -> bool
-        ensures { result ≡ list_any (λ glob. fits_text prefix_paths glob text.now) self.now }
+    fn any_matches(&self, prefix_paths: bool, text: &str) -> bool
+        ensures { result ≡ list_any (λ glob. matches_string prefix_paths glob text.now) self.now }
     {
-        if self.in_order {
-            any_in_order(self.as_slice(), prefix_paths, text)
+        if self.is_sorted {
+            any_match_sorted(self.as_slice(), prefix_paths, text)
         } else {
             self.as_slice()
                 .iter()
-                .any(|pattern| pattern.fits(prefix_paths, text))
+                .any(|pattern| pattern.matches_path(prefix_paths, text))
         }
     }
 

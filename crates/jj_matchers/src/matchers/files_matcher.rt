@@ -2,8 +2,8 @@
 ghost use Rattle.std.specs.Prelude.{◌≡◌, ◌↔◌, true, Contains, IfOk, map};
 ghost use Rattle.jj_paths.specs.Paths.{Path};
 ghost use Rattle.jj_paths.specs.Names.{path_of};
-ghost use Rattle.jj_matchers.specs.Candidates.{names_of};
-ghost use Rattle.jj_matchers.specs.Wanted.{HasSamePaths, is_wanted, leads_to_wanted, files_answer};
+ghost use Rattle.jj_matchers.specs.MentionedNames.{names_of};
+ghost use Rattle.jj_matchers.specs.PathLists.{HasSamePaths, is_listed, leads_to_listed, files_spec};
 
 use crate::matchers::children_visit::visit_children;
 use crate::matchers::{Matcher, Visit, marked_tree};
@@ -34,7 +34,7 @@ impl FilesMatcher {
     /// Returns the matcher of exactly these files, in any order and with repetitions.
     pub fn new(alloc: Global, files: &[RepoPath<'_>]) -> Result<FilesMatcher, AllocError>
         ensures same { IfOk result (λ matcher. HasSamePaths matcher (map path_of files.now)) }
-        ensures accepts { IfOk result (λ matcher. (path : Path) → (is_wanted matcher path ≡ true)
+        ensures accepts { IfOk result (λ matcher. (path : Path) → (is_listed matcher path ≡ true)
             ↔ Contains (map path_of files.now) path) }
     {
         Ok(FilesMatcher {
@@ -44,13 +44,13 @@ impl FilesMatcher {
 }
 
 impl Matcher for FilesMatcher {
-    ghost accepts = { is_wanted };
+    ghost accepts = { is_listed };
 
-    ghost opens = { leads_to_wanted };
+    ghost opens = { leads_to_listed };
 
-    ghost answers = { files_answer };
+    ghost visits = { files_spec };
 
-    ghost candidates = { λ wanted dir. names_of wanted };
+    ghost mentioned = { λ files dir. names_of files };
 
     fn matches(&self, file: RepoPath<'_>) -> bool {
         match self.tree.get(file) {

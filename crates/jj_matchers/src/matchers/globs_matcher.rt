@@ -4,12 +4,12 @@ ghost use Rattle.std.specs.Prelude.{◌≡◌, ◌↔◌, ◌<◌, ◌≤◌, tr
 ghost use Rattle.std.specs.Option.{option_map};
 ghost use Rattle.jj_paths.specs.Paths.{Path};
 ghost use Rattle.jj_paths.specs.Names.{path_of};
-ghost use Rattle.jj_matchers.specs.Answers.{IsSound};
-ghost use Rattle.jj_matchers.specs.Visits.{answer_of};
-ghost use Rattle.jj_matchers.specs.Candidates.{ChoosesFrom, names_of};
-ghost use Rattle.jj_matchers.specs.Marks.{children_answer, any_node};
-ghost use Rattle.jj_matchers.specs.Wanted.{has_prefix};
-ghost use Rattle.jj_matchers.specs.Patterns.{HasSamePatterns, IsAccepted, TellsAccepted, is_accepted, is_covered, opens_to_patterns, pattern_dirs, patterns_answer};
+ghost use Rattle.jj_matchers.specs.VisitSpecs.{IsSound};
+ghost use Rattle.jj_matchers.specs.Visits.{visit_spec};
+ghost use Rattle.jj_matchers.specs.MentionedNames.{MentionsOnly, names_of};
+ghost use Rattle.jj_matchers.specs.Marks.{children_spec, any_node};
+ghost use Rattle.jj_matchers.specs.PathLists.{has_prefix};
+ghost use Rattle.jj_matchers.specs.Patterns.{HasSamePatterns, IsAccepted, IsSoundForGlobs, is_accepted, is_covered, opens_to_patterns, pattern_dirs, patterns_spec};
 ghost use Rattle.jj_matchers.specs.PatternTree.{AddsGlobs, IsPatternTree, globs_at, marked_branches, no_node};
 
 use crate::matchers::dir_patterns::DirPatterns;
@@ -74,9 +74,9 @@ impl GlobsMatcher {
             .any(|(node, _)| node.value().has_patterns())
     }
 
-    fn answer(&self, alloc: Global, dir: RepoPath<'_>) -> Result<Visit, AllocError>
-        ensures { IfOk result (λ visit. answer_of visit
-            ≡ patterns_answer self.now (path_of dir.entry)) }
+    fn compute_visit(&self, alloc: Global, dir: RepoPath<'_>) -> Result<Visit, AllocError>
+        ensures { IfOk result (λ visit. visit_spec visit
+            ≡ patterns_spec self.now (path_of dir.entry)) }
     {
         if self.covers(dir) {
             return Ok(Visit::AllRecursively);
@@ -113,9 +113,9 @@ impl Matcher for GlobsMatcher {
 
     ghost opens = { opens_to_patterns };
 
-    ghost answers = { patterns_answer };
+    ghost visits = { patterns_spec };
 
-    ghost candidates = { λ set dir. names_of (pattern_dirs set) };
+    ghost mentioned = { λ set dir. names_of (pattern_dirs set) };
 
     fn matches(&self, file: RepoPath<'_>) -> bool
         ensures accepted { result ≡ is_accepted self.now (path_of file.entry) }
@@ -128,24 +128,24 @@ impl Matcher for GlobsMatcher {
     }
 
     fn visit(&self, alloc: Global, dir: RepoPath<'_>) -> Result<Visit, AllocError>
-        ensures answer { IfOk result (λ visit. answer_of visit
-            ≡ patterns_answer self.now (path_of dir.entry)) }
+        ensures visit { IfOk result (λ visit. visit_spec visit
+            ≡ patterns_spec self.now (path_of dir.entry)) }
         ensures sound { IfOk result (λ visit. IsSound (is_accepted self.now)
-            (opens_to_patterns self.now) (path_of dir.entry) (answer_of visit)) }
-        ensures chosen { IfOk result (λ visit.
-            ChoosesFrom (names_of (pattern_dirs self.now)) (answer_of visit)) }
+            (opens_to_patterns self.now) (path_of dir.entry) (visit_spec visit)) }
+        ensures names { IfOk result (λ visit.
+            MentionsOnly (names_of (pattern_dirs self.now)) (visit_spec visit)) }
         ensures meaning { IfOk result (λ visit.
-            TellsAccepted self.now (path_of dir.entry) (answer_of visit)) }
+            IsSoundForGlobs self.now (path_of dir.entry) (visit_spec visit)) }
     {
-        let visit = self.answer(alloc, dir)?;
+        let visit = self.compute_visit(alloc, dir)?;
         Ok(visit)
     }
 }
 
 // Returns the visit of all children as directories, and of none as a file.
 fn visit_directories(alloc: Global, tree: &RepoPathTree<DirPatterns>) -> Result<Visit, AllocError>
-    ensures { IfOk result (λ visit. answer_of visit
-        ≡ children_answer any_node no_node (marked_branches tree.now.branches)) }
+    ensures { IfOk result (λ visit. visit_spec visit
+        ≡ children_spec any_node no_node (marked_branches tree.now.branches)) }
 {
     let mut dirs = HashSet::new(alloc);
     for (name, _) in tree.children() {
@@ -213,7 +213,7 @@ impl<'a> GlobsMatcherBuilder<'a> {
     {
         let alloc = *self.dir_patterns.allocator();
         let mut sorted = Vec::from_slice(alloc, self.dir_patterns.as_slice())?;
-        sorted.sort_unstable_by_key(|(dir, pattern)| (*dir, pattern.front()));
+        sorted.sort_unstable_by_key(|(dir, pattern)| (*dir, pattern.literal_prefix()));
         let tree = pattern_tree(alloc, sorted.as_slice())?;
         Ok(GlobsMatcher {
             tree,

@@ -1,9 +1,9 @@
 //! The matcher of the intersection of two sets.
 ghost use Rattle.std.specs.Prelude.{◌≡◌, ◌&&◌, ◌++◌, List};
 ghost use Rattle.jj_paths.specs.Paths.{Name};
-ghost use Rattle.jj_matchers.specs.Combined.{intersection_answer, named_answer};
-ghost use Rattle.jj_matchers.specs.Candidates.{ChoosesFrom, IsAllOrAmong};
-ghost use Rattle.jj_matchers.specs.Visits.{answer_of, dir_names, file_names, is_among};
+ghost use Rattle.jj_matchers.specs.Combined.{intersection_spec, spec_of_names};
+ghost use Rattle.jj_matchers.specs.MentionedNames.{MentionsOnly, IsAllOrAmong};
+ghost use Rattle.jj_matchers.specs.Visits.{visit_spec, dir_names, file_names, is_among};
 
 use crate::matchers::{Matcher, Visit, VisitDirs, VisitFiles};
 use jj_paths::repo_path::{RepoPath, RepoPathComponentBuf};
@@ -32,11 +32,11 @@ impl<M1: Matcher, M2: Matcher> Matcher for IntersectionMatcher<M1, M2> {
 
     ghost opens = { λ m path. M1.opens m.input1 path && M2.opens m.input2 path };
 
-    ghost answers = { λ m dir. intersection_answer
-        (M1.candidates m.input1 dir ++ M2.candidates m.input2 dir) (M1.answers m.input1 dir)
-        (M2.answers m.input2 dir) };
+    ghost visits = { λ m dir. intersection_spec
+        (M1.mentioned m.input1 dir ++ M2.mentioned m.input2 dir) (M1.visits m.input1 dir)
+        (M2.visits m.input2 dir) };
 
-    ghost candidates = { λ m dir. M1.candidates m.input1 dir ++ M2.candidates m.input2 dir };
+    ghost mentioned = { λ m dir. M1.mentioned m.input1 dir ++ M2.mentioned m.input2 dir };
 
     fn matches(&self, file: RepoPath<'_>) -> bool {
         self.input1.matches(file) && self.input2.matches(file)
@@ -54,9 +54,9 @@ impl<M1: Matcher, M2: Matcher> Matcher for IntersectionMatcher<M1, M2> {
 
 /// Returns the intersection of two visits: `Nothing` if they are specific and share no name.
 pub fn intersection_visit(first: Visit, second: Visit) -> Visit
-    ensures { (names : List Name) → ChoosesFrom names (answer_of first)
-        → ChoosesFrom names (answer_of second)
-        → answer_of result ≡ intersection_answer names (answer_of first) (answer_of second) }
+    ensures { (names : List Name) → MentionsOnly names (visit_spec first)
+        → MentionsOnly names (visit_spec second)
+        → visit_spec result ≡ intersection_spec names (visit_spec first) (visit_spec second) }
 {
     match first {
         Visit::AllRecursively => second,
@@ -79,7 +79,7 @@ pub fn intersection_visit(first: Visit, second: Visit) -> Visit
 fn visit_of_names(dirs: VisitDirs, files: VisitFiles) -> Visit
     ensures { (names : List Name) → IsAllOrAmong names (dir_names dirs)
         → IsAllOrAmong names (file_names files)
-        → answer_of result ≡ named_answer names (dir_names dirs) (file_names files) }
+        → visit_spec result ≡ spec_of_names names (dir_names dirs) (file_names files) }
 {
     match dirs {
         VisitDirs::All => Visit::Specific {

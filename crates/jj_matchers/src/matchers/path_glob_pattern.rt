@@ -6,7 +6,7 @@ ghost use Rattle.jj_globs.specs.GlobReads.{ReadsAsGlob, glob_of_text};
 ghost use Rattle.jj_globs.specs.GlobText.{byte_of};
 ghost use Rattle.jj_globs.specs.GlobFront.{front_of};
 ghost use Rattle.jj_matchers.specs.Patterns.{is_match, is_prefix_match, is_stars};
-ghost use Rattle.jj_matchers.specs.PatternOrder.{fits_text};
+ghost use Rattle.jj_matchers.specs.PatternOrder.{matches_string};
 
 use jj_globs::glob::{Glob, GlobError};
 use std::alloc::{AllocError, Global};
@@ -81,8 +81,8 @@ impl PathGlobPattern {
     }
 
     // Returns whether the pattern matches the path, or with `prefix_paths` an ancestor.
-    pub(super) fn fits(&self, prefix_paths: bool, path: &str) -> bool
-        ensures { result ≡ fits_text prefix_paths self.now path.now }
+    pub(super) fn matches_path(&self, prefix_paths: bool, path: &str) -> bool
+        ensures { result ≡ matches_string prefix_paths self.now path.now }
     {
         if prefix_paths {
             self.is_prefix_match(path)
@@ -92,7 +92,7 @@ impl PathGlobPattern {
     }
 
     // the literal prefix, with which every match begins
-    pub(super) fn front(&self) -> &[u8]
+    pub(super) fn literal_prefix(&self) -> &[u8]
         ensures { result.now ≡ front_of self.now }
     {
         self.glob.front()

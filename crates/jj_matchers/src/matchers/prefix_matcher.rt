@@ -2,8 +2,8 @@
 ghost use Rattle.std.specs.Prelude.{◌≡◌, ◌↔◌, ◌||◌, true, Any, IfOk, map};
 ghost use Rattle.jj_paths.specs.Paths.{Path, IsBelow};
 ghost use Rattle.jj_paths.specs.Names.{path_of};
-ghost use Rattle.jj_matchers.specs.Candidates.{names_of};
-ghost use Rattle.jj_matchers.specs.Wanted.{HasSamePaths, has_prefix, leads_to_prefix, prefix_answer};
+ghost use Rattle.jj_matchers.specs.MentionedNames.{names_of};
+ghost use Rattle.jj_matchers.specs.PathLists.{HasSamePaths, has_prefix, leads_to_prefix, prefix_spec};
 
 use crate::matchers::children_visit::visit_children;
 use crate::matchers::{Matcher, Visit, marked_tree};
@@ -50,9 +50,9 @@ impl Matcher for PrefixMatcher {
 
     ghost opens = { λ prefixes path. has_prefix prefixes path || leads_to_prefix prefixes path };
 
-    ghost answers = { prefix_answer };
+    ghost visits = { prefix_spec };
 
-    ghost candidates = { λ prefixes dir. names_of prefixes };
+    ghost mentioned = { λ prefixes dir. names_of prefixes };
 
     fn matches(&self, file: RepoPath<'_>) -> bool {
         self.tree.walk_to(file).any(|(node, _)| *node.value())

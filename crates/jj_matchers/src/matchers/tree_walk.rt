@@ -3,10 +3,10 @@ ghost use Rattle.std.specs.Prelude.{◌≡◌, ◌<◌, ◌⊎◌, Bool, true, L
 ghost use Rattle.jj_paths.specs.Names.{path_of};
 ghost use Rattle.jj_paths.specs.Tree.{Tree};
 ghost use Rattle.jj_paths.specs.Nodes.{node_at};
-ghost use Rattle.jj_matchers.specs.Answers.{IsSound};
-ghost use Rattle.jj_matchers.specs.Visits.{answer_of};
+ghost use Rattle.jj_matchers.specs.VisitSpecs.{IsSound};
+ghost use Rattle.jj_matchers.specs.Visits.{visit_spec};
 ghost use Rattle.jj_matchers.specs.Walk.{AreInOrder, files_of, entered_by, is_entered, is_file, path_if};
-ghost use Rattle.jj_matchers.specs.WalkParts.{GoesOnBy, Enters, IsUnderWay, IsOnTheWay, work_left};
+ghost use Rattle.jj_matchers.specs.WalkInvariants.{DeterminesWalk, PushesFrame, IsValidFrame, WalkInvariant, walk_measure};
 
 use crate::matchers::{Matcher, Visit};
 use jj_paths::repo_path::{RepoPath, RepoPathBuf, RepoPathComponentBuf};
@@ -24,9 +24,9 @@ pub struct Walk {
 
 // A stack frame: a directory that was entered, its visit, and its children not yet visited.
 #[derive(Drop)]
-struct Entered<'t> {
+struct Frame<'t> {
     dir: RepoPathBuf,
-    answer: Visit,
+    visit: Visit,
     left: &'t [(RepoPathComponentBuf, RepoPathTree<bool>)],
 }
 
@@ -41,7 +41,7 @@ pub fn walk_matching<M: Matcher>(
     ensures files { IfOk result (λ walk. walk.files.items
         ≡ files_of (M.accepts matcher.now) tree.now) }
     ensures entered { IfOk result (λ walk. walk.entered.items
-        ≡ entered_by (M.answers matcher.now) tree.now) }
+        ≡ entered_by (M.visits matcher.now) tree.now) }
     ensures ordered { IfOk result (λ walk. AreInOrder walk.files.items
         × AreInOrder walk.entered.items) }
     ensures only_open { IfOk result (λ walk.
@@ -51,9 +51,9 @@ pub fn walk_matching<M: Matcher>(
         files: Vec::new(alloc),
         entered: Vec::new(alloc),
     };
-    let mut unfinished = enter_root(alloc, tree, matcher, &mut walk)?;
-    while let Some(directory) = unfinished.pop() {
-        go_on(alloc, directory, matcher, &mut walk, &mut unfinished)?;
+    let mut stack = enter_root(alloc, tree, matcher, &mut walk)?;
+    while let Some(directory) = stack.pop() {
+        visit_next_child(alloc, directory, matcher, &mut walk, &mut stack)?;
     }
     Ok(walk)
 }
@@ -64,67 +64,67 @@ fn enter_root<'t, M: Matcher>(
     tree: &'t RepoPathTree<bool>,
     matcher: &M,
     walk: &mut Walk,
-) -> Result<Vec<Entered<'t>>, AllocError>
+) -> Result<Vec<Frame<'t>>, AllocError>
     requires { (walk.old.files.items ≡ []) × (walk.old.entered.items ≡ []) }
-    ensures { IfOk result (λ unfinished. IsOnTheWay (M.accepts matcher.now) (M.opens matcher.now)
-        (M.answers matcher.now) tree.now walk.new.files.items walk.new.entered.items
-        unfinished.items) }
+    ensures { IfOk result (λ stack. WalkInvariant (M.accepts matcher.now) (M.opens matcher.now)
+        (M.visits matcher.now) tree.now walk.new.files.items walk.new.entered.items
+        stack.items) }
 {
-    let mut unfinished = Vec::new(alloc);
+    let mut stack = Vec::new(alloc);
     if !tree.has_children() {
-        return Ok(unfinished);
+        return Ok(stack);
     }
     let root = RepoPathBuf::root(alloc);
-    let answer = matcher.visit(alloc, root.as_path())?;
-    enter(alloc, tree, root, answer, walk, &mut unfinished)?;
-    Ok(unfinished)
+    let visit = matcher.visit(alloc, root.as_path())?;
+    enter(alloc, tree, root, visit, walk, &mut stack)?;
+    Ok(stack)
 }
 
 // Visits the next child of a directory, as a file and as a directory.
-fn go_on<'t, M: Matcher>(
+fn visit_next_child<'t, M: Matcher>(
     alloc: Global,
-    directory: Entered<'t>,
+    directory: Frame<'t>,
     matcher: &M,
     walk: &mut Walk,
-    unfinished: &mut Vec<Entered<'t>>,
+    stack: &mut Vec<Frame<'t>>,
 ) -> Result<(), AllocError>
-    requires { IsUnderWay (M.accepts matcher.now) (M.opens matcher.now)
-        (M.answers matcher.now) directory }
+    requires { IsValidFrame (M.accepts matcher.now) (M.opens matcher.now)
+        (M.visits matcher.now) directory }
     ensures on_the_way { OnOk result ((tree : Tree Bool) →
-        IsOnTheWay (M.accepts matcher.now) (M.opens matcher.now)
-        (M.answers matcher.now) tree walk.old.files.items walk.old.entered.items
-        (unfinished.old.items ++ directory.entry ∷ []) →
-        IsOnTheWay (M.accepts matcher.now) (M.opens matcher.now)
-        (M.answers matcher.now) tree walk.new.files.items walk.new.entered.items
-        unfinished.new.items) }
-    ensures less_left { OnOk result (work_left unfinished.new.items < work_left
-        (unfinished.old.items ++ directory.entry ∷ [])) }
+        WalkInvariant (M.accepts matcher.now) (M.opens matcher.now)
+        (M.visits matcher.now) tree walk.old.files.items walk.old.entered.items
+        (stack.old.items ++ directory.entry ∷ []) →
+        WalkInvariant (M.accepts matcher.now) (M.opens matcher.now)
+        (M.visits matcher.now) tree walk.new.files.items walk.new.entered.items
+        stack.new.items) }
+    ensures less_left { OnOk result (walk_measure stack.new.items < walk_measure
+        (stack.old.items ++ directory.entry ∷ [])) }
 {
     let Some((child, left)) = directory.left.split_first() else {
         return Ok(());
     };
     let path = directory.dir.as_path().join(alloc, child.0.as_component())?;
-    take_file(alloc, &directory, child, path.as_path(), matcher, walk)?;
-    let Entered {
+    push_file(alloc, &directory, child, path.as_path(), matcher, walk)?;
+    let Frame {
         dir,
-        answer,
+        visit,
         left: _,
     } = directory;
     let (name, sub) = child;
     if !sub.has_children() {
-        unfinished.push(Entered { dir, answer, left })?;
+        stack.push(Frame { dir, visit, left })?;
         return Ok(());
     }
-    let below = answer_below(alloc, &dir, &answer, name, path.as_path(), matcher)?;
-    unfinished.push(Entered { dir, answer, left })?;
-    enter(alloc, sub, path, below, walk, unfinished)?;
+    let below = child_visit(alloc, &dir, &visit, name, path.as_path(), matcher)?;
+    stack.push(Frame { dir, visit, left })?;
+    enter(alloc, sub, path, below, walk, stack)?;
     Ok(())
 }
 
 // Adds the child to the files, if it is marked and accepted.
-fn take_file<M: Matcher>(
+fn push_file<M: Matcher>(
     alloc: Global,
-    directory: &Entered<'_>,
+    directory: &Frame<'_>,
     child: &(RepoPathComponentBuf, RepoPathTree<bool>),
     path: RepoPath<'_>,
     matcher: &M,
@@ -132,14 +132,14 @@ fn take_file<M: Matcher>(
 ) -> Result<(), AllocError>
     requires at { path_of path ≡ directory.now.dir ++ child.now.0 ∷ [] }
     requires sound { IsSound (M.accepts matcher.now) (M.opens matcher.now) directory.now.dir
-        (answer_of directory.now.answer) }
+        (visit_spec directory.now.visit) }
     ensures files { OnOk result (walk.new.files.items ≡ walk.old.files.items
         ++ path_if (is_file (M.accepts matcher.now) (node_at (path_of path.entry) child.now.1))
         (path_of path.entry)) }
     ensures entered { OnOk result (walk.new.entered.items ≡ walk.old.entered.items) }
 {
     let (name, sub) = child;
-    if *sub.value() && is_accepted(&directory.dir, &directory.answer, name, path, matcher) {
+    if *sub.value() && is_accepted(&directory.dir, &directory.visit, name, path, matcher) {
         walk.files.push(path.to_owned(alloc)?)?;
     }
     Ok(())
@@ -150,22 +150,22 @@ fn enter<'t>(
     alloc: Global,
     tree: &'t RepoPathTree<bool>,
     dir: RepoPathBuf,
-    answer: Visit,
+    visit: Visit,
     walk: &mut Walk,
-    unfinished: &mut Vec<Entered<'t>>,
+    stack: &mut Vec<Frame<'t>>,
 ) -> Result<(), AllocError>
     ensures files { OnOk result (walk.new.files.items ≡ walk.old.files.items) }
-    ensures entered { OnOk result (Enters dir
-        (answer_of answer) tree.now walk.old.entered.items walk.new.entered.items
-        unfinished.old.items unfinished.new.items) }
+    ensures entered { OnOk result (PushesFrame dir
+        (visit_spec visit) tree.now walk.old.entered.items walk.new.entered.items
+        stack.old.items stack.new.items) }
 {
-    if answer.is_nothing() {
+    if visit.is_nothing() {
         return Ok(());
     }
     walk.entered.push(dir.as_path().to_owned(alloc)?)?;
-    unfinished.push(Entered {
+    stack.push(Frame {
         dir,
-        answer,
+        visit,
         left: tree.entries(),
     })?;
     Ok(())
@@ -174,17 +174,17 @@ fn enter<'t>(
 // Returns whether a child is accepted. Calls the matcher only for a file of a `Specific` visit.
 fn is_accepted<M: Matcher>(
     dir: &RepoPathBuf,
-    answer: &Visit,
+    visit: &Visit,
     name: &RepoPathComponentBuf,
     path: RepoPath<'_>,
     matcher: &M,
 ) -> bool
     requires at { path_of path ≡ dir.now ++ name.now ∷ [] }
     requires sound { IsSound (M.accepts matcher.now) (M.opens matcher.now) dir.now
-        (answer_of answer.now) }
+        (visit_spec visit.now) }
     ensures { result ≡ M.accepts matcher.now (path_of path.entry) }
 {
-    match answer {
+    match visit {
         Visit::AllRecursively => true,
         Visit::Specific { dirs: _, files } => files.contains(name) && matcher.matches(path),
         Visit::Nothing => false,
@@ -192,23 +192,23 @@ fn is_accepted<M: Matcher>(
 }
 
 // Returns the visit of a child. Calls the matcher only for a directory of a `Specific` visit.
-fn answer_below<M: Matcher>(
+fn child_visit<M: Matcher>(
     alloc: Global,
     dir: &RepoPathBuf,
-    answer: &Visit,
+    visit: &Visit,
     name: &RepoPathComponentBuf,
     path: RepoPath<'_>,
     matcher: &M,
 ) -> Result<Visit, AllocError>
     requires at { path_of path ≡ dir.now ++ name.now ∷ [] }
-    requires above { GoesOnBy (M.accepts matcher.now) (M.opens matcher.now)
-        (M.answers matcher.now) dir.now (answer_of answer.now) }
-    ensures below { IfOk result (λ visit. GoesOnBy (M.accepts matcher.now) (M.opens matcher.now)
-        (M.answers matcher.now) (path_of path.entry) (answer_of visit)) }
-    ensures open { IfOk result (λ visit. is_entered (answer_of visit) ≡ true
+    requires above { DeterminesWalk (M.accepts matcher.now) (M.opens matcher.now)
+        (M.visits matcher.now) dir.now (visit_spec visit.now) }
+    ensures below { IfOk result (λ below. DeterminesWalk (M.accepts matcher.now)
+        (M.opens matcher.now) (M.visits matcher.now) (path_of path.entry) (visit_spec below)) }
+    ensures open { IfOk result (λ below. is_entered (visit_spec below) ≡ true
         → M.opens matcher.now (path_of path.entry) ≡ true) }
 {
-    match answer {
+    match visit {
         Visit::AllRecursively => Ok(Visit::AllRecursively),
         Visit::Specific { dirs, files: _ } => {
             if dirs.contains(name) {

@@ -1,8 +1,8 @@
 //! The matcher of the union of two sets.
 ghost use Rattle.std.specs.Prelude.{◌≡◌, ◌||◌, ◌++◌, IfOk};
 ghost use Rattle.jj_paths.specs.Paths.{Name};
-ghost use Rattle.jj_matchers.specs.Combined.{union_answer};
-ghost use Rattle.jj_matchers.specs.Visits.{answer_of, dir_names, file_names, is_among};
+ghost use Rattle.jj_matchers.specs.Combined.{union_spec};
+ghost use Rattle.jj_matchers.specs.Visits.{visit_spec, dir_names, file_names, is_among};
 
 use crate::matchers::{Matcher, Visit, VisitDirs, VisitFiles};
 use jj_paths::repo_path::{RepoPath, RepoPathComponentBuf};
@@ -31,9 +31,9 @@ impl<M1: Matcher, M2: Matcher> Matcher for UnionMatcher<M1, M2> {
 
     ghost opens = { λ m path. M1.opens m.input1 path || M2.opens m.input2 path };
 
-    ghost answers = { λ m dir. union_answer (M1.answers m.input1 dir) (M2.answers m.input2 dir) };
+    ghost visits = { λ m dir. union_spec (M1.visits m.input1 dir) (M2.visits m.input2 dir) };
 
-    ghost candidates = { λ m dir. M1.candidates m.input1 dir ++ M2.candidates m.input2 dir };
+    ghost mentioned = { λ m dir. M1.mentioned m.input1 dir ++ M2.mentioned m.input2 dir };
 
     fn matches(&self, file: RepoPath<'_>) -> bool {
         self.input1.matches(file) || self.input2.matches(file)
@@ -53,8 +53,8 @@ impl<M1: Matcher, M2: Matcher> Matcher for UnionMatcher<M1, M2> {
 /// Returns the union of two visits. Folded over the visits of many matchers, it computes the visit
 /// of their union without nested matchers.
 pub fn union_visit(first: Visit, second: Visit) -> Result<Visit, AllocError>
-    ensures { IfOk result (λ visit. answer_of visit
-        ≡ union_answer (answer_of first) (answer_of second)) }
+    ensures { IfOk result (λ visit. visit_spec visit
+        ≡ union_spec (visit_spec first) (visit_spec second)) }
 {
     match first {
         Visit::AllRecursively => Ok(Visit::AllRecursively),
@@ -108,15 +108,15 @@ fn union_names(
         → is_among names.keys name ≡ (is_among first.keys name || is_among second.keys name)) }
 {
     if first.len() < second.len() {
-        let names = with_names(second, first)?;
+        let names = insert_names(second, first)?;
         Ok(names)
     } else {
-        let names = with_names(first, second)?;
+        let names = insert_names(first, second)?;
         Ok(names)
     }
 }
 
-fn with_names(
+fn insert_names(
     names: HashSet<RepoPathComponentBuf>,
     more: HashSet<RepoPathComponentBuf>,
 ) -> Result<HashSet<RepoPathComponentBuf>, AllocError>

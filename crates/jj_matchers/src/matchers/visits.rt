@@ -1,9 +1,9 @@
 //! Visits: which children of a directory a matcher requires to be visited.
 ghost use Rattle.std.specs.Prelude.{◌≡◌, ◌↔◌, Bool, List, IsTrue};
 ghost use Rattle.jj_paths.specs.Paths.{Name, Path};
-ghost use Rattle.jj_matchers.specs.Answers.{IsSound, NamesAll, nothing};
-ghost use Rattle.jj_matchers.specs.Candidates.{ChoosesFrom, IsAllOrAmong};
-ghost use Rattle.jj_matchers.specs.Visits.{answer_of, dir_names, file_names, is_among, sets_answer};
+ghost use Rattle.jj_matchers.specs.VisitSpecs.{IsSound, NamesAll, nothing};
+ghost use Rattle.jj_matchers.specs.MentionedNames.{MentionsOnly, IsAllOrAmong};
+ghost use Rattle.jj_matchers.specs.Visits.{visit_spec, dir_names, file_names, is_among, sets_spec};
 
 use jj_paths::repo_path::RepoPathComponentBuf;
 use std::collections::HashSet;
@@ -38,12 +38,12 @@ impl Visit {
     /// Returns the visit of these children; `Nothing` if both sets are empty. It is sound for a
     /// matcher that accepts no other children, and no paths below other directories.
     pub fn sets(dirs: HashSet<RepoPathComponentBuf>, files: HashSet<RepoPathComponentBuf>) -> Visit
-        ensures answer { answer_of result ≡ sets_answer dirs.keys files.keys }
+        ensures visit { visit_spec result ≡ sets_spec dirs.keys files.keys }
         ensures sound { (accepts opens : Path → Bool) (dir : Path)
             → NamesAll accepts opens dir (is_among dirs.keys) (is_among files.keys)
-            → IsSound accepts opens dir (answer_of result) }
-        ensures chosen { (names : List Name) → IsAllOrAmong names (is_among dirs.keys)
-            → IsAllOrAmong names (is_among files.keys) → ChoosesFrom names (answer_of result) }
+            → IsSound accepts opens dir (visit_spec result) }
+        ensures names { (names : List Name) → IsAllOrAmong names (is_among dirs.keys)
+            → IsAllOrAmong names (is_among files.keys) → MentionsOnly names (visit_spec result) }
     {
         if dirs.is_empty() && files.is_empty() {
             Visit::Nothing
@@ -57,7 +57,7 @@ impl Visit {
 
     /// Returns whether the visit is `Nothing`.
     pub fn is_nothing(&self) -> bool
-        ensures { IsTrue result ↔ (answer_of self.now ≡ nothing) }
+        ensures { IsTrue result ↔ (visit_spec self.now ≡ nothing) }
     {
         matches!(self, Visit::Nothing)
     }

@@ -6,7 +6,7 @@ ghost use Rattle.jj_content.specs.Json.{IsAnswer};
 ghost use Rattle.jj_content.specs.Lawful.{on_lawful, text_lawful};
 ghost use Rattle.jj_paths.specs.Contents.{IsShortPath, path_content, path_lawful};
 ghost use Rattle.jj_paths.specs.Names.{name_of, path_of};
-ghost use Rattle.jj_paths.specs.Paths.{path_text};
+ghost use Rattle.jj_paths.specs.Paths.{path_string};
 
 use super::{RepoPath, RepoPathBuf, RepoPathComponent, RepoPathComponentBuf};
 use jj_content::content_hash::{ContentHash, DigestUpdate, ToJson, ToJsonError};
@@ -61,7 +61,7 @@ impl<'a> ContentHash for RepoPath<'a> {
     }
 }
 
-fn text_json(alloc: Global, text: &str) -> Result<Value, ToJsonError>
+fn string_to_json(alloc: Global, text: &str) -> Result<Value, ToJsonError>
     ensures { IsAnswer ⊤ (λ d. d ≡ string text.now) result }
 {
     Ok(Value::String(String::from_str(alloc, text)?))
@@ -73,7 +73,7 @@ impl ToJson for RepoPathComponentBuf {
     ghost is_json = { λ name d. d ≡ string name };
 
     fn to_json(&self, alloc: Global) -> Result<Value, ToJsonError> {
-        text_json(alloc, self.value.as_str())
+        string_to_json(alloc, self.value.as_str())
     }
 }
 
@@ -83,14 +83,14 @@ impl<'a> ToJson for RepoPathComponent<'a> {
     ghost is_json = { λ name d. d ≡ string (name_of name) };
 
     fn to_json(&self, alloc: Global) -> Result<Value, ToJsonError> {
-        text_json(alloc, self.value)
+        string_to_json(alloc, self.value)
     }
 }
 
 impl ToJson for RepoPathBuf {
     ghost is_in_range = { λ _. ⊤ };
 
-    ghost is_json = { λ path d. d ≡ string (path_text path) };
+    ghost is_json = { λ path d. d ≡ string (path_string path) };
 
     fn to_json(&self, alloc: Global) -> Result<Value, ToJsonError> {
         self.as_path().to_json(alloc)
@@ -100,9 +100,9 @@ impl ToJson for RepoPathBuf {
 impl<'a> ToJson for RepoPath<'a> {
     ghost is_in_range = { λ _. ⊤ };
 
-    ghost is_json = { λ path d. d ≡ string (path_text (path_of path)) };
+    ghost is_json = { λ path d. d ≡ string (path_string (path_of path)) };
 
     fn to_json(&self, alloc: Global) -> Result<Value, ToJsonError> {
-        text_json(alloc, self.value)
+        string_to_json(alloc, self.value)
     }
 }

@@ -4,9 +4,9 @@ ghost use Rattle.std.specs.List.{filter, find};
 ghost use Rattle.std.specs.Str.{is_utf8};
 ghost use Rattle.std.specs.Iterator.{YieldsFirstRef, item_count};
 ghost use Rattle.std.specs.Path.{slash, is_name, is_dot_at, path_names};
-ghost use Rattle.jj_paths.specs.Texts.{with_name};
+ghost use Rattle.jj_paths.specs.AppendedNames.{append_name};
 ghost use Rattle.jj_files.specs.FsTexts.{is_place};
-ghost use Rattle.jj_paths.specs.RelativePaths.{IsParseError, is_refused, relative_components};
+ghost use Rattle.jj_paths.specs.RelativePaths.{IsParseError, is_disallowed, relative_components};
 ghost use Rattle.jj_paths.specs.declared.repo_path.from_relative.RelativePathParseError.{RelativePathParseError};
 
 use super::RepoPathBuf;
@@ -27,7 +27,7 @@ pub enum RelativePathParseError {
 impl From<AllocError> for RelativePathParseError {
     ghost from_gives = { λ _ error. error ≡ RelativePathParseError.Memory };
 
-    fn from(_refused: AllocError) -> Self {
+    fn from(_failure: AllocError) -> Self {
         RelativePathParseError::Memory
     }
 }
@@ -35,16 +35,16 @@ impl From<AllocError> for RelativePathParseError {
 impl<T: Drop> From<AllocFailed<T>> for RelativePathParseError {
     ghost from_gives = { λ _ error. error ≡ RelativePathParseError.Memory };
 
-    fn from(_refused: AllocFailed<T>) -> Self {
+    fn from(_failure: AllocFailed<T>) -> Self {
         RelativePathParseError::Memory
     }
 }
 
 // A byte string displayed lossily, with U+FFFD for each invalid UTF-8 sequence.
 #[derive(Clone, Copy)]
-struct Shown<'a>(&'a [u8]);
+struct LossyDisplay<'a>(&'a [u8]);
 
-impl fmt::Display for Shown<'_> {
+impl fmt::Display for LossyDisplay<'_> {
     fn fmt<W: fmt::Write>(&self, f: &mut fmt::Formatter<W>) -> fmt::Result {
         for chunk in self.0.utf8_chunks() {
             f.write_str(chunk.valid())?;
@@ -60,14 +60,14 @@ impl fmt::Display for RelativePathParseError {
     fn fmt<W: fmt::Write>(&self, f: &mut fmt::Formatter<W>) -> fmt::Result {
         match self {
             RelativePathParseError::InvalidComponent { component, path } => {
-                let path = Shown(path.as_slice());
+                let path = LossyDisplay(path.as_slice());
                 write!(
                     f,
                     "Invalid component \"{component}\" in repo-relative path \"{path}\""
                 )
             }
             RelativePathParseError::InvalidUtf8 { path } => {
-                let path = Shown(path.as_slice());
+                let path = LossyDisplay(path.as_slice());
                 write!(f, "Not valid UTF-8 path \"{path}\"")
             }
             RelativePathParseError::Memory => f.write_str("out of memory"),
@@ -78,7 +78,7 @@ impl fmt::Display for RelativePathParseError {
 impl Error for RelativePathParseError {}
 
 // Without a slash, the second part is empty.
-fn cut_at_slash(path: &[u8]) -> (&[u8], &[u8])
+fn split_at_slash(path: &[u8]) -> (&[u8], &[u8])
     ensures names { path_names path.now
         ≡ filter is_name (result.0.now ∷ []) ++ path_names result.1.now }
     ensures shorter { 0 < length path.now → length result.1.now < length path.now }
@@ -93,22 +93,22 @@ fn cut_at_slash(path: &[u8]) -> (&[u8], &[u8])
 
 // Iterates over the components, `..` included, and skips empty ones and `.`.
 #[derive(Drop)]
-struct Names<'a> {
+struct FsComponents<'a> {
     rest: &'a [u8],
 }
 
-impl<'a> Iterator for Names<'a> {
-    ghost use Rattle.jj_paths.specs.NamesLeft.{names_left};
+impl<'a> Iterator for FsComponents<'a> {
+    ghost use Rattle.jj_paths.specs.FsComponents.{remaining_names};
 
     type Item = &'a [u8];
 
-    ghost next_gives = { YieldsFirstRef names_left };
+    ghost next_gives = { YieldsFirstRef remaining_names };
 
-    ghost remaining = { item_count names_left };
+    ghost remaining = { item_count remaining_names };
 
     fn next(&mut self) -> Option<&'a [u8]> {
         while !self.rest.is_empty() {
-            let (part, rest) = cut_at_slash(self.rest);
+            let (part, rest) = split_at_slash(self.rest);
             self.rest = rest;
             if is_name(part) {
                 return Some(part);
@@ -137,11 +137,11 @@ fn starts_at_dot(path: &[u8]) -> bool
 }
 
 impl RelativePathParseError {
-    fn at_place(alloc: Global, place: &str, path: &[u8]) -> RelativePathParseError
-        requires { is_place place.now ≡ true }
-        ensures { IsParseError path.now (Some place.now) result }
+    fn for_component(alloc: Global, name: &str, path: &[u8]) -> RelativePathParseError
+        requires { is_place name.now ≡ true }
+        ensures { IsParseError path.now (Some name.now) result }
     {
-        let Ok(component) = String::from_str(alloc, place) else {
+        let Ok(component) = String::from_str(alloc, name) else {
             return RelativePathParseError::Memory;
         };
         match Vec::from_slice(alloc, path) {
@@ -171,44 +171,45 @@ impl RepoPathBuf {
         path: &[u8],
     ) -> Result<RepoPathBuf, RelativePathParseError>
         ensures ok { IfOk result (λ made. (made ≡ relative_components path.now)
-            × (find is_refused (relative_components path.now) ≡ None)) }
-        ensures refused { IfErr result
-            (IsParseError path.now (find is_refused (relative_components path.now))) }
+            × (find is_disallowed (relative_components path.now) ≡ None)) }
+        ensures error { IfErr result
+            (IsParseError path.now (find is_disallowed (relative_components path.now))) }
     {
         if is_absolute(path) {
-            return Err(RelativePathParseError::at_place(alloc, "/", path));
+            return Err(RelativePathParseError::for_component(alloc, "/", path));
         }
         if !starts_at_dot(path) {
-            return joined_names(alloc, path);
+            return join_components(alloc, path);
         }
-        match (Names { rest: path }).next() {
+        match (FsComponents { rest: path }).next() {
             None => Ok(RepoPathBuf::root(alloc)),
-            Some(_name) => Err(RelativePathParseError::at_place(alloc, ".", path)),
+            Some(_name) => Err(RelativePathParseError::for_component(alloc, ".", path)),
         }
     }
 }
 
 // Joins the components of a path without a leading `/` or `.`.
-fn joined_names(alloc: Global, path: &[u8]) -> Result<RepoPathBuf, RelativePathParseError>
+fn join_components(alloc: Global, path: &[u8]) -> Result<RepoPathBuf, RelativePathParseError>
     ensures ok { IfOk result (λ made. (made ≡ path_names path.now)
-        × (find is_refused (path_names path.now) ≡ None)) }
-    ensures refused { IfErr result (IsParseError path.now (find is_refused (path_names path.now))) }
+        × (find is_disallowed (path_names path.now) ≡ None)) }
+    ensures error { IfErr result
+        (IsParseError path.now (find is_disallowed (path_names path.now))) }
 {
     let mut value = String::with_capacity(alloc, path.len())?;
-    for name in (Names { rest: path }) {
+    for name in (FsComponents { rest: path }) {
         if name == b"..".as_slice() {
-            return Err(RelativePathParseError::at_place(alloc, "..", path));
+            return Err(RelativePathParseError::for_component(alloc, "..", path));
         }
         let Ok(name) = str::from_utf8(name) else {
             return Err(RelativePathParseError::not_utf8(alloc, path));
         };
-        push_name_text(&mut value, name)?;
+        push_component(&mut value, name)?;
     }
     Ok(RepoPathBuf { value })
 }
 
-fn push_name_text(text: &mut String, name: &str) -> Result<(), AllocError>
-    ensures { OnOk result (string_bytes text.new ≡ with_name (string_bytes text.old) name.now) }
+fn push_component(text: &mut String, name: &str) -> Result<(), AllocError>
+    ensures { OnOk result (string_bytes text.new ≡ append_name (string_bytes text.old) name.now) }
 {
     if !text.is_empty() {
         text.push('/')?;

@@ -1,8 +1,8 @@
 //! Iterators over the components of a path, double-ended, and over its ancestors.
 ghost use Rattle.std.specs.Prelude.{◌≡◌};
 ghost use Rattle.std.specs.Iterator.{YieldsFirstBy, YieldsLastBy, item_count};
-ghost use Rattle.jj_paths.specs.Iterators.{ancestors_left, components_left};
-ghost use Rattle.jj_paths.specs.Paths.{fronts};
+ghost use Rattle.jj_paths.specs.Iterators.{remaining_ancestors, remaining_components};
+ghost use Rattle.jj_paths.specs.Paths.{ancestors};
 ghost use Rattle.jj_paths.specs.Names.{name_of, path_of};
 
 use super::{RepoPath, RepoPathComponent};
@@ -16,14 +16,14 @@ pub struct RepoPathComponentsIter<'a> {
 
 impl<'a> RepoPathComponentsIter<'a> {
     pub(super) fn new(path: RepoPath<'a>) -> RepoPathComponentsIter<'a>
-        ensures { components_left result ≡ path_of path.entry }
+        ensures { remaining_components result ≡ path_of path.entry }
     {
         RepoPathComponentsIter { path }
     }
 
     /// Returns the path of the components that are not yet yielded.
     pub fn as_path(&self) -> RepoPath<'a>
-        ensures { path_of result ≡ components_left self.now }
+        ensures { path_of result ≡ remaining_components self.now }
     {
         self.path
     }
@@ -32,9 +32,9 @@ impl<'a> RepoPathComponentsIter<'a> {
 impl<'a> Iterator for RepoPathComponentsIter<'a> {
     type Item = RepoPathComponent<'a>;
 
-    ghost next_gives = { YieldsFirstBy name_of components_left };
+    ghost next_gives = { YieldsFirstBy name_of remaining_components };
 
-    ghost remaining = { item_count components_left };
+    ghost remaining = { item_count remaining_components };
 
     fn next(&mut self) -> Option<RepoPathComponent<'a>> {
         let (name, rest) = self.path.split_first()?;
@@ -44,7 +44,7 @@ impl<'a> Iterator for RepoPathComponentsIter<'a> {
 }
 
 impl<'a> DoubleEndedIterator for RepoPathComponentsIter<'a> {
-    ghost next_back_gives = { YieldsLastBy name_of components_left };
+    ghost next_back_gives = { YieldsLastBy name_of remaining_components };
 
     fn next_back(&mut self) -> Option<RepoPathComponent<'a>> {
         let (rest, name) = self.path.split()?;
@@ -63,7 +63,7 @@ pub struct RepoPathAncestors<'a> {
 
 impl<'a> RepoPathAncestors<'a> {
     pub(super) fn new(path: RepoPath<'a>) -> RepoPathAncestors<'a>
-        ensures { ancestors_left result ≡ fronts (path_of path.entry) }
+        ensures { remaining_ancestors result ≡ ancestors (path_of path.entry) }
     {
         RepoPathAncestors { next: Some(path) }
     }
@@ -72,9 +72,9 @@ impl<'a> RepoPathAncestors<'a> {
 impl<'a> Iterator for RepoPathAncestors<'a> {
     type Item = RepoPath<'a>;
 
-    ghost next_gives = { YieldsFirstBy path_of ancestors_left };
+    ghost next_gives = { YieldsFirstBy path_of remaining_ancestors };
 
-    ghost remaining = { item_count ancestors_left };
+    ghost remaining = { item_count remaining_ancestors };
 
     fn next(&mut self) -> Option<RepoPath<'a>> {
         let path = self.next?;

@@ -217,7 +217,7 @@ impl<'a> Ord for RepoPath<'a> {
     ghost matches_eq = { λ a b. path_ties (path_of a) (path_of b) };
 
     fn cmp(&self, other: &RepoPath<'a>) -> Ordering {
-        slash_first(self.value.as_bytes(), other.value.as_bytes())
+        cmp_slash_first(self.value.as_bytes(), other.value.as_bytes())
     }
 }
 
@@ -233,18 +233,18 @@ impl<'a> Hash for RepoPath<'a> {
 
 // Bytewise lexicographic comparison in which `/` is the least byte. It agrees with comparing
 // component by component, without splitting: `a/b` precedes `a.b`, as `a` precedes `a.b`.
-fn slash_first(mine: &[u8], theirs: &[u8]) -> Ordering
+fn cmp_slash_first(mine: &[u8], theirs: &[u8]) -> Ordering
     ensures { result ≡ slice_cmp slash_cmp mine.now theirs.now }
 {
     for i in 0..mine.len().min(theirs.len()) {
         if mine[i] != theirs[i] {
-            return unequal_bytes(mine[i], theirs[i]);
+            return cmp_unequal_bytes(mine[i], theirs[i]);
         }
     }
     mine.len().cmp(&theirs.len())
 }
 
-fn unequal_bytes(mine: u8, theirs: u8) -> Ordering
+fn cmp_unequal_bytes(mine: u8, theirs: u8) -> Ordering
     requires { mine ≢ theirs }
     ensures { result ≡ slash_cmp mine theirs }
 {

@@ -25,7 +25,7 @@ pub enum InvalidRepoPathComponentError {
 impl From<AllocError> for InvalidRepoPathComponentError {
     ghost from_gives = { λ _ error. error ≡ InvalidRepoPathComponentError.Memory };
 
-    fn from(_refused: AllocError) -> Self {
+    fn from(_failure: AllocError) -> Self {
         InvalidRepoPathComponentError::Memory
     }
 }
@@ -33,7 +33,7 @@ impl From<AllocError> for InvalidRepoPathComponentError {
 impl<T: Drop> From<AllocFailed<T>> for InvalidRepoPathComponentError {
     ghost from_gives = { λ _ error. error ≡ InvalidRepoPathComponentError.Memory };
 
-    fn from(_refused: AllocFailed<T>) -> Self {
+    fn from(_failure: AllocFailed<T>) -> Self {
         InvalidRepoPathComponentError::Memory
     }
 }
@@ -53,7 +53,7 @@ pub enum InvalidRepoPathError {
 impl From<AllocError> for InvalidRepoPathError {
     ghost from_gives = { λ _ error. error ≡ InvalidRepoPathError.Memory };
 
-    fn from(_refused: AllocError) -> Self {
+    fn from(_failure: AllocError) -> Self {
         InvalidRepoPathError::Memory
     }
 }
@@ -61,17 +61,17 @@ impl From<AllocError> for InvalidRepoPathError {
 impl<T: Drop> From<AllocFailed<T>> for InvalidRepoPathError {
     ghost from_gives = { λ _ error. error ≡ InvalidRepoPathError.Memory };
 
-    fn from(_refused: AllocFailed<T>) -> Self {
+    fn from(_failure: AllocFailed<T>) -> Self {
         InvalidRepoPathError::Memory
     }
 }
 
 impl InvalidRepoPathComponentError {
-    ghost use Rattle.jj_paths.specs.FsRefusals.{IsOfName, IsOfPath};
+    ghost use Rattle.jj_paths.specs.FsPathErrors.{ContainsName, AddsPath};
     ghost use Rattle.jj_paths.specs.declared.repo_path.to_fs.InvalidRepoPathComponentError.TheVariants.{Memory};
 
-    fn of_name(alloc: Global, name: &str) -> InvalidRepoPathComponentError
-        ensures { (result ≡ Memory) ⊎ IsOfName name.now result }
+    fn for_name(alloc: Global, name: &str) -> InvalidRepoPathComponentError
+        ensures { (result ≡ Memory) ⊎ ContainsName name.now result }
     {
         match String::from_str(alloc, name) {
             Ok(component) => InvalidRepoPathComponentError::Invalid { component },
@@ -82,7 +82,7 @@ impl InvalidRepoPathComponentError {
     /// Adds the path that contains the component. Returns `Memory` if this error is `Memory`, or
     /// if the path cannot be copied.
     pub fn with_path(self, alloc: Global, path: RepoPath<'_>) -> InvalidRepoPathError
-        ensures { IsOfPath (path_of path.entry) self result }
+        ensures { AddsPath (path_of path.entry) self result }
     {
         if let InvalidRepoPathComponentError::Memory = self {
             return InvalidRepoPathError::Memory;
@@ -95,7 +95,7 @@ impl InvalidRepoPathComponentError {
 }
 
 impl<'a> RepoPathComponent<'a> {
-    ghost use Rattle.jj_paths.specs.FsRefusals.{IsRefusedName};
+    ghost use Rattle.jj_paths.specs.FsPathErrors.{IsNameError};
 
     /// Returns the component as a file name, or `Invalid` for `.` and `..`. Allocates only for the
     /// error.
@@ -103,11 +103,11 @@ impl<'a> RepoPathComponent<'a> {
         ensures ok { IfOk result (λ name.
             (name.now ≡ name_of self.entry) × (is_dots (name_of self.entry) ≡ false)) }
         ensures valid { is_dots (name_of self.entry) ≡ false → IsOk result }
-        ensures refused { IfErr result (IsRefusedName (name_of self.entry)) }
+        ensures error { IfErr result (IsNameError (name_of self.entry)) }
     {
         let name = self.as_internal_str();
         if name == "." || name == ".." {
-            Err(InvalidRepoPathComponentError::of_name(alloc, name))
+            Err(InvalidRepoPathComponentError::for_name(alloc, name))
         } else {
             Ok(name)
         }
@@ -115,7 +115,7 @@ impl<'a> RepoPathComponent<'a> {
 }
 
 impl<'a> RepoPath<'a> {
-    ghost use Rattle.jj_paths.specs.FsRefusals.{IsRefusedPath};
+    ghost use Rattle.jj_paths.specs.FsPathErrors.{IsPathError};
 
     /// Appends the path to the directory `base` of the file system. Returns `Invalid` with the
     /// first component that is `.` or `..`. An empty result becomes `.`.
@@ -123,9 +123,9 @@ impl<'a> RepoPath<'a> {
         ensures ok { IfOk result (λ text. (string_bytes text
             ≡ fs_text base.now (path_of self.entry))
             × (find is_dots (path_of self.entry) ≡ None)) }
-        ensures refused { IfErr result (IsRefusedPath (path_of self.entry)) }
+        ensures error { IfErr result (IsPathError (path_of self.entry)) }
     {
-        let mut path = self.room_below(alloc, base)?;
+        let mut path = self.base_with_capacity(alloc, base)?;
         for name in self.components() {
             match name.to_fs_name(alloc) {
                 Ok(name) => path.push(name)?,
@@ -140,7 +140,7 @@ impl<'a> RepoPath<'a> {
     pub fn to_fs_path_unchecked(self, alloc: Global, base: &str) -> Result<String, AllocError>
         ensures { IfOk result (λ text. string_bytes text ≡ fs_text base.now (path_of self.entry)) }
     {
-        let mut path = self.room_below(alloc, base)?;
+        let mut path = self.base_with_capacity(alloc, base)?;
         for name in self.components() {
             path.push(name.as_internal_str())?;
         }
@@ -148,7 +148,7 @@ impl<'a> RepoPath<'a> {
     }
 
     // a copy of `base`, with capacity for this path
-    fn room_below(self, alloc: Global, base: &str) -> Result<PathBuf, AllocError>
+    fn base_with_capacity(self, alloc: Global, base: &str) -> Result<PathBuf, AllocError>
         ensures { IfOk result (λ path. path_buf_bytes path ≡ base.now) }
     {
         let more = self.as_internal_file_string().len().saturating_add(1);

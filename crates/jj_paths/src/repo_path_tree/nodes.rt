@@ -5,8 +5,8 @@ ghost use Rattle.std.specs.Option.{option_copied, option_map};
 ghost use Rattle.std.specs.List.{All};
 ghost use Rattle.std.specs.Iterator.{YieldsFirstBy, item_count};
 ghost use Rattle.jj_paths.specs.Names.{path_of};
-ghost use Rattle.jj_paths.specs.Children.{node_walk_left};
-ghost use Rattle.jj_paths.specs.Tree.{Tree, get, put_value, nodes_on, nodes_from, nodes_below, IsPartOf, IsExtended, IsSet};
+ghost use Rattle.jj_paths.specs.Children.{remaining_node_walk};
+ghost use Rattle.jj_paths.specs.Tree.{Tree, get, put_value, nodes_on, nodes_from, nodes_below, IsOnPath, AddsDefaults, SetsValue};
 
 use super::RepoPathNode;
 use crate::repo_path::RepoPath;
@@ -35,8 +35,8 @@ impl<V> RepoPathNode<V> {
     /// Iterates over the nodes on the way to a path, from this node to the deepest one there is,
     /// each with the rest of the path below it.
     pub fn walk_to<'a, 'b>(&'a self, path: RepoPath<'b>) -> RepoPathNodeWalk<'a, 'b, V>
-        ensures on_the_way { node_walk_left result ≡ nodes_on self.now (path_of path.entry) }
-        ensures parts { All (IsPartOf self.now (path_of path.entry)) (node_walk_left result) }
+        ensures on_the_way { remaining_node_walk result ≡ nodes_on self.now (path_of path.entry) }
+        ensures parts { All (IsOnPath self.now (path_of path.entry)) (remaining_node_walk result) }
     {
         RepoPathNodeWalk {
             next: Some((self, path)),
@@ -48,12 +48,12 @@ impl<V> RepoPathNode<V> {
     where
         V: Default + Drop,
         ensures there { IfOk result (λ done. IsSome (get self.new (path_of path.entry))) }
-        ensures extended { IsExtended V.is_default self.old (path_of path.entry) self.new }
+        ensures extended { AddsDefaults V.is_default self.old (path_of path.entry) self.new }
     {
         if path.is_root() {
             return Ok(());
         }
-        self.first_or_new(path)?.extend(path.rest())
+        self.first_child_or_default(path)?.extend(path.rest())
     }
 
     /// Sets the value at a path relative to this node, and inserts the missing nodes on the way,
@@ -63,12 +63,12 @@ impl<V> RepoPathNode<V> {
     where
         V: Default + Drop,
         ensures as_map { IfOk result (λ done.
-            IsSet V.is_default self.old (path_of path.entry) value self.new) }
+            SetsValue V.is_default self.old (path_of path.entry) value self.new) }
         ensures edited { MatchResult result (λ done. (t : Tree V)
-            × IsExtended V.is_default self.old (path_of path.entry) t
+            × AddsDefaults V.is_default self.old (path_of path.entry) t
             × IsSome (get t (path_of path.entry))
             × (self.new ≡ put_value t (path_of path.entry) value))
-            (λ e. IsExtended V.is_default self.old (path_of path.entry) self.new) }
+            (λ e. AddsDefaults V.is_default self.old (path_of path.entry) self.new) }
     {
         self.swap_value(path, &mut value)
     }
@@ -78,16 +78,17 @@ impl<V> RepoPathNode<V> {
     where
         V: Default + Drop,
         ensures edited { MatchResult result (λ done. (t : Tree V)
-            × IsExtended V.is_default self.old (path_of path.entry) t
+            × AddsDefaults V.is_default self.old (path_of path.entry) t
             × IsSome (get t (path_of path.entry))
             × (self.new ≡ put_value t (path_of path.entry) value.old))
-            (λ e. IsExtended V.is_default self.old (path_of path.entry) self.new) }
+            (λ e. AddsDefaults V.is_default self.old (path_of path.entry) self.new) }
     {
         if path.is_root() {
             self.swap(value);
             return Ok(());
         }
-        self.first_or_new(path)?.swap_value(path.rest(), value)
+        self.first_child_or_default(path)?
+            .swap_value(path.rest(), value)
     }
 }
 
@@ -100,9 +101,9 @@ pub struct RepoPathNodeWalk<'a, 'b, V> {
 impl<'a, 'b, V> Iterator for RepoPathNodeWalk<'a, 'b, V> {
     type Item = (&'a RepoPathNode<V>, RepoPath<'b>);
 
-    ghost next_gives = { YieldsFirstBy (λ step. (step.0.now, path_of step.1)) node_walk_left };
+    ghost next_gives = { YieldsFirstBy (λ step. (step.0.now, path_of step.1)) remaining_node_walk };
 
-    ghost remaining = { item_count node_walk_left };
+    ghost remaining = { item_count remaining_node_walk };
 
     fn next(&mut self) -> Option<(&'a RepoPathNode<V>, RepoPath<'b>)> {
         let (node, path) = self.next?;

@@ -3,7 +3,7 @@ use Rattle.std.proofs.lemmas.List.{take_more, take_all}
 use Rattle.std.specs.FinMap.{is_sorted}
 use Rattle.jj_paths.specs.Paths.{name_cmp}
 use Rattle.jj_paths.specs.Tree.{tree_of, branches_of, AreClones, IsTreeClone}
-use Rattle.jj_paths.proofs.Clones.{clones-snoc, is_sorted-clones, same_tree}
+use Rattle.jj_paths.proofs.TreeClones.{clones-snoc, is_sorted-clones, same_tree}
 use Rattle.jj_paths.proofs.repo_path_tree.+copies.Goals as goal
 
 pub RepoPathNode::clone-loop-name-preserved : goal.RepoPathNode::clone-loop-name-preserved

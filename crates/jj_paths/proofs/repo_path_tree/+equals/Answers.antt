@@ -1,7 +1,7 @@
 use Rattle.std.proofs.Common.{◌≡◌, ◌≢◌, length, ap, sym, ◌∙◌, arith}
 use Rattle.jj_paths.specs.Tree.{children}
-use Rattle.jj_paths.proofs.Trees.{children-branches_of}
-use Rattle.jj_paths.proofs.Equals.{unequal_lengths, children_decide}
+use Rattle.jj_paths.proofs.ChildLookup.{children-branches_of}
+use Rattle.jj_paths.proofs.TreeEquality.{unequal_lengths, children_decide}
 use Rattle.jj_paths.proofs.repo_path_tree.+equals.Goals as goal
 
 pub RepoPathNodePartialEq::eq-returns-then-mine-theirs : goal.RepoPathNodePartialEq::eq-returns-then-mine-theirs

@@ -9,8 +9,8 @@ begins : (bytes : List ℕ) (left : Option (List ℕ)) (old new : Option (List �
 begins bytes None old new (written, lost, taken, grown) = absurd taken
 begins bytes (Some rest) old new (written, lost, taken, grown) = (written, lost ++ rest, grown, sym (append_assoc written lost rest) ∙ sym taken)
 
-pub returns-clause-front : goal.returns-clause-front
-returns-clause-front g c =
+pub returns-clause-prefix : goal.returns-clause-prefix
+returns-clause-prefix g c =
     let old = g.W.Sink.contents c.args.sink.now in
     let new = g.W.Sink.contents c.copy.new.writer in
     subst (AppendsFrontOf old new) (ap (λ b. b.now) c.new.ensures.inner)

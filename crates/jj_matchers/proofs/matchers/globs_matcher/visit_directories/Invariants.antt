@@ -1,6 +1,6 @@
 use Rattle.std.proofs.Common.{◌≡◌, ◌||◌}
 use Rattle.jj_paths.specs.Paths.{Name}
-use Rattle.jj_paths.specs.Children.{children_left}
+use Rattle.jj_paths.specs.Children.{remaining_children}
 use Rattle.jj_paths.specs.Tree.{children}
 use Rattle.jj_matchers.specs.Marks.{any_node}
 use Rattle.jj_matchers.specs.Visits.{is_among}
@@ -13,5 +13,5 @@ abbrev pub invariant-loop-name : goal.invariant-loop-name
 invariant-loop-name l = record {
   can : (goal.iterator-loop-name).can_next l.name-iterator;
   finite : (goal.iterator-loop-name).is_finite l.name-iterator;
-  dirs : (name : Name) → (is_among l.dirs.keys name || any_named any_node name (marked_children (children_left l.name-iterator))) ≡ any_named any_node name (marked_children (children l.tree.branches));
+  dirs : (name : Name) → (is_among l.dirs.keys name || any_named any_node name (marked_children (remaining_children l.name-iterator))) ≡ any_named any_node name (marked_children (children l.tree.branches));
 }

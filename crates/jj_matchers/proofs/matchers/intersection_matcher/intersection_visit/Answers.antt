@@ -1,9 +1,9 @@
 use Rattle.std.proofs.Common.{◌≡◌, ◌&&◌, ◌∙◌, Bool, ap, sym, subst}
 use Rattle.jj_paths.specs.Paths.{Name}
-use Rattle.jj_matchers.specs.Combined.{named_answer}
-use Rattle.jj_matchers.specs.Candidates.{IsAllOrAmong}
+use Rattle.jj_matchers.specs.Combined.{spec_of_names}
+use Rattle.jj_matchers.specs.MentionedNames.{IsAllOrAmong}
 use Rattle.jj_matchers.specs.Visits.{dir_names, file_names}
-use Rattle.jj_matchers.proofs.Candidates.{both_listed}
+use Rattle.jj_matchers.proofs.MentionedNames.{both_listed}
 use Rattle.jj_matchers.proofs.matchers.intersection_matcher.intersection_visit.Goals as goal
 
 pub returns-in-Specific-second : goal.returns-in-Specific-second
@@ -20,5 +20,5 @@ returns-in-Specific-second c =
     let same_files : ◌≡◌ {A = Name → Bool} common_files files = λ i name. (c.intersection_files.ensures name) i in
     rw (c.in-Specific.is, c.in-Specific-second.is) (λ names one other.
     c.visit_of_names.ensures names (subst (IsAllOrAmong names) (sym same_dirs) (both_listed names one_dirs other_dirs one.0 other.0)) (subst (IsAllOrAmong names) (sym same_files) (both_listed names one_files other_files one.1 other.1))
-    ∙ ap (λ (t : Name → Bool). named_answer names t common_files) same_dirs
-    ∙ ap (named_answer names dirs) same_files)
+    ∙ ap (λ (t : Name → Bool). spec_of_names names t common_files) same_dirs
+    ∙ ap (spec_of_names names dirs) same_files)

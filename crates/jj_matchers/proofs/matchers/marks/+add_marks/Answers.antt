@@ -27,10 +27,10 @@ loop-start-preserved t c =
 pub returns : goal.returns
 returns t c =
     let given = c.args.marks.now in
-    let keyed = c.take_keys.new.marks in
+    let keyed = c.set_keys.new.marks in
     let sorted = c.sort_unstable_by_key.new.self in
     let whole : take c.loop-start.start (map keyed_path sorted) ≡ map keyed_path sorted = take_all c.loop-start.start (map keyed_path sorted) (omega (arith, length-map sorted keyed_path)) in
-    adds_list (map keyed_path keyed) (map keyed_path given) c.args.tree.now c.loop-start.tree c.take_keys.ensures
+    adds_list (map keyed_path keyed) (map keyed_path given) c.args.tree.now c.loop-start.tree c.set_keys.ensures
     (adds_permuted (map keyed_path sorted) (map keyed_path keyed) c.args.tree.now c.loop-start.tree
     (IsPermutation-sym _ _ (IsPermutation-map keyed_path keyed sorted c.sort_unstable_by_key.ensures.permutation))
     (adds_list _ _ c.args.tree.now c.loop-start.tree whole c.loop-start.invariant.added))

@@ -5,7 +5,7 @@ use Rattle.jj_matchers.specs.KeyedMarks.{keyed_path}
 use Rattle.jj_matchers.proofs.matchers.marks.+add_marks.Given as goal
 
 abbrev pub decreases-add_marks : goal.decreases-add_marks
-decreases-add_marks l = 8 - l.part
+decreases-add_marks l = 8 - l.depth
 
 abbrev pub invariant-loop-start : goal.invariant-loop-start
 invariant-loop-start l = record {

@@ -2,15 +2,15 @@ use Rattle.std.proofs.Common.{◌∷◌, ◌++◌, [], length, arith, refl, subs
 use Rattle.std.specs.List.{All}
 use Rattle.std.proofs.lemmas.List.{get_or_push, length_push}
 use Rattle.std.proofs.lemmas.List.Elements.{All-from_recursion}
-use Rattle.jj_matchers.specs.WalkParts.{IsUnderWay}
+use Rattle.jj_matchers.specs.WalkInvariants.{IsValidFrame}
 use Rattle.jj_matchers.proofs.matchers.tree_walk.walk_matching.Goals as goal
 
-pub go_on-requires : goal.go_on-requires
-go_on-requires g c =
+pub visit_next_child-requires : goal.visit_next_child-requires
+visit_next_child-requires g c =
     let m = c.args.matcher.now in
     let items = c.pop.new.self.items in
     let last = c.in-Some.directory in
-    let P = IsUnderWay (g.M.Matcher.accepts m) (g.M.Matcher.opens m) (g.M.Matcher.answers m) in
+    let P = IsValidFrame (g.M.Matcher.accepts m) (g.M.Matcher.opens m) (g.M.Matcher.visits m) in
     let all : All P (items ++ last ∷ []) = subst (All P) c.in-Some.ensures.items (All-from_recursion P _ c.loop-directory.invariant.under_way) in
     subst P (get_or_push items last last (length items) refl) (all (length items) last (omega (arith, length_push items last)))
 

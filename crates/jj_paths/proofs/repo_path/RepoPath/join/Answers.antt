@@ -1,6 +1,6 @@
 use Rattle.std.proofs.Common.{string_bytes, ap, ◌∙◌, ◌++◌, lit<}
 use Rattle.std.proofs.lemmas.Str.{encode_ascii}
-use Rattle.jj_paths.proofs.PathTexts.{IsJoined, not_empty, joined_after_slash, joined_at_root}
+use Rattle.jj_paths.proofs.PathStrings.{IsJoined, not_empty, joined_after_slash, joined_at_root}
 use Rattle.jj_paths.proofs.repo_path.RepoPath.join.Goals as goal
 use Rattle.jj_paths.proofs.repo_path.RepoPath.join.Goals.{then-not-is_empty+in_ok-push, else-not-is_empty}
 

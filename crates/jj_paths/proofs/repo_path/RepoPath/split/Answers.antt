@@ -1,6 +1,6 @@
 use Rattle.std.proofs.Common.{lit<}
 use Rattle.std.proofs.lemmas.Str.Pattern.{NoCharPasses-char}
-use Rattle.jj_paths.proofs.PathTexts.{not_empty, one_name, last_cut_at}
+use Rattle.jj_paths.proofs.PathStrings.{not_empty, one_name, last_cut_at}
 use Rattle.jj_paths.proofs.repo_path.RepoPath.split.Goals as goal
 
 pub invariant_of-result-in-None : goal.invariant_of-result-in-None

@@ -2,8 +2,8 @@ use Rattle.std.proofs.Common.{◌≡◌, ◌≢◌, ◌++◌, MatchOption, Some,
 use Rattle.std.proofs.lemmas.Str.Pattern.{strip_prefix_char}
 use Rattle.jj_paths.specs.Paths.{Path}
 use Rattle.jj_paths.specs.Names.{path_of}
-use Rattle.jj_paths.proofs.PathTexts.{not_empty}
-use Rattle.jj_paths.proofs.Prefixes.{not_below-other, not_below-inside, cut_after}
+use Rattle.jj_paths.proofs.PathStrings.{not_empty}
+use Rattle.jj_paths.proofs.PathPrefixes.{not_below-other, not_below-inside, cut_after}
 use Rattle.jj_paths.proofs.repo_path.RepoPath.strip_prefix.Goals as goal
 
 pub returns-in_err-tail : goal.returns-in_err-tail

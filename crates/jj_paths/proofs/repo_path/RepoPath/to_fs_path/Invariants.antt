@@ -4,10 +4,10 @@ use Rattle.std.specs.List.{find}
 use Rattle.std.specs.Path.{path_buf_bytes}
 use Rattle.jj_paths.specs.Names.{path_of}
 use Rattle.jj_files.specs.FsTexts.{join_all, is_dots}
-use Rattle.jj_paths.specs.Iterators.{components_left}
+use Rattle.jj_paths.specs.Iterators.{remaining_components}
 use Rattle.jj_paths.proofs.repo_path.RepoPath.to_fs_path.Given as goal
 
 abbrev pub invariant-loop-name : goal.invariant-loop-name
 invariant-loop-name l =
-    (join_all (path_buf_bytes l.path) (components_left l.name-iterator) ≡ join_all l.base (path_of l.self))
-    × (find is_dots (components_left l.name-iterator) ≡ find is_dots (path_of l.self))
+    (join_all (path_buf_bytes l.path) (remaining_components l.name-iterator) ≡ join_all l.base (path_of l.self))
+    × (find is_dots (remaining_components l.name-iterator) ≡ find is_dots (path_of l.self))

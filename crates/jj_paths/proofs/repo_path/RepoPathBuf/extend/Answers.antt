@@ -1,6 +1,6 @@
 use Rattle.std.proofs.Common.{◌++◌, string_bytes, map, ap, ◌∙◌}
 use Rattle.jj_paths.specs.Names.{name_of}
-use Rattle.jj_paths.proofs.Longer.{extended_by}
+use Rattle.jj_paths.proofs.AppendedNames.{extended_by}
 use Rattle.jj_paths.proofs.repo_path.RepoPathBuf.extend.Goals as goal
 
 pub invariant_of-self : goal.invariant_of-self

@@ -2,7 +2,7 @@ use Rattle.std.proofs.Common.{◌≡◌, ℕ, ◌<◌, ◌+◌, ◌*◌, List, [
 use Rattle.std.specs.FinMap.{is_sorted}
 use Rattle.jj_paths.specs.Paths.{Name, name_cmp}
 use Rattle.jj_paths.specs.Tree.{Tree, tree_of, branches_of, branch_count}
-use Rattle.jj_paths.proofs.Descents.{way_count, way_count-last, branch_count-last, is_sorted-front, is_sorted-last}
+use Rattle.jj_paths.proofs.DropMeasure.{way_count, way_count-last, branch_count-last, is_sorted-prefix, is_sorted-last}
 use Rattle.jj_paths.proofs.repo_path_tree.RepoPathNode.drop.Goals as goal
 
 module _ {V : Type 0} where
@@ -36,6 +36,6 @@ loop-name-smaller g c =
 
 pub loop-name-preserved : goal.loop-name-preserved
 loop-name-preserved g c = record {
-  current = is_sorted-front c.pop-in-None.new.self.items (c.in-Some-pop._name, c.in-Some-pop.way_up) (sym (ap (is_sorted name_cmp) c.in-Some-pop.ensures.items) ∙ c.loop-name.invariant.above);
+  current = is_sorted-prefix c.pop-in-None.new.self.items (c.in-Some-pop._name, c.in-Some-pop.way_up) (sym (ap (is_sorted name_cmp) c.in-Some-pop.ensures.items) ∙ c.loop-name.invariant.above);
   above = c.into_parts-value-in-Some-pop.ensures.by_name;
 }

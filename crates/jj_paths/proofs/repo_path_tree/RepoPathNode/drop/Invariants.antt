@@ -2,7 +2,7 @@ use Rattle.std.proofs.Common.{◌+◌, ◌*◌, IsTrue}
 use Rattle.std.specs.FinMap.{is_sorted}
 use Rattle.jj_paths.specs.Paths.{name_cmp}
 use Rattle.jj_paths.specs.Tree.{branches_of, branch_count}
-use Rattle.jj_paths.proofs.Descents.{way_count}
+use Rattle.jj_paths.proofs.DropMeasure.{way_count}
 use Rattle.jj_paths.proofs.repo_path_tree.RepoPathNode.drop.Given as goal
 
 -- both lists are sorted by name

@@ -2,7 +2,7 @@ use Rattle.std.proofs.Common.{sym, ap, ◌∙◌, subst, IsTrue}
 use Rattle.std.specs.FinMap.{is_sorted}
 use Rattle.jj_paths.specs.Paths.{name_cmp}
 use Rattle.jj_paths.specs.Tree.{children}
-use Rattle.jj_paths.proofs.Trees.{children-branches_of}
+use Rattle.jj_paths.proofs.ChildLookup.{children-branches_of}
 use Rattle.jj_paths.proofs.repo_path_tree.RepoPathNode.entries.Goals as goal
 
 pub returns-clause-listed : goal.returns-clause-listed

@@ -1,5 +1,5 @@
 use Rattle.jj_paths.specs.Names.{path_of}
-use Rattle.jj_paths.proofs.Sets.{edited-as_map_on_ok}
+use Rattle.jj_paths.proofs.ValueUpdates.{edited-as_map_on_ok}
 use Rattle.jj_paths.proofs.repo_path_tree.RepoPathNode.set.Goals as goal
 
 pub returns-clause-as_map : goal.returns-clause-as_map

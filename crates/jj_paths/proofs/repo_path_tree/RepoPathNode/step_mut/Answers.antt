@@ -1,6 +1,6 @@
 use Rattle.std.proofs.Common.{sym, ap, refl}
 use Rattle.jj_paths.specs.Tree.{put_below}
-use Rattle.jj_paths.proofs.Puts.{step-value, step-lifted}
+use Rattle.jj_paths.proofs.ChildUpdates.{step-value, step-lifted}
 use Rattle.jj_paths.proofs.repo_path_tree.RepoPathNode.step_mut.Goals as goal
 
 pub returns : goal.returns

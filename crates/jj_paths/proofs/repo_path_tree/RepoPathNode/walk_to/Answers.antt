@@ -1,5 +1,5 @@
 use Rattle.jj_paths.specs.Names.{path_of}
-use Rattle.jj_paths.proofs.Ways.{nodes_on-parts}
+use Rattle.jj_paths.proofs.NodesOnPath.{nodes_on-parts}
 use Rattle.jj_paths.proofs.repo_path_tree.RepoPathNode.walk_to.Goals as goal
 
 pub returns-clause-parts : goal.returns-clause-parts

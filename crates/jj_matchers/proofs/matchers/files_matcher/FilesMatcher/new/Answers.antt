@@ -1,7 +1,7 @@
 use Rattle.std.proofs.Common.{map}
 use Rattle.jj_paths.specs.Names.{path_of}
 use Rattle.jj_matchers.proofs.MarkedTrees.{marked-paths, marked-leads}
-use Rattle.jj_matchers.proofs.SetMeanings.{members_of}
+use Rattle.jj_matchers.proofs.AcceptedPaths.{members_of}
 use Rattle.jj_matchers.proofs.matchers.files_matcher.FilesMatcher.new.Goals as goal
 
 pub invariant_of-result : goal.invariant_of-result

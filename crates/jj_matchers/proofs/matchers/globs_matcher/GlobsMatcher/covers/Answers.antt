@@ -5,7 +5,7 @@ use Rattle.std.proofs.lemmas.Iterator.Consumers.{YieldsList-from_first}
 use Rattle.jj_paths.specs.Paths.{Path}
 use Rattle.jj_paths.specs.Names.{path_of}
 use Rattle.jj_paths.specs.Tree.{Tree}
-use Rattle.jj_paths.specs.Children.{walk_left}
+use Rattle.jj_paths.specs.Children.{remaining_walk}
 use Rattle.jj_globs.specs.GlobMeaning.{GlobSpec}
 use Rattle.jj_matchers.specs.Patterns.{covers_tail, tail_passes, is_covered}
 use Rattle.jj_matchers.specs.PatternTree.{patterns_of}
@@ -17,7 +17,7 @@ returns-then-self c =
     let dir = path_of c.args.dir in
     let tree = c.self.inside.tree in
     any_from_yields_List (λ (step : Tree (List GlobSpec) × Path). list_any (λ glob. covers_tail glob step.1) step.0.value) c.any.new.self _ _ c.any.ensures.ran
-    (YieldsList-from_first (λ step. (step.0.now, path_of step.1)) walk_left _ c.walk_to.ensures.on_the_way)
+    (YieldsList-from_first (λ step. (step.0.now, path_of step.1)) remaining_walk _ c.walk_to.ensures.on_the_way)
     (λ x b q called. (search rules, search rules))
     ∙ way_passes tree covers_tail dir
     ∙ ap (λ b. b && list_any (λ (pattern : Path × GlobSpec). tail_passes pattern.0 (covers_tail pattern.1) dir) (patterns_of tree)) (sym c.if-self.true)

@@ -8,7 +8,7 @@ use Rattle.jj_matchers.specs.declared.matchers.path_glob_pattern.PathGlobPattern
 use Rattle.jj_globs.specs.GlobMeaning.{GlobSpec}
 use Rattle.jj_matchers.specs.Patterns.{Patterns}
 use Rattle.jj_matchers.proofs.PatternTrees.{any-map, same_patterns}
-use Rattle.jj_matchers.proofs.SetMeanings.{matched_by}
+use Rattle.jj_matchers.proofs.AcceptedPaths.{matched_by}
 use Rattle.jj_matchers.proofs.matchers.globs_matcher.GlobsMatcherBuilder.build.Goals as goal
 
 abbrev pattern_of : RepoPath × Bor PathGlobPattern → Path × GlobSpec

@@ -1,7 +1,7 @@
 use Rattle.std.proofs.Common.{map}
 use Rattle.jj_paths.specs.Names.{path_of}
 use Rattle.jj_matchers.proofs.MarkedTrees.{marked-paths, marked-leads}
-use Rattle.jj_matchers.proofs.SetMeanings.{below_prefixes}
+use Rattle.jj_matchers.proofs.AcceptedPaths.{below_prefixes}
 use Rattle.jj_matchers.proofs.matchers.prefix_matcher.PrefixMatcher.new.Goals as goal
 
 pub invariant_of-result : goal.invariant_of-result

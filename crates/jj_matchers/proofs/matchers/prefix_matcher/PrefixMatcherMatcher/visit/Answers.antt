@@ -1,11 +1,11 @@
 use Rattle.std.proofs.Common.{◌≡◌, true, false, refl, sym, ap, ◌∙◌}
 use Rattle.jj_paths.specs.Names.{path_of}
-use Rattle.jj_matchers.specs.Answers.{all_recursively, nothing}
-use Rattle.jj_matchers.specs.Wanted.{has_prefix}
+use Rattle.jj_matchers.specs.VisitSpecs.{all_recursively, nothing}
+use Rattle.jj_matchers.specs.PathLists.{has_prefix}
 use Rattle.jj_matchers.specs.Marks.{marked_paths}
-use Rattle.jj_matchers.proofs.Candidates.{prefixes_answered}
+use Rattle.jj_matchers.proofs.MentionedNames.{prefixes_answered}
 use Rattle.jj_matchers.proofs.Marks.{prefixes_are, no_prefixes_are}
-use Rattle.jj_matchers.proofs.Wanted.{prefix_inside}
+use Rattle.jj_matchers.proofs.PathLists.{prefix_inside}
 use Rattle.jj_matchers.proofs.matchers.prefix_matcher.PrefixMatcherMatcher.visit.Goals as goal
 
 pub returns-then-matches-clause-sound : goal.returns-then-matches-clause-sound
@@ -22,7 +22,7 @@ returns-in_ok-visit-in-Some c =
     let outside : has_prefix marks dir ≡ false = ap (λ prefixes. has_prefix prefixes dir) c.self.view_is ∙ sym c.matches.ensures ∙ c.if-matches.false in
     let answered = prefixes_answered marks c.args.self.now dir _ c.self.view_is
     (c.in_ok-visit-in-Some.ensures ∙ prefixes_are c.self.inside.tree c.self.invariant dir c.in-Some.node.now (sym c.in-Some.ensures) outside) in
-    record { answer = answered.0; sound = answered.1; chosen = answered.2 }
+    record { visit = answered.0; sound = answered.1; names = answered.2 }
 
 pub returns-in-None : goal.returns-in-None
 returns-in-None c =
@@ -30,4 +30,4 @@ returns-in-None c =
     let dir = path_of c.args.dir in
     let outside : has_prefix marks dir ≡ false = ap (λ prefixes. has_prefix prefixes dir) c.self.view_is ∙ sym c.matches.ensures ∙ c.if-matches.false in
     let answered = prefixes_answered marks c.args.self.now dir nothing c.self.view_is (no_prefixes_are c.self.inside.tree c.self.invariant dir (sym c.in-None.ensures) outside) in
-    record { answer = answered.0; sound = answered.1; chosen = tt }
+    record { visit = answered.0; sound = answered.1; names = tt }

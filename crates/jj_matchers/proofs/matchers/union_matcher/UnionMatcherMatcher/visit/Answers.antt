@@ -1,10 +1,10 @@
 use Rattle.std.proofs.Common.{◌++◌, sym, subst}
 use Rattle.jj_paths.specs.Names.{path_of}
-use Rattle.jj_matchers.specs.Answers.{IsSound}
-use Rattle.jj_matchers.specs.Candidates.{ChoosesFrom}
-use Rattle.jj_matchers.specs.Visits.{answer_of}
+use Rattle.jj_matchers.specs.VisitSpecs.{IsSound}
+use Rattle.jj_matchers.specs.MentionedNames.{MentionsOnly}
+use Rattle.jj_matchers.specs.Visits.{visit_spec}
 use Rattle.jj_matchers.proofs.Combined.{either, union_sound}
-use Rattle.jj_matchers.proofs.Candidates.{chosen_left, chosen_right, union_chooses}
+use Rattle.jj_matchers.proofs.MentionedNames.{chosen_left, chosen_right, union_chooses}
 use Rattle.jj_matchers.proofs.matchers.union_matcher.UnionMatcherMatcher.visit.Goals as goal
 
 pub returns-clause-sound : goal.returns-clause-sound
@@ -15,15 +15,15 @@ returns-clause-sound g c =
     let accepts = either (g.M1.Matcher.accepts one) (g.M2.Matcher.accepts two) in
     let opens = either (g.M1.Matcher.opens one) (g.M2.Matcher.opens two) in
     subst (IsSound accepts opens dir) (sym c.in_ok-both.ensures)
-    (union_sound (g.M1.Matcher.accepts one) (g.M2.Matcher.accepts two) (g.M1.Matcher.opens one) (g.M2.Matcher.opens two) dir (answer_of c.in_ok-first.first) (answer_of c.in_ok-second.second)
+    (union_sound (g.M1.Matcher.accepts one) (g.M2.Matcher.accepts two) (g.M1.Matcher.opens one) (g.M2.Matcher.opens two) dir (visit_spec c.in_ok-first.first) (visit_spec c.in_ok-second.second)
     c.in_ok-first.ensures.sound c.in_ok-second.ensures.sound)
 
-pub returns-clause-chosen : goal.returns-clause-chosen
-returns-clause-chosen g c =
+pub returns-clause-names : goal.returns-clause-names
+returns-clause-names g c =
     let dir = path_of c.args.dir in
-    let ours = g.M1.Matcher.candidates c.args.self.now.input1 dir in
-    let theirs = g.M2.Matcher.candidates c.args.self.now.input2 dir in
-    let first = answer_of c.in_ok-first.first in
-    let second = answer_of c.in_ok-second.second in
-    subst (ChoosesFrom (ours ++ theirs)) (sym c.in_ok-both.ensures)
-    (union_chooses (ours ++ theirs) first second (chosen_left ours theirs first c.in_ok-first.ensures.chosen) (chosen_right ours theirs second c.in_ok-second.ensures.chosen))
+    let ours = g.M1.Matcher.mentioned c.args.self.now.input1 dir in
+    let theirs = g.M2.Matcher.mentioned c.args.self.now.input2 dir in
+    let first = visit_spec c.in_ok-first.first in
+    let second = visit_spec c.in_ok-second.second in
+    subst (MentionsOnly (ours ++ theirs)) (sym c.in_ok-both.ensures)
+    (union_chooses (ours ++ theirs) first second (chosen_left ours theirs first c.in_ok-first.ensures.names) (chosen_right ours theirs second c.in_ok-second.ensures.names))

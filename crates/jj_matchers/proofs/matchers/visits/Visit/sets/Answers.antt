@@ -1,5 +1,5 @@
 use Rattle.std.proofs.lemmas.List.{nil_from_length}
-use Rattle.jj_matchers.proofs.NamedSets.{none_accepted}
+use Rattle.jj_matchers.proofs.EmptyVisits.{none_accepted}
 use Rattle.jj_matchers.proofs.matchers.visits.Visit.sets.Goals as goal
 
 pub returns-then-is_empty-2-clause-sound : goal.returns-then-is_empty-2-clause-sound

@@ -1,7 +1,7 @@
 use Rattle.std.proofs.Common.{ap, ◌∙◌, string_bytes}
 use Rattle.jj_paths.specs.Paths.{components}
 use Rattle.jj_paths.specs.Orders.{path_eq}
-use Rattle.jj_paths.proofs.Orders.{bytes_eq-components}
+use Rattle.jj_paths.proofs.StringEquality.{bytes_eq-components}
 use Rattle.jj_paths.proofs.repo_path.orders.RepoPathBufPartialEq.eq.Goals as goal
 
 pub returns : goal.returns

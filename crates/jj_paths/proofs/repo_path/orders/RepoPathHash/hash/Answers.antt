@@ -1,8 +1,8 @@
 use Rattle.std.proofs.Common.{sym, ap, ◌∙◌, [], ◌∷◌}
-use Rattle.jj_paths.proofs.PathTexts.{path_text-components}
+use Rattle.jj_paths.proofs.PathStrings.{path_string-components}
 use Rattle.jj_paths.proofs.repo_path.orders.RepoPathHash.hash.Goals as goal
 
 pub returns : goal.returns
 returns g c =
     c.hash.ensures
-    ∙ ap (λ text. g.H.Hasher.write (g.H.Hasher.write c.args.state.now text) (255 ∷ [])) (sym (path_text-components _))
+    ∙ ap (λ text. g.H.Hasher.write (g.H.Hasher.write c.args.state.now text) (255 ∷ [])) (sym (path_string-components _))

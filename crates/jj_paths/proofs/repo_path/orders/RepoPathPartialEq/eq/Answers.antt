@@ -1,5 +1,5 @@
 use Rattle.std.proofs.Common.{◌∙◌}
-use Rattle.jj_paths.proofs.Orders.{bytes_eq-components}
+use Rattle.jj_paths.proofs.StringEquality.{bytes_eq-components}
 use Rattle.jj_paths.proofs.repo_path.orders.RepoPathPartialEq.eq.Goals as goal
 
 pub returns : goal.returns

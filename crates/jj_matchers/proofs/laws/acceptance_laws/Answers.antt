@@ -1,0 +1,11 @@
+use Rattle.jj_matchers.proofs.AcceptedPaths.{has_members, has_all_below, has_matches}
+use Rattle.jj_matchers.proofs.laws.acceptance_laws.Goals as goal
+
+pub returns-clause-files : goal.returns-clause-files
+returns-clause-files c = has_members
+
+pub returns-clause-prefixes : goal.returns-clause-prefixes
+returns-clause-prefixes c = has_all_below
+
+pub returns-clause-globs : goal.returns-clause-globs
+returns-clause-globs c = has_matches

@@ -1,8 +1,0 @@
-use Rattle.std.proofs.Common.{◌∙◌, ap}
-use Rattle.std.specs.Path.{path_join}
-use Rattle.jj_files.proofs.FsTextLemmas.{path_join-empty}
-use Rattle.jj_paths.proofs.repo_path.RepoPath.room_below.Goals as goal
-
-pub returns : goal.returns
-returns c =
-    c.in_ok-push.ensures.ok ∙ ap (λ start. path_join start c.args.base.now) c.in_ok-path.ensures.path ∙ path_join-empty c.args.base.now

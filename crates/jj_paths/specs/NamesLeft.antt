@@ -1,9 +1,0 @@
--- State of the iterator over the components of a file system path.
--- Machinery of private functions and fields.
-use Rattle.std.specs.Prelude.{ℕ, List}
-use Rattle.std.specs.Path.{path_names}
-use Rattle.jj_paths.specs.declared.repo_path.from_relative.Names.{Names}
-
--- the components not yet yielded
-abbrev pub names_left : Names → List (List ℕ)
-names_left left = path_names left.rest.now

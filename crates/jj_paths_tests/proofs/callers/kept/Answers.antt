@@ -1,7 +1,0 @@
-use Rattle.std.proofs.Common.{◌++◌, ap, ◌∙◌}
-use Rattle.jj_paths_tests.proofs.callers.kept.Goals as goal
-
-pub returns : goal.returns
-returns c =
-    ap (λ v. v.items) c.into_inner.ensures ∙ c.in_ok-send.ensures.all
-    ∙ ap (λ l. l ++ c.args.bytes.now) (ap (λ v. v.items) c.new-sink.ensures.inner ∙ c.new.ensures.items)
