@@ -1,3 +1,3 @@
 pub mod MergedParts
 pub mod MergedTreeValues
-pub mod Searched
+pub mod BinarySearch

@@ -92,29 +92,29 @@ with_file_ids (value ∷ values) (id ∷ ids) = with_file_id value id ∷ with_f
 abbrev pub newline : List ℕ
 newline = 10 ∷ []
 
-abbrev pub with_id : List ℕ → List ℕ → List ℕ
-with_id kind id = kind ++ (codes " with id " ++ hex id)
+abbrev pub kind_and_id : List ℕ → List ℕ → List ℕ
+kind_and_id kind id = kind ++ (codes " with id " ++ hex id)
 
 abbrev pub file_kind : Bool → List ℕ
 file_kind true = codes "executable file"
 file_kind false = codes "file"
 
 -- the kind and id of a tree value
-abbrev pub value_text : TreeValue → List ℕ
-value_text (File id executable copy) = with_id (file_kind executable) id
-value_text (Symlink id) = with_id (codes "symlink") id
-value_text (Tree id) = with_id (codes "tree") id
-value_text (GitSubmodule id) = with_id (codes "Git submodule") id
+abbrev pub value_string : TreeValue → List ℕ
+value_string (File id executable copy) = kind_and_id (file_kind executable) id
+value_string (Symlink id) = kind_and_id (codes "symlink") id
+value_string (Tree id) = kind_and_id (codes "tree") id
+value_string (GitSubmodule id) = kind_and_id (codes "Git submodule") id
 
 -- a nonempty label in parentheses
-abbrev pub label_text : List ℕ → List ℕ
-label_text [] = []
-label_text (c ∷ label) = codes " (" ++ ((c ∷ label) ++ codes ")")
+abbrev pub label_string : List ℕ → List ℕ
+label_string [] = []
+label_string (c ∷ label) = codes " (" ++ ((c ∷ label) ++ codes ")")
 
 -- the line of a term: verb, value and label; an absent term has no line
 abbrev pub line : List ℕ → Option TreeValue → List ℕ → List ℕ
 line done None label = []
-line done (Some value) label = done ++ (value_text value ++ (label_text label ++ newline))
+line done (Some value) label = done ++ (value_string value ++ (label_string label ++ newline))
 
 -- the lines of the terms, each with the label at the same index
 abbrev pub lines : List ℕ → Values → List (List ℕ) → List ℕ

@@ -66,14 +66,14 @@ abbrev pub AddsCommit : Objects → Objects → List ℕ → CommitValue → Typ
 AddsCommit old new id commit = IsFree old.commits id commit
     × (new ≡ record old { commits = put old.commits id commit })
 
--- kept is the stored form of the commit: unchanged without a signer, else with the signed content
+-- stored is the stored form of the commit: unchanged without a signer, else with the signed content
 -- and a signature of it
 abbrev pub IsSigned : {S : Type 0} → (S → List ℕ → Result (List ℕ) SignError → Type 0) → Option S
     → CommitValue → CommitValue → Type 0
-IsSigned may_sign None commit kept = kept ≡ commit
-IsSigned may_sign (Some signer) commit kept =
+IsSigned may_sign None commit stored = stored ≡ commit
+IsSigned may_sign (Some signer) commit stored =
     (sig : List ℕ) × may_sign signer (unsigned_content commit) (Ok sig)
-    × (kept ≡ record commit {
+    × (stored ≡ record commit {
       secure_sig = Some
           (record { signed_data = unsigned_content commit; sig = sig });
     })

@@ -15,30 +15,30 @@ variant_small (Symlink a) = omega arith
 variant_small (Tree a) = omega arith
 variant_small (GitSubmodule a) = omega arith
 
-alike : (x y : TreeValue) → IsTreeValue x → IsTreeValue y → ghosts.eq x y ≡ true
+same_content : (x y : TreeValue) → IsTreeValue x → IsTreeValue y → ghosts.eq x y ≡ true
     → (variant_of x ≡ variant_of y) × (fields_content x ≡ fields_content y)
-alike (File a b c) (File d e f) p q h =
+same_content (File a b c) (File d e f) p q h =
     let file = both_lawful (on_lawful (λ (v : List ℕ × Bool × List ℕ). v.0) bytes_lawful)
     (both_lawful (on_lawful (λ (v : List ℕ × Bool × List ℕ). v.1) bool_lawful)
     (on_lawful (λ (v : List ℕ × Bool × List ℕ). v.2) bytes_lawful)) in
     (refl, file.same (a, b, c) (d, e, f) p q h)
-alike (Symlink a) (Symlink b) p q h = (refl, bytes_lawful.same a b p q h)
-alike (Tree a) (Tree b) p q h = (refl, bytes_lawful.same a b p q h)
-alike (GitSubmodule a) (GitSubmodule b) p q h = (refl, bytes_lawful.same a b p q h)
-alike x y p q h = cc
+same_content (Symlink a) (Symlink b) p q h = (refl, bytes_lawful.same a b p q h)
+same_content (Tree a) (Tree b) p q h = (refl, bytes_lawful.same a b p q h)
+same_content (GitSubmodule a) (GitSubmodule b) p q h = (refl, bytes_lawful.same a b p q h)
+same_content x y p q h = cc
 
-told : (x y : TreeValue) (s t : List ℕ) → IsTreeValue x → IsTreeValue y
+equal_from_content : (x y : TreeValue) (s t : List ℕ) → IsTreeValue x → IsTreeValue y
     → variant_of x ≡ variant_of y → fields_content x ++ s ≡ fields_content y ++ t
     → ghosts.eq x y ≡ true
-told (File a b c) (File d e f) s t p q n h =
+equal_from_content (File a b c) (File d e f) s t p q n h =
     let file = both_lawful (on_lawful (λ (v : List ℕ × Bool × List ℕ). v.0) bytes_lawful)
     (both_lawful (on_lawful (λ (v : List ℕ × Bool × List ℕ). v.1) bool_lawful)
     (on_lawful (λ (v : List ℕ × Bool × List ℕ). v.2) bytes_lawful)) in
     file.decides (a, b, c) (d, e, f) s t p q h
-told (Symlink a) (Symlink b) s t p q n h = bytes_lawful.decides a b s t p q h
-told (Tree a) (Tree b) s t p q n h = bytes_lawful.decides a b s t p q h
-told (GitSubmodule a) (GitSubmodule b) s t p q n h = bytes_lawful.decides a b s t p q h
-told x y s t p q n h = absurd (omega arith)
+equal_from_content (Symlink a) (Symlink b) s t p q n h = bytes_lawful.decides a b s t p q h
+equal_from_content (Tree a) (Tree b) s t p q n h = bytes_lawful.decides a b s t p q h
+equal_from_content (GitSubmodule a) (GitSubmodule b) s t p q n h = bytes_lawful.decides a b s t p q h
+equal_from_content x y s t p q n h = absurd (omega arith)
 
 pub tree_value_lawful : IsLawful IsTreeValue ghosts.eq tree_value_content
-tree_value_lawful = enum_lawful variant_of fields_content variant_small alike told
+tree_value_lawful = enum_lawful variant_of fields_content variant_small same_content equal_from_content

@@ -19,11 +19,11 @@ abbrev pub value_at : Entries → Name → Option TreeValue
 value_at entries name = lookup (bytes_eq name) entries
 
 -- the entry at this index has the name, and its value is the one that value_at finds
-pub record IsEntryAt (entries : Entries) (name : Name) (place : ℕ) : Type 0 where
-  pub in_range : place < length entries
-  pub has_name : (d : Name × TreeValue) → (slice_index_or entries place d).0 ≡ name
+pub record IsEntryAt (entries : Entries) (name : Name) (index : ℕ) : Type 0 where
+  pub in_range : index < length entries
+  pub has_name : (d : Name × TreeValue) → (slice_index_or entries index d).0 ≡ name
   pub has_value : (d : Name × TreeValue) → value_at entries name
-      ≡ Some (slice_index_or entries place d).1
+      ≡ Some (slice_index_or entries index d).1
 
 abbrev pub entry_of : TreeEntry → Name × TreeValue
 entry_of entry = (name_of entry.name, entry.value.now)

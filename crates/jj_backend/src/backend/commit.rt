@@ -4,7 +4,7 @@ ghost use Rattle.std.specs.Cmp;
 ghost use Rattle.jj_backend.specs.RecordLaws.{commit_equiv};
 ghost use Rattle.jj_backend.specs.Records.{CommitValue, origin_eq, message_eq, signers_eq, commit_eq, no_signature, root_commit};
 
-use super::merged_parts::{are_same_texts, copied_texts, copied_trees};
+use super::merged_parts::{clone_strings, clone_trees, equal_strings};
 use super::{MillisSinceEpoch, SecureSig, Signature, Timestamp};
 use jj_ids::object_id::{ChangeId, CommitId, TreeId};
 use jj_merges::merge::Merge;
@@ -53,7 +53,7 @@ impl Commit {
     fn has_same_message(&self, other: &Commit) -> bool
         ensures { result ≡ message_eq self.now other.now }
     {
-        are_same_texts(&self.conflict_labels, &other.conflict_labels)
+        equal_strings(&self.conflict_labels, &other.conflict_labels)
             && (self.change_id == other.change_id && self.description == other.description)
     }
 
@@ -65,13 +65,13 @@ impl Commit {
     }
 }
 
-fn copied_ids(ids: &Vec<CommitId>) -> Result<Vec<CommitId>, AllocError>
+fn clone_ids(ids: &Vec<CommitId>) -> Result<Vec<CommitId>, AllocError>
     ensures { IfOk result (λ copy. copy.items ≡ ids.now.items) }
 {
     ids.clone()
 }
 
-fn copied_sig(sig: &Option<SecureSig>) -> Result<Option<SecureSig>, AllocError>
+fn clone_sig(sig: &Option<SecureSig>) -> Result<Option<SecureSig>, AllocError>
     ensures { IfOk result (λ copy. copy ≡ sig.now) }
 {
     match sig {
@@ -87,15 +87,15 @@ impl Clone for Commit {
     fn clone(&self) -> Result<Self, AllocError> {
         let alloc = *self.description.allocator();
         Ok(Commit {
-            parents: copied_ids(&self.parents)?,
-            predecessors: copied_ids(&self.predecessors)?,
-            root_tree: copied_trees(alloc, &self.root_tree)?,
-            conflict_labels: copied_texts(alloc, &self.conflict_labels)?,
+            parents: clone_ids(&self.parents)?,
+            predecessors: clone_ids(&self.predecessors)?,
+            root_tree: clone_trees(alloc, &self.root_tree)?,
+            conflict_labels: clone_strings(alloc, &self.conflict_labels)?,
             change_id: self.change_id.clone()?,
             description: self.description.clone()?,
             author: self.author.clone()?,
             committer: self.committer.clone()?,
-            secure_sig: copied_sig(&self.secure_sig)?,
+            secure_sig: clone_sig(&self.secure_sig)?,
         })
     }
 }
@@ -116,7 +116,7 @@ impl Eq for Commit {
 }
 
 // The author and committer of the root commit: no name, no email, the Unix epoch.
-fn nobody(alloc: Global) -> Signature
+fn empty_signature(alloc: Global) -> Signature
     ensures { result ≡ no_signature }
 {
     Signature {
@@ -141,8 +141,8 @@ pub fn make_root_commit(alloc: Global, root_change_id: ChangeId, empty_tree_id: 
         conflict_labels: Merge::resolved(alloc, String::new(alloc)),
         change_id: root_change_id,
         description: String::new(alloc),
-        author: nobody(alloc),
-        committer: nobody(alloc),
+        author: empty_signature(alloc),
+        committer: empty_signature(alloc),
         secure_sig: None,
     }
 }

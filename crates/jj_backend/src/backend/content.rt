@@ -8,7 +8,7 @@ ghost use Rattle.jj_backend.specs.TreeLaws.{IsTree, tree_content, tree_lawful};
 ghost use Rattle.jj_backend.specs.TreeValueLaws.{tree_value_lawful};
 ghost use Rattle.jj_backend.specs.TreeValues.{IsTreeValue, tree_value_content};
 
-use super::merged_parts::hash_texts;
+use super::merged_parts::hash_strings;
 use super::{
     Commit, CopyHistory, MillisSinceEpoch, SecureSig, Signature, Timestamp, Tree, TreeValue,
 };
@@ -74,7 +74,7 @@ impl Commit {
         ensures err { OnErr result (TakesFront D.stands_for state.old state.new
             (message_content self.now)) }
     {
-        hash_texts(alloc, state, &self.conflict_labels)?;
+        hash_strings(alloc, state, &self.conflict_labels)?;
         hash_both(alloc, &self.change_id, &self.description, state)
     }
 }

@@ -1,10 +1,10 @@
 //! Descriptions of conflicts for users: one line for each present term.
 ghost use Rattle.std.specs.Prelude.{◌≡◌, ◌++◌, map, OnOk, string_bytes};
 ghost use Rattle.std.specs.Option.{option_copied, option_map};
-ghost use Rattle.jj_backend.specs.MergedTreeValues.{file_kind, with_id, value_text, label_text, newline, line, lines};
+ghost use Rattle.jj_backend.specs.MergedTreeValues.{file_kind, kind_and_id, value_string, label_string, newline, line, lines};
 
 use super::TreeValue;
-use super::merged_tree_value::{AsTreeValue, value_at};
+use super::merged_tree_value::{AsTreeValue, term_value};
 use jj_ids::object_id::{Id, IdKind, ObjectId};
 use jj_merges::merge::EverySecond;
 use std::alloc::{AllocError, Global};
@@ -16,7 +16,7 @@ fn push_id<K: IdKind>(
     id: &Id<K>,
 ) -> Result<(), AllocError>
     ensures { OnOk result (string_bytes text.new ≡ string_bytes text.old
-        ++ with_id kind.now id.now) }
+        ++ kind_and_id kind.now id.now) }
 {
     let hex = id.hex(alloc)?;
     text.push_str(kind)?;
@@ -35,7 +35,7 @@ fn file_kind(executable: bool) -> &'static str
 }
 
 fn push_value(alloc: Global, text: &mut String, value: &TreeValue) -> Result<(), AllocError>
-    ensures { OnOk result (string_bytes text.new ≡ string_bytes text.old ++ value_text value.now) }
+    ensures { OnOk result (string_bytes text.new ≡ string_bytes text.old ++ value_string value.now) }
 {
     match value {
         TreeValue::File { id, executable, .. } => {
@@ -49,7 +49,7 @@ fn push_value(alloc: Global, text: &mut String, value: &TreeValue) -> Result<(),
 
 // Appends a label in parentheses; appends nothing for an empty label.
 fn push_label(text: &mut String, label: &str) -> Result<(), AllocError>
-    ensures { OnOk result (string_bytes text.new ≡ string_bytes text.old ++ label_text label.now) }
+    ensures { OnOk result (string_bytes text.new ≡ string_bytes text.old ++ label_string label.now) }
 {
     if label.is_empty() {
         return Ok(());
@@ -99,7 +99,7 @@ pub(super) fn push_lines<T: AsTreeValue>(
             Some(label) => label.as_str(),
             None => "",
         };
-        push_line(alloc, text, done, value_at(term), label)?;
+        push_line(alloc, text, done, term_value(term), label)?;
     }
     Ok(())
 }

@@ -98,7 +98,7 @@ pub trait Backend {
     ) -> BackendResult<FileId>
         ensures ok { IfOk result (λ id. AddsFile (objects self.old)
             (objects self.new) id contents.now) }
-        ensures kept { OnErr result (objects self.new ≡ objects self.old) };
+        ensures unchanged { OnErr result (objects self.new ≡ objects self.old) };
 
     /// Reads the target of a symbolic link. `ObjectNotFound` means that no link has the id.
     fn read_symlink(
@@ -119,7 +119,7 @@ pub trait Backend {
     ) -> BackendResult<SymlinkId>
         ensures ok { IfOk result (λ id. AddsSymlink (objects self.old)
             (objects self.new) id target.now) }
-        ensures kept { OnErr result (objects self.new ≡ objects self.old) };
+        ensures unchanged { OnErr result (objects self.new ≡ objects self.old) };
 
     /// Reads a copy history. `ObjectNotFound` means that no copy history has the id.
     fn read_copy(&self, alloc: Global, id: &CopyId) -> BackendResult<CopyHistory>
@@ -129,7 +129,7 @@ pub trait Backend {
     fn write_copy(&mut self, alloc: Global, copy: &CopyHistory) -> BackendResult<CopyId>
         ensures ok { IfOk result (λ id. AddsCopy (objects self.old)
             (objects self.new) id copy.now) }
-        ensures kept { OnErr result (objects self.new ≡ objects self.old) };
+        ensures unchanged { OnErr result (objects self.new ≡ objects self.old) };
 
     /// Returns the copy histories that are related to the one with this id.
     fn get_related_copies(
@@ -153,7 +153,7 @@ pub trait Backend {
     ) -> BackendResult<TreeId>
         ensures ok { IfOk result (λ id. AddsTree (objects self.old)
             (objects self.new) id contents.now) }
-        ensures kept { OnErr result (objects self.new ≡ objects self.old) };
+        ensures unchanged { OnErr result (objects self.new ≡ objects self.old) };
 
     /// Reads a commit. `ObjectNotFound` means that no commit has the id.
     fn read_commit(&self, alloc: Global, id: &CommitId) -> BackendResult<Commit>
@@ -167,11 +167,11 @@ pub trait Backend {
         contents: Commit,
         sign_with: Option<&mut S>,
     ) -> BackendResult<(CommitId, Commit)>
-        ensures ok { IfOk result (λ kept. AddsCommit (objects self.old)
-            (objects self.new) kept.0 kept.1) }
-        ensures signed { IfOk result (λ kept.
-            IsSigned S.may_sign (option_map (λ f. f.now) sign_with.entry) contents kept.1) }
-        ensures kept { OnErr result (objects self.new ≡ objects self.old) };
+        ensures ok { IfOk result (λ stored. AddsCommit (objects self.old)
+            (objects self.new) stored.0 stored.1) }
+        ensures signed { IfOk result (λ stored.
+            IsSigned S.may_sign (option_map (λ f. f.now) sign_with.entry) contents stored.1) }
+        ensures unchanged { OnErr result (objects self.new ≡ objects self.old) };
 
     /// Returns the copies detected between two commits, only those of `paths` if it is `Some`.
     fn get_copy_records(

@@ -13,7 +13,7 @@ use serde_json::{Value, json};
 use std::alloc::{AllocError, Global};
 
 // The year has at least four digits.
-fn day_text(alloc: Global, date: &Zoned<'_>) -> Result<String, AllocError> {
+fn date_string(alloc: Global, date: &Zoned<'_>) -> Result<String, AllocError> {
     let year = date.year();
     let sign = if year < 0 { "-" } else { "" };
     let years = year.unsigned_abs();
@@ -48,7 +48,7 @@ impl ToJson for Timestamp {
     fn to_json(&self, alloc: Global) -> Result<Value, ToJsonError> {
         match self.to_datetime() {
             Ok(date) => {
-                let mut text = day_text(alloc, &date)?;
+                let mut text = date_string(alloc, &date)?;
                 push_time(&mut text, &date)?;
                 push_offset(&mut text, &date)?;
                 Ok(Value::String(text))

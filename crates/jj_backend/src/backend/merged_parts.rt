@@ -10,13 +10,13 @@ use jj_ids::object_id::TreeId;
 use jj_merges::merge::Merge;
 use std::alloc::{AllocError, Global};
 
-pub(super) fn are_same_texts(a: &Merge<String>, b: &Merge<String>) -> bool
+pub(super) fn equal_strings(a: &Merge<String>, b: &Merge<String>) -> bool
     ensures { result ≡ pointwise bytes_eq (map string_bytes a.now) (map string_bytes b.now) }
 {
     a == b
 }
 
-pub(super) fn copied_texts(
+pub(super) fn clone_strings(
     alloc: Global,
     texts: &Merge<String>,
 ) -> Result<Merge<String>, AllocError>
@@ -25,7 +25,7 @@ pub(super) fn copied_texts(
     texts.clone(alloc)
 }
 
-pub(super) fn hash_texts<D: DigestUpdate>(
+pub(super) fn hash_strings<D: DigestUpdate>(
     alloc: Global,
     state: &mut D,
     texts: &Merge<String>,
@@ -39,10 +39,7 @@ pub(super) fn hash_texts<D: DigestUpdate>(
     ContentHash::hash(texts, alloc, state)
 }
 
-pub(super) fn copied_trees(
-    alloc: Global,
-    trees: &Merge<TreeId>,
-) -> Result<Merge<TreeId>, AllocError>
+pub(super) fn clone_trees(alloc: Global, trees: &Merge<TreeId>) -> Result<Merge<TreeId>, AllocError>
     ensures { IfOk result (λ copy. copy ≡ trees.now) }
 {
     trees.clone(alloc)

@@ -57,7 +57,7 @@ pub fn borrow_tree_value<'a, T: AsTreeValue>(term: Option<&'a T>) -> Option<&'a 
     }
 }
 
-pub(super) fn value_at<T: AsTreeValue>(term: &Option<T>) -> Option<&TreeValue>
+pub(super) fn term_value<T: AsTreeValue>(term: &Option<T>) -> Option<&TreeValue>
     ensures { option_copied result ≡ option_map T.value_of term.now }
 {
     borrow_tree_value(term.as_ref())
@@ -121,7 +121,7 @@ fn file_with_id(
 }
 
 // Returns `None` if the id is absent: by the precondition, so is the value then.
-fn with_id(
+fn replace_file_id(
     alloc: Global,
     value: Option<&TreeValue>,
     id: &Option<FileId>,
@@ -135,7 +135,7 @@ fn with_id(
     }
 }
 
-fn with_ids<T: AsTreeValue>(
+fn replace_file_ids<T: AsTreeValue>(
     alloc: Global,
     terms: &Merge<Option<T>>,
     file_ids: &Merge<Option<FileId>>,
@@ -148,7 +148,7 @@ fn with_ids<T: AsTreeValue>(
     let ids = file_ids.as_slice();
     let mut files: SmallVec<Option<TreeValue>, 1> = SmallVec::new(alloc);
     for i in 0..values.len() {
-        files.push(with_id(alloc, value_at(&values[i]), &ids[i])?)?;
+        files.push(replace_file_id(alloc, term_value(&values[i]), &ids[i])?)?;
     }
     Ok(Merge::from_vec(files))
 }
@@ -250,7 +250,7 @@ impl<T: AsTreeValue> MergedTreeValueExt for Merge<Option<T>> {
         alloc: Global,
         file_ids: &Merge<Option<FileId>>,
     ) -> Result<MergedTreeValue, AllocError> {
-        with_ids(alloc, self, file_ids)
+        replace_file_ids(alloc, self, file_ids)
     }
 
     fn describe(&self, alloc: Global, labels: &ConflictLabels) -> Result<String, AllocError> {

@@ -25,7 +25,7 @@ pub struct Timestamp {
 pub struct TimestampOutOfRange;
 
 // An offset of a day or more counts as UTC.
-fn seconds_of(minutes: i32) -> i32
+fn clamped_offset_seconds(minutes: i32) -> i32
     ensures value { result ≡ offset_seconds minutes }
     ensures within { IsWithinDay result }
 {
@@ -39,13 +39,13 @@ fn seconds_of(minutes: i32) -> i32
 impl Timestamp {
     /// Returns the timestamp of a point in time, rounded down to milliseconds, with the offset
     /// rounded towards zero to minutes.
-    pub fn now(moment: jiff::Timestamp, offset: Offset) -> Timestamp
-        ensures millis { result.timestamp.0 ≡ int_div_euclid moment.nanosecond
+    pub fn now(instant: jiff::Timestamp, offset: Offset) -> Timestamp
+        ensures millis { result.timestamp.0 ≡ int_div_euclid instant.nanosecond
             nanoseconds_in_millisecond }
         ensures offset { result.tz_offset ≡ int_div offset.seconds seconds_in_minute }
     {
         Timestamp {
-            timestamp: MillisSinceEpoch(moment.as_nanosecond().div_euclid(1_000_000) as i64),
+            timestamp: MillisSinceEpoch(instant.as_nanosecond().div_euclid(1_000_000) as i64),
             tz_offset: offset.seconds() / 60,
         }
     }
@@ -65,17 +65,17 @@ impl Timestamp {
     /// UTC. Fails if the timestamp is outside of the range of dates.
     pub fn to_datetime(&self) -> Result<Zoned<'static>, TimestampOutOfRange>
         ensures succeeds { IsOk result ↔ IsTimestampNanos (nanoseconds self.now.timestamp.0) }
-        ensures moment { IfOk result (λ z. (plain_zoned z).timestamp.nanosecond
+        ensures instant { IfOk result (λ z. (plain_zoned z).timestamp.nanosecond
             ≡ nanoseconds self.now.timestamp.0) }
         ensures offset { IfOk result (λ z. HasOffset z (offset_seconds self.now.tz_offset)) }
     {
         let minutes = self.tz_offset;
-        let offset = match Offset::from_seconds(seconds_of(minutes)) {
+        let offset = match Offset::from_seconds(clamped_offset_seconds(minutes)) {
             Ok(offset) => offset,
             Err(_) => unreachable!(),
         };
         match jiff::Timestamp::from_millisecond(self.timestamp.0) {
-            Ok(moment) => Ok(moment.to_zoned(TimeZone::fixed(offset))),
+            Ok(instant) => Ok(instant.to_zoned(TimeZone::fixed(offset))),
             Err(_) => Err(TimestampOutOfRange),
         }
     }

@@ -151,7 +151,7 @@ impl Tree {
             ≡ value_at self.now (name_of name.entry) }
         ensures name { IfSome result (λ entry. (entry_of entry).0 ≡ name_of name.entry) }
     {
-        match place(self.entries.as_slice(), name) {
+        match find_index(self.entries.as_slice(), name) {
             Some(at) => {
                 let found = &self.entries[at];
                 Some(TreeEntry::new(found.0.as_component(), &found.1))
@@ -164,7 +164,7 @@ impl Tree {
     pub fn value(&self, name: RepoPathComponent<'_>) -> Option<&TreeValue>
         ensures { option_copied result ≡ value_at self.now (name_of name.entry) }
     {
-        match place(self.entries.as_slice(), name) {
+        match find_index(self.entries.as_slice(), name) {
             Some(at) => Some(&self.entries[at].1),
             None => None,
         }
@@ -172,7 +172,7 @@ impl Tree {
 }
 
 // Returns the index of the entry with this name.
-fn place(
+fn find_index(
     entries: &[(RepoPathComponentBuf, TreeValue)],
     name: RepoPathComponent<'_>,
 ) -> Option<usize>

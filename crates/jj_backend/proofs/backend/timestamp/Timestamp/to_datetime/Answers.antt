@@ -5,7 +5,7 @@ use Rattle.jj_backend.proofs.backend.timestamp.Timestamp.to_datetime.Goals as go
 
 pub returns-in-Ok-from_millisecond-clause-offset : goal.returns-in-Ok-from_millisecond-clause-offset
 returns-in-Ok-from_millisecond-clause-offset c =
-    let fits : FitsSigned w32 c.seconds_of.result = omega (arith, ints) in
-    let value : to_z w32 (of_z w32 c.seconds_of.result) ≡ c.seconds_of.result = to_z-of_z w32 c.seconds_of.result fits in
+    let fits : FitsSigned w32 c.clamped_offset_seconds.result = omega (arith, ints) in
+    let value : to_z w32 (of_z w32 c.clamped_offset_seconds.result) ≡ c.clamped_offset_seconds.result = to_z-of_z w32 c.clamped_offset_seconds.result fits in
     let minutes_fit : FitsSigned w32 c.args.self.now.tz_offset = omega (arith, ints) in
-    (c.in-Ok.offset, c.to_zoned.ensures.zone ∙ c.fixed.ensures, c.in-Ok.ensures.value ∙ value ∙ c.seconds_of.ensures.value ∙ ap offset_seconds (to_z-of_z w32 c.args.self.now.tz_offset minutes_fit))
+    (c.in-Ok.offset, c.to_zoned.ensures.zone ∙ c.fixed.ensures, c.in-Ok.ensures.value ∙ value ∙ c.clamped_offset_seconds.ensures.value ∙ ap offset_seconds (to_z-of_z w32 c.args.self.now.tz_offset minutes_fit))

@@ -4,7 +4,7 @@ use Rattle.std.specs.List.{AllZip}
 use Rattle.std.specs.Option.{option_map}
 use Rattle.jj_backend.specs.MergedTreeValues.{CanTakeId}
 use Rattle.jj_backend.proofs.MergedTreeValues.{zip-lengths}
-use Rattle.jj_backend.proofs.backend.merged_tree_value.with_ids.Goals as goal
+use Rattle.jj_backend.proofs.backend.merged_tree_value.replace_file_ids.Goals as goal
 
 pub loop-i-init : goal.loop-i-init
 loop-i-init g c =

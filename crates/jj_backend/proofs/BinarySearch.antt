@@ -53,15 +53,15 @@ value-absent [] name d other = refl
 value-absent (e ∷ es) name d other = rw (other 0 (omega arith)) (value-absent es name d (λ j lt. other (suc j) (omega arith)))
 
 -- the result of a binary search: the index of the name, or an error if no entry has it
-abbrev pub PlaceOf : Entries → Name → Result ℕ ℕ → Type 0
-PlaceOf es q (Ok at) = IsEntryAt es q at
-PlaceOf es q (Err at) = value_at es q ≡ None
+abbrev pub IsSearchResult : Entries → Name → Result ℕ ℕ → Type 0
+IsSearchResult es q (Ok at) = IsEntryAt es q at
+IsSearchResult es q (Err at) = value_at es q ≡ None
 
 any_entry : (es : Entries) (q : Name) → ((d : Name × TreeValue) → value_at es q ≡ None) → value_at es q ≡ None
 any_entry [] q f = refl
 any_entry (e ∷ es) q f = f e
 
-pub placed : (es : Entries) (q : Name) (r : Result ℕ ℕ) → is_sorted name_cmp es ≡ true → IsSearchInRange r (length es) → IsBinarySearchResult (λ e. name_cmp e.0 q) es r → PlaceOf es q r
+pub placed : (es : Entries) (q : Name) (r : Result ℕ ℕ) → is_sorted name_cmp es ≡ true → IsSearchInRange r (length es) → IsBinarySearchResult (λ e. name_cmp e.0 q) es r → IsSearchResult es q r
 placed es q (Ok at) sorted range equal = record {
   in_range = range;
   has_name = λ d. name_cmp-same _ _ (equal d);

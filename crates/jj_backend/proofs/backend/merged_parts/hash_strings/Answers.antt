@@ -4,7 +4,7 @@ use Rattle.jj_content.specs.Content.{text_content, Takes, TakesFront}
 use Rattle.jj_backend.specs.Contents.{IsText}
 use Rattle.std.proofs.lemmas.Result.{on_ok_weaker, on_err_weaker}
 use Rattle.jj_backend.proofs.MergedParts.{list_content-map, are_values-map}
-use Rattle.jj_backend.proofs.backend.merged_parts.hash_texts.Goals as goal
+use Rattle.jj_backend.proofs.backend.merged_parts.hash_strings.Goals as goal
 
 pub returns-clause-ok : goal.returns-clause-ok
 returns-clause-ok g c =

@@ -2,8 +2,8 @@ use Rattle.std.proofs.Common.{rules, Ok, Err}
 use Rattle.std.proofs.lemmas.Fn.{always_returns_same}
 use Rattle.jj_paths.specs.Paths.{name_cmp}
 use Rattle.jj_paths.specs.Names.{name_of}
-use Rattle.jj_backend.proofs.Searched.{placed}
-use Rattle.jj_backend.proofs.backend.tree.place.Goals as goal
+use Rattle.jj_backend.proofs.BinarySearch.{placed}
+use Rattle.jj_backend.proofs.backend.tree.find_index.Goals as goal
 
 pub returns-in-Ok : goal.returns-in-Ok
 returns-in-Ok c =

@@ -2,7 +2,7 @@ use Rattle.std.proofs.Common.{◌∙◌, sym}
 use Rattle.std.specs.Cmp.Derive.Mapped.{pointwise-map}
 use Rattle.std.specs.Prelude.{string_bytes}
 use Rattle.std.specs.Str.{bytes_eq}
-use Rattle.jj_backend.proofs.backend.merged_parts.are_same_texts.Goals as goal
+use Rattle.jj_backend.proofs.backend.merged_parts.equal_strings.Goals as goal
 
 pub returns : goal.returns
 returns c = c.eq.ensures ∙ sym (pointwise-map string_bytes bytes_eq c.args.a.now c.args.b.now)

@@ -2,7 +2,7 @@ use Rattle.std.proofs.Common.{◌≡◌, ◌++◌, map, drop, length}
 use Rattle.std.specs.List.{AllZip}
 use Rattle.std.specs.Option.{option_map}
 use Rattle.jj_backend.specs.MergedTreeValues.{CanTakeId, with_file_ids}
-use Rattle.jj_backend.proofs.backend.merged_tree_value.with_ids.Given as goal
+use Rattle.jj_backend.proofs.backend.merged_tree_value.replace_file_ids.Given as goal
 
 abbrev pub invariant-loop-i : goal.invariant-loop-i
 invariant-loop-i g l =
