@@ -27,18 +27,18 @@ same_content (Tree a) (Tree b) p q h = (refl, bytes_lawful.same a b p q h)
 same_content (GitSubmodule a) (GitSubmodule b) p q h = (refl, bytes_lawful.same a b p q h)
 same_content x y p q h = cc
 
-equal_from_content : (x y : TreeValue) (s t : List ℕ) → IsTreeValue x → IsTreeValue y
+equal_values : (x y : TreeValue) (s t : List ℕ) → IsTreeValue x → IsTreeValue y
     → variant_of x ≡ variant_of y → fields_content x ++ s ≡ fields_content y ++ t
     → ghosts.eq x y ≡ true
-equal_from_content (File a b c) (File d e f) s t p q n h =
+equal_values (File a b c) (File d e f) s t p q n h =
     let file = both_lawful (on_lawful (λ (v : List ℕ × Bool × List ℕ). v.0) bytes_lawful)
     (both_lawful (on_lawful (λ (v : List ℕ × Bool × List ℕ). v.1) bool_lawful)
     (on_lawful (λ (v : List ℕ × Bool × List ℕ). v.2) bytes_lawful)) in
     file.decides (a, b, c) (d, e, f) s t p q h
-equal_from_content (Symlink a) (Symlink b) s t p q n h = bytes_lawful.decides a b s t p q h
-equal_from_content (Tree a) (Tree b) s t p q n h = bytes_lawful.decides a b s t p q h
-equal_from_content (GitSubmodule a) (GitSubmodule b) s t p q n h = bytes_lawful.decides a b s t p q h
-equal_from_content x y s t p q n h = absurd (omega arith)
+equal_values (Symlink a) (Symlink b) s t p q n h = bytes_lawful.decides a b s t p q h
+equal_values (Tree a) (Tree b) s t p q n h = bytes_lawful.decides a b s t p q h
+equal_values (GitSubmodule a) (GitSubmodule b) s t p q n h = bytes_lawful.decides a b s t p q h
+equal_values x y s t p q n h = absurd (omega arith)
 
 pub tree_value_lawful : IsLawful IsTreeValue ghosts.eq tree_value_content
-tree_value_lawful = enum_lawful variant_of fields_content variant_small same_content equal_from_content
+tree_value_lawful = enum_lawful variant_of fields_content variant_small same_content equal_values

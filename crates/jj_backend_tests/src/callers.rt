@@ -12,7 +12,7 @@ use std::alloc::{AllocError, Global};
 use std::cmp::Ordering;
 
 /// Clones a commit; the clone equals the commit.
-pub fn copied(commit: &Commit) -> Result<Commit, AllocError>
+pub fn clone_commit(commit: &Commit) -> Result<Commit, AllocError>
     ensures { IfOk result (λ copy. copy ≡ commit.now) }
 {
     commit.clone()

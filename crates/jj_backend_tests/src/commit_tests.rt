@@ -1,6 +1,6 @@
 //! Tests of the root commit and of clones of commits.
-use crate::callers::{are_equal, copied};
-use crate::records::{BEGINNING, signature, signed_commit};
+use crate::callers::{are_equal, clone_commit};
+use crate::records::{UNIX_EPOCH, signature, signed_commit};
 use jj_backend::backend::{ChangeId, Commit, TreeId, make_root_commit};
 use jj_content_tests::once_more::holds;
 use std::alloc::{AllocError, Global};
@@ -22,7 +22,7 @@ fn has_no_origin(commit: &Commit) -> bool {
 
 // Whether a commit has empty author and committer signatures and no cryptographic signature.
 fn is_unsigned(alloc: Global, commit: &Commit) -> Result<bool, AllocError> {
-    let nobody = signature(alloc, "", "", BEGINNING)?;
+    let nobody = signature(alloc, "", "", UNIX_EPOCH)?;
     Ok(commit.author == nobody && commit.committer == nobody && commit.secure_sig.is_none())
 }
 
@@ -37,7 +37,7 @@ fn the_root_commit_is_empty(rt: HostRuntime) {
 }
 
 fn is_its_copy(commit: &Commit) -> Result<bool, AllocError> {
-    Ok(are_equal(&copied(commit)?, commit))
+    Ok(are_equal(&clone_commit(commit)?, commit))
 }
 
 fn is_root(alloc: Global, commit: &Commit) -> Result<bool, AllocError> {

@@ -17,19 +17,19 @@ fn author(alloc: Global) -> Result<Signature, AllocError> {
 
 #[test]
 fn records_are_their_parts(rt: HostRuntime) {
-    let wanted = "01000000000000006102000000000000006263feffffffffffffffc4ffffff";
-    assert!(rt; tells_of(&rt, author, content_text, wanted));
-    let wanted = "02000000000000000102010000000000000003";
-    assert!(rt; tells_of(&rt, sig, content_text, wanted));
-    let wanted = "00000000000000000100000000000000010000000000000009010000000000000007";
-    assert!(rt; tells_of(&rt, history, content_text, wanted));
+    let expected = "01000000000000006102000000000000006263feffffffffffffffc4ffffff";
+    assert!(rt; tells_of(&rt, author, content_text, expected));
+    let expected = "02000000000000000102010000000000000003";
+    assert!(rt; tells_of(&rt, sig, content_text, expected));
+    let expected = "00000000000000000100000000000000010000000000000009010000000000000007";
+    assert!(rt; tells_of(&rt, history, content_text, expected));
 }
 
 // The number of the variant precedes its fields.
 #[test]
 fn tree_values(rt: HostRuntime) {
-    let wanted = "00000000010000000000000001010000000000000000";
-    assert!(rt; tells_of(&rt, |alloc| file(alloc, 1, true), content_text, wanted));
+    let expected = "00000000010000000000000001010000000000000000";
+    assert!(rt; tells_of(&rt, |alloc| file(alloc, 1, true), content_text, expected));
     assert!(rt; tells_of(&rt, link, content_text, "01000000010000000000000002"));
     assert!(rt; tells_of(&rt, directory, content_text, "02000000010000000000000003"));
     assert!(rt; tells_of(&rt, submodule, content_text, "03000000010000000000000004"));
@@ -39,11 +39,11 @@ fn tree_values(rt: HostRuntime) {
 // author; committer and no signature.
 #[test]
 fn a_commit_is_its_parts(rt: HostRuntime) {
-    let wanted = "010000000000000001000000000000000a010000000000000001000000000000000b\
+    let expected = "010000000000000001000000000000000a010000000000000001000000000000000b\
          010000000000000001000000000000000c0100000000000000000000000000000001000000000000000d\
          0100000000000000640100000000000000610000000000000000000000000000000000000000\
          010000000000000062000000000000000000000000000000000000000000000000";
-    assert!(rt; tells_of(&rt, commit, content_text, wanted));
+    assert!(rt; tells_of(&rt, commit, content_text, expected));
 }
 
 // The cryptographic signature comes last, after the number of its `Option` variant.

@@ -37,19 +37,19 @@ fn copies_are_equal(rt: HostRuntime) {
     assert!(rt; holds(&rt, sig_is_copied));
 }
 
-fn record_is_told_apart(alloc: Global) -> Result<bool, AllocError> {
+fn records_differ(alloc: Global) -> Result<bool, AllocError> {
     let mut other = record(alloc)?;
     other.source_commit = CommitId::from_bytes(alloc, &[4])?;
     Ok(other != record(alloc)?)
 }
 
-fn history_is_told_apart(alloc: Global) -> Result<bool, AllocError> {
+fn histories_differ(alloc: Global) -> Result<bool, AllocError> {
     let mut other = records::history(alloc)?;
     other.salt = [8].to_vec(alloc)?;
     Ok(other > records::history(alloc)?)
 }
 
-fn sig_is_told_apart(alloc: Global) -> Result<bool, AllocError> {
+fn signatures_differ(alloc: Global) -> Result<bool, AllocError> {
     let mut other = records::sig(alloc)?;
     other.sig = [4].to_vec(alloc)?;
     Ok(other != records::sig(alloc)?)
@@ -57,7 +57,7 @@ fn sig_is_told_apart(alloc: Global) -> Result<bool, AllocError> {
 
 #[test]
 fn the_last_part_counts(rt: HostRuntime) {
-    assert!(rt; holds(&rt, record_is_told_apart));
-    assert!(rt; holds(&rt, history_is_told_apart));
-    assert!(rt; holds(&rt, sig_is_told_apart));
+    assert!(rt; holds(&rt, records_differ));
+    assert!(rt; holds(&rt, histories_differ));
+    assert!(rt; holds(&rt, signatures_differ));
 }

@@ -30,7 +30,7 @@ fn dates(rt: HostRuntime) {
 }
 
 #[test]
-fn far_moments_are_refused(rt: HostRuntime) {
+fn out_of_range_dates_fail(rt: HostRuntime) {
     for millis in [i64::MAX, i64::MIN] {
         match time(millis, 0).to_json(rt.alloc()) {
             Err(ToJsonError::TimestampOutOfRange) => {}
@@ -42,8 +42,9 @@ fn far_moments_are_refused(rt: HostRuntime) {
 #[test]
 fn signatures_as_objects(rt: HostRuntime) {
     let author = |alloc| signature(alloc, "a", "b", time(0, 0));
-    let wanted = "{\"email\":\"b\",\"name\":\"a\",\"timestamp\":\"1970-01-01T00:00:00.000+00:00\"}";
-    assert!(rt; tells_of(&rt, author, json_text, wanted));
+    let expected =
+        "{\"email\":\"b\",\"name\":\"a\",\"timestamp\":\"1970-01-01T00:00:00.000+00:00\"}";
+    assert!(rt; tells_of(&rt, author, json_text, expected));
 }
 
 fn has_its_parts(alloc: Global) -> Result<bool, AllocError> {

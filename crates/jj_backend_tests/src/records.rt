@@ -8,7 +8,7 @@ use jj_paths::repo_path::RepoPathBuf;
 use std::alloc::{AllocError, Global};
 
 /// The Unix epoch, in UTC.
-pub const BEGINNING: Timestamp = Timestamp {
+pub const UNIX_EPOCH: Timestamp = Timestamp {
     timestamp: MillisSinceEpoch(0),
     tz_offset: 0,
 };
@@ -83,8 +83,8 @@ pub fn commit(alloc: Global) -> Result<Commit, AllocError> {
         conflict_labels: Merge::resolved(alloc, String::new(alloc)),
         change_id: ChangeId::from_bytes(alloc, &[13])?,
         description: String::from_str(alloc, "d")?,
-        author: signature(alloc, "a", "", BEGINNING)?,
-        committer: signature(alloc, "b", "", BEGINNING)?,
+        author: signature(alloc, "a", "", UNIX_EPOCH)?,
+        committer: signature(alloc, "b", "", UNIX_EPOCH)?,
         secure_sig: None,
     })
 }

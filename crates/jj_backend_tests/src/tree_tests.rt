@@ -23,7 +23,7 @@ fn tree<R: Abort>(rt: &R, alloc: Global) -> Result<Tree, AllocError> {
 }
 
 // The value at a name, by `value` and by `entry`.
-fn found<'a>(
+fn lookups<'a>(
     alloc: Global,
     tree: &'a Tree,
     text: &str,
@@ -39,9 +39,9 @@ fn found<'a>(
 fn names_are_found<R: Abort>(rt: &R, alloc: Global) -> Result<(), AllocError> {
     let tree = tree(rt, alloc)?;
     let directory = directory(alloc)?;
-    assert!(rt; found(alloc, &tree, "b")? == (Some(&directory), Some(&directory)));
+    assert!(rt; lookups(alloc, &tree, "b")? == (Some(&directory), Some(&directory)));
     for text in ["A", "aa", "c"] {
-        assert!(rt; found(alloc, &tree, text)? == (None, None));
+        assert!(rt; lookups(alloc, &tree, text)? == (None, None));
     }
     Ok(())
 }
@@ -53,7 +53,7 @@ fn names_are_looked_up(rt: HostRuntime) -> Result<(), Fail> {
 }
 
 // The names by `names` and by `entries`, each followed by a slash.
-fn listed(alloc: Global, tree: &Tree) -> Result<(String, String), AllocError> {
+fn joined_names(alloc: Global, tree: &Tree) -> Result<(String, String), AllocError> {
     let mut names = String::new(alloc);
     for name in tree.names() {
         names.push_str(name.as_internal_str())?;
@@ -67,9 +67,9 @@ fn listed(alloc: Global, tree: &Tree) -> Result<(String, String), AllocError> {
     Ok((names, entries))
 }
 
-fn names_are_listed<R: Abort>(rt: &R, alloc: Global) -> Result<(), AllocError> {
+fn iterates_names<R: Abort>(rt: &R, alloc: Global) -> Result<(), AllocError> {
     let tree = tree(rt, alloc)?;
-    let (names, entries) = listed(alloc, &tree)?;
+    let (names, entries) = joined_names(alloc, &tree)?;
     assert_eq!(rt; names.as_str(), "a/b/");
     assert_eq!(rt; entries.as_str(), "a/b/");
     assert!(rt; !tree.is_empty() && Tree::default(alloc).is_empty());
@@ -79,7 +79,7 @@ fn names_are_listed<R: Abort>(rt: &R, alloc: Global) -> Result<(), AllocError> {
 
 #[test]
 fn names_in_order(rt: HostRuntime) -> Result<(), Fail> {
-    names_are_listed(&rt, rt.alloc()).or_else(|_| names_are_listed(&rt, rt.alloc()))?;
+    iterates_names(&rt, rt.alloc()).or_else(|_| iterates_names(&rt, rt.alloc()))?;
     Ok(())
 }
 

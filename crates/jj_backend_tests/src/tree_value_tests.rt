@@ -46,17 +46,17 @@ fn labels<R: Abort>(rt: &R, alloc: Global) -> Result<ConflictLabels, AllocError>
     Ok(ConflictLabels::from_vec(SmallVec::from_vec(texts)))
 }
 
-fn told<R: Abort>(rt: &R, alloc: Global) -> Result<String, AllocError> {
+fn describe_conflict<R: Abort>(rt: &R, alloc: Global) -> Result<String, AllocError> {
     conflict(rt, alloc)?.describe(alloc, &labels(rt, alloc)?)
 }
 
-fn told_of_removed<R: Abort>(rt: &R, alloc: Global) -> Result<String, AllocError> {
+fn describe_removed_file<R: Abort>(rt: &R, alloc: Global) -> Result<String, AllocError> {
     let removed = Some(file(alloc, 1, true)?);
     let conflict = merge(rt, alloc, Some(directory(alloc)?), removed, None)?;
     conflict.describe(alloc, &ConflictLabels::unlabeled(alloc))
 }
 
-fn told_of_submodule<R: Abort>(rt: &R, alloc: Global) -> Result<String, AllocError> {
+fn describe_submodule<R: Abort>(rt: &R, alloc: Global) -> Result<String, AllocError> {
     let removed = Some(submodule(alloc)?);
     let conflict = merge(rt, alloc, None, removed, Some(file(alloc, 1, true)?))?;
     conflict.describe(alloc, &labels(rt, alloc)?)
@@ -64,44 +64,44 @@ fn told_of_submodule<R: Abort>(rt: &R, alloc: Global) -> Result<String, AllocErr
 
 // Removes precede adds. The empty label of the base is not printed.
 #[test]
-fn conflicts_in_words(rt: HostRuntime) {
-    let wanted = "Conflict:\n  Adding file with id 01 (left)\n\
+fn descriptions_of_conflicts(rt: HostRuntime) {
+    let expected = "Conflict:\n  Adding file with id 01 (left)\n\
          \x20 Adding symlink with id 02 (right)\n";
-    assert!(rt; tells(&rt, |alloc| told(&rt, alloc), wanted));
-    let wanted = "Conflict:\n  Removing executable file with id 01\n  Adding tree with id 03\n";
-    assert!(rt; tells(&rt, |alloc| told_of_removed(&rt, alloc), wanted));
-    let wanted = "Conflict:\n  Removing Git submodule with id 04\n\
+    assert!(rt; tells(&rt, |alloc| describe_conflict(&rt, alloc), expected));
+    let expected = "Conflict:\n  Removing executable file with id 01\n  Adding tree with id 03\n";
+    assert!(rt; tells(&rt, |alloc| describe_removed_file(&rt, alloc), expected));
+    let expected = "Conflict:\n  Removing Git submodule with id 04\n\
          \x20 Adding executable file with id 01 (right)\n";
-    assert!(rt; tells(&rt, |alloc| told_of_submodule(&rt, alloc), wanted));
+    assert!(rt; tells(&rt, |alloc| describe_submodule(&rt, alloc), expected));
 }
 
-fn kinds(merge: &MergedTreeValue) -> (bool, bool) {
+fn classes(merge: &MergedTreeValue) -> (bool, bool) {
     (merge.is_tree(), merge.is_file_like())
 }
 
-fn kinds_of_conflicts<R: Abort>(rt: &R, alloc: Global) -> Result<bool, AllocError> {
+fn conflicts_are_classified<R: Abort>(rt: &R, alloc: Global) -> Result<bool, AllocError> {
     let tree = Some(directory(alloc)?);
     let trees = merge(rt, alloc, tree, None, Some(directory(alloc)?))?;
     let nothing = merge(rt, alloc, None, None, None)?;
     let other = conflict(rt, alloc)?;
     Ok(
-        kinds(&trees) == (true, false)
-            && kinds(&nothing) == (true, false)
-            && kinds(&other) == (false, true),
+        classes(&trees) == (true, false)
+            && classes(&nothing) == (true, false)
+            && classes(&other) == (false, true),
     )
 }
 
-fn kinds_of_resolved(alloc: Global) -> Result<bool, AllocError> {
+fn resolved_are_classified(alloc: Global) -> Result<bool, AllocError> {
     let file = Merge::normal(alloc, file(alloc, 1, false)?);
     let tree = Merge::resolved(alloc, Some(directory(alloc)?));
-    Ok(kinds(&file) == (false, true) && kinds(&tree) == (true, false))
+    Ok(classes(&file) == (false, true) && classes(&tree) == (true, false))
 }
 
 #[test]
 fn trees_and_files(rt: HostRuntime) {
-    assert!(rt; holds(&rt, kinds_of_resolved));
-    assert!(rt; holds(&rt, |alloc| kinds_of_conflicts(&rt, alloc)));
-    assert!(rt; kinds(&MergedTreeValue::absent(rt.alloc())) == (false, false));
+    assert!(rt; holds(&rt, resolved_are_classified));
+    assert!(rt; holds(&rt, |alloc| conflicts_are_classified(&rt, alloc)));
+    assert!(rt; classes(&MergedTreeValue::absent(rt.alloc())) == (false, false));
 }
 
 fn ids_of_files<R: Abort>(rt: &R, alloc: Global) -> Result<bool, AllocError> {
@@ -116,7 +116,7 @@ fn ids_of_files<R: Abort>(rt: &R, alloc: Global) -> Result<bool, AllocError> {
 }
 
 #[test]
-fn ids_place_by_place(rt: HostRuntime) {
+fn file_ids_by_index(rt: HostRuntime) {
     assert!(rt; holds(&rt, |alloc| ids_of_files(&rt, alloc)));
 }
 
@@ -137,7 +137,7 @@ fn flags_and_copies<R: Abort>(rt: &R, alloc: Global) -> Result<bool, AllocError>
 }
 
 #[test]
-fn flags_and_copies_place_by_place(rt: HostRuntime) {
+fn flags_and_copies_by_index(rt: HostRuntime) {
     assert!(rt; holds(&rt, |alloc| flags_and_copies(&rt, alloc)));
 }
 

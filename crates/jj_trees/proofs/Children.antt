@@ -7,7 +7,8 @@ use Rattle.jj_paths.specs.Paths.{Name}
 use Rattle.jj_backend.specs.Objects.{ById}
 use Rattle.jj_backend.specs.declared.backend.tree_value.TreeValue.{TreeValue}
 use Rattle.jj_backend.specs.declared.backend.tree_value.TreeValue.TheVariants.{File, Symlink, Tree, GitSubmodule}
-use Rattle.jj_trees.specs.TreeMerges.{child, entries_of}
+use Rattle.jj_trees.specs.TreeMerges.{child}
+use Rattle.jj_trees.specs.DirectoryMerges.{entries_of}
 
 module _ (trees : ById (List (Name × TreeValue))) (name : Name) where
   among : (o : Option (List (Name × TreeValue))) → lookup (bytes_eq name) (unwrap_or o []) ≡ option_and_then (λ entries. lookup (bytes_eq name) entries) o

@@ -8,7 +8,7 @@ use Rattle.std.specs.declared.cmp.Ordering.TheVariants.{Less}
 use Rattle.std.proofs.lemmas.List.Elements.{All-append, All-map, All-contains, Contains-get_or, Contains-append_left, Contains-append_right, Contains-append_cases, Contains-push, Contains-push_cases}
 use Rattle.std.proofs.lemmas.List.Kept.{AllPairs-cons}
 use Rattle.jj_paths.specs.Paths.{Name, Path, name_cmp, path_cmp}
-use Rattle.jj_trees.specs.TreeMerges.{IsListOf}
+use Rattle.jj_trees.specs.DirectoryMerges.{IsListOf}
 
 module _ {X : Type 0} where
   Contains-later : (x y : X) (xs : List X) → Contains xs y → Contains (x ∷ xs) y

@@ -6,5 +6,5 @@ pub mod PassedNames
 pub mod Rounds
 pub mod Conflicting
 pub mod Roots
-mod KeptLemmas
+mod MemoryObjectLemmas
 mod SameRecords

@@ -10,7 +10,7 @@ use Rattle.jj_backend.specs.Errors.{is_not_found}
 use Rattle.jj_backend.specs.Objects.{ById, put, IsFree}
 use Rattle.jj_backend.specs.declared.backend.errors.BackendError.{BackendError}
 use Rattle.jj_backend.specs.declared.backend.errors.BackendError.TheVariants.{Memory}
-use Rattle.jj_trees.specs.Kept.{Kept, by_id}
+use Rattle.jj_trees.specs.MemoryObjects.{ObjectEntries, by_id}
 
 module _ {V : Type 0} where
   -- by_id is the map's look-up
@@ -27,9 +27,9 @@ module _ {V : Type 0} where
           by_id-get n q ∙ u.0 q ∙ ap (λ (b : Bool). cond b (Some v) (get_by (slice_cmp nat_cmp q) m)) (sym (texts_ties id q))
           ∙ ap (λ o. cond (bytes_eq id q) (Some v) o) (sym (by_id-get m q))
 
-  pub by_id-one : (kept : Kept V) (id : List ℕ) (v : V) → kept ≡ (id, v) ∷ [] → by_id kept id ≡ Some v
+  pub by_id-one : (entries : ObjectEntries V) (id : List ℕ) (v : V) → entries ≡ (id, v) ∷ [] → by_id entries id ≡ Some v
   unfolding by_id
-  by_id-one kept id v e = ap (lookup (bytes_eq id)) e ∙ ap (λ (b : Bool). cond b (Some v) None) ((bytes_decides id id).1 refl)
+  by_id-one entries id v e = ap (lookup (bytes_eq id)) e ∙ ap (λ (b : Bool). cond b (Some v) None) ((bytes_decides id id).1 refl)
 
   put_there : (m : ById V) (id : List ℕ) (v : V) (b : Bool) (q : List ℕ) → bytes_eq id q ≡ b → m id ≡ Some v → cond b (Some v) (m q) ≡ m q
   put_there m id v true q t h = sym h ∙ ap m (same_text id q (sym t))
@@ -40,8 +40,8 @@ module _ {V : Type 0} where
   put-same m id v h = λ i q. sym (put_there m id v (bytes_eq id q) q refl h) i
 
   -- storing an object under a free id preserves the other objects
-  pub put-kept : (m : ById V) (id : List ℕ) (v : V) (q : List ℕ) (w : V) → IsFree m id v → m q ≡ Some w → put m id v q ≡ Some w
-  put-kept m id v q w free there = by (bytes_eq id q) refl
+  pub put-preserves : (m : ById V) (id : List ℕ) (v : V) (q : List ℕ) (w : V) → IsFree m id v → m q ≡ Some w → put m id v q ≡ Some w
+  put-preserves m id v q w free there = by (bytes_eq id q) refl
     where
       some_same : (o : Option V) → o ≡ Some w → (o ≡ None) ⊎ (o ≡ Some v) → Some v ≡ Some w
       some_same o is (inl none) = cc

@@ -20,7 +20,8 @@ use Rattle.jj_backend.specs.declared.backend.tree_value.TreeValue.TheVariants.{F
 use Rattle.std.specs.Cmp.Lexicographic.{bytes_decides}
 use Rattle.jj_backend.specs.declared.backend.errors.BackendError.{BackendError}
 use Rattle.jj_backend.specs.declared.backend.errors.BackendError.TheVariants.{Memory}
-use Rattle.jj_trees.specs.TreeMerges.{Values, Conflict, IsListOf, IsEntered, IsConflictOf, IsHere, child, values_at, IsOpen, HasOutcomeFrom, IsResolved, IsConflict, IsAppended, IsWithin, IsRefused}
+use Rattle.jj_trees.specs.TreeMerges.{Values, MustRecurse, child, values_at, IsOpen}
+use Rattle.jj_trees.specs.DirectoryMerges.{Conflict, IsListOf, IsConflictOf, AppendsOutcome, HasOutcomeFrom, IsResolvedBelow, IsConflictBelow, IsAppended, IsWithin, IsDirectoryError}
 use Rattle.jj_trees.proofs.Joining.{under, below, same_list, Below, none, joined}
 
 module _ {E : Type 0} where
@@ -71,28 +72,28 @@ module _ (eq : Option TreeValue → Option TreeValue → Bool) (same : (v w : Op
     ConflictFrom values p c = HasOutcomeFrom trees eq same_change values p × IsConflictOf eq same_change (values_at trees values p) labels c
 
     -- values that resolve have one entry, at the empty path
-    pub resolved_here : (values : Values) (v : TreeValue) → (IsEntered eq same_change values → ⊥) → ResolvesTo eq same_change values (Some v) → IsListOf (ResolvedFrom values) (([], v) ∷ [])
+    pub resolved_here : (values : Values) (v : TreeValue) → (MustRecurse eq same_change values → ⊥) → ResolvesTo eq same_change values (Some v) → IsListOf (ResolvedFrom values) (([], v) ∷ [])
     resolved_here values v not_entered decided = one_list (ResolvedFrom values) v (not_entered, decided) only
       where
         only : (p : Path) (f : TreeValue) → ResolvedFrom values p f → (p ≡ []) × (f ≡ v)
         only [] f h = (refl, ap (λ o. unwrap_or o v) (decided_same same_change values (Some f) (Some v) h.1 decided))
         only (n ∷ p) f h = absurd (not_entered h.0.0)
 
-    pub no_conflict_here : (values : Values) (v : Option TreeValue) → (IsEntered eq same_change values → ⊥) → ResolvesTo eq same_change values v → IsListOf (ConflictFrom values) []
+    pub no_conflict_here : (values : Values) (v : Option TreeValue) → (MustRecurse eq same_change values → ⊥) → ResolvesTo eq same_change values v → IsListOf (ConflictFrom values) []
     no_conflict_here values v not_entered decided = no_list (ConflictFrom values) never
       where
         never : (p : Path) (f : Conflict) → ConflictFrom values p f → ⊥
         never [] f h = h.1.0 v decided
         never (n ∷ p) f h = not_entered h.0.0
 
-    pub nothing_here : (values : Values) → (IsEntered eq same_change values → ⊥) → ((v : TreeValue) → ResolvesTo eq same_change values (Some v) → ⊥) → IsListOf (ResolvedFrom values) []
+    pub nothing_here : (values : Values) → (MustRecurse eq same_change values → ⊥) → ((v : TreeValue) → ResolvesTo eq same_change values (Some v) → ⊥) → IsListOf (ResolvedFrom values) []
     nothing_here values not_entered undecided = no_list (ResolvedFrom values) never
       where
         never : (p : Path) (f : TreeValue) → ResolvedFrom values p f → ⊥
         never [] f h = undecided f h.1
         never (n ∷ p) f h = not_entered h.0.0
 
-    pub conflict_here : (values : Values) (c : Conflict) → (IsEntered eq same_change values → ⊥) → IsConflictOf eq same_change values labels c → IsListOf (ConflictFrom values) (([], c) ∷ [])
+    pub conflict_here : (values : Values) (c : Conflict) → (MustRecurse eq same_change values → ⊥) → IsConflictOf eq same_change values labels c → IsListOf (ConflictFrom values) (([], c) ∷ [])
     conflict_here values c not_entered conflict = one_list (ConflictFrom values) c (not_entered, conflict) only
       where
         only : (p : Path) (f : Conflict) → ConflictFrom values p f → (p ≡ []) × (f ≡ c)
@@ -100,17 +101,17 @@ module _ (eq : Option TreeValue → Option TreeValue → Bool) (same : (v w : Op
         only (n ∷ p) f h = absurd (not_entered h.0.0)
 
     -- the entries of values that are merged entry by entry are those below them
-    pub resolved_entered : (values : Values) (xs : List (Path × TreeValue)) → IsEntered eq same_change values → IsListOf (IsResolved trees eq same_change values) xs → IsListOf (ResolvedFrom values) xs
-    resolved_entered values xs entered = same_list (IsResolved trees eq same_change values) (ResolvedFrom values) xs both
+    pub resolved_entered : (values : Values) (xs : List (Path × TreeValue)) → MustRecurse eq same_change values → IsListOf (IsResolvedBelow trees eq same_change values) xs → IsListOf (ResolvedFrom values) xs
+    resolved_entered values xs entered = same_list (IsResolvedBelow trees eq same_change values) (ResolvedFrom values) xs both
       where
-        both : (p : Path) (v : TreeValue) → IsResolved trees eq same_change values p v ↔ ResolvedFrom values p v
+        both : (p : Path) (v : TreeValue) → IsResolvedBelow trees eq same_change values p v ↔ ResolvedFrom values p v
         both [] v = (λ h. absurd h.0, λ h. absurd (h.0 entered))
         both (n ∷ p) v = (λ h. ((entered, h.0), h.1), λ h. (h.0.1, h.1))
 
-    pub conflict_entered : (values : Values) (xs : List (Path × Conflict)) → IsEntered eq same_change values → IsListOf (IsConflict trees eq same_change values labels) xs → IsListOf (ConflictFrom values) xs
-    conflict_entered values xs entered = same_list (IsConflict trees eq same_change values labels) (ConflictFrom values) xs both
+    pub conflict_entered : (values : Values) (xs : List (Path × Conflict)) → MustRecurse eq same_change values → IsListOf (IsConflictBelow trees eq same_change values labels) xs → IsListOf (ConflictFrom values) xs
+    conflict_entered values xs entered = same_list (IsConflictBelow trees eq same_change values labels) (ConflictFrom values) xs both
       where
-        both : (p : Path) (v : Conflict) → IsConflict trees eq same_change values labels p v ↔ ConflictFrom values p v
+        both : (p : Path) (v : Conflict) → IsConflictBelow trees eq same_change values labels p v ↔ ConflictFrom values p v
         both [] v = (λ h. absurd h.0, λ h. absurd (h.0 entered))
         both (n ∷ p) v = (λ h. ((entered, h.0), h.1), λ h. (h.0.1, h.1))
 
@@ -122,7 +123,7 @@ module _ (eq : Option TreeValue → Option TreeValue → Bool) (same : (v w : Op
       pub conflicted : IsListOf (Below (λ name. ConflictFrom (map (child trees name) values)) names) conflicts
       pub resolved_added : new_resolved ≡ old_resolved ++ map (under dir) resolved
       pub conflicts_added : new_conflicts ≡ old_conflicts ++ map (under dir) conflicts
-      pub within : (name : Name) → Contains names name → IsEntered eq same_change (map (child trees name) values) → IsWithin trees eq same_change is_read fails (dir ++ name ∷ []) (map (child trees name) values) levels
+      pub within : (name : Name) → Contains names name → MustRecurse eq same_change (map (child trees name) values) → IsWithin trees eq same_change is_read fails (dir ++ name ∷ []) (map (child trees name) values) levels
 
     module _ (levels : ℕ) (values : Values) (dir : Path) where
       pub passed_none : (rs : List (Path × TreeValue)) (cs : List (Path × Conflict)) → Passed levels values dir [] rs rs cs cs
@@ -141,7 +142,7 @@ module _ (eq : Option TreeValue → Option TreeValue → Bool) (same : (v w : Op
         pub step : (ys : List (Path × TreeValue)) (zs : List (Path × Conflict))
             → IsListOf (ResolvedFrom (map (child trees name) values)) ys → IsListOf (ConflictFrom (map (child trees name) values)) zs
             → last_r ≡ new_r ++ map (under (dir ++ name ∷ [])) ys → last_c ≡ new_c ++ map (under (dir ++ name ∷ [])) zs
-            → (IsEntered eq same_change (map (child trees name) values) → IsWithin trees eq same_change is_read fails (dir ++ name ∷ []) (map (child trees name) values) levels)
+            → (MustRecurse eq same_change (map (child trees name) values) → IsWithin trees eq same_change is_read fails (dir ++ name ∷ []) (map (child trees name) values) levels)
             → Passed levels values dir (names ++ name ∷ []) old_r last_r old_c last_c
         step ys zs r c r_added c_added inside = record {
           resolved = passed.resolved ++ map (below name) ys;
@@ -153,11 +154,11 @@ module _ (eq : Option TreeValue → Option TreeValue → Bool) (same : (v w : Op
           within = λ n h. either n (Contains-push_cases names name n h);
         }
           where
-            either : (n : Name) → Contains names n ⊎ (name ≡ n) → IsEntered eq same_change (map (child trees n) values) → IsWithin trees eq same_change is_read fails (dir ++ n ∷ []) (map (child trees n) values) levels
+            either : (n : Name) → Contains names n ⊎ (name ≡ n) → MustRecurse eq same_change (map (child trees n) values) → IsWithin trees eq same_change is_read fails (dir ++ n ∷ []) (map (child trees n) values) levels
             either n (inl a) = passed.within n a
-            either n (inr is) = subst (λ m. IsEntered eq same_change (map (child trees m) values) → IsWithin trees eq same_change is_read fails (dir ++ m ∷ []) (map (child trees m) values) levels) is inside
+            either n (inr is) = subst (λ m. MustRecurse eq same_change (map (child trees m) values) → IsWithin trees eq same_change is_read fails (dir ++ m ∷ []) (map (child trees m) values) levels) is inside
 
-        pub step_entered : IsEntered eq same_change (map (child trees name) values)
+        pub step_entered : MustRecurse eq same_change (map (child trees name) values)
             → IsAppended trees eq same_change (map (child trees name) values) labels (dir ++ name ∷ []) new_r last_r new_c last_c
             → IsWithin trees eq same_change is_read fails (dir ++ name ∷ []) (map (child trees name) values) levels
             → Passed levels values dir (names ++ name ∷ []) old_r last_r old_c last_c
@@ -171,7 +172,7 @@ module _ (eq : Option TreeValue → Option TreeValue → Bool) (same : (v w : Op
         none_under : {E : Type 0} (news lasts : List (Path × E)) → lasts ≡ news → lasts ≡ news ++ []
         none_under news lasts h = h ∙ sym (append-nil news)
 
-        pub step_here : IsHere eq same_change (map (child trees name) values) labels (dir ++ name ∷ []) new_r last_r new_c last_c
+        pub step_here : AppendsOutcome eq same_change (map (child trees name) values) labels (dir ++ name ∷ []) new_r last_r new_c last_c
             → Passed levels values dir (names ++ name ∷ []) old_r last_r old_c last_c
         step_here h = by h.1
           where
@@ -194,8 +195,8 @@ module _ (eq : Option TreeValue → Option TreeValue → Bool) (same : (v w : Op
           resolved = passed.resolved;
           conflicts = passed.conflicts;
           merge = record {
-            resolves = same_list (Below (λ n. ResolvedFrom (map (child trees n) values)) names) (IsResolved trees eq same_change values) passed.resolved both_r passed.resolves;
-            conflicted = same_list (Below (λ n. ConflictFrom (map (child trees n) values)) names) (IsConflict trees eq same_change values labels) passed.conflicts both_c passed.conflicted;
+            resolves = same_list (Below (λ n. ResolvedFrom (map (child trees n) values)) names) (IsResolvedBelow trees eq same_change values) passed.resolved both_r passed.resolves;
+            conflicted = same_list (Below (λ n. ConflictFrom (map (child trees n) values)) names) (IsConflictBelow trees eq same_change values labels) passed.conflicts both_c passed.conflicted;
           };
           resolved_added = passed.resolved_added;
           conflicts_added = passed.conflicts_added;
@@ -216,18 +217,18 @@ module _ (eq : Option TreeValue → Option TreeValue → Bool) (same : (v w : Op
                 by (inl c) = c
                 by (inr d) = absurd (not d x)
 
-            both_r : (p : Path) (v : TreeValue) → Below (λ n. ResolvedFrom (map (child trees n) values)) names p v ↔ IsResolved trees eq same_change values p v
+            both_r : (p : Path) (v : TreeValue) → Below (λ n. ResolvedFrom (map (child trees n) values)) names p v ↔ IsResolvedBelow trees eq same_change values p v
             both_r [] v = (λ h. absurd h, λ h. absurd h.0)
             both_r (n ∷ p) v = (λ h. h.1, λ h. (passed_one n (ResolvedFrom (map (child trees n) values) p v) (not_r n p v) h, h))
 
-            both_c : (p : Path) (c : Conflict) → Below (λ n. ConflictFrom (map (child trees n) values)) names p c ↔ IsConflict trees eq same_change values labels p c
+            both_c : (p : Path) (c : Conflict) → Below (λ n. ConflictFrom (map (child trees n) values)) names p c ↔ IsConflictBelow trees eq same_change values labels p c
             both_c [] c = (λ h. absurd h, λ h. absurd h.0)
             both_c (n ∷ p) c = (λ h. h.1, λ h. (passed_one n (ConflictFrom (map (child trees n) values) p c) (not_c n p c) h, h))
 
         pub all_within : All (is_read dir) values → (upto : ℕ) → upto ≡ levels + 1 → IsWithin trees eq same_change is_read fails dir values upto
         all_within here upto is = record { read = read; not_deeper = not_deeper }
           where
-            inside : (n : Name) → IsEntered eq same_change (map (child trees n) values) → IsWithin trees eq same_change is_read fails (dir ++ n ∷ []) (map (child trees n) values) levels
+            inside : (n : Name) → MustRecurse eq same_change (map (child trees n) values) → IsWithin trees eq same_change is_read fails (dir ++ n ∷ []) (map (child trees n) values) levels
             inside n e = by (every n)
               where
                 by : Contains names n ⊎ ResolvesTo eq same_change (map (child trees n) values) None → IsWithin trees eq same_change is_read fails (dir ++ n ∷ []) (map (child trees n) values) levels
@@ -244,20 +245,20 @@ module _ (eq : Option TreeValue → Option TreeValue → Bool) (same : (v w : Op
             not_deeper (n ∷ p) o = let lt = (inside n o.0).not_deeper p o.1 in omega arith
 
       -- an error of reading the directory is an error of merging it
-      pub refused_here : (upto : ℕ) (e : BackendError) → (e ≡ Memory) ⊎ Any (fails dir e) values → IsRefused trees eq same_change is_read fails dir values upto e
-      refused_here upto e (inl m) = inl m
-      refused_here upto e (inr f) = inr (inl ([], tt, subst (λ d. Any (fails d e) values) (sym (append-nil dir)) f))
+      pub error_here : (upto : ℕ) (e : BackendError) → (e ≡ Memory) ⊎ Any (fails dir e) values → IsDirectoryError trees eq same_change is_read fails dir values upto e
+      error_here upto e (inl m) = inl m
+      error_here upto e (inr f) = inr (inl ([], tt, subst (λ d. Any (fails d e) values) (sym (append-nil dir)) f))
 
       -- an error of merging a subdirectory is an error of merging the directory
-      pub refused_below : (name : Name) (upto : ℕ) (e : BackendError) → upto ≡ levels + 1 → IsEntered eq same_change (map (child trees name) values)
-          → IsRefused trees eq same_change is_read fails (dir ++ name ∷ []) (map (child trees name) values) levels e → IsRefused trees eq same_change is_read fails dir values upto e
-      refused_below name upto e is entered (inl m) = inl m
-      refused_below name upto e is entered (inr (inl t)) = inr (inl (
+      pub error_below : (name : Name) (upto : ℕ) (e : BackendError) → upto ≡ levels + 1 → MustRecurse eq same_change (map (child trees name) values)
+          → IsDirectoryError trees eq same_change is_read fails (dir ++ name ∷ []) (map (child trees name) values) levels e → IsDirectoryError trees eq same_change is_read fails dir values upto e
+      error_below name upto e is entered (inl m) = inl m
+      error_below name upto e is entered (inr (inl t)) = inr (inl (
         name ∷ t.0,
         (entered, t.1),
         subst (λ d. Any (fails d e) (values_at trees (map (child trees name) values) t.0)) (append_assoc dir (name ∷ []) t.0) t.2,
       ))
-      refused_below name upto e is entered (inr (inr t)) = inr (inr (t.0, (name ∷ t.1.0, (entered, t.1.1), (let l = t.1.2 in omega arith))))
+      error_below name upto e is entered (inr (inr t)) = inr (inr (t.0, (name ∷ t.1.0, (entered, t.1.1), (let l = t.1.2 in omega arith))))
 
 -- equal tree values are identical
 pub same_value : (v w : TreeValue) → tree_values.eq-value.it v w ≡ true → v ≡ w

@@ -18,7 +18,7 @@ use Rattle.std.proofs.lemmas.List.Quantifiers.{Any-push, all_pairs_push}
 use Rattle.jj_paths.specs.Paths.{Name, name_cmp}
 use Rattle.jj_backend.specs.declared.backend.tree_value.TreeValue.{TreeValue}
 use Rattle.jj_trees.specs.Rows.{at_name, AreRows}
-use Rattle.jj_trees.specs.Fronts.{first_name, first_at, without_first, lesser_name, IsLeastName}
+use Rattle.jj_trees.specs.FirstNames.{first_name, first_value, without_first, min_name, IsMinName}
 
 less_from : (r : Ordering) → is_lt r ≡ true → r ≡ Less
 less_from Less e = refl
@@ -52,11 +52,11 @@ abbrev Entries : Type 0
 Entries = List (Name × TreeValue)
 
 -- the name is at most the first one; an absent name is greater than all others
-abbrev IsFront : Name → Option Name → Type 0
-IsFront name front = lesser_name (Some name) front ≡ Some name
+abbrev IsAtMostFirst : Name → Option Name → Type 0
+IsAtMostFirst name remaining = min_name (Some name) remaining ≡ Some name
 
-not_before : (name other : Name) → IsFront name (Some other) → bytes_eq name other ≡ false → is_lt (name_cmp other name) ≡ false
-not_before name other front differs = by (is_lt (name_cmp other name)) refl
+not_before : (name other : Name) → IsAtMostFirst name (Some other) → bytes_eq name other ≡ false → is_lt (name_cmp other name) ≡ false
+not_before name other remaining differs = by (is_lt (name_cmp other name)) refl
   where
     some_same : (a b : Name) → Some a ≡ Some b → a ≡ b
     some_same a b e = cc
@@ -64,7 +64,7 @@ not_before name other front differs = by (is_lt (name_cmp other name)) refl
     by : (t : Bool) → is_lt (name_cmp other name) ≡ t → t ≡ false
     by false e = refl
     by true e =
-        let same : Some other ≡ Some name = sym (ap (λ t. cond t (Some other) (Some name)) e) ∙ front in
+        let same : Some other ≡ Some name = sym (ap (λ t. cond t (Some other) (Some name)) e) ∙ remaining in
         absurd (true≢false (sym ((bytes_decides name other).1 (sym (some_same other name same))) ∙ differs))
 
 below_later : (a b : Name) (es : Entries) → name_cmp a b ≡ Less → below_all name_cmp b es ≡ true → below_all name_cmp a es ≡ true
@@ -84,20 +84,20 @@ absent_below name (e ∷ es) h =
 
 module _ (name : Name) where
   -- a name that is at most the first one is looked up in the first entry
-  value_first : (es : Entries) → is_sorted name_cmp es ≡ true → IsFront name (first_name es) → lookup (bytes_eq name) es ≡ first_at name es
-  value_first [] sorted front = refl
-  value_first (e ∷ es) sorted front = by (bytes_eq name e.0) refl
+  value_first : (es : Entries) → is_sorted name_cmp es ≡ true → IsAtMostFirst name (first_name es) → lookup (bytes_eq name) es ≡ first_value name es
+  value_first [] sorted remaining = refl
+  value_first (e ∷ es) sorted remaining = by (bytes_eq name e.0) refl
     where
       by : (t : Bool) → bytes_eq name e.0 ≡ t → cond t (Some e.1) (lookup (bytes_eq name) es) ≡ cond t (Some e.1) None
       by true h = refl
       by false h =
-          absent_below name es (below_later name e.0 es (after_from name e.0 h (not_before name e.0 front h))
+          absent_below name es (below_later name e.0 es (after_from name e.0 h (not_before name e.0 remaining h))
           (and_parts (below_all name_cmp e.0 es) (is_sorted name_cmp es) sorted).0)
 
   -- the remaining names are greater
-  below_left : (es : Entries) → is_sorted name_cmp es ≡ true → IsFront name (first_name es) → below_all name_cmp name (without_first name es) ≡ true
-  below_left [] sorted front = refl
-  below_left (e ∷ es) sorted front = by (bytes_eq name e.0) refl
+  below_left : (es : Entries) → is_sorted name_cmp es ≡ true → IsAtMostFirst name (first_name es) → below_all name_cmp name (without_first name es) ≡ true
+  below_left [] sorted remaining = refl
+  below_left (e ∷ es) sorted remaining = by (bytes_eq name e.0) refl
     where
       parts : (below_all name_cmp e.0 es ≡ true) × (is_sorted name_cmp es ≡ true)
       parts = and_parts (below_all name_cmp e.0 es) (is_sorted name_cmp es) sorted
@@ -105,7 +105,7 @@ module _ (name : Name) where
       by : (t : Bool) → bytes_eq name e.0 ≡ t → below_all name_cmp name (cond t es (e ∷ es)) ≡ true
       by true h = subst (λ n. below_all name_cmp n es ≡ true) (sym ((bytes_decides name e.0).0 h)) parts.0
       by false h =
-          let less = after_from name e.0 h (not_before name e.0 front h) in
+          let less = after_from name e.0 h (not_before name e.0 remaining h) in
           and_from (is_lt (name_cmp name e.0)) (below_all name_cmp name es) (ap is_lt less) (below_later name e.0 es less parts.0)
 
   sorted_left : (es : Entries) → is_sorted name_cmp es ≡ true → is_sorted name_cmp (without_first name es) ≡ true
@@ -163,8 +163,8 @@ IsSorted es = is_sorted name_cmp es ≡ true
 abbrev IsBelow : Name → Entries → Type 0
 IsBelow name es = below_all name_cmp name es ≡ true
 
-abbrev HasFront : Name → Entries → Type 0
-HasFront name es = IsFront name (first_name es)
+abbrev IsAtMostEach : Name → Entries → Type 0
+IsAtMostEach name es = IsAtMostFirst name (first_name es)
 
 -- the number of remaining entries, which each step lowers
 abbrev pub entries_count : List Entries → ℕ
@@ -172,13 +172,13 @@ entries_count [] = 0
 entries_count (es ∷ left) = length es + entries_count left
 
 module _ (name : Name) where
-  values_first : (left : List Entries) → Each IsSorted left → Each (HasFront name) left → at_name left name ≡ map (first_at name) left
-  values_first [] sorted front = refl
-  values_first (es ∷ left) sorted front = λ i. value_first name es sorted.0 front.0 i ∷ values_first left sorted.1 front.1 i
+  values_first : (left : List Entries) → Each IsSorted left → Each (IsAtMostEach name) left → at_name left name ≡ map (first_value name) left
+  values_first [] sorted remaining = refl
+  values_first (es ∷ left) sorted remaining = λ i. value_first name es sorted.0 remaining.0 i ∷ values_first left sorted.1 remaining.1 i
 
-  each_below : (left : List Entries) → Each IsSorted left → Each (HasFront name) left → Each (IsBelow name) (map (without_first name) left)
-  each_below [] sorted front = tt
-  each_below (es ∷ left) sorted front = (below_left name es sorted.0 front.0, each_below left sorted.1 front.1)
+  each_below : (left : List Entries) → Each IsSorted left → Each (IsAtMostEach name) left → Each (IsBelow name) (map (without_first name) left)
+  each_below [] sorted remaining = tt
+  each_below (es ∷ left) sorted remaining = (below_left name es sorted.0 remaining.0, each_below left sorted.1 remaining.1)
 
   each_sorted : (left : List Entries) → Each IsSorted left → Each IsSorted (map (without_first name) left)
   each_sorted [] sorted = tt
@@ -192,29 +192,29 @@ module _ (name : Name) where
   values_left other [] differs = refl
   values_left other (es ∷ left) differs = λ i. value_left name other es differs i ∷ values_left other left differs i
 
-  each_front : (left : List Entries) → All (IsFront name) (map first_name left) → Each (HasFront name) left
+  each_front : (left : List Entries) → All (IsAtMostFirst name) (map first_name left) → Each (IsAtMostEach name) left
   each_front [] h = tt
   each_front (es ∷ left) h =
-      (All-head (IsFront name) (first_name es) (map first_name left) h, each_front left (All-tail (IsFront name) (first_name es) (map first_name left) h))
+      (All-head (IsAtMostFirst name) (first_name es) (map first_name left) h, each_front left (All-tail (IsAtMostFirst name) (first_name es) (map first_name left) h))
 
   -- the name is the first remaining one of a tree
-  abbrev IsInFront : List Entries → Type 0
-  IsInFront [] = ⊥
-  IsInFront (es ∷ left) = (first_name es ≡ Some name) ⊎ IsInFront left
+  abbrev IsSomeFirst : List Entries → Type 0
+  IsSomeFirst [] = ⊥
+  IsSomeFirst (es ∷ left) = (first_name es ≡ Some name) ⊎ IsSomeFirst left
 
-  in_front_at : (left : List Entries) (k : ℕ) (d : Option Name) → k < length (map first_name left) → get_or (map first_name left) k d ≡ Some name → IsInFront left
+  in_front_at : (left : List Entries) (k : ℕ) (d : Option Name) → k < length (map first_name left) → get_or (map first_name left) k d ≡ Some name → IsSomeFirst left
   in_front_at [] k d lt is = absurd (omega arith)
   in_front_at (es ∷ left) zero d lt is = inl is
   in_front_at (es ∷ left) (suc k) d lt is = inr (in_front_at left k d (omega arith) is)
 
-  in_front : (left : List Entries) → Any (λ front. front ≡ Some name) (map first_name left) → IsInFront left
+  in_front : (left : List Entries) → Any (λ remaining. remaining ≡ Some name) (map first_name left) → IsSomeFirst left
   in_front left a = in_front_at left a.0 a.1 a.2 (a.3 ∙ a.4)
 
   not_more : (left : List Entries) → entries_count (map (without_first name) left) ≤ entries_count left
   not_more [] = omega arith
   not_more (es ∷ left) = omega (arith, no_longer name es, not_more left)
 
-  fewer : (left : List Entries) → IsInFront left → entries_count (map (without_first name) left) < entries_count left
+  fewer : (left : List Entries) → IsSomeFirst left → entries_count (map (without_first name) left) < entries_count left
   fewer [] h = absurd h
   fewer (es ∷ left) (inl here) = omega (arith, shorter name es here, not_more left)
   fewer (es ∷ left) (inr later) = omega (arith, no_longer name es, fewer left later)
@@ -227,7 +227,7 @@ module _ (name : Name) where
       some_name : (n : Name) → Some n ≡ Some name → n ≡ name
       some_name n e = cc
 
-  before : (other : Name) (left : List Entries) → Each (IsBelow other) left → IsInFront left → name_cmp other name ≡ Less
+  before : (other : Name) (left : List Entries) → Each (IsBelow other) left → IsSomeFirst left → name_cmp other name ≡ Less
   before other [] h is = absurd is
   before other (es ∷ left) h (inl here) = before_front other es h.0 here
   before other (es ∷ left) h (inr later) = before other left h.1 later
@@ -237,11 +237,11 @@ EachAbsent [] = Unit {0}
 EachAbsent (v ∷ vs) = (v ≡ None) × EachAbsent vs
 
 -- if no tree has a first name, all values are absent at every name
-none_left : (name : Name) (left : List Entries) → All (λ front. front ≡ None) (map first_name left) → EachAbsent (at_name left name)
+none_left : (name : Name) (left : List Entries) → All (λ remaining. remaining ≡ None) (map first_name left) → EachAbsent (at_name left name)
 none_left name [] none = tt
 none_left name (es ∷ left) none = (
-  nothing es (All-head (λ front. front ≡ None) (first_name es) (map first_name left) none),
-  none_left name left (All-tail (λ front. front ≡ None) (first_name es) (map first_name left) none),
+  nothing es (All-head (λ remaining. remaining ≡ None) (first_name es) (map first_name left) none),
+  none_left name left (All-tail (λ remaining. remaining ≡ None) (first_name es) (map first_name left) none),
 )
   where
     nothing : (es : Entries) → first_name es ≡ None → lookup (bytes_eq name) es ≡ None
@@ -272,27 +272,27 @@ nothing_passed trees sorted = record {
 
 module _ (trees left : List Entries) (rows : List (Name × List (Option TreeValue))) (passed : Passes trees left rows) where
   -- one step of the loop
-  pub one_passed : (name : Name) → IsLeastName (Some name) (map first_name left)
-      → Passes trees (map (without_first name) left) (rows ++ (name, map (first_at name) left) ∷ [])
+  pub one_passed : (name : Name) → IsMinName (Some name) (map first_name left)
+      → Passes trees (map (without_first name) left) (rows ++ (name, map (first_value name) left) ∷ [])
   one_passed name least = record {
     ascending = all_pairs_push (λ a b. name_cmp a.0 b.0 ≡ Less) rows row passed.ascending
         (λ k d lt. before name (get_or rows k d).0 left (passed.above k d lt) ahead);
-    values = All-push (λ r. r.1 ≡ at_name trees r.0) rows row passed.values (sym (untaken (passed.every name) ∙ values_first name left passed.sorted front));
+    values = All-push (λ r. r.1 ≡ at_name trees r.0) rows row passed.values (sym (untaken (passed.every name) ∙ values_first name left passed.sorted remaining));
     sorted = each_sorted name left passed.sorted;
     above = All-push (λ r. Each (IsBelow r.0) (map (without_first name) left)) rows row
         (All-weaker (λ r. Each (IsBelow r.0) left) (λ r. Each (IsBelow r.0) (map (without_first name) left)) (λ r h. each_still name r.0 left h) rows passed.above)
-        (each_below name left passed.sorted front);
+        (each_below name left passed.sorted remaining);
     every = λ other. taken other (bytes_eq other name) refl;
   }
     where
       row : Name × List (Option TreeValue)
-      row = (name, map (first_at name) left)
+      row = (name, map (first_value name) left)
 
-      ahead : IsInFront name left
+      ahead : IsSomeFirst name left
       ahead = in_front name left least.0
 
-      front : Each (HasFront name) left
-      front = each_front name left least.1
+      remaining : Each (IsAtMostEach name) left
+      remaining = each_front name left least.1
 
       untaken : (at_name trees name ≡ at_name left name) ⊎ Any (λ r. r.0 ≡ name) rows → at_name trees name ≡ at_name left name
       untaken (inl same) = same
@@ -312,7 +312,7 @@ module _ (trees left : List Entries) (rows : List (Name × List (Option TreeValu
           still (inr a) = let c = Contains-append_left rows (row ∷ []) a.1 (a.0, a.2, a.3) in inr (c.0, a.1, c.1, c.2, a.4)
 
   -- at the end of the loop the rows are those of the trees
-  pub all_passed : IsLeastName None (map first_name left) → AreRows trees rows
+  pub all_passed : IsMinName None (map first_name left) → AreRows trees rows
   all_passed none = record {
     ascending = passed.ascending;
     values = passed.values;
@@ -325,8 +325,8 @@ module _ (trees left : List Entries) (rows : List (Name × List (Option TreeValu
       by name (inr a) = inr a
 
 -- ---- the least of the first names
-front_itself : (name : Name) → IsFront name (Some name)
-front_itself name = by (is_lt (name_cmp name name))
+at_most_itself : (name : Name) → IsAtMostFirst name (Some name)
+at_most_itself name = by (is_lt (name_cmp name name))
   where
     by : (t : Bool) → cond t (Some name) (Some name) ≡ Some name
     by true = refl
@@ -336,9 +336,9 @@ not_less : (name : Name) → name_cmp name name ≡ Less → ⊥
 not_less name less = true≢false (sym ((bytes_decides name name).1 refl) ∙ not_itself name name less)
 
 -- a name less than the least so far is at most each of the first names seen
-front_before : (name other : Name) (front : Option Name) → name_cmp other name ≡ Less → IsFront name front → IsFront other front
-front_before name other None less h = refl
-front_before name other (Some q) less h = by (is_lt (name_cmp q other)) refl
+less_at_most : (name other : Name) (remaining : Option Name) → name_cmp other name ≡ Less → IsAtMostFirst name remaining → IsAtMostFirst other remaining
+less_at_most name other None less h = refl
+less_at_most name other (Some q) less h = by (is_lt (name_cmp q other)) refl
   where
     some_same : (a b : Name) → Some a ≡ Some b → a ≡ b
     some_same a b e = cc
@@ -350,69 +350,69 @@ front_before name other (Some q) less h = by (is_lt (name_cmp q other)) refl
         let same : Some q ≡ Some name = sym (ap (λ r. cond (is_lt r) (Some q) (Some name)) first) ∙ h in
         absurd (not_less name (subst (λ n. name_cmp n name ≡ Less) (some_same q name same) first))
 
-kept_any : (fronts : List (Option Name)) (front other : Option Name) → Any (λ f. f ≡ other) fronts → Any (λ f. f ≡ other) (fronts ++ front ∷ [])
-kept_any fronts front other a = let c = Contains-append_left fronts (front ∷ []) a.1 (a.0, a.2, a.3) in (c.0, a.1, c.1, c.2, a.4)
+kept_any : (remaining_lists : List (Option Name)) (remaining other : Option Name) → Any (λ f. f ≡ other) remaining_lists → Any (λ f. f ≡ other) (remaining_lists ++ remaining ∷ [])
+kept_any remaining_lists remaining other a = let c = Contains-append_left remaining_lists (remaining ∷ []) a.1 (a.0, a.2, a.3) in (c.0, a.1, c.1, c.2, a.4)
 
-pub front_more : (name : Option Name) (fronts : List (Option Name)) (front : Option Name) → IsLeastName name fronts → IsLeastName (lesser_name name front) (fronts ++ front ∷ [])
-front_more None fronts None least = All-push (λ f. f ≡ None) fronts None least refl
-front_more None fronts (Some other) none = (
-  Any-push (λ f. f ≡ Some other) fronts (Some other) refl,
-  All-push (IsFront other) fronts (Some other) (All-weaker (λ f. f ≡ None) (IsFront other) (λ f e. ap (lesser_name (Some other)) e) fronts none) (front_itself other),
+pub min_more : (name : Option Name) (remaining_lists : List (Option Name)) (remaining : Option Name) → IsMinName name remaining_lists → IsMinName (min_name name remaining) (remaining_lists ++ remaining ∷ [])
+min_more None remaining_lists None least = All-push (λ f. f ≡ None) remaining_lists None least refl
+min_more None remaining_lists (Some other) none = (
+  Any-push (λ f. f ≡ Some other) remaining_lists (Some other) refl,
+  All-push (IsAtMostFirst other) remaining_lists (Some other) (All-weaker (λ f. f ≡ None) (IsAtMostFirst other) (λ f e. ap (min_name (Some other)) e) remaining_lists none) (at_most_itself other),
 )
-front_more (Some name) fronts None least = (kept_any fronts None (Some name) least.0, All-push (IsFront name) fronts None least.1 refl)
-front_more (Some name) fronts (Some other) least = by (is_lt (name_cmp other name)) refl
+min_more (Some name) remaining_lists None least = (kept_any remaining_lists None (Some name) least.0, All-push (IsAtMostFirst name) remaining_lists None least.1 refl)
+min_more (Some name) remaining_lists (Some other) least = by (is_lt (name_cmp other name)) refl
   where
-    by : (t : Bool) → is_lt (name_cmp other name) ≡ t → IsLeastName (cond t (Some other) (Some name)) (fronts ++ Some other ∷ [])
+    by : (t : Bool) → is_lt (name_cmp other name) ≡ t → IsMinName (cond t (Some other) (Some name)) (remaining_lists ++ Some other ∷ [])
     by true e = (
-      Any-push (λ f. f ≡ Some other) fronts (Some other) refl,
-      All-push (IsFront other) fronts (Some other)
-          (All-weaker (IsFront name) (IsFront other) (λ f h. front_before name other f (less_from (name_cmp other name) e) h) fronts least.1) (front_itself other),
+      Any-push (λ f. f ≡ Some other) remaining_lists (Some other) refl,
+      All-push (IsAtMostFirst other) remaining_lists (Some other)
+          (All-weaker (IsAtMostFirst name) (IsAtMostFirst other) (λ f h. less_at_most name other f (less_from (name_cmp other name) e) h) remaining_lists least.1) (at_most_itself other),
     )
     by false e = (
-      kept_any fronts (Some other) (Some name) least.0,
-      All-push (IsFront name) fronts (Some other) least.1 (ap (λ t. cond t (Some other) (Some name)) e),
+      kept_any remaining_lists (Some other) (Some name) least.0,
+      All-push (IsAtMostFirst name) remaining_lists (Some other) least.1 (ap (λ t. cond t (Some other) (Some name)) e),
     )
 
 -- the least of the first names of one tree more
-pub least_more : {F : Type 0} (view : F → Entries) (fronts : List F) (i : ℕ) (x : F) → i < length fronts → x ≡ get_or fronts i x
-    → (least now other : Option Name) → now ≡ lesser_name least other → other ≡ first_name (view x)
-    → IsLeastName least (map first_name (map view (take i fronts))) → IsLeastName now (map first_name (map view (take (i + 1) fronts)))
-least_more view fronts i x lt at least now other is front h =
-    let told : map first_name (map view (take (i + 1) fronts)) ≡ map first_name (map view (take i fronts)) ++ other ∷ [] =
-    ap (λ l. map first_name (map view l)) (take_more fronts i x lt ∙ ap (λ f. take i fronts ++ f ∷ []) (sym at))
-    ∙ ap (map first_name) (map-append view (take i fronts) (x ∷ []))
-    ∙ map-append first_name (map view (take i fronts)) (view x ∷ [])
-    ∙ ap (λ o. map first_name (map view (take i fronts)) ++ o ∷ []) (sym front) in
-    subst (IsLeastName now) (sym told) (subst (λ o. IsLeastName o (map first_name (map view (take i fronts)) ++ other ∷ [])) (sym is)
-    (front_more least (map first_name (map view (take i fronts))) other h))
+pub least_more : {F : Type 0} (view : F → Entries) (remaining_lists : List F) (i : ℕ) (x : F) → i < length remaining_lists → x ≡ get_or remaining_lists i x
+    → (least now other : Option Name) → now ≡ min_name least other → other ≡ first_name (view x)
+    → IsMinName least (map first_name (map view (take i remaining_lists))) → IsMinName now (map first_name (map view (take (i + 1) remaining_lists)))
+least_more view remaining_lists i x lt at least now other is remaining h =
+    let told : map first_name (map view (take (i + 1) remaining_lists)) ≡ map first_name (map view (take i remaining_lists)) ++ other ∷ [] =
+    ap (λ l. map first_name (map view l)) (take_more remaining_lists i x lt ∙ ap (λ f. take i remaining_lists ++ f ∷ []) (sym at))
+    ∙ ap (map first_name) (map-append view (take i remaining_lists) (x ∷ []))
+    ∙ map-append first_name (map view (take i remaining_lists)) (view x ∷ [])
+    ∙ ap (λ o. map first_name (map view (take i remaining_lists)) ++ o ∷ []) (sym remaining) in
+    subst (IsMinName now) (sym told) (subst (λ o. IsMinName o (map first_name (map view (take i remaining_lists)) ++ other ∷ [])) (sym is)
+    (min_more least (map first_name (map view (take i remaining_lists))) other h))
 
 -- the remaining entries after a step, as the items of a vector
-pub left_in : {F Z : Type 0} (view : F → Entries) (name : Name) (fronts : Vec F Z) (was now : List F) → was ≡ fronts.items → length now ≡ length was
-    → map view now ≡ map (without_first name) (map view was) → map view (with_items fronts now).items ≡ map (without_first name) (map view fronts.items)
-left_in view name fronts was now is same_length taken =
-    ap (map view) (with_items_is fronts now (same_length ∙ ap length is ∙ sym fronts.ok.0)) ∙ taken ∙ ap (λ l. map (without_first name) (map view l)) is
+pub left_in : {F Z : Type 0} (view : F → Entries) (name : Name) (remaining_lists : Vec F Z) (was now : List F) → was ≡ remaining_lists.items → length now ≡ length was
+    → map view now ≡ map (without_first name) (map view was) → map view (with_items remaining_lists now).items ≡ map (without_first name) (map view remaining_lists.items)
+left_in view name remaining_lists was now is same_length taken =
+    ap (map view) (with_items_is remaining_lists now (same_length ∙ ap length is ∙ sym remaining_lists.ok.0)) ∙ taken ∙ ap (λ l. map (without_first name) (map view l)) is
 
 -- ---- the rows as items of a vector
 module _ {F R : Type 0} (view : F → Entries) (parts : R → Name × List (Option TreeValue)) where
-  pub start : (trees : List Entries) (fronts : List F) (rows : List R) → map view fronts ≡ trees → rows ≡ [] → Each IsSorted trees
-      → Passes trees (map view fronts) (map parts rows)
-  start trees fronts rows same none sorted =
+  pub start : (trees : List Entries) (remaining_lists : List F) (rows : List R) → map view remaining_lists ≡ trees → rows ≡ [] → Each IsSorted trees
+      → Passes trees (map view remaining_lists) (map parts rows)
+  start trees remaining_lists rows same none sorted =
       subst (λ left. Passes trees left (map parts rows)) (sym same) (subst (λ l. Passes trees trees (map parts l)) (sym none) (nothing_passed trees sorted))
 
-  module _ (fronts now : List F) (name : Name) (least : IsLeastName (Some name) (map first_name (map view fronts)))
-      (taken : map view now ≡ map (without_first name) (map view fronts)) where
-    pub row_more : (trees : List Entries) (rows after : List R) (row : R) → Passes trees (map view fronts) (map parts rows)
-        → parts row ≡ (name, map (first_at name) (map view fronts)) → after ≡ rows ++ row ∷ []
+  module _ (remaining_lists now : List F) (name : Name) (least : IsMinName (Some name) (map first_name (map view remaining_lists)))
+      (taken : map view now ≡ map (without_first name) (map view remaining_lists)) where
+    pub row_more : (trees : List Entries) (rows after : List R) (row : R) → Passes trees (map view remaining_lists) (map parts rows)
+        → parts row ≡ (name, map (first_value name) (map view remaining_lists)) → after ≡ rows ++ row ∷ []
         → Passes trees (map view now) (map parts after)
     row_more trees rows after row passed is added =
-        let told : map parts after ≡ map parts rows ++ (name, map (first_at name) (map view fronts)) ∷ [] =
+        let told : map parts after ≡ map parts rows ++ (name, map (first_value name) (map view remaining_lists)) ∷ [] =
         ap (map parts) added ∙ map-append parts rows (row ∷ []) ∙ ap (λ r. map parts rows ++ r ∷ []) is in
         subst (λ left. Passes trees left (map parts after)) (sym taken)
-        (subst (Passes trees (map (without_first name) (map view fronts))) (sym told) (one_passed trees (map view fronts) (map parts rows) passed name least))
+        (subst (Passes trees (map (without_first name) (map view remaining_lists))) (sym told) (one_passed trees (map view remaining_lists) (map parts rows) passed name least))
 
-    pub fewer_left : entries_count (map view now) < entries_count (map view fronts)
-    fewer_left = subst (λ left. entries_count left < entries_count (map view fronts)) (sym taken)
-        (fewer name (map view fronts) (in_front name (map view fronts) least.0))
+    pub fewer_left : entries_count (map view now) < entries_count (map view remaining_lists)
+    fewer_left = subst (λ left. entries_count left < entries_count (map view remaining_lists)) (sym taken)
+        (fewer name (map view remaining_lists) (in_front name (map view remaining_lists) least.0))
 
 pub each_ascends : (trees : List Entries) → All (λ tree. is_sorted name_cmp tree ≡ true) trees → Each IsSorted trees
 each_ascends [] h = tt
@@ -420,7 +420,7 @@ each_ascends (es ∷ trees) h =
     (All-head (λ tree. is_sorted name_cmp tree ≡ true) es trees h, each_ascends trees (All-tail (λ tree. is_sorted name_cmp tree ≡ true) es trees h))
 
 -- one more tree has an iterator
-pub fronts_more : {F : Type 0} (view : F → Entries) (trees : List Entries) (i : ℕ) (tree : Entries) → i < length trees → tree ≡ get_or trees i tree
-    → (fronts after : List F) (front : F) → map view fronts ≡ take i trees → view front ≡ tree → after ≡ fronts ++ front ∷ [] → map view after ≡ take (i + 1) trees
-fronts_more view trees i tree lt at fronts after front same is added =
-    ap (map view) added ∙ map-append view fronts (front ∷ []) ∙ (λ j. same j ++ (is ∙ at) j ∷ []) ∙ sym (take_more trees i tree lt)
+pub iterators_more : {F : Type 0} (view : F → Entries) (trees : List Entries) (i : ℕ) (tree : Entries) → i < length trees → tree ≡ get_or trees i tree
+    → (remaining_lists after : List F) (remaining : F) → map view remaining_lists ≡ take i trees → view remaining ≡ tree → after ≡ remaining_lists ++ remaining ∷ [] → map view after ≡ take (i + 1) trees
+iterators_more view trees i tree lt at remaining_lists after remaining same is added =
+    ap (map view) added ∙ map-append view remaining_lists (remaining ∷ []) ∙ (λ j. same j ++ (is ∙ at) j ∷ []) ∙ sym (take_more trees i tree lt)

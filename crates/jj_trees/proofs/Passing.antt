@@ -19,7 +19,8 @@ use Rattle.jj_merges.specs.Resolution.{ResolvesTo}
 use Rattle.jj_merges.specs.declared.merge.SameChange.{SameChange}
 use Rattle.jj_merges.specs.declared.merge.SameChange.TheVariants.{Keep, Accept}
 use Rattle.jj_backend.specs.Objects.{ById}
-use Rattle.jj_trees.specs.TreeMerges.{child, entries_of}
+use Rattle.jj_trees.specs.TreeMerges.{child}
+use Rattle.jj_trees.specs.DirectoryMerges.{entries_of}
 use Rattle.jj_trees.proofs.Children.{child-entries, children-entries}
 use Rattle.jj_trees.specs.Rows.{at_name, AreRows}
 use Rattle.jj_backend.specs.declared.backend.tree_value.TreeValue.{TreeValue}

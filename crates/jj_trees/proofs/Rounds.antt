@@ -15,9 +15,10 @@ use Rattle.jj_backend.specs.Objects.{ById}
 use Rattle.jj_trees.specs.Rows.{AreRows}
 use Rattle.jj_backend.specs.declared.backend.tree_value.TreeValue.{TreeValue}
 use Rattle.jj_backend.specs.declared.backend.errors.BackendError.{BackendError}
-use Rattle.jj_trees.specs.TreeMerges.{Values, Conflict, IsEntered, IsHere, child, entries_of, IsAppended, IsWithin, IsRefused}
+use Rattle.jj_trees.specs.TreeMerges.{Values, MustRecurse, child}
+use Rattle.jj_trees.specs.DirectoryMerges.{Conflict, AppendsOutcome, entries_of, IsAppended, IsWithin, IsDirectoryError}
 use Rattle.jj_trees.proofs.Joining.{image_of, into_image}
-use Rattle.jj_trees.proofs.Merging.{Passed, step_here, step_entered, merged, all_within, refused_below}
+use Rattle.jj_trees.proofs.Merging.{Passed, step_here, step_entered, merged, all_within, error_below}
 use Rattle.jj_trees.proofs.Passing.{row_values, row_above, absent_below, absent_decided}
 
 pub rows_passed : {Y : Type 0} (f : Y → Name × Values) (es : List (List (Name × TreeValue))) (ys : List Y) (y : Y) (zs : List Y)
@@ -52,19 +53,19 @@ module _ (eq : Option TreeValue → Option TreeValue → Bool) (same : (v w : Op
         → RowsPassed (ys ++ y ∷ []) old_r last_r old_c last_c
     more = subst (λ names. Passed eq same trees same_change labels is_read fails levels values dir names old_r last_r old_c last_c) (sym (map-append (λ x. (f x).0) ys (y ∷ [])))
 
-    pub row_here : IsHere eq same_change (f y).1 labels path new_r last_r new_c last_c → RowsPassed (ys ++ y ∷ []) old_r last_r old_c last_c
+    pub row_here : AppendsOutcome eq same_change (f y).1 labels path new_r last_r new_c last_c → RowsPassed (ys ++ y ∷ []) old_r last_r old_c last_c
     row_here h =
         more (step_here eq same trees same_change labels is_read fails levels values dir (map (λ y. (f y).0) ys) (f y).0 old_r new_r last_r old_c new_c last_c above passed
-        (subst (λ p. IsHere eq same_change (map (child trees (f y).0) values) labels p new_r last_r new_c last_c) at
-        (subst (λ vs. IsHere eq same_change vs labels path new_r last_r new_c last_c) here h)))
+        (subst (λ p. AppendsOutcome eq same_change (map (child trees (f y).0) values) labels p new_r last_r new_c last_c) at
+        (subst (λ vs. AppendsOutcome eq same_change vs labels path new_r last_r new_c last_c) here h)))
 
-    pub row_entered : (below : Values) → below ≡ (f y).1 → IsEntered eq same_change (f y).1
+    pub row_entered : (below : Values) → below ≡ (f y).1 → MustRecurse eq same_change (f y).1
         → (mid_r : List (Path × TreeValue)) (mid_c : List (Path × Conflict)) → mid_r ≡ new_r → mid_c ≡ new_c
         → IsAppended trees eq same_change below labels path mid_r last_r mid_c last_c → IsWithin trees eq same_change is_read fails path below levels
         → RowsPassed (ys ++ y ∷ []) old_r last_r old_c last_c
     row_entered below is entered mid_r mid_c same_r same_c appended within =
         more (step_entered eq same trees same_change labels is_read fails levels values dir (map (λ y. (f y).0) ys) (f y).0 old_r new_r last_r old_c new_c last_c above passed
-        (subst (IsEntered eq same_change) here entered)
+        (subst (MustRecurse eq same_change) here entered)
         (subst (λ p. IsAppended trees eq same_change (map (child trees (f y).0) values) labels p new_r last_r new_c last_c) at
         (subst (λ vs. IsAppended trees eq same_change vs labels path new_r last_r new_c last_c) (is ∙ here)
         (subst (λ r. IsAppended trees eq same_change below labels path r last_r new_c last_c) same_r
@@ -73,15 +74,15 @@ module _ (eq : Option TreeValue → Option TreeValue → Bool) (same : (v w : Op
         (subst (λ vs. IsWithin trees eq same_change is_read fails path vs levels) (is ∙ here) within)))
 
   -- an error of merging the directory of a row is an error of merging this directory
-  pub row_refused : (ys : List Y) (y : Y) (zs : List Y) (rows : AreRows (map (entries_of trees) values) (map f (ys ++ y ∷ zs)))
+  pub row_error : (ys : List Y) (y : Y) (zs : List Y) (rows : AreRows (map (entries_of trees) values) (map f (ys ++ y ∷ zs)))
       (upto : ℕ) (e : BackendError) (below : Values) (path : Path) → upto ≡ levels + 1 → below ≡ (f y).1 → path ≡ dir ++ (f y).0 ∷ []
-      → IsEntered eq same_change (f y).1
-      → IsRefused trees eq same_change is_read fails path below levels e → IsRefused trees eq same_change is_read fails dir values upto e
-  row_refused ys y zs rows upto e below path is same_values at entered refused =
+      → MustRecurse eq same_change (f y).1
+      → IsDirectoryError trees eq same_change is_read fails path below levels e → IsDirectoryError trees eq same_change is_read fails dir values upto e
+  row_error ys y zs rows upto e below path is same_values at entered error =
       let here = row_values trees f values ys y zs rows in
-      refused_below eq same trees same_change labels is_read fails levels values dir (f y).0 upto e is (subst (IsEntered eq same_change) here entered)
-      (subst (λ p. IsRefused trees eq same_change is_read fails p (map (child trees (f y).0) values) levels e) at
-      (subst (λ vs. IsRefused trees eq same_change is_read fails path vs levels e) (same_values ∙ here) refused))
+      error_below eq same trees same_change labels is_read fails levels values dir (f y).0 upto e is (subst (MustRecurse eq same_change) here entered)
+      (subst (λ p. IsDirectoryError trees eq same_change is_read fails p (map (child trees (f y).0) values) levels e) at
+      (subst (λ vs. IsDirectoryError trees eq same_change is_read fails path vs levels e) (same_values ∙ here) error))
 
   -- the end of the loop
   module _ (reflexive : eq None None ≡ true) (odd : length values % 2 ≡ 1) (ys : List Y) (rows : AreRows (map (entries_of trees) values) (map f ys))

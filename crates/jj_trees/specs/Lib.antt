@@ -1,6 +1,8 @@
 pub mod TreeMerges
+pub mod DirectoryMerges
 pub mod Steps
 pub mod Rows
-pub mod Fronts
-pub mod Kept
+pub mod FirstNames
+pub mod MemoryErrors
+pub mod MemoryObjects
 pub mod Signing

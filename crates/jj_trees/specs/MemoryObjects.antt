@@ -1,34 +1,36 @@
 -- The model of an in-memory backend: its objects, their ids, and its initial state.
--- Cited by contracts of public items: FailsToKeep, MemoryBackendValue, change_id_length,
+-- Cited by contracts of public items: IsStoreError, MemoryBackendValue, change_id_length,
 -- digest_length, new_backend, object_id, objects_of.
-use Rattle.std.specs.Prelude.{◌≡◌, ◌≢◌, ◌⊎◌, ℕ, true, List, [], ◌∷◌, take, replicate, Some}
+use Rattle.std.specs.Prelude.{◌≡◌, ◌≢◌, ◌⊎◌, ℕ, List, [], ◌∷◌, take, replicate, Some}
 use Rattle.std.specs.Map.{lookup}
 use Rattle.std.specs.Str.{bytes_eq}
 use Rattle.jj_content.specs.Blake2b.{blake2b}
-use Rattle.jj_backend.specs.Errors.{is_other}
+use Rattle.jj_files.specs.declared.file_util.errors.SourceKind.TheVariants.{Other as OtherKind}
 use Rattle.jj_backend.specs.Objects.{ById, Objects}
 use Rattle.jj_backend.specs.Records.{CopyHistoryValue, CommitValue, root_commit}
 use Rattle.jj_backend.specs.TreeLaws.{tree_content}
 use Rattle.jj_backend.specs.Trees.{Entries}
 use Rattle.jj_backend.specs.declared.backend.errors.BackendError.{BackendError}
 use Rattle.jj_backend.specs.declared.backend.errors.BackendError.TheVariants.{Memory}
+use Rattle.jj_trees.specs.MemoryErrors.{IsOtherOf}
 
 -- objects with their ids, as an association list
-abbrev pub Kept : Type 0 → Type 0
-Kept V = List (List ℕ × V)
+abbrev pub ObjectEntries : Type 0 → Type 0
+ObjectEntries V = List (List ℕ × V)
 
 module _ {V : Type 0} where
   -- the map from ids to objects
-  unfoldable pub by_id : Kept V → ById V
-  by_id kept = λ id. lookup (bytes_eq id) kept
+  unfoldable pub by_id : ObjectEntries V → ById V
+  by_id entries = λ id. lookup (bytes_eq id) entries
 
   -- the id is that of a different object
-  abbrev pub StandsForOther : Kept V → List ℕ → V → Type 0
-  StandsForOther kept id value = (other : V) × (by_id kept id ≡ Some other) × (other ≢ value)
+  abbrev pub IsTakenByOther : ObjectEntries V → List ℕ → V → Type 0
+  IsTakenByOther entries id value = (other : V) × (by_id entries id ≡ Some other) × (other ≢ value)
 
   -- an error of storing a value under an id: out of memory, or Other if a different object has it
-  abbrev pub FailsToKeep : Kept V → List ℕ → V → BackendError → Type 0
-  FailsToKeep kept id value e = (e ≡ Memory) ⊎ ((is_other e ≡ true) × StandsForOther kept id value)
+  abbrev pub IsStoreError : ObjectEntries V → List ℕ → V → BackendError → Type 0
+  IsStoreError entries id value e =
+      (e ≡ Memory) ⊎ (IsOtherOf OtherKind e × IsTakenByOther entries id value)
 
 -- an in-memory backend: the length of its ids, the ids of its initial objects, and its objects
 pub record MemoryBackendValue : Type 0 where
@@ -36,11 +38,11 @@ pub record MemoryBackendValue : Type 0 where
   pub root_commit_id : List ℕ
   pub root_change_id : List ℕ
   pub empty_tree_id : List ℕ
-  pub files : Kept (List ℕ)
-  pub symlinks : Kept (List ℕ)
-  pub copies : Kept CopyHistoryValue
-  pub trees : Kept Entries
-  pub commits : Kept CommitValue
+  pub files : ObjectEntries (List ℕ)
+  pub symlinks : ObjectEntries (List ℕ)
+  pub copies : ObjectEntries CopyHistoryValue
+  pub trees : ObjectEntries Entries
+  pub commits : ObjectEntries CommitValue
 
 abbrev pub objects_of : MemoryBackendValue → Objects
 objects_of backend = record {

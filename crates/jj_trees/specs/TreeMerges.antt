@@ -1,13 +1,12 @@
 -- The merge of trees: the outcome at each path, which paths have one, and the trees that are read.
--- Cited by contracts of public items: IsMergeAnswer, most_levels, root_values.
-use Rattle.std.specs.Prelude.{◌≡◌, ◌↔◌, ◌⊎◌, ⊤, ℕ, ◌<◌, Bool, true, false, List, [], ◌∷◌, ◌++◌, map}
-use Rattle.std.specs.Prelude.{length, Option, Some, None, option_and_then, unwrap_or, All, Any}
-use Rattle.std.specs.Prelude.{AllPairs, Contains, Result, Ok, Err, IfOk, IfErr, OnOk}
+-- Cited by contracts of public items: AreRead, IsConflict, IsMergeError, IsResolved, Values,
+-- most_levels, root_values.
+use Rattle.std.specs.Prelude.{◌≡◌, ◌⊎◌, ⊤, ℕ, ◌<◌, Bool, true, false, List, [], ◌∷◌, ◌++◌, map, length}
+use Rattle.std.specs.Prelude.{Option, Some, None, option_and_then, All, Contains, Result, Ok, Err}
 use Rattle.std.specs.Bool.{MatchBool}
 use Rattle.std.specs.Map.{lookup}
 use Rattle.std.specs.Str.{bytes_eq}
-use Rattle.std.specs.declared.cmp.Ordering.TheVariants.{Less}
-use Rattle.jj_paths.specs.Paths.{Name, Path, path_cmp}
+use Rattle.jj_paths.specs.Paths.{Name, Path}
 use Rattle.jj_merges.specs.declared.merge.SameChange.{SameChange}
 use Rattle.jj_merges.specs.Resolution.{ResolvesTo}
 use Rattle.jj_merges.specs.Simplify.{simplified_indices, at_indices}
@@ -19,7 +18,6 @@ use Rattle.jj_backend.specs.declared.backend.tree_value.TreeValue.{TreeValue}
 use Rattle.jj_backend.specs.declared.backend.tree_value.TreeValue.TheVariants.{File, Symlink, Tree, GitSubmodule}
 use Rattle.jj_backend.specs.declared.backend.errors.BackendError.{BackendError}
 use Rattle.jj_backend.specs.declared.backend.errors.BackendError.TheVariants.{Memory}
-use Rattle.jj_trees.specs.declared.tree_merge.TreeMerge.{TreeMerge}
 
 -- the value of each term at a path; None for a term without a value there
 abbrev pub Values : Type 0
@@ -36,73 +34,16 @@ is_tree_or_absent (Some (File id executable copy_id)) = false
 is_tree_or_absent (Some (Symlink id)) = false
 is_tree_or_absent (Some (GitSubmodule id)) = false
 
--- the terms of a conflict and their labels
-pub record Conflict : Type 0 where
-  pub terms : Values
-  pub labels : List (List ℕ)
-
--- the paths and conflicts of a list of paths, terms and labels
-abbrev pub conflict_entries : List (Path × Values × List (List ℕ)) → List (Path × Conflict)
-conflict_entries = map (λ c. (c.0, record { terms = c.1; labels = c.2 }))
-
--- the entries ascend strictly by path, and are exactly those for which Holds
-pub record IsListOf {E : Type 0} (Holds : Path → E → Type 0)
-    (entries : List (Path × E)) : Type 0 where
-  pub in_order : AllPairs (λ a b. path_cmp a.0 b.0 ≡ Less) entries
-  pub exactly : (path : Path) (e : E) → Contains entries (path, e) ↔ Holds path e
-
 module _ (eq : Option TreeValue → Option TreeValue → Bool) (same_change : SameChange) where
   -- the values do not resolve
-  abbrev pub IsUndecided : Values → Type 0
-  IsUndecided values = (v : Option TreeValue) → ResolvesTo eq same_change values v → ⊥
+  abbrev pub IsUnresolved : Values → Type 0
+  IsUnresolved values = (v : Option TreeValue) → ResolvesTo eq same_change values v → ⊥
 
   -- the values are merged entry by entry: they do not resolve, and all present ones are trees
-  abbrev pub IsEntered : Values → Type 0
-  IsEntered values = IsUndecided values × All (λ v. is_tree_or_absent v ≡ true) values
+  abbrev pub MustRecurse : Values → Type 0
+  MustRecurse values = IsUnresolved values × All (λ v. is_tree_or_absent v ≡ true) values
 
-  -- the conflict of values that do not resolve: the simplified terms with their labels
-  abbrev pub IsConflictOf : Values → List (List ℕ) → Conflict → Type 0
-  IsConflictOf values labels conflict =
-      IsUndecided values × (conflict.terms ≡ at_indices values (simplified_indices eq values))
-      × (conflict.labels ≡ normalized_labels (at_indices labels (simplified_indices eq values)))
-
-  -- the outcome of values at one path without recursion is appended: the value that they resolve
-  -- to, nothing if they resolve to absent, or else their conflict
-  abbrev pub IsHere : Values → List (List ℕ) → Path
-      → (old_resolved new_resolved : List (Path × TreeValue))
-      → (old_conflicts new_conflicts : List (Path × Conflict)) → Type 0
-  IsHere values labels path old_resolved new_resolved old_conflicts new_conflicts =
-      (IsEntered values → ⊥)
-      × (((v : TreeValue) × ResolvesTo eq same_change values (Some v)
-      × (new_resolved ≡ old_resolved ++ (path, v) ∷ []) × (new_conflicts ≡ old_conflicts))
-      ⊎ (ResolvesTo eq same_change values None
-      × (new_resolved ≡ old_resolved) × (new_conflicts ≡ old_conflicts))
-      ⊎ ((conflict : Conflict) × IsConflictOf values labels conflict
-      × (new_resolved ≡ old_resolved) × (new_conflicts ≡ old_conflicts ++ (path, conflict) ∷ [])))
-
--- may_read_tree path id result: reading the tree with this id at this path may return result
-module _ (trees : ById Entries)
-    (may_read_tree : Path → List ℕ → Result Entries BackendError → Type 0) where
-  -- the value is not a tree, or it is a tree that was read at this path
-  abbrev pub IsReadAt : Path → Option TreeValue → Type 0
-  IsReadAt path (Some (Tree id)) =
-      (entries : Entries) × may_read_tree path id (Ok entries) × (trees id ≡ Some entries)
-  IsReadAt path None = ⊤
-  IsReadAt path (Some (File id executable copy_id)) = ⊤
-  IsReadAt path (Some (Symlink id)) = ⊤
-  IsReadAt path (Some (GitSubmodule id)) = ⊤
-
-  -- the value is a tree whose read at this path fails with e: the tree is missing, or the backend
-  -- fails
-  abbrev pub FailsAt : (BackendError → Type 0) → Path → BackendError → Option TreeValue → Type 0
-  FailsAt may_fail path e (Some (Tree id)) =
-      may_read_tree path id (Err e) × MatchBool (is_not_found e) (trees id ≡ None) (may_fail e)
-  FailsAt may_fail path e None = ⊥
-  FailsAt may_fail path e (Some (File id executable copy_id)) = ⊥
-  FailsAt may_fail path e (Some (Symlink id)) = ⊥
-  FailsAt may_fail path e (Some (GitSubmodule id)) = ⊥
-
-module _ (trees : ById (List (Name × TreeValue))) where
+module _ (trees : ById Entries) where
   -- the value at a name in the tree that a value is; None for a value that is not a tree
   abbrev pub child : Name → Option TreeValue → Option TreeValue
   child name None = None
@@ -112,94 +53,59 @@ module _ (trees : ById (List (Name × TreeValue))) where
   child name (Some (Symlink id)) = None
   child name (Some (GitSubmodule id)) = None
 
-  -- the entries of the tree that a value is, empty for a value that is not a tree
-  abbrev pub entries_of : Option TreeValue → List (Name × TreeValue)
-  entries_of None = []
-  entries_of (Some (Tree id)) = unwrap_or (trees id) []
-  entries_of (Some (File id executable copy_id)) = []
-  entries_of (Some (Symlink id)) = []
-  entries_of (Some (GitSubmodule id)) = []
-
   -- the values at a path relative to the directory of these values
   abbrev pub values_at : Values → Path → Values
   values_at values [] = values
   values_at values (name ∷ rest) = values_at (map (child name) values) rest
 
   module _ (eq : Option TreeValue → Option TreeValue → Bool) (same_change : SameChange) where
-    -- the directory at a path is merged: the path is empty, or each directory on the path below the
-    -- first must be merged entry by entry
+    -- the directory at a path is merged: the path is empty, or the values at each of its nonempty
+    -- prefixes are merged entry by entry
     abbrev pub IsOpen : Values → Path → Type 0
     IsOpen values [] = ⊤
     IsOpen values (name ∷ rest) =
-        IsEntered eq same_change (map (child name) values) × IsOpen (map (child name) values) rest
+        MustRecurse eq same_change (map (child name) values) × IsOpen (map (child name) values) rest
 
-    -- the path has an outcome of its own: all directories on the path above its end are merged
-    -- entry by entry, and the values at its end are not
-    abbrev pub HasOutcomeFrom : Values → Path → Type 0
-    HasOutcomeFrom values [] = IsEntered eq same_change values → ⊥
-    HasOutcomeFrom values (name ∷ rest) =
-        IsEntered eq same_change values × HasOutcomeFrom (map (child name) values) rest
-
-    -- a nonempty path has an outcome of its own, if the directory of these values is merged
+    -- a path has an outcome of its own: its directory is merged, and the values at the path itself
+    -- are not merged entry by entry
     abbrev pub HasOutcome : Values → Path → Type 0
-    HasOutcome values [] = ⊥
-    HasOutcome values (name ∷ rest) = HasOutcomeFrom (map (child name) values) rest
+    HasOutcome values path = (dir : Path) × (name : Name) × (path ≡ dir ++ name ∷ [])
+        × IsOpen values dir × (MustRecurse eq same_change (values_at values path) → ⊥)
 
     -- the path resolves to the value v
     abbrev pub IsResolved : Values → Path → TreeValue → Type 0
     IsResolved values path v =
         HasOutcome values path × ResolvesTo eq same_change (values_at values path) (Some v)
 
-    -- the path has this conflict
-    abbrev pub IsConflict : Values → List (List ℕ) → Path → Conflict → Type 0
-    IsConflict values labels path conflict =
-        HasOutcome values path × IsConflictOf eq same_change (values_at values path) labels conflict
+    -- the path has a conflict: its values do not resolve, and terms and term_labels are the
+    -- simplified values with their labels
+    abbrev pub IsConflict : Values → List (List ℕ) → Path → Values → List (List ℕ) → Type 0
+    IsConflict values labels path terms term_labels =
+        let here = values_at values path in
+        HasOutcome values path × IsUnresolved eq same_change here
+        × (terms ≡ at_indices here (simplified_indices eq here))
+        × (term_labels ≡ normalized_labels (at_indices labels (simplified_indices eq here)))
 
-    -- the merge of the values: exactly the paths that resolve to a present value, and exactly the
-    -- conflicts, each in ascending order of paths
-    pub record IsMerge (values : Values) (labels : List (List ℕ))
-        (resolved : List (Path × TreeValue))
-        (conflicts : List (Path × Conflict)) : Type 0 where
-      pub resolves : IsListOf (IsResolved values) resolved
-      pub conflicted : IsListOf (IsConflict values labels) conflicts
-
-    -- the merge of the values of directory dir is appended to the old lists
-    pub record IsAppended (values : Values) (labels : List (List ℕ)) (dir : Path)
-        (old_resolved new_resolved : List (Path × TreeValue))
-        (old_conflicts new_conflicts : List (Path × Conflict)) : Type 0 where
-      pub resolved : List (Path × TreeValue)
-      pub conflicts : List (Path × Conflict)
-      pub merge : IsMerge values labels resolved conflicts
-      pub resolved_added : new_resolved ≡ old_resolved ++ map (λ e. (dir ++ e.0, e.1)) resolved
-      pub conflicts_added : new_conflicts ≡ old_conflicts ++ map (λ e. (dir ++ e.0, e.1)) conflicts
-
-    module _ (is_read : Path → Option TreeValue → Type 0)
-        (fails : Path → BackendError → Option TreeValue → Type 0) where
-      -- every directory that is merged, from dir down, is read at its own path, and is at most
-      -- levels deep
-      pub record IsWithin (dir : Path) (values : Values) (levels : ℕ) : Type 0 where
-        pub read : (path : Path) → IsOpen values path
-            → All (is_read (dir ++ path)) (values_at values path)
+    -- `may_read_tree path id result`: reading the tree with this id at this path may return result
+    module _ (may_read_tree : Path → List ℕ → Result Entries BackendError → Type 0) where
+      -- the trees of every merged directory are read at its path, of fewer than levels names
+      pub record AreRead (values : Values) (levels : ℕ) : Type 0 where
+        pub read : (path : Path) (id : List ℕ) → IsOpen values path
+            → Contains (values_at values path) (Some (Tree id))
+            → (entries : Entries) × may_read_tree path id (Ok entries) × (trees id ≡ Some entries)
         pub not_deeper : (path : Path) → IsOpen values path → length path < levels
 
-      -- the errors of a merge: out of memory, a failed read of a tree at its own path, or
-      -- Unsupported for a directory to merge below the deepest level
-      abbrev pub IsRefused : Path → Values → ℕ → BackendError → Type 0
-      IsRefused dir values levels e =
+      -- the errors of a merge: out of memory; a failed read of a tree of a merged directory at its
+      -- path, ObjectNotFound only if the tree is missing; or Unsupported for a directory below
+      -- the deepest level that must be merged
+      abbrev pub IsMergeError : (BackendError → Type 0) → Values → ℕ → BackendError → Type 0
+      IsMergeError may_fail values levels e =
           (e ≡ Memory)
-          ⊎ ((path : Path) × IsOpen values path
-          × Any (fails (dir ++ path) e) (values_at values path))
+          ⊎ ((path : Path) × (id : List ℕ) × IsOpen values path
+          × Contains (values_at values path) (Some (Tree id)) × may_read_tree path id (Err e)
+          × MatchBool (is_not_found e) (trees id ≡ None) (may_fail e))
           ⊎ ((is_unsupported e ≡ true)
           × ((path : Path) × IsOpen values path × (length path ≡ levels)))
-
-      -- the result of a merge within so many levels: the merge of the values, with every tree read
-      -- at its path and none deeper, or an error
-      pub record IsMergeAnswer (values : Values) (labels : List (List ℕ)) (levels : ℕ)
-          (result : Result TreeMerge BackendError) : Type 0 where
-        pub merge : IfOk result (λ m. IsMerge values labels m.resolved.items
-            (conflict_entries m.conflicts.items))
-        pub within : OnOk result (IsWithin [] values levels)
-        pub refused : IfErr result (IsRefused [] values levels)
 
 -- the number of levels of merge_trees
 abbrev pub most_levels : ℕ

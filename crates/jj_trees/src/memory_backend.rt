@@ -1,32 +1,34 @@
 //! In-memory object store, addressed by BLAKE2b digests of the objects' content.
 ghost use Rattle.std.specs.Prelude.{◌≡◌, ◌≢◌, ◌≤◌, ◌⊎◌, [], true, codes, Some};
-ghost use Rattle.std.specs.Prelude.{IfOk, IfErr, OnOk, OnErr, IsErrAnd};
+ghost use Rattle.std.specs.Prelude.{IfOk, IfErr, OnOk, OnErr, IsErrAnd, string_bytes};
 ghost use Rattle.std.specs.Option.{option_map};
 ghost use Rattle.jj_content.specs.Content.{text_content};
 ghost use Rattle.jj_backend.specs.Contents.{bytes_content, copy_history_content, commit_content};
-ghost use Rattle.jj_backend.specs.Errors.{is_other, is_unsupported};
+ghost use Rattle.jj_backend.specs.Errors.{is_unsupported};
 ghost use Rattle.jj_backend.specs.Objects.{AddsFile, AddsSymlink, AddsCopy, AddsTree};
-ghost use Rattle.jj_backend.specs.Objects.{AddsCommit, IsSigned};
+ghost use Rattle.jj_backend.specs.Objects.{AddsCommit, IsRead, IsSigned};
 ghost use Rattle.jj_backend.specs.Records.{root_commit};
 ghost use Rattle.jj_backend.specs.TreeLaws.{tree_content};
-ghost use Rattle.jj_trees.specs.Kept.{new_backend, change_id_length, digest_length};
-ghost use Rattle.jj_trees.specs.Kept.{object_id, objects_of, FailsToKeep};
-ghost use Rattle.jj_trees.specs.Signing.{FailsToSign, StandsForOtherCommit, signer_left};
+ghost use Rattle.jj_trees.specs.MemoryObjects.{new_backend, change_id_length, digest_length};
+ghost use Rattle.jj_trees.specs.MemoryObjects.{object_id, objects_of, IsStoreError};
+ghost use Rattle.jj_trees.specs.MemoryErrors.{IsOtherOf, NamesObject};
+ghost use Rattle.jj_trees.specs.Signing.{FailsToSign, IsCommitIdTaken, signer_after};
 
 mod contents;
-mod first_objects;
-mod shelf;
+mod initial_objects;
+mod object_maps;
 mod signing;
 
 use contents::{FileContent, LinkTarget};
-use first_objects::{keep_empty_tree, keep_root_commit, zeros};
+use initial_objects::{initial_commits, initial_trees, zero_id};
 use jj_backend::backend::{
     Backend, BackendError, BackendResult, ChangeId, Commit, CommitId, CopyHistory, CopyId,
     CopyRecord, FileId, RelatedCopy, SigningFn, SymlinkId, Tree, TreeId,
 };
+use jj_files::file_util::SourceKind;
 use jj_paths::repo_path::{RepoPath, RepoPathBuf};
-use shelf::{id_of, keep, keep_copied, object_of};
-use signing::{rootless_error, sign_commit};
+use object_maps::{clone_object, content_id, insert_and_return, insert_object};
+use signing::{no_parents_error, sign_commit};
 use std::alloc::{AllocError, Global};
 use std::collections::BTreeMap;
 use std::marker::Model;
@@ -63,7 +65,7 @@ pub struct MemoryBackend {
 impl Model for MemoryBackend {
     ghost use Rattle.std.specs.Prelude.{◌≡◌, ◌≤◌, [], Some};
     ghost use Rattle.jj_backend.specs.Records.{root_commit};
-    ghost use Rattle.jj_trees.specs.Kept.{MemoryBackendValue, by_id, digest_length};
+    ghost use Rattle.jj_trees.specs.MemoryObjects.{MemoryBackendValue, by_id, digest_length};
 
     ghost Value = { MemoryBackendValue };
 
@@ -100,10 +102,10 @@ impl MemoryBackend {
         requires greatest { id_length ≤ digest_length }
         ensures { IfOk result (λ backend. backend ≡ new_backend id_length) }
     {
-        let root_commit_id: CommitId = zeros(alloc, id_length)?;
-        let root_change_id: ChangeId = zeros(alloc, CHANGE_ID_LENGTH)?;
-        let (empty_tree_id, trees) = keep_empty_tree(alloc, id_length)?;
-        let commits = keep_root_commit(alloc, &root_commit_id, &root_change_id, &empty_tree_id)?;
+        let root_commit_id: CommitId = zero_id(alloc, id_length)?;
+        let root_change_id: ChangeId = zero_id(alloc, CHANGE_ID_LENGTH)?;
+        let (empty_tree_id, trees) = initial_trees(alloc, id_length)?;
+        let commits = initial_commits(alloc, &root_commit_id, &root_change_id, &empty_tree_id)?;
         Ok(MemoryBackend {
             id_length,
             root_commit_id,
@@ -118,26 +120,26 @@ impl MemoryBackend {
     }
 
     // Stores a commit and returns its id and the commit.
-    fn keep_commit(&mut self, alloc: Global, commit: Commit) -> BackendResult<(CommitId, Commit)>
-        ensures ok { IfOk result (λ kept.
-            AddsCommit (objects_of self.old) (objects_of self.new) kept.0 kept.1) }
-        ensures commit { IfOk result (λ kept. kept.1 ≡ commit) }
-        ensures id { IfOk result (λ kept.
-            kept.0 ≡ object_id self.old.id_length (commit_content commit)) }
-        ensures same { self.new ≡ record self.old { commits = self.new.commits } }
-        ensures kept { OnErr result (self.new ≡ self.old) }
-        ensures refused { IfErr result (FailsToKeep self.old.commits
+    fn insert_commit(&mut self, alloc: Global, commit: Commit) -> BackendResult<(CommitId, Commit)>
+        ensures ok { IfOk result (λ stored.
+            AddsCommit (objects_of self.old) (objects_of self.new) stored.0 stored.1) }
+        ensures commit { IfOk result (λ stored. stored.1 ≡ commit) }
+        ensures id { IfOk result (λ stored.
+            stored.0 ≡ object_id self.old.id_length (commit_content commit)) }
+        ensures frame { self.new ≡ record self.old { commits = self.new.commits } }
+        ensures unchanged { OnErr result (self.new ≡ self.old) }
+        ensures error { IfErr result (IsStoreError self.old.commits
             (object_id self.old.id_length (commit_content commit)) commit) }
     {
-        let id = id_of(alloc, self.id_length, &commit)?;
-        keep_copied(alloc, &mut self.commits, id, commit)
+        let id = content_id(alloc, self.id_length, &commit)?;
+        insert_and_return(alloc, &mut self.commits, id, commit)
     }
 }
 
 impl Backend for MemoryBackend {
     ghost use Rattle.std.specs.Prelude.{◌≡◌, ⊤};
     ghost use Rattle.jj_backend.specs.declared.backend.errors.BackendError.TheVariants.{Memory};
-    ghost use Rattle.jj_trees.specs.Kept.{objects_of};
+    ghost use Rattle.jj_trees.specs.MemoryObjects.{objects_of};
 
     ghost objects = { objects_of };
 
@@ -190,8 +192,12 @@ impl Backend for MemoryBackend {
         1
     }
 
-    fn read_file(&self, alloc: Global, _path: RepoPath<'_>, id: &FileId) -> BackendResult<Vec<u8>> {
-        Ok(object_of(alloc, &self.files, id)?.bytes)
+    fn read_file(&self, alloc: Global, _path: RepoPath<'_>, id: &FileId) -> BackendResult<Vec<u8>>
+        ensures read { IsRead (λ e. e ≡ BackendError.Memory) ((objects_of self.now).files id.now)
+            (λ v. v.items) result }
+        ensures object { IfErr result (NamesObject (codes "file") id.now) }
+    {
+        Ok(clone_object(alloc, &self.files, id)?.bytes)
     }
 
     fn write_file(
@@ -204,14 +210,14 @@ impl Backend for MemoryBackend {
             AddsFile (objects_of self.old) (objects_of self.new) id contents.now) }
         ensures id { IfOk result (λ id.
             id ≡ object_id self.old.id_length (bytes_content contents.now)) }
-        ensures same { self.new ≡ record self.old { files = self.new.files } }
-        ensures kept { OnErr result (self.new ≡ self.old) }
-        ensures refused { IfErr result (FailsToKeep self.old.files
+        ensures frame { self.new ≡ record self.old { files = self.new.files } }
+        ensures unchanged { OnErr result (self.new ≡ self.old) }
+        ensures error { IfErr result (IsStoreError self.old.files
             (object_id self.old.id_length (bytes_content contents.now)) contents.now) }
     {
         let bytes = Vec::from_slice(alloc, contents)?;
-        let id = id_of(alloc, self.id_length, &bytes)?;
-        keep(alloc, &mut self.files, id, FileContent { bytes })
+        let id = content_id(alloc, self.id_length, &bytes)?;
+        insert_object(alloc, &mut self.files, id, FileContent { bytes })
     }
 
     fn read_symlink(
@@ -219,8 +225,12 @@ impl Backend for MemoryBackend {
         alloc: Global,
         _path: RepoPath<'_>,
         id: &SymlinkId,
-    ) -> BackendResult<String> {
-        Ok(object_of(alloc, &self.symlinks, id)?.text)
+    ) -> BackendResult<String>
+        ensures read { IsRead (λ e. e ≡ BackendError.Memory)
+            ((objects_of self.now).symlinks id.now) string_bytes result }
+        ensures object { IfErr result (NamesObject (codes "symlink") id.now) }
+    {
+        Ok(clone_object(alloc, &self.symlinks, id)?.text)
     }
 
     fn write_symlink(
@@ -233,18 +243,22 @@ impl Backend for MemoryBackend {
             AddsSymlink (objects_of self.old) (objects_of self.new) id target.now) }
         ensures id { IfOk result (λ id.
             id ≡ object_id self.old.id_length (text_content target.now)) }
-        ensures same { self.new ≡ record self.old { symlinks = self.new.symlinks } }
-        ensures kept { OnErr result (self.new ≡ self.old) }
-        ensures refused { IfErr result (FailsToKeep self.old.symlinks
+        ensures frame { self.new ≡ record self.old { symlinks = self.new.symlinks } }
+        ensures unchanged { OnErr result (self.new ≡ self.old) }
+        ensures error { IfErr result (IsStoreError self.old.symlinks
             (object_id self.old.id_length (text_content target.now)) target.now) }
     {
         let text = String::from_str(alloc, target)?;
-        let id = id_of(alloc, self.id_length, &text)?;
-        keep(alloc, &mut self.symlinks, id, LinkTarget { text })
+        let id = content_id(alloc, self.id_length, &text)?;
+        insert_object(alloc, &mut self.symlinks, id, LinkTarget { text })
     }
 
-    fn read_copy(&self, alloc: Global, id: &CopyId) -> BackendResult<CopyHistory> {
-        object_of(alloc, &self.copies, id)
+    fn read_copy(&self, alloc: Global, id: &CopyId) -> BackendResult<CopyHistory>
+        ensures read { IsRead (λ e. e ≡ BackendError.Memory) ((objects_of self.now).copies id.now)
+            (λ c. c) result }
+        ensures object { IfErr result (NamesObject (codes "copy") id.now) }
+    {
+        clone_object(alloc, &self.copies, id)
     }
 
     fn write_copy(&mut self, alloc: Global, copy: &CopyHistory) -> BackendResult<CopyId>
@@ -252,14 +266,14 @@ impl Backend for MemoryBackend {
             AddsCopy (objects_of self.old) (objects_of self.new) id copy.now) }
         ensures id { IfOk result (λ id.
             id ≡ object_id self.old.id_length (copy_history_content copy.now)) }
-        ensures same { self.new ≡ record self.old { copies = self.new.copies } }
-        ensures kept { OnErr result (self.new ≡ self.old) }
-        ensures refused { IfErr result (FailsToKeep self.old.copies
+        ensures frame { self.new ≡ record self.old { copies = self.new.copies } }
+        ensures unchanged { OnErr result (self.new ≡ self.old) }
+        ensures error { IfErr result (IsStoreError self.old.copies
             (object_id self.old.id_length (copy_history_content copy.now)) copy.now) }
     {
-        let id = id_of(alloc, self.id_length, copy)?;
+        let id = content_id(alloc, self.id_length, copy)?;
         let copy = copy.clone()?;
-        keep(alloc, &mut self.copies, id, copy)
+        insert_object(alloc, &mut self.copies, id, copy)
     }
 
     /// Always fails with `Unsupported`.
@@ -273,8 +287,12 @@ impl Backend for MemoryBackend {
         Err(unsupported_error(alloc, "related copies are not supported"))
     }
 
-    fn read_tree(&self, alloc: Global, _path: RepoPath<'_>, id: &TreeId) -> BackendResult<Tree> {
-        object_of(alloc, &self.trees, id)
+    fn read_tree(&self, alloc: Global, _path: RepoPath<'_>, id: &TreeId) -> BackendResult<Tree>
+        ensures value { IsRead (λ e. e ≡ BackendError.Memory) ((objects_of self.now).trees id.now)
+            (λ t. t) result }
+        ensures object { IfErr result (NamesObject (codes "tree") id.now) }
+    {
+        clone_object(alloc, &self.trees, id)
     }
 
     fn write_tree(
@@ -287,18 +305,22 @@ impl Backend for MemoryBackend {
             AddsTree (objects_of self.old) (objects_of self.new) id contents.now) }
         ensures id { IfOk result (λ id.
             id ≡ object_id self.old.id_length (tree_content contents.now)) }
-        ensures same { self.new ≡ record self.old { trees = self.new.trees } }
-        ensures kept { OnErr result (self.new ≡ self.old) }
-        ensures refused { IfErr result (FailsToKeep self.old.trees
+        ensures frame { self.new ≡ record self.old { trees = self.new.trees } }
+        ensures unchanged { OnErr result (self.new ≡ self.old) }
+        ensures error { IfErr result (IsStoreError self.old.trees
             (object_id self.old.id_length (tree_content contents.now)) contents.now) }
     {
-        let id = id_of(alloc, self.id_length, contents)?;
+        let id = content_id(alloc, self.id_length, contents)?;
         let tree = contents.clone()?;
-        keep(alloc, &mut self.trees, id, tree)
+        insert_object(alloc, &mut self.trees, id, tree)
     }
 
-    fn read_commit(&self, alloc: Global, id: &CommitId) -> BackendResult<Commit> {
-        object_of(alloc, &self.commits, id)
+    fn read_commit(&self, alloc: Global, id: &CommitId) -> BackendResult<Commit>
+        ensures read { IsRead (λ e. e ≡ BackendError.Memory) ((objects_of self.now).commits id.now)
+            (λ c. c) result }
+        ensures object { IfErr result (NamesObject (codes "commit") id.now) }
+    {
+        clone_object(alloc, &self.commits, id)
     }
 
     /// Fails with `Other` for a commit without parents, without calling the signer.
@@ -308,34 +330,34 @@ impl Backend for MemoryBackend {
         contents: Commit,
         sign_with: Option<&mut S>,
     ) -> BackendResult<(CommitId, Commit)>
-        ensures ok { IfOk result (λ kept.
-            AddsCommit (objects_of self.old) (objects_of self.new) kept.0 kept.1) }
-        ensures signed { IfOk result (λ kept.
-            IsSigned S.may_sign (option_map (λ f. f.now) sign_with.entry) contents kept.1) }
+        ensures ok { IfOk result (λ stored.
+            AddsCommit (objects_of self.old) (objects_of self.new) stored.0 stored.1) }
+        ensures signed { IfOk result (λ stored.
+            IsSigned S.may_sign (option_map (λ f. f.now) sign_with.entry) contents stored.1) }
         ensures parents { OnOk result (contents.parents ≢ []) }
-        ensures unasked { contents.parents ≡ []
-            → signer_left (λ f. f.0.now) sign_with.exit ≡ option_map (λ f. f.now) sign_with.entry }
-        ensures id { IfOk result (λ kept.
-            kept.0 ≡ object_id self.old.id_length (commit_content kept.1)) }
-        ensures same { self.new ≡ record self.old { commits = self.new.commits } }
-        ensures kept { OnErr result (self.new ≡ self.old) }
-        ensures refused { IfErr result (λ e. (e ≡ BackendError.Memory)
-            ⊎ ((is_other e ≡ true) × (contents.parents ≡ []))
+        ensures not_called { contents.parents ≡ []
+            → signer_after (λ f. f.0.now) sign_with.exit ≡ option_map (λ f. f.now) sign_with.entry }
+        ensures id { IfOk result (λ stored.
+            stored.0 ≡ object_id self.old.id_length (commit_content stored.1)) }
+        ensures frame { self.new ≡ record self.old { commits = self.new.commits } }
+        ensures unchanged { OnErr result (self.new ≡ self.old) }
+        ensures error { IfErr result (λ e. (e ≡ BackendError.Memory)
+            ⊎ (IsOtherOf SourceKind.Other e × (contents.parents ≡ []))
             ⊎ ((contents.parents ≢ [])
             × FailsToSign S.may_sign (option_map (λ f. f.now) sign_with.entry) contents e)
-            ⊎ ((is_other e ≡ true) × StandsForOtherCommit self.old
+            ⊎ (IsOtherOf SourceKind.Other e × IsCommitIdTaken self.old
             (IsSigned S.may_sign (option_map (λ f. f.now) sign_with.entry) contents))) }
     {
         match sign_with {
             None => {
                 if contents.parents.is_empty() {
-                    return Err(rootless_error(alloc));
+                    return Err(no_parents_error(alloc));
                 }
-                self.keep_commit(alloc, contents)
+                self.insert_commit(alloc, contents)
             }
             Some(signer) => {
                 let commit = sign_commit(alloc, contents, signer)?;
-                self.keep_commit(alloc, commit)
+                self.insert_commit(alloc, commit)
             }
         }
     }

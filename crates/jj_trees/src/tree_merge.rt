@@ -1,16 +1,18 @@
 //! Recursive merge of trees: trivial resolution of the values at each path, and recursion into
 //! directories that do not resolve.
-ghost use Rattle.std.specs.Prelude.{◌≡◌, ◌↔◌, ◌⊎◌, [], map, length, Option, IsTrue, true};
-ghost use Rattle.std.specs.Prelude.{All, Any, IfOk, IfErr, IfSome, IsNone, OnOk};
+ghost use Rattle.std.specs.Prelude.{◌≡◌, ◌↔◌, ◌⊎◌, ℕ, List, [], map, length, Option, IsTrue, true};
+ghost use Rattle.std.specs.Prelude.{All, AllPairs, Any, Contains, IfOk, IfErr, IfSome, IsNone, OnOk};
 ghost use Rattle.std.specs.NonZero.{non_zero_usize_get};
 ghost use Rattle.jj_merges.specs.Merge.{IsOdd};
 ghost use Rattle.jj_paths.specs.Names.{path_of};
+ghost use Rattle.jj_paths.specs.Paths.{Path, path_cmp};
 ghost use Rattle.jj_backend.specs.Errors.{is_unsupported};
+ghost use Rattle.jj_backend.specs.declared.backend.tree_value.TreeValue.{TreeValue};
 ghost use Rattle.jj_trees.specs.Steps.{IsStep};
-ghost use Rattle.jj_trees.specs.TreeMerges.{entries_of, root_values, conflict_entries};
-ghost use Rattle.jj_trees.specs.TreeMerges.{is_tree_or_absent, IsReadAt, FailsAt, IsEntered, IsHere};
-ghost use Rattle.jj_trees.specs.TreeMerges.{IsAppended, IsWithin, IsRefused};
-ghost use Rattle.jj_trees.specs.TreeMerges.{IsMergeAnswer, most_levels};
+ghost use Rattle.jj_trees.specs.TreeMerges.{AreRead, IsConflict, IsMergeError, IsResolved};
+ghost use Rattle.jj_trees.specs.TreeMerges.{MustRecurse, Values, is_tree_or_absent, most_levels, root_values};
+ghost use Rattle.jj_trees.specs.DirectoryMerges.{AppendsOutcome, FailsAt, IsAppended, IsDirectoryError};
+ghost use Rattle.jj_trees.specs.DirectoryMerges.{IsReadAt, IsWithin, conflict_entries, entries_of};
 
 mod rows;
 
@@ -18,16 +20,17 @@ use jj_backend::backend::{Backend, BackendError, BackendResult, Tree, TreeId, Tr
 use jj_merges::conflict_labels::ConflictLabels;
 use jj_merges::merge::{Merge, SameChange, trivial_merge};
 use jj_paths::repo_path::{RepoPath, RepoPathBuf};
-use rows::rows_of;
+use rows::merge_rows;
 use smallvec::SmallVec;
 use std::alloc::{AllocError, Global};
+use std::cmp::Ordering;
 use std::num::NonZeroUsize;
 
 // The outcome of the values at one path.
 enum Step<'a> {
     Resolved(&'a TreeValue),
     Absent,
-    Entered,
+    Recurse,
     Conflict,
 }
 
@@ -55,7 +58,7 @@ pub struct TreeMerge {
     pub conflicts: Vec<(RepoPathBuf, Merge<Option<TreeValue>>, ConflictLabels)>,
 }
 
-fn step_of(values: &[Option<TreeValue>], same_change: SameChange) -> Step<'_>
+fn classify(values: &[Option<TreeValue>], same_change: SameChange) -> Step<'_>
     requires { IsOdd (length values.now) }
     ensures { IsStep ⟦<Option<TreeValue> as PartialEq>⟧.eq same_change values.now result }
 {
@@ -64,7 +67,7 @@ fn step_of(values: &[Option<TreeValue>], same_change: SameChange) -> Step<'_>
         Some(None) => Step::Absent,
         None => {
             if are_trees(values) {
-                Step::Entered
+                Step::Recurse
             } else {
                 Step::Conflict
             }
@@ -73,7 +76,7 @@ fn step_of(values: &[Option<TreeValue>], same_change: SameChange) -> Step<'_>
 }
 
 // Returns an empty tree for a value that is not a tree.
-fn tree_of<B: Backend>(
+fn read_value<B: Backend>(
     alloc: Global,
     backend: &B,
     dir: RepoPath<'_>,
@@ -83,7 +86,7 @@ fn tree_of<B: Backend>(
         tree ≡ entries_of (B.objects backend.now).trees value.now) }
     ensures read { OnOk result (IsReadAt (B.objects backend.now).trees
         (B.may_read_tree backend.now) (path_of dir.entry) value.now) }
-    ensures refused { IfErr result (λ e. FailsAt (B.objects backend.now).trees
+    ensures error { IfErr result (λ e. FailsAt (B.objects backend.now).trees
         (B.may_read_tree backend.now) (B.may_fail backend.now) (path_of dir.entry) e value.now) }
 {
     match value {
@@ -92,7 +95,7 @@ fn tree_of<B: Backend>(
     }
 }
 
-fn trees_of<B: Backend>(
+fn read_trees<B: Backend>(
     alloc: Global,
     backend: &B,
     dir: RepoPath<'_>,
@@ -102,19 +105,19 @@ fn trees_of<B: Backend>(
         trees.items ≡ map (entries_of (B.objects backend.now).trees) values.now) }
     ensures read { OnOk result (All (IsReadAt (B.objects backend.now).trees
         (B.may_read_tree backend.now) (path_of dir.entry)) values.now) }
-    ensures refused { IfErr result (λ e. (e ≡ BackendError.Memory)
+    ensures error { IfErr result (λ e. (e ≡ BackendError.Memory)
         ⊎ Any (FailsAt (B.objects backend.now).trees (B.may_read_tree backend.now)
         (B.may_fail backend.now) (path_of dir.entry) e) values.now) }
 {
     let mut trees = Vec::new(alloc);
     for value in values {
-        let tree = tree_of(alloc, backend, dir, value)?;
+        let tree = read_value(alloc, backend, dir, value)?;
         trees.push(tree)?;
     }
     Ok(trees)
 }
 
-fn too_deep(alloc: Global) -> BackendError
+fn too_deep_error(alloc: Global) -> BackendError
     ensures { (result ≡ BackendError.Memory) ⊎ (is_unsupported result ≡ true) }
 {
     match String::from_str(alloc, "trees are nested too deep") {
@@ -124,7 +127,7 @@ fn too_deep(alloc: Global) -> BackendError
 }
 
 // Appends the outcome of the values at a path, or returns the directory to recurse into.
-fn merge_here(
+fn merge_path(
     alloc: Global,
     path: RepoPathBuf,
     values: Vec<Option<TreeValue>>,
@@ -134,25 +137,25 @@ fn merge_here(
 ) -> Result<Option<Directory>, AllocError>
     requires odd { IsOdd (length values.items) }
     requires sides { (labels.now ≡ []) ⊎ (length labels.now ≡ length values.items) }
-    ensures done { IfOk result (λ o. IsNone o →
-        IsHere ⟦<Option<TreeValue> as PartialEq>⟧.eq same_change values.items labels.now path
-        merged.old.resolved.items merged.new.resolved.items
+    ensures appended { IfOk result (λ o. IsNone o →
+        AppendsOutcome ⟦<Option<TreeValue> as PartialEq>⟧.eq same_change values.items labels.now
+        path merged.old.resolved.items merged.new.resolved.items
         (conflict_entries merged.old.conflicts.items)
         (conflict_entries merged.new.conflicts.items)) }
-    ensures entered { IfOk result (λ o. IfSome o (λ directory.
+    ensures subdirectory { IfOk result (λ o. IfSome o (λ directory.
         (directory.path ≡ path) × (directory.values.items ≡ values.items)
-        × IsEntered ⟦<Option<TreeValue> as PartialEq>⟧.eq same_change values.items
+        × MustRecurse ⟦<Option<TreeValue> as PartialEq>⟧.eq same_change values.items
         × (merged.new.resolved.items ≡ merged.old.resolved.items)
         × (merged.new.conflicts.items ≡ merged.old.conflicts.items))) }
 {
-    match step_of(&values, same_change) {
+    match classify(&values, same_change) {
         Step::Resolved(value) => {
             let value = value.clone()?;
             merged.resolved.push((path, value))?;
             Ok(None)
         }
         Step::Absent => Ok(None),
-        Step::Entered => Ok(Some(Directory { path, values })),
+        Step::Recurse => Ok(Some(Directory { path, values })),
         Step::Conflict => {
             let conflict = Merge::from_vec(SmallVec::from_vec(values));
             let (labels, terms) = labels.simplify_with(alloc, &conflict)?;
@@ -163,7 +166,7 @@ fn merge_here(
 }
 
 // Merges the entries of a directory and appends their outcomes.
-fn merge_below<B: Backend>(
+fn merge_directory<B: Backend>(
     alloc: Global,
     backend: &B,
     dir: RepoPath<'_>,
@@ -185,25 +188,25 @@ fn merge_below<B: Backend>(
         (IsReadAt (B.objects backend.now).trees (B.may_read_tree backend.now))
         (FailsAt (B.objects backend.now).trees (B.may_read_tree backend.now)
         (B.may_fail backend.now)) (path_of dir.entry) values.now levels) }
-    ensures refused { IfErr result (IsRefused (B.objects backend.now).trees
+    ensures error { IfErr result (IsDirectoryError (B.objects backend.now).trees
         ⟦<Option<TreeValue> as PartialEq>⟧.eq same_change
         (IsReadAt (B.objects backend.now).trees (B.may_read_tree backend.now))
         (FailsAt (B.objects backend.now).trees (B.may_read_tree backend.now)
         (B.may_fail backend.now)) (path_of dir.entry) values.now levels) }
 {
     if levels == 0 {
-        return Err(too_deep(alloc));
+        return Err(too_deep_error(alloc));
     }
-    let trees = trees_of(alloc, backend, dir, values)?;
-    let rows = rows_of(alloc, &trees)?;
+    let trees = read_trees(alloc, backend, dir, values)?;
+    let rows = merge_rows(alloc, &trees)?;
     for row in rows {
         let path = dir.join(alloc, row.name.as_component())?;
-        let entered = merge_here(alloc, path, row.values, labels, same_change, merged)?;
-        match entered {
+        let subdirectory = merge_path(alloc, path, row.values, labels, same_change, merged)?;
+        match subdirectory {
             None => {}
             Some(directory) => {
                 let dir = directory.path.as_path();
-                merge_below(
+                merge_directory(
                     alloc,
                     backend,
                     dir,
@@ -219,7 +222,7 @@ fn merge_below<B: Backend>(
     Ok(())
 }
 
-fn root_values_of(alloc: Global, ids: &[TreeId]) -> Result<Vec<Option<TreeValue>>, AllocError>
+fn collect_root_values(alloc: Global, ids: &[TreeId]) -> Result<Vec<Option<TreeValue>>, AllocError>
     ensures { IfOk result (λ values. values.items ≡ root_values ids.now) }
 {
     let mut values = Vec::with_capacity(alloc, ids.len())?;
@@ -246,19 +249,31 @@ pub fn merge_trees_within<B: Backend>(
     levels: NonZeroUsize,
 ) -> BackendResult<TreeMerge>
     requires { (labels.now ≡ []) ⊎ (length labels.now ≡ length trees.now) }
-    ensures { IsMergeAnswer (B.objects backend.now).trees
-        ⟦<Option<TreeValue> as PartialEq>⟧.eq same_change
-        (IsReadAt (B.objects backend.now).trees (B.may_read_tree backend.now))
-        (FailsAt (B.objects backend.now).trees (B.may_read_tree backend.now)
-        (B.may_fail backend.now))
-        (root_values trees.now) labels.now (non_zero_usize_get levels) result }
+    ensures resolved { IfOk result (λ m. (path : Path) (value : TreeValue) →
+        Contains m.resolved.items (path, value)
+        ↔ IsResolved (B.objects backend.now).trees ⟦<Option<TreeValue> as PartialEq>⟧.eq same_change
+        (root_values trees.now) path value) }
+    ensures conflicts { IfOk result (λ m.
+        (path : Path) (terms : Values) (term_labels : List (List ℕ)) →
+        Contains m.conflicts.items (path, terms, term_labels)
+        ↔ IsConflict (B.objects backend.now).trees ⟦<Option<TreeValue> as PartialEq>⟧.eq same_change
+        (root_values trees.now) labels.now path terms term_labels) }
+    ensures ascending { IfOk result (λ m.
+        AllPairs (λ a b. path_cmp a.0 b.0 ≡ Ordering.Less) m.resolved.items
+        × AllPairs (λ a b. path_cmp a.0 b.0 ≡ Ordering.Less) m.conflicts.items) }
+    ensures read { OnOk result (AreRead (B.objects backend.now).trees
+        ⟦<Option<TreeValue> as PartialEq>⟧.eq same_change (B.may_read_tree backend.now)
+        (root_values trees.now) (non_zero_usize_get levels)) }
+    ensures error { IfErr result (IsMergeError (B.objects backend.now).trees
+        ⟦<Option<TreeValue> as PartialEq>⟧.eq same_change (B.may_read_tree backend.now)
+        (B.may_fail backend.now) (root_values trees.now) (non_zero_usize_get levels)) }
 {
-    let values = root_values_of(alloc, trees.as_slice())?;
+    let values = collect_root_values(alloc, trees.as_slice())?;
     let mut merged = TreeMerge {
         resolved: Vec::new(alloc),
         conflicts: Vec::new(alloc),
     };
-    merge_below(
+    merge_directory(
         alloc,
         backend,
         RepoPath::root(),
@@ -283,12 +298,24 @@ pub fn merge_trees<B: Backend>(
     same_change: SameChange,
 ) -> BackendResult<TreeMerge>
     requires { (labels.now ≡ []) ⊎ (length labels.now ≡ length trees.now) }
-    ensures { IsMergeAnswer (B.objects backend.now).trees
-        ⟦<Option<TreeValue> as PartialEq>⟧.eq same_change
-        (IsReadAt (B.objects backend.now).trees (B.may_read_tree backend.now))
-        (FailsAt (B.objects backend.now).trees (B.may_read_tree backend.now)
-        (B.may_fail backend.now))
-        (root_values trees.now) labels.now most_levels result }
+    ensures resolved { IfOk result (λ m. (path : Path) (value : TreeValue) →
+        Contains m.resolved.items (path, value)
+        ↔ IsResolved (B.objects backend.now).trees ⟦<Option<TreeValue> as PartialEq>⟧.eq same_change
+        (root_values trees.now) path value) }
+    ensures conflicts { IfOk result (λ m.
+        (path : Path) (terms : Values) (term_labels : List (List ℕ)) →
+        Contains m.conflicts.items (path, terms, term_labels)
+        ↔ IsConflict (B.objects backend.now).trees ⟦<Option<TreeValue> as PartialEq>⟧.eq same_change
+        (root_values trees.now) labels.now path terms term_labels) }
+    ensures ascending { IfOk result (λ m.
+        AllPairs (λ a b. path_cmp a.0 b.0 ≡ Ordering.Less) m.resolved.items
+        × AllPairs (λ a b. path_cmp a.0 b.0 ≡ Ordering.Less) m.conflicts.items) }
+    ensures read { OnOk result (AreRead (B.objects backend.now).trees
+        ⟦<Option<TreeValue> as PartialEq>⟧.eq same_change (B.may_read_tree backend.now)
+        (root_values trees.now) most_levels) }
+    ensures error { IfErr result (IsMergeError (B.objects backend.now).trees
+        ⟦<Option<TreeValue> as PartialEq>⟧.eq same_change (B.may_read_tree backend.now)
+        (B.may_fail backend.now) (root_values trees.now) most_levels) }
 {
     let Some(levels) = NonZeroUsize::new(MOST_LEVELS) else {
         unreachable!();

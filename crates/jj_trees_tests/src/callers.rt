@@ -1,13 +1,12 @@
 //! Proved callers of the in-memory backend and of recursive tree merges.
-ghost use Rattle.std.specs.Prelude.{◌≡◌, ◌↔◌, ◌⊎◌, ℕ, List, [], length, Contains, IfOk, IfErr, string_bytes};
+ghost use Rattle.std.specs.Prelude.{◌≡◌, ◌↔◌, ◌⊎◌, ℕ, List, [], length, AllPairs, Contains, IfOk, IfErr, string_bytes};
 ghost use Rattle.jj_merges.specs.Merge.{HaveSameCounts, IsDisjoint};
 ghost use Rattle.jj_merges.specs.declared.merge.SameChange.TheVariants.{Accept};
 ghost use Rattle.jj_backend.specs.declared.backend.tree_value.TreeValue.{TreeValue};
-ghost use Rattle.jj_paths.specs.Paths.{Path};
-ghost use Rattle.jj_trees.specs.Kept.{objects_of};
-ghost use Rattle.jj_trees.specs.TreeMerges.{IsResolved, IsMerge, Values, root_values, values_at};
-ghost use Rattle.jj_trees.specs.TreeMerges.{conflict_entries};
-ghost use Rattle.jj_trees_tests.specs.Writes.{IsNotKept};
+ghost use Rattle.jj_paths.specs.Paths.{Path, path_cmp};
+ghost use Rattle.jj_trees.specs.MemoryObjects.{objects_of};
+ghost use Rattle.jj_trees.specs.TreeMerges.{IsConflict, IsResolved, Values, root_values, values_at};
+ghost use Rattle.jj_trees_tests.specs.Writes.{IsWriteError};
 
 use jj_backend::backend::{
     Backend, BackendResult, Commit, CopyHistory, SigningFn, Tree, TreeId, TreeValue,
@@ -19,9 +18,10 @@ use jj_paths::repo_path::{RepoPath, RepoPathBuf};
 use jj_trees::memory_backend::MemoryBackend;
 use jj_trees::tree_merge::{TreeMerge, merge_trees};
 use std::alloc::Global;
+use std::cmp::Ordering;
 
 /// Merges trees and returns exactly the paths that resolve to a present value.
-pub fn resolved<B: Backend>(
+pub fn resolved_paths<B: Backend>(
     alloc: Global,
     backend: &B,
     trees: &Merge<TreeId>,
@@ -63,7 +63,7 @@ pub fn written_file(
     contents: &[u8],
 ) -> BackendResult<Vec<u8>>
     ensures read { IfOk result (λ read. read.items ≡ contents.now) }
-    ensures refused { IfErr result IsNotKept }
+    ensures error { IfErr result IsWriteError }
 {
     let id = backend.write_file(alloc, RepoPath::root(), contents)?;
     backend.read_file(alloc, RepoPath::root(), &id)
@@ -76,7 +76,7 @@ pub fn written_symlink(
     target: &str,
 ) -> BackendResult<String>
     ensures read { IfOk result (λ read. string_bytes read ≡ target.now) }
-    ensures refused { IfErr result IsNotKept }
+    ensures error { IfErr result IsWriteError }
 {
     let id = backend.write_symlink(alloc, RepoPath::root(), target)?;
     backend.read_symlink(alloc, RepoPath::root(), &id)
@@ -89,7 +89,7 @@ pub fn written_copy(
     copy: &CopyHistory,
 ) -> BackendResult<CopyHistory>
     ensures read { IfOk result (λ read. read ≡ copy.now) }
-    ensures refused { IfErr result IsNotKept }
+    ensures error { IfErr result IsWriteError }
 {
     let id = backend.write_copy(alloc, copy)?;
     backend.read_copy(alloc, &id)
@@ -98,7 +98,7 @@ pub fn written_copy(
 /// Writes a tree and reads it back.
 pub fn written_tree(alloc: Global, backend: &mut MemoryBackend, tree: &Tree) -> BackendResult<Tree>
     ensures read { IfOk result (λ read. read ≡ tree.now) }
-    ensures refused { IfErr result IsNotKept }
+    ensures error { IfErr result IsWriteError }
 {
     let id = backend.write_tree(alloc, RepoPath::root(), tree)?;
     backend.read_tree(alloc, RepoPath::root(), &id)
@@ -112,7 +112,7 @@ pub fn written_commit<S: SigningFn>(
     sign_with: Option<&mut S>,
 ) -> BackendResult<(Commit, Commit)>
     ensures read { IfOk result (λ both. both.1 ≡ both.0) }
-    ensures refused { IfErr result IsNotKept }
+    ensures error { IfErr result IsWriteError }
 {
     let (id, kept) = backend.write_commit(alloc, commit, sign_with)?;
     let read = backend.read_commit(alloc, &id)?;
@@ -128,9 +128,18 @@ pub fn merge_in_memory(
     same_change: SameChange,
 ) -> BackendResult<TreeMerge>
     requires { (labels.now ≡ []) ⊎ (length labels.now ≡ length trees.now) }
-    ensures { IfOk result (λ m. IsMerge (objects_of backend.now).trees
-        ⟦<Option<TreeValue> as PartialEq>⟧.eq same_change (root_values trees.now) labels.now
-        m.resolved.items (conflict_entries m.conflicts.items)) }
+    ensures resolved { IfOk result (λ m. (path : Path) (value : TreeValue) →
+        Contains m.resolved.items (path, value)
+        ↔ IsResolved (objects_of backend.now).trees ⟦<Option<TreeValue> as PartialEq>⟧.eq
+        same_change (root_values trees.now) path value) }
+    ensures conflicts { IfOk result (λ m.
+        (path : Path) (terms : Values) (term_labels : List (List ℕ)) →
+        Contains m.conflicts.items (path, terms, term_labels)
+        ↔ IsConflict (objects_of backend.now).trees ⟦<Option<TreeValue> as PartialEq>⟧.eq
+        same_change (root_values trees.now) labels.now path terms term_labels) }
+    ensures ascending { IfOk result (λ m.
+        AllPairs (λ a b. path_cmp a.0 b.0 ≡ Ordering.Less) m.resolved.items
+        × AllPairs (λ a b. path_cmp a.0 b.0 ≡ Ordering.Less) m.conflicts.items) }
 {
     merge_trees(alloc, backend, trees, labels, same_change)
 }

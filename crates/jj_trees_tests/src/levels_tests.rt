@@ -23,7 +23,7 @@ fn write_above(
 }
 
 // Writes a file of one byte in nested directories; `levels` counts the root.
-fn nested(
+fn write_nested(
     alloc: Global,
     backend: &mut MemoryBackend,
     byte: u8,
@@ -38,14 +38,14 @@ fn nested(
 }
 
 // Writes three trees that differ in one nested file, and returns their merge.
-fn three_nested(
+fn write_three_nested(
     alloc: Global,
     backend: &mut MemoryBackend,
     levels: usize,
 ) -> BackendResult<Merge<TreeId>> {
-    let left = nested(alloc, backend, b'1', levels)?;
-    let base = nested(alloc, backend, b'0', levels)?;
-    let right = nested(alloc, backend, b'2', levels)?;
+    let left = write_nested(alloc, backend, b'1', levels)?;
+    let base = write_nested(alloc, backend, b'0', levels)?;
+    let right = write_nested(alloc, backend, b'2', levels)?;
     let mut changes = Vec::new(alloc);
     changes.push((base, right))?;
     tree_merge_of(alloc, left, changes)
@@ -54,7 +54,7 @@ fn three_nested(
 // Merges three trees that differ in one nested file.
 fn merge_nested(alloc: Global, levels: usize) -> BackendResult<TreeMerge> {
     let mut backend = MemoryBackend::new(alloc)?;
-    let trees = three_nested(alloc, &mut backend, levels)?;
+    let trees = write_three_nested(alloc, &mut backend, levels)?;
     let labels = ConflictLabels::unlabeled(alloc);
     merge_trees(alloc, &backend, &trees, &labels, SameChange::Accept)
 }
@@ -72,7 +72,7 @@ fn is_one_conflict(merge: &TreeMerge, bytes: usize) -> bool {
 }
 
 #[test]
-fn as_deep_as_may_be(rt: HostRuntime) -> Result<(), Fail> {
+fn deepest_level(rt: HostRuntime) -> Result<(), Fail> {
     let merge = match merge_nested(rt.alloc(), 1024) {
         Err(BackendError::Memory) => merge_nested(rt.alloc(), 1024)?,
         merge => merge?,

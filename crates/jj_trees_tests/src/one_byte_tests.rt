@@ -7,9 +7,9 @@ use std::process::Abort;
 use std::test::Fail;
 
 // The ids of the files that were written, with the number that each contains.
-type Acknowledged = Vec<(FileId, u16)>;
+type WrittenFiles = Vec<(FileId, u16)>;
 
-fn remember(files: &mut Acknowledged, id: FileId, number: u16) -> Result<(), AllocError> {
+fn record_file(files: &mut WrittenFiles, id: FileId, number: u16) -> Result<(), AllocError> {
     if files.try_reserve(1).is_err() {
         files.try_reserve(1)?;
     }
@@ -18,7 +18,7 @@ fn remember(files: &mut Acknowledged, id: FileId, number: u16) -> Result<(), All
 }
 
 // Whether each file still contains its number.
-fn all_read(alloc: Global, backend: &MemoryBackend, files: &Acknowledged) -> BackendResult<bool> {
+fn all_read(alloc: Global, backend: &MemoryBackend, files: &WrittenFiles) -> BackendResult<bool> {
     for (id, number) in files {
         if read_file(alloc, backend, id)?.as_slice() != number.to_le_bytes().as_slice() {
             return Ok(false);
@@ -28,15 +28,15 @@ fn all_read(alloc: Global, backend: &MemoryBackend, files: &Acknowledged) -> Bac
 }
 
 // Writes the file of a number. Returns whether the write fails because the id is taken.
-fn is_refused(
+fn write_fails(
     alloc: Global,
     backend: &mut MemoryBackend,
-    files: &mut Acknowledged,
+    files: &mut WrittenFiles,
     number: u16,
 ) -> BackendResult<bool> {
     match write_file(alloc, backend, number.to_le_bytes().as_slice()) {
         Ok(id) => {
-            remember(files, id, number)?;
+            record_file(files, id, number)?;
             Ok(false)
         }
         Err(BackendError::Other(_)) => Ok(true),
@@ -46,21 +46,21 @@ fn is_refused(
 
 // Writes `count` files and, after each write, reads all files written so far. Returns the number
 // of failed writes.
-fn count_refused<R: Abort>(rt: &R, alloc: Global, count: u16) -> BackendResult<u16> {
+fn count_failures<R: Abort>(rt: &R, alloc: Global, count: u16) -> BackendResult<u16> {
     let mut backend = ids_of_one_byte(alloc)?;
     let mut files = Vec::new(alloc);
-    let mut refused = 0u16;
+    let mut failures = 0u16;
     for number in 0..count {
-        if is_refused(alloc, &mut backend, &mut files, number)? {
-            refused = refused.saturating_add(1);
+        if write_fails(alloc, &mut backend, &mut files, number)? {
+            failures = failures.saturating_add(1);
         }
         assert!(rt; all_read(alloc, &backend, &files)?);
     }
-    Ok(refused)
+    Ok(failures)
 }
 
 #[test]
-fn some_of_257_files_are_refused(rt: HostRuntime) -> Result<(), Fail> {
-    assert!(rt; count_refused(&rt, rt.alloc(), 257)? > 0);
+fn some_of_257_writes_fail(rt: HostRuntime) -> Result<(), Fail> {
+    assert!(rt; count_failures(&rt, rt.alloc(), 257)? > 0);
     Ok(())
 }

@@ -10,14 +10,17 @@ use jj_paths::repo_path::{RepoPath, RepoPathBuf};
 use jj_trees::memory_backend::MemoryBackend;
 use jj_trees::tree_merge::{TreeMerge, merge_trees};
 use std::alloc::Global;
+use std::cell::Cell;
 use std::process::Abort;
 use std::test::Fail;
 
-// Reads each tree only at the path at which it is stored. All other reads and writes fail.
+// Reads each tree only at the path at which it is stored, and counts the reads of trees. All other
+// reads and writes fail.
 #[derive(Drop)]
 struct PathBackend {
     inner: MemoryBackend,
     paths: Vec<(TreeId, RepoPathBuf)>,
+    reads: Cell<u32>,
 }
 
 impl PathBackend {
@@ -34,7 +37,7 @@ impl PathBackend {
 impl Backend for PathBackend {
     ghost use Rattle.std.specs.Prelude.{◌≡◌, ⊤};
     ghost use Rattle.jj_backend.specs.declared.backend.errors.BackendError.TheVariants.{Memory};
-    ghost use Rattle.jj_trees.specs.Kept.{objects_of};
+    ghost use Rattle.jj_trees.specs.MemoryObjects.{objects_of};
 
     ghost objects = { λ backend. objects_of backend.inner };
 
@@ -123,6 +126,7 @@ impl Backend for PathBackend {
     }
 
     fn read_tree(&self, alloc: Global, path: RepoPath<'_>, id: &TreeId) -> BackendResult<Tree> {
+        self.reads.set(self.reads.get().saturating_add(1));
         if self.is_stored_at(path, id) {
             return self.inner.read_tree(alloc, path, id);
         }
@@ -186,10 +190,12 @@ fn store_file(alloc: Global, backend: &mut PathBackend, byte: u8) -> BackendResu
     store(alloc, backend, "", "d", TreeValue::Tree(d))
 }
 
-fn merge_nested(alloc: Global) -> BackendResult<TreeMerge> {
+// Merges three trees that differ in one nested file. Returns the number of reads too.
+fn merge_nested(alloc: Global) -> BackendResult<(TreeMerge, u32)> {
     let mut backend = PathBackend {
         inner: MemoryBackend::new(alloc)?,
         paths: Vec::new(alloc),
+        reads: Cell::new(0),
     };
     let left = store_file(alloc, &mut backend, b'1')?;
     let base = store_file(alloc, &mut backend, b'0')?;
@@ -198,7 +204,8 @@ fn merge_nested(alloc: Global) -> BackendResult<TreeMerge> {
     changes.push((base, right))?;
     let roots = tree_merge_of(alloc, left, changes)?;
     let labels = ConflictLabels::unlabeled(alloc);
-    merge_trees(alloc, &backend, &roots, &labels, SameChange::Accept)
+    let merge = merge_trees(alloc, &backend, &roots, &labels, SameChange::Accept)?;
+    Ok((merge, backend.reads.get()))
 }
 
 fn has_conflict_at(merge: &TreeMerge, expected: &str) -> bool {
@@ -208,12 +215,14 @@ fn has_conflict_at(merge: &TreeMerge, expected: &str) -> bool {
     }
 }
 
+// Each of the three merged directories is read once for each of the three terms.
 #[test]
 fn trees_are_read_at_their_paths(rt: HostRuntime) -> Result<(), Fail> {
-    let merge = match merge_nested(rt.alloc()) {
+    let (merge, reads) = match merge_nested(rt.alloc()) {
         Err(BackendError::Memory) => merge_nested(rt.alloc())?,
         merge => merge?,
     };
     assert!(rt; has_conflict_at(&merge, "d/e/x"));
+    assert_eq!(rt; reads, 9);
     Ok(())
 }

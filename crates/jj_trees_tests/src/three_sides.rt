@@ -1,10 +1,11 @@
 //! A three-way merge of a directory of files: its description, and its conflicts written back as
 //! trees.
-ghost use Rattle.std.specs.Prelude.{IfOk};
+ghost use Rattle.std.specs.Prelude.{◌≡◌, ◌↔◌, ℕ, List, AllPairs, Contains, IfOk};
 ghost use Rattle.jj_merges.specs.declared.merge.SameChange.TheVariants.{Accept};
 ghost use Rattle.jj_backend.specs.declared.backend.tree_value.TreeValue.{TreeValue};
-ghost use Rattle.jj_trees.specs.Kept.{objects_of};
-ghost use Rattle.jj_trees.specs.TreeMerges.{IsMerge, root_values, conflict_entries};
+ghost use Rattle.jj_paths.specs.Paths.{Path, path_cmp};
+ghost use Rattle.jj_trees.specs.MemoryObjects.{objects_of};
+ghost use Rattle.jj_trees.specs.TreeMerges.{IsConflict, IsResolved, Values, root_values};
 
 use crate::building::{ascending_tree, bad_data, component, plain_file, tree_merge_of};
 use crate::callers::merge_in_memory;
@@ -17,6 +18,7 @@ use jj_paths::repo_path::{RepoPath, RepoPathBuf, RepoPathComponentBuf};
 use jj_trees::memory_backend::MemoryBackend;
 use jj_trees::tree_merge::TreeMerge;
 use std::alloc::{AllocError, Global};
+use std::cmp::Ordering;
 
 /// Creates the merge of two sides and their base.
 pub fn sides_of(
@@ -63,9 +65,18 @@ pub fn merge_labelled(
     sides: &Merge<TreeId>,
     labels: &ConflictLabels,
 ) -> BackendResult<TreeMerge>
-    ensures { IfOk result (λ m. IsMerge (objects_of backend.now).trees
-        ⟦<Option<TreeValue> as PartialEq>⟧.eq Accept (root_values sides.now) labels.now
-        m.resolved.items (conflict_entries m.conflicts.items)) }
+    ensures resolved { IfOk result (λ m. (path : Path) (value : TreeValue) →
+        Contains m.resolved.items (path, value)
+        ↔ IsResolved (objects_of backend.now).trees ⟦<Option<TreeValue> as PartialEq>⟧.eq Accept
+        (root_values sides.now) path value) }
+    ensures conflicts { IfOk result (λ m.
+        (path : Path) (terms : Values) (term_labels : List (List ℕ)) →
+        Contains m.conflicts.items (path, terms, term_labels)
+        ↔ IsConflict (objects_of backend.now).trees ⟦<Option<TreeValue> as PartialEq>⟧.eq Accept
+        (root_values sides.now) labels.now path terms term_labels) }
+    ensures ascending { IfOk result (λ m.
+        AllPairs (λ a b. path_cmp a.0 b.0 ≡ Ordering.Less) m.resolved.items
+        × AllPairs (λ a b. path_cmp a.0 b.0 ≡ Ordering.Less) m.conflicts.items) }
 {
     if labels.as_slice().len() != sides.as_slice().len() {
         return Err(bad_data(alloc, "a side has no label"));
@@ -73,7 +84,7 @@ pub fn merge_labelled(
     merge_in_memory(alloc, backend, sides, labels, SameChange::Accept)
 }
 
-fn tell_resolved(
+fn push_resolved(
     resolved: &[(RepoPathBuf, TreeValue)],
     text: &mut String,
 ) -> Result<(), AllocError> {
@@ -84,7 +95,7 @@ fn tell_resolved(
     Ok(())
 }
 
-fn tell_conflict(
+fn push_conflict(
     alloc: Global,
     path: &RepoPathBuf,
     terms: &MergedTreeValue,
@@ -97,11 +108,11 @@ fn tell_conflict(
 }
 
 /// Returns the resolved paths, one a line, and the descriptions of the conflicts.
-pub fn told(alloc: Global, merge: &TreeMerge) -> Result<String, AllocError> {
+pub fn describe(alloc: Global, merge: &TreeMerge) -> Result<String, AllocError> {
     let mut text = String::new(alloc);
-    tell_resolved(&merge.resolved, &mut text)?;
+    push_resolved(&merge.resolved, &mut text)?;
     for (path, terms, labels) in merge.conflicts.iter() {
-        tell_conflict(alloc, path, terms, labels, &mut text)?;
+        push_conflict(alloc, path, terms, labels, &mut text)?;
     }
     Ok(text)
 }
@@ -145,7 +156,7 @@ fn add_term(
     Ok(())
 }
 
-fn sorted(mut entries: Entries) -> Result<Entries, AllocError> {
+fn sort_entries(mut entries: Entries) -> Result<Entries, AllocError> {
     entries.sort_by(|a, b| a.0.cmp(&b.0))?;
     Ok(entries)
 }
@@ -157,7 +168,7 @@ fn side_entries(alloc: Global, merge: &TreeMerge, side: usize) -> BackendResult<
     for (path, terms, _) in merge.conflicts.iter() {
         add_term(alloc, path, terms.as_slice(), side, &mut entries)?;
     }
-    Ok(sorted(entries)?)
+    Ok(sort_entries(entries)?)
 }
 
 /// Writes the directory of one side of a merge: the resolved values and its terms of conflicts.

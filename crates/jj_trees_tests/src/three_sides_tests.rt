@@ -1,5 +1,5 @@
 //! Test of the three-way merge of `three_sides`: its description, also after it is written back.
-use crate::three_sides::{merge_labelled, sides_of, told, write_back, write_files};
+use crate::three_sides::{describe, merge_labelled, sides_of, write_back, write_files};
 use jj_backend::backend::{BackendError, BackendResult, TreeId};
 use jj_content_tests::once_more::holds;
 use jj_merges::conflict_labels::ConflictLabels;
@@ -18,7 +18,7 @@ const BASE: &[(&str, &str)] = &[("README", "one\n"), ("main", "a\n"), ("old", "x
 const RIGHT: &[(&str, &str)] = &[("README", "one\n"), ("main", "c\n")];
 
 // The expected description. The ids are prefixes of digests computed by another program.
-const TOLD: &str = "\
+const DESCRIPTION: &str = "\
 README
 main: Conflict:
   Removing file with id 8145f73c (base)
@@ -34,28 +34,28 @@ fn write_sides(alloc: Global, backend: &mut MemoryBackend) -> BackendResult<Merg
 }
 
 // Merges and writes the result back, or returns `None` for an unexpected description.
-fn merged_back(
+fn merge_and_write_back(
     alloc: Global,
     backend: &mut MemoryBackend,
     sides: &Merge<TreeId>,
     labels: &ConflictLabels,
 ) -> BackendResult<Option<Merge<TreeId>>> {
     let merge = merge_labelled(alloc, backend, sides, labels)?;
-    if told(alloc, &merge)?.as_str() != TOLD {
+    if describe(alloc, &merge)?.as_str() != DESCRIPTION {
         return Ok(None);
     }
     Ok(Some(write_back(alloc, backend, &merge)?))
 }
 
 // Whether the description is as expected, also of the merge that is written back.
-fn tells_twice(
+fn describes_twice(
     alloc: Global,
     backend: &mut MemoryBackend,
     labels: &ConflictLabels,
 ) -> BackendResult<bool> {
     let sides = write_sides(alloc, backend)?;
-    match merged_back(alloc, backend, &sides, labels)? {
-        Some(kept) => Ok(merged_back(alloc, backend, &kept, labels)?.is_some()),
+    match merge_and_write_back(alloc, backend, &sides, labels)? {
+        Some(kept) => Ok(merge_and_write_back(alloc, backend, &kept, labels)?.is_some()),
         None => Ok(false),
     }
 }
@@ -71,13 +71,13 @@ fn side_labels(alloc: Global) -> BackendResult<ConflictLabels> {
     Ok(ConflictLabels::from_vec(SmallVec::from_vec(labels)))
 }
 
-fn example_tells_twice(alloc: Global) -> BackendResult<bool> {
+fn example_describes_twice(alloc: Global) -> BackendResult<bool> {
     let labels = side_labels(alloc)?;
     let mut backend = MemoryBackend::with_id_length(alloc, 4)?;
-    tells_twice(alloc, &mut backend, &labels)
+    describes_twice(alloc, &mut backend, &labels)
 }
 
 #[test]
 fn three_sides(rt: HostRuntime) {
-    assert!(rt; holds(&rt, example_tells_twice));
+    assert!(rt; holds(&rt, example_describes_twice));
 }

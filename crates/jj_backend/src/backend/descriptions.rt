@@ -35,7 +35,8 @@ fn file_kind(executable: bool) -> &'static str
 }
 
 fn push_value(alloc: Global, text: &mut String, value: &TreeValue) -> Result<(), AllocError>
-    ensures { OnOk result (string_bytes text.new ≡ string_bytes text.old ++ value_string value.now) }
+    ensures { OnOk result (string_bytes text.new
+        ≡ string_bytes text.old ++ value_string value.now) }
 {
     match value {
         TreeValue::File { id, executable, .. } => {
@@ -49,7 +50,8 @@ fn push_value(alloc: Global, text: &mut String, value: &TreeValue) -> Result<(),
 
 // Appends a label in parentheses; appends nothing for an empty label.
 fn push_label(text: &mut String, label: &str) -> Result<(), AllocError>
-    ensures { OnOk result (string_bytes text.new ≡ string_bytes text.old ++ label_string label.now) }
+    ensures { OnOk result (string_bytes text.new
+        ≡ string_bytes text.old ++ label_string label.now) }
 {
     if label.is_empty() {
         return Ok(());

@@ -71,34 +71,38 @@ impl PartialEq for LinkTarget {
     }
 }
 
-// Collects the hashed bytes. `is_whole` is false after an allocation failure.
+// Collects the hashed bytes. `is_complete` is false after an allocation failure.
 #[derive(Drop)]
-struct TakenBytes {
+struct CollectedBytes {
     bytes: Vec<u8>,
-    is_whole: bool,
+    is_complete: bool,
 }
 
-impl DigestUpdate for TakenBytes {
-    ghost stands_for = { λ taken bytes. IsTrue taken.is_whole → taken.bytes.items ≡ bytes };
+impl DigestUpdate for CollectedBytes {
+    ghost stands_for = { λ collected bytes. IsTrue collected.is_complete
+        → collected.bytes.items ≡ bytes };
 
     fn update(&mut self, bytes: &[u8]) {
-        if self.is_whole && self.bytes.extend_from_slice(bytes).is_err() {
-            self.is_whole = false;
+        if self.is_complete && self.bytes.extend_from_slice(bytes).is_err() {
+            self.is_complete = false;
         }
     }
 }
 
 // Returns the bytes that the content hash of a value digests.
-pub(super) fn content_of<T: ContentHash>(alloc: Global, value: &T) -> Result<Vec<u8>, AllocError>
+pub(super) fn collect_content<T: ContentHash>(
+    alloc: Global,
+    value: &T,
+) -> Result<Vec<u8>, AllocError>
     ensures { IfOk result (λ bytes. bytes.items ≡ T.content value.now) }
 {
-    let mut taken = TakenBytes {
+    let mut collected = CollectedBytes {
         bytes: Vec::new(alloc),
-        is_whole: true,
+        is_complete: true,
     };
-    value.hash(alloc, &mut taken)?;
-    if taken.is_whole {
-        Ok(taken.bytes)
+    value.hash(alloc, &mut collected)?;
+    if collected.is_complete {
+        Ok(collected.bytes)
     } else {
         Err(AllocError)
     }

@@ -1,9 +1,11 @@
 //! Content-addressed maps: objects of one type by their ids.
-ghost use Rattle.std.specs.Prelude.{◌≡◌, ◌≤◌, ◌⊎◌, [], ◌∷◌, true, IfOk, IfErr, OnOk, OnErr};
+ghost use Rattle.std.specs.Prelude.{◌≡◌, ◌≤◌, ◌⊎◌, [], ◌∷◌, true, IfOk, IfErr, OnOk, OnErr, string_bytes};
 ghost use Rattle.std.specs.Bool.{Decides};
-ghost use Rattle.jj_backend.specs.Errors.{is_not_found, is_other};
+ghost use Rattle.jj_content.specs.Hex.{hex};
+ghost use Rattle.jj_backend.specs.Errors.{is_not_found};
 ghost use Rattle.jj_backend.specs.Objects.{IsRead, IsFree, put};
-ghost use Rattle.jj_trees.specs.Kept.{by_id, digest_length, object_id, FailsToKeep};
+ghost use Rattle.jj_trees.specs.MemoryObjects.{by_id, digest_length, object_id, IsStoreError};
+ghost use Rattle.jj_trees.specs.MemoryErrors.{IsOtherOf, NamesObject};
 
 use jj_backend::backend::{BackendError, BackendResult};
 use jj_content::content_hash::{ContentHash, blake2b_hash};
@@ -13,14 +15,18 @@ use std::alloc::{AllocError, Global};
 use std::collections::BTreeMap;
 
 // Returns the type name of an id and the id in hexadecimal.
-fn texts_of<K: IdKind>(alloc: Global, id: &Id<K>) -> Result<(String, String), AllocError> {
+fn type_and_hex<K: IdKind>(alloc: Global, id: &Id<K>) -> Result<(String, String), AllocError>
+    ensures { IfOk result (λ texts.
+        (string_bytes texts.0 ≡ K.type_name) × (string_bytes texts.1 ≡ hex id.now)) }
+{
     Ok((id.object_type(alloc)?, id.hex(alloc)?))
 }
 
-fn not_found<K: IdKind>(alloc: Global, id: &Id<K>) -> BackendError
-    ensures { (is_not_found result ≡ true) ⊎ (result ≡ BackendError.Memory) }
+fn not_found_error<K: IdKind>(alloc: Global, id: &Id<K>) -> BackendError
+    ensures not_found { (is_not_found result ≡ true) ⊎ (result ≡ BackendError.Memory) }
+    ensures object { NamesObject K.type_name id.now result }
 {
-    match texts_of(alloc, id) {
+    match type_and_hex(alloc, id) {
         Ok((object_type, hash)) => BackendError::ObjectNotFound {
             object_type,
             hash,
@@ -31,7 +37,7 @@ fn not_found<K: IdKind>(alloc: Global, id: &Id<K>) -> BackendError
 }
 
 pub(super) fn other_error(alloc: Global, message: &str) -> BackendError
-    ensures { (is_other result ≡ true) ⊎ (result ≡ BackendError.Memory) }
+    ensures { IsOtherOf SourceKind.Other result ⊎ (result ≡ BackendError.Memory) }
 {
     match String::from_str(alloc, message) {
         Ok(message) => BackendError::Other(SourceError {
@@ -43,7 +49,7 @@ pub(super) fn other_error(alloc: Global, message: &str) -> BackendError
 }
 
 // Returns the prefix of the content digest of a value.
-pub(super) fn id_of<K, T: ContentHash>(
+pub(super) fn content_id<K, T: ContentHash>(
     alloc: Global,
     id_length: usize,
     value: &T,
@@ -55,49 +61,51 @@ pub(super) fn id_of<K, T: ContentHash>(
     Id::from_bytes(alloc, &digest[..id_length])
 }
 
-pub(super) fn one_object<K: IdKind, V: Drop>(
+pub(super) fn single_object<K: IdKind, V: Drop>(
     alloc: Global,
     id: Id<K>,
     value: V,
 ) -> Result<BTreeMap<Id<K>, V>, AllocError>
-    ensures { IfOk result (λ kept. kept.entries ≡ (id, value) ∷ []) }
+    ensures { IfOk result (λ objects. objects.entries ≡ (id, value) ∷ []) }
 {
-    let mut kept = BTreeMap::new(alloc);
-    kept.insert(id, value)?;
-    Ok(kept)
+    let mut objects = BTreeMap::new(alloc);
+    objects.insert(id, value)?;
+    Ok(objects)
 }
 
 // Clones the object with this id.
-pub(super) fn object_of<K: IdKind, V: Clone>(
+pub(super) fn clone_object<K: IdKind, V: Clone>(
     alloc: Global,
-    kept: &BTreeMap<Id<K>, V>,
+    objects: &BTreeMap<Id<K>, V>,
     id: &Id<K>,
 ) -> BackendResult<V>
     requires { (v w : V) → V.is_clone v w → w ≡ v }
-    ensures { IsRead (λ e. e ≡ BackendError.Memory) (by_id kept.now.entries id.now)
+    ensures read { IsRead (λ e. e ≡ BackendError.Memory) (by_id objects.now.entries id.now)
         (λ v. v) result }
+    ensures object { IfErr result (NamesObject K.type_name id.now) }
 {
-    match kept.get(id) {
+    match objects.get(id) {
         Some(value) => Ok(value.clone()?),
-        None => Err(not_found(alloc, id)),
+        None => Err(not_found_error(alloc, id)),
     }
 }
 
 // Stores a value under an id and returns the id. Fails if a different value has the id.
-pub(super) fn keep<K: IdKind, V: PartialEq + Drop>(
+pub(super) fn insert_object<K: IdKind, V: PartialEq + Drop>(
     alloc: Global,
-    kept: &mut BTreeMap<Id<K>, V>,
+    objects: &mut BTreeMap<Id<K>, V>,
     id: Id<K>,
     value: V,
 ) -> BackendResult<Id<K>>
     requires { (v w : V) → Decides (V.eq v w) (v ≡ w) }
     ensures id { IfOk result (λ answer. answer ≡ id) }
-    ensures free { OnOk result (IsFree (by_id kept.old.entries) id value) }
-    ensures added { OnOk result (by_id kept.new.entries ≡ put (by_id kept.old.entries) id value) }
-    ensures kept { OnErr result (kept.new.entries ≡ kept.old.entries) }
-    ensures refused { IfErr result (FailsToKeep kept.old.entries id value) }
+    ensures free { OnOk result (IsFree (by_id objects.old.entries) id value) }
+    ensures added { OnOk result (by_id objects.new.entries
+        ≡ put (by_id objects.old.entries) id value) }
+    ensures unchanged { OnErr result (objects.new.entries ≡ objects.old.entries) }
+    ensures error { IfErr result (IsStoreError objects.old.entries id value) }
 {
-    match kept.get(&id) {
+    match objects.get(&id) {
         Some(other) => {
             if *other == value {
                 Ok(id)
@@ -107,16 +115,16 @@ pub(super) fn keep<K: IdKind, V: PartialEq + Drop>(
         }
         None => {
             let key = id.clone()?;
-            kept.insert(key, value)?;
+            objects.insert(key, value)?;
             Ok(id)
         }
     }
 }
 
 // Stores a clone of the value and returns the value with the id.
-pub(super) fn keep_copied<K: IdKind, V: Clone + PartialEq + Drop>(
+pub(super) fn insert_and_return<K: IdKind, V: Clone + PartialEq + Drop>(
     alloc: Global,
-    kept: &mut BTreeMap<Id<K>, V>,
+    objects: &mut BTreeMap<Id<K>, V>,
     id: Id<K>,
     value: V,
 ) -> BackendResult<(Id<K>, V)>
@@ -124,13 +132,14 @@ pub(super) fn keep_copied<K: IdKind, V: Clone + PartialEq + Drop>(
     requires decides { (v w : V) → Decides (V.eq v w) (v ≡ w) }
     ensures id { IfOk result (λ answer. answer.0 ≡ id) }
     ensures value { IfOk result (λ answer. answer.1 ≡ value) }
-    ensures free { OnOk result (IsFree (by_id kept.old.entries) id value) }
-    ensures added { OnOk result (by_id kept.new.entries ≡ put (by_id kept.old.entries) id value) }
-    ensures kept { OnErr result (kept.new.entries ≡ kept.old.entries) }
-    ensures refused { IfErr result (FailsToKeep kept.old.entries id value) }
+    ensures free { OnOk result (IsFree (by_id objects.old.entries) id value) }
+    ensures added { OnOk result (by_id objects.new.entries
+        ≡ put (by_id objects.old.entries) id value) }
+    ensures unchanged { OnErr result (objects.new.entries ≡ objects.old.entries) }
+    ensures error { IfErr result (IsStoreError objects.old.entries id value) }
 {
     let answer = value.clone()?;
-    match keep(alloc, kept, id, value) {
+    match insert_object(alloc, objects, id, value) {
         Ok(id) => Ok((id, answer)),
         Err(error) => Err(error),
     }

@@ -1,19 +1,19 @@
 //! Signatures of commits that are written.
 ghost use Rattle.std.specs.Prelude.{◌≡◌, ◌≢◌, ◌⊎◌, [], true, Some, IfOk, IfErr, OnOk};
-ghost use Rattle.jj_backend.specs.Errors.{is_other};
 ghost use Rattle.jj_backend.specs.Objects.{IsSigned};
-ghost use Rattle.jj_trees.specs.Signing.{IsHandedOn, FailsToSign};
+ghost use Rattle.jj_trees.specs.MemoryErrors.{IsOtherOf};
+ghost use Rattle.jj_trees.specs.Signing.{IsConvertedError, FailsToSign};
 
-use super::contents::content_of;
-use super::shelf::other_error;
+use super::contents::collect_content;
+use super::object_maps::other_error;
 use jj_backend::backend::{BackendError, BackendResult, Commit, SecureSig, SigningFn};
 use jj_backend::signing::SignError;
 use jj_files::file_util::{SourceError, SourceKind};
 use std::alloc::Global;
 
 // Converts an error of a signer into one of the backend.
-fn handed_on_error(alloc: Global, error: SignError) -> BackendError
-    ensures { (result ≡ BackendError.Memory) ⊎ IsHandedOn error result }
+fn convert_sign_error(alloc: Global, error: SignError) -> BackendError
+    ensures { (result ≡ BackendError.Memory) ⊎ IsConvertedError error result }
 {
     match error {
         SignError::Backend(source) => BackendError::Other(source),
@@ -28,8 +28,8 @@ fn handed_on_error(alloc: Global, error: SignError) -> BackendError
     }
 }
 
-pub(super) fn rootless_error(alloc: Global) -> BackendError
-    ensures { (is_other result ≡ true) ⊎ (result ≡ BackendError.Memory) }
+pub(super) fn no_parents_error(alloc: Global) -> BackendError
+    ensures { IsOtherOf SourceKind.Other result ⊎ (result ≡ BackendError.Memory) }
 {
     other_error(alloc, "a commit needs a parent")
 }
@@ -43,21 +43,21 @@ pub(super) fn sign_commit<S: SigningFn>(
 ) -> BackendResult<Commit>
     ensures signed { IfOk result (IsSigned S.may_sign (Some signer.old) commit) }
     ensures parents { OnOk result (commit.parents ≢ []) }
-    ensures unasked { commit.parents ≡ [] → signer.new ≡ signer.old }
-    ensures refused { IfErr result (λ e. (e ≡ BackendError.Memory)
-        ⊎ ((is_other e ≡ true) × (commit.parents ≡ []))
+    ensures not_called { commit.parents ≡ [] → signer.new ≡ signer.old }
+    ensures error { IfErr result (λ e. (e ≡ BackendError.Memory)
+        ⊎ (IsOtherOf SourceKind.Other e × (commit.parents ≡ []))
         ⊎ ((commit.parents ≢ []) × FailsToSign S.may_sign (Some signer.old) commit e)) }
 {
     if commit.parents.is_empty() {
-        return Err(rootless_error(alloc));
+        return Err(no_parents_error(alloc));
     }
     commit.secure_sig = None;
-    let signed_data = content_of(alloc, &commit)?;
+    let signed_data = collect_content(alloc, &commit)?;
     match signer.sign(alloc, &signed_data) {
         Ok(sig) => {
             commit.secure_sig = Some(SecureSig { signed_data, sig });
             Ok(commit)
         }
-        Err(error) => Err(handed_on_error(alloc, error)),
+        Err(error) => Err(convert_sign_error(alloc, error)),
     }
 }

@@ -6,13 +6,14 @@ use Rattle.jj_paths.specs.Names.{path_of}
 use Rattle.jj_paths.specs.Paths.{Name}
 use Rattle.std.specs.Option.{option_eq}
 use Rattle.jj_trees.specs.declared.tree_merge.rows.Row.{Row}
-use Rattle.jj_trees.specs.TreeMerges.{Values, IsReadAt, FailsAt, conflict_entries}
+use Rattle.jj_trees.specs.TreeMerges.{Values}
+use Rattle.jj_trees.specs.DirectoryMerges.{IsReadAt, FailsAt, conflict_entries}
 use Rattle.jj_backend.specs.contracts.backend.tree_value.TreeValuePartialEq.TheImpl as tree_values
-use Rattle.jj_trees.proofs.Merging.{same_values, passed_none, refused_here}
+use Rattle.jj_trees.proofs.Merging.{same_values, passed_none, error_here}
 use Rattle.jj_trees.proofs.Passing.{rows_start, rows_next, next_row, row_length, same_sides}
-use Rattle.jj_trees.proofs.Rounds.{rows_passed, row_here, row_entered, row_refused, rows_ended, no_row, all_rows}
-use Rattle.jj_trees.proofs.tree_merge.+merge_below.Goals as goal
-use Rattle.jj_trees.proofs.tree_merge.+merge_below.Goals.{in-None-entered, in-Some-entered+in_ok-merge_below-in-Some-entered}
+use Rattle.jj_trees.proofs.Rounds.{rows_passed, row_here, row_entered, row_error, rows_ended, no_row, all_rows}
+use Rattle.jj_trees.proofs.tree_merge.+merge_directory.Goals as goal
+use Rattle.jj_trees.proofs.tree_merge.+merge_directory.Goals.{in-None-subdirectory, in-Some-subdirectory+in_ok-merge_directory-in-Some-subdirectory}
 
 abbrev pub parts : Row → Name × Values
 parts row = (row.name, row.values.items)
@@ -27,51 +28,51 @@ loop-row-init g t c = record {
       _ c.args.values.now (path_of c.args.dir) c.args.merged.now.resolved.items (conflict_entries c.args.merged.now.conflicts.items);
 }
 
-pub merge_here-requires-clause-odd : goal.merge_here-requires-clause-odd
-merge_here-requires-clause-odd g t c =
+pub merge_path-requires-clause-odd : goal.merge_path-requires-clause-odd
+merge_path-requires-clause-odd g t c =
     let next = next_row c.loop-row.row-iterator c.next.result c.next.new.self c.in-Some.row c.in-Some.is c.next.ensures.steps in
     subst IsOdd (sym (row_length (g.B.Backend.objects c.args.backend.now).trees parts c.args.values.now c.loop-row.yielded c.in-Some.row (into_iter_items c.next.new.self)
     (rows_next parts _ c.loop-row.yielded _ _ next c.loop-row.invariant.rows))) c.requires.odd
 
-pub merge_here-requires-clause-sides : goal.merge_here-requires-clause-sides
-merge_here-requires-clause-sides g t c =
+pub merge_path-requires-clause-sides : goal.merge_path-requires-clause-sides
+merge_path-requires-clause-sides g t c =
     let next = next_row c.loop-row.row-iterator c.next.result c.next.new.self c.in-Some.row c.in-Some.is c.next.ensures.steps in
     same_sides _ _ _ (row_length (g.B.Backend.objects c.args.backend.now).trees parts c.args.values.now c.loop-row.yielded c.in-Some.row (into_iter_items c.next.new.self)
     (rows_next parts _ c.loop-row.yielded _ _ next c.loop-row.invariant.rows)) c.requires.sides
 
-pub merge_below-requires : goal.merge_below-requires
-merge_below-requires g t c =
+pub merge_directory-requires : goal.merge_directory-requires
+merge_directory-requires g t c =
     let next = next_row c.loop-row.row-iterator c.next.result c.next.new.self c.in-Some.row c.in-Some.is c.next.ensures.steps in
-    let entered = rw c.in-Some-entered.is at c.in_ok-entered.ensures.entered in
-    let same : length c.deref-in-Some-entered.result.now ≡ length c.args.values.now =
-    ap length (c.deref-in-Some-entered.ensures.value ∙ entered.1)
+    let subdirectory = rw c.in-Some-subdirectory.is at c.in_ok-subdirectory.ensures.subdirectory in
+    let same : length c.deref-in-Some-subdirectory.result.now ≡ length c.args.values.now =
+    ap length (c.deref-in-Some-subdirectory.ensures.value ∙ subdirectory.1)
     ∙ row_length (g.B.Backend.objects c.args.backend.now).trees parts c.args.values.now c.loop-row.yielded c.in-Some.row (into_iter_items c.next.new.self)
     (rows_next parts _ c.loop-row.yielded _ _ next c.loop-row.invariant.rows) in
     λ κs outlives. (omega arith, (outlives, (subst IsOdd (sym same) c.requires.odd, same_sides _ _ _ same c.requires.sides)))
 
-pub returns-in_err-trees-clause-refused : goal.returns-in_err-trees-clause-refused
-returns-in_err-trees-clause-refused g t c =
+pub returns-in_err-trees-clause-error : goal.returns-in_err-trees-clause-error
+returns-in_err-trees-clause-error g t c =
     let p = err_from_is_err_and c.from_residual.result c.from_residual.ensures.1 in
     rw (p.1, p.2)
-    (refused_here (option_eq tree_values.eq-value.it) same_values (g.B.Backend.objects c.args.backend.now).trees c.args.same_change c.args.labels.now
+    (error_here (option_eq tree_values.eq-value.it) same_values (g.B.Backend.objects c.args.backend.now).trees c.args.same_change c.args.labels.now
     (IsReadAt (g.B.Backend.objects c.args.backend.now).trees (g.B.Backend.may_read_tree c.args.backend.now))
     (FailsAt (g.B.Backend.objects c.args.backend.now).trees (g.B.Backend.may_read_tree c.args.backend.now) (g.B.Backend.may_fail c.args.backend.now))
-    c.args.levels c.args.values.now (path_of c.args.dir) c.args.levels _ c.in_err-trees.ensures.refused)
+    c.args.levels c.args.values.now (path_of c.args.dir) c.args.levels _ c.in_err-trees.ensures.error)
 
-pub returns-in_err-merge_below-in-Some-entered-clause-refused : goal.returns-in_err-merge_below-in-Some-entered-clause-refused
-returns-in_err-merge_below-in-Some-entered-clause-refused g t c =
+pub returns-in_err-merge_directory-in-Some-subdirectory-clause-error : goal.returns-in_err-merge_directory-in-Some-subdirectory-clause-error
+returns-in_err-merge_directory-in-Some-subdirectory-clause-error g t c =
     let next = next_row c.loop-row.row-iterator c.next.result c.next.new.self c.in-Some.row c.in-Some.is c.next.ensures.steps in
-    let entered = rw c.in-Some-entered.is at c.in_ok-entered.ensures.entered in
-    let p = err_from_is_err_and c.from_residual-in_err-merge_below-in-Some-entered.result c.from_residual-in_err-merge_below-in-Some-entered.ensures.1 in
+    let subdirectory = rw c.in-Some-subdirectory.is at c.in_ok-subdirectory.ensures.subdirectory in
+    let p = err_from_is_err_and c.from_residual-in_err-merge_directory-in-Some-subdirectory.result c.from_residual-in_err-merge_directory-in-Some-subdirectory.ensures.1 in
     let at : c.in_ok-path.path ≡ path_of c.args.dir ++ c.in-Some.row.name ∷ [] = c.in_ok-path.ensures ∙ ap (λ n. path_of c.args.dir ++ n ∷ []) c.as_component.ensures in
     rw (p.1, p.2)
-    (row_refused (option_eq tree_values.eq-value.it) same_values (g.B.Backend.objects c.args.backend.now).trees c.args.same_change c.args.labels.now (IsReadAt (g.B.Backend.objects c.args.backend.now).trees (g.B.Backend.may_read_tree c.args.backend.now))
+    (row_error (option_eq tree_values.eq-value.it) same_values (g.B.Backend.objects c.args.backend.now).trees c.args.same_change c.args.labels.now (IsReadAt (g.B.Backend.objects c.args.backend.now).trees (g.B.Backend.may_read_tree c.args.backend.now))
     (FailsAt (g.B.Backend.objects c.args.backend.now).trees (g.B.Backend.may_read_tree c.args.backend.now) (g.B.Backend.may_fail c.args.backend.now))
     (c.args.levels - 1) c.args.values.now (path_of c.args.dir) parts c.loop-row.yielded c.in-Some.row (into_iter_items c.next.new.self)
     (rows_next parts _ c.loop-row.yielded _ _ next c.loop-row.invariant.rows) c.args.levels _
-    c.deref-in-Some-entered.result.now (path_of c.as_path-dir.result) (omega arith) (c.deref-in-Some-entered.ensures.value ∙ entered.1)
-    (c.as_path-dir.ensures ∙ entered.0 ∙ at) entered.2
-    c.in_err-merge_below-in-Some-entered.ensures.refused)
+    c.deref-in-Some-subdirectory.result.now (path_of c.as_path-dir.result) (omega arith) (c.deref-in-Some-subdirectory.ensures.value ∙ subdirectory.1)
+    (c.as_path-dir.ensures ∙ subdirectory.0 ∙ at) subdirectory.2
+    c.in_err-merge_directory-in-Some-subdirectory.ensures.error)
 
 pub loop-row-preserved : goal.loop-row-preserved
 loop-row-preserved g t c =
@@ -82,24 +83,24 @@ loop-row-preserved g t c =
       can = tt;
       ends = tt;
       rows = rows_passed parts _ c.loop-row.yielded c.in-Some.row (into_iter_items c.next.new.self) rows;
-      passed = elim c.match-entered.branch [
-        | in-None-entered w ↦
+      passed = elim c.match-subdirectory.branch [
+        | in-None-subdirectory w ↦
             rw w.merged-is
             (row_here (option_eq tree_values.eq-value.it) same_values _ _ _ _ _ _ _ _ parts c.loop-row.yielded c.in-Some.row (into_iter_items c.next.new.self) rows
-            _ _ _ _ _ _ c.loop-row.invariant.passed c.in_ok-path.path at (c.in_ok-entered.ensures.done (ap is_some w.in-None-entered.is)))
-        | in-Some-entered+in_ok-merge_below-in-Some-entered w ↦
-            let entered = rw w.in-Some-entered.is at c.in_ok-entered.ensures.entered in
+            _ _ _ _ _ _ c.loop-row.invariant.passed c.in_ok-path.path at (c.in_ok-subdirectory.ensures.appended (ap is_some w.in-None-subdirectory.is)))
+        | in-Some-subdirectory+in_ok-merge_directory-in-Some-subdirectory w ↦
+            let subdirectory = rw w.in-Some-subdirectory.is at c.in_ok-subdirectory.ensures.subdirectory in
             rw w.merged-is
             (row_entered (option_eq tree_values.eq-value.it) same_values (g.B.Backend.objects c.args.backend.now).trees c.args.same_change c.args.labels.now (IsReadAt (g.B.Backend.objects c.args.backend.now).trees (g.B.Backend.may_read_tree c.args.backend.now))
             (FailsAt (g.B.Backend.objects c.args.backend.now).trees (g.B.Backend.may_read_tree c.args.backend.now) (g.B.Backend.may_fail c.args.backend.now))
             (c.args.levels - 1) c.args.values.now (path_of c.args.dir) parts c.loop-row.yielded c.in-Some.row (into_iter_items c.next.new.self) rows
-            c.args.merged.now.resolved.items c.loop-row.merged.resolved.items w.merge_below.new.merged.resolved.items
+            c.args.merged.now.resolved.items c.loop-row.merged.resolved.items w.merge_directory.new.merged.resolved.items
             (conflict_entries c.args.merged.now.conflicts.items) (conflict_entries c.loop-row.merged.conflicts.items)
-            (conflict_entries w.merge_below.new.merged.conflicts.items) c.loop-row.invariant.passed
-            (path_of w.as_path-dir.result) (w.as_path-dir.ensures ∙ entered.0 ∙ at)
-            w.deref-in-Some-entered.result.now (w.deref-in-Some-entered.ensures.value ∙ entered.1) entered.2
-            c.merge_here.new.merged.resolved.items (conflict_entries c.merge_here.new.merged.conflicts.items) entered.3 (ap conflict_entries entered.4)
-            w.in_ok-merge_below-in-Some-entered.ensures.merge w.in_ok-merge_below-in-Some-entered.ensures.within)
+            (conflict_entries w.merge_directory.new.merged.conflicts.items) c.loop-row.invariant.passed
+            (path_of w.as_path-dir.result) (w.as_path-dir.ensures ∙ subdirectory.0 ∙ at)
+            w.deref-in-Some-subdirectory.result.now (w.deref-in-Some-subdirectory.ensures.value ∙ subdirectory.1) subdirectory.2
+            c.merge_path.new.merged.resolved.items (conflict_entries c.merge_path.new.merged.conflicts.items) subdirectory.3 (ap conflict_entries subdirectory.4)
+            w.in_ok-merge_directory-in-Some-subdirectory.ensures.merge w.in_ok-merge_directory-in-Some-subdirectory.ensures.within)
       ];
     }
 
@@ -111,4 +112,4 @@ returns g t c =
     (rows_ended parts _ c.loop-row.yielded _ (no_row c.loop-row.row-iterator c.next.result c.next.new.self c.in-None.is c.next.ensures.steps) c.loop-row.invariant.rows)
     c.args.merged.now.resolved.items c.loop-row.merged.resolved.items
     (conflict_entries c.args.merged.now.conflicts.items) (conflict_entries c.loop-row.merged.conflicts.items) c.loop-row.invariant.passed in
-    record { merge = merged.0; within = merged.1 c.in_ok-trees.ensures.read c.args.levels (omega arith); refused = tt }
+    record { merge = merged.0; within = merged.1 c.in_ok-trees.ensures.read c.args.levels (omega arith); error = tt }

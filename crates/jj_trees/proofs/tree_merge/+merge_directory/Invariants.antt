@@ -2,16 +2,16 @@ use Rattle.std.proofs.Common.{◌++◌, ◌-◌, map, List, Option}
 use Rattle.jj_paths.specs.Paths.{Name}
 use Rattle.jj_paths.specs.Names.{path_of}
 use Rattle.jj_backend.specs.declared.backend.tree_value.TreeValue.{TreeValue}
-use Rattle.jj_trees.specs.TreeMerges.{entries_of, IsReadAt, FailsAt, conflict_entries}
+use Rattle.jj_trees.specs.DirectoryMerges.{entries_of, IsReadAt, FailsAt, conflict_entries}
 use Rattle.jj_trees.specs.Rows.{AreRows}
 use Rattle.jj_trees.proofs.Merging.{Passed, same_values}
-use Rattle.jj_trees.proofs.tree_merge.+merge_below.Given as goal
+use Rattle.jj_trees.proofs.tree_merge.+merge_directory.Given as goal
 use Rattle.std.specs.Option.{option_eq}
 use Rattle.std.specs.Vec.Iter.{into_iter_items}
 use Rattle.jj_backend.specs.contracts.backend.tree_value.TreeValuePartialEq.TheImpl as tree_values
 
-abbrev pub decreases-merge_below : goal.decreases-merge_below
-decreases-merge_below g l = l.levels
+abbrev pub decreases-merge_directory : goal.decreases-merge_directory
+decreases-merge_directory g l = l.levels
 
 abbrev pub invariant-loop-row : goal.invariant-loop-row
 invariant-loop-row g l = record {

@@ -2,10 +2,10 @@ use Rattle.std.proofs.Common.{◌≡◌, ◌∙◌, refl}
 use Rattle.std.specs.Option.{option_eq}
 use Rattle.jj_backend.specs.contracts.backend.tree_value.TreeValuePartialEq.TheImpl as tree_values
 use Rattle.jj_trees.proofs.Conflicting.{conflict_done, cloned_values}
-use Rattle.jj_trees.proofs.tree_merge.merge_here.Goals as goal
+use Rattle.jj_trees.proofs.tree_merge.merge_path.Goals as goal
 
-pub returns-in_ok-push-in-Conflict-clause-done : goal.returns-in_ok-push-in-Conflict-clause-done
-returns-in_ok-push-in-Conflict-clause-done c = λ _.
+pub returns-in_ok-push-in-Conflict-clause-appended : goal.returns-in_ok-push-in-Conflict-clause-appended
+returns-in_ok-push-in-Conflict-clause-appended c = λ _.
     let eq = option_eq tree_values.eq-value.it in
     let given : c.from_vec-conflict.result ≡ c.args.values.items = c.from_vec-conflict.ensures ∙ c.from_vec.ensures.items in
     let terms = cloned_values _ _ _ c.in_ok-labels-in-Conflict.ensures.terms (λ v h. h) (λ w h. h) (λ v w h. h) in

@@ -1,4 +1,4 @@
-use Rattle.jj_trees.proofs.KeptLemmas.{by_id-one}
+use Rattle.jj_trees.proofs.MemoryObjectLemmas.{by_id-one}
 use Rattle.jj_trees.proofs.memory_backend.MemoryBackend.with_id_length.Goals as goal
 
 pub invariant_of-result : goal.invariant_of-result

@@ -1,5 +1,5 @@
 use Rattle.jj_trees.proofs.SameRecords.{tree-Decides}
 use Rattle.jj_trees.proofs.memory_backend.MemoryBackendBackend.write_tree.Goals as goal
 
-pub keep-requires : goal.keep-requires
-keep-requires c = tree-Decides
+pub insert_object-requires : goal.insert_object-requires
+insert_object-requires c = tree-Decides
