@@ -29,14 +29,14 @@ module _ {X : Type 0} where
   equal_same {eq} laws x y same = ap (λ (z : X). eq z x) same ∙ laws.refl x
 
   -- lists are equal if their items are
-  pub pointwise_copied : (R : X → X → Type 0) (eq : X → X → Bool)
+  pub pointwise_cloned : (R : X → X → Type 0) (eq : X → X → Bool)
       → ((x y : X) → R x y → eq y x ≡ true)
       → (xs ys : List X) → AllZip R xs ys → pointwise eq ys xs ≡ true
-  pointwise_copied R eq equal [] [] z = refl
-  pointwise_copied R eq equal [] (y ∷ ys) z = absurd z
-  pointwise_copied R eq equal (x ∷ xs) [] z = absurd z
-  pointwise_copied R eq equal (x ∷ xs) (y ∷ ys) z =
-      and_from _ _ (equal x y z.0) (pointwise_copied R eq equal xs ys z.1)
+  pointwise_cloned R eq equal [] [] z = refl
+  pointwise_cloned R eq equal [] (y ∷ ys) z = absurd z
+  pointwise_cloned R eq equal (x ∷ xs) [] z = absurd z
+  pointwise_cloned R eq equal (x ∷ xs) (y ∷ ys) z =
+      and_from _ _ (equal x y z.0) (pointwise_cloned R eq equal xs ys z.1)
 
 at_key : {K : Type 0} (P : K → Type 0) (before after : List K) (k : K)
     → AllByRecursion P (before ++ k ∷ after) → P k
@@ -60,10 +60,10 @@ module _ {K X : Type 0} where
 
   module _ (R : X → X → Type 0) where
     -- equal keys, and a clone of the value
-    abbrev pub IsCopied : K × X → K × X → Type 0
-    IsCopied e f = (f.0 ≡ e.0) × R e.1 f.1
+    abbrev pub IsClonedEntry : K × X → K × X → Type 0
+    IsClonedEntry e f = (f.0 ≡ e.0) × R e.1 f.1
 
-    same_keys : (es fs : List (K × X)) → AllZip IsCopied es fs → keys_of fs ≡ keys_of es
+    same_keys : (es fs : List (K × X)) → AllZip IsClonedEntry es fs → keys_of fs ≡ keys_of es
     same_keys [] [] z = refl
     same_keys [] (f ∷ fs) z = absurd z
     same_keys (e ∷ es) [] z = absurd z
@@ -71,64 +71,64 @@ module _ {K X : Type 0} where
         let first = z.0.0 in let rest = same_keys es fs z.1 in λ i. first i ∷ rest i
 
     -- inserts the clone of the next entry
-    pub copied_push : {cmp : K → K → Ordering} → IsTotalOrder cmp
+    pub push_cloned : {cmp : K → K → Ordering} → IsTotalOrder cmp
         → (done rest fs : List (K × X)) (e f : K × X)
         → IsStrictlySortedBy cmp (keys_of (done ++ e ∷ rest))
-        → AllZip IsCopied done fs → IsCopied e f
-        → AllZip IsCopied (done ++ e ∷ []) (insert_entry cmp fs f.0 f.1)
-    copied_push {cmp} total done rest fs e f sorted copied next =
+        → AllZip IsClonedEntry done fs → IsClonedEntry e f
+        → AllZip IsClonedEntry (done ++ e ∷ []) (insert_entry cmp fs f.0 f.1)
+    push_cloned {cmp} total done rest fs e f sorted copied next =
         let keys : keys_of (done ++ e ∷ rest) ≡ keys_of fs ++ f.0 ∷ keys_of rest =
         map-append (λ (e : K × X). e.0) done (e ∷ rest)
         ∙ ap₂ (λ (qs : List K) (k : K). qs ++ k ∷ keys_of rest)
         (sym (same_keys done fs copied)) (sym next.0) in
         let last = insert_last total fs f.0 f.1 (keys_of rest)
         (subst (IsStrictlySortedBy cmp) keys sorted) in
-        subst (AllZip IsCopied (done ++ e ∷ [])) (sym last)
-        (AllZip-push IsCopied done fs e f copied next)
+        subst (AllZip IsClonedEntry (done ++ e ∷ [])) (sym last)
+        (AllZip-push IsClonedEntry done fs e f copied next)
 
 -- clones of the entries of a map from names
-pub named_copied : {V : Type 0} (eq : V → V → Bool) (es fs : List (List ℕ × V))
-    → AllZip (IsCopied (λ v w. eq w v ≡ true)) es fs → named_eq eq fs es ≡ true
-named_copied eq es fs copied = pointwise_copied (IsCopied (λ v w. eq w v ≡ true)) _
+pub named_cloned : {V : Type 0} (eq : V → V → Bool) (es fs : List (List ℕ × V))
+    → AllZip (IsClonedEntry (λ v w. eq w v ≡ true)) es fs → named_eq eq fs es ≡ true
+named_cloned eq es fs copied = pointwise_cloned (IsClonedEntry (λ v w. eq w v ≡ true)) _
     (λ e f same. and_from _ _ (equal_same nat_list_eq_equiv e.0 f.0 same.0) same.1) es fs copied
 
 -- clones of maps from names to ids
-pub ids_copied : (es fs : List (List ℕ × List ℕ))
+pub ids_cloned : (es fs : List (List ℕ × List ℕ))
     → AllZip (λ e f. (f.0 ≡ e.0) × (f.1 ≡ e.1)) es fs → named_eq bytes_eq fs es ≡ true
-ids_copied es fs copied = pointwise_copied _ _
+ids_cloned es fs copied = pointwise_cloned _ _
     (λ e f same. and_from _ _ (equal_same nat_list_eq_equiv e.0 f.0 same.0)
     (equal_same nat_list_eq_equiv e.1 f.1 same.1)) es fs copied
 
 -- clones of maps from strings to strings
-pub texts_copied : {A : Type 0} (es fs : List (String A × String A))
+pub strings_cloned : {A : Type 0} (es fs : List (String A × String A))
     → AllZip (λ e f. (string_bytes f.0 ≡ string_bytes e.0)
     × (string_bytes f.1 ≡ string_bytes e.1)) es fs
     → attributes_eq fs es ≡ true
-texts_copied es fs copied = pointwise_copied _ _
+strings_cloned es fs copied = pointwise_cloned _ _
     (λ e f same. and_from _ _ (equal_same nat_list_eq_equiv (string_bytes e.0) (string_bytes f.0) same.0)
     (equal_same nat_list_eq_equiv (string_bytes e.1) (string_bytes f.1) same.1)) es fs copied
 
-pub set_copied : {S : Type 0} (s t : HashSet (List ℕ) S) → t.keys ≡ s.keys
+pub set_cloned : {S : Type 0} (s t : HashSet (List ℕ) S) → t.keys ≡ s.keys
     → hash_set_eq bytes_eq t s ≡ true
-set_copied s t same =
+set_cloned s t same =
     ap (λ (ks : List (List ℕ)). list_all (λ k. list_any (bytes_eq k) s.keys) ks
     && list_all (λ k. list_any (bytes_eq k) ks) s.keys) same
     ∙ (hash_set_eq_equiv nat_list_eq_equiv).refl s
 
-pub option_copied : {A : Type 0} (R : A → A → Type 0) (eq : A → A → Bool)
+pub option_cloned : {A : Type 0} (R : A → A → Type 0) (eq : A → A → Bool)
     → ((x y : A) → R x y → eq y x ≡ true)
     → (o p : Option A) → IsOptionClone R o p → option_eq eq p o ≡ true
-option_copied R eq equal (Some x) (Some y) k = equal x y k
-option_copied R eq equal (Some x) None k = absurd k
-option_copied R eq equal None (Some y) k = absurd k
-option_copied R eq equal None None k = refl
+option_cloned R eq equal (Some x) (Some y) k = equal x y k
+option_cloned R eq equal (Some x) None k = absurd k
+option_cloned R eq equal None (Some y) k = absurd k
+option_cloned R eq equal None None k = refl
 
-pub predecessors_copied : {A : Type 0} (m n : BTreeMap (List ℕ) (Vec (List ℕ) A))
+pub predecessors_cloned : {A : Type 0} (m n : BTreeMap (List ℕ) (Vec (List ℕ) A))
     → AllZip (λ e f. (f.0 ≡ e.0)
     × (AllZip (λ x y. y ≡ x) e.1.items f.1.items × (vec_len f.1 ≡ vec_len e.1)))
     m.entries n.entries
     → predecessors_eq n m ≡ true
-predecessors_copied m n copied = pointwise_copied _ _
+predecessors_cloned m n copied = pointwise_cloned _ _
     (λ e f same. and_from _ _ (equal_same nat_list_eq_equiv e.0 f.0 same.0)
-    (pointwise_copied _ bytes_eq (equal_same nat_list_eq_equiv) e.1.items f.1.items same.1.0))
+    (pointwise_cloned _ bytes_eq (equal_same nat_list_eq_equiv) e.1.items f.1.items same.1.0))
     m.entries n.entries copied

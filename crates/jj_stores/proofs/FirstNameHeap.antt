@@ -18,7 +18,7 @@ use Rattle.std.proofs.lemmas.List.Sorted.{IsPermutation-map, sum_by-IsPermutatio
 use Rattle.std.proofs.lemmas.List.Sums.{sum_by-cons, get_or-le-sum_by}
 use Rattle.std.proofs.lemmas.Slice.Eq.{bytes_eq-Decides}
 use Rattle.std.proofs.lemmas.Bool.{and_parts}
-use Rattle.jj_stores.specs.Firsts.{earlier_cmp, first_at, firsts_from, AreFirsts}
+use Rattle.jj_stores.specs.FirstNameHeap.{earlier_cmp, first_name_at, first_names_from, AreFirstNames}
 use Rattle.jj_stores.specs.ViewJoins.{Named, IsAscending, IsLeast, remotes_with, IsFirstOfRemotes}
 use Rattle.jj_stores.proofs.FirstNames.{IsMore, at_first, joined_more, more_at, some_joined}
 use Rattle.jj_stores.proofs.FlatSteps.{least_of_all}
@@ -35,105 +35,105 @@ module _ {X : Type 0} (count : X → ℕ) where
 
 module _ {R : Type 0} (count : List ℕ × ℕ → ℕ) where
   abbrev sum_first : ℕ → Named R → ℕ
-  sum_first place refs = sum_by count (option_to_list (first_at place refs))
+  sum_first remote_index refs = sum_by count (option_to_list (first_name_at remote_index refs))
 
-  pub firsts_more : (k place : ℕ) (remotes : Named (Named R)) (remote : List ℕ × Named R)
-      → place ≡ k + length remotes
-      → sum_by count (firsts_from k (remotes ++ remote ∷ []))
-      ≡ sum_by count (firsts_from k remotes) + sum_first place remote.1
-  firsts_more k place [] remote at =
-      let here : k ≡ place = omega (arith, at) in
-      let a = sum_option count (first_at k remote.1) [] in
+  pub firsts_more : (k remote_index : ℕ) (remotes : Named (Named R)) (remote : List ℕ × Named R)
+      → remote_index ≡ k + length remotes
+      → sum_by count (first_names_from k (remotes ++ remote ∷ []))
+      ≡ sum_by count (first_names_from k remotes) + sum_first remote_index remote.1
+  firsts_more k remote_index [] remote at =
+      let here : k ≡ remote_index = omega (arith, at) in
+      let a = sum_option count (first_name_at k remote.1) [] in
       let b = ap (λ p. sum_first p remote.1) here in
       omega (arith, a, b)
-  firsts_more k place (r ∷ rs) remote at =
-      let a = sum_option count (first_at k r.1) (firsts_from (suc k) (rs ++ remote ∷ [])) in
-      let b = sum_option count (first_at k r.1) (firsts_from (suc k) rs) in
-      let h = firsts_more (suc k) place rs remote (omega (arith, at)) in
+  firsts_more k remote_index (r ∷ rs) remote at =
+      let a = sum_option count (first_name_at k r.1) (first_names_from (suc k) (rs ++ remote ∷ [])) in
+      let b = sum_option count (first_name_at k r.1) (first_names_from (suc k) rs) in
+      let h = firsts_more (suc k) remote_index rs remote (omega (arith, at)) in
       omega (arith, a, b, h)
 
-  pub firsts_set : (k place : ℕ) (remotes : Named (Named R)) (i : ℕ) (new d : List ℕ × Named R)
-      → place ≡ k + i → i < length remotes
-      → sum_by count (firsts_from k (set remotes i new)) + sum_first place (get_or remotes i d).1
-      ≡ sum_by count (firsts_from k remotes) + sum_first place new.1
-  firsts_set k place [] i new d at below = absurd (omega (arith, below))
-  firsts_set k place (r ∷ rs) zero new d at below =
-      let here : k ≡ place = omega (arith, at) in
-      let a = sum_option count (first_at k new.1) (firsts_from (suc k) rs) in
-      let b = sum_option count (first_at k r.1) (firsts_from (suc k) rs) in
+  pub firsts_set : (k remote_index : ℕ) (remotes : Named (Named R)) (i : ℕ) (new d : List ℕ × Named R)
+      → remote_index ≡ k + i → i < length remotes
+      → sum_by count (first_names_from k (set remotes i new)) + sum_first remote_index (get_or remotes i d).1
+      ≡ sum_by count (first_names_from k remotes) + sum_first remote_index new.1
+  firsts_set k remote_index [] i new d at below = absurd (omega (arith, below))
+  firsts_set k remote_index (r ∷ rs) zero new d at below =
+      let here : k ≡ remote_index = omega (arith, at) in
+      let a = sum_option count (first_name_at k new.1) (first_names_from (suc k) rs) in
+      let b = sum_option count (first_name_at k r.1) (first_names_from (suc k) rs) in
       let e = ap (λ p. sum_first p new.1) here in
       let f = ap (λ p. sum_first p r.1) here in
       omega (arith, a, b, e, f)
-  firsts_set k place (r ∷ rs) (suc i) new d at below =
-      let a = sum_option count (first_at k r.1) (firsts_from (suc k) (set rs i new)) in
-      let b = sum_option count (first_at k r.1) (firsts_from (suc k) rs) in
-      let h = firsts_set (suc k) place rs i new d (omega (arith, at)) (omega (arith, below)) in
+  firsts_set k remote_index (r ∷ rs) (suc i) new d at below =
+      let a = sum_option count (first_name_at k r.1) (first_names_from (suc k) (set rs i new)) in
+      let b = sum_option count (first_name_at k r.1) (first_names_from (suc k) rs) in
+      let h = firsts_set (suc k) remote_index rs i new d (omega (arith, at)) (omega (arith, below)) in
       omega (arith, a, b, h)
 
 -- ---- the remote of a first name
 
 abbrev pub is_here : List ℕ → ℕ → List ℕ × ℕ → Bool
-is_here name place q = bytes_eq name q.0 && eqb place q.1
+is_here name remote_index q = bytes_eq name q.0 && eqb remote_index q.1
 
 abbrev once : Bool → ℕ
 once b = cond b 1 0
 
 abbrev pub here_count : List ℕ → ℕ → List ℕ × ℕ → ℕ
-here_count name place q = once (is_here name place q)
+here_count name remote_index q = once (is_here name remote_index q)
 
-pub here_itself : (name : List ℕ) (place : ℕ) → here_count name place (name, place) ≡ 1
-here_itself name place =
-    let P : Bool → Type 0 = λ b. once (b && eqb place place) ≡ 1 in
+pub here_itself : (name : List ℕ) (remote_index : ℕ) → here_count name remote_index (name, remote_index) ≡ 1
+here_itself name remote_index =
+    let P : Bool → Type 0 = λ b. once (b && eqb remote_index remote_index) ≡ 1 in
     let Q : Bool → Type 0 = λ b. once (true && b) ≡ 1 in
-    subst P (sym (nat_list_eq_equiv.refl name)) (subst Q (sym ((Decides-eqb place place).1 refl)) refl)
+    subst P (sym (nat_list_eq_equiv.refl name)) (subst Q (sym ((Decides-eqb remote_index remote_index).1 refl)) refl)
 
 -- the remote at this index has this first name
-abbrev pub StandsAt : {R : Type 0} → List ℕ → Named (Named R) → ℕ → Type 0
-StandsAt {R} name remotes i = (i < length remotes)
+abbrev pub IsFirstNameAt : {R : Type 0} → List ℕ → Named (Named R) → ℕ → Type 0
+IsFirstNameAt {R} name remotes i = (i < length remotes)
     × ((d : List ℕ × Named R) → Some name ≡ slice_get (keys_of (get_or remotes i d).1) 0)
 
 module _ {R : Type 0} where
-  stands_or : (name m : List ℕ) (place k : ℕ) (v : R) (remote : List ℕ) (es : Named R) (rs : Named (Named R)) (b : Bool)
-      → is_here name place (m, k) ≡ b → 0 < once b + sum_by (here_count name place) (firsts_from (suc k) rs)
-      → (0 < sum_by (here_count name place) (firsts_from (suc k) rs) → (i : ℕ) × (place ≡ suc k + i) × StandsAt name rs i)
-      → (i : ℕ) × (place ≡ k + i) × StandsAt name ((remote, (m, v) ∷ es) ∷ rs) i
-  stands_or name m place k v remote es rs true is some later =
-      let parts = and_parts (bytes_eq name m) (eqb place k) is in
+  stands_or : (name m : List ℕ) (remote_index k : ℕ) (v : R) (remote : List ℕ) (es : Named R) (rs : Named (Named R)) (b : Bool)
+      → is_here name remote_index (m, k) ≡ b → 0 < once b + sum_by (here_count name remote_index) (first_names_from (suc k) rs)
+      → (0 < sum_by (here_count name remote_index) (first_names_from (suc k) rs) → (i : ℕ) × (remote_index ≡ suc k + i) × IsFirstNameAt name rs i)
+      → (i : ℕ) × (remote_index ≡ k + i) × IsFirstNameAt name ((remote, (m, v) ∷ es) ∷ rs) i
+  stands_or name m remote_index k v remote es rs true is some later =
+      let parts = and_parts (bytes_eq name m) (eqb remote_index k) is in
       let named : name ≡ m = (bytes_eq-Decides name m).0 parts.0 in
-      let at : place ≡ k = (Decides-eqb place k).0 parts.1 in
+      let at : remote_index ≡ k = (Decides-eqb remote_index k).0 parts.1 in
       (0, omega (arith, at), (omega arith, λ d. ap (λ n. Some n) named))
-  stands_or name m place k v remote es rs false is some later =
+  stands_or name m remote_index k v remote es rs false is some later =
       let h = later (omega (arith, some)) in
       (suc h.0, omega (arith, h.1), (omega (arith, h.2.0), h.2.1))
 
-  pub stands_at : (name : List ℕ) (place k : ℕ) (remotes : Named (Named R))
-      → 0 < sum_by (here_count name place) (firsts_from k remotes)
-      → (i : ℕ) × (place ≡ k + i) × StandsAt name remotes i
-  stands_at name place k [] some = absurd (omega (arith, some))
-  stands_at name place k ((remote, []) ∷ rs) some =
-      let h = stands_at name place (suc k) rs some in
+  pub stands_at : (name : List ℕ) (remote_index k : ℕ) (remotes : Named (Named R))
+      → 0 < sum_by (here_count name remote_index) (first_names_from k remotes)
+      → (i : ℕ) × (remote_index ≡ k + i) × IsFirstNameAt name remotes i
+  stands_at name remote_index k [] some = absurd (omega (arith, some))
+  stands_at name remote_index k ((remote, []) ∷ rs) some =
+      let h = stands_at name remote_index (suc k) rs some in
       (suc h.0, omega (arith, h.1), (omega (arith, h.2.0), h.2.1))
-  stands_at name place k ((remote, (m, v) ∷ es) ∷ rs) some =
-      let whole = sum_by-cons (here_count name place) (m, k) (firsts_from (suc k) rs) in
-      stands_or name m place k v remote es rs (is_here name place (m, k)) refl (subst (λ n. 0 < n) whole some)
-      (stands_at name place (suc k) rs)
+  stands_at name remote_index k ((remote, (m, v) ∷ es) ∷ rs) some =
+      let whole = sum_by-cons (here_count name remote_index) (m, k) (first_names_from (suc k) rs) in
+      stands_or name m remote_index k v remote es rs (is_here name remote_index (m, k)) refl (subst (λ n. 0 < n) whole some)
+      (stands_at name remote_index (suc k) rs)
 
 -- ---- no first name is less than the top
 
 abbrev pub is_before : List ℕ → ℕ → List ℕ × ℕ → Bool
-is_before name place q = is_lt (earlier_cmp (name, place) q)
+is_before name remote_index q = is_lt (earlier_cmp (name, remote_index) q)
 
 abbrev pub before_count : List ℕ → ℕ → List ℕ × ℕ → ℕ
-before_count name place q = once (is_before name place q)
+before_count name remote_index q = once (is_before name remote_index q)
 
-pub none_before : {X : Type 0} (shows : X → List ℕ × ℕ) (name : List ℕ) (place : ℕ) (xs : List X)
-    → AllByRecursion (λ x. is_before name place (shows x) ≡ false) xs
-    → sum_by (before_count name place) (map shows xs) ≡ 0
-none_before shows name place [] h = refl
-none_before shows name place (x ∷ xs) h =
-    let whole = sum_by-cons (before_count name place) (shows x) (map shows xs) in
-    let this : before_count name place (shows x) ≡ 0 = ap once h.0 in
-    let rest = none_before shows name place xs h.1 in
+pub none_before : {X : Type 0} (shows : X → List ℕ × ℕ) (name : List ℕ) (remote_index : ℕ) (xs : List X)
+    → AllByRecursion (λ x. is_before name remote_index (shows x) ≡ false) xs
+    → sum_by (before_count name remote_index) (map shows xs) ≡ 0
+none_before shows name remote_index [] h = refl
+none_before shows name remote_index (x ∷ xs) h =
+    let whole = sum_by-cons (before_count name remote_index) (shows x) (map shows xs) in
+    let this : before_count name remote_index (shows x) ≡ 0 = ap once h.0 in
+    let rest = none_before shows name remote_index xs h.1 in
     omega (arith, whole, this, rest)
 
 not_before : (b : Bool) (n : ℕ) → once b + n ≡ 0 → (b ≡ false) × (n ≡ 0)
@@ -155,14 +155,14 @@ above_of Greater s low h = refl
 lower_place : (a b : ℕ) → a < b → nat_cmp a b ≡ Less
 lower_place a b low = sym (nat_cmp_is a b Less low)
 
-module _ {R : Type 0} (name : List ℕ) (place : ℕ) where
+module _ {R : Type 0} (name : List ℕ) (remote_index : ℕ) where
   -- no first name of the remotes from this index is less
   abbrev pub IsEarliest : ℕ → Named (Named R) → Type 0
   IsEarliest k remotes = All (λ r. IsLeast name r.1) remotes
-      × ((i : ℕ) → k + i ≤ place → remotes_with (take i remotes) name ≡ [])
+      × ((i : ℕ) → k + i ≤ remote_index → remotes_with (take i remotes) name ≡ [])
 
-  none_so_far : (k i : ℕ) (remote : List ℕ × Named R) (rs : Named (Named R)) → (k < place → None ≡ lookup (bytes_eq name) remote.1)
-      → ((i : ℕ) → suc k + i ≤ place → remotes_with (take i rs) name ≡ []) → k + i ≤ place
+  none_so_far : (k i : ℕ) (remote : List ℕ × Named R) (rs : Named (Named R)) → (k < remote_index → None ≡ lookup (bytes_eq name) remote.1)
+      → ((i : ℕ) → suc k + i ≤ remote_index → remotes_with (take i rs) name ≡ []) → k + i ≤ remote_index
       → remotes_with (take i (remote ∷ rs)) name ≡ []
   none_so_far k zero remote rs here later low = refl
   none_so_far k (suc i) remote rs here later low =
@@ -173,7 +173,7 @@ module _ {R : Type 0} (name : List ℕ) (place : ℕ) where
   none_of_none zero = refl
   none_of_none (suc i) = refl
 
-  pub earliest : (k : ℕ) (remotes : Named (Named R)) → sum_by (before_count name place) (firsts_from k remotes) ≡ 0
+  pub earliest : (k : ℕ) (remotes : Named (Named R)) → sum_by (before_count name remote_index) (first_names_from k remotes) ≡ 0
       → All (λ r. IsAscending r.1) remotes → IsEarliest k remotes
   earliest k [] none up = (All-nil (λ r. IsLeast name r.1), λ i low. none_of_none i)
   earliest k ((remote, []) ∷ rs) none up =
@@ -182,16 +182,16 @@ module _ {R : Type 0} (name : List ℕ) (place : ℕ) where
         λ i low. none_so_far k i (remote, []) rs (λ lower. refl) h.1 low,
       )
   earliest k ((remote, (m, v) ∷ es) ∷ rs) none up =
-      let whole = sum_by-cons (before_count name place) (m, k) (firsts_from (suc k) rs) in
-      let parts = not_before (is_before name place (m, k)) _ (sym whole ∙ none) in
+      let whole = sum_by-cons (before_count name remote_index) (m, k) (first_names_from (suc k) rs) in
+      let parts = not_before (is_before name remote_index (m, k)) _ (sym whole ∙ none) in
       let h = earliest (suc k) rs parts.1 (All-tail (λ r. IsAscending r.1) (remote, (m, v) ∷ es) rs up) in
       let this : IsAscending ((m, v) ∷ es) = All-head (λ r. IsAscending r.1) (remote, (m, v) ∷ es) rs up in
-      let under : is_gt (cmp name m) ≡ false = not_above_from_not_below name m (not_below (cmp m name) (nat_cmp k place) parts.0) in
+      let under : is_gt (cmp name m) ≡ false = not_above_from_not_below name m (not_below (cmp m name) (nat_cmp k remote_index) parts.0) in
       let least : IsLeast name ((m, v) ∷ es) = least_lower name m ((m, v) ∷ es) under (least_at_first m v es ((m, v) ∷ es) refl this) in (
         All-cons (λ r. IsLeast name r.1) (remote, (m, v) ∷ es) rs least h.0,
         λ i low. none_so_far k i (remote, (m, v) ∷ es) rs
             (λ lower. none_at name m v es ((m, v) ∷ es) refl this least
-            (subst (λ b. true ≡ not b) (sym (texts_ties m name)) (above_of (cmp m name) (nat_cmp k place) (lower_place k place lower) parts.0)))
+            (subst (λ b. true ≡ not b) (sym (texts_ties m name)) (above_of (cmp m name) (nat_cmp k remote_index) (lower_place k remote_index lower) parts.0)))
             h.1 low,
       )
 
@@ -201,32 +201,32 @@ empty_of : {X : Type 0} (xs : List X) → length xs ≡ 0 → xs ≡ []
 empty_of [] none = refl
 empty_of (x ∷ xs) none = absurd (omega (arith, none))
 
-nothing_in : {R : Type 0} (k : ℕ) (remotes : Named (Named R)) → sum_by (λ q. 1) (firsts_from k remotes) ≡ 0
+nothing_in : {R : Type 0} (k : ℕ) (remotes : Named (Named R)) → sum_by (λ q. 1) (first_names_from k remotes) ≡ 0
     → All (λ r. r.1 ≡ []) remotes
 nothing_in k [] none = All-nil (λ r. r.1 ≡ [])
 nothing_in k ((remote, []) ∷ rs) none =
     All-cons (λ r. r.1 ≡ []) (remote, []) rs refl (nothing_in (suc k) rs none)
 nothing_in k ((remote, (m, v) ∷ es) ∷ rs) none =
-    let whole = sum_by-cons (λ (q : List ℕ × ℕ). 1) (m, k) (firsts_from (suc k) rs) in
+    let whole = sum_by-cons (λ (q : List ℕ × ℕ). 1) (m, k) (first_names_from (suc k) rs) in
     absurd (omega (arith, whole, none))
 
-pub first_of_remotes : {R : Type 0} (name : List ℕ) (place : ℕ) (remotes : Named (Named R)) (d : List ℕ × Named R)
-    → StandsAt name remotes place → IsEarliest name place 0 remotes → IsFirstOfRemotes remotes (Some name)
-first_of_remotes name place remotes d stands earliest = (
+pub first_of_remotes : {R : Type 0} (name : List ℕ) (remote_index : ℕ) (remotes : Named (Named R)) (d : List ℕ × Named R)
+    → IsFirstNameAt name remotes remote_index → IsEarliest name remote_index 0 remotes → IsFirstOfRemotes remotes (Some name)
+first_of_remotes name remote_index remotes d stands earliest = (
   joined_more {T = Unit {0}} None (remotes_with remotes name)
-      (more_at name remotes place d stands.0 (at_first name (get_or remotes place d).1 (stands.1 d))),
+      (more_at name remotes remote_index d stands.0 (at_first name (get_or remotes remote_index d).1 (stands.1 d))),
   All-nil (λ q. is_gt (cmp name q) ≡ false),
   earliest.0,
 )
 
 module _ {X R : Type 0} (shows : X → List ℕ × ℕ) (remotes : Named (Named R)) (xs : List X)
-    (are : AreFirsts remotes (map shows xs)) where
+    (are : AreFirstNames remotes (map shows xs)) where
   pub no_firsts : length xs ≡ 0 → All (λ r. r.1 ≡ []) remotes
   no_firsts none =
       let empty : xs ≡ [] = empty_of xs none in
       nothing_in 0 remotes (sym (are.same (λ q. 1)) ∙ ap (λ l. sum_by (λ q. 1) (map shows l)) empty)
 
-  pub top_stands : (x : X) → 0 < length xs → x ≡ get_or xs 0 x → StandsAt (shows x).0 remotes (shows x).1
+  pub top_stands : (x : X) → 0 < length xs → x ≡ get_or xs 0 x → IsFirstNameAt (shows x).0 remotes (shows x).1
   top_stands x some top =
       let count = here_count (shows x).0 (shows x).1 in
       let one : count (shows x) ≡ 1 = here_itself (shows x).0 (shows x).1 in
@@ -236,7 +236,7 @@ module _ {X R : Type 0} (shows : X → List ℕ × ℕ) (remotes : Named (Named 
       let whole = are.same count in
       let h = stands_at (shows x).0 (shows x).1 0 remotes (omega (arith, one, low, same, whole)) in
       let here : h.0 ≡ (shows x).1 = omega (arith, h.1) in
-      subst (StandsAt (shows x).0 remotes) here h.2
+      subst (IsFirstNameAt (shows x).0 remotes) here h.2
 
   -- the index of the top is in range
   pub top_below : (x : X) → 0 < length xs → x ≡ get_or xs 0 x → (shows x).1 < length remotes
@@ -276,9 +276,9 @@ popped shows x xs ys moved count =
 
 module _ {R : Type 0} (remotes : Named (Named R)) where
   pub firsts_so_far : (i : ℕ) (remote : List ℕ × Named R) (old new : List (List ℕ × ℕ))
-      → i < length remotes → remote ≡ get_or remotes i remote → AreFirsts (take i remotes) old → IsAscending remote.1
-      → ((count : List ℕ × ℕ → ℕ) → sum_by count new ≡ sum_by count (option_to_list (first_at i remote.1)) + sum_by count old)
-      → AreFirsts (take (i + 1) remotes) new
+      → i < length remotes → remote ≡ get_or remotes i remote → AreFirstNames (take i remotes) old → IsAscending remote.1
+      → ((count : List ℕ × ℕ → ℕ) → sum_by count new ≡ sum_by count (option_to_list (first_name_at i remote.1)) + sum_by count old)
+      → AreFirstNames (take (i + 1) remotes) new
   firsts_so_far i remote old new below here are up grown =
       let more : take (i + 1) remotes ≡ take i remotes ++ remote ∷ [] =
       take_more remotes i remote below ∙ ap (λ r. take i remotes ++ r ∷ []) (sym here) in
@@ -288,39 +288,39 @@ module _ {R : Type 0} (remotes : Named (Named R)) where
             let a = grown count in
             let b = are.same count in
             let d = firsts_more count 0 i (take i remotes) remote long in
-            let e = ap (λ v. sum_by count (firsts_from 0 v)) more in
+            let e = ap (λ v. sum_by count (first_names_from 0 v)) more in
             omega (arith, a, b, d, e);
         ascending = All-more (λ r. IsAscending r.1) remotes i remote below are.ascending (subst (λ r. IsAscending r.1) here up);
       }
 
-  firsts_taken : (name : List ℕ) (place : ℕ) (new : List ℕ × Named R) (old mid now : List (List ℕ × ℕ))
-      → StandsAt name remotes place → AreFirsts remotes old
-      → ((count : List ℕ × ℕ → ℕ) → sum_by count mid + count (name, place) ≡ sum_by count old)
-      → ((count : List ℕ × ℕ → ℕ) → sum_by count now ≡ sum_by count (option_to_list (first_at place new.1)) + sum_by count mid)
-      → IsAscending new.1 → AreFirsts (set remotes place new) now
-  firsts_taken name place new old mid now stands are gone come up = record {
+  firsts_taken : (name : List ℕ) (remote_index : ℕ) (new : List ℕ × Named R) (old mid now : List (List ℕ × ℕ))
+      → IsFirstNameAt name remotes remote_index → AreFirstNames remotes old
+      → ((count : List ℕ × ℕ → ℕ) → sum_by count mid + count (name, remote_index) ≡ sum_by count old)
+      → ((count : List ℕ × ℕ → ℕ) → sum_by count now ≡ sum_by count (option_to_list (first_name_at remote_index new.1)) + sum_by count mid)
+      → IsAscending new.1 → AreFirstNames (set remotes remote_index new) now
+  firsts_taken name remote_index new old mid now stands are gone come up = record {
     same = λ count.
         let a = gone count in
         let b = come count in
         let d = are.same count in
-        let e = firsts_set count 0 place remotes place new new (omega arith) stands.0 in
-        let f = ap (λ o. sum_by count (option_to_list (option_map (λ n. (n, place)) o))) (stands.1 new) in
-        let g = sum_by-cons count (name, place) [] in
+        let e = firsts_set count 0 remote_index remotes remote_index new new (omega arith) stands.0 in
+        let f = ap (λ o. sum_by count (option_to_list (option_map (λ n. (n, remote_index)) o))) (stands.1 new) in
+        let g = sum_by-cons count (name, remote_index) [] in
         omega (arith, a, b, d, e, f, g);
-    ascending = All-set (λ r. IsAscending r.1) remotes place new up are.ascending;
+    ascending = All-set (λ r. IsAscending r.1) remotes remote_index new up are.ascending;
   }
 
   -- the invariant holds again once the top is replaced by the next first name of its remote
   pub firsts_left : {X : Type 0} (shows : X → List ℕ × ℕ) (xs ys : List X) (x : X) (new there : List ℕ × Named R) (now : List (List ℕ × ℕ))
-      → AreFirsts remotes (map shows xs) → 0 < length xs → x ≡ get_or xs 0 x → IsPermutation xs (x ∷ ys)
+      → AreFirstNames remotes (map shows xs) → 0 < length xs → x ≡ get_or xs 0 x → IsPermutation xs (x ∷ ys)
       → there ≡ get_or (set remotes (shows x).1 new) (shows x).1 there
-      → ((count : List ℕ × ℕ → ℕ) → sum_by count now ≡ sum_by count (option_to_list (first_at (shows x).1 there.1)) + sum_by count (map shows ys))
-      → IsAscending there.1 → AreFirsts (set remotes (shows x).1 new) now
+      → ((count : List ℕ × ℕ → ℕ) → sum_by count now ≡ sum_by count (option_to_list (first_name_at (shows x).1 there.1)) + sum_by count (map shows ys))
+      → IsAscending there.1 → AreFirstNames (set remotes (shows x).1 new) now
   firsts_left shows xs ys x new there now are some top moved at come up =
       let stands = top_stands shows remotes xs are x some top in
       let is : there ≡ new = at ∙ get_or-set_same remotes (shows x).1 new there stands.0 in
       firsts_taken (shows x).0 (shows x).1 new (map shows xs) (map shows ys) now stands are (popped shows x xs ys moved)
-      (λ count. come count ∙ ap (λ r. sum_by count (option_to_list (first_at (shows x).1 r.1)) + sum_by count (map shows ys)) is)
+      (λ count. come count ∙ ap (λ r. sum_by count (option_to_list (first_name_at (shows x).1 r.1)) + sum_by count (map shows ys)) is)
       (subst (λ r. IsAscending r.1) is up)
 
   -- ---- a name that is at most each name, and is not the first
@@ -349,22 +349,22 @@ same_of true h = refl
 same_of false h = cc
 
 -- peek and pop return the same item
-pub named_top : {X R : Type 0} (shows : X → List ℕ × ℕ) (remotes : Named (Named R)) (xs : List X) → AreFirsts remotes (map shows xs)
+pub named_top : {X R : Type 0} (shows : X → List ℕ × ℕ) (remotes : Named (Named R)) (xs : List X) → AreFirstNames remotes (map shows xs)
     → (x y : X) (name shown : List ℕ) → 0 < length xs → x ≡ get_or xs 0 x → y ≡ get_or xs 0 y → shown ≡ name
-    → false ≡ not (bytes_eq (shows x).0 shown) → StandsAt name remotes (shows y).1 × ((shows y).0 ≡ name)
+    → false ≡ not (bytes_eq (shows x).0 shown) → IsFirstNameAt name remotes (shows y).1 × ((shows y).0 ≡ name)
 named_top shows remotes xs are x y name shown some at_x at_y is same =
     let named : (shows y).0 ≡ name = ap (λ z. (shows z).0) (same_top xs y x some at_y at_x)
     ∙ (bytes_eq-Decides (shows x).0 shown).0 (same_of _ same) ∙ is in
-    (subst (λ n. StandsAt n remotes (shows y).1) named (top_stands shows remotes xs are y some at_y), named)
+    (subst (λ n. IsFirstNameAt n remotes (shows y).1) named (top_stands shows remotes xs are y some at_y), named)
 
 none_mapped : {A B : Type 0} (f : A → B) (o : Option A) → IsSome o → None ≡ option_map f o → ⊥
 none_mapped f (Some a) some h = cc
 none_mapped f None some h = cc
 
 -- a remote with this first name has its ref
-pub never_missed : {R : Type 0} (name : List ℕ) (remotes : Named (Named R)) (place : ℕ) (remote : List ℕ × Named R)
-    → StandsAt name remotes place → remote ≡ get_or remotes place remote
+pub never_missed : {R : Type 0} (name : List ℕ) (remotes : Named (Named R)) (remote_index : ℕ) (remote : List ℕ × Named R)
+    → IsFirstNameAt name remotes remote_index → remote ≡ get_or remotes remote_index remote
     → None ≡ option_map (λ (r : R). at_remote remote.0 r) (lookup (bytes_eq name) remote.1) → ⊥
-never_missed {R} name remotes place remote stands here h =
+never_missed {R} name remotes remote_index remote stands here h =
     none_mapped (λ (r : R). at_remote remote.0 r) (lookup (bytes_eq name) remote.1)
     (at_first name remote.1 (subst (λ r. Some name ≡ slice_get (keys_of r.1) 0) (sym here) (stands.1 remote))) h

@@ -81,14 +81,14 @@ module _ {T R : Type 0} (locals : Named T) (remotes : Named (Named R)) where
     All-weaker (λ r. r.1 ≡ []) (λ r. IsLeast name r.1) (λ r e. no_names name r.1 e) remotes none.1,
   )
 
-  pub lesser_name : (local name lesser : List ℕ) → Some local ≡ slice_get (keys_of locals) 0 → IsLeast local locals
-      → IsFirstOfRemotes remotes (Some name) → (lesser ≡ local) ⊎ (lesser ≡ name)
-      → is_gt (cmp lesser local) ≡ false → is_gt (cmp lesser name) ≡ false → IsFirstName locals remotes (Some lesser)
-  lesser_name local name lesser at least first one below_local below_name =
+  pub lesser_name : (local name min_name : List ℕ) → Some local ≡ slice_get (keys_of locals) 0 → IsLeast local locals
+      → IsFirstOfRemotes remotes (Some name) → (min_name ≡ local) ⊎ (min_name ≡ name)
+      → is_gt (cmp min_name local) ≡ false → is_gt (cmp min_name name) ≡ false → IsFirstName locals remotes (Some min_name)
+  lesser_name local name min_name at least first one below_local below_name =
       let P : List ℕ → Type 0 = λ n. IsSome (join_at locals remotes n) in (
         ⊎_elim (λ e. subst P (sym e) (joined_local _ _ (at_first local locals at)))
             (λ e. subst P (sym e) (stands_at_remote name first)) one,
-        least_lower lesser local locals below_local least,
-        All-weaker (λ r. IsLeast name r.1) (λ r. IsLeast lesser r.1)
-            (λ r k. least_lower lesser name r.1 below_name k) remotes first.2,
+        least_lower min_name local locals below_local least,
+        All-weaker (λ r. IsLeast name r.1) (λ r. IsLeast min_name r.1)
+            (λ r k. least_lower min_name name r.1 below_name k) remotes first.2,
       )

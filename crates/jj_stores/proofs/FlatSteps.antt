@@ -11,7 +11,7 @@ use Rattle.std.proofs.lemmas.List.Sums.{sum_by-append, sum_by-cons}
 use Rattle.std.proofs.lemmas.Map.Keys.{sorted_head}
 use Rattle.std.proofs.lemmas.Slice.Eq.{bytes_eq-Decides}
 use Rattle.jj_stores.specs.ViewJoins.{Named, IsLeast, join_of, remotes_with, IsFirstOfRemotes}
-use Rattle.jj_stores.specs.FlatRefs.{AtRemotes, refs_at, AreFlat, TakesRef}
+use Rattle.jj_stores.specs.FlatRefs.{AtRemotes, refs_at, IsFlattened, RemovesRef}
 use Rattle.jj_stores.proofs.NamesLeft.{cmp, none_above, not_above_itself}
 use Rattle.jj_stores.proofs.FirstNames.{IsMore, cons_more}
 use Rattle.jj_stores.proofs.JoinSteps.{no_remotes}
@@ -55,7 +55,7 @@ module _ {R : Type 0} where
   with_append before after name =
       filter_map-append (λ remote. option_map (λ v. (remote.0, v)) (lookup (bytes_eq name) remote.1)) before after
 
-  module _ (name : List ℕ) (old : Named (Named R)) (found : List ℕ × R) (new : Named (Named R)) (taken : TakesRef name old found new) where
+  module _ (name : List ℕ) (old : Named (Named R)) (found : List ℕ × R) (new : Named (Named R)) (taken : RemovesRef name old found new) where
     -- the remotes that have the name: the removed one is prepended
     pub one_more : remotes_with old name ≡ found ∷ remotes_with new name
     one_more =
@@ -124,8 +124,8 @@ module _ {R : Type 0} where
   )
 
   pub flat_first : (name : List ℕ) (old : Named (Named R)) (found : List ℕ × R) (new : Named (Named R))
-      → All (λ r. IsLeast name r.1) old → TakesRef name old found new
-      → (refs : AtRemotes R) → AreFlat new refs → AreFlat old (((name, found.0), found.1) ∷ refs)
+      → All (λ r. IsLeast name r.1) old → RemovesRef name old found new
+      → (refs : AtRemotes R) → IsFlattened new refs → IsFlattened old (((name, found.0), found.1) ∷ refs)
   flat_first name old found new least taken refs flat = record {
     by_name = (
       names_least name refs (λ other more. at_name_or name other (bytes_eq other name) refl
@@ -137,14 +137,14 @@ module _ {R : Type 0} where
         (λ apart. flat.at_each q ∙ same_elsewhere name old found new taken q apart);
   }
 
-  pub no_refs : (remotes : Named (Named R)) → IsFirstOfRemotes remotes None → AreFlat remotes []
+  pub no_refs : (remotes : Named (Named R)) → IsFirstOfRemotes remotes None → IsFlattened remotes []
   no_refs remotes none = record { by_name = tt; at_each = λ q. sym (no_remotes remotes q none.1) }
 
   pub some_refs : (remotes : Named (Named R)) (name : List ℕ) → IsFirstOfRemotes remotes (Some name)
       → remotes_with remotes name ≡ [] → ⊥
   some_refs remotes name first none = let h = subst (λ l. IsSome (join_of {T = Unit {0}} None l)) none first.0 in cc
 
-  pub one_fewer : (name : List ℕ) (old : Named (Named R)) (found : List ℕ × R) (new : Named (Named R)) → TakesRef name old found new
+  pub one_fewer : (name : List ℕ) (old : Named (Named R)) (found : List ℕ × R) (new : Named (Named R)) → RemovesRef name old found new
       → sum_by (λ r. length r.1) new < sum_by (λ r. length r.1) old
   one_fewer name old found new taken =
       let count : Named (Named R) → ℕ = λ v. sum_by (λ r. length r.1) v in

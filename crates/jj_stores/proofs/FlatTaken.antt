@@ -6,8 +6,8 @@ use Rattle.std.specs.Str.{bytes_eq}
 use Rattle.std.proofs.Math.Seq.{split_at}
 use Rattle.std.proofs.lemmas.List.{take-set, drop-set-lt, get_or-set_same, length-set}
 use Rattle.std.proofs.lemmas.Option.{same_Some}
-use Rattle.jj_stores.specs.ViewJoins.{Named, IsAscending, LosesAt, remotes_with}
-use Rattle.jj_stores.specs.FlatRefs.{TakesRef}
+use Rattle.jj_stores.specs.ViewJoins.{Named, IsAscending, RemovesAt, remotes_with}
+use Rattle.jj_stores.specs.FlatRefs.{RemovesRef}
 
 abbrev pub at_remote : {R : Type 0} → List ℕ → R → List ℕ × R
 at_remote remote ref = (remote, ref)
@@ -32,10 +32,10 @@ module _ {R : Type 0} where
 
   module _ (name : List ℕ) (old now : Named (Named R)) (i : ℕ) (d : List ℕ × Named R) (new : List ℕ × Named R)
       (below : i < length old) (same : now ≡ old) (none : remotes_with (take i old) name ≡ [])
-      (lost : LosesAt name (get_or now i d) new) where
+      (lost : RemovesAt name (get_or now i d) new) where
     pub ref_taken : (found : List ℕ × R)
         → Some found ≡ option_map (λ r. ((get_or now i d).0, r)) (lookup (bytes_eq name) (get_or now i d).1)
-        → TakesRef name old found (set now i new)
+        → RemovesRef name old found (set now i new)
     ref_taken found is =
         let remote : List ℕ × Named R = get_or now i d in
         let here : remote ≡ (found.0, (name, found.1) ∷ new.1) = found_first name remote new _ found is lost.refs.1 in

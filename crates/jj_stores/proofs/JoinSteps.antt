@@ -13,7 +13,7 @@ use Rattle.std.proofs.lemmas.List.Sums.{sum_by-cons}
 use Rattle.std.proofs.lemmas.Map.Keys.{sorted_head}
 use Rattle.std.proofs.lemmas.Map.Views.{All-keys_from_lookup}
 use Rattle.std.proofs.lemmas.Slice.Eq.{bytes_eq-Decides}
-use Rattle.jj_stores.specs.ViewJoins.{Named, IsAscending, IsLeast, TakesAt, LosesAt, remotes_with, join_of, join_at, IsViewJoin, IsFirstName}
+use Rattle.jj_stores.specs.ViewJoins.{Named, IsAscending, IsLeast, RemovesFirst, RemovesAt, remotes_with, join_of, join_at, IsViewJoin, IsFirstName}
 use Rattle.jj_stores.proofs.NamesLeft.{cmp, Above, below}
 use Rattle.jj_stores.proofs.FirstNames.{IsMore, some_joined}
 
@@ -32,13 +32,13 @@ module _ {V : Type 0} (name : List ℕ) where
       (below name e.0 least.0 (nat_list_eq_equiv.symm e.0 name ∙ m.0), above_missed es least.1 m.1)
 
   pub left_above : (old new : Named V) (found : Option V) → IsAscending old → IsLeast name old
-      → TakesAt name old found new → Above name (keys_of new)
+      → RemovesFirst name old found new → Above name (keys_of new)
   left_above old new None up least taken = subst (λ refs. Above name (keys_of refs)) taken.1
       (above_missed old (recursion_from_All (λ q. is_gt (cmp name q) ≡ false) (keys_of old) least) taken.0)
   left_above old new (Some v) up least taken =
       sorted_head cmp name (keys_of new) (subst IsAscending taken.1 up)
 
-  pub others_left : (old new : Named V) (found : Option V) → TakesAt name old found new
+  pub others_left : (old new : Named V) (found : Option V) → RemovesFirst name old found new
       → (other : List ℕ) → bytes_eq other name ≡ false
       → lookup (bytes_eq other) new ≡ lookup (bytes_eq other) old
   others_left old new None taken other apart = sym (ap (lookup (bytes_eq other)) taken.1)
@@ -61,7 +61,7 @@ module _ {V : Type 0} (name : List ℕ) where
 -- ---- the remaining refs of all remotes
 
 module _ {R : Type 0} (name : List ℕ) where
-  pub remotes_left_same : (old new : Named (Named R)) → AllZip (LosesAt name) old new
+  pub remotes_left_same : (old new : Named (Named R)) → AllZip (RemovesAt name) old new
       → (other : List ℕ) → bytes_eq other name ≡ false → remotes_with new other ≡ remotes_with old other
   remotes_left_same [] [] lost other apart = refl
   remotes_left_same [] (n ∷ ns) lost other apart = absurd lost
@@ -76,7 +76,7 @@ module _ {R : Type 0} (name : List ℕ) where
   more_hit other remote (Some v) rest this later more = this refl
   more_hit other remote None rest this later more = later more
 
-  pub remotes_above : (old new : Named (Named R)) → All (λ r. IsLeast name r.1) old → AllZip (LosesAt name) old new
+  pub remotes_above : (old new : Named (Named R)) → All (λ r. IsLeast name r.1) old → AllZip (RemovesAt name) old new
       → (other : List ℕ) → IsMore (remotes_with new other) → cmp name other ≡ Less
   remotes_above [] [] least lost other more = cc (more.2)
   remotes_above [] (n ∷ ns) least lost other more = absurd lost
@@ -111,7 +111,7 @@ module _ {T R : Type 0} where
 
   module _ (locals locals' : Named T) (remotes remotes' : Named (Named R)) (name : List ℕ) (local : Option T)
       (first : IsFirstName locals remotes (Some name)) (up : IsAscending locals)
-      (taken : TakesAt name locals local locals') (lost : AllZip (LosesAt name) remotes remotes') where
+      (taken : RemovesFirst name locals local locals') (lost : AllZip (RemovesAt name) remotes remotes') where
     rows_above : (rows : Named (Option T × Named R)) → IsViewJoin locals' remotes' rows → Above name (keys_of rows)
     rows_above rows join = recursion_from_All (λ q. cmp name q ≡ Less) (keys_of rows)
         (All-keys_from_lookup nat_list_eq_equiv (λ q. cmp name q ≡ Less) rows
@@ -151,7 +151,7 @@ length_found : {V X : Type 0} (f : V → X) (found : Option V)
 length_found f None = refl
 length_found f (Some v) = refl
 
-length_left : {V : Type 0} (name : List ℕ) (old new : Named V) (found : Option V) → TakesAt name old found new
+length_left : {V : Type 0} (name : List ℕ) (old new : Named V) (found : Option V) → RemovesFirst name old found new
     → length old ≡ length (option_to_list found) + length new
 length_left {V} name old new found taken =
     let at : V → List ℕ × V = λ v. (name, v) in
@@ -166,7 +166,7 @@ length_cons : {X Y : Type 0} (f : X → Y) (o : Option X) (rest : List Y)
 length_cons f None rest = omega arith
 length_cons f (Some x) rest = omega arith
 
-count_left : {R : Type 0} (name : List ℕ) (old new : Named (Named R)) → AllZip (LosesAt name) old new
+count_left : {R : Type 0} (name : List ℕ) (old new : Named (Named R)) → AllZip (RemovesAt name) old new
     → count old ≡ length (remotes_with old name) + count new
 count_left name [] [] lost = refl
 count_left name [] (n ∷ ns) lost = absurd lost
@@ -189,8 +189,8 @@ found_some None [] h = cc
 found_some None (r ∷ rs) h = omega arith
 
 pub fewer_left : {T R : Type 0} (locals locals' : Named T) (remotes remotes' : Named (Named R)) (name : List ℕ)
-    (local : Option T) → IsSome (join_at locals remotes name) → TakesAt name locals local locals'
-    → AllZip (LosesAt name) remotes remotes'
+    (local : Option T) → IsSome (join_at locals remotes name) → RemovesFirst name locals local locals'
+    → AllZip (RemovesAt name) remotes remotes'
     → length locals' + count remotes' < length locals + count remotes
 fewer_left {T} {R} locals locals' remotes remotes' name local some taken lost =
     let P : Option T → Type 0 = λ o. 0 < length (option_to_list o) + length (remotes_with remotes name) in

@@ -4,7 +4,7 @@ use Rattle.std.specs.BTreeMap.{BTreeMap}
 use Rattle.std.specs.Fn.{CalledAt}
 use Rattle.jj_merges.specs.Calls.{CallsReturn}
 use Rattle.jj_stores.specs.ViewJoins.{Named}
-use Rattle.jj_stores.specs.JoinRows.{ShowsRefs}
+use Rattle.jj_stores.specs.JoinRows.{SelectsRefs}
 use Rattle.jj_stores.specs.declared.op_store.ref_target.RemoteRef.{RemoteRef}
 use Rattle.jj_stores.specs.declared.op_store.view.RemoteView.{RemoteView}
 use denote.Param.Members.{Mut}
@@ -14,7 +14,7 @@ module _ {F : Type 0} (closure : Mut F (Bor RemoteView × Unit {0}) (Bor (BTreeM
     (shows : (f : F) (view : RemoteView) (refs : Bor (BTreeMap (List ℕ) RemoteRef)) (next : F)
     → CalledAt closure f view refs next → refs.now.entries ≡ refs_of view) where
   pub remotes_shown : (f : F) (views : Named RemoteView) (remotes : Named (Named RemoteRef)) (last : F)
-      → CallsReturn (ShowsRefs closure) f views remotes last
+      → CallsReturn (SelectsRefs closure) f views remotes last
       → remotes ≡ map (λ view. (view.0, refs_of view.1)) views
   remotes_shown f [] [] last h = refl
   remotes_shown f [] (r ∷ rs) last h = absurd h

@@ -9,8 +9,8 @@ use Rattle.std.specs.Str.{bytes_eq}
 use Rattle.std.proofs.lemmas.List.{map-append, append_assoc}
 use Rattle.std.proofs.lemmas.List.Elements.{All-cons, All-head, All-tail}
 use Rattle.std.proofs.lemmas.Map.Keys.{sorted_head}
-use Rattle.jj_stores.specs.ViewJoins.{Named, IsAscending, IsLeast, TakesAt, LosesAt, remotes_with}
-use Rattle.jj_stores.specs.FlatRefs.{TakesRef}
+use Rattle.jj_stores.specs.ViewJoins.{Named, IsAscending, IsLeast, RemovesFirst, RemovesAt, remotes_with}
+use Rattle.jj_stores.specs.FlatRefs.{RemovesRef}
 use Rattle.jj_stores.proofs.FlatSteps.{one_more}
 use Rattle.jj_stores.proofs.NamesLeft.{cmp, none_above}
 
@@ -39,8 +39,8 @@ not_both (Some b) a e h = cc
 
 module _ {R : Type 0} (name : List ℕ) where
   -- a remote is unchanged, or its ref of the name is removed
-  abbrev pub IsLosing : List ℕ × Named R → List ℕ × Named R → Type 0
-  IsLosing old now = (old ≡ now) ⊎ (LosesAt name old now × (None ≡ lookup (bytes_eq name) now.1))
+  abbrev pub IsUnchangedOrRemoved : List ℕ × Named R → List ℕ × Named R → Type 0
+  IsUnchangedOrRemoved old now = (old ≡ now) ⊎ (RemovesAt name old now × (None ≡ lookup (bytes_eq name) now.1))
 
   here : (ref : R) (others : Named R) → lookup (bytes_eq name) ((name, ref) ∷ others) ≡ Some ref
   here ref others =
@@ -50,14 +50,14 @@ module _ {R : Type 0} (name : List ℕ) where
   -- the refs are that of the name, if there is one, and the others
   cut : (refs others : Named R) (o : Option R) → lookup (bytes_eq name) refs ≡ o
       → refs ≡ option_to_list (option_map (λ v. (name, v)) o) ++ others
-      → TakesAt name refs (lookup (bytes_eq name) refs) others
+      → RemovesFirst name refs (lookup (bytes_eq name) refs) others
   cut refs others o is same = (
     refl,
     same ∙ ap (λ p. option_to_list (option_map (λ v. (name, v)) p) ++ others) (sym is),
   )
 
   lost_first : (remote : List ℕ) (ref : R) (others : Named R) → IsAscending ((name, ref) ∷ others)
-      → LosesAt name (remote, (name, ref) ∷ others) (remote, others)
+      → RemovesAt name (remote, (name, ref) ∷ others) (remote, others)
   lost_first remote ref others up = record {
     remote = refl;
     refs = cut ((name, ref) ∷ others) others (Some ref) (here ref others) refl;
@@ -65,7 +65,7 @@ module _ {R : Type 0} (name : List ℕ) where
   }
 
   lost_none : (remote : List ℕ × Named R) → None ≡ lookup (bytes_eq name) remote.1 → IsAscending remote.1
-      → LosesAt name remote remote
+      → RemovesAt name remote remote
   lost_none remote none up = record {
     remote = refl;
     refs = cut remote.1 remote.1 None (sym none) refl;
@@ -73,32 +73,32 @@ module _ {R : Type 0} (name : List ℕ) where
   }
 
   loses : (old : List ℕ × Named R) (remote : List ℕ) (ref : R) (others : Named R) → IsAscending ((name, ref) ∷ others)
-      → IsLosing old (remote, (name, ref) ∷ others) → IsLosing old (remote, others)
+      → IsUnchangedOrRemoved old (remote, (name, ref) ∷ others) → IsUnchangedOrRemoved old (remote, others)
   loses old remote ref others up (inl same) = inr (
-    subst (λ r. LosesAt name r (remote, others)) (sym same) (lost_first remote ref others up),
+    subst (λ r. RemovesAt name r (remote, others)) (sym same) (lost_first remote ref others up),
     none_above name others (sorted_head cmp name (keys_of others) up),
   )
   loses old remote ref others up (inr lost) = absurd (not_both _ ref (here ref others) lost.1)
 
   pub losing_more : (initial old : Named (Named R)) (found : List ℕ × R) (new : Named (Named R))
-      → TakesRef name old found new → AllZip IsLosing initial old → AllZip IsLosing initial new
+      → RemovesRef name old found new → AllZip IsUnchangedOrRemoved initial old → AllZip IsUnchangedOrRemoved initial new
   losing_more initial old found new taken so_far =
-      subst (AllZip IsLosing initial) (sym taken.new_is)
-      (changed_at IsLosing initial taken.before taken.after (found.0, (name, found.1) ∷ taken.others) (found.0, taken.others)
+      subst (AllZip IsUnchangedOrRemoved initial) (sym taken.new_is)
+      (changed_at IsUnchangedOrRemoved initial taken.before taken.after (found.0, (name, found.1) ∷ taken.others) (found.0, taken.others)
       (λ o l. loses o found.0 found.1 taken.others taken.ascending l)
-      (subst (AllZip IsLosing initial) taken.old_is so_far))
+      (subst (AllZip IsUnchangedOrRemoved initial) taken.old_is so_far))
 
-  pub losing_none : (remotes : Named (Named R)) → AllZip IsLosing remotes remotes
+  pub losing_none : (remotes : Named (Named R)) → AllZip IsUnchangedOrRemoved remotes remotes
   losing_none [] = tt
   losing_none (r ∷ rs) = (inl refl, losing_none rs)
 
-  lost_or : (old now : List ℕ × Named R) → None ≡ lookup (bytes_eq name) now.1 → IsAscending now.1 → IsLosing old now
-      → LosesAt name old now
-  lost_or old now none up (inl same) = subst (λ r. LosesAt name r now) (sym same) (lost_none now none up)
+  lost_or : (old now : List ℕ × Named R) → None ≡ lookup (bytes_eq name) now.1 → IsAscending now.1 → IsUnchangedOrRemoved old now
+      → RemovesAt name old now
+  lost_or old now none up (inl same) = subst (λ r. RemovesAt name r now) (sym same) (lost_none now none up)
   lost_or old now none up (inr lost) = lost.0
 
   pub all_lost : (initial now : Named (Named R)) → remotes_with now name ≡ [] → All (λ r. IsAscending r.1) now
-      → AllZip IsLosing initial now → AllZip (LosesAt name) initial now
+      → AllZip IsUnchangedOrRemoved initial now → AllZip (RemovesAt name) initial now
   all_lost [] [] none up h = tt
   all_lost [] (n ∷ ns) none up h = absurd h
   all_lost (o ∷ os) [] none up h = absurd h
@@ -108,7 +108,7 @@ module _ {R : Type 0} (name : List ℕ) where
         all_lost os ns parts.1 (All-tail (λ r. IsAscending r.1) n ns up) h.1,
       )
 
-  pub still_least : (old : Named (Named R)) (found : List ℕ × R) (new : Named (Named R)) → TakesRef name old found new
+  pub still_least : (old : Named (Named R)) (found : List ℕ × R) (new : Named (Named R)) → RemovesRef name old found new
       → All (λ r. IsLeast name r.1) old → All (λ r. IsLeast name r.1) new
   still_least old found new taken least =
       subst (All (λ r. IsLeast name r.1)) (sym taken.new_is)
@@ -117,7 +117,7 @@ module _ {R : Type 0} (name : List ℕ) where
       (subst (All (λ r. IsLeast name r.1)) taken.old_is least))
 
   pub refs_more : {A : Type 0} (shows : A → List ℕ × R) (old : Named (Named R)) (item : A) (new : Named (Named R)) (whole : Named R)
-      (refs : List A) → TakesRef name old (shows item) new → map shows refs ++ remotes_with old name ≡ whole
+      (refs : List A) → RemovesRef name old (shows item) new → map shows refs ++ remotes_with old name ≡ whole
       → map shows (refs ++ item ∷ []) ++ remotes_with new name ≡ whole
   refs_more shows old item new whole refs taken so_far =
       ap (λ l. l ++ remotes_with new name) (map-append shows refs (item ∷ []))

@@ -13,8 +13,8 @@ use Rattle.jj_ids.specs.declared.ref_name.names.Name.{Name}
 use Rattle.jj_stores.specs.ViewJoins.{Named, IsAscending}
 
 -- the name and index of a heap item
-abbrev pub first_of : {K : Type 0} → Reverse (Name K × ℕ) → List ℕ × ℕ
-first_of f = (name_of f.0.0, f.0.1)
+abbrev pub name_and_index : {K : Type 0} → Reverse (Name K × ℕ) → List ℕ × ℕ
+name_and_index f = (name_of f.0.0, f.0.1)
 
 -- the order of a max-heap with the least name on top; of equal names, the least index
 abbrev pub earlier_cmp : List ℕ × ℕ → List ℕ × ℕ → Ordering
@@ -22,17 +22,17 @@ earlier_cmp a b = ordering_then (slice_cmp nat_cmp b.0 a.0) (nat_cmp b.1 a.1)
 
 module _ {R : Type 0} where
   -- the first name, if there is any, with an index
-  abbrev pub first_at : ℕ → Named R → Option (List ℕ × ℕ)
-  first_at place refs = option_map (λ name. (name, place)) (slice_get (keys_of refs) 0)
+  abbrev pub first_name_at : ℕ → Named R → Option (List ℕ × ℕ)
+  first_name_at index refs = option_map (λ name. (name, index)) (slice_get (keys_of refs) 0)
 
   -- the first names of remotes whose indices are counted from this one
-  abbrev pub firsts_from : ℕ → Named (Named R) → List (List ℕ × ℕ)
-  firsts_from place [] = []
-  firsts_from place (remote ∷ remotes) =
-      cons_option (first_at place remote.1) (firsts_from (suc place) remotes)
+  abbrev pub first_names_from : ℕ → Named (Named R) → List (List ℕ × ℕ)
+  first_names_from index [] = []
+  first_names_from index (remote ∷ remotes) =
+      cons_option (first_name_at index remote.1) (first_names_from (suc index) remotes)
 
   -- firsts is a permutation of the first names of remotes, whose refs ascend by name
-  pub record AreFirsts (remotes : Named (Named R)) (firsts : List (List ℕ × ℕ)) : Type 0 where
+  pub record AreFirstNames (remotes : Named (Named R)) (firsts : List (List ℕ × ℕ)) : Type 0 where
     pub same : (count : List ℕ × ℕ → ℕ)
-        → sum_by count firsts ≡ sum_by count (firsts_from 0 remotes)
+        → sum_by count firsts ≡ sum_by count (first_names_from 0 remotes)
     pub ascending : All (λ remote. IsAscending remote.1) remotes

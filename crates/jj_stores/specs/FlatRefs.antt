@@ -1,5 +1,5 @@
 -- The refs of all remotes in one list, ordered by ref name and then by remote.
--- Cited by contracts of public items: GivesRef.
+-- Cited by contracts of public items: YieldsRef.
 use Rattle.std.specs.Prelude.{◌≡◌, ℕ, List, [], ◌∷◌, ◌++◌, false, cond, Option, Some, None}
 use Rattle.std.specs.Borrow.{Bor}
 use Rattle.std.specs.Cmp.Lexicographic.{slice_cmp}
@@ -27,12 +27,12 @@ module _ {R : Type 0} where
       filter_map (λ r. cond (bytes_eq name r.0.0) (Some (r.0.1, r.1)) None) refs
 
   -- refs are all refs of the remotes, in order of names, and of one name in order of remotes
-  pub record AreFlat (remotes : Named (Named R)) (refs : AtRemotes R) : Type 0 where
+  pub record IsFlattened (remotes : Named (Named R)) (refs : AtRemotes R) : Type 0 where
     pub by_name : AreByName refs
     pub at_each : (name : List ℕ) → refs_at refs name ≡ remotes_with remotes name
 
   -- the ref of this name is removed from the first remote that has it
-  pub record TakesRef (name : List ℕ) (old : Named (Named R)) (found : List ℕ × R)
+  pub record RemovesRef (name : List ℕ) (old : Named (Named R)) (found : List ℕ × R)
       (new : Named (Named R)) : Type 0 where
     pub before : Named (Named R)
     pub after : Named (Named R)
@@ -46,8 +46,8 @@ module _ {R : Type 0} where
   symbol_ref_of item = ((name_of item.0.name, name_of item.0.remote), item.1.now)
 
   -- one step of the iterator: the first remaining ref is yielded, or none remains
-  abbrev pub GivesRef : Named (Named R) → Option (RemoteRefSymbol × Bor R)
+  abbrev pub YieldsRef : Named (Named R) → Option (RemoteRefSymbol × Bor R)
       → Named (Named R) → Type 0
-  GivesRef old None new = AreFlat old [] × AreFlat new []
-  GivesRef old (Some item) new = (refs : AtRemotes R) → AreFlat new refs
-      → AreFlat old (symbol_ref_of item ∷ refs)
+  YieldsRef old None new = IsFlattened old [] × IsFlattened new []
+  YieldsRef old (Some item) new = (refs : AtRemotes R) → IsFlattened new refs
+      → IsFlattened old (symbol_ref_of item ∷ refs)

@@ -1,5 +1,6 @@
 -- The models of join iterators: their remaining refs and rows.
--- Cited by contracts of public items: JoinLeft, ShowsRefs, left_unless, refs_left.
+-- Cited by contracts of public items: RemainingJoin, SelectsRefs, remaining_count,
+-- remaining_unless.
 use Rattle.std.specs.Prelude.{◌≡◌, ◌+◌, ℕ, List, [], length, Bool, true, false, Option}
 use Rattle.std.specs.Borrow.{Bor}
 use Rattle.std.specs.List.{sum_by}
@@ -17,26 +18,26 @@ abbrev pub ref_of : {K : Type 0} → Name K × Bor RemoteRef → List ℕ × Rem
 ref_of r = (name_of r.0, r.1.now)
 
 -- the remaining local refs and remote refs of a join
-pub record JoinLeft : Type 0 where
+pub record RemainingJoin : Type 0 where
   pub locals : Named Target
   pub remotes : Named (Named RemoteRef)
 
 -- the remaining refs of a join; none after an error
-abbrev pub left_unless : Bool → Named Target → Named (Named RemoteRef) → JoinLeft
-left_unless true locals remotes = record { locals = []; remotes = [] }
-left_unless false locals remotes = record { locals = locals; remotes = remotes }
+abbrev pub remaining_unless : Bool → Named Target → Named (Named RemoteRef) → RemainingJoin
+remaining_unless true locals remotes = record { locals = []; remotes = [] }
+remaining_unless false locals remotes = record { locals = locals; remotes = remotes }
 
 -- these are the remaining rows of a join
-abbrev pub AreLeft : JoinLeft → Named (Option Target × Named RemoteRef) → Type 0
-AreLeft left rows = IsViewJoin left.locals left.remotes rows
+abbrev pub AreRemainingRows : RemainingJoin → Named (Option Target × Named RemoteRef) → Type 0
+AreRemainingRows left rows = IsViewJoin left.locals left.remotes rows
 
 -- the number of remaining refs
-abbrev pub refs_left : JoinLeft → ℕ
-refs_left left = length left.locals + sum_by (λ remote. length remote.1) left.remotes
+abbrev pub remaining_count : RemainingJoin → ℕ
+remaining_count left = length left.locals + sum_by (λ remote. length remote.1) left.remotes
 
 -- the closure, called with the view of a remote, returns these refs of it
-abbrev pub ShowsRefs : {F : Type 0}
+abbrev pub SelectsRefs : {F : Type 0}
     → Mut F (Bor RemoteView × Unit {0}) (Bor (BTreeMap (List ℕ) RemoteRef)) → F
     → List ℕ × RemoteView → List ℕ × Named RemoteRef → F → Type 0
-ShowsRefs closure f view remote next = (refs : Bor (BTreeMap (List ℕ) RemoteRef))
+SelectsRefs closure f view remote next = (refs : Bor (BTreeMap (List ℕ) RemoteRef))
     × CalledAt closure f view.1 refs next × (remote ≡ (view.0, refs.now.entries))

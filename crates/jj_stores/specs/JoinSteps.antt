@@ -1,12 +1,12 @@
 -- One step of a join iterator: the yielded row and the remaining ones.
--- Cited by contracts of public items: GivesRow.
+-- Cited by contracts of public items: YieldsRow.
 use Rattle.std.specs.Prelude.{ℕ, List, [], ◌∷◌, map, Option, Some, None, Result, Ok, Err}
 use Rattle.std.specs.Option.{option_copied}
 use Rattle.jj_ids.specs.Names.{name_of}
 use Rattle.jj_ids.specs.declared.ref_name.names.Name.{Name}
 use Rattle.jj_stores.specs.RefTargets.{Target}
 use Rattle.jj_stores.specs.ViewJoins.{Named}
-use Rattle.jj_stores.specs.JoinRows.{JoinLeft, AreLeft, ref_of}
+use Rattle.jj_stores.specs.JoinRows.{RemainingJoin, AreRemainingRows, ref_of}
 use Rattle.jj_stores.specs.declared.op_store.ref_target.RemoteRef.{RemoteRef}
 use Rattle.jj_stores.specs.declared.op_store.view_joins.LocalRemoteRefTarget.{LocalRemoteRefTarget}
 
@@ -20,9 +20,9 @@ module _ {K : Type 0} where
   )
 
   -- the first remaining row is yielded, or none remains; or a row fails, after which none remains
-  abbrev pub GivesRow : {E : Type 0} → JoinLeft
-      → Option (Result (Name K × LocalRemoteRefTarget) E) → JoinLeft → Type 0
-  GivesRow old None new = AreLeft old [] × AreLeft new []
-  GivesRow old (Some (Ok row)) new = (rows : Named (Option Target × Named RemoteRef))
-      → AreLeft new rows → AreLeft old (row_of row ∷ rows)
-  GivesRow old (Some (Err e)) new = (AreLeft old [] → ⊥) × AreLeft new []
+  abbrev pub YieldsRow : {E : Type 0} → RemainingJoin
+      → Option (Result (Name K × LocalRemoteRefTarget) E) → RemainingJoin → Type 0
+  YieldsRow old None new = AreRemainingRows old [] × AreRemainingRows new []
+  YieldsRow old (Some (Ok row)) new = (rows : Named (Option Target × Named RemoteRef))
+      → AreRemainingRows new rows → AreRemainingRows old (row_of row ∷ rows)
+  YieldsRow old (Some (Err e)) new = (AreRemainingRows old [] → ⊥) × AreRemainingRows new []

@@ -1,6 +1,6 @@
 pub mod Verdict
 pub mod VerdictLaws
-pub mod Asked
+pub mod FirstDecisive
 pub mod Signer
 pub mod RefTargets
 pub mod RefTargetLaws
@@ -13,5 +13,5 @@ pub mod ViewJoins
 pub mod JoinRows
 pub mod JoinSteps
 pub mod FlatRefs
-pub mod Firsts
+pub mod FirstNameHeap
 pub mod Workspaces

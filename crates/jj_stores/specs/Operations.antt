@@ -27,17 +27,17 @@ HasDates range = IsDate range.start × IsDate range.end
 
 -- ---- metadata: time and description; host and user; snapshot flag, workspace and attributes
 
-abbrev pub IsAct : OperationMetadata → Type 0
-IsAct m = IsRange m.time × IsText (string_bytes m.description)
+abbrev pub IsEvent : OperationMetadata → Type 0
+IsEvent m = IsRange m.time × IsText (string_bytes m.description)
 
-abbrev pub act_content : OperationMetadata → List ℕ
-act_content m = range_content m.time ++ text_content (string_bytes m.description)
+abbrev pub event_content : OperationMetadata → List ℕ
+event_content m = range_content m.time ++ text_content (string_bytes m.description)
 
-abbrev pub IsActor : OperationMetadata → Type 0
-IsActor m = IsText (string_bytes m.hostname) × IsText (string_bytes m.username)
+abbrev pub IsAgent : OperationMetadata → Type 0
+IsAgent m = IsText (string_bytes m.hostname) × IsText (string_bytes m.username)
 
-abbrev pub actor_content : OperationMetadata → List ℕ
-actor_content m = text_content (string_bytes m.hostname) ++ text_content (string_bytes m.username)
+abbrev pub agent_content : OperationMetadata → List ℕ
+agent_content m = text_content (string_bytes m.hostname) ++ text_content (string_bytes m.username)
 
 -- `A` is the allocator of the strings and lists
 module _ {A : Type 0} where
@@ -48,18 +48,18 @@ module _ {A : Type 0} where
   attributes_content = list_content (entry_content (λ s. text_content (string_bytes s))
       (λ s. text_content (string_bytes s)))
 
-abbrev pub IsSetting : OperationMetadata → Type 0
-IsSetting m = Unit {0} × (IsOptionOf IsText m.workspace_name × AreAttributes m.attributes.entries)
+abbrev pub IsContext : OperationMetadata → Type 0
+IsContext m = Unit {0} × (IsOptionOf IsText m.workspace_name × AreAttributes m.attributes.entries)
 
-abbrev pub setting_content : OperationMetadata → List ℕ
-setting_content m = bool_content m.is_snapshot
+abbrev pub context_content : OperationMetadata → List ℕ
+context_content m = bool_content m.is_snapshot
     ++ (option_content text_content m.workspace_name ++ attributes_content m.attributes.entries)
 
 abbrev pub IsMetadata : OperationMetadata → Type 0
-IsMetadata m = IsAct m × (IsActor m × IsSetting m)
+IsMetadata m = IsEvent m × (IsAgent m × IsContext m)
 
 abbrev pub metadata_content : OperationMetadata → List ℕ
-metadata_content m = act_content m ++ (actor_content m ++ setting_content m)
+metadata_content m = event_content m ++ (agent_content m ++ context_content m)
 
 -- ---- operations
 
@@ -79,18 +79,18 @@ AreLinks o = AreBytes o.view_id × AreValues AreBytes o.parents.items
 abbrev pub links_content : Operation → List ℕ
 links_content o = bytes_content o.view_id ++ list_content bytes_content o.parents.items
 
-abbrev pub IsAccount : Operation → Type 0
-IsAccount o = IsMetadata o.metadata × IsOptionOf ArePredecessors o.commit_predecessors
+abbrev pub AreDetails : Operation → Type 0
+AreDetails o = IsMetadata o.metadata × IsOptionOf ArePredecessors o.commit_predecessors
 
-abbrev pub account_content : Operation → List ℕ
-account_content o = metadata_content o.metadata
+abbrev pub details_content : Operation → List ℕ
+details_content o = metadata_content o.metadata
     ++ option_content predecessors_content o.commit_predecessors
 
 abbrev pub IsOperation : Operation → Type 0
-IsOperation o = AreLinks o × IsAccount o
+IsOperation o = AreLinks o × AreDetails o
 
 abbrev pub operation_content : Operation → List ℕ
-operation_content o = links_content o ++ account_content o
+operation_content o = links_content o ++ details_content o
 
 -- ---- the root operation: no parents, empty metadata at the Unix epoch, and no predecessors
 

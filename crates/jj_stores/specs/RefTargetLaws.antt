@@ -22,23 +22,23 @@ target_eq = pointwise (option_eq bytes_eq)
 pub target_lawful : IsLawful IsTarget target_eq target_content
 target_lawful = list_lawful (option_lawful bytes_lawful)
 
-alike : (x y : RemoteRefState) → Unit {0} → Unit {0} → ghosts.eq x y ≡ true
+same_content : (x y : RemoteRefState) → Unit {0} → Unit {0} → ghosts.eq x y ≡ true
     → state_content x ≡ state_content y
-alike New New p q h = refl
-alike Tracked Tracked p q h = refl
-alike x y p q h = cc
+same_content New New p q h = refl
+same_content Tracked Tracked p q h = refl
+same_content x y p q h = cc
 
-told : (x y : RemoteRefState) (s t : List ℕ) → Unit {0} → Unit {0}
+equal_states : (x y : RemoteRefState) (s t : List ℕ) → Unit {0} → Unit {0}
     → state_content x ++ s ≡ state_content y ++ t → ghosts.eq x y ≡ true
-told New New s t p q h = refl
-told Tracked Tracked s t p q h = refl
-told New Tracked s t p q h = let same : 0 ≡ 1 =
+equal_states New New s t p q h = refl
+equal_states Tracked Tracked s t p q h = refl
+equal_states New Tracked s t p q h = let same : 0 ≡ 1 =
     same_u32 0 1 s t (lit< tt) (lit< tt) h in absurd (omega (arith, same))
-told Tracked New s t p q h = let same : 1 ≡ 0 =
+equal_states Tracked New s t p q h = let same : 1 ≡ 0 =
     same_u32 1 0 s t (lit< tt) (lit< tt) h in absurd (omega (arith, same))
 
 pub state_lawful : IsLawful (λ _. Unit {0}) ghosts.eq state_content
-state_lawful = record { same = alike; decides = told }
+state_lawful = record { same = same_content; decides = equal_states }
 
 abbrev pub remote_ref_eq : RemoteRef → RemoteRef → Bool
 remote_ref_eq = eq_of_both (on (λ r. r.target) target_eq) (on (λ r. r.state) ghosts.eq)

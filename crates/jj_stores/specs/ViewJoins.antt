@@ -22,8 +22,8 @@ abbrev pub IsLeast : {V : Type 0} → List ℕ → Named V → Type 0
 IsLeast name refs = All (λ q. is_gt (slice_cmp nat_cmp name q) ≡ false) (keys_of refs)
 
 -- new is old without its first ref, which is found, if that has this name; else found is None
-abbrev pub TakesAt : {V : Type 0} → List ℕ → Named V → Option V → Named V → Type 0
-TakesAt name old found new = (found ≡ lookup (bytes_eq name) old)
+abbrev pub RemovesFirst : {V : Type 0} → List ℕ → Named V → Option V → Named V → Type 0
+RemovesFirst name old found new = (found ≡ lookup (bytes_eq name) old)
     × (old ≡ option_to_list (option_map (λ v. (name, v)) found) ++ new)
 
 module _ {R : Type 0} where
@@ -33,9 +33,9 @@ module _ {R : Type 0} where
       (lookup (bytes_eq name) remote.1)) remotes
 
   -- the ref of this name, if any, is removed from the refs of a remote, which ascend
-  pub record LosesAt (name : List ℕ) (old new : List ℕ × Named R) : Type 0 where
+  pub record RemovesAt (name : List ℕ) (old new : List ℕ × Named R) : Type 0 where
     pub remote : new.0 ≡ old.0
-    pub refs : TakesAt name old.1 (lookup (bytes_eq name) old.1) new.1
+    pub refs : RemovesFirst name old.1 (lookup (bytes_eq name) old.1) new.1
     pub ascending : IsAscending old.1
 
 module _ {T R : Type 0} where

@@ -6,8 +6,8 @@ mod interface;
 mod json;
 mod operation;
 mod ref_target;
-mod refs_left;
-mod remotes_left;
+mod remaining_refs;
+mod remaining_remotes;
 mod view;
 mod view_joins;
 

@@ -5,7 +5,7 @@ ghost use Rattle.std.specs.Result.{result_map_both};
 ghost use Rattle.std.specs.List.{list_any};
 ghost use Rattle.std.specs.Map.{lookup};
 ghost use Rattle.jj_stores.specs.Verdict.{Verdict, unknown_verdict, is_unknown};
-ghost use Rattle.jj_stores.specs.Asked.{Decide, is_decisive as decisive, IsVerified, cache_with, backends};
+ghost use Rattle.jj_stores.specs.FirstDecisive.{IsFirstDecisive, is_decisive as decisive, IsVerified, cache_after, backends};
 
 pub use jj_backend::signing::{SignError, SignResult};
 use jj_ids::object_id::CommitId;
@@ -172,10 +172,10 @@ pub trait SigningBackend: Drop {
         ensures { may_verify self.now «data».now signature.now result };
 }
 
-fn is_decisive(answer: &SignResult<Verification>) -> bool
-    ensures { result ≡ decisive answer.now }
+fn is_decisive(outcome: &SignResult<Verification>) -> bool
+    ensures { result ≡ decisive outcome.now }
 {
-    match answer {
+    match outcome {
         Ok(verification) => match verification.status {
             SigStatus::Unknown => false,
             _ => true,
@@ -212,20 +212,20 @@ impl SigningBackend for Box<dyn SigningBackend> {
 }
 
 // Returns the first decisive result of the backends that can read the signature.
-fn ask<B: SigningBackend>(
+fn first_decisive<B: SigningBackend>(
     alloc: Global,
     backends: &[B],
     data: &[u8],
     signature: &[u8],
 ) -> Option<SignResult<Verification>>
-    ensures { Decide (λ b. B.reads b signature.now) (λ b. B.may_verify b «data».now signature.now)
-        backends.now result }
+    ensures { IsFirstDecisive (λ b. B.reads b signature.now)
+        (λ b. B.may_verify b «data».now signature.now) backends.now result }
 {
     for backend in backends {
         if backend.can_read(signature) {
-            let answer = backend.verify(alloc, data, signature);
-            if is_decisive(&answer) {
-                return Some(answer);
+            let outcome = backend.verify(alloc, data, signature);
+            if is_decisive(&outcome) {
+                return Some(outcome);
             }
         }
     }
@@ -233,28 +233,28 @@ fn ask<B: SigningBackend>(
 }
 
 // Queries the first backend, if there is one, before the others.
-fn ask_first<B: SigningBackend>(
+fn query_backends<B: SigningBackend>(
     alloc: Global,
     first: &Option<B>,
     others: &[B],
     data: &[u8],
     signature: &[u8],
 ) -> Option<SignResult<Verification>>
-    ensures { Decide (λ b. B.reads b signature.now) (λ b. B.may_verify b «data».now signature.now)
-        (backends first.now others.now) result }
+    ensures { IsFirstDecisive (λ b. B.reads b signature.now)
+        (λ b. B.may_verify b «data».now signature.now) (backends first.now others.now) result }
 {
     if let Some(backend) = first {
         if backend.can_read(signature) {
-            let answer = backend.verify(alloc, data, signature);
-            if is_decisive(&answer) {
-                return Some(answer);
+            let outcome = backend.verify(alloc, data, signature);
+            if is_decisive(&outcome) {
+                return Some(outcome);
             }
         }
     }
-    ask(alloc, others, data, signature)
+    first_decisive(alloc, others, data, signature)
 }
 
-fn can_one_read<B: SigningBackend>(backends: &[B], signature: &[u8]) -> bool
+fn any_can_read<B: SigningBackend>(backends: &[B], signature: &[u8]) -> bool
     ensures { result ≡ list_any (λ b. B.reads b signature.now) backends.now }
 {
     backends.iter().any(|backend| backend.can_read(signature))
@@ -264,8 +264,8 @@ fn can_any_read<B: SigningBackend>(first: &Option<B>, others: &[B], signature: &
     ensures { result ≡ list_any (λ b. B.reads b signature.now) (backends first.now others.now) }
 {
     match first {
-        Some(backend) => backend.can_read(signature) || can_one_read(others, signature),
-        None => can_one_read(others, signature),
+        Some(backend) => backend.can_read(signature) || any_can_read(others, signature),
+        None => any_can_read(others, signature),
     }
 }
 
@@ -299,7 +299,7 @@ impl fmt::Debug for Signer {
 
 impl Signer {
     ghost use Rattle.std.specs.NonZero.{non_zero_usize_get};
-    ghost use Rattle.jj_stores.specs.Signer.{cache_entries, capacity_of, usual_capacity};
+    ghost use Rattle.jj_stores.specs.Signer.{cache_entries, capacity_of, default_capacity};
 
     /// Creates a signer that caches the verifications of up to `capacity` commits. The cache is
     /// allocated as it fills.
@@ -310,7 +310,7 @@ impl Signer {
         capacity: NonZeroUsize,
     ) -> Result<Self, AllocError>
         ensures backends { IfOk result (λ s. (s.main ≡ main) × (s.others ≡ others)) }
-        ensures cached { IfOk result (λ s. cache_entries s ≡ []) }
+        ensures empty_cache { IfOk result (λ s. cache_entries s ≡ []) }
         ensures capacity { IfOk result (λ s. capacity_of s ≡ non_zero_usize_get capacity) }
     {
         let cache = LruCache::sparse(alloc, capacity)?;
@@ -328,8 +328,8 @@ impl Signer {
         others: Vec<Box<dyn SigningBackend>>,
     ) -> Result<Self, AllocError>
         ensures backends { IfOk result (λ s. (s.main ≡ main) × (s.others ≡ others)) }
-        ensures cached { IfOk result (λ s. cache_entries s ≡ []) }
-        ensures capacity { IfOk result (λ s. capacity_of s ≡ usual_capacity) }
+        ensures empty_cache { IfOk result (λ s. cache_entries s ≡ []) }
+        ensures capacity { IfOk result (λ s. capacity_of s ≡ default_capacity) }
     {
         match NonZeroUsize::new(COMMIT_CACHE_CAPACITY) {
             Some(capacity) => Signer::with_capacity(alloc, main, others, capacity),
@@ -368,24 +368,24 @@ impl Signer {
         data: &[u8],
         signature: &[u8],
     ) -> SignResult<Verification>
-        ensures kept { (self.new.main ≡ self.old.main) × (self.new.others ≡ self.old.others)
+        ensures unchanged { (self.new.main ≡ self.old.main) × (self.new.others ≡ self.old.others)
             × (capacity_of self.new ≡ capacity_of self.old) }
-        ensures known { ForSome (lookup (bytes_eq commit_id.now) (cache_entries self.old))
+        ensures cached { ForSome (lookup (bytes_eq commit_id.now) (cache_entries self.old))
             (λ v. MatchResult result
             (λ r. (r ≡ v) × (cache_entries self.new
-            ≡ cache_with (capacity_of self.old) commit_id.now v (cache_entries self.old)))
+            ≡ cache_after (capacity_of self.old) commit_id.now v (cache_entries self.old)))
             (λ e. e ≡ SignError.Memory)) }
-        ensures asked { IsNone (lookup (bytes_eq commit_id.now) (cache_entries self.old)) →
+        ensures uncached { IsNone (lookup (bytes_eq commit_id.now) (cache_entries self.old)) →
             MatchResult result
             (λ r. IsVerified (λ b. reads b signature.now)
             (λ b. may_verify b «data».now signature.now)
             (backends self.old.main self.old.others.items) commit_id.now
             (capacity_of self.old) r (cache_entries self.old) (cache_entries self.new))
-            (λ e. (e ≡ SignError.Memory) ⊎ Decide (λ b. reads b signature.now)
+            (λ e. (e ≡ SignError.Memory) ⊎ IsFirstDecisive (λ b. reads b signature.now)
             (λ b. may_verify b «data».now signature.now)
             (backends self.old.main self.old.others.items) (Some (Err e))) }
-        ensures refused { OnErr result (cache_entries self.new ≡ cache_entries self.old) }
-        ensures room { length (cache_entries self.new) ≤ capacity_of self.new }
+        ensures error { OnErr result (cache_entries self.new ≡ cache_entries self.old) }
+        ensures within_capacity { length (cache_entries self.new) ≤ capacity_of self.new }
     {
         let _remembered = self.cache.len();
         if let Some(known) = self.cache.peek(commit_id) {
@@ -394,32 +394,32 @@ impl Signer {
             return Ok(verification);
         }
         let alloc = *self.others.allocator();
-        let decision = ask_first(alloc, &self.main, self.others.as_slice(), data, signature);
+        let decision = query_backends(alloc, &self.main, self.others.as_slice(), data, signature);
         match decision {
-            Some(answer) => {
-                let verification = answer?;
-                self.remember(commit_id, &verification)?;
+            Some(outcome) => {
+                let verification = outcome?;
+                self.cache_verification(commit_id, &verification)?;
                 Ok(verification)
             }
             None => {
                 let verification = Verification::unknown();
                 if !can_any_read(&self.main, self.others.as_slice(), signature) {
-                    self.remember(commit_id, &verification)?;
+                    self.cache_verification(commit_id, &verification)?;
                 }
                 Ok(verification)
             }
         }
     }
 
-    fn remember(
+    fn cache_verification(
         &mut self,
         commit_id: &CommitId,
         verification: &Verification,
     ) -> Result<(), AllocError>
         requires { lookup (bytes_eq commit_id.now) (cache_entries self.old) ≡ None }
-        ensures kept { (self.new.main ≡ self.old.main) × (self.new.others ≡ self.old.others)
+        ensures unchanged { (self.new.main ≡ self.old.main) × (self.new.others ≡ self.old.others)
             × (capacity_of self.new ≡ capacity_of self.old) }
-        ensures ok { OnOk result (cache_entries self.new ≡ cache_with (capacity_of self.old)
+        ensures ok { OnOk result (cache_entries self.new ≡ cache_after (capacity_of self.old)
             commit_id.now verification.now (cache_entries self.old)) }
         ensures err { OnErr result (cache_entries self.new ≡ cache_entries self.old) }
     {

@@ -1,7 +1,7 @@
 //! The interface of stores that map workspace names to paths.
 ghost use Rattle.std.specs.Prelude.{◌≡◌, ℕ, List, Option, OnOk, OnErr, IfOk, map, option_map, string_bytes};
 ghost use Rattle.jj_ids.specs.Names.{name_of};
-ghost use Rattle.jj_stores.specs.Workspaces.{SamePlaces, with_name_changed, with_place, without_places};
+ghost use Rattle.jj_stores.specs.Workspaces.{HaveSamePaths, with_renamed, with_path, without_names};
 ghost use Rattle.jj_stores.specs.declared.workspace_store.WorkspaceStoreError.{WorkspaceStoreError};
 
 use jj_files::file_util::SourceError;
@@ -47,7 +47,7 @@ impl From<SourceError> for WorkspaceStoreError {
 /// Maps workspace names to paths. A call that fails changes no path.
 pub trait WorkspaceStore {
     /// The path of each workspace, `None` for an unknown name.
-    ghost places: { Self → List ℕ → Option (List ℕ) };
+    ghost paths: { Self → List ℕ → Option (List ℕ) };
 
     /// Returns the name of the type of the store.
     fn name(&self) -> &str;
@@ -59,10 +59,10 @@ pub trait WorkspaceStore {
         workspace_name: WorkspaceName<'_>,
         path: &str,
     ) -> Result<(), WorkspaceStoreError>
-        ensures added { OnOk result (SamePlaces
-            (with_place (name_of workspace_name.entry) path.now (places self.old))
-            (places self.new)) }
-        ensures refused { OnErr result (SamePlaces (places self.old) (places self.new)) };
+        ensures added { OnOk result (HaveSamePaths
+            (with_path (name_of workspace_name.entry) path.now (paths self.old))
+            (paths self.new)) }
+        ensures error { OnErr result (HaveSamePaths (paths self.old) (paths self.new)) };
 
     /// Removes workspaces; unknown names are ignored.
     fn forget(
@@ -70,10 +70,10 @@ pub trait WorkspaceStore {
         alloc: Global,
         workspace_names: &[WorkspaceName<'_>],
     ) -> Result<(), WorkspaceStoreError>
-        ensures forgotten { OnOk result (SamePlaces
-            (without_places (map name_of workspace_names.now) (places self.old))
-            (places self.new)) }
-        ensures refused { OnErr result (SamePlaces (places self.old) (places self.new)) };
+        ensures forgotten { OnOk result (HaveSamePaths
+            (without_names (map name_of workspace_names.now) (paths self.old))
+            (paths self.new)) }
+        ensures error { OnErr result (HaveSamePaths (paths self.old) (paths self.new)) };
 
     /// Moves the path of one name to another, whose own path is overwritten.
     fn rename(
@@ -82,10 +82,10 @@ pub trait WorkspaceStore {
         old_name: WorkspaceName<'_>,
         new_name: WorkspaceName<'_>,
     ) -> Result<(), WorkspaceStoreError>
-        ensures renamed { OnOk result (SamePlaces
-            (with_name_changed (name_of old_name.entry) (name_of new_name.entry) (places self.old))
-            (places self.new)) }
-        ensures refused { OnErr result (SamePlaces (places self.old) (places self.new)) };
+        ensures renamed { OnOk result (HaveSamePaths
+            (with_renamed (name_of old_name.entry) (name_of new_name.entry) (paths self.old))
+            (paths self.new)) }
+        ensures error { OnErr result (HaveSamePaths (paths self.old) (paths self.new)) };
 
     /// Returns the path of a workspace, or `None` for an unknown name.
     fn get_workspace_path(
@@ -94,5 +94,5 @@ pub trait WorkspaceStore {
         workspace_name: WorkspaceName<'_>,
     ) -> Result<Option<String>, WorkspaceStoreError>
         ensures { IfOk result (λ path.
-            option_map string_bytes path ≡ places self.now (name_of workspace_name.entry)) };
+            option_map string_bytes path ≡ paths self.now (name_of workspace_name.entry)) };
 }

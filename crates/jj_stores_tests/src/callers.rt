@@ -2,7 +2,7 @@
 ghost use Rattle.std.specs.Prelude.{◌≡◌, ◌∷◌, [], false, Some, None, OnOk, IfOk, map};
 ghost use Rattle.std.specs.Map.{lookup};
 ghost use Rattle.std.specs.Str.{bytes_eq};
-ghost use Rattle.jj_stores.specs.FlatRefs.{AreFlat, symbol_ref_of};
+ghost use Rattle.jj_stores.specs.FlatRefs.{IsFlattened, symbol_ref_of};
 ghost use Rattle.jj_stores.specs.JoinSteps.{row_of};
 ghost use Rattle.jj_stores.specs.Signer.{cache_entries};
 ghost use Rattle.jj_stores.specs.Verdict.{Verdict, is_unknown};
@@ -89,7 +89,7 @@ pub fn remote_tags<'a>(
     alloc: Global,
     view: &'a View,
 ) -> Result<Vec<(RemoteRefSymbol<'a>, &'a RemoteRef)>, AllocError>
-    ensures { IfOk result (λ tags. AreFlat
+    ensures { IfOk result (λ tags. IsFlattened
         (map (λ remote. (remote.0, remote.1.tags.entries)) view.now.remote_views.entries)
         (map symbol_ref_of tags.items)) }
 {

@@ -21,9 +21,9 @@ const RANGE: TimestampRange = TimestampRange {
 
 #[test]
 fn ranges_as_objects(rt: HostRuntime) {
-    let wanted = "{\"end\":\"1969-12-31T22:59:59.999-01:00\",\
+    let expected = "{\"end\":\"1969-12-31T22:59:59.999-01:00\",\
          \"start\":\"1970-01-01T01:30:00.001+01:30\"}";
-    assert!(rt; tells_of(&rt, |_| Ok(RANGE), json_text, wanted));
+    assert!(rt; tells_of(&rt, |_| Ok(RANGE), json_text, expected));
 }
 
 #[test]
@@ -72,12 +72,12 @@ fn metadata_in_workspace(alloc: Global) -> Result<OperationMetadata, AllocError>
 
 #[test]
 fn metadata_as_objects(rt: HostRuntime) {
-    let wanted = "{\"attributes\":{\"args\":\"log\"},\"description\":\"d\",\"hostname\":\"h\",\
+    let expected = "{\"attributes\":{\"args\":\"log\"},\"description\":\"d\",\"hostname\":\"h\",\
          \"is_snapshot\":true,\
          \"time\":{\"end\":\"1969-12-31T22:59:59.999-01:00\",\
          \"start\":\"1970-01-01T01:30:00.001+01:30\"},\
          \"username\":\"u\",\"workspace_name\":\"w\"}";
-    assert!(rt; tells_of(&rt, metadata_in_workspace, json_text, wanted));
+    assert!(rt; tells_of(&rt, metadata_in_workspace, json_text, expected));
 }
 
 fn operation(alloc: Global) -> Result<Operation, AllocError> {
@@ -92,10 +92,10 @@ fn operation(alloc: Global) -> Result<Operation, AllocError> {
 // The members of the metadata are in one object with the parents.
 #[test]
 fn operations_as_objects(rt: HostRuntime) {
-    let wanted = "{\"attributes\":{\"args\":\"log\"},\"description\":\"d\",\"hostname\":\"h\",\
+    let expected = "{\"attributes\":{\"args\":\"log\"},\"description\":\"d\",\"hostname\":\"h\",\
          \"is_snapshot\":true,\"parents\":[\"ab01\"],\
          \"time\":{\"end\":\"1969-12-31T22:59:59.999-01:00\",\
          \"start\":\"1970-01-01T01:30:00.001+01:30\"},\
          \"username\":\"u\",\"workspace_name\":null}";
-    assert!(rt; tells_of(&rt, operation, json_text, wanted));
+    assert!(rt; tells_of(&rt, operation, json_text, expected));
 }

@@ -59,8 +59,8 @@ fn options_without_the_option(rt: HostRuntime) {
 
 #[test]
 fn content_of_a_remote_ref(rt: HostRuntime) {
-    let wanted = "01000000000000000100000001000000000000000501000000";
-    assert!(rt; tells_of(&rt, |alloc| tracked(alloc, 5), content_text, wanted));
+    let expected = "01000000000000000100000001000000000000000501000000";
+    assert!(rt; tells_of(&rt, |alloc| tracked(alloc, 5), content_text, expected));
 }
 
 fn bookmark(alloc: Global, view: &mut RemoteView) -> Result<(), AllocError> {
@@ -77,9 +77,9 @@ fn remote_view(alloc: Global) -> Result<RemoteView, AllocError> {
 
 #[test]
 fn content_of_a_remote_view(rt: HostRuntime) {
-    let wanted = "0100000000000000010000000000000061\
+    let expected = "0100000000000000010000000000000061\
          010000000000000000000000000000000000000000000000";
-    assert!(rt; tells_of(&rt, remote_view, content_text, wanted));
+    assert!(rt; tells_of(&rt, remote_view, content_text, expected));
 }
 
 fn root_view(alloc: Global) -> Result<View, AllocError> {
@@ -154,10 +154,10 @@ fn child(alloc: Global) -> Result<Operation, AllocError> {
 // attributes; predecessors.
 #[test]
 fn content_of_an_operation(rt: HostRuntime) {
-    let wanted = "0100000000000000030100000000000000010000000000000009\
+    let expected = "0100000000000000030100000000000000010000000000000009\
          0000000000000000000000000000000000000000000000000000000000000000\
          01000000000000006800000000000000000100000000000000000000000000000000";
-    assert!(rt; tells_of(&rt, child, content_text, wanted));
+    assert!(rt; tells_of(&rt, child, content_text, expected));
 }
 
 fn operations_differ(alloc: Global) -> Result<bool, AllocError> {

@@ -18,10 +18,10 @@ type Counter = Rc<Cell<u32>>;
 
 // The result of a fake backend's `verify`.
 #[derive(Clone, Copy)]
-enum Does {
+enum Behavior {
     CannotRead,
-    Says(SigStatus),
-    FindsFault,
+    Returns(SigStatus),
+    InvalidFormat,
     Fails,
 }
 
@@ -29,14 +29,18 @@ enum Does {
 #[derive(Drop)]
 struct Fake {
     reads: bool,
-    does: Does,
-    asked: Counter,
+    behavior: Behavior,
+    calls: Counter,
 }
 
 impl Fake {
-    fn new(does: Does, asked: Counter) -> Fake {
-        let reads = !matches!(does, Does::CannotRead);
-        Fake { reads, does, asked }
+    fn new(behavior: Behavior, calls: Counter) -> Fake {
+        let reads = !matches!(behavior, Behavior::CannotRead);
+        Fake {
+            reads,
+            behavior,
+            calls,
+        }
     }
 }
 
@@ -67,12 +71,12 @@ impl SigningBackend for Fake {
     }
 
     fn verify(&self, alloc: Global, data: &[u8], signature: &[u8]) -> SignResult<Verification> {
-        self.asked.set(self.asked.get().saturating_add(1));
-        match self.does {
-            Does::CannotRead => Ok(Verification::unknown()),
-            Does::Says(status) => Ok(Verification::new(status, None, None)),
-            Does::FindsFault => Err(SignError::InvalidSignatureFormat),
-            Does::Fails => Err(SignError::Backend(SourceError {
+        self.calls.set(self.calls.get().saturating_add(1));
+        match self.behavior {
+            Behavior::CannotRead => Ok(Verification::unknown()),
+            Behavior::Returns(status) => Ok(Verification::new(status, None, None)),
+            Behavior::InvalidFormat => Err(SignError::InvalidSignatureFormat),
+            Behavior::Fails => Err(SignError::Backend(SourceError {
                 kind: SourceKind::Other,
                 message: String::from_str(alloc, "no answer")?,
             })),
@@ -84,21 +88,25 @@ fn id_of(alloc: Global, byte: u8) -> Result<CommitId, AllocError> {
     Ok(CommitId::new(Vec::from_slice(alloc, &[byte])?))
 }
 
-fn boxed(alloc: Global, does: Does, asked: &Counter) -> SignResult<Box<dyn SigningBackend>> {
-    let backend: Box<dyn SigningBackend> = Box::new(alloc, Fake::new(does, asked.clone()?))?;
+fn boxed(
+    alloc: Global,
+    behavior: Behavior,
+    calls: &Counter,
+) -> SignResult<Box<dyn SigningBackend>> {
+    let backend: Box<dyn SigningBackend> = Box::new(alloc, Fake::new(behavior, calls.clone()?))?;
     Ok(backend)
 }
 
 // A signer with only a main backend.
-fn one_backend(alloc: Global, does: Does, asked: &Counter) -> SignResult<Signer> {
-    let main = boxed(alloc, does, asked)?;
+fn one_backend(alloc: Global, behavior: Behavior, calls: &Counter) -> SignResult<Signer> {
+    let main = boxed(alloc, behavior, calls)?;
     Ok(Signer::new(alloc, Some(main), Vec::new(alloc))?)
 }
 
 fn two_backends(
     alloc: Global,
-    main: (Does, &Counter),
-    other: (Does, &Counter),
+    main: (Behavior, &Counter),
+    other: (Behavior, &Counter),
 ) -> SignResult<Signer> {
     let mut others = Vec::new(alloc);
     others.push(boxed(alloc, other.0, other.1)?)?;
@@ -107,11 +115,11 @@ fn two_backends(
 }
 
 // Verifies one commit twice, and checks the status and the number of calls of each backend.
-fn asked_twice<R: Abort>(
+fn verify_twice<R: Abort>(
     rt: &R,
     alloc: Global,
-    first: Does,
-    second: Does,
+    first: Behavior,
+    second: Behavior,
     status: SigStatus,
     counts: (u32, u32),
 ) -> Result<(), SignError> {
@@ -129,24 +137,34 @@ fn asked_twice<R: Abort>(
 }
 
 #[test]
-fn backends_in_turn(rt: HostRuntime) -> Result<(), Fail> {
+fn backends_in_order(rt: HostRuntime) -> Result<(), Fail> {
     succeeds(&rt, |rt, alloc| {
-        let (none, unknown) = (Does::CannotRead, Does::Says(SigStatus::Unknown));
-        let (good, bad) = (Does::Says(SigStatus::Good), Does::Says(SigStatus::Bad));
-        asked_twice(rt, alloc, none, none, SigStatus::Unknown, (0, 0))?;
-        asked_twice(rt, alloc, unknown, good, SigStatus::Good, (1, 1))?;
-        asked_twice(rt, alloc, none, unknown, SigStatus::Unknown, (0, 2))?;
-        asked_twice(rt, alloc, unknown, none, SigStatus::Unknown, (2, 0))?;
-        asked_twice(rt, alloc, Does::FindsFault, bad, SigStatus::Bad, (1, 1))?;
-        asked_twice(rt, alloc, good, bad, SigStatus::Good, (1, 0))
+        let (none, unknown) = (Behavior::CannotRead, Behavior::Returns(SigStatus::Unknown));
+        let (good, bad) = (
+            Behavior::Returns(SigStatus::Good),
+            Behavior::Returns(SigStatus::Bad),
+        );
+        verify_twice(rt, alloc, none, none, SigStatus::Unknown, (0, 0))?;
+        verify_twice(rt, alloc, unknown, good, SigStatus::Good, (1, 1))?;
+        verify_twice(rt, alloc, none, unknown, SigStatus::Unknown, (0, 2))?;
+        verify_twice(rt, alloc, unknown, none, SigStatus::Unknown, (2, 0))?;
+        verify_twice(
+            rt,
+            alloc,
+            Behavior::InvalidFormat,
+            bad,
+            SigStatus::Bad,
+            (1, 1),
+        )?;
+        verify_twice(rt, alloc, good, bad, SigStatus::Good, (1, 0))
     })
 }
 
 #[test]
-fn failures_are_not_remembered(rt: HostRuntime) -> Result<(), Fail> {
+fn failures_are_not_cached(rt: HostRuntime) -> Result<(), Fail> {
     succeeds(&rt, |rt, alloc| {
         let counter = Rc::new(alloc, Cell::new(0))?;
-        let mut signer = one_backend(alloc, Does::Fails, &counter)?;
+        let mut signer = one_backend(alloc, Behavior::Fails, &counter)?;
         let id = id_of(alloc, 1)?;
         for _ in 0..2u8 {
             match signer.verify(&id, b"data", b"signature") {
@@ -166,18 +184,18 @@ fn failures_are_not_remembered(rt: HostRuntime) -> Result<(), Fail> {
 fn good_backend(
     alloc: Global,
     capacity: Option<NonZeroUsize>,
-    asked: &Counter,
+    calls: &Counter,
 ) -> SignResult<Signer> {
-    let good = Does::Says(SigStatus::Good);
+    let good = Behavior::Returns(SigStatus::Good);
     let Some(capacity) = capacity else {
-        return one_backend(alloc, good, asked);
+        return one_backend(alloc, good, calls);
     };
-    let main = boxed(alloc, good, asked)?;
+    let main = boxed(alloc, good, calls)?;
     Ok(Signer::with_capacity(alloc, Some(main), Vec::new(alloc), capacity)?)
 }
 
 // Verifies commits in order and returns the number of calls of the backend.
-fn times_asked(
+fn count_calls(
     alloc: Global,
     capacity: Option<NonZeroUsize>,
     commits: &[u8],
@@ -191,7 +209,7 @@ fn times_asked(
 }
 
 // The commits below `count`, followed by `last`.
-fn numbered(alloc: Global, count: u8, last: &[u8]) -> Result<Vec<u8>, AllocError> {
+fn commit_sequence(alloc: Global, count: u8, last: &[u8]) -> Result<Vec<u8>, AllocError> {
     let mut commits = Vec::new(alloc);
     for commit in 0..count {
         commits.push(commit)?;
@@ -201,27 +219,27 @@ fn numbered(alloc: Global, count: u8, last: &[u8]) -> Result<Vec<u8>, AllocError
 }
 
 #[test]
-fn as_many_as_there_is_room_for(rt: HostRuntime) -> Result<(), Fail> {
+fn cache_evicts_at_capacity(rt: HostRuntime) -> Result<(), Fail> {
     succeeds::<_, SignError, _>(&rt, |rt, alloc| {
         let one = NonZeroUsize::new(1);
         for (commits, count) in [(b"pqp".as_slice(), 3), (b"ppqq".as_slice(), 2)] {
-            assert_eq!(rt; times_asked(alloc, one, commits)?, count);
+            assert_eq!(rt; count_calls(alloc, one, commits)?, count);
         }
         let most = Some(NonZeroUsize::MAX);
-        assert_eq!(rt; times_asked(alloc, most, b"pqp")?, 2);
+        assert_eq!(rt; count_calls(alloc, most, b"pqp")?, 2);
         let again: [(u8, &[u8], u32); 2] = [(101, &[0], 102), (100, &[0, 200, 0], 101)];
         for (count, last, times) in again {
-            let commits = numbered(alloc, count, last)?;
-            assert_eq!(rt; times_asked(alloc, None, commits.as_slice())?, times);
+            let commits = commit_sequence(alloc, count, last)?;
+            assert_eq!(rt; count_calls(alloc, None, commits.as_slice())?, times);
         }
         Ok(())
     })
 }
 
 // Signs with the main backend, if there is one.
-fn signed(alloc: Global) -> SignResult<Option<Vec<u8>>> {
-    let asked = Rc::new(alloc, Cell::new(0))?;
-    let signer = one_backend(alloc, Does::CannotRead, &asked)?;
+fn sign_with_main(alloc: Global) -> SignResult<Option<Vec<u8>>> {
+    let calls = Rc::new(alloc, Cell::new(0))?;
+    let signer = one_backend(alloc, Behavior::CannotRead, &calls)?;
     if !signer.can_sign() {
         return Ok(None);
     }
@@ -231,7 +249,7 @@ fn signed(alloc: Global) -> SignResult<Option<Vec<u8>>> {
 #[test]
 fn the_main_backend_signs(rt: HostRuntime) -> Result<(), Fail> {
     succeeds::<_, SignError, _>(&rt, |rt, alloc| {
-        let signature = signed(alloc)?;
+        let signature = sign_with_main(alloc)?;
         assert!(rt;
             signature.is_some_and(|bytes| bytes.as_slice() == b"signed data key".as_slice())
         );

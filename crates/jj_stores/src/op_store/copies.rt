@@ -12,7 +12,7 @@ pub(super) trait CloneIn: PartialEq + Drop {
         ensures { IfOk result (λ copy. Self.eq copy self.now ≡ true) };
 }
 
-pub(super) fn copied_map<K, V: CloneIn>(
+pub(super) fn clone_map<K, V: CloneIn>(
     alloc: Global,
     map: &BTreeMap<NameBuf<K>, V>,
 ) -> Result<BTreeMap<NameBuf<K>, V>, AllocError>

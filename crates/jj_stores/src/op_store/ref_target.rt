@@ -12,7 +12,7 @@ use std::alloc::{AllocError, Global};
 /// The target of a ref: a commit, a conflict, or absent if there is no such ref.
 pub type RefTarget = Merge<Option<CommitId>>;
 
-fn copied_target(alloc: Global, target: &RefTarget) -> Result<RefTarget, AllocError>
+fn clone_target(alloc: Global, target: &RefTarget) -> Result<RefTarget, AllocError>
     ensures { IfOk result (λ copy. copy ≡ target.now) }
 {
     target.clone(alloc)
@@ -20,7 +20,7 @@ fn copied_target(alloc: Global, target: &RefTarget) -> Result<RefTarget, AllocEr
 
 impl CloneIn for RefTarget {
     fn clone_in(&self, alloc: Global) -> Result<Self, AllocError> {
-        copied_target(alloc, self)
+        clone_target(alloc, self)
     }
 }
 
@@ -54,7 +54,7 @@ impl RemoteRef {
         ensures { IfOk result (λ copy. copy ≡ self.now) }
     {
         Ok(RemoteRef {
-            target: copied_target(alloc, &self.target)?,
+            target: clone_target(alloc, &self.target)?,
             state: self.state,
         })
     }

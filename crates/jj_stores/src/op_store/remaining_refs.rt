@@ -5,7 +5,7 @@ ghost use Rattle.std.specs.List.{slice_get};
 ghost use Rattle.std.specs.Option.{option_copied};
 ghost use Rattle.std.specs.Ordering.{nat_cmp, is_gt};
 ghost use Rattle.std.specs.Map.{keys_of};
-ghost use Rattle.jj_stores.specs.ViewJoins.{IsAscending, IsLeast, TakesAt};
+ghost use Rattle.jj_stores.specs.ViewJoins.{IsAscending, IsLeast, RemovesFirst};
 
 use jj_ids::ref_name::RefNameBuf;
 use std::collections::BTreeMap;
@@ -14,12 +14,12 @@ use std::marker::Model;
 
 // The remaining refs of a map, the first one peeked.
 #[derive(Drop)]
-pub(super) struct RefsLeft<'a, V> {
+pub(super) struct RemainingRefs<'a, V> {
     first: Option<(&'a RefNameBuf, &'a V)>,
     rest: Iter<'a, RefNameBuf, V>,
 }
 
-impl<'a, V> Model for RefsLeft<'a, V> {
+impl<'a, V> Model for RemainingRefs<'a, V> {
     ghost use Rattle.std.specs.Prelude.{◌≡◌, ◌++◌, [], ℕ, List, option_map, IsNone};
     ghost use Rattle.std.specs.Option.{option_to_list};
     ghost use Rattle.std.specs.Map.Iter.{deref_pair};
@@ -34,13 +34,13 @@ impl<'a, V> Model for RefsLeft<'a, V> {
         × (IsNone refs.first → refs.rest ≡ []) };
 }
 
-impl<'a, V> RefsLeft<'a, V> {
+impl<'a, V> RemainingRefs<'a, V> {
     pub(super) fn new(refs: &'a BTreeMap<RefNameBuf, V>) -> Self
         ensures { result ≡ refs.now.entries }
     {
         let mut rest = refs.iter();
         let first = rest.next();
-        RefsLeft { first, rest }
+        RemainingRefs { first, rest }
     }
 
     pub(super) fn first_name(&self) -> Option<&'a RefNameBuf>
@@ -53,9 +53,9 @@ impl<'a, V> RefsLeft<'a, V> {
     }
 
     // Removes the first ref if it has this name.
-    pub(super) fn take_at(&mut self, name: &RefNameBuf) -> Option<&'a V>
+    pub(super) fn take_if_named(&mut self, name: &RefNameBuf) -> Option<&'a V>
         requires { IsLeast name.now self.old }
-        ensures taken { TakesAt name.now self.old (option_copied result) self.new }
+        ensures taken { RemovesFirst name.now self.old (option_copied result) self.new }
         ensures ascending { IsAscending self.old }
     {
         let (first, value) = self.first?;
@@ -67,7 +67,7 @@ impl<'a, V> RefsLeft<'a, V> {
     }
 }
 
-pub(super) fn lesser<'a>(name: &'a RefNameBuf, other: &'a RefNameBuf) -> &'a RefNameBuf
+pub(super) fn min_name<'a>(name: &'a RefNameBuf, other: &'a RefNameBuf) -> &'a RefNameBuf
     ensures one { (result.now ≡ name.now) ⊎ (result.now ≡ other.now) }
     ensures first { is_gt (slice_cmp nat_cmp result.now name.now) ≡ false }
     ensures second { is_gt (slice_cmp nat_cmp result.now other.now) ≡ false }

@@ -3,7 +3,7 @@ ghost use Rattle.std.specs.Prelude.{◌≡◌, [], true, IfOk};
 ghost use Rattle.jj_stores.specs.Views.{IsRootView};
 ghost use Rattle.jj_stores.specs.ViewLaws.{remote_view_eq, view_eq};
 
-use super::copies::{CloneIn, copied_map};
+use super::copies::{CloneIn, clone_map};
 use super::{RefTarget, RemoteRef};
 use jj_backend::backend::CommitId;
 use jj_ids::ref_name::{GitRefNameBuf, RefNameBuf, RemoteNameBuf, WorkspaceNameBuf};
@@ -34,8 +34,8 @@ impl RemoteView {
         ensures { IfOk result (λ copy. remote_view_eq copy self.now ≡ true) }
     {
         Ok(RemoteView {
-            bookmarks: copied_map(alloc, &self.bookmarks)?,
-            tags: copied_map(alloc, &self.tags)?,
+            bookmarks: clone_map(alloc, &self.bookmarks)?,
+            tags: clone_map(alloc, &self.tags)?,
         })
     }
 }
@@ -83,11 +83,11 @@ impl View {
     {
         Ok(View {
             head_ids: self.head_ids.clone()?,
-            local_bookmarks: copied_map(alloc, &self.local_bookmarks)?,
-            local_tags: copied_map(alloc, &self.local_tags)?,
-            remote_views: copied_map(alloc, &self.remote_views)?,
-            git_refs: copied_map(alloc, &self.git_refs)?,
-            git_heads: copied_map(alloc, &self.git_heads)?,
+            local_bookmarks: clone_map(alloc, &self.local_bookmarks)?,
+            local_tags: clone_map(alloc, &self.local_tags)?,
+            remote_views: clone_map(alloc, &self.remote_views)?,
+            git_refs: clone_map(alloc, &self.git_refs)?,
+            git_heads: clone_map(alloc, &self.git_heads)?,
             wc_commit_ids: self.wc_commit_ids.clone()?,
         })
     }

@@ -1,10 +1,10 @@
 //! Merge join of local and remote refs by name, and the k-way merge of the refs of all remotes.
 ghost use Rattle.std.specs.Prelude.{◌≡◌, IfOk};
 ghost use Rattle.jj_merges.specs.Calls.{CallsReturn};
-ghost use Rattle.jj_stores.specs.JoinRows.{ShowsRefs};
+ghost use Rattle.jj_stores.specs.JoinRows.{SelectsRefs};
 
-use super::refs_left::RefsLeft;
-use super::remotes_left::{RemotesLeft, first_name, remotes_left};
+use super::remaining_refs::RemainingRefs;
+use super::remaining_remotes::{RemainingRemotes, first_name, remaining_remotes};
 use super::{RefTarget, RemoteRef, RemoteView};
 use jj_ids::ref_name::{RefName, RefNameBuf, RemoteName, RemoteNameBuf, RemoteRefSymbol};
 use std::alloc::{AllocError, Global};
@@ -24,36 +24,36 @@ pub struct LocalRemoteRefTarget<'a> {
 #[derive(Drop)]
 pub struct MergeJoinRefViews<'a> {
     alloc: Global,
-    locals: RefsLeft<'a, RefTarget>,
-    remotes: RemotesLeft<'a>,
+    locals: RemainingRefs<'a, RefTarget>,
+    remotes: RemainingRemotes<'a>,
     is_ended: bool,
 }
 
 impl<'a> Model for MergeJoinRefViews<'a> {
-    ghost use Rattle.jj_stores.specs.JoinRows.{JoinLeft, left_unless};
+    ghost use Rattle.jj_stores.specs.JoinRows.{RemainingJoin, remaining_unless};
 
-    ghost Value = { JoinLeft };
+    ghost Value = { RemainingJoin };
 
-    ghost view = { λ join. left_unless join.is_ended join.locals join.remotes };
+    ghost view = { λ join. remaining_unless join.is_ended join.locals join.remotes };
 }
 
 impl<'a> Iterator for MergeJoinRefViews<'a> {
     ghost use Rattle.std.specs.Iterator.{at_most};
-    ghost use Rattle.jj_stores.specs.JoinRows.{refs_left};
-    ghost use Rattle.jj_stores.specs.JoinSteps.{GivesRow};
+    ghost use Rattle.jj_stores.specs.JoinRows.{remaining_count};
+    ghost use Rattle.jj_stores.specs.JoinSteps.{YieldsRow};
 
     type Item = Result<(RefName<'a>, LocalRemoteRefTarget<'a>), AllocError>;
 
-    ghost next_gives = { GivesRow };
+    ghost next_gives = { YieldsRow };
 
-    ghost remaining = { λ join. at_most (refs_left join) };
+    ghost remaining = { λ join. at_most (remaining_count join) };
 
     fn next(&mut self) -> Option<Result<(RefName<'a>, LocalRemoteRefTarget<'a>), AllocError>> {
         if self.is_ended {
             return None;
         }
         let name = first_name(&self.locals, &self.remotes)?;
-        let local_target = self.locals.take_at(name);
+        let local_target = self.locals.take_if_named(name);
         match self.remotes.take_refs(self.alloc, name) {
             Ok(remote_refs) => {
                 let target = LocalRemoteRefTarget {
@@ -83,13 +83,13 @@ where
     F: FnMut(&'a RemoteView) -> &'a BTreeMap<RefNameBuf, RemoteRef>,
     requires { F.IsAlwaysCallable get_remote_refs }
     ensures locals { IfOk result (λ join. join.locals ≡ local_refs.now.entries) }
-    ensures remotes { IfOk result (λ join. (last : F) × CallsReturn (ShowsRefs F.FnMut)
+    ensures remotes { IfOk result (λ join. (last : F) × CallsReturn (SelectsRefs F.FnMut)
         get_remote_refs remote_views.now.entries join.remotes last) }
 {
-    let remotes = remotes_left(alloc, remote_views, get_remote_refs)?;
+    let remotes = remaining_remotes(alloc, remote_views, get_remote_refs)?;
     Ok(MergeJoinRefViews {
         alloc,
-        locals: RefsLeft::new(local_refs),
+        locals: RemainingRefs::new(local_refs),
         remotes,
         is_ended: false,
     })
@@ -98,7 +98,7 @@ where
 /// Iterates over the refs of all remotes, ordered by ref name and then by remote name.
 #[derive(Drop)]
 pub struct FlattenRemoteRefs<'a> {
-    remotes: RemotesLeft<'a>,
+    remotes: RemainingRemotes<'a>,
 }
 
 impl<'a> Model for FlattenRemoteRefs<'a> {
@@ -114,11 +114,11 @@ impl<'a> Iterator for FlattenRemoteRefs<'a> {
     ghost use Rattle.std.specs.Prelude.{length};
     ghost use Rattle.std.specs.Iterator.{at_most};
     ghost use Rattle.std.specs.List.{sum_by};
-    ghost use Rattle.jj_stores.specs.FlatRefs.{GivesRef};
+    ghost use Rattle.jj_stores.specs.FlatRefs.{YieldsRef};
 
     type Item = (RemoteRefSymbol<'a>, &'a RemoteRef);
 
-    ghost next_gives = { GivesRef };
+    ghost next_gives = { YieldsRef };
 
     ghost remaining = { λ remotes. at_most (sum_by (λ r. length r.1) remotes) };
 
@@ -140,9 +140,9 @@ pub fn flatten_remote_refs<'a, F>(
 where
     F: FnMut(&'a RemoteView) -> &'a BTreeMap<RefNameBuf, RemoteRef>,
     requires { F.IsAlwaysCallable get_remote_refs }
-    ensures { IfOk result (λ refs. (last : F) × CallsReturn (ShowsRefs F.FnMut) get_remote_refs
+    ensures { IfOk result (λ refs. (last : F) × CallsReturn (SelectsRefs F.FnMut) get_remote_refs
         remote_views.now.entries refs last) }
 {
-    let remotes = remotes_left(alloc, remote_views, get_remote_refs)?;
+    let remotes = remaining_remotes(alloc, remote_views, get_remote_refs)?;
     Ok(FlattenRemoteRefs { remotes })
 }

@@ -1,8 +1,8 @@
 use Rattle.std.proofs.Common.{◌∙◌, Some, ap, subst, rules}
 use Rattle.jj_stores.specs.JoinRows.{AreLeft}
-use Rattle.jj_stores.specs.JoinSteps.{row_of, GivesRow}
+use Rattle.jj_stores.specs.JoinSteps.{row_of, YieldsRow}
 use Rattle.jj_stores.specs.ViewJoins.{IsViewJoin}
-use Rattle.jj_stores.proofs.ShownRefs.{remotes_shown}
+use Rattle.jj_stores.proofs.SelectedRefs.{remotes_shown}
 use Rattle.jj_stores_tests.proofs.TakenItems.{one_taken, all_taken}
 use Rattle.jj_stores_tests.proofs.callers.joined_bookmarks.Goals as goal
 
@@ -22,7 +22,7 @@ loop-row-init c =
 
 pub loop-row-preserved : goal.loop-row-preserved
 loop-row-preserved c =
-    let gave = subst (λ r. GivesRow c.loop-row.row-iterator r c.next.new.self) (c.in-Some.is ∙ ap Some c.in_ok-row.was)
+    let gave = subst (λ r. YieldsRow c.loop-row.row-iterator r c.next.new.self) (c.in-Some.is ∙ ap Some c.in_ok-row.was)
     c.next.ensures.steps in
     record {
       can = tt;
@@ -34,4 +34,4 @@ loop-row-preserved c =
 pub returns : goal.returns
 returns c =
     all_taken row_of (IsViewJoin c.args.view.now.local_bookmarks.entries _) _ (AreLeft c.loop-row.row-iterator) c.loop-row.invariant.join
-    (subst (λ r. GivesRow c.loop-row.row-iterator r c.next.new.self) c.in-None.is c.next.ensures.steps).0
+    (subst (λ r. YieldsRow c.loop-row.row-iterator r c.next.new.self) c.in-None.is c.next.ensures.steps).0

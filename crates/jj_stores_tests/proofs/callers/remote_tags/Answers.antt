@@ -1,6 +1,6 @@
 use Rattle.std.proofs.Common.{subst, rules}
-use Rattle.jj_stores.specs.FlatRefs.{AreFlat, GivesRef, symbol_ref_of}
-use Rattle.jj_stores.proofs.ShownRefs.{remotes_shown}
+use Rattle.jj_stores.specs.FlatRefs.{IsFlattened, YieldsRef, symbol_ref_of}
+use Rattle.jj_stores.proofs.SelectedRefs.{remotes_shown}
 use Rattle.jj_stores_tests.proofs.TakenItems.{one_taken, all_taken}
 use Rattle.jj_stores_tests.proofs.callers.remote_tags.Goals as goal
 
@@ -12,19 +12,19 @@ loop-tag-init c =
       can = tt;
       ends = tt;
       all = λ rest left. rw c.new-tags.ensures.items
-          (subst (λ r. AreFlat r rest) remotes
-          (subst (λ j. AreFlat j rest) c.into_iter-tag-iterator.ensures.into_iter_gives left));
+          (subst (λ r. IsFlattened r rest) remotes
+          (subst (λ j. IsFlattened j rest) c.into_iter-tag-iterator.ensures.into_iter_gives left));
     }
 
 pub loop-tag-preserved : goal.loop-tag-preserved
 loop-tag-preserved c = record {
   can = tt;
   ends = tt;
-  all = one_taken symbol_ref_of (AreFlat _) _ (AreFlat c.loop-tag.tag-iterator) c.loop-tag.invariant.all _ c.in-Some.tag (AreFlat c.next.new.self) c.in_ok-push.ensures.items
-      (subst (λ r. GivesRef c.loop-tag.tag-iterator r c.next.new.self) c.in-Some.is c.next.ensures.steps);
+  all = one_taken symbol_ref_of (IsFlattened _) _ (IsFlattened c.loop-tag.tag-iterator) c.loop-tag.invariant.all _ c.in-Some.tag (IsFlattened c.next.new.self) c.in_ok-push.ensures.items
+      (subst (λ r. YieldsRef c.loop-tag.tag-iterator r c.next.new.self) c.in-Some.is c.next.ensures.steps);
 }
 
 pub returns : goal.returns
 returns c =
-    all_taken symbol_ref_of (AreFlat _) _ (AreFlat c.loop-tag.tag-iterator) c.loop-tag.invariant.all
-    (subst (λ r. GivesRef c.loop-tag.tag-iterator r c.next.new.self) c.in-None.is c.next.ensures.steps).0
+    all_taken symbol_ref_of (IsFlattened _) _ (IsFlattened c.loop-tag.tag-iterator) c.loop-tag.invariant.all
+    (subst (λ r. YieldsRef c.loop-tag.tag-iterator r c.next.new.self) c.in-None.is c.next.ensures.steps).0

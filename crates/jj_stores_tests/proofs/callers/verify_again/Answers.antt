@@ -9,4 +9,4 @@ this_value (Ok x) v More Refused h = h.0
 this_value (Err e) v More Refused h = tt
 
 pub returns : goal.returns
-returns g c = this_value _ _ _ _ (c.verify.ensures.known _ c.requires)
+returns g c = this_value _ _ _ _ (c.verify.ensures.cached _ c.requires)

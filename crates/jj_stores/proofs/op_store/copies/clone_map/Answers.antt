@@ -6,8 +6,8 @@ use Rattle.std.specs.Map.Iter.{deref_pair}
 use Rattle.std.specs.Ordering.{nat_cmp}
 use Rattle.std.proofs.lemmas.List.{map-append, append_assoc, append-nil}
 use Rattle.std.proofs.lemmas.Map.Iter.{rest_more}
-use Rattle.jj_stores.proofs.CopiedEntries.{copied_push, named_copied}
-use Rattle.jj_stores.proofs.op_store.copies.copied_map.Goals as goal
+use Rattle.jj_stores.proofs.ClonedEntries.{push_cloned, named_cloned}
+use Rattle.jj_stores.proofs.op_store.copies.clone_map.Goals as goal
 
 pub loop-name-preserved : goal.loop-name-preserved
 loop-name-preserved g c =
@@ -33,7 +33,7 @@ loop-name-preserved g c =
           ∙ all;
       ordered = before.ordered;
       copied = rw (more, c.in_ok-insert.ensures.entries)
-          (copied_push (λ v w. g.V.PartialEq.eq w v ≡ true) nat_list_cmp_total
+          (push_cloned (λ v w. g.V.PartialEq.eq w v ≡ true) nat_list_cmp_total
           done rest c.loop-name.copy.entries e f (subst IsSorted (sym all) before.ordered)
           before.copied (c.in_ok-name.ensures.cases, c.in_ok-clone_in.ensures));
     }
@@ -46,5 +46,5 @@ returns g c =
     sym (append-nil done)
     ∙ ap (λ (z : List (List ℕ × V)). done ++ z) (sym c.in-None.ensures.steps.0)
     ∙ c.loop-name.invariant.left in
-    rw (← all) (named_copied g.V.PartialEq.eq done c.loop-name.copy.entries
+    rw (← all) (named_cloned g.V.PartialEq.eq done c.loop-name.copy.entries
     c.loop-name.invariant.copied)

@@ -1,7 +1,7 @@
 use Rattle.std.proofs.Common.{◌≡◌, Option, Some, None, ap, refl, rules}
 use Rattle.std.proofs.lemmas.List.Elements.{same_from_all_zip}
 use Rattle.std.proofs.lemmas.Result.{IfOk-weaker}
-use Rattle.jj_stores.proofs.op_store.ref_target.copied_target.Goals as goal
+use Rattle.jj_stores.proofs.op_store.ref_target.clone_target.Goals as goal
 
 -- a relation that implies equality, on options
 same_option : {A : Type 0} (R : Option A → Option A → Type 0) → ((x y : A) → R (Some x) (Some y) → y ≡ x)

@@ -1,5 +1,5 @@
 use Rattle.jj_stores.proofs.NamesLeft.{not_above_itself, not_above_from_not_below}
-use Rattle.jj_stores.proofs.op_store.refs_left.lesser.Goals as goal
+use Rattle.jj_stores.proofs.op_store.remaining_refs.min_name.Goals as goal
 
 pub returns-then-lt-clause-second : goal.returns-then-lt-clause-second
 returns-then-lt-clause-second c = not_above_itself c.args.other.now

@@ -6,8 +6,8 @@ use Rattle.jj_merges.proofs.CallLaws.{CallsReturn-push}
 use Rattle.jj_stores.specs.declared.op_store.ref_target.RemoteRef.{RemoteRef}
 use Rattle.jj_stores.specs.declared.op_store.view.RemoteView.{RemoteView}
 use Rattle.jj_stores.specs.ViewJoins.{Named}
-use Rattle.jj_stores.specs.JoinRows.{ShowsRefs}
-use Rattle.jj_stores.proofs.op_store.remotes_left.shown_of_remotes.Goals as goal
+use Rattle.jj_stores.specs.JoinRows.{SelectsRefs}
+use Rattle.jj_stores.proofs.op_store.remaining_remotes.select_refs.Goals as goal
 
 pub loop-remote-preserved : goal.loop-remote-preserved
 loop-remote-preserved g c =
@@ -23,7 +23,7 @@ loop-remote-preserved g c =
       ends = tt;
       left = ap (λ z. z ++ c.next.new.self) more ∙ append_assoc done (deref_pair x ∷ []) c.next.new.self
           ∙ ap (λ z. done ++ z) (sym left) ∙ c.loop-remote.invariant.left;
-      shown = rw (more, c.in_ok-push.ensures.items) (CallsReturn-push (ShowsRefs g.F.FnMut) c.args.get_remote_refs done
+      shown = rw (more, c.in_ok-push.ensures.items) (CallsReturn-push (SelectsRefs g.F.FnMut) c.args.get_remote_refs done
           c.loop-remote.remotes.items c.loop-remote.get_remote_refs (deref_pair x) _ c.get_remote_refs.new.self
           c.loop-remote.invariant.shown
           (c.get_remote_refs.result, search rules, ap₂ pair c.as_name.ensures c.new-refs.ensures));

@@ -1,5 +1,5 @@
-use Rattle.jj_stores.proofs.Remembering.{put_remembered}
-use Rattle.jj_stores.proofs.signing.Signer.remember.Goals as goal
+use Rattle.jj_stores.proofs.CacheUpdates.{put_remembered}
+use Rattle.jj_stores.proofs.signing.Signer.cache_verification.Goals as goal
 
 pub returns-clause-ok : goal.returns-clause-ok
 returns-clause-ok g c =

@@ -3,7 +3,7 @@ use Rattle.std.specs.Map.Iter.{deref_pair}
 use Rattle.std.specs.Option.{option_map, option_to_list}
 use Rattle.jj_stores.specs.ViewJoins.{IsAscending}
 use Rattle.jj_stores.proofs.NamesLeft.{least_at_first}
-use Rattle.jj_stores.proofs.op_store.refs_left.RefsLeft.first_name.Goals as goal
+use Rattle.jj_stores.proofs.op_store.remaining_refs.RemainingRefs.first_name.Goals as goal
 
 pub returns-clause-least : goal.returns-clause-least
 returns-clause-least g c =

@@ -3,7 +3,7 @@ use Rattle.std.specs.Map.Iter.{deref_pair}
 use Rattle.std.specs.Option.{option_map, option_to_list}
 use Rattle.jj_stores.specs.ViewJoins.{IsAscending}
 use Rattle.jj_stores.proofs.NamesLeft.{none_at, still_ascending, tail_ascending}
-use Rattle.jj_stores.proofs.op_store.refs_left.RefsLeft.take_at.Goals as goal
+use Rattle.jj_stores.proofs.op_store.remaining_refs.RemainingRefs.take_if_named.Goals as goal
 
 pub returns-then-ne-clause-taken : goal.returns-then-ne-clause-taken
 returns-then-ne-clause-taken g c =

@@ -3,28 +3,28 @@ use Rattle.std.specs.List.{slice_get}
 use Rattle.std.specs.Map.{keys_of}
 use Rattle.std.specs.Option.{option_copied}
 use Rattle.jj_ids.specs.Names.{name_of}
-use Rattle.jj_stores.specs.Firsts.{first_of}
+use Rattle.jj_stores.specs.FirstNameHeap.{name_and_index}
 use Rattle.jj_stores.specs.ViewJoins.{IsFirstOfRemotes}
-use Rattle.jj_stores.proofs.Firsts.{no_firsts, top_stands, top_earliest, first_of_remotes}
-use Rattle.jj_stores.proofs.op_store.remotes_left.RemotesLeft.first_name.Goals as goal
+use Rattle.jj_stores.proofs.FirstNameHeap.{no_firsts, top_stands, top_earliest, first_of_remotes}
+use Rattle.jj_stores.proofs.op_store.remaining_remotes.RemainingRemotes.first_name.Goals as goal
 
-pub returns-in_err-place : goal.returns-in_err-place
-returns-in_err-place c =
+pub returns-in_err-remote_index : goal.returns-in_err-remote_index
+returns-in_err-remote_index c =
     let remotes = c.self.inside.remotes.items in
-    let none = no_firsts first_of remotes _ c.self.invariant.0 (omega (arith, c.in_err-place.ensures.item.3)) in
+    let none = no_firsts name_and_index remotes _ c.self.invariant.0 (omega (arith, c.in_err-remote_index.ensures.item.3)) in
     subst (λ r. IsFirstOfRemotes c.args.self.now (option_copied r)) (sym c.from_residual.ensures)
     (subst (λ v. IsFirstOfRemotes v None) c.self.view_is (refl, none))
 
 pub index-requires : goal.index-requires
-index-requires c = let below = (top_stands first_of c.self.inside.remotes.items _ c.self.invariant.0 c.in_ok-place.field-0.now
-    c.in_ok-place.ensures.item.3.0 c.in_ok-place.ensures.lookup).0 in omega (arith, below, c.self.inside.remotes.ok)
+index-requires c = let below = (top_stands name_and_index c.self.inside.remotes.items _ c.self.invariant.0 c.in_ok-remote_index.field-0.now
+    c.in_ok-remote_index.ensures.item.3.0 c.in_ok-remote_index.ensures.lookup).0 in omega (arith, below, c.self.inside.remotes.ok)
 
 pub returns : goal.returns
 returns c =
     let remotes = c.self.inside.remotes.items in
-    let top = c.in_ok-place.field-0.now in
-    let stands = top_stands first_of remotes _ c.self.invariant.0 top c.in_ok-place.ensures.item.3.0 c.in_ok-place.ensures.lookup in
-    let earliest = top_earliest first_of remotes _ c.self.invariant.0 top (c.in_ok-place.ensures.greatest c.self.invariant.1) in
+    let top = c.in_ok-remote_index.field-0.now in
+    let stands = top_stands name_and_index remotes _ c.self.invariant.0 top c.in_ok-remote_index.ensures.item.3.0 c.in_ok-remote_index.ensures.lookup in
+    let earliest = top_earliest name_and_index remotes _ c.self.invariant.0 top (c.in_ok-remote_index.ensures.greatest c.self.invariant.1) in
     let first = first_of_remotes (name_of top.0.0) top.0.1 remotes c.index.result.now stands earliest in
     let same : Some (name_of top.0.0) ≡ option_copied c.first_name.result =
     stands.1 c.index.result.now ∙ ap (λ r. slice_get (keys_of r.1) 0) (sym c.index.ensures) ∙ sym c.first_name.ensures.first in

@@ -1,11 +1,11 @@
 -- The heap contains the first names of the remotes so far.
 use Rattle.std.proofs.Common.{map, take}
 use Rattle.std.specs.BinaryHeap.{heap_items, IsHeap}
-use Rattle.jj_stores.specs.Firsts.{AreFirsts, earlier_cmp, first_of}
-use Rattle.jj_stores.proofs.op_store.remotes_left.RemotesLeft.new.Given as goal
+use Rattle.jj_stores.specs.FirstNameHeap.{AreFirstNames, earlier_cmp, name_and_index}
+use Rattle.jj_stores.proofs.op_store.remaining_remotes.RemainingRemotes.new.Given as goal
 
-abbrev pub invariant-loop-place : goal.invariant-loop-place
-invariant-loop-place l = record {
-  firsts : AreFirsts (take l.place l.remotes.items) (map first_of (heap_items l.firsts));
-  heap : IsHeap (λ a b. earlier_cmp (first_of a) (first_of b)) (heap_items l.firsts);
+abbrev pub invariant-loop-remote_index : goal.invariant-loop-remote_index
+invariant-loop-remote_index l = record {
+  firsts : AreFirstNames (take l.remote_index l.remotes.items) (map name_and_index (heap_items l.firsts));
+  heap : IsHeap (λ a b. earlier_cmp (name_and_index a) (name_and_index b)) (heap_items l.firsts);
 }

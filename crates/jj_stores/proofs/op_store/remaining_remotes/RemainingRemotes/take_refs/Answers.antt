@@ -1,9 +1,9 @@
 use Rattle.std.proofs.Common.{◌++◌, ◌∙◌, map, ap, sym, subst}
 use Rattle.std.specs.List.{AllZip}
 use Rattle.jj_stores.specs.JoinRows.{ref_of}
-use Rattle.jj_stores.specs.ViewJoins.{LosesAt, remotes_with}
+use Rattle.jj_stores.specs.ViewJoins.{RemovesAt, remotes_with}
 use Rattle.jj_stores.proofs.TakenRefs.{all_lost, losing_more, losing_none, refs_more, still_least}
-use Rattle.jj_stores.proofs.op_store.remotes_left.RemotesLeft.take_refs.Goals as goal
+use Rattle.jj_stores.proofs.op_store.remaining_remotes.RemainingRemotes.take_refs.Goals as goal
 
 pub loop-found-init : goal.loop-found-init
 loop-found-init c = record {
@@ -28,5 +28,5 @@ pub returns-clause-left : goal.returns-clause-left
 returns-clause-left c =
     let name = c.args.name.now in
     let ended = c.in_default.ensures in
-    subst (AllZip (LosesAt name) c.args.self.now) (sym ended.1)
+    subst (AllZip (RemovesAt name) c.args.self.now) (sym ended.1)
     (all_lost name c.args.self.now c.loop-found.self ended.0 ended.2 c.loop-found.invariant.losing)

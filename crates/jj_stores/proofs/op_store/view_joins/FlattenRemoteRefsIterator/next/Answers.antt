@@ -4,7 +4,7 @@ use Rattle.jj_stores.specs.ViewJoins.{IsLeast, IsFirstOfRemotes}
 use Rattle.std.specs.List.{All}
 use Rattle.jj_ids.specs.Names.{name_of}
 use Rattle.jj_stores.specs.declared.op_store.ref_target.RemoteRef.{RemoteRef}
-use Rattle.jj_stores.specs.FlatRefs.{GivesRef, AreFlat, TakesRef}
+use Rattle.jj_stores.specs.FlatRefs.{YieldsRef, IsFlattened, RemovesRef}
 use Rattle.jj_stores.proofs.FlatSteps.{no_refs, flat_first}
 use Rattle.jj_stores.proofs.op_store.view_joins.FlattenRemoteRefsIterator.next.Goals as goal
 
@@ -13,7 +13,7 @@ returns-in_err-name-clause-steps c =
     let left = c.args.self.now in
     let first = subst (λ f. IsFirstOfRemotes c.self.inside.remotes (option_copied f)) c.in_err-name.was c.first_name.ensures in
     let none = no_refs left (subst (λ v. IsFirstOfRemotes v None) c.self.view_is first) in
-    subst (λ r. GivesRef left r left) (sym c.from_residual.ensures) (none, none)
+    subst (λ r. YieldsRef left r left) (sym c.from_residual.ensures) (none, none)
 
 pub returns-clause-steps : goal.returns-clause-steps
 returns-clause-steps c =
@@ -23,7 +23,7 @@ returns-clause-steps c =
     let least = subst (λ v. All (λ r. IsLeast name r.1) v) c.self.view_is first.2 in
     let shown : List ℕ → List ℕ → (List ℕ × List ℕ) × RemoteRef = λ n r. ((n, r), c.in_ok-remote.target.now) in
     let symbol = ap₂ shown (c.to_remote_symbol.ensures.name ∙ c.as_name.ensures) c.to_remote_symbol.ensures.remote in
-    λ refs flat. subst (λ item. AreFlat c.args.self.now (item ∷ refs)) (sym symbol)
+    λ refs flat. subst (λ item. IsFlattened c.args.self.now (item ∷ refs)) (sym symbol)
     (flat_first name c.args.self.now found c.take_ref.new.self least
-    (subst (λ v. TakesRef name v found c.take_ref.new.self) c.self.view_is c.in_ok-remote.ensures)
+    (subst (λ v. RemovesRef name v found c.take_ref.new.self) c.self.view_is c.in_ok-remote.ensures)
     refs flat)

@@ -1,8 +1,8 @@
 use Rattle.std.proofs.Common.{sym, subst}
 use Rattle.std.specs.Option.{option_copied}
 use Rattle.jj_stores.specs.ViewJoins.{IsFirstName}
-use Rattle.jj_stores.specs.JoinSteps.{GivesRow}
-use Rattle.jj_stores.proofs.JoinGives.{none_empty, ended, gives_none, refuses_row, none_is_fewer, gives_row, fewer}
+use Rattle.jj_stores.specs.JoinSteps.{YieldsRow}
+use Rattle.jj_stores.proofs.JoinYields.{none_empty, ended, gives_none, refuses_row, none_is_fewer, gives_row, fewer}
 use Rattle.jj_stores.proofs.op_store.view_joins.MergeJoinRefViewsIterator.next.Goals as goal
 
 pub returns-then-self-clause-steps : goal.returns-then-self-clause-steps
@@ -17,15 +17,15 @@ returns-in_err-name-clause-steps c =
     let left = c.args.self.now in
     let first = subst (λ f. IsFirstName inside.locals inside.remotes (option_copied f)) c.in_err-name.was c.first_name.ensures in
     let none = gives_none inside.is_ended inside.locals inside.remotes left c.if-self.false c.self.view_is first in
-    subst (λ r. GivesRow left r left) (sym c.from_residual.ensures) (none, none)
+    subst (λ r. YieldsRow left r left) (sym c.from_residual.ensures) (none, none)
 
 pub returns-in-Ok-clause-steps : goal.returns-in-Ok-clause-steps
 returns-in-Ok-clause-steps c =
     let inside = c.self.inside in
     let first = subst (λ f. IsFirstName inside.locals inside.remotes (option_copied f)) c.in_ok-name.was c.first_name.ensures in
     gives_row inside.is_ended inside.locals inside.remotes c.args.self.now c.if-self.false c.self.view_is
-    c.in_ok-name.name.now first c.take_at-local_target.new.self c.take_refs.new.self (option_copied c.take_at-local_target.result)
-    c.take_at-local_target.ensures.ascending c.take_at-local_target.ensures.taken c.in-Ok.ensures.left
+    c.in_ok-name.name.now first c.take_if_named-local_target.new.self c.take_refs.new.self (option_copied c.take_if_named-local_target.result)
+    c.take_if_named-local_target.ensures.ascending c.take_if_named-local_target.ensures.taken c.in-Ok.ensures.left
     _ _ c.as_name.ensures c.in-Ok.ensures.refs
 
 pub returns-in-Ok-clause-goes : goal.returns-in-Ok-clause-goes
@@ -33,8 +33,8 @@ returns-in-Ok-clause-goes c =
     let inside = c.self.inside in
     let first = subst (λ f. IsFirstName inside.locals inside.remotes (option_copied f)) c.in_ok-name.was c.first_name.ensures in
     let less = fewer inside.is_ended inside.locals inside.remotes c.args.self.now c.if-self.false c.self.view_is
-    c.in_ok-name.name.now first c.take_at-local_target.new.self c.take_refs.new.self (option_copied c.take_at-local_target.result)
-    c.take_at-local_target.ensures.ascending c.take_at-local_target.ensures.taken c.in-Ok.ensures.left in
+    c.in_ok-name.name.now first c.take_if_named-local_target.new.self c.take_refs.new.self (option_copied c.take_if_named-local_target.result)
+    c.take_if_named-local_target.ensures.ascending c.take_if_named-local_target.ensures.taken c.in-Ok.ensures.left in
     record { on = λ _. (tt, tt, less); keeps = tt; rests = λ _. tt }
 
 pub returns-in-Err-clause-steps : goal.returns-in-Err-clause-steps
