@@ -1,4 +1,4 @@
-use Rattle.std.proofs.Common.{rules, of_calls, ◌≡◌, ℕ, subst, map}
+use Rattle.std.proofs.Common.{rules, of_calls, ◌≡◌, subst, map}
 use Rattle.std.proofs.lemmas.Fn.{always_returns_same}
 use Rattle.std.proofs.lemmas.List.{map-id}
 use Rattle.jj_dag.specs.CommonNodes.{AreClosestCommon}
