@@ -29,3 +29,5 @@ pub mod Owing
 pub mod Postorders
 pub mod Renumbered
 pub mod ClosureGraphs
+pub mod NodeGraphs
+pub mod ListNumbers

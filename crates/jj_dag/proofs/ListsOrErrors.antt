@@ -116,6 +116,19 @@ module _ {U I T E : Type 0} (becomes : U → I → Type 0) (steps : I → Option
   error_answered (Err e) (Error o) h x (xs, (j, same, (t, run))) =
       ap (λ z. Err z) (sym (last_error xs x e (begun_error steps (map (λ y. Ok y) xs) x e t (subst (λ v. Yields (GivesListed steps) v (map (λ y. Ok y) xs ++ Err x ∷ []) t) (same ∙ ap (λ p. Error p) h) run))))
 
+-- the iterator over a finite list, or over one error, is finite
+pub finite_listed : {U I E : Type 0} (becomes : U → I → Type 0) (can : I → Type 0) (left : I → Count) (answer : Result U E) (s : ListOrError I E) → StandsFor becomes answer s
+    → IfOk answer (IsFiniteIterable becomes can left) → IsFiniteIterable (λ v k. k ≡ v) (CanList can) (listed_left left) s
+unfolding StandsFor
+finite_listed {U} {I} {E} becomes can left answer s h ends it is = subst (λ v. CanList can v × IsFinite (listed_left left v)) (sym is) (ends_of answer s h ends)
+  where
+    ends_of : (n : Result U E) (r : ListOrError I E) → StandsFor becomes n r → IfOk n (IsFiniteIterable becomes can left) → CanList can r × IsFinite (listed_left left r)
+    ends_of (Ok value) (List it) h ends = ends it h
+    ends_of (Ok value) (Error o) h ends = absurd h
+    ends_of (Err e) (List it) h ends = absurd h
+    ends_of (Err e) (Error None) h ends = (tt, tt)
+    ends_of (Err e) (Error (Some x)) h ends = (tt, tt)
+
 -- A closure that wraps the results of another one.
 module _ {T E N G U I : Type 0} (lists : Mut N (Bor T × Unit {0}) (Result U E)) (becomes : U → I → Type 0) (steps : I → Option T → I → Type 0)
     (outer : Mut G (Bor T × Unit {0}) (ListOrError I E)) (inner : G → N)
@@ -127,16 +140,8 @@ module _ {T E N G U I : Type 0} (lists : Mut N (Bor T × Unit {0}) (Result U E))
   -- finiteness carries over
   pub ends_listed : (can : I → Type 0) (left : I → Count) (f : G) → AlwaysReturns lists (λ a r. IfOk r (IsFiniteIterable becomes can left)) (inner f)
       → AlwaysReturns outer (λ a r. IsFiniteIterable (λ v k. k ≡ v) (CanList can) (listed_left left) r) f
-  unfolding StandsFor
   ends_listed can left f k = AlwaysReturns-through outer lists _ _ inner (λ f a r after h.
-      let q = hands_on f a r after h in (q.0, q.1, λ ends it is. subst (λ v. CanList can v × IsFinite (listed_left left v)) (sym is) (ends_of q.0 r q.2 ends))) f k
-    where
-      ends_of : (n : Result U E) (r : ListOrError I E) → StandsFor becomes n r → IfOk n (IsFiniteIterable becomes can left) → CanList can r × IsFinite (listed_left left r)
-      ends_of (Ok value) (List it) h ends = ends it h
-      ends_of (Ok value) (Error o) h ends = absurd h
-      ends_of (Err e) (List it) h ends = absurd h
-      ends_of (Err e) (Error None) h ends = (tt, tt)
-      ends_of (Err e) (Error (Some x)) h ends = (tt, tt)
+      let q = hands_on f a r after h in (q.0, q.1, finite_listed becomes can left q.0 r q.2)) f k
 
 -- Such a closure implements the graph with items.
 module _ {T ID E F N G U I : Type 0} (eq : ID → ID → Bool) (ids : Shared F (Bor T × Unit {0}) ID) (lists : Mut N (Bor T × Unit {0}) (Result U E)) (becomes : U → I → Type 0) (steps : I → Option T → I → Type 0)

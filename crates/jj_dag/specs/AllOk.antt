@@ -1,5 +1,5 @@
 -- The iterator that wraps each item in `Ok`.
--- Machinery of private functions and fields.
+-- Cited by contracts of public items through ListOrError.
 use Rattle.std.specs.Prelude.{Option, Result, MatchOption, MatchResult}
 use Rattle.std.specs.declared.option.Option.TheVariants.{None, Some}
 

@@ -18,3 +18,4 @@ pub mod GreatestOrder
 pub mod Asking
 pub mod CommonSearch
 pub mod HeadsSearch
+pub mod NodeGraph

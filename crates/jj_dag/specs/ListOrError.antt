@@ -1,5 +1,5 @@
 -- The iterator over the items of a list, or over one error.
--- Machinery of private functions and fields.
+-- Cited by contracts of public items: CanList, GivesListed, StandsFor, listed_left.
 use Rattle.std.specs.Prelude.{◌≡◌, Option, Result}
 use Rattle.std.specs.Option.{option_map}
 use Rattle.std.specs.declared.option.Option.TheVariants.{None, Some}

@@ -8,7 +8,7 @@ pub mod dag_walk;
 pub mod dag_walk_async;
 mod forward;
 pub mod greatest_order;
-mod list_or_error;
+pub mod list_or_error;
 mod maximal;
 mod maximal_lists;
 pub mod shown;
