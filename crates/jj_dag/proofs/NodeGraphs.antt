@@ -116,9 +116,12 @@ module _ {A : Type 0} (g : NodeGraph A) (number : A → ℕ) (id_of : ℕ → A)
     maximal_back a (is, none) = (member_back a is, λ b member differ above. none (number b) (up b member) (λ e. differ (one_node b a e)) (strictly_up b a above))
 
     maximal_up : (a : A) → IsMaximalNode g IsMember a → IsMaximal numbers_graph IsNumber (number a)
-    maximal_up a (is, none) = (up a is, λ b h differ above.
-        let r = down b h in
-        none r.0 r.2 (λ e. differ (r.1 ∙ ap number e)) (strictly_back r.0 a (subst (λ x. StrictlyReaches numbers_graph x (number a)) r.1 above)))
+    maximal_up a (is, none) = (
+      up a is,
+      λ b h differ above.
+          let r = down b h in
+          none r.0 r.2 (λ e. differ (r.1 ∙ ap number e)) (strictly_back r.0 a (subst (λ x. StrictlyReaches numbers_graph x (number a)) r.1 above)),
+    )
 
     maximal_list : (xs : List A) → ((a : ℕ) → Contains (map number xs) a ↔ IsMaximal numbers_graph IsNumber a) → IsDistinct eqb (map number xs) → AreMaximalNodes g IsMember xs
     maximal_list xs all once = record {

@@ -1,0 +1,3 @@
+pub mod SameCommits
+pub mod Commits
+pub mod HistoryItems

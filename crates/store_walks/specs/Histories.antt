@@ -1,0 +1,63 @@
+-- The history of a store: its commits, with an edge from each to its parents.
+-- Cited by contracts of public items: AreHeadCommits, AreMergeBases, IsErrorBelow, IsHistoryError,
+-- IsHistoryOrder, IsReadErrorBelow.
+use Rattle.std.specs.Prelude.{◌≡◌, ◌⊎◌, ℕ, List, All, Some, map}
+use Rattle.std.specs.List.{Contains}
+use Rattle.jj_backend.specs.Objects.{Objects}
+use Rattle.jj_backend.specs.Records.{CommitValue}
+use Rattle.jj_backend.specs.declared.backend.errors.BackendError.{BackendError}
+use Rattle.jj_backend.specs.declared.backend.errors.BackendError.TheVariants.{Memory}
+use Rattle.jj_dag.specs.NodeGraph.{AreMaximalNodes, HasNoCommonNodeCycle, IsChildFirstOrder, IsCommonNode, NodeGraph, ReachesNoCycle, ReachesNode, ReachesSomeCycle}
+use Rattle.store_walks.specs.ReadCommits.{IsReadError, IsStored, id_of}
+use Rattle.store_walks.specs.declared.read_commit.ReadCommit.{ReadCommit}
+use Rattle.store_walks.specs.declared.order.HistoryError.{HistoryError}
+use Rattle.store_walks.specs.declared.order.HistoryError.TheVariants.{Read, Cycle}
+
+-- the parents of each commit, by ids
+abbrev pub Parents : Type 0
+Parents = NodeGraph (List ℕ)
+
+module _ (store : Objects) where
+  -- the parents of each commit that the store has, and any of a commit that it lacks
+  abbrev pub Completes : Parents → Type 0
+  Completes parents = (id : List ℕ) (commit : CommitValue) → store.commits id ≡ Some commit
+      → parents id ≡ commit.parents
+
+  -- P of each history that agrees with the store where it has the commit
+  abbrev pub InEachHistory : (Parents → Type 0) → Type 0
+  InEachHistory P = (parents : Parents) → Completes parents → P parents
+
+  -- where the ids reach no cycle: exactly the ids that are no proper ancestor of another one
+  abbrev pub AreHeadCommits : List (List ℕ) → List (List ℕ) → Type 0
+  AreHeadCommits ids heads = InEachHistory (λ parents. ReachesNoCycle parents ids
+      → AreMaximalNodes parents (Contains ids) heads)
+
+  -- where no common ancestor is on a cycle: exactly the common ancestors of both sets that are no
+  -- proper ancestor of another one, as the store has them
+  abbrev pub AreMergeBases : List (List ℕ) → List (List ℕ) → List ReadCommit → Type 0
+  AreMergeBases set1 set2 bases = InEachHistory (λ parents. HasNoCommonNodeCycle parents set1 set2
+      → AreMaximalNodes parents (IsCommonNode parents set1 set2) (map id_of bases)
+      × All (IsStored store) bases)
+
+  -- each ancestor of the ids once and before its own ancestors, as the store has them; the ids
+  -- reach no cycle
+  abbrev pub IsHistoryOrder : List (List ℕ) → List ReadCommit → Type 0
+  IsHistoryOrder ids order = InEachHistory (λ parents. ReachesNoCycle parents ids
+      × IsChildFirstOrder parents ids (map id_of order) × All (IsStored store) order)
+
+  -- `read_commit` may return this error for an ancestor of the ids
+  pub record IsReadErrorBelow (may_fail : BackendError → Type 0) (ids : List (List ℕ))
+      (e : BackendError) : Type 0 where
+    pub id : List ℕ
+    pub reached : InEachHistory (λ parents. ReachesNode parents ids id)
+    pub read : IsReadError may_fail store e id
+
+  -- or it is out of memory
+  abbrev pub IsErrorBelow : (BackendError → Type 0) → List (List ℕ) → BackendError → Type 0
+  IsErrorBelow may_fail ids e = (e ≡ Memory) ⊎ IsReadErrorBelow may_fail ids e
+
+  -- the error of a read, or the id of an ancestor where the ids reach a cycle
+  abbrev pub IsHistoryError : (BackendError → Type 0) → List (List ℕ) → HistoryError → Type 0
+  IsHistoryError may_fail ids (Read e) = IsErrorBelow may_fail ids e
+  IsHistoryError may_fail ids (Cycle id) = InEachHistory (λ parents. ReachesNode parents ids id
+      × ReachesSomeCycle parents ids)

@@ -1,0 +1,3 @@
+pub mod ReadCommits
+pub mod Histories
+pub mod HistoryItems

@@ -1,0 +1,13 @@
+//! Walks over the commits of a store: heads, merge bases and a topological order. A commit is read
+//! when a walk reaches it, and each read may fail.
+#![tactic(auto)]
+
+mod bases;
+mod heads;
+mod order;
+mod read_commit;
+
+pub use crate::bases::merge_bases;
+pub use crate::heads::head_commits;
+pub use crate::order::{HistoryError, history_order};
+pub use crate::read_commit::ReadCommit;

@@ -1,0 +1,69 @@
+//! The ancestors of some commits in topological order, each before its own.
+ghost use Rattle.std.specs.Prelude.{IfOk, Result};
+ghost use Rattle.std.specs.Global.{Global};
+ghost use Rattle.std.specs.declared.vec.Vec.{Vec};
+ghost use Rattle.jj_dag.specs.Outcomes.{IfFails};
+ghost use Rattle.store_walks.specs.Histories.{IsHistoryError, IsHistoryOrder};
+ghost use Rattle.store_walks.specs.HistoryItems.{AreItemsOf, ReadsHistory};
+
+use crate::read_commit::{ReadCommit, read_all};
+use jj_backend::backend::{Backend, BackendError, CommitId};
+use jj_dag::dag_walk_async::topo_order_reverse_ord;
+use jj_dag::list_or_error::{ListOrError, as_list_or_error};
+use jj_dag::walk_error::WalkError;
+use std::alloc::Global;
+use std::vec::IntoIter;
+
+/// Why the ancestors of some commits have no order: one could not be read, or one is its own
+/// ancestor.
+#[derive(Drop)]
+pub enum HistoryError {
+    Read(BackendError),
+    /// The id of an ancestor where there is a cycle.
+    Cycle(CommitId),
+}
+
+// Reads the commits of these ids, in their order.
+fn read_history<B: Backend>(
+    alloc: Global,
+    store: &B,
+    ids: &[CommitId],
+) -> Result<Vec<ReadCommit>, HistoryError>
+    ensures { ReadsHistory (B.may_fail store.now) (B.objects store.now) ids.now result }
+{
+    match read_all(alloc, store, ids) {
+        Ok(commits) => Ok(commits),
+        Err(error) => Err(HistoryError::Read(error)),
+    }
+}
+
+// Iterates over the commits of these ids, or yields the error of reading them.
+fn commit_items<B: Backend>(
+    alloc: Global,
+    store: &B,
+    ids: &[CommitId],
+) -> ListOrError<IntoIter<ReadCommit>, HistoryError>
+    ensures { AreItemsOf (B.may_fail store.now) (B.objects store.now) ids.now result }
+{
+    as_list_or_error(read_history(alloc, store, ids))
+}
+
+/// Returns the ancestors of `ids`, each once and before its own ancestors.
+pub fn history_order<B: Backend>(
+    alloc: Global,
+    store: &B,
+    ids: &[CommitId],
+) -> Result<Vec<ReadCommit>, WalkError<HistoryError>>
+    ensures order { IfOk result (λ order.
+        IsHistoryOrder (B.objects store.now) ids.now order.items) }
+    ensures error { IfFails result (IsHistoryError (B.objects store.now) (B.may_fail store.now)
+        ids.now) }
+{
+    topo_order_reverse_ord(
+        alloc,
+        commit_items(alloc, store, ids),
+        |commit: &ReadCommit| commit.id.clone(),
+        |commit: &ReadCommit| commit_items(alloc, store, &commit.commit.parents),
+        |commit: ReadCommit| HistoryError::Cycle(commit.id),
+    )
+}
