@@ -1,18 +1,23 @@
 -- What the iterator `DepthFirstOk` does from a state.
--- Cited by contracts of public items: CanWalk, Steps, items_left.
-use Rattle.std.specs.Prelude.{◌≡◌, ℕ, ◌+◌, ◌*◌, ◌-◌, ◌^◌, Bool, List, [], ◌∷◌, ◌++◌, length, Option, Result, MatchOption, MatchResult, IfErr, IsNone}
+-- Cited by contracts of public items: CanWalkItems, Steps, StartsWalk, items_left.
+use Rattle.std.specs.Prelude.{◌≡◌, ℕ, ◌+◌, ◌*◌, ◌-◌, ◌^◌, Bool, List, [], ◌∷◌, ◌++◌, length, map, reverse, Option, Result, MatchOption, MatchResult, IfErr, IsNone}
 use Rattle.std.specs.declared.result.Result.TheVariants.{Ok, Err}
 use Rattle.std.specs.Iterator.{Count, IsFiniteIterable}
 use Rattle.std.specs.Fn.{Shared, Mut, AlwaysReturns}
-use Rattle.std.specs.HashSet.{contains, hash_set_len}
+use Rattle.std.specs.HashSet.{HashSet, contains, hash_set_len}
+use Rattle.std.specs.List.{Contains}
+use Rattle.std.specs.declared.alloc.AllocError.{AllocError}
+use Rattle.std.specs.declared.iter.IntoIterator as into
+use Rattle.std.specs.declared.iter.Iterator as iter
 use denote.Ref.{Bor}
 use denote.Param.Always.{always_fn, always_mut}
 use Rattle.jj_walks.specs.declared.depth_first.DepthFirstOk.{DepthFirstOk}
 use Rattle.jj_dag.specs.declared.walk_error.WalkError.{WalkError}
 use Rattle.jj_dag.specs.declared.walk_error.WalkError.TheVariants.{Memory, Node}
-use Rattle.jj_dag.specs.Walk.{Numbered}
+use Rattle.jj_dag.specs.Walk.{AreNodes, DrainsTo, Numbered}
 use Rattle.jj_dag.specs.Errors.{IfMemory}
-use Rattle.jj_dag.specs.Failing.{FailingGraph, Fault, AreItems, AreFailingPreorder, ShowsItems, IsWalkingItems}
+use Rattle.jj_dag.specs.Failing.{FailingGraph, IsWalkingItems, sound_items}
+use Rattle.jj_walks.specs.Answers.{Answer, AnswersLead, HasAnswers, ImplementsItems, IsRun, answers_graph, item_of}
 
 -- more items cannot come: a node puts one more id into a set of fewer than 2^63, and a failed item
 -- leaves fewer to do
@@ -27,41 +32,54 @@ items_left s = elim s.work.items [
 abbrev pub HasEnded : {T ID E F N : Type 0} → DepthFirstOk T ID E F N → Type 0
 HasEnded s = s.work.items ≡ []
 
-module _ {T ID E F N U S : Type 0} (ids : Shared F (Bor T × Unit {0}) ID)
+-- In the model, a walk from these starts that was answered this has given these items, and `work`
+-- is left. Whatever the nodes will answer that were not asked yet, the walk goes on as that graph
+-- says.
+pub record IsWalkingAnswers {T ID E : Type 0} (g : Numbered T ID) (test : ID → Bool)
+    (answers : List (Answer T E)) (starts work given : List (Result T E)) : Type 0 where
+  pub has_answers : HasAnswers g.node (answers_graph g.node answers) answers
+  pub walking : (graph : FailingGraph E) → HasAnswers g.node graph answers
+      → IsWalkingItems g graph (map (item_of g.node) starts) test (map (item_of g.node) work)
+      (map (item_of g.node) given)
+
+module _ {T ID E F N U S : Type 0} (ids : Shared F (Bor T × Unit {0}) (Result ID AllocError))
     (lists : Mut N (Bor T × Unit {0}) U) where
   -- the closures may always be called, and what `neighbors_fn` gives ends
-  pub record CanWalk (becomes : U → S → Type 0) (can : S → Type 0) (left : S → Count)
+  pub record CanWalkItems (becomes : U → S → Type 0) (can : S → Type 0) (left : S → Count)
       (s : DepthFirstOk T ID E F N) : Type 0 where
     pub id_fn : always_fn ids s.id_fn
     pub neighbors_fn : always_mut lists s.neighbors_fn
     pub ends : AlwaysReturns lists (λ a r. IsFiniteIterable becomes can left r) s.neighbors_fn
 
-  -- s is what is left of a depth-first walk from these starts that has given these items
-  pub record IsLeftOf (w : Numbered T ID) (items : FailingGraph (Fault E)) (eq : ID → ID → Bool)
+  -- s is what is left of a depth-first walk that began with these closures and starts, and has
+  -- given these items
+  pub record IsLeftOf (eq : ID → ID → Bool)
       (becomes : U → S → Type 0) (steps : S → Option (Result T E) → S → Type 0)
-      (starts : List (Result ℕ (Fault E))) (given : List (Result T E))
+      (id_fn : F) (neighbors_fn : N) (starts given : List (Result T E))
       (s : DepthFirstOk T ID E F N) : Type 0 where
-    pub shown : ShowsItems w items eq ids lists becomes steps s.id_fn s.neighbors_fn
-    pub work_items : List (Result ℕ (Fault E))
-    pub given_items : List (Result ℕ (Fault E))
-    pub work : AreItems w.node s.work.items work_items
-    pub given_before : AreItems w.node given given_items
-    pub walking : IsWalkingItems w items starts (contains eq s.visited) work_items given_items
+    pub same_ids : s.id_fn ≡ id_fn
+    pub answers : List (Answer T E)
+    pub in_turn : AnswersLead lists (DrainsTo becomes steps) neighbors_fn answers s.neighbors_fn
+    pub asked : reverse (map (λ x. x.node) answers) ≡ sound_items given
+    pub walks : (g : Numbered T ID)
+        → ImplementsItems g eq ids lists (DrainsTo becomes steps) id_fn neighbors_fn
+        → AreNodes g (sound_items (map (item_of g.node) starts))
+        → IsWalkingAnswers g (contains eq s.visited) answers starts s.work.items given
 
-  -- the walk gives one item more, or ends as the preorder of its starts, or is refused memory and
-  -- ends
+  -- the walk gives one item more, or ends as a whole run, or is refused memory and ends
   abbrev pub WalksOn : (ID → ID → Bool) → (U → S → Type 0) → (S → Option (Result T E) → S → Type 0)
       → DepthFirstOk T ID E F N → Option (Result T (WalkError E)) → DepthFirstOk T ID E F N → Type 0
   WalksOn eq becomes steps s r t =
-      (w : Numbered T ID) (items : FailingGraph (Fault E)) (starts : List (Result ℕ (Fault E)))
-      (given : List (Result T E)) → IsLeftOf w items eq becomes steps starts given s →
-      MatchOption r (AreFailingPreorder w.node items starts given × (t.work.items ≡ []))
-      (λ x. MatchResult x (λ node. IsLeftOf w items eq becomes steps starts
+      (id_fn : F) (neighbors_fn : N) (starts given : List (Result T E))
+      → IsLeftOf eq becomes steps id_fn neighbors_fn starts given s →
+      MatchOption r (IsRun eq ids lists (DrainsTo becomes steps) id_fn neighbors_fn starts given
+      × (t.work.items ≡ []))
+      (λ x. MatchResult x (λ node. IsLeftOf eq becomes steps id_fn neighbors_fn starts
       (given ++ Ok node ∷ []) t)
       (λ refused. elim refused [
         | Memory ↦ t.work.items
             ≡ []
-        | Node e ↦ IsLeftOf w items eq becomes steps starts (given ++ Err e ∷ []) t
+        | Node e ↦ IsLeftOf eq becomes steps id_fn neighbors_fn starts (given ++ Err e ∷ []) t
       ]))
 
   -- One call from s, which gave r and left t: the walk goes on, `next` may be called again whatever
@@ -72,6 +90,15 @@ module _ {T ID E F N U S : Type 0} (ids : Shared F (Bor T × Unit {0}) ID)
       (s : DepthFirstOk T ID E F N) (r : Option (Result T (WalkError E)))
       (t : DepthFirstOk T ID E F N) : Type 0 where
     pub walks : WalksOn eq becomes steps s r t
-    pub again : CanWalk becomes can left t
+    pub again : CanWalkItems becomes can left t
     pub ends : MatchOption r (HasEnded t) (λ x. IfErr x (λ refused. IfMemory refused (HasEnded t)))
     pub ended : HasEnded s → IsNone r × HasEnded t
+
+  -- what is left is the whole depth-first walk from the starts
+  pub record StartsWalk {II I : Type 0} (eq : ID → ID → Bool) (becomes : U → S → Type 0)
+      (steps : S → Option (Result T E) → S → Type 0) (first : into.Ghosts II (Result T E) I)
+      (first_items : iter.Ghosts I (Result T E)) (id_fn : F) (neighbors_fn : N) (start : II)
+      (it : DepthFirstOk T ID E F N) : Type 0 where
+    pub starts : List (Result T E)
+    pub yielded : DrainsTo first.into_iter_gives first_items.next_gives start starts
+    pub whole : IsLeftOf eq becomes steps id_fn neighbors_fn starts [] it

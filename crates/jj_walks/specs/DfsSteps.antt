@@ -9,7 +9,8 @@ use denote.Ref.{Bor}
 use denote.Param.Always.{always_fn, always_mut}
 use Rattle.jj_walks.specs.declared.depth_first.DepthFirst.{DepthFirst}
 use Rattle.jj_dag.specs.Graph.{IsPreorder}
-use Rattle.jj_dag.specs.Walk.{Numbered, IsShownBy, IsWalking}
+use Rattle.jj_dag.specs.ClosureGraph.{Implements}
+use Rattle.jj_dag.specs.Walk.{DrainsTo, IsWalking, Numbered}
 
 -- more items cannot come: an error ends the walk, and each other item puts one more id into a set
 -- of fewer than 2^63
@@ -20,7 +21,7 @@ items_left s = elim s.work.items [ [] ↦ 0 | x ∷ xs ↦ 1 + (2 ^ 63 - hash_se
 abbrev pub HasEnded : {T ID F N : Type 0} → DepthFirst T ID F N → Type 0
 HasEnded s = s.work.items ≡ []
 
-module _ {T ID F N U S : Type 0} (ids : Shared F (Bor T × Unit {0}) ID)
+module _ {T ID F N U S : Type 0} (ids : Shared F (Bor T × Unit {0}) (Result ID AllocError))
     (lists : Mut N (Bor T × Unit {0}) U) where
   -- the closures may always be called, and what `neighbors_fn` gives ends
   pub record CanWalk (becomes : U → S → Type 0) (can : S → Type 0) (left : S → Count)
@@ -33,7 +34,7 @@ module _ {T ID F N U S : Type 0} (ids : Shared F (Bor T × Unit {0}) ID)
   pub record IsLeftOf (w : Numbered T ID) (eq : ID → ID → Bool) (becomes : U → S → Type 0)
       (steps : S → Option T → S → Type 0) (starts : List ℕ) (given : List T)
       (s : DepthFirst T ID F N) : Type 0 where
-    pub shown : IsShownBy w eq ids lists becomes steps s.id_fn s.neighbors_fn
+    pub implemented : Implements w eq ids lists (DrainsTo becomes steps) s.id_fn s.neighbors_fn
     pub walking : IsWalking w starts (contains eq s.visited) s.work.items given
 
   -- the walk gives one node more, or ends as the preorder of its starts, or is refused memory and

@@ -1,3 +1,4 @@
+pub mod Answers
 pub mod DfsSteps
 pub mod DfsOkSteps
 pub mod NextItem

@@ -1,9 +1,9 @@
 //! The depth-first walk as an iterator, and over items that may fail.
-ghost use Rattle.std.specs.Prelude.{IfOk};
+ghost use Rattle.std.specs.Prelude.{[], IfOk};
 ghost use Rattle.std.specs.Iterator.{at_most};
-ghost use Rattle.jj_dag.specs.Outcomes.{Ends};
-ghost use Rattle.jj_dag.specs.Owed.{CanShow};
-ghost use Rattle.jj_walks.specs.Started.{StartsWalk, StartsWalkOfItems};
+ghost use Rattle.jj_dag.specs.ClosureGraph.{InEachModel, graph_of, graph_of_items, list_of, list_of_items};
+ghost use Rattle.jj_walks.specs.DfsOkSteps.{CanWalkItems, StartsWalk};
+ghost use Rattle.jj_walks.specs.DfsSteps.{CanWalk, IsLeftOf};
 
 use crate::next_item::next_item;
 use crate::sources::items_of;
@@ -25,7 +25,7 @@ pub struct DepthFirst<T, ID: Hash + Eq, F, N> {
 impl<T: Drop, ID: Hash + Eq + Drop, NI, F, N> Iterator for DepthFirst<T, ID, F, N>
 where
     NI: IntoIterator<Item = T, IntoIter: Drop>,
-    F: Fn(&T) -> ID,
+    F: Fn(&T) -> Result<ID, AllocError>,
     N: FnMut(&T) -> NI,
 {
     type Item = Result<T, AllocError>;
@@ -69,12 +69,18 @@ pub fn dfs<T: Drop, ID: Hash + Eq + Drop, II, NI, F, N>(
 where
     II: IntoIterator<Item = T, IntoIter: Drop>,
     NI: IntoIterator<Item = T, IntoIter: Drop>,
-    F: Fn(&T) -> ID + Drop,
+    F: Fn(&T) -> Result<ID, AllocError> + Drop,
     N: FnMut(&T) -> NI + Drop,
-    requires graph { CanShow F.Fn N.FnMut NI.IntoIterator NI.IntoIter.Iterator id_fn neighbors_fn }
-    requires start { Ends II.IntoIterator II.IntoIter.Iterator start }
-    ensures { IfOk result (StartsWalk ID.eq F.Fn N.FnMut II.IntoIterator II.IntoIter.Iterator
-        NI.IntoIterator NI.IntoIter.Iterator id_fn neighbors_fn start) }
+    requires graph { (graph_of ID.eq F.Fn {E = AllocError} N.FnMut NI.IntoIterator
+        NI.IntoIter.Iterator id_fn neighbors_fn).walkable }
+    requires start { (list_of {E = AllocError} II.IntoIterator II.IntoIter.Iterator start).finite }
+    ensures can_walk { IfOk result (CanWalk F.Fn N.FnMut NI.into_iter_gives NI.IntoIter.can_next
+        NI.IntoIter.remaining) }
+    ensures walk { IfOk result (λ it. InEachModel {E = AllocError}
+        (graph_of ID.eq F.Fn N.FnMut NI.IntoIterator NI.IntoIter.Iterator id_fn neighbors_fn)
+        (list_of II.IntoIterator II.IntoIter.Iterator start)
+        (λ g starts. IsLeftOf F.Fn N.FnMut g ID.eq NI.into_iter_gives NI.IntoIter.next_gives
+        starts [] it)) }
 {
     let work = items_of(alloc, start)?;
     Ok(DepthFirst {
@@ -97,14 +103,14 @@ pub struct DepthFirstOk<T, ID: Hash + Eq, E, F, N> {
 impl<T: Drop, ID: Hash + Eq + Drop, E: Drop, NI, F, N> Iterator for DepthFirstOk<T, ID, E, F, N>
 where
     NI: IntoIterator<Item = Result<T, E>, IntoIter: Drop>,
-    F: Fn(&T) -> ID,
+    F: Fn(&T) -> Result<ID, AllocError>,
     N: FnMut(&T) -> NI,
 {
     type Item = Result<T, WalkError<E>>;
 
-    ghost use Rattle.jj_walks.specs.DfsOkSteps.{CanWalk, Steps, items_left};
+    ghost use Rattle.jj_walks.specs.DfsOkSteps.{CanWalkItems, Steps, items_left};
 
-    ghost can_next = { λ s. CanWalk F.Fn N.FnMut NI.into_iter_gives
+    ghost can_next = { λ s. CanWalkItems F.Fn N.FnMut NI.into_iter_gives
         NI.IntoIter.can_next NI.IntoIter.remaining s };
 
     ghost next_gives = { λ s r t.
@@ -135,12 +141,15 @@ pub fn dfs_ok<T: Drop, ID: Hash + Eq + Drop, E: Drop, II, NI, F, N>(
 where
     II: IntoIterator<Item = Result<T, E>, IntoIter: Drop>,
     NI: IntoIterator<Item = Result<T, E>, IntoIter: Drop>,
-    F: Fn(&T) -> ID + Drop,
+    F: Fn(&T) -> Result<ID, AllocError> + Drop,
     N: FnMut(&T) -> NI + Drop,
-    requires graph { CanShow F.Fn N.FnMut NI.IntoIterator NI.IntoIter.Iterator id_fn neighbors_fn }
-    requires start { Ends II.IntoIterator II.IntoIter.Iterator start }
-    ensures { IfOk result (StartsWalkOfItems ID.eq F.Fn N.FnMut II.IntoIterator
-        II.IntoIter.Iterator NI.IntoIterator NI.IntoIter.Iterator id_fn neighbors_fn start) }
+    requires graph { (graph_of_items ID.eq F.Fn N.FnMut NI.IntoIterator NI.IntoIter.Iterator
+        id_fn neighbors_fn).walkable }
+    requires start { (list_of_items II.IntoIterator II.IntoIter.Iterator start).finite }
+    ensures can_walk { IfOk result (CanWalkItems F.Fn N.FnMut NI.into_iter_gives
+        NI.IntoIter.can_next NI.IntoIter.remaining) }
+    ensures walk { IfOk result (StartsWalk F.Fn N.FnMut ID.eq NI.into_iter_gives
+        NI.IntoIter.next_gives II.IntoIterator II.IntoIter.Iterator id_fn neighbors_fn start) }
 {
     let work = items_of(alloc, start)?;
     Ok(DepthFirstOk {

@@ -5,9 +5,12 @@ use Rattle.jj_walks.proofs.depth_first.dfs.Goals as goal
 pub returns : goal.returns
 returns g c = record {
   can_walk = record { id_fn = c.requires.graph.id_fn; neighbors_fn = c.requires.graph.neighbors_fn; ends = c.requires.graph.lists };
-  left = (
-    c.in_ok-work.work.items,
-    c.in_ok-work.ensures,
-    λ walk shown nodes. record { shown = shown; walking = walking_starts walk c.in_ok-work.work.items c.in_ok-work.work.items [] nodes refl refl (λ i. rw c.new.ensures.empty refl) },
-  );
+  walk = record {
+    starts = c.in_ok-work.work.items;
+    yielded = c.in_ok-work.ensures;
+    holds = λ walk implemented nodes. record {
+      implemented = implemented;
+      walking = walking_starts walk c.in_ok-work.work.items c.in_ok-work.work.items [] nodes refl refl (λ i. rw c.new.ensures.empty refl);
+    };
+  };
 }
