@@ -13,6 +13,7 @@ pub mod Branches
 pub mod HeldNodes
 pub mod GroupedSteps
 pub mod GroupedOrders
+pub mod GroupedLaw
 pub mod Started
 pub mod NextChunk
 pub mod Reversing

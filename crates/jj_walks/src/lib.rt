@@ -11,6 +11,7 @@ mod entering;
 pub mod graph;
 mod grouped;
 mod held_nodes;
+pub mod laws;
 mod lazy_plan;
 mod lists;
 mod look_ahead;
