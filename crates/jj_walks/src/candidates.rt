@@ -14,7 +14,7 @@ use std::collections::{HashMap, VecDeque};
 use std::hash::Hash;
 
 /// Ids to be given, and the children that are to be given before them.
-#[derive(Drop)]
+#[derive(Debug, Clone, Drop)]
 pub struct Candidates<ID: Hash + Eq> {
     /// The last of them is the first to be given, if it has no held child.
     ids: Vec<ID>,

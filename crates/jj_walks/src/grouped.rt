@@ -33,7 +33,7 @@ pub enum GroupedGraphError<E> {
 
 /// The nodes of an input in which each node stands before its parents, in an order that keeps
 /// branches together.
-#[derive(Drop)]
+#[derive(Debug, Clone, Drop)]
 pub struct TopoGroupedGraph<N, ID: Hash + Eq, S, F> {
     input: S,
     as_id: F,

@@ -14,7 +14,7 @@ use std::collections::HashMap;
 use std::hash::Hash;
 
 /// The nodes that are held, and what is known of the ids that are held or wanted.
-#[derive(Drop)]
+#[derive(Debug, Clone, Drop)]
 pub struct HeldNodes<N, ID: Hash + Eq> {
     nodes: HashMap<ID, GraphNode<N, ID>>,
     /// For each id that is held or wanted, how many edges of held nodes lead to it.
