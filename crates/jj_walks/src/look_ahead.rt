@@ -9,7 +9,7 @@ ghost use Rattle.jj_dag.specs.Owed.{CanShow};
 use jj_dag::greatest_order::Collected;
 use jj_dag::shown::{Shown, ids_of};
 use jj_dag::walk_error::WalkError;
-use std::alloc::Global;
+use std::alloc::{AllocError, Global};
 use std::collections::BinaryHeap;
 use std::hash::Hash;
 
@@ -50,7 +50,7 @@ fn explore<F, N, T: Ord + Drop, ID: Hash + Eq + Drop, E: Drop, NI>(
 ) -> Result<(Collected<T, ID>, Vec<T>), WalkError<E>>
 where
     NI: IntoIterator<Item = Result<T, E>, IntoIter: Drop>,
-    F: Fn(&T) -> ID,
+    F: Fn(&T) -> Result<ID, AllocError>,
     N: FnMut(&T) -> NI,
     requires { CanShow F.Fn N.FnMut NI.IntoIterator NI.IntoIter.Iterator shown.old.id_fn
         shown.old.neighbors_fn }
@@ -61,7 +61,7 @@ where
     let mut found = Collected::new(alloc);
     let mut root_met = false;
     while let Some(node) = next_to_explore(&mut waiting, found.nodes.len(), root_met) {
-        let id = (shown.id_fn)(&node);
+        let id = (shown.id_fn)(&node)?;
         if found.index_of.contains_key(&id) {
             continue;
         }
@@ -86,7 +86,7 @@ pub fn take_chunk<F, N, T: Ord + Drop, ID: Hash + Eq + Drop, E: Drop, NI>(
 ) -> Result<Chunk<T>, WalkError<E>>
 where
     NI: IntoIterator<Item = Result<T, E>, IntoIter: Drop>,
-    F: Fn(&T) -> ID,
+    F: Fn(&T) -> Result<ID, AllocError>,
     N: FnMut(&T) -> NI,
     requires { CanShow F.Fn N.FnMut NI.IntoIterator NI.IntoIter.Iterator shown.old.id_fn
         shown.old.neighbors_fn }

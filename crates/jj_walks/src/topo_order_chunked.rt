@@ -1,12 +1,15 @@
 //! A child-first order, a chunk at a time.
-ghost use Rattle.jj_walks.specs.NextChunk.{FindsNextChunk};
-ghost use Rattle.jj_dag.specs.Owed.{CanShow};
+ghost use Rattle.std.specs.Prelude.{◌≡◌, ◌⊎◌, [], map, IfOk, OnErr};
+ghost use Rattle.jj_dag.specs.ClosureGraph.{InEachModel, IsMadeFrom, IsNeighborsError, graph_of_items};
+ghost use Rattle.jj_dag.specs.Outcomes.{IfFails, IsReachedBesideCycle};
+ghost use Rattle.jj_walks.specs.Chunks.{IsNextChunk};
+ghost use Rattle.jj_walks.specs.NextChunk.{list_of_nodes};
 
 use crate::look_ahead::{Chunk, take_chunk};
 use jj_dag::shown::Shown;
 use jj_dag::walk_error::WalkError;
 use smallvec::SmallVec;
-use std::alloc::Global;
+use std::alloc::{AllocError, Global};
 use std::default::MadeWith;
 use std::hash::Hash;
 use std::mem;
@@ -27,13 +30,24 @@ pub fn topo_order_reverse_chunked<T, ID: Hash + Eq + Drop, E: Drop, NI, F, N, C>
 where
     T: Ord + MadeWith<Global> + Drop,
     NI: IntoIterator<Item = Result<T, E>, IntoIter: Drop>,
-    F: Fn(&T) -> ID + Drop,
+    F: Fn(&T) -> Result<ID, AllocError> + Drop,
     N: FnMut(&T) -> NI + Drop,
     C: FnOnce(T) -> E + Drop,
-    requires graph { CanShow F.Fn N.FnMut NI.IntoIterator NI.IntoIter.Iterator id_fn neighbors_fn }
+    requires graph { (graph_of_items ID.eq F.Fn N.FnMut NI.IntoIterator NI.IntoIter.Iterator id_fn
+        neighbors_fn).walkable }
     requires cycle_fn { C.IsAlwaysCallable cycle_fn }
-    ensures { FindsNextChunk ID.eq F.Fn N.FnMut NI.IntoIterator NI.IntoIter.Iterator id_fn
-        neighbors_fn (C.post cycle_fn) start.old.items start.new.items result (λ v. v.items) }
+    ensures chunk { IfOk result (λ chunk. InEachModel
+        (graph_of_items ID.eq F.Fn N.FnMut NI.IntoIterator NI.IntoIter.Iterator id_fn neighbors_fn)
+        (list_of_nodes start.old.items)
+        (λ g starts. IsNextChunk g.graph starts (map g.node chunk.items)
+        (map g.node start.new.items))) }
+    ensures error { IfFails result (λ e. IsNeighborsError
+        (graph_of_items ID.eq F.Fn N.FnMut NI.IntoIterator NI.IntoIter.Iterator id_fn neighbors_fn)
+        (list_of_nodes start.old.items) e
+        ⊎ IsMadeFrom (C.post cycle_fn) IsReachedBesideCycle
+        (graph_of_items ID.eq F.Fn N.FnMut NI.IntoIterator NI.IntoIter.Iterator id_fn neighbors_fn)
+        (list_of_nodes start.old.items) e) }
+    ensures ended { OnErr result (start.new.items ≡ []) }
 {
     let mut graph = Shown {
         id_fn,

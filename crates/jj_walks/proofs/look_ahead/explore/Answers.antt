@@ -5,12 +5,14 @@ use Rattle.std.specs.BinaryHeap.{heap_items}
 use Rattle.std.specs.HashMap.{get}
 use Rattle.jj_dag.proofs.Collecting.{are_nodes, some_of, top_reached}
 use Rattle.jj_dag.proofs.Errors.{node_weaker}
-use Rattle.jj_dag.proofs.Asking.{failed_below, filled_more, goes_on-more, goes_on-none, ids_told}
+use Rattle.jj_dag.specs.Asking.{whole}
+use Rattle.jj_dag.proofs.Asking.{fails_before, filled_more, goes_on-more, goes_on-none, ids_told, whole_listed}
+use Rattle.jj_dag.proofs.ClosureGraphs.{returns_id}
+use Rattle.jj_dag.proofs.Wrapped.{all_sound}
 use Rattle.jj_walks.proofs.LookingAhead.{looked, looking_entered, looking_passed, looking_starts, some_edge, top_collecting}
 use Rattle.jj_dag.proofs.Plain.{neither}
 use Rattle.jj_dag.proofs.Starts.{of_collected}
 use Rattle.jj_dag.proofs.TakingReady.{none_is}
-use Rattle.jj_dag.proofs.Walking.{returned}
 use Rattle.jj_walks.proofs.look_ahead.explore.Goals as goal
 
 pub loop-node-init : goal.loop-node-init
@@ -18,7 +20,7 @@ loop-node-init g c = record {
   graph = goes_on-none g.ID.PartialEq.eq g.F.Fn g.N.FnMut g.NI.IntoIterator g.NI.IntoIter.Iterator _ c.requires;
   found = (
     record { given = []; nodes = c.new-found.ensures.nodes; ids = ap length c.new-found.ensures.ids; places = λ i k found. let none = rw (c.new-found.ensures.places i) at found in absurd cc },
-    λ walk items shown nodes. looking_starts walk items c.args.start.items (heap_items c.from-waiting.result) [] (map (λ v. v.items) c.new-found.result.neighbor_ids.items) _
+    λ walk implemented nodes. looking_starts walk (whole walk) c.args.start.items (heap_items c.from-waiting.result) [] (map (λ v. v.items) c.new-found.result.neighbor_ids.items) _
         c.from-waiting.ensures.1 refl (ap (map (λ v. v.items)) c.new-found.ensures.ids) c.new-found.ensures.places,
   );
 }
@@ -34,22 +36,22 @@ loop-node-preserved-then-contains_key g c =
     let before = c.loop-node.invariant in
     let node = c.in-Some.node in
     let rest = heap_items c.next_to_explore.new.waiting in
-    let found = some_of (get g.ID.PartialEq.eq c.loop-node.found.index_of c.id_fn-id.result) c.if-contains_key.ensures in
+    let found = some_of (get g.ID.PartialEq.eq c.loop-node.found.index_of c.in_ok-id.id) c.if-contains_key.ensures in
     record {
       graph = before.graph;
-      found = of_collected before.found (λ from walk items shown nodes.
-          let known = from walk items shown nodes in
-          let is = are_nodes walk items (map walk.node c.args.start.items) shown.closed nodes _ (top_reached walk items rest node (top_collecting walk items rest node known c.in-Some.ensures.taken) refl) in
-          looking_passed walk items rest node c.id_fn-id.result known c.in-Some.ensures.taken is (shown.ids_stand node c.id_fn-id.result is (rw before.graph.id_fn at (returned g.F.Fn c.id_fn-id.ensures))) found.0 found.1);
+      found = of_collected before.found (λ from walk implemented nodes.
+          let known = from walk implemented nodes in
+          let is = are_nodes walk (whole walk) (map walk.node c.args.start.items) implemented.closed nodes _ (top_reached walk (whole walk) rest node (top_collecting walk (whole walk) rest node known c.in-Some.ensures.taken) refl) in
+          looking_passed walk (whole walk) rest node c.in_ok-id.id known c.in-Some.ensures.taken is (implemented.ids_match node c.in_ok-id.id is (rw before.graph.id_fn at (returns_id g.F.Fn c.id_fn.ensures c.in_ok-id.was))) found.0 found.1);
     }
 
 pub loop-node-preserved : goal.loop-node-preserved
 loop-node-preserved g c =
     let before = c.loop-node.invariant in
     let node = c.in-Some.node in
-    let id = c.id_fn-id.result in
+    let id = c.in_ok-id.id in
     let rest = heap_items c.next_to_explore.new.waiting in
-    let told = rw before.graph.id_fn at (returned g.F.Fn c.id_fn-id.ensures) in
+    let told = rw before.graph.id_fn at (returns_id g.F.Fn c.id_fn.ensures c.in_ok-id.was) in
     let below = c.in-Ok.neighbors.items in
     let missed = none_is (get g.ID.PartialEq.eq c.loop-node.found.index_of id) (sym c.if-contains_key.ensures) in
     let more = filled_more g.ID.PartialEq.eq c.loop-node.found c.keep.new.self node id c.in_ok-ids.ids before.found.0 c.in_ok-keep.ensures.nodes c.in_ok-keep.ensures.ids c.in_ok-keep.ensures.places in
@@ -59,28 +61,29 @@ loop-node-preserved g c =
     let waits = IsPermutation-trans _ _ _ (IsPermutation-append_right rest below (heap_items c.from.result) c.from.ensures.1) c.in_ok-append.ensures.permutation in
     record {
       graph = graph;
-      found = of_collected more (λ given walk items shown nodes.
-          let known = before.found.1 walk items shown nodes in
-          let is = are_nodes walk items (map walk.node c.args.start.items) shown.closed nodes _ (top_reached walk items rest node (top_collecting walk items rest node known c.in-Some.ensures.taken) refl) in
-          let listed = c.in-Ok.ensures.listed walk items (rw before.graph.id_fn (before.graph.shown walk items shown)) is in
-          let same_ids = ids_told walk _ (rw (← graph.id_fn) at shown.ids_stand) below c.in_ok-ids.ids.items (rw c.deref.ensures.value at c.in_ok-ids.ensures) (λ b h. shown.closed (walk.node node) is b (rw listed.0 at h)) in
-          looking_entered walk items g.ID.PartialEq.eq _ _ rest node id below _ _ c.in_ok-ids.ids.items _ (length c.loop-node.found.nodes.items)
-          shown.sound_graph shown.closed shown.apart known c.in-Some.ensures.taken is (shown.ids_stand node id is told) missed
-          listed.1 listed.0 same_ids waits given (ap (map (λ v. v.items)) c.in_ok-keep.ensures.ids ∙ map_push (λ v. v.items) c.loop-node.found.neighbor_ids.items c.in_ok-ids.ids)
+      found = of_collected more (λ given walk implemented nodes.
+          let known = before.found.1 walk implemented nodes in
+          let is = are_nodes walk (whole walk) (map walk.node c.args.start.items) implemented.closed nodes _ (top_reached walk (whole walk) rest node (top_collecting walk (whole walk) rest node known c.in-Some.ensures.taken) refl) in
+          let listed = c.in-Ok.ensures.listed walk (rw before.graph.id_fn (before.graph.implemented walk implemented)) is in
+          let same_ids = ids_told walk _ (rw (← graph.id_fn) at implemented.ids_match) below c.in_ok-ids.ids.items (rw c.deref.ensures.value at c.in_ok-ids.ensures) (λ b h. implemented.closed (walk.node node) is b (rw listed at h)) in
+          looking_entered walk (whole walk) g.ID.PartialEq.eq _ _ rest node id below _ _ c.in_ok-ids.ids.items _ (length c.loop-node.found.nodes.items)
+          (λ a. all_sound _ (walk.graph a)) implemented.closed implemented.apart known c.in-Some.ensures.taken is (implemented.ids_match node id is told) missed
+          (whole_listed walk (walk.node node) below listed) listed same_ids waits given (ap (map (λ v. v.items)) c.in_ok-keep.ensures.ids ∙ map_push (λ v. v.items) c.loop-node.found.neighbor_ids.items c.in_ok-ids.ids)
           (ap length before.found.0.nodes ∙ length-map before.found.0.given (λ x. Some x)) c.in_ok-keep.ensures.places
-          (λ f. let both = neither c.loop-node.root_met c.is_empty-root_met.result f in (both.0, some_edge walk.node walk.id c.in_ok-ids.ids.items below (walk.graph (walk.node node)) c.in_ok-ids.ids.len same_ids listed.0 count (sym c.is_empty-root_met.ensures ∙ both.1))));
+          (λ f. let both = neither c.loop-node.root_met c.is_empty-root_met.result f in (both.0, some_edge walk.node walk.id c.in_ok-ids.ids.items below (walk.graph (walk.node node)) c.in_ok-ids.ids.len same_ids listed count (sym c.is_empty-root_met.ensures ∙ both.1))));
     }
 
 pub returns-in-Err : goal.returns-in-Err
 returns-in-Err g c = record {
   graph = goes_on-more g.ID.PartialEq.eq g.F.Fn g.N.FnMut g.NI.IntoIterator g.NI.IntoIter.Iterator c.args.shown.now c.loop-node.shown c.neighbors.new.self c.loop-node.invariant.graph c.neighbors.ensures.graph;
   explored = tt;
-  failed = node_weaker c.in-Err.refused _ _ (λ error failure. λ walk items shown nodes.
+  failed = node_weaker c.in-Err.refused _ _ (λ error failure.
       let before = c.loop-node.invariant in
-      let rest = heap_items c.next_to_explore.new.waiting in
-      let reached = top_reached walk items rest c.in-Some.node (top_collecting walk items rest c.in-Some.node (before.found.1 walk items shown nodes) c.in-Some.ensures.taken) refl in
-      let is = are_nodes walk items (map walk.node c.args.start.items) shown.closed nodes _ reached in
-      failed_below walk.graph items _ _ error shown.sound_graph reached (failure walk items (rw before.graph.id_fn (before.graph.shown walk items shown)) is)) c.in-Err.ensures.failed;
+      let rest = heap_items c.next_to_explore.new.waiting in (
+        c.in-Some.node,
+        fails_before g.ID.PartialEq.eq g.F.Fn g.N.FnMut g.NI.IntoIterator g.NI.IntoIter.Iterator c.args.shown.now c.loop-node.shown before.graph c.in-Some.node error failure,
+        λ walk implemented nodes. top_reached walk (whole walk) rest c.in-Some.node (top_collecting walk (whole walk) rest c.in-Some.node (before.found.1 walk implemented nodes) c.in-Some.ensures.taken) refl,
+      )) c.in-Err.ensures.failed;
 }
 
 pub returns-in_err-ids : goal.returns-in_err-ids
@@ -118,6 +121,6 @@ returns g c = record {
             let size : c.len.result ≡ 0 = omega arith in
             left ∙ c.in_default.ensures.begun size,
         rw left c.in_default.ensures.few,
-        λ walk items shown nodes. looked walk items c.into_vec.result.items (p.1 walk items shown nodes) left c.in_default.ensures.rootless,
+        λ walk implemented nodes. looked walk (whole walk) c.into_vec.result.items (p.1 walk implemented nodes) left c.in_default.ensures.rootless,
       );
 }
