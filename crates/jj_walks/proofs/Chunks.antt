@@ -3,7 +3,7 @@ use Rattle.std.proofs.Common.{◌≡◌, ℕ, zero, suc, ◌<◌, ◌≤◌, Boo
 use Rattle.std.specs.List.{Contains, IsDistinct, filter, filter_map, cons_option}
 use Rattle.std.specs.Result.{result_ok}
 use Rattle.std.proofs.lemmas.List.{length-map}
-use Rattle.jj_walks.specs.Chunks.{IsChunkOfMany, IsNextChunk, IsStretch, NoneFailed}
+use Rattle.jj_walks.specs.Chunks.{IsChunkOfMany, IsNextChunk, IsStretch}
 use Rattle.jj_dag.specs.Collecting.{IsCollecting}
 use Rattle.jj_dag.specs.Failing.{FailingGraph, sound}
 use Rattle.jj_dag.specs.Graph.{Graph, HasEdge, Path, Reaches, StrictlyReaches, ReachedFrom, ReachesCycle, HasNoCycle, IsChildFirst}
@@ -334,9 +334,6 @@ module _ {T ID K : Type 0} (w : Numbered T ID) (items : FailingGraph K) (starts 
           (goes a b (from_order a (subst (λ (l : List ℕ). Contains l a) (sym e) (at_split front a back))) edge);
       above = λ a b h r. leads b r order [] refl a h;
     }
-
-    pub many_sound : NoneFailed items order
-    many_sound a h fault = looked.collecting.none_failed a fault (from_order a h)
 
 -- ---- the next chunk of any starts
 

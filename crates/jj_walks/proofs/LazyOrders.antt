@@ -2,10 +2,8 @@
 use Rattle.std.proofs.Common.{◌≡◌, ℕ, zero, suc, List, [], ◌∷◌, ◌++◌, refl, sym, ◌∙◌, ap, subst, inl, inr, ◌⊎◌, ⊎_elim, append_assoc, eqb}
 use Rattle.std.specs.List.{Contains, IsDistinct}
 use Rattle.std.proofs.lemmas.List.Elements.{Contains-append_left, Contains-append_right, Contains-append_cases}
-use Rattle.jj_walks.specs.Chunks.{IsStretch, IsBegun, LeadsOn, LeadsForward, NoneFailed}
-use Rattle.jj_dag.specs.Failing.{FailingGraph, HasNoFailure, sound}
+use Rattle.jj_walks.specs.Chunks.{IsStretch, IsBegun, LeadsOn, LeadsForward}
 use Rattle.jj_dag.specs.Graph.{Graph, HasEdge, Path, Reaches, StrictlyReaches, ReachedFrom, ReachesCycle, HasNoCycle, IsChildFirst}
-use Rattle.jj_dag.proofs.FailingOrders.{ReachedFrom-same}
 use Rattle.jj_dag.proofs.Reaching.{Contains-split, Contains-reached, Reaches-trans, edge_then_Reaches}
 use Rattle.jj_dag.proofs.ReadyOrders.{here, at_split, twice}
 use Rattle.jj_dag.proofs.Plain.{nothing, one_distinct, only}
@@ -101,9 +99,6 @@ one_stretch g a = record {
   above = λ b c h edge. (0, (c, subst (λ (n : ℕ). HasEdge g n c) (only a b h) edge, refl));
 }
 
-pub sound_more : {K : Type 0} (items : FailingGraph K) (order chunk : List ℕ) → NoneFailed items order → NoneFailed items chunk → NoneFailed items (order ++ chunk)
-sound_more items order chunk k l = λ a h. ⊎_elim (λ old. k a old) (λ new. l a new) (Contains-append_cases order chunk a h)
-
 -- ---- the end
 
 behind : (g : Graph) (order : List ℕ) → LeadsForward g order [] → (n : ℕ) (front back : List ℕ) (a b : ℕ) → order ≡ front ++ a ∷ back → Path g a b (suc n) → Contains back b
@@ -140,10 +135,6 @@ ended_order g starts order begun leads once = record {
       let split = Contains-split order a h in
       (split.0, split.1, split.2, behind g order leads.forward n split.0 split.1 a b split.2 path);
 }
-
-pub ended_sound : {K : Type 0} (g : Graph) (items : FailingGraph K) (starts order : List ℕ) → ((a : ℕ) → g a ≡ sound items a) → LeadsOn g starts order [] → NoneFailed items order → HasNoFailure items starts
-ended_sound g items starts order same leads none a fault r h =
-    none a (ended_all g starts order leads a (ReachedFrom-same (sound items) g (λ b. sym (same b)) starts a r)) fault h
 
 -- a node that comes again is on a cycle
 pub again_cycle : (g : Graph) (starts order front back : List ℕ) (a : ℕ) → IsBegun g starts order → order ≡ front ++ a ∷ back → Contains front a → ReachedFrom g starts a × ReachesCycle g starts

@@ -1,39 +1,44 @@
--- What a whole run of the iterator `TopoOrderReverseLazy` gave.
-use Rattle.std.proofs.Common.{◌≡◌, ℕ, Bool, false, Option, Some, Result, Ok, Err, List, [], ◌∷◌, ◌++◌, map, subst, append_assoc, append-nil}
+-- Whole runs of the iterator `TopoOrderReverseLazy`.
+use Rattle.std.proofs.Common.{◌≡◌, Bool, false, Some, Result, Ok, Err, List, [], ◌∷◌, ◌++◌, map, subst, append_assoc, append-nil}
 use Rattle.std.specs.Fn.{Shared, Mut}
-use Rattle.std.specs.Iterator.{Count, Drains, Yields}
+use Rattle.std.specs.Iterator.{Drains, Yields}
+use Rattle.std.specs.declared.alloc.AllocError.{AllocError}
+use Rattle.std.specs.declared.iter.IntoIterator as into
+use Rattle.std.specs.declared.iter.Iterator as iter
 use denote.Ref.{Bor}
 use Rattle.jj_walks.specs.declared.topo_order_lazy.TopoOrderReverseLazy.{TopoOrderReverseLazy}
 use Rattle.jj_dag.specs.declared.walk_error.WalkError.{WalkError}
+use Rattle.jj_dag.specs.Asking.{graph_at}
+use Rattle.jj_dag.specs.ClosureGraph.{InEachModel}
 use Rattle.jj_dag.specs.Errors.{IfNode}
-use Rattle.jj_dag.specs.Failing.{FailingGraph, Fault, HasNoFailure}
 use Rattle.jj_dag.specs.Graph.{HasNoCycle, IsChildFirst}
-use Rattle.jj_walks.specs.LazySteps.{IsCause, IsPlanOf, Steps}
-use Rattle.jj_dag.specs.Walk.{Numbered}
+use Rattle.jj_walks.specs.LazySteps.{IsCause, IsLeftOf, Steps}
+use Rattle.jj_walks.specs.NextChunk.{list_of_nodes}
 
-module _ {T ID E F N C U S : Type 0} (ids : Shared F (Bor T × Unit {0}) ID) (lists : Mut N (Bor T × Unit {0}) U) (cycles : Mut C (T × Unit {0}) E) (eq : ID → ID → Bool) (becomes : U → S → Type 0)
-    (steps : S → Option (Result T E) → S → Type 0) (can : S → Type 0) (left : S → Count) (w : Numbered T ID) (items : FailingGraph (Fault E)) (on_cycle : C) (starts : List ℕ) where
-  -- what is left after some nodes were given
-  pub left_after : (xs given : List T) (s t : TopoOrderReverseLazy T ID E F N C) → s.has_ended ≡ false → IsPlanOf ids lists w items eq becomes steps on_cycle starts given s.plan
-      → Yields (Steps ids lists cycles eq becomes steps can left) s (map (λ x. Ok x) xs) t → (t.has_ended ≡ false) × IsPlanOf ids lists w items eq becomes steps on_cycle starts (given ++ xs) t.plan
-  left_after [] given s t on k same = (
+module _ {T ID E F N C U J : Type 0} (eq : ID → ID → Bool) (ids : Shared F (Bor T × Unit {0}) (Result ID AllocError)) (lists : Mut N (Bor T × Unit {0}) U) (value : into.Ghosts U (Result T E) J) (items : iter.Ghosts J (Result T E))
+    (cycles : Mut C (T × Unit {0}) E) {id_fn : F} {neighbors_fn : N} {on_cycle : C} {starts : List T} where
+  -- the rest of the order after more nodes were yielded
+  pub left_after : (xs yielded : List T) (s t : TopoOrderReverseLazy T ID E F N C) → s.has_ended ≡ false → IsLeftOf eq ids lists value items id_fn neighbors_fn on_cycle starts yielded s.order
+      → Yields (Steps eq ids lists value items cycles) s (map (λ x. Ok x) xs) t → (t.has_ended ≡ false) × IsLeftOf eq ids lists value items id_fn neighbors_fn on_cycle starts (yielded ++ xs) t.order
+  left_after [] yielded s t on k same = (
     subst (λ (v : TopoOrderReverseLazy T ID E F N C). v.has_ended ≡ false) same on,
-    rw append-nil (subst (λ (v : TopoOrderReverseLazy T ID E F N C). IsPlanOf ids lists w items eq becomes steps on_cycle starts given v.plan) same k),
+    rw append-nil (subst (λ (v : TopoOrderReverseLazy T ID E F N C). IsLeftOf eq ids lists value items id_fn neighbors_fn on_cycle starts yielded v.order) same k),
   )
-  left_after (x ∷ xs) given s t on k (j, step, rest) =
-      let more = left_after xs (given ++ x ∷ []) j t step.ends (step.gives on w items on_cycle starts given k) rest in
-      (more.0, subst (λ (l : List T). IsPlanOf ids lists w items eq becomes steps on_cycle starts l t.plan) (append_assoc given (x ∷ []) xs) more.1)
+  left_after (x ∷ xs) yielded s t on k (j, step, rest) =
+      let more = left_after xs (yielded ++ x ∷ []) j t step.ends (step.yields on id_fn neighbors_fn on_cycle starts yielded k) rest in
+      (more.0, subst (λ (l : List T). IsLeftOf eq ids lists value items id_fn neighbors_fn on_cycle starts l t.order) (append_assoc yielded (x ∷ []) xs) more.1)
 
-  -- a run that ended gave the order, and the starts reach no cycle and no failed item
-  pub IsChildFirst-from_drains : (xs : List T) (s : TopoOrderReverseLazy T ID E F N C) → s.has_ended ≡ false → IsPlanOf ids lists w items eq becomes steps on_cycle starts [] s.plan
-      → Drains (Steps ids lists cycles eq becomes steps can left) s (map (λ x. Ok x) xs) → IsChildFirst w.graph starts (map w.node xs) × HasNoCycle w.graph starts × HasNoFailure items starts
+  -- a complete run yields a topological order of each model, in which the starts reach no cycle
+  pub IsChildFirst-from_drains : (xs : List T) (s : TopoOrderReverseLazy T ID E F N C) → s.has_ended ≡ false → IsLeftOf eq ids lists value items id_fn neighbors_fn on_cycle starts [] s.order
+      → Drains (Steps eq ids lists value items cycles) s (map (λ x. Ok x) xs)
+      → InEachModel (graph_at eq ids lists value items id_fn neighbors_fn) (list_of_nodes starts) (λ g nodes. IsChildFirst g.graph nodes (map g.node xs) × HasNoCycle g.graph nodes)
   IsChildFirst-from_drains xs s on k (u, (t, run, last)) =
       let after = left_after xs [] s t on k run in
-      last.gives after.0 w items on_cycle starts xs after.1
+      last.yields after.0 id_fn neighbors_fn on_cycle starts xs after.1
 
-  -- and the error of one that did not has a cause
-  pub IsCause-from_yields : (xs : List T) (refused : WalkError E) (s t u : TopoOrderReverseLazy T ID E F N C) → s.has_ended ≡ false → IsPlanOf ids lists w items eq becomes steps on_cycle starts [] s.plan
-      → Yields (Steps ids lists cycles eq becomes steps can left) s (map (λ x. Ok x) xs) t → Steps ids lists cycles eq becomes steps can left t (Some (Err refused)) u → IfNode refused (IsCause cycles w items on_cycle starts)
+  -- the error of another run has a cause
+  pub IsCause-from_yields : (xs : List T) (refused : WalkError E) (s t u : TopoOrderReverseLazy T ID E F N C) → s.has_ended ≡ false → IsLeftOf eq ids lists value items id_fn neighbors_fn on_cycle starts [] s.order
+      → Yields (Steps eq ids lists value items cycles) s (map (λ x. Ok x) xs) t → Steps eq ids lists value items cycles t (Some (Err refused)) u → IfNode refused (IsCause eq ids lists value items cycles id_fn neighbors_fn on_cycle starts)
   IsCause-from_yields xs refused s t u on k run last =
       let after = left_after xs [] s t on k run in
-      last.gives after.0 w items on_cycle starts xs after.1
+      last.yields after.0 id_fn neighbors_fn on_cycle starts xs after.1

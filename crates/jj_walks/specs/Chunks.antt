@@ -2,9 +2,7 @@
 -- over the others.
 -- Cited by contracts of public items through LazySteps, NextChunk.
 use Rattle.std.specs.Prelude.{◌≡◌, ◌↔◌, ◌⊎◌, ℕ, ◌≤◌, List, [], ◌∷◌, ◌++◌, length, eqb}
-use Rattle.std.specs.declared.result.Result.TheVariants.{Err}
 use Rattle.std.specs.List.{Contains, IsDistinct}
-use Rattle.jj_dag.specs.Failing.{FailingGraph}
 use Rattle.jj_dag.specs.Graph.{Graph, HasEdge, ReachedFrom, HasNoCycle, StrictlyReaches, StandsBefore}
 
 -- The chunk has no node twice, and what the starts reach is the chunk and what is reached from what
@@ -49,11 +47,6 @@ pub record IsStretch (g : Graph) (starts chunk left : List ℕ) : Type 0 where
   pub reached : (a : ℕ) → Contains chunk a ⊎ Contains left a → ReachedFrom g starts a
   pub forward : LeadsForward g chunk left
   pub above : AreAbove g chunk left
-
--- none of these nodes has a failed item
-abbrev pub NoneFailed : {K : Type 0} → FailingGraph K → List ℕ → Type 0
-NoneFailed {K} items ns = (a : ℕ) → Contains ns a → (fault : K) → Contains (items a) (Err fault)
-    → ⊥
 
 -- the nodes that were ordered so far are reached from the starts, and one that stands there twice
 -- strictly reaches itself

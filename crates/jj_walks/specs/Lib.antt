@@ -14,7 +14,6 @@ pub mod HeldNodes
 pub mod GroupedSteps
 pub mod GroupedOrders
 pub mod GroupedLaw
-pub mod Started
 pub mod NextChunk
 pub mod Reversing
 pub mod Exploring

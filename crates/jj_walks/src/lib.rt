@@ -12,7 +12,7 @@ pub mod graph;
 mod grouped;
 mod held_nodes;
 pub mod laws;
-mod lazy_plan;
+mod lazy_order;
 mod lists;
 mod look_ahead;
 mod next_item;

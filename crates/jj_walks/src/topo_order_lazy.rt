@@ -1,22 +1,21 @@
-//! A child-first order whose nodes come as they are asked for.
+//! A lazily produced topological order, each node before its neighbours.
 ghost use Rattle.std.specs.Prelude.{IfOk};
 ghost use Rattle.std.specs.Iterator.{at_most};
-ghost use Rattle.jj_dag.specs.Outcomes.{Ends};
-ghost use Rattle.jj_dag.specs.Owed.{CanShow};
-ghost use Rattle.jj_walks.specs.Started.{StartsOrder};
+ghost use Rattle.jj_dag.specs.ClosureGraph.{graph_of_items, list_of_items};
+ghost use Rattle.jj_walks.specs.LazySteps.{StartsOrder};
 
 use crate::ended::item_or_end;
-use crate::lazy_plan::Plan;
+use crate::lazy_order::LazyOrder;
 use jj_dag::shown::Shown;
 use jj_dag::walk_error::WalkError;
 use std::alloc::{AllocError, Global};
 use std::collections::HashSet;
 use std::hash::Hash;
 
-/// The nodes of a child-first order, as they are asked for. It ends after its first error.
+/// Iterates over the nodes of a topological order. It ends after its first error.
 #[derive(Drop)]
 pub struct TopoOrderReverseLazy<T, ID: Hash + Eq, E, F, N, C> {
-    plan: Plan<T, ID, E, F, N, C>,
+    order: LazyOrder<T, ID, E, F, N, C>,
     has_ended: bool,
 }
 
@@ -26,7 +25,7 @@ where
     ID: Hash + Eq + Drop,
     E: Drop,
     NI: IntoIterator<Item = Result<T, E>, IntoIter: Drop>,
-    F: Fn(&T) -> ID,
+    F: Fn(&T) -> Result<ID, AllocError>,
     N: FnMut(&T) -> NI,
     C: FnMut(T) -> E,
 {
@@ -35,11 +34,11 @@ where
     ghost use Rattle.std.specs.Prelude.{◌≡◌, false};
     ghost use Rattle.jj_walks.specs.LazySteps.{CanGo, Steps, items_left};
 
-    ghost can_next = { λ s. s.has_ended ≡ false → CanGo F.Fn N.FnMut C.FnMut NI.into_iter_gives
-        NI.IntoIter.can_next NI.IntoIter.remaining s.plan };
+    ghost can_next = { λ s. s.has_ended ≡ false → CanGo ID.eq F.Fn N.FnMut NI.IntoIterator
+        NI.IntoIter.Iterator C.FnMut s.order };
 
-    ghost next_gives = { λ s r t. Steps F.Fn N.FnMut C.FnMut ID.eq NI.into_iter_gives
-        NI.IntoIter.next_gives NI.IntoIter.can_next NI.IntoIter.remaining s r t };
+    ghost next_gives = { λ s r t. Steps ID.eq F.Fn N.FnMut NI.IntoIterator NI.IntoIter.Iterator
+        C.FnMut s r t };
 
     ghost remaining = { λ s. at_most (items_left s) };
 
@@ -47,14 +46,14 @@ where
         if self.has_ended {
             return None;
         }
-        item_or_end(self.plan.next_node(), &mut self.has_ended)
+        item_or_end(self.order.next_node(), &mut self.has_ended)
     }
 }
 
-/// The nodes that the starts reach, each before its neighbours, as they are asked for. Where
-/// several starts are left, they are explored from the greatest node on, until one node waits that
-/// all explored nodes reach. A failed start or neighbour that is met is `Node` of its error; where
-/// a cycle is met, `cycle_fn` makes the error of a node that the starts reach.
+/// Iterates over the nodes that the starts reach, each before its neighbours. While several nodes
+/// are left, the greatest is expanded, until only one is left, which all expanded nodes reach. Fails
+/// with `Node` of the error of a start or a neighbour, or of what `cycle_fn` makes of a node that the
+/// starts reach if they reach a cycle.
 pub fn topo_order_reverse_lazy<T: Ord + Drop, ID: Hash + Eq + Drop, E: Drop, II, NI, F, N, C>(
     alloc: Global,
     start: II,
@@ -65,15 +64,16 @@ pub fn topo_order_reverse_lazy<T: Ord + Drop, ID: Hash + Eq + Drop, E: Drop, II,
 where
     II: IntoIterator<Item = Result<T, E>, IntoIter: Drop>,
     NI: IntoIterator<Item = Result<T, E>, IntoIter: Drop>,
-    F: Fn(&T) -> ID + Drop,
+    F: Fn(&T) -> Result<ID, AllocError> + Drop,
     N: FnMut(&T) -> NI + Drop,
     C: FnMut(T) -> E + Drop,
-    requires graph { CanShow F.Fn N.FnMut NI.IntoIterator NI.IntoIter.Iterator id_fn neighbors_fn }
+    requires graph { (graph_of_items ID.eq F.Fn N.FnMut NI.IntoIterator NI.IntoIter.Iterator id_fn
+        neighbors_fn).walkable }
     requires cycle_fn { C.IsAlwaysCallable cycle_fn }
-    requires start { Ends II.IntoIterator II.IntoIter.Iterator start }
-    ensures { IfOk result (StartsOrder ID.eq F.Fn N.FnMut C.FnMut II.IntoIterator
-        II.IntoIter.Iterator NI.IntoIterator NI.IntoIter.Iterator id_fn neighbors_fn cycle_fn
-        start) }
+    requires start { (list_of_items II.IntoIterator II.IntoIter.Iterator start).finite }
+    ensures { IfOk result (StartsOrder ID.eq F.Fn N.FnMut NI.IntoIterator NI.IntoIter.Iterator
+        C.FnMut (list_of_items II.IntoIterator II.IntoIter.Iterator start) id_fn neighbors_fn
+        cycle_fn) }
 {
     let mut nodes = Vec::new(alloc);
     let mut failed = None;
@@ -87,7 +87,7 @@ where
             }
         }
     }
-    let plan = Plan {
+    let order = LazyOrder {
         alloc,
         graph: Shown {
             id_fn,
@@ -100,7 +100,7 @@ where
         failed,
     };
     Ok(TopoOrderReverseLazy {
-        plan,
+        order,
         has_ended: false,
     })
 }

@@ -1,54 +1,55 @@
-//! What is left of a child-first order whose nodes come as they are asked for.
+//! State of a lazily produced topological order, each node before its neighbours.
 ghost use Rattle.std.specs.Prelude.{◌≡◌, ◌+◌, ◌<◌, ◌^◌, ◌++◌, ◌∷◌, length, [], None, Some, Err, IfOk, IfErr, IsSome, OnOk};
 ghost use Rattle.std.specs.HashSet.{hash_set_len};
 ghost use Rattle.jj_dag.specs.declared.walk_error.WalkError.TheVariants.{Memory, Node};
 ghost use Rattle.jj_dag.specs.Errors.{IfNode};
 ghost use Rattle.jj_walks.specs.GroupedSteps.{answer_of};
-ghost use Rattle.jj_walks.specs.LazySteps.{CanGo, FailsNext, GivesOn, Refills, TellsCause};
+ghost use Rattle.jj_walks.specs.LazySteps.{CanGo, FailsNext, HasCause, Refills, YieldsOn};
 
 use crate::look_ahead::{Chunk, take_chunk};
 use jj_dag::shown::Shown;
 use jj_dag::walk_error::WalkError;
-use std::alloc::Global;
+use std::alloc::{AllocError, Global};
 use std::collections::HashSet;
 use std::hash::Hash;
 use std::mem;
 
-/// What is left of a child-first order: the nodes that come next, the first of them last; the
-/// starts of what was not explored; the ids of the nodes that were given; and the error of a failed
-/// item, which comes after the nodes.
+/// The rest of a topological order.
 #[derive(Drop)]
-pub struct Plan<T, ID: Hash + Eq, E, F, N, C> {
+pub struct LazyOrder<T, ID: Hash + Eq, E, F, N, C> {
     pub alloc: Global,
     pub graph: Shown<F, N>,
     pub cycle_fn: C,
+    /// The nodes that come next, in reverse.
     pub ready: Vec<T>,
+    /// The nodes from which the order goes on.
     pub start: Vec<T>,
+    /// The ids of the nodes that were yielded.
     pub emitted: HashSet<ID>,
+    /// The error that comes after the ready nodes.
     pub failed: Option<E>,
 }
 
-impl<T: Ord + Drop, ID: Hash + Eq + Drop, E: Drop, NI, F, N, C> Plan<T, ID, E, F, N, C>
+impl<T: Ord + Drop, ID: Hash + Eq + Drop, E: Drop, NI, F, N, C> LazyOrder<T, ID, E, F, N, C>
 where
     NI: IntoIterator<Item = Result<T, E>, IntoIter: Drop>,
-    F: Fn(&T) -> ID,
+    F: Fn(&T) -> Result<ID, AllocError>,
     N: FnMut(&T) -> NI,
     C: FnMut(T) -> E,
 {
-    /// The next node, if there is one.
+    /// Returns the next node, or `None` after the last.
     pub fn next_node(&mut self) -> Result<Option<T>, WalkError<E>>
-        requires { CanGo F.Fn N.FnMut C.FnMut NI.into_iter_gives NI.IntoIter.can_next
-            NI.IntoIter.remaining self.old }
-        ensures can_go { IfOk result (λ o. IsSome o → CanGo F.Fn N.FnMut C.FnMut NI.into_iter_gives
-            NI.IntoIter.can_next NI.IntoIter.remaining self.new) }
+        requires { CanGo ID.eq F.Fn N.FnMut NI.IntoIterator NI.IntoIter.Iterator C.FnMut self.old }
+        ensures can_go { IfOk result (λ o. IsSome o → CanGo ID.eq F.Fn N.FnMut NI.IntoIterator
+            NI.IntoIter.Iterator C.FnMut self.new) }
         ensures count { IfOk result (λ o. IsSome o
             → hash_set_len self.new.emitted ≡ hash_set_len self.old.emitted + 1) }
         ensures small { hash_set_len self.old.emitted < 2 ^ 63 }
-        ensures gives { GivesOn F.Fn N.FnMut C.FnMut ID.eq NI.into_iter_gives
-            NI.IntoIter.next_gives self.old (answer_of result) self.new }
+        ensures yields { YieldsOn ID.eq F.Fn N.FnMut NI.IntoIterator NI.IntoIter.Iterator C.FnMut
+            self.old (answer_of result) self.new }
         ensures failed { (error : E) → FailsNext error self.old → result ≡ Err (Node error) }
     {
-        // A set never holds 2^63 ids, so the order ends.
+        // The order ends, since a set contains fewer than 2^63 ids.
         let _count = self.emitted.len();
         match self.refill() {
             Ok(()) => {}
@@ -57,24 +58,23 @@ where
         let Some(node) = self.ready.pop() else {
             return Ok(None);
         };
-        let id = (self.graph.id_fn)(&node);
+        let id = (self.graph.id_fn)(&node)?;
         if self.emitted.insert(id)? {
             return Ok(Some(node));
         }
         Err(WalkError::Node((self.cycle_fn)(node)))
     }
 
-    // Makes the next nodes ready, where none is.
+    // Refills `ready` if it is empty.
     fn refill(&mut self) -> Result<(), WalkError<E>>
-        requires { CanGo F.Fn N.FnMut C.FnMut NI.into_iter_gives NI.IntoIter.can_next
-            NI.IntoIter.remaining self.old }
-        ensures can_go { OnOk result (CanGo F.Fn N.FnMut C.FnMut NI.into_iter_gives
-            NI.IntoIter.can_next NI.IntoIter.remaining self.new) }
+        requires { CanGo ID.eq F.Fn N.FnMut NI.IntoIterator NI.IntoIter.Iterator C.FnMut self.old }
+        ensures can_go { OnOk result (CanGo ID.eq F.Fn N.FnMut NI.IntoIterator NI.IntoIter.Iterator
+            C.FnMut self.new) }
         ensures emitted { self.new.emitted ≡ self.old.emitted }
-        ensures plan { OnOk result (Refills F.Fn N.FnMut C.FnMut ID.eq NI.into_iter_gives
-            NI.IntoIter.next_gives self.old self.new) }
-        ensures cause { IfErr result (λ e. IfNode e (TellsCause F.Fn N.FnMut C.FnMut ID.eq
-            NI.into_iter_gives NI.IntoIter.next_gives self.old)) }
+        ensures refilled { OnOk result (Refills ID.eq F.Fn N.FnMut NI.IntoIterator
+            NI.IntoIter.Iterator C.FnMut self.old self.new) }
+        ensures cause { IfErr result (λ e. IfNode e (HasCause ID.eq F.Fn N.FnMut NI.IntoIterator
+            NI.IntoIter.Iterator C.FnMut self.old)) }
         ensures failed { (error : E) → FailsNext error self.old → result ≡ Err (Node error) }
     {
         if !self.ready.is_empty() {
@@ -98,7 +98,6 @@ where
         }
     }
 
-    // Makes this node ready. The order goes on from these starts, or ends with this error.
     fn make_ready(&mut self, node: T, start: Vec<T>, failed: Option<E>) -> Result<(), WalkError<E>>
         ensures ready { OnOk result (self.new.ready.items ≡ self.old.ready.items ++ node ∷ []) }
         ensures start { self.new.start ≡ start }
@@ -114,20 +113,19 @@ where
         Ok(())
     }
 
-    // Makes a chunk of what several starts reach ready, where no node is.
     fn look_ahead(&mut self) -> Result<(), WalkError<E>>
-        requires can_go { CanGo F.Fn N.FnMut C.FnMut NI.into_iter_gives NI.IntoIter.can_next
-            NI.IntoIter.remaining self.old }
+        requires can_go { CanGo ID.eq F.Fn N.FnMut NI.IntoIterator NI.IntoIter.Iterator C.FnMut
+            self.old }
         requires ready { self.old.ready.items ≡ [] }
         requires failed { self.old.failed ≡ None }
         requires start { 1 < length self.old.start.items }
-        ensures can_go { OnOk result (CanGo F.Fn N.FnMut C.FnMut NI.into_iter_gives
-            NI.IntoIter.can_next NI.IntoIter.remaining self.new) }
+        ensures can_go { OnOk result (CanGo ID.eq F.Fn N.FnMut NI.IntoIterator NI.IntoIter.Iterator
+            C.FnMut self.new) }
         ensures emitted { self.new.emitted ≡ self.old.emitted }
-        ensures plan { OnOk result (Refills F.Fn N.FnMut C.FnMut ID.eq NI.into_iter_gives
-            NI.IntoIter.next_gives self.old self.new) }
-        ensures cause { IfErr result (λ e. IfNode e (TellsCause F.Fn N.FnMut C.FnMut ID.eq
-            NI.into_iter_gives NI.IntoIter.next_gives self.old)) }
+        ensures refilled { OnOk result (Refills ID.eq F.Fn N.FnMut NI.IntoIterator
+            NI.IntoIter.Iterator C.FnMut self.old self.new) }
+        ensures cause { IfErr result (λ e. IfNode e (HasCause ID.eq F.Fn N.FnMut NI.IntoIterator
+            NI.IntoIter.Iterator C.FnMut self.old)) }
     {
         let start = mem::replace(&mut self.start, Vec::new(self.alloc));
         let Chunk { nodes, left, stuck } = match take_chunk(&mut self.graph, self.alloc, start) {
