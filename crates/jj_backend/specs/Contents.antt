@@ -5,7 +5,7 @@
 -- secure_sig_content, signature_content, timestamp_content.
 use Rattle.std.specs.Prelude.{ℕ, ◌<◌, ◌^◌, [], ◌∷◌, List, length, ◌++◌, FitsSigned}
 use Rattle.std.specs.Int.{w32, w64}
-use Rattle.jj_content.specs.Content.{i32_content, i64_content, text_content, list_content, option_content, AreValues, IsOptionOf}
+use Rattle.jj_content.specs.Content.{i32_content, i64_content, string_content, list_content, option_content, AreValues, IsOptionOf}
 use Rattle.jj_paths.specs.Contents.{IsShortPath, path_content}
 use Rattle.jj_backend.specs.Records.{SignatureValue, SecureSigValue, CopyHistoryValue, CommitValue}
 use Rattle.jj_backend.specs.declared.backend.timestamp.MillisSinceEpoch.{MillisSinceEpoch}
@@ -42,7 +42,8 @@ abbrev pub IsSignature : SignatureValue → Type 0
 IsSignature s = IsText s.name × (IsText s.email × IsTimestamp s.timestamp)
 
 abbrev pub signature_content : SignatureValue → List ℕ
-signature_content s = text_content s.name ++ (text_content s.email ++ timestamp_content s.timestamp)
+signature_content s =
+    string_content s.name ++ (string_content s.email ++ timestamp_content s.timestamp)
 
 abbrev pub IsSecureSig : SecureSigValue → Type 0
 IsSecureSig s = AreBytes s.signed_data × AreBytes s.sig
@@ -76,8 +77,8 @@ IsMessage c = AreValues IsText c.conflict_labels × (AreBytes c.change_id × IsT
 
 abbrev pub message_content : CommitValue → List ℕ
 message_content c =
-    list_content text_content c.conflict_labels
-    ++ (bytes_content c.change_id ++ text_content c.description)
+    list_content string_content c.conflict_labels
+    ++ (bytes_content c.change_id ++ string_content c.description)
 
 abbrev pub AreSigners : CommitValue → Type 0
 AreSigners c = IsSignature c.author × (IsSignature c.committer

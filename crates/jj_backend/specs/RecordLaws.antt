@@ -5,7 +5,7 @@
 use Rattle.std.specs.Cmp.{IsEquivalence, and_equiv, on_equiv, int_eq_equiv}
 use Rattle.std.specs.Cmp.Lexicographic.{nat_list_eq_equiv, lists_equiv, options_equiv}
 use Rattle.jj_content.specs.Content.{IsLawful}
-use Rattle.jj_content.specs.Lawful.{on_lawful, both_lawful, text_lawful, list_lawful, option_lawful, u8_lawful, i32_lawful, i64_lawful}
+use Rattle.jj_content.specs.PrefixFreeProofs.{on_lawful, both_lawful, string_lawful, list_lawful, option_lawful, u8_lawful, i32_lawful, i64_lawful}
 use Rattle.jj_paths.specs.Contents.{path_lawful}
 use Rattle.jj_paths.specs.Orders.{path_eq_equiv}
 use Rattle.jj_backend.specs.Records.{timestamp_eq, signature_eq, secure_sig_eq, copy_history_eq, origin_eq, message_eq, signers_eq, commit_eq}
@@ -64,8 +64,8 @@ timestamp_lawful = both_lawful (on_lawful (λ time. time.timestamp.0) i64_lawful
 
 pub signature_lawful : IsLawful IsSignature signature_eq signature_content
 signature_lawful =
-    both_lawful (on_lawful (λ s. s.name) text_lawful)
-    (both_lawful (on_lawful (λ s. s.email) text_lawful)
+    both_lawful (on_lawful (λ s. s.name) string_lawful)
+    (both_lawful (on_lawful (λ s. s.email) string_lawful)
     (on_lawful (λ s. s.timestamp) timestamp_lawful))
 
 pub secure_sig_lawful : IsLawful IsSecureSig secure_sig_eq secure_sig_content
@@ -86,9 +86,9 @@ origin_lawful =
 
 message_lawful : IsLawful IsMessage message_eq message_content
 message_lawful =
-    both_lawful (on_lawful (λ c. c.conflict_labels) (list_lawful text_lawful))
+    both_lawful (on_lawful (λ c. c.conflict_labels) (list_lawful string_lawful))
     (both_lawful (on_lawful (λ c. c.change_id) bytes_lawful)
-    (on_lawful (λ c. c.description) text_lawful))
+    (on_lawful (λ c. c.description) string_lawful))
 
 signers_lawful : IsLawful AreSigners signers_eq signers_content
 signers_lawful =

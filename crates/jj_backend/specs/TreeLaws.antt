@@ -5,8 +5,8 @@ use Rattle.std.specs.Cmp.{IsEquivalence, and_equiv, on_equiv}
 use Rattle.std.specs.Cmp.Lexicographic.{pointwise, nat_list_eq_equiv, lists_equiv}
 use Rattle.std.specs.Ordering.{eq_of_both, on}
 use Rattle.std.specs.Str.{bytes_eq}
-use Rattle.jj_content.specs.Content.{IsLawful, AreValues, list_content, text_content}
-use Rattle.jj_content.specs.Lawful.{on_lawful, both_lawful, list_lawful, text_lawful}
+use Rattle.jj_content.specs.Content.{IsLawful, AreValues, list_content, string_content}
+use Rattle.jj_content.specs.PrefixFreeProofs.{on_lawful, both_lawful, list_lawful, string_lawful}
 use Rattle.jj_paths.specs.Paths.{Name}
 use Rattle.jj_backend.specs.Contents.{IsText}
 use Rattle.jj_backend.specs.Trees.{Entries}
@@ -36,11 +36,11 @@ abbrev pub IsTree : Entries → Type 0
 IsTree = AreValues IsEntry
 
 abbrev pub entry_content : Name × TreeValue → List ℕ
-entry_content e = text_content e.0 ++ tree_value_content e.1
+entry_content e = string_content e.0 ++ tree_value_content e.1
 
 abbrev pub tree_content : Entries → List ℕ
 tree_content = list_content entry_content
 
 pub tree_lawful : IsLawful IsTree tree_eq tree_content
-tree_lawful = list_lawful (both_lawful (on_lawful (λ e. e.0) text_lawful)
+tree_lawful = list_lawful (both_lawful (on_lawful (λ e. e.0) string_lawful)
     (on_lawful (λ e. e.1) tree_value_lawful))

@@ -2,7 +2,7 @@
 -- Cited by contracts of public items: tree_value_lawful.
 use Rattle.std.proofs.Common.{◌≡◌, ℕ, List, ◌++◌, ◌<◌, ◌^◌, true, refl, Bool, arith}
 use Rattle.jj_content.specs.Content.{IsLawful}
-use Rattle.jj_content.specs.Lawful.{enum_lawful, both_lawful, on_lawful, bool_lawful}
+use Rattle.jj_content.specs.PrefixFreeProofs.{enum_lawful, both_lawful, on_lawful, bool_lawful}
 use Rattle.jj_backend.specs.RecordLaws.{bytes_lawful}
 use Rattle.jj_backend.specs.TreeValues.{variant_of, fields_content, tree_value_content, IsTreeValue}
 use Rattle.jj_backend.specs.declared.backend.tree_value.TreeValue.{TreeValue}

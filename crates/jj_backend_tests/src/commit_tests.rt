@@ -2,7 +2,7 @@
 use crate::callers::{are_equal, clone_commit};
 use crate::records::{UNIX_EPOCH, signature, signed_commit};
 use jj_backend::backend::{ChangeId, Commit, TreeId, make_root_commit};
-use jj_content_tests::once_more::holds;
+use jj_content_tests::retry::holds;
 use std::alloc::{AllocError, Global};
 
 fn root(alloc: Global) -> Result<Commit, AllocError> {

@@ -3,8 +3,8 @@ use crate::records::{
     commit, directory, file, history, link, sig, signature, signed_commit, submodule,
 };
 use jj_backend::backend::{MillisSinceEpoch, Signature, Timestamp};
-use jj_content_tests::content_texts::content_text;
-use jj_content_tests::once_more::{holds, tells_of};
+use jj_content_tests::content_hex::content_hex;
+use jj_content_tests::retry::{holds, returns_shown};
 use std::alloc::{AllocError, Global};
 
 fn author(alloc: Global) -> Result<Signature, AllocError> {
@@ -18,21 +18,21 @@ fn author(alloc: Global) -> Result<Signature, AllocError> {
 #[test]
 fn records_are_their_parts(rt: HostRuntime) {
     let expected = "01000000000000006102000000000000006263feffffffffffffffc4ffffff";
-    assert!(rt; tells_of(&rt, author, content_text, expected));
+    assert!(rt; returns_shown(&rt, author, content_hex, expected));
     let expected = "02000000000000000102010000000000000003";
-    assert!(rt; tells_of(&rt, sig, content_text, expected));
+    assert!(rt; returns_shown(&rt, sig, content_hex, expected));
     let expected = "00000000000000000100000000000000010000000000000009010000000000000007";
-    assert!(rt; tells_of(&rt, history, content_text, expected));
+    assert!(rt; returns_shown(&rt, history, content_hex, expected));
 }
 
 // The number of the variant precedes its fields.
 #[test]
 fn tree_values(rt: HostRuntime) {
     let expected = "00000000010000000000000001010000000000000000";
-    assert!(rt; tells_of(&rt, |alloc| file(alloc, 1, true), content_text, expected));
-    assert!(rt; tells_of(&rt, link, content_text, "01000000010000000000000002"));
-    assert!(rt; tells_of(&rt, directory, content_text, "02000000010000000000000003"));
-    assert!(rt; tells_of(&rt, submodule, content_text, "03000000010000000000000004"));
+    assert!(rt; returns_shown(&rt, |alloc| file(alloc, 1, true), content_hex, expected));
+    assert!(rt; returns_shown(&rt, link, content_hex, "01000000010000000000000002"));
+    assert!(rt; returns_shown(&rt, directory, content_hex, "02000000010000000000000003"));
+    assert!(rt; returns_shown(&rt, submodule, content_hex, "03000000010000000000000004"));
 }
 
 // One line of bytes each: parents and predecessors; tree, label and change id; description and
@@ -43,13 +43,13 @@ fn a_commit_is_its_parts(rt: HostRuntime) {
          010000000000000001000000000000000c0100000000000000000000000000000001000000000000000d\
          0100000000000000640100000000000000610000000000000000000000000000000000000000\
          010000000000000062000000000000000000000000000000000000000000000000";
-    assert!(rt; tells_of(&rt, commit, content_text, expected));
+    assert!(rt; returns_shown(&rt, commit, content_hex, expected));
 }
 
 // The cryptographic signature comes last, after the number of its `Option` variant.
 fn ends_with_signature(alloc: Global) -> Result<bool, AllocError> {
-    let plain = content_text(alloc, &commit(alloc)?)?;
-    let signed = content_text(alloc, &signed_commit(alloc)?)?;
+    let plain = content_hex(alloc, &commit(alloc)?)?;
+    let signed = content_hex(alloc, &signed_commit(alloc)?)?;
     let sig = "0100000001000000000000000e01000000000000000f";
     let front = signed.as_str().strip_suffix(sig);
     Ok(front.is_some() && front == plain.as_str().strip_suffix("00000000"))

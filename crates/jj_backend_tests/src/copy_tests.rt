@@ -1,7 +1,7 @@
 //! Tests of clones and comparisons of copy records, copy histories and signatures.
 use crate::records;
 use jj_backend::backend::{CommitId, CopyRecord, FileId};
-use jj_content_tests::once_more::holds;
+use jj_content_tests::retry::holds;
 use jj_paths::repo_path::RepoPathBuf;
 use std::alloc::{AllocError, Global};
 

@@ -2,8 +2,8 @@
 use crate::records::{commit, signature};
 use jj_backend::backend::{MillisSinceEpoch, Timestamp};
 use jj_content::content_hash::{ToJson, ToJsonError};
-use jj_content_tests::json_texts::json_text;
-use jj_content_tests::once_more::{holds, tells_of};
+use jj_content_tests::json_strings::json_string;
+use jj_content_tests::retry::{holds, returns_shown};
 use std::alloc::{AllocError, Global};
 
 const fn time(millis: i64, tz_offset: i32) -> Timestamp {
@@ -25,7 +25,7 @@ const DATES: [(i64, i32, &str); 5] = [
 #[test]
 fn dates(rt: HostRuntime) {
     for (millis, tz_offset, date) in DATES {
-        assert!(rt; tells_of(&rt, |_| Ok(time(millis, tz_offset)), json_text, date));
+        assert!(rt; returns_shown(&rt, |_| Ok(time(millis, tz_offset)), json_string, date));
     }
 }
 
@@ -44,11 +44,11 @@ fn signatures_as_objects(rt: HostRuntime) {
     let author = |alloc| signature(alloc, "a", "b", time(0, 0));
     let expected =
         "{\"email\":\"b\",\"name\":\"a\",\"timestamp\":\"1970-01-01T00:00:00.000+00:00\"}";
-    assert!(rt; tells_of(&rt, author, json_text, expected));
+    assert!(rt; returns_shown(&rt, author, json_string, expected));
 }
 
 fn has_its_parts(alloc: Global) -> Result<bool, AllocError> {
-    let text = json_text(alloc, &commit(alloc)?)?;
+    let text = json_string(alloc, &commit(alloc)?)?;
     let begin = "{\"author\":{\"email\":\"\",\"name\":\"a\",\"timestamp\":";
     let end = "},\"description\":\"d\",\"parents\":[\"0a\"]}";
     Ok(

@@ -1,7 +1,7 @@
 //! Tests of trees: look-ups, iteration, clones and content bytes.
 use crate::records::{directory, file};
 use jj_backend::backend::{Tree, TreeValue};
-use jj_content_tests::content_texts::content_text;
+use jj_content_tests::content_hex::content_hex;
 use jj_paths::repo_path::RepoPathComponentBuf;
 use std::alloc::{AllocError, Global};
 use std::process::Abort;
@@ -84,8 +84,8 @@ fn names_in_order(rt: HostRuntime) -> Result<(), Fail> {
 }
 
 fn content<R: Abort>(rt: &R, alloc: Global) -> Result<(String, String), AllocError> {
-    let whole = content_text(alloc, &tree(rt, alloc)?)?;
-    Ok((whole, content_text(alloc, &Tree::default(alloc))?))
+    let whole = content_hex(alloc, &tree(rt, alloc)?)?;
+    Ok((whole, content_hex(alloc, &Tree::default(alloc))?))
 }
 
 // The number of entries; `a` and its file, with id, executable bit and empty copy id; `b` and its

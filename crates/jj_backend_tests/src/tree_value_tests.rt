@@ -5,7 +5,7 @@ use jj_backend::backend::{
     CopyId, FileId, MergedTreeVal, MergedTreeValue, MergedTreeValueExt, TreeValue,
     borrow_tree_value,
 };
-use jj_content_tests::once_more::{holds, tells};
+use jj_content_tests::retry::{holds, returns_string};
 use jj_merges::conflict_labels::ConflictLabels;
 use jj_merges::merge::Merge;
 use smallvec::SmallVec;
@@ -67,12 +67,12 @@ fn describe_submodule<R: Abort>(rt: &R, alloc: Global) -> Result<String, AllocEr
 fn descriptions_of_conflicts(rt: HostRuntime) {
     let expected = "Conflict:\n  Adding file with id 01 (left)\n\
          \x20 Adding symlink with id 02 (right)\n";
-    assert!(rt; tells(&rt, |alloc| describe_conflict(&rt, alloc), expected));
+    assert!(rt; returns_string(&rt, |alloc| describe_conflict(&rt, alloc), expected));
     let expected = "Conflict:\n  Removing executable file with id 01\n  Adding tree with id 03\n";
-    assert!(rt; tells(&rt, |alloc| describe_removed_file(&rt, alloc), expected));
+    assert!(rt; returns_string(&rt, |alloc| describe_removed_file(&rt, alloc), expected));
     let expected = "Conflict:\n  Removing Git submodule with id 04\n\
          \x20 Adding executable file with id 01 (right)\n";
-    assert!(rt; tells(&rt, |alloc| describe_submodule(&rt, alloc), expected));
+    assert!(rt; returns_string(&rt, |alloc| describe_submodule(&rt, alloc), expected));
 }
 
 fn classes(merge: &MergedTreeValue) -> (bool, bool) {

@@ -3,7 +3,7 @@ use Rattle.std.proofs.Common.{◌≡◌, ℕ, ◌≤◌, ◌≢◌, List, [], �
 use Rattle.std.specs.List.{flat_map}
 use Rattle.std.proofs.lemmas.Bool.Decides.{nat_tests}
 use lib.Utf8.{encode}
-use Rattle.jj_content.proofs.EscapedTexts.{plain_character, one_more_written}
+use Rattle.jj_content.proofs.EscapeLoops.{plain_character, one_more_written}
 use Rattle.jj_globs.specs.GlobEscape.{literal_glob, escaped_byte}
 
 plain_byte : (c : ℕ) → c ≢ 63 → c ≢ 42 → c ≢ 91 → c ≢ 93 → c ≢ 123 → c ≢ 125 → c ≢ 92 → escaped_byte c ≡ c ∷ []

@@ -1,6 +1,6 @@
 //! Globs of so many states that a match needs each size of state sets. All other cases are rows of
 //! the crate `conformance`.
-use jj_content_tests::once_more::passes;
+use jj_content_tests::retry::passes;
 use jj_globs::glob::{Glob, GlobError};
 use std::alloc::{AllocError, Global};
 use std::process::Abort;

@@ -9,11 +9,11 @@ use Rattle.std.proofs.lemmas.Bool.{and_from, and_parts, false_from_ne_true}
 use Rattle.std.proofs.lemmas.Bool.Decides.{Decides-eqb}
 use Rattle.std.proofs.lemmas.List.Folds.{list_any-append}
 use Rattle.jj_globs.specs.GlobMeaning.{GlobSpec}
-use Rattle.jj_globs.specs.GlobFront.{front_of}
-use Rattle.jj_globs.proofs.GlobFront.{BeginsWith}
-use Rattle.jj_globs.proofs.GlobFront.{prefix_match_fronted}
+use Rattle.jj_globs.specs.GlobPrefix.{glob_prefix}
+use Rattle.jj_globs.proofs.LiteralPrefix.{BeginsWith}
+use Rattle.jj_globs.proofs.LiteralPrefix.{prefix_match_begins}
 use Rattle.jj_matchers.specs.PatternOrder.{is_at_most, is_sorted_by_prefix, matches_string}
-use Rattle.jj_matchers.proofs.PatternTexts.{Tells-is_match, Tells-is_prefix_match}
+use Rattle.jj_matchers.proofs.PatternTexts.{DecidesAll-is_match, DecidesAll-is_prefix_match}
 
 -- 1. Lexicographic order of byte strings.
 
@@ -93,14 +93,14 @@ shared_of g f bytes (rest, is) h k =
 -- 2. Sorted globs.
 
 -- a match starts with the literal prefix
-pub fits_begins : (prefix_paths : Bool) (text : List ℕ) (glob : GlobSpec) → matches_string prefix_paths glob text ≡ true → BeginsWith text (front_of glob)
-fits_begins true text glob h = prefix_match_fronted glob text ((Tells-is_prefix_match glob text).0 h)
-fits_begins false text glob h = prefix_match_fronted glob text (inl ((Tells-is_match glob text).0 h))
+pub fits_begins : (prefix_paths : Bool) (text : List ℕ) (glob : GlobSpec) → matches_string prefix_paths glob text ≡ true → BeginsWith text (glob_prefix glob)
+fits_begins true text glob h = prefix_match_begins glob text ((DecidesAll-is_prefix_match glob text).0 h)
+fits_begins false text glob h = prefix_match_begins glob text (inl ((DecidesAll-is_match glob text).0 h))
 
 abbrev pub is_up_to : List ℕ → GlobSpec → Bool
-is_up_to bytes glob = is_at_most (front_of glob) bytes
+is_up_to bytes glob = is_at_most (glob_prefix glob) bytes
 
-order_at : (glob : GlobSpec) (globs : List GlobSpec) (j : ℕ) (d : GlobSpec) → j < length globs → list_all (λ later. is_at_most (front_of glob) (front_of later)) globs ≡ true → is_at_most (front_of glob) (front_of (get_or globs j d)) ≡ true
+order_at : (glob : GlobSpec) (globs : List GlobSpec) (j : ℕ) (d : GlobSpec) → j < length globs → list_all (λ later. is_at_most (glob_prefix glob) (glob_prefix later)) globs ≡ true → is_at_most (glob_prefix glob) (glob_prefix (get_or globs j d)) ≡ true
 order_at glob [] j d lt h = absurd (omega (arith, lt))
 order_at glob (g ∷ globs) zero d lt h = (and_parts _ _ h).0
 order_at glob (g ∷ globs) (suc j) d lt h = order_at glob globs j d (omega (arith, lt)) (and_parts _ _ h).1
@@ -109,7 +109,7 @@ pub partitioned : (bytes : List ℕ) (globs : List GlobSpec) → is_sorted_by_pr
 partitioned bytes [] order i j d le lt h = absurd (omega (arith, lt))
 partitioned bytes (g ∷ globs) order zero zero d le lt h = h
 partitioned bytes (g ∷ globs) order zero (suc j) d le lt h =
-    at_most_by (front_of g) (front_of (get_or globs j d)) bytes (order_at g globs j d (omega (arith, lt)) (and_parts _ _ order).0) h
+    at_most_by (glob_prefix g) (glob_prefix (get_or globs j d)) bytes (order_at g globs j d (omega (arith, lt)) (and_parts _ _ order).0) h
 partitioned bytes (g ∷ globs) order (suc i) zero d le lt h = absurd (omega (arith, le))
 partitioned bytes (g ∷ globs) order (suc i) (suc j) d le lt h =
     partitioned bytes globs (and_parts _ _ order).1 i j d (omega (arith, le)) (omega (arith, lt)) h
@@ -133,13 +133,13 @@ shorter_filter keep (x ∷ xs) = by_test (keep x) (shorter_filter keep xs)
     by_test false later = omega (arith, later)
 
 -- all literal prefixes are at most the last one
-order_last : (before : List GlobSpec) (last : GlobSpec) → is_sorted_by_prefix (before ++ last ∷ []) ≡ true → list_all (λ glob. is_at_most (front_of glob) (front_of last)) before ≡ true
+order_last : (before : List GlobSpec) (last : GlobSpec) → is_sorted_by_prefix (before ++ last ∷ []) ≡ true → list_all (λ glob. is_at_most (glob_prefix glob) (glob_prefix last)) before ≡ true
 order_last [] last h = refl
 order_last (g ∷ before) last h =
     let parts = and_parts _ _ h in
     and_from _ _ (last_all before parts.0) (order_last before last parts.1)
   where
-    last_all : (gs : List GlobSpec) → list_all (λ later. is_at_most (front_of g) (front_of later)) (gs ++ last ∷ []) ≡ true → is_at_most (front_of g) (front_of last) ≡ true
+    last_all : (gs : List GlobSpec) → list_all (λ later. is_at_most (glob_prefix g) (glob_prefix later)) (gs ++ last ∷ []) ≡ true → is_at_most (glob_prefix g) (glob_prefix last) ≡ true
     last_all [] h = (and_parts _ _ h).0
     last_all (x ∷ gs) h = last_all gs (and_parts _ _ h).1
 
@@ -164,26 +164,26 @@ order_before [] last h = refl
 order_before (g ∷ before) last h =
     and_from _ _ (front_all before (and_parts _ _ h).0) (order_before before last (and_parts _ _ h).1)
   where
-    front_all : (gs : List GlobSpec) → list_all (λ later. is_at_most (front_of g) (front_of later)) (gs ++ last ∷ []) ≡ true → list_all (λ later. is_at_most (front_of g) (front_of later)) gs ≡ true
+    front_all : (gs : List GlobSpec) → list_all (λ later. is_at_most (glob_prefix g) (glob_prefix later)) (gs ++ last ∷ []) ≡ true → list_all (λ later. is_at_most (glob_prefix g) (glob_prefix later)) gs ≡ true
     front_all [] h = refl
     front_all (x ∷ gs) h = and_from _ _ (and_parts _ _ h).0 (front_all gs (and_parts _ _ h).1)
 
-pub order_push : (before : List GlobSpec) (last more : GlobSpec) → is_sorted_by_prefix (before ++ last ∷ []) ≡ true → is_at_most (front_of last) (front_of more) ≡ true → is_sorted_by_prefix ((before ++ last ∷ []) ++ more ∷ []) ≡ true
+pub order_push : (before : List GlobSpec) (last more : GlobSpec) → is_sorted_by_prefix (before ++ last ∷ []) ≡ true → is_at_most (glob_prefix last) (glob_prefix more) ≡ true → is_sorted_by_prefix ((before ++ last ∷ []) ++ more ∷ []) ≡ true
 order_push [] last more h le = and_from _ _ (and_from _ _ le refl) refl
 order_push (g ∷ before) last more h le =
     and_from _ _ (more_all before (and_parts _ _ h).0) (order_push before last more (and_parts _ _ h).1 le)
   where
-    more_all : (gs : List GlobSpec) → list_all (λ later. is_at_most (front_of g) (front_of later)) (gs ++ last ∷ []) ≡ true → list_all (λ later. is_at_most (front_of g) (front_of later)) ((gs ++ last ∷ []) ++ more ∷ []) ≡ true
+    more_all : (gs : List GlobSpec) → list_all (λ later. is_at_most (glob_prefix g) (glob_prefix later)) (gs ++ last ∷ []) ≡ true → list_all (λ later. is_at_most (glob_prefix g) (glob_prefix later)) ((gs ++ last ∷ []) ++ more ∷ []) ≡ true
     more_all [] h =
-        and_from _ _ (and_parts _ _ h).0 (and_from _ _ (at_most_by (front_of g) (front_of last) (front_of more) (and_parts _ _ h).0 le) refl)
+        and_from _ _ (and_parts _ _ h).0 (and_from _ _ (at_most_by (glob_prefix g) (glob_prefix last) (glob_prefix more) (and_parts _ _ h).0 le) refl)
     more_all (x ∷ gs) h = and_from _ _ (and_parts _ _ h).0 (more_all gs (and_parts _ _ h).1)
 
 -- a list with an appended glob is sorted if and only if its literal prefix is not less than the last one
-pub order_with : (before : List GlobSpec) (last more : GlobSpec) → is_sorted_by_prefix (before ++ last ∷ []) ≡ true → is_at_most (front_of last) (front_of more) ≡ is_sorted_by_prefix ((before ++ last ∷ []) ++ more ∷ [])
+pub order_with : (before : List GlobSpec) (last more : GlobSpec) → is_sorted_by_prefix (before ++ last ∷ []) ≡ true → is_at_most (glob_prefix last) (glob_prefix more) ≡ is_sorted_by_prefix ((before ++ last ∷ []) ++ more ∷ [])
 order_with before last more h =
-    both_ways (is_at_most (front_of last) (front_of more)) (is_sorted_by_prefix ((before ++ last ∷ []) ++ more ∷ [])) (order_push before last more h) (λ order. at_end before (order_last (before ++ last ∷ []) more order))
+    both_ways (is_at_most (glob_prefix last) (glob_prefix more)) (is_sorted_by_prefix ((before ++ last ∷ []) ++ more ∷ [])) (order_push before last more h) (λ order. at_end before (order_last (before ++ last ∷ []) more order))
   where
-    at_end : (gs : List GlobSpec) → list_all (λ glob. is_at_most (front_of glob) (front_of more)) (gs ++ last ∷ []) ≡ true → is_at_most (front_of last) (front_of more) ≡ true
+    at_end : (gs : List GlobSpec) → list_all (λ glob. is_at_most (glob_prefix glob) (glob_prefix more)) (gs ++ last ∷ []) ≡ true → is_at_most (glob_prefix last) (glob_prefix more) ≡ true
     at_end [] h = (and_parts _ _ h).0
     at_end (x ∷ gs) h = at_end gs (and_parts _ _ h).1
 
@@ -192,9 +192,9 @@ order_with before last more h =
 module _ (test : GlobSpec → Bool) where
   abbrev pub AreNear : List ℕ → List GlobSpec → Type 0
   AreNear bytes [] = Unit {0}
-  AreNear bytes (glob ∷ globs) = (test glob ≡ true → BeginsWith bytes (front_of glob)) × AreNear bytes globs
+  AreNear bytes (glob ∷ globs) = (test glob ≡ true → BeginsWith bytes (glob_prefix glob)) × AreNear bytes globs
 
-  pub near_all : (bytes : List ℕ) → ((glob : GlobSpec) → test glob ≡ true → BeginsWith bytes (front_of glob)) → (globs : List GlobSpec) → AreNear bytes globs
+  pub near_all : (bytes : List ℕ) → ((glob : GlobSpec) → test glob ≡ true → BeginsWith bytes (glob_prefix glob)) → (globs : List GlobSpec) → AreNear bytes globs
   near_all bytes f [] = tt
   near_all bytes f (g ∷ globs) = (f g, near_all bytes f globs)
 
@@ -210,7 +210,7 @@ module _ (test : GlobSpec → Bool) where
       by_front later false e =
           ap (λ t. list_any test (cond t (g ∷ filter (is_up_to bytes) globs) (filter (is_up_to bytes) globs))) e
           ∙ later
-          ∙ sym (ap (λ b. b || list_any test globs) (false_from_ne_true (test g) (λ h. false≢true (sym e ∙ begins_at_most (front_of g) bytes (near.0 h)))))
+          ∙ sym (ap (λ b. b || list_any test globs) (false_from_ne_true (test g) (λ h. false≢true (sym e ∙ begins_at_most (glob_prefix g) bytes (near.0 h)))))
 
   near-filter : (keep : GlobSpec → Bool) (bytes : List ℕ) (globs : List GlobSpec) → AreNear bytes globs → AreNear bytes (filter keep globs)
   near-filter keep bytes [] near = tt
@@ -219,14 +219,14 @@ module _ (test : GlobSpec → Bool) where
     | false ↦ near-filter keep bytes globs near.1
   ]
 
-  near_last : (bytes : List ℕ) (before : List GlobSpec) (last : GlobSpec) → AreNear bytes (before ++ last ∷ []) → test last ≡ true → BeginsWith bytes (front_of last)
+  near_last : (bytes : List ℕ) (before : List GlobSpec) (last : GlobSpec) → AreNear bytes (before ++ last ∷ []) → test last ≡ true → BeginsWith bytes (glob_prefix last)
   near_last bytes [] last near = near.0
   near_last bytes (g ∷ before) last near = near_last bytes before last near.1
 
-  near_before : (bytes : List ℕ) (before : List GlobSpec) (last : GlobSpec) → list_all (λ glob. is_at_most (front_of glob) (front_of last)) before ≡ true → is_up_to bytes last ≡ true → AreNear bytes (before ++ last ∷ []) → AreNear (take (common_prefix_len nat_eq (front_of last) bytes) bytes) before
+  near_before : (bytes : List ℕ) (before : List GlobSpec) (last : GlobSpec) → list_all (λ glob. is_at_most (glob_prefix glob) (glob_prefix last)) before ≡ true → is_up_to bytes last ≡ true → AreNear bytes (before ++ last ∷ []) → AreNear (take (common_prefix_len nat_eq (glob_prefix last) bytes) bytes) before
   near_before bytes [] last order upto near = tt
   near_before bytes (g ∷ before) last order upto near =
-      ((λ h. shared_of (front_of g) (front_of last) bytes (near.0 h) (and_parts _ _ order).0 upto), near_before bytes before last (and_parts _ _ order).1 upto near.1)
+      ((λ h. shared_of (glob_prefix g) (glob_prefix last) bytes (near.0 h) (and_parts _ _ order).0 upto), near_before bytes before last (and_parts _ _ order).1 upto near.1)
 
   -- loop invariant: a remaining glob satisfies the predicate if and only if any does
   pub record Narrows (all left : List GlobSpec) (bytes : List ℕ) : Type 0 where
@@ -260,10 +260,10 @@ module _ (test : GlobSpec → Bool) where
         or_false false = refl
 
     -- the last glob does not satisfy the predicate, or its literal prefix is no prefix of the bytes
-    pub narrows_before : is_up_to bytes last ≡ true → (test last ≡ true → common_prefix_len nat_eq (front_of last) bytes ≡ length (front_of last) → ⊥) →
-        Narrows all before (take (common_prefix_len nat_eq (front_of last) bytes) bytes)
+    pub narrows_before : is_up_to bytes last ≡ true → (test last ≡ true → common_prefix_len nat_eq (glob_prefix last) bytes ≡ length (glob_prefix last) → ⊥) →
+        Narrows all before (take (common_prefix_len nat_eq (glob_prefix last) bytes) bytes)
     narrows_before upto fails = record {
-      same = same_before (false_from_ne_true (test last) (λ h. fails h (begins_shared (front_of last) bytes (near_last bytes before last near h))));
+      same = same_before (false_from_ne_true (test last) (λ h. fails h (begins_shared (glob_prefix last) bytes (near_last bytes before last near h))));
       order = order_before before last order;
       near = near_before bytes before last (order_last before last order) upto near;
     }
@@ -279,7 +279,7 @@ module _ (test : GlobSpec → Bool) where
     pub narrows_up_to : is_up_to bytes last ≡ false → Narrows all (filter (is_up_to bytes) before) bytes
     narrows_up_to past = record {
       same = any_up_to bytes before front_near
-          ∙ same_before (false_from_ne_true (test last) (λ h. false≢true (sym past ∙ begins_at_most (front_of last) bytes (near_last bytes before last near h))));
+          ∙ same_before (false_from_ne_true (test last) (λ h. false≢true (sym past ∙ begins_at_most (glob_prefix last) bytes (near_last bytes before last near h))));
       order = order-filter (is_up_to bytes) before (order_before before last order);
       near = near-filter (is_up_to bytes) bytes before front_near;
     }

@@ -13,7 +13,7 @@ use Rattle.jj_globs.specs.GlobMeaning.{GlobSpec}
 use Rattle.jj_matchers.specs.MentionedNames.{MentionsOnly, names_of}
 use Rattle.jj_matchers.specs.PathLists.{is_at_or_below, has_prefix, leads_to_listed, leads_to_prefix}
 use Rattle.jj_matchers.specs.Patterns.{Patterns, is_prefix_match, accepts_tail, covers_tail, tail_passes, pattern_dirs, is_accepted, is_covered, opens_to_patterns, patterns_spec, MatchesString, IsAccepted, IsSoundForGlobs}
-use Rattle.jj_matchers.proofs.PatternTexts.{Tells-is_match, Tells-is_prefix_match, prefix_match_below, stars_fit}
+use Rattle.jj_matchers.proofs.PatternTexts.{DecidesAll-is_match, DecidesAll-is_prefix_match, prefix_match_below, stars_fit}
 use Rattle.jj_matchers.proofs.MentionedNames.{leads_among}
 use Rattle.jj_matchers.proofs.PathLists.{any_implies, list_any-map, is_at_or_below-append, at_or_below_more, prefix_below, prefix_deeper}
 
@@ -153,8 +153,8 @@ module _ (set : Patterns) where
 -- 3. Equivalence with `IsAccepted`.
 
 accepts_text : (b : Bool) (g : GlobSpec) (name : Name) (rest : Path) → Decides (accepts_tail b g (name ∷ rest)) (MatchesString b g (path_string (name ∷ rest)))
-accepts_text false g name rest = Tells-is_match g (path_string (name ∷ rest))
-accepts_text true g name rest = Tells-is_prefix_match g (path_string (name ∷ rest))
+accepts_text false g name rest = DecidesAll-is_match g (path_string (name ∷ rest))
+accepts_text true g name rest = DecidesAll-is_prefix_match g (path_string (name ∷ rest))
 
 module _ (set : Patterns) where
   -- the pattern accepts the path

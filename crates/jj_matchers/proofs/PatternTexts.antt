@@ -12,30 +12,30 @@ use Rattle.jj_globs.specs.declared.glob.token.Token.{Token}
 use Rattle.jj_globs.specs.declared.glob.token.Token.TheVariants.{Part as part}
 use Rattle.jj_globs.specs.declared.glob.token.Options.{Options}
 use Rattle.jj_globs.specs.declared.glob.error.GlobError.{GlobError}
-use Rattle.jj_globs.specs.GlobText.{tokens_of, words, read, only_dirs, sign_of, Word, asterisk}
-use Rattle.jj_globs.specs.declared.glob.sign.Sign.{Sign}
-use Rattle.jj_globs.specs.declared.glob.sign.Sign.TheVariants.{Asterisk}
+use Rattle.jj_globs.specs.GlobSyntax.{tokens_of, lexemes, parse, only_dirs, symbol_of, Lexeme, asterisk}
+use Rattle.jj_globs.specs.declared.glob.symbol.Symbol.{Symbol}
+use Rattle.jj_globs.specs.declared.glob.symbol.Symbol.TheVariants.{Asterisk}
 use Rattle.jj_globs.specs.GlobMeaning.{GlobSpec, IsMatch, IsPrefixMatch, is_plain}
-use Rattle.jj_globs.specs.GlobPlain.{Test, tests_of, judge, verdict_of, many, any_byte, is_empty}
+use Rattle.jj_globs.specs.GlobBacktracking.{Test, tests_of, outcome, outcome_of, many, any_byte, is_empty}
 use Rattle.jj_matchers.specs.Patterns.{is_yes, is_match, is_prefix_match, passes_before_slash, is_stars}
-use Rattle.jj_globs.proofs.GlobSound.{Tells, Tells-glob}
-use Rattle.jj_globs.proofs.GlobClosed.{closed-tokens_of}
-use Rattle.jj_globs.proofs.GlobSteps.{tokens_of-read, tokens_of-only_dirs}
+use Rattle.jj_globs.proofs.BacktrackingSound.{DecidesAll, DecidesAll-glob}
+use Rattle.jj_globs.proofs.BalancedGroups.{closed-tokens_of}
+use Rattle.jj_globs.proofs.ParserSteps.{tokens_of-parse, tokens_of-only_dirs}
 
 -- 1. Matches.
 
-is_yes-verdict_of : (b : Bool) → is_yes (verdict_of b) ≡ b
-is_yes-verdict_of true = refl
-is_yes-verdict_of false = refl
+is_yes-outcome_of : (b : Bool) → is_yes (outcome_of b) ≡ b
+is_yes-outcome_of true = refl
+is_yes-outcome_of false = refl
 
-pub Tells-is_match : (g : GlobSpec) → Tells (is_match g) (IsMatch g)
+pub DecidesAll-is_match : (g : GlobSpec) → DecidesAll (is_match g) (IsMatch g)
 unfolding is_match
-Tells-is_match g bytes = by_tokens (tokens_of g.text) refl
+DecidesAll-is_match g bytes = by_tokens (tokens_of g.text) refl
   where
-    by_tokens : (r : Result (List Token) GlobError) → tokens_of g.text ≡ r → Decides (is_yes (judge g.options bytes r)) (IsMatch g bytes)
+    by_tokens : (r : Result (List Token) GlobError) → tokens_of g.text ≡ r → Decides (is_yes (outcome g.options bytes r)) (IsMatch g bytes)
     by_tokens (Ok ts) e =
-        let tells = Tells-glob g ts e (closed-tokens_of g.text ts e) bytes in
-        let same = is_yes-verdict_of ((tests_of g.options ts).here bytes) in
+        let tells = DecidesAll-glob g ts e (closed-tokens_of g.text ts e) bytes in
+        let same = is_yes-outcome_of ((tests_of g.options ts).here bytes) in
         ((λ h. tells.0 (sym same ∙ h)), (λ m. same ∙ tells.1 m))
     by_tokens (Err error) e = ((λ h. absurd (false≢true h)), (λ m. let clash : Err error ≡ Ok m.0 = sym e ∙ m.1 in cc))
 
@@ -56,27 +56,27 @@ at_slash : (test : Test) (before front rest : List ℕ) → test (before ++ fron
 at_slash test before [] rest h = or_left (test before) (passes_before_slash test (before ++ 47 ∷ []) rest) (ap test (sym (append-nil before)) ∙ h)
 at_slash test before (b ∷ front) rest h = or_right ((b == 47) && test before) (passes_before_slash test (before ++ b ∷ []) (front ++ 47 ∷ rest)) (at_slash test (before ++ b ∷ []) front rest (ap test (append_assoc before (b ∷ []) front) ∙ h))
 
-pub Tells-is_prefix_match : (g : GlobSpec) → Tells (is_prefix_match g) (IsPrefixMatch g)
+pub DecidesAll-is_prefix_match : (g : GlobSpec) → DecidesAll (is_prefix_match g) (IsPrefixMatch g)
 unfolding is_prefix_match
-Tells-is_prefix_match g bytes = (to, from)
+DecidesAll-is_prefix_match g bytes = (to, from)
   where
     to : (is_match g bytes || passes_before_slash (is_match g) [] bytes) ≡ true → IsPrefixMatch g bytes
     to h = elim (or_cases (is_match g bytes) (passes_before_slash (is_match g) [] bytes) h) [
-      | inl here ↦ inl ((Tells-is_match g bytes).0 here)
+      | inl here ↦ inl ((DecidesAll-is_match g bytes).0 here)
       | inr later ↦
           let found = before_slash (is_match g) [] bytes later in
-          inr (found.0, found.1.0, found.1.1.0, (Tells-is_match g found.0).0 found.1.1.1)
+          inr (found.0, found.1.0, found.1.1.0, (DecidesAll-is_match g found.0).0 found.1.1.1)
     ]
 
     from : IsPrefixMatch g bytes → (is_match g bytes || passes_before_slash (is_match g) [] bytes) ≡ true
     from p = elim p [
-      | inl m ↦ or_left (is_match g bytes) (passes_before_slash (is_match g) [] bytes) ((Tells-is_match g bytes).1 m)
-      | inr w ↦ or_right (is_match g bytes) (passes_before_slash (is_match g) [] bytes) (ap (passes_before_slash (is_match g) []) w.2 ∙ at_slash (is_match g) [] w.0 w.1 ((Tells-is_match g w.0).1 w.3))
+      | inl m ↦ or_left (is_match g bytes) (passes_before_slash (is_match g) [] bytes) ((DecidesAll-is_match g bytes).1 m)
+      | inr w ↦ or_right (is_match g bytes) (passes_before_slash (is_match g) [] bytes) (ap (passes_before_slash (is_match g) []) w.2 ∙ at_slash (is_match g) [] w.0 w.1 ((DecidesAll-is_match g w.0).1 w.3))
     ]
 
 -- paths below a prefix match are prefix matches
 pub prefix_match_below : (g : GlobSpec) (bytes more : List ℕ) → is_prefix_match g bytes ≡ true → is_prefix_match g (bytes ++ 47 ∷ more) ≡ true
-prefix_match_below g bytes more h = (Tells-is_prefix_match g (bytes ++ 47 ∷ more)).1 (longer ((Tells-is_prefix_match g bytes).0 h))
+prefix_match_below g bytes more h = (DecidesAll-is_prefix_match g (bytes ++ 47 ∷ more)).1 (longer ((DecidesAll-is_prefix_match g bytes).0 h))
   where
     longer : IsPrefixMatch g bytes → IsPrefixMatch g (bytes ++ 47 ∷ more)
     longer p = elim p [
@@ -86,7 +86,7 @@ prefix_match_below g bytes more h = (Tells-is_prefix_match g (bytes ++ 47 ∷ mo
 
 -- 3. Patterns of only stars.
 
-abbrev star_words : List ℕ → List Word
+abbrev star_words : List ℕ → List Lexeme
 star_words [] = []
 star_words (b ∷ bytes) = asterisk ∷ star_words bytes
 
@@ -97,58 +97,58 @@ star_tokens (b ∷ bytes) = part Star ∷ star_tokens bytes
 abbrev are_stars : List ℕ → Bool
 are_stars text = list_all (λ c. c == 42) text
 
-words-stars : (text : List ℕ) → are_stars text ≡ true → words (map sign_of text) ≡ star_words text
-unfolding words
-words-stars [] h = refl
-words-stars (b ∷ text) h =
+lexemes-stars : (text : List ℕ) → are_stars text ≡ true → lexemes (map symbol_of text) ≡ star_words text
+unfolding lexemes
+lexemes-stars [] h = refl
+lexemes-stars (b ∷ text) h =
     let parts = and_parts (b == 42) (are_stars text) h in
     let first : b ≡ 42 = (Decides-eqb b 42).0 parts.0 in
-    ap (λ x. words (sign_of x ∷ map sign_of text)) first ∙ ap (λ ws. asterisk ∷ ws) (words-stars text parts.1)
+    ap (λ x. lexemes (symbol_of x ∷ map symbol_of text)) first ∙ ap (λ ws. asterisk ∷ ws) (lexemes-stars text parts.1)
 
 -- after a star, each further star is parsed as one
-read-stars : (text : List ℕ) (b : ℕ) (before : List ℕ) → (all : List ℕ) × (read zero false (part Star ∷ star_tokens before) (star_words text) ≡ Ok (reverse (part Star ∷ star_tokens all)))
-unfolding read
-read-stars [] b before = (before, refl)
-read-stars (c ∷ []) b before = (b ∷ before, refl)
-read-stars (c ∷ d ∷ []) b before = (b ∷ b ∷ before, refl)
-read-stars (c ∷ d ∷ e ∷ text) b before = read-stars (e ∷ text) b (b ∷ b ∷ before)
+parse-stars : (text : List ℕ) (b : ℕ) (before : List ℕ) → (all : List ℕ) × (parse zero false (part Star ∷ star_tokens before) (star_words text) ≡ Ok (reverse (part Star ∷ star_tokens all)))
+unfolding parse
+parse-stars [] b before = (before, refl)
+parse-stars (c ∷ []) b before = (b ∷ before, refl)
+parse-stars (c ∷ d ∷ []) b before = (b ∷ b ∷ before, refl)
+parse-stars (c ∷ d ∷ e ∷ text) b before = parse-stars (e ∷ text) b (b ∷ b ∷ before)
 
 stars_reversed : (stars : List ℕ) (b : ℕ) (before : List ℕ) → (all : List ℕ) × (reverse_aux (star_tokens stars) (part Star ∷ star_tokens before) ≡ part Star ∷ star_tokens all)
 stars_reversed [] b before = (before, refl)
 stars_reversed (c ∷ stars) b before = stars_reversed stars b (b ∷ before)
 
-one_star : read zero false [] (asterisk ∷ []) ≡ Ok (part Star ∷ [])
-unfolding read
+one_star : parse zero false [] (asterisk ∷ []) ≡ Ok (part Star ∷ [])
+unfolding parse
 one_star = refl
 
-abbrev asterisks : List ℕ → List Sign
+abbrev asterisks : List ℕ → List Symbol
 asterisks [] = []
 asterisks (b ∷ bytes) = Asterisk ∷ asterisks bytes
 
-signs-stars : (text : List ℕ) → are_stars text ≡ true → map sign_of text ≡ asterisks text
+signs-stars : (text : List ℕ) → are_stars text ≡ true → map symbol_of text ≡ asterisks text
 signs-stars [] h = refl
 signs-stars (b ∷ text) h =
     let parts = and_parts (b == 42) (are_stars text) h in
     let first : b ≡ 42 = (Decides-eqb b 42).0 parts.0 in
-    ap (λ (x : ℕ). sign_of x ∷ map sign_of text) first ∙ ap (λ (s : List Sign). Asterisk ∷ s) (signs-stars text parts.1)
+    ap (λ (x : ℕ). symbol_of x ∷ map symbol_of text) first ∙ ap (λ (s : List Symbol). Asterisk ∷ s) (signs-stars text parts.1)
 
-first_stars : (d : ℕ) (text : List ℕ) (b c : ℕ) → read zero false [] (star_words (b ∷ c ∷ d ∷ text)) ≡ read zero false (part Star ∷ star_tokens (b ∷ [])) (star_words (d ∷ text))
-unfolding read
+first_stars : (d : ℕ) (text : List ℕ) (b c : ℕ) → parse zero false [] (star_words (b ∷ c ∷ d ∷ text)) ≡ parse zero false (part Star ∷ star_tokens (b ∷ [])) (star_words (d ∷ text))
+unfolding parse
 first_stars d text b c = refl
 
 -- two stars are parsed as one part, any other number as so many stars
 tokens_of-stars : (text : List ℕ) → is_stars text ≡ true → (tokens_of text ≡ Ok (part Everything ∷ [])) ⊎ ((all : List ℕ) × (tokens_of text ≡ Ok (part Star ∷ star_tokens all)))
 tokens_of-stars [] h = absurd (false≢true h)
 tokens_of-stars (b ∷ []) h =
-    inr ([], tokens_of-read (b ∷ []) (ap only_dirs (signs-stars (b ∷ []) h)) ∙ ap (read zero false []) (words-stars (b ∷ []) h) ∙ one_star)
+    inr ([], tokens_of-parse (b ∷ []) (ap only_dirs (signs-stars (b ∷ []) h)) ∙ ap (parse zero false []) (lexemes-stars (b ∷ []) h) ∙ one_star)
 tokens_of-stars (b ∷ c ∷ []) h = inl (tokens_of-only_dirs (b ∷ c ∷ []) (ap only_dirs (signs-stars (b ∷ c ∷ []) h)))
 tokens_of-stars (b ∷ c ∷ d ∷ text) h =
     let all = b ∷ c ∷ d ∷ text in
-    let further = read-stars (d ∷ text) b (b ∷ []) in
+    let further = parse-stars (d ∷ text) b (b ∷ []) in
     let back = stars_reversed further.0 b [] in
     inr (
       back.0,
-      tokens_of-read all (ap only_dirs (signs-stars all h)) ∙ ap (read zero false []) (words-stars all h) ∙ first_stars d text b c ∙ further.1
+      tokens_of-parse all (ap only_dirs (signs-stars all h)) ∙ ap (parse zero false []) (lexemes-stars all h) ∙ first_stars d text b c ∙ further.1
           ∙ ap (λ (ts : List Token). Ok ts) back.1,
     )
 
@@ -183,8 +183,8 @@ all_any (b ∷ bytes) = all_any bytes
 stars_match : (g : GlobSpec) → is_stars g.text ≡ true → (bytes : List ℕ) → list_all is_no_slash bytes ≡ true → is_match g bytes ≡ true
 unfolding is_match
 stars_match g stars bytes plain = elim (tokens_of-stars g.text stars) [
-  | inl e ↦ ap (λ r. is_yes (judge g.options bytes r)) e ∙ is_yes-verdict_of ((tests_of g.options (part Everything ∷ [])).here bytes) ∙ many_all any_byte is_empty bytes (all_any bytes) refl
-  | inr w ↦ ap (λ r. is_yes (judge g.options bytes r)) w.1 ∙ is_yes-verdict_of ((tests_of g.options (part Star ∷ star_tokens w.0)).here bytes)
+  | inl e ↦ ap (λ r. is_yes (outcome g.options bytes r)) e ∙ is_yes-outcome_of ((tests_of g.options (part Everything ∷ [])).here bytes) ∙ many_all any_byte is_empty bytes (all_any bytes) refl
+  | inr w ↦ ap (λ r. is_yes (outcome g.options bytes r)) w.1 ∙ is_yes-outcome_of ((tests_of g.options (part Star ∷ star_tokens w.0)).here bytes)
       ∙ many_all (is_plain g.options) (tests_of g.options (star_tokens w.0)).here bytes (all_plain g.options bytes plain) (stars_of_nothing g.options w.0)
 ]
 
@@ -211,8 +211,8 @@ up_to_slash (b ∷ bytes) = by_byte (b == 47) refl (up_to_slash bytes)
 pub stars_fit : (g : GlobSpec) → is_stars g.text ≡ true → (bytes : List ℕ) → is_prefix_match g bytes ≡ true
 stars_fit g stars bytes =
     let up = up_to_slash bytes in
-    let m : IsMatch g up.0 = (Tells-is_match g up.0).0 (stars_match g stars up.0 up.1.0) in
-    (Tells-is_prefix_match g bytes).1 (elim up.1.1 [
+    let m : IsMatch g up.0 = (DecidesAll-is_match g up.0).0 (stars_match g stars up.0 up.1.0) in
+    (DecidesAll-is_prefix_match g bytes).1 (elim up.1.1 [
       | inl all ↦ inl (subst (IsMatch g) (sym all) m)
       | inr w ↦ inr (up.0, w.0, w.1, m)
     ])

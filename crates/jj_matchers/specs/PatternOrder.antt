@@ -3,7 +3,7 @@
 use Rattle.std.specs.Prelude.{ℕ, Bool, true, false, ◌==◌, ◌&&◌, List, [], ◌∷◌, nat_lt, if◌then◌else◌}
 use Rattle.std.specs.List.{list_all}
 use Rattle.jj_globs.specs.GlobMeaning.{GlobSpec}
-use Rattle.jj_globs.specs.GlobFront.{front_of}
+use Rattle.jj_globs.specs.GlobPrefix.{glob_prefix}
 use Rattle.jj_matchers.specs.Patterns.{is_match, is_prefix_match}
 
 -- lexicographic order of byte strings
@@ -16,7 +16,7 @@ is_at_most (x ∷ front) (y ∷ bytes) = if x == y then is_at_most front bytes e
 abbrev pub is_sorted_by_prefix : List GlobSpec → Bool
 is_sorted_by_prefix [] = true
 is_sorted_by_prefix (glob ∷ globs) =
-    list_all (λ later. is_at_most (front_of glob) (front_of later)) globs
+    list_all (λ later. is_at_most (glob_prefix glob) (glob_prefix later)) globs
     && is_sorted_by_prefix globs
 
 -- whether the glob matches the path, or with the flag an ancestor

@@ -6,18 +6,18 @@ use Rattle.std.specs.List.{list_any, list_all}
 use Rattle.std.specs.Str.{bytes_eq}
 use Rattle.jj_paths.specs.Paths.{Name, Path, path_string}
 use Rattle.jj_matchers.specs.VisitSpecs.{VisitSpec, all_recursively, specific, nothing}
-use Rattle.jj_globs.specs.declared.glob.sign.Sign.TheVariants.{Asterisk}
+use Rattle.jj_globs.specs.declared.glob.symbol.Symbol.TheVariants.{Asterisk}
 use Rattle.jj_globs.specs.GlobMeaning.{GlobSpec, IsMatch, IsPrefixMatch}
-use Rattle.jj_globs.specs.GlobPlain.{Verdict, yes, no, faulty, matches}
-use Rattle.jj_globs.specs.GlobText.{byte_of}
+use Rattle.jj_globs.specs.GlobBacktracking.{Outcome, matched, unmatched, malformed, matches}
+use Rattle.jj_globs.specs.GlobSyntax.{byte_of}
 use Rattle.jj_matchers.specs.PathLists.{has_prefix, leads_to_listed, leads_to_prefix}
 
 -- 1. Strings.
 
-abbrev pub is_yes : Verdict → Bool
-is_yes yes = true
-is_yes no = false
-is_yes (faulty error) = false
+abbrev pub is_yes : Outcome → Bool
+is_yes matched = true
+is_yes unmatched = false
+is_yes (malformed error) = false
 
 -- whether the glob matches the bytes
 unfoldable pub is_match : GlobSpec → List ℕ → Bool

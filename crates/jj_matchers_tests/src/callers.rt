@@ -4,8 +4,8 @@ ghost use Rattle.std.specs.List.Sorted.{IsStrictlySortedBy};
 ghost use Rattle.jj_paths.specs.Paths.{Name, Path, IsBelow, path_cmp, path_string};
 ghost use Rattle.jj_paths.specs.Names.{path_of};
 ghost use Rattle.jj_globs.specs.GlobMeaning.{IsMatch};
-ghost use Rattle.jj_globs.specs.GlobReads.{IsReadingFault, glob_of_text};
-ghost use Rattle.jj_globs.specs.GlobText.{tokens_of};
+ghost use Rattle.jj_globs.specs.GlobParsing.{IsGlobParseError, glob_spec};
+ghost use Rattle.jj_globs.specs.GlobSyntax.{tokens_of};
 
 use jj_globs::glob::GlobError;
 use jj_matchers::laws::walks_find_accepted_marks;
@@ -48,9 +48,9 @@ pub fn files_matching(
     ensures found { IfOk result (λ found. (path : Path) → Contains found.items path
         ↔ (Contains (map path_of files.now) path × ((name : Name) × (rest : Path)
         × (path ≡ path_of dir.entry ++ name ∷ rest)
-        × IsMatch (glob_of_text pattern.now true false) (path_string (name ∷ rest))))) }
+        × IsMatch (glob_spec pattern.now true false) (path_string (name ∷ rest))))) }
     ensures ordered { IfOk result (λ found. IsStrictlySortedBy path_cmp found.items) }
-    ensures fault { IfErr result (λ error. IsReadingFault error (tokens_of pattern.now)) }
+    ensures fault { IfErr result (λ error. IsGlobParseError error (tokens_of pattern.now)) }
 {
     walks_find_accepted_marks();
     let glob = PathGlobPattern::parse(alloc, pattern)?;

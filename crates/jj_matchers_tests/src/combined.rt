@@ -1,6 +1,6 @@
 //! Tests of unions, differences and intersections of matchers.
 use crate::fixtures::{Expected, check_matcher, files, globs, prefix};
-use jj_content_tests::once_more::{Passed, passes};
+use jj_content_tests::retry::{Passed, passes};
 use jj_matchers::matchers::{
     DifferenceMatcher, EverythingMatcher, IntersectionMatcher, Matcher, NothingMatcher,
     PrefixMatcher, UnionMatcher,

@@ -1,7 +1,7 @@
 //! Matchers, visits and paths parsed from string literals, and assertions about matchers.
 //
 // Lists are separated by blanks, and `.` is the root.
-use jj_content_tests::once_more::Passed;
+use jj_content_tests::retry::Passed;
 use jj_globs::glob::GlobError;
 use jj_matchers::matchers::{
     FilesMatcher, GlobsMatcher, Matcher, PathGlobPattern, PrefixMatcher, Visit, VisitDirs,

@@ -1,6 +1,6 @@
 //! Tests of walks with combined and with boxed matchers.
 use crate::fixtures::{Expected, check_matcher, check_walk, files, globs, prefix};
-use jj_content_tests::once_more::{Passed, passes};
+use jj_content_tests::retry::{Passed, passes};
 use jj_matchers::matchers::{
     DifferenceMatcher, EverythingMatcher, IntersectionMatcher, Matcher, PrefixMatcher,
     UnionMatcher, Visit,

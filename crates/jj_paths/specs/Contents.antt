@@ -3,8 +3,8 @@
 use Rattle.std.specs.Prelude.{◌≡◌, ℕ, ◌<◌, ◌^◌, List, length}
 use Rattle.std.specs.Cmp.Lexicographic.{same_text}
 use Rattle.std.proofs.Common.{sym, ap, ◌∙◌}
-use Rattle.jj_content.specs.Content.{IsLawful, text_content}
-use Rattle.jj_content.specs.Lawful.{text_lawful}
+use Rattle.jj_content.specs.Content.{IsLawful, string_content}
+use Rattle.jj_content.specs.PrefixFreeProofs.{string_lawful}
 use Rattle.jj_paths.specs.Paths.{Path, path_string, components}
 use Rattle.jj_paths.specs.Orders.{path_eq, path_eq-Decides}
 
@@ -14,7 +14,7 @@ abbrev pub IsShortPath : Path → Type 0
 IsShortPath path = (components (path_string path) ≡ path) × (length (path_string path) < 2 ^ 64)
 
 abbrev pub path_content : Path → List ℕ
-path_content path = text_content (path_string path)
+path_content path = string_content (path_string path)
 
 pub path_lawful : IsLawful IsShortPath path_eq path_content
 path_lawful = record {
@@ -22,7 +22,7 @@ path_lawful = record {
   decides = λ x y s t p q h.
       let texts : path_string x ≡ path_string y =
       same_text (path_string x) (path_string y) (sym
-      (text_lawful.decides (path_string x) (path_string y) s t p.1 q.1 h)) in
+      (string_lawful.decides (path_string x) (path_string y) s t p.1 q.1 h)) in
       let same : x ≡ y = sym p.0 ∙ ap components texts ∙ q.0 in
       (path_eq-Decides x y).1 same;
 }

@@ -3,7 +3,7 @@
 use Rattle.std.specs.Prelude.{◌≡◌, ◌≢◌, ◌⊎◌, ⊤, true, IsSomeAnd, string_bytes}
 use Rattle.std.specs.List.{find}
 use Rattle.jj_paths.specs.Paths.{Name, Path}
-use Rattle.jj_files.specs.FsTexts.{is_dots}
+use Rattle.jj_files.specs.PathJoining.{is_dots}
 use Rattle.jj_paths.specs.declared.repo_path.to_fs.InvalidRepoPathComponentError.{InvalidRepoPathComponentError}
 use Rattle.jj_paths.specs.declared.repo_path.to_fs.InvalidRepoPathComponentError.TheVariants.{Invalid, Memory}
 use Rattle.jj_paths.specs.declared.repo_path.to_fs.InvalidRepoPathError.{InvalidRepoPathError}

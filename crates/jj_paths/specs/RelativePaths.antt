@@ -4,7 +4,7 @@
 use Rattle.std.specs.Prelude.{◌≡◌, ⊤, ℕ, Bool, false, true, not, ◌||◌, if◌then◌else◌, List, [], ◌∷◌, Option, Some, IsSomeAnd, string_bytes}
 use Rattle.std.specs.Str.{bytes_eq, is_utf8}
 use Rattle.std.specs.Path.{cur_dir, path_components}
-use Rattle.jj_files.specs.FsTexts.{is_place}
+use Rattle.jj_files.specs.PathJoining.{is_special_component}
 use Rattle.jj_paths.specs.declared.repo_path.from_relative.RelativePathParseError.{RelativePathParseError}
 use Rattle.jj_paths.specs.declared.repo_path.from_relative.RelativePathParseError.TheVariants.{InvalidComponent, InvalidUtf8, Memory}
 
@@ -20,14 +20,14 @@ relative_components path = without_lone_dot (path_components path)
 
 -- the component is not allowed in a repository path: `/`, `.`, `..`, or not UTF-8
 abbrev pub is_disallowed : List ℕ → Bool
-is_disallowed component = is_place component || not (is_utf8 component)
+is_disallowed component = is_special_component component || not (is_utf8 component)
 
 -- the error contains the path and its first component that is not allowed, with the reason, or is
 -- out of memory
 abbrev pub IsParseError : List ℕ → Option (List ℕ) → RelativePathParseError → Type 0
 IsParseError path refused (InvalidComponent component at) =
     (at.items ≡ path) × (refused ≡ Some (string_bytes component))
-    × (is_place (string_bytes component) ≡ true)
+    × (is_special_component (string_bytes component) ≡ true)
 IsParseError path refused (InvalidUtf8 at) =
     (at.items ≡ path) × IsSomeAnd refused (λ component. is_utf8 component ≡ false)
 IsParseError path refused Memory = ⊤

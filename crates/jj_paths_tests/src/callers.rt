@@ -4,7 +4,7 @@ ghost use Rattle.std.specs.Option.{option_copied};
 ghost use Rattle.std.specs.Io.KnownBytes.{Appends};
 ghost use Rattle.jj_paths.specs.Paths.{Path, is_path_string};
 ghost use Rattle.jj_paths.specs.Names.{path_of};
-ghost use Rattle.jj_files.specs.Streams.{AppendsFrontOf};
+ghost use Rattle.jj_files.specs.Streams.{AppendsPrefixOf};
 ghost use Rattle.jj_paths_tests.specs.Notes.{note_at, count_at};
 ghost use Rattle.jj_paths_tests.specs.PathErrors.{IsNoPathError};
 
@@ -72,7 +72,7 @@ pub fn rejoin(alloc: Global, text: &str) -> Result<String, InvalidNewRepoPathErr
 pub fn send<W: Sink>(bytes: &[u8], sink: &mut W) -> io::Result<usize>
     requires { W.has_failed sink.old ≡ false }
     ensures all { OnOk result (Appends (W.contents sink.old) (W.contents sink.new) bytes.now) }
-    ensures prefix { AppendsFrontOf (W.contents sink.old) (W.contents sink.new) bytes.now }
+    ensures prefix { AppendsPrefixOf (W.contents sink.old) (W.contents sink.new) bytes.now }
 {
     copy(&mut Watched::new(bytes), sink)
 }

@@ -2,7 +2,7 @@
 ghost use Rattle.std.specs.Prelude.{◌≡◌, ℕ, Bool, List, Result, Ok, Err, IsTrue};
 
 use crate::fixtures::{equals, is_text};
-use jj_content_tests::once_more::{Passed, passes};
+use jj_content_tests::retry::{Passed, passes};
 use jj_files::file_util::{
     DirAccess, IoResultExt, PathError, create_or_reuse_dir, is_empty_dir, remove_dir_contents,
 };

@@ -1,6 +1,6 @@
 //! Tests of error conversion by `?`, and of the message of an allocation failure.
 use crate::fixtures::is_text;
-use jj_content_tests::once_more::{Passed, passes};
+use jj_content_tests::retry::{Passed, passes};
 use jj_paths::repo_path::{InvalidNewRepoPathError, RepoPathBuf};
 use std::alloc::{AllocError, Global};
 use std::process::Abort;

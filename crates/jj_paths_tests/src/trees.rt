@@ -1,6 +1,6 @@
 //! Tests of path trees: after an allocation failure, with many children, and deep ones.
 use crate::fixtures::{equals, is_text, path};
-use jj_content_tests::once_more::{Passed, passes};
+use jj_content_tests::retry::{Passed, passes};
 use jj_paths::repo_path::{RepoPath, RepoPathBuf};
 use jj_paths::repo_path_tree::{RepoPathTree, RepoPathTreeChildren};
 use std::alloc::{AllocError, Global};

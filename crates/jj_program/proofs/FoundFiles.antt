@@ -3,10 +3,10 @@ use Rattle.std.proofs.Common.{◌≡◌, ◌⊎◌, Bool, true, false, not, ◌&
 use Rattle.std.proofs.lemmas.List.Folds.{Any-from_list_any, list_any_at}
 use Rattle.jj_paths.specs.Paths.{Path}
 use Rattle.jj_paths.specs.Tree.{Tree}
-use Rattle.jj_matchers.specs.Wanted.{is_at_or_below}
+use Rattle.jj_matchers.specs.PathLists.{is_at_or_below}
 use Rattle.jj_matchers.specs.Walk.{files_of, entered_by}
 use Rattle.jj_matchers.proofs.FoundMarks.{finds_marks, finds_in_order}
-use Rattle.jj_matchers.proofs.Wanted.{Decides-is_wanted, below_base, is_at_or_below-append}
+use Rattle.jj_matchers.proofs.PathLists.{Decides-is_listed, below_base, is_at_or_below-append}
 use Rattle.jj_matchers.proofs.PatternSound.{Decides-is_accepted}
 use Rattle.jj_program.specs.declared.file_set.Combination.TheVariants.{Union, Difference, Intersection}
 use Rattle.jj_program.specs.FoundFiles.{IsNamed, IsIn, AreFound, FindsItsFiles}
@@ -20,7 +20,7 @@ use Rattle.jj_program.specs.WalkCommand.{NamedSet, Everything, Nothing, Files, P
 named : (set : NamedSet) (path : Path) → Decides (named_accepts path set) (IsNamed set path)
 named Everything path = ((λ h. tt), (λ h. refl))
 named Nothing path = ((λ h. absurd (true≢false (sym h))), (λ h. absurd h))
-named (Files paths) path = Decides-is_wanted paths path
+named (Files paths) path = Decides-is_listed paths path
 named (Prefix paths) path = (
   (λ h. let found = Any-from_list_any (λ base. is_at_or_below base path) paths h in
       let rest = below_base found.1 path found.4 in

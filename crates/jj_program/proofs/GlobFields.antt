@@ -4,13 +4,13 @@ use Rattle.std.specs.Prelude.{is_ok, IsOk}
 use Rattle.jj_globs.specs.declared.glob.error.GlobError.{GlobError}
 use Rattle.jj_globs.specs.declared.glob.error.GlobError.TheVariants.{Memory, UnclosedClass, InvalidRange, NonAsciiRange, UnopenedAlternates, UnclosedAlternates, DanglingEscape}
 use Rattle.jj_globs.specs.declared.glob.token.Token.{Token}
-use Rattle.jj_globs.specs.GlobText.{tokens_of}
-use Rattle.jj_globs.specs.GlobReads.{IsReadingFault}
+use Rattle.jj_globs.specs.GlobSyntax.{tokens_of}
+use Rattle.jj_globs.specs.GlobParsing.{IsGlobParseError}
 use Rattle.jj_program.specs.declared.fault.LineFault.TheVariants.{BadGlob}
 use Rattle.jj_program.specs.Steps.{value_at}
 use Rattle.jj_program.specs.WalkCommand.{glob_of, is_glob_text}
 
-fails : (r : Result (List Token) GlobError) (error : GlobError) → error ≢ Memory → IsReadingFault error r → is_ok r ≡ false
+fails : (r : Result (List Token) GlobError) (error : GlobError) → error ≢ Memory → IsGlobParseError error r → is_ok r ≡ false
 fails r Memory other h = absurd (other refl)
 fails r UnclosedClass other h = ap is_ok h
 fails r InvalidRange other h = ap is_ok h
@@ -23,6 +23,6 @@ pub glob_at-reads : (text : List ℕ) → IsOk (tokens_of text) → value_at is_
 unfolding is_glob_text
 glob_at-reads text h = ap (λ t. cond t (Ok (glob_of text)) (Err BadGlob)) h
 
-pub glob_at-fails : (text : List ℕ) (error : GlobError) → error ≢ Memory → IsReadingFault error (tokens_of text) → value_at is_glob_text glob_of BadGlob text ≡ Err BadGlob
+pub glob_at-fails : (text : List ℕ) (error : GlobError) → error ≢ Memory → IsGlobParseError error (tokens_of text) → value_at is_glob_text glob_of BadGlob text ≡ Err BadGlob
 unfolding is_glob_text
 glob_at-fails text error other h = ap (λ t. cond t (Ok (glob_of text)) (Err BadGlob)) (fails (tokens_of text) error other h)

@@ -18,10 +18,10 @@ use Rattle.jj_program.specs.declared.file_set.Combination.TheVariants.{Union, Di
 use Rattle.jj_program.specs.declared.merge_command.Question.{Question}
 use Rattle.jj_program.specs.declared.merge_command.Question.TheVariants.{Simplify, Resolve}
 use Rattle.jj_merges.specs.declared.merge.SameChange.TheVariants.{Keep, Accept}
-use Rattle.jj_content.specs.Content.{text_content, list_content}
+use Rattle.jj_content.specs.Content.{string_content, list_content}
 use Rattle.jj_program.specs.declared.program.Command.{Command}
 use Rattle.jj_program.specs.declared.program.Command.TheVariants.{Walk, Merge, Graph, Hash}
-use Rattle.jj_paths.specs.Paths.{Path, is_path_text}
+use Rattle.jj_paths.specs.Paths.{Path, is_path_string}
 use Rattle.jj_program.specs.FieldPairs.{is_paired, firsts, seconds}
 use Rattle.jj_program.specs.GraphCommand.{GraphRequest, GraphState, graph_start, graph_step, graph_state, node_step, common_step, with_request, numbers_of, is_dash, Order, Heads}
 use Rattle.jj_program.specs.HashCommand.{bytes_of_hex, hash_step, hash_output, digest_of, with_digest, raw_bytes, content_of_one, content_of_merge}
@@ -112,9 +112,9 @@ not_below_two n h = le-ltb n 2 h
 marks : (earlier : List (List ℕ)) (state : WalkState) (fields : List (List ℕ)) → WalkTells earlier state fields one_path (mark_step state fields)
 marks earlier state [] = (refl, tt)
 marks earlier state (text ∷ other ∷ texts) = (refl, tt)
-marks earlier state (text ∷ []) = by (is_path_text text) refl
+marks earlier state (text ∷ []) = by (is_path_string text) refl
   where
-    by : (b : Bool) → is_path_text text ≡ b → WalkTells earlier state (text ∷ []) one_path (mark_step state (text ∷ []))
+    by : (b : Bool) → is_path_string text ≡ b → WalkTells earlier state (text ∷ []) one_path (mark_step state (text ∷ []))
     by true e = rw e (refl, refl)
     by false e = rw e (refl, tt)
 
@@ -123,16 +123,16 @@ set_pushed earlier state set [] = (refl, omega arith)
 set_pushed earlier state set (field ∷ fields) = (refl, tt)
 
 paths_pushed : (earlier : List (List ℕ)) (state : WalkState) (set : List Path → NamedSet) (fields : List (List ℕ)) → WalkTells earlier state fields any_paths (with_paths state set (paths_of fields))
-paths_pushed earlier state set fields = by (list_all is_path_text fields) refl
+paths_pushed earlier state set fields = by (list_all is_path_string fields) refl
   where
-    by : (b : Bool) → list_all is_path_text fields ≡ b → WalkTells earlier state fields any_paths (with_paths state set (paths_of fields))
+    by : (b : Bool) → list_all is_path_string fields ≡ b → WalkTells earlier state fields any_paths (with_paths state set (paths_of fields))
     by true e = rw e (refl, omega arith)
     by false e = rw e (refl, tt)
 
 globs_pushed : (earlier : List (List ℕ)) (state : WalkState) (prefix_paths : Bool) (fields : List (List ℕ)) → WalkTells earlier state fields dirs_and_globs (globs_step state prefix_paths fields)
-globs_pushed earlier state prefix_paths fields = by (is_paired fields) (list_all is_path_text (firsts fields)) (list_all is_glob_text (seconds fields)) refl refl refl
+globs_pushed earlier state prefix_paths fields = by (is_paired fields) (list_all is_path_string (firsts fields)) (list_all is_glob_text (seconds fields)) refl refl refl
   where
-    by : (paired paths globs : Bool) → is_paired fields ≡ paired → list_all is_path_text (firsts fields) ≡ paths → list_all is_glob_text (seconds fields) ≡ globs
+    by : (paired paths globs : Bool) → is_paired fields ≡ paired → list_all is_path_string (firsts fields) ≡ paths → list_all is_glob_text (seconds fields) ≡ globs
         → WalkTells earlier state fields dirs_and_globs (globs_step state prefix_paths fields)
     by false paths globs e f g = rw e (refl, tt)
     by true false globs e f g = rw (e, f) (refl, tt)
@@ -383,7 +383,7 @@ hash_agrees earlier output (name ∷ fields) = by (bytes_eq name (codes "raw")) 
     odd true e = rw e refl
     odd false e = rw e refl
 
-    by : (a b c d : Bool) → HasKind (with_digest output (digest_of (cond a (raw_bytes fields) (cond b (content_of_one fields) (cond c (Ok (list_content text_content fields)) (cond d (content_of_merge fields) (Err UnknownCommand)))))))
+    by : (a b c d : Bool) → HasKind (with_digest output (digest_of (cond a (raw_bytes fields) (cond b (content_of_one fields) (cond c (Ok (list_content string_content fields)) (cond d (content_of_merge fields) (Err UnknownCommand)))))))
         (first_kind (cond a one_hex (cond b one_text (cond c any_texts (cond d odd_texts unknown)))) earlier fields)
     by true b c d = raw fields
     by false true c d = one fields

@@ -4,7 +4,7 @@ use Rattle.std.proofs.Math.Seq.{take-suc}
 use Rattle.std.proofs.lemmas.Grind.{flat_map-append}
 use Rattle.std.specs.Io.KnownBytes.{Appends}
 use Rattle.std.proofs.KnownBytes.{Appends-trans}
-use Rattle.jj_files.specs.Streams.{AppendsFrontOf}
+use Rattle.jj_files.specs.Streams.{AppendsPrefixOf}
 use denote.Ref.{Bor}
 
 abbrev pub said : List (Bor (List ℕ)) → List ℕ
@@ -23,7 +23,7 @@ said_more texts place d within =
 
 -- a prefix of a part, after the earlier parts, is a prefix of the line
 pub said_front : (texts : List (Bor (List ℕ))) (place : ℕ) (d : Bor (List ℕ)) (text : List ℕ) → text ≡ (get_or texts place d).now → place < length texts
-    → (old middle new : Option (List ℕ)) → Appends old middle (said (take place texts)) → AppendsFrontOf middle new text → AppendsFrontOf old new (said texts)
+    → (old middle new : Option (List ℕ)) → Appends old middle (said (take place texts)) → AppendsPrefixOf middle new text → AppendsPrefixOf old new (said texts)
 said_front texts place d text is within old middle new before (written, rest, appended, unmarked) =
     let split = unmarked ∙ is in
     let front = said (take place texts) in

@@ -4,10 +4,10 @@ use Rattle.std.specs.List.{list_any}
 use Rattle.std.proofs.lemmas.List.Folds.{list_any-append}
 use Rattle.jj_paths.specs.Paths.{Name, Path}
 use Rattle.jj_globs.specs.GlobMeaning.{GlobSpec}
-use Rattle.jj_matchers.specs.Answers.{all_recursively, specific, nothing}
-use Rattle.jj_matchers.specs.Candidates.{names_of}
-use Rattle.jj_matchers.specs.Patterns.{Patterns, HasSamePatterns, pattern_dirs, is_accepted, is_covered, patterns_answer, tail_passes, accepts_tail, covers_tail}
-use Rattle.jj_matchers.specs.Wanted.{HasSamePaths, is_below, is_at_or_below}
+use Rattle.jj_matchers.specs.VisitSpecs.{all_recursively, specific, nothing}
+use Rattle.jj_matchers.specs.MentionedNames.{names_of}
+use Rattle.jj_matchers.specs.Patterns.{Patterns, HasSamePatterns, pattern_dirs, is_accepted, is_covered, patterns_spec, tail_passes, accepts_tail, covers_tail}
+use Rattle.jj_matchers.specs.PathLists.{HasSamePaths, is_below, is_at_or_below}
 use Rattle.jj_matchers.proofs.PatternTrees.{any-map}
 
 names_any : (test : Name → Bool) (paths : List Path) → list_any test (names_of paths) ≡ list_any (λ path. list_any test path) paths
@@ -34,7 +34,7 @@ module _ (own set : Patterns) (same : HasSamePatterns own set) where
   same_covered : (dir : Path) → is_covered own dir ≡ is_covered set dir
   same_covered dir = λ i. same.mode i && same.members (λ pattern. tail_passes pattern.0 (covers_tail pattern.1) dir) i
 
-  pub same_patterns_answer : (dir : Path) → patterns_answer own dir ≡ patterns_answer set dir
+  pub same_patterns_answer : (dir : Path) → patterns_spec own dir ≡ patterns_spec set dir
   same_patterns_answer dir = λ i.
       if same_covered dir i then all_recursively
       else (if same_dirs (λ prefix. is_at_or_below prefix dir) i then specific (λ name. true) (λ name. true)

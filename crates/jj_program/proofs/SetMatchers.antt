@@ -4,8 +4,8 @@ use Rattle.std.specs.List.{list_any}
 use Rattle.std.proofs.lemmas.List.{append_assoc, append-nil}
 use Rattle.std.proofs.lemmas.List.Folds.{list_any-append}
 use Rattle.jj_paths.specs.Paths.{Name, Path}
-use Rattle.jj_matchers.specs.Answers.{Answer, all_recursively, specific, nothing}
-use Rattle.jj_matchers.specs.Combined.{intersection_answer}
+use Rattle.jj_matchers.specs.VisitSpecs.{VisitSpec, all_recursively, specific, nothing}
+use Rattle.jj_matchers.specs.Combined.{intersection_spec}
 use Rattle.jj_program.specs.declared.file_set.Combination.{Combination}
 use Rattle.jj_program.specs.declared.file_set.Combination.TheVariants.{Union, Difference, Intersection}
 use Rattle.jj_program.specs.declared.file_set.FileSet.{FileSet}
@@ -31,8 +31,8 @@ pub record StandsForSet (matcher : SetTree LeafMatcher) (set : SetTree NamedSet)
   pub names : (test : Name → Bool) → list_any test (names_by leaf_names matcher) ≡ list_any test (names_by named_names set)
 
 -- the visit of an intersection depends on the set of names, not on their order
-same_intersection : (names others : List Name) → ((test : Name → Bool) → list_any test names ≡ list_any test others) → (a b : Answer) →
-    intersection_answer names a b ≡ intersection_answer others a b
+same_intersection : (names others : List Name) → ((test : Name → Bool) → list_any test names ≡ list_any test others) → (a b : VisitSpec) →
+    intersection_spec names a b ≡ intersection_spec others a b
 same_intersection names others same all_recursively b = refl
 same_intersection names others same nothing b = refl
 same_intersection names others same (specific dirs files) all_recursively = refl
@@ -42,7 +42,7 @@ same_intersection names others same (specific dirs files) (specific other_dirs o
     let both_files : Name → Bool = λ name. files name && other_files name in
     λ i. if (both_dirs [] || same both_dirs i) || (both_files [] || same both_files i) then specific both_dirs both_files else nothing
 
-same_joined : (k : Combination) (names others : List Name) → ((test : Name → Bool) → list_any test names ≡ list_any test others) → (a b : Answer) →
+same_joined : (k : Combination) (names others : List Name) → ((test : Name → Bool) → list_any test names ≡ list_any test others) → (a b : VisitSpec) →
     combined_answer k names a b ≡ combined_answer k others a b
 same_joined Union names others same a b = refl
 same_joined Difference names others same a b = refl

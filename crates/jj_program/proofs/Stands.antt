@@ -3,7 +3,7 @@ use Rattle.std.proofs.Common.{List, refl}
 use Rattle.jj_paths.specs.Paths.{Path}
 use Rattle.jj_paths.specs.Orders.{path_eq}
 use Rattle.jj_matchers.specs.Patterns.{Patterns, HasSamePatterns, pattern_dirs}
-use Rattle.jj_matchers.specs.Wanted.{HasSamePaths, is_at_or_below}
+use Rattle.jj_matchers.specs.PathLists.{HasSamePaths, is_at_or_below}
 use Rattle.jj_program.specs.declared.file_set.leaf_matcher.LeafMatcher.TheVariants.{Everything as Everything', Nothing as Nothing', Files as Files', Prefix as Prefix', Globs as Globs'}
 use Rattle.jj_program.specs.Leaves.{StandsFor}
 use Rattle.jj_program.specs.WalkCommand.{Everything, Nothing, Files, Prefix, Globs}

@@ -4,7 +4,7 @@
 use Rattle.std.specs.Prelude.{◌≡◌, ◌==◌, ◌%◌, ℕ, ◌+◌, ◌*◌, List, [], ◌∷◌, ◌++◌, cond, codes, length, Option, None, Some, Result, Ok, Err}
 use Rattle.std.specs.Str.{bytes_eq}
 use Rattle.jj_content.specs.Blake2b.{blake2b}
-use Rattle.jj_content.specs.Content.{text_content, list_content}
+use Rattle.jj_content.specs.Content.{string_content, list_content}
 use Rattle.jj_content.specs.Hex.{hex, hex_digits, digit_value}
 use Rattle.jj_program.specs.declared.fault.Fault.{Fault}
 use Rattle.jj_program.specs.declared.fault.LineFault.{LineFault}
@@ -42,11 +42,11 @@ abbrev pub raw_bytes : List (List ℕ) → Result (List ℕ) LineFault
 raw_bytes fields = of_one_field (λ text. or_bad_hex (bytes_of_hex text)) fields
 
 abbrev pub content_of_one : List (List ℕ) → Result (List ℕ) LineFault
-content_of_one fields = of_one_field (λ text. Ok (text_content text)) fields
+content_of_one fields = of_one_field (λ text. Ok (string_content text)) fields
 
 abbrev pub content_of_merge : List (List ℕ) → Result (List ℕ) LineFault
 content_of_merge fields =
-    cond (length fields % 2 == 1) (Ok (list_content text_content fields)) (Err BadFieldCount)
+    cond (length fields % 2 == 1) (Ok (list_content string_content fields)) (Err BadFieldCount)
 
 -- the bytes that a line describes
 abbrev pub named_bytes : List (List ℕ) → Result (List ℕ) LineFault
@@ -54,7 +54,7 @@ named_bytes [] = Err UnknownCommand
 named_bytes (name ∷ fields) =
     cond (bytes_eq name (codes "raw")) (raw_bytes fields)
     (cond (bytes_eq name (codes "text")) (content_of_one fields)
-    (cond (bytes_eq name (codes "list")) (Ok (list_content text_content fields))
+    (cond (bytes_eq name (codes "list")) (Ok (list_content string_content fields))
     (cond (bytes_eq name (codes "merge")) (content_of_merge fields)
     (Err UnknownCommand))))
 

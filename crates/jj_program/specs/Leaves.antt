@@ -3,9 +3,9 @@
 use Rattle.std.specs.Prelude.{◌≡◌, Bool, true, false, ◌||◌, List}
 use Rattle.std.specs.List.{list_any}
 use Rattle.jj_paths.specs.Paths.{Name, Path}
-use Rattle.jj_matchers.specs.Answers.{Answer}
+use Rattle.jj_matchers.specs.VisitSpecs.{VisitSpec}
 use Rattle.jj_matchers.specs.Patterns.{opens_to_patterns}
-use Rattle.jj_matchers.specs.Wanted.{leads_to_wanted, has_prefix, leads_to_prefix}
+use Rattle.jj_matchers.specs.PathLists.{leads_to_listed, has_prefix, leads_to_prefix}
 use Rattle.jj_program.specs.declared.file_set.leaf_matcher.LeafMatcher.{LeafMatcher}
 use Rattle.jj_program.specs.declared.file_set.leaf_matcher.LeafMatcher.TheVariants as leaf
 use Rattle.jj_program.specs.WalkCommand.{NamedSet, Everything, Nothing, Files, Prefix, Globs}
@@ -23,7 +23,7 @@ leaf_set (leaf.Globs patterns) = Globs patterns
 abbrev pub leaf_accepts : Path → LeafMatcher → Bool
 leaf_accepts path matcher = named_accepts path (leaf_set matcher)
 
-abbrev pub leaf_answer : Path → LeafMatcher → Answer
+abbrev pub leaf_answer : Path → LeafMatcher → VisitSpec
 leaf_answer dir matcher = named_answer dir (leaf_set matcher)
 
 abbrev pub leaf_names : LeafMatcher → List Name
@@ -33,7 +33,7 @@ leaf_names matcher = named_names (leaf_set matcher)
 abbrev pub named_opens : Path → NamedSet → Bool
 named_opens dir Everything = true
 named_opens dir Nothing = false
-named_opens dir (Files wanted) = leads_to_wanted wanted dir
+named_opens dir (Files wanted) = leads_to_listed wanted dir
 named_opens dir (Prefix prefixes) = has_prefix prefixes dir || leads_to_prefix prefixes dir
 named_opens dir (Globs patterns) = opens_to_patterns patterns dir
 

@@ -5,7 +5,7 @@ use Rattle.std.specs.Prelude.{◌≡◌, ◌≢◌, ◌==◌, ◌&&◌, ◌++◌
 use Rattle.std.specs.List.{after_first, before_first, count_by, find, list_all, list_any}
 use Rattle.std.specs.Option.{option_map, option_or}
 use Rattle.std.specs.Str.{bytes_eq}
-use Rattle.jj_paths.specs.Paths.{is_path_text}
+use Rattle.jj_paths.specs.Paths.{is_path_string}
 use Rattle.jj_program.specs.declared.fault.Fault.{Fault}
 use Rattle.jj_program.specs.declared.fault.Fault.TheVariants.{Matchers, Line}
 use Rattle.jj_program.specs.declared.fault.LineFault.{LineFault}
@@ -173,7 +173,7 @@ repeats_node form earlier fields = false
 abbrev pub has_fault : LineForm → (earlier fields : List (List ℕ)) → LineFault → Bool
 has_fault form earlier fields UnknownCommand = is_unknown form
 has_fault form earlier fields BadFieldCount = is_bad_count form fields
-has_fault form earlier fields BadPath = not (list_all is_path_text (path_fields form fields))
+has_fault form earlier fields BadPath = not (list_all is_path_string (path_fields form fields))
 has_fault form earlier fields BadGlob = not (list_all is_glob_text (glob_fields form fields))
 has_fault form earlier fields EmptyStack = combines form && nat_lt (sets_left earlier) 2
 has_fault form earlier fields BadNumber = not (list_all is_number (number_fields form fields))

@@ -2,10 +2,10 @@
 -- Machinery of private functions and fields.
 use Rattle.std.specs.Prelude.{◌≡◌, Bool, false, List, [], ◌∷◌}
 use Rattle.jj_paths.specs.Paths.{Name, Path}
-use Rattle.jj_matchers.specs.Answers.{Answer, IsSound}
-use Rattle.jj_matchers.specs.Candidates.{ChoosesFrom}
+use Rattle.jj_matchers.specs.VisitSpecs.{VisitSpec, IsSound}
+use Rattle.jj_matchers.specs.MentionedNames.{MentionsOnly}
 use Rattle.jj_matchers.specs.declared.matchers.visits.Visit.{Visit}
-use Rattle.jj_matchers.specs.Visits.{answer_of}
+use Rattle.jj_matchers.specs.Visits.{visit_spec}
 use Rattle.jj_program.specs.declared.file_set.leaf_matcher.LeafMatcher.{LeafMatcher}
 use Rattle.jj_program.specs.declared.file_set.leaf_matcher.LeafMatcher.TheVariants.{Nothing}
 use Rattle.jj_program.specs.declared.file_set.parts.Part.{Part}
@@ -30,7 +30,7 @@ set_accepts set path = passes (leaf_accepts path) set
 abbrev pub set_opens : SetTree LeafMatcher → Path → Bool
 set_opens set dir = is_open (leaf_opens dir) set
 
-abbrev pub set_answer : SetTree LeafMatcher → Path → Answer
+abbrev pub set_answer : SetTree LeafMatcher → Path → VisitSpec
 set_answer set dir = answer_by leaf_names (leaf_answer dir) set
 
 abbrev pub set_names : SetTree LeafMatcher → List Name
@@ -42,17 +42,17 @@ IsTold parts = (test : LeafMatcher → Bool)
     → (pass_over test parts (pass_at 0 false)).is_in ≡ passes test (made_by parts)
 
 -- a visit of a directory is the set's, and is sound
-pub record IsAnswerOf (dir : Path) (set : SetTree LeafMatcher) (answer : Answer) : Type 0 where
+pub record IsAnswerOf (dir : Path) (set : SetTree LeafMatcher) (answer : VisitSpec) : Type 0 where
   pub same : answer ≡ set_answer set dir
   pub sound : IsSound (set_accepts set) (set_opens set) dir answer
-  pub chosen : ChoosesFrom (set_names set) answer
+  pub chosen : MentionsOnly (set_names set) answer
 
 -- there is such a visit for each set of a stack
 abbrev pub AnswerAll : Path → List (SetTree LeafMatcher) → List Visit → Type 0
 AnswerAll dir [] [] = Unit {0}
 AnswerAll dir [] (visit ∷ visits) = ⊥
 AnswerAll dir (set ∷ sets) [] = ⊥
-AnswerAll dir (set ∷ sets) (visit ∷ visits) = IsAnswerOf dir set (answer_of visit)
+AnswerAll dir (set ∷ sets) (visit ∷ visits) = IsAnswerOf dir set (visit_spec visit)
     × AnswerAll dir sets visits
 
 -- equal instructions up to a matcher for the leaf

@@ -5,7 +5,7 @@ use Rattle.std.specs.Prelude.{◌≡◌, ℕ, List, [], ◌∷◌, Bool, true, f
 use Rattle.std.specs.Bool.{MatchBool}
 use Rattle.std.specs.Str.{bytes_eq, is_utf8}
 use Rattle.std.specs.Io.KnownBytes.{Appends, Consumes, IsAtEnd, Keeps}
-use Rattle.jj_files.specs.Streams.{AppendsFrontOf, Streams}
+use Rattle.jj_files.specs.Streams.{AppendsPrefixOf, Streams}
 use Rattle.jj_program.specs.declared.fault.Fault.{Fault}
 use Rattle.jj_program.specs.declared.fault.Fault.TheVariants.{ReadInput, NotUtf8, Memory, WriteOutput}
 use Rattle.jj_program.specs.declared.program.Command.{Command}
@@ -83,7 +83,7 @@ abbrev pub FailsBy : Command → (before after : Streams) → Fault → Type 0
 FailsBy command before after ReadInput = Keeps before.written after.written
 FailsBy command before after Memory = Keeps before.written after.written
 FailsBy command before after WriteOutput = (output : List ℕ)
-    × Answers command before after (Ok output) × AppendsFrontOf before.written after.written output
+    × Answers command before after (Ok output) × AppendsPrefixOf before.written after.written output
 FailsBy command before after fault = GivesFault command before after fault
 
 -- the input has this fault, or memory ran out

@@ -2,7 +2,7 @@
 -- Cited by contracts of public items: Says, report_text, usage_text.
 use Rattle.std.specs.Prelude.{◌≡◌, ℕ, List, [], ◌∷◌, ◌++◌, Bool, false, codes, Option}
 use Rattle.std.specs.Io.KnownBytes.{Appends}
-use Rattle.jj_files.specs.Streams.{AppendsFrontOf}
+use Rattle.jj_files.specs.Streams.{AppendsPrefixOf}
 use Rattle.jj_program.specs.declared.fault.Fault.{Fault}
 use Rattle.jj_program.specs.Faults.{fault_text}
 
@@ -17,4 +17,4 @@ report_text fault = codes "jj-core: " ++ fault_text fault ++ 10 ∷ []
 -- the line was appended, or a prefix of it by a sink that then failed
 abbrev pub Says : (before after : Option (List ℕ)) → (failed : Bool) → List ℕ → Type 0
 Says before after failed line =
-    AppendsFrontOf before after line × (failed ≡ false → Appends before after line)
+    AppendsPrefixOf before after line × (failed ≡ false → Appends before after line)

@@ -2,8 +2,8 @@
 -- over the leaves. Cited by contracts of public items through FoundFiles, WalkCommand, Walked.
 use Rattle.std.specs.Prelude.{Bool, not, ◌&&◌, ◌||◌, List, [], ◌∷◌, ◌++◌}
 use Rattle.jj_paths.specs.Paths.{Name}
-use Rattle.jj_matchers.specs.Answers.{Answer}
-use Rattle.jj_matchers.specs.Combined.{union_answer, difference_answer, intersection_answer}
+use Rattle.jj_matchers.specs.VisitSpecs.{VisitSpec}
+use Rattle.jj_matchers.specs.Combined.{union_spec, difference_spec, intersection_spec}
 use Rattle.jj_program.specs.declared.file_set.Combination.{Combination}
 use Rattle.jj_program.specs.declared.file_set.Combination.TheVariants.{Union, Difference, Intersection}
 use Rattle.jj_program.specs.declared.file_set.SetStep.{SetStep}
@@ -74,12 +74,12 @@ names_by names (both combination first second) =
     combined_names combination (names_by names first) (names_by names second)
 
 -- the visit of a directory, by those of the leaves
-abbrev pub combined_answer : Combination → List Name → Answer → Answer → Answer
-combined_answer Union names first second = union_answer first second
-combined_answer Difference names first second = difference_answer first second
-combined_answer Intersection names first second = intersection_answer names first second
+abbrev pub combined_answer : Combination → List Name → VisitSpec → VisitSpec → VisitSpec
+combined_answer Union names first second = union_spec first second
+combined_answer Difference names first second = difference_spec first second
+combined_answer Intersection names first second = intersection_spec names first second
 
-abbrev pub answer_by : {A : Type 0} → (A → List Name) → (A → Answer) → SetTree A → Answer
+abbrev pub answer_by : {A : Type 0} → (A → List Name) → (A → VisitSpec) → SetTree A → VisitSpec
 answer_by names answer (one set) = answer set
 answer_by names answer (both combination first second) =
     combined_answer combination (names_by names first ++ names_by names second)

@@ -3,8 +3,8 @@
 use Rattle.std.specs.Prelude.{ℕ, Bool, true, false, List, [], ◌∷◌, ◌++◌, cond, codes, length, is_ok, Result, Ok, Err}
 use Rattle.std.specs.Str.{bytes_eq}
 use Rattle.std.specs.List.{zip}
-use Rattle.jj_paths.specs.Paths.{Path, components, is_path_text}
-use Rattle.jj_globs.specs.GlobText.{tokens_of}
+use Rattle.jj_paths.specs.Paths.{Path, components, is_path_string}
+use Rattle.jj_globs.specs.GlobSyntax.{tokens_of}
 use Rattle.jj_globs.specs.GlobMeaning.{GlobSpec}
 use Rattle.jj_matchers.specs.Patterns.{Patterns}
 use Rattle.jj_program.specs.declared.file_set.Combination.{Combination}
@@ -46,11 +46,11 @@ with_set state set = record { marks = state.marks; stack = one set ∷ state.sta
 
 -- parses a path
 abbrev pub path_at : List ℕ → Result Path LineFault
-path_at text = value_at is_path_text components BadPath text
+path_at text = value_at is_path_string components BadPath text
 
 -- parses paths
 abbrev pub paths_of : List (List ℕ) → Result (List Path) LineFault
-paths_of texts = values_at is_path_text components BadPath texts
+paths_of texts = values_at is_path_string components BadPath texts
 
 -- pushes a set of paths
 abbrev pub with_paths : WalkState → (List Path → NamedSet) → Result (List Path) LineFault

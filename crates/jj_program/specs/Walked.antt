@@ -1,12 +1,12 @@
 -- The output of a walk.
 -- Cited by contracts of public items through FoundFiles, Program.
 use Rattle.std.specs.Prelude.{◌≡◌, ℕ, List, [], ◌∷◌, ◌++◌, Bool, true, false, codes, flat_map, Result, Ok, Err}
-use Rattle.jj_paths.specs.Paths.{Name, Path, path_text}
+use Rattle.jj_paths.specs.Paths.{Name, Path, path_string}
 use Rattle.jj_paths.specs.Tree.{Tree}
-use Rattle.jj_matchers.specs.Answers.{Answer, all_recursively, nothing}
-use Rattle.jj_matchers.specs.Wanted.{is_wanted, files_answer, has_prefix, prefix_answer}
-use Rattle.jj_matchers.specs.Candidates.{names_of}
-use Rattle.jj_matchers.specs.Patterns.{is_accepted, pattern_dirs, patterns_answer}
+use Rattle.jj_matchers.specs.VisitSpecs.{VisitSpec, all_recursively, nothing}
+use Rattle.jj_matchers.specs.PathLists.{is_listed, files_spec, has_prefix, prefix_spec}
+use Rattle.jj_matchers.specs.MentionedNames.{names_of}
+use Rattle.jj_matchers.specs.Patterns.{is_accepted, pattern_dirs, patterns_spec}
 use Rattle.jj_matchers.specs.Walk.{files_of, entered_by}
 use Rattle.jj_program.specs.declared.fault.Fault.{Fault}
 use Rattle.jj_program.specs.Lines.{line_text}
@@ -18,17 +18,17 @@ use Rattle.jj_program.specs.WalkCommand.{NamedSet, Everything, Nothing, Files, P
 abbrev pub named_accepts : Path → NamedSet → Bool
 named_accepts path Everything = true
 named_accepts path Nothing = false
-named_accepts path (Files paths) = is_wanted paths path
+named_accepts path (Files paths) = is_listed paths path
 named_accepts path (Prefix paths) = has_prefix paths path
 named_accepts path (Globs patterns) = is_accepted patterns path
 
 -- the visit of a directory by a leaf
-abbrev pub named_answer : Path → NamedSet → Answer
+abbrev pub named_answer : Path → NamedSet → VisitSpec
 named_answer dir Everything = all_recursively
 named_answer dir Nothing = nothing
-named_answer dir (Files paths) = files_answer paths dir
-named_answer dir (Prefix paths) = prefix_answer paths dir
-named_answer dir (Globs patterns) = patterns_answer patterns dir
+named_answer dir (Files paths) = files_spec paths dir
+named_answer dir (Prefix paths) = prefix_spec paths dir
+named_answer dir (Globs patterns) = patterns_spec patterns dir
 
 -- names that visits by a leaf may list
 abbrev pub named_names : NamedSet → List Name
@@ -43,12 +43,12 @@ abbrev pub accepted_by : SetTree NamedSet → Path → Bool
 accepted_by set path = passes (named_accepts path) set
 
 -- the visit of a directory by a set
-abbrev pub answered_by : SetTree NamedSet → Path → Answer
+abbrev pub answered_by : SetTree NamedSet → Path → VisitSpec
 answered_by set dir = answer_by named_names (named_answer dir) set
 
 -- a line with this name for each path
 abbrev pub path_lines : List ℕ → List Path → List ℕ
-path_lines name paths = flat_map (λ path. line_text name (path_text path ∷ [])) paths
+path_lines name paths = flat_map (λ path. line_text name (path_string path ∷ [])) paths
 
 -- the files found in a tree of marks, then the directories entered
 abbrev pub walk_lines : SetTree NamedSet → Tree Bool → List ℕ

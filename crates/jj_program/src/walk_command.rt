@@ -2,7 +2,7 @@
 //! files in the set and the directories that a pruned walk enters.
 ghost use Rattle.std.specs.Prelude.{◌≡◌, ◌++◌, List, [], ◌∷◌, length, map, Bool, Ok, MatchResult, IfOk, IfErr, OnOk};
 ghost use Rattle.jj_paths.specs.Names.{path_of};
-ghost use Rattle.jj_paths.specs.Paths.{Path, components, is_path_text};
+ghost use Rattle.jj_paths.specs.Paths.{Path, components, is_path_string};
 ghost use Rattle.jj_paths.specs.Tree.{Tree};
 ghost use Rattle.jj_globs.specs.GlobMeaning.{GlobSpec};
 ghost use Rattle.jj_matchers.specs.Marks.{IsMarkedTree};
@@ -39,7 +39,7 @@ impl<'t> Field<'t> for RepoPath<'t> {
 
     ghost value = { path_of };
 
-    ghost is_one = { is_path_text };
+    ghost is_one = { is_path_string };
 
     ghost value_of = { components };
 

@@ -8,13 +8,13 @@ use Rattle.std.specs.Option.{option_map}
 use Rattle.std.specs.Ordering.{nat_cmp, ordering_then}
 use Rattle.std.specs.declared.cmp.Ordering.{Ordering}
 use Rattle.std.specs.declared.cmp.Reverse.{Reverse}
-use Rattle.jj_ids.specs.Names.{name_of}
+use Rattle.jj_ids.specs.Names.{name_bytes}
 use Rattle.jj_ids.specs.declared.ref_name.names.Name.{Name}
 use Rattle.jj_stores.specs.ViewJoins.{Named, IsAscending}
 
 -- the name and index of a heap item
 abbrev pub name_and_index : {K : Type 0} → Reverse (Name K × ℕ) → List ℕ × ℕ
-name_and_index f = (name_of f.0.0, f.0.1)
+name_and_index f = (name_bytes f.0.0, f.0.1)
 
 -- the order of a max-heap with the least name on top; of equal names, the least index
 abbrev pub earlier_cmp : List ℕ × ℕ → List ℕ × ℕ → Ordering

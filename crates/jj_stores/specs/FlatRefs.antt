@@ -6,7 +6,7 @@ use Rattle.std.specs.Cmp.Lexicographic.{slice_cmp}
 use Rattle.std.specs.List.{AllByRecursion, filter_map}
 use Rattle.std.specs.Ordering.{nat_cmp, is_gt}
 use Rattle.std.specs.Str.{bytes_eq}
-use Rattle.jj_ids.specs.Names.{name_of}
+use Rattle.jj_ids.specs.Names.{name_bytes}
 use Rattle.jj_ids.specs.declared.ref_name.symbols.RemoteRefSymbol.{RemoteRefSymbol}
 use Rattle.jj_stores.specs.ViewJoins.{Named, IsAscending, remotes_with}
 
@@ -43,7 +43,7 @@ module _ {R : Type 0} where
     pub ascending : IsAscending ((name, found.1) ∷ others)
 
   abbrev pub symbol_ref_of : RemoteRefSymbol × Bor R → (List ℕ × List ℕ) × R
-  symbol_ref_of item = ((name_of item.0.name, name_of item.0.remote), item.1.now)
+  symbol_ref_of item = ((name_bytes item.0.name, name_bytes item.0.remote), item.1.now)
 
   -- one step of the iterator: the first remaining ref is yielded, or none remains
   abbrev pub YieldsRef : Named (Named R) → Option (RemoteRefSymbol × Bor R)

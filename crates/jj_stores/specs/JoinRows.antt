@@ -4,7 +4,7 @@
 use Rattle.std.specs.Prelude.{◌≡◌, ◌+◌, ℕ, List, [], length, Bool, true, false, Option}
 use Rattle.std.specs.Borrow.{Bor}
 use Rattle.std.specs.List.{sum_by}
-use Rattle.jj_ids.specs.Names.{name_of}
+use Rattle.jj_ids.specs.Names.{name_bytes}
 use Rattle.jj_ids.specs.declared.ref_name.names.Name.{Name}
 use Rattle.jj_stores.specs.RefTargets.{Target}
 use Rattle.jj_stores.specs.ViewJoins.{Named, IsViewJoin}
@@ -15,7 +15,7 @@ use Rattle.std.specs.Fn.{CalledAt}
 use denote.Param.Members.{Mut}
 
 abbrev pub ref_of : {K : Type 0} → Name K × Bor RemoteRef → List ℕ × RemoteRef
-ref_of r = (name_of r.0, r.1.now)
+ref_of r = (name_bytes r.0, r.1.now)
 
 -- the remaining local refs and remote refs of a join
 pub record RemainingJoin : Type 0 where

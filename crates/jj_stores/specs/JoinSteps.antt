@@ -2,7 +2,7 @@
 -- Cited by contracts of public items: YieldsRow.
 use Rattle.std.specs.Prelude.{ℕ, List, [], ◌∷◌, map, Option, Some, None, Result, Ok, Err}
 use Rattle.std.specs.Option.{option_copied}
-use Rattle.jj_ids.specs.Names.{name_of}
+use Rattle.jj_ids.specs.Names.{name_bytes}
 use Rattle.jj_ids.specs.declared.ref_name.names.Name.{Name}
 use Rattle.jj_stores.specs.RefTargets.{Target}
 use Rattle.jj_stores.specs.ViewJoins.{Named}
@@ -15,7 +15,7 @@ module _ {K : Type 0} where
   abbrev pub row_of : Name K × LocalRemoteRefTarget
       → List ℕ × (Option Target × Named RemoteRef)
   row_of row = (
-    name_of row.0,
+    name_bytes row.0,
     (option_copied row.1.local_target, map ref_of row.1.remote_refs.items),
   )
 

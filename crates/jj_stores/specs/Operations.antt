@@ -5,7 +5,7 @@ use Rattle.std.specs.Prelude.{◌≡◌, ℕ, pos, false, List, [], ◌++◌, No
 use Rattle.std.specs.BTreeMap.{BTreeMap}
 use Rattle.std.specs.declared.string.String.{String}
 use Rattle.std.specs.declared.vec.Vec.{Vec}
-use Rattle.jj_content.specs.Content.{AreValues, IsOptionOf, bool_content, list_content, text_content, option_content, entry_content}
+use Rattle.jj_content.specs.Content.{AreValues, IsOptionOf, bool_content, list_content, string_content, option_content, entry_content}
 use Rattle.jj_backend.specs.Contents.{AreBytes, bytes_content, IsText, IsTimestamp, timestamp_content}
 use Rattle.jj_backend.specs.Times.{IsDate}
 use Rattle.jj_backend.specs.declared.backend.timestamp.Timestamp.{Timestamp}
@@ -31,13 +31,13 @@ abbrev pub IsEvent : OperationMetadata → Type 0
 IsEvent m = IsRange m.time × IsText (string_bytes m.description)
 
 abbrev pub event_content : OperationMetadata → List ℕ
-event_content m = range_content m.time ++ text_content (string_bytes m.description)
+event_content m = range_content m.time ++ string_content (string_bytes m.description)
 
 abbrev pub IsAgent : OperationMetadata → Type 0
 IsAgent m = IsText (string_bytes m.hostname) × IsText (string_bytes m.username)
 
 abbrev pub agent_content : OperationMetadata → List ℕ
-agent_content m = text_content (string_bytes m.hostname) ++ text_content (string_bytes m.username)
+agent_content m = string_content (string_bytes m.hostname) ++ string_content (string_bytes m.username)
 
 -- `A` is the allocator of the strings and lists
 module _ {A : Type 0} where
@@ -45,15 +45,15 @@ module _ {A : Type 0} where
   AreAttributes = AreValues (λ e. IsText (string_bytes e.0) × IsText (string_bytes e.1))
 
   abbrev pub attributes_content : List (String A × String A) → List ℕ
-  attributes_content = list_content (entry_content (λ s. text_content (string_bytes s))
-      (λ s. text_content (string_bytes s)))
+  attributes_content = list_content (entry_content (λ s. string_content (string_bytes s))
+      (λ s. string_content (string_bytes s)))
 
 abbrev pub IsContext : OperationMetadata → Type 0
 IsContext m = Unit {0} × (IsOptionOf IsText m.workspace_name × AreAttributes m.attributes.entries)
 
 abbrev pub context_content : OperationMetadata → List ℕ
 context_content m = bool_content m.is_snapshot
-    ++ (option_content text_content m.workspace_name ++ attributes_content m.attributes.entries)
+    ++ (option_content string_content m.workspace_name ++ attributes_content m.attributes.entries)
 
 abbrev pub IsMetadata : OperationMetadata → Type 0
 IsMetadata m = IsEvent m × (IsAgent m × IsContext m)

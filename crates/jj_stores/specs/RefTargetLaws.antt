@@ -2,7 +2,7 @@
 -- Cited by contracts of public items: remote_ref_lawful, state_lawful.
 use Rattle.std.proofs.Common.{◌≡◌, ℕ, ◌++◌, List, Bool, true, refl, lit<, arith}
 use Rattle.jj_content.specs.Content.{IsLawful}
-use Rattle.jj_content.specs.Lawful.{on_lawful, both_lawful, list_lawful, option_lawful, same_u32}
+use Rattle.jj_content.specs.PrefixFreeProofs.{on_lawful, both_lawful, list_lawful, option_lawful, u32_prefix_free}
 use Rattle.jj_backend.specs.RecordLaws.{bytes_lawful}
 use Rattle.std.specs.Cmp.{IsEquivalence, and_equiv, on_equiv}
 use Rattle.std.specs.Cmp.Lexicographic.{pointwise, nat_list_eq_equiv, lists_equiv, options_equiv}
@@ -33,9 +33,9 @@ equal_states : (x y : RemoteRefState) (s t : List ℕ) → Unit {0} → Unit {0}
 equal_states New New s t p q h = refl
 equal_states Tracked Tracked s t p q h = refl
 equal_states New Tracked s t p q h = let same : 0 ≡ 1 =
-    same_u32 0 1 s t (lit< tt) (lit< tt) h in absurd (omega (arith, same))
+    u32_prefix_free 0 1 s t (lit< tt) (lit< tt) h in absurd (omega (arith, same))
 equal_states Tracked New s t p q h = let same : 1 ≡ 0 =
-    same_u32 1 0 s t (lit< tt) (lit< tt) h in absurd (omega (arith, same))
+    u32_prefix_free 1 0 s t (lit< tt) (lit< tt) h in absurd (omega (arith, same))
 
 pub state_lawful : IsLawful (λ _. Unit {0}) ghosts.eq state_content
 state_lawful = record { same = same_content; decides = equal_states }

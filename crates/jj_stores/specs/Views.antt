@@ -6,7 +6,7 @@ use Rattle.std.specs.HashSet as set
 use Rattle.std.specs.Ordering.{nat_cmp}
 use Rattle.std.specs.Cmp.Lexicographic.{slice_cmp}
 use Rattle.std.specs.Str.{bytes_eq}
-use Rattle.jj_content.specs.Content.{AreValues, list_content, text_content, set_content, entry_content}
+use Rattle.jj_content.specs.Content.{AreValues, list_content, string_content, set_content, entry_content}
 use Rattle.jj_backend.specs.Contents.{AreBytes, bytes_content, IsText}
 use Rattle.jj_stores.specs.RefTargets.{IsTarget, target_content, IsRemoteRef, remote_ref_content}
 use Rattle.jj_stores.specs.declared.op_store.view.RemoteView.{RemoteView}
@@ -18,7 +18,7 @@ module _ {V : Type 0} where
   AreNamed is_value = AreValues (λ e. IsText e.0 × is_value e.1)
 
   abbrev pub named_content : (V → List ℕ) → List (List ℕ × V) → List ℕ
-  named_content value = list_content (entry_content text_content value)
+  named_content value = list_content (entry_content string_content value)
 
 -- ---- remote views
 

@@ -1,6 +1,6 @@
 //! The interface of stores that map workspace names to paths.
 ghost use Rattle.std.specs.Prelude.{◌≡◌, ℕ, List, Option, OnOk, OnErr, IfOk, map, option_map, string_bytes};
-ghost use Rattle.jj_ids.specs.Names.{name_of};
+ghost use Rattle.jj_ids.specs.Names.{name_bytes};
 ghost use Rattle.jj_stores.specs.Workspaces.{HaveSamePaths, with_renamed, with_path, without_names};
 ghost use Rattle.jj_stores.specs.declared.workspace_store.WorkspaceStoreError.{WorkspaceStoreError};
 
@@ -60,7 +60,7 @@ pub trait WorkspaceStore {
         path: &str,
     ) -> Result<(), WorkspaceStoreError>
         ensures added { OnOk result (HaveSamePaths
-            (with_path (name_of workspace_name.entry) path.now (paths self.old))
+            (with_path (name_bytes workspace_name.entry) path.now (paths self.old))
             (paths self.new)) }
         ensures error { OnErr result (HaveSamePaths (paths self.old) (paths self.new)) };
 
@@ -71,7 +71,7 @@ pub trait WorkspaceStore {
         workspace_names: &[WorkspaceName<'_>],
     ) -> Result<(), WorkspaceStoreError>
         ensures forgotten { OnOk result (HaveSamePaths
-            (without_names (map name_of workspace_names.now) (paths self.old))
+            (without_names (map name_bytes workspace_names.now) (paths self.old))
             (paths self.new)) }
         ensures error { OnErr result (HaveSamePaths (paths self.old) (paths self.new)) };
 
@@ -83,7 +83,7 @@ pub trait WorkspaceStore {
         new_name: WorkspaceName<'_>,
     ) -> Result<(), WorkspaceStoreError>
         ensures renamed { OnOk result (HaveSamePaths
-            (with_renamed (name_of old_name.entry) (name_of new_name.entry) (paths self.old))
+            (with_renamed (name_bytes old_name.entry) (name_bytes new_name.entry) (paths self.old))
             (paths self.new)) }
         ensures error { OnErr result (HaveSamePaths (paths self.old) (paths self.new)) };
 
@@ -94,5 +94,5 @@ pub trait WorkspaceStore {
         workspace_name: WorkspaceName<'_>,
     ) -> Result<Option<String>, WorkspaceStoreError>
         ensures { IfOk result (λ path.
-            option_map string_bytes path ≡ paths self.now (name_of workspace_name.entry)) };
+            option_map string_bytes path ≡ paths self.now (name_bytes workspace_name.entry)) };
 }

@@ -1,7 +1,7 @@
 //! Tests of joins of local and remote refs, formatted as strings: one row for each name.
 use crate::callers::joined_bookmarks;
 use jj_backend::backend::CommitId;
-use jj_content_tests::once_more::{holds, tells};
+use jj_content_tests::retry::{holds, returns_string};
 use jj_ids::object_id::ObjectId;
 use jj_ids::ref_name::{RefName, RefNameBuf, RemoteNameBuf};
 use jj_merges::merge::Merge;
@@ -205,5 +205,5 @@ fn flat_bookmarks(alloc: Global) -> Result<String, AllocError> {
 
 #[test]
 fn refs_of_all_remotes_go_by_name(rt: HostRuntime) {
-    assert!(rt; tells(&rt, flat_bookmarks, "a@x=01;a@y=02;b@x=03;d@y=04;"));
+    assert!(rt; returns_string(&rt, flat_bookmarks, "a@x=01;a@y=02;b@x=03;d@y=04;"));
 }

@@ -1,8 +1,8 @@
 //! Tests of the JSON values of time ranges and operations.
 use jj_backend::backend::{MillisSinceEpoch, Timestamp};
 use jj_content::content_hash::{ToJson, ToJsonError};
-use jj_content_tests::json_texts::json_text;
-use jj_content_tests::once_more::tells_of;
+use jj_content_tests::json_strings::json_string;
+use jj_content_tests::retry::returns_shown;
 use jj_ids::ref_name::WorkspaceNameBuf;
 use jj_stores::op_store::{Operation, OperationId, OperationMetadata, TimestampRange, ViewId};
 use std::alloc::{AllocError, Global};
@@ -23,7 +23,7 @@ const RANGE: TimestampRange = TimestampRange {
 fn ranges_as_objects(rt: HostRuntime) {
     let expected = "{\"end\":\"1969-12-31T22:59:59.999-01:00\",\
          \"start\":\"1970-01-01T01:30:00.001+01:30\"}";
-    assert!(rt; tells_of(&rt, |_| Ok(RANGE), json_text, expected));
+    assert!(rt; returns_shown(&rt, |_| Ok(RANGE), json_string, expected));
 }
 
 #[test]
@@ -77,7 +77,7 @@ fn metadata_as_objects(rt: HostRuntime) {
          \"time\":{\"end\":\"1969-12-31T22:59:59.999-01:00\",\
          \"start\":\"1970-01-01T01:30:00.001+01:30\"},\
          \"username\":\"u\",\"workspace_name\":\"w\"}";
-    assert!(rt; tells_of(&rt, metadata_in_workspace, json_text, expected));
+    assert!(rt; returns_shown(&rt, metadata_in_workspace, json_string, expected));
 }
 
 fn operation(alloc: Global) -> Result<Operation, AllocError> {
@@ -97,5 +97,5 @@ fn operations_as_objects(rt: HostRuntime) {
          \"time\":{\"end\":\"1969-12-31T22:59:59.999-01:00\",\
          \"start\":\"1970-01-01T01:30:00.001+01:30\"},\
          \"username\":\"u\",\"workspace_name\":null}";
-    assert!(rt; tells_of(&rt, operation, json_text, expected));
+    assert!(rt; returns_shown(&rt, operation, json_string, expected));
 }

@@ -1,8 +1,8 @@
 //! Tests of views and operations: root records, tracked refs, equality, and content bytes in
 //! hexadecimal.
 use jj_backend::backend::CommitId;
-use jj_content_tests::content_texts::content_text;
-use jj_content_tests::once_more::{holds, tells_of};
+use jj_content_tests::content_hex::content_hex;
+use jj_content_tests::retry::{holds, returns_shown};
 use jj_ids::object_id::ObjectId;
 use jj_ids::ref_name::RefNameBuf;
 use jj_merges::merge::Merge;
@@ -60,7 +60,7 @@ fn options_without_the_option(rt: HostRuntime) {
 #[test]
 fn content_of_a_remote_ref(rt: HostRuntime) {
     let expected = "01000000000000000100000001000000000000000501000000";
-    assert!(rt; tells_of(&rt, |alloc| tracked(alloc, 5), content_text, expected));
+    assert!(rt; returns_shown(&rt, |alloc| tracked(alloc, 5), content_hex, expected));
 }
 
 fn bookmark(alloc: Global, view: &mut RemoteView) -> Result<(), AllocError> {
@@ -79,7 +79,7 @@ fn remote_view(alloc: Global) -> Result<RemoteView, AllocError> {
 fn content_of_a_remote_view(rt: HostRuntime) {
     let expected = "0100000000000000010000000000000061\
          010000000000000000000000000000000000000000000000";
-    assert!(rt; tells_of(&rt, remote_view, content_text, expected));
+    assert!(rt; returns_shown(&rt, remote_view, content_hex, expected));
 }
 
 fn root_view(alloc: Global) -> Result<View, AllocError> {
@@ -88,7 +88,7 @@ fn root_view(alloc: Global) -> Result<View, AllocError> {
 
 // One head of one byte, and six empty maps.
 fn has_one_head(alloc: Global) -> Result<bool, AllocError> {
-    let text = content_text(alloc, &root_view(alloc)?)?;
+    let text = content_hex(alloc, &root_view(alloc)?)?;
     let head = "0100000000000000010000000000000007";
     Ok(text.as_str().starts_with(head) && text.len() == 34 + 6 * 16)
 }
@@ -157,7 +157,7 @@ fn content_of_an_operation(rt: HostRuntime) {
     let expected = "0100000000000000030100000000000000010000000000000009\
          0000000000000000000000000000000000000000000000000000000000000000\
          01000000000000006800000000000000000100000000000000000000000000000000";
-    assert!(rt; tells_of(&rt, child, content_text, expected));
+    assert!(rt; returns_shown(&rt, child, content_hex, expected));
 }
 
 fn operations_differ(alloc: Global) -> Result<bool, AllocError> {

@@ -2,7 +2,7 @@
 ghost use Rattle.std.specs.Prelude.{codes};
 
 use jj_backend::signing::SignError;
-use jj_content_tests::once_more::succeeds;
+use jj_content_tests::retry::succeeds;
 use jj_files::file_util::{SourceError, SourceKind};
 use jj_ids::object_id::CommitId;
 use jj_stores::signing::{SigStatus, SignResult, Signer, SigningBackend, Verification};

@@ -1,7 +1,7 @@
 //! Tests of a view without empty fields: its content bytes and its clones.
 use jj_backend::backend::CommitId;
-use jj_content_tests::content_texts::content_text;
-use jj_content_tests::once_more::{holds, tells_of};
+use jj_content_tests::content_hex::content_hex;
+use jj_content_tests::retry::{holds, returns_shown};
 use jj_ids::ref_name::NameBuf;
 use jj_merges::merge::Merge;
 use jj_stores::op_store::{RefTarget, RemoteRef, RemoteRefState, RemoteView, View};
@@ -86,5 +86,5 @@ fn a_view_is_its_parts(rt: HostRuntime) {
          0100000000000000010000000000000065010000000000000001000000010000000000000004\
          0100000000000000010000000000000066010000000000000001000000010000000000000005\
          0100000000000000010000000000000067010000000000000006";
-    assert!(rt; tells_of(&rt, filled_view, content_text, expected));
+    assert!(rt; returns_shown(&rt, filled_view, content_hex, expected));
 }

@@ -6,7 +6,7 @@ ghost use Rattle.jj_strings.specs.StringSets.{InPattern, is_all};
 ghost use Rattle.jj_strings.specs.PatternViews.{pattern_of};
 ghost use Rattle.jj_strings_tests.specs.Selected.{Selects};
 
-use jj_content_tests::drained::all_of;
+use jj_content_tests::fallible_iterators::collect_fallible;
 use jj_ids::object_id::CommitId;
 use jj_ids::ref_name::RefNameBuf;
 use jj_strings::str_util::{StringMatcher, StringPattern};
@@ -40,7 +40,7 @@ pub fn refs_named<'a>(
     ensures { IfOk result (λ found. Selects (λ entry. InMatcher matcher.now entry.0)
         refs.now.entries (map deref_pair found.items)) }
 {
-    all_of(alloc, matcher.filter_btree_map(alloc, refs))
+    collect_fallible(alloc, matcher.filter_btree_map(alloc, refs))
 }
 
 /// Whether a pattern matches a byte string, by its matcher. Proved for patterns that do not

@@ -1,7 +1,7 @@
 //! Parsed patterns, and checks of debug forms, matches and iterators.
 ghost use Rattle.std.specs.Iterator.{IsFinite};
 
-use jj_content_tests::once_more::Passed;
+use jj_content_tests::retry::Passed;
 use jj_strings::str_util::{
     StringExpression, StringMatcher, StringPattern, StringPatternParseError,
 };

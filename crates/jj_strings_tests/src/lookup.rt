@@ -2,7 +2,7 @@
 ghost use Rattle.std.specs.Prelude.{refl, string_bytes};
 
 use crate::fixtures::{collect, matcher};
-use jj_content_tests::once_more::{Passed, passes};
+use jj_content_tests::retry::{Passed, passes};
 use jj_strings::str_util::{StringMatcher, TextKey};
 use std::alloc::{AllocError, Global};
 use std::cell::Cell;

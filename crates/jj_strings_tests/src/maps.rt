@@ -3,7 +3,7 @@
 ghost use Rattle.std.specs.Iterator.{IsFinite};
 
 use crate::fixtures::{check_debug, check_match, collect, matcher};
-use jj_content_tests::once_more::{Passed, passes};
+use jj_content_tests::retry::{Passed, passes};
 use jj_ids::ref_name::{GitRefNameBuf, RefNameBuf, RemoteNameBuf, WorkspaceNameBuf};
 use jj_strings::str_util::{BytePredicate, ByteTest, StringMatcher, TextKey};
 use std::alloc::{AllocError, Global};

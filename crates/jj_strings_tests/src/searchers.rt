@@ -1,6 +1,6 @@
 //! Tests of searchers: many strings with one matcher.
 use crate::fixtures::{check_result, expression};
-use jj_content_tests::once_more::{Passed, passes};
+use jj_content_tests::retry::{Passed, passes};
 use jj_strings::str_util::{StringExpression, StringMatcher, StringSearcher};
 use std::alloc::{AllocError, Global};
 use std::process::Abort;

@@ -2,7 +2,7 @@
 ghost use Rattle.std.specs.Prelude.{◌≡◌, ◌≢◌, ◌≤◌, ◌⊎◌, [], true, codes, Some};
 ghost use Rattle.std.specs.Prelude.{IfOk, IfErr, OnOk, OnErr, IsErrAnd, string_bytes};
 ghost use Rattle.std.specs.Option.{option_map};
-ghost use Rattle.jj_content.specs.Content.{text_content};
+ghost use Rattle.jj_content.specs.Content.{string_content};
 ghost use Rattle.jj_backend.specs.Contents.{bytes_content, copy_history_content, commit_content};
 ghost use Rattle.jj_backend.specs.Errors.{is_unsupported};
 ghost use Rattle.jj_backend.specs.Objects.{AddsFile, AddsSymlink, AddsCopy, AddsTree};
@@ -242,11 +242,11 @@ impl Backend for MemoryBackend {
         ensures ok { IfOk result (λ id.
             AddsSymlink (objects_of self.old) (objects_of self.new) id target.now) }
         ensures id { IfOk result (λ id.
-            id ≡ object_id self.old.id_length (text_content target.now)) }
+            id ≡ object_id self.old.id_length (string_content target.now)) }
         ensures frame { self.new ≡ record self.old { symlinks = self.new.symlinks } }
         ensures unchanged { OnErr result (self.new ≡ self.old) }
         ensures error { IfErr result (IsStoreError self.old.symlinks
-            (object_id self.old.id_length (text_content target.now)) target.now) }
+            (object_id self.old.id_length (string_content target.now)) target.now) }
     {
         let text = String::from_str(alloc, target)?;
         let id = content_id(alloc, self.id_length, &text)?;

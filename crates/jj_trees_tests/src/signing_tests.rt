@@ -3,7 +3,7 @@ use jj_backend::backend::{
     Backend, BackendError, BackendResult, Commit, SigningFn, TreeId, make_root_commit,
 };
 use jj_backend::signing::SignResult;
-use jj_content_tests::once_more::holds;
+use jj_content_tests::retry::holds;
 use jj_files::file_util::SourceKind;
 use jj_paths::repo_path::RepoPath;
 use jj_trees::memory_backend::MemoryBackend;

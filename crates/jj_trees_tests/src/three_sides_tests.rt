@@ -1,7 +1,7 @@
 //! Test of the three-way merge of `three_sides`: its description, also after it is written back.
 use crate::three_sides::{describe, merge_labelled, sides_of, write_back, write_files};
 use jj_backend::backend::{BackendError, BackendResult, TreeId};
-use jj_content_tests::once_more::holds;
+use jj_content_tests::retry::holds;
 use jj_merges::conflict_labels::ConflictLabels;
 use jj_merges::merge::Merge;
 use jj_trees::memory_backend::MemoryBackend;

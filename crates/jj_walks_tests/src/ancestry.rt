@@ -9,7 +9,7 @@ ghost use Rattle.jj_walks_tests.specs.declared.commits.Commit.{Commit};
 ghost use Rattle.jj_walks_tests.specs.Commits.{has_commit, ids_of, known_ids, parent_graph, IsParentsFirst, IsOnCycle};
 
 use crate::commits::{Commit, commits_of, parents_of, sound_parents_of};
-use jj_content_tests::drained::all_of;
+use jj_content_tests::fallible_iterators::collect_fallible;
 use jj_walks::dag_walk::{WalkError, dfs, heads, topo_order_forward};
 use jj_walks::dag_walk_async::closest_common_nodes;
 use std::alloc::{AllocError, Global};
@@ -88,5 +88,5 @@ pub fn ancestors<'a>(
         |commit: &&Commit| &commit.id,
         |commit: &&Commit| parents_of(commits, *commit),
     )?;
-    all_of(alloc, walk)
+    collect_fallible(alloc, walk)
 }

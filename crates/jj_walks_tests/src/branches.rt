@@ -91,7 +91,7 @@ pub fn grouped_commits<'a>(
 mod tests {
     use super::grouped_commits;
     use crate::commits::Commit;
-    use jj_content_tests::once_more::passes;
+    use jj_content_tests::retry::passes;
     use jj_walks::graph::GroupedGraphError;
     use std::alloc::{AllocError, Global};
     use std::process::Abort;

@@ -3,7 +3,7 @@ ghost use Rattle.std.specs.Prelude.{◌≡◌, IfOk};
 ghost use Rattle.jj_dag.specs.Graph.{IsPreorder};
 ghost use Rattle.jj_walks_tests.specs.GraphOfMap.{graph_of, neighbors_in};
 
-use jj_content_tests::drained::all_of;
+use jj_content_tests::fallible_iterators::collect_fallible;
 use jj_walks::dag_walk::dfs;
 use std::alloc::{AllocError, Global};
 use std::collections::HashMap;
@@ -32,5 +32,5 @@ pub fn preorder_of_map(
         |id: &u64| *id,
         |id: &u64| listed(graph, *id).iter().copied(),
     )?;
-    all_of(alloc, walk)
+    collect_fallible(alloc, walk)
 }

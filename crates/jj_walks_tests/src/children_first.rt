@@ -88,7 +88,7 @@ pub fn next_ids(
 mod tests {
     use super::*;
     use crate::outcomes::found;
-    use jj_content_tests::once_more::passes;
+    use jj_content_tests::retry::passes;
     use std::alloc::AllocError;
     use std::process::Abort;
     use std::test::Fail;

@@ -1,6 +1,6 @@
 //! Chunks that end with an error leave no start.
 use crate::outcomes::met;
-use jj_content_tests::once_more::passes;
+use jj_content_tests::retry::passes;
 use jj_walks::dag_walk::WalkError;
 use jj_walks::dag_walk_async::topo_order_reverse_chunked;
 use smallvec::SmallVec;

@@ -1,6 +1,6 @@
 //! The closest common nodes of two sets, in graphs whose calls are counted.
 use crate::outcomes::found;
-use jj_content_tests::once_more::passes;
+use jj_content_tests::retry::passes;
 use jj_walks::dag_walk::WalkError;
 use jj_walks::dag_walk_async::closest_common_nodes;
 use std::alloc::{AllocError, Global};

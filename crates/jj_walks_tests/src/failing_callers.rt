@@ -78,7 +78,7 @@ pub fn whole_tips<'a>(
 #[cfg(test)]
 mod tests {
     use super::*;
-    use jj_content_tests::once_more::passes;
+    use jj_content_tests::retry::passes;
     use std::alloc::AllocError;
     use std::process::Abort;
     use std::test::Fail;

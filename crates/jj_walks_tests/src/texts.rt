@@ -1,6 +1,6 @@
 //! Walks over texts: a clone of a text equals it, and is another value.
 use crate::outcomes::found;
-use jj_content_tests::once_more::passes;
+use jj_content_tests::retry::passes;
 use jj_walks::dag_walk::{WalkError, heads, topo_order_forward};
 use std::alloc::{AllocError, Global};
 use std::collections::HashSet;

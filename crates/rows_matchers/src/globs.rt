@@ -68,7 +68,7 @@ fn glob_literal_prefix(
     values: &mut Values,
 ) -> Result<(), RowError> {
     if let Some(glob) = parse(alloc, fields, values)? {
-        values.bytes(glob.front());
+        values.bytes(glob.literal_prefix());
     }
     Ok(())
 }

@@ -15,7 +15,7 @@ struct ContentBytes {
 impl DigestUpdate for ContentBytes {
     ghost use Rattle.std.specs.Prelude.{◌≡◌, false};
 
-    ghost stands_for = { λ content bytes. content.failed ≡ false → content.bytes.items ≡ bytes };
+    ghost absorbed = { λ content bytes. content.failed ≡ false → content.bytes.items ≡ bytes };
 
     fn update(&mut self, bytes: &[u8]) {
         if self.bytes.extend_from_slice(bytes).is_err() {

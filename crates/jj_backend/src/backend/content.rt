@@ -1,7 +1,7 @@
 //! Content hashes of the records that a backend stores.
 ghost use Rattle.std.specs.Prelude.{OnOk, OnErr};
-ghost use Rattle.jj_content.specs.Content.{Takes, TakesFront, IsLawful};
-ghost use Rattle.jj_content.specs.Lawful.{on_lawful, both_lawful, i32_lawful, i64_lawful};
+ghost use Rattle.jj_content.specs.Content.{Absorbs, AbsorbsPrefix, IsLawful};
+ghost use Rattle.jj_content.specs.PrefixFreeProofs.{on_lawful, both_lawful, i32_lawful, i64_lawful};
 ghost use Rattle.jj_backend.specs.Contents.{IsMillis, millis_content, IsTimestamp, timestamp_content, IsSignature, signature_content, IsSecureSig, secure_sig_content, IsMessage, message_content, IsCommit, commit_content, IsCopyHistory, copy_history_content};
 ghost use Rattle.jj_backend.specs.RecordLaws.{signature_lawful, secure_sig_lawful, commit_lawful, copy_history_lawful};
 ghost use Rattle.jj_backend.specs.TreeLaws.{IsTree, tree_content, tree_lawful};
@@ -66,12 +66,12 @@ impl ContentHash for SecureSig {
 }
 
 impl Commit {
-    #[tactic(auto, using(jj_content::proofs::Fronts::fronts))]
+    #[tactic(auto, using(jj_content::proofs::AbsorbedPrefixes::prefixes))]
     fn hash_message<D: DigestUpdate>(&self, alloc: Global, state: &mut D) -> Result<(), AllocError>
-        ensures ok { OnOk result (Takes D.stands_for state.old state.new
+        ensures ok { OnOk result (Absorbs D.absorbed state.old state.new
             (message_content self.now)) }
         ensures value { OnOk result (IsMessage self.now) }
-        ensures err { OnErr result (TakesFront D.stands_for state.old state.new
+        ensures err { OnErr result (AbsorbsPrefix D.absorbed state.old state.new
             (message_content self.now)) }
     {
         hash_strings(alloc, state, &self.conflict_labels)?;
@@ -86,7 +86,7 @@ impl ContentHash for Commit {
 
     ghost lawful = { commit_lawful };
 
-    #[tactic(auto, using(jj_content::proofs::Fronts::fronts))]
+    #[tactic(auto, using(jj_content::proofs::AbsorbedPrefixes::prefixes))]
     fn hash<D: DigestUpdate>(&self, alloc: Global, state: &mut D) -> Result<(), AllocError> {
         hash_three(
             alloc,
@@ -125,7 +125,7 @@ impl ContentHash for TreeValue {
 
     ghost lawful = { tree_value_lawful };
 
-    #[tactic(auto, using(jj_content::proofs::Fronts::fronts))]
+    #[tactic(auto, using(jj_content::proofs::AbsorbedPrefixes::prefixes))]
     fn hash<D: DigestUpdate>(&self, alloc: Global, state: &mut D) -> Result<(), AllocError> {
         match self {
             TreeValue::File {

@@ -1,7 +1,7 @@
 //! JSON values of timestamps, signatures and commits.
 ghost use Rattle.std.specs.Prelude.{◌≡◌, IfOk};
 ghost use Rattle.serde_json.specs.View.{view};
-ghost use Rattle.jj_content.specs.Json.{IsAnswer};
+ghost use Rattle.jj_content.specs.Json.{IsJsonResult};
 ghost use Rattle.jj_backend.specs.Json.{IsCommitJson, IsJsonString, IsSignatureJson, commit_json, ids_json, signature_json};
 ghost use Rattle.jj_backend.specs.Times.{IsDate};
 

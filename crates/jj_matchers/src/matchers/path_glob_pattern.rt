@@ -1,10 +1,10 @@
 //! Globs of paths: compiled once, shared by reference counting.
 ghost use Rattle.std.specs.Prelude.{◌≡◌, ◌==◌, true, false};
 ghost use Rattle.std.specs.List.{list_all};
-ghost use Rattle.jj_globs.specs.declared.glob.sign.Sign.TheVariants.{Asterisk};
-ghost use Rattle.jj_globs.specs.GlobReads.{ReadsAsGlob, glob_of_text};
-ghost use Rattle.jj_globs.specs.GlobText.{byte_of};
-ghost use Rattle.jj_globs.specs.GlobFront.{front_of};
+ghost use Rattle.jj_globs.specs.declared.glob.symbol.Symbol.TheVariants.{Asterisk};
+ghost use Rattle.jj_globs.specs.GlobParsing.{ParsesAsGlob, glob_spec};
+ghost use Rattle.jj_globs.specs.GlobSyntax.{byte_of};
+ghost use Rattle.jj_globs.specs.GlobPrefix.{glob_prefix};
 ghost use Rattle.jj_matchers.specs.Patterns.{is_match, is_prefix_match, is_stars};
 ghost use Rattle.jj_matchers.specs.PatternOrder.{matches_string};
 
@@ -31,20 +31,20 @@ impl Model for PathGlobPattern {
 impl PathGlobPattern {
     /// Parses a pattern in the syntax of `Glob`.
     pub fn parse(alloc: Global, input: &str) -> Result<PathGlobPattern, GlobError>
-        ensures { ReadsAsGlob input.now (glob_of_text input.now true false) result }
+        ensures { ParsesAsGlob input.now (glob_spec input.now true false) result }
     {
         PathGlobPattern::parse_inner(alloc, input, false)
     }
 
     /// Parses a pattern that ignores the case of ASCII letters.
     pub fn parse_i(alloc: Global, input: &str) -> Result<PathGlobPattern, GlobError>
-        ensures { ReadsAsGlob input.now (glob_of_text input.now true true) result }
+        ensures { ParsesAsGlob input.now (glob_spec input.now true true) result }
     {
         PathGlobPattern::parse_inner(alloc, input, true)
     }
 
     fn parse_inner(alloc: Global, input: &str, icase: bool) -> Result<PathGlobPattern, GlobError>
-        ensures { ReadsAsGlob input.now (glob_of_text input.now true icase) result }
+        ensures { ParsesAsGlob input.now (glob_spec input.now true icase) result }
     {
         let glob = match Glob::parse(alloc, input, true, icase) {
             Ok(glob) => glob,
@@ -93,9 +93,9 @@ impl PathGlobPattern {
 
     // the literal prefix, with which every match begins
     pub(super) fn literal_prefix(&self) -> &[u8]
-        ensures { result.now ≡ front_of self.now }
+        ensures { result.now ≡ glob_prefix self.now }
     {
-        self.glob.front()
+        self.glob.literal_prefix()
     }
 
     // Returns whether the pattern is one or more `*`, and nothing else.

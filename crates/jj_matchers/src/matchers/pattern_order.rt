@@ -2,7 +2,7 @@
 //! of the path are matched.
 ghost use Rattle.std.specs.Prelude.{◌≡◌, ◌∷◌, ◌++◌, [], true, length, nat_eq, IsTrue};
 ghost use Rattle.std.specs.List.{list_any, filter, common_prefix_len};
-ghost use Rattle.jj_globs.specs.GlobFront.{front_of};
+ghost use Rattle.jj_globs.specs.GlobPrefix.{glob_prefix};
 ghost use Rattle.jj_matchers.specs.PatternOrder.{is_at_most, is_sorted_by_prefix, matches_string};
 
 use crate::matchers::PathGlobPattern;
@@ -46,14 +46,14 @@ pub(super) fn stays_sorted(patterns: &[PathGlobPattern], pattern: &PathGlobPatte
 // Returns the patterns whose literal prefix is at most these bytes.
 fn at_most<'a>(patterns: &'a [PathGlobPattern], bytes: &[u8]) -> &'a [PathGlobPattern]
     requires order { is_sorted_by_prefix patterns.now ≡ true }
-    ensures { result.now ≡ filter (λ glob. is_at_most (front_of glob) bytes.now) patterns.now }
+    ensures { result.now ≡ filter (λ glob. is_at_most (glob_prefix glob) bytes.now) patterns.now }
 {
     let end = patterns.partition_point(|pattern| is_prefix_at_most(pattern, bytes));
     &patterns[..end]
 }
 
 fn is_prefix_at_most(pattern: &PathGlobPattern, bytes: &[u8]) -> bool
-    ensures { result ≡ is_at_most (front_of pattern.now) bytes.now }
+    ensures { result ≡ is_at_most (glob_prefix pattern.now) bytes.now }
 {
     pattern.literal_prefix().cmp(&bytes).is_le()
 }

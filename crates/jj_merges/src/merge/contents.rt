@@ -2,7 +2,7 @@
 ghost use Rattle.std.specs.Prelude.{All};
 ghost use Rattle.jj_content.specs.Content.{AreValues, list_content};
 ghost use Rattle.jj_content.specs.Json.{IsJsonList};
-ghost use Rattle.jj_content.specs.Lawful.{list_lawful};
+ghost use Rattle.jj_content.specs.PrefixFreeProofs.{list_lawful};
 
 use super::Merge;
 use jj_content::content_hash::{ContentHash, DigestUpdate, ToJson, ToJsonError};

@@ -1,9 +1,9 @@
 //! Content hashing and JSON serialization of paths and components, as strings.
 ghost use Rattle.std.specs.Prelude.{◌≡◌, ◌<◌, ◌^◌, length, OnOk, OnErr, ⊤};
 ghost use Rattle.serde_json.specs.Data.{string};
-ghost use Rattle.jj_content.specs.Content.{Takes, TakesFront, IsLawful, text_content};
-ghost use Rattle.jj_content.specs.Json.{IsAnswer};
-ghost use Rattle.jj_content.specs.Lawful.{on_lawful, text_lawful};
+ghost use Rattle.jj_content.specs.Content.{Absorbs, AbsorbsPrefix, IsLawful, string_content};
+ghost use Rattle.jj_content.specs.Json.{IsJsonResult};
+ghost use Rattle.jj_content.specs.PrefixFreeProofs.{on_lawful, string_lawful};
 ghost use Rattle.jj_paths.specs.Contents.{IsShortPath, path_content, path_lawful};
 ghost use Rattle.jj_paths.specs.Names.{name_of, path_of};
 ghost use Rattle.jj_paths.specs.Paths.{path_string};
@@ -16,9 +16,9 @@ use std::alloc::{AllocError, Global};
 impl ContentHash for RepoPathComponentBuf {
     ghost is_value = { λ name. length name < 2 ^ 64 };
 
-    ghost content = { text_content };
+    ghost content = { string_content };
 
-    ghost lawful = { text_lawful };
+    ghost lawful = { string_lawful };
 
     fn hash<D: DigestUpdate>(&self, alloc: Global, state: &mut D) -> Result<(), AllocError> {
         ContentHash::hash(&self.value, alloc, state)
@@ -28,9 +28,9 @@ impl ContentHash for RepoPathComponentBuf {
 impl<'a> ContentHash for RepoPathComponent<'a> {
     ghost is_value = { λ name. length (name_of name) < 2 ^ 64 };
 
-    ghost content = { λ name. text_content (name_of name) };
+    ghost content = { λ name. string_content (name_of name) };
 
-    ghost lawful = { on_lawful name_of text_lawful };
+    ghost lawful = { on_lawful name_of string_lawful };
 
     fn hash<D: DigestUpdate>(&self, alloc: Global, state: &mut D) -> Result<(), AllocError> {
         ContentHash::hash(&self.value, alloc, state)
@@ -62,7 +62,7 @@ impl<'a> ContentHash for RepoPath<'a> {
 }
 
 fn string_to_json(alloc: Global, text: &str) -> Result<Value, ToJsonError>
-    ensures { IsAnswer ⊤ (λ d. d ≡ string text.now) result }
+    ensures { IsJsonResult ⊤ (λ d. d ≡ string text.now) result }
 {
     Ok(Value::String(String::from_str(alloc, text)?))
 }

@@ -5,7 +5,7 @@ ghost use Rattle.std.specs.Str.{is_utf8};
 ghost use Rattle.std.specs.Iterator.{YieldsFirstRef, item_count};
 ghost use Rattle.std.specs.Path.{slash, is_name, is_dot_at, path_names};
 ghost use Rattle.jj_paths.specs.AppendedNames.{append_name};
-ghost use Rattle.jj_files.specs.FsTexts.{is_place};
+ghost use Rattle.jj_files.specs.PathJoining.{is_special_component};
 ghost use Rattle.jj_paths.specs.RelativePaths.{IsParseError, is_disallowed, relative_components};
 ghost use Rattle.jj_paths.specs.declared.repo_path.from_relative.RelativePathParseError.{RelativePathParseError};
 
@@ -138,7 +138,7 @@ fn starts_at_dot(path: &[u8]) -> bool
 
 impl RelativePathParseError {
     fn for_component(alloc: Global, name: &str, path: &[u8]) -> RelativePathParseError
-        requires { is_place name.now ≡ true }
+        requires { is_special_component name.now ≡ true }
         ensures { IsParseError path.now (Some name.now) result }
     {
         let Ok(component) = String::from_str(alloc, name) else {

@@ -3,7 +3,7 @@ ghost use Rattle.std.specs.Prelude.{◌≡◌, ◌≢◌, ◌⊎◌, false, None
 ghost use Rattle.std.specs.List.{find};
 ghost use Rattle.std.specs.Path.{path_buf_bytes};
 ghost use Rattle.jj_paths.specs.Names.{name_of, path_of};
-ghost use Rattle.jj_files.specs.FsTexts.{join_all, fs_text, is_dots};
+ghost use Rattle.jj_files.specs.PathJoining.{join_all, fs_text, is_dots};
 ghost use Rattle.jj_paths.specs.declared.repo_path.to_fs.InvalidRepoPathComponentError.{InvalidRepoPathComponentError};
 ghost use Rattle.jj_paths.specs.declared.repo_path.to_fs.InvalidRepoPathError.{InvalidRepoPathError};
 

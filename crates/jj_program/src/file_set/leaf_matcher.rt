@@ -29,9 +29,9 @@ impl Matcher for LeafMatcher {
 
     ghost opens = { λ matcher dir. leaf_opens dir matcher };
 
-    ghost answers = { λ matcher dir. leaf_answer dir matcher };
+    ghost visits = { λ matcher dir. leaf_answer dir matcher };
 
-    ghost candidates = { λ matcher dir. leaf_names matcher };
+    ghost mentioned = { λ matcher dir. leaf_names matcher };
 
     fn matches(&self, file: RepoPath<'_>) -> bool {
         match self {

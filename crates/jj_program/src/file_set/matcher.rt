@@ -2,8 +2,8 @@
 ghost use Rattle.std.specs.Prelude.{◌≡◌, ◌+◌, ◌<◌, ◌^◌, false, List, [], ◌∷◌, length, map, reverse, IfOk};
 ghost use Rattle.jj_paths.specs.Names.{path_of};
 ghost use Rattle.jj_paths.specs.Paths.{Name, Path};
-ghost use Rattle.jj_matchers.specs.Candidates.{ChoosesFrom};
-ghost use Rattle.jj_matchers.specs.Visits.{answer_of};
+ghost use Rattle.jj_matchers.specs.MentionedNames.{MentionsOnly};
+ghost use Rattle.jj_matchers.specs.Visits.{visit_spec};
 ghost use Rattle.jj_matchers.specs.Walk.{files_of, entered_by};
 ghost use Rattle.jj_program.specs.declared.file_set.leaf_matcher.LeafMatcher.{LeafMatcher};
 ghost use Rattle.jj_program.specs.declared.file_set.parts.Part.{Part};
@@ -39,9 +39,9 @@ impl Matcher for SetMatcher {
 
     ghost opens = { opens_of };
 
-    ghost answers = { answers_of };
+    ghost visits = { answers_of };
 
-    ghost candidates = { candidates_of };
+    ghost mentioned = { candidates_of };
 
     fn matches(&self, file: RepoPath<'_>) -> bool {
         parts_match(&self.parts, file)
@@ -73,7 +73,7 @@ fn visit_parts(
     dir: RepoPath<'_>,
 ) -> Result<Visit, AllocError>
     ensures { IfOk result (λ visit. IsAnswerOf (path_of dir.entry) (made_by parts.now)
-        (answer_of visit)) }
+        (visit_spec visit)) }
 {
     let mut visits = Vec::new(alloc);
     let mut left = parts.len();
@@ -144,10 +144,10 @@ fn combined_visit(
     first: Visit,
     second: Visit,
 ) -> Result<Visit, AllocError>
-    ensures { IfOk result (λ visit. (names : List Name) → ChoosesFrom names (answer_of first)
-        → ChoosesFrom names (answer_of second)
-        → answer_of visit
-        ≡ combined_answer combination names (answer_of first) (answer_of second)) }
+    ensures { IfOk result (λ visit. (names : List Name) → MentionsOnly names (visit_spec first)
+        → MentionsOnly names (visit_spec second)
+        → visit_spec visit
+        ≡ combined_answer combination names (visit_spec first) (visit_spec second)) }
 {
     match combination {
         Combination::Union => union_visit(first, second),

@@ -1,6 +1,6 @@
 //! Content hashes of views and operations.
 ghost use Rattle.std.specs.Prelude.{OnOk, OnErr};
-ghost use Rattle.jj_content.specs.Content.{Takes, TakesFront, IsLawful};
+ghost use Rattle.jj_content.specs.Content.{Absorbs, AbsorbsPrefix, IsLawful};
 ghost use Rattle.jj_stores.specs.RefTargets.{state_content, IsRemoteRef, remote_ref_content};
 ghost use Rattle.jj_stores.specs.RefTargetLaws.{state_lawful, remote_ref_lawful};
 ghost use Rattle.jj_stores.specs.Views.{IsRemoteView, remote_view_content, IsView, view_content};
@@ -60,7 +60,7 @@ impl ContentHash for View {
 
     ghost lawful = { view_lawful };
 
-    #[tactic(auto, using(jj_content::proofs::Fronts::fronts))]
+    #[tactic(auto, using(jj_content::proofs::AbsorbedPrefixes::prefixes))]
     fn hash<D: DigestUpdate>(&self, alloc: Global, state: &mut D) -> Result<(), AllocError> {
         hash_three(
             alloc,
@@ -93,7 +93,7 @@ impl ContentHash for OperationMetadata {
 
     ghost lawful = { metadata_lawful };
 
-    #[tactic(auto, using(jj_content::proofs::Fronts::fronts))]
+    #[tactic(auto, using(jj_content::proofs::AbsorbedPrefixes::prefixes))]
     fn hash<D: DigestUpdate>(&self, alloc: Global, state: &mut D) -> Result<(), AllocError> {
         hash_both(alloc, &self.time, &self.description, state)?;
         hash_both(alloc, &self.hostname, &self.username, state)?;
@@ -114,7 +114,7 @@ impl ContentHash for Operation {
 
     ghost lawful = { operation_lawful };
 
-    #[tactic(auto, using(jj_content::proofs::Fronts::fronts))]
+    #[tactic(auto, using(jj_content::proofs::AbsorbedPrefixes::prefixes))]
     fn hash<D: DigestUpdate>(&self, alloc: Global, state: &mut D) -> Result<(), AllocError> {
         hash_both(alloc, &self.view_id, &self.parents, state)?;
         hash_both(alloc, &self.metadata, &self.commit_predecessors, state)

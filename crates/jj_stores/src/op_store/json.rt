@@ -2,7 +2,7 @@
 ghost use Rattle.std.specs.Prelude.{◌≡◌, OnOk, IfOk, string_bytes};
 ghost use Rattle.serde_json.specs.View.{view, members_view};
 ghost use Rattle.jj_backend.specs.Json.{ids_json};
-ghost use Rattle.jj_content.specs.Json.{IsAnswer};
+ghost use Rattle.jj_content.specs.Json.{IsJsonResult};
 ghost use Rattle.jj_stores.specs.Json.{IsMetadataJson, IsOperationJson, IsRangeJson, attributes_json, metadata_members, range_json, with_strings, workspace_json};
 ghost use Rattle.jj_stores.specs.Operations.{HasDates};
 

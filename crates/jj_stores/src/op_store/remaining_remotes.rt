@@ -26,13 +26,13 @@ pub(super) struct RemainingRemote<'a> {
 
 impl<'a> Model for RemainingRemote<'a> {
     ghost use Rattle.std.specs.Prelude.{ℕ, List};
-    ghost use Rattle.jj_ids.specs.Names.{name_of};
+    ghost use Rattle.jj_ids.specs.Names.{name_bytes};
     ghost use Rattle.jj_stores.specs.ViewJoins.{Named};
     ghost use Rattle.jj_stores.specs.declared.op_store.ref_target.RemoteRef.{RemoteRef as Ref};
 
     ghost Value = { List ℕ × Named Ref };
 
-    ghost view = { λ left. (name_of left.remote, left.refs) };
+    ghost view = { λ left. (name_bytes left.remote, left.refs) };
 }
 
 impl<'a> RemainingRemote<'a> {

@@ -3,7 +3,7 @@ ghost use Rattle.std.specs.Prelude.{◌≡◌, ℕ, List, IfOk, IsTrue, string_b
 ghost use Rattle.std.specs.Cmp;
 ghost use Rattle.std.specs.Cmp.Lexicographic.{nat_list_eq_equiv};
 ghost use Rattle.std.specs.Str.{bytes_eq};
-ghost use Rattle.jj_content.specs.Content.{Takes};
+ghost use Rattle.jj_content.specs.Content.{Absorbs};
 
 use jj_content::content_hash::{ContentHash, DigestUpdate};
 use std::alloc::{AllocError, Global};
@@ -79,7 +79,7 @@ struct CollectedBytes {
 }
 
 impl DigestUpdate for CollectedBytes {
-    ghost stands_for = { λ collected bytes. IsTrue collected.is_complete
+    ghost absorbed = { λ collected bytes. IsTrue collected.is_complete
         → collected.bytes.items ≡ bytes };
 
     fn update(&mut self, bytes: &[u8]) {

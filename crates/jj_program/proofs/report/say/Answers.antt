@@ -14,7 +14,7 @@ loop-place-preserved g c = record {
 pub returns-then-is_err : goal.returns-then-is_err
 returns-then-is_err g c =
     let failed = c.write_all.ensures.failure ∙ ap (λ b. b || g.E.Sink.has_failed c.loop-place.errors) (sym c.if-is_err.ensures.value) in (
-      said_front c.args.texts.now c.loop-place.place _ _ c.as_bytes.ensures.value c.loop-place-test.true _ _ _ c.loop-place.invariant.so_far c.write_all.ensures.front,
+      said_front c.args.texts.now c.loop-place.place _ _ c.as_bytes.ensures.value c.loop-place-test.true _ _ _ c.loop-place.invariant.so_far c.write_all.ensures.prefix,
       λ works. let h : true ≡ false = sym failed ∙ works in cc h,
     )
 

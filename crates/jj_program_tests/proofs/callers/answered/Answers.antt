@@ -1,7 +1,7 @@
 use Rattle.std.proofs.Common.{ℕ, List, Some, ap, ◌∙◌}
 use Rattle.std.proofs.lemmas.Result.{err_from_is_err_and}
 use denote.Ref.{Bor}
-use Rattle.jj_files.specs.Watching.{watched_inner}
+use Rattle.jj_files.specs.WatchedFields.{watched_inner}
 use Rattle.jj_program_tests.proofs.InMemory.{wrote, failed, fails_at}
 use Rattle.jj_program_tests.proofs.callers.answered.Goals as goal
 

@@ -26,6 +26,6 @@ returns c =
     let k = p.2 (walk_of commits)
     (parents_shown commits _ _ _ _ (λ x i h. search (rules, h.says.met, h.shows)) (λ a r f h. (search (rules, of_calls, h), search (rules, of_calls, h), search (rules, of_calls, h))))
     (rw given (known_are_nodes commits ids)) in
-    IfOk-weaker c.all_of.result _ _ (λ found drains.
+    IfOk-weaker c.collect_fallible.result _ _ (λ found drains.
     let all = IsPreorder-from_drains _ _ (walk_of commits) _ _ _ _ _ (map (node commits) p.0) found.items [] c.in_ok-walk.walk k drains in
-    preorder_ids commits (known_ids commits ids) (known_are_nodes commits ids) found.items (rw given at all)) c.all_of.ensures
+    preorder_ids commits (known_ids commits ids) (known_are_nodes commits ids) found.items (rw given at all)) c.collect_fallible.ensures

@@ -1,6 +1,6 @@
 use Rattle.std.proofs.Common.{subst}
 use Rattle.std.specs.Prelude.{string_bytes}
-use Rattle.jj_content.specs.Content.{text_content, Takes, TakesFront}
+use Rattle.jj_content.specs.Content.{string_content, Absorbs, AbsorbsPrefix}
 use Rattle.jj_backend.specs.Contents.{IsText}
 use Rattle.std.proofs.lemmas.Result.{on_ok_weaker, on_err_weaker}
 use Rattle.jj_backend.proofs.MergedParts.{list_content-map, are_values-map}
@@ -8,11 +8,11 @@ use Rattle.jj_backend.proofs.backend.merged_parts.hash_strings.Goals as goal
 
 pub returns-clause-ok : goal.returns-clause-ok
 returns-clause-ok g c =
-    on_ok_weaker c.hash.result (λ takes. subst (Takes g.D.DigestUpdate.stands_for c.args.state.now c.hash.new.state) (list_content-map string_bytes text_content c.args.texts.now) takes) c.hash.ensures.ok
+    on_ok_weaker c.hash.result (λ takes. subst (Absorbs g.D.DigestUpdate.absorbed c.args.state.now c.hash.new.state) (list_content-map string_bytes string_content c.args.texts.now) takes) c.hash.ensures.ok
 
 pub returns-clause-value : goal.returns-clause-value
 returns-clause-value g c = on_ok_weaker c.hash.result (are_values-map string_bytes IsText c.args.texts.now) c.hash.ensures.value
 
 pub returns-clause-err : goal.returns-clause-err
 returns-clause-err g c =
-    on_err_weaker c.hash.result (λ takes. subst (TakesFront g.D.DigestUpdate.stands_for c.args.state.now c.hash.new.state) (list_content-map string_bytes text_content c.args.texts.now) takes) c.hash.ensures.err
+    on_err_weaker c.hash.result (λ takes. subst (AbsorbsPrefix g.D.DigestUpdate.absorbed c.args.state.now c.hash.new.state) (list_content-map string_bytes string_content c.args.texts.now) takes) c.hash.ensures.err

@@ -1,5 +1,5 @@
 use Rattle.std.proofs.Common.{subst, sym}
-use Rattle.jj_content.proofs.EscapedTexts.{all_written}
+use Rattle.jj_content.proofs.EscapeLoops.{all_written}
 use Rattle.jj_globs.specs.GlobEscape.{MatchesOnly, literal_glob, escaped_byte}
 use Rattle.jj_globs.proofs.EscapedMeaning.{escaped_alone}
 use Rattle.jj_globs.proofs.EscapedCharacters.{escaped_step}

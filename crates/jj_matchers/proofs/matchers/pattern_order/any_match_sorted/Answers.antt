@@ -3,7 +3,7 @@ use mathlib.Core.Bool.{false≢true}
 use Rattle.std.specs.List.{common_prefix_len}
 use Rattle.std.proofs.lemmas.List.Sums.{common_prefix_len-le}
 use Rattle.jj_globs.specs.GlobMeaning.{GlobSpec}
-use Rattle.jj_globs.specs.GlobFront.{front_of}
+use Rattle.jj_globs.specs.GlobPrefix.{glob_prefix}
 use Rattle.jj_matchers.specs.PatternOrder.{matches_string, is_sorted_by_prefix}
 use Rattle.jj_matchers.proofs.PatternOrder.{Narrows, AreNear, near_all, fits_begins, passes_last, narrows_before, narrows_up_to, full_at_most, is_up_to, shorter_filter, order_before}
 use Rattle.jj_matchers.proofs.matchers.pattern_order.any_match_sorted.Goals as goal
@@ -62,13 +62,13 @@ loop-last-preserved c =
     let last = c.in-Some.last.now in
     let before = c.in-Some.before.now in
     let test = λ (glob : GlobSpec). matches_string c.args.prefix_paths glob c.args.text.now in
-    let shared : c.common_prefix_len-length.result ≡ common_prefix_len nat_eq (front_of last) bytes =
+    let shared : c.common_prefix_len-length.result ≡ common_prefix_len nat_eq (glob_prefix last) bytes =
     c.common_prefix_len-length.ensures ∙ ap (λ (prefix : List ℕ). common_prefix_len nat_eq prefix bytes) c.literal_prefix-prefix.ensures in
-    let size : length c.literal_prefix-prefix.result.now ≡ length (front_of last) = ap length c.literal_prefix-prefix.ensures in
+    let size : length c.literal_prefix-prefix.result.now ≡ length (glob_prefix last) = ap length c.literal_prefix-prefix.ensures in
     let upto : is_up_to bytes last ≡ true =
     elim c.else-length-prefix.branch [
       | else-length-prefix-via-then-length-prefix+else-not-is_prefix_at_most w ↦ sym w.is_prefix_at_most.ensures ∙ w.if-not-is_prefix_at_most.false
-      | else-length-prefix-via-else-length-prefix w ↦ full_at_most (front_of last) bytes (let over = w.if-length-prefix.false in omega (arith, over, shared, size))
+      | else-length-prefix-via-else-length-prefix w ↦ full_at_most (glob_prefix last) bytes (let over = w.if-length-prefix.false in omega (arith, over, shared, size))
     ] in
     subst (λ n. Narrows test c.args.patterns.now before (take n bytes)) (sym shared)
     (narrows_before test c.args.patterns.now c.loop-last.left.now before last bytes c.loop-last.invariant c.in-Some.ensures.cases.0 upto

@@ -1,6 +1,6 @@
 use Rattle.std.proofs.Common.{◌∙◌, ap, sym, List, ◌++◌, ◌∷◌, [], ℕ}
 use Rattle.jj_globs.specs.GlobMeaning.{GlobSpec}
-use Rattle.jj_globs.specs.GlobFront.{front_of}
+use Rattle.jj_globs.specs.GlobPrefix.{glob_prefix}
 use Rattle.jj_matchers.specs.PatternOrder.{is_at_most, is_sorted_by_prefix}
 use Rattle.jj_matchers.proofs.PatternOrder.{order_with}
 use Rattle.jj_matchers.proofs.matchers.pattern_order.stays_sorted.Goals as goal
@@ -11,6 +11,6 @@ returns-in-Some c order =
     let more = c.args.pattern.now in
     let split = c.in-Some.ensures.cases.0 in
     c.is_prefix_at_most.ensures
-    ∙ ap (λ (prefix : List ℕ). is_at_most (front_of last) prefix) c.literal_prefix.ensures
+    ∙ ap (λ (prefix : List ℕ). is_at_most (glob_prefix last) prefix) c.literal_prefix.ensures
     ∙ order_with c.in-Some.field-0-1.now last more (sym (ap is_sorted_by_prefix split) ∙ order)
     ∙ sym (ap (λ (globs : List GlobSpec). is_sorted_by_prefix (globs ++ more ∷ [])) split)

@@ -1,6 +1,6 @@
 use Rattle.std.proofs.Common.{◌∙◌, ap}
 use Rattle.std.specs.Path.{path_join}
-use Rattle.jj_files.proofs.FsTextLemmas.{path_join-empty}
+use Rattle.jj_files.proofs.PathJoiningLemmas.{path_join-empty}
 use Rattle.jj_paths.proofs.repo_path.RepoPath.base_with_capacity.Goals as goal
 
 pub returns : goal.returns

@@ -3,7 +3,7 @@ use Rattle.std.proofs.Common.{◌≡◌}
 use Rattle.std.specs.List.{find}
 use Rattle.std.specs.Path.{path_buf_bytes}
 use Rattle.jj_paths.specs.Names.{path_of}
-use Rattle.jj_files.specs.FsTexts.{join_all, is_dots}
+use Rattle.jj_files.specs.PathJoining.{join_all, is_dots}
 use Rattle.jj_paths.specs.Iterators.{remaining_components}
 use Rattle.jj_paths.proofs.repo_path.RepoPath.to_fs_path.Given as goal
 

@@ -4,7 +4,7 @@ use Rattle.jj_paths.specs.declared.repo_path.RepoPath.{RepoPath}
 use Rattle.jj_globs.specs.GlobMeaning.{GlobSpec}
 use Rattle.jj_matchers.specs.Patterns.{Patterns, HasSamePatterns}
 use Rattle.jj_paths.specs.Names.{path_of}
-use Rattle.jj_matchers.specs.Wanted.{HasSamePaths}
+use Rattle.jj_matchers.specs.PathLists.{HasSamePaths}
 use Rattle.jj_program.specs.declared.file_set.leaf_matcher.LeafMatcher.TheVariants.{Everything, Nothing, Files, Prefix, Globs}
 use Rattle.jj_program.specs.Leaves.{StandsFor}
 use Rattle.jj_program.specs.SetViews.{set_of}

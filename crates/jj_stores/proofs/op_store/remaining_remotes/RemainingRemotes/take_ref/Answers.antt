@@ -5,7 +5,7 @@ use Rattle.std.specs.Map.{lookup}
 use Rattle.std.specs.Option.{option_copied, option_map}
 use Rattle.std.specs.Str.{bytes_eq}
 use Rattle.std.proofs.lemmas.List.Elements.{All-get_or}
-use Rattle.jj_ids.specs.Names.{name_of}
+use Rattle.jj_ids.specs.Names.{name_bytes}
 use Rattle.jj_stores.specs.FirstNameHeap.{first_name_at, name_and_index}
 use Rattle.jj_stores.specs.ViewJoins.{IsAscending, IsLeast, RemovesAt, remotes_with}
 use Rattle.jj_stores.specs.JoinRows.{ref_of}
@@ -26,10 +26,10 @@ returns-then-ne c =
     let top = c.in_ok-first.field-0.now in
     let stands = top_stands name_and_index remotes _ c.self.invariant.0 top c.in_ok-first.ensures.item.3.0 c.in_ok-first.ensures.lookup in
     let earliest = top_earliest name_and_index remotes _ c.self.invariant.0 top (c.in_ok-first.ensures.greatest c.self.invariant.1) in
-    let first = first_of_remotes (name_of top.0.0) top.0.1 remotes ([], []) stands earliest in
-    let other = subst (λ n. true ≡ not (bytes_eq (name_of top.0.0) n)) c.as_name.ensures c.if-ne.ensures in (
+    let first = first_of_remotes (name_bytes top.0.0) top.0.1 remotes ([], []) stands earliest in
+    let other = subst (λ n. true ≡ not (bytes_eq (name_bytes top.0.0) n)) c.as_name.ensures c.if-ne.ensures in (
       ap (λ v. remotes_with v c.args.name.now) (sym c.self.view_is)
-          ∙ absent_name remotes (name_of top.0.0) c.args.name.now first (subst (λ v. All (λ r. IsLeast c.args.name.now r.1) v) (sym c.self.view_is) c.requires) other,
+          ∙ absent_name remotes (name_bytes top.0.0) c.args.name.now first (subst (λ v. All (λ r. IsLeast c.args.name.now r.1) v) (sym c.self.view_is) c.requires) other,
       refl,
       subst (All (λ r. IsAscending r.1)) c.self.view_is c.self.invariant.0.ascending,
     )
@@ -53,7 +53,7 @@ index-requires c =
 pub unreachable-requires : goal.unreachable-requires
 unreachable-requires c =
     let named = named_top name_and_index c.self.inside.remotes.items _ c.self.invariant.0 c.in_ok-first.field-0.now c.in_ok-remote_index.field-0
-    c.args.name.now (name_of c.as_name.result) c.in_ok-first.ensures.item.3.0 c.in_ok-first.ensures.lookup c.in_ok-remote_index.ensures.top
+    c.args.name.now (name_bytes c.as_name.result) c.in_ok-first.ensures.item.3.0 c.in_ok-first.ensures.lookup c.in_ok-remote_index.ensures.top
     c.as_name.ensures c.if-ne.ensures in
     never_missed c.args.name.now c.self.inside.remotes.items c.in_ok-remote_index.field-0.0.1 c.index_mut.result.now named.0 c.index_mut.ensures.value
     (sym (ap (option_map ref_of) c.in_default.is) ∙ c.take_if_named.ensures.found)
@@ -62,7 +62,7 @@ pub invariant_of-self-in-Ok : goal.invariant_of-self-in-Ok
 invariant_of-self-in-Ok c =
     let top = c.in_ok-remote_index.field-0 in
     let remote_index = top.0.1 in
-    let come : Some (name_of c.as_name-in-Some-first_name.result, remote_index) ≡ first_name_at remote_index c.index.result.now.1 =
+    let come : Some (name_bytes c.as_name-in-Some-first_name.result, remote_index) ≡ first_name_at remote_index c.index.result.now.1 =
     ap (λ n. Some (n, remote_index)) c.as_name-in-Some-first_name.ensures
     ∙ ap (option_map (λ n. (n, remote_index))) (sym (ap option_copied c.in-Some-first_name.is) ∙ c.first_name.ensures.first) in (
       firsts_left c.self.inside.remotes.items name_and_index _ _ top c.take_if_named.new.self c.index.result.now _ c.self.invariant.0 c.in_ok-first.ensures.item.3.0 c.in_ok-remote_index.ensures.top
@@ -88,7 +88,7 @@ returns c =
     let top = c.in_ok-remote_index.field-0 in
     let remote_index = top.0.1 in
     let named = named_top name_and_index remotes _ c.self.invariant.0 c.in_ok-first.field-0.now top
-    name (name_of c.as_name.result) c.in_ok-first.ensures.item.3.0 c.in_ok-first.ensures.lookup c.in_ok-remote_index.ensures.top
+    name (name_bytes c.as_name.result) c.in_ok-first.ensures.item.3.0 c.in_ok-first.ensures.lookup c.in_ok-remote_index.ensures.top
     c.as_name.ensures c.if-ne.ensures in
     let earliest = top_earliest name_and_index remotes _ c.self.invariant.0 top (c.in_ok-remote_index.ensures.heap_order c.self.invariant.1).1 in
     let none : remotes_with (take remote_index old) name ≡ [] = subst (λ v. remotes_with (take remote_index v) name ≡ []) c.self.view_is

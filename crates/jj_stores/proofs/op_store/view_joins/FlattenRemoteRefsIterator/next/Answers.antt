@@ -2,7 +2,7 @@ use Rattle.std.proofs.Common.{◌∙◌, ◌∷◌, ℕ, List, None, sym, ap₂,
 use Rattle.std.specs.Option.{option_copied}
 use Rattle.jj_stores.specs.ViewJoins.{IsLeast, IsFirstOfRemotes}
 use Rattle.std.specs.List.{All}
-use Rattle.jj_ids.specs.Names.{name_of}
+use Rattle.jj_ids.specs.Names.{name_bytes}
 use Rattle.jj_stores.specs.declared.op_store.ref_target.RemoteRef.{RemoteRef}
 use Rattle.jj_stores.specs.FlatRefs.{YieldsRef, IsFlattened, RemovesRef}
 use Rattle.jj_stores.proofs.FlatSteps.{no_refs, flat_first}
@@ -18,7 +18,7 @@ returns-in_err-name-clause-steps c =
 pub returns-clause-steps : goal.returns-clause-steps
 returns-clause-steps c =
     let name = c.in_ok-name.name.now in
-    let found : List ℕ × RemoteRef = (name_of c.in_ok-remote.remote, c.in_ok-remote.target.now) in
+    let found : List ℕ × RemoteRef = (name_bytes c.in_ok-remote.remote, c.in_ok-remote.target.now) in
     let first = subst (λ f. IsFirstOfRemotes c.self.inside.remotes (option_copied f)) c.in_ok-name.was c.first_name.ensures in
     let least = subst (λ v. All (λ r. IsLeast name r.1) v) c.self.view_is first.2 in
     let shown : List ℕ → List ℕ → (List ℕ × List ℕ) × RemoteRef = λ n r. ((n, r), c.in_ok-remote.target.now) in
