@@ -37,7 +37,8 @@ abbrev pub IsAgent : OperationMetadata → Type 0
 IsAgent m = IsText (string_bytes m.hostname) × IsText (string_bytes m.username)
 
 abbrev pub agent_content : OperationMetadata → List ℕ
-agent_content m = string_content (string_bytes m.hostname) ++ string_content (string_bytes m.username)
+agent_content m =
+    string_content (string_bytes m.hostname) ++ string_content (string_bytes m.username)
 
 -- `A` is the allocator of the strings and lists
 module _ {A : Type 0} where

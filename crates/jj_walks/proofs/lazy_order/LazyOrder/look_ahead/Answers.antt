@@ -25,8 +25,7 @@ returns-in-None-clause-refilled g c =
     let s = c.args.self.now in
     let taken : c.replace-start.result.items ≡ s.start.items = ap (λ v. v.items) c.replace-start.ensures.value in
     let turned : c.reverse.new.self.items ≡ reverse c.in-Ok.chunk.nodes.items = c.reverse.ensures.items in
-    λ id_fn neighbors_fn on_cycle starts yielded k.
-    (
+    λ id_fn neighbors_fn on_cycle starts yielded k. (
       record {
         graph = goes_on-more g.ID.PartialEq.eq g.F.Fn g.N.FnMut g.NI.IntoIterator g.NI.IntoIter.Iterator _ s.graph c.take_chunk.new.shown k.graph c.take_chunk.ensures.graph;
         cycle_fn = k.cycle_fn;
