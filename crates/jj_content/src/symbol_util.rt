@@ -49,10 +49,8 @@ fn escape_string_to_buf(escaped: &mut String, unescaped: &str) -> Result<(), All
     Ok(())
 }
 
-/// Escapes a string for use between double quotes: `\"`, `\\`, `\t`, `\r`, `
-///
-/// ` and `\0`, and any other ASCII control character as `\x` and two hex digits. All other
-/// characters are unchanged.
+/// Escapes a string for use between double quotes: `\"`, `\\`, `\t`, `\r`, `\n` and `\0`, and any
+/// other ASCII control character as `\x` and two hex digits. All other characters are unchanged.
 pub fn escape_string(alloc: Global, unescaped: &str) -> Result<String, AllocError>
     ensures { IfOk result (λ text. string_bytes text ≡ escaped_string unescaped.now) }
 {

@@ -14,7 +14,7 @@ use std::fmt;
 pub enum ToJsonError {
     /// Out of memory.
     Memory,
-    /// The value contains a timestamp that has no RFC 3339 date.
+    /// A timestamp in the value is outside the range of dates.
     TimestampOutOfRange,
 }
 
