@@ -7,3 +7,4 @@ pub mod Grouping
 pub mod Ranks
 pub mod Newest
 pub mod Showing
+pub mod Lookups

@@ -1,13 +1,15 @@
 -- Closures that list parents show the graph of the commits.
-use Rattle.std.proofs.Common.{◌≡◌, ℕ, List, Ok, map, refl, ◌∙◌, ap, eqb}
+use Rattle.std.proofs.Common.{◌≡◌, ℕ, List, Result, Ok, map, refl, ◌∙◌, ap, eqb}
 use Rattle.std.specs.Fn.{Called, FnReturnsAt, Mut, Shared}
 use Rattle.std.specs.Iterator.{YieldsFirst, YieldsFirstRef}
 use Rattle.std.specs.List.{filter_map}
 use Rattle.std.proofs.lemmas.Fn.{always_returns_same}
 use Rattle.std.proofs.lemmas.Iterator.Consumers.{YieldsList-from_first}
+use Rattle.std.specs.declared.alloc.AllocError.{AllocError}
 use denote.Ref.{Bor}
 use Rattle.jj_dag.specs.Failing.{ShowsItems}
-use Rattle.jj_dag.specs.Walk.{IsShownBy}
+use Rattle.jj_dag.specs.ClosureGraph.{Implements, ReturnsId}
+use Rattle.jj_dag.specs.Walk.{DrainsTo}
 use Rattle.jj_dag.proofs.Walking.{drained_are}
 use Rattle.jj_walks_tests.specs.declared.commits.Commit.{Commit}
 use Rattle.jj_walks_tests.specs.declared.commits.Parents.{Parents}
@@ -18,16 +20,16 @@ use Rattle.jj_walks_tests.proofs.Numbering.{items_of, items_sound, node_stands, 
 use Rattle.jj_walks_tests.proofs.Sound.{id_walk, lists_ids}
 
 module _ (commits : List Commit) {F N : Type 0} (id_fn : F) (neighbors_fn : N) where
-  module _ (ids : Shared F (Bor (Bor Commit) × Unit {0}) (Bor ℕ)) (lists : Mut N (Bor (Bor Commit) × Unit {0}) Parents)
-      (tells : (x : Bor Commit) (i : Bor ℕ) → FnReturnsAt ids id_fn x i → i.now ≡ x.now.id)
+  module _ (ids : Shared F (Bor (Bor Commit) × Unit {0}) (Result (Bor ℕ) AllocError)) (lists : Mut N (Bor (Bor Commit) × Unit {0}) Parents)
+      (tells : (x : Bor Commit) (i : Bor ℕ) → ReturnsId ids id_fn x i → i.now ≡ x.now.id)
       (looks : (a : Bor (Bor Commit) × Unit {0}) (r : Parents) (after : N) → Called lists neighbors_fn a r after
       → (r.commits.now ≡ commits) × (r.ids.now ≡ a.0.now.now.parents.items) × (after ≡ neighbors_fn)) where
     -- as commits with their parents
-    pub parents_shown : IsShownBy (walk_of commits) (λ i j. eqb i.now j.now) ids lists (λ s t. t ≡ s) (YieldsFirstRef parents_left) id_fn neighbors_fn
-    parents_shown = record {
+    pub parents_implemented : Implements (walk_of commits) (λ i j. eqb i.now j.now) ids lists (DrainsTo (λ s t. t ≡ s) (YieldsFirstRef parents_left)) id_fn neighbors_fn
+    parents_implemented = record {
       closed = walk_closed commits;
       apart = λ i j a b. refl;
-      ids_stand = λ x i is h. tells x i h ∙ node_stands commits x is;
+      ids_match = λ x i is h. tells x i h ∙ node_stands commits x is;
       neighbors = always_returns_same lists _ neighbors_fn (λ a r after h.
           let k = looks a r after h in
           let left : parents_left r ≡ parents_in commits a.0.now.now = ap (λ cs. filter_map (commit_with cs) r.ids.now) k.0 ∙ ap (filter_map (commit_with commits)) k.1 in (

@@ -4,3 +4,4 @@ pub mod Branches
 pub mod Parents
 pub mod Gaps
 pub mod Newest
+pub mod Missing

@@ -29,7 +29,7 @@ pub fn parents_first<'a>(
     topo_order_forward(
         alloc,
         commits.iter(),
-        |commit: &&Commit| &commit.id,
+        |commit: &&Commit| Ok(&commit.id),
         |commit: &&Commit| parents_of(commits, *commit),
         |commit: &Commit| commit.id,
     )
@@ -45,7 +45,7 @@ pub fn tips<'a>(alloc: Global, commits: &'a [Commit]) -> Result<HashSet<&'a Comm
     heads(
         alloc,
         commits.iter(),
-        |commit: &&Commit| &commit.id,
+        |commit: &&Commit| Ok(&commit.id),
         |commit: &&Commit| parents_of(commits, *commit),
     )
 }
@@ -68,7 +68,7 @@ pub fn merge_bases<'a>(
         alloc,
         set1.iter(),
         set2.iter(),
-        |commit: &&Commit| &commit.id,
+        |commit: &&Commit| Ok(&commit.id),
         |commit: &&Commit| sound_parents_of(commits, *commit),
     )
 }
@@ -85,7 +85,7 @@ pub fn ancestors<'a>(
     let walk = dfs(
         alloc,
         commits_of(commits, ids),
-        |commit: &&Commit| &commit.id,
+        |commit: &&Commit| Ok(&commit.id),
         |commit: &&Commit| parents_of(commits, *commit),
     )?;
     collect_fallible(alloc, walk)

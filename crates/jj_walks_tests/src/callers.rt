@@ -29,7 +29,7 @@ pub fn preorder_of_map(
     let walk = dfs(
         alloc,
         starts.iter().copied(),
-        |id: &u64| *id,
+        |id: &u64| Ok(*id),
         |id: &u64| listed(graph, *id).iter().copied(),
     )?;
     collect_fallible(alloc, walk)

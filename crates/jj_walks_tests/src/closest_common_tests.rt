@@ -34,7 +34,7 @@ fn counted_chain(
         alloc,
         first..first.saturating_add(1),
         second..second.saturating_add(1),
-        |node: &u64| *node,
+        |node: &u64| Ok(*node),
         |node: &u64| -> Result<Range<u64>, u64> {
             calls.set(calls.get().saturating_add(1));
             Ok(beside(*node))
@@ -62,7 +62,7 @@ fn counted_squares(alloc: Global) -> Result<(Vec<u64>, usize), WalkError<u64>> {
         alloc,
         0..1,
         1..3,
-        |node: &u64| *node,
+        |node: &u64| Ok(*node),
         |node: &u64| -> Result<Range<u64>, u64> {
             calls.set(calls.get().saturating_add(1));
             Ok(squares(*node))

@@ -70,7 +70,7 @@ pub fn whole_tips<'a>(
     heads(
         alloc,
         commits.iter(),
-        |commit: &&Commit| commit.id,
+        |commit: &&Commit| Ok(commit.id),
         |commit: &&Commit| whole_parents_of(alloc, commits, *commit),
     )
 }
@@ -99,7 +99,7 @@ mod tests {
         heads(
             alloc,
             commits.iter(),
-            |commit: &&Commit| commit.id,
+            |commit: &&Commit| Ok(commit.id),
             |commit: &&Commit| whole_parents_of(alloc, commits, *commit),
         )
     }

@@ -35,7 +35,7 @@ pub fn forward(alloc: Global, shape: Shape, head: u64) -> Result<Vec<u64>, WalkE
     topo_order_forward(
         alloc,
         head..head.saturating_add(1),
-        |node: &u64| *node,
+        |node: &u64| Ok(*node),
         |node: &u64| below(shape, head, *node),
         |node: u64| node,
     )
@@ -46,7 +46,7 @@ pub fn maximal(alloc: Global, shape: Shape, head: u64) -> Result<HashSet<u64>, A
     heads(
         alloc,
         0..head,
-        |node: &u64| *node,
+        |node: &u64| Ok(*node),
         |node: &u64| below(shape, head, *node),
     )
 }
@@ -56,7 +56,7 @@ pub fn lazy(alloc: Global, shape: Shape, head: u64) -> Result<Vec<u64>, WalkErro
     let nodes = topo_order_reverse_lazy(
         alloc,
         [Ok(head)].iter().copied(),
-        |node: &u64| *node,
+        |node: &u64| Ok(*node),
         |node: &u64| below(shape, head, *node).map(|other: u64| -> Result<u64, u64> { Ok(other) }),
         |node: u64| node,
     )?;
@@ -78,7 +78,7 @@ fn chunk(
     let nodes = topo_order_reverse_chunked(
         alloc,
         start,
-        |node: &u64| *node,
+        |node: &u64| Ok(*node),
         |node: &u64| below(shape, head, *node).map(|other: u64| -> Result<u64, u64> { Ok(other) }),
         |node: u64| node,
     )?;
@@ -148,7 +148,7 @@ pub fn closest(
         alloc,
         first..first.saturating_add(1),
         second..second.saturating_add(1),
-        |node: &u64| *node,
+        |node: &u64| Ok(*node),
         |node: &u64| -> Result<Range<u64>, u64> { Ok(below(shape, head, *node)) },
     )
 }

@@ -17,6 +17,7 @@ pub mod commits;
 pub mod failing_callers;
 #[cfg(test)]
 pub mod large;
+pub mod missing;
 #[cfg(test)]
 mod outcomes;
 #[cfg(test)]

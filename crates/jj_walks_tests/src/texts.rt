@@ -22,7 +22,7 @@ fn heads_of_texts(alloc: Global, words: &[&str]) -> Result<HashSet<String>, Allo
     heads(
         alloc,
         texts,
-        |text: &String| text.len(),
+        |text: &String| Ok(text.len()),
         |_text: &String| iter::empty::<String>(),
     )
 }
@@ -33,7 +33,7 @@ fn order_by_one_id(alloc: Global, words: &[&str]) -> Result<Vec<String>, WalkErr
     topo_order_forward(
         alloc,
         texts,
-        |_text: &String| String::new(alloc),
+        |_text: &String| Ok(String::new(alloc)),
         |_text: &String| iter::empty::<String>(),
         |text: String| text,
     )

@@ -78,9 +78,9 @@ impl FailingGraph {
     }
 }
 
-/// The id of a node: the node.
-pub fn id(node: &char) -> char {
-    *node
+/// Returns the id of a node: the node itself.
+pub fn id(node: &char) -> Result<char, AllocError> {
+    Ok(*node)
 }
 
 /// The error of any node on or below a cycle: which one it is, is not laid down.

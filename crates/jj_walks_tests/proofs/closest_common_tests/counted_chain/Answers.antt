@@ -1,6 +1,6 @@
 use Rattle.std.proofs.Common.{rules, of_calls}
-use Rattle.jj_dag.proofs.Owing.{may_show}
+use Rattle.jj_dag.proofs.Owing.{walkable_by}
 use Rattle.jj_walks_tests.proofs.closest_common_tests.counted_chain.Goals as goal
 
 pub closest_common_nodes-requires-clause-graph : goal.closest_common_nodes-requires-clause-graph
-closest_common_nodes-requires-clause-graph c = may_show (search rules) (search (rules, of_calls)) (λ a r f h. (first_of (search rules, search (rules, of_calls, h)), search (rules, of_calls, h)))
+closest_common_nodes-requires-clause-graph c = walkable_by (search rules) (search (rules, of_calls)) (λ a r f h. (first_of (search rules, search (rules, of_calls, h)), search (rules, of_calls, h)))

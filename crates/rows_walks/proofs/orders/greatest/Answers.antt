@@ -1,6 +1,6 @@
 use Rattle.std.proofs.Common.{rules, of_calls}
-use Rattle.jj_dag.proofs.Owing.{can_show}
+use Rattle.jj_dag.proofs.Owing.{walkable_by}
 use Rattle.rows_walks.proofs.orders.greatest.Goals as goal
 
 pub topo_order_reverse_ord-requires-clause-graph : goal.topo_order_reverse_ord-requires-clause-graph
-topo_order_reverse_ord-requires-clause-graph c = can_show (search rules) (search (rules, of_calls)) (λ a r f h. (λ it b. (search rules, search rules), search (rules, of_calls, h)))
+topo_order_reverse_ord-requires-clause-graph c = walkable_by (search rules) (search (rules, of_calls)) (λ a r f h. (λ it b. (search rules, search rules), search (rules, of_calls, h)))

@@ -1,8 +1,6 @@
 use Rattle.std.proofs.Common.{rules, of_calls}
-use Rattle.jj_dag.proofs.Owing.{can_be_ordered, can_show}
+use Rattle.jj_dag.proofs.Owing.{walkable_by}
 use Rattle.rows_walks.proofs.orders.reverse_ok.Goals as goal
 
-pub topo_order_reverse_ok-requires : goal.topo_order_reverse_ok-requires
-topo_order_reverse_ok-requires c = can_be_ordered
-    (can_show (search rules) (search (rules, of_calls)) (λ a r f h. (λ it b. (search rules, search rules), search (rules, of_calls, h))))
-    (search rules) (search rules) (search rules)
+pub topo_order_reverse_ok-requires-clause-graph : goal.topo_order_reverse_ok-requires-clause-graph
+topo_order_reverse_ok-requires-clause-graph c = walkable_by (search rules) (search (rules, of_calls)) (λ a r f h. (λ it b. (search rules, search rules), search (rules, of_calls, h)))

@@ -1,0 +1,113 @@
+//! Callers over a list of commits that may lack parents of its commits: an item is a commit, or
+//! the id of a missing one.
+ghost use Rattle.std.specs.Prelude.{◌≡◌, ◌⊎◌, IfOk, IfErr, map, reverse};
+ghost use Rattle.jj_dag.specs.Errors.{IfNode};
+ghost use Rattle.jj_dag.specs.Graph.{HasNoCycle, IsMaximalIn, OnCycleFrom};
+ghost use Rattle.jj_dag.specs.Orders.{IsWholePostorder};
+ghost use Rattle.jj_walks_tests.specs.Commits.{known_ids, parent_graph};
+ghost use Rattle.jj_walks_tests.specs.Missing.{IsMissingFrom};
+
+use crate::commits::{Commit, commit_of};
+use jj_walks::dag_walk::{
+    WalkError, heads_ok, topo_order_forward_ok, topo_order_reverse_ok,
+};
+use std::alloc::Global;
+use std::collections::HashSet;
+
+/// Iterates over the commits with these ids. The item of a missing commit is its id.
+#[derive(Drop)]
+pub struct Lookups<'a> {
+    commits: &'a [Commit],
+    ids: &'a [u64],
+}
+
+impl<'a> Iterator for Lookups<'a> {
+    type Item = Result<&'a Commit, u64>;
+
+    ghost use Rattle.std.specs.Iterator.{YieldsFirstBy, item_count};
+    ghost use Rattle.jj_walks_tests.specs.Missing.{lookups_left};
+    ghost use Rattle.jj_walks_tests.specs.Parents.{shown_item};
+
+    ghost next_gives = { YieldsFirstBy shown_item lookups_left };
+
+    ghost remaining = { item_count lookups_left };
+
+    fn next(&mut self) -> Option<Result<&'a Commit, u64>> {
+        let (id, others) = self.ids.split_first()?;
+        self.ids = others;
+        match commit_of(self.commits, *id) {
+            Some(commit) => Some(Ok(commit)),
+            None => Some(Err(*id)),
+        }
+    }
+}
+
+/// Returns the commits with these ids, in the order of the ids.
+pub fn look_up<'a>(commits: &'a [Commit], ids: &'a [u64]) -> Lookups<'a>
+    ensures commits { result.commits.now ≡ commits.now }
+    ensures ids { result.ids.now ≡ ids.now }
+{
+    Lookups { commits, ids }
+}
+
+/// Returns the commits with these ids that no other of them has as an ancestor. Fails at a missing
+/// commit.
+pub fn tips_of<'a>(
+    alloc: Global,
+    commits: &'a [Commit],
+    ids: &'a [u64],
+) -> Result<HashSet<&'a Commit>, WalkError<u64>>
+    requires { HasNoCycle (parent_graph commits.now) (known_ids commits.now ids.now) }
+    ensures tips { IfOk result (λ found. IsMaximalIn (parent_graph commits.now)
+        (known_ids commits.now ids.now) (map (λ commit. commit.now.id) found.keys)) }
+    ensures missing { IfErr result (λ e. IfNode e (IsMissingFrom commits.now ids.now)) }
+{
+    heads_ok(
+        alloc,
+        look_up(commits, ids),
+        |commit: &&Commit| Ok(&commit.id),
+        |commit: &&Commit| look_up(commits, &commit.parents),
+    )
+}
+
+/// Returns the commits with these ids and their ancestors, parents first. Fails at a missing commit
+/// and at a cycle.
+pub fn ancestors_first<'a>(
+    alloc: Global,
+    commits: &'a [Commit],
+    ids: &'a [u64],
+) -> Result<Vec<&'a Commit>, WalkError<u64>>
+    ensures order { IfOk result (λ order. IsWholePostorder (parent_graph commits.now)
+        (known_ids commits.now ids.now) (map (λ commit. commit.now.id) order.items)) }
+    ensures error { IfErr result (λ e. IfNode e (λ id. IsMissingFrom commits.now ids.now id
+        ⊎ OnCycleFrom (parent_graph commits.now) (known_ids commits.now ids.now) id)) }
+{
+    topo_order_forward_ok(
+        alloc,
+        look_up(commits, ids),
+        |commit: &&Commit| Ok(&commit.id),
+        |commit: &&Commit| look_up(commits, &commit.parents),
+        |commit: &Commit| commit.id,
+    )
+}
+
+/// Returns the commits with these ids and their ancestors, children first. Fails at a missing
+/// commit and at a cycle.
+pub fn ancestors_last<'a>(
+    alloc: Global,
+    commits: &'a [Commit],
+    ids: &'a [u64],
+) -> Result<Vec<&'a Commit>, WalkError<u64>>
+    ensures order { IfOk result (λ order. IsWholePostorder (parent_graph commits.now)
+        (known_ids commits.now ids.now) (reverse (map (λ commit. commit.now.id) order.items))) }
+    ensures error { IfErr result (λ e. IfNode e (λ id. IsMissingFrom commits.now ids.now id
+        ⊎ OnCycleFrom (parent_graph commits.now) (known_ids commits.now ids.now) id)) }
+{
+    topo_order_reverse_ok(
+        alloc,
+        look_up(commits, ids),
+        |commit: &&Commit| Ok(&commit.id),
+        |commit: &&Commit| look_up(commits, &commit.parents),
+        |commit: &Commit| commit.id,
+    )
+}
