@@ -1,4 +1,4 @@
--- Invariant of collecting the reachable nodes.
+-- Lemmas about the depth-first search that collects nodes.
 use Rattle.std.proofs.Common.{◌≡◌, ℕ, ◌+◌, ◌<◌, get_or, take, Bool, true, List, [], ◌∷◌, ◌++◌, map, length, Some, Result, Ok, cond, refl, sym, ◌∙◌, ap, subst, arith}
 use Rattle.std.specs.Fn.{CalledAt, Mut, Shared}
 use Rattle.std.specs.Global.{Global}
@@ -32,7 +32,7 @@ use Rattle.jj_dag.proofs.Walking.{AlwaysReturns-call}
 
 module _ {T ID E F N U J : Type 0} (eq : ID → ID → Bool) (ids : Shared F (Bor T × Unit {0}) (Result ID AllocError)) (lists : Mut N (Bor T × Unit {0}) U) (value : into.Ghosts U (Result T E) J)
     (items : iter.Ghosts J (Result T E)) where
-  -- the initial state
+  -- closures that have not been called
   pub goes_on-none : (s : Shown F N) → CanShow ids lists value items s.id_fn s.neighbors_fn → GoesOn eq ids lists value items s s
   goes_on-none s k = record { id_fn = refl; can_show = k; calls = none; implemented = λ walk q. q }
 
@@ -59,12 +59,12 @@ module _ {T ID E F N U J : Type 0} (eq : ID → ID → Bool) (ids : Shared F (Bo
     implemented = λ walk q. rw first.id_fn at (second.implemented walk (rw first.id_fn (first.implemented walk q)));
   }
 
-  -- returns of a later state are returns of the first one
+  -- a result that is possible after calls is possible
   pub fails_before : (s t : Shown F N) → GoesOn eq ids lists value items s t → (x : T) (e : E) → (graph_at eq ids lists value items t.id_fn t.neighbors_fn).fails x e
       → (graph_at eq ids lists value items s.id_fn s.neighbors_fn).fails x e
   fails_before s t k x e (r, (f, f', leads, did), fails) = (r, (f, f', leads_through k.calls leads, did), fails)
 
--- a neighbor list as fallible items
+-- a model's list of a node, as items
 pub whole_listed : {T ID : Type 0} (walk : Numbered T ID) (a : ℕ) (xs : List T) → map walk.node xs ≡ walk.graph a → whole walk a ≡ map (λ x. Ok (walk.node x)) xs
 whole_listed walk a xs e = ap (map (λ b. Ok b)) (sym e) ∙ map_twice (λ (b : ℕ). Ok b) walk.node xs
 
@@ -83,19 +83,19 @@ filled_more eq s t node id kept filled nodes lists places = (
   refl,
 )
 
--- appending to lists that agree item by item
+-- two lists agree item by item, and so do they with one more
 pub zip-push : {A B : Type 0} (R : A → B → Type 0) (xs : List A) (ys : List B) (x : A) (y : B) → AllZip R xs ys → R x y → AllZip R (xs ++ x ∷ []) (ys ++ y ∷ [])
 zip-push R [] [] x y k r = (r, tt)
 zip-push R [] (b ∷ ys) x y k r = absurd k
 zip-push R (a ∷ xs) [] x y k r = absurd k
 zip-push R (a ∷ xs) (b ∷ ys) x y k r = (k.0, zip-push R xs ys x y k.1 r)
 
--- one more ID
+-- one more id was returned
 pub told_more : {T ID : Type 0} (tells : T → ID → Type 0) (nodes : List T) (n : ℕ) (ids more : List ID) (node : T) (id : ID) → n < length nodes → node ≡ get_or nodes n node → tells node id
     → AllZip tells (take n nodes) ids → more ≡ ids ++ id ∷ [] → AllZip tells (take (n + 1) nodes) more
 told_more tells nodes n ids more node id lt at told before pushed = rw (take_more nodes n node lt, sym at, pushed) (zip-push tells (take n nodes) ids node id before told)
 
--- IDs that the closure returned are those of the nodes
+-- ids that the closure returned for nodes are theirs
 pub ids_told : {T ID : Type 0} (w : Numbered T ID) (tells : T → ID → Type 0) → ((x : T) (i : ID) → w.is_node (w.node x) ≡ true → tells x i → w.id i ≡ w.node x)
     → (xs : List T) (is : List ID) → AllZip tells xs is → AreNodes w (map w.node xs) → map w.id is ≡ map w.node xs
 ids_told w tells stand [] [] told nodes = refl
@@ -105,20 +105,20 @@ ids_told w tells stand (x ∷ xs) (i ∷ is) told nodes =
     ap (λ n. n ∷ map w.id is) (stand x i (nodes (w.node x) (0, omega arith, refl)) told.0)
     ∙ ap (λ l. w.node x ∷ l) (ids_told w tells stand xs is told.1 (λ a h. nodes a (Contains-append_right (w.node x ∷ []) (map w.node xs) a h)))
 
--- reachability is transitive
+-- nodes that reached nodes reach are reached
 pub reached_through : (g : Graph) (starts left : List ℕ) → ((b : ℕ) → Contains left b → ReachedFrom g starts b) → (a : ℕ) → ReachedFrom g left a → ReachedFrom g starts a
 reached_through g starts left through a (s, at, (n, p)) =
     let first = through s at in
     (first.0, first.1, Reaches-trans g first.0 s a first.2.0 first.2.1 (n, p))
 
--- errors of reachable nodes
+-- a failure below a reached node is one below the starts
 pub failure_through : {E : Type 0} (g : Graph) (items : FailingGraph (Fault E)) (starts left : List ℕ) (e : E) → ((a : ℕ) → g a ≡ sound items a) → ((b : ℕ) → Contains left b → ReachedFrom g starts b)
     → ReachesFailure items left e → ReachesFailure items starts e
 failure_through g items starts left e same through (a, fault, reached, at, is) =
     let out = reached_through g starts left through a (ReachedFrom-same (sound items) g (λ b. sym (same b)) left a reached) in
     (a, fault, ReachedFrom-same g (sound items) same starts a out, at, is)
 
--- errors reachable from a reachable node are reachable from the starts
+-- an error of a node below a reached one is an error below the starts
 pub failed_below : {E : Type 0} (g : Graph) (items : FailingGraph (Fault E)) (starts : List ℕ) (a : ℕ) (e : E) → ((b : ℕ) → g b ≡ sound items b) → ReachedFrom g starts a → ReachesFailure items (a ∷ []) e
     → ReachesFailure items starts e
 failed_below g items starts a e same reached failure = failure_through g items starts (a ∷ []) e same (λ b h. subst (ReachedFrom g starts) (only a b h) reached) failure

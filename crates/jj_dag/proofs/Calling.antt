@@ -1,4 +1,4 @@
--- Closures implement the same graph after a call.
+-- The graph of closures after a call, and the reasons why a walk stops.
 use Rattle.std.proofs.Common.{◌≡◌, ℕ, Bool, true, List, Result, subst}
 use Rattle.std.specs.Fn.{CalledAt, Mut, Shared}
 use denote.Ref.{Bor}
@@ -9,7 +9,7 @@ use Rattle.jj_dag.specs.Stops.{IfCycle, IfFailed}
 use Rattle.jj_dag.specs.Walk.{Numbered}
 use Rattle.jj_dag.proofs.Walking.{AlwaysReturns-call}
 
--- the closures implement the same graph after a call, and the call returned the node's list
+-- after a call the closures define the same graph, and the call returned a list of that graph
 pub shown_after : {T ID E F N U : Type 0} (w : Numbered T ID) (items : FailingGraph (Fault E)) (eq : ID → ID → Bool) (ids : Shared F (Bor T × Unit {0}) ID) (lists : Mut N (Bor T × Unit {0}) U)
     (says : U → List (Result ℕ (Fault E)) → Type 0) {id_fn : F} {f f' : N} {x : T} {r : U} → ShowsBy w items eq ids lists says id_fn f → CalledAt lists f x r f'
     → ShowsBy w items eq ids lists says id_fn f' × (w.is_node (w.node x) ≡ true → says r (items (w.node x)))

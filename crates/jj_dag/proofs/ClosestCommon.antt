@@ -1,4 +1,4 @@
--- Invariant of the search for closest common nodes, on the map and the heap.
+-- Invariants of the map and the heap of a search for the closest common nodes.
 use Rattle.std.proofs.Common.{◌≡◌, ℕ, zero, suc, ◌==◌, Bool, true, false, not, cond, ◌&&◌, ◌||◌, List, [], ◌∷◌, ◌++◌, map, refl, sym, ◌∙◌, ap, subst, arith, inl, inr, ◌⊎◌, ⊎_elim, true≢false, eqb}
 use Rattle.std.specs.Prelude.{IsTrue}
 use Rattle.std.specs.Bool.{MatchBool, one_answer}
@@ -13,6 +13,8 @@ use Rattle.std.proofs.lemmas.Map.Keys.{IsDistinct-push, IsDistinct-head, IsDisti
 use Rattle.std.proofs.lemmas.Bool.{and_parts}
 use Rattle.jj_dag.specs.declared.closest_common.Reach.{Reach}
 use Rattle.jj_dag.specs.declared.closest_common.Mark.{Mark}
+use Rattle.indexmap.specs.IndexMap.{insert_entry}
+use Rattle.std.specs.Prelude.{if◌then◌else◌}
 use Rattle.jj_dag.specs.CommonNodes.{HasNoCommonCycle, AreClosestCommon}
 use Rattle.jj_dag.specs.CommonSearch.{KnowsMarks, IsStarting, reach_of_sets}
 use Rattle.jj_dag.specs.Graph.{HasEdge, ReachedFrom}
@@ -101,7 +103,7 @@ Contains-passed p (x ∷ xs) a h e =
       | false ↦ λ t. ⊎_elim (λ same. absurd (true_not_false e (subst (λ n. p n ≡ false) same t))) (λ l. Contains-passed p xs a l e) (head_or_rest x xs a h)
     ] refl
 
--- filtering values by a test of their numbers
+-- a filter of values by a test of their numbers
 filter_numbers : {A B : Type 0} (value : A → B) (number : B → ℕ) (p : A → Bool) (q : ℕ → Bool) (xs : List A) → ((x : A) → Contains xs x → p x ≡ q (number (value x)))
     → map number (map value (filter p xs)) ≡ filter q (map (λ x. number (value x)) xs)
 filter_numbers value number p q [] same = refl
@@ -111,6 +113,14 @@ filter_numbers {A} value number p q (x ∷ xs) same =
     λ b. elim b as (λ b. map number (map value (cond b (x ∷ filter p xs) (filter p xs))) ≡ cond b (number (value x) ∷ map number (map value (filter p xs))) (map number (map value (filter p xs)))) [ true ↦ refl | false ↦ refl ] in
     split (p x) ∙ ap (λ b. cond b (number (value x) ∷ map number (map value (filter p xs))) (map number (map value (filter p xs)))) (same x (0, omega arith, refl))
     ∙ ap (λ l. cond (q (number (value x))) (number (value x) ∷ l) l) rest
+
+-- a key that equals none of the keys goes last
+pub insert_new : {K X : Type 0} (eq : K → K → Bool) (es : List (K × X)) (i : K) (x : X) → ((entry : K × X) → Contains es entry → eq i entry.0 ≡ false) → insert_entry eq es i x ≡ es ++ (i, x) ∷ []
+insert_new eq [] i x apart = refl
+insert_new eq (e ∷ es) i x apart =
+    let no : eq i e.0 ≡ false = apart e (0, omega arith, refl) in
+    let rest = insert_new eq es i x (λ entry h. apart entry (Contains-append_right (e ∷ []) es entry h)) in
+    ap (λ t. if t then (e.0, x) ∷ es else e ∷ insert_entry eq es i x) no ∙ ap (λ l. e ∷ l) rest
 
 module _ {T ID : Type 0} (w : Numbered T ID) where
   abbrev pub Apart : (ID → ID → Bool) → Type 0
@@ -124,7 +134,7 @@ module _ {T ID : Type 0} (w : Numbered T ID) where
 
   -- ---- a node is marked
 
-  -- which may make it pending
+  -- by which one more may wait
   abbrev pub Joins : (waiting waiting2 : List T) (y : ℕ) (known added : Reach) → Type 0
   Joins waiting waiting2 y known added = (b : ℕ) → has (map w.node waiting2) b ≡ (has (map w.node waiting) b || ((b == y) && grows known added))
 
@@ -274,13 +284,10 @@ module _ {T ID : Type 0} (w : Numbered T ID) where
 
   -- ---- the search
 
-  abbrev pair_node : T × ID → ℕ
-  pair_node entry = w.node entry.0
-
-  pub record HoldsMarks (set1 set2 : List ℕ) (m : ℕ → Reach) (waiting : List T) (common : List (T × ID)) (rooted : Bool) (find : ID → Mark) : Type 0 where
-    pub marking : IsMarking w.graph set1 set2 m (map w.node waiting) (map (λ entry. w.node entry.0) common) rooted
+  pub record HoldsMarks (set1 set2 : List ℕ) (m : ℕ → Reach) (waiting : List T) (common : List (ID × T)) (rooted : Bool) (find : ID → Mark) : Type 0 where
+    pub marking : IsMarking w.graph set1 set2 m (map w.node waiting) (map (λ entry. w.node entry.1) common) rooted
     pub marks : KnowsMarks w m waiting find
-    pub ids : (entry : T × ID) → Contains common entry → w.id entry.1 ≡ w.node entry.0
+    pub ids : (entry : ID × T) → Contains common entry → w.id entry.0 ≡ w.node entry.1
     pub reached : (a : ℕ) → Contains (map w.node waiting) a → ReachedFrom w.graph (set1 ++ set2) a
 
   or_true : (a b : Bool) → a ≡ true → (a || b) ≡ true
@@ -295,13 +302,13 @@ module _ {T ID : Type 0} (w : Numbered T ID) where
   or_one true b e = inl refl
   or_one false b e = inr e
 
-  pub started_holds : (set1 set2 : List ℕ) (waiting : List T) (common : List (T × ID)) (find : ID → Mark) → common ≡ [] → IsStarting w set1 set2 waiting find
+  pub started_holds : (set1 set2 : List ℕ) (waiting : List T) (common : List (ID × T)) (find : ID → Mark) → common ≡ [] → IsStarting w set1 set2 waiting find
       → HoldsMarks set1 set2 (reach_of_sets set1 set2) waiting common false find
   unfolding IsDistinct
   started_holds set1 set2 waiting common find none k =
       let W = map w.node waiting in
       let waits : (b : ℕ) → (has set1 b || has set2 b) ≡ true → Contains W b = λ b h. Contains-from_has W b (k.waits b ∙ h) in
-      let nobody : (entry : T × ID) → Contains [] entry → ⊥ = λ entry (n, lt, e). omega arith in
+      let nobody : (entry : ID × T) → Contains [] entry → ⊥ = λ entry (n, lt, e). omega arith in
       rw none (record {
         marking = record {
           left = λ a h. (a, Contains-from_has set1 a h, (0, refl));
@@ -328,19 +335,19 @@ module _ {T ID : Type 0} (w : Numbered T ID) where
         );
       })
 
-  -- the node a is dequeued, and its state was propagated to the neighbors yielded so far
-  pub record HandsOn (set1 set2 : List ℕ) (m : ℕ → Reach) (a : ℕ) (known : Reach) (waiting : List T) (common : List (T × ID)) (rooted : Bool) (find : ID → Mark) (given : List ℕ) : Type 0 where
-    pub marking : IsMarking w.graph set1 set2 m (a ∷ map w.node waiting) (map (λ entry. w.node entry.0) common) rooted
+  -- the node a was popped, and its mark was passed to its neighbours in `given`
+  pub record HandsOn (set1 set2 : List ℕ) (m : ℕ → Reach) (a : ℕ) (known : Reach) (waiting : List T) (common : List (ID × T)) (rooted : Bool) (find : ID → Mark) (given : List ℕ) : Type 0 where
+    pub marking : IsMarking w.graph set1 set2 m (a ∷ map w.node waiting) (map (λ entry. w.node entry.1) common) rooted
     pub marks : KnowsMarks w m waiting find
-    pub ids : (entry : T × ID) → Contains common entry → w.id entry.1 ≡ w.node entry.0
+    pub ids : (entry : ID × T) → Contains common entry → w.id entry.0 ≡ w.node entry.1
     pub reached : (b : ℕ) → Contains (a ∷ map w.node waiting) b → ReachedFrom w.graph (set1 ++ set2) b
     pub apart : has (map w.node waiting) a ≡ false
     pub same_left : (m a).left ≡ known.left
     pub same_right : (m a).right ≡ known.right
     pub handed : (b : ℕ) → Contains given b → Passes known (m b)
 
-  -- it is no longer pending
-  hands_none : (eq : ID → ID → Bool) (set1 set2 : List ℕ) (m : ℕ → Reach) (waiting waiting2 : List T) (common : List (T × ID)) (rooted : Bool) (find find2 : ID → Mark) (x : T) (i : ID) (known : Reach)
+  -- it waits no longer
+  hands_none : (eq : ID → ID → Bool) (set1 set2 : List ℕ) (m : ℕ → Reach) (waiting waiting2 : List T) (common : List (ID × T)) (rooted : Bool) (find find2 : ID → Mark) (x : T) (i : ID) (known : Reach)
       → Apart eq → HoldsMarks set1 set2 m waiting common rooted find → IsPermutation waiting (x ∷ waiting2) → w.is_node (w.node x) ≡ true → w.id i ≡ w.node x → known ≡ (find i).reach
       → (IsTrue (find i).waits → (q : ID) → find2 q ≡ cond (eq i q) (without_waiting (find i)) (find q)) → HandsOn set1 set2 m (w.node x) known waiting2 common rooted find2 []
   hands_none eq set1 set2 m waiting waiting2 common rooted find find2 x i known apart k popped here same is updates =
@@ -392,8 +399,8 @@ module _ {T ID : Type 0} (w : Numbered T ID) where
         handed = λ b h. absurd (nothing b h);
       }
 
-  -- pending nodes are reachable
-  pub was_reached : {set1 set2 : List ℕ} {m : ℕ → Reach} {waiting : List T} {common : List (T × ID)} {rooted : Bool} {find : ID → Mark} (waiting2 : List T) (x : T)
+  -- a node that waited is reached
+  pub was_reached : {set1 set2 : List ℕ} {m : ℕ → Reach} {waiting : List T} {common : List (ID × T)} {rooted : Bool} {find : ID → Mark} (waiting2 : List T) (x : T)
       → ((a : ℕ) → w.is_node a ≡ true → AreNodes w (w.graph a)) → AreNodes w set1 → AreNodes w set2 → HoldsMarks set1 set2 m waiting common rooted find → IsPermutation waiting (x ∷ waiting2)
       → ReachedFrom w.graph (set1 ++ set2) (w.node x) × (w.is_node (w.node x) ≡ true)
   was_reached {set1} {set2} {waiting = waiting} waiting2 x closed first second k popped =
@@ -403,8 +410,8 @@ module _ {T ID : Type 0} (w : Numbered T ID) where
       let reached = k.reached (w.node x) waited in
       (reached, are_nodes {E = ℕ} w (λ a. []) (set1 ++ set2) closed (both_nodes set1 set2 first second) (w.node x) reached)
 
-  -- it is expanded: its neighbors are to be visited
-  pub asks : {set1 set2 : List ℕ} {m : ℕ → Reach} {waiting waiting2 : List T} {common : List (T × ID)} {rooted : Bool} {find : ID → Mark} (eq : ID → ID → Bool) (find2 : ID → Mark) (x : T) (i : ID) (known : Reach)
+  -- the popped node is expanded: its neighbours are to be marked
+  pub asks : {set1 set2 : List ℕ} {m : ℕ → Reach} {waiting waiting2 : List T} {common : List (ID × T)} {rooted : Bool} {find : ID → Mark} (eq : ID → ID → Bool) (find2 : ID → Mark) (x : T) (i : ID) (known : Reach)
       → ((a : ℕ) → w.is_node a ≡ true → AreNodes w (w.graph a)) → Apart eq → AreNodes w set1 → AreNodes w set2 → HoldsMarks set1 set2 m waiting common rooted find
       → IsPermutation waiting (x ∷ waiting2) → (w.is_node (w.node x) ≡ true → w.id i ≡ w.node x) → known ≡ (find i).reach
       → (IsTrue (find i).waits → (q : ID) → find2 q ≡ cond (eq i q) (without_waiting (find i)) (find q))
@@ -431,8 +438,8 @@ module _ {T ID : Type 0} (w : Numbered T ID) where
       ap (λ t. (added.left && not t) || (added.right && not known.right)) l ∙ ap (λ t. (added.left && not added.left) || (added.right && not t)) r
       ∙ ap (λ t. t || (added.right && not added.right)) (not_self added.left) ∙ not_self added.right
 
-  -- one more neighbor has it
-  pub hands_more : (eq : ID → ID → Bool) (set1 set2 : List ℕ) (m : ℕ → Reach) (a : ℕ) (known : Reach) (waiting waiting2 : List T) (common : List (T × ID)) (rooted : Bool) (find find2 : ID → Mark) (given : List ℕ) (x : T) (i : ID)
+  -- one neighbour more has it
+  pub hands_more : (eq : ID → ID → Bool) (set1 set2 : List ℕ) (m : ℕ → Reach) (a : ℕ) (known : Reach) (waiting waiting2 : List T) (common : List (ID × T)) (rooted : Bool) (find find2 : ID → Mark) (given : List ℕ) (x : T) (i : ID)
       → Apart eq → HandsOn set1 set2 m a known waiting common rooted find given → HasEdge w.graph a (w.node x) → w.is_node (w.node x) ≡ true → w.id i ≡ w.node x
       → ((q : ID) → find2 q ≡ cond (eq i q) (mark_with (find i) (handed_on known)) (find q))
       → MatchBool (starts_waiting (find i) (handed_on known)) (IsPermutation (x ∷ waiting) waiting2) (waiting2 ≡ waiting)
@@ -470,38 +477,59 @@ module _ {T ID : Type 0} (w : Numbered T ID) where
         handed = λ b h. ⊎_elim (λ old. passes_kept m y r known b (k.handed b old)) (λ new. subst (λ n. Passes known (marks_more m y r n)) new (passes_marked m known y)) (Contains-push_cases given y b h);
       }
 
-  not_waiting : {set1 set2 : List ℕ} {m : ℕ → Reach} {a : ℕ} {known : Reach} {waiting : List T} {common : List (T × ID)} {rooted : Bool} {find : ID → Mark} {given : List ℕ}
+  not_waiting : {set1 set2 : List ℕ} {m : ℕ → Reach} {a : ℕ} {known : Reach} {waiting : List T} {common : List (ID × T)} {rooted : Bool} {find : ID → Mark} {given : List ℕ}
       → HandsOn set1 set2 m a known waiting common rooted find given → Contains (map w.node waiting) a → ⊥
   not_waiting {a = a} {waiting = waiting} k h = true≢false (sym (has-from_Contains (map w.node waiting) a h) ∙ k.apart)
 
-  passes_all : {set1 set2 : List ℕ} {m : ℕ → Reach} {a : ℕ} {known : Reach} {waiting : List T} {common : List (T × ID)} {rooted : Bool} {find : ID → Mark} {given : List ℕ}
+  passes_all : {set1 set2 : List ℕ} {m : ℕ → Reach} {a : ℕ} {known : Reach} {waiting : List T} {common : List (ID × T)} {rooted : Bool} {find : ID → Mark} {given : List ℕ}
       → HandsOn set1 set2 m a known waiting common rooted find given → ((b : ℕ) → HasEdge w.graph a b → Contains given b) → (b : ℕ) → HasEdge w.graph a b → Passes (m a) (m b)
   passes_all k all b edge =
       let p = k.handed b (all b edge) in
       record { left = λ h. p.left (sym k.same_left ∙ h); right = λ h. p.right (sym k.same_right ∙ h); below = λ (l, r). p.below (sym k.same_left ∙ l, sym k.same_right ∙ r) }
 
-  not_found : {set1 set2 : List ℕ} {m : ℕ → Reach} {a : ℕ} {known : Reach} {waiting : List T} {common : List (T × ID)} {rooted : Bool} {find : ID → Mark} {given : List ℕ}
-      → HandsOn set1 set2 m a known waiting common rooted find given → has (map (λ entry. w.node entry.0) common) a ≡ false
+  not_found : {set1 set2 : List ℕ} {m : ℕ → Reach} {a : ℕ} {known : Reach} {waiting : List T} {common : List (ID × T)} {rooted : Bool} {find : ID → Mark} {given : List ℕ}
+      → HandsOn set1 set2 m a known waiting common rooted find given → has (map (λ entry. w.node entry.1) common) a ≡ false
   not_found {a = a} {common = common} k =
-      let found = map (λ (entry : T × ID). w.node entry.0) common in
+      let found = map (λ (entry : ID × T). w.node entry.1) common in
       let P : Bool → Type 0 = λ t. has found a ≡ t → t ≡ false in
       elim (has found a) as P [ true ↦ λ e. absurd (((k.marking.common a).0 (Contains-from_has found a e)).1 (0, omega arith, refl)) | false ↦ λ e. refl ] refl
 
-  found_more : (common : List (T × ID)) (x : T) (i : ID) → map (λ (entry : T × ID). w.node entry.0) (common ++ (x, i) ∷ []) ≡ map (λ entry. w.node entry.0) common ++ w.node x ∷ []
-  found_more common x i = map-append (λ (entry : T × ID). w.node entry.0) common ((x, i) ∷ [])
+  in_map : (entry : ID × T) (xs : List (ID × T)) → Contains xs entry → Contains (map (λ (e : ID × T). w.node e.1) xs) (w.node entry.1)
+  in_map entry [] (n, lt, e) = absurd (omega arith)
+  in_map entry (x ∷ xs) h = ⊎_elim (λ first. (0, omega arith, ap (λ (e : ID × T). w.node e.1) first)) (λ rest. Contains-append_right (w.node x.1 ∷ []) (map (λ (e : ID × T). w.node e.1) xs) (w.node entry.1) (in_map entry xs rest)) (head_or_rest x xs entry h)
 
-  pub ids_more : (common : List (T × ID)) (x : T) (i : ID) → ((entry : T × ID) → Contains common entry → w.id entry.1 ≡ w.node entry.0) → w.id i ≡ w.node x
-      → (entry : T × ID) → Contains (common ++ (x, i) ∷ []) entry → w.id entry.1 ≡ w.node entry.0
-  ids_more common x i ids same entry h = ⊎_elim (λ old. ids entry old) (λ new. subst (λ (e : T × ID). w.id e.1 ≡ w.node e.0) new same) (Contains-push_cases common (x, i) entry h)
+  -- the id of the node is not among those of the candidates
+  pub new_id : {set1 set2 : List ℕ} {m : ℕ → Reach} {known : Reach} {waiting : List T} {common : List (ID × T)} {rooted : Bool} {find : ID → Mark} {given : List ℕ} (eq : ID → ID → Bool) (x : T) (i : ID)
+      → ((a : ℕ) → w.is_node a ≡ true → AreNodes w (w.graph a)) → Apart eq → AreNodes w set1 → HandsOn set1 set2 m (w.node x) known waiting common rooted find given
+      → w.is_node (w.node x) ≡ true → w.id i ≡ w.node x → (entry : ID × T) → Contains common entry → eq i entry.0 ≡ false
+  new_id {set1 = set1} {common = common} eq x i closed apart nodes k here same entry h = by_test (eq i entry.0) refl
+    where
+      by_test : (t : Bool) → eq i entry.0 ≡ t → eq i entry.0 ≡ false
+      by_test false e = e
+      by_test true e =
+          let a = w.node entry.1 in
+          let found = map (λ (e : ID × T). w.node e.1) common in
+          let listed : Contains found a = in_map entry common h in
+          let is : w.is_node a ≡ true = are_nodes {E = ℕ} w (λ b. []) set1 closed nodes a (k.marking.left a ((k.marking.common a).0 listed).0.0) in
+          let told = apart i entry.0 (subst (λ n. w.is_node n ≡ true) (sym same) here) (subst (λ n. w.is_node n ≡ true) (sym (k.ids entry h)) is) in
+          let one : w.node x ≡ a = sym same ∙ (Decides-eqb (w.id i) (w.id entry.0)).0 (sym told ∙ e) ∙ k.ids entry h in
+          absurd (true≢false (sym (has-from_Contains found (w.node x) (subst (Contains found) (sym one) listed)) ∙ not_found k))
 
-  -- all its neighbors have it, and the node is common
-  hands_common : {set1 set2 : List ℕ} {m : ℕ → Reach} {known : Reach} {waiting : List T} {common : List (T × ID)} {rooted : Bool} {find : ID → Mark} {given : List ℕ} (x : T) (i : ID) (is_root : Bool)
+  found_more : (common : List (ID × T)) (x : T) (i : ID) → map (λ (entry : ID × T). w.node entry.1) (common ++ (i, x) ∷ []) ≡ map (λ entry. w.node entry.1) common ++ w.node x ∷ []
+  found_more common x i = map-append (λ (entry : ID × T). w.node entry.1) common ((i, x) ∷ [])
+
+  pub ids_more : (common : List (ID × T)) (x : T) (i : ID) → ((entry : ID × T) → Contains common entry → w.id entry.0 ≡ w.node entry.1) → w.id i ≡ w.node x
+      → (entry : ID × T) → Contains (common ++ (i, x) ∷ []) entry → w.id entry.0 ≡ w.node entry.1
+  ids_more common x i ids same entry h = ⊎_elim (λ old. ids entry old) (λ new. subst (λ (e : ID × T). w.id e.0 ≡ w.node e.1) new same) (Contains-push_cases common (i, x) entry h)
+
+  -- all its neighbours have it, and the node is common
+  hands_common : {set1 set2 : List ℕ} {m : ℕ → Reach} {known : Reach} {waiting : List T} {common : List (ID × T)} {rooted : Bool} {find : ID → Mark} {given : List ℕ} (x : T) (i : ID) (is_root : Bool)
       → HandsOn set1 set2 m (w.node x) known waiting common rooted find given → w.id i ≡ w.node x → IsBoth known
       → ((b : ℕ) → HasEdge w.graph (w.node x) b → Contains given b) → (is_root ≡ false → (b : ℕ) × HasEdge w.graph (w.node x) b)
-      → HoldsMarks set1 set2 m waiting (common ++ (x, i) ∷ []) (rooted || is_root) find
+      → HoldsMarks set1 set2 m waiting (common ++ (i, x) ∷ []) (rooted || is_root) find
   hands_common {set1} {set2} {m} {known} {waiting} {common} {rooted} {find} {given} x i is_root k same both all asked =
       let y = w.node x in
-      let found = map (λ (entry : T × ID). w.node entry.0) common in
+      let found = map (λ (entry : ID × T). w.node entry.1) common in
       let W = map w.node waiting in
       let here : IsBoth (m y) = (k.same_left ∙ both.0, k.same_right ∙ both.1) in
       record {
@@ -516,13 +544,13 @@ module _ {T ID : Type 0} (w : Numbered T ID) where
         reached = λ b h. k.reached b (Contains-append_right (y ∷ []) W b h);
       }
 
-  -- all its neighbors have it, and the node is on one side
-  hands_side : {set1 set2 : List ℕ} {m : ℕ → Reach} {a : ℕ} {known : Reach} {waiting : List T} {common : List (T × ID)} {rooted : Bool} {find : ID → Mark} {given : List ℕ} (is_root : Bool)
+  -- all its neighbours have it, and the node is on one side
+  hands_side : {set1 set2 : List ℕ} {m : ℕ → Reach} {a : ℕ} {known : Reach} {waiting : List T} {common : List (ID × T)} {rooted : Bool} {find : ID → Mark} {given : List ℕ} (is_root : Bool)
       → HandsOn set1 set2 m a known waiting common rooted find given → (known.left && known.right) ≡ false
       → ((b : ℕ) → HasEdge w.graph a b → Contains given b) → (is_root ≡ false → (b : ℕ) × HasEdge w.graph a b)
       → HoldsMarks set1 set2 m waiting common (rooted || is_root) find
   hands_side {set1} {set2} {m} {a} {known} {waiting} {common} {rooted} {find} {given} is_root k side all asked =
-      let found = map (λ (entry : T × ID). w.node entry.0) common in
+      let found = map (λ (entry : ID × T). w.node entry.1) common in
       let W = map w.node waiting in
       let not_both : (c : ℕ) → c ≡ a → IsBoth (m c) → ⊥ = λ c at (l, r).
       let left : known.left ≡ true = sym k.same_left ∙ subst (λ n. (m n).left ≡ true) at l in
@@ -537,29 +565,29 @@ module _ {T ID : Type 0} (w : Numbered T ID) where
         reached = λ b h. k.reached b (Contains-append_right (a ∷ []) W b h);
       }
 
-  -- an expanded node is collected if both sides reach it
-  pub hands_over : {set1 set2 : List ℕ} {m : ℕ → Reach} {known : Reach} {waiting : List T} {common common2 : List (T × ID)} {rooted : Bool} {find : ID → Mark} {given : List ℕ} (x : T) (i : ID) (is_root : Bool)
-      → HandsOn set1 set2 m (w.node x) known waiting common rooted find given → w.id i ≡ w.node x → common2 ≡ cond (known.left && known.right) (common ++ (x, i) ∷ []) common
+  -- an expanded node, all of whose neighbours were marked, becomes a candidate if both sets reach it
+  pub hands_over : {set1 set2 : List ℕ} {m : ℕ → Reach} {known : Reach} {waiting : List T} {common common2 : List (ID × T)} {rooted : Bool} {find : ID → Mark} {given : List ℕ} (more : List (ID × T)) (x : T) (i : ID) (is_root : Bool)
+      → HandsOn set1 set2 m (w.node x) known waiting common rooted find given → w.id i ≡ w.node x → common2 ≡ cond (known.left && known.right) more common → more ≡ common ++ (i, x) ∷ []
       → ((b : ℕ) → HasEdge w.graph (w.node x) b → Contains given b) → (is_root ≡ false → (b : ℕ) × HasEdge w.graph (w.node x) b)
       → HoldsMarks set1 set2 m waiting common2 (rooted || is_root) find
-  hands_over {set1} {set2} {m} {known} {waiting} {common} {common2} {rooted} {find} {given} x i is_root k same kept all asked = by (known.left && known.right) refl kept
+  hands_over {set1} {set2} {m} {known} {waiting} {common} {common2} {rooted} {find} {given} more x i is_root k same kept added all asked = by (known.left && known.right) refl kept
     where
-      Holds : List (T × ID) → Type 0
+      Holds : List (ID × T) → Type 0
       Holds l = HoldsMarks set1 set2 m waiting l (rooted || is_root) find
 
-      by : (both : Bool) → (known.left && known.right) ≡ both → common2 ≡ cond both (common ++ (x, i) ∷ []) common → Holds common2
-      by true e is = subst Holds (sym is) (hands_common x i is_root k same (and_parts known.left known.right e) all asked)
+      by : (both : Bool) → (known.left && known.right) ≡ both → common2 ≡ cond both more common → Holds common2
+      by true e is = subst Holds (sym (is ∙ added)) (hands_common x i is_root k same (and_parts known.left known.right e) all asked)
       by false e is = subst Holds (sym is) (hands_side is_root k e all asked)
 
   -- ---- the end
 
-  -- one node is left, and it is common
-  pub ends_early : {set1 set2 : List ℕ} {m : ℕ → Reach} {known : Reach} {waiting : List T} {common : List (T × ID)} {rooted : Bool} {find : ID → Mark} {given : List ℕ} (x : T) (i : ID)
+  -- one node was left, which both sets reach
+  pub ends_early : {set1 set2 : List ℕ} {m : ℕ → Reach} {known : Reach} {waiting : List T} {common : List (ID × T)} {rooted : Bool} {find : ID → Mark} {given : List ℕ} (x : T) (i : ID)
       → HandsOn set1 set2 m (w.node x) known waiting common rooted find given → waiting ≡ [] → IsBoth known → rooted ≡ false
-      → IsAtEnd w.graph set1 set2 m (w.node x ∷ []) (map (λ entry. w.node entry.0) common) (map (λ entry. w.node entry.0) (common ++ (x, i) ∷ [])) rooted
+      → IsAtEnd w.graph set1 set2 m (w.node x ∷ []) (map (λ entry. w.node entry.1) common) (map (λ entry. w.node entry.1) (common ++ (i, x) ∷ [])) rooted
   ends_early {set1} {set2} {m} {known} {waiting} {common} {rooted} {find} {given} x i k none both rootless =
       let y = w.node x in
-      let found = map (λ (entry : T × ID). w.node entry.0) common in
+      let found = map (λ (entry : ID × T). w.node entry.1) common in
       let alone : (b : ℕ) → Contains (y ∷ []) b → y ≡ b = λ b h. ⊎_elim (λ e. e) (λ r. absurd (nothing b r)) (head_or_rest y [] b h) in
       rw (found_more common x i) (record {
         marking = subst (λ l. IsMarking w.graph set1 set2 m (y ∷ map w.node l) found rooted) none k.marking;
@@ -572,32 +600,32 @@ module _ {T ID : Type 0} (w : Numbered T ID) where
         each_once = IsDistinct-push nat_eq_equiv found y k.marking.once (not_found k);
       })
 
-  -- no node is pending
-  pub ends : {set1 set2 : List ℕ} {m : ℕ → Reach} {waiting : List T} {common : List (T × ID)} {rooted : Bool} {find : ID → Mark} → HoldsMarks set1 set2 m waiting common rooted find → waiting ≡ []
-      → IsAtEnd w.graph set1 set2 m [] (map (λ entry. w.node entry.0) common) (map (λ entry. w.node entry.0) common) rooted
+  -- no node waits
+  pub ends : {set1 set2 : List ℕ} {m : ℕ → Reach} {waiting : List T} {common : List (ID × T)} {rooted : Bool} {find : ID → Mark} → HoldsMarks set1 set2 m waiting common rooted find → waiting ≡ []
+      → IsAtEnd w.graph set1 set2 m [] (map (λ entry. w.node entry.1) common) (map (λ entry. w.node entry.1) common) rooted
   ends {set1} {set2} {m} {waiting} {common} {rooted} {find} k none = record {
-    marking = subst (λ l. IsMarking w.graph set1 set2 m (map w.node l) (map (λ (entry : T × ID). w.node entry.0) common) rooted) none k.marking;
+    marking = subst (λ l. IsMarking w.graph set1 set2 m (map w.node l) (map (λ (entry : ID × T). w.node entry.1) common) rooted) none k.marking;
     one = λ a b h. absurd (nothing a h);
     last = λ a h. absurd (nothing a h);
     either = λ a. ((λ h. inl h), (λ h. ⊎_elim (λ old. old) (λ new. absurd (nothing a new)) h));
     each_once = k.marking.once;
   }
 
-  -- so the common nodes that lie strictly below none are the closest ones
-  pub closest_at_end : {set1 set2 : List ℕ} {m : ℕ → Reach} {waiting : List T} {rooted : Bool} {find : ID → Mark} (todo found : List ℕ) (all : List (T × ID))
-      → IsAtEnd w.graph set1 set2 m todo found (map (λ entry. w.node entry.0) all) rooted → KnowsMarks w m waiting find → ((entry : T × ID) → Contains all entry → w.id entry.1 ≡ w.node entry.0)
+  -- so the nodes without a common one above them are the closest ones
+  pub closest_at_end : {set1 set2 : List ℕ} {m : ℕ → Reach} {waiting : List T} {rooted : Bool} {find : ID → Mark} (todo found : List ℕ) (all : List (ID × T))
+      → IsAtEnd w.graph set1 set2 m todo found (map (λ entry. w.node entry.1) all) rooted → KnowsMarks w m waiting find → ((entry : ID × T) → Contains all entry → w.id entry.0 ≡ w.node entry.1)
       → ((a : ℕ) → w.is_node a ≡ true → AreNodes w (w.graph a)) → AreNodes w set1 → HasNoCommonCycle w.graph set1 set2
       → AreClosestCommon w.graph set1 set2 (map w.node (closest_of find all))
   closest_at_end {set1} {set2} {m} {waiting} {rooted} {find} todo found all k marks ids closed nodes acyclic =
-      let number : T × ID → ℕ = λ entry. w.node entry.0 in
+      let number : ID × T → ℕ = λ entry. w.node entry.1 in
       let passes : ℕ → Bool = λ a. not (m a).below in
-      let listed : (entry : T × ID) → Contains all entry → Contains (map number all) (w.node entry.0) = λ entry h. in_map entry all h in
-      let is : (entry : T × ID) → Contains all entry → w.is_node (w.node entry.0) ≡ true = λ entry h.
-      are_nodes {E = ℕ} w (λ a. []) set1 closed nodes (w.node entry.0) (is_common w.graph set1 set2 k.marking (w.node entry.0) (end_common w.graph set1 set2 k (w.node entry.0) (listed entry h))).0 in
-      let same : (entry : T × ID) → Contains all entry → not (find entry.1).reach.below ≡ passes (w.node entry.0) = λ entry h.
-      let here : w.is_node (w.id entry.1) ≡ true = subst (λ n. w.is_node n ≡ true) (sym (ids entry h)) (is entry h) in
-      ap (λ mark. not mark.reach.below) (marks.knows entry.1 here) ∙ ap passes (ids entry h) in
-      let whole : map w.node (closest_of find all) ≡ filter passes (map number all) = filter_numbers (λ (entry : T × ID). entry.0) w.node (λ entry. not (find entry.1).reach.below) passes all same in
+      let listed : (entry : ID × T) → Contains all entry → Contains (map number all) (w.node entry.1) = λ entry h. in_map entry all h in
+      let is : (entry : ID × T) → Contains all entry → w.is_node (w.node entry.1) ≡ true = λ entry h.
+      are_nodes {E = ℕ} w (λ a. []) set1 closed nodes (w.node entry.1) (is_common w.graph set1 set2 k.marking (w.node entry.1) (end_common w.graph set1 set2 k (w.node entry.1) (listed entry h))).0 in
+      let same : (entry : ID × T) → Contains all entry → not (find entry.0).reach.below ≡ passes (w.node entry.1) = λ entry h.
+      let here : w.is_node (w.id entry.0) ≡ true = subst (λ n. w.is_node n ≡ true) (sym (ids entry h)) (is entry h) in
+      ap (λ mark. not mark.reach.below) (marks.knows entry.0 here) ∙ ap passes (ids entry h) in
+      let whole : map w.node (closest_of find all) ≡ filter passes (map number all) = filter_numbers (λ (entry : ID × T). entry.1) w.node (λ entry. not (find entry.0).reach.below) passes all same in
       rw whole (record {
         all = λ a. (
           (λ h. let r = Contains-filtered passes (map number all) a h in end_maximal w.graph set1 set2 k acyclic a r.0 (is_false (m a).below r.1)),
@@ -605,7 +633,3 @@ module _ {T ID : Type 0} (w : Numbered T ID) where
         );
         once = distinct_filter passes (map number all) k.each_once;
       })
-    where
-      in_map : (entry : T × ID) (xs : List (T × ID)) → Contains xs entry → Contains (map (λ (e : T × ID). w.node e.0) xs) (w.node entry.0)
-      in_map entry [] (n, lt, e) = absurd (omega arith)
-      in_map entry (x ∷ xs) h = ⊎_elim (λ first. (0, omega arith, ap (λ (e : T × ID). w.node e.0) first)) (λ rest. Contains-append_right (w.node x.0 ∷ []) (map (λ (e : T × ID). w.node e.0) xs) (w.node entry.0) (in_map entry xs rest)) (head_or_rest x xs entry h)

@@ -13,7 +13,7 @@ use Rattle.jj_dag.proofs.Wrapped.{AlwaysReturns-through}
 pub leads_on : {F T R : Type 0} {g : Mut F (Bor T × Unit {0}) R} {first f f' : F} {x : T} {r : R} → CallsLead g first f → CalledAt g f x r f' → CallsLead g first f'
 leads_on k did = more k did.called
 
--- a property of all returns from the first state is one of all returns from a later one
+-- a property of the results of all calls holds from a later state on
 pub always_later : {F X R : Type 0} (g : Mut F X R) (P : X → R → Type 0) {first f : F} → AlwaysReturns g P first → CallsLead g first f → AlwaysReturns g P f
 always_later g P k none = k
 always_later g P k (more before called) = (AlwaysReturns-call g P (always_later g P k before) called).1
@@ -26,8 +26,7 @@ may_return_says g P {r = r} k (f, f', leads, did) = subst (λ y. P y r) did.show
 pub returns_id : {T ID F : Type 0} (ids : Shared F (Bor T × Unit {0}) (Result ID AllocError)) {f : F} {p : Bor T} {r : Result ID AllocError} {i : ID} → ids.post f (p, tt) r → r ≡ Ok i → ReturnsId ids f p.now i
 returns_id ids {f} {p} h is = record { shown = p; shows = refl; says = record { met = subst (λ s. ids.post f (p, tt) s) is h } }
 
--- the closures implement the same models after a call, and the call returned the neighbors of its
--- node
+-- the closures implement the same models after a call, and the call returned the neighbours of its node
 pub implements_after : {T ID F N R : Type 0} (w : Numbered T ID) (eq : ID → ID → Bool) (ids : Shared F (Bor T × Unit {0}) (Result ID AllocError)) (lists : Mut N (Bor T × Unit {0}) R) (yields : R → List T → Type 0) {id_fn : F} {f f' : N} {x : T} {r : R}
     → Implements w eq ids lists yields id_fn f → CalledAt lists f x r f'
     → Implements w eq ids lists yields id_fn f' × ((xs : List T) → w.is_node (w.node x) ≡ true → yields r xs → map w.node xs ≡ w.graph (w.node x))
@@ -37,7 +36,7 @@ implements_after w eq ids lists yields {r = r} k did =
       subst (λ y. (xs : List _) → w.is_node (w.node y) ≡ true → yields r xs → map w.node xs ≡ w.graph (w.node y)) did.shows turn.0,
     )
 
--- a property of every model of one graph is one of every model of a graph with no others
+-- P of each model of one graph and of its starts is P of each model of a graph that has no others
 pub each_model : {T ID E K : Type 0} {graph : ClosureGraph T ID E} {start : Listing T E} {graph2 : ClosureGraph T ID K} {start2 : Listing T K} {P : Numbered T ID → List ℕ → Type 0} → InEachModel graph start P
     → ((w : Numbered T ID) → graph2.implements w → graph.implements w) → ((xs : List T) → start.yields xs → start2.yields xs) → InEachModel graph2 start2 P
 each_model k models yields = record { starts = k.starts; yielded = yields k.starts k.yielded; holds = λ w implemented nodes. k.holds w (models w implemented) nodes }
@@ -53,10 +52,10 @@ pub input_error : {T ID E : Type 0} {graph : ClosureGraph T ID E} {start : Listi
 input_error (inl h) models fails yields fails_too = inl (fails_too h)
 input_error (inr k) models fails yields fails_too = inr (neighbors_error k models fails yields)
 
--- A closure that wraps the results of another one.
+-- A closure that hands on what another one returns.
 module _ {T G N R S : Type 0} (outer : Mut G (Bor T × Unit {0}) R) (inner : Mut N (Bor T × Unit {0}) S) (of : G → N) (Hands : S → R → Type 0)
     (hands_on : (f : G) (a : Bor T × Unit {0}) (r : R) (f' : G) → Called outer f a r f' → (s : S) × Called inner (of f) a s (of f') × Hands s r) where
-  -- it implements the models of the other one, if its lists are lists of the other one
+  -- it implements the models of the other one, where its lists are lists of the other one
   pub implements_outside : {ID F : Type 0} (eq : ID → ID → Bool) (ids : Shared F (Bor T × Unit {0}) (Result ID AllocError)) (yields : R → List T → Type 0) (yields_inside : S → List T → Type 0)
       → ((s : S) (r : R) (xs : List T) → Hands s r → yields r xs → yields_inside s xs)
       → (w : Numbered T ID) (id_fn : F) (f : G) → Implements w eq ids inner yields_inside id_fn (of f) → Implements w eq ids outer yields id_fn f
@@ -71,7 +70,7 @@ module _ {T G N R S : Type 0} (outer : Mut G (Bor T × Unit {0}) R) (inner : Mut
   leads_inside none = none
   leads_inside (more {f = f} {f' = f'} {a = a} {r = r} before called) = let q = hands_on f a r f' called in more (leads_inside before) q.1
 
-  -- whatever it may return, the other one may
+  -- a result of the outer closure comes from one of the inner closure
   pub may_return_inside : (first : G) (x : T) (r : R) → MayReturn outer first x r → (s : S) × MayReturn inner (of first) x s × Hands s r
   may_return_inside first x r (f, f', leads, did) =
       let q = hands_on f (did.shown, tt) r f' did.called in

@@ -1,4 +1,4 @@
--- Result of Kahn's algorithm on a collected graph.
+-- The collected nodes, once the greatest were taken first.
 use Rattle.std.proofs.Common.{◌≡◌, ℕ, Bool, true, List, [], map, length, Option, None, Some, sym, ◌∙◌}
 use Rattle.std.specs.Global.{Global}
 use Rattle.std.specs.HashMap.{get}

@@ -1,4 +1,4 @@
--- Invariant of collecting the reachable nodes with the IDs of their neighbors.
+-- Invariants of a search that collects nodes, each with the ids of its neighbours.
 use Rattle.std.proofs.Common.{◌≡◌, ℕ, zero, suc, ◌+◌, ◌<◌, Bool, true, false, cond, Option, None, Some, is_some, Result, Ok, Err, MatchOption, List, [], ◌∷◌, ◌++◌, length, map, get_or, refl, sym, ◌∙◌, ap, subst, arith, ◌==◌, inl, inr, ◌⊎◌, ⊎_elim, true≢false, length-append}
 use Rattle.std.specs.List.{Contains, filter_map}
 use Rattle.std.specs.Result.{result_ok}
@@ -12,7 +12,7 @@ use Rattle.jj_dag.specs.Collecting.{IsInjective, IsCollecting}
 use Rattle.jj_dag.specs.Walk.{Numbered, AreNodes}
 use Rattle.jj_dag.proofs.Reaching.{ReachedFrom-edge}
 
--- the nodes among the items
+-- the items of a list that did not fail
 pub sound_items : {X : Type 0} (E : Type 0) (f : X → ℕ) (xs : List X) → filter_map result_ok (map {B = Result ℕ E} (λ x. Ok (f x)) xs) ≡ map f xs
 sound_items E f [] = refl
 sound_items E f (x ∷ xs) = ap (λ l. f x ∷ l) (sound_items E f xs)
@@ -52,7 +52,7 @@ IsInjective-push ns a inj new i j il jl e =
     ]
 
 module _ {T ID E : Type 0} (w : Numbered T ID) (items : FailingGraph E) where
-  -- reachable numbers are nodes
+  -- numbers that the starts reach are nodes
   pub are_nodes : (starts : List ℕ) → ((a : ℕ) → w.is_node a ≡ true → AreNodes w (w.graph a)) → AreNodes w starts → (a : ℕ) → ReachedFrom w.graph starts a → w.is_node a ≡ true
   are_nodes starts closed nodes a (s, at, r) = along r.0 s (nodes s at) r.1
     where
@@ -78,7 +78,7 @@ module _ {T ID E : Type 0} (w : Numbered T ID) (items : FailingGraph E) where
   pub top_reached : {starts : List ℕ} {find : ID → Option ℕ} {work given : List T} {ids : List (List ID)} (rest : List T) (x : T) → IsCollecting w items starts find work given ids → work ≡ rest ++ x ∷ [] → ReachedFrom w.graph starts (w.node x)
   top_reached {work = work} rest x k e = k.waiting_reached (w.node x) (subst (λ (l : List ℕ). Contains l (w.node x)) (sym (last_waits rest x work e)) (Contains-push (map w.node rest) (w.node x)))
 
-  -- a visited node is skipped
+  -- a node that was visited is passed over
   pub collecting_passed : {starts : List ℕ} {find : ID → Option ℕ} {work given : List T} {ids : List (List ID)} (rest : List T) (x : T) (i : ID) → IsCollecting w items starts find work given ids → work ≡ rest ++ x ∷ []
       → w.is_node (w.node x) ≡ true → w.id i ≡ w.node x → (k : ℕ) → find i ≡ Some k → IsCollecting w items starts find rest given ids
   collecting_passed {starts} {find} {work} {given} {ids} rest x i k e is same p found =
@@ -104,7 +104,7 @@ module _ {T ID E : Type 0} (w : Numbered T ID) (items : FailingGraph E) where
         none_failed = k.none_failed;
       }
 
-  -- a new node is visited, and its neighbors become pending
+  -- a new node is visited, and its neighbours wait
   pub collecting_entered : {starts : List ℕ} {find : ID → Option ℕ} {work given : List T} {ids : List (List ID)} (eq : ID → ID → Bool) (find2 : ID → Option ℕ) (rest : List T) (x : T) (i : ID) (below work2 given2 : List T) (new_ids : List ID) (ids2 : List (List ID)) (place : ℕ)
       → ((a : ℕ) → w.graph a ≡ sound items a) → ((a : ℕ) → w.is_node a ≡ true → AreNodes w (w.graph a)) → ((i j : ID) → w.is_node (w.id i) ≡ true → w.is_node (w.id j) ≡ true → eq i j ≡ (w.id i == w.id j))
       → IsCollecting w items starts find work given ids → work ≡ rest ++ x ∷ [] → w.is_node (w.node x) ≡ true → w.id i ≡ w.node x → find i ≡ None
@@ -171,7 +171,7 @@ module _ {T ID E : Type 0} (w : Numbered T ID) (items : FailingGraph E) where
             | false ↦ λ t. kept j (find j) (k.finds j is_j) (λ q. true≢false (sym ((Decides-eqb (w.id i) (w.id j)).1 q) ∙ t))
           ] refl
 
--- a look-up returns an index in range
+-- a look-up that finds an index finds one of a visited node
 pub places_more : {ID : Type 0} (eq : ID → ID → Bool) (find find2 : ID → Option ℕ) (i : ID) (n place : ℕ) → ((j : ID) (k : ℕ) → find j ≡ Some k → k < n) → place ≡ n
     → ((q : ID) → find2 q ≡ cond (eq i q) (Some place) (find q)) → (j : ID) (k : ℕ) → find2 j ≡ Some k → k < n + 1
 places_more eq find find2 i n place before at updates j k found =

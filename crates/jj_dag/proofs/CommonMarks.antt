@@ -1,5 +1,4 @@
--- The search for closest common nodes on numbers: invariant of the marks while nodes are open,
--- and their meaning at the end.
+-- The search for the closest common nodes of two sets, on numbers: the marks of the nodes while some are open, and at the end.
 use Rattle.std.proofs.Common.{◌≡◌, ℕ, zero, suc, ◌==◌, Bool, true, false, not, cond, ◌&&◌, ◌||◌, List, [], ◌∷◌, refl, sym, ◌∙◌, subst, arith, inl, inr, ◌⊎◌, ⊎_elim, true≢false, eqb}
 use Rattle.std.specs.Prelude.{◌↔◌}
 use Rattle.std.specs.List.{Contains, IsDistinct}
@@ -41,11 +40,11 @@ grown_right true r x e f = absurd (true≢false e)
 grown_right false true x e f = or_right x true refl
 grown_right false false x e f = absurd (true≢false (sym f))
 
--- the marked node is reachable from both sets
+-- both sets reach a node with this mark
 abbrev pub IsBoth : Reach → Type 0
 IsBoth k = (k.left ≡ true) × (k.right ≡ true)
 
--- a node that becomes common gains a side
+-- where both are so after something was added and were not before, it has grown
 both_grown : (k r : Reach) → IsBoth (reach_of_both k r) → IsBoth k ⊎ (grows k r ≡ true)
 both_grown k r (l, h) =
     let P : Bool → Type 0 = λ b. grows k r ≡ b → IsBoth k ⊎ (grows k r ≡ true) in
@@ -54,7 +53,7 @@ both_grown k r (l, h) =
       | false ↦ λ e. inl (sym (not_grown_left k.left r.left _ e) ∙ l, sym (not_grown_right k.right r.right _ e) ∙ h)
     ] refl
 
--- ---- one more mark
+-- ---- one mark more
 
 abbrev pub marks_more : (ℕ → Reach) → ℕ → Reach → ℕ → Reach
 marks_more m y r b = cond (b == y) (reach_of_both (m b) r) (m b)
@@ -76,7 +75,7 @@ kept_below m y r b h = at_mark m y r b (λ k. k.below ≡ true) (λ e. or_left (
 pub kept_both : (m : ℕ → Reach) (y : ℕ) (r : Reach) (b : ℕ) → IsBoth (m b) → IsBoth (marks_more m y r b)
 kept_both m y r b (l, h) = (kept_left m y r b l, kept_right m y r b h)
 
--- mark l of a neighbor covers what mark k of the node propagates
+-- the mark l of a neighbour includes what the mark k of a node passes on
 pub record Passes (k l : Reach) : Type 0 where
   pub left : k.left ≡ true → l.left ≡ true
   pub right : k.right ≡ true → l.right ≡ true
@@ -93,9 +92,8 @@ pub passes_kept : (m : ℕ → Reach) (y : ℕ) (r k : Reach) (b : ℕ) → Pass
 passes_kept m y r k b p = record { left = λ h. kept_left m y r b (p.left h); right = λ h. kept_right m y r b (p.right h); below = λ h. kept_below m y r b (p.below h) }
 
 module _ (g : Graph) (set1 set2 : List ℕ) where
-  -- Marks are sound. A node that is not open has propagated its mark; the common nodes found are
-  -- those that are not open. While no root was visited, each node marked as common leads to an open
-  -- one.
+  -- Marks are sound. A node that is not open has passed on its mark; the candidates are the common nodes that are not open.
+  -- While no root was found, each node marked as common leads to an open one.
   pub record IsMarking (m : ℕ → Reach) (todo found : List ℕ) (rooted : Bool) : Type 0 where
     pub left : (a : ℕ) → (m a).left ≡ true → ReachedFrom g set1 a
     pub right : (a : ℕ) → (m a).right ≡ true → ReachedFrom g set2 a
@@ -110,7 +108,7 @@ module _ (g : Graph) (set1 set2 : List ℕ) where
   pub is_common : {m : ℕ → Reach} {todo found : List ℕ} {rooted : Bool} → IsMarking m todo found rooted → (a : ℕ) → IsBoth (m a) → IsCommon g set1 set2 a
   is_common k a (l, h) = (k.left a l, k.right a h)
 
-  -- ---- a neighbor of an open node is marked
+  -- ---- a neighbour of an open node is marked
 
   pub marking_more : {m : ℕ → Reach} {todo found : List ℕ} {rooted : Bool} (todo2 : List ℕ) (k : Reach) (a y : ℕ) → IsMarking m todo found rooted
       → ((k.left ≡ true) → (m a).left ≡ true) → ((k.right ≡ true) → (m a).right ≡ true) → HasEdge g a y
@@ -181,7 +179,7 @@ module _ (g : Graph) (set1 set2 : List ℕ) where
       both_cases c = at_mark m y (handed_on k) c (λ l. IsBoth l → IsBoth (m c) ⊎ ((c ≡ y) × (grows (m y) (handed_on k) ≡ true)))
           (λ same both. ⊎_elim (λ old. inl old) (λ new. inr (same, subst (λ n. grows (m n) (handed_on k) ≡ true) same new)) (both_grown (m c) (handed_on k) both)) (λ ne both. inl both)
 
-  -- ---- an open node has propagated its mark
+  -- ---- an open node has passed on its mark
 
   is_open : (todo : List ℕ) (c : ℕ) → Contains todo c ⊎ (Contains todo c → ⊥)
   is_open todo c =
@@ -267,13 +265,13 @@ module _ (g : Graph) (set1 set2 : List ℕ) where
   then_strictly : (w b a : ℕ) → StrictlyReaches g w b → StrictlyReaches g b a → StrictlyReaches g w a
   then_strictly w b a (n, p) q = Reaches-then_strictly g w b a (suc n) p q
 
-  -- a node strictly below a common one has the mark, or an open node reaches it
+  -- a node that a common node strictly reaches has the mark, or an open node reaches it
   marked_or_open : {m : ℕ → Reach} {todo found : List ℕ} {rooted : Bool} → IsMarking m todo found rooted → (b a : ℕ) → IsCommon g set1 set2 b → StrictlyReaches g b a → ((m a).below ≡ true) ⊎ OpenAbove todo a
   unfolding OpenAbove
   marked_or_open k b a common (n, p) =
       ⊎_elim (λ both. below_both k n b a both p) (λ (w, at, way). inr (w, at, then_strictly w b a way (n, p))) (common_marked k b common)
 
-  -- the end: at most one node is open, it is common, and no root was visited
+  -- the end: at most one node is open, both sets reach it, and no root was found
   pub record IsAtEnd (m : ℕ → Reach) (todo found all : List ℕ) (rooted : Bool) : Type 0 where
     pub marking : IsMarking m todo found rooted
     pub one : (a b : ℕ) → Contains todo a → Contains todo b → a ≡ b
@@ -284,7 +282,7 @@ module _ (g : Graph) (set1 set2 : List ℕ) where
   pub end_common : {m : ℕ → Reach} {todo found all : List ℕ} {rooted : Bool} → IsAtEnd m todo found all rooted → (a : ℕ) → Contains all a → IsBoth (m a)
   end_common k a h = ⊎_elim (λ f. ((k.marking.common a).0 f).0) (λ o. (k.last a o).0) ((k.either a).0 h)
 
-  -- an open node does not reach a common node that was found
+  -- an open node is not above a common one that was found
   not_above : {m : ℕ → Reach} {todo found all : List ℕ} {rooted : Bool} → IsAtEnd m todo found all rooted → HasNoCommonCycle g set1 set2 → (a : ℕ) → Contains all a → OpenAbove todo a → ⊥
   unfolding OpenAbove
   not_above k acyclic a h (w, at, way) =

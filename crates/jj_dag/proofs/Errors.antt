@@ -1,4 +1,4 @@
--- Lemmas on cases of the error of a walk.
+-- Lemmas about the error of a walk.
 use Rattle.std.proofs.Common.{◌≡◌, subst, Result, IfOk}
 use Rattle.std.proofs.lemmas.Result.{IfOk-weaker, IfErr-weaker}
 use Rattle.jj_dag.specs.Outcomes.{IfFails}
@@ -6,7 +6,7 @@ use Rattle.jj_dag.specs.declared.walk_error.WalkError.{WalkError}
 use Rattle.jj_dag.specs.declared.walk_error.WalkError.TheVariants.{Memory, Node}
 use Rattle.jj_dag.specs.Errors.{IfNode}
 
--- elimination for an error of a node
+-- a property of the error of a node holds of the error in `Node`
 pub node_says : {E : Type 0} (P : E → Type 0) (refused : WalkError E) (error : E) → refused ≡ Node error → IfNode refused P → P error
 node_says P refused error node h = subst (λ e. IfNode e P) node h
 
@@ -14,7 +14,7 @@ pub node_weaker : {E : Type 0} (refused : WalkError E) (P Q : E → Type 0) → 
 node_weaker Memory P Q f h = tt
 node_weaker (Node e) P Q f h = f e h
 
--- weakening of both cases of a result
+-- from a property of each success, and of each error of a node, to one that follows
 pub if_ok : {V E : Type 0} {P Q : V → Type 0} (r : Result V E) → IfOk r P → ((v : V) → P v → Q v) → IfOk r Q
 if_ok r h f = IfOk-weaker r _ _ f h
 

@@ -1,4 +1,4 @@
--- Failed items in depth-first orders.
+-- Failed items of orders over items that may fail.
 use Rattle.std.proofs.Common.{◌≡◌, ℕ, zero, suc, Bool, true, false, List, [], ◌∷◌, ◌++◌, map, reverse, refl, sym, ◌∙◌, ap, subst, arith, ⊎_elim, append-nil, Option, Result, Ok, Err, Some, None}
 use Rattle.std.proofs.lemmas.List.{map-append}
 use Rattle.std.proofs.lemmas.List.Elements.{Contains-append_right, Contains-push_cases}
@@ -40,7 +40,7 @@ none_fails_starts {K} items starts =
     let none : visited_above (waits (reverse starts)) ≡ [] = ap visited_above (sym (append-nil (waits (reverse starts)))) ∙ visited_above-waits (reverse starts) [] in
     subst (λ (l : List ℕ). NoneFails items l) (sym none) (none_fails_yet items)
 
--- ---- a list without failed items
+-- ---- a list of sound items
 
 pub sound_items-nodes : {T : Type 0} (K : Type 0) (node : T → ℕ) (xs : List T) → sound_items {K = K} (map (λ x. Ok (node x)) xs) ≡ map node xs
 sound_items-nodes K node [] = refl
@@ -51,7 +51,7 @@ none_of_nodes node [] fault (k, lt, same) = absurd (omega arith)
 none_of_nodes node (x ∷ xs) fault (zero, lt, same) = cc
 none_of_nodes node (x ∷ xs) fault (suc k, lt, same) = none_of_nodes node xs fault (k, omega arith, same)
 
--- the error of a list is that of its only failed item
+-- the error of a list is that of the one failed item
 pub failed_list : {E : Type 0} (items : List (Result ℕ (Fault E))) (e : E) → (fault : Fault E) × (items ≡ Err fault ∷ []) × IsFault fault e
     → (fault : Fault E) × Contains items (Err fault) × IsFault fault e
 failed_list {E} items e (fault, same, is) =
@@ -67,7 +67,7 @@ ReachedFrom-same g h same starts b (a, at, (n, p)) = (a, at, (n, path n a p))
     path zero a p = p
     path (suc n) a (c, e, p) = (c, subst (λ (l : List ℕ). Contains l c) (same a) e, path n c p)
 
--- after a complete postorder no reachable node has a failed item
+-- if a postorder of sound nodes was returned, no node that the starts reach has a failed item
 pub HasNoFailure-from_postorder : {K : Type 0} (items : FailingGraph K) (g : Graph) → ((a : ℕ) → g a ≡ sound items a) → (starts out : List ℕ) → IsPostorder g starts out → NoneFails items out
     → HasNoFailure items starts
 HasNoFailure-from_postorder items g same starts out p none a fault reached at =
@@ -85,19 +85,19 @@ ok-push {T} {E} ys xs x e = ap (λ l. l ++ Ok x ∷ []) e ∙ sym (map-append ok
     ok : T → Result T E
     ok z = Ok z
 
--- a run that has ended yielded the whole list
+-- a run that has ended yielded all items
 pub drained_nodes : {U S T E : Type 0} (becomes : U → S → Type 0) (steps : S → Option (Result T E) → S → Type 0) (value : U) (xs : List T) {s t u : S} {ys : List (Result T E)}
     → becomes value s → Yields steps s ys t → steps t None u → ys ≡ map (λ z. Ok z) xs → DrainsTo becomes steps value (map (λ z. Ok z) xs)
 drained_nodes {T = T} {E} becomes steps value xs {s} {t} {u} {ys} is run last same = subst (λ (l : List (Result T E)). DrainsTo becomes steps value l) same (s, is, (u, (t, run, last)))
 
--- a run that stops at a failed item yielded the nodes before it
+-- a run up to a failed item yielded the nodes before it
 pub begins_failed : {U S T E : Type 0} (becomes : U → S → Type 0) (steps : S → Option (Result T E) → S → Type 0) (value : U) (xs : List T) (e : E) {s t u : S} {ys : List (Result T E)} {x : Result T E}
     → becomes value s → Yields steps s ys t → steps t (Some x) u → ys ≡ map (λ z. Ok z) xs → x ≡ Err e → BeginsWith becomes steps value (map (λ z. Ok z) xs ++ Err e ∷ [])
 begins_failed {T = T} {E} becomes steps value xs e {s} {t} {u} {ys} {x} is run last same failed =
     let all : ys ++ x ∷ [] ≡ map (λ z. Ok z) xs ++ Err e ∷ [] = ap (λ z. ys ++ z ∷ []) failed ∙ ap (λ l. l ++ Err e ∷ []) same in
     (s, is, (u, subst (λ (l : List (Result T E)). Yields steps s l u) all (Yields-push steps ys x s t u run last)))
 
--- so its error is that of a failed item of a reachable node
+-- so its error is that of a failed item, where the starts reach the node whose items they are
 pub reaches_failed : {U S T E : Type 0} (node : T → ℕ) (becomes : U → S → Type 0) (steps : S → Option (Result T E) → S → Type 0) (value : U) (g : Graph) (items : FailingGraph (Fault E)) (starts : List ℕ) (a : ℕ) (xs : List T) (e : E)
     → ((b : ℕ) → g b ≡ sound items b) → ReachedFrom g starts a → ListsItems node becomes steps value (items a) → BeginsWith becomes steps value (map (λ z. Ok z) xs ++ Err e ∷ []) → ReachesFailure items starts e
 reaches_failed node becomes steps value g items starts a xs e same reached listed begins =

@@ -1,4 +1,4 @@
--- Lemmas about depth-first search over fallible items.
+-- Lemmas about depth-first walks over items that may fail.
 use Rattle.std.proofs.Common.{◌≡◌, ℕ, zero, suc, Bool, true, false, cond, List, [], ◌∷◌, ◌++◌, map, reverse, refl, sym, ◌∙◌, ap, subst, arith, ◌==◌, append-nil, ⊎_elim, true≢false, Option, Result, Ok, Err}
 use Rattle.std.proofs.lemmas.List.{reverse-append}
 use Rattle.std.proofs.lemmas.List.Elements.{Contains-push, Contains-append_left, Contains-append_right, Contains-append_cases, filter_map-append}
@@ -13,7 +13,7 @@ use Rattle.jj_dag.specs.Walk.{Numbered, AreNodes}
 use Rattle.jj_dag.proofs.Walking.{has, has-push, has-from_Contains, Contains-from_has, eqb-flip}
 use Rattle.jj_dag.proofs.Plain.{or_cond}
 
--- ---- nodes among the items
+-- ---- items that did not fail
 
 pub sound_items-append : {X K : Type 0} (xs ys : List (Result X K)) → sound_items (xs ++ ys) ≡ sound_items xs ++ sound_items ys
 sound_items-append xs ys = filter_map-append result_ok xs ys
@@ -25,13 +25,13 @@ Contains-sound (Ok x ∷ xs) a (suc k, lt, e) = Contains-append_right (x ∷ [])
 Contains-sound (Err y ∷ xs) a (zero, lt, e) = cc
 Contains-sound (Err y ∷ xs) a (suc k, lt, e) = Contains-sound xs a (k, omega arith, e)
 
-pub Contains-from_sound : {X K : Type 0} (xs : List (Result X K)) (a : X) → Contains (sound_items xs) a → Contains xs (Ok a)
+pub Contains-from_sound : {K : Type 0} (xs : List (Result ℕ K)) (a : ℕ) → Contains (sound_items xs) a → Contains xs (Ok a)
 Contains-from_sound [] a (k, lt, e) = absurd (omega arith)
-Contains-from_sound {X} {K} (Ok x ∷ xs) a (zero, lt, e) = let wrap : X → Result X K = λ n. Ok n in (0, omega arith, ap wrap e)
-Contains-from_sound {X} {K} (Ok x ∷ xs) a (suc k, lt, e) = Contains-append_right {X = Result X K} (Ok x ∷ []) xs (Ok a) (Contains-from_sound xs a (k, omega arith, e))
-Contains-from_sound {X} {K} (Err y ∷ xs) a h = Contains-append_right {X = Result X K} (Err y ∷ []) xs (Ok a) (Contains-from_sound xs a h)
+Contains-from_sound (Ok x ∷ xs) a (zero, lt, e) = (0, omega arith, ap (λ (n : ℕ). Ok n) e)
+Contains-from_sound {K} (Ok x ∷ xs) a (suc k, lt, e) = Contains-append_right {X = Result ℕ K} (Ok x ∷ []) xs (Ok a) (Contains-from_sound xs a (k, omega arith, e))
+Contains-from_sound {K} (Err y ∷ xs) a h = Contains-append_right {X = Result ℕ K} (Err y ∷ []) xs (Ok a) (Contains-from_sound xs a h)
 
--- ---- items and the graph's items
+-- ---- items, and those of the graph
 
 module _ {T E : Type 0} (node : T → ℕ) where
   pub AreItems-append : (xs ys : List (Result T E)) (ns ms : List (Result ℕ (Fault E))) → AreItems node xs ns → AreItems node ys ms → AreItems node (xs ++ ys) (ns ++ ms)
@@ -75,14 +75,14 @@ module _ {T E : Type 0} (node : T → ℕ) where
         | Err fault ↦ λ e is. (last.0, fault, e, last.3, is)
       ] last.2 last.4
 
-  -- if no item failed, the graph has the nodes' numbers
+  -- where no item failed, the graph has the nodes' numbers
   pub AreItems-nodes : (xs : List T) (ns : List (Result ℕ (Fault E))) → AreItems node (map (λ x. Ok x) xs) ns → ns ≡ map (λ x. Ok (node x)) xs
   AreItems-nodes [] ns h = AreItems-none ns h
   AreItems-nodes (x ∷ xs) [] h = absurd h
   AreItems-nodes (x ∷ xs) (Ok a ∷ ns) h = ap (λ (n : ℕ). Ok n ∷ ns) (sym h.0) ∙ ap (λ l. Ok (node x) ∷ l) (AreItems-nodes xs ns h.1)
   AreItems-nodes (x ∷ xs) (Err fault ∷ ns) h = absurd h.0
 
-  -- an error of a prefix is that of a failed item
+  -- an error that came first is that of a failed item
   pub failed_first : (items begun rest : List (Result ℕ (Fault E))) (xs : List (Result T E)) (e : E) → items ≡ begun ++ rest → AreItems node (xs ++ Err e ∷ []) begun
       → (fault : Fault E) × Contains items (Err fault) × IsFault fault e
   failed_first items begun rest xs e same h =
@@ -90,7 +90,7 @@ module _ {T E : Type 0} (node : T → ℕ) where
       let P : List (Result ℕ (Fault E)) → Type 0 = λ l. Contains l (Err last.1) in
       (last.1, subst P (sym same) (Contains-append_left begun rest (Err last.1) (subst P (sym last.2) (Contains-push last.0 (Err last.1)))), last.4)
 
--- an item with its exact error
+-- an item as it is: its error is that very value
 abbrev pub exact_item : {T E : Type 0} → (T → ℕ) → Result T E → Result ℕ (Fault E)
 exact_item node (Ok x) = Ok (node x)
 exact_item node (Err e) = Err (exactly e)
@@ -102,7 +102,7 @@ AreItems-exact node (Err e ∷ xs) = (refl, AreItems-exact node xs)
 
 -- ---- the walk
 
--- searching the concatenation of two lists is searching one and then the other
+-- a walk over two lists is a walk over the one and then over the other
 FailingPreorder-append : {K : Type 0} (g : FailingGraph K) (xs todo given out : List (Result ℕ K)) → FailingPreorder g (xs ++ todo) given out
     → (mid : List (Result ℕ K)) × FailingPreorder g xs given mid × FailingPreorder g todo mid out
 FailingPreorder-append g [] todo given out p = (given, ended, p)
@@ -113,7 +113,7 @@ FailingPreorder-append g (Ok x ∷ xs) todo given out (passed h p) =
 FailingPreorder-append g (Ok x ∷ xs) todo given out (entered {below = below} h b p) =
     let q = FailingPreorder-append g xs todo below out p in (q.0, entered h b q.1, q.2)
 
--- the preorder is unique
+-- a walk has one result
 pub FailingPreorder-unique : {K : Type 0} (g : FailingGraph K) (todo given a b : List (Result ℕ K)) → FailingPreorder g todo given a → FailingPreorder g todo given b → a ≡ b
 FailingPreorder-unique g [] given a b ended ended = refl
 FailingPreorder-unique g (Err e ∷ todo) given a b (failed p) (failed q) = FailingPreorder-unique g todo (given ++ Err e ∷ []) a b p q
@@ -133,7 +133,7 @@ module _ {T ID K : Type 0} (w : Numbered T ID) (items : FailingGraph K) where
       let ns : sound_items work ≡ sound_items rest ++ a ∷ [] = ap sound_items e ∙ sound_items-append rest (Ok a ∷ []) in
       k.nodes a (rw ns (Contains-push (sound_items rest) a))
 
-  pub item_tested : {starts : List (Result ℕ K)} {test : ID → Bool} {work given : List (Result ℕ K)} (rest : List (Result ℕ K)) (a : ℕ) (i : ID) (b : Bool)
+  item_tested : {starts : List (Result ℕ K)} {test : ID → Bool} {work given : List (Result ℕ K)} (rest : List (Result ℕ K)) (a : ℕ) (i : ID) (b : Bool)
       → IsWalkingItems w items starts test work given → work ≡ rest ++ Ok a ∷ [] → w.id i ≡ a → b ≡ test i → has (sound_items given) a ≡ b
   item_tested {given = given} rest a i b walking e same is =
       let here : w.is_node (w.id i) ≡ true = rw same (item_is_node rest a walking e) in
@@ -148,7 +148,7 @@ module _ {T ID K : Type 0} (w : Numbered T ID) (items : FailingGraph K) where
       let ns : sound_items work ≡ sound_items rest ++ sound_items (x ∷ []) = ap sound_items e ∙ sound_items-append rest (x ∷ []) in
       λ a h. k.nodes a (rw ns (Contains-append_left (sound_items rest) (sound_items (x ∷ [])) a h))
 
-  -- replacing the top of the stack by its expansion preserves the completion
+  -- if the top of the work may be walked next, the rest is left
   continues : (starts work given rest : List (Result ℕ K)) (x : Result ℕ K) → work ≡ rest ++ x ∷ []
       → ((out : List (Result ℕ K)) → FailingPreorder items (reverse work) given out → FailingPreorder items (reverse starts) [] out)
       → (out : List (Result ℕ K)) → FailingPreorder items (x ∷ reverse rest) given out → FailingPreorder items (reverse starts) [] out
@@ -174,7 +174,7 @@ module _ {T ID K : Type 0} (w : Numbered T ID) (items : FailingGraph K) where
 
   pub walking_item_entered : {starts : List (Result ℕ K)} {test : ID → Bool} {work given : List (Result ℕ K)} (eq : ID → ID → Bool) (test2 : ID → Bool)
       (rest : List (Result ℕ K)) (a : ℕ) (i : ID)
-      → AreNodes w (sound_items (items a)) → ((i j : ID) → w.is_node (w.id i) ≡ true → w.is_node (w.id j) ≡ true → eq i j ≡ (w.id i == w.id j))
+      → ((b : ℕ) → w.is_node b ≡ true → AreNodes w (sound_items (items b))) → ((i j : ID) → w.is_node (w.id i) ≡ true → w.is_node (w.id j) ≡ true → eq i j ≡ (w.id i == w.id j))
       → IsWalkingItems w items starts test work given → work ≡ rest ++ Ok a ∷ [] → w.id i ≡ a → false ≡ test i
       → ((q : ID) → test2 q ≡ cond (eq i q) true (test q))
       → IsWalkingItems w items starts test2 (rest ++ items a) (given ++ Ok a ∷ [])
@@ -184,7 +184,7 @@ module _ {T ID K : Type 0} (w : Numbered T ID) (items : FailingGraph K) where
       let nodes2 : sound_items (given ++ Ok a ∷ []) ≡ sound_items given ++ a ∷ [] = sound_items-append given (Ok a ∷ []) in
       let fresh : Contains given (Ok a) → ⊥ = λ h. absurd (true≢false (sym (has-from_Contains (sound_items given) a (Contains-sound given a h)) ∙ new)) in
       record {
-        nodes = λ b h. ⊎_elim (λ l. keeps_nodes rest (Ok a) k e b l) (λ r. closed b r)
+        nodes = λ b h. ⊎_elim (λ l. keeps_nodes rest (Ok a) k e b l) (λ r. closed a here b r)
             (Contains-append_cases (sound_items rest) (sound_items (items a)) b (rw (sound_items-append rest (items a)) at h));
         knows = λ j lt.
             let told : eq i j ≡ (w.id i == w.id j) = apart i j (rw same here) lt in
@@ -197,13 +197,13 @@ module _ {T ID K : Type 0} (w : Numbered T ID) (items : FailingGraph K) where
             continues starts work given rest (Ok a) e k.rest out (entered fresh all.1 all.2);
       }
 
-  -- with an empty stack the emitted list is the whole preorder
+  -- if nothing is left to do, the walk is complete
   pub walked_items : {starts : List (Result ℕ K)} {test : ID → Bool} {work given : List (Result ℕ K)} → IsWalkingItems w items starts test work given → work ≡ []
       → FailingPreorder items (reverse starts) [] given
   walked_items {given = given} k none =
       k.rest given (subst (λ (l : List (Result ℕ K)). FailingPreorder items (reverse l) given given) (sym none) ended)
 
--- ---- prefixes of an iterator's items
+-- ---- prefixes of the items of an iterator
 
 begun : {S A B : Type 0} (steps : S → Option A → S → Type 0) (v : A → B) (xs : List A) (ys : List B) (s t : S) → AlwaysYields steps v s ys → Yields steps s xs t → (rest : List B) × (ys ≡ map v xs ++ rest)
 begun steps v [] ys s t h y = (ys, refl)
@@ -213,7 +213,7 @@ begun steps v (x ∷ xs) (b ∷ ys) s t h (j, step, y) =
     let more = begun steps v xs ys j t now.1 y in
     (more.0, cc (now.0, more.1))
 
--- a prefix that an iterator yields is a prefix of its list
+-- the items that a value yields first are a prefix of its list
 pub begun_are : {U S A B : Type 0} (becomes : U → S → Type 0) (steps : S → Option A → S → Type 0) (value : U) (xs : List A) (v : A → B) (ys : List B)
     → ((it : S) → becomes value it → YieldsList steps v it ys) → BeginsWith becomes steps value xs → (rest : List B) × (ys ≡ map v xs ++ rest)
 begun_are becomes steps value xs v ys h d = begun steps v xs ys d.0 d.2.0 (h d.0 d.1).runs d.2.1

@@ -1,4 +1,4 @@
--- The order of the taken indices is the greatest topological order of the collected nodes.
+-- The order in which indices were taken is the greatest child-first order of the nodes at them.
 use Rattle.std.proofs.Common.{◌≡◌, ◌↔◌, ℕ, zero, suc, ◌<◌, ◌≤◌, true, false, Option, None, Some, IsSome, MatchOption, List, [], ◌∷◌, length, map, get_or, refl, sym, ◌∙◌, ap, subst, arith, inl, inr, ◌⊎◌, ⊎_elim}
 use Rattle.std.specs.List.{Contains, filter_map, cons_option}
 use Rattle.std.proofs.lemmas.List.Elements.{Contains-append_cases, Contains-get_or}
@@ -32,7 +32,7 @@ unfolding below_all
 has_below zero k lt = absurd (omega arith)
 has_below (suc n) k lt = elim (cases_eq k n) [ inl e ↦ subst (λ (m : ℕ). Contains (n ∷ below_all n) m) (sym e) (here n (below_all n)) | inr ne ↦ later n (below_all n) k (has_below n k (omega arith)) ]
 
--- an index that a look-up returns
+-- a number that a look-up of some element finds
 pub found_by : {X : Type 0} (find : X → Option ℕ) (xs : List X) (b : ℕ) → Contains (filter_map find xs) b → (x : X) × (find x ≡ Some b)
 found_by find [] b (k, lt, e) = absurd (omega arith)
 found_by {X} find (x ∷ xs) b h =
@@ -106,7 +106,7 @@ module _ {T ID E : Type 0} (w : Numbered T ID) (items : FailingGraph E) (cmp : T
     none_waits : (a : ℕ) → Contains ns a ⊎ Contains [] a → Contains ns a
     none_waits a h = ⊎_elim (λ l. l) (λ (k, lt, e). absurd (omega arith)) h
 
-    -- the numbers are the reachable nodes
+    -- the numbers are those that the starts reach
     are_reached : (a : ℕ) → Contains ns a ↔ ReachedFrom w.graph starts a
     are_reached a = (
       collected.given_reached a,
@@ -185,7 +185,7 @@ module _ {T ID E : Type 0} (w : Numbered T ID) (items : FailingGraph E) (cmp : T
         let below : r.0 < length ns = rw (← same) r.1 in
         (get_or ns r.0 0, (collected.given_reached _ (Contains-get_or ns r.0 0 below), StrictlyReaches-up w.graph ns ts collected.injective edges_stand within r.0 r.0 below r.2))
 
-    -- the node at an index is reachable
+    -- the node at an index is reached
     pub place_reached : (k : ℕ) (x : T) → get_or (map (λ x. Some x) given) k None ≡ Some x → k < length (map (λ x. Some x) given) → ReachedFrom w.graph starts (w.node x)
     place_reached k x e lt =
         let same : length (map (λ x. Some x) given) ≡ length ns = length-map given (λ x. Some x) ∙ sym (length-map given w.node) in

@@ -1,4 +1,4 @@
--- Invariant of the search for heads, on the sets and the queue.
+-- Invariants of the sets of a search for maximal nodes.
 use Rattle.std.proofs.Common.{◌≡◌, ℕ, zero, suc, ◌+◌, ◌-◌, ◌*◌, ◌^◌, ◌<◌, ◌≤◌, length, Bool, true, false, not, ◌&&◌, ◌||◌, ◌==◌, cond, List, [], ◌∷◌, ◌++◌, map, refl, sym, ◌∙◌, ap, subst, arith, inl, inr, ◌⊎◌, ⊎_elim, true≢false, eqb}
 use Rattle.std.specs.Bool.{MatchBool}
 use Rattle.std.specs.List.{Contains, IsDistinct, AllByRecursion, list_any}
@@ -40,13 +40,13 @@ found_by {T} p (y ∷ xs) e =
 found_at : {T : Type 0} (p : T → Bool) (xs : List T) (x : T) → Contains xs x → p x ≡ true → list_any p xs ≡ true
 found_at p xs x (k, lt, e) t = list_any_at p xs k x lt (subst (λ y. p y ≡ true) (sym e) t)
 
--- a key is new or was there
+-- a key that was put, or was there
 Contains-put : {K : Type 0} (old new : List K) (k : K) (added : Bool) → MatchBool added (IsPermutation (k ∷ old) new) (new ≡ old) → (x : K) → Contains new x → Contains old x ⊎ (k ≡ x)
 Contains-put old new k true moved x h =
     ⊎_elim (λ first. inr (only k x first)) (λ rest. inl rest) (Contains-append_cases (k ∷ []) old x (Contains-permutation new (k ∷ old) x (IsPermutation-sym (k ∷ old) new moved) h))
 Contains-put {K} old new k false same x h = inl (subst (λ (l : List K). Contains l x) same h)
 
--- and the new key is equal to x
+-- and where that key was equal to x
 pub put_equal : {K : Type 0} (eq : K → K → Bool) (old new : List K) (x copy : K) (added : Bool) → eq x copy ≡ true → MatchBool added (IsPermutation (copy ∷ old) new) (new ≡ old)
     → (y : K) → Contains new y → Contains old y ⊎ (eq x y ≡ true)
 put_equal eq old new x copy added same moved y h = ⊎_elim (λ kept. inl kept) (λ put. inr (subst (λ z. eq x z ≡ true) put same)) (Contains-put old new copy added moved y h)
@@ -55,7 +55,7 @@ pub none_contained : {T : Type 0} (xs : List T) → xs ≡ [] → (x : T) → Co
 none_contained [] same x (k, lt, e) = omega arith
 none_contained (y ∷ xs) same x h = cc
 
--- one more start is pending
+-- one more start waits
 pub start_waits : {T : Type 0} (ys old new : List T) (x : T) → new ≡ old ++ x ∷ [] → ((b : T) → Contains old b → Contains ys b) → (b : T) → Contains new b → Contains (ys ++ x ∷ []) b
 start_waits {T} ys old new x more before b h =
     ⊎_elim (λ o. Contains-append_left ys (x ∷ []) b (before b o)) (λ same. subst (λ (z : T). Contains (ys ++ x ∷ []) z) same (Contains-push ys x))
@@ -93,16 +93,16 @@ module _ {T ID : Type 0} (w : Numbered T ID) where
   abbrev Apart : (ID → ID → Bool) → Type 0
   Apart eq = (i j : ID) → w.is_node (w.id i) ≡ true → w.is_node (w.id j) ≡ true → eq i j ≡ (w.id i == w.id j)
 
-  -- a value equal to a node's value is the node
+  -- a value that equals a node's is of that node
   stands_for : {eqT : T → T → Bool} → StandsForNodes w eqT → (x y : T) → w.is_node (w.node x) ≡ true → eqT x y ≡ true → w.node x ≡ w.node y
   stands_for stands x y here same = (Decides-eqb (w.node x) (w.node y)).0 (sym (stands x y here) ∙ same)
 
-  -- after inserting a node each key was there before or is the node
+  -- the keys after a value of a node was inserted: each was there before, or is of the node
   pub put_for : {eqT : T → T → Bool} → StandsForNodes w eqT → (old new : List T) (x : T) → w.is_node (w.node x) ≡ true
       → ((y : T) → Contains new y → Contains old y ⊎ (eqT x y ≡ true)) → (y : T) → Contains new y → Contains old y ⊎ (w.node x ≡ w.node y)
   put_for stands old new x here adds y h = ⊎_elim (λ kept. inl kept) (λ put. inr (stands_for stands x y here put)) (adds y h)
 
-  -- ---- the starts are inserted
+  -- ---- the starts are put in
 
   pub started_none : {keys : List T} {in_heads : T → Bool} {test : ID → Bool} → keys ≡ [] → ((x : T) → in_heads x ≡ false) → ((i : ID) → test i ≡ false) → IsStarted w [] keys in_heads test []
   started_none none no_head no_id = record {
@@ -176,7 +176,7 @@ module _ {T ID : Type 0} (w : Numbered T ID) where
   seen_is_node k a (inl h) = k.starts_stand a h
   seen_is_node k a (inr h) = k.met_stand a h
 
-  -- a neighbor of a pending node is visited
+  -- a neighbour of a pending node is found
   pub holds_met : {starts met waiting : List ℕ} {rooted : Bool} {keys : List T} {in_heads : T → Bool} {test : ID → Bool} (eqT : T → T → Bool) (eq : ID → ID → Bool)
       (waiting2 : List ℕ) (keys2 : List T) (in_heads2 : T → Bool) (test2 : ID → Bool) (asked : ℕ) (y : T) (i : ID) → StandsForNodes w eqT → Apart eq
       → ((a : ℕ) → w.is_node a ≡ true → AreNodes w (w.graph a))
@@ -220,7 +220,7 @@ module _ {T ID : Type 0} (w : Numbered T ID) where
                 (inr (subst (λ (l : List ℕ). Contains l (w.node y)) (sym grows) (Contains-push waiting (w.node y))))
           ] refl
 
-  -- a node whose neighbors were all visited is no longer pending
+  -- a node, all of whose neighbours were found, is no longer pending
   pub holds_asked : {starts met : List ℕ} {rooted : Bool} {keys : List T} {in_heads : T → Bool} {test : ID → Bool} (waiting : List ℕ) (rooted2 : Bool) (a : ℕ)
       → HoldsSearch starts met (a ∷ waiting) rooted keys in_heads test → ((b : ℕ) → HasEdge w.graph a b → Contains met b) → (rooted2 ≡ false → (rooted ≡ false) × ((y : ℕ) × HasEdge w.graph a y))
       → HoldsSearch starts met waiting rooted2 keys in_heads test
@@ -299,7 +299,7 @@ module _ {T ID : Type 0} (w : Numbered T ID) where
   no_root_waits [] true none a (k, lt, e) = absurd (omega arith)
   no_root_waits (x ∷ items) true none a h = let same : x ∷ items ≡ [] = none refl in cc
 
-  -- ---- pending nodes are reachable
+  -- ---- the nodes that wait are reached
 
   pub starts_reached : (xs waiting : List T) → AreNodes w (numbers w xs) → ((b : T) → Contains waiting b → Contains xs b)
       → (a : ℕ) → Contains (numbers w waiting) a → (w.is_node a ≡ true) × ReachedFrom w.graph (numbers w xs) a
@@ -326,13 +326,13 @@ pub adds_one : {T : Type 0} (known : Bool) (old new : List T) (y : T) → (known
 adds_one {T} true old new y same more b h = inl (subst (λ (l : List T). Contains l b) (same refl) h)
 adds_one {T} false old new y same more b h = Contains-push_cases old y b (subst (λ (l : List T). Contains l b) (more refl) h)
 
--- a list with one more node
+-- a list of starts or neighbours with one more
 pub adds_more : {T : Type 0} (first ys old new : List T) (y : T) → ((b : T) → Contains old b → Contains first b ⊎ Contains ys b) → ((b : T) → Contains new b → Contains old b ⊎ (y ≡ b))
     → (b : T) → Contains new b → Contains first b ⊎ Contains (ys ++ y ∷ []) b
 adds_more {T} first ys old new y before one b h =
     ⊎_elim (λ o. ⊎_elim (λ l. inl l) (λ r. inr (Contains-append_left ys (y ∷ []) b r)) (before b o)) (λ same. inr (subst (λ (z : T). Contains (ys ++ y ∷ []) z) same (Contains-push ys y))) (one b h)
 
--- the queue grows only with the visited set
+-- where the waiting list grew, more ids were visited
 pub search_falls : (v v2 rest all all2 : ℕ) → v < 2 ^ 63 → all2 < 2 ^ 63 → all ≡ suc rest → v2 + rest ≡ v + all2 → rest ≤ all2
     → (2 ^ 64 - v2) * 2 ^ 64 + all2 < (2 ^ 64 - v) * 2 ^ 64 + all
 search_falls v v2 rest all all2 a b e f h = omega arith

@@ -1,4 +1,4 @@
--- In-degrees while lists of IDs become lists of indices.
+-- In-degrees, while lists of neighbours become lists of indices.
 use Rattle.std.proofs.Common.{◌≡◌, ℕ, ◌+◌, ◌<◌, cond, Option, None, Some, List, [], ◌∷◌, ◌++◌, length, map, get_or, set, take, refl, arith, eqb, ⊎_elim, append-nil}
 use Rattle.std.specs.List.{count_by, filter_map}
 use Rattle.std.proofs.lemmas.List.{map_push, take_more}
@@ -7,7 +7,7 @@ use Rattle.std.proofs.lemmas.List.Sums.{sum_by_push}
 use Rattle.jj_dag.specs.ReadyNodes.{edges_to}
 use Rattle.jj_dag.proofs.TakingReady.{at_set, read_is}
 
--- the in-degrees count the linked lists and the linked part of the next one
+-- the in-degrees are those of the linked lists and of the part of the next one
 abbrev pub AreCounts : ℕ → List ℕ → List (List ℕ) → List ℕ → Type 0
 AreCounts n degrees targets places = (k : ℕ) → k < n → get_or degrees k 0 ≡ edges_to targets k + count_by (eqb k) places
 
@@ -25,7 +25,7 @@ counts_list n degrees places targets before k below =
     let more : edges_to (targets ++ places ∷ []) k ≡ edges_to targets k + count_by (eqb k) places = sum_by_push (λ l. count_by (eqb k) l) targets places in
     omega arith
 
--- one more element is mapped
+-- one more element of a list is mapped
 pub filter_map_found : {X Y : Type 0} (h : X → Option Y) (xs : List X) (i : ℕ) (x : X) (y : Y) → i < length xs → x ≡ get_or xs i x → h x ≡ Some y
     → filter_map h (take (i + 1) xs) ≡ filter_map h (take i xs) ++ y ∷ []
 filter_map_found h xs i x y lt e is = rw (take_more xs i x lt, filter_map-append, ← e, is) refl

@@ -1,4 +1,4 @@
--- Lemmas on the iterator over a list or one error.
+-- Runs of an iterator over the items of a list, or over one error.
 use Rattle.std.proofs.Common.{◌≡◌, ℕ, Bool, List as list, [], ◌∷◌, ◌++◌, map, Option, None, Some, Result, Ok, Err, IfOk, append-nil, is_some, true≢false, refl, sym, ◌∙◌, ap, subst}
 use Rattle.std.specs.Fn.{Shared, Mut, Called, AlwaysReturns}
 use Rattle.std.specs.Iterator.{Count, Drains, IsFinite, IsFiniteIterable, Yields}
@@ -13,7 +13,7 @@ use Rattle.jj_dag.specs.ClosureGraph.{YieldsOk}
 use Rattle.jj_dag.proofs.Wrapped.{AlwaysReturns-through, always_mut-through, no_error, ok_same}
 
 module _ {I T E : Type 0} (steps : I → Option T → I → Type 0) where
-  -- the items of a list are wrapped in `Ok`
+  -- the items of a list come in an `Ok`
   from_list : (ys : list (Result T E)) (it : I) (t : ListOrError I E) → Yields (GivesListed steps) (List it) ys t
       → (xs : list T) × (after : I) × (ys ≡ map (λ x. Ok x) xs) × (t ≡ List after) × Yields steps it xs after
   from_list [] it t e = ([], it, refl, sym e, refl)
@@ -21,7 +21,7 @@ module _ {I T E : Type 0} (steps : I → Option T → I → Type 0) where
   from_list (Err e ∷ ys) it t (List next, first, more) = absurd first
   from_list (Ok y ∷ ys) it t (List next, first, more) = let r = from_list ys next t more in (y ∷ r.0, r.1, ap (λ l. Ok y ∷ l) r.2, r.3, (next, first, r.4))
 
-  -- after the error the iterator ends
+  -- nothing comes after the error
   nothing_after : (ys : list (Result T E)) (t : ListOrError I E) → Yields (GivesListed steps) (Error None) ys t → ys ≡ []
   nothing_after [] t e = refl
   nothing_after (y ∷ ys) t (List it, first, more) = absurd first
@@ -34,7 +34,7 @@ module _ {I T E : Type 0} (steps : I → Option T → I → Type 0) where
       let is : y ≡ Err e = cc in
       ap (λ z. z ∷ ys) is ∙ ap (λ l. Err e ∷ l) (nothing_after ys t (subst (λ p. Yields (GivesListed steps) (Error p) ys t) first.1 more))
 
-  -- the error precedes the end
+  -- the error comes before the end
   no_end : (e : E) (u : ListOrError I E) → GivesListed steps (Error (Some e)) None u → ⊥
   no_end e (List it) h = h
   no_end e (Error o) h = absurd (true≢false (sym (ap (is_some {T = Result T E}) h.0)))
@@ -52,7 +52,7 @@ ok_items E node [] = tt
 ok_items E node (x ∷ xs) = (refl, ok_items E node xs)
 
 module _ {U I T E : Type 0} (becomes : U → I → Type 0) (steps : I → Option T → I → Type 0) (node : T → ℕ) where
-  -- the iterator for a result yields the items of the result
+  -- the iterator over a result has the same items
   pub lists_answered : (answer : Result U E) (s : ListOrError I E) → StandsFor becomes answer s → (items : list (Result ℕ (Fault E))) → AnswersItems node becomes steps answer items
       → ListsItems node (λ v k. k ≡ v) (GivesListed steps) s items
   unfolding StandsFor
@@ -88,7 +88,7 @@ last_error [] x e is = cc
 last_error (y ∷ ys) x e is = absurd cc
 
 module _ {U I T E : Type 0} (becomes : U → I → Type 0) (steps : I → Option T → I → Type 0) where
-  -- a complete list of the iterator is one of the result
+  -- a complete list of the iterator over a result is one of the result
   pub list_answered : (answer : Result U E) (s : ListOrError I E) → StandsFor becomes answer s → (xs : list T) → DrainsTo (λ v k. k ≡ v) (GivesListed steps) s (map (λ x. Ok x) xs)
       → YieldsOk (DrainsTo becomes steps) answer xs
   unfolding StandsFor
@@ -116,7 +116,7 @@ module _ {U I T E : Type 0} (becomes : U → I → Type 0) (steps : I → Option
   error_answered (Err e) (Error o) h x (xs, (j, same, (t, run))) =
       ap (λ z. Err z) (sym (last_error xs x e (begun_error steps (map (λ y. Ok y) xs) x e t (subst (λ v. Yields (GivesListed steps) v (map (λ y. Ok y) xs ++ Err x ∷ []) t) (same ∙ ap (λ p. Error p) h) run))))
 
--- the iterator over a finite list, or over one error, is finite
+-- the items of a list that ends, or one error, end
 pub finite_listed : {U I E : Type 0} (becomes : U → I → Type 0) (can : I → Type 0) (left : I → Count) (answer : Result U E) (s : ListOrError I E) → StandsFor becomes answer s
     → IfOk answer (IsFiniteIterable becomes can left) → IsFiniteIterable (λ v k. k ≡ v) (CanList can) (listed_left left) s
 unfolding StandsFor
@@ -129,25 +129,24 @@ finite_listed {U} {I} {E} becomes can left answer s h ends it is = subst (λ v. 
     ends_of (Err e) (Error None) h ends = (tt, tt)
     ends_of (Err e) (Error (Some x)) h ends = (tt, tt)
 
--- A closure that wraps the results of another one.
+-- A closure that returns the iterators over the results of another one.
 module _ {T E N G U I : Type 0} (lists : Mut N (Bor T × Unit {0}) (Result U E)) (becomes : U → I → Type 0) (steps : I → Option T → I → Type 0)
     (outer : Mut G (Bor T × Unit {0}) (ListOrError I E)) (inner : G → N)
     (hands_on : (f : G) (a : Bor T × Unit {0}) (r : ListOrError I E) (f' : G) → Called outer f a r f' → (n : Result U E) × Called lists (inner f) a n (inner f') × StandsFor becomes n r) where
-  -- callability carries over
+  -- the outer closure may be called
   pub callable_listed : ((f : G) (a : Bor T × Unit {0}) → always_mut lists (inner f) → outer.pre f a) → (f : G) → always_mut lists (inner f) → always_mut outer f
   callable_listed asks = always_mut-through outer lists inner asks (λ f a r after h. let q = hands_on f a r after h in (q.0, q.1))
 
-  -- finiteness carries over
+  -- its iterators end
   pub ends_listed : (can : I → Type 0) (left : I → Count) (f : G) → AlwaysReturns lists (λ a r. IfOk r (IsFiniteIterable becomes can left)) (inner f)
       → AlwaysReturns outer (λ a r. IsFiniteIterable (λ v k. k ≡ v) (CanList can) (listed_left left) r) f
   ends_listed can left f k = AlwaysReturns-through outer lists _ _ inner (λ f a r after h.
       let q = hands_on f a r after h in (q.0, q.1, finite_listed becomes can left q.0 r q.2)) f k
 
--- Such a closure implements the graph with items.
+-- Such a closure defines the same graph by items.
 module _ {T ID E F N G U I : Type 0} (eq : ID → ID → Bool) (ids : Shared F (Bor T × Unit {0}) ID) (lists : Mut N (Bor T × Unit {0}) (Result U E)) (becomes : U → I → Type 0) (steps : I → Option T → I → Type 0)
     (outer : Mut G (Bor T × Unit {0}) (ListOrError I E)) (inner : G → N)
     (hands_on : (f : G) (a : Bor T × Unit {0}) (r : ListOrError I E) (f' : G) → Called outer f a r f' → (n : Result U E) × Called lists (inner f) a n (inner f') × StandsFor becomes n r) where
-  -- the lists are lists of items
   pub shows_listed : (w : Numbered T ID) (items : FailingGraph (Fault E)) (id_fn : F) (f : G) → ShowsLists w items eq ids lists becomes steps id_fn (inner f)
       → ShowsItems w items eq ids outer (λ v k. k ≡ v) (GivesListed steps) id_fn f
   shows_listed w items id_fn f shown = record {

@@ -1,4 +1,4 @@
--- The measure of the search: the sum of the sides of all marked nodes.
+-- How many sets reach the marked nodes, in all.
 use Rattle.std.proofs.Common.{◌≡◌, ◌+◌, ◌*◌, ◌^◌, ◌<◌, ◌≤◌, ap, ◌∙◌, Bool, true, false, not, cond, ◌&&◌, ◌||◌, List, [], ◌∷◌, Option, Some, None, length, refl, sym, arith, ⊎_elim, true≢false}
 use Rattle.std.specs.Prelude.{unwrap_or}
 use Rattle.std.specs.HashMap.{HashMap, PutsEntry, get, hash_map_len, values}
@@ -51,7 +51,7 @@ sides_small (mark ∷ marks) =
     let whole = sum_by-cons sides mark marks in
     omega (arith, l, r, rest, whole)
 
--- updating a mark increases the sum by the new sides
+-- the sum of sides grows by those that a new mark adds
 pub sides_put : {ID S : Type 0} (eq : ID → ID → Bool) (known known2 : HashMap ID Mark S) (i : ID) (put : Mark) (before : Option Mark) → before ≡ get eq known i
     → PutsEntry eq known known2 i put before → sides_met known2 + sides (mark_at eq known i) ≡ sides_met known + sides put
 sides_put eq known known2 i put before is puts =
@@ -59,7 +59,7 @@ sides_put eq known known2 i put before is puts =
     let had : unwrap_or (option_map sides before) 0 ≡ sides (mark_at eq known i) = ap (λ o. unwrap_or (option_map sides o) 0) is ∙ sides_of (get eq known i) in
     omega (arith, sum, had)
 
--- there are at most two sides per ID
+-- they are at most two for each id
 pub sides_fit : {ID S : Type 0} (known : HashMap ID Mark S) → hash_map_len known < 2 ^ 63 → sides_met known < 2 ^ 64
 sides_fit known few =
     let all : length (values known) ≡ hash_map_len known = length-values_of known.entries in

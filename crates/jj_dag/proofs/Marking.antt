@@ -1,4 +1,4 @@
--- Marking the nodes of a list in order.
+-- Marks after the nodes of a list were marked one after the other.
 use Rattle.std.proofs.Common.{◌≡◌, ℕ, Bool, true, append_assoc, List, [], ◌∷◌, ◌++◌, map, refl, sym, ◌∙◌, ap, subst, arith}
 use Rattle.std.specs.List.{Contains}
 use Rattle.std.proofs.lemmas.List.Elements.{Contains-append_left, Contains-append_right, Contains-push}
@@ -13,12 +13,12 @@ use Rattle.jj_dag.proofs.ClosestCommon.{Apart, HandsOn, hands_more, on_left, on_
 use Rattle.jj_dag.proofs.CommonMarks.{marks_more}
 use Rattle.jj_dag.proofs.Walking.{numbers-push}
 
--- the ID of a node is its ID in the model
+-- each id that `tells` of a node is its id
 abbrev pub Stand : {T ID : Type 0} → Numbered T ID → (T → ID → Type 0) → Type 0
 Stand {T} {ID} w tells = (x : T) (i : ID) → w.is_node (w.node x) ≡ true → tells x i → w.id i ≡ w.node x
 
 module _ {T ID : Type 0} (w : Numbered T ID) {eq : ID → ID → Bool} {tells : T → ID → Type 0} where
-  -- the first set is marked
+  -- the first set was marked
   pub all_left : {find : ID → Mark} {waiting : List T} {xs : List T} {find2 : ID → Mark} {waiting2 : List T} → Apart w eq → Stand w tells → MarksNodes eq tells (on_left w) find waiting xs find2 waiting2
       → IsStarting w [] [] waiting find → AreNodes w (map w.node xs) → IsStarting w (map w.node xs) [] waiting2 find2
   all_left apart stand none start nodes = start
@@ -46,8 +46,8 @@ module _ {T ID : Type 0} (w : Numbered T ID) {eq : ID → ID → Bool} {tells : 
   sets_marked {find} {waiting = waiting} {xs = xs} apart stand nobody unknown left right first second =
       all_right (map w.node xs) apart stand right (all_left apart stand left (starting_none w waiting find nobody unknown) first) second
 
-  -- a dequeued node has propagated its state to its neighbors
-  pub all_handed : {find : ID → Mark} {waiting : List T} (set1 set2 : List ℕ) (m : ℕ → Reach) (a : ℕ) (known : Reach) (common : List (T × ID)) (rooted : Bool) (zs : List ℕ) {xs : List T} {find2 : ID → Mark} {waiting2 : List T}
+  -- a node that was taken from those that wait handed on what is known of it to its neighbours
+  pub all_handed : {find : ID → Mark} {waiting : List T} (set1 set2 : List ℕ) (m : ℕ → Reach) (a : ℕ) (known : Reach) (common : List (ID × T)) (rooted : Bool) (zs : List ℕ) {xs : List T} {find2 : ID → Mark} {waiting2 : List T}
       → Apart w eq → Stand w tells → ((b : ℕ) → w.is_node b ≡ true → AreNodes w (w.graph b)) → MarksNodes eq tells (handed_on known) find waiting xs find2 waiting2 → w.is_node a ≡ true
       → HandsOn w set1 set2 m a known waiting common rooted find [] → map w.node xs ++ zs ≡ w.graph a
       → (m2 : ℕ → Reach) × HandsOn w set1 set2 m2 a known waiting2 common rooted find2 (map w.node xs)

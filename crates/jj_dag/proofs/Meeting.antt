@@ -1,4 +1,4 @@
--- The heads after the neighbors of a list were visited in order.
+-- Heads after the neighbours of a list were removed one after the other.
 use Rattle.std.proofs.Common.{◌≡◌, ℕ, Bool, append_assoc, List, [], ◌∷◌, ◌++◌, refl, sym, ◌∙◌, ap, subst, arith, inl, ◌⊎◌, ⊎_elim, true}
 use Rattle.std.specs.HashSet.{HashSet, contains}
 use Rattle.std.specs.List.{Contains}
@@ -12,14 +12,14 @@ use Rattle.jj_dag.proofs.Plain.{nothing}
 use Rattle.jj_dag.proofs.Walking.{numbers, numbers-push}
 
 module _ {T ID S R : Type 0} {same : T → T → Bool} {eq : ID → ID → Bool} {tells : T → ID → Type 0} {heads : HashSet T S} {visited : HashSet ID R} {waiting : List T} where
-  -- a pending node was pending before, or was visited
+  -- a pending node was pending before, or was found
   pub all_waiting : {xs : List T} {heads2 : HashSet T S} {visited2 : HashSet ID R} {waiting2 : List T} → MeetsNodes same eq tells heads visited waiting xs heads2 visited2 waiting2
       → (b : T) → Contains waiting2 b → Contains waiting b ⊎ Contains xs b
   all_waiting none b h = inl h
   all_waiting {waiting2 = waiting3} (more {xs = xs} {waiting2 = waiting2} {visited2 = visited2} x i before told did) b h =
       adds_more waiting xs waiting2 waiting3 x (all_waiting before) (adds_one (contains eq visited2 i) waiting2 waiting3 x did.known did.new) b h
 
-  -- the neighbors of a pending node were visited
+  -- the neighbours of a pending node were found
   pub all_met : (w : Numbered T ID) (starts met : List ℕ) (rooted : Bool) (a : ℕ) (zs : List ℕ) {xs : List T} {heads2 : HashSet T S} {visited2 : HashSet ID R} {waiting2 : List T}
       → StandsForNodes w same → TellsNodes w eq tells → ((b : ℕ) → w.is_node b ≡ true → AreNodes w (w.graph b)) → MeetsNodes same eq tells heads visited waiting xs heads2 visited2 waiting2
       → HoldsSearch w starts met (a ∷ numbers w waiting) rooted heads.keys (contains same heads) (contains eq visited) → numbers w xs ++ zs ≡ w.graph a

@@ -1,4 +1,4 @@
--- Preconditions for closures without state.
+-- Preconditions of walks, for callers whose `neighbors_fn` has no state.
 use Rattle.std.proofs.Common.{◌≡◌, Bool, Result}
 use Rattle.std.specs.Prelude.{IfOk}
 use Rattle.std.specs.Fn.{Called, Mut, Once, Shared}
@@ -29,7 +29,7 @@ pub may_show : {T ID E F N U J : Type 0} {ids : Shared F (Bor T × Unit {0}) ID}
     → MayShow ids lists_of value items id_of neighbors_of
 may_show id_fn neighbors_fn ends = record { id_fn = id_fn; neighbors_fn = neighbors_fn; lists = always_returns_same _ _ _ ends }
 
--- the precondition `walkable` for such closures
+-- the precondition `walkable`
 pub walkable_by : {T I F N R : Type 0} {ids : Shared F (Bor T × Unit {0}) I} {lists_of : Mut N (Bor T × Unit {0}) R} {ends : R → Type 0} {id_of : F} {neighbors_of : N} → always_fn ids id_of → always_mut lists_of neighbors_of
     → ((a : Bor T × Unit {0}) (r : R) (f : N) → Called lists_of neighbors_of a r f → ends r × (f ≡ neighbors_of))
     → IsWalkable ids lists_of ends id_of neighbors_of

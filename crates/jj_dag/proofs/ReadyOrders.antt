@@ -1,5 +1,4 @@
--- Correctness of Kahn's algorithm: taking the greatest ready node yields the greatest topological
--- order, or gets stuck on a cycle.
+-- A list that takes the greatest ready node until all are taken is the greatest child-first list; where it gets stuck there is a cycle.
 use Rattle.std.proofs.Common.{◌≡◌, ◌↔◌, ℕ, zero, suc, ◌+◌, ◌≤◌, true, false, List, [], ◌∷◌, ◌++◌, length, refl, sym, ◌∙◌, ap, subst, arith, eqb, inl, inr, ◌⊎◌, ⊎_elim, true≢false, append_assoc, length-append}
 use Rattle.std.specs.List.{Contains, IsDistinct, AllByRecursion}
 use Rattle.std.proofs.lemmas.Bool.Decides.{Decides-eqb}
@@ -20,7 +19,7 @@ later x xs y h = Contains-append_right (x ∷ []) xs y h
 pub at_split : {X : Type 0} (front : List X) (a : X) (back : List X) → Contains (front ++ a ∷ back) a
 at_split front a back = Contains-append_right front (a ∷ back) a (here a back)
 
--- each element is new at its position
+-- each element is new when it comes
 pub distinct : (xs : List ℕ) → ((front back : List ℕ) (a : ℕ) → xs ≡ front ++ a ∷ back → Contains front a → ⊥) → IsDistinct eqb xs
 unfolding IsDistinct
 distinct [] h = tt
@@ -47,7 +46,7 @@ pub tail_distinct : (x : ℕ) (xs : List ℕ) → IsDistinct eqb (x ∷ xs) → 
 unfolding IsDistinct
 tail_distinct x xs d = d.1
 
--- no element is repeated
+-- no element comes again
 pub twice : (xs front back : List ℕ) (a : ℕ) → IsDistinct eqb xs → xs ≡ front ++ a ∷ back → Contains back a → ⊥
 twice [] [] back a d e h = absurd cc
 twice [] (y ∷ front) back a d e h = absurd cc
@@ -57,7 +56,7 @@ twice (x ∷ xs) [] back a d e h =
     not_again x xs d (subst (λ (n : ℕ). Contains xs n) (sym same) (subst (λ (l : List ℕ). Contains l a) rest h))
 twice (x ∷ xs) (y ∷ front) back a d e h = let t : xs ≡ front ++ a ∷ back = cc in twice xs front back a (tail_distinct x xs d) t h
 
--- an element that precedes an occurrence of b precedes the only one
+-- a node before some b is before the only b
 stands_in_front : (xs f k front lows : List ℕ) (p b : ℕ) → IsDistinct eqb xs → xs ≡ f ++ p ∷ k → Contains k b → xs ≡ front ++ b ∷ lows → Contains front p
 stands_in_front [] [] k front lows p b d e c h = absurd cc
 stands_in_front [] (y ∷ f) k front lows p b d e c h = absurd cc
@@ -77,9 +76,9 @@ stands_in_front (x ∷ xs) (y ∷ f) k (z ∷ front) lows p b d e c h =
     let s : xs ≡ front ++ b ∷ lows = cc in
     later z front p (stands_in_front xs f k front lows p b (tail_distinct x xs d) a c s)
 
--- ---- topological orders
+-- ---- child-first lists
 
--- a topological order exists only without cycles
+-- a child-first list has no cycle
 pub HasNoCycle-from_child_first : (g : Graph) (starts order : List ℕ) → IsChildFirst g starts order → HasNoCycle g starts
 HasNoCycle-from_child_first g starts order k a reached cycle =
     let b = k.before a a ((k.all a).1 reached) cycle in
@@ -89,7 +88,7 @@ module _ (g : Graph) (starts : List ℕ) (IsNode : ℕ → Type 0) (NotBelow : �
   node_edge : (a b : ℕ) → IsNode a → HasEdge g a b → IsNode b
   node_edge a b h e = (nodes b).1 (ReachedFrom-edge g starts a b ((nodes a).0 h) e)
 
-  -- every node that strictly reaches a node precedes it
+  -- all nodes that strictly reach a node are before it
   in_front : (order : List ℕ) → TakesGreatestReady g IsNode NotBelow order → (n : ℕ) (front back : List ℕ) (a b : ℕ) → order ≡ front ++ b ∷ back → IsNode a → Path g a b (suc n) → Contains front a
   in_front order k zero front back a b e node (c, edge, p) = (k.ready front back b e).2 a node (subst (λ (x : ℕ). HasEdge g a x) p edge)
   in_front order k (suc n) front back a b e node (c, edge, p) =
@@ -117,7 +116,7 @@ module _ (g : Graph) (starts : List ℕ) (IsNode : ℕ → Type 0) (NotBelow : �
       Contains_reached zero a b h p = subst (λ (x : ℕ). IsNode x) p h
       Contains_reached (suc n) a b h (c, edge, p) = Contains_reached n c b (node_edge a c h edge) p
 
-  -- the node of another topological order at the first difference is ready too
+  -- the node that another child-first list has at the first difference was ready too
   pub IsGreatest-from_taken : (order : List ℕ) → TakesGreatestReady g IsNode NotBelow order → ((a b : ℕ) → IsNode a → IsNode b → NotBelow a b → b ≤ a) → (other : List ℕ) → IsChildFirst g starts other → IsAbove order other
   IsGreatest-from_taken order k ordered other o front highs lows a b e f ne =
       let is_a = (k.ready front highs a e).0 in
@@ -136,9 +135,9 @@ module _ (g : Graph) (starts : List ℕ) (IsNode : ℕ → Type 0) (NotBelow : �
       let le : b ≤ a = ordered a b is_a is_b (k.greatest front highs a b e ready_b) in
       omega arith
 
--- ---- stuck orders
+-- ---- where the order is stuck
 
--- following edges backwards from a node that is not taken repeats a node at some point
+-- from a node that is not taken one goes back along edges, each time to another one, until one comes again
 pub cycle_back : (g : Graph) (IsLeft : ℕ → Type 0) → ((a : ℕ) → IsLeft a → (c : ℕ) × IsLeft c × HasEdge g c a)
     → (room : ℕ) (others : List ℕ) → length others ≤ room → (a : ℕ) → IsLeft a → ((b : ℕ) → IsLeft b → Contains others b ⊎ Reaches g a b) → (c : ℕ) × IsLeft c × StrictlyReaches g c c
 cycle_back g IsLeft back zero others short a left seen =
@@ -162,7 +161,7 @@ cycle_back g IsLeft back (suc room) others short a left seen =
     ]))
     (λ r. (p.0, p.1, edge_then_Reaches g p.0 a p.0 p.2 r)) (seen p.0 p.1)
 
--- if nodes are left and each has an edge from another one, there is a cycle among them
+-- where nodes are left and each has an edge from another one, there is a cycle among them
 pub cycle_from_stuck : (g : Graph) (IsNode : ℕ → Type 0) (all order : List ℕ) → ((a : ℕ) → IsNode a → Contains all a) → IsStuck g IsNode order
     → (a : ℕ) → IsNode a → (Contains order a → ⊥) → (c : ℕ) × IsNode c × StrictlyReaches g c c
 cycle_from_stuck g IsNode all order complete stuck a is out =

@@ -1,4 +1,4 @@
--- Translation of an order of indices to an order of the numbers at them.
+-- From an order of indices to an order of the numbers at them.
 use Rattle.std.proofs.Common.{◌≡◌, ℕ, zero, suc, ◌<◌, List, [], ◌∷◌, ◌++◌, length, map, get_or, refl, sym, ◌∙◌, ap, subst, arith}
 use Rattle.std.specs.List.{Contains}
 use Rattle.std.proofs.lemmas.List.{get_or_default}
@@ -36,7 +36,7 @@ module _ (g : Graph) (ns : List ℕ) (ts : List (List ℕ)) (injective : IsInjec
   abbrev number : ℕ → ℕ
   number k = get_or ns k 0
 
-  -- edges of indices are edges of numbers, and back
+  -- an edge of the indices is an edge of the numbers, and the other way round
   edge_up : (a b : ℕ) → a < length ns → Contains (get_or ts a []) b → HasEdge g (number a) (number b)
   edge_up a b lt h = subst (λ (l : List ℕ). Contains l (number b)) (edges a lt) (Contains-map (λ j. get_or ns j 0) (get_or ts a []) b h)
 
@@ -52,13 +52,13 @@ module _ (g : Graph) (ns : List ℕ) (ts : List (List ℕ)) (injective : IsInjec
   numbered : (k : ℕ) → k < length ns → Contains ns (number k)
   numbered k lt = Contains-get_or ns k 0 lt
 
-  -- an index of one of the numbers is in range
+  -- an index of one of the numbers is among the indices
   unnumbered : (front : List ℕ) → ((k : ℕ) → Contains front k → k < length ns) → (j : ℕ) → j < length ns → Contains (map (λ j. get_or ns j 0) front) (number j) → Contains front j
   unnumbered front below j lt h =
       let r = Contains-unmap (λ j. get_or ns j 0) front (number j) h in
       subst (λ (n : ℕ). Contains front n) (injective r.0 j (below r.0 r.1) lt r.2) r.1
 
-  -- a property of all indices of these numbers
+  -- from all indices of these numbers to the numbers
   abbrev pub AtPlaces : (ℕ → ℕ → Type 0) → ℕ → ℕ → Type 0
   AtPlaces P a b = (i j : ℕ) → i < length ns → j < length ns → get_or ns i 0 ≡ a → get_or ns j 0 ≡ b → P i j
 
@@ -100,7 +100,7 @@ module _ (g : Graph) (ns : List ℕ) (ts : List (List ℕ)) (injective : IsInjec
       down : (front : List ℕ) (x : ℕ) → x < length ns → ((j : ℕ) → Contains front j → j < length ns) → IsReady g (Contains ns) (map (λ k. get_or ns k 0) front) (number x) → IsReady (places_graph ts) (λ k. k < length ns) front x
       down front x lt below r = (lt, λ h. r.1 (Contains-map (λ k. get_or ns k 0) front x h), λ c is edge. unnumbered front below c is (r.2 (number c) (numbered c is) (edge_up c x is edge)))
 
-  -- a cycle of indices is a cycle of numbers
+  -- a cycle of the indices is a cycle of the numbers
   path_up : (n a b : ℕ) → a < length ns → Path (places_graph ts) a b n → Path g (number a) (number b) n
   path_up zero a b lt p = ap (λ k. get_or ns k 0) p
   path_up (suc n) a b lt (c, edge, p) = (number c, edge_up a c lt edge, path_up n c b (within a c edge) p)

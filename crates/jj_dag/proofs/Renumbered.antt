@@ -1,5 +1,4 @@
--- Invariance under renumbering: closures that implement a graph implement it under every injective
--- renumbering.
+-- A walk under other numbers: closures define the renumbered graph too, if the numbering is one-to-one.
 use Rattle.std.proofs.Common.{◌≡◌, ◌≢◌, ◌<◌, ℕ, zero, suc, append_assoc, Bool, true, false, cond, ◌&&◌, ◌==◌, Option, Result, Ok, Err, List, [], ◌∷◌, ◌++◌, map, refl, sym, ◌∙◌, ap, subst, arith}
 use Rattle.std.specs.List.{Contains, cons_option}
 use Rattle.std.specs.Result.{result_ok}
@@ -20,7 +19,7 @@ use Rattle.jj_dag.proofs.Relabelled.{Contains-map, Contains-unmap, split_map}
 
 -- ---- tests, and calls
 
--- weakening of a property of all calls
+-- from a property of each call to one that follows
 pub AlwaysReturns-weaker : {F X R : Type 0} (g : Mut F X R) (P Q : X → R → Type 0) (f : F) → ((a : X) (r : R) → P a r → Q a r) → AlwaysReturns g P f → AlwaysReturns g Q f
 AlwaysReturns-weaker {F} {X} {R} g P Q f h k = record { at = λ xs. each xs f (k.at xs) }
   where
@@ -30,7 +29,7 @@ AlwaysReturns-weaker {F} {X} {R} g P Q f h k = record { at = λ xs. each xs f (k
 
 -- ---- graphs
 
--- the numbers of the nodes among the items
+-- the numbers of the items that did not fail
 abbrev pub renumbered_item : {K : Type 0} → (ℕ → ℕ) → Result ℕ K → Result ℕ K
 renumbered_item to (Ok n) = Ok (to n)
 renumbered_item to (Err e) = Err e
@@ -40,7 +39,7 @@ sound-renumbered to [] = refl
 sound-renumbered to (Ok n ∷ xs) = ap (λ l. to n ∷ l) (sound-renumbered to xs)
 sound-renumbered to (Err e ∷ xs) = sound-renumbered to xs
 
--- `to` renumbers the nodes, and `back` is its inverse. Other values have numbers of no node.
+-- The nodes have the numbers of `to`, and `back` is its inverse. A value that is no node has a number that no node has.
 module _ {T ID : Type 0} (w : Numbered T ID) (to back : ℕ → ℕ) (unused : ℕ) where
   abbrev pub number_of : ℕ → ℕ
   number_of n = cond (w.is_node n) (to n) unused
@@ -94,7 +93,7 @@ module _ {T ID : Type 0} (w : Numbered T ID) (to back : ℕ → ℕ) (unused : �
         let m = Contains-unmap to ns b h in
         subst (λ (n : ℕ). renumbered.is_node n ≡ true) m.2 (is_renumbered m.0 (nodes m.0 m.1))
 
-    -- ---- the implemented graph
+    -- ---- the graph of the closures
 
     item_is : {E : Type 0} (x : Result T E) (item : Result ℕ (Fault E)) → ((n : ℕ) → item ≡ Ok n → w.is_node n ≡ true) → IsItem w.node x item → IsItem renumbered.node x (renumbered_item to item)
     item_is (Ok x) (Ok n) nodes h = ap number_of h ∙ number_is n (nodes n refl)
@@ -115,7 +114,7 @@ module _ {T ID : Type 0} (w : Numbered T ID) (to back : ℕ → ℕ) (unused : �
         behind (Ok n) a k = later n (sound_items items) a k
         behind (Err e) a k = k
 
-    -- a prefix of the items of a node
+    -- the items of a node's list, up to some index
     begun_nodes : {E : Type 0} (begun rest : List (Result ℕ (Fault E))) → AreNodes w (sound_items (begun ++ rest)) → AreNodes w (sound_items begun)
     begun_nodes [] rest nodes a (k, lt, e) = absurd (omega arith)
     begun_nodes (Ok n ∷ begun) rest nodes a (zero, lt, e) = subst (λ (m : ℕ). w.is_node m ≡ true) e (nodes n (here n (sound_items (begun ++ rest))))
@@ -176,7 +175,7 @@ module _ {T ID : Type 0} (w : Numbered T ID) (to back : ℕ → ℕ) (unused : �
         let q = path_down n m.0 c (closed a is m.0 there) (subst (λ (l : ℕ). Path renumbered.graph l c n) (sym m.2) p) in
         (q.0, q.1, (m.0, there, q.2))
 
-    -- topological orders are invariant
+    -- a child-first list is child-first under the other numbers
     pub renumbered_child_first : (starts order : List ℕ) → AreNodes w starts → IsChildFirst w.graph starts order → IsChildFirst renumbered.graph (map to starts) (map to order)
     renumbered_child_first starts order nodes k = record {
       all = λ a. (
@@ -213,7 +212,7 @@ module _ {T ID : Type 0} (w : Numbered T ID) (to back : ℕ → ℕ) (unused : �
             let s = Contains-split front a h in
             twice order s.0 (s.1 ++ a ∷ back) a k.once (e ∙ ap (λ l. l ++ a ∷ back) s.2 ∙ append_assoc s.0 (a ∷ s.1) (a ∷ back)) (at_split s.1 a back)
 
-    -- the greatest order under the other numbers is greatest under these
+    -- where a list that is greatest under the other numbers first differs from another child-first list, it has the node with the greater number
     pub greater_there : (starts order other front highs lows : List ℕ) (a b : ℕ) → AreNodes w starts → IsGreatestChildFirst renumbered.graph (map to starts) (map to order)
         → IsChildFirst w.graph starts order → IsChildFirst w.graph starts other → order ≡ front ++ a ∷ highs → other ≡ front ++ b ∷ lows → a ≢ b → to b < to a
     greater_there starts order other front highs lows a b nodes best k l e f ne =

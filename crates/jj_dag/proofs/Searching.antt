@@ -1,4 +1,4 @@
--- The search for heads on numbers: nodes visited as neighbors, and pending nodes.
+-- The search for the maximal nodes of a set: which nodes were found as neighbours, and which are pending.
 use Rattle.std.proofs.Common.{◌≡◌, ℕ, zero, suc, Bool, true, false, cond, List, [], ◌∷◌, ◌++◌, refl, sym, subst, inl, inr, ◌⊎◌, ⊎_elim}
 use Rattle.std.specs.List.{Contains}
 use Rattle.std.proofs.lemmas.List.Elements.{Contains-append_left, Contains-append_right, Contains-append_cases, Contains-push, Contains-push_cases}
@@ -8,17 +8,17 @@ use Rattle.std.specs.Set.{remove_key}
 use Rattle.jj_dag.specs.Graph.{Graph, HasEdge, Path, Reaches, StrictlyReaches, ReachedFrom, HasNoCycle, IsMaximal}
 use Rattle.jj_dag.proofs.Reaching.{Reaches-trans, Reaches-then_strictly, edge_then_Reaches}
 
--- a start, or a node visited as a neighbor
+-- a start, or a node that was found
 abbrev pub Seen : List ℕ → List ℕ → ℕ → Type 0
 Seen starts met a = Contains starts a ⊎ Contains met a
 
 pub record IsSearching (g : Graph) (starts met waiting : List ℕ) (rooted : Bool) : Type 0 where
-  -- visited neighbors are strictly reachable from a start
+  -- a node that was found is strictly reached from a start
   pub reached : (b : ℕ) → Contains met b → (a : ℕ) × Contains starts a × StrictlyReaches g a b
   pub waits : (a : ℕ) → Contains waiting a → Seen starts met a
-  -- the neighbors of a node that is not pending are visited
+  -- the neighbours of a node that is not pending were found
   pub explored : (a : ℕ) → Seen starts met a → Contains waiting a ⊎ ((b : ℕ) → HasEdge g a b → Contains met b)
-  -- until a root is visited, each node reaches a pending one
+  -- until a root comes, each node reaches one that waits
   pub leads : rooted ≡ false → HasNoCycle g starts → (a : ℕ) → Seen starts met a → (z : ℕ) × Contains waiting z × Reaches g a z
 
 pub seen_reached : {g : Graph} {starts met waiting : List ℕ} {rooted : Bool} → IsSearching g starts met waiting rooted → (a : ℕ) → Seen starts met a → ReachedFrom g starts a
@@ -30,7 +30,7 @@ seen_before starts met y Waits known a (inl h) = inl (inl h)
 seen_before starts met y Waits known a (inr h) =
     ⊎_elim (λ old. inl (inr old)) (λ same. subst (λ (n : ℕ). Seen starts met n ⊎ Waits n) same known) (Contains-push_cases met y a h)
 
--- a neighbor of a pending node is visited
+-- a neighbour of a pending node is found
 pub search_met : (g : Graph) (starts met waiting waiting2 : List ℕ) (rooted : Bool) (w y : ℕ) → IsSearching g starts met waiting rooted → Contains waiting w → HasEdge g w y
     → ((a : ℕ) → Contains waiting a → Contains waiting2 a) → ((a : ℕ) → Contains waiting2 a → Contains waiting a ⊎ (y ≡ a)) → Seen starts met y ⊎ Contains waiting2 y
     → IsSearching g starts (met ++ y ∷ []) waiting2 rooted
@@ -50,7 +50,7 @@ search_met g starts met waiting waiting2 rooted w y k at edge keeps adds known =
     lift a (inl h) = inl h
     lift a (inr h) = inr (Contains-append_left met (y ∷ []) a h)
 
--- a node whose neighbors were all visited is no longer pending
+-- a node, all of whose neighbours were found, is no longer pending
 pub search_asked : (g : Graph) (starts met waiting waiting2 : List ℕ) (rooted rooted2 : Bool) (w : ℕ) → IsSearching g starts met waiting rooted → Contains waiting w
     → ((a : ℕ) → Contains waiting a → Contains waiting2 a ⊎ (a ≡ w)) → ((a : ℕ) → Contains waiting2 a → Contains waiting a) → ((b : ℕ) → HasEdge g w b → Contains met b)
     → (rooted2 ≡ false → (rooted ≡ false) × ((y : ℕ) × HasEdge g w y))
@@ -72,14 +72,13 @@ search_asked g starts met waiting waiting2 rooted rooted2 w k at leaves keeps al
       (leaves old.0 old.1);
 }
 
--- a walk from a seen node ends at a visited one, or continues from a pending one
+-- a path from a node that was seen ends at one that was found, or goes on from a pending one
 goes_on : {g : Graph} {starts met waiting : List ℕ} {rooted : Bool} (h : ℕ) → IsSearching g starts met waiting rooted → (n a : ℕ) → Seen starts met a → Path g a h (suc n)
     → Contains met h ⊎ ((z : ℕ) × Contains waiting z × StrictlyReaches g z h)
 goes_on {met = met} h k zero a s (c, e, p) = ⊎_elim (λ wait. inr (a, wait, (0, (c, e, p)))) (λ done. inl (subst (λ (x : ℕ). Contains met x) p (done c e))) (k.explored a s)
 goes_on h k (suc n) a s (c, e, p) = ⊎_elim (λ wait. inr (a, wait, (suc n, (c, e, p)))) (λ done. goes_on h k n c (inr (done c e)) p) (k.explored a s)
 
--- If at most one node is pending, and none after a root, no start strictly reaches an unvisited
--- start.
+-- If at most one node is pending, and none if a root was found, no start strictly reaches a start that was not found.
 pub search_done : (g : Graph) (starts met waiting : List ℕ) (rooted : Bool) → IsSearching g starts met waiting rooted
     → ((a b : ℕ) → Contains waiting a → Contains waiting b → a ≡ b) → ((a : ℕ) → Contains waiting a → rooted ≡ false) → HasNoCycle g starts
     → (h : ℕ) → Contains starts h → (Contains met h → ⊥) → (b : ℕ) → Contains starts b → StrictlyReaches g b h → ⊥
@@ -94,7 +93,7 @@ search_done g starts met waiting rooted k one no_root acyclic h start fresh b fr
     acyclic w.0 (seen_reached k w.0 (k.waits w.0 w.1)) (edge_then_Reaches g w.0 away.1.0 w.0 away.1.1 round))
     (goes_on h k n b (inl from) p)
 
--- so the unvisited starts are the maximal ones
+-- so the starts that were not found are the maximal ones
 pub search_maximal : (g : Graph) (starts met waiting : List ℕ) (rooted : Bool) → IsSearching g starts met waiting rooted
     → ((a b : ℕ) → Contains waiting a → Contains waiting b → a ≡ b) → ((a : ℕ) → Contains waiting a → rooted ≡ false) → HasNoCycle g starts
     → (a : ℕ) → Contains starts a → (Contains met a → ⊥) → IsMaximal g (Contains starts) a

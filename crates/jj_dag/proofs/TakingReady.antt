@@ -1,4 +1,4 @@
--- Invariant of Kahn's algorithm: in-degrees count the edges from nodes that are not yet taken.
+-- Invariants of Kahn's algorithm, by in-degrees from nodes not yet taken.
 use Rattle.std.proofs.Common.{◌≡◌, ◌≢◌, ℕ, zero, suc, ◌+◌, ◌*◌, ◌-◌, ◌<◌, ◌≤◌, Bool, true, false, cond, ◌||◌, Option, None, Some, List, [], ◌∷◌, ◌++◌, length, map, get_or, set, drop, refl, sym, ◌∙◌, ap, subst, arith, eqb, inl, inr, ◌⊎◌, ⊎_elim, true≢false, length-set, get_or-set_same, get_or-set_other, IsSome, is_some, MatchOption}
 use Rattle.std.specs.List.{Contains, count_by, sum_by}
 use Rattle.std.specs.List.Sorted.{IsPermutation}
@@ -95,11 +95,11 @@ then_first Less p h = h
 then_first Equal p h = refl
 then_first Greater p h = refl
 
--- reading a number, with default 0
+-- a look-up in a list of numbers, with default 0
 pub read_is : (xs : List ℕ) (i r : ℕ) → i < length xs → r ≡ get_or xs i r → get_or xs i 0 ≡ r
 read_is xs i r lt e = get_or_default xs i 0 r lt ∙ sym e
 
--- updating an in-degree changes only its own index
+-- a changed in-degree is that of one index, which is the target of the edge
 pub at_set : (xs : List ℕ) (i new k : ℕ) → i < length xs → ((cond {A = ℕ} (eqb k i) 1 0 ≡ 1) × (get_or (set xs i new) k 0 ≡ new) × (get_or xs k 0 ≡ get_or xs i 0))
     ⊎ ((cond {A = ℕ} (eqb k i) 1 0 ≡ 0) × (get_or (set xs i new) k 0 ≡ get_or xs k 0))
 at_set xs i new k lt = elim (cases_eq k i) [
@@ -114,17 +114,17 @@ none_is (Some x) h = absurd (true≢false h)
 -- ---- the state
 
 module _ {T : Type 0} (cmp : T → T → Ordering) (slots : List (Option T)) (ts : List (List ℕ)) where
-  -- occurrences of the index among the taken and the ready ones
+  -- how often the index is among those taken and those ready
   abbrev pub placed : List ℕ → List (T × ℕ) → ℕ → ℕ
   placed order ready k = count_by (eqb k) order + count_by (λ e. eqb k e.1) ready
 
-  -- it became ready when its in-degree reached 0
+  -- it was made ready when no edge from a node not taken led to it any more
   abbrev pub HasStatus : List (Option T) → List ℕ → List ℕ → List (T × ℕ) → ℕ → Type 0
   HasStatus waiting degrees order ready k =
       ((get_or degrees k 0 ≡ 0) × (get_or waiting k None ≡ None) × (placed order ready k ≡ 1))
       ⊎ ((0 < get_or degrees k 0) × (get_or waiting k None ≡ get_or slots k None) × (placed order ready k ≡ 0))
 
-  -- each ready node is the one of its slot
+  -- each ready node was in the slot of its index
   abbrev pub AreInSlots : List (T × ℕ) → Type 0
   AreInSlots ready = (x : T) (k : ℕ) → Contains ready (x, k) → (k < length slots) × (get_or slots k None ≡ Some x)
 
@@ -135,7 +135,7 @@ module _ {T : Type 0} (cmp : T → T → Ordering) (slots : List (Option T)) (ts
         | inr r ↦ before y j r
       ]
 
-  -- `live` has the lists of the nodes that are not taken, `extra` the rest of the current one
+  -- `live` has the lists of the nodes not taken, `extra` what is left of the last one's
   pub record IsTaking (waiting : List (Option T)) (degrees extra : List ℕ) (live : List (List ℕ)) (order : List ℕ) (ready : List (T × ℕ)) : Type 0 where
     pub waits : length waiting ≡ length slots
     pub counters : length degrees ≡ length slots
@@ -149,7 +149,7 @@ module _ {T : Type 0} (cmp : T → T → Ordering) (slots : List (Option T)) (ts
   abbrev pub IsPopped : T → ℕ → List (T × ℕ) → Type 0
   IsPopped x i ready = (y : T) (k : ℕ) → Contains ready (y, k) → is_lt (ordering_then (cmp x y) (nat_cmp i k)) ≡ false
 
-  -- every node with an edge to an index of in-degree 0 is taken
+  -- every node with an edge to an index of in-degree 0 was taken
   taken_children : {waiting : List (Option T)} {degrees : List ℕ} {live : List (List ℕ)} {order : List ℕ} {ready : List (T × ℕ)} (i : ℕ) → IsTaking waiting degrees [] live order ready
       → i < length slots → get_or degrees i 0 ≡ 0 → (c : ℕ) → c < length slots → Contains (get_or ts c []) i → Contains order c
   taken_children {degrees = degrees} {live} {order} i k lt zero_degree c below edge =
@@ -164,7 +164,7 @@ module _ {T : Type 0} (cmp : T → T → Ordering) (slots : List (Option T)) (ts
             absurd (omega arith)
       ] refl
 
-  -- an index whose children are all taken has in-degree 0
+  -- an index whose children were all taken has in-degree 0
   no_edges : {waiting : List (Option T)} {degrees : List ℕ} {live : List (List ℕ)} {order : List ℕ} {ready : List (T × ℕ)} (b : ℕ) → IsTaking waiting degrees [] live order ready
       → b < length slots → ((c : ℕ) → c < length slots → Contains (get_or ts c []) b → Contains order c) → get_or degrees b 0 ≡ 0
   no_edges {degrees = degrees} {live} {order} b k lt children =
@@ -188,7 +188,7 @@ module _ {T : Type 0} (cmp : T → T → Ordering) (slots : List (Option T)) (ts
       → HasStatus waiting degrees order ready k → HasStatus waiting degrees order2 ready2 k
   status_of waiting degrees order order2 ready ready2 k e h = ⊎_elim (λ l. inl (l.0, l.1, e ∙ l.2)) (λ r. inr (r.0, r.1, e ∙ r.2)) h
 
-  -- the node popped from the heap is not taken, and has in-degree 0
+  -- the node that leaves the heap was not taken, and no edge counts to it
   popped_status : {waiting : List (Option T)} {degrees extra : List ℕ} {live : List (List ℕ)} {order : List ℕ} {ready : List (T × ℕ)} (x : T) (i : ℕ) → IsTaking waiting degrees extra live order ready
       → Contains ready (x, i) → (get_or degrees i 0 ≡ 0) × (has order i ≡ false)
   popped_status {order = order} {ready} x i k at =
@@ -197,7 +197,7 @@ module _ {T : Type 0} (cmp : T → T → Ordering) (slots : List (Option T)) (ts
       ⊎_elim (λ l. let once : placed order ready i ≡ 1 = l.2 in (l.0, has-none order i (omega arith)))
       (λ r. let none : placed order ready i ≡ 0 = r.2 in absurd (omega arith)) (k.status i here.0)
 
-  -- the popped node is taken, and its edges are still counted
+  -- the node that leaves the heap is taken, and the edges from it are left to be counted off
   pub taking_popped : {waiting : List (Option T)} {degrees : List ℕ} {live : List (List ℕ)} {order : List ℕ} {ready : List (T × ℕ)} (x : T) (i : ℕ) (ready2 : List (T × ℕ))
       → IsTaking waiting degrees [] live order ready → IsPermutation ready ((x, i) ∷ ready2) → IsPopped x i ready
       → IsTaking waiting degrees (get_or ts i []) (set live i []) (order ++ i ∷ []) ready2
@@ -265,7 +265,7 @@ module _ {T : Type 0} (cmp : T → T → Ordering) (slots : List (Option T)) (ts
           let below : is_lt (cmp x e.0.0) ≡ false = then_first (cmp x e.0.0) (nat_cmp i b) (above e.0.0 b at) in
           subst (λ (y : T). is_lt (cmp y w) ≡ false) is_same_v (subst (λ (y : T). is_lt (cmp x y) ≡ false) is_same_w below)
 
-  -- the next edge is counted, so its target is not ready
+  -- the next edge is counted, so its target waits
   pub counted_edge : {waiting : List (Option T)} {degrees extra : List ℕ} {live : List (List ℕ)} {order : List ℕ} {ready : List (T × ℕ)} (t : ℕ) → IsTaking waiting degrees (t ∷ extra) live order ready
       → t < length slots → (0 < get_or degrees t 0) × (get_or waiting t None ≡ get_or slots t None) × (placed order ready t ≡ 0)
   counted_edge {degrees = degrees} {extra} {live} t k lt =
@@ -281,7 +281,7 @@ module _ {T : Type 0} (cmp : T → T → Ordering) (slots : List (Option T)) (ts
       let more : count_by (eqb j) (t ∷ extra) ≡ cond (eqb j t) 1 0 + count_by (eqb j) extra = sum_by-cons (λ y. cond (eqb j y) 1 0) t extra in
       ⊎_elim (λ (one, new, old). omega arith) (λ (none, other). omega arith) (at_set degrees t d j (rw (k.counters) lt))
 
-  -- the in-degree of a target is decremented and stays positive
+  -- an edge is counted off, and others to its target are left
   pub taking_kept : {waiting : List (Option T)} {degrees extra : List ℕ} {live : List (List ℕ)} {order : List ℕ} {ready : List (T × ℕ)} (t d : ℕ) → IsTaking waiting degrees (t ∷ extra) live order ready
       → t < length slots → d + 1 ≡ get_or degrees t 0 → 0 < d → IsTaking waiting (set degrees t d) extra live order ready
   taking_kept {waiting} {degrees} {extra} {live} {order} {ready} t d k lt less more =
@@ -302,7 +302,7 @@ module _ {T : Type 0} (cmp : T → T → Ordering) (slots : List (Option T)) (ts
         takes = k.takes;
       }
 
-  -- the in-degree of a target reaches 0, and it becomes ready
+  -- the last edge to its target is counted off, which is made ready
   pub taking_readied : {waiting : List (Option T)} {degrees extra : List ℕ} {live : List (List ℕ)} {order : List ℕ} {ready : List (T × ℕ)} (t : ℕ) (x : T) (ready2 : List (T × ℕ))
       → IsTaking waiting degrees (t ∷ extra) live order ready → t < length slots → 1 ≡ get_or degrees t 0
       → get_or waiting t None ≡ Some x → IsPermutation ((x, t) ∷ ready) ready2 → IsTaking (set waiting t None) (set degrees t 0) extra live order ready2
@@ -339,7 +339,7 @@ module _ {T : Type 0} (cmp : T → T → Ordering) (slots : List (Option T)) (ts
         takes = k.takes;
       }
 
-  -- ---- the start: the indices of in-degree 0 become ready in turn
+  -- ---- the start: the indices of in-degree 0 are made ready in turn
 
   pub record IsSorting (degrees : List ℕ) (index : ℕ) (waiting : List (Option T)) (ready : List (T × ℕ)) : Type 0 where
     pub waits : length waiting ≡ length slots
@@ -416,7 +416,7 @@ module _ {T : Type 0} (cmp : T → T → Ordering) (slots : List (Option T)) (ts
     };
   }
 
-  -- ---- the end: no node is ready
+  -- ---- the end: no node is ready any more
 
   pub taken_all : {waiting : List (Option T)} {degrees : List ℕ} {live : List (List ℕ)} {order : List ℕ} {ready : List (T × ℕ)} → ready ≡ [] → IsTaking waiting degrees [] live order ready
       → ((k : ℕ) → k < length slots → IsSome (get_or slots k None)) → ((k : ℕ) → k < length slots → get_or waiting k None ≡ None) → (k : ℕ) → k < length slots → Contains order k
@@ -450,7 +450,7 @@ module _ {T : Type 0} (cmp : T → T → Ordering) (slots : List (Option T)) (ts
             (c, below, not_in order c e, counted_once (get_or ts c []) a (omega arith))
       ] refl
 
-  -- ---- from the clauses of `make_ready`
+  -- ---- by the contract of `make_ready`
 
   pub sorting_taken : {degrees : List ℕ} {waiting : List (Option T)} {ready : List (T × ℕ)} (index : ℕ) (waiting2 : List (Option T)) (ready2 : List (T × ℕ)) → IsSorting degrees index waiting ready → index < length slots → get_or degrees index 0 ≡ 0
       → IsSome (get_or slots index None) → waiting2 ≡ set waiting index None → MatchOption (get_or waiting index None) (ready2 ≡ ready) (λ x. IsPermutation ((x, index) ∷ ready) ready2) → IsSorting degrees (index + 1) waiting2 ready2
@@ -510,7 +510,7 @@ module _ {T : Type 0} (cmp : T → T → Ordering) (slots : List (Option T)) (ts
       subst (λ (d : ℕ). IsTaking waiting2 (set degrees t d) (drop (i + 1) xs) live order ready2) gone
       (taking_taken t waiting2 ready2 (at_next xs i k lt) within (omega arith) present is moved)
 
-  -- a node left at an index
+  -- the node that is left at an index
   pub left_is : {waiting : List (Option T)} {degrees : List ℕ} {live : List (List ℕ)} {order : List ℕ} {ready : List (T × ℕ)} → ready ≡ [] → IsTaking waiting degrees [] live order ready
       → (j : ℕ) (o : Option T) → j < length slots → get_or waiting j None ≡ o → IsSome o
       → MatchOption o ((k : ℕ) → k < length slots → Contains order k)

@@ -1,5 +1,4 @@
--- Invariant of the postorder search: a stack entry is a node and whether its neighbors were pushed
--- above it.
+-- The stack of a postorder walk: an entry is a node, and whether its neighbours are above it.
 use Rattle.std.proofs.Common.{◌≡◌, ℕ, Bool, true, false, cond, ◌||◌, ◌==◌, List, [], ◌∷◌, ◌++◌, map, reverse, refl, sym, ◌∙◌, ap, subst, true≢false, ⊎_elim, append-nil, arith, zero, suc}
 use Rattle.std.specs.List.{Contains}
 use Rattle.std.proofs.lemmas.Bool.Decides.{Decides-eqb}
@@ -11,7 +10,7 @@ use Rattle.jj_dag.specs.Walk.{Numbered, AreNodes}
 use Rattle.jj_dag.proofs.Reaching.{Reaches-then_strictly, ReachedFrom-edge}
 use Rattle.jj_dag.proofs.Walking.{has, has-push, has-from_Contains, Contains-from_has, eqb-flip, numbers}
 
--- the list emitted by the entries, from the top, after the emitted one
+-- the postorder of the entries, from the top, after the emitted nodes
 pub data Unwinds (g : Graph) : (top : List (ℕ × Bool)) (given out : List ℕ) → Type 0 where
   ended : {given : List ℕ} → Unwinds g [] given given
   passed : {a : ℕ} {top : List (ℕ × Bool)} {given out : List ℕ} → Contains given a → Unwinds g top given out → Unwinds g ((a, false) ∷ top) given out
@@ -36,7 +35,7 @@ Unwinds-finished g a top given out (finished p) = p
 pub Unwinds-ended : (g : Graph) (given out : List ℕ) → Unwinds g [] given out → given ≡ out
 Unwinds-ended g given out ended = refl
 
--- the nodes on the current path, last first
+-- the nodes that are being visited, the last one first
 abbrev pub visited_above : List (ℕ × Bool) → List ℕ
 visited_above [] = []
 visited_above ((a, f) ∷ top) = cond f (a ∷ visited_above top) (visited_above top)
@@ -76,7 +75,7 @@ finished_above ((x, true) ∷ top) a h =
     ] refl
 finished_above ((x, false) ∷ top) a h = Contains-append_right ((x, false) ∷ []) top (a, true) (finished_above top a h)
 
--- each entry is strictly reachable from every entered one below it
+-- each entry is strictly reached from every entry below it whose neighbours have been put above it
 abbrev pub Hangs : Graph → List (ℕ × Bool) → Type 0
 Hangs g [] = Unit {0}
 Hangs g ((a, f) ∷ top) = ((c : ℕ) → Contains top (c, true) → StrictlyReaches g c a) × Hangs g top
@@ -98,7 +97,7 @@ hangs_neighbors g a top below hangs (x ∷ xs) edges =
     (Contains-append_cases (waits xs) ((a, true) ∷ top) (c, true) h) in
     (through, hangs_neighbors g a top below hangs xs (λ b h. edges b (Contains-append_right (x ∷ []) xs b h)))
 
--- no number is repeated
+-- no number comes twice
 abbrev pub IsFresh : List ℕ → Type 0
 IsFresh [] = Unit {0}
 IsFresh (a ∷ xs) = (has xs a ≡ false) × IsFresh xs
@@ -107,14 +106,14 @@ module _ {T ID : Type 0} (w : Numbered T ID) where
   abbrev pub marks : List (T × Bool) → List (ℕ × Bool)
   marks top = map (λ p. (w.node p.0, p.1)) top
 
-  -- a set with the IDs of these numbers
+  -- a set of ids that has those of these numbers
   abbrev pub Has : (ID → Bool) → List ℕ → Type 0
   Has test ns = (i : ID) → w.is_node (w.id i) ≡ true → test i ≡ has ns (w.id i)
 
   abbrev pub Apart : (ID → ID → Bool) → Type 0
   Apart eq = (i j : ID) → w.is_node (w.id i) ≡ true → w.is_node (w.id j) ≡ true → eq i j ≡ (w.id i == w.id j)
 
-  -- the loop invariant, with the stack from its top
+  -- the invariant of the loop, with the stack from its top
   pub record IsUnwinding (starts : List ℕ) (visiting emitted : ID → Bool) (top : List (ℕ × Bool)) (given : List ℕ) : Type 0 where
     pub nodes : (a : ℕ) (f : Bool) → Contains top (a, f) → w.is_node a ≡ true
     pub emits : Has emitted given
@@ -133,7 +132,7 @@ module _ {T ID : Type 0} (w : Numbered T ID) where
       → IsUnwinding starts visiting emitted ((a, false) ∷ top) given → ReachedFrom w.graph starts a
   here_reached {top = top} {a = a} k = k.reached a false (Contains-append_left ((a, false) ∷ []) top (a, false) (0, omega arith, refl))
 
-  -- a node above itself is on a cycle
+  -- a node that waits above itself is on a cycle
   pub unwinding_cycle : {starts : List ℕ} {visiting emitted : ID → Bool} {top : List (ℕ × Bool)} {given : List ℕ} (a : ℕ) (i : ID)
       → IsUnwinding starts visiting emitted ((a, false) ∷ top) given → w.id i ≡ a → visiting i ≡ true → OnCycleFrom w.graph starts a
   unwinding_cycle {starts} {visiting} {emitted} {top} {given} a i k same is =
@@ -141,7 +140,7 @@ module _ {T ID : Type 0} (w : Numbered T ID) where
       let seen : has (visited_above top) a ≡ true = subst (λ (n : ℕ). has (visited_above top) n ≡ true) same (sym (k.visits i here) ∙ is) in
       (here_reached k, k.hangs.0 a (finished_above top a seen))
 
-  -- an emitted node on the stack is skipped
+  -- an emitted node is on the stack to be skipped
   pub unwinding_passed : {starts : List ℕ} {visiting emitted : ID → Bool} {top : List (ℕ × Bool)} {given : List ℕ} (a : ℕ) (f : Bool) (i : ID)
       → IsUnwinding starts visiting emitted ((a, f) ∷ top) given → w.id i ≡ a → true ≡ emitted i → IsUnwinding starts visiting emitted top given
   unwinding_passed {starts} {visiting} {emitted} {top} {given} a true i k same is =
@@ -164,7 +163,7 @@ module _ {T ID : Type 0} (w : Numbered T ID) where
         rest = λ out p. k.rest out (passed (Contains-from_has given a seen) p);
       }
 
-  -- a node whose neighbors are all emitted is emitted
+  -- a node whose neighbours were walked is emitted
   pub unwinding_finished : {starts : List ℕ} {visiting emitted : ID → Bool} {top : List (ℕ × Bool)} {given : List ℕ} (eq : ID → ID → Bool) (visiting2 emitted2 : ID → Bool) (a : ℕ) (i : ID)
       → Apart eq → IsUnwinding starts visiting emitted ((a, true) ∷ top) given → w.id i ≡ a
       → ((q : ID) → visiting2 q ≡ cond (eq i q) false (visiting q)) → ((q : ID) → emitted2 q ≡ cond (eq i q) true (emitted q))
@@ -205,7 +204,7 @@ module _ {T ID : Type 0} (w : Numbered T ID) where
           let P : Bool → Type 0 = λ t. b == a ≡ t → t ≡ false in
           elim (b == a) as P [ true ↦ λ e. absurd (true≢false (sym h ∙ subst (λ (m : ℕ). has (visited_above top) m ≡ false) (sym ((Decides-eqb b a).0 e)) k.fresh.0)) | false ↦ λ e. refl ] refl
 
-  -- a new node is entered below its neighbors
+  -- a new node stays, below its neighbours
   pub unwinding_entered : {starts : List ℕ} {visiting emitted : ID → Bool} {top : List (ℕ × Bool)} {given : List ℕ} (eq : ID → ID → Bool) (visiting2 : ID → Bool) (a : ℕ) (i : ID)
       → ((b : ℕ) → w.is_node b ≡ true → AreNodes w (w.graph b)) → Apart eq → IsUnwinding starts visiting emitted ((a, false) ∷ top) given → w.id i ≡ a
       → false ≡ emitted i → visiting i ≡ false → ((q : ID) → visiting2 q ≡ cond (eq i q) true (visiting q))

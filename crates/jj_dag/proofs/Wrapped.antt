@@ -1,4 +1,4 @@
--- Lemmas on items wrapped in `Ok`.
+-- From items to items in an `Ok`.
 use Rattle.std.proofs.Common.{◌≡◌, ℕ, Bool, List, [], ◌∷◌, ◌++◌, map, Option, Result, Ok, Err, refl, sym, ap, subst}
 use Rattle.std.specs.Fn.{Shared, Mut, Called, AlwaysReturns, ReturnsEach}
 use Rattle.std.specs.Iterator.{IsFinite, IsFiniteIterable, Yields}
@@ -17,7 +17,7 @@ use Rattle.jj_dag.specs.declared.all_ok.AllOk.{AllOk}
 use Rattle.jj_dag.specs.declared.forward.Stop.{Stop}
 use Rattle.jj_dag.specs.declared.forward.Stop.TheVariants.{Failed, Cycle}
 
--- results of the inner closure are results of the outer one in its form
+-- from the results of the inner closure to those of the outer one
 pub AlwaysReturns-through : {F G X R S : Type 0} (outer : Mut F X R) (inner : Mut G X S) (P : X → S → Type 0) (Q : X → R → Type 0) (of : F → G)
     → ((f : F) (a : X) (r : R) (f' : F) → Called outer f a r f' → (s : S) × Called inner (of f) a s (of f') × (P a s → Q a r))
     → (f : F) → AlwaysReturns inner P (of f) → AlwaysReturns outer Q f
@@ -29,7 +29,7 @@ AlwaysReturns-through {F} {G} {X} {R} {S} outer inner P Q of step f k = record {
         let s = step f a r f' h in
         (s.2 (k (a ∷ []) s.0 (of f') s.1).0, each xs f' (λ ys. (k (a ∷ ys) s.0 (of f') s.1).1))
 
--- callability carries over
+-- where the inner closure may always be called, the outer one may
 pub always_mut-through : {F G X R S : Type 0} (outer : Mut F X R) (inner : Mut G X S) (of : F → G) → ((f : F) (a : X) → always_mut inner (of f) → outer.pre f a)
     → ((f : F) (a : X) (r : R) (f' : F) → Called outer f a r f' → (s : S) × Called inner (of f) a s (of f')) → (f : F) → always_mut inner (of f) → always_mut outer f
 always_mut-through outer inner of asks calls f k =
@@ -59,7 +59,7 @@ ok_same E (x ∷ xs) (y ∷ ys) e =
     let head : x ≡ y = cc in
     cc (head, rest)
 
--- no wrapped item is an error
+-- no item of such a list failed
 pub no_error : {T E : Type 0} (front : List (Result T E)) (e : E) (back : List (Result T E)) (ys : List T) → front ++ Err e ∷ back ≡ map (λ y. Ok y) ys → ⊥
 no_error [] e back [] h = cc
 no_error [] e back (y ∷ ys) h = cc
@@ -73,18 +73,18 @@ wrapped_items E node [] = tt
 wrapped_items E node (x ∷ xs) = (refl, wrapped_items E node xs)
 
 module _ {U I T E : Type 0} (becomes : U → I → Type 0) (steps : I → Option T → I → Type 0) where
-  -- the wrapped items of an iterator are its items
+  -- the items in an `Ok` of an iterator that this value becomes are its items
   pub drains_unwrapped : (value : U) (s : AllOk I E) → becomes value s.items → (ys : List (Result T E)) → DrainsTo (λ v k. k ≡ v) (wrapped steps) s ys
       → (xs : List T) × (ys ≡ map (λ x. Ok x) xs) × DrainsTo becomes steps value xs
   drains_unwrapped value s b ys (k, same, (u, (t, run, none))) =
       let r = unwrapped steps ys k t run in
       (r.0, r.1, (s.items, b, (u.items, (t.items, subst (λ i. Yields steps i r.0 t.items) (ap (λ v. v.items) same) r.2, none))))
 
-  -- none of them is an error
+  -- none of them fails
   pub none_fails : (s : AllOk I E) (front : List (Result T E)) (e : E) → BeginsWith (λ v k. k ≡ v) (wrapped steps) s (front ++ Err e ∷ []) → ⊥
   none_fails s front e (k, same, (t, run)) = let r = unwrapped steps (front ++ Err e ∷ []) k t run in no_error front e [] r.0 r.1
 
-  -- so they are a list without failed items
+  -- so they are a list of items none of which failed
   pub lists_wrapped : (node : T → ℕ) (value : U) (s : AllOk I E) → becomes value s.items → (ns : List ℕ) → ((xs : List T) → DrainsTo becomes steps value xs → map node xs ≡ ns)
       → ListsItems {E = E} node (λ v k. k ≡ v) (wrapped steps) s (map (λ n. Ok n) ns)
   lists_wrapped node value s b ns listed = record {
@@ -94,18 +94,18 @@ module _ {U I T E : Type 0} (becomes : U → I → Type 0) (steps : I → Option
     first = λ xs e d. absurd (none_fails s xs e d);
   }
 
--- if all of them are wrapped
+-- where all of them come in an `Ok`
 pub drains_ok : {U I T : Type 0} (E : Type 0) (becomes : U → I → Type 0) (steps : I → Option T → I → Type 0) (value : U) (s : AllOk I E) → becomes value s.items → (xs : List T)
     → DrainsTo (λ v k. k ≡ v) (wrapped {E = E} steps) s (map (λ x. Ok x) xs) → DrainsTo becomes steps value xs
 drains_ok E becomes steps value s b xs d =
     let r = drains_unwrapped becomes steps value s b (map (λ x. Ok x) xs) d in
     subst (λ (l : List _). DrainsTo becomes steps value l) (sym (ok_same E xs r.0 r.1)) r.2
 
--- A closure that wraps the items of another one.
+-- A closure that returns the items of another one, each in an `Ok`.
 module _ {T ID E F N G U I : Type 0} (eq : ID → ID → Bool) (ids : Shared F (Bor T × Unit {0}) ID) (lists : Mut N (Bor T × Unit {0}) U) (becomes : U → I → Type 0) (steps : I → Option T → I → Type 0)
     (outer : Mut G (Bor T × Unit {0}) (AllOk I E)) (inner : G → N)
     (hands_on : (f : G) (a : Bor T × Unit {0}) (r : AllOk I E) (f' : G) → Called outer f a r f' → (n : U) × Called lists (inner f) a n (inner f') × becomes n r.items) where
-  -- the implemented graph is implemented by items none of which fails
+  -- it defines the same graph by items, none of which fails
   pub shows_wrapped : (w : Numbered T ID) (id_fn : F) (f : G) → IsShownBy w eq ids lists becomes steps id_fn (inner f)
       → ShowsItems {E = E} w (λ n. map (λ a. Ok a) (w.graph n)) eq ids outer (λ v k. k ≡ v) (wrapped steps) id_fn f
   shows_wrapped w id_fn f shown = record {
@@ -117,7 +117,7 @@ module _ {T ID E F N G U I : Type 0} (eq : ID → ID → Bool) (ids : Shared F (
         let q = hands_on f a r after h in (q.0, q.1, λ listed is. lists_wrapped becomes steps w.node q.0 r q.2 (w.graph (w.node a.0.now)) (λ xs d. listed xs is d))) f shown.neighbors;
   }
 
--- preconditions carry over
+-- the preconditions of the inner closure are those of the outer one
 pub can_show_wrapped : {T ID E F N G U I : Type 0} (ids : Shared F (Bor T × Unit {0}) ID) (lists : Mut N (Bor T × Unit {0}) U) (value : into.Ghosts U T I) (items : iter.Ghosts I T)
     (outer : Mut G (Bor T × Unit {0}) (AllOk I E)) (inner : G → N) (whole : into.Ghosts (AllOk I E) (Result T E) (AllOk I E)) (whole_items : iter.Ghosts (AllOk I E) (Result T E))
     → ((f : G) (a : Bor T × Unit {0}) (r : AllOk I E) (f' : G) → Called outer f a r f' → (n : U) × Called lists (inner f) a n (inner f') × value.into_iter_gives n r.items)
@@ -131,7 +131,7 @@ can_show_wrapped ids lists value items outer inner whole whole_items hands_on as
       let q = hands_on f a r after h in (q.0, q.1, λ left. ends r (λ it is. subst (λ v. items.can_next v.items × IsFinite (items.remaining v.items)) (sym is) (left r.items q.2)))) f k.lists;
 }
 
--- preconditions carry over, by `IsWalkable`
+-- and so is `IsWalkable`
 pub walkable_wrapped : {T ID E F N G U I : Type 0} (ids : Shared F (Bor T × Unit {0}) ID) (lists : Mut N (Bor T × Unit {0}) U) (value : into.Ghosts U T I) (items : iter.Ghosts I T)
     (outer : Mut G (Bor T × Unit {0}) (AllOk I E)) (inner : G → N) (ends : AllOk I E → Type 0)
     → ((f : G) (a : Bor T × Unit {0}) (r : AllOk I E) (f' : G) → Called outer f a r f' → (n : U) × Called lists (inner f) a n (inner f') × value.into_iter_gives n r.items)
@@ -145,10 +145,10 @@ walkable_wrapped ids lists value items outer inner ends hands_on asks finite id_
       let q = hands_on f a r after h in (q.0, q.1, λ left. finite r (λ it is. subst (λ v. items.can_next v.items × IsFinite (items.remaining v.items)) (sym is) (left r.items q.2)))) f k.lists;
 }
 
--- the node on a cycle
+-- from a property of the node on a cycle to the result
 pub cycle_says : {T E : Type 0} (P : T → Type 0) (stop : Stop T E) (x : T) → stop ≡ Cycle x → IfCycle stop P → P x
 cycle_says P stop x is h = subst (λ s. IfCycle s P) is h
 
--- the error of a failed item
+-- and of a failed item's error
 pub failed_says : {T E : Type 0} (P : E → Type 0) (stop : Stop T E) (e : E) → stop ≡ Failed e → IfFailed stop P → P e
 failed_says P stop e is h = subst (λ s. IfFailed s P) is h

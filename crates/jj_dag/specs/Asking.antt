@@ -1,4 +1,4 @@
--- Results of reading the neighbors of one node, and of collecting all reachable nodes.
+-- The results of expanding one node, and all nodes that several starts reach.
 -- Cited by contracts of public items: CollectsFrom, ListsNode.
 use Rattle.std.specs.Prelude.{◌≡◌, ℕ, Bool, true, List, [], map, Result, IfOk}
 use Rattle.std.specs.declared.result.Result.TheVariants.{Ok}
@@ -21,18 +21,18 @@ use Rattle.jj_dag.specs.Outcomes.{IfFails}
 use Rattle.jj_dag.specs.Owed.{CanShow}
 use Rattle.jj_dag.specs.Walk.{AreNodes, Numbered}
 
--- the neighbor lists of a model as fallible items, none of which fails
+-- a model's lists, of which no item fails
 abbrev pub whole : {T ID : Type 0} → Numbered T ID → FailingGraph (Unit {0})
 whole walk a = map (λ b. Ok b) (walk.graph a)
 
 module _ {T ID E F N U J : Type 0} (eq : ID → ID → Bool)
     (ids : Shared F (Bor T × Unit {0}) (Result ID AllocError)) (lists : Mut N (Bor T × Unit {0}) U)
     (value : into.Ghosts U (Result T E) J) (items : iter.Ghosts J (Result T E)) where
-  -- the graph of the closures with this state of `neighbors_fn`
+  -- the graph of the closures, when `neighbors_fn` is this
   abbrev pub graph_at : F → N → ClosureGraph T ID E
   graph_at = graph_of_items eq ids lists value items
 
-  -- the closures implement the same models as before, and stay callable
+  -- the closures implement what they implemented, and may be called again
   pub record GoesOn (s t : Shown F N) : Type 0 where
     pub id_fn : t.id_fn ≡ s.id_fn
     pub can_show : CanShow ids lists value items t.id_fn t.neighbors_fn
@@ -40,26 +40,26 @@ module _ {T ID E F N U J : Type 0} (eq : ID → ID → Bool)
     pub implemented : (walk : Numbered T ID) → (graph_at s.id_fn s.neighbors_fn).implements walk
         → (graph_at s.id_fn t.neighbors_fn).implements walk
 
-  -- these are the neighbors of the node
+  -- these are the neighbours of the node
   abbrev pub ListsNeighbors : Shown F N → T → Vec T Global → Type 0
   ListsNeighbors s node v = (walk : Numbered T ID)
       → (graph_at s.id_fn s.neighbors_fn).implements walk → walk.is_node (walk.node node) ≡ true
       → map walk.node v.items ≡ walk.graph (walk.node node)
 
-  -- the neighbors of the node, or an error that may be returned for it
+  -- the neighbours of the node, or an error that may be returned for it
   pub record ListsNode (s t : Shown F N) (node : T) (r : Result (Vec T Global) (WalkError E))
       : Type 0 where
     pub graph : GoesOn s t
     pub listed : IfOk r (ListsNeighbors s node)
     pub failed : IfFails r ((graph_at s.id_fn s.neighbors_fn).fails node)
 
-  -- P is true of every model that the closures implement, and of these nodes in it
+  -- P of each model that the closures implement, and of these nodes in it
   abbrev pub InModels : Shown F N → List T → (Numbered T ID → List ℕ → Type 0) → Type 0
   InModels s starts P = (walk : Numbered T ID)
       → (graph_at s.id_fn s.neighbors_fn).implements walk → AreNodes walk (map walk.node starts)
       → P walk (map walk.node starts)
 
-  -- the nodes reachable from these were collected, with the IDs of their neighbors
+  -- the nodes that these reach were collected, with the ids of the neighbours of each
   abbrev pub HasCollected : Shown F N → List T → Collected T ID → Type 0
   HasCollected s starts found = (filled : IsFilled eq found)
       × InModels s starts (λ walk nodes. IsCollecting walk (whole walk) nodes

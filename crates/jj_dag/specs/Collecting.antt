@@ -1,4 +1,4 @@
--- A collected graph: nodes with their neighbors' IDs and an index from IDs to positions.
+-- Nodes that a walk collected, each with the ids of its neighbours.
 -- Cited by contracts of public items: IsFilled, neighbor_places.
 use Rattle.std.specs.Prelude.{◌≡◌, ℕ, ◌<◌, Bool, true, Option, Some, MatchOption, List, map, length, slice_index, ◌⊎◌}
 use Rattle.std.specs.declared.result.Result.TheVariants.{Err}
@@ -9,31 +9,32 @@ use Rattle.jj_dag.specs.Graph.{HasEdge, ReachedFrom}
 use Rattle.jj_dag.specs.Failing.{FailingGraph}
 use Rattle.jj_dag.specs.Walk.{Numbered}
 
--- as many lists of IDs as nodes, none of which was taken, and each index is in range
+-- as many lists of ids as nodes, all of which are present, and each index is that of a node
 pub record IsFilled {T ID : Type 0} (eq : ID → ID → Bool) (found : Collected T ID) : Type 0 where
   pub given : List T
   pub nodes : found.nodes.items ≡ map (λ x. Some x) given
   pub ids : length found.neighbor_ids.items ≡ length given
   pub places : (i : ID) (k : ℕ) → get eq found.index_of i ≡ Some k → k < length given
 
--- the indices of each node's neighbors
+-- the indices of the neighbours of each node
 abbrev pub neighbor_places : {T ID : Type 0} → (ID → ID → Bool) → Collected T ID → List (List ℕ)
 neighbor_places eq found =
     map (λ v. filter_map (get eq found.index_of) v.items) found.neighbor_ids.items
 
--- the numbers of the list are distinct
+-- no number is at two indices
 abbrev pub IsInjective : List ℕ → Type 0
 IsInjective ns = (i j : ℕ) → i < length ns → j < length ns → slice_index ns i ≡ slice_index ns j
     → i ≡ j
 
 module _ {T ID E : Type 0} (w : Numbered T ID) (items : FailingGraph E) where
-  -- a look-up of an ID returns the index of its node
+  -- a look-up of an id returns the index of its node
   abbrev pub Finds : (ID → Option ℕ) → List ℕ → Type 0
   Finds find ns = (i : ID) → w.is_node (w.id i) ≡ true
       → MatchOption (find i) (Contains ns (w.id i) → ⊥)
       (λ k. (k < length ns) × (slice_index ns k ≡ w.id i))
 
-  -- `work` is pending, `given` was visited, and `ids` has the IDs of their neighbors
+  -- `work` is pending, `given` was visited, and `ids` has the ids of the neighbours of each visited
+  -- node
   pub record IsCollecting (starts : List ℕ) (find : ID → Option ℕ) (work given : List T)
       (ids : List (List ID)) : Type 0 where
     pub waiting_reached : (a : ℕ) → Contains (map w.node work) a → ReachedFrom w.graph starts a

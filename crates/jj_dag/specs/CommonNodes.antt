@@ -4,11 +4,11 @@ use Rattle.std.specs.Prelude.{◌↔◌, ℕ, List, eqb}
 use Rattle.std.specs.List.{Contains, IsDistinct}
 use Rattle.jj_dag.specs.Graph.{Graph, StrictlyReaches, ReachedFrom, IsMaximal}
 
--- the node is reachable from both sets
+-- both sets reach this node
 abbrev pub IsCommon : Graph → List ℕ → List ℕ → ℕ → Type 0
 IsCommon g set1 set2 a = ReachedFrom g set1 a × ReachedFrom g set2 a
 
--- no common node is on a cycle
+-- no such node strictly reaches itself
 abbrev pub HasNoCommonCycle : Graph → List ℕ → List ℕ → Type 0
 HasNoCommonCycle g set1 set2 = (a : ℕ) → IsCommon g set1 set2 a → StrictlyReaches g a a → ⊥
 

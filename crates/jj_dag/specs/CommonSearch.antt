@@ -1,6 +1,6 @@
--- The search for the closest common nodes, from the state after both sets were marked.
+-- The result of a search for the closest common nodes, once the nodes of two sets are marked.
 -- Machinery of private functions and fields.
-use Rattle.std.specs.Prelude.{◌≡◌, ℕ, ◌==◌, Bool, true, false, ◌||◌, List, ◌++◌, map, Result, IfOk, eqb}
+use Rattle.std.specs.Prelude.{◌≡◌, ℕ, ◌==◌, true, false, ◌||◌, List, ◌++◌, map, Result, IfOk, eqb}
 use Rattle.std.specs.List.{IsDistinct, list_any}
 use Rattle.jj_dag.specs.declared.closest_common.Mark.{Mark}
 use Rattle.jj_dag.specs.declared.closest_common.Reach.{Reach}
@@ -11,7 +11,7 @@ use Rattle.jj_dag.specs.Graph.{ReachedFrom}
 use Rattle.jj_dag.specs.Outcomes.{IfFails}
 use Rattle.jj_dag.specs.Walk.{AreNodes, Numbered}
 
--- the state of a node when only the two sets were visited
+-- the mark of a node if only the nodes of the two sets were marked
 abbrev pub reach_of_sets : List ℕ → List ℕ → ℕ → Reach
 reach_of_sets set1 set2 b = record {
   left = list_any (λ a. b == a) set1;
@@ -20,7 +20,7 @@ reach_of_sets set1 set2 b = record {
 }
 
 module _ {T ID : Type 0} (w : Numbered T ID) where
-  -- the map has these states, and the heap has exactly the pending nodes, each once
+  -- the map has these marks for the nodes, and the pending ones are in the heap, each once
   pub record KnowsMarks (m : ℕ → Reach) (waiting : List T) (find : ID → Mark) : Type 0 where
     pub knows : (i : ID) → w.is_node (w.id i) ≡ true → find i ≡ record {
       reach = m (w.id i);
@@ -28,21 +28,21 @@ module _ {T ID : Type 0} (w : Numbered T ID) where
     }
     pub distinct : IsDistinct eqb (map w.node waiting)
 
-  -- the nodes of both sets are marked and pending
+  -- the nodes of the two sets were marked, and they all wait
   pub record IsStarting (set1 set2 : List ℕ) (waiting : List T) (find : ID → Mark) : Type 0 where
     pub marks : KnowsMarks (reach_of_sets set1 set2) waiting find
     pub waits : (b : ℕ) → list_any (λ a. b == a) (map w.node waiting)
         ≡ (list_any (λ a. b == a) set1 || list_any (λ a. b == a) set2)
 
 module _ {T ID E : Type 0} (graph : ClosureGraph T ID E) (find : ID → Mark) (waiting : List T) where
-  -- P is true of every model that the closures implement, and of two sets marked in this way
+  -- P of each model that the closures implement, and of two sets whose nodes were marked so
   abbrev pub FromMarks : (Numbered T ID → List ℕ → List ℕ → Type 0) → Type 0
   FromMarks P = (walk : Numbered T ID) (set1 set2 : List ℕ) → graph.implements walk
       → AreNodes walk set1 → AreNodes walk set2 → IsStarting walk set1 set2 waiting find
       → P walk set1 set2
 
-  -- the closest common nodes, or an error that the closures may return for a node reachable from
-  -- one of the sets
+  -- the closest common nodes, as the list that is read off what was found, or an error that the
+  -- closures may return for a node that one of the sets reaches
   pub record SearchesCommon {V : Type 0} (r : Result V (WalkError E)) (list : V → List T)
       : Type 0 where
     pub closest : IfOk r (λ found. FromMarks (λ walk set1 set2.

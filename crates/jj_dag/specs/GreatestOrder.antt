@@ -1,12 +1,12 @@
--- Result of the greatest topological order.
+-- The greatest child-first order.
 -- Cited by contracts of public items: IsGreatestOrder.
 use Rattle.std.specs.Prelude.{ℕ, List}
 use Rattle.std.specs.declared.cmp.Ordering.{Ordering}
 use Rattle.jj_dag.specs.Graph.{HasNoCycle, IsChildFirst, IsGreatestChildFirst}
 use Rattle.jj_dag.specs.Walk.{IsOrderedLike, Numbered}
 
--- the starts reach no cycle, and if nodes are numbered in their order, the list is the
--- lexicographically greatest topological order
+-- the list is child-first over what the starts reach, which has no cycle, and the greatest such
+-- list where the nodes are numbered in their order
 pub record IsGreatestOrder {T ID : Type 0} (cmp : T → T → Ordering) (walk : Numbered T ID)
     (starts order : List ℕ) : Type 0 where
   pub child_first : IsChildFirst walk.graph starts order

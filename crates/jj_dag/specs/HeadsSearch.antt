@@ -1,13 +1,9 @@
--- The search for heads: its state after each step, and its result.
+-- The state of a search for heads, and its result once the starts were taken.
 -- Machinery of private functions and fields.
 use Rattle.std.specs.Prelude.{◌≡◌, ℕ, ◌==◌, Bool, true, false, List, [], ◌∷◌, ◌++◌, map, MatchBool, Option, Result, IfOk}
 use Rattle.std.specs.declared.result.Result.TheVariants.{Ok}
-use Rattle.std.specs.Fn.{Shared, Mut}
 use Rattle.std.specs.HashSet.{HashSet, contains, Updates}
 use Rattle.std.specs.List.{Contains, list_any}
-use Rattle.std.specs.declared.iter.IntoIterator as into
-use Rattle.std.specs.declared.iter.Iterator as iter
-use denote.Ref.{Bor}
 use Rattle.jj_dag.specs.declared.walk_error.WalkError.{WalkError}
 use Rattle.jj_dag.specs.ClosureGraph.{ClosureGraph}
 use Rattle.jj_dag.specs.Graph.{ReachedFrom}
@@ -16,13 +12,14 @@ use Rattle.jj_dag.specs.Outcomes.{IfFails}
 use Rattle.jj_dag.specs.Walk.{AreNodes, DrainsTo, Numbered, StandsForNodes}
 
 module _ {T ID : Type 0} (w : Numbered T ID) where
-  -- IDs of nodes are equal exactly if they are of one node, and `tells` relates a node to its ID
+  -- ids of nodes are equal exactly if they are of one node, and each id that `tells` of a node is
+  -- its id
   pub record TellsNodes (eq : ID → ID → Bool) (tells : T → ID → Type 0) : Type 0 where
     pub apart : (i j : ID) → w.is_node (w.id i) ≡ true → w.is_node (w.id j) ≡ true
         → eq i j ≡ (w.id i == w.id j)
     pub ids_stand : (x : T) (i : ID) → w.is_node (w.node x) ≡ true → tells x i → w.id i ≡ w.node x
 
-  -- the starts are the heads, visited, and pending
+  -- the starts are the heads, their ids are known, and they wait
   pub record IsStarted (starts : List ℕ) (keys : List T) (in_heads : T → Bool) (test : ID → Bool)
       (waiting : List ℕ) : Type 0 where
     pub keys_stand : (x : T) → Contains keys x → w.is_node (w.node x) ≡ true
@@ -33,7 +30,7 @@ module _ {T ID : Type 0} (w : Numbered T ID) where
     pub all : (a : ℕ) → Contains starts a → Contains waiting a
 
 module _ {T ID S R : Type 0} (same : T → T → Bool) (eq : ID → ID → Bool) where
-  -- the starts that the iterable yields were added
+  -- the starts that an iterator of this value yields were taken
   pub record TakesStarts {E U I : Type 0} (tells : T → ID → Type 0) (becomes : U → I → Type 0)
       (steps : I → Option (Result T E) → I → Type 0) (value : U) (heads : HashSet T S)
       (visited : HashSet ID R) (waiting : List T) : Type 0 where
@@ -45,7 +42,7 @@ module _ {T ID S R : Type 0} (same : T → T → Bool) (eq : ID → ID → Bool)
         → IsStarted walk (map walk.node nodes) heads.keys (contains same heads)
         (contains eq visited) (map walk.node waiting)
 
-  -- the neighbor x is removed from the heads, and enqueued if its ID is new
+  -- the neighbour x of this id is no head, and waits if its id is new
   pub record MeetsNode (x : T) (i : ID) (heads heads2 : HashSet T S)
       (visited visited2 : HashSet ID R) (waiting waiting2 : List T) : Type 0 where
     pub keys : (y : T) → Contains heads2.keys y → Contains heads.keys y
@@ -54,7 +51,7 @@ module _ {T ID S R : Type 0} (same : T → T → Bool) (eq : ID → ID → Bool)
     pub known : contains eq visited i ≡ true → waiting2 ≡ waiting
     pub new : contains eq visited i ≡ false → waiting2 ≡ waiting ++ x ∷ []
 
-  -- the neighbors of a list were visited in order
+  -- the neighbours of a list, with these ids, were found one after the other
   pub data MeetsNodes (tells : T → ID → Type 0) (heads : HashSet T S) (visited : HashSet ID R)
       (waiting : List T) : List T → HashSet T S → HashSet ID R → List T → Type 0 where
     none : MeetsNodes tells heads visited waiting [] heads visited waiting
@@ -64,7 +61,8 @@ module _ {T ID S R : Type 0} (same : T → T → Bool) (eq : ID → ID → Bool)
         → MeetsNode x i heads2 heads3 visited2 visited3 waiting2 waiting3
         → MeetsNodes tells heads visited waiting (xs ++ x ∷ []) heads3 visited3 waiting3
 
-  -- the neighbors that the iterable yields were visited, and `empty` is whether there was none
+  -- the neighbours that an iterator of this value yields were found, and `empty` is whether there
+  -- was none
   pub record MeetsAll {E U I : Type 0} (tells : T → ID → Type 0) (becomes : U → I → Type 0)
       (steps : I → Option (Result T E) → I → Type 0) (value : U) (heads heads2 : HashSet T S)
       (visited visited2 : HashSet ID R) (waiting waiting2 : List T) (empty : Bool) : Type 0 where
@@ -76,7 +74,7 @@ module _ {T ID S R : Type 0} (same : T → T → Bool) (eq : ID → ID → Bool)
 module _ {T ID E S R : Type 0} (same : T → T → Bool) (eq : ID → ID → Bool)
     (graph : ClosureGraph T ID E) (heads : HashSet T S) (visited : HashSet ID R) (waiting : List T)
   where
-    -- P is true of every model that the closures implement, and of the starts that were added
+    -- P of each model that the closures implement, and of starts that were taken so
     abbrev pub FromStarted : (Numbered T ID → List ℕ → Type 0) → Type 0
     FromStarted P = (walk : Numbered T ID) (xs : List T) → graph.implements walk
         → AreNodes walk (map walk.node xs) → ((x : T) → Contains waiting x → Contains xs x)
@@ -84,7 +82,7 @@ module _ {T ID E S R : Type 0} (same : T → T → Bool) (eq : ID → ID → Boo
         (contains same heads) (contains eq visited) (map walk.node waiting))
         → P walk (map walk.node xs)
 
-    -- the heads are left, or the closures returned this error for a node reachable from the starts
+    -- the heads are left, or the closures returned this error for a node that the starts reach
     pub record LeavesHeads {V : Type 0} (r : Result V (WalkError E)) (left : HashSet T S)
         : Type 0 where
       pub found : IfOk r (λ _. FromStarted (λ walk nodes. AreHeads same walk nodes left.keys))

@@ -1,4 +1,4 @@
--- The iterator over the items of a list, or over one error.
+-- The steps of an iterator over the items of a list, or over one error.
 -- Cited by contracts of public items: CanList, GivesListed, StandsFor, listed_left.
 use Rattle.std.specs.Prelude.{◌≡◌, Option, Result}
 use Rattle.std.specs.Option.{option_map}
@@ -13,7 +13,7 @@ abbrev pub CanList : {I E : Type 0} → (I → Type 0) → ListOrError I E → T
 CanList can (List it) = can it
 CanList can (Error o) = Unit {0}
 
--- a call returns `Ok` of the next item of the list; or the error, once
+-- a call returns the next item of the list in an `Ok`; or the error, once
 abbrev pub GivesListed : {I T E : Type 0} → (I → Option T → I → Type 0) → ListOrError I E
     → Option (Result T E) → ListOrError I E → Type 0
 GivesListed steps (List it) r (List after) = GivesOk steps it r after
@@ -21,13 +21,13 @@ GivesListed steps (List it) r (Error p) = ⊥
 GivesListed steps (Error o) r (List after) = ⊥
 GivesListed steps (Error o) r (Error p) = (r ≡ option_map (λ e. Err e) o) × (p ≡ None)
 
--- an upper bound of the number of remaining items
+-- how many items are left at most
 abbrev pub listed_left : {I E : Type 0} → (I → Count) → ListOrError I E → Count
 listed_left left (List it) = left it
 listed_left left (Error None) = at_most 0
 listed_left left (Error (Some e)) = at_most 1
 
--- the iterator for a closure's result: the items of its list, or its error
+-- the iterator over a result's list, or over its error
 unfoldable pub StandsFor : {U I E : Type 0} → (U → I → Type 0) → Result U E → ListOrError I E
     → Type 0
 StandsFor becomes (Ok list) (List it) = becomes list it

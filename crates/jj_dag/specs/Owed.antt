@@ -10,14 +10,15 @@ use Rattle.jj_dag.specs.Outcomes.{ClonesAreEqual, Ends, ListsEnd, ListsEndOrFail
 
 module _ {T ID X F N U J : Type 0} (ids : Shared F (Bor T × Unit {0}) ID)
     (lists_of : Mut N (Bor T × Unit {0}) U) where
-  -- the closures are always callable, and every list that they return is finite
+  -- the closures may always be called, and each list that they return ends
   pub record CanShow (value : into.Ghosts U X J) (items : iter.Ghosts J X) (id_of : F)
       (neighbors_of : N) : Type 0 where
     pub id_fn : always_fn ids id_of
     pub neighbors_fn : always_mut lists_of neighbors_of
     pub lists : ListsEnd lists_of value items neighbors_of
 
-  -- they are walkable, `cycle_fn` is callable, the starts are finite, and clones of IDs are equal
+  -- the closures may be called, an error can be made of a node on a cycle, the starts end, and a
+  -- clone of an id is equal to it
   pub record CanBeOrdered {C E II I K : Type 0} (cycles : Once C (T × Unit {0}) E)
       (starts : into.Ghosts II X I) (start_items : iter.Ghosts I X) (value : into.Ghosts U X J)
       (items : iter.Ghosts J X) (clone : K → K → Type 0) (eq : K → K → Bool) (id_of : F)

@@ -1,4 +1,5 @@
--- Kahn's algorithm as a relation: orders that always take the greatest ready node.
+-- Orders of some nodes of a graph that are taken one by one, each the greatest whose children were
+-- all taken before.
 -- Cited by contracts of public items: TakesGreatestFirst.
 use Rattle.std.specs.Prelude.{◌≡◌, ℕ, ◌<◌, ◌∷◌, ◌++◌, List, [], length, map, MatchOption, slice_index_or, false, eqb}
 use Rattle.std.specs.declared.option.Option.{Option}
@@ -10,38 +11,39 @@ use Rattle.std.specs.Ordering.{is_lt}
 use Rattle.std.specs.List.{Contains, count_by, sum_by}
 use Rattle.jj_dag.specs.Graph.{Graph, HasEdge}
 
--- b is ready: it is not taken, and every node with an edge to it is
+-- b is one of the nodes and was not taken, but every node with an edge to it was
 abbrev pub IsReady : Graph → (ℕ → Type 0) → List ℕ → ℕ → Type 0
 IsReady g IsNode taken b = IsNode b × (Contains taken b → ⊥)
     × ((c : ℕ) → IsNode c → HasEdge g c b → Contains taken c)
 
--- each node of the list is ready after those before it, and no node ready at that point is greater
+-- each node of the list was ready after those before it, and no node that was ready then is above
+-- it
 pub record TakesGreatestReady (g : Graph) (IsNode : ℕ → Type 0) (NotBelow : ℕ → ℕ → Type 0)
     (order : List ℕ) : Type 0 where
   pub ready : (front back : List ℕ) (a : ℕ) → order ≡ front ++ a ∷ back → IsReady g IsNode front a
   pub greatest : (front back : List ℕ) (a b : ℕ) → order ≡ front ++ a ∷ back
       → IsReady g IsNode front b → NotBelow a b
 
--- each node that is not taken has an edge from another such node
+-- each node that was not taken has an edge from another such node
 abbrev pub IsStuck : Graph → (ℕ → Type 0) → List ℕ → Type 0
 IsStuck g IsNode taken = (a : ℕ) → IsNode a → (Contains taken a → ⊥) → (c : ℕ) × IsNode c
     × (Contains taken c → ⊥) × HasEdge g c a
 
--- the graph whose nodes are indices, by adjacency lists
+-- the graph whose nodes are the indices of the list
 abbrev pub places_graph : List (List ℕ) → Graph
 places_graph targets k = slice_index_or targets k []
 
--- the in-degree of k
+-- how many edges lead to k
 abbrev pub edges_to : List (List ℕ) → ℕ → ℕ
 edges_to targets k = sum_by (λ ts. count_by (eqb k) ts) targets
 
--- the value at index a is not less than the value at index b
+-- the value at a is not below the value at b
 abbrev pub IsNotBelow : {T : Type 0} → (T → T → Ordering) → List (Option T) → ℕ → ℕ → Type 0
 IsNotBelow {T} cmp slots a b = (x y : T) → slice_index_or slots a None ≡ Some x
     → slice_index_or slots b None ≡ Some y → is_lt (cmp x y) ≡ false
 
--- the values taken are those at the indices of such an order; the second component is one of the
--- values left, if there are any, and those are stuck
+-- the values that were taken are those at the indices of such an order; `r.1` is one of those that
+-- are left, if there are any, and these are stuck
 abbrev pub TakesGreatestFirst : {T : Type 0} → (T → T → Ordering) → List (Option T) → List (List ℕ)
     → Vec T Global × Option T → Type 0
 TakesGreatestFirst cmp slots targets r = (order : List ℕ)

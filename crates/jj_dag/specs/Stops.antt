@@ -1,4 +1,4 @@
--- Result of the depth-first search in postorder, and its stops.
+-- The result of a postorder walk, and why it stopped.
 -- Machinery of private functions and fields.
 use Rattle.std.specs.Prelude.{◌≡◌, ℕ, Bool, false, List, map, Result, IfOk, IfErr}
 use Rattle.std.specs.Global.{Global}
@@ -10,21 +10,21 @@ use Rattle.jj_dag.specs.Walk.{AreNodes, Numbered}
 use Rattle.jj_dag.specs.declared.forward.Stop.{Stop}
 use Rattle.jj_dag.specs.declared.forward.Stop.TheVariants.{Memory, Failed, Cycle}
 
--- P is true of the error, if a failed item stopped the search
+-- P of the error of the failed item, if it is one
 abbrev pub IfFailed : {T E : Type 0} → Stop T E → (E → Type 0) → Type 0
 IfFailed Memory P = Unit {0}
 IfFailed (Failed e) P = P e
 IfFailed (Cycle x) P = Unit {0}
 
--- P is true of the node on a cycle, if one stopped the search
+-- P of the node on a cycle, if it is one
 abbrev pub IfCycle : {T E : Type 0} → Stop T E → (T → Type 0) → Type 0
 IfCycle Memory P = Unit {0}
 IfCycle (Failed e) P = Unit {0}
 IfCycle (Cycle x) P = P x
 
 module _ {T ID E : Type 0} (graph : ClosureGraph T ID E) where
-  -- the whole postorder; a stop at an error is an error of the input; a stop at a node on a
-  -- cycle is a node reachable from the starts
+  -- the whole postorder; where the walk stopped at an error, it is one of the input; where it
+  -- stopped at a node on a cycle, the starts reach that node
   pub record WalksForward (start : Listing T E) (r : Result (Vec T Global) (Stop T E)) : Type 0
     where
       pub order : IfOk r (λ v. InEachModel graph start (λ walk nodes.
@@ -34,14 +34,14 @@ module _ {T ID E : Type 0} (graph : ClosureGraph T ID E) where
           OnCycleFrom walk.graph nodes (walk.node x))))
 
   module _ (stack : List (T × Bool)) where
-    -- P is true of every model that the closures implement, and of the nodes on the stack, none
-    -- of which is entered
+    -- P of each model that the closures implement, and of the nodes that wait on the stack, none
+    -- of which was entered
     abbrev pub FromStack : (Numbered T ID → List ℕ → Type 0) → Type 0
     FromStack P = (xs : List T) → stack ≡ map (λ x. (x, false)) xs
         → (walk : Numbered T ID) → graph.implements walk → AreNodes walk (map walk.node xs)
         → P walk (map walk.node xs)
 
-    -- the result from such a stack
+    -- a walk from such a stack
     pub record UnwindsFrom (r : Result (Vec T Global) (Stop T E)) : Type 0 where
       pub order : IfOk r (λ v. FromStack (λ walk nodes.
           IsWholePostorder walk.graph nodes (map walk.node v.items)))

@@ -1,7 +1,7 @@
-//! Iterator adapter: wraps every item in `Ok`.
+//! An adapter that wraps each item of an iterator in an `Ok`.
 use std::marker::PhantomData;
 
-/// Yields the items of `I`, each in an `Ok`.
+/// Iterates over the items of `I`, each in an `Ok`.
 #[derive(Drop)]
 pub struct AllOk<I, E> {
     pub items: I,

@@ -1,9 +1,10 @@
-//! Closest common nodes of two sets (merge bases): a search from the greatest pending node, which
-//! propagates to each node the sides that reach it.
+//! Closest common nodes (merge bases): a best-first search that marks each node with the sets that
+//! reach it.
 ghost use Rattle.std.specs.Prelude.{◌≡◌, ◌+◌, ◌≤◌, ◌<◌, ◌^◌, ◌&&◌, ◌∷◌, ◌++◌, [], IfOk, IsTrue, Ok, Err, OnOk, MatchBool, cond, map};
 ghost use Rattle.std.specs.BinaryHeap.{heap_items, heap_len};
 ghost use Rattle.std.specs.Fn.{CalledAt};
 ghost use Rattle.std.specs.List.Sorted.{IsPermutation};
+ghost use Rattle.indexmap.specs.IndexMap.{insert_entry};
 ghost use Rattle.jj_dag.specs.ClosureGraph.{InEachModelOfTwo, IsNeighborsErrorOfTwo, ReturnsId, graph_of_lists, list_of};
 ghost use Rattle.jj_dag.specs.Found.{AreClosestNodes, FindsClosestCommon};
 ghost use Rattle.jj_dag.specs.CommonSearch.{SearchesCommon};
@@ -12,11 +13,12 @@ ghost use Rattle.jj_dag.specs.Outcomes.{Ends, IfFails};
 ghost use Rattle.jj_dag.specs.Owed.{MayShow};
 
 use crate::walk_error::WalkError;
+use indexmap::IndexMap;
 use std::alloc::{AllocError, Global};
 use std::collections::{BinaryHeap, HashMap};
 use std::hash::Hash;
 
-// The sides that reach a node: the first set, the second set, and (strictly) a common node.
+// Whether the first set, the second set, and another common node are known to reach a node.
 #[derive(Clone, Copy)]
 struct Reach {
     left: bool,
@@ -24,7 +26,7 @@ struct Reach {
     below: bool,
 }
 
-// State of a visited node: the sides that reach it, and whether it is pending.
+// The mark of a node, and whether the node is pending.
 #[derive(Clone, Copy)]
 struct Mark {
     reach: Reach,
@@ -50,7 +52,7 @@ impl Reach {
         self.left && self.right
     }
 
-    // The state a node propagates to its neighbors; neighbors of a common node lie below one.
+    // Returns the mark that a node passes to its neighbours: those of a common node are below it.
     fn handed_on(self) -> Reach
         ensures { result ≡ handed_on self }
     {
@@ -71,7 +73,7 @@ impl Reach {
         }
     }
 
-    // Whether `added` has a new side.
+    // Returns whether `added` has another set.
     fn grows(self, added: Reach) -> bool
         ensures { result ≡ grows self added }
     {
@@ -89,7 +91,7 @@ impl Mark {
         }
     }
 
-    // Whether `added` makes the node pending.
+    // Returns whether the node becomes pending by `added`.
     fn starts_waiting(self, added: Reach) -> bool
         ensures { result ≡ starts_waiting self added }
     {
@@ -97,7 +99,7 @@ impl Mark {
     }
 }
 
-// Returns the state of the node with this ID.
+// Returns the mark of the node with this id.
 fn mark_of<ID: Hash + Eq>(known: &HashMap<ID, Mark>, id: &ID) -> Mark
     ensures { result ≡ mark_at ID.eq known.now id.now }
 {
@@ -114,7 +116,7 @@ fn mark_of<ID: Hash + Eq>(known: &HashMap<ID, Mark>, id: &ID) -> Mark
     }
 }
 
-// Merges `reach` into the state of the node, and enqueues it if a new side reaches it.
+// Adds to the mark of a node. If another set reaches it now, it becomes pending.
 fn mark_node<T: Ord + Drop, ID: Hash + Eq + Drop>(
     known: &mut HashMap<ID, Mark>,
     waiting: &mut BinaryHeap<T>,
@@ -134,7 +136,7 @@ fn mark_node<T: Ord + Drop, ID: Hash + Eq + Drop>(
 {
     let mark = mark_of(known, &id);
     known.insert(id, mark.with_reach(reach))?;
-    // A map has fewer than 2^63 IDs, so the search terminates.
+    // A map never has 2^63 ids, so the search ends.
     let _count = known.len();
     if mark.starts_waiting(reach) {
         waiting.push(node)?;
@@ -142,7 +144,7 @@ fn mark_node<T: Ord + Drop, ID: Hash + Eq + Drop>(
     Ok(())
 }
 
-// Marks the node as no longer pending, and returns what reaches it.
+// Returns the mark of a pending node, and makes the node no longer pending.
 fn ask<ID: Hash + Eq>(known: &mut HashMap<ID, Mark>, id: &ID) -> Reach
     ensures reach { result ≡ (mark_at ID.eq known.old id.now).reach }
     ensures known { IsTrue (mark_at ID.eq known.old id.now).waits → (i : ID)
@@ -163,39 +165,39 @@ fn ask<ID: Hash + Eq>(known: &mut HashMap<ID, Mark>, id: &ID) -> Reach
     }
 }
 
-// Appends the node to the common nodes if both sides reach it.
-fn keep_common<T: Drop, ID: Drop>(
-    common: &mut Vec<(T, ID)>,
+// Adds a node that both sets reach to the candidates.
+fn keep_common<T: Drop, ID: Hash + Eq + Drop>(
+    common: &mut IndexMap<ID, T>,
     reach: Reach,
     node: T,
     id: ID,
 ) -> Result<(), AllocError>
-    ensures { OnOk result (common.new.items ≡ cond (reach.left && reach.right)
-        (common.old.items ++ (node, id) ∷ []) common.old.items) }
+    ensures { OnOk result (common.new.entries ≡ cond (reach.left && reach.right)
+        (insert_entry ID.eq common.old.entries id node) common.old.entries) }
 {
     if reach.is_common() {
-        common.push((node, id))?;
+        common.insert(id, node)?;
     }
     Ok(())
 }
 
-// Result of the search: the common nodes with their IDs, and the states of all visited nodes.
+// The common nodes that were found, by id and in the order found, and the marks of all nodes.
 #[derive(Drop)]
 struct Met<T, ID: Hash + Eq> {
-    common: Vec<(T, ID)>,
+    common: IndexMap<ID, T>,
     known: HashMap<ID, Mark>,
 }
 
-// Filters out the common nodes that lie strictly below another one.
+// Returns the candidates that no other common node is known to reach.
 fn closest<T: Drop, ID: Hash + Eq + Drop>(
     alloc: Global,
     met: Met<T, ID>,
 ) -> Result<Vec<T>, AllocError>
-    ensures { IfOk result (λ v. v.items ≡ closest_of (mark_at ID.eq met.known) met.common.items) }
+    ensures { IfOk result (λ v. v.items ≡ closest_of (mark_at ID.eq met.known) met.common.entries) }
 {
     let Met { common, known } = met;
     let mut closest = Vec::new(alloc);
-    for (node, id) in common {
+    for (id, node) in common {
         if !mark_of(&known, &id).reach.below {
             closest.push(node)?;
         }
@@ -203,12 +205,10 @@ fn closest<T: Drop, ID: Hash + Eq + Drop>(
     Ok(closest)
 }
 
-/// Returns the closest common nodes of two sets: the nodes reachable from both that no other such
-/// node reaches, each once, in the order in which the search finds them.
-///
-/// The search expands the greatest pending node, each node at most twice (once per side), and ends
-/// early when the only pending node is common and no root (a node without neighbors) was visited.
-/// Fails with `Node` of the first failed list that the search reaches.
+/// Returns the nodes that both sets reach and that no other such node reaches, each once. The
+/// greatest pending node is expanded next, at most once for one set and once for both; the search
+/// ends early if one node is pending, both sets reach it, and no root (a node without neighbours)
+/// was found. `Node` is the error of a list.
 pub fn closest_common_nodes<T: Ord + Drop, ID: Hash + Eq + Drop, E: Drop, II1, II2, NI, F, N>(
     alloc: Global,
     set1: II1,
@@ -240,7 +240,7 @@ where
     Ok(closest(alloc, met)?)
 }
 
-// Merges `reach` into the state of each node of a list. Returns whether the list was empty.
+// Adds to the mark of each node of a list. Returns whether the list is empty.
 fn mark_all<T: Ord + Drop, ID: Hash + Eq + Drop, I, F>(
     known: &mut HashMap<ID, Mark>,
     waiting: &mut BinaryHeap<T>,
@@ -269,7 +269,7 @@ where
     Ok(empty)
 }
 
-// Merges `reach` into the state of each neighbor. Returns whether the node is a root.
+// Adds to the mark of each neighbour of a node. Returns whether there is none.
 fn mark_neighbors<T: Ord + Drop, ID: Hash + Eq + Drop, E: Drop, NI, F, N>(
     known: &mut HashMap<ID, Mark>,
     waiting: &mut BinaryHeap<T>,
@@ -303,7 +303,8 @@ where
     }
 }
 
-// Expands the greatest pending node until none is left, or one is and it can be decided at once.
+// Expands the greatest pending node until the search ends, and collects those that both sets
+// reach.
 fn search<T: Ord + Drop, ID: Hash + Eq + Drop, E: Drop, NI, F, N>(
     met: &mut Met<T, ID>,
     waiting: &mut BinaryHeap<T>,
@@ -317,18 +318,18 @@ where
     requires graph { MayShow F.Fn N.FnMut NI.IntoIterator NI.IntoIter.Iterator id_fn.now
         neighbors_fn.old }
     requires small { sides_met met.old.known < 2 ^ 64 }
-    requires none { met.old.common.items ≡ [] }
+    requires none { met.old.common.entries ≡ [] }
     ensures { SearchesCommon (graph_of_lists ID.eq F.Fn N.FnMut NI.IntoIterator
         NI.IntoIter.Iterator id_fn.now neighbors_fn.old) (mark_at ID.eq met.old.known)
         (heap_items waiting.old) result
-        (λ _. closest_of (mark_at ID.eq met.new.known) met.new.common.items) }
+        (λ _. closest_of (mark_at ID.eq met.new.known) met.new.common.entries) }
 {
     let mut root_met = false;
     while let Some(node) = waiting.pop() {
         let id = id_fn(&node)?;
         let reach = ask(&mut met.known, &id);
         if reach.is_common() && waiting.is_empty() && !root_met {
-            met.common.push((node, id))?;
+            met.common.insert(id, node)?;
             return Ok(());
         }
         let above = reach.handed_on();
@@ -341,7 +342,7 @@ where
     Ok(())
 }
 
-// Runs the search from both sets.
+// Returns the common nodes that the search finds.
 fn common_nodes<T: Ord + Drop, ID: Hash + Eq + Drop, E: Drop, II1, II2, NI, F, N>(
     alloc: Global,
     set1: II1,
@@ -363,10 +364,10 @@ where
         NI.IntoIter.Iterator id_fn.now neighbors_fn.old)
         (list_of II1.IntoIterator II1.IntoIter.Iterator set1)
         (list_of II2.IntoIterator II2.IntoIter.Iterator set2) result
-        (λ met. closest_of (mark_at ID.eq met.known) met.common.items) }
+        (λ met. closest_of (mark_at ID.eq met.known) met.common.entries) }
 {
     let mut met = Met {
-        common: Vec::new(alloc),
+        common: IndexMap::new(alloc),
         known: HashMap::new(alloc),
     };
     let mut waiting = BinaryHeap::new(alloc);

@@ -1,4 +1,5 @@
-//! Walks over nodes, and over items that may fail (`_ok`). Edges go from a commit to its parents.
+//! Walks that run to the end. Two closures define the graph: `id_fn` returns the id of a node, and
+//! `neighbors_fn` its neighbours.
 pub use crate::maximal::{heads, heads_ok};
 pub use crate::topo_order::{
     topo_order_forward, topo_order_forward_ok, topo_order_reverse, topo_order_reverse_ok,

@@ -1,4 +1,5 @@
-//! Fallible walks under the names of the Rust crate's asynchronous ones. They are plain functions.
+//! Walks over items that may fail, under the names of the asynchronous walks. They are not
+//! asynchronous.
 pub use crate::closest_common::closest_common_nodes;
 pub use crate::greatest_order::topo_order_reverse_ord;
 pub use crate::maximal_lists::heads;

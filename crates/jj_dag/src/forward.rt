@@ -1,4 +1,4 @@
-//! Iterative depth-first search that emits postorder and detects cycles, over fallible items.
+//! Postorder by depth-first search with an explicit stack, over items that may fail.
 ghost use Rattle.std.specs.Prelude.{◌≡◌, ◌+◌, ◌≤◌, ◌<◌, ◌^◌, ◌++◌, ◌∷◌, [], List, Ok, Err, true, false, cond, map, IfErr, OnOk};
 ghost use Rattle.std.specs.Fn.{CalledAt};
 ghost use Rattle.std.specs.HashSet.{contains, hash_set_len, Updates};
@@ -15,13 +15,13 @@ use std::alloc::{AllocError, AllocFailed, Global};
 use std::collections::HashSet;
 use std::hash::Hash;
 
-/// Why the search stopped.
+/// Why the walk stopped.
 #[derive(Drop)]
 pub enum Stop<T, E> {
     Memory,
-    /// A start or a neighbor failed.
+    /// An item failed.
     Failed(E),
-    /// The node lies on a cycle.
+    /// The node is on a cycle.
     Cycle(T),
 }
 
@@ -41,8 +41,8 @@ impl<X: Drop, T, E> From<AllocFailed<X>> for Stop<T, E> {
     }
 }
 
-/// Returns the postorder of the nodes reachable from the starts: each once, after its neighbors;
-/// later starts and later neighbors first. Stops at the first failed item and at the first cycle.
+/// Returns the nodes that the starts reach, each once and after its neighbours; later starts and
+/// later neighbours come first. Stops at the first failed item and at the first cycle.
 pub fn walk_forward<T: Drop, ID: Hash + Eq + Clone + Drop, E: Drop, II, NI, F, N>(
     alloc: Global,
     start: II,
@@ -67,7 +67,7 @@ where
     }
 }
 
-// Pushes the nodes of these items, as not yet entered.
+// Pushes the nodes of these items on the stack.
 fn push_all<T: Drop, E: Drop, I>(stack: &mut Vec<(T, bool)>, items: I) -> Result<(), Stop<T, E>>
 where
     I: Iterator<Item = Result<T, E>> + Drop,
@@ -88,7 +88,7 @@ where
     Ok(())
 }
 
-// Emits a node whose neighbors are all emitted.
+// Appends a node, all of whose neighbours were emitted, to the order.
 fn finish<T: Drop, ID: Hash + Eq + Drop>(
     visiting: &mut HashSet<ID>,
     emitted: &mut HashSet<ID>,
@@ -107,7 +107,7 @@ fn finish<T: Drop, ID: Hash + Eq + Drop>(
     Ok(())
 }
 
-// Pushes the node and then its neighbors; fails if the node is on the current path (a cycle).
+// Pushes a node, and its neighbours above it, unless it is being visited: then it is on a cycle.
 fn enter<T: Drop, ID: Hash + Eq + Clone + Drop, E: Drop, NI, N>(
     stack: &mut Vec<(T, bool)>,
     visiting: &mut HashSet<ID>,
@@ -140,7 +140,7 @@ where
     ensures cycle { IfErr result (λ stop. IfCycle stop (λ x. (x ≡ node)
         × (contains ID.eq visiting.old id.now ≡ true))) }
 {
-    // A set has fewer than 2^63 IDs, so the search terminates.
+    // A set never has 2^63 ids, so the walk ends.
     let _count = visiting.len();
     if !visiting.insert(id.clone()?)? {
         return Err(Stop::Cycle(node));
@@ -150,7 +150,7 @@ where
     push_all(stack, neighbors)
 }
 
-// Runs the search until the stack is empty.
+// Walks from the nodes on the stack.
 fn unwind<T: Drop, ID: Hash + Eq + Clone + Drop, E: Drop, NI, F, N>(
     alloc: Global,
     stack: &mut Vec<(T, bool)>,

@@ -1,5 +1,4 @@
-//! Lexicographically greatest topological order: Kahn's algorithm with a max-heap, on dense indices
-//! of the collected nodes.
+//! The lexicographically greatest topological order: Kahn's algorithm with a max-heap.
 ghost use Rattle.std.specs.Prelude.{◌≡◌, ◌⊎◌, ℕ, ◌<◌, ◌∷◌, ◌++◌, [], cond, map, length, slice_index, slice_index_or, slice_set, IfOk, IsSome, OnOk, MatchOption};
 ghost use Rattle.std.specs.HashMap.{get};
 ghost use Rattle.std.specs.List.{Contains, filter_map};
@@ -20,11 +19,10 @@ use std::collections::{BinaryHeap, HashMap};
 use std::hash::Hash;
 use std::mem;
 
-/// Returns the lexicographically greatest topological order of the nodes reachable from the starts:
-/// children first, and at each position the greatest node whose children come before it.
-///
-/// Fails with `Node` of the first failed start or neighbor, or with `Node(cycle_fn(node))` of some
-/// reachable node if a cycle is reachable. O(edges + nodes log nodes).
+/// Returns the nodes that the starts reach, each before its neighbours; the next node is always the
+/// greatest whose children all came before. A failed start or neighbour is `Node` of its error; if
+/// a cycle is reached, `Node` is `cycle_fn` of some node that the starts reach. Takes
+/// `O(n log n + e)` for n nodes and e edges.
 pub fn topo_order_reverse_ord<T: Ord + Drop, ID: Hash + Eq + Drop, E: Drop, II, NI, F, N, C>(
     alloc: Global,
     start: II,
@@ -72,7 +70,7 @@ where
     }
 }
 
-// Moves the node at `index` to the ready heap, unless it is already there.
+// Moves the node at this index, if it is still pending, to the ready nodes.
 fn make_ready<T: Ord + Drop>(
     waiting: &mut Vec<Option<T>>,
     ready: &mut BinaryHeap<(T, usize)>,
@@ -93,7 +91,7 @@ fn make_ready<T: Ord + Drop>(
     Ok(())
 }
 
-/// A collected graph: the visited nodes in order of visit, with their neighbors' IDs and an index.
+/// The nodes that a walk visited, in that order, and the ids of the neighbours of each.
 #[derive(Drop)]
 pub struct Collected<T, ID: Hash + Eq> {
     pub nodes: Vec<Option<T>>,
@@ -102,7 +100,7 @@ pub struct Collected<T, ID: Hash + Eq> {
 }
 
 impl<T: Drop, ID: Hash + Eq + Drop> Collected<T, ID> {
-    /// Creates a graph without nodes.
+    /// Creates it without nodes.
     pub fn new(alloc: Global) -> Self
         ensures nodes { result.nodes.items ≡ [] }
         ensures ids { result.neighbor_ids.items ≡ [] }
@@ -115,7 +113,7 @@ impl<T: Drop, ID: Hash + Eq + Drop> Collected<T, ID> {
         }
     }
 
-    /// Appends a node with its ID and its neighbors' IDs.
+    /// Appends a node.
     pub fn keep(&mut self, node: T, id: ID, neighbor_ids: Vec<ID>) -> Result<(), AllocError>
         ensures nodes { OnOk result (self.new.nodes.items
             ≡ self.old.nodes.items ++ Some node ∷ []) }
@@ -133,8 +131,8 @@ impl<T: Drop, ID: Hash + Eq + Drop> Collected<T, ID> {
 }
 
 impl<T: Ord + Drop, ID: Hash + Eq + Drop> Collected<T, ID> {
-    /// Returns the greatest topological order of the nodes; beside it, a node that a cycle keeps
-    /// back, if there is one.
+    /// Returns the nodes in the greatest topological order, and a node that is left if there is a
+    /// cycle.
     pub fn greatest_first(self, alloc: Global) -> Result<(Vec<T>, Option<T>), AllocError>
         requires { IsFilled ID.eq self }
         ensures { IfOk result
@@ -150,7 +148,7 @@ impl<T: Ord + Drop, ID: Hash + Eq + Drop> Collected<T, ID> {
     }
 }
 
-// Returns the indices of each node's neighbors, and the in-degree of each node.
+// Returns the indices of the neighbours of each node, and the in-degree of each index.
 fn link<ID: Hash + Eq + Drop>(
     alloc: Global,
     index_of: &HashMap<ID, usize>,
@@ -183,8 +181,8 @@ fn link<ID: Hash + Eq + Drop>(
     Ok((targets, indegrees))
 }
 
-// Kahn's algorithm with a max-heap. Returns the order and, if a cycle kept some nodes back, one of
-// them.
+// Takes the greatest node all of whose children were taken, as long as there is one. Returns also
+// one of the nodes that are left, which are all on or below a cycle.
 fn take_greatest_first<T: Ord + Drop>(
     alloc: Global,
     mut waiting: Vec<Option<T>>,

@@ -1,5 +1,5 @@
-//! Walks of directed graphs that run to the end: topological orders, maximal nodes and closest
-//! common nodes. Two closures implement the graph: the ID of a node, and its neighbors.
+//! Walks over directed graphs that two closures define: topological orders, heads (maximal nodes)
+//! and closest common nodes.
 #![tactic(auto)]
 
 mod all_ok;

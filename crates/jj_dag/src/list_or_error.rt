@@ -1,7 +1,7 @@
-//! Iterator adapter: a list that may fail as a whole, as items that may fail.
+//! An adapter for lists of neighbours that may fail as a whole.
 ghost use Rattle.jj_dag.specs.ListOrError.{StandsFor};
 
-/// Yields the items of a list, or one error.
+/// Iterates over the items of a list, each in an `Ok`, or yields one error.
 #[derive(Drop)]
 pub enum ListOrError<I, E> {
     List(I),
@@ -34,7 +34,7 @@ impl<I: Iterator, E: Drop> Iterator for ListOrError<I, E> {
     }
 }
 
-/// Converts the result of a closure to fallible items.
+/// Returns the iterator over a result's list, or over its error.
 pub fn as_list_or_error<L: IntoIterator, E: Drop>(
     answer: Result<L, E>,
 ) -> ListOrError<L::IntoIter, E>

@@ -1,5 +1,4 @@
-//! Maximal elements of a set of nodes (heads), by a breadth-first search that removes every node it
-//! reaches. `heads_ok` takes items that may fail.
+//! Heads: breadth-first search from the starts, which removes each node that it reaches from them.
 ghost use Rattle.std.specs.Prelude.{◌≡◌, ◌⊎◌, ◌+◌, ◌≤◌, ◌++◌, ◌∷◌, [], true, false, cond, IfOk, OnOk, IfSome, IfNone, IsTrue, length};
 ghost use Rattle.std.specs.Fn.{CalledAt};
 ghost use Rattle.std.specs.HashSet.{contains, Updates, hash_set_len, IsUnique};
@@ -19,7 +18,7 @@ use std::convert::Infallible;
 use std::hash::Hash;
 use std::marker::PhantomData;
 
-/// Removes a neighbor from the heads, and enqueues it on the first visit.
+/// Removes a neighbour from the heads, and makes it pending if its id is new.
 pub fn meet<T: Hash + Eq + Drop, ID: Hash + Eq + Drop>(
     heads: &mut HashSet<T>,
     visited: &mut HashSet<ID>,
@@ -46,8 +45,8 @@ pub fn meet<T: Hash + Eq + Drop, ID: Hash + Eq + Drop>(
     Ok(())
 }
 
-/// Dequeues the next node to expand. At the end of a level, returns `None` if the queue is empty,
-/// or if only one node is left and no root was visited: that node cannot reach a head.
+/// Returns the next node to expand. Within a level there is one; after a level there is none if no
+/// node is pending, or if one is and no root was found.
 pub fn next_to_ask<T>(waiting: &mut VecDeque<T>, level: &mut usize, root_met: bool) -> Option<T>
     ensures first { IfSome result (λ node. waiting.old.items ≡ node ∷ waiting.new.items) }
     ensures few { IfNone result (length waiting.old.items ≤ 1) }
@@ -64,10 +63,8 @@ pub fn next_to_ask<T>(waiting: &mut VecDeque<T>, level: &mut usize, root_met: bo
     Some(node)
 }
 
-/// Returns the maximal elements of `start`: the nodes that no other of them reaches.
-///
-/// The breadth-first search ends early when one node is pending and no root (a node without
-/// neighbors) was visited. Calls `neighbors_fn` at most once per reachable node.
+/// Returns the nodes of `start` that no other of them reaches. The search ends early after a level
+/// if one node is pending and no root (a node without neighbours) was found.
 pub fn heads<T: Hash + Eq + Clone + Drop, ID: Hash + Eq + Drop, II, NI, F, N>(
     alloc: Global,
     start: II,
@@ -110,10 +107,8 @@ where
     }
 }
 
-/// Returns the maximal elements of `start`, as [`heads`] does, over items that may fail.
-///
-/// Fails with `Node` of the first failed item that the search reaches; items below the point where
-/// it ends early are not read.
+/// Returns `heads` over items that may fail: `Node` is the error of a failed item. Items that the
+/// search does not reach before it ends are not read.
 pub fn heads_ok<T: Hash + Eq + Clone + Drop, ID: Hash + Eq + Drop, E: Drop, II, NI, F, N>(
     alloc: Global,
     start: II,
@@ -156,7 +151,7 @@ where
     }
 }
 
-// Adds a start to the heads and to the queue.
+// Makes a start a head and pending, and its id visited.
 fn take_start<T: Hash + Eq + Clone + Drop, ID: Hash + Eq + Drop>(
     heads: &mut HashSet<T>,
     visited: &mut HashSet<ID>,
@@ -179,7 +174,7 @@ fn take_start<T: Hash + Eq + Clone + Drop, ID: Hash + Eq + Drop>(
     Ok(())
 }
 
-// Adds the distinct starts.
+// Takes each start that equals none before it.
 fn take_starts<T: Hash + Eq + Clone + Drop, ID: Hash + Eq + Drop, E: Drop, II, F>(
     heads: &mut HashSet<T>,
     visited: &mut HashSet<ID>,
@@ -217,7 +212,7 @@ where
     Ok(())
 }
 
-// Removes each neighbor of a node from the heads. Returns whether the node is a root.
+// Removes each neighbour of a node from the heads. Returns whether there is none.
 fn meet_neighbors<T: Hash + Eq + Drop, ID: Hash + Eq + Drop, E: Drop, NI, F, N>(
     heads: &mut HashSet<T>,
     visited: &mut HashSet<ID>,
@@ -261,7 +256,7 @@ where
     Ok(empty)
 }
 
-// Expands the queue level by level.
+// Expands the pending nodes, level by level, and removes their neighbours from the heads.
 fn ask_all<T: Hash + Eq + Drop, ID: Hash + Eq + Drop, E: Drop, NI, F, N>(
     heads: &mut HashSet<T>,
     visited: &mut HashSet<ID>,
@@ -283,7 +278,7 @@ where
     let mut root_met = false;
     let mut level = 0;
     while let Some(node) = next_to_ask(waiting, &mut level, root_met) {
-        // A set has fewer than 2^63 IDs, so the search terminates.
+        // A set never has 2^63 ids, so the walk ends.
         let _count = visited.len();
         match meet_neighbors(heads, visited, waiting, id_fn, neighbors_fn, &node) {
             Ok(is_root) => root_met |= is_root,

@@ -1,4 +1,4 @@
-//! Maximal elements of a set of nodes, with neighbor lists that may fail as a whole.
+//! Heads where a list of neighbours may fail as a whole.
 ghost use Rattle.std.specs.Prelude.{IfOk, Result};
 ghost use Rattle.jj_dag.specs.ClosureGraph.{InEachModel, IsInputError, graph_of_lists, list_of};
 ghost use Rattle.jj_dag.specs.Found.{AreHeads};
@@ -14,9 +14,7 @@ use std::collections::HashSet;
 use std::hash::Hash;
 use std::marker::PhantomData;
 
-/// Returns the maximal elements of `start`, where a list of neighbors may fail as a whole.
-///
-/// Fails with `Node` of the first failed list that the search reaches.
+/// Returns the heads where a list of neighbours may fail as a whole: `Node` is the error of a list.
 pub fn heads<T: Hash + Eq + Clone + Drop, ID: Hash + Eq + Drop, E: Drop, II, NI, F, N>(
     alloc: Global,
     start: II,

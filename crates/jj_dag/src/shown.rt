@@ -1,4 +1,4 @@
-//! A graph implemented by closures, and the collection of all reachable nodes (depth-first).
+//! The closures of a graph, and the nodes that starts reach by depth-first search.
 ghost use Rattle.std.specs.Prelude.{IfOk};
 ghost use Rattle.std.specs.List.{AllZip};
 ghost use Rattle.jj_dag.specs.Asking.{CollectsFrom, ListsNode};
@@ -11,14 +11,14 @@ use crate::walk_error::WalkError;
 use std::alloc::{AllocError, Global};
 use std::hash::Hash;
 
-/// The two closures that implement a graph.
+/// The closures that define a graph.
 #[derive(Drop)]
 pub struct Shown<F, N> {
     pub id_fn: F,
     pub neighbors_fn: N,
 }
 
-/// Returns the IDs of the nodes, in order.
+/// Returns the ids of these nodes, in their order.
 pub fn ids_of<T, ID: Drop, F: Fn(&T) -> Result<ID, AllocError>>(
     alloc: Global,
     id_fn: &F,
@@ -36,7 +36,7 @@ pub fn ids_of<T, ID: Drop, F: Fn(&T) -> Result<ID, AllocError>>(
 }
 
 impl<F, N> Shown<F, N> {
-    /// Returns the neighbors of a node, or the first error of its list.
+    /// Returns the neighbours of a node.
     pub fn neighbors<T: Drop, ID: Hash + Eq + Drop, E: Drop, NI>(
         &mut self,
         alloc: Global,
@@ -54,8 +54,8 @@ impl<F, N> Shown<F, N> {
         sound_nodes(alloc, (self.neighbors_fn)(node))
     }
 
-    /// Collects all reachable nodes with their neighbors' IDs, in order of visit: the last start
-    /// and the last neighbor first. O(nodes + edges) calls of the closures.
+    /// Returns all nodes that the starts reach, in the order of visits: the last start and the last
+    /// neighbour first.
     pub fn collect<T: Drop, ID: Hash + Eq + Drop, E: Drop, NI>(
         &mut self,
         alloc: Global,

@@ -1,4 +1,4 @@
-//! Collects fallible items, up to the first error.
+//! The nodes of a list of items that may fail.
 ghost use Rattle.std.specs.Prelude.{IfOk, Ok, map};
 ghost use Rattle.jj_dag.specs.Failing.{FailsAfterNodes};
 ghost use Rattle.jj_dag.specs.Outcomes.{Ends, IfFails};
@@ -7,7 +7,7 @@ ghost use Rattle.jj_dag.specs.Walk.{DrainsTo};
 use crate::walk_error::WalkError;
 use std::alloc::Global;
 
-/// Collects the nodes, or returns the first error.
+/// Returns the nodes of the items, or the error of the first that failed.
 pub fn sound_nodes<T: Drop, E: Drop, L>(alloc: Global, items: L) -> Result<Vec<T>, WalkError<E>>
 where
     L: IntoIterator<Item = Result<T, E>, IntoIter: Drop>,

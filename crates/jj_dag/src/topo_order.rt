@@ -1,5 +1,5 @@
-//! Topological orders by depth-first search: postorder and reverse postorder. The forms `_ok` take
-//! items that may fail.
+//! Topological orders: postorder and reverse postorder; the forms `_ok` are over items that may
+//! fail.
 ghost use Rattle.std.specs.Prelude.{◌⊎◌, IfOk, map, reverse};
 ghost use Rattle.jj_dag.specs.ClosureGraph.{InEachModel, IsCycleError, IsInputError, graph_of, graph_of_items, list_of, list_of_items};
 ghost use Rattle.jj_dag.specs.Orders.{IsWholePostorder};
@@ -13,11 +13,8 @@ use std::convert::Infallible;
 use std::hash::Hash;
 use std::marker::PhantomData;
 
-/// Returns the nodes reachable from the starts in postorder: each once, after its neighbors; later
-/// starts and later neighbors first.
-///
-/// Fails with `Node(cycle_fn(node))` for a node on a cycle, if one is reachable. Calls
-/// `neighbors_fn` once per node.
+/// Returns the nodes that the starts reach, each once and after its neighbours; later starts and
+/// later neighbours come first. A cycle is `Node(cycle_fn(node))` of some node on it.
 pub fn topo_order_forward<T: Drop, ID: Hash + Eq + Clone + Drop, E, II, NI, F, N, C>(
     alloc: Global,
     start: II,
@@ -67,10 +64,8 @@ where
     }
 }
 
-/// Returns the nodes reachable from the starts in reverse postorder: each once, before its
-/// neighbors.
-///
-/// Fails with `Node(cycle_fn(node))` for a node on a cycle, if one is reachable.
+/// Returns the nodes that the starts reach, each once and before its neighbours: the reverse of
+/// `topo_order_forward`. A cycle is `Node(cycle_fn(node))` of some node on it.
 pub fn topo_order_reverse<T: Drop, ID: Hash + Eq + Clone + Drop, E, II, NI, F, N, C>(
     alloc: Global,
     start: II,
@@ -102,11 +97,9 @@ where
     Ok(order)
 }
 
-/// Returns the nodes reachable from the starts in postorder, as [`topo_order_forward`] does, over
-/// items that may fail.
-///
-/// Fails with `Node` of the first failed item, or with `Node(cycle_fn(node))` for a node on a
-/// cycle, whichever the search reaches first.
+/// Returns the nodes that the starts reach, each once and after its neighbours; later starts and
+/// later neighbours come first. A failed item is `Node` of its error, and a cycle is
+/// `Node(cycle_fn(node))` of some node on it.
 pub fn topo_order_forward_ok<T: Drop, ID: Hash + Eq + Clone + Drop, E: Drop, II, NI, F, N, C>(
     alloc: Global,
     start: II,
@@ -146,9 +139,9 @@ where
     }
 }
 
-/// Returns the nodes reachable from the starts in reverse postorder, over items that may fail.
-///
-/// Fails as [`topo_order_forward_ok`] does.
+/// Returns the nodes that the starts reach, each once and before its neighbours: the reverse of
+/// `topo_order_forward_ok`. A failed item is `Node` of its error, and a cycle is
+/// `Node(cycle_fn(node))` of some node on it.
 pub fn topo_order_reverse_ok<T: Drop, ID: Hash + Eq + Clone + Drop, E: Drop, II, NI, F, N, C>(
     alloc: Global,
     start: II,

@@ -141,7 +141,7 @@ module _ (may_fail : BackendError → Type 0) (store : Objects) where
       let y = of (node_of c) (k, omega (arith, length-map xs node_of), get_or-map node_of xs k d (node_of c) within) in
       (known_node c (subst (λ a. not (a == 0) ≡ true) (sym y.1) (number_is_node y.0))).1
 
-  -- what `read_all` returns for these ids
+  -- the results of `read_all` for these ids
   abbrev pub ReadsAll : List (List ℕ) → Result (Vec ReadCommit Global) BackendError → Type 0
   ReadsAll ids r = IfOk r (λ v. map id_of v.items ≡ ids) × IfOk r (λ v. All (IsStored store) v.items) × IfErr r (IsErrorOfIds may_fail store ids)
 

@@ -44,7 +44,7 @@ module _ (may_fail : BackendError → Type 0) (store : Objects) where
   abbrev pub AreRead : List (List ℕ) → List ReadCommit → Type 0
   AreRead ids xs = (v : Vec ReadCommit Global) × (xs ≡ v.items) × (map id_of v.items ≡ ids) × All (IsStored store) v.items
 
-  -- what the items yield was read
+  -- the yielded items were read
   pub items_read : (ids : List (List ℕ)) (s : Items) → AreItemsOf may_fail store ids s → (xs : List ReadCommit) → YieldsItems s xs → AreRead ids xs
   items_read ids s (read, reads, stands) xs d = of_list read reads (list_answered vec_becomes into_iter_steps read s stands xs d)
     where

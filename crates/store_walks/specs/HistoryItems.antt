@@ -1,4 +1,4 @@
--- What reads return in a walk over a history, as a list and as items that may fail.
+-- Results of reads in a walk over a history, as a list and as items that may fail.
 -- Machinery of private functions and fields.
 use Rattle.std.specs.Prelude.{◌≡◌, ◌<◌, ◌^◌, ℕ, List, All, Result, map}
 use Rattle.std.specs.Global.{Global}

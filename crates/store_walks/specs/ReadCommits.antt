@@ -1,4 +1,4 @@
--- What reads of the commits of a store return.
+-- Results of reads of the commits of a store.
 -- Cited by contracts of public items: id_of.
 use Rattle.std.specs.Prelude.{◌≡◌, ◌⊎◌, ℕ, List, Any, Some, Result}
 use Rattle.std.specs.Global.{Global}

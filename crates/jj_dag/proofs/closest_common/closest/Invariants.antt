@@ -1,8 +1,10 @@
-use Rattle.std.proofs.Common.{◌≡◌}
+-- The closest candidates so far and those that are left.
+use Rattle.std.proofs.Common.{◌≡◌, ◌++◌}
 use Rattle.jj_dag.specs.Marks.{mark_at, closest_of}
 use Rattle.jj_dag.proofs.closest_common.closest.Given as goal
 
-abbrev pub invariant-loop-node : goal.invariant-loop-node
-invariant-loop-node g l = record {
-  closest : l.closest.items ≡ closest_of (mark_at g.ID.PartialEq.eq l.known) l.yielded;
+abbrev pub invariant-loop-id : goal.invariant-loop-id
+invariant-loop-id g l = record {
+  closest : l.closest.items ++ closest_of (mark_at g.ID.PartialEq.eq l.known) l.id-iterator
+      ≡ closest_of (mark_at g.ID.PartialEq.eq l.known) l.initial.id-iterator;
 }

@@ -1,4 +1,4 @@
-use Rattle.std.proofs.Common.{rules, arith, append-nil, ◌≡◌, ℕ, Bool, ◌++◌, ◌∷◌, List, [], map, length, refl, sym, ◌∙◌, ap, subst}
+use Rattle.std.proofs.Common.{rules, arith, append-nil, ◌≡◌, ℕ, Bool, ◌++◌, ◌∷◌, List, [], map, length, refl, sym, ◌∙◌, subst}
 use Rattle.std.specs.BinaryHeap.{heap_items, heap_len}
 use Rattle.std.specs.Bool.{MatchBool}
 use Rattle.std.specs.List.{Contains}
@@ -8,7 +8,7 @@ use Rattle.std.proofs.lemmas.Bool.{and_parts}
 use Rattle.jj_dag.specs.CommonSearch.{reach_of_sets}
 use Rattle.jj_dag.specs.ClosureGraph.CallsLead.{none}
 use Rattle.jj_dag.specs.Marks.{mark_at}
-use Rattle.jj_dag.proofs.ClosestCommon.{asks, closest_at_end, ends, ends_early, hands_over, ids_more, started_holds, was_reached}
+use Rattle.jj_dag.proofs.ClosestCommon.{asks, closest_at_end, ends, ends_early, hands_over, ids_more, insert_new, new_id, started_holds, was_reached}
 use Rattle.jj_dag.proofs.ClosureGraphs.{implements_after, leads_on, returns_id}
 use Rattle.jj_dag.proofs.Errors.{node_weaker}
 use Rattle.jj_dag.proofs.Heads.{Contains-map}
@@ -22,7 +22,7 @@ loop-node-init g c = record {
   small = c.requires.small;
   walking = λ walk set1 set2 implemented first second start. (
     implemented,
-    (reach_of_sets set1 set2, started_holds walk set1 set2 (heap_items c.args.waiting.now) c.args.met.now.common.items (mark_at g.ID.PartialEq.eq c.args.met.now.known) c.requires.none start),
+    (reach_of_sets set1 set2, started_holds walk set1 set2 (heap_items c.args.waiting.now) c.args.met.now.common.entries (mark_at g.ID.PartialEq.eq c.args.met.now.known) c.requires.none start),
   );
 }
 
@@ -46,12 +46,13 @@ loop-node-preserved g c =
           (λ here. implemented.ids_match node id here (returns_id g.F.Fn c.id_fn.ensures c.in_ok-id.was)) c.ask-reach.ensures.reach c.ask-reach.ensures.known in
           let turn = implements_after walk g.ID.PartialEq.eq g.F.Fn g.N.FnMut _ known.0 did.1 in
           let listed : map walk.node nodes ≡ walk.graph (walk.node node) = turn.1 nodes at.0 marked.drained in
-          let inner = all_handed walk set1 set2 known.1.0 (walk.node node) c.ask-reach.result c.loop-node.met.common.items c.loop-node.root_met [] implemented.apart implemented.ids_match implemented.closed
+          let inner = all_handed walk set1 set2 known.1.0 (walk.node node) c.ask-reach.result c.loop-node.met.common.entries c.loop-node.root_met [] implemented.apart implemented.ids_match implemented.closed
           (rw c.handed_on-above.ensures at marked.marks) at.0 at.2 (append-nil (map walk.node nodes) ∙ listed) in (
             turn.0,
             (
               inner.0,
-              hands_over walk node id c.in-Ok.is_root inner.1 at.1 c.in_ok-keep_common.ensures
+              hands_over walk _ node id c.in-Ok.is_root inner.1 at.1 c.in_ok-keep_common.ensures
+                  (insert_new g.ID.PartialEq.eq c.loop-node.met.common.entries id node (new_id walk g.ID.PartialEq.eq node id implemented.closed implemented.apart first inner.1 at.0 at.1))
                   (λ b h. subst (λ (l : List ℕ). Contains l b) (sym listed) h)
                   (λ found.
                   let some = subst (λ (b : Bool). MatchBool b (nodes ≡ []) ((x : g.row.T.Denot) × Contains nodes x)) found marked.none in
@@ -80,7 +81,6 @@ returns-then-not-root_met g c = record {
       let node = c.in-Some.node in
       let id = c.in_ok-id.id in
       let popped : IsPermutation (heap_items c.loop-node.waiting) (node ∷ heap_items c.pop.new.self) = c.in-Some.ensures.permutation in
-      let more : c.push.new.self.items ≡ c.loop-node.met.common.items ++ (node, id) ∷ [] = c.in_ok-push.ensures.items in
       let ok = c.pop.new.self.data.ok in
       let left : heap_len c.pop.new.self ≡ 0 = search rules in
       let nothing : length c.pop.new.self.data.items ≡ 0 = omega (arith, ok, left) in
@@ -91,8 +91,10 @@ returns-then-not-root_met g c = record {
       let at = asks walk g.ID.PartialEq.eq (mark_at g.ID.PartialEq.eq c.ask-reach.new.known) node id c.ask-reach.result implemented.closed implemented.apart first second held popped
       (λ here. implemented.ids_match node id here (returns_id g.F.Fn c.id_fn.ensures c.in_ok-id.was)) c.ask-reach.ensures.reach c.ask-reach.ensures.known in
       let end = ends_early walk node id at.2 empty (and_parts _ _ (sym c.is_common.ensures ∙ c.if-is_common.true)) c.if-not-root_met.true in
-      rw more (closest_at_end walk (walk.node node ∷ []) (map (λ entry. walk.node entry.0) c.loop-node.met.common.items) (c.loop-node.met.common.items ++ (node, id) ∷ []) end at.2.marks
-      (ids_more walk c.loop-node.met.common.items node id held.ids at.1) implemented.closed first acyclic);
+      let more : c.insert.new.self.entries ≡ c.loop-node.met.common.entries ++ (id, node) ∷ [] =
+      c.in_ok-insert.ensures.entries ∙ insert_new g.ID.PartialEq.eq c.loop-node.met.common.entries id node (new_id walk g.ID.PartialEq.eq node id implemented.closed implemented.apart first at.2 at.0 at.1) in
+      rw more (closest_at_end walk (walk.node node ∷ []) (map (λ entry. walk.node entry.1) c.loop-node.met.common.entries) (c.loop-node.met.common.entries ++ (id, node) ∷ []) end at.2.marks
+      (ids_more walk c.loop-node.met.common.entries node id held.ids at.1) implemented.closed first acyclic);
   refused = tt;
 }
 
@@ -106,6 +108,6 @@ returns g c = record {
       λ walk set1 set2 implemented first second start acyclic.
       let known = c.loop-node.invariant.walking walk set1 set2 implemented first second start in
       let held = known.1.1 in
-      closest_at_end walk [] (map (λ entry. walk.node entry.0) c.loop-node.met.common.items) c.loop-node.met.common.items (ends walk held empty) held.marks held.ids implemented.closed first acyclic;
+      closest_at_end walk [] (map (λ entry. walk.node entry.1) c.loop-node.met.common.entries) c.loop-node.met.common.entries (ends walk held empty) held.marks held.ids implemented.closed first acyclic;
   refused = tt;
 }

@@ -17,7 +17,7 @@ invariant-loop-node g l =
       small : sides_met l.met.known < 2 ^ 64;
       walking : FromMarks (graph l.initial.neighbors_fn) (mark_at g.ID.PartialEq.eq l.initial.met.known) (heap_items l.initial.waiting)
           (λ walk set1 set2. (graph l.neighbors_fn).implements walk
-          × ((m : ℕ → Reach) × HoldsMarks walk set1 set2 m (heap_items l.waiting) l.met.common.items l.root_met (mark_at g.ID.PartialEq.eq l.met.known)));
+          × ((m : ℕ → Reach) × HoldsMarks walk set1 set2 m (heap_items l.waiting) l.met.common.entries l.root_met (mark_at g.ID.PartialEq.eq l.met.known)));
     }
 
 abbrev pub decreases-loop-node : goal.decreases-loop-node

@@ -1,11 +1,11 @@
-use Rattle.std.proofs.Common.{rules, length, append-nil, ◌≡◌, true, false, ◌++◌, ◌∷◌, [], map, sym, ◌∙◌, ap, Ok, reverse, arith}
+use Rattle.std.proofs.Common.{rules, length, append-nil, ◌≡◌, true, false, ◌++◌, ◌∷◌, [], map, ap, arith}
 use Rattle.std.proofs.lemmas.Grind.{common_steps}
 use Rattle.std.proofs.lemmas.List.{length_push}
 use Rattle.jj_dag.specs.ClosureGraph.CallsLead.{none}
 use Rattle.jj_dag.proofs.Calling.{cycle_weaker, failed_weaker}
 use Rattle.jj_dag.proofs.ClosureGraphs.{implements_after, leads_on, returns_id}
 use Rattle.jj_dag.proofs.Reaching.{HasNoCycle-from_postorder}
-use Rattle.jj_dag.proofs.Unwinding.{unwinding_starts, unwinding_passed, unwinding_finished, unwinding_entered, unwinding_cycle, top_is_node, here_reached, from_top, from_top-push, from_top-neighbors}
+use Rattle.jj_dag.proofs.Unwinding.{unwinding_starts, unwinding_passed, unwinding_finished, unwinding_entered, unwinding_cycle, top_is_node, here_reached, from_top-push, from_top-neighbors}
 use Rattle.jj_dag.proofs.Unwinding.Unwinds.{ended}
 use Rattle.jj_dag.proofs.Walking.{numbers, numbers-push}
 use Rattle.jj_dag.proofs.forward.unwind.Goals as goal

@@ -74,7 +74,7 @@ loop-target-init g c =
       );
     }
 
--- the next target is an index, and its edge is still counted
+-- the next target is in range, and its in-degree is not 0
 next_target : (xs : List ℕ) (i n : ℕ) → i < length xs → ((b : ℕ) → Contains xs b → b < n) → get_or xs i 0 < n
 next_target xs i n lt within = within (get_or xs i 0) (Contains-get_or xs i 0 lt)
 
