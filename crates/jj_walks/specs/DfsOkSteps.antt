@@ -1,4 +1,4 @@
--- What the iterator `DepthFirstOk` does from a state.
+-- Steps of the iterator `DepthFirstOk`.
 -- Cited by contracts of public items: CanWalkItems, Steps, StartsWalk, items_left.
 use Rattle.std.specs.Prelude.{◌≡◌, ℕ, ◌+◌, ◌*◌, ◌-◌, ◌^◌, Bool, List, [], ◌∷◌, ◌++◌, length, map, reverse, Option, Result, MatchOption, MatchResult, IfErr, IsNone}
 use Rattle.std.specs.declared.result.Result.TheVariants.{Ok, Err}
@@ -32,9 +32,9 @@ items_left s = elim s.work.items [
 abbrev pub HasEnded : {T ID E F N : Type 0} → DepthFirstOk T ID E F N → Type 0
 HasEnded s = s.work.items ≡ []
 
--- In the model, a walk from these starts that was answered this has given these items, and `work`
--- is left. Whatever the nodes will answer that were not asked yet, the walk goes on as that graph
--- says.
+-- In the model, a search from these starts that expanded these nodes has yielded these items, and
+-- `work` is its stack. Whatever graph extends the items of the expanded nodes, the search continues
+-- the preorder of that graph.
 pub record IsWalkingAnswers {T ID E : Type 0} (g : Numbered T ID) (test : ID → Bool)
     (answers : List (Answer T E)) (starts work given : List (Result T E)) : Type 0 where
   pub has_answers : HasAnswers g.node (answers_graph g.node answers) answers
@@ -44,15 +44,15 @@ pub record IsWalkingAnswers {T ID E : Type 0} (g : Numbered T ID) (test : ID →
 
 module _ {T ID E F N U S : Type 0} (ids : Shared F (Bor T × Unit {0}) (Result ID AllocError))
     (lists : Mut N (Bor T × Unit {0}) U) where
-  -- the closures may always be called, and what `neighbors_fn` gives ends
+  -- the closures may always be called, and each list that `neighbors_fn` returns ends
   pub record CanWalkItems (becomes : U → S → Type 0) (can : S → Type 0) (left : S → Count)
       (s : DepthFirstOk T ID E F N) : Type 0 where
     pub id_fn : always_fn ids s.id_fn
     pub neighbors_fn : always_mut lists s.neighbors_fn
     pub ends : AlwaysReturns lists (λ a r. IsFiniteIterable becomes can left r) s.neighbors_fn
 
-  -- s is what is left of a depth-first walk that began with these closures and starts, and has
-  -- given these items
+  -- s is the state of a depth-first search that began with these closures and starts, and has
+  -- yielded these items
   pub record IsLeftOf (eq : ID → ID → Bool)
       (becomes : U → S → Type 0) (steps : S → Option (Result T E) → S → Type 0)
       (id_fn : F) (neighbors_fn : N) (starts given : List (Result T E))
@@ -66,7 +66,7 @@ module _ {T ID E F N U S : Type 0} (ids : Shared F (Bor T × Unit {0}) (Result I
         → AreNodes g (sound_items (map (item_of g.node) starts))
         → IsWalkingAnswers g (contains eq s.visited) answers starts s.work.items given
 
-  -- the walk gives one item more, or ends as a whole run, or is refused memory and ends
+  -- the search yields one more item, or ends as a complete run, or runs out of memory and ends
   abbrev pub WalksOn : (ID → ID → Bool) → (U → S → Type 0) → (S → Option (Result T E) → S → Type 0)
       → DepthFirstOk T ID E F N → Option (Result T (WalkError E)) → DepthFirstOk T ID E F N → Type 0
   WalksOn eq becomes steps s r t =
@@ -82,9 +82,8 @@ module _ {T ID E F N U S : Type 0} (ids : Shared F (Bor T × Unit {0}) (Result I
         | Node e ↦ IsLeftOf eq becomes steps id_fn neighbors_fn starts (given ++ Err e ∷ []) t
       ]))
 
-  -- One call from s, which gave r and left t: the walk goes on, `next` may be called again whatever
-  -- it gave, `None` and want of memory end the walk, and a walk that has ended gives `None` and
-  -- stays so.
+  -- One call at s, which returned r and left t: the search goes on, `next` may be called again
+  -- whatever it returned, `None` and `Memory` end the search, and then each call returns `None`.
   pub record Steps (eq : ID → ID → Bool) (becomes : U → S → Type 0)
       (steps : S → Option (Result T E) → S → Type 0) (can : S → Type 0) (left : S → Count)
       (s : DepthFirstOk T ID E F N) (r : Option (Result T (WalkError E)))
@@ -94,7 +93,7 @@ module _ {T ID E F N U S : Type 0} (ids : Shared F (Bor T × Unit {0}) (Result I
     pub ends : MatchOption r (HasEnded t) (λ x. IfErr x (λ refused. IfMemory refused (HasEnded t)))
     pub ended : HasEnded s → IsNone r × HasEnded t
 
-  -- what is left is the whole depth-first walk from the starts
+  -- the state before the first step of a depth-first search from the starts
   pub record StartsWalk {II I : Type 0} (eq : ID → ID → Bool) (becomes : U → S → Type 0)
       (steps : S → Option (Result T E) → S → Type 0) (first : into.Ghosts II (Result T E) I)
       (first_items : iter.Ghosts I (Result T E)) (id_fn : F) (neighbors_fn : N) (start : II)

@@ -1,4 +1,4 @@
--- What the iterator `DepthFirst` does from a state.
+-- Steps of the iterator `DepthFirst`.
 -- Cited by contracts of public items: CanWalk, Steps, items_left.
 use Rattle.std.specs.Prelude.{◌≡◌, ℕ, ◌+◌, ◌-◌, ◌^◌, Bool, List, [], ◌∷◌, ◌++◌, map, Option, Result, MatchOption, MatchResult, IfErr, IsNone}
 use Rattle.std.specs.Iterator.{Count, IsFiniteIterable}
@@ -23,22 +23,22 @@ HasEnded s = s.work.items ≡ []
 
 module _ {T ID F N U S : Type 0} (ids : Shared F (Bor T × Unit {0}) (Result ID AllocError))
     (lists : Mut N (Bor T × Unit {0}) U) where
-  -- the closures may always be called, and what `neighbors_fn` gives ends
+  -- the closures may always be called, and each list that `neighbors_fn` returns ends
   pub record CanWalk (becomes : U → S → Type 0) (can : S → Type 0) (left : S → Count)
       (s : DepthFirst T ID F N) : Type 0 where
     pub id_fn : always_fn ids s.id_fn
     pub neighbors_fn : always_mut lists s.neighbors_fn
     pub ends : AlwaysReturns lists (λ a r. IsFiniteIterable becomes can left r) s.neighbors_fn
 
-  -- s is what is left of a depth-first walk from these starts that has given these nodes
+  -- s is the state of a depth-first search from these starts that has yielded these nodes
   pub record IsLeftOf (w : Numbered T ID) (eq : ID → ID → Bool) (becomes : U → S → Type 0)
       (steps : S → Option T → S → Type 0) (starts : List ℕ) (given : List T)
       (s : DepthFirst T ID F N) : Type 0 where
     pub implemented : Implements w eq ids lists (DrainsTo becomes steps) s.id_fn s.neighbors_fn
     pub walking : IsWalking w starts (contains eq s.visited) s.work.items given
 
-  -- the walk gives one node more, or ends as the preorder of its starts, or is refused memory and
-  -- ends
+  -- the search yields one more node, or ends with the preorder of its starts, or runs out of memory
+  -- and ends
   abbrev pub WalksOn : (ID → ID → Bool) → (U → S → Type 0) → (S → Option T → S → Type 0)
       → DepthFirst T ID F N → Option (Result T AllocError) → DepthFirst T ID F N → Type 0
   WalksOn eq becomes steps s r t =
@@ -48,8 +48,8 @@ module _ {T ID F N U S : Type 0} (ids : Shared F (Bor T × Unit {0}) (Result ID 
       (λ x. MatchResult x (λ node. IsLeftOf w eq becomes steps starts (given ++ node ∷ []) t)
       (λ _. t.work.items ≡ []))
 
-  -- One call from s, which gave r and left t: the walk goes on, `next` may be called again whatever
-  -- it gave, `None` and an error end the walk, and a walk that has ended gives `None` and stays so.
+  -- One call at s, which returned r and left t: the search goes on, `next` may be called again
+  -- whatever it returned, `None` and an error end the search, and then each call returns `None`.
   pub record Steps (eq : ID → ID → Bool) (becomes : U → S → Type 0)
       (steps : S → Option T → S → Type 0) (can : S → Type 0) (left : S → Count)
       (s : DepthFirst T ID F N) (r : Option (Result T AllocError))

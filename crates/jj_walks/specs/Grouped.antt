@@ -1,5 +1,5 @@
--- The order of a grouped graph, told by its history: which ids were prioritised, and which nodes
--- read and given.
+-- Histories of a grouped graph: which ids were prioritized, and which nodes were read and yielded,
+-- in which order.
 -- Cited by contracts of public items: Prioritized.
 use Rattle.std.specs.Prelude.{◌≡◌, ℕ, zero, suc, ◌==◌, Bool, true, false, not, ◌&&◌, ◌||◌, count_by, List, [], ◌∷◌, map, filter, reverse, find, is_some, Option, None, Some, MatchOption, ⊤}
 use Rattle.std.specs.List.{Contains, list_any, sum_by}
@@ -18,7 +18,7 @@ pub data Event (N ID : Type 0) : Type 0 where
   Read : Entry N ID → Event N ID
   Gave : Entry N ID → Event N ID
 
--- what happened, the newest first
+-- the events, the newest first
 abbrev pub History : Type 0 → Type 0 → Type 0
 History N ID = List (Event N ID)
 
@@ -31,7 +31,7 @@ is_shown Indirect = true
 abbrev pub targets_of : {ID : Type 0} → List (GraphEdge ID) → List ID
 targets_of edges = map (λ edge. edge.target) (filter (λ edge. is_shown edge.edge_type) edges)
 
--- the edges of the node that was given last
+-- the edges of the node that was yielded last
 abbrev pub last_edges : {N ID : Type 0} → History N ID → List (GraphEdge ID)
 last_edges [] = []
 last_edges (Prioritized i ∷ h) = last_edges h
@@ -42,7 +42,7 @@ last_edges (Gave e ∷ h) = e.edges
 abbrev pub leads_to : {ID : Type 0} → (ID → ID → Bool) → ID → GraphEdge ID → Bool
 leads_to eq i edge = is_shown edge.edge_type && eq edge.target i
 
--- the nodes that were read, and those that were given, the newest first
+-- the nodes that were read, and those that were yielded, the newest first
 abbrev pub read_nodes : {N ID : Type 0} → History N ID → List (Entry N ID)
 read_nodes [] = []
 read_nodes (Prioritized i ∷ h) = read_nodes h
@@ -55,7 +55,7 @@ given_nodes (Prioritized i ∷ h) = given_nodes h
 given_nodes (Read e ∷ h) = given_nodes h
 given_nodes (Gave e ∷ h) = e ∷ given_nodes h
 
--- the id that was prioritised before all else
+-- the id that was prioritized first
 abbrev pub first_wanted : {N ID : Type 0} → History N ID → Option ID
 first_wanted [] = None
 first_wanted (Prioritized i ∷ []) = Some i
@@ -63,7 +63,7 @@ first_wanted (Prioritized i ∷ event ∷ h) = first_wanted (event ∷ h)
 first_wanted (Read e ∷ h) = first_wanted h
 first_wanted (Gave e ∷ h) = first_wanted h
 
--- each node was given after those that had been read and have an edge to it
+-- each node was yielded after the nodes with an edge to it that had been read
 abbrev pub GivesChildrenFirst : {N ID : Type 0} → (ID → ID → Bool) → History N ID → Type 0
 GivesChildrenFirst eq [] = ⊤
 GivesChildrenFirst eq (Prioritized i ∷ h) = GivesChildrenFirst eq h
@@ -87,14 +87,14 @@ module _ {N ID : Type 0} (eq : ID → ID → Bool) where
   abbrev pub has_edge : List (Entry N ID) → ID → ID → Bool
   has_edge nodes i j = list_any (λ e. eq e.id i && list_any (leads_to eq j) e.edges) nodes
 
-  -- of nodes that were read, the newest first: none has an edge to itself, or to one read before
+  -- of nodes that were read, the newest first: none has an edge to itself or to one read before
   abbrev pub AreReadChildFirst : List (Entry N ID) → Type 0
   AreReadChildFirst [] = ⊤
   AreReadChildFirst (e ∷ older) =
       ((f : Entry N ID) → Contains (e ∷ older) f → list_any (leads_to eq f.id) e.edges ≡ false)
       × AreReadChildFirst older
 
-  -- the nodes that were read and not given since
+  -- the pending nodes: read and not yielded since
   abbrev pub held : History N ID → List (Entry N ID)
   held [] = []
   held (Prioritized j ∷ h) = held h
@@ -105,7 +105,8 @@ module _ {N ID : Type 0} (eq : ID → ID → Bool) where
   abbrev pub held_at : History N ID → ID → Option (Entry N ID)
   held_at h i = find (λ e. eq e.id i) (held h)
 
-  -- whether the id was prioritised, or an edge to it was read, and its node was not given since
+  -- whether the id is required: prioritized, or the target of an edge that was read, and its node
+  -- was not yielded since
   abbrev pub is_wanted : History N ID → ID → Bool
   is_wanted [] i = false
   is_wanted (Prioritized j ∷ h) i = eq j i || is_wanted h i
@@ -115,33 +116,33 @@ module _ {N ID : Type 0} (eq : ID → ID → Bool) where
   abbrev pub is_known : History N ID → ID → Bool
   is_known h i = is_wanted h i || is_some (held_at h i)
 
-  -- how many edges of held nodes lead to the id
+  -- the in-degree of the id over pending nodes
   abbrev pub edges_to : History N ID → ID → ℕ
   edges_to h i = sum_by (λ e. count_by (leads_to eq i) e.edges) (held h)
 
-  -- whether the id is held or wanted, and no held node has an edge to it
+  -- whether the id is pending or required, and no pending node has an edge to it
   abbrev pub is_free : History N ID → ID → Bool
   is_free h i = is_known h i && (edges_to h i == 0)
 
-  -- the last target of the node given last that is free
+  -- the last target of the node yielded last that is free
   abbrev pub last_free : History N ID → Option ID
   last_free h = find (is_free h) (reverse (targets_of (last_edges h)))
 
-  -- the node may be given first: where nodes were read child-first, and an id was prioritised
-  -- before all else, it reaches this id
+  -- the node may be yielded first: if nodes were read in topological order, and an id was
+  -- prioritized first, the node reaches this id
   abbrev pub IsOfFirstBranch : History N ID → Entry N ID → Type 0
   IsOfFirstBranch h e = AreReadChildFirst (read_nodes h) → (wanted : ID)
       → first_wanted h ≡ Some wanted → Reaches eq (has_edge (read_nodes h)) e.id wanted
 
-  -- the node may be given next: it is held, no held node has an edge to it, it is the last free
-  -- target, if one is free, and may be given first, if it is the first
+  -- the node may come next: it is pending, no pending node has an edge to it, it is the last free
+  -- target, if one is free, and may be yielded first, if it is the first
   pub record IsNext (h : History N ID) (e : Entry N ID) : Type 0 where
     pub held : held_at h e.id ≡ Some e
     pub childless : edges_to h e.id ≡ 0
     pub follows : MatchOption (last_free h) ⊤ (λ i. eq i e.id ≡ true)
     pub first : given_nodes h ≡ [] → IsOfFirstBranch h e
 
-  -- no node was read while one of its id was held, and each that was given was the next
+  -- no node was read while one with its id was pending, and each node yielded was the next
   abbrev pub IsHistory : History N ID → Type 0
   IsHistory [] = ⊤
   IsHistory (Prioritized i ∷ h) = IsHistory h

@@ -67,7 +67,7 @@ module _ {N ID S E F : Type 0} (ids : Shared F (Bor N × Unit {0}) (Bor ID)) (eq
       × (IsWhole eq (reverse entries) → ⊥)
   Explains as_id prioritized entries at Memory = Unit {0}
 
-  -- what the input yielded before a run failed, and why it failed
+  -- a run failed for this reason, after the input had yielded these nodes
   pub record IsFailedRun (as_id : F) (input : S) (prioritized : List ID)
       (error : GroupedGraphError E) : Type 0 where
     pub nodes : List (Item N ID)

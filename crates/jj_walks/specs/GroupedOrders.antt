@@ -1,5 +1,5 @@
--- A whole grouped order of the nodes of a list. Lists of nodes have the newest first.
--- Machinery of private functions and fields.
+-- A grouped order of the nodes of a list. Lists of nodes have the newest first.
+-- Cited by contracts of public items through GroupedLaw.
 use Rattle.std.specs.Prelude.{◌≡◌, Bool, true, false, not, ◌||◌, List, [], ◌∷◌, reverse, find, Option, Some, MatchOption, ⊤}
 use Rattle.std.specs.List.{Contains, list_all, list_any}
 use Rattle.jj_walks.specs.declared.graph.GraphEdge.{GraphEdge}
@@ -47,12 +47,12 @@ module _ {N ID : Type 0} (eq : ID → ID → Bool) where
     pub closed : (e : Entry N ID) (i : ID) → Contains nodes e
         → list_any (leads_to eq i) e.edges ≡ true → has_node nodes i ≡ true
 
-  -- each of the nodes that has an edge to the id was given
+  -- each of the nodes that has an edge to the id was yielded
   abbrev pub is_ready : (nodes given : List (Entry N ID)) → ID → Bool
   is_ready nodes given i =
       list_all (λ e. not (list_any (leads_to eq i) e.edges) || has_node given e.id) nodes
 
-  -- one of the nodes that was not given yet and is ready; it is the last target of the newest that
+  -- one of the nodes that was not yielded yet and is ready; it is the last target of the newest that
   -- is ready, if one is
   pub record MayFollow (nodes given : List (Entry N ID)) (e : Entry N ID) : Type 0 where
     pub node : Contains nodes e
@@ -66,7 +66,7 @@ module _ {N ID : Type 0} (eq : ID → ID → Bool) where
   AreGrouped nodes [] = ⊤
   AreGrouped nodes (e ∷ older) = MayFollow nodes older e × AreGrouped nodes older
 
-  -- all nodes, each as it may follow those before it, and the first reaches the wanted id
+  -- all nodes, each as it may follow those before it, and the first reaches the prioritized id
   pub record IsGroupedOrder (nodes : List (Entry N ID)) (wanted : Option ID)
       (given : List (Entry N ID)) : Type 0 where
     pub all : (e : Entry N ID) → Contains nodes e → Contains given e

@@ -1,4 +1,4 @@
--- What the iterator over a grouped graph does from a state.
+-- Steps of the iterator over a grouped graph.
 -- Cited by contracts of public items: CanRead, GivesOn, nodes_left.
 use Rattle.std.specs.Prelude.{◌≡◌, ℕ, ◌+◌, Bool, true, false, cond, is_some, List, [], ◌∷◌, map, Option, None, Some, Result, Ok, Err, MatchBool}
 use Rattle.std.specs.Iterator.{Count, IsFinite, Yields, size}
@@ -22,7 +22,7 @@ abbrev pub read_on : {N ID : Type 0} → List (Entry N ID) → History N ID → 
 read_on [] h = h
 read_on (e ∷ es) h = read_on es (Read e ∷ h)
 
--- what `next` answers
+-- the item for what a step returned
 abbrev pub answer_of : {A E : Type 0} → Result (Option A) E → Option (Result A E)
 answer_of (Ok None) = None
 answer_of (Ok (Some x)) = Some (Ok x)
@@ -34,17 +34,17 @@ is_last None = true
 is_last (Some (Ok x)) = false
 is_last (Some (Err e)) = true
 
--- a node and its edges, as the input gives them
+-- a node and its edges, as the input yields them
 abbrev pub Item : Type 0 → Type 0 → Type 0
 Item N ID = N × Vec (GraphEdge ID) Global
 
--- more items cannot come: one for each node that is held or read, and an error
+-- an upper bound of the items left: each node pending or in the input, and an error
 abbrev pub nodes_left : {N ID S F : Type 0} → (S → Count) → GroupedNodes N ID S F → ℕ
 nodes_left left s = cond s.has_ended 0 (size
     (left s.graph.input) + hash_map_len s.graph.held.nodes + 1)
 
 module _ {N ID F : Type 0} (ids : Shared F (Bor N × Unit {0}) (Bor ID)) (eq : ID → ID → Bool) where
-  -- the entry of an item, with an id that is equal to the one that the closure gives
+  -- the entry of an item, with an id equal to that which the closure returns
   pub record IsEntryOf (as_id : F) (item : Item N ID) (e : Entry N ID) : Type 0 where
     pub same : item_of e ≡ listed_item item
     pub id : (i : Bor ID) × FnReturnsAt ids as_id item.0 i × (eq i.now e.id ≡ true)
@@ -59,13 +59,13 @@ module _ {N ID F : Type 0} (ids : Shared F (Bor N × Unit {0}) (Bor ID)) (eq : I
       pub finite : IsFinite (left s.input)
 
     module _ {E : Type 0} (steps : S → Option (Result (Item N ID) E) → S → Type 0) where
-      -- the input gave these items and is at t
+      -- the input yielded these items and is at t
       pub record ReadsTo (as_id : F) (s : S) (items : List (Item N ID)) (reads : List (Entry N ID))
           (t : S) : Type 0 where
         pub given : Yields steps s (map Ok items) t
         pub entries : AllZip (IsEntryOf as_id) items reads
 
-      -- what an error tells, where the history was h once the input was at s
+      -- the cause of an error when the history is h and the input is at s
       abbrev pub IsCause : F → History N ID → S → GroupedGraphError E → S → Type 0
       IsCause as_id h s (Input e) t = steps s (Some (Err e)) t
       IsCause as_id h s DuplicateId t = (item : Item N ID) × (e : Entry N ID)
@@ -78,8 +78,8 @@ module _ {N ID F : Type 0} (ids : Shared F (Bor N × Unit {0}) (Bor ID)) (eq : I
       IsCause as_id h s Memory t = Unit {0}
 
       -- after the history h some nodes are read, and then: the input has ended, all nodes were
-      -- given, and no id is wanted any more; or a node is given that may come next, and ids are
-      -- told as before; or an error tells its cause
+      -- yielded, and no id is required; or a node is yielded that may come next; or an error has its
+      -- cause
       abbrev pub GivesNext : History N ID → TopoGroupedGraph N ID S F
           → Option (Result (Item N ID) (GroupedGraphError E)) → TopoGroupedGraph N ID S F → Type 0
       GivesNext h s None t = (items : List (Item N ID)) × (reads : List (Entry N ID)) × (u : S)
@@ -94,7 +94,7 @@ module _ {N ID F : Type 0} (ids : Shared F (Bor N × Unit {0}) (Bor ID)) (eq : I
           × (u : S) × ReadsTo s.as_id s.input items reads u
           × IsHistory eq (read_on reads h) × IsCause s.as_id (read_on reads h) u error t.input
 
-      -- from a state that keeps a history; once it has ended, it answers `None` and stays as it is
+      -- one call of `next`; after the end it returns `None` and leaves the state as it was
       abbrev pub GivesOn : GroupedNodes N ID S F → Option (Result (Item N ID) (GroupedGraphError E))
           → GroupedNodes N ID S F → Type 0
       GivesOn s r t = MatchBool s.has_ended ((r ≡ None) × (t ≡ s))

@@ -1,4 +1,4 @@
--- What the held nodes of a grouped graph keep of its history.
+-- The pending nodes of a grouped graph represent its history.
 -- Cited by contracts of public items: Adds, Keeps, KeepsOn.
 use Rattle.std.specs.Prelude.{◌≡◌, ◌+◌, ℕ, Bool, true, List, ◌∷◌, is_some, Option, None}
 use Rattle.std.specs.Option.{option_map}
@@ -23,9 +23,8 @@ module _ {N ID : Type 0} where
   listed_item x = (x.0, x.1.items)
 
   module _ (eq : ID → ID → Bool) where
-    -- Maps and lists that keep a history: the node of each id that is held, of each known id how
-    -- many edges of held nodes lead to it, and the lists on which each known id without a held
-    -- child stands.
+    -- Maps and lists that represent a history: the node of each pending id, the in-degree of each
+    -- known id over pending nodes, and lists that contain each known id without a pending child.
     pub record KeepsHistory (h : History N ID) (node_at : ID → Option (N × List (GraphEdge ID)))
         (count : ID → Option ℕ) (candidates heads : List ID) : Type 0 where
       pub told : IsHistory eq h
@@ -40,15 +39,15 @@ module _ {N ID : Type 0} where
           (get eq s.counts) s.candidates.ids.items (deque_items s.candidates.heads)
       pub branch : KeepsBranch eq h s.candidates
 
-    -- of whatever history s keeps, t keeps the same
+    -- t represents each history that s represents
     abbrev pub KeepsOn : HeldNodes N ID → HeldNodes N ID → Type 0
     KeepsOn s t = (h : History N ID) → Keeps h s → Keeps h t
 
-    -- of whatever history s keeps, t keeps the same with this event
+    -- t represents each history that s represents, extended by this event
     abbrev pub Adds : Event N ID → HeldNodes N ID → HeldNodes N ID → Type 0
     Adds event s t = (h : History N ID) → Keeps h s → Keeps (event ∷ h) t
 
-    -- what is taken next: the node, or what is known where none can be
+    -- the node that comes next, or why none is ready
     abbrev pub TakesNext : History N ID → Ready N ID → HeldNodes N ID → Type 0
     TakesNext h (Node x) t = (e : Entry N ID) × (item_of e ≡ listed_item x) × Keeps (Gave e ∷ h) t
     TakesNext h Unread t = Keeps h t × ((i : ID) × (is_wanted eq h i ≡ true)
@@ -56,7 +55,7 @@ module _ {N ID : Type 0} where
     TakesNext h Nothing t = Keeps h t × ((i : ID) → is_known eq h i ≡ true → edges_to eq h i ≡ 0
         → ⊥)
 
--- one node less is held
+-- one node fewer is pending
 abbrev pub len_after : {N ID : Type 0} → Ready N ID → ℕ → ℕ
 len_after (Node x) n = n + 1
 len_after Unread n = n

@@ -9,6 +9,6 @@ abbrev pub items_of : {V : Type 0} → Option (Vec V Global) → List V
 items_of None = []
 items_of (Some listed) = listed.items
 
--- what is listed at the key
+-- the values listed at the key
 abbrev pub items_at : {K V S : Type 0} → (K → K → Bool) → HashMap K (Vec V Global) S → K → List V
 items_at eq lists key = items_of (get eq lists key)

@@ -1,5 +1,4 @@
--- The reverse of a shown graph: its nodes from the last to the first, each with the edges that lead
--- to it.
+-- The reverse of a graph: its nodes from the last to the first, each with its incoming edges.
 -- Cited by contracts of public items through Reversing.
 use Rattle.std.specs.Prelude.{◌≡◌, Bool, List, [], ◌∷◌, ◌++◌, map, filter, reverse, if◌then◌else◌}
 use Rattle.std.specs.List.{AllZip, list_any}
@@ -11,7 +10,7 @@ use Rattle.jj_walks.specs.declared.graph.GraphEdge.{GraphEdge}
 abbrev pub ShownGraph : Type 0 → Type 0 → Type 0
 ShownGraph N ID = List (N × List (GraphEdge ID))
 
--- the graph that these nodes show
+-- the graph of these nodes
 abbrev pub shown_graph : {N ID : Type 0} → List (N × Vec (GraphEdge ID) Global) → ShownGraph N ID
 shown_graph {N} {ID} nodes = map {B = N × List (GraphEdge ID)}
     (λ entry. (entry.0, entry.1.items)) nodes
@@ -25,7 +24,7 @@ module _ {N ID : Type 0} (eq : ID → ID → Bool) where
   abbrev pub turned_edges : ID → N → List (GraphEdge ID) → List (GraphEdge N)
   turned_edges i node edges = map (edge_to node) (filter (λ edge. eq edge.target i) edges)
 
-  -- the same for all nodes, in their order
+  -- the edges of all nodes that lead to i, in the order of the nodes
   abbrev pub incoming_edges : ID → ShownGraph N ID → List (GraphEdge N)
   incoming_edges i [] = []
   incoming_edges i (entry ∷ graph) = turned_edges i entry.0 entry.1 ++ incoming_edges i graph
@@ -50,7 +49,7 @@ module _ {N ID : Type 0} (clone : ID → ID → Type 0) (id : N → ID) where
   abbrev pub LeadsToId : GraphEdge N → GraphEdge ID → Type 0
   LeadsToId edge given = clone (id edge.target) given.target × (given.edge_type ≡ edge.edge_type)
 
-  -- the same nodes, with such edges in the place of those to nodes
+  -- each node with such edges in place of those to nodes
   abbrev pub ShowsById : ShownGraph N N → ShownGraph N ID → Type 0
   ShowsById graph given = AllZip (λ want got. (got.0 ≡ want.0)
       × AllZip LeadsToId want.1 got.1) graph given

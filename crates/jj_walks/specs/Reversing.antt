@@ -1,4 +1,4 @@
--- What the reverse of a shown graph is to the input, and what its error tells.
+-- The result and the error of `reverse_graph` in terms of its input.
 -- Cited by contracts of public items: GivesReversed, InputFails.
 use Rattle.std.specs.Prelude.{◌≡◌, Bool, List, [], ◌∷◌, ◌++◌, map, Option, Result}
 use Rattle.std.specs.declared.result.Result.TheVariants.{Ok, Err}
@@ -10,12 +10,12 @@ use denote.Ref.{Bor}
 use Rattle.jj_walks.specs.declared.graph.GraphEdge.{GraphEdge}
 use Rattle.jj_walks.specs.Reversed.{ShowsById, reversed_graph, shown_graph}
 
--- a node with its edges, as the input gives it
+-- a node with its edges, as the input yields it
 abbrev pub GraphNode : Type 0 → Type 0 → Type 0
 GraphNode N ID = N × Vec (GraphEdge ID) Global
 
--- the input gave nodes and ended, and whatever id `as_id` tells of each node, the list is the
--- reverse of the graph that they show
+-- the input yielded nodes and ended, and for the ids that `as_id` returns, the list is the reverse
+-- of their graph
 abbrev pub GivesReversed : {N ID E I F : Type 0} → Shared F (Bor N × Unit {0}) (Bor ID)
     → (I → Option (Result (GraphNode N ID) E) → I → Type 0) → (ID → ID → Type 0) → (ID → ID → Bool)
     → I → F → Vec (GraphNode N ID) Global → Type 0
@@ -24,7 +24,7 @@ GivesReversed {N} {ID} ids steps clone eq input as_id v = (nodes : List (GraphNo
     × ((id : N → ID) → ((x : N) (r : Bor ID) → FnReturnsAt ids as_id x r → r.now ≡ id x)
     → ShowsById clone id (reversed_graph eq id (shown_graph nodes)) (shown_graph v.items))
 
--- the input gave nodes, and then this error
+-- the input yielded nodes and then this error
 abbrev pub InputFails : {N ID E I : Type 0} → (I → Option (Result (GraphNode N ID) E) → I → Type 0)
     → I → E → Type 0
 InputFails {N} {ID} {E} {I} steps input error = (nodes : List (GraphNode N ID)) × (t : I)

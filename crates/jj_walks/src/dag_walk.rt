@@ -1,4 +1,4 @@
-//! Walks over a directed graph that two closures show: the id of a node, and its neighbours.
+//! Walks over a directed graph that two closures implement: the id and the neighbours of a node.
 pub use crate::depth_first::{DepthFirst, DepthFirstOk, dfs, dfs_ok};
 pub use jj_dag::dag_walk::{
     WalkError, heads, heads_ok, topo_order_forward, topo_order_forward_ok, topo_order_reverse,

@@ -1,4 +1,4 @@
-//! The depth-first walk as an iterator, and over items that may fail.
+//! Depth-first search with an explicit stack, as an iterator; also over items that may fail.
 ghost use Rattle.std.specs.Prelude.{[], IfOk};
 ghost use Rattle.std.specs.Iterator.{at_most};
 ghost use Rattle.jj_dag.specs.ClosureGraph.{InEachModel, graph_of, graph_of_items, list_of, list_of_items};
@@ -13,7 +13,7 @@ use std::collections::HashSet;
 use std::convert::Infallible;
 use std::hash::Hash;
 
-/// The nodes of a depth-first walk, as they are met.
+/// Iterates over the nodes of a depth-first search in preorder.
 #[derive(Drop)]
 pub struct DepthFirst<T, ID: Hash + Eq, F, N> {
     work: Vec<T>,
@@ -59,7 +59,9 @@ where
     }
 }
 
-/// A depth-first walk from these starts, the last of them first.
+/// Returns an iterator over the nodes that `start` reaches, in depth-first preorder; later starts
+/// and later neighbours come first. The iterator ends when memory runs out. Fails if memory runs
+/// out while the starts are collected.
 pub fn dfs<T: Drop, ID: Hash + Eq + Drop, II, NI, F, N>(
     alloc: Global,
     start: II,
@@ -91,7 +93,7 @@ where
     })
 }
 
-/// The items of a depth-first walk, as they are met.
+/// Iterates over the items of a depth-first search in preorder, errors among them.
 #[derive(Drop)]
 pub struct DepthFirstOk<T, ID: Hash + Eq, E, F, N> {
     work: Vec<Result<T, E>>,
@@ -130,8 +132,8 @@ where
     }
 }
 
-/// A depth-first walk from these starts, the last of them first. A failed item is given in its
-/// place as `Node`, and the walk goes on; after `Memory` it has ended.
+/// Returns an iterator like `dfs` over items that may fail. It yields a failed item as `Node` and
+/// goes on; `Memory` is its last item. Fails if memory runs out while the starts are collected.
 pub fn dfs_ok<T: Drop, ID: Hash + Eq + Drop, E: Drop, II, NI, F, N>(
     alloc: Global,
     start: II,

@@ -1,4 +1,4 @@
-//! The edges of graphs that are shown to users.
+//! The graph of a log: nodes with edges to ids.
 ghost use Rattle.std.specs.Prelude.{◌≡◌, ◌↔◌, IsTrue};
 
 pub use crate::grouped::{GroupedGraphError, GroupedNodes, TopoGroupedGraph};
@@ -8,7 +8,7 @@ pub use jj_dag::walk_error::WalkError;
 /// A node and its edges to ids.
 pub type GraphNode<N, ID = N> = (N, Vec<GraphEdge<ID>>);
 
-/// An edge to a target, which may stand for a longer way.
+/// An edge to a target: a parent, or an ancestor over nodes that are left out.
 #[derive(Debug, PartialEq, Eq, Clone, Copy, Hash, Drop)]
 pub struct GraphEdge<N> {
     pub target: N,
@@ -27,7 +27,7 @@ pub enum GraphEdgeType {
 }
 
 impl<N> GraphEdge<N> {
-    /// An edge to a node that is not in the graph.
+    /// Creates an edge to a node that is not in the graph.
     pub fn missing(target: N) -> Self
         ensures target { result.target ≡ target }
         ensures edge_type { result.edge_type ≡ GraphEdgeType.Missing }
@@ -38,7 +38,7 @@ impl<N> GraphEdge<N> {
         }
     }
 
-    /// An edge to a parent that is in the graph.
+    /// Creates an edge to a parent that is in the graph.
     pub fn direct(target: N) -> Self
         ensures target { result.target ≡ target }
         ensures edge_type { result.edge_type ≡ GraphEdgeType.Direct }
@@ -49,7 +49,7 @@ impl<N> GraphEdge<N> {
         }
     }
 
-    /// An edge to an ancestor that is in the graph, over nodes that are not.
+    /// Creates an edge to an ancestor that is in the graph, over nodes that are not.
     pub fn indirect(target: N) -> Self
         ensures target { result.target ≡ target }
         ensures edge_type { result.edge_type ≡ GraphEdgeType.Indirect }
@@ -60,7 +60,7 @@ impl<N> GraphEdge<N> {
         }
     }
 
-    /// The edge of the same type to what `f` makes of the target.
+    /// Applies `f` to the target and keeps the type of the edge.
     pub fn map<M, F: FnOnce(N) -> M>(self, f: F) -> GraphEdge<M>
         requires { F.pre f self.target }
         ensures target { F.post f self.target result.target }
@@ -73,21 +73,21 @@ impl<N> GraphEdge<N> {
         }
     }
 
-    /// Whether the target is not in the graph.
+    /// Returns whether the target is not in the graph.
     pub fn is_missing(&self) -> bool
         ensures { IsTrue result ↔ (self.now.edge_type ≡ GraphEdgeType.Missing) }
     {
         self.edge_type == GraphEdgeType::Missing
     }
 
-    /// Whether the target is a parent.
+    /// Returns whether the target is a parent.
     pub fn is_direct(&self) -> bool
         ensures { IsTrue result ↔ (self.now.edge_type ≡ GraphEdgeType.Direct) }
     {
         self.edge_type == GraphEdgeType::Direct
     }
 
-    /// Whether the target is an ancestor over nodes that are not in the graph.
+    /// Returns whether the target is an ancestor over nodes that are not in the graph.
     pub fn is_indirect(&self) -> bool
         ensures { IsTrue result ↔ (self.now.edge_type ≡ GraphEdgeType.Indirect) }
     {

@@ -1,4 +1,4 @@
-//! The order of a shown graph in which each branch stands together.
+//! A topological order, children first, that groups branches: the last ready target comes next.
 ghost use Rattle.std.specs.Prelude.{◌≡◌, ◌+◌, ◌<◌, ◌∷◌, [], None, Some, Ok, IfOk, IfErr, IsSome, IsTrue, OnOk, OnErr, true, false};
 ghost use Rattle.std.specs.HashMap.{hash_map_len};
 ghost use Rattle.std.specs.Iterator.{at_most, size};
@@ -15,24 +15,23 @@ use std::error::Error;
 use std::fmt;
 use std::hash::Hash;
 
-/// Why a grouped graph ended before its last node. A node is held from when it was read until it is
-/// given, and an id is wanted from when it was prioritised, or an edge to it that is not missing
-/// was read, until its node is given.
+/// The error of a grouped graph. A node is pending from when it was read until it is yielded. An id
+/// is required from when it was prioritized, or an edge to it that is not missing was read, until
+/// its node is yielded.
 #[derive(Debug, PartialEq, Eq, Drop)]
 pub enum GroupedGraphError<E> {
     /// An error of the input.
     Input(E),
-    /// The input gave an id while its node was held.
+    /// The input yielded an id while a node with this id was pending.
     DuplicateId,
-    /// The input has ended, and the node of a wanted id is not held.
+    /// The input has ended without the node of a required id.
     MissingNode,
-    /// Nodes are held, and each has a held child.
+    /// The input is not in topological order: each pending node has a pending child.
     NotChildFirst,
     Memory,
 }
 
-/// The nodes of an input in which each node stands before its parents, in an order that keeps
-/// branches together.
+/// A graph of an input in topological order, children first, that yields branches one by one.
 #[derive(Debug, Clone, Drop)]
 pub struct TopoGroupedGraph<N, ID: Hash + Eq, S, F> {
     input: S,
@@ -40,7 +39,7 @@ pub struct TopoGroupedGraph<N, ID: Hash + Eq, S, F> {
     held: HeldNodes<N, ID>,
 }
 
-/// The nodes of a grouped graph, each before its parents. It ends after its first error.
+/// Iterates over the nodes of a grouped graph, children first. An error is the last item.
 #[derive(Drop)]
 pub struct GroupedNodes<N, ID: Hash + Eq, S, F> {
     graph: TopoGroupedGraph<N, ID, S, F>,
@@ -52,8 +51,7 @@ where
     S: Iterator<Item = Result<GraphNode<N, ID>, E>> + Drop,
     F: Fn(&N) -> &ID + Drop,
 {
-    /// A graph over this input, of which nothing was read or prioritised. `as_id` lends a
-    /// node's id.
+    /// Creates a graph of this input. `as_id` returns a reference to a node's id. Reads nothing.
     pub fn new(alloc: Global, input: S, as_id: F) -> Self
         ensures input { result.input ≡ input }
         ensures as_id { result.as_id ≡ as_id }
@@ -66,7 +64,8 @@ where
         }
     }
 
-    /// Gives the branch that leads to this id first, or after those that were prioritised before.
+    /// Puts the branch that leads to this id first, or after those prioritized before. Fails if
+    /// memory runs out; the graph is then as it was.
     pub fn prioritize_branch(&mut self, id: ID) -> Result<(), AllocError>
         requires clones { (i j : ID) → ID.is_clone i j → IsTrue (ID.eq i j) }
         ensures prioritized { OnOk result (Adds ID.eq (Prioritized id) self.old.held
@@ -78,7 +77,7 @@ where
         self.held.prioritize(id)
     }
 
-    /// The nodes, as they are asked for.
+    /// Returns an iterator over the nodes.
     pub fn stream(self) -> GroupedNodes<N, ID, S, F>
         ensures graph { result.graph ≡ self }
         ensures has_ended { result.has_ended ≡ false }
@@ -115,7 +114,7 @@ where
         }
     }
 
-    // Reads one node more: whether there was one.
+    // Returns whether the input yielded another node.
     fn read_next(&mut self) -> Result<bool, GroupedGraphError<E>>
         requires { CanRead F.Fn ID.eq ID.is_clone S.can_next S.remaining self.old }
         ensures as_id { self.new.as_id ≡ self.old.as_id }
@@ -178,10 +177,14 @@ impl<E: fmt::Display> fmt::Display for GroupedGraphError<E> {
     fn fmt<W: fmt::Write>(&self, f: &mut fmt::Formatter<W>) -> fmt::Result {
         match self {
             GroupedGraphError::Input(error) => error.fmt(f),
-            GroupedGraphError::DuplicateId => f.write_str("a node has the id of one that waits"),
-            GroupedGraphError::MissingNode => f.write_str("a node that is wanted did not come"),
+            GroupedGraphError::DuplicateId => f.write_str(
+                "the input has two nodes with the same id",
+            ),
+            GroupedGraphError::MissingNode => f.write_str(
+                "a referenced node is missing from the input",
+            ),
             GroupedGraphError::NotChildFirst => {
-                f.write_str("each node that waits has a child that waits")
+                f.write_str("the input is not in topological order")
             }
             GroupedGraphError::Memory => f.write_str("out of memory"),
         }

@@ -1,4 +1,4 @@
-//! The nodes of a grouped graph that were read and not yet given.
+//! Pending nodes of a grouped graph, with the in-degrees of pending and required ids.
 ghost use Rattle.std.specs.Prelude.{◌≡◌, ◌↔◌, ◌+◌, ◌-◌, ◌||◌, ◌∷◌, ◌++◌, [], List, IfOk, OnOk, OnErr, IsTrue, None, true, is_some, count_by, if◌then◌else◌};
 ghost use Rattle.std.specs.HashMap.{get, hash_map_len};
 ghost use Rattle.std.specs.List.{list_any};
@@ -13,27 +13,27 @@ use std::alloc::{AllocError, Global};
 use std::collections::HashMap;
 use std::hash::Hash;
 
-/// The nodes that are held, and what is known of the ids that are held or wanted.
+/// The pending nodes, and the in-degrees of the ids that are pending or required.
 #[derive(Debug, Clone, Drop)]
 pub struct HeldNodes<N, ID: Hash + Eq> {
     nodes: HashMap<ID, GraphNode<N, ID>>,
-    /// For each id that is held or wanted, how many edges of held nodes lead to it.
+    /// For each pending or required id, the number of edges from pending nodes to it.
     counts: HashMap<ID, usize>,
     candidates: Candidates<ID>,
 }
 
-/// What can be given.
+/// The next node, or the reason why none is ready.
 #[derive(Drop)]
 pub enum Ready<N, ID> {
     Node(GraphNode<N, ID>),
-    /// A wanted id without a held child, whose node is not held.
+    /// A required id without a pending child, whose node is not pending.
     Unread,
-    /// There is no id without a held child.
+    /// Each id has a pending child.
     Nothing,
 }
 
 impl<N: Drop, ID: Hash + Eq + Clone + Drop> HeldNodes<N, ID> {
-    /// No nodes.
+    /// Creates an empty collection.
     pub fn new(alloc: Global) -> Self
         ensures { Keeps ID.eq [] result }
     {
@@ -44,7 +44,7 @@ impl<N: Drop, ID: Hash + Eq + Clone + Drop> HeldNodes<N, ID> {
         }
     }
 
-    /// Whether no node is held.
+    /// Returns whether no node is pending.
     pub fn is_empty(&self) -> bool
         ensures { (h : History N ID) → Keeps ID.eq h self.now → IsTrue result
             ↔ (held ID.eq h ≡ []) }
@@ -52,14 +52,14 @@ impl<N: Drop, ID: Hash + Eq + Clone + Drop> HeldNodes<N, ID> {
         self.nodes.is_empty()
     }
 
-    /// Whether the node of the id is held.
+    /// Returns whether the node of the id is pending.
     pub fn is_held(&self, id: &ID) -> bool
         ensures { result ≡ is_some (get ID.eq self.now.nodes id.now) }
     {
         self.nodes.contains_key(id)
     }
 
-    /// Makes the id a wanted one.
+    /// Makes the id a required one. Fails if memory runs out.
     pub fn prioritize(&mut self, id: ID) -> Result<(), AllocError>
         requires clones { (i j : ID) → ID.is_clone i j → IsTrue (ID.eq i j) }
         ensures prioritized { OnOk result (Adds ID.eq (Prioritized id) self.old self.new) }
@@ -74,7 +74,7 @@ impl<N: Drop, ID: Hash + Eq + Clone + Drop> HeldNodes<N, ID> {
         Ok(())
     }
 
-    /// Holds a node that was read.
+    /// Inserts a node that was read. Fails if memory runs out.
     pub fn hold(&mut self, id: ID, node: N, edges: Vec<GraphEdge<ID>>) -> Result<(), AllocError>
         requires clones { (i j : ID) → ID.is_clone i j → IsTrue (ID.eq i j) }
         requires absent { get ID.eq self.old.nodes id ≡ None }
@@ -92,7 +92,7 @@ impl<N: Drop, ID: Hash + Eq + Clone + Drop> HeldNodes<N, ID> {
         Ok(())
     }
 
-    /// Takes out the node that is to be given next.
+    /// Removes and returns the node that comes next, if one is ready. Fails if memory runs out.
     pub fn take_ready(&mut self) -> Result<Ready<N, ID>, AllocError>
         requires clones { (i j : ID) → ID.is_clone i j → IsTrue (ID.eq i j) }
         ensures taken { IfOk result (λ ready. (h : History N ID) → Keeps ID.eq h self.old
@@ -114,7 +114,7 @@ impl<N: Drop, ID: Hash + Eq + Clone + Drop> HeldNodes<N, ID> {
     }
 }
 
-// Makes the id a head, if it was not counted before.
+// Makes the id a head if it has no count yet.
 fn list_head<ID: Hash + Eq + Clone + Drop>(
     counts: &mut HashMap<ID, usize>,
     candidates: &mut Candidates<ID>,
@@ -144,7 +144,7 @@ fn list_head<ID: Hash + Eq + Clone + Drop>(
     Ok(())
 }
 
-// Counts no edge to the id, if it was not counted before.
+// Sets the in-degree of the id to 0 if it has none yet.
 fn count_none<ID: Hash + Eq + Drop>(
     counts: &mut HashMap<ID, usize>,
     id: ID,
@@ -162,7 +162,7 @@ fn count_none<ID: Hash + Eq + Drop>(
     Ok(())
 }
 
-// Counts one edge more to the target of each edge.
+// Adds 1 to the in-degree of the target of each edge.
 fn count_edges<ID: Hash + Eq + Clone + Drop>(
     counts: &mut HashMap<ID, usize>,
     edges: &[GraphEdge<ID>],
@@ -181,7 +181,7 @@ fn count_edges<ID: Hash + Eq + Clone + Drop>(
     Ok(())
 }
 
-// Counts one edge less to the target of each edge.
+// Subtracts 1 from the in-degree of the target of each edge.
 fn uncount_edges<ID: Hash + Eq + Drop>(counts: &mut HashMap<ID, usize>, edges: &[GraphEdge<ID>])
     ensures counts { (i : ID) → count_at ID.eq counts.new i
         ≡ count_at ID.eq counts.old i - count_by (leads_to ID.eq i) edges.now }
@@ -194,7 +194,6 @@ fn uncount_edges<ID: Hash + Eq + Drop>(counts: &mut HashMap<ID, usize>, edges: &
     }
 }
 
-// Counts one edge more to the id.
 fn count_up<ID: Hash + Eq + Drop>(counts: &mut HashMap<ID, usize>, id: ID) -> Result<(), AllocError>
     ensures counts { OnOk result ((i : ID) → count_at ID.eq counts.new i
         ≡ count_at ID.eq counts.old i + (if ID.eq id i then 1 else 0)) }
@@ -213,7 +212,6 @@ fn count_up<ID: Hash + Eq + Drop>(counts: &mut HashMap<ID, usize>, id: ID) -> Re
     Ok(())
 }
 
-// Counts one edge less to the id.
 fn count_down<ID: Hash + Eq + Drop>(counts: &mut HashMap<ID, usize>, id: &ID)
     ensures counts { (i : ID) → count_at ID.eq counts.new i
         ≡ count_at ID.eq counts.old i - (if ID.eq id.now i then 1 else 0) }

@@ -1,5 +1,4 @@
-//! Walks over directed graphs, among them those that go on as they are asked, and the edges of
-//! graphs that are shown to users.
+//! Walks over directed graphs: depth-first and topological iterators, and graphs of a log.
 #![tactic(auto)]
 
 mod candidates;

@@ -1,4 +1,4 @@
-//! The reverse of a shown graph.
+//! The reverse of a graph: adjacency lists of incoming edges.
 ghost use Rattle.std.specs.Prelude.{◌≡◌, [], IfOk, if◌then◌else◌};
 ghost use Rattle.std.specs.Iterator.{IsFinite};
 ghost use Rattle.jj_walks.specs.ListsByKey.{items_at};
@@ -15,9 +15,10 @@ use std::hash::Hash;
 // The edges that lead to each id.
 type Incoming<ID> = HashMap<ID, Vec<GraphEdge<ID>>>;
 
-/// The nodes from the last to the first, each with the edges that lead to it: to the id of each
-/// node that has an edge to it, in the order of the input. Edges to ids that no node has are left
-/// out, and of nodes with one id the last has all edges.
+/// Returns the nodes from the last to the first, each with an edge to the id of each node that has
+/// an edge to it, in the order of the input. Drops edges to ids that no node has; of several nodes
+/// with one id, the last has all edges. Fails at the first error of the input, and if memory runs
+/// out.
 pub fn reverse_graph<N, ID: Hash + Eq + Clone + Drop, E: Drop, I, F>(
     alloc: Global,
     input: I,
@@ -59,7 +60,7 @@ where
     Ok(reversed)
 }
 
-// Takes out the edges that lead to the id.
+// Removes and returns the edges that lead to the id.
 fn take_edges<ID: Hash + Eq + Drop>(
     alloc: Global,
     incoming: &mut Incoming<ID>,

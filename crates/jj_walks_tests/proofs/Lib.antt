@@ -8,3 +8,4 @@ pub mod Ranks
 pub mod Newest
 pub mod Showing
 pub mod Lookups
+pub mod ImplementedGraphs

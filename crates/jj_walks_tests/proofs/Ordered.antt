@@ -1,6 +1,7 @@
 -- What a postorder of the ids says of the commits.
-use Rattle.std.proofs.Common.{◌≡◌, ℕ, true, List, [], map, refl, sym, ◌∙◌, subst, ⊎_elim, reverse, eqb, is_some}
+use Rattle.std.proofs.Common.{◌≡◌, ℕ, true, List, [], ◌∷◌, ◌++◌, ap, map, refl, sym, ◌∙◌, subst, ⊎_elim, reverse, eqb, is_some}
 use Rattle.std.specs.List.{Contains, IsDistinct}
+use Rattle.std.proofs.lemmas.List.{map-append, reverse-append}
 use denote.Ref.{Bor}
 use Rattle.jj_dag.specs.Graph.{IsPostorder, HasNoCycle, ReachedFrom, OnCycleFrom, StandsBefore}
 use Rattle.jj_dag.proofs.Relabelled.{Contains-map, Contains-unmap}
@@ -11,6 +12,11 @@ use Rattle.jj_walks_tests.specs.Commits.{ids_of, commit_with, parent_graph, has_
 use Rattle.jj_walks_tests.proofs.Numbering.{walk_of, walk_closed, starts_are_nodes, node, node_has, node_stands, numbers_had, found_edge}
 use Rattle.jj_dag.proofs.Postorders.{from_reverse, Postorder-reached, Postorder-once, Postorder-before}
 use Rattle.jj_dag.proofs.Plain.{nothing}
+
+map_reversed : {A B : Type 0} (f : A → B) (xs : List A) → map f (reverse xs) ≡ reverse (map f xs)
+map_reversed f [] = refl
+map_reversed f (x ∷ xs) =
+    ap (map f) (reverse-append (x ∷ []) xs) ∙ map-append f (reverse xs) (x ∷ []) ∙ ap (λ l. l ++ f x ∷ []) (map_reversed f xs) ∙ sym (reverse-append (f x ∷ []) (map f xs))
 
 module _ (commits : List Commit) (once : IsDistinct eqb (ids_of commits)) where
   reached_are_nodes : (a : ℕ) → ReachedFrom (parent_graph commits) (ids_of commits) a → is_some (commit_with commits a) ≡ true
@@ -37,6 +43,12 @@ module _ (commits : List Commit) (once : IsDistinct eqb (ids_of commits)) where
         once = subst (λ l. IsDistinct eqb l) are (Postorder-once g (reverse (ids_of commits)) [] numbers (λ a r. acyclic a (turned a r)) p tt);
         before = λ c q h parent. subst (λ l. StandsBefore l q.id c.id) are (Postorder-before g (ids_of commits) numbers p c.id q.id (stands c h) (found_edge commits c q once h parent));
       }
+
+  pub ordered_reversed : (order : List (Bor Commit)) → IsPostorder (parent_graph commits) (ids_of commits) (reverse (map (node commits) order)) → HasNoCycle (parent_graph commits) (ids_of commits)
+      → IsParentsFirst commits (reverse (map (λ x. x.now) order))
+  ordered_reversed order p acyclic =
+      subst (λ l. IsParentsFirst commits l) (map_reversed (λ x. x.now) order)
+      (ordered (reverse order) (subst (λ l. IsPostorder (parent_graph commits) (ids_of commits) l) (sym (map_reversed (node commits) order)) p) acyclic)
 
   pub on_cycle : (x : Bor Commit) (id : ℕ) → id ≡ x.now.id → OnCycleFrom (parent_graph commits) (ids_of commits) (node commits x) → IsOnCycle commits id
   on_cycle x id e k = subst (λ n. IsOnCycle commits n) (sym (e ∙ node_stands commits x (reached_are_nodes (node commits x) k.0))) k

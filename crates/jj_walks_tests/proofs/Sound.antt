@@ -8,9 +8,7 @@ use Rattle.std.proofs.lemmas.Iterator.Consumers.{YieldsList-from_first}
 use Rattle.std.proofs.lemmas.List.{map-id}
 use Rattle.std.proofs.lemmas.List.Elements.{Contains-append_right}
 use denote.Ref.{Bor}
-use Rattle.jj_walks.specs.declared.lazy_plan.Plan.{Plan}
 use Rattle.jj_dag.specs.Failing.{AreItems, BeginsWith, FailingGraph, Fault, ListsItems, ShowsItems}
-use Rattle.jj_walks.specs.LazySteps.{FailsNext, IsPlanOf}
 use Rattle.jj_dag.specs.Walk.{Numbered, AreNodes, DrainsTo}
 use Rattle.jj_dag.specs.Graph.{IsChildFirst, IsPreorder, ReachedFrom}
 use Rattle.jj_dag.proofs.Collecting.{are_nodes}
@@ -119,20 +117,6 @@ module _ (commits : List Commit) where
 
   pub known_are_nodes : (ids : List ℕ) → AreNodes (walk_of commits) (known_ids commits ids)
   known_are_nodes ids = set_are_nodes commits (filter_map (commit_with commits) ids) (λ c h. parents_had commits ids c h)
-
-  -- so an order of what they reach has a plan over the graph of the commits
-  pub known_plan : {F N C : Type 0} {tells : Shared F (Bor (Bor Commit) × Unit {0}) (Bor ℕ)} {lists : Mut N (Bor (Bor Commit) × Unit {0}) SoundCommits} {id_fn : F} {neighbors_fn : N} {on_cycle : C}
-      {plan : Plan (Bor Commit) (Bor ℕ) ℕ F N C} (ids : List ℕ) (value : SoundCommits) → value.found.commits.now ≡ commits → value.found.ids.now ≡ ids
-      → ((xs : List (Bor Commit)) × DrainsTo becomes (YieldsFirstBy shown_item items_left) value (map (λ x. Ok x) xs)
-      × ((walk : Numbered (Bor Commit) (Bor ℕ)) (shown : FailingGraph (Fault ℕ)) → ShowsItems walk shown (λ i j. eqb i.now j.now) tells lists becomes (YieldsFirstBy shown_item items_left) id_fn neighbors_fn
-      → AreNodes walk (map walk.node xs) → IsPlanOf tells lists walk shown (λ i j. eqb i.now j.now) becomes (YieldsFirstBy shown_item items_left) on_cycle (map walk.node xs) [] plan))
-      ⊎ ((xs : List (Bor Commit)) × (error : ℕ) × BeginsWith becomes (YieldsFirstBy shown_item items_left) value (map (λ x. Ok x) xs ++ Err error ∷ []) × FailsNext error plan)
-      → ShowsItems (walk_of commits) (items_of commits) (λ i j. eqb i.now j.now) tells lists becomes (YieldsFirstBy shown_item items_left) id_fn neighbors_fn
-      → IsPlanOf tells lists (walk_of commits) (items_of commits) (λ i j. eqb i.now j.now) becomes (YieldsFirstBy shown_item items_left) on_cycle (known_ids commits ids) [] plan
-  known_plan ids value same list (inl (xs, drained, plans)) shows =
-      let given = drained_starts ids value xs same list drained in
-      rw given at (plans (walk_of commits) (items_of commits) shows (rw given (known_are_nodes ids)))
-  known_plan ids value same list (inr (xs, error, begins, fails)) shows = absurd (never_fails commits ids value (map (λ x. Ok x) xs) error same list begins)
 
   -- no parent fails
   pub no_failure : (a : ℕ) (fault : Fault ℕ) → Contains (items_of commits a) (Err fault) → ⊥

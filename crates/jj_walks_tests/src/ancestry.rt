@@ -1,6 +1,6 @@
 //! Callers over a list of commits: each states what a walk gives in the words of commits, and is
 //! proved by the walk's contract.
-ghost use Rattle.std.specs.Prelude.{◌≡◌, true, IfOk, IfErr, eqb, map};
+ghost use Rattle.std.specs.Prelude.{◌≡◌, true, IfOk, IfErr, eqb, map, reverse};
 ghost use Rattle.std.specs.List.{Contains, IsDistinct};
 ghost use Rattle.jj_dag.specs.CommonNodes.{AreClosestCommon};
 ghost use Rattle.jj_dag.specs.Errors.{IfNode};
@@ -10,7 +10,7 @@ ghost use Rattle.jj_walks_tests.specs.Commits.{has_commit, ids_of, known_ids, pa
 
 use crate::commits::{Commit, commits_of, parents_of, sound_parents_of};
 use jj_content_tests::fallible_iterators::collect_fallible;
-use jj_walks::dag_walk::{WalkError, dfs, heads, topo_order_forward};
+use jj_walks::dag_walk::{WalkError, dfs, heads, topo_order_forward, topo_order_reverse};
 use jj_walks::dag_walk_async::closest_common_nodes;
 use std::alloc::{AllocError, Global};
 use std::collections::HashSet;
@@ -27,6 +27,26 @@ pub fn parents_first<'a>(
     ensures cycle { IfErr result (λ e. IfNode e (IsOnCycle commits.now)) }
 {
     topo_order_forward(
+        alloc,
+        commits.iter(),
+        |commit: &&Commit| Ok(&commit.id),
+        |commit: &&Commit| parents_of(commits, *commit),
+        |commit: &Commit| commit.id,
+    )
+}
+
+/// Returns the commits of the list, each before its parents that are in the list. Fails with the id
+/// of a commit on a cycle.
+pub fn parents_last<'a>(
+    alloc: Global,
+    commits: &'a [Commit],
+) -> Result<Vec<&'a Commit>, WalkError<u64>>
+    requires { IsDistinct eqb (ids_of commits.now) }
+    ensures order { IfOk result (λ order. IsParentsFirst commits.now
+        (reverse (map (λ commit. commit.now) order.items))) }
+    ensures cycle { IfErr result (λ e. IfNode e (IsOnCycle commits.now)) }
+{
+    topo_order_reverse(
         alloc,
         commits.iter(),
         |commit: &&Commit| Ok(&commit.id),

@@ -30,7 +30,7 @@ pub fn children_first<'a>(
     let walk = topo_order_reverse_lazy(
         alloc,
         sound_commits(commits, ids),
-        |commit: &&Commit| &commit.id,
+        |commit: &&Commit| Ok(&commit.id),
         |commit: &&Commit| failing_parents_of(commits, *commit),
         |commit: &Commit| commit.id,
     )?;
@@ -58,7 +58,7 @@ pub fn newest_first<'a>(
     topo_order_reverse_ord(
         alloc,
         sound_commits(commits, ids),
-        |commit: &&Commit| &commit.id,
+        |commit: &&Commit| Ok(&commit.id),
         |commit: &&Commit| failing_parents_of(commits, *commit),
         |commit: &Commit| commit.id,
     )
@@ -78,7 +78,7 @@ pub fn next_ids(
     topo_order_reverse_chunked(
         alloc,
         start,
-        |id: &u64| *id,
+        |id: &u64| Ok(*id),
         |id: &u64| sound_parent_ids(commits, *id),
         |id: u64| id,
     )

@@ -34,7 +34,7 @@ fn next_chunk(
     topo_order_reverse_chunked(
         alloc,
         start,
-        |node: &char| *node,
+        |node: &char| Ok(*node),
         |node: &char| items(table, *node).iter().copied(),
         |node: char| node,
     )

@@ -35,15 +35,15 @@ fn grouped_errors_print_and_compare(rt: HostRuntime) -> Result<(), Fail> {
         (GroupedGraphError::Input(7u32), "7"),
         (
             GroupedGraphError::DuplicateId,
-            "a node has the id of one that waits",
+            "the input has two nodes with the same id",
         ),
         (
             GroupedGraphError::MissingNode,
-            "a node that is wanted did not come",
+            "a referenced node is missing from the input",
         ),
         (
             GroupedGraphError::NotChildFirst,
-            "each node that waits has a child that waits",
+            "the input is not in topological order",
         ),
         (GroupedGraphError::Memory, "out of memory"),
     ];

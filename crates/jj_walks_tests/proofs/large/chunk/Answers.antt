@@ -1,13 +1,13 @@
 use Rattle.std.proofs.Common.{rules, of_calls, arith}
 use Rattle.std.proofs.lemmas.Grind.{common_steps}
-use Rattle.jj_dag.proofs.Owing.{can_show}
+use Rattle.jj_dag.proofs.Owing.{walkable_by}
 use Rattle.jj_walks_tests.proofs.large.chunk.Goals as goal
 
 pub topo_order_reverse_chunked-requires : goal.topo_order_reverse_chunked-requires
 topo_order_reverse_chunked-requires c = (
   search rules,
   (
-    can_show (search rules) (first_of (search (rules, of_calls), search of_calls, grind (arith, common_steps))) (λ a r f h. (λ it b. (first_of (search rules, search (rules, of_calls, h, b)), first_of (search rules, search (rules, of_calls, h, b))), search (rules, of_calls, h))),
+    walkable_by (search rules) (first_of (search (rules, of_calls), search of_calls, grind (arith, common_steps))) (λ a r f h. (λ it b. (first_of (search rules, search (rules, of_calls, h, b)), first_of (search rules, search (rules, of_calls, h, b))), search (rules, of_calls, h))),
     search rules,
   ),
 )

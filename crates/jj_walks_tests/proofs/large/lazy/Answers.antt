@@ -1,6 +1,6 @@
 use Rattle.std.proofs.Common.{rules, of_calls}
-use Rattle.jj_dag.proofs.Owing.{can_show}
+use Rattle.jj_dag.proofs.Owing.{walkable_by}
 use Rattle.jj_walks_tests.proofs.large.lazy.Goals as goal
 
 pub topo_order_reverse_lazy-requires-clause-graph : goal.topo_order_reverse_lazy-requires-clause-graph
-topo_order_reverse_lazy-requires-clause-graph c = can_show (search rules) (search (rules, of_calls)) (λ a r f h. (λ it b. (first_of (search rules, search (rules, of_calls, h, b)), first_of (search rules, search (rules, of_calls, h, b))), search (rules, of_calls, h)))
+topo_order_reverse_lazy-requires-clause-graph c = walkable_by (search rules) (search (rules, of_calls)) (λ a r f h. (λ it b. (first_of (search rules, search (rules, of_calls, h, b)), first_of (search rules, search (rules, of_calls, h, b))), search (rules, of_calls, h)))
