@@ -1,8 +1,9 @@
 //! Rows of a conformance table: the arguments of a request, and the values of its result.
 //!
 //! A request is a name and its arguments, each preceded by a TAB. A field `|` ends a group of
-//! arguments. In a field `\t`, `\n`, `\r`, `\\` and `\xHH` represent one byte. In an optional
-//! string `~` is `None`, and `=s` is the string `s`.
+//! arguments; an empty group has no field. In a field `\t`, `\n`, `\r`, `\\` and `\xHH` represent
+//! one byte, and `\e` none, so that a group `\e` has one empty field. In an optional string `~` is
+//! `None`, and `=s` is the string `s`.
 #![tactic(auto)]
 
 pub mod request;

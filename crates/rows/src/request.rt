@@ -39,6 +39,7 @@ fn push_escape(bytes: &mut Vec<u8>, letter: u8) -> Result<Escape, RowError> {
         b'n' => bytes.push(b'\n')?,
         b'r' => bytes.push(b'\r')?,
         b'\\' => bytes.push(b'\\')?,
+        b'e' => {}
         b'x' => return Ok(Escape::Hex),
         _ => return Err(RowError::Unreadable("escape")),
     }
