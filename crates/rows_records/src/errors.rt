@@ -1,5 +1,5 @@
 //! Strings of errors: `error-string KIND FIELDS`.
-use crate::arguments::id;
+use crate::arguments::{id, owned};
 use jj_backend::backend::{BackendError, BackendInitError, BackendLoadError, TimestampOutOfRange};
 use jj_backend::signing::SignError;
 use jj_files::file_util::{SourceError, SourceKind};
@@ -10,10 +10,6 @@ use rows::request::{Fields, Request};
 use rows::row_error::RowError;
 use rows::values::Values;
 use std::alloc::Global;
-
-fn owned(alloc: Global, fields: &Fields, index: usize) -> Result<String, RowError> {
-    Ok(String::from_str(alloc, fields.string(index)?)?)
-}
 
 fn cause(alloc: Global, fields: &Fields, index: usize) -> Result<SourceError, RowError> {
     Ok(SourceError {

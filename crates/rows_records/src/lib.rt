@@ -1,9 +1,11 @@
-//! Requests of the conformance table on times, verifications of signatures and errors of stores.
+//! Requests of the conformance table on times, commits, copy histories, verifications of signatures
+//! and errors of stores. Ids are in hexadecimal.
 #![tactic(auto)]
 
-mod arguments;
+pub mod arguments;
+mod commits;
 mod errors;
-mod recorded;
+pub mod recorded;
 mod signatures;
 mod times;
 
@@ -21,6 +23,7 @@ pub fn call(
 ) -> Result<bool, RowError> {
     Ok(
         times::call(alloc, name, request, values)?
+            || commits::call(alloc, name, request, values)?
             || errors::call(alloc, name, request, values)?
             || signatures::call(alloc, name, request, values)?,
     )

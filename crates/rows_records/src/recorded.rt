@@ -41,7 +41,7 @@ pub fn put_content<T: ContentHash>(alloc: Global, values: &mut Values, value: &T
     values.allocated(content_hex(alloc, value));
 }
 
-// The JSON text of a value that is one of JSON: only an allocation can fail.
+// Serializes a JSON value: only an allocation can fail.
 fn json_text<T: Serialize>(alloc: Global, value: &T) -> Result<String, AllocError> {
     match serde_json::to_string(alloc, value) {
         Ok(text) => Ok(text),
@@ -49,7 +49,7 @@ fn json_text<T: Serialize>(alloc: Global, value: &T) -> Result<String, AllocErro
     }
 }
 
-/// Appends the JSON text of a value, or `out of range`.
+/// Appends a value as JSON, or `out of range`.
 pub fn put_json<T: ToJson>(alloc: Global, values: &mut Values, value: &T) {
     match value.to_json(alloc) {
         Ok(json) => values.allocated(json_text(alloc, &json)),
@@ -58,7 +58,7 @@ pub fn put_json<T: ToJson>(alloc: Global, values: &mut Values, value: &T) {
     }
 }
 
-/// Appends the content bytes and the JSON text of a record.
+/// Appends the content bytes of a record and its JSON.
 pub fn put_record<T: ContentHash + ToJson>(alloc: Global, values: &mut Values, value: &T) {
     put_content(alloc, values, value);
     put_json(alloc, values, value);
