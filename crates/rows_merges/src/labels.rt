@@ -8,7 +8,7 @@ use smallvec::SmallVec;
 use std::alloc::Global;
 
 // Parses labels. No fields mean no labels.
-pub(crate) fn labels_of(fields: &Fields) -> Result<ConflictLabels, RowError> {
+fn labels_of(fields: &Fields) -> Result<ConflictLabels, RowError> {
     let strings = fields.strings(0)?;
     needs(
         strings.is_empty() || strings.len() % 2 == 1,

@@ -1,10 +1,8 @@
-//! Requests of the conformance table on merges, conflict labels and tree merges.
+//! Requests of the conformance table on merges and conflict labels.
 #![tactic(auto)]
 
 mod labels;
 mod merges;
-mod stores;
-mod trees;
 
 use rows::request::Request;
 use rows::row_error::RowError;
@@ -18,10 +16,5 @@ pub fn call(
     request: &Request,
     values: &mut Values,
 ) -> Result<bool, RowError> {
-    Ok(
-        merges::call(alloc, name, request, values)?
-            || labels::call(alloc, name, request, values)?
-            || trees::call(alloc, name, request, values)?
-            || stores::call(alloc, name, request, values)?,
-    )
+    Ok(merges::call(alloc, name, request, values)? || labels::call(alloc, name, request, values)?)
 }

@@ -1,8 +1,9 @@
 //! Requests on the backend in memory. A length is that of the ids, in bytes.
-use crate::trees::{error_name, expect_ok, name_of, plain_file, tree_of_entries};
+use crate::trees::{error_name, expect_ok};
+use crate::values::tree_of;
 use jj_backend::backend::{
-    Backend, BackendError, BackendResult, Commit, CommitId, CopyHistory, CopyId, FileId, SecureSig,
-    SigningFn, SymlinkId, TreeId, TreeValue,
+    Backend, BackendError, BackendResult, Commit, CommitId, CopyHistory, CopyId, FileId, NoSigner,
+    SecureSig, SigningFn, SymlinkId, TreeId,
 };
 use jj_backend::signing::{SignError, SignResult};
 use jj_content::hex_util::encode_hex;
@@ -79,31 +80,73 @@ fn root_commit(alloc: Global, request: &Request, values: &mut Values) -> Result<
     Ok(())
 }
 
-// `memory-missing ID`: the errors of reads of a file, a tree, a symlink, a copy and a commit.
-fn missing(alloc: Global, request: &Request, values: &mut Values) -> Result<(), RowError> {
-    let fields = request.group(0)?;
-    let id = if fields.is_empty() {
-        b""
-    } else {
-        fields.bytes(0)?
-    };
-    let backend = MemoryBackend::new(alloc)?;
-    let file = FileId::from_bytes(alloc, id)?;
-    write_read(backend.read_file(alloc, RepoPath::root(), &file), values)?;
-    let tree = TreeId::from_bytes(alloc, id)?;
-    write_read(backend.read_tree(alloc, RepoPath::root(), &tree), values)?;
-    let link = SymlinkId::from_bytes(alloc, id)?;
-    write_read(backend.read_symlink(alloc, RepoPath::root(), &link), values)?;
-    let copy = CopyId::from_bytes(alloc, id)?;
-    write_read(backend.read_copy(alloc, &copy), values)?;
-    let commit = CommitId::from_bytes(alloc, id)?;
-    write_read(backend.read_commit(alloc, &commit), values)
+fn read_file(
+    alloc: Global,
+    backend: &MemoryBackend,
+    id: &[u8],
+    values: &mut Values,
+) -> Result<(), RowError> {
+    let id = FileId::from_bytes(alloc, id)?;
+    write_read(backend.read_file(alloc, RepoPath::root(), &id), values)
 }
 
-// `memory-file LENGTH CONTENTS`: the id. A second write returns the same one.
-fn file(alloc: Global, request: &Request, values: &mut Values) -> Result<(), RowError> {
-    let contents = request.group(0)?.bytes(1)?;
-    let mut backend = backend_of(alloc, request.group(0)?.index(0)?)?;
+fn read_tree(
+    alloc: Global,
+    backend: &MemoryBackend,
+    id: &[u8],
+    values: &mut Values,
+) -> Result<(), RowError> {
+    let id = TreeId::from_bytes(alloc, id)?;
+    write_read(backend.read_tree(alloc, RepoPath::root(), &id), values)
+}
+
+fn read_symlink(
+    alloc: Global,
+    backend: &MemoryBackend,
+    id: &[u8],
+    values: &mut Values,
+) -> Result<(), RowError> {
+    let id = SymlinkId::from_bytes(alloc, id)?;
+    write_read(backend.read_symlink(alloc, RepoPath::root(), &id), values)
+}
+
+fn read_copy(
+    alloc: Global,
+    backend: &MemoryBackend,
+    id: &[u8],
+    values: &mut Values,
+) -> Result<(), RowError> {
+    let id = CopyId::from_bytes(alloc, id)?;
+    write_read(backend.read_copy(alloc, &id), values)
+}
+
+fn read_commit(
+    alloc: Global,
+    backend: &MemoryBackend,
+    id: &[u8],
+    values: &mut Values,
+) -> Result<(), RowError> {
+    let id = CommitId::from_bytes(alloc, id)?;
+    write_read(backend.read_commit(alloc, &id), values)
+}
+
+// `memory-missing ID`: the errors of reads of a file, a tree, a symlink, a copy and a commit.
+fn missing(alloc: Global, request: &Request, values: &mut Values) -> Result<(), RowError> {
+    let id = request.group(0)?.bytes(0)?;
+    let backend = MemoryBackend::new(alloc)?;
+    read_file(alloc, &backend, id, values)?;
+    read_tree(alloc, &backend, id, values)?;
+    read_symlink(alloc, &backend, id, values)?;
+    read_copy(alloc, &backend, id, values)?;
+    read_commit(alloc, &backend, id, values)
+}
+
+fn put_file(
+    alloc: Global,
+    backend: &mut MemoryBackend,
+    contents: &[u8],
+    values: &mut Values,
+) -> Result<(), RowError> {
     let id = expect_ok(backend.write_file(alloc, RepoPath::root(), contents))?;
     let again = expect_ok(backend.write_file(alloc, RepoPath::root(), contents))?;
     values.allocated(id.hex(alloc));
@@ -111,17 +154,42 @@ fn file(alloc: Global, request: &Request, values: &mut Values) -> Result<(), Row
     agree(again == id && read.as_slice() == contents, "a file")
 }
 
-// `memory-symlink LENGTH TARGET`: the id. A file of the same id does not count.
+// `memory-file LENGTH CONTENTS`: the id. A second write returns the same one.
+fn file(alloc: Global, request: &Request, values: &mut Values) -> Result<(), RowError> {
+    let contents = request.group(0)?.bytes(1)?;
+    let mut backend = backend_of(alloc, request.group(0)?.index(0)?)?;
+    put_file(alloc, &mut backend, contents, values)
+}
+
+// A file of the same id does not count.
+fn read_file_as_symlink(
+    alloc: Global,
+    backend: &mut MemoryBackend,
+    target: &str,
+    values: &mut Values,
+) -> Result<(), RowError> {
+    let file = expect_ok(backend.write_file(alloc, RepoPath::root(), target.as_bytes()))?;
+    read_symlink(alloc, backend, file.as_bytes(), values)
+}
+
+fn put_symlink(
+    alloc: Global,
+    backend: &mut MemoryBackend,
+    target: &str,
+    values: &mut Values,
+) -> Result<(), RowError> {
+    let id = expect_ok(backend.write_symlink(alloc, RepoPath::root(), target))?;
+    values.allocated(id.hex(alloc));
+    let read = expect_ok(backend.read_symlink(alloc, RepoPath::root(), &id))?;
+    agree(read.as_str() == target, "a symlink")
+}
+
+// `memory-symlink LENGTH TARGET`: the error of a read of the file of this id, and the id.
 fn symlink(alloc: Global, request: &Request, values: &mut Values) -> Result<(), RowError> {
     let target = request.group(0)?.string(1)?;
     let mut backend = backend_of(alloc, request.group(0)?.index(0)?)?;
-    let file = expect_ok(backend.write_file(alloc, RepoPath::root(), target.as_bytes()))?;
-    let id = SymlinkId::from_bytes(alloc, file.as_bytes())?;
-    write_read(backend.read_symlink(alloc, RepoPath::root(), &id), values)?;
-    let written = expect_ok(backend.write_symlink(alloc, RepoPath::root(), target))?;
-    values.allocated(written.hex(alloc));
-    let read = expect_ok(backend.read_symlink(alloc, RepoPath::root(), &id))?;
-    agree(written == id && read.as_str() == target, "a symlink")
+    read_file_as_symlink(alloc, &mut backend, target, values)?;
+    put_symlink(alloc, &mut backend, target, values)
 }
 
 fn path_of(alloc: Global, path: &str) -> Result<RepoPathBuf, RowError> {
@@ -155,25 +223,10 @@ fn copy(alloc: Global, request: &Request, values: &mut Values) -> Result<(), Row
     agree(read == history, "a copy history")
 }
 
-fn tree_value_of(alloc: Global, kind: &str, id: &[u8]) -> Result<TreeValue, RowError> {
-    match kind {
-        "file" => Ok(plain_file(alloc, FileId::from_bytes(alloc, id)?)),
-        "symlink" => Ok(TreeValue::Symlink(SymlinkId::from_bytes(alloc, id)?)),
-        "tree" => Ok(TreeValue::Tree(TreeId::from_bytes(alloc, id)?)),
-        "submodule" => Ok(TreeValue::GitSubmodule(CommitId::from_bytes(alloc, id)?)),
-        _ => Err(RowError::Unreadable("kind of value")),
-    }
-}
-
-// `memory-tree LENGTH | NAME KIND ID | ..`: the id of a tree.
+// `memory-tree LENGTH | ENTRY ..`: the id of a tree.
 fn tree(alloc: Global, request: &Request, values: &mut Values) -> Result<(), RowError> {
     let mut backend = backend_of(alloc, request.group(0)?.index(0)?)?;
-    let mut entries = Vec::new(alloc);
-    for fields in request.groups().iter().skip(1) {
-        let value = tree_value_of(alloc, fields.string(1)?, fields.bytes(2)?)?;
-        entries.push((name_of(alloc, fields.string(0)?)?, value))?;
-    }
-    let tree = tree_of_entries(entries)?;
+    let tree = tree_of(alloc, request.group(1)?)?;
     let id = expect_ok(backend.write_tree(alloc, RepoPath::root(), &tree))?;
     values.allocated(id.hex(alloc));
     let read = expect_ok(backend.read_tree(alloc, RepoPath::root(), &id))?;
@@ -189,7 +242,7 @@ fn unsupported(alloc: Global, values: &mut Values) -> Result<(), RowError> {
     write_read(backend.get_copy_records(alloc, None, root, root), values)
 }
 
-// What a signer does.
+// The behavior of a signer.
 #[derive(Clone, Copy)]
 enum Behavior {
     Signs,
@@ -232,14 +285,11 @@ fn behavior_of(name: &str) -> Result<Option<Behavior>, RowError> {
     }
 }
 
-// The root commit with another description, and with itself as parent unless `is_root`.
-fn commit_of(
-    alloc: Global,
-    backend: &MemoryBackend,
-    description: &str,
-    is_root: bool,
-) -> Result<Commit, RowError> {
-    let description = String::from_str(alloc, description)?;
+// DESCRIPTION IS_ROOT: the root commit with this description, and with itself as parent unless
+// IS_ROOT is set.
+fn commit_of(alloc: Global, backend: &MemoryBackend, fields: &Fields) -> Result<Commit, RowError> {
+    let is_root = fields.flag(2)?;
+    let description = String::from_str(alloc, fields.string(1)?)?;
     let mut commit = expect_ok(backend.read_commit(alloc, backend.root_commit_id()))?;
     commit.description = description;
     if !is_root {
@@ -248,55 +298,74 @@ fn commit_of(
     Ok(commit)
 }
 
+type Written = BackendResult<(CommitId, Commit)>;
+
+fn write_unsigned(
+    alloc: Global,
+    backend: &mut MemoryBackend,
+    fields: &Fields,
+) -> Result<Written, RowError> {
+    let commit = commit_of(alloc, backend, fields)?;
+    Ok(backend.write_commit(alloc, commit, None::<&mut NoSigner>))
+}
+
 // A signature from before is replaced.
-fn signed_before(alloc: Global, mut commit: Commit) -> Commit {
+fn write_signed(
+    alloc: Global,
+    backend: &mut MemoryBackend,
+    fields: &Fields,
+    signer: &mut RecordingSigner,
+) -> Result<Written, RowError> {
+    let mut commit = commit_of(alloc, backend, fields)?;
     commit.secure_sig = Some(SecureSig {
         signed_data: Vec::new(alloc),
         sig: Vec::new(alloc),
     });
-    commit
+    Ok(backend.write_commit(alloc, commit, Some(signer)))
 }
 
-fn write_commit(
+fn write_with(
     alloc: Global,
-    backend: &MemoryBackend,
-    written: BackendResult<(CommitId, Commit)>,
+    backend: &mut MemoryBackend,
+    fields: &Fields,
     values: &mut Values,
-) -> Result<(), RowError> {
-    match written {
-        Ok((id, kept)) => {
-            values.allocated(id.hex(alloc));
-            values.flag(kept.secure_sig.is_some());
-            let read = expect_ok(backend.read_commit(alloc, &id))?;
-            agree(read == kept, "a commit")
-        }
-        Err(error) => write_error(&error, values),
-    }
-}
-
-// `memory-commit LENGTH DESCRIPTION IS_ROOT SIGNER`: the id of a commit on the root commit and
-// whether it is signed, the number of calls of the signer, and the data that it was given.
-fn commit(alloc: Global, request: &Request, values: &mut Values) -> Result<(), RowError> {
-    let fields = request.group(0)?;
-    let is_root = fields.flag(2)?;
-    let behavior = behavior_of(fields.string(3)?)?;
-    let mut backend = backend_of(alloc, fields.index(0)?)?;
-    let commit = commit_of(alloc, &backend, fields.string(1)?, is_root)?;
-    let Some(behavior) = behavior else {
-        let none: Option<&mut RecordingSigner> = None;
-        let written = backend.write_commit(alloc, commit, none);
-        return write_commit(alloc, &backend, written, values);
+) -> Result<Written, RowError> {
+    let Some(behavior) = behavior_of(fields.string(3)?)? else {
+        return write_unsigned(alloc, backend, fields);
     };
     let mut signer = RecordingSigner {
         behavior,
         calls: 0,
         data: Vec::new(alloc),
     };
-    let commit = signed_before(alloc, commit);
-    let written = backend.write_commit(alloc, commit, Some(&mut signer));
+    let written = write_signed(alloc, backend, fields, &mut signer);
     values.index(signer.calls);
     values.allocated(encode_hex(alloc, &signer.data));
-    write_commit(alloc, &backend, written, values)
+    written
+}
+
+fn put_commit(
+    alloc: Global,
+    backend: &MemoryBackend,
+    written: &(CommitId, Commit),
+    values: &mut Values,
+) -> Result<(), RowError> {
+    let (id, kept) = written;
+    values.allocated(id.hex(alloc));
+    values.flag(kept.secure_sig.is_some());
+    let read = expect_ok(backend.read_commit(alloc, id))?;
+    agree(read == *kept, "a commit")
+}
+
+// `memory-commit LENGTH DESCRIPTION IS_ROOT SIGNER`: the id of a commit on the root commit and
+// whether it is signed, after the signer's number of calls and the data that it signed.
+fn commit(alloc: Global, request: &Request, values: &mut Values) -> Result<(), RowError> {
+    let fields = request.group(0)?;
+    let mut backend = backend_of(alloc, fields.index(0)?)?;
+    match write_with(alloc, &mut backend, fields, values)? {
+        Ok(written) => put_commit(alloc, &backend, &written, values),
+        Err(error) => write_error(&error, values),
+    }
 }
 
 /// Runs the request of this name. Returns `false` if there is none.

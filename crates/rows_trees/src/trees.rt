@@ -4,7 +4,7 @@ ghost use Rattle.std.specs.Prelude.{◌≡◌, ◌⊎◌, [], length, IsTrue, If
 ghost use Rattle.std.specs.FinMap.{is_sorted};
 ghost use Rattle.jj_paths.specs.Paths.{name_cmp};
 
-use crate::labels::labels_of;
+use crate::values::labels_of;
 use jj_backend::backend::{
     Backend, BackendError, BackendResult, CopyId, FileId, Tree, TreeId, TreeValue,
 };
@@ -71,7 +71,7 @@ pub(crate) fn name_of(alloc: Global, name: &str) -> Result<RepoPathComponentBuf,
 }
 
 // Returns a file that is not executable and not copied.
-pub(crate) fn plain_file(alloc: Global, id: FileId) -> TreeValue {
+fn plain_file(alloc: Global, id: FileId) -> TreeValue {
     TreeValue::File {
         id,
         executable: false,
@@ -304,23 +304,33 @@ fn parse_same_change(name: &str) -> Result<SameChange, RowError> {
     }
 }
 
-// `tree-merge SAME_CHANGE LEVELS ROOTS | TREE .. | LABELS`: the resolved paths and the conflicts.
-fn tree_merge(alloc: Global, request: &Request, values: &mut Values) -> Result<(), RowError> {
+// SAME_CHANGE LEVELS ROOTS | .. | LABELS
+fn put_merge(
+    alloc: Global,
+    request: &Request,
+    backend: &MemoryBackend,
+    trees: &[(u8, TreeId)],
+    values: &mut Values,
+) -> Result<(), RowError> {
     let fields = request.group(0)?;
     let same_change = parse_same_change(fields.string(0)?)?;
     let levels = fields.index(1)?;
-    let digits = fields.bytes(2)?;
-    let mut backend = MemoryBackend::new(alloc)?;
-    let trees = write_trees(alloc, &mut backend, request.group(1)?)?;
-    let roots = roots_of(alloc, &trees, digits)?;
-    let labels = labels_of(request.group(2)?)?;
-    match merge_labeled(alloc, &backend, &roots, &labels, same_change, levels)? {
-        Ok(merge) => write_merge(alloc, &backend, &trees, &merge, values),
+    let labels = labels_of(alloc, request.group(2)?)?;
+    let roots = roots_of(alloc, trees, fields.bytes(2)?)?;
+    match merge_labeled(alloc, backend, &roots, &labels, same_change, levels)? {
+        Ok(merge) => write_merge(alloc, backend, trees, &merge, values),
         Err(error) => {
             values.word(error_name(&error)?);
             Ok(())
         }
     }
+}
+
+// `tree-merge SAME_CHANGE LEVELS ROOTS | TREE .. | LABELS`: the resolved paths and the conflicts.
+fn tree_merge(alloc: Global, request: &Request, values: &mut Values) -> Result<(), RowError> {
+    let mut backend = MemoryBackend::new(alloc)?;
+    let trees = write_trees(alloc, &mut backend, request.group(1)?)?;
+    put_merge(alloc, request, &backend, &trees, values)
 }
 
 /// Runs the request of this name. Returns `false` if there is none.

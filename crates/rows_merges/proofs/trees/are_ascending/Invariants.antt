@@ -1,5 +1,0 @@
-use Rattle.rows_merges.proofs.Ascending.{AscendBelow}
-use Rattle.rows_merges.proofs.trees.are_ascending.Given as goal
-
-abbrev pub invariant-loop-i : goal.invariant-loop-i
-invariant-loop-i l = AscendBelow l.entries l.i
