@@ -27,6 +27,7 @@ fn call(alloc: Global, name: &str, request: &Request, values: &mut Values) -> Re
         || rows_merges::call(alloc, name, request, values)?
         || rows_records::call(alloc, name, request, values)?
         || rows_trees::call(alloc, name, request, values)?
+        || rows_views::call(alloc, name, request, values)?
         || rows_walks::call(alloc, name, request, values)?
         || rows_program::call(alloc, name, request, values)?
     {
