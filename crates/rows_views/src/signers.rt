@@ -98,21 +98,21 @@ fn backend_of(
     })
 }
 
-fn verify(
-    alloc: Global,
-    signer: &mut Signer,
-    commits: &Fields,
-    values: &mut Values,
-) -> Result<(), RowError> {
-    for index in 0..commits.len() {
-        let commit = CommitId::from_bytes(alloc, commits.bytes(index)?)?;
-        match signer.verify(&commit, b"data", b"signature") {
-            Ok(verification) => values.display(&verification.status()),
-            Err(SignError::Memory) => return Err(RowError::Memory),
-            Err(error) => values.display(&error),
-        }
+fn put_verification(found: SignResult<Verification>, values: &mut Values) -> Result<(), RowError> {
+    match found {
+        Ok(verification) => values.display(&verification.status()),
+        Err(SignError::Memory) => return Err(RowError::Memory),
+        Err(error) => values.display(&error),
     }
     Ok(())
+}
+
+fn commits_of(alloc: Global, fields: &Fields) -> Result<Vec<CommitId>, RowError> {
+    let mut commits = Vec::new(alloc);
+    for index in 0..fields.len() {
+        commits.push(CommitId::from_bytes(alloc, fields.bytes(index)?)?)?;
+    }
+    Ok(commits)
 }
 
 // CAPACITY | MAIN OTHER .. | COMMIT ..
@@ -126,7 +126,7 @@ fn verify_all(
         return Err(RowError::Precondition("a capacity"));
     };
     let backends = request.group(1)?;
-    let commits = request.group(2)?;
+    let commits = commits_of(alloc, request.group(2)?)?;
     let main = backend_of(alloc, backends.string(0)?, counters)?;
     let main: Box<dyn SigningBackend> = Box::new(alloc, main)?;
     let mut others = Vec::new(alloc);
@@ -136,7 +136,10 @@ fn verify_all(
         others.push(other)?;
     }
     let mut signer = Signer::with_capacity(alloc, Some(main), others, capacity)?;
-    verify(alloc, &mut signer, commits, values)
+    for commit in &commits {
+        put_verification(signer.verify(commit, b"data", b"signature"), values)?;
+    }
+    Ok(())
 }
 
 // `signer CAPACITY | MAIN OTHER .. | COMMIT ..`: the status or the error of each verification, and
