@@ -5,9 +5,7 @@
 pub mod callers;
 #[cfg(test)]
 mod content;
-pub mod content_hex;
 pub mod fallible_iterators;
-pub mod json_strings;
 #[cfg(test)]
 mod recorder;
 pub mod records;

@@ -6,34 +6,6 @@ use std::test::Fail;
 /// The result of a part of a test, which fails only if memory runs out.
 pub type Passed = Result<(), AllocError>;
 
-/// Returns whether `made` returns the expected string. Retries once after an allocation failure.
-pub fn returns_string<R, F>(rt: &R, made: F, wanted: &str) -> bool
-where
-    R: AllocGlobal,
-    F: Fn(Global) -> Result<String, AllocError>,
-    requires { F.IsAlwaysCallable made }
-{
-    let alloc = rt.alloc();
-    match made(alloc).or_else(|_| made(alloc)) {
-        Ok(text) => text.as_str() == wanted,
-        Err(AllocError) => false,
-    }
-}
-
-/// Returns whether `text_of`, applied to the value that `made` returns, is the expected string.
-/// Retries once after an allocation failure.
-pub fn returns_shown<R, T, F, G>(rt: &R, made: F, text_of: G, wanted: &str) -> bool
-where
-    R: AllocGlobal,
-    T: Drop,
-    F: Fn(Global) -> Result<T, AllocError>,
-    G: Fn(Global, &T) -> Result<String, AllocError>,
-    requires made { F.IsAlwaysCallable made }
-    requires text_of { G.IsAlwaysCallable text_of }
-{
-    returns_string(rt, |alloc| text_of(alloc, &made(alloc)?), wanted)
-}
-
 /// Returns whether `claim` returns true. Retries once after an error.
 pub fn holds<R, E, F>(rt: &R, claim: F) -> bool
 where

@@ -1,34 +1,12 @@
 //! Tests of the helpers that retry.
-use crate::retry::{holds, passes, returns_shown, returns_string};
+use crate::retry::{holds, passes};
 use std::alloc::{AllocError, Global};
 use std::cell::Cell;
 use std::process::Abort;
 use std::test::Fail;
 
-fn letter(alloc: Global) -> Result<String, AllocError> {
-    String::from_str(alloc, "a")
-}
-
 fn refused<T>(_alloc: Global) -> Result<T, AllocError> {
     Err(AllocError)
-}
-
-#[test]
-fn strings_are_compared(rt: HostRuntime) {
-    assert!(rt; returns_string(&rt, letter, "a"));
-    assert!(rt; !returns_string(&rt, letter, "b"));
-    assert!(rt; !returns_string(&rt, refused, "a"));
-}
-
-fn copied(_alloc: Global, text: &String) -> Result<String, AllocError> {
-    text.clone()
-}
-
-#[test]
-fn shown_values_are_compared(rt: HostRuntime) {
-    assert!(rt; returns_shown(&rt, letter, copied, "a"));
-    assert!(rt; !returns_shown(&rt, letter, copied, "b"));
-    assert!(rt; !returns_shown(&rt, refused, copied, "a"));
 }
 
 #[test]
