@@ -18,7 +18,7 @@ use Rattle.std.specs.Prelude.{if◌then◌else◌}
 use Rattle.jj_dag.specs.CommonNodes.{HasNoCommonCycle, AreClosestCommon}
 use Rattle.jj_dag.specs.CommonSearch.{KnowsMarks, IsStarting, reach_of_sets}
 use Rattle.jj_dag.specs.Graph.{HasEdge, ReachedFrom}
-use Rattle.jj_dag.specs.Marks.{no_mark, reach_of_both, grows, handed_on, mark_with, starts_waiting, without_waiting, closest_of}
+use Rattle.jj_dag.specs.Marks.{no_mark, reach_of_both, grows, propagated, mark_with, starts_waiting, without_waiting, closest_of}
 use Rattle.jj_dag.specs.Walk.{Numbered, AreNodes}
 use Rattle.jj_dag.proofs.Collecting.{are_nodes}
 use Rattle.jj_dag.proofs.CommonMarks.{IsBoth, Passes, IsMarking, IsAtEnd, at_mark, marks_more, marking_more, marking_asked, passes_marked, passes_kept, is_common, end_common, end_maximal, maximal_ends}
@@ -433,7 +433,7 @@ module _ {T ID : Type 0} (w : Numbered T ID) where
   and_false true = refl
   and_false false = refl
 
-  full : (known added : Reach) → known.left ≡ added.left → known.right ≡ added.right → grows known (handed_on added) ≡ false
+  full : (known added : Reach) → known.left ≡ added.left → known.right ≡ added.right → grows known (propagated added) ≡ false
   full known added l r =
       ap (λ t. (added.left && not t) || (added.right && not known.right)) l ∙ ap (λ t. (added.left && not added.left) || (added.right && not t)) r
       ∙ ap (λ t. t || (added.right && not added.right)) (not_self added.left) ∙ not_self added.right
@@ -441,12 +441,12 @@ module _ {T ID : Type 0} (w : Numbered T ID) where
   -- one neighbour more has it
   pub hands_more : (eq : ID → ID → Bool) (set1 set2 : List ℕ) (m : ℕ → Reach) (a : ℕ) (known : Reach) (waiting waiting2 : List T) (common : List (ID × T)) (rooted : Bool) (find find2 : ID → Mark) (given : List ℕ) (x : T) (i : ID)
       → Apart eq → HandsOn set1 set2 m a known waiting common rooted find given → HasEdge w.graph a (w.node x) → w.is_node (w.node x) ≡ true → w.id i ≡ w.node x
-      → ((q : ID) → find2 q ≡ cond (eq i q) (mark_with (find i) (handed_on known)) (find q))
-      → MatchBool (starts_waiting (find i) (handed_on known)) (IsPermutation (x ∷ waiting) waiting2) (waiting2 ≡ waiting)
-      → HandsOn set1 set2 (marks_more m (w.node x) (handed_on known)) a known waiting2 common rooted find2 (given ++ w.node x ∷ [])
+      → ((q : ID) → find2 q ≡ cond (eq i q) (mark_with (find i) (propagated known)) (find q))
+      → MatchBool (starts_waiting (find i) (propagated known)) (IsPermutation (x ∷ waiting) waiting2) (waiting2 ≡ waiting)
+      → HandsOn set1 set2 (marks_more m (w.node x) (propagated known)) a known waiting2 common rooted find2 (given ++ w.node x ∷ [])
   hands_more eq set1 set2 m a known waiting waiting2 common rooted find find2 given x i apart k edge here same updates puts =
       let y = w.node x in
-      let r = handed_on known in
+      let r = propagated known in
       let W = map w.node waiting in
       let later = map w.node waiting2 in
       let more = knows_more eq m waiting waiting2 find find2 x i r apart k.marks here same updates puts in
@@ -565,7 +565,8 @@ module _ {T ID : Type 0} (w : Numbered T ID) where
         reached = λ b h. k.reached b (Contains-append_right (a ∷ []) W b h);
       }
 
-  -- an expanded node, all of whose neighbours were marked, becomes a candidate if both sets reach it
+  -- an expanded node, all of whose neighbours were marked, becomes a candidate if both sets reach
+  -- it
   pub hands_over : {set1 set2 : List ℕ} {m : ℕ → Reach} {known : Reach} {waiting : List T} {common common2 : List (ID × T)} {rooted : Bool} {find : ID → Mark} {given : List ℕ} (more : List (ID × T)) (x : T) (i : ID) (is_root : Bool)
       → HandsOn set1 set2 m (w.node x) known waiting common rooted find given → w.id i ≡ w.node x → common2 ≡ cond (known.left && known.right) more common → more ≡ common ++ (i, x) ∷ []
       → ((b : ℕ) → HasEdge w.graph (w.node x) b → Contains given b) → (is_root ≡ false → (b : ℕ) × HasEdge w.graph (w.node x) b)

@@ -6,7 +6,7 @@ use Rattle.std.proofs.lemmas.Bool.{cases_eq}
 use Rattle.std.proofs.lemmas.Bool.Decides.{Decides-eqb}
 use Rattle.std.proofs.lemmas.List.{map-append, map_push, length-map, get_or_append_left, get_or_push}
 use Rattle.std.proofs.lemmas.List.Elements.{Contains-append_left, Contains-append_right, Contains-append_cases, Contains-push, Contains-push_cases, Contains-get_or}
-use Rattle.jj_dag.specs.Graph.{HasEdge, Path, ReachedFrom}
+use Rattle.jj_dag.specs.Graph.{HasEdge, IsWalkOfLength, ReachedFrom}
 use Rattle.jj_dag.specs.Failing.{FailingGraph, sound}
 use Rattle.jj_dag.specs.Collecting.{IsInjective, IsCollecting}
 use Rattle.jj_dag.specs.Walk.{Numbered, AreNodes}
@@ -56,7 +56,7 @@ module _ {T ID E : Type 0} (w : Numbered T ID) (items : FailingGraph E) where
   pub are_nodes : (starts : List ℕ) → ((a : ℕ) → w.is_node a ≡ true → AreNodes w (w.graph a)) → AreNodes w starts → (a : ℕ) → ReachedFrom w.graph starts a → w.is_node a ≡ true
   are_nodes starts closed nodes a (s, at, r) = along r.0 s (nodes s at) r.1
     where
-      along : (n b : ℕ) → w.is_node b ≡ true → Path w.graph b a n → w.is_node a ≡ true
+      along : (n b : ℕ) → w.is_node b ≡ true → IsWalkOfLength w.graph b a n → w.is_node a ≡ true
       along zero b is p = subst (λ (x : ℕ). w.is_node x ≡ true) p is
       along (suc n) b is (c, edge, p) = along n c (closed b is c edge) p
 

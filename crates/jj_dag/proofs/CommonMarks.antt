@@ -1,14 +1,15 @@
--- The search for the closest common nodes of two sets, on numbers: the marks of the nodes while some are open, and at the end.
+-- The search for the closest common nodes of two sets, on numbers: the marks of the nodes while
+-- some are open, and at the end.
 use Rattle.std.proofs.Common.{◌≡◌, ℕ, zero, suc, ◌==◌, Bool, true, false, not, cond, ◌&&◌, ◌||◌, List, [], ◌∷◌, refl, sym, ◌∙◌, subst, arith, inl, inr, ◌⊎◌, ⊎_elim, true≢false, eqb}
 use Rattle.std.specs.Prelude.{◌↔◌}
 use Rattle.std.specs.List.{Contains, IsDistinct}
 use Rattle.std.proofs.lemmas.Bool.Decides.{Decides-eqb}
 use Rattle.std.proofs.lemmas.List.Elements.{Contains-append_right}
 use Rattle.std.proofs.lemmas.Bool.{and_parts, or_cases, or_left, or_right}
-use Rattle.jj_dag.specs.Graph.{Graph, HasEdge, Path, Reaches, StrictlyReaches, ReachedFrom, IsMaximal}
+use Rattle.jj_dag.specs.Graph.{Graph, HasEdge, IsWalkOfLength, Reaches, StrictlyReaches, ReachedFrom, IsMaximal}
 use Rattle.jj_dag.specs.CommonNodes.{IsCommon, HasNoCommonCycle}
 use Rattle.jj_dag.specs.declared.closest_common.Reach.{Reach}
-use Rattle.jj_dag.specs.Marks.{reach_of_both, grows, handed_on}
+use Rattle.jj_dag.specs.Marks.{reach_of_both, grows, propagated}
 use Rattle.jj_dag.proofs.Walking.{has, has-from_Contains, Contains-from_has}
 use Rattle.jj_dag.proofs.Reaching.{Reaches-trans, Reaches-then_strictly, edge_then_Reaches, ReachedFrom-edge}
 use Rattle.jj_dag.proofs.Plain.{neither}
@@ -81,19 +82,20 @@ pub record Passes (k l : Reach) : Type 0 where
   pub right : k.right ≡ true → l.right ≡ true
   pub below : IsBoth k → l.below ≡ true
 
-pub passes_marked : (m : ℕ → Reach) (k : Reach) (y : ℕ) → Passes k (marks_more m y (handed_on k) y)
+pub passes_marked : (m : ℕ → Reach) (k : Reach) (y : ℕ) → Passes k (marks_more m y (propagated k) y)
 passes_marked m k y = record {
-  left = λ h. at_mark m y (handed_on k) y (λ l. l.left ≡ true) (λ e. or_right (m y).left k.left h) (λ ne. absurd (ne refl));
-  right = λ h. at_mark m y (handed_on k) y (λ l. l.right ≡ true) (λ e. or_right (m y).right k.right h) (λ ne. absurd (ne refl));
-  below = λ (l, h). at_mark m y (handed_on k) y (λ l. l.below ≡ true) (λ e. or_right (m y).below (k.left && k.right) (both_and k.left k.right l h)) (λ ne. absurd (ne refl));
+  left = λ h. at_mark m y (propagated k) y (λ l. l.left ≡ true) (λ e. or_right (m y).left k.left h) (λ ne. absurd (ne refl));
+  right = λ h. at_mark m y (propagated k) y (λ l. l.right ≡ true) (λ e. or_right (m y).right k.right h) (λ ne. absurd (ne refl));
+  below = λ (l, h). at_mark m y (propagated k) y (λ l. l.below ≡ true) (λ e. or_right (m y).below (k.left && k.right) (both_and k.left k.right l h)) (λ ne. absurd (ne refl));
 }
 
 pub passes_kept : (m : ℕ → Reach) (y : ℕ) (r k : Reach) (b : ℕ) → Passes k (m b) → Passes k (marks_more m y r b)
 passes_kept m y r k b p = record { left = λ h. kept_left m y r b (p.left h); right = λ h. kept_right m y r b (p.right h); below = λ h. kept_below m y r b (p.below h) }
 
 module _ (g : Graph) (set1 set2 : List ℕ) where
-  -- Marks are sound. A node that is not open has passed on its mark; the candidates are the common nodes that are not open.
-  -- While no root was found, each node marked as common leads to an open one.
+  -- Marks are sound. A node that is not open has passed on its mark; the candidates are the common
+  -- nodes that are not open. While no root was found, each node marked as common leads to an open
+  -- one.
   pub record IsMarking (m : ℕ → Reach) (todo found : List ℕ) (rooted : Bool) : Type 0 where
     pub left : (a : ℕ) → (m a).left ≡ true → ReachedFrom g set1 a
     pub right : (a : ℕ) → (m a).right ≡ true → ReachedFrom g set2 a
@@ -112,10 +114,10 @@ module _ (g : Graph) (set1 set2 : List ℕ) where
 
   pub marking_more : {m : ℕ → Reach} {todo found : List ℕ} {rooted : Bool} (todo2 : List ℕ) (k : Reach) (a y : ℕ) → IsMarking m todo found rooted
       → ((k.left ≡ true) → (m a).left ≡ true) → ((k.right ≡ true) → (m a).right ≡ true) → HasEdge g a y
-      → ((b : ℕ) → Contains todo b → Contains todo2 b) → ((b : ℕ) → Contains todo2 b → Contains todo b ⊎ ((b ≡ y) × (grows (m y) (handed_on k) ≡ true)))
-      → (grows (m y) (handed_on k) ≡ true → Contains todo2 y) → IsMarking (marks_more m y (handed_on k)) todo2 found rooted
+      → ((b : ℕ) → Contains todo b → Contains todo2 b) → ((b : ℕ) → Contains todo2 b → Contains todo b ⊎ ((b ≡ y) × (grows (m y) (propagated k) ≡ true)))
+      → (grows (m y) (propagated k) ≡ true → Contains todo2 y) → IsMarking (marks_more m y (propagated k)) todo2 found rooted
   marking_more {m} {todo} {found} {rooted} todo2 k a y s has_left has_right edge keeps adds grown =
-      let r = handed_on k in
+      let r = propagated k in
       let m2 = marks_more m y r in
       let unchanged : (c : ℕ) → (Contains todo2 c → ⊥) → ((m2 c).left ≡ (m c).left) × ((m2 c).right ≡ (m c).right) = λ c closed.
       let still : c ≡ y → grows (m c) r ≡ false = λ same.
@@ -161,7 +163,7 @@ module _ (g : Graph) (set1 set2 : List ℕ) where
             (both_cases c both);
       }
     where
-      not_open_twice : (c : ℕ) → (c ≡ y) × (grows (m y) (handed_on k) ≡ true) → IsBoth (m c) → ⊥
+      not_open_twice : (c : ℕ) → (c ≡ y) × (grows (m y) (propagated k) ≡ true) → IsBoth (m c) → ⊥
       not_open_twice c (same, e) (l, h) =
           let l2 : (m y).left ≡ true = subst (λ n. (m n).left ≡ true) same l in
           let h2 : (m y).right ≡ true = subst (λ n. (m n).right ≡ true) same h in
@@ -175,9 +177,9 @@ module _ (g : Graph) (set1 set2 : List ℕ) where
           full true false e f = true≢false (sym f)
           full false r e f = true≢false (sym e)
 
-      both_cases : (c : ℕ) → IsBoth (marks_more m y (handed_on k) c) → IsBoth (m c) ⊎ ((c ≡ y) × (grows (m y) (handed_on k) ≡ true))
-      both_cases c = at_mark m y (handed_on k) c (λ l. IsBoth l → IsBoth (m c) ⊎ ((c ≡ y) × (grows (m y) (handed_on k) ≡ true)))
-          (λ same both. ⊎_elim (λ old. inl old) (λ new. inr (same, subst (λ n. grows (m n) (handed_on k) ≡ true) same new)) (both_grown (m c) (handed_on k) both)) (λ ne both. inl both)
+      both_cases : (c : ℕ) → IsBoth (marks_more m y (propagated k) c) → IsBoth (m c) ⊎ ((c ≡ y) × (grows (m y) (propagated k) ≡ true))
+      both_cases c = at_mark m y (propagated k) c (λ l. IsBoth l → IsBoth (m c) ⊎ ((c ≡ y) × (grows (m y) (propagated k) ≡ true)))
+          (λ same both. ⊎_elim (λ old. inl old) (λ new. inr (same, subst (λ n. grows (m n) (propagated k) ≡ true) same new)) (both_grown (m c) (propagated k) both)) (λ ne both. inl both)
 
   -- ---- an open node has passed on its mark
 
@@ -239,19 +241,19 @@ module _ (g : Graph) (set1 set2 : List ℕ) where
   OpenAbove : List ℕ → ℕ → Type 0
   OpenAbove todo b = (w : ℕ) × Contains todo w × StrictlyReaches g w b
 
-  on_left : {m : ℕ → Reach} {todo found : List ℕ} {rooted : Bool} → IsMarking m todo found rooted → (n c b : ℕ) → (m c).left ≡ true → Path g c b n → ((m b).left ≡ true) ⊎ OpenAbove todo b
+  on_left : {m : ℕ → Reach} {todo found : List ℕ} {rooted : Bool} → IsMarking m todo found rooted → (n c b : ℕ) → (m c).left ≡ true → IsWalkOfLength g c b n → ((m b).left ≡ true) ⊎ OpenAbove todo b
   unfolding OpenAbove
   on_left {m} k zero c b h p = inl (subst (λ x. (m x).left ≡ true) p h)
   on_left {m} {todo} k (suc n) c b h (d, e, p) =
       ⊎_elim (λ at. inr (c, at, (n, (d, e, p)))) (λ closed. on_left k n d b ((k.passed c d closed e).left h) p) (is_open todo c)
 
-  on_right : {m : ℕ → Reach} {todo found : List ℕ} {rooted : Bool} → IsMarking m todo found rooted → (n c b : ℕ) → (m c).right ≡ true → Path g c b n → ((m b).right ≡ true) ⊎ OpenAbove todo b
+  on_right : {m : ℕ → Reach} {todo found : List ℕ} {rooted : Bool} → IsMarking m todo found rooted → (n c b : ℕ) → (m c).right ≡ true → IsWalkOfLength g c b n → ((m b).right ≡ true) ⊎ OpenAbove todo b
   unfolding OpenAbove
   on_right {m} k zero c b h p = inl (subst (λ x. (m x).right ≡ true) p h)
   on_right {m} {todo} k (suc n) c b h (d, e, p) =
       ⊎_elim (λ at. inr (c, at, (n, (d, e, p)))) (λ closed. on_right k n d b ((k.passed c d closed e).right h) p) (is_open todo c)
 
-  below_both : {m : ℕ → Reach} {todo found : List ℕ} {rooted : Bool} → IsMarking m todo found rooted → (n c b : ℕ) → IsBoth (m c) → Path g c b (suc n) → ((m b).below ≡ true) ⊎ OpenAbove todo b
+  below_both : {m : ℕ → Reach} {todo found : List ℕ} {rooted : Bool} → IsMarking m todo found rooted → (n c b : ℕ) → IsBoth (m c) → IsWalkOfLength g c b (suc n) → ((m b).below ≡ true) ⊎ OpenAbove todo b
   unfolding OpenAbove
   below_both {m} {todo} k zero c b h (d, e, p) =
       ⊎_elim (λ at. inr (c, at, (0, (d, e, p)))) (λ closed. inl (subst (λ x. (m x).below ≡ true) p ((k.passed c d closed e).below h))) (is_open todo c)
@@ -296,7 +298,7 @@ module _ (g : Graph) (set1 set2 : List ℕ) where
           let s = strict w a v n p o q in
           subst (λ x. StrictlyReaches g w x) same s
         where
-          strict : (w a v n : ℕ) → Path g w a (suc n) → (o : ℕ) → Path g a v o → StrictlyReaches g w v
+          strict : (w a v n : ℕ) → IsWalkOfLength g w a (suc n) → (o : ℕ) → IsWalkOfLength g a v o → StrictlyReaches g w v
           strict w a v n (d, e, p) o q = edge_then_Reaches g w d v e (Reaches-trans g d a v n p (o, q))
 
   pub end_maximal : {m : ℕ → Reach} {todo found all : List ℕ} {rooted : Bool} → IsAtEnd m todo found all rooted → HasNoCommonCycle g set1 set2

@@ -4,7 +4,7 @@ use Rattle.std.proofs.lemmas.List.{map-append}
 use Rattle.std.proofs.lemmas.List.Elements.{Contains-append_right, Contains-push_cases}
 use Rattle.std.specs.Iterator.{Yields}
 use Rattle.std.specs.List.{Contains}
-use Rattle.jj_dag.specs.Graph.{Graph, Path, ReachedFrom, IsPostorder}
+use Rattle.jj_dag.specs.Graph.{Graph, IsWalkOfLength, ReachedFrom, IsPostorder}
 use Rattle.jj_dag.specs.Failing.{BeginsWith, FailingGraph, Fault, IsFault, HasNoFailure, ListsItems, ReachesFailure, sound, sound_items}
 use Rattle.jj_dag.specs.Walk.{DrainsTo}
 use Rattle.jj_dag.proofs.FailingWalks.{failed_first}
@@ -63,7 +63,7 @@ failed_list {E} items e (fault, same, is) =
 pub ReachedFrom-same : (g h : Graph) → ((a : ℕ) → g a ≡ h a) → (starts : List ℕ) (b : ℕ) → ReachedFrom g starts b → ReachedFrom h starts b
 ReachedFrom-same g h same starts b (a, at, (n, p)) = (a, at, (n, path n a p))
   where
-    path : (n a : ℕ) → Path g a b n → Path h a b n
+    path : (n a : ℕ) → IsWalkOfLength g a b n → IsWalkOfLength h a b n
     path zero a p = p
     path (suc n) a (c, e, p) = (c, subst (λ (l : List ℕ). Contains l c) (same a) e, path n c p)
 

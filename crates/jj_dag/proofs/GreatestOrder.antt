@@ -8,7 +8,7 @@ use Rattle.std.specs.Ordering.{is_lt, nat_cmp}
 use Rattle.std.proofs.lemmas.Bool.{cases_eq}
 use Rattle.std.proofs.lemmas.Bool.Decides.{nat_tests}
 use Rattle.std.proofs.lemmas.List.{length-map, get_or-map, get_or_past, get_or_default}
-use Rattle.jj_dag.specs.Graph.{HasEdge, ReachedFrom, HasNoCycle, ReachesCycle, IsChildFirst, IsGreatestChildFirst}
+use Rattle.jj_dag.specs.Graph.{HasEdge, ReachedFrom, IsAcyclicFrom, ReachesCycle, IsTopologicalOrder, IsGreatestTopologicalOrder}
 use Rattle.jj_dag.specs.Failing.{FailingGraph, HasNoFailure, sound}
 use Rattle.jj_dag.specs.Walk.{Numbered, AreNodes, IsOrderedLike}
 use Rattle.jj_dag.specs.Collecting.{IsCollecting}
@@ -16,7 +16,7 @@ use Rattle.jj_dag.specs.ReadyNodes.{TakesGreatestReady, IsStuck, IsNotBelow, pla
 use Rattle.jj_dag.proofs.Reaching.{Contains-reached}
 use Rattle.jj_dag.proofs.Collecting.{are_nodes}
 use Rattle.jj_dag.proofs.FailingOrders.{ReachedFrom-same}
-use Rattle.jj_dag.proofs.ReadyOrders.{here, later, IsChildFirst-from_taken, IsGreatest-from_taken, HasNoCycle-from_child_first, cycle_from_stuck}
+use Rattle.jj_dag.proofs.ReadyOrders.{here, later, IsTopologicalOrder-from_taken, IsGreatest-from_taken, IsAcyclicFrom-from_child_first, cycle_from_stuck}
 use Rattle.jj_dag.proofs.Relabelled.{Contains-map, AtPlaces, relabelled, StrictlyReaches-up}
 use Rattle.jj_dag.proofs.Plain.{nothing}
 
@@ -161,7 +161,7 @@ module _ {T ID E : Type 0} (w : Numbered T ID) (items : FailingGraph E) (cmp : T
           not_lt a b (rw (rank, is_x, is_y) at told)
 
       pub order_is : (vs : List T) → map (λ x. Some x) vs ≡ map (λ k. get_or (map (λ x. Some x) given) k None) order → ((k : ℕ) → k < length (map (λ x. Some x) given) → Contains order k)
-          → IsChildFirst w.graph starts (map w.node vs) × HasNoCycle w.graph starts × (IsOrderedLike w cmp → IsGreatestChildFirst w.graph starts (map w.node vs))
+          → IsTopologicalOrder w.graph starts (map w.node vs) × IsAcyclicFrom w.graph starts × (IsOrderedLike w cmp → IsGreatestTopologicalOrder w.graph starts (map w.node vs))
       order_is vs picked all =
           let same = picked_numbers given vs order picked in
           let slots : length (map (λ x. Some x) given) ≡ length ns = length-map given (λ x. Some x) ∙ sym (length-map given w.node) in
@@ -169,9 +169,9 @@ module _ {T ID E : Type 0} (w : Numbered T ID) (items : FailingGraph E) (cmp : T
           let lt : h.0 < length ns = h.1 in
           let at : get_or ns h.0 0 ≡ a = get_or_default ns h.0 0 a h.1 ∙ h.2 in
           subst (λ (n : ℕ). Contains (map (λ k. get_or ns k 0) order) n) at (Contains-map (λ k. get_or ns k 0) order h.0 (all h.0 (omega arith))) in
-          let first : IsChildFirst w.graph starts (map w.node vs) = rw same (IsChildFirst-from_taken w.graph starts (Contains ns) _ are_reached _ numbers_taken taken) in (
+          let first : IsTopologicalOrder w.graph starts (map w.node vs) = rw same (IsTopologicalOrder-from_taken w.graph starts (Contains ns) _ are_reached _ numbers_taken taken) in (
             first,
-            HasNoCycle-from_child_first w.graph starts _ first,
+            IsAcyclicFrom-from_child_first w.graph starts _ first,
             λ ordered. record {
               child_first = first;
               greatest = rw same (IsGreatest-from_taken w.graph starts (Contains ns) _ are_reached _ numbers_taken (above ordered));

@@ -8,7 +8,7 @@ use Rattle.std.proofs.lemmas.List.Folds.{list_any_at}
 use Rattle.std.proofs.lemmas.List.Sorted.{Contains-permutation, IsPermutation-sym}
 use Rattle.std.proofs.lemmas.List.Elements.{Contains-append_left, Contains-append_right, Contains-append_cases, Contains-push, Contains-push_cases}
 use Rattle.std.proofs.lemmas.Map.Keys.{IsDistinct-tail, IsDistinct-head, IsDistinct-cons}
-use Rattle.jj_dag.specs.Graph.{HasEdge, ReachedFrom, HasNoCycle, IsMaximal, IsMaximalIn}
+use Rattle.jj_dag.specs.Graph.{HasEdge, ReachedFrom, IsAcyclicFrom, IsMaximal, AreMaximalElements}
 use Rattle.jj_dag.specs.HeadsSearch.{IsStarted}
 use Rattle.jj_dag.specs.Walk.{Numbered, AreNodes, StandsForNodes}
 use Rattle.jj_dag.proofs.Walking.{has, has-push, has-from_Contains, Contains-from_has, eqb-flip, numbers}
@@ -253,8 +253,8 @@ module _ {T ID : Type 0} (w : Numbered T ID) where
 
   pub holds_maximal : {met waiting : List ℕ} {rooted : Bool} {keys : List T} {test : ID → Bool} (eqT : T → T → Bool) (xs : List T)
       → HoldsSearch (numbers w xs) met waiting rooted keys (λ x. list_any (eqT x) keys) test → StandsForNodes w eqT → IsDistinct eqT keys
-      → ((a b : ℕ) → Contains waiting a → Contains waiting b → a ≡ b) → ((a : ℕ) → Contains waiting a → rooted ≡ false) → HasNoCycle w.graph (numbers w xs)
-      → IsMaximalIn w.graph (numbers w xs) (numbers w keys)
+      → ((a b : ℕ) → Contains waiting a → Contains waiting b → a ≡ b) → ((a : ℕ) → Contains waiting a → rooted ≡ false) → IsAcyclicFrom w.graph (numbers w xs)
+      → AreMaximalElements w.graph (numbers w xs) (numbers w keys)
   holds_maximal {met} {waiting} {rooted} {keys} {test} eqT xs k stands distinct one no_root acyclic = record {
     all = λ a. ((λ h. to_maximal a h), (λ m. from_maximal a m));
     once = distinct_numbers eqT stands keys k.keys_stand distinct;

@@ -1,5 +1,5 @@
--- Numbers for lists of numbers, as the bytes of an id: each list has one, which is not 0 and which no
--- other list has.
+-- Numbers for lists of numbers, as the bytes of an id: each list has one, which is not 0 and which
+-- no other list has.
 use Rattle.std.proofs.Common.{◌≡◌, ◌==◌, ℕ, zero, suc, ◌+◌, ◌≤◌, Bool, true, false, List, [], ◌∷◌, refl, ◌∙◌, ap, arith}
 use Rattle.std.proofs.lemmas.Bool.Decides.{Decides-eqb}
 

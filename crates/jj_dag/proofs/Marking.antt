@@ -6,7 +6,7 @@ use Rattle.jj_dag.specs.declared.closest_common.Mark.{Mark}
 use Rattle.jj_dag.specs.declared.closest_common.Reach.{Reach}
 use Rattle.jj_dag.specs.CommonSearch.{IsStarting}
 use Rattle.jj_dag.specs.Graph.{HasEdge}
-use Rattle.jj_dag.specs.Marks.{MarksNodes, handed_on, no_mark}
+use Rattle.jj_dag.specs.Marks.{MarksNodes, propagated, no_mark}
 use Rattle.jj_dag.specs.Marks.MarksNodes.{none, more}
 use Rattle.jj_dag.specs.Walk.{AreNodes, Numbered}
 use Rattle.jj_dag.proofs.ClosestCommon.{Apart, HandsOn, hands_more, on_left, on_right, starting_left, starting_none, starting_right}
@@ -48,7 +48,7 @@ module _ {T ID : Type 0} (w : Numbered T ID) {eq : ID → ID → Bool} {tells : 
 
   -- a node that was taken from those that wait handed on what is known of it to its neighbours
   pub all_handed : {find : ID → Mark} {waiting : List T} (set1 set2 : List ℕ) (m : ℕ → Reach) (a : ℕ) (known : Reach) (common : List (ID × T)) (rooted : Bool) (zs : List ℕ) {xs : List T} {find2 : ID → Mark} {waiting2 : List T}
-      → Apart w eq → Stand w tells → ((b : ℕ) → w.is_node b ≡ true → AreNodes w (w.graph b)) → MarksNodes eq tells (handed_on known) find waiting xs find2 waiting2 → w.is_node a ≡ true
+      → Apart w eq → Stand w tells → ((b : ℕ) → w.is_node b ≡ true → AreNodes w (w.graph b)) → MarksNodes eq tells (propagated known) find waiting xs find2 waiting2 → w.is_node a ≡ true
       → HandsOn w set1 set2 m a known waiting common rooted find [] → map w.node xs ++ zs ≡ w.graph a
       → (m2 : ℕ → Reach) × HandsOn w set1 set2 m2 a known waiting2 common rooted find2 (map w.node xs)
   all_handed set1 set2 m a known common rooted zs apart stand closed none is on e = (m, on)
@@ -58,7 +58,7 @@ module _ {T ID : Type 0} (w : Numbered T ID) {eq : ID → ID → Bool} {tells : 
       let old = all_handed set1 set2 m a known common rooted (w.node x ∷ zs) apart stand closed before is on whole in
       let edge : HasEdge w.graph a (w.node x) = subst (λ (l : List ℕ). Contains l (w.node x)) whole (Contains-append_right (map w.node xs) (w.node x ∷ zs) (w.node x) (0, omega arith, refl)) in
       let here = closed a is (w.node x) edge in (
-        marks_more old.0 (w.node x) (handed_on known),
-        subst (λ given. HandsOn w set1 set2 (marks_more old.0 (w.node x) (handed_on known)) a known waiting2 common rooted find2 given) (sym split)
+        marks_more old.0 (w.node x) (propagated known),
+        subst (λ given. HandsOn w set1 set2 (marks_more old.0 (w.node x) (propagated known)) a known waiting2 common rooted find2 given) (sym split)
             (hands_more w eq set1 set2 old.0 a known waiting1 waiting2 common rooted find1 find2 (map w.node xs) x i apart old.1 edge here (stand x i here told) node.marks node.waits),
       )

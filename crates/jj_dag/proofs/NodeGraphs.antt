@@ -7,7 +7,7 @@ use Rattle.std.proofs.lemmas.List.{get_or-map, length-map}
 use Rattle.std.proofs.lemmas.List.Elements.{Contains-append_right}
 use Rattle.std.proofs.lemmas.Map.Made.{AllPairs-from_IsDistinct}
 use Rattle.jj_dag.specs.CommonNodes.{AreClosestCommon, HasNoCommonCycle, IsCommon}
-use Rattle.jj_dag.specs.Graph.{Graph, HasNoCycle, IsChildFirst, IsMaximal, IsMaximalIn, Path, ReachedFrom, ReachesCycle, StandsBefore, StrictlyReaches}
+use Rattle.jj_dag.specs.Graph.{Graph, IsAcyclicFrom, IsTopologicalOrder, IsMaximal, AreMaximalElements, IsWalkOfLength, ReachedFrom, ReachesCycle, Precedes, StrictlyReaches}
 use Rattle.jj_dag.specs.NodeGraph.{AreMaximalNodes, HasNoCommonNodeCycle, IsChildFirstOrder, IsCommonNode, IsMaximalNode, IsNodeBefore, NodeGraph, NodePath, ReachesNoCycle, ReachesNode, ReachesSomeCycle, StrictlyReachesNode}
 
 pub Contains-map : {A : Type 0} (number : A → ℕ) (xs : List A) (a : A) → Contains xs a → Contains (map number xs) (number a)
@@ -55,19 +55,19 @@ module _ {A : Type 0} (g : NodeGraph A) (number : A → ℕ) (id_of : ℕ → A)
   Contains-back : (xs : List A) (a : A) → Contains (map number xs) (number a) → Contains xs a
   Contains-back xs a h = let r = Contains-from_map number xs (number a) h in subst (Contains xs) (sym (one_node a r.0 r.1)) r.2
 
-  path_up : (steps : ℕ) (a b : A) → NodePath g a b steps → Path numbers_graph (number a) (number b) steps
+  path_up : (steps : ℕ) (a b : A) → NodePath g a b steps → IsWalkOfLength numbers_graph (number a) (number b) steps
   path_up zero a b e = ap number e
   path_up (suc steps) a b (c, edge, rest) =
       (number c, subst (λ x. Contains (map number (g x)) (number c)) (sym (inverse a)) (Contains-map number (g a) c edge), path_up steps c b rest)
 
-  path_down : (steps : ℕ) (a : A) (b : ℕ) → Path numbers_graph (number a) b steps → (y : A) × (b ≡ number y) × NodePath g a y steps
+  path_down : (steps : ℕ) (a : A) (b : ℕ) → IsWalkOfLength numbers_graph (number a) b steps → (y : A) × (b ≡ number y) × NodePath g a y steps
   path_down zero a b e = (a, sym e, refl)
   path_down (suc steps) a b (c, edge, rest) =
       let r = Contains-from_map number (g a) c (subst (λ x. Contains (map number (g x)) c) (inverse a) edge) in
-      let below = path_down steps r.0 b (subst (λ x. Path numbers_graph x b steps) r.1 rest) in
+      let below = path_down steps r.0 b (subst (λ x. IsWalkOfLength numbers_graph x b steps) r.1 rest) in
       (below.0, below.1, (r.0, r.2, below.2))
 
-  path_back : (steps : ℕ) (a b : A) → Path numbers_graph (number a) (number b) steps → NodePath g a b steps
+  path_back : (steps : ℕ) (a b : A) → IsWalkOfLength numbers_graph (number a) (number b) steps → NodePath g a b steps
   path_back steps a b p = let r = path_down steps a (number b) p in subst (λ y. NodePath g a y steps) (sym (one_node b r.0 r.1)) r.2
 
   strictly_up : (a b : A) → StrictlyReachesNode g a b → StrictlyReaches numbers_graph (number a) (number b)
@@ -82,7 +82,7 @@ module _ {A : Type 0} (g : NodeGraph A) (number : A → ℕ) (id_of : ℕ → A)
   pub reached_down : (starts : List A) (b : ℕ) → ReachedFrom numbers_graph (map number starts) b → (y : A) × (b ≡ number y) × ReachesNode g starts y
   reached_down starts b (a, from, (steps, p)) =
       let r = Contains-from_map number starts a from in
-      let below = path_down steps r.0 b (subst (λ x. Path numbers_graph x b steps) r.1 p) in
+      let below = path_down steps r.0 b (subst (λ x. IsWalkOfLength numbers_graph x b steps) r.1 p) in
       (below.0, below.1, (r.0, r.2, (steps, below.2)))
 
   pub reached_back : (starts : List A) (b : A) → ReachedFrom numbers_graph (map number starts) (number b) → ReachesNode g starts b
@@ -92,10 +92,10 @@ module _ {A : Type 0} (g : NodeGraph A) (number : A → ℕ) (id_of : ℕ → A)
   cycle_back : (a : ℕ) (y : A) → a ≡ number y → StrictlyReaches numbers_graph a a → StrictlyReachesNode g y y
   cycle_back a y e cycle = strictly_back y y (subst (λ x. StrictlyReaches numbers_graph x x) e cycle)
 
-  pub no_cycle_up : (starts : List A) → ReachesNoCycle g starts → HasNoCycle numbers_graph (map number starts)
+  pub no_cycle_up : (starts : List A) → ReachesNoCycle g starts → IsAcyclicFrom numbers_graph (map number starts)
   no_cycle_up starts none a reached cycle = let r = reached_down starts a reached in none r.0 r.2 (cycle_back a r.0 r.1 cycle)
 
-  pub no_cycle_back : (starts : List A) → HasNoCycle numbers_graph (map number starts) → ReachesNoCycle g starts
+  pub no_cycle_back : (starts : List A) → IsAcyclicFrom numbers_graph (map number starts) → ReachesNoCycle g starts
   no_cycle_back starts none a reached cycle = none (number a) (reached_up starts a reached) (strictly_up a a cycle)
 
   pub cycle_node : (starts : List A) → ReachesCycle numbers_graph (map number starts) → ReachesSomeCycle g starts
@@ -130,7 +130,7 @@ module _ {A : Type 0} (g : NodeGraph A) (number : A → ℕ) (id_of : ℕ → A)
     }
 
   -- the maximal members of a set
-  pub maximal_nodes : (set xs : List A) → IsMaximalIn numbers_graph (map number set) (map number xs) → AreMaximalNodes g (Contains set) xs
+  pub maximal_nodes : (set xs : List A) → AreMaximalElements numbers_graph (map number set) (map number xs) → AreMaximalNodes g (Contains set) xs
   maximal_nodes set xs k = maximal_list (Contains (map number set)) (Contains set) (Contains-map number set) (Contains-from_map number set) xs k.all k.once
 
   common_up : (set1 set2 : List A) (a : A) → IsCommonNode g set1 set2 a → IsCommon numbers_graph (map number set1) (map number set2) (number a)
@@ -149,13 +149,13 @@ module _ {A : Type 0} (g : NodeGraph A) (number : A → ℕ) (id_of : ℕ → A)
   closest_nodes set1 set2 xs k =
       maximal_list (IsCommon numbers_graph (map number set1) (map number set2)) (IsCommonNode g set1 set2) (common_up set1 set2) (common_down set1 set2) xs k.all k.once
 
-  before_back : (order : List A) (a b : A) → StandsBefore (map number order) (number a) (number b) → IsNodeBefore order a b
+  before_back : (order : List A) (a b : A) → Precedes (map number order) (number a) (number b) → IsNodeBefore order a b
   before_back order a b (front, back, e, h) =
       let (y, nodes, others, split, same, rest) = split_map number order front back (number a) e in
       (nodes, others, split ∙ ap (λ z. nodes ++ z ∷ others) (sym (one_node a y same)), Contains-back others b (subst (λ l. Contains l (number b)) rest h))
 
   -- the order in which each node is before those that it reaches
-  pub child_first_nodes : (starts order : List A) → IsChildFirst numbers_graph (map number starts) (map number order) → IsChildFirstOrder g starts order
+  pub child_first_nodes : (starts order : List A) → IsTopologicalOrder numbers_graph (map number starts) (map number order) → IsChildFirstOrder g starts order
   child_first_nodes starts order k = record {
     all = λ a. ((λ h. reached_back starts a ((k.all (number a)).0 (Contains-map number order a h))), λ h. Contains-back order a ((k.all (number a)).1 (reached_up starts a h)));
     once = distinct_back order k.once;

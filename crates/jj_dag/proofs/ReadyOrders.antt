@@ -1,9 +1,10 @@
--- A list that takes the greatest ready node until all are taken is the greatest child-first list; where it gets stuck there is a cycle.
+-- A list that takes the greatest ready node until all are taken is the greatest child-first list;
+-- where it gets stuck there is a cycle.
 use Rattle.std.proofs.Common.{◌≡◌, ◌↔◌, ℕ, zero, suc, ◌+◌, ◌≤◌, true, false, List, [], ◌∷◌, ◌++◌, length, refl, sym, ◌∙◌, ap, subst, arith, eqb, inl, inr, ◌⊎◌, ⊎_elim, true≢false, append_assoc, length-append}
 use Rattle.std.specs.List.{Contains, IsDistinct, AllByRecursion}
 use Rattle.std.proofs.lemmas.Bool.Decides.{Decides-eqb}
 use Rattle.std.proofs.lemmas.List.Elements.{Contains-append_left, Contains-append_right, Contains-append_cases, All-contains, All-from_recursion}
-use Rattle.jj_dag.specs.Graph.{Graph, HasEdge, Path, Reaches, StrictlyReaches, ReachedFrom, HasNoCycle, IsChildFirst, IsAbove}
+use Rattle.jj_dag.specs.Graph.{Graph, HasEdge, IsWalkOfLength, Reaches, StrictlyReaches, ReachedFrom, IsAcyclicFrom, IsTopologicalOrder, IsAbove}
 use Rattle.jj_dag.specs.ReadyNodes.{IsReady, TakesGreatestReady, IsStuck}
 use Rattle.jj_dag.proofs.TakingReady.{only_one}
 use Rattle.jj_dag.proofs.Reaching.{Contains-split, ReachedFrom-edge, edge_then_Reaches}
@@ -79,8 +80,8 @@ stands_in_front (x ∷ xs) (y ∷ f) k (z ∷ front) lows p b d e c h =
 -- ---- child-first lists
 
 -- a child-first list has no cycle
-pub HasNoCycle-from_child_first : (g : Graph) (starts order : List ℕ) → IsChildFirst g starts order → HasNoCycle g starts
-HasNoCycle-from_child_first g starts order k a reached cycle =
+pub IsAcyclicFrom-from_child_first : (g : Graph) (starts order : List ℕ) → IsTopologicalOrder g starts order → IsAcyclicFrom g starts
+IsAcyclicFrom-from_child_first g starts order k a reached cycle =
     let b = k.before a a ((k.all a).1 reached) cycle in
     twice order b.0 b.1 a k.once b.2 b.3
 
@@ -89,7 +90,7 @@ module _ (g : Graph) (starts : List ℕ) (IsNode : ℕ → Type 0) (NotBelow : �
   node_edge a b h e = (nodes b).1 (ReachedFrom-edge g starts a b ((nodes a).0 h) e)
 
   -- all nodes that strictly reach a node are before it
-  in_front : (order : List ℕ) → TakesGreatestReady g IsNode NotBelow order → (n : ℕ) (front back : List ℕ) (a b : ℕ) → order ≡ front ++ b ∷ back → IsNode a → Path g a b (suc n) → Contains front a
+  in_front : (order : List ℕ) → TakesGreatestReady g IsNode NotBelow order → (n : ℕ) (front back : List ℕ) (a b : ℕ) → order ≡ front ++ b ∷ back → IsNode a → IsWalkOfLength g a b (suc n) → Contains front a
   in_front order k zero front back a b e node (c, edge, p) = (k.ready front back b e).2 a node (subst (λ (x : ℕ). HasEdge g a x) p edge)
   in_front order k (suc n) front back a b e node (c, edge, p) =
       let s = Contains-split front c (in_front order k n front back c b e (node_edge a c node edge) p) in
@@ -97,12 +98,12 @@ module _ (g : Graph) (starts : List ℕ) (IsNode : ℕ → Type 0) (NotBelow : �
       let first = (k.ready s.0 (s.1 ++ b ∷ back) c whole).2 a node edge in
       subst (λ (l : List ℕ). Contains l a) (sym s.2) (Contains-append_left s.0 (c ∷ s.1) a first)
 
-  pub IsChildFirst-from_taken : (order : List ℕ) → TakesGreatestReady g IsNode NotBelow order → ((a : ℕ) → IsNode a → Contains order a) → IsChildFirst g starts order
-  IsChildFirst-from_taken order k all = record {
+  pub IsTopologicalOrder-from_taken : (order : List ℕ) → TakesGreatestReady g IsNode NotBelow order → ((a : ℕ) → IsNode a → Contains order a) → IsTopologicalOrder g starts order
+  IsTopologicalOrder-from_taken order k all = record {
     all = λ a. (λ h. (nodes a).0 (taken a h), λ r. all a ((nodes a).1 r));
     once = distinct order (λ front back a e. (k.ready front back a e).1);
     before = λ a b h s.
-        let reached = Contains_reached (s.0 + 1) a b (taken a h) (subst (λ (n : ℕ). Path g a b n) (let e : suc s.0 ≡ s.0 + 1 = omega arith in e) s.1) in
+        let reached = Contains_reached (s.0 + 1) a b (taken a h) (subst (λ (n : ℕ). IsWalkOfLength g a b n) (let e : suc s.0 ≡ s.0 + 1 = omega arith in e) s.1) in
         let split = Contains-split order b (all b reached) in
         let front = in_front order k s.0 split.0 split.1 a b split.2 (taken a h) s.1 in
         let cut = Contains-split split.0 a front in
@@ -112,12 +113,12 @@ module _ (g : Graph) (starts : List ℕ) (IsNode : ℕ → Type 0) (NotBelow : �
       taken : (a : ℕ) → Contains order a → IsNode a
       taken a h = let s = Contains-split order a h in (k.ready s.0 s.1 a s.2).0
 
-      Contains_reached : (n : ℕ) (a b : ℕ) → IsNode a → Path g a b n → IsNode b
+      Contains_reached : (n : ℕ) (a b : ℕ) → IsNode a → IsWalkOfLength g a b n → IsNode b
       Contains_reached zero a b h p = subst (λ (x : ℕ). IsNode x) p h
       Contains_reached (suc n) a b h (c, edge, p) = Contains_reached n c b (node_edge a c h edge) p
 
   -- the node that another child-first list has at the first difference was ready too
-  pub IsGreatest-from_taken : (order : List ℕ) → TakesGreatestReady g IsNode NotBelow order → ((a b : ℕ) → IsNode a → IsNode b → NotBelow a b → b ≤ a) → (other : List ℕ) → IsChildFirst g starts other → IsAbove order other
+  pub IsGreatest-from_taken : (order : List ℕ) → TakesGreatestReady g IsNode NotBelow order → ((a b : ℕ) → IsNode a → IsNode b → NotBelow a b → b ≤ a) → (other : List ℕ) → IsTopologicalOrder g starts other → IsAbove order other
   IsGreatest-from_taken order k ordered other o front highs lows a b e f ne =
       let is_a = (k.ready front highs a e).0 in
       let in_b : Contains other b = subst (λ (l : List ℕ). Contains l b) (sym f) (at_split front b lows) in
@@ -137,7 +138,8 @@ module _ (g : Graph) (starts : List ℕ) (IsNode : ℕ → Type 0) (NotBelow : �
 
 -- ---- where the order is stuck
 
--- from a node that is not taken one goes back along edges, each time to another one, until one comes again
+-- from a node that is not taken one goes back along edges, each time to another one, until one
+-- comes again
 pub cycle_back : (g : Graph) (IsLeft : ℕ → Type 0) → ((a : ℕ) → IsLeft a → (c : ℕ) × IsLeft c × HasEdge g c a)
     → (room : ℕ) (others : List ℕ) → length others ≤ room → (a : ℕ) → IsLeft a → ((b : ℕ) → IsLeft b → Contains others b ⊎ Reaches g a b) → (c : ℕ) × IsLeft c × StrictlyReaches g c c
 cycle_back g IsLeft back zero others short a left seen =

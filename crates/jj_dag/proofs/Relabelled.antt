@@ -3,7 +3,7 @@ use Rattle.std.proofs.Common.{◌≡◌, ℕ, zero, suc, ◌<◌, List, [], ◌�
 use Rattle.std.specs.List.{Contains}
 use Rattle.std.proofs.lemmas.List.{get_or_default}
 use Rattle.std.proofs.lemmas.List.Elements.{Contains-append_left, Contains-get_or}
-use Rattle.jj_dag.specs.Graph.{Graph, HasEdge, Path, StrictlyReaches}
+use Rattle.jj_dag.specs.Graph.{Graph, HasEdge, IsWalkOfLength, StrictlyReaches}
 use Rattle.jj_dag.specs.Collecting.{IsInjective}
 use Rattle.jj_dag.specs.ReadyNodes.{IsReady, TakesGreatestReady, places_graph}
 use Rattle.jj_dag.proofs.Reaching.{Contains-split}
@@ -101,7 +101,7 @@ module _ (g : Graph) (ns : List ℕ) (ts : List (List ℕ)) (injective : IsInjec
       down front x lt below r = (lt, λ h. r.1 (Contains-map (λ k. get_or ns k 0) front x h), λ c is edge. unnumbered front below c is (r.2 (number c) (numbered c is) (edge_up c x is edge)))
 
   -- a cycle of the indices is a cycle of the numbers
-  path_up : (n a b : ℕ) → a < length ns → Path (places_graph ts) a b n → Path g (number a) (number b) n
+  path_up : (n a b : ℕ) → a < length ns → IsWalkOfLength (places_graph ts) a b n → IsWalkOfLength g (number a) (number b) n
   path_up zero a b lt p = ap (λ k. get_or ns k 0) p
   path_up (suc n) a b lt (c, edge, p) = (number c, edge_up a c lt edge, path_up n c b (within a c edge) p)
 

@@ -1,4 +1,5 @@
--- A walk under other numbers: closures define the renumbered graph too, if the numbering is one-to-one.
+-- A walk under other numbers: closures define the renumbered graph too, if the numbering is
+-- one-to-one.
 use Rattle.std.proofs.Common.{◌≡◌, ◌≢◌, ◌<◌, ℕ, zero, suc, append_assoc, Bool, true, false, cond, ◌&&◌, ◌==◌, Option, Result, Ok, Err, List, [], ◌∷◌, ◌++◌, map, refl, sym, ◌∙◌, ap, subst, arith}
 use Rattle.std.specs.List.{Contains, cons_option}
 use Rattle.std.specs.Result.{result_ok}
@@ -9,7 +10,7 @@ use Rattle.std.proofs.lemmas.List.{map-append}
 use Rattle.std.proofs.lemmas.List.Elements.{Contains-append_left}
 use Rattle.std.proofs.lemmas.Bool.{and_from, and_parts}
 use denote.Ref.{Bor}
-use Rattle.jj_dag.specs.Graph.{HasEdge, Path, ReachedFrom, StandsBefore, IsChildFirst, IsGreatestChildFirst}
+use Rattle.jj_dag.specs.Graph.{HasEdge, IsWalkOfLength, ReachedFrom, Precedes, IsTopologicalOrder, IsGreatestTopologicalOrder}
 use Rattle.jj_dag.specs.Walk.{Numbered, AreNodes}
 use Rattle.jj_dag.specs.Failing.{AreItems, FailingGraph, Fault, IsItem, ListsItems, ShowsItems, sound_items}
 use Rattle.jj_dag.proofs.Collecting.{are_nodes}
@@ -39,7 +40,8 @@ sound-renumbered to [] = refl
 sound-renumbered to (Ok n ∷ xs) = ap (λ l. to n ∷ l) (sound-renumbered to xs)
 sound-renumbered to (Err e ∷ xs) = sound-renumbered to xs
 
--- The nodes have the numbers of `to`, and `back` is its inverse. A value that is no node has a number that no node has.
+-- The nodes have the numbers of `to`, and `back` is its inverse. A value that is no node has a
+-- number that no node has.
 module _ {T ID : Type 0} (w : Numbered T ID) (to back : ℕ → ℕ) (unused : ℕ) where
   abbrev pub number_of : ℕ → ℕ
   number_of n = cond (w.is_node n) (to n) unused
@@ -163,20 +165,20 @@ module _ {T ID : Type 0} (w : Numbered T ID) (to back : ℕ → ℕ) (unused : �
     edge_up : (a b : ℕ) → w.is_node a ≡ true → HasEdge w.graph a b → HasEdge renumbered.graph (to a) (to b)
     edge_up a b is h = subst (λ (n : ℕ). Contains (map to (w.graph n)) (to b)) (sym (undo a is)) (Contains-map to (w.graph a) b h)
 
-    path_up : (n a b : ℕ) → w.is_node a ≡ true → Path w.graph a b n → Path renumbered.graph (to a) (to b) n
+    path_up : (n a b : ℕ) → w.is_node a ≡ true → IsWalkOfLength w.graph a b n → IsWalkOfLength renumbered.graph (to a) (to b) n
     path_up zero a b is p = ap to p
     path_up (suc n) a b is (c, edge, p) = (to c, edge_up a c is edge, path_up n c b (closed a is c edge) p)
 
-    path_down : (n a c : ℕ) → w.is_node a ≡ true → Path renumbered.graph (to a) c n → (b : ℕ) × (to b ≡ c) × Path w.graph a b n
+    path_down : (n a c : ℕ) → w.is_node a ≡ true → IsWalkOfLength renumbered.graph (to a) c n → (b : ℕ) × (to b ≡ c) × IsWalkOfLength w.graph a b n
     path_down zero a c is p = (a, p, refl)
     path_down (suc n) a c is (d, edge, p) =
         let m = Contains-unmap to (w.graph (back (to a))) d edge in
         let there : HasEdge w.graph a m.0 = subst (λ (l : ℕ). Contains (w.graph l) m.0) (undo a is) m.1 in
-        let q = path_down n m.0 c (closed a is m.0 there) (subst (λ (l : ℕ). Path renumbered.graph l c n) (sym m.2) p) in
+        let q = path_down n m.0 c (closed a is m.0 there) (subst (λ (l : ℕ). IsWalkOfLength renumbered.graph l c n) (sym m.2) p) in
         (q.0, q.1, (m.0, there, q.2))
 
     -- a child-first list is child-first under the other numbers
-    pub renumbered_child_first : (starts order : List ℕ) → AreNodes w starts → IsChildFirst w.graph starts order → IsChildFirst renumbered.graph (map to starts) (map to order)
+    pub renumbered_child_first : (starts order : List ℕ) → AreNodes w starts → IsTopologicalOrder w.graph starts order → IsTopologicalOrder renumbered.graph (map to starts) (map to order)
     renumbered_child_first starts order nodes k = record {
       all = λ a. (
         λ h.
@@ -185,7 +187,7 @@ module _ {T ID : Type 0} (w : Numbered T ID) (to back : ℕ → ℕ) (unused : �
             subst (λ (n : ℕ). ReachedFrom renumbered.graph (map to starts) n) m.2 (to r.0, Contains-map to starts r.0 r.1, (r.2.0, path_up r.2.0 r.0 m.0 (nodes r.0 r.1) r.2.1)),
         λ r.
             let s = Contains-unmap to starts r.0 r.1 in
-            let q = path_down r.2.0 s.0 a (nodes s.0 s.1) (subst (λ (n : ℕ). Path renumbered.graph n a r.2.0) (sym s.2) r.2.1) in
+            let q = path_down r.2.0 s.0 a (nodes s.0 s.1) (subst (λ (n : ℕ). IsWalkOfLength renumbered.graph n a r.2.0) (sym s.2) r.2.1) in
             subst (λ (n : ℕ). Contains (map to order) n) q.1 (Contains-map to order q.0 ((k.all q.0).1 (s.0, s.1, (r.2.0, q.2)))),
       );
       once = distinct (map to order) (λ front back a e h.
@@ -195,10 +197,10 @@ module _ {T ID : Type 0} (w : Numbered T ID) (to back : ℕ → ℕ) (unused : �
           again s.0 s.1 s.2 s.3 (subst (λ (n : ℕ). Contains s.0 n) same m.1));
       before = λ a b h r.
           let m = Contains-unmap to order a h in
-          let q = path_down (suc r.0) m.0 b (order_node m.0 m.1) (subst (λ (n : ℕ). Path renumbered.graph n b (suc r.0)) (sym m.2) r.1) in
+          let q = path_down (suc r.0) m.0 b (order_node m.0 m.1) (subst (λ (n : ℕ). IsWalkOfLength renumbered.graph n b (suc r.0)) (sym m.2) r.1) in
           let s = k.before m.0 q.0 m.1 (r.0, q.2) in
           let split : map to order ≡ map to s.0 ++ to m.0 ∷ map to s.1 = ap (map to) s.2 ∙ map-append to s.0 (m.0 ∷ s.1) in
-          subst (λ (n : ℕ). StandsBefore (map to order) n b) m.2 (subst (λ (n : ℕ). StandsBefore (map to order) (to m.0) n) q.1 (map to s.0, map to s.1, split, Contains-map to s.1 q.0 s.3));
+          subst (λ (n : ℕ). Precedes (map to order) n b) m.2 (subst (λ (n : ℕ). Precedes (map to order) (to m.0) n) q.1 (map to s.0, map to s.1, split, Contains-map to s.1 q.0 s.3));
     }
       where
         order_node : (a : ℕ) → Contains order a → w.is_node a ≡ true
@@ -212,9 +214,10 @@ module _ {T ID : Type 0} (w : Numbered T ID) (to back : ℕ → ℕ) (unused : �
             let s = Contains-split front a h in
             twice order s.0 (s.1 ++ a ∷ back) a k.once (e ∙ ap (λ l. l ++ a ∷ back) s.2 ∙ append_assoc s.0 (a ∷ s.1) (a ∷ back)) (at_split s.1 a back)
 
-    -- where a list that is greatest under the other numbers first differs from another child-first list, it has the node with the greater number
-    pub greater_there : (starts order other front highs lows : List ℕ) (a b : ℕ) → AreNodes w starts → IsGreatestChildFirst renumbered.graph (map to starts) (map to order)
-        → IsChildFirst w.graph starts order → IsChildFirst w.graph starts other → order ≡ front ++ a ∷ highs → other ≡ front ++ b ∷ lows → a ≢ b → to b < to a
+    -- where a list that is greatest under the other numbers first differs from another child-first
+    -- list, it has the node with the greater number
+    pub greater_there : (starts order other front highs lows : List ℕ) (a b : ℕ) → AreNodes w starts → IsGreatestTopologicalOrder renumbered.graph (map to starts) (map to order)
+        → IsTopologicalOrder w.graph starts order → IsTopologicalOrder w.graph starts other → order ≡ front ++ a ∷ highs → other ≡ front ++ b ∷ lows → a ≢ b → to b < to a
     greater_there starts order other front highs lows a b nodes best k l e f ne =
         best.greatest (map to other) (renumbered_child_first starts other nodes l) (map to front) (map to highs) (map to lows) (to a) (to b)
         (ap (map to) e ∙ map-append to front (a ∷ highs)) (ap (map to) f ∙ map-append to front (b ∷ lows))

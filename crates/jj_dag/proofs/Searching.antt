@@ -1,11 +1,12 @@
--- The search for the maximal nodes of a set: which nodes were found as neighbours, and which are pending.
+-- The search for the maximal nodes of a set: which nodes were found as neighbours, and which are
+-- pending.
 use Rattle.std.proofs.Common.{◌≡◌, ℕ, zero, suc, Bool, true, false, cond, List, [], ◌∷◌, ◌++◌, refl, sym, subst, inl, inr, ◌⊎◌, ⊎_elim}
 use Rattle.std.specs.List.{Contains}
 use Rattle.std.proofs.lemmas.List.Elements.{Contains-append_left, Contains-append_right, Contains-append_cases, Contains-push, Contains-push_cases}
 use Rattle.std.specs.List.Sorted.{IsPermutation}
 use Rattle.std.proofs.lemmas.List.Sorted.{Contains-permutation, IsPermutation-sym}
 use Rattle.std.specs.Set.{remove_key}
-use Rattle.jj_dag.specs.Graph.{Graph, HasEdge, Path, Reaches, StrictlyReaches, ReachedFrom, HasNoCycle, IsMaximal}
+use Rattle.jj_dag.specs.Graph.{Graph, HasEdge, IsWalkOfLength, Reaches, StrictlyReaches, ReachedFrom, IsAcyclicFrom, IsMaximal}
 use Rattle.jj_dag.proofs.Reaching.{Reaches-trans, Reaches-then_strictly, edge_then_Reaches}
 
 -- a start, or a node that was found
@@ -19,7 +20,7 @@ pub record IsSearching (g : Graph) (starts met waiting : List ℕ) (rooted : Boo
   -- the neighbours of a node that is not pending were found
   pub explored : (a : ℕ) → Seen starts met a → Contains waiting a ⊎ ((b : ℕ) → HasEdge g a b → Contains met b)
   -- until a root comes, each node reaches one that waits
-  pub leads : rooted ≡ false → HasNoCycle g starts → (a : ℕ) → Seen starts met a → (z : ℕ) × Contains waiting z × Reaches g a z
+  pub leads : rooted ≡ false → IsAcyclicFrom g starts → (a : ℕ) → Seen starts met a → (z : ℕ) × Contains waiting z × Reaches g a z
 
 pub seen_reached : {g : Graph} {starts met waiting : List ℕ} {rooted : Bool} → IsSearching g starts met waiting rooted → (a : ℕ) → Seen starts met a → ReachedFrom g starts a
 seen_reached k a (inl h) = (a, h, (0, refl))
@@ -73,14 +74,15 @@ search_asked g starts met waiting waiting2 rooted rooted2 w k at leaves keeps al
 }
 
 -- a path from a node that was seen ends at one that was found, or goes on from a pending one
-goes_on : {g : Graph} {starts met waiting : List ℕ} {rooted : Bool} (h : ℕ) → IsSearching g starts met waiting rooted → (n a : ℕ) → Seen starts met a → Path g a h (suc n)
+goes_on : {g : Graph} {starts met waiting : List ℕ} {rooted : Bool} (h : ℕ) → IsSearching g starts met waiting rooted → (n a : ℕ) → Seen starts met a → IsWalkOfLength g a h (suc n)
     → Contains met h ⊎ ((z : ℕ) × Contains waiting z × StrictlyReaches g z h)
 goes_on {met = met} h k zero a s (c, e, p) = ⊎_elim (λ wait. inr (a, wait, (0, (c, e, p)))) (λ done. inl (subst (λ (x : ℕ). Contains met x) p (done c e))) (k.explored a s)
 goes_on h k (suc n) a s (c, e, p) = ⊎_elim (λ wait. inr (a, wait, (suc n, (c, e, p)))) (λ done. goes_on h k n c (inr (done c e)) p) (k.explored a s)
 
--- If at most one node is pending, and none if a root was found, no start strictly reaches a start that was not found.
+-- If at most one node is pending, and none if a root was found, no start strictly reaches a start
+-- that was not found.
 pub search_done : (g : Graph) (starts met waiting : List ℕ) (rooted : Bool) → IsSearching g starts met waiting rooted
-    → ((a b : ℕ) → Contains waiting a → Contains waiting b → a ≡ b) → ((a : ℕ) → Contains waiting a → rooted ≡ false) → HasNoCycle g starts
+    → ((a b : ℕ) → Contains waiting a → Contains waiting b → a ≡ b) → ((a : ℕ) → Contains waiting a → rooted ≡ false) → IsAcyclicFrom g starts
     → (h : ℕ) → Contains starts h → (Contains met h → ⊥) → (b : ℕ) → Contains starts b → StrictlyReaches g b h → ⊥
 search_done g starts met waiting rooted k one no_root acyclic h start fresh b from (n, p) =
     ⊎_elim (λ m. fresh m)
@@ -95,11 +97,11 @@ search_done g starts met waiting rooted k one no_root acyclic h start fresh b fr
 
 -- so the starts that were not found are the maximal ones
 pub search_maximal : (g : Graph) (starts met waiting : List ℕ) (rooted : Bool) → IsSearching g starts met waiting rooted
-    → ((a b : ℕ) → Contains waiting a → Contains waiting b → a ≡ b) → ((a : ℕ) → Contains waiting a → rooted ≡ false) → HasNoCycle g starts
+    → ((a b : ℕ) → Contains waiting a → Contains waiting b → a ≡ b) → ((a : ℕ) → Contains waiting a → rooted ≡ false) → IsAcyclicFrom g starts
     → (a : ℕ) → Contains starts a → (Contains met a → ⊥) → IsMaximal g (Contains starts) a
 search_maximal g starts met waiting rooted k one no_root acyclic a start fresh = (start, λ b from other way. search_done g starts met waiting rooted k one no_root acyclic a start fresh b from way)
 
-pub met_not_maximal : {g : Graph} {starts met waiting : List ℕ} {rooted : Bool} → IsSearching g starts met waiting rooted → HasNoCycle g starts → (a : ℕ) → Contains met a → IsMaximal g (Contains starts) a → ⊥
+pub met_not_maximal : {g : Graph} {starts met waiting : List ℕ} {rooted : Bool} → IsSearching g starts met waiting rooted → IsAcyclicFrom g starts → (a : ℕ) → Contains met a → IsMaximal g (Contains starts) a → ⊥
 met_not_maximal {g} k acyclic a h maximal =
     let r = k.reached a h in
     maximal.1 r.0 r.1 (λ same. acyclic r.0 (r.0, r.1, (0, refl)) (subst (λ (n : ℕ). StrictlyReaches g r.0 n) (sym same) r.2)) r.2

@@ -4,14 +4,14 @@ use Rattle.std.specs.Prelude.{ℕ, Bool, List, map, Result, IfOk}
 use Rattle.jj_dag.specs.declared.walk_error.WalkError.{WalkError}
 use Rattle.jj_dag.specs.ClosureGraph.{ClosureGraph, InEachModelOfTwo, IsNeighborsErrorOfTwo, Listing}
 use Rattle.jj_dag.specs.CommonNodes.{AreClosestCommon, HasNoCommonCycle}
-use Rattle.jj_dag.specs.Graph.{HasNoCycle, IsMaximalIn}
+use Rattle.jj_dag.specs.Graph.{IsAcyclicFrom, AreMaximalElements}
 use Rattle.jj_dag.specs.Outcomes.{IfFails}
 use Rattle.jj_dag.specs.Walk.{Numbered, StandsForNodes}
 
 -- where the starts reach no cycle, and equal values are one node, these are the maximal starts
 abbrev pub AreHeads : {T ID : Type 0} → (T → T → Bool) → Numbered T ID → List ℕ → List T → Type 0
-AreHeads same walk starts heads = HasNoCycle walk.graph starts → StandsForNodes walk same
-    → IsMaximalIn walk.graph starts (map walk.node heads)
+AreHeads same walk starts heads = IsAcyclicFrom walk.graph starts → StandsForNodes walk same
+    → AreMaximalElements walk.graph starts (map walk.node heads)
 
 -- where no cycle is reached from both sets, these are their closest common nodes
 abbrev pub AreClosestNodes : {T ID : Type 0} → Numbered T ID → List ℕ → List ℕ → List T → Type 0

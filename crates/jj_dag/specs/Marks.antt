@@ -33,8 +33,8 @@ abbrev pub grows : Reach → Reach → Bool
 grows known added = (added.left && not known.left) || (added.right && not known.right)
 
 -- the mark that a node passes to its neighbours
-abbrev pub handed_on : Reach → Reach
-handed_on known = record {
+abbrev pub propagated : Reach → Reach
+propagated known = record {
   left = known.left;
   right = known.right;
   below = known.left && known.right;

@@ -8,7 +8,7 @@ ghost use Rattle.indexmap.specs.IndexMap.{insert_entry};
 ghost use Rattle.jj_dag.specs.ClosureGraph.{InEachModelOfTwo, IsNeighborsErrorOfTwo, ReturnsId, graph_of_lists, list_of};
 ghost use Rattle.jj_dag.specs.Found.{AreClosestNodes, FindsClosestCommon};
 ghost use Rattle.jj_dag.specs.CommonSearch.{SearchesCommon};
-ghost use Rattle.jj_dag.specs.Marks.{MarksAll, mark_at, reach_of_both, grows, mark_with, starts_waiting, without_waiting, handed_on, sides_met, closest_of};
+ghost use Rattle.jj_dag.specs.Marks.{MarksAll, mark_at, reach_of_both, grows, mark_with, starts_waiting, without_waiting, propagated, sides_met, closest_of};
 ghost use Rattle.jj_dag.specs.Outcomes.{Ends, IfFails};
 ghost use Rattle.jj_dag.specs.Owed.{MayShow};
 
@@ -53,8 +53,8 @@ impl Reach {
     }
 
     // Returns the mark that a node passes to its neighbours: those of a common node are below it.
-    fn handed_on(self) -> Reach
-        ensures { result ≡ handed_on self }
+    fn propagated(self) -> Reach
+        ensures { result ≡ propagated self }
     {
         Reach {
             left: self.left,
@@ -117,7 +117,7 @@ fn mark_of<ID: Hash + Eq>(known: &HashMap<ID, Mark>, id: &ID) -> Mark
 }
 
 // Adds to the mark of a node. If another set reaches it now, it becomes pending.
-fn mark_node<T: Ord + Drop, ID: Hash + Eq + Drop>(
+fn relax<T: Ord + Drop, ID: Hash + Eq + Drop>(
     known: &mut HashMap<ID, Mark>,
     waiting: &mut BinaryHeap<T>,
     node: T,
@@ -145,7 +145,7 @@ fn mark_node<T: Ord + Drop, ID: Hash + Eq + Drop>(
 }
 
 // Returns the mark of a pending node, and makes the node no longer pending.
-fn ask<ID: Hash + Eq>(known: &mut HashMap<ID, Mark>, id: &ID) -> Reach
+fn take_queued<ID: Hash + Eq>(known: &mut HashMap<ID, Mark>, id: &ID) -> Reach
     ensures reach { result ≡ (mark_at ID.eq known.old id.now).reach }
     ensures known { IsTrue (mark_at ID.eq known.old id.now).waits → (i : ID)
         → mark_at ID.eq known.new i ≡ cond (ID.eq id.now i)
@@ -264,7 +264,7 @@ where
     for node in nodes {
         empty = false;
         let id = id_fn(&node)?;
-        mark_node(known, waiting, node, id, reach)?;
+        relax(known, waiting, node, id, reach)?;
     }
     Ok(empty)
 }
@@ -327,12 +327,12 @@ where
     let mut root_met = false;
     while let Some(node) = waiting.pop() {
         let id = id_fn(&node)?;
-        let reach = ask(&mut met.known, &id);
+        let reach = take_queued(&mut met.known, &id);
         if reach.is_common() && waiting.is_empty() && !root_met {
             met.common.insert(id, node)?;
             return Ok(());
         }
-        let above = reach.handed_on();
+        let above = reach.propagated();
         match mark_neighbors(&mut met.known, waiting, id_fn, neighbors_fn, &node, above) {
             Ok(is_root) => root_met |= is_root,
             Err(refused) => return Err(refused),

@@ -19,7 +19,7 @@ use std::hash::Hash;
 use std::marker::PhantomData;
 
 /// Removes a neighbour from the heads, and makes it pending if its id is new.
-pub fn meet<T: Hash + Eq + Drop, ID: Hash + Eq + Drop>(
+pub fn visit_neighbor<T: Hash + Eq + Drop, ID: Hash + Eq + Drop>(
     heads: &mut HashSet<T>,
     visited: &mut HashSet<ID>,
     waiting: &mut VecDeque<T>,
@@ -47,7 +47,7 @@ pub fn meet<T: Hash + Eq + Drop, ID: Hash + Eq + Drop>(
 
 /// Returns the next node to expand. Within a level there is one; after a level there is none if no
 /// node is pending, or if one is and no root was found.
-pub fn next_to_ask<T>(waiting: &mut VecDeque<T>, level: &mut usize, root_met: bool) -> Option<T>
+pub fn pop_in_level<T>(waiting: &mut VecDeque<T>, level: &mut usize, root_met: bool) -> Option<T>
     ensures first { IfSome result (λ node. waiting.old.items ≡ node ∷ waiting.new.items) }
     ensures few { IfNone result (length waiting.old.items ≤ 1) }
     ensures rootless { IfNone result (IsTrue root_met → waiting.old.items ≡ []) }
@@ -135,11 +135,11 @@ where
     let mut heads = HashSet::new(alloc);
     let mut visited = HashSet::new(alloc);
     let mut waiting = VecDeque::new(alloc);
-    match take_starts(&mut heads, &mut visited, &mut waiting, start, &id_fn) {
+    match add_starts(&mut heads, &mut visited, &mut waiting, start, &id_fn) {
         Ok(()) => {}
         Err(refused) => return Err(refused),
     }
-    match ask_all(
+    match expand_all(
         &mut heads,
         &mut visited,
         &mut waiting,
@@ -152,7 +152,7 @@ where
 }
 
 // Makes a start a head and pending, and its id visited.
-fn take_start<T: Hash + Eq + Clone + Drop, ID: Hash + Eq + Drop>(
+fn add_start<T: Hash + Eq + Clone + Drop, ID: Hash + Eq + Drop>(
     heads: &mut HashSet<T>,
     visited: &mut HashSet<ID>,
     waiting: &mut VecDeque<T>,
@@ -175,7 +175,7 @@ fn take_start<T: Hash + Eq + Clone + Drop, ID: Hash + Eq + Drop>(
 }
 
 // Takes each start that equals none before it.
-fn take_starts<T: Hash + Eq + Clone + Drop, ID: Hash + Eq + Drop, E: Drop, II, F>(
+fn add_starts<T: Hash + Eq + Clone + Drop, ID: Hash + Eq + Drop, E: Drop, II, F>(
     heads: &mut HashSet<T>,
     visited: &mut HashSet<ID>,
     waiting: &mut VecDeque<T>,
@@ -207,13 +207,13 @@ where
             continue;
         }
         let id = id_fn(&node)?;
-        take_start(heads, visited, waiting, node, id)?;
+        add_start(heads, visited, waiting, node, id)?;
     }
     Ok(())
 }
 
 // Removes each neighbour of a node from the heads. Returns whether there is none.
-fn meet_neighbors<T: Hash + Eq + Drop, ID: Hash + Eq + Drop, E: Drop, NI, F, N>(
+fn visit_neighbors<T: Hash + Eq + Drop, ID: Hash + Eq + Drop, E: Drop, NI, F, N>(
     heads: &mut HashSet<T>,
     visited: &mut HashSet<ID>,
     waiting: &mut VecDeque<T>,
@@ -251,13 +251,13 @@ where
             Err(error) => return Err(WalkError::Node(error)),
         };
         let id = id_fn(&neighbor)?;
-        meet(heads, visited, waiting, neighbor, id)?;
+        visit_neighbor(heads, visited, waiting, neighbor, id)?;
     }
     Ok(empty)
 }
 
 // Expands the pending nodes, level by level, and removes their neighbours from the heads.
-fn ask_all<T: Hash + Eq + Drop, ID: Hash + Eq + Drop, E: Drop, NI, F, N>(
+fn expand_all<T: Hash + Eq + Drop, ID: Hash + Eq + Drop, E: Drop, NI, F, N>(
     heads: &mut HashSet<T>,
     visited: &mut HashSet<ID>,
     waiting: &mut VecDeque<T>,
@@ -277,10 +277,10 @@ where
 {
     let mut root_met = false;
     let mut level = 0;
-    while let Some(node) = next_to_ask(waiting, &mut level, root_met) {
+    while let Some(node) = pop_in_level(waiting, &mut level, root_met) {
         // A set never has 2^63 ids, so the walk ends.
         let _count = visited.len();
-        match meet_neighbors(heads, visited, waiting, id_fn, neighbors_fn, &node) {
+        match visit_neighbors(heads, visited, waiting, id_fn, neighbors_fn, &node) {
             Ok(is_root) => root_met |= is_root,
             Err(refused) => return Err(refused),
         }

@@ -18,7 +18,7 @@ use Rattle.std.specs.declared.vec.Vec.{Vec}
 use Rattle.std.proofs.lemmas.List.Sorted.{Contains-permutation, IsPermutation-sym, IsNonDecreasingBy-from_sort}
 use Rattle.std.proofs.lemmas.Map.Keys.{IsDistinct-IsPermutation, IsStrictlyIncreasing-from_distinct}
 use Rattle.jj_dag.specs.CommonNodes.{AreClosestCommon}
-use Rattle.jj_dag.specs.Graph.{Graph, HasNoCycle, IsMaximalIn}
+use Rattle.jj_dag.specs.Graph.{Graph, IsAcyclicFrom, AreMaximalElements}
 use Rattle.jj_dag.specs.Failing.{BeginsWith}
 use Rattle.jj_dag.proofs.FailingWalks.{begun_are}
 use Rattle.jj_program.specs.declared.graph_walks.SoundIds.{SoundIds}
@@ -29,12 +29,12 @@ use Rattle.jj_program.specs.Neighbors.{listed_in, HoldsNeighbors}
 use Rattle.jj_program.specs.GraphCommand.{HasCycle}
 
 -- if no id reaches a cycle, the graph is acyclic
-pub none_listed : (graph : Graph) (ids : List ℕ) → HoldsNeighbors graph ids → HasNoCycle graph ids → HasCycle graph → ⊥
+pub none_listed : (graph : Graph) (ids : List ℕ) → HoldsNeighbors graph ids → IsAcyclicFrom graph ids → HasCycle graph → ⊥
 none_listed graph ids held none (id, (steps, (next, edge, way))) =
     none id (next, Contains-from_has ids next (held id next edge), (steps, way)) (steps, (next, edge, way))
 
 -- in an acyclic graph no node reaches a cycle
-pub none_reached : (graph : Graph) (starts : List ℕ) → (HasCycle graph → ⊥) → HasNoCycle graph starts
+pub none_reached : (graph : Graph) (starts : List ℕ) → (HasCycle graph → ⊥) → IsAcyclicFrom graph starts
 none_reached graph starts none a reached cycle = none (a, cycle)
 
 -- the items of a copied slice iterator
@@ -72,14 +72,14 @@ pub listed_in-empty : (m : BTreeMap ℕ (Vec ℕ Global)) → m.entries ≡ [] �
 listed_in-empty m empty = λ i id. option_map (λ v. v.items) (lookup (is_at (nat_cmp id)) (empty i))
 
 -- maximal elements under permutation
-pub maximal_permuted : (graph : Graph) (ids found sorted : List ℕ) → IsPermutation found sorted → IsMaximalIn graph ids found → IsMaximalIn graph ids sorted
+pub maximal_permuted : (graph : Graph) (ids found sorted : List ℕ) → IsPermutation found sorted → AreMaximalElements graph ids found → AreMaximalElements graph ids sorted
 maximal_permuted graph ids found sorted moved of_found = record {
   all = λ a. ((λ h. (of_found.all a).0 (Contains-permutation sorted found a (IsPermutation-sym found sorted moved) h)), λ h. Contains-permutation found sorted a moved ((of_found.all a).1 h));
   once = IsDistinct-IsPermutation eqb eqb-flip found sorted moved of_found.once;
 }
 
 -- a sorted list of distinct ids is strictly increasing
-pub maximal_rising : (graph : Graph) (ids sorted : List ℕ) → IsSorted nat_cmp sorted → IsMaximalIn graph ids sorted → IsStrictlyIncreasing sorted
+pub maximal_rising : (graph : Graph) (ids sorted : List ℕ) → IsSorted nat_cmp sorted → AreMaximalElements graph ids sorted → IsStrictlyIncreasing sorted
 maximal_rising graph ids sorted in_order of_sorted = IsStrictlyIncreasing-from_distinct sorted (IsNonDecreasingBy-from_sort (λ x. x) sorted in_order) of_sorted.once
 
 -- closest common nodes under permutation

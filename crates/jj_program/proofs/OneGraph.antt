@@ -10,7 +10,7 @@ use Rattle.std.proofs.lemmas.List.{get_or_at, get_or_append_left}
 use Rattle.std.proofs.lemmas.List.Kept.{AllPairs-from_increasing}
 use Rattle.std.proofs.lemmas.Map.Made.{length-from_same_keys}
 use Rattle.jj_dag.specs.CommonNodes.{AreClosestCommon}
-use Rattle.jj_dag.specs.Graph.{Graph, IsGreatestChildFirst, IsMaximalIn}
+use Rattle.jj_dag.specs.Graph.{Graph, IsGreatestTopologicalOrder, AreMaximalElements}
 use Rattle.jj_dag.proofs.Walking.{has, Decides-has}
 use Rattle.jj_program.specs.declared.fault.Fault.{Fault}
 use Rattle.jj_program.specs.Requests.{AnswersEach}
@@ -52,7 +52,7 @@ same_length one other once once' same =
     length-from_same_keys nat_eq_equiv one other once once'
     (λ q. one_answer (has one q) (has other q) (Decides-has one q) ((λ h. (same q).1 ((Decides-has other q).0 h)), λ h. (Decides-has other q).1 ((same q).0 h)))
 
-greatest_once : (graph : Graph) (ids one other : List ℕ) → IsGreatestChildFirst graph ids one → IsGreatestChildFirst graph ids other → one ≡ other
+greatest_once : (graph : Graph) (ids one other : List ℕ) → IsGreatestTopologicalOrder graph ids one → IsGreatestTopologicalOrder graph ids other → one ≡ other
 greatest_once graph ids one other of_one of_other =
     let first = of_one.child_first in
     let second = of_other.child_first in
@@ -88,7 +88,7 @@ ascending_once one other up up' once once' same = same_lists one other (same_len
     nowhere front xs ys a b e e' differ =
         ⊎_elim (λ less. missing one other front xs ys a b up up' (λ x. (same x).0) e e' less) (λ more. missing other one front ys xs b a up' up (λ x. (same x).1) e' e more) (apart a b differ)
 
-heads_once : (graph : Graph) (ids one other : List ℕ) → IsMaximalIn graph ids one → IsMaximalIn graph ids other → IsStrictlyIncreasing one → IsStrictlyIncreasing other → one ≡ other
+heads_once : (graph : Graph) (ids one other : List ℕ) → AreMaximalElements graph ids one → AreMaximalElements graph ids other → IsStrictlyIncreasing one → IsStrictlyIncreasing other → one ≡ other
 heads_once graph ids one other of_one of_other up up' =
     ascending_once one other up up' of_one.once of_other.once (λ a. ((λ h. (of_other.all a).1 ((of_one.all a).0 h)), λ h. (of_one.all a).1 ((of_other.all a).0 h)))
 

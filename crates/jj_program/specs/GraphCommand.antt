@@ -7,7 +7,7 @@ use Rattle.std.specs.Str.Parse.{digits_value}
 use Rattle.std.specs.Fmt.{decimal}
 use Rattle.std.specs.List.{after_first, before_first, count_by}
 use Rattle.std.specs.List.Sorted.{IsStrictlyIncreasing}
-use Rattle.jj_dag.specs.Graph.{Graph, StrictlyReaches, IsGreatestChildFirst, IsMaximalIn}
+use Rattle.jj_dag.specs.Graph.{Graph, StrictlyReaches, IsGreatestTopologicalOrder, AreMaximalElements}
 use Rattle.jj_dag.specs.CommonNodes.{AreClosestCommon}
 use Rattle.jj_program.specs.declared.fault.Fault.{Fault}
 use Rattle.jj_program.specs.declared.fault.LineFault.{LineFault}
@@ -120,9 +120,9 @@ numbers_line name ids = line_text name (map decimal ids)
 
 -- the line of a request on an acyclic graph
 abbrev pub AnswersRequest : Graph → GraphRequest → List ℕ → Type 0
-AnswersRequest graph (Order ids) answer = (order : List ℕ) × IsGreatestChildFirst graph ids order
-    × (answer ≡ numbers_line (codes "order") order)
-AnswersRequest graph (Heads ids) answer = (heads : List ℕ) × IsMaximalIn graph ids heads
+AnswersRequest graph (Order ids) answer = (order : List ℕ)
+    × IsGreatestTopologicalOrder graph ids order × (answer ≡ numbers_line (codes "order") order)
+AnswersRequest graph (Heads ids) answer = (heads : List ℕ) × AreMaximalElements graph ids heads
     × IsStrictlyIncreasing heads × (answer ≡ numbers_line (codes "heads") heads)
 AnswersRequest graph (Common set1 set2) answer = (common : List ℕ)
     × AreClosestCommon graph set1 set2 common × IsStrictlyIncreasing common

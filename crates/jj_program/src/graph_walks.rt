@@ -6,7 +6,7 @@ ghost use Rattle.std.specs.Iterator.Adapters.{copied_source};
 ghost use Rattle.std.specs.List.Sorted.{IsStrictlyIncreasing};
 ghost use Rattle.std.specs.Slice.Iter.{iter_rest};
 ghost use Rattle.jj_dag.specs.CommonNodes.{AreClosestCommon};
-ghost use Rattle.jj_dag.specs.Graph.{IsGreatestChildFirst, IsMaximalIn};
+ghost use Rattle.jj_dag.specs.Graph.{IsGreatestTopologicalOrder, AreMaximalElements};
 ghost use Rattle.jj_program.specs.ListedGraphs.{named_by, shown_by};
 ghost use Rattle.jj_program.specs.GraphCommand.{HasCycle};
 
@@ -84,7 +84,7 @@ pub(crate) fn greatest_order(
 ) -> Result<Vec<u64>, AllocError>
     requires acyclic { ¬ (HasCycle (shown_by graph.now)) }
     requires named { All (Contains (named_by graph.now)) ids.now }
-    ensures { IfOk result (λ order. IsGreatestChildFirst
+    ensures { IfOk result (λ order. IsGreatestTopologicalOrder
         (shown_by graph.now) ids.now order.items) }
 {
     let order = topo_order_reverse_ord(
@@ -113,7 +113,7 @@ pub(crate) fn ascending_heads(
     requires acyclic { ¬ (HasCycle (shown_by graph.now)) }
     requires named { All (Contains (named_by graph.now)) ids.now }
     ensures maximal { IfOk result (λ heads.
-        IsMaximalIn (shown_by graph.now) ids.now heads.items) }
+        AreMaximalElements (shown_by graph.now) ids.now heads.items) }
     ensures ascending { IfOk result (λ heads. IsStrictlyIncreasing heads.items) }
 {
     let found = heads(

@@ -6,7 +6,7 @@ use Rattle.std.proofs.lemmas.List.{length-map}
 use Rattle.jj_walks.specs.Chunks.{IsChunkOfMany, IsNextChunk, IsStretch}
 use Rattle.jj_dag.specs.Collecting.{IsCollecting}
 use Rattle.jj_dag.specs.Failing.{FailingGraph, sound}
-use Rattle.jj_dag.specs.Graph.{Graph, HasEdge, Path, Reaches, StrictlyReaches, ReachedFrom, ReachesCycle, HasNoCycle, IsChildFirst}
+use Rattle.jj_dag.specs.Graph.{Graph, HasEdge, IsWalkOfLength, Reaches, StrictlyReaches, ReachedFrom, ReachesCycle, IsAcyclicFrom, IsTopologicalOrder}
 use Rattle.jj_walks.specs.LookingAhead.{HasLooked, copies}
 use Rattle.jj_dag.specs.Walk.{Numbered, AreNodes}
 use Rattle.jj_dag.proofs.Collecting.{are_nodes, at_place}
@@ -85,9 +85,9 @@ all_kept : {ID : Type 0} (find : ID → Option ℕ) (ids : List (List ID)) → m
 all_kept find [] = refl
 all_kept find (is ∷ ids) = ap (λ l. l ∷ map (λ js. filter_map find js) (map (λ js. filter (λ i. is_some (find i)) js) ids)) (found_kept find is) ∙ ap (λ l. filter_map find is ∷ l) (all_kept find ids)
 
-Path-more : (g h : Graph) → ((a b : ℕ) → HasEdge g a b → HasEdge h a b) → (n a b : ℕ) → Path g a b n → Path h a b n
-Path-more g h more zero a b p = p
-Path-more g h more (suc n) a b (c, e, p) = (c, more a c e, Path-more g h more n c b p)
+IsWalkOfLength-more : (g h : Graph) → ((a b : ℕ) → HasEdge g a b → HasEdge h a b) → (n a b : ℕ) → IsWalkOfLength g a b n → IsWalkOfLength h a b n
+IsWalkOfLength-more g h more zero a b p = p
+IsWalkOfLength-more g h more (suc n) a b (c, e, p) = (c, more a c e, IsWalkOfLength-more g h more n c b p)
 
 -- ---- the graph of the nodes that were explored
 
@@ -196,12 +196,12 @@ module _ {T ID K : Type 0} (w : Numbered T ID) (items : FailingGraph K) (starts 
   pub inner_reached : (a : ℕ) → ReachedFrom inner explored a → ReachedFrom w.graph starts a
   inner_reached a (s, at, (n, p)) =
       let from = looked.collecting.given_reached s at in
-      (from.0, from.1, Reaches-trans w.graph from.0 s a from.2.0 from.2.1 (n, Path-more inner w.graph inner_edge n s a p))
+      (from.0, from.1, Reaches-trans w.graph from.0 s a from.2.0 from.2.1 (n, IsWalkOfLength-more inner w.graph inner_edge n s a p))
 
   pub inner_cycle : ReachesCycle inner explored → ReachesCycle w.graph starts
-  inner_cycle (a, (reached, (n, p))) = (a, (inner_reached a reached, (n, Path-more inner w.graph inner_edge (suc n) a a p)))
+  inner_cycle (a, (reached, (n, p))) = (a, (inner_reached a reached, (n, IsWalkOfLength-more inner w.graph inner_edge (suc n) a a p)))
 
-  module _ (few : length left ≤ 1) (begun : given ≡ [] → left ≡ []) (order : List ℕ) (first : IsChildFirst inner explored order) where
+  module _ (few : length left ≤ 1) (begun : given ≡ [] → left ≡ []) (order : List ℕ) (first : IsTopologicalOrder inner explored order) where
     abbrev rest : List ℕ
     rest = map w.node left
 
@@ -271,12 +271,12 @@ module _ {T ID K : Type 0} (w : Numbered T ID) (items : FailingGraph K) (starts 
         which (zero, lt, q) s below = subst (λ (n : ℕ). StrictlyReaches w.graph n r) q s
         which (suc k, lt, q) s below = below b (k, omega arith, q)
 
-    pub left_apart : HasNoCycle w.graph starts → (a : ℕ) → Contains order a → ReachedFrom w.graph rest a → ⊥
+    pub left_apart : IsAcyclicFrom w.graph starts → (a : ℕ) → Contains order a → ReachedFrom w.graph rest a → ⊥
     left_apart acyclic a at (r, h, (n, p)) =
         let s = leads r h order [] refl a at in
         acyclic a (looked.collecting.given_reached a (from_order a at)) (round s.0 s.1)
       where
-        round : (m : ℕ) → Path w.graph a r (suc m) → StrictlyReaches w.graph a a
+        round : (m : ℕ) → IsWalkOfLength w.graph a r (suc m) → StrictlyReaches w.graph a a
         round m (c, e, q) = edge_then_Reaches w.graph a c a e (Reaches-trans w.graph c r a m q (n, p))
 
     starts_in : (a : ℕ) → Contains starts a → Contains explored a
@@ -290,14 +290,14 @@ module _ {T ID K : Type 0} (w : Numbered T ID) (items : FailingGraph K) (starts 
           absurd (omega arith)
     ] refl) (looked.collecting.starts_met a s)
 
-    down : (n b a : ℕ) → Contains explored b → Path w.graph b a n → Contains order a ⊎ ReachedFrom w.graph rest a
+    down : (n b a : ℕ) → Contains explored b → IsWalkOfLength w.graph b a n → Contains order a ⊎ ReachedFrom w.graph rest a
     down zero b a h p = inl (subst (λ (m : ℕ). Contains order m) p (in_order b h))
     down (suc n) b a h (c, e, p) = elim (goes b c h e) [
       | inl l ↦ down n c a l p
       | inr k ↦ inr (c, k, (n, p))
     ]
 
-    within : HasNoCycle w.graph starts → (n a b : ℕ) → Contains explored a → Contains order b → Path w.graph a b n → Path inner a b n
+    within : IsAcyclicFrom w.graph starts → (n a b : ℕ) → Contains explored a → Contains order b → IsWalkOfLength w.graph a b n → IsWalkOfLength inner a b n
     within acyclic zero a b h at p = p
     within acyclic (suc n) a b h at (c, e, p) = elim (goes a c h e) [
       | inl l ↦ (c, keeps_edge a c l e, within acyclic n c b l at p)
@@ -359,7 +359,7 @@ one_next g a = record {
   is_chunk = record {
     once = one_distinct a;
     reached = λ b. (
-      λ (s, at, (n, p)). down n b (subst (λ (m : ℕ). Path g m b n) (sym (only a s at)) p),
+      λ (s, at, (n, p)). down n b (subst (λ (m : ℕ). IsWalkOfLength g m b n) (sym (only a s at)) p),
       λ h. elim h [
         | inl l ↦ (a, here a [], (0, only a b l))
         | inr (c, e, (n, p)) ↦ (a, here a [], (suc n, (c, e, p)))
@@ -376,7 +376,7 @@ one_next g a = record {
   of_many = λ two. absurd (omega arith);
 }
   where
-    down : (n b : ℕ) → Path g a b n → Contains (a ∷ []) b ⊎ ReachedFrom g (g a) b
+    down : (n b : ℕ) → IsWalkOfLength g a b n → Contains (a ∷ []) b ⊎ ReachedFrom g (g a) b
     down zero b p = inl (0, omega arith, p)
     down (suc n) b (c, e, p) = inr (c, e, (n, p))
 

@@ -3,7 +3,7 @@ use Rattle.std.proofs.Common.{◌≡◌, ℕ, zero, suc, List, [], ◌∷◌, �
 use Rattle.std.specs.List.{Contains, IsDistinct}
 use Rattle.std.proofs.lemmas.List.Elements.{Contains-append_left, Contains-append_right, Contains-append_cases}
 use Rattle.jj_walks.specs.Chunks.{IsStretch, IsBegun, LeadsOn, LeadsForward}
-use Rattle.jj_dag.specs.Graph.{Graph, HasEdge, Path, Reaches, StrictlyReaches, ReachedFrom, ReachesCycle, HasNoCycle, IsChildFirst}
+use Rattle.jj_dag.specs.Graph.{Graph, HasEdge, IsWalkOfLength, Reaches, StrictlyReaches, ReachedFrom, ReachesCycle, IsAcyclicFrom, IsTopologicalOrder}
 use Rattle.jj_dag.proofs.Reaching.{Contains-split, Contains-reached, Reaches-trans, edge_then_Reaches}
 use Rattle.jj_dag.proofs.ReadyOrders.{here, at_split, twice}
 use Rattle.jj_dag.proofs.Plain.{nothing, one_distinct, only}
@@ -101,7 +101,7 @@ one_stretch g a = record {
 
 -- ---- the end
 
-behind : (g : Graph) (order : List ℕ) → LeadsForward g order [] → (n : ℕ) (front back : List ℕ) (a b : ℕ) → order ≡ front ++ a ∷ back → Path g a b (suc n) → Contains back b
+behind : (g : Graph) (order : List ℕ) → LeadsForward g order [] → (n : ℕ) (front back : List ℕ) (a b : ℕ) → order ≡ front ++ a ∷ back → IsWalkOfLength g a b (suc n) → Contains back b
 behind g order forward zero front back a b e (c, edge, p) =
     subst (λ (m : ℕ). Contains back m) p (⊎_elim (λ l. l) (λ r. absurd (nothing c r)) (forward front back a c e edge))
 behind g order forward (suc n) front back a b e (c, edge, p) =
@@ -122,12 +122,12 @@ ended_all g starts order leads a (s, at, (m, p)) =
         subst (λ (l : List ℕ). Contains l c) (sym split.2)
         (Contains-append_right split.0 (b ∷ split.1) c (Contains-append_right (b ∷ []) split.1 c (behind g order leads.forward 0 split.0 split.1 b c split.2 (c, edge, refl))))
 
-pub ended_acyclic : (g : Graph) (starts order : List ℕ) → LeadsOn g starts order [] → IsDistinct eqb order → HasNoCycle g starts
+pub ended_acyclic : (g : Graph) (starts order : List ℕ) → LeadsOn g starts order [] → IsDistinct eqb order → IsAcyclicFrom g starts
 ended_acyclic g starts order leads once a (s, at, (m, p)) (n, path) =
     let split = Contains-split order a (ended_all g starts order leads a (s, at, (m, p))) in
     twice order split.0 split.1 a once split.2 (behind g order leads.forward n split.0 split.1 a a split.2 path)
 
-pub ended_order : (g : Graph) (starts order : List ℕ) → IsBegun g starts order → LeadsOn g starts order [] → IsDistinct eqb order → IsChildFirst g starts order
+pub ended_order : (g : Graph) (starts order : List ℕ) → IsBegun g starts order → LeadsOn g starts order [] → IsDistinct eqb order → IsTopologicalOrder g starts order
 ended_order g starts order begun leads once = record {
   all = λ a. (λ h. begun.reached a h, λ r. ended_all g starts order leads a r);
   once = once;

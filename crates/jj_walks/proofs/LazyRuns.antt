@@ -11,7 +11,7 @@ use Rattle.jj_dag.specs.declared.walk_error.WalkError.{WalkError}
 use Rattle.jj_dag.specs.Asking.{graph_at}
 use Rattle.jj_dag.specs.ClosureGraph.{InEachModel}
 use Rattle.jj_dag.specs.Errors.{IfNode}
-use Rattle.jj_dag.specs.Graph.{HasNoCycle, IsChildFirst}
+use Rattle.jj_dag.specs.Graph.{IsAcyclicFrom, IsTopologicalOrder}
 use Rattle.jj_walks.specs.LazySteps.{IsCause, IsLeftOf, Steps}
 use Rattle.jj_walks.specs.NextChunk.{list_of_nodes}
 
@@ -29,10 +29,10 @@ module _ {T ID E F N C U J : Type 0} (eq : ID → ID → Bool) (ids : Shared F (
       (more.0, subst (λ (l : List T). IsLeftOf eq ids lists value items id_fn neighbors_fn on_cycle starts l t.order) (append_assoc yielded (x ∷ []) xs) more.1)
 
   -- a complete run yields a topological order of each model, in which the starts reach no cycle
-  pub IsChildFirst-from_drains : (xs : List T) (s : TopoOrderReverseLazy T ID E F N C) → s.has_ended ≡ false → IsLeftOf eq ids lists value items id_fn neighbors_fn on_cycle starts [] s.order
+  pub IsTopologicalOrder-from_drains : (xs : List T) (s : TopoOrderReverseLazy T ID E F N C) → s.has_ended ≡ false → IsLeftOf eq ids lists value items id_fn neighbors_fn on_cycle starts [] s.order
       → Drains (Steps eq ids lists value items cycles) s (map (λ x. Ok x) xs)
-      → InEachModel (graph_at eq ids lists value items id_fn neighbors_fn) (list_of_nodes starts) (λ g nodes. IsChildFirst g.graph nodes (map g.node xs) × HasNoCycle g.graph nodes)
-  IsChildFirst-from_drains xs s on k (u, (t, run, last)) =
+      → InEachModel (graph_at eq ids lists value items id_fn neighbors_fn) (list_of_nodes starts) (λ g nodes. IsTopologicalOrder g.graph nodes (map g.node xs) × IsAcyclicFrom g.graph nodes)
+  IsTopologicalOrder-from_drains xs s on k (u, (t, run, last)) =
       let after = left_after xs [] s t on k run in
       last.yields after.0 id_fn neighbors_fn on_cycle starts xs after.1
 

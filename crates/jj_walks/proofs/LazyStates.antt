@@ -16,7 +16,7 @@ use Rattle.jj_walks.specs.Chunks.{IsStretch, IsBegun, LeadsOn}
 use Rattle.jj_walks.specs.NextChunk.{list_of_nodes}
 use Rattle.jj_dag.specs.Asking.{InModels, graph_at, whole}
 use Rattle.jj_dag.specs.ClosureGraph.{IsNeighborsError}
-use Rattle.jj_dag.specs.Graph.{Graph, ReachedFrom, ReachesCycle, HasNoCycle, IsChildFirst}
+use Rattle.jj_dag.specs.Graph.{Graph, ReachedFrom, ReachesCycle, IsAcyclicFrom, IsTopologicalOrder}
 use Rattle.jj_dag.specs.Outcomes.{IsReachedBesideCycle}
 use Rattle.jj_walks.specs.LazySteps.{IsCause, IsExhausted, IsLeftIn, IsLeftOf, yielded_or_ready}
 use Rattle.jj_dag.specs.Walk.{Numbered, AreNodes}
@@ -124,7 +124,7 @@ module _ {T ID E F N C : Type 0} (w : Numbered T ID) (eq : ID → ID → Bool) (
         rest = λ none. subst (λ (l : List ℕ). LeadsOn w.graph starts l (map w.node t.start.items)) kept (same_rest k start failed none);
       }
 
-  pub in_model_exhausted : IsLeftIn w eq starts yielded s → IsExhausted s → IsChildFirst w.graph starts (map w.node yielded) × HasNoCycle w.graph starts
+  pub in_model_exhausted : IsLeftIn w eq starts yielded s → IsExhausted s → IsTopologicalOrder w.graph starts (map w.node yielded) × IsAcyclicFrom w.graph starts
   in_model_exhausted k (empty, none, sound) =
       let before = yielded_only empty in
       let begun : IsBegun w.graph starts (map w.node yielded) = subst (λ (l : List ℕ). IsBegun w.graph starts l) before k.begun in

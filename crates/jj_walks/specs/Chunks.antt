@@ -3,7 +3,7 @@
 -- Cited by contracts of public items through LazySteps, NextChunk.
 use Rattle.std.specs.Prelude.{◌≡◌, ◌↔◌, ◌⊎◌, ℕ, ◌≤◌, List, [], ◌∷◌, ◌++◌, length, eqb}
 use Rattle.std.specs.List.{Contains, IsDistinct}
-use Rattle.jj_dag.specs.Graph.{Graph, HasEdge, ReachedFrom, HasNoCycle, StrictlyReaches, StandsBefore}
+use Rattle.jj_dag.specs.Graph.{Graph, HasEdge, ReachedFrom, IsAcyclicFrom, StrictlyReaches, Precedes}
 
 -- The chunk has no node twice, and what the starts reach is the chunk and what is reached from what
 -- is left. Where the starts reach no cycle, the chunk is child-first, and nothing of it is reached
@@ -11,9 +11,9 @@ use Rattle.jj_dag.specs.Graph.{Graph, HasEdge, ReachedFrom, HasNoCycle, Strictly
 pub record IsChunk (g : Graph) (starts chunk left : List ℕ) : Type 0 where
   pub once : IsDistinct eqb chunk
   pub reached : (a : ℕ) → ReachedFrom g starts a ↔ (Contains chunk a ⊎ ReachedFrom g left a)
-  pub before : HasNoCycle g starts → (a b : ℕ) → Contains chunk a → Contains chunk b
-      → StrictlyReaches g a b → StandsBefore chunk a b
-  pub apart : HasNoCycle g starts → (a : ℕ) → Contains chunk a → ReachedFrom g left a → ⊥
+  pub before : IsAcyclicFrom g starts → (a b : ℕ) → Contains chunk a → Contains chunk b
+      → StrictlyReaches g a b → Precedes chunk a b
+  pub apart : IsAcyclicFrom g starts → (a : ℕ) → Contains chunk a → ReachedFrom g left a → ⊥
 
 -- the chunk of several starts has them all, and at most one node is left
 pub record IsChunkOfMany (g : Graph) (starts chunk left : List ℕ) : Type 0 where

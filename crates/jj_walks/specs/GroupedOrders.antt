@@ -52,8 +52,8 @@ module _ {N ID : Type 0} (eq : ID → ID → Bool) where
   is_ready nodes given i =
       list_all (λ e. not (list_any (leads_to eq i) e.edges) || has_node given e.id) nodes
 
-  -- one of the nodes that was not yielded yet and is ready; it is the last target of the newest that
-  -- is ready, if one is
+  -- one of the nodes that was not yielded yet and is ready; it is the last target of the newest
+  -- that is ready, if one is
   pub record MayFollow (nodes given : List (Entry N ID)) (e : Entry N ID) : Type 0 where
     pub node : Contains nodes e
     pub new : has_node given e.id ≡ false

@@ -78,8 +78,8 @@ module _ {N ID F : Type 0} (ids : Shared F (Bor N × Unit {0}) (Bor ID)) (eq : I
       IsCause as_id h s Memory t = Unit {0}
 
       -- after the history h some nodes are read, and then: the input has ended, all nodes were
-      -- yielded, and no id is required; or a node is yielded that may come next; or an error has its
-      -- cause
+      -- yielded, and no id is required; or a node is yielded that may come next; or an error has
+      -- its cause
       abbrev pub GivesNext : History N ID → TopoGroupedGraph N ID S F
           → Option (Result (Item N ID) (GroupedGraphError E)) → TopoGroupedGraph N ID S F → Type 0
       GivesNext h s None t = (items : List (Item N ID)) × (reads : List (Entry N ID)) × (u : S)

@@ -18,14 +18,14 @@ use Rattle.jj_walks.specs.NextChunk.{list_of_nodes}
 use Rattle.jj_dag.specs.Asking.{GoesOn, graph_at}
 use Rattle.jj_dag.specs.ClosureGraph.{InEachModel, IsMadeFrom, IsNeighborsError, Listing}
 use Rattle.jj_dag.specs.Errors.{IfNode}
-use Rattle.jj_dag.specs.Graph.{HasNoCycle, IsChildFirst}
+use Rattle.jj_dag.specs.Graph.{IsAcyclicFrom, IsTopologicalOrder}
 use Rattle.jj_dag.specs.Outcomes.{IsReachedBesideCycle}
 use Rattle.jj_dag.specs.Owed.{CanShow}
 use Rattle.jj_walks.specs.GroupedSteps.{is_last}
 use Rattle.jj_dag.specs.Walk.{AreNodes, Numbered}
 
--- an upper bound on the items to come: each node inserts an id into a set of fewer than 2^63, and an
--- error ends the order
+-- an upper bound on the items to come: each node inserts an id into a set of fewer than 2^63, and
+-- an error ends the order
 abbrev pub items_left : {T ID E F N C : Type 0} → TopoOrderReverseLazy T ID E F N C → ℕ
 items_left s = cond s.has_ended 0 (1 + (2 ^ 63 - hash_set_len s.order.emitted))
 
@@ -108,13 +108,15 @@ module _ {T ID E F N C U J : Type 0} (eq : ID → ID → Bool)
         → IsLeftOf id_fn neighbors_fn on_cycle starts yielded s
         → MatchOption r
         (InEachModel (graph_at eq ids lists value items id_fn neighbors_fn) (list_of_nodes starts)
-        (λ g nodes. IsChildFirst g.graph nodes (map g.node yielded) × HasNoCycle g.graph nodes))
+        (λ g nodes. IsTopologicalOrder g.graph nodes (map g.node yielded)
+        × IsAcyclicFrom g.graph nodes))
         (λ x. MatchResult x
         (λ node. IsLeftOf id_fn neighbors_fn on_cycle starts (yielded ++ node ∷ []) t)
         (λ refused. IfNode refused (IsCause id_fn neighbors_fn on_cycle starts)))
 
     -- One call of `next`, which returned r and left t: the order goes on; an error that was to come
-    -- next came; only `None` and errors end it; and an ended order returns `None` and stays as it is.
+    -- next came; only `None` and errors end it; and an ended order returns `None` and stays as it
+    -- is.
     pub record Steps (s : TopoOrderReverseLazy T ID E F N C) (r : Option (Result T (WalkError E)))
         (t : TopoOrderReverseLazy T ID E F N C) : Type 0 where
       pub yields : s.has_ended ≡ false → YieldsOn s.order r t.order

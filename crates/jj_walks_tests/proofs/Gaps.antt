@@ -2,7 +2,7 @@
 use Rattle.std.proofs.Common.{◌≡◌, ℕ, zero, suc, true, false, cond, List, [], ◌∷◌, map, Option, None, Some, is_some, Result, Ok, Err, refl, sym, ◌∙◌, ap, subst, arith}
 use Rattle.std.specs.Prelude.{IfOk, IfErr, eqb}
 use Rattle.std.specs.List.{Contains, IsDistinct, filter_map}
-use Rattle.jj_dag.specs.Graph.{IsMaximalIn, ReachedFrom}
+use Rattle.jj_dag.specs.Graph.{AreMaximalElements, ReachedFrom}
 use Rattle.jj_dag.proofs.Heads.{Contains-map}
 use Rattle.std.specs.Fn.{Called, Mut, Shared}
 use Rattle.std.specs.declared.alloc.AllocError.{AllocError}
@@ -95,7 +95,7 @@ module _ (commits : List Commit) where
         (x.now, node_has commits x (are_nodes {E = ℕ} walk_whole (λ a. []) starts whole_closed nodes (node commits x) reached), told.0, has_text x.now gap told.1)
 
   -- a set of nodes that is maximal has their ids for its numbers
-  pub whole_maximal : IsDistinct eqb (ids_of commits) → (xs : List (Bor Commit)) → IsMaximalIn (whole_graph commits) (ids_of commits) (map (node commits) xs)
-      → IsMaximalIn (whole_graph commits) (ids_of commits) (map (λ x. x.now.id) xs)
-  whole_maximal once xs m = subst (λ l. IsMaximalIn (whole_graph commits) (ids_of commits) l)
+  pub whole_maximal : IsDistinct eqb (ids_of commits) → (xs : List (Bor Commit)) → AreMaximalElements (whole_graph commits) (ids_of commits) (map (node commits) xs)
+      → AreMaximalElements (whole_graph commits) (ids_of commits) (map (λ x. x.now.id) xs)
+  whole_maximal once xs m = subst (λ l. AreMaximalElements (whole_graph commits) (ids_of commits) l)
       (ids_are commits xs (λ x h. node_has commits x (starts_are_nodes commits once (node commits x) ((m.all (node commits x)).0 (Contains-map (node commits) xs x h)).0))) m

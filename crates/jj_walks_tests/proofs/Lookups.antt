@@ -10,7 +10,7 @@ use Rattle.std.proofs.lemmas.List.Elements.{Contains-append_right}
 use denote.Ref.{Bor}
 use Rattle.jj_dag.specs.ClosureGraph.{Implements, MayReturn, ReturnsId}
 use Rattle.jj_dag.specs.Failing.{FailsAfterNodes}
-use Rattle.jj_dag.specs.Graph.{HasNoCycle, IsMaximalIn, IsPostorder, OnCycleFrom, ReachedFrom}
+use Rattle.jj_dag.specs.Graph.{IsAcyclicFrom, AreMaximalElements, IsPostorder, OnCycleFrom, ReachedFrom}
 use Rattle.jj_dag.specs.Orders.{IsWholePostorder}
 use Rattle.jj_dag.specs.Walk.{AreNodes, DrainsTo}
 use Rattle.jj_dag.proofs.ClosureGraphs.{may_return_says}
@@ -123,10 +123,10 @@ module _ (commits : List Commit) where
       ids_are commits xs (λ x h. node_has commits x (are_nodes {E = ℕ} (walk_of commits) (λ a. []) (known_ids commits ids) (walk_closed commits) (known_are_nodes commits ids) (node commits x)
       (reached (node commits x) (Contains-map (node commits) xs x h))))
 
-  pub maximal_known : (ids : List ℕ) (xs : List (Bor Commit)) → IsMaximalIn (parent_graph commits) (known_ids commits ids) (map (node commits) xs)
-      → IsMaximalIn (parent_graph commits) (known_ids commits ids) (map (λ x. x.now.id) xs)
+  pub maximal_known : (ids : List ℕ) (xs : List (Bor Commit)) → AreMaximalElements (parent_graph commits) (known_ids commits ids) (map (node commits) xs)
+      → AreMaximalElements (parent_graph commits) (known_ids commits ids) (map (λ x. x.now.id) xs)
   maximal_known ids xs m =
-      subst (λ l. IsMaximalIn (parent_graph commits) (known_ids commits ids) l) (reached_ids ids xs (λ a h. (a, ((m.all a).0 h).0, (0, refl)))) m
+      subst (λ l. AreMaximalElements (parent_graph commits) (known_ids commits ids) l) (reached_ids ids xs (λ a h. (a, ((m.all a).0 h).0, (0, refl)))) m
 
   postorder_reached : (ids : List ℕ) (order : List ℕ) → IsPostorder (parent_graph commits) (known_ids commits ids) order → (a : ℕ) → Contains order a → ReachedFrom (parent_graph commits) (known_ids commits ids) a
   postorder_reached ids order p a h =

@@ -1,4 +1,5 @@
--- The commits of a list numbered by rank, so that the greatest child-first order has the newest first.
+-- The commits of a list numbered by rank, so that the greatest child-first order has the newest
+-- first.
 use Rattle.std.proofs.Common.{◌≡◌, ◌≢◌, ◌<◌, ◌==◌, ℕ, suc, Bool, true, false, cond, Option, None, Some, is_some, List, [], ◌∷◌, length, map, refl, sym, ◌∙◌, ap, subst, true≢false, inl, inr, ◌⊎◌}
 use Rattle.std.specs.List.{Contains}
 use Rattle.std.specs.Cmp.Lexicographic.{slice_cmp}
@@ -8,7 +9,7 @@ use Rattle.std.specs.Ordering.{nat_cmp, ordering_then}
 use Rattle.std.proofs.lemmas.Bool.Decides.{Decides-eqb}
 use Rattle.std.proofs.lemmas.Cmp.{nat_list_cmp_total, tied_itself}
 use denote.Ref.{Bor}
-use Rattle.jj_dag.specs.Graph.{ReachedFrom, IsChildFirst, IsGreatestChildFirst}
+use Rattle.jj_dag.specs.Graph.{ReachedFrom, IsTopologicalOrder, IsGreatestTopologicalOrder}
 use Rattle.jj_dag.specs.Failing.{FailingGraph, Fault}
 use Rattle.jj_dag.specs.Walk.{Numbered, AreNodes}
 use Rattle.jj_dag.proofs.Collecting.{are_nodes}
@@ -110,15 +111,15 @@ module _ (commits : List Commit) where
           (c, d, e, f, inr (same, less))
 
   -- an order that is the greatest by rank has the newest first
-  pub newest_ids : (starts : List ℕ) → AreNodes (walk_of commits) starts → (xs : List (Bor Commit)) → IsChildFirst (parent_graph commits) starts (map (node commits) xs)
-      → IsGreatestChildFirst ranked_walk.graph (map to starts) (map ranked_walk.node xs) → IsNewestFirst commits starts (map (λ x. x.now.id) xs)
+  pub newest_ids : (starts : List ℕ) → AreNodes (walk_of commits) starts → (xs : List (Bor Commit)) → IsTopologicalOrder (parent_graph commits) starts (map (node commits) xs)
+      → IsGreatestTopologicalOrder ranked_walk.graph (map to starts) (map ranked_walk.node xs) → IsNewestFirst commits starts (map (λ x. x.now.id) xs)
   newest_ids starts nodes xs order best =
       let had : (a : ℕ) → ReachedFrom (parent_graph commits) starts a → is_some (commit_with commits a) ≡ true = are_nodes {E = ℕ} (walk_of commits) (λ n. []) starts (walk_closed commits) nodes in
       let numbers : AreNodes (walk_of commits) (map (node commits) xs) = λ a h. had a ((order.all a).0 h) in
       let same : map (node commits) xs ≡ map (λ x. x.now.id) xs = ids_are commits xs (λ x h. node_has commits x (numbers (node commits x) (Contains-map (node commits) xs x h))) in
-      let ids : IsChildFirst (parent_graph commits) starts (map (λ x. x.now.id) xs) = subst (λ l. IsChildFirst (parent_graph commits) starts l) same order in
-      let greatest : IsGreatestChildFirst ranked_walk.graph (map to starts) (map to (map (λ x. x.now.id) xs)) =
-      subst (λ l. IsGreatestChildFirst ranked_walk.graph (map to starts) l) (ranks_are xs numbers ∙ ap (map to) same) best in
+      let ids : IsTopologicalOrder (parent_graph commits) starts (map (λ x. x.now.id) xs) = subst (λ l. IsTopologicalOrder (parent_graph commits) starts l) same order in
+      let greatest : IsGreatestTopologicalOrder ranked_walk.graph (map to starts) (map to (map (λ x. x.now.id) xs)) =
+      subst (λ l. IsGreatestTopologicalOrder ranked_walk.graph (map to starts) l) (ranks_are xs numbers ∙ ap (map to) same) best in
       record {
         child_first = ids;
         newest = λ other o front lows others a b e f ne.

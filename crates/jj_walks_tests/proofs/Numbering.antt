@@ -1,4 +1,5 @@
--- The numbering under which a walk sees a list of commits: a commit of the list has its id for its number, and any other value a number that is no id.
+-- The numbering under which a walk sees a list of commits: a commit of the list has its id for its
+-- number, and any other value a number that is no id.
 use Rattle.std.proofs.Common.{◌≡◌, ℕ, zero, suc, ◌+◌, ◌≤◌, Bool, true, false, cond, ◌&&◌, ◌==◌, List, [], ◌∷◌, map, Option, None, Some, is_some, Result, Ok, refl, sym, ◌∙◌, ap, subst, arith, true≢false, eqb}
 use Rattle.std.specs.List.{Contains, IsDistinct, AllByRecursion, filter_map, cons_option}
 use Rattle.std.proofs.lemmas.Bool.Decides.{Decides-eqb}
@@ -9,7 +10,7 @@ use Rattle.std.specs.Cmp.Lexicographic.{pointwise}
 use Rattle.std.proofs.lemmas.Map.Keys.{IsDistinct-tail, IsDistinct-head}
 use Rattle.std.proofs.lemmas.List.Elements.{Contains-append_right}
 use denote.Ref.{Bor}
-use Rattle.jj_dag.specs.Graph.{HasEdge, IsMaximalIn}
+use Rattle.jj_dag.specs.Graph.{HasEdge, AreMaximalElements}
 use Rattle.jj_dag.specs.CommonNodes.{AreClosestCommon}
 use Rattle.jj_dag.specs.Failing.{Fault, sound_items}
 use Rattle.jj_dag.specs.Walk.{Numbered, AreNodes}
@@ -198,9 +199,9 @@ module _ (commits : List Commit) where
   ids_are [] h = refl
   ids_are (y ∷ ys) h = ap (λ n. n ∷ map node ys) (node_id y (h y (0, omega arith, refl))) ∙ ap (λ l. y.now.id ∷ l) (ids_are ys (λ x k. h x (Contains-append_right (y ∷ []) ys x k)))
 
-  pub maximal_ids : IsDistinct eqb (ids_of commits) → (xs : List (Bor Commit)) → IsMaximalIn (parent_graph commits) (ids_of commits) (map node xs)
-      → IsMaximalIn (parent_graph commits) (ids_of commits) (map (λ x. x.now.id) xs)
-  maximal_ids once xs m = subst (λ l. IsMaximalIn (parent_graph commits) (ids_of commits) l) (ids_are xs (λ x h. node_has x (starts_are_nodes once (node x) ((m.all (node x)).0 (Contains-map node xs x h)).0))) m
+  pub maximal_ids : IsDistinct eqb (ids_of commits) → (xs : List (Bor Commit)) → AreMaximalElements (parent_graph commits) (ids_of commits) (map node xs)
+      → AreMaximalElements (parent_graph commits) (ids_of commits) (map (λ x. x.now.id) xs)
+  maximal_ids once xs m = subst (λ l. AreMaximalElements (parent_graph commits) (ids_of commits) l) (ids_are xs (λ x h. node_has x (starts_are_nodes once (node x) ((m.all (node x)).0 (Contains-map node xs x h)).0))) m
 
   -- a set of commits of the list, as starts
   pub set_starts : (set : List Commit) → ((c : Commit) → Contains set c → has_commit commits c ≡ true) → (xs : List (Bor Commit)) → map (λ y. y.now) xs ≡ set → map node xs ≡ ids_of set

@@ -3,7 +3,7 @@ use Rattle.std.proofs.Common.{◌≡◌, ℕ, true, List, [], ◌∷◌, ◌++�
 use Rattle.std.specs.List.{Contains, IsDistinct}
 use Rattle.std.proofs.lemmas.List.{map-append, reverse-append}
 use denote.Ref.{Bor}
-use Rattle.jj_dag.specs.Graph.{IsPostorder, HasNoCycle, ReachedFrom, OnCycleFrom, StandsBefore}
+use Rattle.jj_dag.specs.Graph.{IsPostorder, IsAcyclicFrom, ReachedFrom, OnCycleFrom, Precedes}
 use Rattle.jj_dag.proofs.Relabelled.{Contains-map, Contains-unmap}
 use Rattle.jj_dag.proofs.Reaching.{Contains-postorder}
 use Rattle.jj_dag.proofs.Collecting.{are_nodes}
@@ -22,7 +22,7 @@ module _ (commits : List Commit) (once : IsDistinct eqb (ids_of commits)) where
   reached_are_nodes : (a : ℕ) → ReachedFrom (parent_graph commits) (ids_of commits) a → is_some (commit_with commits a) ≡ true
   reached_are_nodes = are_nodes {E = ℕ} (walk_of commits) (λ a. []) (ids_of commits) (walk_closed commits) (starts_are_nodes commits once)
 
-  pub ordered : (order : List (Bor Commit)) → IsPostorder (parent_graph commits) (ids_of commits) (map (node commits) order) → HasNoCycle (parent_graph commits) (ids_of commits)
+  pub ordered : (order : List (Bor Commit)) → IsPostorder (parent_graph commits) (ids_of commits) (map (node commits) order) → IsAcyclicFrom (parent_graph commits) (ids_of commits)
       → IsParentsFirst commits (map (λ x. x.now) order)
   unfolding IsDistinct
   ordered order p acyclic =
@@ -41,10 +41,10 @@ module _ (commits : List Commit) (once : IsDistinct eqb (ids_of commits)) where
         among = had;
         all = λ c h. subst (λ l. Contains l c.id) are (stands c h);
         once = subst (λ l. IsDistinct eqb l) are (Postorder-once g (reverse (ids_of commits)) [] numbers (λ a r. acyclic a (turned a r)) p tt);
-        before = λ c q h parent. subst (λ l. StandsBefore l q.id c.id) are (Postorder-before g (ids_of commits) numbers p c.id q.id (stands c h) (found_edge commits c q once h parent));
+        before = λ c q h parent. subst (λ l. Precedes l q.id c.id) are (Postorder-before g (ids_of commits) numbers p c.id q.id (stands c h) (found_edge commits c q once h parent));
       }
 
-  pub ordered_reversed : (order : List (Bor Commit)) → IsPostorder (parent_graph commits) (ids_of commits) (reverse (map (node commits) order)) → HasNoCycle (parent_graph commits) (ids_of commits)
+  pub ordered_reversed : (order : List (Bor Commit)) → IsPostorder (parent_graph commits) (ids_of commits) (reverse (map (node commits) order)) → IsAcyclicFrom (parent_graph commits) (ids_of commits)
       → IsParentsFirst commits (reverse (map (λ x. x.now) order))
   ordered_reversed order p acyclic =
       subst (λ l. IsParentsFirst commits l) (map_reversed (λ x. x.now) order)

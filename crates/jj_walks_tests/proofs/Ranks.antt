@@ -1,4 +1,5 @@
--- Numbers by rank: how many of some numbers stand below each, in the order of their times and then of the numbers.
+-- Numbers by rank: how many of some numbers stand below each, in the order of their times and then
+-- of the numbers.
 use Rattle.std.proofs.Common.{◌≡◌, ◌≢◌, ◌<◌, ◌≤◌, ◌+◌, ℕ, zero, suc, Bool, true, false, cond, ◌&&◌, ◌||◌, ◌==◌, List, [], ◌∷◌, length, refl, sym, ◌∙◌, ap, arith, true≢false, inl, inr, ◌⊎◌}
 use Rattle.std.specs.Prelude.{nat_lt}
 use Rattle.std.specs.List.{Contains, count_by}

@@ -10,7 +10,7 @@ use Rattle.std.proofs.lemmas.List.Elements.{Contains-append_right}
 use denote.Ref.{Bor}
 use Rattle.jj_dag.specs.Failing.{AreItems, BeginsWith, FailingGraph, Fault, ListsItems, ShowsItems}
 use Rattle.jj_dag.specs.Walk.{Numbered, AreNodes, DrainsTo}
-use Rattle.jj_dag.specs.Graph.{IsChildFirst, IsPreorder, ReachedFrom}
+use Rattle.jj_dag.specs.Graph.{IsTopologicalOrder, IsPreorder, ReachedFrom}
 use Rattle.jj_dag.proofs.Collecting.{are_nodes}
 use Rattle.jj_dag.proofs.FailingOrders.{none_of_nodes}
 use Rattle.jj_dag.proofs.FailingWalks.{begun_are}
@@ -123,10 +123,10 @@ module _ (commits : List Commit) where
   no_failure a fault h = none_of_nodes (λ n. n) (parent_graph commits a) fault h
 
   -- nodes in child-first order have their ids for their numbers
-  pub child_first_ids : (starts : List ℕ) → AreNodes (walk_of commits) starts → (xs : List (Bor Commit)) → IsChildFirst (parent_graph commits) starts (map (node commits) xs)
-      → IsChildFirst (parent_graph commits) starts (map (λ x. x.now.id) xs)
+  pub child_first_ids : (starts : List ℕ) → AreNodes (walk_of commits) starts → (xs : List (Bor Commit)) → IsTopologicalOrder (parent_graph commits) starts (map (node commits) xs)
+      → IsTopologicalOrder (parent_graph commits) starts (map (λ x. x.now.id) xs)
   child_first_ids starts nodes xs order =
-      subst (λ l. IsChildFirst (parent_graph commits) starts l)
+      subst (λ l. IsTopologicalOrder (parent_graph commits) starts l)
       (ids_are commits xs (λ x h. node_has commits x (are_nodes {E = ℕ} (walk_of commits) (λ a. []) starts (walk_closed commits) nodes (node commits x) ((order.all (node commits x)).0 (Contains-map (node commits) xs x h))))) order
 
   -- the ids as their own numbers

@@ -6,7 +6,7 @@ use Rattle.std.specs.List.{Contains, IsDistinct, filter_map}
 use Rattle.std.specs.Cmp.Lexicographic.{pointwise}
 use Rattle.std.specs.String.{string_eq}
 use Rattle.jj_walks_tests.specs.declared.commits.Commit.{Commit}
-use Rattle.jj_dag.specs.Graph.{Graph, StandsBefore, OnCycleFrom}
+use Rattle.jj_dag.specs.Graph.{Graph, Precedes, OnCycleFrom}
 
 abbrev pub ids_of : List Commit → List ℕ
 ids_of commits = map (λ c. c.id) commits
@@ -44,7 +44,7 @@ pub record IsParentsFirst (commits order : List Commit) : Type 0 where
   pub all : (c : Commit) → Contains commits c → Contains (ids_of order) c.id
   pub once : IsDistinct eqb (ids_of order)
   pub before : (c p : Commit) → Contains commits c → Contains (parents_in commits c) p
-      → StandsBefore (ids_of order) p.id c.id
+      → Precedes (ids_of order) p.id c.id
 
 -- the commit with this id is its own ancestor
 abbrev pub IsOnCycle : List Commit → ℕ → Type 0

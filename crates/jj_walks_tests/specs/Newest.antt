@@ -1,7 +1,7 @@
 -- A list of commits with the newest first, as far as each stands before its parents.
 -- Cited by contracts of public items: IsNewestFirst.
 use Rattle.std.specs.Prelude.{◌≡◌, ◌≢◌, ◌<◌, ◌⊎◌, ℕ, List, ◌∷◌, ◌++◌, Some}
-use Rattle.jj_dag.specs.Graph.{IsChildFirst}
+use Rattle.jj_dag.specs.Graph.{IsTopologicalOrder}
 use Rattle.jj_walks_tests.specs.declared.commits.Commit.{Commit}
 use Rattle.jj_walks_tests.specs.Commits.{commit_with, parent_graph}
 
@@ -17,7 +17,7 @@ IsNewer commits a b = (c d : Commit) × (commit_with commits a ≡ Some c)
 -- each commit stands before its parents, and where another such list first differs from this one,
 -- it has an older commit
 pub record IsNewestFirst (commits : List Commit) (starts order : List ℕ) : Type 0 where
-  pub child_first : IsChildFirst (parent_graph commits) starts order
-  pub newest : (other : List ℕ) → IsChildFirst (parent_graph commits) starts other
+  pub child_first : IsTopologicalOrder (parent_graph commits) starts order
+  pub newest : (other : List ℕ) → IsTopologicalOrder (parent_graph commits) starts other
       → (front later others : List ℕ) (a b : ℕ) → order ≡ front ++ a ∷ later
       → other ≡ front ++ b ∷ others → a ≢ b → IsNewer commits a b

@@ -4,7 +4,7 @@ ghost use Rattle.std.specs.Prelude.{◌≡◌, true, IfOk, IfErr, eqb, map, reve
 ghost use Rattle.std.specs.List.{Contains, IsDistinct};
 ghost use Rattle.jj_dag.specs.CommonNodes.{AreClosestCommon};
 ghost use Rattle.jj_dag.specs.Errors.{IfNode};
-ghost use Rattle.jj_dag.specs.Graph.{HasNoCycle, IsMaximalIn, IsPreorder};
+ghost use Rattle.jj_dag.specs.Graph.{IsAcyclicFrom, AreMaximalElements, IsPreorder};
 ghost use Rattle.jj_walks_tests.specs.declared.commits.Commit.{Commit};
 ghost use Rattle.jj_walks_tests.specs.Commits.{has_commit, ids_of, known_ids, parent_graph, IsParentsFirst, IsOnCycle};
 
@@ -58,9 +58,9 @@ pub fn parents_last<'a>(
 /// The commits of the list that no other of them has for an ancestor.
 pub fn tips<'a>(alloc: Global, commits: &'a [Commit]) -> Result<HashSet<&'a Commit>, AllocError>
     requires once { IsDistinct eqb (ids_of commits.now) }
-    requires acyclic { HasNoCycle (parent_graph commits.now) (ids_of commits.now) }
-    ensures { IfOk result (λ found. IsMaximalIn (parent_graph commits.now) (ids_of commits.now)
-        (map (λ commit. commit.now.id) found.keys)) }
+    requires acyclic { IsAcyclicFrom (parent_graph commits.now) (ids_of commits.now) }
+    ensures { IfOk result (λ found. AreMaximalElements (parent_graph commits.now)
+        (ids_of commits.now) (map (λ commit. commit.now.id) found.keys)) }
 {
     heads(
         alloc,
@@ -80,7 +80,7 @@ pub fn merge_bases<'a>(
 ) -> Result<Vec<&'a Commit>, WalkError<u64>>
     requires first { (c : Commit) → Contains set1.now c → has_commit commits.now c ≡ true }
     requires second { (c : Commit) → Contains set2.now c → has_commit commits.now c ≡ true }
-    requires acyclic { HasNoCycle (parent_graph commits.now) (ids_of set1.now) }
+    requires acyclic { IsAcyclicFrom (parent_graph commits.now) (ids_of set1.now) }
     ensures { IfOk result (λ bases. AreClosestCommon (parent_graph commits.now) (ids_of set1.now)
         (ids_of set2.now) (map (λ commit. commit.now.id) bases.items)) }
 {

@@ -2,7 +2,7 @@
 ghost use Rattle.std.specs.Prelude.{◌≡◌, IfOk, IfErr, map};
 ghost use Rattle.jj_walks.specs.Chunks.{IsNextChunk};
 ghost use Rattle.jj_dag.specs.Errors.{IfNode};
-ghost use Rattle.jj_dag.specs.Graph.{IsChildFirst, ReachesCycle};
+ghost use Rattle.jj_dag.specs.Graph.{IsTopologicalOrder, ReachesCycle};
 ghost use Rattle.jj_walks_tests.specs.Commits.{known_ids, parent_graph};
 ghost use Rattle.jj_walks_tests.specs.Newest.{IsNewestFirst};
 
@@ -22,7 +22,7 @@ pub fn children_first<'a>(
     commits: &'a [Commit],
     ids: &'a [u64],
 ) -> Result<Vec<&'a Commit>, WalkError<u64>>
-    ensures order { IfOk result (λ order. IsChildFirst (parent_graph commits.now)
+    ensures order { IfOk result (λ order. IsTopologicalOrder (parent_graph commits.now)
         (known_ids commits.now ids.now) (map (λ commit. commit.now.id) order.items)) }
     ensures cycle { IfErr result (λ e. IfNode e (λ _. ReachesCycle (parent_graph commits.now)
         (known_ids commits.now ids.now))) }

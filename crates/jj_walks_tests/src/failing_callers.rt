@@ -3,7 +3,7 @@
 ghost use Rattle.std.specs.Prelude.{◌≡◌, true, false, IfOk, IfErr, eqb, map};
 ghost use Rattle.std.specs.List.{IsDistinct};
 ghost use Rattle.jj_dag.specs.Errors.{IfNode};
-ghost use Rattle.jj_dag.specs.Graph.{HasNoCycle, IsMaximalIn};
+ghost use Rattle.jj_dag.specs.Graph.{IsAcyclicFrom, AreMaximalElements};
 ghost use Rattle.jj_walks_tests.specs.Commits.{ids_of};
 ghost use Rattle.jj_walks_tests.specs.Gaps.{has_ids, tells_gap, whole_graph, IsGapIn};
 
@@ -62,9 +62,9 @@ pub fn whole_tips<'a>(
     commits: &'a [Commit],
 ) -> Result<HashSet<&'a Commit>, WalkError<Gap>>
     requires once { IsDistinct eqb (ids_of commits.now) }
-    requires acyclic { HasNoCycle (whole_graph commits.now) (ids_of commits.now) }
-    ensures tips { IfOk result (λ found. IsMaximalIn (whole_graph commits.now) (ids_of commits.now)
-        (map (λ commit. commit.now.id) found.keys)) }
+    requires acyclic { IsAcyclicFrom (whole_graph commits.now) (ids_of commits.now) }
+    ensures tips { IfOk result (λ found. AreMaximalElements (whole_graph commits.now)
+        (ids_of commits.now) (map (λ commit. commit.now.id) found.keys)) }
     ensures gap { IfErr result (λ e. IfNode e (IsGapIn commits.now)) }
 {
     heads(

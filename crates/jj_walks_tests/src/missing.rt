@@ -2,15 +2,13 @@
 //! the id of a missing one.
 ghost use Rattle.std.specs.Prelude.{◌≡◌, ◌⊎◌, IfOk, IfErr, map, reverse};
 ghost use Rattle.jj_dag.specs.Errors.{IfNode};
-ghost use Rattle.jj_dag.specs.Graph.{HasNoCycle, IsMaximalIn, OnCycleFrom};
+ghost use Rattle.jj_dag.specs.Graph.{IsAcyclicFrom, AreMaximalElements, OnCycleFrom};
 ghost use Rattle.jj_dag.specs.Orders.{IsWholePostorder};
 ghost use Rattle.jj_walks_tests.specs.Commits.{known_ids, parent_graph};
 ghost use Rattle.jj_walks_tests.specs.Missing.{IsMissingFrom};
 
 use crate::commits::{Commit, commit_of};
-use jj_walks::dag_walk::{
-    WalkError, heads_ok, topo_order_forward_ok, topo_order_reverse_ok,
-};
+use jj_walks::dag_walk::{WalkError, heads_ok, topo_order_forward_ok, topo_order_reverse_ok};
 use std::alloc::Global;
 use std::collections::HashSet;
 
@@ -57,8 +55,8 @@ pub fn tips_of<'a>(
     commits: &'a [Commit],
     ids: &'a [u64],
 ) -> Result<HashSet<&'a Commit>, WalkError<u64>>
-    requires { HasNoCycle (parent_graph commits.now) (known_ids commits.now ids.now) }
-    ensures tips { IfOk result (λ found. IsMaximalIn (parent_graph commits.now)
+    requires { IsAcyclicFrom (parent_graph commits.now) (known_ids commits.now ids.now) }
+    ensures tips { IfOk result (λ found. AreMaximalElements (parent_graph commits.now)
         (known_ids commits.now ids.now) (map (λ commit. commit.now.id) found.keys)) }
     ensures missing { IfErr result (λ e. IfNode e (IsMissingFrom commits.now ids.now)) }
 {

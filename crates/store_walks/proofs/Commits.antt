@@ -23,7 +23,7 @@ use Rattle.jj_backend.specs.Records.{CommitValue, commit_eq}
 use Rattle.jj_backend.specs.declared.backend.errors.BackendError.{BackendError}
 use Rattle.jj_dag.specs.ClosureGraph.{Implements, MayReturn, ReturnsId, YieldsOk}
 use Rattle.jj_dag.specs.CommonNodes.{AreClosestCommon, HasNoCommonCycle}
-use Rattle.jj_dag.specs.Graph.{Graph, HasNoCycle, IsChildFirst, ReachedFrom}
+use Rattle.jj_dag.specs.Graph.{Graph, IsAcyclicFrom, IsTopologicalOrder, ReachedFrom}
 use Rattle.jj_dag.specs.NodeGraph.{AreMaximalNodes, HasNoCommonNodeCycle, IsChildFirstOrder, IsCommonNode, ReachesNoCycle, ReachesNode}
 use Rattle.jj_dag.specs.Walk.{DrainsTo, Numbered}
 use Rattle.jj_dag.proofs.ClosureGraphs.{may_return_says}
@@ -239,14 +239,14 @@ module _ (may_fail : BackendError → Type 0) (store : Objects) where
       let stored = nodes_stored xs (λ a inside. let r = reached_down parents number list_of_number list_of_number-number set1 a ((holds.all a).0 inside).0.0 in (r.0, r.1)) in
       (closest_nodes parents number list_of_number list_of_number-number set1 set2 (map id_of xs) (subst (AreClosestCommon g (map number set1) (map number set2)) (stored_nodes xs stored) holds), stored)
 
-  pub order_from : (parents : Parents) (ids : List (List ℕ)) (ns : List ℕ) (xs : List ReadCommit) → ns ≡ map number ids → IsChildFirst (id_graph parents) ns (map node_of xs) → HasNoCycle (id_graph parents) ns
+  pub order_from : (parents : Parents) (ids : List (List ℕ)) (ns : List ℕ) (xs : List ReadCommit) → ns ≡ map number ids → IsTopologicalOrder (id_graph parents) ns (map node_of xs) → IsAcyclicFrom (id_graph parents) ns
       → ReachesNoCycle parents ids × IsChildFirstOrder parents ids (map id_of xs) × All (IsStored store) xs
   order_from parents ids ns xs same child_first none =
       let g = id_graph parents in
-      let holds : IsChildFirst g (map number ids) (map node_of xs) = subst (λ l. IsChildFirst g l (map node_of xs)) same child_first in
+      let holds : IsTopologicalOrder g (map number ids) (map node_of xs) = subst (λ l. IsTopologicalOrder g l (map node_of xs)) same child_first in
       let stored = nodes_stored xs (λ a inside. let r = reached_down parents number list_of_number list_of_number-number ids a ((holds.all a).0 inside) in (r.0, r.1)) in (
-        no_cycle_back parents number list_of_number list_of_number-number ids (subst (HasNoCycle g) same none),
-        child_first_nodes parents number list_of_number list_of_number-number ids (map id_of xs) (subst (IsChildFirst g (map number ids)) (stored_nodes xs stored) holds),
+        no_cycle_back parents number list_of_number list_of_number-number ids (subst (IsAcyclicFrom g) same none),
+        child_first_nodes parents number list_of_number list_of_number-number ids (map id_of xs) (subst (IsTopologicalOrder g (map number ids)) (stored_nodes xs stored) holds),
         stored,
       )
 

@@ -13,7 +13,7 @@ pub loop-node-preserved : goal.loop-node-preserved
 loop-node-preserved g c =
     let before = c.loop-node.invariant in
     let node = c.in-Some.node in
-    let done = c.in_ok-mark_node.ensures in
+    let done = c.in_ok-relax.ensures in
     record {
       can = search rules;
       finite = search rules;

@@ -38,16 +38,16 @@ loop-node-preserved g c =
     record {
       can = c.mark_neighbors.ensures.graph;
       calls = leads_on before.calls did.1;
-      small = c.in-Ok.ensures.small (omega (arith, c.ask-reach.ensures.sides, before.small));
+      small = c.in-Ok.ensures.small (omega (arith, c.take_queued-reach.ensures.sides, before.small));
       walking = λ walk set1 set2 implemented first second start.
           let known = before.walking walk set1 set2 implemented first second start in
           let held = known.1.1 in
-          let at = asks walk g.ID.PartialEq.eq (mark_at g.ID.PartialEq.eq c.ask-reach.new.known) node id c.ask-reach.result implemented.closed implemented.apart first second held popped
-          (λ here. implemented.ids_match node id here (returns_id g.F.Fn c.id_fn.ensures c.in_ok-id.was)) c.ask-reach.ensures.reach c.ask-reach.ensures.known in
+          let at = asks walk g.ID.PartialEq.eq (mark_at g.ID.PartialEq.eq c.take_queued-reach.new.known) node id c.take_queued-reach.result implemented.closed implemented.apart first second held popped
+          (λ here. implemented.ids_match node id here (returns_id g.F.Fn c.id_fn.ensures c.in_ok-id.was)) c.take_queued-reach.ensures.reach c.take_queued-reach.ensures.known in
           let turn = implements_after walk g.ID.PartialEq.eq g.F.Fn g.N.FnMut _ known.0 did.1 in
           let listed : map walk.node nodes ≡ walk.graph (walk.node node) = turn.1 nodes at.0 marked.drained in
-          let inner = all_handed walk set1 set2 known.1.0 (walk.node node) c.ask-reach.result c.loop-node.met.common.entries c.loop-node.root_met [] implemented.apart implemented.ids_match implemented.closed
-          (rw c.handed_on-above.ensures at marked.marks) at.0 at.2 (append-nil (map walk.node nodes) ∙ listed) in (
+          let inner = all_handed walk set1 set2 known.1.0 (walk.node node) c.take_queued-reach.result c.loop-node.met.common.entries c.loop-node.root_met [] implemented.apart implemented.ids_match implemented.closed
+          (rw c.propagated-above.ensures at marked.marks) at.0 at.2 (append-nil (map walk.node nodes) ∙ listed) in (
             turn.0,
             (
               inner.0,
@@ -88,8 +88,8 @@ returns-then-not-root_met g c = record {
       λ walk set1 set2 implemented first second start acyclic.
       let known = c.loop-node.invariant.walking walk set1 set2 implemented first second start in
       let held = known.1.1 in
-      let at = asks walk g.ID.PartialEq.eq (mark_at g.ID.PartialEq.eq c.ask-reach.new.known) node id c.ask-reach.result implemented.closed implemented.apart first second held popped
-      (λ here. implemented.ids_match node id here (returns_id g.F.Fn c.id_fn.ensures c.in_ok-id.was)) c.ask-reach.ensures.reach c.ask-reach.ensures.known in
+      let at = asks walk g.ID.PartialEq.eq (mark_at g.ID.PartialEq.eq c.take_queued-reach.new.known) node id c.take_queued-reach.result implemented.closed implemented.apart first second held popped
+      (λ here. implemented.ids_match node id here (returns_id g.F.Fn c.id_fn.ensures c.in_ok-id.was)) c.take_queued-reach.ensures.reach c.take_queued-reach.ensures.known in
       let end = ends_early walk node id at.2 empty (and_parts _ _ (sym c.is_common.ensures ∙ c.if-is_common.true)) c.if-not-root_met.true in
       let more : c.insert.new.self.entries ≡ c.loop-node.met.common.entries ++ (id, node) ∷ [] =
       c.in_ok-insert.ensures.entries ∙ insert_new g.ID.PartialEq.eq c.loop-node.met.common.entries id node (new_id walk g.ID.PartialEq.eq node id implemented.closed implemented.apart first at.2 at.0 at.1) in

@@ -4,7 +4,7 @@ use Rattle.std.proofs.lemmas.List.{length_push}
 use Rattle.jj_dag.specs.ClosureGraph.CallsLead.{none}
 use Rattle.jj_dag.proofs.Calling.{cycle_weaker, failed_weaker}
 use Rattle.jj_dag.proofs.ClosureGraphs.{implements_after, leads_on, returns_id}
-use Rattle.jj_dag.proofs.Reaching.{HasNoCycle-from_postorder}
+use Rattle.jj_dag.proofs.Reaching.{IsAcyclicFrom-from_postorder}
 use Rattle.jj_dag.proofs.Unwinding.{unwinding_starts, unwinding_passed, unwinding_finished, unwinding_entered, unwinding_cycle, top_is_node, here_reached, from_top-push, from_top-neighbors}
 use Rattle.jj_dag.proofs.Unwinding.Unwinds.{ended}
 use Rattle.jj_dag.proofs.Walking.{numbers, numbers-push}
@@ -116,7 +116,7 @@ returns g c = record {
       let whole = (rw empty at known.1).rest (numbers walk c.loop-node.given.items) ended in
       record {
         postorder = whole;
-        no_cycle = HasNoCycle-from_postorder walk.graph (numbers walk xs) (numbers walk c.loop-node.given.items) whole;
+        no_cycle = IsAcyclicFrom-from_postorder walk.graph (numbers walk xs) (numbers walk c.loop-node.given.items) whole;
       };
   failed = tt;
   cycle = tt;

@@ -3,7 +3,7 @@ use Rattle.std.specs.Prelude.{All, codes, string_bytes}
 use Rattle.std.specs.List.{Contains}
 use Rattle.std.proofs.lemmas.Result.{IfOk-weaker}
 use Rattle.jj_dag.specs.CommonNodes.{AreClosestCommon}
-use Rattle.jj_dag.specs.Graph.{Graph, IsGreatestChildFirst, IsMaximalIn}
+use Rattle.jj_dag.specs.Graph.{Graph, IsGreatestTopologicalOrder, AreMaximalElements}
 use Rattle.jj_program.specs.ListedGraphs.{named_by, shown_by}
 use Rattle.jj_program.specs.GraphCommand.{GraphRequest, Order, Heads, Common, AnswersRequest, ids_of, numbers_line}
 use Rattle.jj_program.specs.GraphViews.{graph_request_of}
@@ -44,7 +44,7 @@ pub returns-in_ok-order-in-Order : goal.returns-in_ok-order-in-Order
 returns-in_ok-order-in-Order c =
     let graph = shown_by c.args.graph.now in
     let order = c.in_ok-order-in-Order.order.items in
-    let greatest : IsGreatestChildFirst graph c.in-Order.ids.items order = subst (λ ids. IsGreatestChildFirst graph ids order) c.deref.ensures.value c.in_ok-order-in-Order.ensures in
+    let greatest : IsGreatestTopologicalOrder graph c.in-Order.ids.items order = subst (λ ids. IsGreatestTopologicalOrder graph ids order) c.deref.ensures.value c.in_ok-order-in-Order.ensures in
     answered c.push_numbers.result graph (graph_request_of c.args.request.now) (Order c.in-Order.ids.items) (codes "order") order c.deref-in-Order.result.now (string_bytes c.args.output.now)
     (string_bytes c.push_numbers.new.output) (ap graph_request_of c.in-Order.is) c.deref-in-Order.ensures.value (order, greatest, refl) c.push_numbers.ensures
 
@@ -52,7 +52,7 @@ pub returns-in_ok-heads-in-Heads : goal.returns-in_ok-heads-in-Heads
 returns-in_ok-heads-in-Heads c =
     let graph = shown_by c.args.graph.now in
     let heads = c.in_ok-heads-in-Heads.heads.items in
-    let maximal : IsMaximalIn graph c.in-Heads.ids.items heads = subst (λ ids. IsMaximalIn graph ids heads) c.deref-in-Heads.ensures.value c.in_ok-heads-in-Heads.ensures.maximal in
+    let maximal : AreMaximalElements graph c.in-Heads.ids.items heads = subst (λ ids. AreMaximalElements graph ids heads) c.deref-in-Heads.ensures.value c.in_ok-heads-in-Heads.ensures.maximal in
     answered c.push_numbers-in-Heads.result graph (graph_request_of c.args.request.now) (Heads c.in-Heads.ids.items) (codes "heads") heads c.deref-in-Heads-2.result.now (string_bytes c.args.output.now)
     (string_bytes c.push_numbers-in-Heads.new.output) (ap graph_request_of c.in-Heads.is) c.deref-in-Heads-2.ensures.value
     (heads, maximal, c.in_ok-heads-in-Heads.ensures.ascending, refl) c.push_numbers-in-Heads.ensures

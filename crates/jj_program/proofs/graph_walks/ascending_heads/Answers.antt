@@ -5,7 +5,7 @@ use Rattle.std.proofs.lemmas.Fn.{always_returns_same}
 use Rattle.std.proofs.lemmas.Iterator.{items_from_collect}
 use Rattle.std.proofs.lemmas.Iterator.Consumers.{YieldsList-from_copied, YieldsList-from_rest}
 use Rattle.std.proofs.lemmas.List.{map-id}
-use Rattle.jj_dag.specs.Graph.{IsMaximalIn}
+use Rattle.jj_dag.specs.Graph.{AreMaximalElements}
 use Rattle.jj_program.specs.ListedGraphs.{named_by, shown_by}
 use Rattle.jj_program.proofs.GraphClosures.{implements_lists, walk_over}
 use Rattle.jj_program.proofs.NumberedWalks.{nodes_among}
@@ -28,7 +28,7 @@ returns-clause-maximal c =
     let found = p.holds (walk_over c.args.graph.now)
     (implements_lists c.args.graph.now _ _ _ (λ x i h. search (rules, of_calls, h.says.met, h.shows)) _ (λ a r f h. (search (rules, of_calls, h), search (rules, of_calls, h))))
     (nodes_among ids (map (λ x. x) p.starts) c.args.ids.now starts c.requires.named) (none_reached graph (map (λ x. x) p.starts) c.requires.acyclic) (λ x y a. refl) in
-    let of_ids : IsMaximalIn graph c.args.ids.now c.in_ok-found.found.keys = subst (λ ids. IsMaximalIn graph ids c.in_ok-found.found.keys) starts (subst (λ keys. IsMaximalIn graph (map (λ x. x) p.starts) keys) (map-id c.in_ok-found.found.keys) found) in
+    let of_ids : AreMaximalElements graph c.args.ids.now c.in_ok-found.found.keys = subst (λ ids. AreMaximalElements graph ids c.in_ok-found.found.keys) starts (subst (λ keys. AreMaximalElements graph (map (λ x. x) p.starts) keys) (map-id c.in_ok-found.found.keys) found) in
     let collected : c.in_ok-ascending.ascending.items ≡ c.in_ok-found.found.keys =
     subst (λ r. IfOk r (λ w. w.items ≡ c.in_ok-found.found.keys)) c.in_ok-ascending.was (items_from_collect {all = c.in_ok-found.found.keys} c.collect.result c.collect.ensures.ran (YieldsList-from_copied (YieldsList-from_rest _ (search (rules, c.copied-2.ensures, c.iter-2.ensures))))) in
     maximal_permuted graph c.args.ids.now c.in_ok-found.found.keys c.sort_unstable.new.self.items (subst (λ xs. IsPermutation xs c.sort_unstable.new.self.items) collected c.sort_unstable.ensures.permutation) of_ids

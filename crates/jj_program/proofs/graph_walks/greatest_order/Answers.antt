@@ -1,7 +1,7 @@
 use Rattle.std.proofs.Common.{rules, of_calls, ◌≡◌, refl, subst, map, Ok, ⊎_elim}
 use Rattle.std.proofs.lemmas.Fn.{always_returns_same}
 use Rattle.std.proofs.lemmas.List.{map-id}
-use Rattle.jj_dag.specs.Graph.{IsGreatestChildFirst}
+use Rattle.jj_dag.specs.Graph.{IsGreatestTopologicalOrder}
 use Rattle.jj_dag.proofs.Errors.{node_says}
 use Rattle.jj_program.specs.ListedGraphs.{named_by, shown_by}
 use Rattle.jj_program.proofs.GraphClosures.{implements_items, walk_over}
@@ -41,5 +41,5 @@ returns-in-Ok c =
     (implements_items graph _ _ _ (λ x i h. search (rules, of_calls, h.says.met, h.shows)) _ (λ a r f h. (search (rules, of_calls, h), search (rules, of_calls, h))))
     (nodes_among ids (map (λ x. x) p.starts) c.args.ids.now starts c.requires.named) in
     let greatest = k.greatest (λ x y a b. refl) in
-    subst (λ ids. IsGreatestChildFirst (shown_by graph) ids c.in-Ok.order.items) starts
-    (subst (λ order. IsGreatestChildFirst (shown_by graph) (map (λ x. x) p.starts) order) (map-id c.in-Ok.order.items) greatest)
+    subst (λ ids. IsGreatestTopologicalOrder (shown_by graph) ids c.in-Ok.order.items) starts
+    (subst (λ order. IsGreatestTopologicalOrder (shown_by graph) (map (λ x. x) p.starts) order) (map-id c.in-Ok.order.items) greatest)

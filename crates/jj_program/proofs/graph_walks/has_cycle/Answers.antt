@@ -1,7 +1,7 @@
 use Rattle.std.proofs.Common.{rules, of_calls, ◌≡◌, subst, map}
 use Rattle.std.proofs.lemmas.Fn.{always_returns_same}
 use Rattle.std.proofs.lemmas.List.Elements.{All-contains_itself}
-use Rattle.jj_dag.specs.Graph.{HasNoCycle}
+use Rattle.jj_dag.specs.Graph.{IsAcyclicFrom}
 use Rattle.jj_dag.proofs.Errors.{node_says}
 use Rattle.jj_program.specs.ListedGraphs.{named_by, shown_by}
 use Rattle.jj_program.proofs.GraphClosures.{implements_lists, walk_over}
@@ -25,7 +25,7 @@ returns-in-Ok c =
     let k = p.holds (walk_over graph)
     (implements_lists graph _ _ _ (λ x i h. search (rules, of_calls, h.says.met, h.shows)) _ (λ a r f h. (search (rules, of_calls, h), search (rules, of_calls, h))))
     (nodes_among ids (map (λ x. x) p.starts) ids starts (All-contains_itself ids)) in
-    none_listed (shown_by graph) ids graph.named (subst (HasNoCycle (shown_by graph)) starts k.no_cycle)
+    none_listed (shown_by graph) ids graph.named (subst (IsAcyclicFrom (shown_by graph)) starts k.no_cycle)
 
 pub returns-in-Node : goal.returns-in-Node
 returns-in-Node c =

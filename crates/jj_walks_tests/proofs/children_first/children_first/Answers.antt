@@ -1,6 +1,6 @@
 use Rattle.std.proofs.Common.{rules, of_calls, ◌∙◌, ap, map}
 use Rattle.jj_dag.proofs.Errors.{node_weaker}
-use Rattle.jj_walks.proofs.LazyRuns.{IsChildFirst-from_drains, IsCause-from_yields}
+use Rattle.jj_walks.proofs.LazyRuns.{IsTopologicalOrder-from_drains, IsCause-from_yields}
 use Rattle.jj_dag.proofs.Owing.{walkable_by}
 use Rattle.jj_walks_tests.specs.Commits.{known_ids}
 use Rattle.jj_walks_tests.proofs.Numbering.{node}
@@ -21,7 +21,7 @@ returns-clause-order c =
     let rest = known_rest commits ids c.sound_commits.result c.sound_commits.ensures.commits c.sound_commits.ensures.ids c.in_ok-walk.ensures.left
     (λ a r f h. (search (rules, of_calls, h), search (rules, of_calls, h), search (rules, of_calls, h))) (λ x i h. search (rules, of_calls, h.says.met, h.shows)) in
     let run = rw (c.into_iter-commit-iterator.ensures.into_iter_gives, c.loop-commit.invariant.nodes) at c.loop-commit.yielded_by in
-    let all = IsChildFirst-from_drains _ _ _ _ _ _ c.loop-commit.order.items c.in_ok-walk.walk c.in_ok-walk.ensures.has_ended rest.2 (c.next.new.self, (c.loop-commit.commit-iterator, run, c.in-None.ensures.steps)) in
+    let all = IsTopologicalOrder-from_drains _ _ _ _ _ _ c.loop-commit.order.items c.in_ok-walk.walk c.in_ok-walk.ensures.has_ended rest.2 (c.next.new.self, (c.loop-commit.commit-iterator, run, c.in-None.ensures.steps)) in
     let order = of_commits commits ids (λ xs same. ap (map (node commits)) same ∙ rest.1) all rest.3 in
     child_first_ids commits (known_ids commits ids) (known_are_nodes commits ids) c.loop-commit.order.items order.0
 

@@ -1,7 +1,7 @@
 use Rattle.std.proofs.Common.{rules, of_calls, List, map, refl, subst, ⊎_elim}
 use Rattle.std.proofs.lemmas.Iterator.Adapters.{YieldsList-from_vec}
 use denote.Param.Always.{mut_total}
-use Rattle.jj_dag.specs.Graph.{HasNoCycle, IsMaximalIn, ReachedFrom}
+use Rattle.jj_dag.specs.Graph.{IsAcyclicFrom, AreMaximalElements, ReachedFrom}
 use Rattle.jj_dag.proofs.Errors.{if_fails, if_ok}
 use Rattle.jj_dag.proofs.ListNumbers.{list_of_number, list_of_number-number, number}
 use Rattle.jj_dag.proofs.NodeGraphs.{maximal_nodes, no_cycle_up, reached_back}
@@ -23,7 +23,7 @@ returns-clause-heads g c =
     (λ a r f h. (search (rules, of_calls, h), search (rules, of_calls, h))) parents complete)
     (λ a h. refl) in
     maximal_nodes parents number list_of_number list_of_number-number ids found.keys
-    (subst (λ (xs : List (List _)). HasNoCycle (id_graph parents) (map number xs) → IsMaximalIn (id_graph parents) (map number xs) (map number found.keys)) starts
+    (subst (λ (xs : List (List _)). IsAcyclicFrom (id_graph parents) (map number xs) → AreMaximalElements (id_graph parents) (map number xs) (map number found.keys)) starts
     (λ none. holds none (λ x y h. number_eq x y)) (no_cycle_up parents number list_of_number list_of_number-number ids acyclic)))
 
 pub returns-clause-error : goal.returns-clause-error

@@ -2,7 +2,7 @@ use Rattle.std.proofs.Common.{ap, ◌∙◌, sym, arith, Some}
 use Rattle.std.specs.Option.{option_copied_mut}
 use Rattle.std.proofs.lemmas.Map.Entries.{sum_by_puts_entry}
 use Rattle.jj_dag.specs.Marks.{without_waiting, sides}
-use Rattle.jj_dag.proofs.closest_common.ask.Goals as goal
+use Rattle.jj_dag.proofs.closest_common.take_queued.Goals as goal
 
 pub returns-in-Some-clause-sides : goal.returns-in-Some-clause-sides
 returns-in-Some-clause-sides g c =

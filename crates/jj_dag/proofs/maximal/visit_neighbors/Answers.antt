@@ -5,7 +5,7 @@ use Rattle.jj_dag.specs.HeadsSearch.MeetsNodes.{none, more}
 use Rattle.jj_dag.proofs.FailingOrders.{begins_failed, drained_nodes, ok-push}
 use Rattle.jj_dag.proofs.ClosureGraphs.{returns_id}
 use Rattle.jj_dag.proofs.Walking.{AlwaysReturns-call}
-use Rattle.jj_dag.proofs.maximal.meet_neighbors.Goals as goal
+use Rattle.jj_dag.proofs.maximal.visit_neighbors.Goals as goal
 
 pub loop-neighbor-init : goal.loop-neighbor-init
 loop-neighbor-init g c =
@@ -18,7 +18,7 @@ loop-neighbor-preserved g c =
     let sound = before.sound in
     let y = c.in-Ok.neighbor in
     let is : c.in-Some.neighbor ≡ Ok y = c.in-Ok.is in
-    let did = c.in_ok-meet.ensures in
+    let did = c.in_ok-visit_neighbor.ensures in
     record {
       can = search rules;
       finite = search rules;

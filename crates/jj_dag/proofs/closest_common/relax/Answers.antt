@@ -1,7 +1,7 @@
 use Rattle.std.proofs.Common.{◌≡◌, ap, ◌∙◌, sym, arith}
 use Rattle.jj_dag.specs.Marks.{mark_at, mark_with, starts_waiting, sides}
 use Rattle.jj_dag.proofs.MarkSums.{sides_fit, sides_more, sides_put, sides_start}
-use Rattle.jj_dag.proofs.closest_common.mark_node.Goals as goal
+use Rattle.jj_dag.proofs.closest_common.relax.Goals as goal
 
 pub returns-in_ok-push-clause-balance : goal.returns-in_ok-push-clause-balance
 returns-in_ok-push-clause-balance g c =

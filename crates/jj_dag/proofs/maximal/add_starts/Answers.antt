@@ -5,7 +5,7 @@ use Rattle.jj_dag.proofs.FailingOrders.{begins_failed, drained_nodes, ok-push}
 use Rattle.jj_dag.proofs.ClosureGraphs.{returns_id}
 use Rattle.jj_dag.proofs.Heads.{none_contained, put_for, start_waits, started_again, started_new, started_none}
 use Rattle.jj_dag.proofs.Walking.{numbers, numbers-push}
-use Rattle.jj_dag.proofs.maximal.take_starts.Goals as goal
+use Rattle.jj_dag.proofs.maximal.add_starts.Goals as goal
 
 pub loop-item-init : goal.loop-item-init
 loop-item-init g c =
@@ -46,8 +46,8 @@ loop-item-preserved g c =
     let before = c.loop-item.invariant.sound in
     let node = c.in-Ok.node in
     let is : c.in-Some.item ≡ Ok node = c.in-Ok.is in
-    let did = c.in_ok-take_start.ensures in
-    let more : c.take_start.new.waiting.items ≡ c.loop-item.waiting.items ++ node ∷ [] = did.waiting in
+    let did = c.in_ok-add_start.ensures in
+    let more : c.add_start.new.waiting.items ≡ c.loop-item.waiting.items ++ node ∷ [] = did.waiting in
     record {
       can = search rules;
       finite = search rules;
@@ -55,15 +55,15 @@ loop-item-preserved g c =
       sound = (
         before.0 ++ node ∷ [],
         ap (λ x. c.loop-item.yielded ++ x ∷ []) is ∙ ok-push c.loop-item.yielded before.0 node before.1,
-        start_waits before.0 c.loop-item.waiting.items c.take_start.new.waiting.items node more before.2,
+        start_waits before.0 c.loop-item.waiting.items c.add_start.new.waiting.items node more before.2,
         λ walk knows stands nodes.
             let split = numbers-push walk before.0 node in
             let here = nodes (walk.node node) (rw split (Contains-push (numbers walk before.0) (walk.node node))) in
             rw (split, more, numbers-push walk c.loop-item.waiting.items node) (started_new walk g.T.PartialEq.eq g.ID.PartialEq.eq
-            c.take_start.new.heads.keys (contains g.T.PartialEq.eq c.take_start.new.heads) (contains g.ID.PartialEq.eq c.take_start.new.visited) node c.in_ok-id.id stands knows.apart
+            c.add_start.new.heads.keys (contains g.T.PartialEq.eq c.add_start.new.heads) (contains g.ID.PartialEq.eq c.add_start.new.visited) node c.in_ok-id.id stands knows.apart
             (before.3 walk knows stands (λ a h. nodes a (rw split (Contains-append_left (numbers walk before.0) (walk.node node ∷ []) a h))))
             here (knows.ids_stand node c.in_ok-id.id here (returns_id g.F.Fn c.id_fn.ensures c.in_ok-id.was))
-            (put_for walk stands c.loop-item.heads.keys c.take_start.new.heads.keys node here did.keys) did.heads did.visited.0),
+            (put_for walk stands c.loop-item.heads.keys c.add_start.new.heads.keys node here did.keys) did.heads did.visited.0),
       );
     }
 
@@ -94,8 +94,8 @@ loop-item-smaller-then-contains g c = search rules
 pub id_fn-requires : goal.id_fn-requires
 id_fn-requires g c = search rules
 
-pub take_start-requires : goal.take_start-requires
-take_start-requires g c = record { clones = c.requires.clones }
+pub add_start-requires : goal.add_start-requires
+add_start-requires g c = record { clones = c.requires.clones }
 
 pub loop-item-smaller : goal.loop-item-smaller
 loop-item-smaller g c = search rules

@@ -5,7 +5,7 @@ use Rattle.std.specs.List.{Contains}
 use Rattle.jj_dag.specs.HeadsSearch.{IsStarted, TellsNodes}
 use Rattle.jj_dag.specs.Walk.{AreNodes, Numbered, StandsForNodes}
 use Rattle.jj_dag.proofs.Walking.{numbers}
-use Rattle.jj_dag.proofs.maximal.take_starts.Given as goal
+use Rattle.jj_dag.proofs.maximal.add_starts.Given as goal
 
 abbrev pub invariant-loop-item : goal.invariant-loop-item
 invariant-loop-item g l = record {

@@ -1,7 +1,7 @@
 use Rattle.std.proofs.Common.{rules, ◌≡◌, true}
 use Rattle.jj_dag.proofs.Clones.{contains-put_clone}
 use Rattle.jj_dag.proofs.Heads.{put_equal}
-use Rattle.jj_dag.proofs.maximal.take_start.Goals as goal
+use Rattle.jj_dag.proofs.maximal.add_start.Goals as goal
 
 pub returns-clause-heads : goal.returns-clause-heads
 returns-clause-heads g c =

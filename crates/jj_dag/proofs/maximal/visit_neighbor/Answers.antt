@@ -1,5 +1,5 @@
 use Rattle.jj_dag.proofs.Searching.{Contains-kept}
-use Rattle.jj_dag.proofs.maximal.meet.Goals as goal
+use Rattle.jj_dag.proofs.maximal.visit_neighbor.Goals as goal
 
 pub returns-in_err-insert-clause-keys : goal.returns-in_err-insert-clause-keys
 returns-in_err-insert-clause-keys g c = Contains-kept _ c.args.heads.now.keys c.remove.new.self.keys c.remove.ensures.keys

@@ -4,7 +4,7 @@ use Rattle.jj_dag.specs.ClosureGraph.{ReturnsId}
 use Rattle.std.specs.HashSet.{hash_set_len, IsUnique}
 use Rattle.std.specs.List.{Contains}
 use Rattle.jj_dag.specs.HeadsSearch.{MeetsNodes}
-use Rattle.jj_dag.proofs.maximal.meet_neighbors.Given as goal
+use Rattle.jj_dag.proofs.maximal.visit_neighbors.Given as goal
 
 abbrev pub invariant-loop-neighbor : goal.invariant-loop-neighbor
 invariant-loop-neighbor g l = record {

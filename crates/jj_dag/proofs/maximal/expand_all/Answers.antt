@@ -9,7 +9,7 @@ use Rattle.jj_dag.proofs.Heads.{Contains-map, holds_asked, holds_maximal, no_roo
 use Rattle.jj_dag.proofs.Meeting.{all_met, all_waiting}
 use Rattle.jj_dag.proofs.Plain.{neither}
 use Rattle.jj_dag.proofs.Walking.{numbers}
-use Rattle.jj_dag.proofs.maximal.ask_all.Goals as goal
+use Rattle.jj_dag.proofs.maximal.expand_all.Goals as goal
 
 pub loop-node-init : goal.loop-node-init
 loop-node-init g c = record {
@@ -23,7 +23,7 @@ pub loop-node-preserved : goal.loop-node-preserved
 loop-node-preserved g c =
     let before = c.loop-node.invariant in
     let node = c.in-Some.node in
-    let popped : c.loop-node.waiting.items ≡ node ∷ c.next_to_ask.new.waiting.items = c.in-Some.ensures.first in
+    let popped : c.loop-node.waiting.items ≡ node ∷ c.pop_in_level.new.waiting.items = c.in-Some.ensures.first in
     let did = c.in-Ok.ensures.met in
     let meets = did.2 in
     let ys = meets.nodes in
@@ -37,14 +37,14 @@ loop-node-preserved g c =
           let reached = rw popped at known.1 in
           let listed : numbers walk ys ≡ walk.graph (walk.node node) = turn.1 ys (reached (walk.node node) (0, omega arith, refl)).0 meets.drained in (
             turn.0,
-            still_reached walk (numbers walk xs) node c.next_to_ask.new.waiting.items c.meet_neighbors.new.waiting.items ys (all_waiting meets.met) listed implemented.closed reached,
+            still_reached walk (numbers walk xs) node c.pop_in_level.new.waiting.items c.visit_neighbors.new.waiting.items ys (all_waiting meets.met) listed implemented.closed reached,
             λ stands.
                 let search = known.2 stands in
                 let held = rw popped at search.1 in
                 let inner = all_met walk (numbers walk xs) search.0 c.loop-node.root_met (walk.node node) [] stands (record { apart = implemented.apart; ids_stand = implemented.ids_match }) implemented.closed meets.met held
                 (append-nil (numbers walk ys) ∙ listed) in (
                   inner.0,
-                  holds_asked walk (numbers walk c.meet_neighbors.new.waiting.items) _ (walk.node node) inner.1
+                  holds_asked walk (numbers walk c.visit_neighbors.new.waiting.items) _ (walk.node node) inner.1
                       (λ b h. inner.2 b (subst (λ (l : List ℕ). Contains l b) (sym listed) h))
                       (λ none.
                       let parts = neither c.loop-node.root_met c.in-Ok.is_root none in
@@ -56,22 +56,22 @@ loop-node-preserved g c =
 
 pub loop-node-smaller : goal.loop-node-smaller
 loop-node-smaller g c =
-    let popped : c.loop-node.waiting.items ≡ c.in-Some.node ∷ c.next_to_ask.new.waiting.items = c.in-Some.ensures.first in
+    let popped : c.loop-node.waiting.items ≡ c.in-Some.node ∷ c.pop_in_level.new.waiting.items = c.in-Some.ensures.first in
     let small = c.len-count.ensures.small in
     let len = c.len-count.ensures.len in
-    let room = c.meet_neighbors.new.waiting.ok in
-    let top = c.meet_neighbors.new.waiting.small in
-    search_falls (hash_set_len c.loop-node.visited) (hash_set_len c.meet_neighbors.new.visited) (length c.next_to_ask.new.waiting.items) (length c.loop-node.waiting.items)
-    (length c.meet_neighbors.new.waiting.items) (omega arith) (omega arith) (ap length popped) c.in-Ok.ensures.balance c.in-Ok.ensures.grows
+    let room = c.visit_neighbors.new.waiting.ok in
+    let top = c.visit_neighbors.new.waiting.small in
+    search_falls (hash_set_len c.loop-node.visited) (hash_set_len c.visit_neighbors.new.visited) (length c.pop_in_level.new.waiting.items) (length c.loop-node.waiting.items)
+    (length c.visit_neighbors.new.waiting.items) (omega arith) (omega arith) (ap length popped) c.in-Ok.ensures.balance c.in-Ok.ensures.grows
 
 pub returns-in-Err : goal.returns-in-Err
 returns-in-Err g c = record {
   found = tt;
   refused = node_weaker c.in-Err.refused _ _ (λ error did.
       let node = c.in-Some.node in
-      let popped : c.loop-node.waiting.items ≡ node ∷ c.next_to_ask.new.waiting.items = c.in-Some.ensures.first in (
+      let popped : c.loop-node.waiting.items ≡ node ∷ c.pop_in_level.new.waiting.items = c.in-Some.ensures.first in (
         node,
-        (did.0, (c.loop-node.neighbors_fn, c.meet_neighbors.new.neighbors_fn, c.loop-node.invariant.calls, did.1), (_, did.2.1)),
+        (did.0, (c.loop-node.neighbors_fn, c.visit_neighbors.new.neighbors_fn, c.loop-node.invariant.calls, did.1), (_, did.2.1)),
         λ walk xs implemented nodes among started.
             let known = c.loop-node.invariant.walking walk xs implemented nodes among started in
             ((rw popped at known.1) (walk.node node) (0, omega arith, refl)).1,

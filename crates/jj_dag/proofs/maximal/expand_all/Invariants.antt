@@ -8,7 +8,7 @@ use Rattle.jj_dag.specs.Owed.{CanShow}
 use Rattle.jj_dag.specs.Walk.{StandsForNodes}
 use Rattle.jj_dag.proofs.Heads.{HoldsSearch}
 use Rattle.jj_dag.proofs.Walking.{numbers}
-use Rattle.jj_dag.proofs.maximal.ask_all.Given as goal
+use Rattle.jj_dag.proofs.maximal.expand_all.Given as goal
 
 abbrev pub invariant-loop-node : goal.invariant-loop-node
 invariant-loop-node g l =
