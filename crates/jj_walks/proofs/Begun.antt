@@ -1,4 +1,4 @@
--- What a run of `DepthFirstOk` that was cut off has given.
+-- Items of a run of `DepthFirstOk` that is cut off.
 use Rattle.std.proofs.Common.{◌≡◌, ◌⊎◌, inl, inr, ℕ, Bool, true, false, Option, Result, Ok, Err, List, [], ◌∷◌, ◌++◌, map, reverse, refl, sym, ◌∙◌, ap, subst, arith, append_assoc, append-nil, ⊎_elim, true≢false}
 use Rattle.std.specs.Fn.{Shared, Mut}
 use Rattle.std.specs.HashSet.{contains}
@@ -17,7 +17,7 @@ use Rattle.jj_walks.specs.DfsOkSteps.{IsLeftOf}
 use Rattle.jj_walks.proofs.Answering.{at_first, in_map, in_reverse}
 use Rattle.jj_walks.proofs.DfsOkRuns.{graph_from}
 
--- what was given before stands first in all that is given
+-- the emitted items are a prefix of all items
 pub FailingPreorder-extends : {K : Type 0} (g : FailingGraph K) (todo given out : List (Result ℕ K)) → FailingPreorder g todo given out → (more : List (Result ℕ K)) × (out ≡ given ++ more)
 FailingPreorder-extends g [] given out ended = ([], sym (append-nil given))
 FailingPreorder-extends g (Err e ∷ todo) given out (failed p) =
@@ -32,7 +32,7 @@ none_in : {X : Type 0} (xs : List X) → ((y : X) → Contains xs y → ⊥) →
 none_in [] none = refl
 none_in (x ∷ xs) none = absurd (none x (at_first x xs))
 
--- where each node that was not given has no items, the walk comes to an end
+-- if each other node has no items, the search ends
 finishes : {K : Type 0} (g : FailingGraph K) (todo given : List (Result ℕ K)) → ((a : ℕ) → (Contains given (Ok a) → ⊥) → g a ≡ []) → (out : List (Result ℕ K)) × FailingPreorder g todo given out
 finishes g [] given none = (given, ended)
 finishes g (Err e ∷ todo) given none =
@@ -52,7 +52,7 @@ module _ {T ID E F N U S : Type 0} (ids : Shared F (Bor T × Unit {0}) (Result I
     (eq : ID → ID → Bool) (becomes : U → S → Type 0) (steps : S → Option (Result T E) → S → Type 0) (id_fn : F) (neighbors_fn : N)
     (starts given : List (Result T E)) (s : DepthFirstOk T ID E F N) (left : IsLeftOf ids lists eq becomes steps id_fn neighbors_fn starts given s)
     (g : Numbered T ID) (implemented : ImplementsItems g eq ids lists (DrainsTo becomes steps) id_fn neighbors_fn) (start_nodes : AreNodes g (sound_items (map (item_of g.node) starts))) where
-  -- at each moment, what was given begins a preorder of the graph of the answers so far
+  -- at each step the emitted items are a prefix of a preorder of the graph so far
   pub begun : (more : List (Result ℕ E)) × IsFailingPreorder (answers_graph g.node left.answers) (map (item_of g.node) starts) (map (item_of g.node) given ++ more)
   begun =
       let told : FailingGraph E = answers_graph g.node left.answers in

@@ -1,4 +1,5 @@
--- The candidates of a grouped graph, before a node was given, keep the branch that leads to an id.
+-- The candidates of a grouped graph, before a node is yielded, include the branch that leads to an
+-- id.
 use Rattle.std.proofs.Common.{arith, ◌≡◌, ℕ, zero, suc, ◌+◌, ◌<◌, Bool, true, false, not, cond, ◌||◌, ◌&&◌, ◌⊎◌, inl, inr, Option, Some, is_some, List, [], ◌∷◌, ◌++◌, find, count_by, refl, sym, ◌∙◌, ap, subst, true≢false, ⊎_elim}
 use Rattle.std.specs.Cmp.{IsEquivalence}
 use Rattle.std.specs.HashMap.Eq.{lookup_congr}
@@ -155,7 +156,7 @@ module _ {ID : Type 0} {eq : ID → ID → Bool} (laws : IsEquivalence eq) where
           rw (u.ids, u.blocked) (climbs-head u.head (has_child eq t.children) (ap (λ x. eq x wanted) same ∙ e) (λ j i. ap (λ m. has_child eq m j i) u.children ∙ w.children j i))
       branch-refilled s t none (inr u) (inr k) = absurd (climbs-none (has_child eq s.children) (rw (none, u.none) at k))
 
-      -- a candidate that reaches the wanted id is counted
+      -- a candidate that reaches the required id is counted
       pub branch-counted : (s : Candidates ID) (rest : List ID) (x : ID) → s.ids.items ≡ rest ++ x ∷ [] → IsFirstBranch eq edge wanted s → is_some (count x) ≡ true
       branch-counted s rest x top (inl (head, others, e, w)) = absurd (no-push rest x (sym w.ids ∙ top))
       branch-counted s rest x top (inr k) = counts.known x (k.reaches x (or_left (has_id eq s.ids.items x) (has_id eq s.blocked.items x)
@@ -165,7 +166,7 @@ module _ {ID : Type 0} {eq : ID → ID → Bool} (laws : IsEquivalence eq) where
     branch-candidate s rest x top (inl (head, others, e, w)) = absurd (no-push rest x (sym w.ids ∙ top))
     branch-candidate s rest x top (inr k) = rw top at k
 
-    -- a candidate reaches the wanted id
+    -- a candidate reaches the required id
     pub climbs-reaches : (rest blocked : List ID) (x : ID) (lists : ID → ID → Bool) → Climbs eq edge wanted (rest ++ x ∷ []) blocked lists → Reaches eq edge x wanted
     climbs-reaches rest blocked x lists k = k.reaches x (or_left (has_id eq (rest ++ x ∷ []) x) (has_id eq blocked x)
         (has-last rest x x ∙ or_right (has_id eq rest x) (eq x x || false) (or_left (eq x x) false (laws.refl x))))
@@ -191,7 +192,7 @@ module _ {ID : Type 0} {eq : ID → ID → Bool} (laws : IsEquivalence eq) where
     branch-blocked s t x ids blocked children child k =
         inr (rw (blocked, children) (climbs-blocked t.ids.items s.blocked.items x (has_child eq s.children) child (branch-candidate s t.ids.items x ids k)))
 
-  -- one node more was read
+  -- one more node was read
   pub branch-grown : (edge grown : ID → ID → Bool) (wanted : ID) (s t : Candidates ID) (more : List ID) (from : ID) (leads : ID → Bool)
       → ((i j : ID) → grown i j ≡ ((eq from i && leads j) || edge i j)) → ((j i : ID) → has_child eq t.children j i ≡ (has_child eq s.children j i || (leads j && eq from i)))
       → t.ids ≡ s.ids → t.blocked ≡ s.blocked → deque_items t.heads ≡ deque_items s.heads ++ more → IsFirstBranch eq edge wanted s → IsFirstBranch eq grown wanted t
@@ -298,7 +299,7 @@ module _ {N ID : Type 0} {eq : ID → ID → Bool} (laws : IsEquivalence eq) whe
   pub reaches-alike : (es : List (Entry N ID)) (x y to : ID) → eq x y ≡ true → Reaches eq (has_edge eq es) y to → Reaches eq (has_edge eq es) x to
   reaches-alike es x y to e r = (r.0, way-alike es x y to r.0 e r.1)
 
-  -- nodes that were read child-first have no circle
+  -- nodes read in topological order have no cycle
   pub circle-free : (es : List (Entry N ID)) → AreReadChildFirst eq es → (is_in : ID → Bool)
       → ((f : Entry N ID) → Contains es f → is_in f.id ≡ true → (c : Entry N ID) × Contains es c × (list_any (leads_to eq f.id) c.edges ≡ true) × (is_in c.id ≡ true))
       → (f : Entry N ID) → Contains es f → is_in f.id ≡ true → ⊥
@@ -314,7 +315,7 @@ module _ {N ID : Type 0} {eq : ID → ID → Bool} (laws : IsEquivalence eq) whe
           let c = closed f at within in
           (c.0, ⊎_elim (λ same. no-false (sym (first f at) ∙ ap (λ x. list_any (leads_to eq f.id) x.edges) same ∙ c.2)) (λ later. later) (cons-cases es e c.0 c.1), c.2, c.3)
 
-  -- what is kept of the history counts the edges of the nodes that were read
+  -- the stored state counts the edges of the nodes that were read
   pub counts-are : (h : History N ID) (node_at : ID → Option (N × List (GraphEdge ID))) (count : ID → Option ℕ) (ids heads : List ID) (wanted : ID) → ((x y : ID) → eq x y ≡ true → count x ≡ count y)
       → given_nodes h ≡ [] → AreReadChildFirst eq (read_nodes h) → first_wanted h ≡ Some wanted → KeepsHistory eq h node_at count ids heads → AreCounts eq (has_edge eq (read_nodes h)) count wanted
   counts-are h node_at count ids heads wanted alike none order first k = record {
@@ -338,7 +339,7 @@ module _ {N ID : Type 0} {eq : ID → ID → Bool} (laws : IsEquivalence eq) whe
           let c = edge-entry (read_nodes h) i.0 j i.1 in
           (c.0, c.1, c.3, same c.0.id i.0 c.2 ∙ i.2)
 
-  -- an id was prioritised
+  -- an id was prioritized
   pub branch-prioritized : (h : History N ID) (s t : Candidates ID) (i copy : ID) → eq copy i ≡ true → t.ids ≡ s.ids → t.blocked ≡ s.blocked → t.children ≡ s.children → deque_items t.heads ≡ deque_items s.heads ++ copy ∷ []
       → KeepsBranch eq h s → KeepsBranch eq (Prioritized i ∷ h) t
   branch-prioritized [] s t i copy same ids blocked children heads k = record {
@@ -372,15 +373,15 @@ module _ {N ID : Type 0} {eq : ID → ID → Bool} (laws : IsEquivalence eq) whe
         (λ i j. refl) children ids blocked heads (k.first none order.1 wanted first);
   }
 
-  -- a node was given
+  -- a node was yielded
   pub branch-gave : (h : History N ID) (t : Candidates ID) (e : Entry N ID) → KeepsBranch eq (Gave e ∷ h) t
   branch-gave h t e = record { begun = λ e. cc; first = λ none order wanted first. cc }
 
--- a list that a candidate stands in is not the one at the start
+-- a list with a candidate is not the initial one
 pub untaken-none : {ID A : Type 0} {eq : ID → ID → Bool} {edge : ID → ID → Bool} {listed : List ID} (s : Candidates ID) (rest : List ID) (x : ID) → s.ids.items ≡ rest ++ x ∷ [] → IsUntaken eq edge listed s → A
 untaken-none s rest x top u = absurd (no-push rest x (sym u.ids ∙ top))
 
--- where there is more, there was a candidate
+-- if there are more, there was a candidate
 pub untaken-refilled : {ID A : Type 0} {eq : ID → ID → Bool} {edge : ID → ID → Bool} (s t : Candidates ID) → Unblocks eq s t ⊎ TakesHead eq s t → IsUntaken eq edge [] s → A
 untaken-refilled s t (inl u) k = absurd (no-push t.blocked.items u.parent (sym k.blocked ∙ u.blocked))
 untaken-refilled s t (inr u) k = let nothing : [] ≡ u.head ∷ deque_items t.heads = sym k.heads ∙ u.heads in cc

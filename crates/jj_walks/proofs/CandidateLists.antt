@@ -10,7 +10,7 @@ use Rattle.std.proofs.lemmas.List.Folds.{list_any-append}
 use Rattle.jj_walks.specs.Candidates.{AreSameIds, AreToFollow, has_id, is_listed, is_positive}
 use Rattle.jj_walks.specs.Grouped.{is_shown, targets_of}
 
--- what the test of an edge tells
+-- the test of an edge
 pub is_shown-missing : (t : GraphEdgeType) → t ≡ Missing → is_shown t ≡ false
 is_shown-missing t e = ap is_shown e
 
@@ -38,7 +38,7 @@ module _ {ID : Type 0} where
       one true = refl
       one false = refl
 
-  -- the targets of one edge more
+  -- the targets of one more edge
   pub targets-more : (edges : List (GraphEdge ID)) (i : ℕ) (edge : GraphEdge ID) → i < length edges → edge ≡ get_or edges i edge
       → targets_of (take (i + 1) edges) ≡ targets_of (take i edges) ++ cond (is_shown edge.edge_type) (edge.target ∷ []) []
   targets-more edges i edge h e = ap targets_of (take_more edges i edge h) ∙ ap (λ x. targets_of (take i edges ++ x ∷ [])) (sym e) ∙ targets-push (take i edges) edge
@@ -74,7 +74,7 @@ module _ {ID : Type 0} where
   nothing_appended (x ∷ xs) ys e = cc
 
   module _ (eq : ID → ID → Bool) (counts : ID → Option ℕ) (targets : List ID) where
-    -- a candidate that has a held child is passed
+    -- a candidate with a pending child is skipped
     pub follows-passed : (rest found : List ID) (x : ID) → found ≡ rest ++ x ∷ [] → (is_some (counts x) ≡ true → is_positive (counts x) ≡ true) → AreToFollow eq counts targets found → AreToFollow eq counts targets rest
     follows-passed rest found x e child k = go (last-or-none k.pending)
       where
@@ -104,7 +104,7 @@ module _ {ID : Type 0} where
               blocked = ap (λ b. b && list_all (λ i. is_positive (counts i)) k.passed) positive ∙ k.blocked;
             }
 
-    -- where no candidate is left, all targets have a held child, whatever comes
+    -- if no candidate is left, all targets have a pending child
     pub follows-none : (found more : List ID) → found ≡ [] → AreToFollow eq counts targets found → AreToFollow eq counts targets more
     follows-none found more none k = record {
       older = more;

@@ -19,7 +19,7 @@ module _ {ID : Type 0} {eq : ID → ID → Bool} (laws : IsEquivalence eq) where
       ap (list_any (leads_to eq j)) (take_more edges n edge h) ∙ ap (λ x. list_any (leads_to eq j) (take n edges ++ x ∷ [])) (sym e)
       ∙ list_any-append (leads_to eq j) (take n edges) (edge ∷ []) ∙ ap (λ b. list_any (leads_to eq j) (take n edges) || b) (or_false (leads_to eq j edge))
 
-  -- a child was put behind those of the target of an edge
+  -- a child was appended to those of the target of an edge
   pub child-put : (edges : List (GraphEdge ID)) (n : ℕ) (edge : GraphEdge ID) (parent from child : ID) (first before after : ID → List ID) → n < length edges → edge ≡ get_or edges n edge
       → is_shown edge.edge_type ≡ true → eq edge.target parent ≡ true → eq from child ≡ true → ((q : ID) → after q ≡ cond (eq parent q) (before q ++ child ∷ []) (before q))
       → ((j i : ID) → has_id eq (before j) i ≡ (has_id eq (first j) i || (list_any (leads_to eq j) (take n edges) && eq from i)))

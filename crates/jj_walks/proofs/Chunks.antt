@@ -1,4 +1,4 @@
--- What a look-ahead explored is a chunk, if its nodes were put in an order.
+-- The nodes that a look-ahead explored form a chunk, in some order.
 use Rattle.std.proofs.Common.{◌≡◌, ℕ, zero, suc, ◌<◌, ◌≤◌, Bool, true, false, cond, List, [], ◌∷◌, ◌++◌, map, length, refl, sym, ◌∙◌, ap, subst, arith, inl, inr, ◌⊎◌, ⊎_elim, true≢false, Option, Some, None, is_some, Result, Ok, Err, MatchOption, eqb, append_assoc, get_or}
 use Rattle.std.specs.List.{Contains, IsDistinct, filter, filter_map, cons_option}
 use Rattle.std.specs.Result.{result_ok}
@@ -18,7 +18,7 @@ use Rattle.jj_dag.proofs.Plain.{nothing, one_distinct, only}
 
 -- ---- lists
 
--- in a list without repetition, one thing stands behind a node
+-- in a list without repetition, the suffix after a node is unique
 same_rest : (xs f k front rest : List ℕ) (a : ℕ) → IsDistinct eqb xs → xs ≡ f ++ a ∷ k → xs ≡ front ++ a ∷ rest → k ≡ rest
 same_rest [] [] k front rest a d e h = absurd cc
 same_rest [] (y ∷ f) k front rest a d e h = absurd cc
@@ -171,7 +171,7 @@ module _ {T ID K : Type 0} (w : Numbered T ID) (items : FailingGraph K) (starts 
       in_map (j ∷ js) i (zero, lt, q) = (0, omega arith, ap w.id q)
       in_map (j ∷ js) i (suc k, lt, q) = later (w.id j) (map w.id js) (w.id i) (in_map js i (k, omega arith, q))
 
-  -- what was explored, as starts of a collection that is whole
+  -- the explored nodes as starts of a complete collection
   pub inner_collected : IsCollecting walk_inner inner_items explored find [] given inner_ids
   inner_collected = record {
     waiting_reached = λ a (k, lt, e). absurd (omega arith);
@@ -192,7 +192,7 @@ module _ {T ID K : Type 0} (w : Numbered T ID) (items : FailingGraph K) (starts 
   pub inner_linked : (ts : List (List ℕ)) → ts ≡ map (λ is. filter_map find is) ids → ts ≡ map (λ is. filter_map find is) inner_ids
   inner_linked ts e = e ∙ sym (all_kept find ids)
 
-  -- what the explored nodes reach among themselves, the starts reach
+  -- nodes reachable among the explored ones are reachable from the starts
   pub inner_reached : (a : ℕ) → ReachedFrom inner explored a → ReachedFrom w.graph starts a
   inner_reached a (s, at, (n, p)) =
       let from = looked.collecting.given_reached s at in
@@ -230,7 +230,7 @@ module _ {T ID K : Type 0} (w : Numbered T ID) (items : FailingGraph K) (starts 
         some [] (k, lt, e) none = omega arith
         some (x ∷ l) c none = cc
 
-    -- the last explored node leads to the one that waits
+    -- the last explored node leads to the pending one
     last_leads : (r : ℕ) → Contains rest r → (z c : ℕ) × Contains explored z × HasEdge w.graph z c × Contains rest c × (Contains explored c → ⊥)
     last_leads r h =
         let z = last_of order (λ none. no_order none) in
@@ -253,7 +253,7 @@ module _ {T ID K : Type 0} (w : Numbered T ID) (items : FailingGraph K) (starts 
         let z = last_leads r h in
         z.5 (subst (λ (n : ℕ). Contains explored n) (one_of rest r z.1 few_rest h z.4) k)
 
-    -- each explored node leads down to the one that waits
+    -- each explored node leads down to the pending one
     leads : (r : ℕ) → Contains rest r → (back front : List ℕ) → order ≡ front ++ back → (b : ℕ) → Contains back b → StrictlyReaches w.graph b r
     leads r h [] front e b (k, lt, q) = absurd (omega arith)
     leads r h (x ∷ back) front e b at =

@@ -1,4 +1,4 @@
--- What a whole run of the iterator `DepthFirst` gave.
+-- Whole runs of the iterator `DepthFirst`.
 use Rattle.std.proofs.Common.{ℕ, Bool, Option, Result, Ok, List, [], ◌∷◌, ◌++◌, map, subst, append_assoc, append-nil}
 use Rattle.std.specs.Fn.{Shared, Mut}
 use Rattle.std.specs.Iterator.{Count, Drains}
@@ -11,7 +11,7 @@ use Rattle.jj_walks.specs.DfsSteps.{IsLeftOf, Steps}
 
 module _ {T ID F N U S : Type 0} (ids : Shared F (Bor T × Unit {0}) (Result ID AllocError)) (lists : Mut N (Bor T × Unit {0}) U)
     (w : Numbered T ID) (eq : ID → ID → Bool) (becomes : U → S → Type 0) (steps : S → Option T → S → Type 0) (can : S → Type 0) (left : S → Count) (starts : List ℕ) where
-  -- where no memory was refused, the run gave the preorder
+  -- without an allocation failure the run is the preorder
   pub IsPreorder-from_drains : (xs given : List T) (s : DepthFirst T ID F N) → IsLeftOf ids lists w eq becomes steps starts given s
       → Drains (Steps ids lists eq becomes steps can left) s (map (λ x. Ok x) xs) → IsPreorder w.graph starts (map w.node (given ++ xs))
   IsPreorder-from_drains [] given s k (u, (t, same, last)) =

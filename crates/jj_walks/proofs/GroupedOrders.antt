@@ -1,4 +1,4 @@
--- What a whole history of a grouped graph gives.
+-- Whole histories of a grouped graph.
 use Rattle.std.proofs.Common.{arith, ◌≡◌, ℕ, zero, suc, ◌==◌, Bool, true, false, not, cond, ◌||◌, ◌&&◌, ◌⊎◌, inl, inr, Option, None, Some, is_some, MatchOption, List, [], ◌∷◌, ◌++◌, map, filter, find, reverse, refl, sym, ◌∙◌, ap, subst, true≢false, ⊎_elim}
 use Rattle.std.specs.Prelude.{⊤}
 use borrow.Author.Tests.{eq-eqb}
@@ -149,7 +149,7 @@ module _ {N ID : Type 0} {eq : ID → ID → Bool} (laws : IsEquivalence eq) whe
   none-after false o (inl e) = no-false e
   none-after false o (inr e) = e
 
-  -- a node that was given is no more held
+  -- a yielded node is no longer pending
   given-gone : (h : History N ID) (e : Entry N ID) → AreApart eq (read_nodes h) → IsHistory eq h → Contains (given_nodes h) e → held_at eq h e.id ≡ None
   given-gone [] e apart k m = nothing m
   given-gone (Prioritized i ∷ h) e apart k m = given-gone h e apart k m
@@ -166,7 +166,7 @@ module _ {N ID : Type 0} {eq : ID → ID → Bool} (laws : IsEquivalence eq) whe
   newest-last (Read e ∷ h) = newest-last h
   newest-last (Gave e ∷ h) = refl
 
-  -- an edge that was read makes its target wanted until it is given
+  -- an edge that was read makes its target required until it is yielded
   read-wanted : (h : History N ID) (c : Entry N ID) (t : ID) → Contains (read_nodes h) c → list_any (leads_to eq t) c.edges ≡ true → ((f : Entry N ID) → Contains (given_nodes h) f → eq f.id t ≡ false) → is_wanted eq h t ≡ true
   read-wanted [] c t m e none = nothing m
   read-wanted (Prioritized i ∷ h) c t m e none = or_right (eq i t) (is_wanted eq h t) (read-wanted h c t m e none)
@@ -175,7 +175,7 @@ module _ {N ID : Type 0} {eq : ID → ID → Bool} (laws : IsEquivalence eq) whe
   read-wanted (Gave f ∷ h) c t m e none =
       ap (λ b. not b && is_wanted eq h t) (none f (cons-first (given_nodes h) f f refl)) ∙ read-wanted h c t m e (λ g n. none g (cons-later (given_nodes h) f g n))
 
-  -- what leads to a node that was given in its turn was given before
+  -- a node that leads to a node yielded in turn was yielded before
   grouped-children : (nodes given : List (Entry N ID)) (f c : Entry N ID) → AreGrouped eq nodes given → Contains given f → Contains nodes c → list_any (leads_to eq f.id) c.edges ≡ true → has_node eq given c.id ≡ true
   grouped-children nodes [] f c k m n e = nothing m
   grouped-children nodes (g ∷ given) f c k m n e = ⊎_elim
@@ -201,7 +201,7 @@ module _ {N ID : Type 0} {eq : ID → ID → Bool} (laws : IsEquivalence eq) whe
         one c n true leads = or_right (not (list_any (leads_to eq i) c.edges)) (has_node eq (given_nodes h) c.id) (given c n leads)
         one c n false leads = or_left (not (list_any (leads_to eq i) c.edges)) (has_node eq (given_nodes h) c.id) (ap not leads)
 
-    -- a target of the node given last that is ready is free
+    -- a ready target of the last node is free
     grouped-free : (h : History N ID) (newer : List (Entry N ID)) (t : ID) → nodes ≡ newer ++ read_nodes h → IsHistory eq h → AreGrouped eq nodes (given_nodes h) → Contains (targets_of (newest_edges (given_nodes h))) t
         → is_ready eq nodes (given_nodes h) t ≡ true → is_free eq h t ≡ true
     grouped-free h newer t all k grouped target ready = ap (λ b. b && (edges_to eq h t == 0)) (or_left (is_wanted eq h t) (is_some (held_at eq h t)) (wanted (given_nodes h) refl grouped target)) ∙ eq-eqb (edges_to eq h t) 0 childless
@@ -237,7 +237,7 @@ module _ {N ID : Type 0} {eq : ID → ID → Bool} (laws : IsEquivalence eq) whe
                 let gone : held_at eq h given.0.id ≡ None = given-gone h given.0 read-apart k given.1 in
                 absurd (found-node (held eq h) c.0 given.0.id c.1 (laws.symm c.0.id given.0.id ∙ given.2) gone)
 
-    -- each node was given in its turn
+    -- each node was yielded in turn
     pub grouped-history : (h : History N ID) (newer : List (Entry N ID)) → nodes ≡ newer ++ read_nodes h → IsHistory eq h → AreGrouped eq nodes (given_nodes h)
     grouped-history [] newer all k = tt
     grouped-history (Prioritized i ∷ h) newer all k = grouped-history h newer all k
@@ -281,7 +281,7 @@ module _ {N ID : Type 0} {eq : ID → ID → Bool} (laws : IsEquivalence eq) whe
             weaker None m = tt
             weaker (Some i) m = ready-alike nodes (given_nodes h) i e.id m ∙ ready
 
-  -- an id is wanted since it was prioritised or an edge to it was read
+  -- an id is required since it was prioritized or an edge to it was read
   wanted-from : (h : History N ID) (i : ID) → is_wanted eq h i ≡ true → ((j : ID) × Contains (prioritized_ids h) j × (eq j i ≡ true)) ⊎ ((c : Entry N ID) × Contains (read_nodes h) c × (list_any (leads_to eq i) c.edges ≡ true))
   wanted-from [] i w = no-false w
   wanted-from (Prioritized j ∷ h) i w = ⊎_elim (λ e. inl (j, cons-first (prioritized_ids h) j j refl, e))
@@ -290,7 +290,7 @@ module _ {N ID : Type 0} {eq : ID → ID → Bool} (laws : IsEquivalence eq) whe
       (λ l. ⊎_elim (λ p. inl p) (λ (c, m, a). inr (c, cons-later (read_nodes h) e c m, a)) (wanted-from h i l)) (or_cases (list_any (leads_to eq i) e.edges) (is_wanted eq h i) w)
   wanted-from (Gave e ∷ h) i w = wanted-from h i (and_right (not (eq e.id i)) (is_wanted eq h i) w)
 
-  -- no id is wanted after its node was given
+  -- no id is required after its node was yielded
   given-unwanted : (h : History N ID) (f : Entry N ID) (i : ID) → IsHistory eq h → PrioritizesFirst h → AreReadChildFirst eq (read_nodes h) → Contains (given_nodes h) f → eq f.id i ≡ true → is_wanted eq h i ≡ true → ⊥
   given-unwanted [] f i k first order m e w = no-false w
   given-unwanted (Prioritized j ∷ h) f i k first order m e w = nothing (subst (λ (l : List (Entry N ID)). Contains l f) first.0 (given-read h f k m))
@@ -308,7 +308,7 @@ module _ {N ID : Type 0} {eq : ID → ID → Bool} (laws : IsEquivalence eq) whe
       go None none = absurd (found-node (held eq h) f i m e none)
       go (Some x) some = refl
 
-  -- once all was read, each wanted node is held
+  -- once the input is read, each required node is pending
   pub none-missing : (h : History N ID) (i : ID) → IsHistory eq h → PrioritizesFirst h → IsWhole eq (read_nodes h) → ((j : ID) → Contains (prioritized_ids h) j → has_node eq (read_nodes h) j ≡ true)
       → is_wanted eq h i ≡ true → held_at eq h i ≡ None → ⊥
   none-missing h i k first whole among wanted none =
@@ -316,7 +316,7 @@ module _ {N ID : Type 0} {eq : ID → ID → Bool} (laws : IsEquivalence eq) whe
       let f = any-from (λ e. eq e.id i) (read_nodes h) known in
       ⊎_elim (λ g. given-unwanted h f.0 i k first whole.child_first g f.2 wanted) (λ a. found-node (held eq h) f.0 i a f.2 none) (read-given_or_held laws h k f.0 f.1)
 
-  -- a node that is read is not held
+  -- a node that is read is not pending
   pub none-twice : (h : History N ID) (e : Entry N ID) → has_node eq (read_nodes h) e.id ≡ false → is_some (held_at eq h e.id) ≡ true → ⊥
   none-twice h e apart some = go (held_at eq h e.id) refl some
     where
@@ -324,7 +324,7 @@ module _ {N ID : Type 0} {eq : ID → ID → Bool} (laws : IsEquivalence eq) whe
       go None at s = no-false s
       go (Some f) at s = true≢false (sym (any-at (λ x. eq x.id e.id) (read_nodes h) f (held-read h f (found-in (λ x. eq x.id e.id) (held eq h) f at)) (find-passes eq (λ x. eq x.id e.id) (held eq h) f at)) ∙ apart)
 
-  -- of the nodes that are held, one has no held child
+  -- some pending node has no pending child
   pub none-stuck : (h : History N ID) → AreReadChildFirst eq (read_nodes h) → (held eq h ≡ [] → ⊥) → ((i : ID) → is_some (held_at eq h i) ≡ true → edges_to eq h i ≡ 0 → ⊥) → ⊥
   none-stuck h order some stuck = start (held eq h) refl
     where
@@ -346,7 +346,7 @@ module _ {N ID : Type 0} {eq : ID → ID → Bool} (laws : IsEquivalence eq) whe
           (λ g m s. let c = above g.id s in (c.0, held-read h c.0 c.1, c.2, some-held h c.0 c.0.id c.1 (laws.refl c.0.id)))
           f (held-read h f at) (some-held h f f.id at (laws.refl f.id))
 
-  -- the first reaches the wanted id
+  -- the first reaches the required id
   first-reaches : (h : History N ID) (e : Entry N ID) (i : ID) → IsHistory eq h → AreReadChildFirst eq (read_nodes h) → IsOldest (given_nodes h) e → first_wanted h ≡ Some i → Reaches eq (has_edge eq (read_nodes h)) e.id i
   first-reaches [] e i k order oldest first = absurd oldest
   first-reaches (Prioritized j ∷ []) e i k order oldest first = absurd oldest
@@ -360,7 +360,7 @@ module _ {N ID : Type 0} {eq : ID → ID → Bool} (laws : IsEquivalence eq) whe
       go [] none same below = subst (λ (x : Entry N ID). Reaches eq (has_edge eq (read_nodes h)) x.id i) same (k.0.first none order i first)
       go (g ∷ given) more o below = below (subst (λ (l : List (Entry N ID)). IsOldest l e) (sym more) o)
 
-  -- a whole run gives a grouped order
+  -- a whole run yields a grouped order
   pub grouped-order : (h : History N ID) → IsHistory eq h → IsWhole eq (read_nodes h) → held eq h ≡ [] → IsGroupedOrder eq (read_nodes h) (first_wanted h) (given_nodes h)
   grouped-order h k whole none = record {
     all = λ e m. read-given laws h k none e m;

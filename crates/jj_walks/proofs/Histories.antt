@@ -1,4 +1,4 @@
--- What a history of a grouped graph says of the order in which nodes were given.
+-- The order of the nodes yielded in a history of a grouped graph.
 use Rattle.std.proofs.Common.{arith, ◌≡◌, ◌<◌, Bool, true, false, not, cond, ◌⊎◌, inl, inr, None, Some, List, [], ◌∷◌, filter, find, count_by, refl, sym, ◌∙◌, ap, subst, ⊎_elim}
 use Rattle.std.specs.Cmp.{IsEquivalence}
 use Rattle.std.specs.List.{Contains, list_any, sum_by}
@@ -29,7 +29,7 @@ module _ {N ID : Type 0} {eq : ID → ID → Bool} (laws : IsEquivalence eq) whe
       go rest true is n = cc
       go rest false is n = ⊎_elim (λ e. ap (λ x. eq x.id i) (sym e) ∙ is) (rest n) (cons-cases es f c k)
 
-  -- a held node stays held until its own id is given
+  -- a pending node stays pending until its id is yielded
   stays-held : (i : ID) (es : List (Entry N ID)) (e c : Entry N ID) → AreUnique eq es → find (λ f. eq f.id i) es ≡ Some e → Contains es c → (e ≡ c) ⊎ Contains (filter (λ f. not (eq i f.id)) es) c
   stays-held i [] e c u h (k, less, x) = absurd (omega arith)
   stays-held i (f ∷ es) e c (none, u) h k = go (stays-held i es e c u) (eq f.id i) refl h (cons-cases es f c k)
@@ -55,7 +55,7 @@ module _ {N ID : Type 0} {eq : ID → ID → Bool} (laws : IsEquivalence eq) whe
       go rest false is found (inl first) = inr (subst (λ (l : List (Entry N ID)). Contains l c) (sym (out false is)) (cons-first (filter (λ x. not (eq i x.id)) es) f c first))
       go rest false is found (inr later) = ⊎_elim (λ e. inl e) (λ m. inr (subst (λ (l : List (Entry N ID)). Contains l c) (sym (out false is)) (cons-later (filter (λ x. not (eq i x.id)) es) f c m))) (rest found later)
 
-  -- each node that was read was given or is held
+  -- each node that was read was yielded or is pending
   pub read-given_or_held : (h : History N ID) → IsHistory eq h → (c : Entry N ID) → Contains (read_nodes h) c → Contains (given_nodes h) c ⊎ Contains (held eq h) c
   read-given_or_held [] k c (i, less, e) = absurd (omega arith)
   read-given_or_held (Prioritized i ∷ h) k c m = read-given_or_held h k c m
@@ -75,7 +75,7 @@ module _ {N ID : Type 0} {eq : ID → ID → Bool} (laws : IsEquivalence eq) whe
       ⊎_elim (λ same. let one : 0 < count_by (leads_to eq i) f.edges = leads-none eq i f.edges (ap (λ x. list_any (leads_to eq i) x.edges) same ∙ any) in omega (arith, whole, one))
       (λ later. let rest = edge-counts i es c later any in omega (arith, whole, rest)) (cons-cases es f c k)
 
-  -- each node was given after all nodes that had been read and have an edge to it
+  -- each node was yielded after all nodes that had been read and have an edge to it
   pub gives-children_first : (h : History N ID) → IsHistory eq h → GivesChildrenFirst eq h
   gives-children_first [] k = tt
   gives-children_first (Prioritized i ∷ h) k = gives-children_first h k
@@ -85,7 +85,7 @@ module _ {N ID : Type 0} {eq : ID → ID → Bool} (laws : IsEquivalence eq) whe
     gives-children_first h k,
   )
 
-  -- where nothing is held, each node that was read was given
+  -- if nothing is pending, each node that was read was yielded
   pub read-given : (h : History N ID) → IsHistory eq h → held eq h ≡ [] → (c : Entry N ID) → Contains (read_nodes h) c → Contains (given_nodes h) c
   read-given h k none c m = ⊎_elim (λ g. g) (λ a. absurd (nothing (subst (λ (l : List (Entry N ID)). Contains l c) none a))) (read-given_or_held h k c m)
     where

@@ -1,4 +1,4 @@
--- The nodes that a history holds.
+-- The pending nodes of a history.
 use Rattle.std.proofs.Common.{arith, ◌≡◌, ℕ, ◌+◌, ◌≤◌, Bool, true, false, not, cond, Option, None, Some, List, [], ◌∷◌, filter, find, count_by, refl, sym, ◌∙◌, ap, true≢false}
 use Rattle.std.specs.Cmp.{IsEquivalence}
 use Rattle.std.specs.List.{sum_by}
@@ -47,7 +47,7 @@ module _ {N ID : Type 0} (eq : ID → ID → Bool) where
     find-congr i j [] e = refl
     find-congr i j (f ∷ es) e = ap (λ b. cond b (Some f) (find (λ f. eq f.id i) es)) (congr-right laws i j f.id e) ∙ ap (λ o. cond (eq f.id j) (Some f) o) (find-congr i j es e)
 
-    -- what is found once the entries of an id were taken out
+    -- look-ups after the entries of an id were removed
     pub find-others : (i q : ID) (es : List (Entry N ID)) → find (λ f. eq f.id q) (others i es) ≡ cond (eq i q) None (find (λ f. eq f.id q) es)
     find-others i q [] = go (eq i q)
       where
@@ -82,7 +82,7 @@ module _ {N ID : Type 0} (eq : ID → ID → Bool) where
         go rest true = rest
         go rest false = (find-others i f.id es ∙ ap (λ o. cond (eq i f.id) None o) none ∙ nothing (eq i f.id), rest)
 
-    -- where no entry has the id, none is taken out
+    -- if no entry has the id, none is removed
     others-none : (i : ID) (es : List (Entry N ID)) → find (λ f. eq f.id i) es ≡ None → others i es ≡ es
     others-none i [] h = refl
     others-none i (f ∷ es) h = go (others-none i es) (eq f.id i) refl h
@@ -91,7 +91,7 @@ module _ {N ID : Type 0} (eq : ID → ID → Bool) where
         go rest true is k = cc
         go rest false is k = ap (λ b. cond (not b) (f ∷ others i es) (others i es)) (laws.symm i f.id ∙ is) ∙ ap (λ l. f ∷ l) (rest k)
 
-    -- the edges of the entry that was taken out are no more counted
+    -- the edges of the removed entry are no longer counted
     pub edges-others : (t i : ID) (es : List (Entry N ID)) (e : Entry N ID) → AreUnique es → find (λ f. eq f.id i) es ≡ Some e → edges_in t (others i es) + count_by (leads_to eq t) e.edges ≡ edges_in t es
     edges-others t i [] e k h = cc
     edges-others t i (f ∷ es) e (none, k) h = go (edges-others t i es e k) (eq f.id i) refl h
@@ -115,7 +115,7 @@ module _ {N ID : Type 0} (eq : ID → ID → Bool) where
             let rest = below found in
             omega (arith, a, rest, whole)
 
-    -- a history holds at most one node of an id
+    -- a history has at most one pending node per id
     pub held-unique : (h : History N ID) → IsHistory eq h → AreUnique (held eq h)
     held-unique [] k = tt
     held-unique (Prioritized i ∷ h) k = held-unique h k

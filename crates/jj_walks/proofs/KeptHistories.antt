@@ -1,4 +1,4 @@
--- Maps and lists keep a history when it grows.
+-- Maps and lists that represent a history, as it grows.
 use Rattle.std.proofs.Common.{arith, ◌≡◌, ℕ, ◌+◌, ◌-◌, ◌<◌, Bool, true, false, not, cond, ◌||◌, ◌&&◌, ◌==◌, ◌⊎◌, inl, inr, Option, None, Some, is_some, MatchOption, List, [], ◌∷◌, ◌++◌, map, filter, find, reverse, length, count_by, refl, sym, ◌∙◌, ap, subst, true≢false, append_assoc, append-nil, ⊎_elim}
 use Rattle.std.specs.Prelude.{⊤}
 use Rattle.std.proofs.lemmas.Bool.Decides.{nat_tests}
@@ -76,7 +76,7 @@ module _ {ID : Type 0} where
     pub has_id-append : (xs ys : List ID) (i : ID) → has_id eq (xs ++ ys) i ≡ (has_id eq xs i || has_id eq ys i)
     has_id-append xs ys i = list_any-append (λ j. eq j i) xs ys
 
-    -- more is known, and what has a held child keeps one
+    -- after more events, an id with a pending child still has one
     follows-more : (counts more : ID → Option ℕ) (targets found : List ID) → ((i : ID) → is_some (counts i) ≡ true → is_some (more i) ≡ true) → ((i : ID) → is_positive (counts i) ≡ true → is_positive (more i) ≡ true)
         → AreToFollow eq counts targets found → AreToFollow eq more targets found
     follows-more counts more targets found some positive k = record {
@@ -162,7 +162,7 @@ module _ {ID : Type 0} {eq : ID → ID → Bool} (laws : IsEquivalence eq) where
           let none : count_one (leads_to eq q x) ≡ 0 = ap (λ b. count_one (b && eq x.target q)) shown in
           ap (λ l. has_id eq l q) (targets ∙ ap (λ b. cond b (x.target ∷ targets_of edges) (targets_of edges)) shown) ∙ rest (omega (arith, whole, none))
 
-  -- what holds of each id to which edges lead holds of their targets
+  -- a property of every id to which edges lead is one of their targets
   targets-all : (p : ID → Bool) (edges : List (GraphEdge ID)) → ((q : ID) → 0 < count_by (leads_to eq q) edges → p q ≡ true) → list_all p (targets_of edges) ≡ true
   targets-all p [] k = refl
   targets-all p (x ∷ edges) k = go (targets-all p edges (λ q h. let w = whole q in k q (omega (arith, w, h)))) (is_shown x.edge_type) refl
@@ -183,7 +183,7 @@ module _ {ID : Type 0} {eq : ID → ID → Bool} (laws : IsEquivalence eq) where
       go rest false shown = ap (list_all p) (targets (is_shown x.edge_type) ∙ ap (λ b. cond b (x.target ∷ targets_of edges) (targets_of edges)) shown) ∙ rest
 
   module _ (count : ID → Option ℕ) (alike : (x y : ID) → eq x y ≡ true → count x ≡ count y) where
-    -- those that have a held child are passed
+    -- those with a pending child are skipped
     find-blocked : (ts ps qs : List ID) → AreSameIds eq ts (ps ++ qs) → list_all (λ i. is_positive (count i)) ps ≡ true
         → (us : List ID) × AreSameIds eq us qs × (find (λ i. is_zero (count i)) ts ≡ find (λ i. is_zero (count i)) us)
     find-blocked ts [] qs k all = (ts, k, refl)
@@ -230,7 +230,7 @@ module _ {ID : Type 0} {eq : ID → ID → Bool} (laws : IsEquivalence eq) where
             subst P (sym left.2) (top left.0 y (reverse front) (sym both.1) (subst (λ (l : List ID). AreSameIds eq left.0 l) (ap reverse e ∙ reverse-append front (y ∷ [])) left.1))
 
 module _ {N ID : Type 0} {eq : ID → ID → Bool} (laws : IsEquivalence eq) where
-  -- an id was prioritised
+  -- an id was prioritized
   pub keeps-prioritized : (h : History N ID) (node_at : ID → Option (N × List (GraphEdge ID))) (count more : ID → Option ℕ) (ids heads heads2 : List ID) (i copy : ID) → eq i copy ≡ true
       → ((q : ID) → is_some (more q) ≡ (eq i q || is_some (count q))) → ((q : ID) → count_of (more q) ≡ count_of (count q)) → heads2 ≡ heads ++ copy ∷ []
       → KeepsHistory eq h node_at count ids heads → KeepsHistory eq (Prioritized i ∷ h) node_at more ids heads2
@@ -296,7 +296,7 @@ module _ {N ID : Type 0} {eq : ID → ID → Bool} (laws : IsEquivalence eq) whe
       known_listed q zero true same = ⊎_elim (before_listed q zero) (λ l. l) (head q same)
       known_listed q zero false other = before_listed q zero (ap (λ b. b || (list_any (leads_to eq q) e.edges || is_some (count q))) (sym other) ∙ sym (known q) ∙ zero-some (more q) zero)
 
-  -- a node was given
+  -- a node was yielded
   pub keeps-gave : (h : History N ID) (node_at nodes2 : ID → Option (N × List (GraphEdge ID))) (count more : ID → Option ℕ) (rest added heads : List ID) (i : ID) (e : Entry N ID)
       → ((x y : ID) → eq x y ≡ true → count x ≡ count y) → held_at eq h i ≡ Some e → is_zero (count i) ≡ true
       → ((q : ID) → nodes2 q ≡ cond (eq i q) None (node_at q))
@@ -401,7 +401,7 @@ module _ {N ID : Type 0} {eq : ID → ID → Bool} (laws : IsEquivalence eq) whe
       some_alike : (x y : ID) → eq x y ≡ true → is_some (more x) ≡ is_some (more y)
       some_alike x y e = known x ∙ ap (λ b. is_some (cond b None (count x))) (congr-right laws x y i e) ∙ ap (λ o. is_some (cond (eq i y) None o)) (alike x y e) ∙ sym (known y)
 
--- candidates were passed
+-- candidates were skipped
 pub keeps-taken : {N ID : Type 0} (eq : ID → ID → Bool) (h : History N ID) (node_at : ID → Option (N × List (GraphEdge ID))) (count : ID → Option ℕ) (ids ids2 heads heads2 : List ID)
     → ((i : ID) → is_zero (count i) ≡ true → is_listed eq ids heads i ≡ true → is_listed eq ids2 heads2 i ≡ true) → ((targets : List ID) → AreToFollow eq count targets ids → AreToFollow eq count targets ids2)
     → KeepsHistory eq h node_at count ids heads → KeepsHistory eq h node_at count ids2 heads2
@@ -414,20 +414,20 @@ keeps-taken eq h node_at count ids ids2 heads heads2 listed follows k = record {
   follows = follows (targets_of (last_edges h)) k.follows;
 }
 
--- where no candidate and no head is left, no id is free
+-- if no candidate and no head is left, no id is free
 pub none-free : {N ID : Type 0} (eq : ID → ID → Bool) (h : History N ID) (node_at : ID → Option (N × List (GraphEdge ID))) (count : ID → Option ℕ) (ids heads : List ID)
     → ids ≡ [] → heads ≡ [] → KeepsHistory eq h node_at count ids heads → (i : ID) → is_known eq h i ≡ true → edges_to eq h i ≡ 0 → ⊥
 none-free eq h node_at count ids heads no_ids no_heads k i known zero =
     true≢false (sym (k.listed i (zero-from (count i) (k.known i ∙ known) (k.counts i ∙ zero))) ∙ ap (λ l. is_listed eq l heads i) no_ids ∙ ap (λ l. is_listed eq [] l i) no_heads)
 
--- an id that is counted and not held is wanted
+-- an id that is counted and not pending is required
 pub unread-wanted : {N ID : Type 0} (eq : ID → ID → Bool) (h : History N ID) (node_at : ID → Option (N × List (GraphEdge ID))) (count : ID → Option ℕ) (ids heads : List ID) (i : ID)
     → is_zero (count i) ≡ true → node_at i ≡ None → KeepsHistory eq h node_at count ids heads → (is_wanted eq h i ≡ true) × (held_at eq h i ≡ None)
 unread-wanted eq h node_at count ids heads i zero absent k =
     let none : held_at eq h i ≡ None = none-mapped item_of (held_at eq h i) (sym (k.nodes i) ∙ absent) in
     (⊎_elim (λ a. a) (λ a. absurd (true≢false (sym a ∙ ap is_some none))) (or_cases (is_wanted eq h i) (is_some (held_at eq h i)) (sym (k.known i) ∙ zero-some (count i) zero)), none)
 
--- a list of heads grows, and with it what is listed
+-- a list of heads grows, and so do its members
 pub listed-more : {ID : Type 0} (eq : ID → ID → Bool) (ids heads more : List ID) (i : ID) → (has_id eq heads i ≡ true → has_id eq more i ≡ true) → is_listed eq ids heads i ≡ true → is_listed eq ids more i ≡ true
 listed-more eq ids heads more i kept k =
     ⊎_elim (λ a. or_left (has_id eq ids i) (has_id eq more i) a) (λ a. or_right (has_id eq ids i) (has_id eq more i) (kept a)) (or_cases (has_id eq ids i) (has_id eq heads i) k)
@@ -436,7 +436,7 @@ listed-more eq ids heads more i kept k =
 pub head-listed : {ID : Type 0} (eq : ID → ID → Bool) (ids heads : List ID) (i : ID) (known : Bool) → (known || has_id eq heads i) ≡ true → (known ≡ true) ⊎ (is_listed eq ids heads i ≡ true)
 head-listed eq ids heads i known e = ⊎_elim (λ a. inl a) (λ a. inr (or_right (has_id eq ids i) (has_id eq heads i) a)) (or_cases known (has_id eq heads i) e)
 
--- a map at one key more
+-- a map with one more key
 pub mapped-put : {A B : Type 0} (f : A → B) (b : Bool) (x : A) (new old : Option A) → new ≡ cond b (Some x) old → option_map f new ≡ cond b (Some (f x)) (option_map f old)
 mapped-put f true x new old e = ap (option_map f) e
 mapped-put f false x new old e = ap (option_map f) e
@@ -454,7 +454,7 @@ no-entries [] e = refl
 no-entries (x ∷ es) e = cc
 
 module _ {N ID : Type 0} {eq : ID → ID → Bool} (laws : IsEquivalence eq) (h : History N ID) (s : HeldNodes N ID) (k : Keeps eq h s) where
-  -- where the map is empty, nothing is held
+  -- if the map is empty, nothing is pending
   pub nothing-held : hash_map_len s.nodes ≡ 0 → held eq h ≡ []
   nothing-held none = go (held eq h) (λ i. none-mapped item_of (find (λ e. eq e.id i) (held eq h)) (sym (k.history.nodes i) ∙ ap (λ es. option_map listed_item (lookup (eq i) es)) (no-entries s.nodes.entries none)))
     where
@@ -465,7 +465,7 @@ module _ {N ID : Type 0} {eq : ID → ID → Bool} (laws : IsEquivalence eq) (h 
           differ : {A : Type 0} {x : A} → Some x ≡ None → ⊥
           differ d = cc
 
-  -- where nothing is held, the map is empty
+  -- if nothing is pending, the map is empty
   pub nothing-kept : held eq h ≡ [] → hash_map_len s.nodes ≡ 0
   nothing-kept none = go s.nodes.entries (λ i. none-mapped listed_item (lookup (eq i) s.nodes.entries) (k.history.nodes i ∙ ap (λ (es : List (Entry N ID)). option_map item_of (find (λ e. eq e.id i) es)) none))
     where

@@ -1,4 +1,4 @@
--- How an order grows chunk by chunk, and what it is at its end.
+-- A topological order that grows chunk by chunk.
 use Rattle.std.proofs.Common.{◌≡◌, ℕ, zero, suc, List, [], ◌∷◌, ◌++◌, refl, sym, ◌∙◌, ap, subst, inl, inr, ◌⊎◌, ⊎_elim, append_assoc, eqb}
 use Rattle.std.specs.List.{Contains, IsDistinct}
 use Rattle.std.proofs.lemmas.List.Elements.{Contains-append_left, Contains-append_right, Contains-append_cases}
@@ -8,7 +8,7 @@ use Rattle.jj_dag.proofs.Reaching.{Contains-split, Contains-reached, Reaches-tra
 use Rattle.jj_dag.proofs.ReadyOrders.{here, at_split, twice}
 use Rattle.jj_dag.proofs.Plain.{nothing, one_distinct, only}
 
--- a place in two lists, one after the other, is in the first or in the second
+-- an index into the concatenation of two lists is in the first or in the second
 split_append : (xs ys front back : List ℕ) (a : ℕ) → xs ++ ys ≡ front ++ a ∷ back
     → ((rest : List ℕ) × (xs ≡ front ++ a ∷ rest) × (back ≡ rest ++ ys)) ⊎ ((mid : List ℕ) × (front ≡ xs ++ mid) × (ys ≡ mid ++ a ∷ back))
 split_append [] ys front back a e = inr (front, refl, e)
@@ -25,7 +25,7 @@ split_append (x ∷ xs) ys (f ∷ front) back a e =
 strictly_then : (g : Graph) (a b c : ℕ) → StrictlyReaches g a b → Reaches g b c → StrictlyReaches g a c
 strictly_then g a b c (n, (d, e, p)) r = edge_then_Reaches g a d c e (Reaches-trans g d b c n p r)
 
--- in a list without repetition no node stands before itself
+-- in a list without repetition no node precedes itself
 once_alone : (xs front back : List ℕ) (a : ℕ) → IsDistinct eqb xs → xs ≡ front ++ a ∷ back → Contains front a → ⊥
 once_alone xs front back a once e h =
     let f = Contains-split front a h in
@@ -52,7 +52,7 @@ leads_none g starts = record {
   above = λ a b h r. absurd (nothing a h);
 }
 
--- ---- one chunk more
+-- ---- one more chunk
 
 pub begun_more : (g : Graph) (starts order left chunk : List ℕ) → IsBegun g starts order → LeadsOn g starts order left → IsDistinct eqb chunk
     → ((a : ℕ) → Contains chunk a → ReachedFrom g left a) → IsBegun g starts (order ++ chunk)
@@ -136,7 +136,7 @@ ended_order g starts order begun leads once = record {
       (split.0, split.1, split.2, behind g order leads.forward n split.0 split.1 a b split.2 path);
 }
 
--- a node that comes again is on a cycle
+-- a repeated node is on a cycle
 pub again_cycle : (g : Graph) (starts order front back : List ℕ) (a : ℕ) → IsBegun g starts order → order ≡ front ++ a ∷ back → Contains front a → ReachedFrom g starts a × ReachesCycle g starts
 again_cycle g starts order front back a begun e h =
     let reached = begun.reached a (subst (λ (l : List ℕ). Contains l a) (sym e) (at_split front a back)) in

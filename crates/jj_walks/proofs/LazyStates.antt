@@ -157,7 +157,7 @@ in_model_starts {T} w eq s xs ready start unseen =
 
 module _ {T ID E F N C U J : Type 0} (eq : ID → ID → Bool) (ids : Shared F (Bor T × Unit {0}) (Result ID AllocError)) (lists : Mut N (Bor T × Unit {0}) U) (value : into.Ghosts U (Result T E) J) (items : iter.Ghosts J (Result T E))
     {id_fn : F} {neighbors_fn : N} {on_cycle : C} {starts yielded : List T} {s : LazyOrder T ID E F N C} (k : IsLeftOf eq ids lists value items id_fn neighbors_fn on_cycle starts yielded s) where
-  -- the closures implement now what they implemented at first
+  -- the closures implement the same models as at first
   pub implement_now : (w : Numbered T ID) → (graph_at eq ids lists value items id_fn neighbors_fn).implements w → (graph_at eq ids lists value items s.graph.id_fn s.graph.neighbors_fn).implements w
   implement_now w implemented = rw k.graph.id_fn (k.graph.implemented w implemented)
 
@@ -213,14 +213,14 @@ module _ {T ID E F N C U J : Type 0} (eq : ID → ID → Bool) (ids : Shared F (
       };
     })
 
--- several starts give a chunk with some node
+-- several starts yield a nonempty chunk
 pub chunk_some : {T : Type 0} (node : T → ℕ) (starts nodes turned : List T) → 1 < length starts → ((a : ℕ) → Contains (map node starts) a → Contains (map node nodes) a) → turned ≡ reverse nodes → turned ≡ [] → ⊥
 chunk_some node [] nodes turned two has e none = omega arith
 chunk_some {T} node (x ∷ starts) nodes turned two has e none =
     let empty : nodes ≡ [] = sym (reverse-reverse nodes) ∙ ap reverse (sym e ∙ none) in
     nothing (node x) (subst (λ (l : List T). Contains (map node l) (node x)) empty (has (node x) (0, omega arith, refl)))
 
--- what holds of an `Ok` for one reason holds for another
+-- weakening of a fact about an `Ok`
 pub ok_weaker : {A B : Type 0} (r : Result A B) (P Q : Type 0) → (P → Q) → OnOk r P → OnOk r Q
 ok_weaker (Ok x) P Q f h = f h
 ok_weaker (Err e) P Q f h = tt

@@ -9,13 +9,13 @@ use Rattle.std.specs.Vec.{vec_len}
 use Rattle.std.specs.declared.vec.Vec.{Vec}
 use Rattle.jj_walks.specs.ListsByKey.{items_at, items_of}
 
--- the list that an entry lends
+-- the list at an entry
 pub items_of-lent : {V : Type 0} (found : Option (Vec V Global)) (lent : Vec V Global) → UnwrapsOrElse found (λ made. (made.items ≡ []) × (vec_len made ≡ 0)) lent → lent.items ≡ items_of found
 items_of-lent None lent empty = empty.0
 items_of-lent (Some listed) lent same = ap (λ v. v.items) same
 
 module _ {K V S : Type 0} {eq : K → K → Bool} (laws : IsEquivalence eq) (old : HashMap K (Vec V Global) S) where
-  -- what is listed at a key where one value more was put at a key
+  -- the list at a key after one more value was added at a key
   pub items_of-put : (key q : K) (got : Option (Vec V Global)) (listed : Vec V Global) (value : V)
       → got ≡ cond (eq key q) (Some listed) (get eq old q) → listed.items ≡ items_at eq old key ++ value ∷ []
       → items_of got ≡ cond (eq key q) (items_at eq old q ++ value ∷ []) (items_at eq old q)

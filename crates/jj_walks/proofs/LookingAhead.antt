@@ -1,4 +1,4 @@
--- What stays known while nodes are explored from several starts.
+-- Invariant of exploring nodes from several starts.
 use Rattle.std.proofs.Common.{◌≡◌, ℕ, zero, suc, ◌+◌, ◌<◌, ◌≤◌, Bool, true, false, cond, ◌==◌, List, [], ◌∷◌, ◌++◌, map, length, get_or, refl, sym, ◌∙◌, ap, subst, arith, inl, inr, ◌⊎◌, ⊎_elim, true≢false, Option, Some, None, Ok, MatchOption}
 use Rattle.std.specs.List.{Contains, sum_by}
 use Rattle.std.specs.List.Sorted.{IsPermutation}
@@ -38,7 +38,7 @@ copies_short node (x ∷ xs) a =
     omega arith
 
 module _ {T ID K : Type 0} (w : Numbered T ID) (items : FailingGraph K) where
-  -- what waits may be listed in any order
+  -- the pending nodes may be permuted
   collecting_permuted : {starts : List ℕ} {find : ID → Option ℕ} {given : List T} {ids : List (List ID)} (work work2 : List T) → IsPermutation work work2
       → IsCollecting w items starts find work given ids → IsCollecting w items starts find work2 given ids
   collecting_permuted work work2 p k =
@@ -63,7 +63,7 @@ module _ {T ID K : Type 0} (w : Numbered T ID) (items : FailingGraph K) where
     rootless = λ f b in_b. absurd (nothing b (subst (λ (l : List T). Contains (map w.node l) b) none in_b));
   }
 
-  -- the top was taken, so the other copies of a node still wait
+  -- the top was popped, so the other copies of a node are still pending
   others : (work rest : List T) (x : T) (a : ℕ) → IsPermutation work (x ∷ rest) → (w.node x ≡ a → ⊥) → copies w.node rest a ≡ copies w.node work a
   others work rest x a p ne =
       let f : T → ℕ = λ y. cond (w.node y == a) 1 0 in

@@ -1,4 +1,4 @@
--- What a step of a depth-first walk leaves of the walk.
+-- Steps of a depth-first search.
 use Rattle.std.proofs.Common.{◌≡◌, ℕ, Bool, true, true≢false, Result, Ok, Err, Option, None, Some, IfNone, IfSome, IfOk, IfErr, IsNone, List, [], ◌∷◌, ◌++◌, map, reverse, refl, sym, ◌∙◌, ap, subst, append_assoc, append-nil, ⊎_elim}
 use Rattle.std.specs.Fn.{Shared, Mut, FnReturns}
 use Rattle.std.specs.Iterator.{Count}
@@ -28,20 +28,20 @@ use Rattle.jj_walks.specs.Answers.AnswersLead.{one_more}
 use Rattle.jj_walks.proofs.Chains.{chain_leads}
 use Rattle.jj_walks.proofs.Answering.{answers_entered, answers_failed, answers_passed, in_map, in_reverse, numbered_back, on_top_is_node}
 
--- ---- nodes alone
+-- ---- infallible items
 
 module _ {T E ID F P N U S : Type 0} (finds : Shared P (T × Unit {0}) (Result T E)) (ids : Shared F (Bor T × Unit {0}) (Result ID AllocError)) (lists : Mut N (Bor T × Unit {0}) U)
     (eq : ID → ID → Bool) (node_of : P) (itself : (item node : T) → FnReturns finds node_of (item, tt) (Ok node) → item ≡ node)
     (w : Numbered T ID) (becomes : U → S → Type 0) (steps : S → Option T → S → Type 0) (starts : List ℕ) (given : List T) (s : DepthFirst T ID F N)
     (left : IsLeftOf ids lists w eq becomes steps starts given s) where
-  -- the id of a node on top of what waits
+  -- the id of the node on top of the stack
   id_on_top : (work rest : List T) (item node : T) (i : ID) → IsWalking w starts (contains eq s.visited) work given → work ≡ rest ++ item ∷ []
       → IsNode finds ids eq node_of s.id_fn s.visited item node i → (item ≡ node) × (w.id i ≡ w.node item)
   id_on_top work rest item node i k e is =
       let same : item ≡ node = itself item node is.0 in
       (same, rw same (left.implemented.ids_match node i (subst (λ (x : T). w.is_node (w.node x) ≡ true) same (is_node_on_top w rest item k e)) is.1))
 
-  -- visited nodes on top of it may be taken off
+  -- visited nodes on top of it may be popped
   without_passed : (passed rest work : List T) → IsWalking w starts (contains eq s.visited) work given → work ≡ rest ++ passed
       → ((x : T) → Contains passed x → WasVisited finds ids eq node_of s.id_fn s.visited x) → IsWalking w starts (contains eq s.visited) rest given
   without_passed [] rest work k e each = subst (λ (l : List T). IsWalking w starts (contains eq s.visited) l given) (e ∙ append-nil rest) k
@@ -53,7 +53,7 @@ module _ {T E ID F P N U S : Type 0} (finds : Shared P (T × Unit {0}) (Result T
   left_after : (rest : List T) → Passes finds ids eq node_of s.id_fn s.visited s.work.items rest → IsWalking w starts (contains eq s.visited) rest given
   left_after rest k = without_passed k.passed rest s.work.items left.walking k.above k.visited_before
 
-  -- a node that is entered is given next
+  -- a node that is entered is emitted next
   pub node_given : (node : T) (t : DepthFirst T ID F N) → t.id_fn ≡ s.id_fn
       → Enters finds ids eq node_of s.id_fn s.visited lists becomes steps s.work.items s.neighbors_fn node t.work.items t.visited t.neighbors_fn
       → IsLeftOf ids lists w eq becomes steps starts (given ++ node ∷ []) t
@@ -68,7 +68,7 @@ module _ {T E ID F P N U S : Type 0} (finds : Shared P (T × Unit {0}) (Result T
             did.waits (ap (λ x. given ++ x ∷ []) (sym known.0)) did.updates.0;
       }
 
-  -- where visited nodes alone wait, the walk is whole
+  -- if only visited nodes are pending, the search is complete
   pub all_given : Passes finds ids eq node_of s.id_fn s.visited s.work.items [] → IsPreorder w.graph starts (map w.node given)
   all_given k = walked w (left_after [] k) refl
 
@@ -79,7 +79,7 @@ module _ {T E ID F P N U S : Type 0} (finds : Shared P (Result T E × Unit {0}) 
     (becomes : U → S → Type 0) (steps : S → Option (Result T E) → S → Type 0) (s : DepthFirstOk T ID E F N) where
   module _ (id_fn : F) (neighbors_fn : N) (starts given : List (Result T E))
       (left : IsLeftOfItems ids lists eq becomes steps id_fn neighbors_fn starts given s) where
-    -- each answer is that of a node that was given
+    -- each list is that of an emitted node
     was_given : (x : Answer T E) → Contains left.answers x → Contains given (Ok x.node)
     was_given x h =
         let nodes : List T = map (λ (a : Answer T E). a.node) left.answers in
@@ -88,19 +88,19 @@ module _ {T E ID F P N U S : Type 0} (finds : Shared P (Result T E × Unit {0}) 
 
     module _ (g : Numbered T ID) (implemented : ImplementsItems g eq ids lists (DrainsTo becomes steps) id_fn neighbors_fn)
         (start_nodes : AreNodes g (sound_items (map (item_of g.node) starts))) where
-      -- what waits of the walk, where this is the list of the items that wait
+      -- the pending items of the search
       abbrev Waits : List (Result T E) → Type 0
       Waits work = IsWalkingAnswers g (contains eq s.visited) left.answers starts work given
 
-      -- what waits on top is what it is found to be
+      -- the top of the stack is the item that was popped
       top_is : (rest : List (Result T E)) (item found : Result T E) → Waits (rest ++ item ∷ []) → FnReturns finds node_of (item, tt) found → Waits (rest ++ found ∷ [])
       top_is rest item found k is = subst Waits (ap (λ y. rest ++ y ∷ []) (itself item found is)) k
 
-      -- the id of a node on top of what waits
+      -- the id of the node on top of the stack
       item_id_on_top : (rest : List (Result T E)) (node : T) (i : ID) → Waits (rest ++ Ok node ∷ []) → ReturnsId ids s.id_fn node i → g.id i ≡ g.node node
       item_id_on_top rest node i k is = implemented.complete.ids_match node i (on_top_is_node g rest node k refl) (subst (λ (f : F). ReturnsId ids f node i) left.same_ids is)
 
-      -- visited nodes on top of it may be taken off
+      -- visited nodes on top of it may be popped
       items_without_passed : (passed rest work : List (Result T E)) → Waits work → work ≡ rest ++ passed
           → ((x : Result T E) → Contains passed x → WasVisited finds ids eq node_of s.id_fn s.visited x) → Waits rest
       items_without_passed [] rest work k e each = subst Waits (e ∙ append-nil rest) k
@@ -113,7 +113,7 @@ module _ {T E ID F P N U S : Type 0} (finds : Shared P (Result T E × Unit {0}) 
       items_left_after : (rest : List (Result T E)) → Passes finds ids eq node_of s.id_fn s.visited s.work.items rest → Waits rest
       items_left_after rest k = items_without_passed k.passed rest s.work.items (left.walks g implemented start_nodes) k.above k.visited_before
 
-      -- the nodes that were answered for a node are nodes
+      -- the neighbors returned for a node are nodes
       answered_nodes : (node : T) (answer : U) (below : List (Result T E)) → MayReturn lists neighbors_fn node answer → DrainsTo becomes steps answer below → g.is_node (g.node node) ≡ true
           → AreNodes g (sound_items (map (item_of g.node) below))
       answered_nodes node answer below may listed here a h =
@@ -122,7 +122,7 @@ module _ {T E ID F P N U S : Type 0} (finds : Shared P (Result T E × Unit {0}) 
           let back = numbered_back g.node below a (Contains-from_sound (map (item_of g.node) below) a h) in
           subst (λ (n : ℕ). g.is_node n ≡ true) back.2 (implemented.complete.closed (g.node node) here (g.node back.0) (says below back.0 here listed back.1))
 
-    -- a node that is entered is given next
+    -- a node that is entered is emitted next
     item_given : (node : T) (t : DepthFirstOk T ID E F N) → t.id_fn ≡ s.id_fn
         → Enters finds ids eq node_of s.id_fn s.visited lists becomes steps s.work.items s.neighbors_fn node t.work.items t.visited t.neighbors_fn
         → IsLeftOfItems ids lists eq becomes steps id_fn neighbors_fn starts (given ++ Ok node ∷ []) t
@@ -143,7 +143,7 @@ module _ {T E ID F P N U S : Type 0} (finds : Shared P (Result T E × Unit {0}) 
               before refl (item_id_on_top g implemented start_nodes did.rest node did.id before did.is_node.1) (sym did.fresh) did.updates.0);
         }
 
-    -- a failed item is given in its place
+    -- a failed item is emitted in order
     failed_given : (error : E) (t : DepthFirstOk T ID E F N) → t.id_fn ≡ s.id_fn → t.visited ≡ s.visited → t.neighbors_fn ≡ s.neighbors_fn
         → Fails finds ids eq node_of s.id_fn s.visited s.work.items error t.work.items
         → IsLeftOfItems ids lists eq becomes steps id_fn neighbors_fn starts (given ++ Err error ∷ []) t
@@ -157,7 +157,7 @@ module _ {T E ID F P N U S : Type 0} (finds : Shared P (Result T E × Unit {0}) 
           subst (λ v. IsWalkingAnswers g (contains eq v) left.answers starts t.work.items (given ++ Err error ∷ [])) (sym same_visited) (answers_failed g t.work.items error before refl);
     }
 
-    -- where visited nodes alone wait, the walk is whole
+    -- if only visited nodes are pending, the search is complete
     all_items_given : Passes finds ids eq node_of s.id_fn s.visited s.work.items [] → IsRun eq ids lists (DrainsTo becomes steps) id_fn neighbors_fn starts given
     all_items_given k = record {
       answers = left.answers;
@@ -169,7 +169,7 @@ module _ {T E ID F P N U S : Type 0} (finds : Shared P (Result T E × Unit {0}) 
           (whole.has_answers, walked_items g (answers_graph g.node left.answers) (whole.walking _ whole.has_answers) refl);
     }
 
-  -- one call of `next`, which answers what the step took
+  -- one call of `next`, which returns the item of the step
   pub step_of_items : (t : DepthFirstOk T ID E F N) (can : S → Type 0) (count : S → Count) (r : Option (Result T (WalkError E))) → t.id_fn ≡ s.id_fn → CanWalkItems ids lists becomes can count t
       → (s.work.items ≡ [] → IsNone r)
       → IfNone r (Passes finds ids eq node_of s.id_fn s.visited s.work.items [] × (t.work.items ≡ []) × (t.visited ≡ s.visited) × (t.neighbors_fn ≡ s.neighbors_fn))

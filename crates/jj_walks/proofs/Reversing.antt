@@ -1,4 +1,4 @@
--- The lists of edges by id, while a shown graph is turned round.
+-- The lists of incoming edges by id, while a graph is reversed.
 use Rattle.std.proofs.Common.{◌≡◌, Bool, true, false, cond, ◌||◌, List, [], ◌∷◌, ◌++◌, map, reverse, refl, sym, ◌∙◌, ap, subst, append-nil, append_assoc}
 use Rattle.std.proofs.lemmas.List.{map-append, reverse-append}
 use Rattle.std.proofs.lemmas.List.Elements.{filter-append}
@@ -35,7 +35,7 @@ module _ {N ID : Type 0} (eq : ID → ID → Bool) where
     abbrev Leads : List (GraphEdge N) → List (GraphEdge ID) → Type 0
     Leads edges given = AllZip (LeadsToId clone id) edges given
 
-    -- one more edge of a node is turned
+    -- one more edge of a node is reversed
     pub leads_turned : (before : List (GraphEdge N)) (edges : List (GraphEdge ID)) (edge : GraphEdge ID) (node : N) (source q : ID) (old new : List (GraphEdge ID)) → clone (id node) source
         → new ≡ cond (eq edge.target q) (old ++ record { target = source; edge_type = edge.edge_type } ∷ []) old
         → Leads (before ++ turned_edges eq q node edges) old → Leads (before ++ turned_edges eq q node (edges ++ edge ∷ [])) new
@@ -51,7 +51,7 @@ module _ {N ID : Type 0} (eq : ID → ID → Bool) where
     pub leads_nothing : (before : List (GraphEdge N)) (given : List (GraphEdge ID)) → Leads before given → Leads (before ++ []) given
     leads_nothing before given k = subst (λ (l : List (GraphEdge N)). Leads l given) (sym (append-nil before)) k
 
-    -- all edges of a node were turned
+    -- all edges of a node are reversed
     pub leads_entered : (nodes : List (N × Vec (GraphEdge ID) Global)) (entry : N × Vec (GraphEdge ID) Global) (edges given : List (GraphEdge ID)) (q : ID) → edges ≡ entry.1.items
         → Leads (incoming_edges eq q (shown_graph nodes) ++ turned_edges eq q entry.0 edges) given → Leads (incoming_edges eq q (shown_graph (nodes ++ entry ∷ []))) given
     leads_entered nodes entry edges given q same k =
@@ -60,7 +60,7 @@ module _ {N ID : Type 0} (eq : ID → ID → Bool) where
         ∙ ap (incoming_edges eq q) (sym (map-append {B = N × List (GraphEdge ID)} (λ e. (e.0, e.1.items)) nodes (entry ∷ [])))
         ) k
 
-    -- the edges of one id more were taken out
+    -- the edges of one more id were removed
     pub leads_left : (node : N) (later : List N) (edges : List (GraphEdge N)) (i q : ID) (old new : List (GraphEdge ID)) → i ≡ id node → new ≡ cond (eq i q) [] old
         → Leads (cond (list_any (λ other. eq (id other) q) later) [] edges) old → Leads (cond (list_any (λ other. eq (id other) q) (node ∷ later)) [] edges) new
     leads_left node later edges i q old new same takes k =
@@ -71,7 +71,7 @@ module _ {N ID : Type 0} (eq : ID → ID → Bool) where
         step true c h = tt
         step false c h = h
 
-    -- one node more was given
+    -- one more node was emitted
     pub shows_more : (graph : ShownGraph N ID) (later : List N) (node : N) (edges : Vec (GraphEdge ID) Global) (done more : List (N × Vec (GraphEdge ID) Global)) → more ≡ done ++ (node, edges) ∷ []
         → Leads (cond (list_any (λ other. eq (id other) (id node)) later) [] (incoming_edges eq (id node) graph)) edges.items
         → ShowsById clone id (reverse (with_incoming eq id graph later)) (shown_graph done) → ShowsById clone id (reverse (with_incoming eq id graph (node ∷ later))) (shown_graph more)
@@ -82,7 +82,7 @@ module _ {N ID : Type 0} (eq : ID → ID → Bool) where
         (sym (ap shown_graph pushed ∙ map-append {B = N × List (GraphEdge ID)} (λ e. (e.0, e.1.items)) done ((node, edges) ∷ [])))
         (AllZip-append (λ want got. (got.0 ≡ want.0) × AllZip (LeadsToId clone id) want.1 got.1) (reverse (with_incoming eq id graph later)) _ (shown_graph done) _ k ((refl, leads), tt)))
 
-    -- all nodes were given
+    -- all nodes were emitted
     pub shows_all : (nodes : List (N × Vec (GraphEdge ID) Global)) (rest later : List N) (given : ShownGraph N ID) → map (λ x. x.0) nodes ≡ rest ++ later → rest ≡ []
         → ShowsById clone id (reverse (with_incoming eq id (shown_graph nodes) later)) given → ShowsById clone id (reversed_graph eq id (shown_graph nodes)) given
     shows_all nodes rest later given all none k =

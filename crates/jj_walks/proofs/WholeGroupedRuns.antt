@@ -137,7 +137,7 @@ module _ {N ID S E F : Type 0} (ids : Shared F (Bor N × Unit {0}) (Bor ID)) (eq
     ids_are : prioritized_ids h ≡ reverse prioritized
     before : PrioritizesFirst h
 
-  -- what was read, with the nodes that one call reads
+  -- the nodes read so far and those that one call reads
   module _ (s : GroupedNodes N ID S F) (yielded : List (Item N ID)) (k : IsReading s yielded) (items : List (Item N ID)) (more_entries : List (Entry N ID)) (u : S)
       (more : ReadsTo ids eq steps s.graph.as_id s.graph.input items more_entries u) where
     read-all : Yields steps input (map ok (k.nodes ++ items)) u
@@ -196,7 +196,7 @@ module _ {N ID S E F : Type 0} (ids : Shared F (Bor N × Unit {0}) (Bor ID)) (eq
   runs (x ∷ xs) yielded s k (u, (t, (j, step, rest), last)) =
       subst (λ l. IsGroupedRun ids eq steps as_id input prioritized l) (append_assoc yielded (x ∷ []) xs) (runs xs (yielded ++ x ∷ []) j (goes-on s j x yielded k step) (u, (t, rest, last)))
 
-  -- the cause of an error, in the words of the input
+  -- the cause of an error in the input
   explains : (h : History N ID) (entries : List (Entry N ID)) (u t : S) (error : GroupedGraphError E) → IsHistory eq h → read_nodes h ≡ reverse entries → prioritized_ids h ≡ reverse prioritized → PrioritizesFirst h
       → IsCause ids eq steps as_id h u error t → Explains ids eq steps as_id prioritized entries u error
   explains h entries u t (Input e) told reads ids_of before step = (t, step)

@@ -1,4 +1,4 @@
--- What the candidates of a grouped graph keep of the branch that leads to an id.
+-- Invariant of the candidates of a grouped graph: the branch that leads to a required id.
 -- Cited by contracts of public items through HeldNodes.
 use Rattle.std.specs.Prelude.{◌≡◌, ◌⊎◌, Bool, true, false, not, ◌&&◌, ◌||◌, is_some, List, [], ◌∷◌, ◌++◌, Option, Some, ℕ}
 use Rattle.std.specs.HashMap.{HashMap}
@@ -41,7 +41,7 @@ module _ {ID : Type 0} where
         pub heads : deque_items s.heads ≡ listed
         pub children : (j i : ID) → has_child s.children j i ≡ edge i j
 
-      -- The candidates, free and blocked, reach the wanted id. Some were replaced by their
+      -- The candidates, free and blocked, reach the required id. Some were replaced by their
       -- children: each child is listed, a candidate or replaced too, and a replaced id has one
       -- that is a candidate or replaced.
       pub record Climbs (wanted : ID) (free blocked : List ID) (lists : ID → ID → Bool) : Type 0
@@ -57,13 +57,13 @@ module _ {ID : Type 0} where
           pub next : (j : ID) → replaced j ≡ true
               → (i : ID) × (edge i j ≡ true) × ((is_listed eq free blocked i || replaced i) ≡ true)
 
-      -- the branch that is given first leads to the wanted id
+      -- the branch that is yielded first leads to the required id
       abbrev pub IsFirstBranch : ID → Candidates ID → Type 0
       IsFirstBranch wanted s = ((head : ID) × (rest : List ID) × (eq head wanted ≡ true)
           × IsUntaken (head ∷ rest) s)
           ⊎ Climbs wanted s.ids.items s.blocked.items (has_child s.children)
 
-      -- the counts are of these edges, which run in no circle
+      -- the counts are of these edges, which have no cycle
       pub record AreCounts (count : ID → Option ℕ) (wanted : ID) : Type 0 where
         pub known : (i : ID) → Reaches eq edge i wanted → is_some (count i) ≡ true
         pub child : (j : ID) → is_positive (count j) ≡ true → (i : ID) × (edge i j ≡ true)
@@ -72,7 +72,7 @@ module _ {ID : Type 0} where
             → (j : ID) → is_in j ≡ true → ⊥
 
 module _ {N ID : Type 0} (eq : ID → ID → Bool) where
-  -- what is kept of the branch that is given first, while no node was given
+  -- the invariant of the branch that is yielded first, until a node is yielded
   pub record KeepsBranch (h : History N ID) (s : Candidates ID) : Type 0 where
     pub begun : h ≡ [] → IsUntaken eq (λ _ _. false) [] s
     pub first : given_nodes h ≡ [] → AreReadChildFirst eq (read_nodes h) → (wanted : ID)

@@ -1,4 +1,4 @@
--- What may be given next: ids with counts, and lists of ids.
+-- Candidates for the next node: in-degrees by id, and lists of ids.
 -- Cited by contracts of public items through Branches, HeldNodes.
 use Rattle.std.specs.Prelude.{◌≡◌, ℕ, ◌+◌, ◌*◌, ◌^◌, ◌==◌, Bool, true, false, ◌||◌, not, is_some, List, ◌++◌, length, Option, None, Some}
 use Rattle.std.specs.List.{list_any, list_all, AllZip}
@@ -36,8 +36,8 @@ module _ {ID : Type 0} (eq : ID → ID → Bool) where
   abbrev pub AreSameIds : List ID → List ID → Type 0
   AreSameIds is js = AllZip (λ i j. eq i j ≡ true) is js
 
-  -- The last candidates are these targets, but for some at the end that all have a held child.
-  -- `counts` says of the known ids how many edges of held nodes lead to each.
+  -- The last candidates are these targets, except for some at the end with a pending child each.
+  -- `counts` has the in-degree of each known id, over the edges of pending nodes.
   pub record AreToFollow (counts : ID → Option ℕ) (wanted found : List ID) : Type 0 where
     pub older : List ID
     pub pending : List ID

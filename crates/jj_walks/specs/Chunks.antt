@@ -1,13 +1,12 @@
--- Chunks of a child-first order: some of the nodes that the starts reach, and the starts of a walk
--- over the others.
+-- Chunks of a topological order: some of the reachable nodes, and the starts of the remaining ones.
 -- Cited by contracts of public items through LazySteps, NextChunk.
 use Rattle.std.specs.Prelude.{◌≡◌, ◌↔◌, ◌⊎◌, ℕ, ◌≤◌, List, [], ◌∷◌, ◌++◌, length, eqb}
 use Rattle.std.specs.List.{Contains, IsDistinct}
 use Rattle.jj_dag.specs.Graph.{Graph, HasEdge, ReachedFrom, IsAcyclicFrom, StrictlyReaches, Precedes}
 
--- The chunk has no node twice, and what the starts reach is the chunk and what is reached from what
--- is left. Where the starts reach no cycle, the chunk is child-first, and nothing of it is reached
--- from what is left.
+-- The chunk has no node twice, and the nodes reachable from the starts are those of the chunk and
+-- those reachable from the starts left. If the starts reach no cycle, the chunk is in topological
+-- order, and no node of it is reachable from the starts left.
 pub record IsChunk (g : Graph) (starts chunk left : List ℕ) : Type 0 where
   pub once : IsDistinct eqb chunk
   pub reached : (a : ℕ) → ReachedFrom g starts a ↔ (Contains chunk a ⊎ ReachedFrom g left a)
@@ -30,7 +29,7 @@ pub record IsNextChunk (g : Graph) (starts chunk left : List ℕ) : Type 0 where
   pub of_many : 2 ≤ length starts → ((a : ℕ) → Contains starts a → Contains chunk a)
       × (length left ≤ 1)
 
--- each edge of a node of the list leads to one that stands behind the node, or to one that is left
+-- each edge of a node of the list leads to a later node of it, or to one that is left
 abbrev pub LeadsForward : Graph → List ℕ → List ℕ → Type 0
 LeadsForward g order left = (front back : List ℕ) (a b : ℕ) → order ≡ front ++ a ∷ back
     → HasEdge g a b → Contains back b ⊎ Contains left b
@@ -39,8 +38,8 @@ LeadsForward g order left = (front back : List ℕ) (a b : ℕ) → order ≡ fr
 abbrev pub AreAbove : Graph → List ℕ → List ℕ → Type 0
 AreAbove g order left = (a b : ℕ) → Contains order a → Contains left b → StrictlyReaches g a b
 
--- what is true of a chunk on any graph, also where the starts reach a cycle: it has the starts, no
--- node twice, and what the starts reach alone; its edges lead forward, and it is above what is left
+-- the properties of a chunk on any graph, with or without a cycle: it has the starts, no node
+-- twice, and only reachable nodes; its edges lead forward, and it is above the nodes left
 pub record IsStretch (g : Graph) (starts chunk left : List ℕ) : Type 0 where
   pub once : IsDistinct eqb chunk
   pub has_starts : (a : ℕ) → Contains starts a → Contains chunk a
@@ -48,14 +47,13 @@ pub record IsStretch (g : Graph) (starts chunk left : List ℕ) : Type 0 where
   pub forward : LeadsForward g chunk left
   pub above : AreAbove g chunk left
 
--- the nodes that were ordered so far are reached from the starts, and one that stands there twice
--- strictly reaches itself
+-- the nodes ordered so far are reachable from the starts, and a repeated one is on a cycle
 pub record IsBegun (g : Graph) (starts order : List ℕ) : Type 0 where
   pub reached : (a : ℕ) → Contains order a → ReachedFrom g starts a
   pub repeated : (front back : List ℕ) (a : ℕ) → order ≡ front ++ a ∷ back → Contains front a
       → StrictlyReaches g a a
 
--- the order goes on from what is left
+-- the order continues from the nodes left
 pub record LeadsOn (g : Graph) (starts order left : List ℕ) : Type 0 where
   pub starts_met : (a : ℕ) → Contains starts a → Contains order a ⊎ Contains left a
   pub left_reached : (a : ℕ) → Contains left a → ReachedFrom g starts a

@@ -45,7 +45,7 @@ module _ {T ID E F N U J : Type 0} (eq : ID → ID → Bool)
     pub explored : IfOk r (HasExplored s starts)
     pub failed : IfFails r (FailsBelow s starts)
 
-  -- a chunk of what these reach; or a node that they reach, and they reach a cycle
+  -- a chunk of the reachable nodes; or a reachable node, and a cycle is reachable
   abbrev pub HasChunk : Shown F N → List T → Chunk T → Type 0
   HasChunk s starts chunk = InModels eq ids lists value items s starts
       (λ walk nodes. MatchOption chunk.stuck

@@ -22,7 +22,7 @@ abbrev pub read_on : {N ID : Type 0} → List (Entry N ID) → History N ID → 
 read_on [] h = h
 read_on (e ∷ es) h = read_on es (Read e ∷ h)
 
--- the item for what a step returned
+-- the item for the result of a step
 abbrev pub answer_of : {A E : Type 0} → Result (Option A) E → Option (Result A E)
 answer_of (Ok None) = None
 answer_of (Ok (Some x)) = Some (Ok x)

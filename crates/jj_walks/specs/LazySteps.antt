@@ -42,8 +42,8 @@ abbrev pub yielded_or_ready : {T ID E F N C : Type 0} → (T → ℕ) → List T
     → List ℕ
 yielded_or_ready node yielded s = map node (yielded ++ reverse s.ready.items)
 
--- In a model: each node was yielded once, these and the ready ones begin an order of what the
--- starts reach, and unless a list failed, it goes on from the nodes that are left.
+-- In a model: each node was yielded once, these and the ready ones begin an order of the reachable
+-- nodes, and unless a list failed, it continues from the nodes that are left.
 pub record IsLeftIn {T ID E F N C : Type 0} (w : Numbered T ID) (eq : ID → ID → Bool)
     (starts : List ℕ) (yielded : List T) (s : LazyOrder T ID E F N C) : Type 0 where
   pub knows : (i : ID) → w.is_node (w.id i) ≡ true

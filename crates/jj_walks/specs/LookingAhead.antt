@@ -1,4 +1,4 @@
--- What is known of nodes that were explored from several starts, while others wait.
+-- Invariant of exploring from several starts: explored and pending nodes.
 -- Machinery of private functions and fields.
 use Rattle.std.specs.Prelude.{◌≡◌, ℕ, ◌==◌, ◌≤◌, Bool, false, cond, Option, List, [], map}
 use Rattle.std.specs.List.{Contains, sum_by}
@@ -12,8 +12,8 @@ abbrev pub copies : {T : Type 0} → (T → ℕ) → List T → ℕ → ℕ
 copies node xs a = sum_by (λ x. cond (node x == a) 1 0) xs
 
 module _ {T ID K : Type 0} (w : Numbered T ID) (items : FailingGraph K) where
-  -- `work` waits and `given` was explored; a start that is a neighbour of an explored node, and was
-  -- not explored, waits twice
+  -- `work` is pending and `given` explored; a start that is a neighbor of an explored node, and is
+  -- not explored, is pending twice
   pub record IsLooking (starts : List ℕ) (find : ID → Option ℕ) (root_met : Bool)
       (work given : List T) (ids : List (List ID)) : Type 0 where
     pub collecting : IsCollecting w items starts find work given ids
@@ -22,7 +22,7 @@ module _ {T ID K : Type 0} (w : Numbered T ID) (items : FailingGraph K) where
     pub rootless : root_met ≡ false → (b : ℕ) → Contains (map w.node given) b → (c : ℕ)
         × HasEdge w.graph b c
 
-  -- the same where no more is explored: where nodes wait, each explored node has a neighbour
+  -- at the end of the exploration: if nodes are pending, each explored node has a neighbor
   pub record HasLooked (starts : List ℕ) (find : ID → Option ℕ) (work given : List T)
       (ids : List (List ID)) : Type 0 where
     pub collecting : IsCollecting w items starts find work given ids

@@ -49,7 +49,7 @@ module _ {N ID : Type 0} (clone : ID → ID → Type 0) (id : N → ID) where
   abbrev pub LeadsToId : GraphEdge N → GraphEdge ID → Type 0
   LeadsToId edge given = clone (id edge.target) given.target × (given.edge_type ≡ edge.edge_type)
 
-  -- each node with such edges in place of those to nodes
+  -- each node with such edges instead of those to nodes
   abbrev pub ShowsById : ShownGraph N N → ShownGraph N ID → Type 0
   ShowsById graph given = AllZip (λ want got. (got.0 ≡ want.0)
       × AllZip LeadsToId want.1 got.1) graph given

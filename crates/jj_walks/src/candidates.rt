@@ -1,4 +1,4 @@
-//! The ids of a grouped graph that may be given next.
+//! Candidates for the next node of a grouped graph: a stack of ids with in-degrees.
 ghost use Rattle.std.specs.Prelude.{◌≡◌, ◌⊎◌, ◌<◌, ◌++◌, ◌∷◌, ◌&&◌, ◌||◌, Bool, [], List, Option, None, IfOk, IsSome, OnOk, OnErr, MatchOption, IsTrue, true, false, option_to_list};
 ghost use Rattle.std.specs.List.{list_any};
 ghost use Rattle.std.specs.HashMap.{get};
@@ -13,21 +13,21 @@ use std::alloc::{AllocError, Global};
 use std::collections::{HashMap, VecDeque};
 use std::hash::Hash;
 
-/// Ids to be given, and the children that are to be given before them.
+/// Ids to be yielded, and the children that must be yielded before them.
 #[derive(Debug, Clone, Drop)]
 pub struct Candidates<ID: Hash + Eq> {
-    /// The last of them is the first to be given, if it has no held child.
+    /// The last one is yielded first, unless it has a pending child.
     ids: Vec<ID>,
-    /// Candidates that had a held child.
+    /// Candidates with a pending child.
     blocked: Vec<ID>,
     /// The children of each id, in the order of the input, until they were made candidates.
     children: HashMap<ID, Vec<ID>>,
-    /// The prioritised ids, and those of nodes that no node had an edge to when they were read.
+    /// The prioritized ids, and those of nodes that no node had an edge to when they were read.
     heads: VecDeque<ID>,
 }
 
 impl<ID: Hash + Eq + Clone + Drop> Candidates<ID> {
-    /// No candidates.
+    /// Creates an empty set of candidates.
     pub fn new(alloc: Global) -> Self
         ensures ids { result.ids.items ≡ [] }
         ensures heads { deque_items result.heads ≡ [] }
@@ -76,7 +76,7 @@ impl<ID: Hash + Eq + Clone + Drop> Candidates<ID> {
         self.heads.pop_back();
     }
 
-    /// Makes the targets of a node that is given candidates.
+    /// Makes the targets of a yielded node candidates.
     pub fn push_targets(&mut self, edges: &[GraphEdge<ID>]) -> Result<(), AllocError>
         requires clones { (i j : ID) → ID.is_clone i j → IsTrue (ID.eq i j) }
         ensures ids { OnOk result ((more : List ID)
@@ -92,7 +92,7 @@ impl<ID: Hash + Eq + Clone + Drop> Candidates<ID> {
         Ok(())
     }
 
-    /// Remembers the node as a child of the targets of its edges.
+    /// Records the node as a child of the targets of its edges.
     pub fn remember(&mut self, id: &ID, edges: &[GraphEdge<ID>]) -> Result<(), AllocError>
         requires clones { (i j : ID) → ID.is_clone i j → IsTrue (ID.eq i j) }
         ensures ids { self.new.ids ≡ self.old.ids }
@@ -110,8 +110,7 @@ impl<ID: Hash + Eq + Clone + Drop> Candidates<ID> {
         Ok(())
     }
 
-    /// Takes out the last candidate that is counted as one without a held child. Ids that are not
-    /// counted are dropped.
+    /// Removes the last candidate whose in-degree is 0. Ids without an in-degree are dropped.
     pub fn take(&mut self, counts: &HashMap<ID, usize>) -> Result<Option<ID>, AllocError>
         ensures taken { IfOk result (λ o. MatchOption o
             ((self.new.ids.items ≡ []) × (deque_items self.new.heads ≡ []))
@@ -147,8 +146,8 @@ impl<ID: Hash + Eq + Clone + Drop> Candidates<ID> {
         }
     }
 
-    // Makes the children of the blocked id that came last candidates, or else the first head.
-    // Answers `false` where there is neither.
+    // Makes the children of the last blocked id candidates, or else the first head. Returns `false`
+    // if there is neither.
     fn refill(&mut self) -> Result<bool, AllocError>
         requires { self.old.ids.items ≡ [] }
         ensures listed { IfOk result (λ _. (i : ID)

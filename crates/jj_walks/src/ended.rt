@@ -2,7 +2,7 @@
 ghost use Rattle.std.specs.Prelude.{◌≡◌, false};
 ghost use Rattle.jj_walks.specs.GroupedSteps.{answer_of, is_last};
 
-/// Returns the item for what a step returned, and sets the flag if the iterator ends with it.
+/// Returns the item for the result of a step, and sets the flag if the iterator ends with it.
 pub fn item_or_end<T, E>(answer: Result<Option<T>, E>, has_ended: &mut bool) -> Option<Result<T, E>>
     requires { has_ended.old ≡ false }
     ensures item { result ≡ answer_of answer }

@@ -1,5 +1,5 @@
-//! Exploring nodes by the closures that show a graph, as far as one node that all explored nodes
-//! reach.
+//! Look-ahead of the chunked order: best-first exploration until one pending node is left that all
+//! explored nodes reach.
 ghost use Rattle.std.specs.Prelude.{◌≡◌, ◌≤◌, ◌∷◌, [], length, true, IfSome, IfNone};
 ghost use Rattle.std.specs.List.Sorted.{IsPermutation};
 ghost use Rattle.std.specs.BinaryHeap.{heap_items};
@@ -13,8 +13,8 @@ use std::alloc::{AllocError, Global};
 use std::collections::BinaryHeap;
 use std::hash::Hash;
 
-// The next node to explore: there is none where no node waits, or where one waits after some were
-// explored and no root, a node without neighbours, was met.
+// Pops the greatest pending node. Returns `None` if none is pending, or if only one is after some
+// were explored and no root (a node without neighbors) was found.
 fn next_to_explore<T: Ord>(
     waiting: &mut BinaryHeap<T>,
     explored: usize,
@@ -33,8 +33,8 @@ fn next_to_explore<T: Ord>(
     None
 }
 
-/// Some of the nodes that the starts of a chunk reach, the nodes from which the walk goes on, and a
-/// node that is below a cycle, or on it, if there is one.
+/// A chunk: some of the reachable nodes, the starts of the next chunk, and a node on or below a
+/// cycle if there is one.
 #[derive(Drop)]
 pub struct Chunk<T> {
     pub nodes: Vec<T>,
@@ -42,7 +42,7 @@ pub struct Chunk<T> {
     pub stuck: Option<T>,
 }
 
-// Explores the greatest waiting node, again and again.
+// Expands the greatest pending node until at most one remains and no root was found.
 fn explore<F, N, T: Ord + Drop, ID: Hash + Eq + Drop, E: Drop, NI>(
     shown: &mut Shown<F, N>,
     alloc: Global,
@@ -77,8 +77,8 @@ where
     Ok((found, waiting.into_vec()))
 }
 
-/// Some of what several starts reach: all starts, and every node that is explored before one
-/// node waits that they all reach.
+/// Takes a chunk from several starts: all starts, and every node explored before one pending node
+/// is left that they all reach.
 pub fn take_chunk<F, N, T: Ord + Drop, ID: Hash + Eq + Drop, E: Drop, NI>(
     shown: &mut Shown<F, N>,
     alloc: Global,

@@ -1,4 +1,4 @@
-//! A child-first order, a chunk at a time.
+//! A topological order, one chunk at a time.
 ghost use Rattle.std.specs.Prelude.{◌≡◌, ◌⊎◌, [], map, IfOk, OnErr};
 ghost use Rattle.jj_dag.specs.ClosureGraph.{InEachModel, IsMadeFrom, IsNeighborsError, graph_of_items};
 ghost use Rattle.jj_dag.specs.Outcomes.{IfFails, IsReachedBesideCycle};
@@ -14,12 +14,14 @@ use std::default::MadeWith;
 use std::hash::Hash;
 use std::mem;
 
-/// The next chunk of a child-first order of what the starts reach. It leaves in `start` the starts
-/// of what is left: none where all was given, at most one after a chunk of several starts, and the
-/// neighbours of the node after a chunk of one. Several starts are explored from the greatest node
-/// on, until one node waits that all explored nodes reach. A failed item that is met is `Node` of
-/// its error; where a cycle is met, `cycle_fn` makes the error of a node that the starts reach.
-/// After an error `start` is empty.
+/// Returns the next chunk of a topological order of the nodes reachable from `start`, and replaces
+/// `start` by the starts of the next chunk.
+///
+/// `start` is empty at the end; it has at most one node after a chunk of several starts, and the
+/// neighbors of the node after a chunk of one. From several starts the greatest pending node is
+/// expanded until one pending node is left that all expanded ones reach. Fails with `Node` of the
+/// first failed item, or of `cycle_fn` of some reachable node if a cycle is found. After an error
+/// `start` is empty.
 pub fn topo_order_reverse_chunked<T, ID: Hash + Eq + Drop, E: Drop, NI, F, N, C>(
     alloc: Global,
     start: &mut Vec<T>,

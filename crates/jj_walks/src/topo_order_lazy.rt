@@ -52,8 +52,8 @@ where
 
 /// Iterates over the nodes that the starts reach, each before its neighbours. While several nodes
 /// are left, the greatest is expanded, until only one is left, which all expanded nodes reach.
-/// Fails with `Node` of the error of a start or a neighbour, or of what `cycle_fn` makes of a node
-/// that the starts reach if they reach a cycle.
+/// Fails with `Node` of the error of a start or a neighbor, or of `cycle_fn` of some reachable node
+/// if a cycle is reachable.
 pub fn topo_order_reverse_lazy<T: Ord + Drop, ID: Hash + Eq + Drop, E: Drop, II, NI, F, N, C>(
     alloc: Global,
     start: II,
