@@ -48,7 +48,7 @@ module _ (commits : List Commit) where
       let one : Decides (string_eq text c.text) (string_bytes text ≡ string_bytes c.text) = slice_eq-Decides Decides-eqb (string_bytes text) (string_bytes c.text) _ refl in
       one.0 h
 
-  -- of a commit whose parents the list has all, the parents are the neighbours
+  -- if the list has all parents of a commit, they are its neighbors
   whole_list : (n : ℕ) (d : Commit) → commit_with commits n ≡ Some d → has_ids commits d.parents.items ≡ true → parent_graph commits n ≡ whole_graph commits n
   whole_list n d e has =
       ap (λ (o : Option Commit). elim o [ None ↦ [] | Some c ↦ ids_of (parents_in commits c) ]) e ∙ ap (λ b. cond b (ids_of (parents_in commits d)) []) (sym has)
@@ -66,7 +66,7 @@ module _ (commits : List Commit) where
       walk_neighbors commits x xs here given ∙ whole_list (node commits x) f.0 found (ap (has_ids commits) f.2.2 ∙ has)
   whole_listed x (Err gap) xs here has parents d = absurd d
 
-  -- Closures that return a commit's id and list its parents, or its text if one is missing.
+  -- Closures that return a commit's id and list its parents, or its description if one is missing.
   module _ {F N : Type 0} (ids : Shared F (Bor (Bor Commit) × Unit {0}) (Result ℕ AllocError)) (lists : Mut N (Bor (Bor Commit) × Unit {0}) (Result Parents Gap)) (id_fn : F) (neighbors_fn : N)
       (tells : (x : Bor Commit) (i : ℕ) → ReturnsId ids id_fn x i → i ≡ x.now.id)
       (looks : (a : Bor (Bor Commit) × Unit {0}) (r : Result Parents Gap) (after : N) → Called lists neighbors_fn a r after

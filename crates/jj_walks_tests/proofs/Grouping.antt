@@ -25,7 +25,7 @@ use Rattle.jj_walks_tests.specs.Branches.{ShowsCommits, node_of, nodes_of, paren
 abbrev Node : Type 0
 Node = Item (Bor Commit) ℕ
 
--- how far a run has come: which commits were read, and which are left in the input
+-- the state of a run: the commits read, and those left in the input
 pub record IsRun (commits : List Commit) (wanted : ℕ) (h : History (Bor Commit) ℕ) (input : List (Result Node ℕ)) (order : List (Bor Commit)) : Type 0 where
   pub done : List (Bor Commit)
   pub rest : List (Bor Commit)
@@ -117,7 +117,7 @@ module _ (commits : List Commit) (wanted : ℕ) where
       go [] e s = (k.reads, ap (map (λ c. c.now)) (sym (append-nil k.done) ∙ ap (λ l. k.done ++ l) (sym e)) ∙ k.all)
       go (c ∷ more) e s = absurd s
 
-  -- a run that ends has given the commits in a grouped order
+  -- a run that ends has yielded the commits in a grouped order
   pub run-ended : (h : History (Bor Commit) ℕ) (order : List (Bor Commit)) → IsRun commits wanted h [] order → IsHistory eqb h → held eqb h ≡ []
       → (shown : List (Bor Commit)) × (map (λ c. c.now) shown ≡ commits) × (IsWhole eqb (nodes_of commits shown) → IsGroupedOrder eqb (nodes_of commits shown) (Some wanted) (nodes_of commits order))
   run-ended h order k told none =
@@ -183,7 +183,7 @@ module _ (commits : List Commit) (wanted : ℕ) where
     its-id : (item : Node) (e : Entry (Bor Commit) ℕ) → IsEntryOf ids eqb as_id item e → e.id ≡ item.0.now.id
     its-id item e k = sym (eqb-true k.id.0.now e.id k.id.2) ∙ says item.0 k.id.0 k.id.1
 
-    -- some items more were read
+    -- some more items were read
     run-read : (h : History (Bor Commit) ℕ) (s t : S) (items : List Node) (reads : List (Entry (Bor Commit) ℕ)) (order : List (Bor Commit)) → IsGood s → Yields steps s (map Ok items) t
         → AllZip (IsEntryOf ids eqb as_id) items reads → IsRun commits wanted h (left s) order → IsRun commits wanted (read_on reads h) (left t) order × IsGood t
     run-read h s t [] [] order good run entries k = (subst (λ (x : S). IsRun commits wanted h (left x) order) run k, subst IsGood run good)
@@ -194,7 +194,7 @@ module _ (commits : List Commit) (wanted : ℕ) where
         run-read (Read e ∷ h) u t items reads order first.1 run entries
         (read-one h item (left u) order e entry.same (its-id item e entry) (subst (λ (l : List (Result Node ℕ)). IsRun commits wanted h l order) first.0 k))
 
-    -- an error other than want of memory tells that the commits are not as they should be
+    -- an error other than out of memory means that the input is invalid
     run-refused : (h : History (Bor Commit) ℕ) (s t : S) (error : GroupedGraphError ℕ) (order : List (Bor Commit)) → IsGood s → IsHistory eqb h → IsRun commits wanted h (left s) order
         → IsCause ids eqb steps as_id h s error t → (error ≡ Memory) ⊎ Fails
     run-refused h s t (Input e) order good told k step =
@@ -226,7 +226,7 @@ module _ (commits : List Commit) (wanted : ℕ) {S F : Type 0} {ids : Shared F (
   pub run-failed : (u : S) (error : GroupedGraphError ℕ) → IsHistory eqb (read_on reads h) → IsCause ids eqb steps as_id (read_on reads h) t error u → (error ≡ Memory) ⊎ Fails commits wanted
   run-failed u error told cause = run-refused commits wanted ids steps as_id left IsGood some none says (read_on reads h) t u error order after.1 told after.0 cause
 
--- what is left of a list with its length
+-- the remaining list with its length
 pub left-some : {A : Type 0} (a b : ℕ) (xs ys : List A) (x : A) → a ≡ length xs → xs ≡ x ∷ ys → b + 1 ≡ a → b ≡ length ys
 left-some a b xs ys x whole first fewer = let l : length xs ≡ length (x ∷ ys) = ap length first in omega (arith, whole, fewer, l)
 
@@ -234,7 +234,7 @@ pub left-none : {A : Type 0} (a : ℕ) (xs : List A) → a ≡ length xs → a �
 left-none a [] whole none = refl
 left-none a (x ∷ xs) whole none = absurd (omega arith)
 
--- one commit more is shown
+-- one more commit
 pub shown-push : (commits : List Commit) (n : ℕ) (shown : List (Bor Commit)) (items new : List (Result Node ℕ)) (b : Bor Commit) (edges : Vec (GraphEdge ℕ) Global) → new ≡ items ++ Ok (b, edges) ∷ [] → n < length commits
     → b.now ≡ get_or commits n b.now → edges.items ≡ parent_edges commits b.now → map (λ c. c.now) shown ≡ take n commits → ShowsCommits commits shown items
     → (more : List (Bor Commit)) × (map (λ c. c.now) more ≡ take (n + 1) commits) × ShowsCommits commits more new

@@ -104,7 +104,7 @@ module _ (commits : List Commit) where
       let begun = begun_are (λ s t. t ≡ s) (YieldsFirst ids_left) r (items ++ Err e ∷ []) (λ y. y) (map (λ n. Ok n) (parent_graph commits x)) (λ it b. YieldsList-from_first (λ y. y) ids_left _ (ap ids_left b ∙ said)) begins in
       no_id_fails items e begun.0 (parent_graph commits x) (begun.1 ∙ ap (λ l. l ++ begun.0) (map-id (items ++ Err e ∷ [])))
 
-  -- what holds in each model holds of the commits with some ids
+  -- a property of each model is one of the commits with some ids
   pub of_commits : {E : Type 0} {graph : ClosureGraph (Bor Commit) (Bor ℕ) E} {start : Listing (Bor Commit) E} {P : Numbered (Bor Commit) (Bor ℕ) → List ℕ → Type 0} (ids : List ℕ)
       → ((xs : List (Bor Commit)) → start.yields xs → map (node commits) xs ≡ known_ids commits ids) → InEachModel graph start P → graph.implements (walk_of commits) → P (walk_of commits) (known_ids commits ids)
   of_commits ids same k implemented = let starts = same k.starts k.yielded in rw starts at (k.holds (walk_of commits) implemented (rw starts (known_are_nodes commits ids)))

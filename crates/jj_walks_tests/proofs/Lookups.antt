@@ -1,4 +1,4 @@
--- Lookups of commits implement the graph of the commits, and fail at missing ones alone.
+-- Lookups of commits implement the graph of the commits, and fail only at missing ones.
 use Rattle.std.proofs.Common.{◌≡◌, ◌⊎◌, inl, inr, ℕ, true, false, Option, None, Some, is_some, Result, Ok, Err, List, [], ◌∷◌, ◌++◌, map, refl, sym, ◌∙◌, ap, subst, arith, eqb, reverse, ⊎_elim}
 use Rattle.std.specs.Fn.{Called, Mut, Shared}
 use Rattle.std.specs.Iterator.{YieldsFirstBy}
@@ -44,7 +44,7 @@ lacked_one id missing None e = (refl, cc)
 lacked_one id missing (Some c) e = absurd cc
 
 module _ (commits : List Commit) where
-  -- where each lookup found a commit, these are the commits
+  -- if each lookup found a commit, these are the commits
   found_all : (xs : List (Bor Commit)) (ids : List ℕ) → map shown_item (map (λ x. Ok x) xs) ≡ map (looked_up commits) ids → map (λ x. x.now) xs ≡ filter_map (commit_with commits) ids
   found_all [] [] e = refl
   found_all [] (id ∷ ids) e = absurd cc

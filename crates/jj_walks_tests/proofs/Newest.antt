@@ -1,4 +1,4 @@
--- The commits of a list numbered by rank, so that the greatest child-first order has the newest
+-- The commits of a list numbered by rank, so that the greatest topological order has the newest
 -- first.
 use Rattle.std.proofs.Common.{◌≡◌, ◌≢◌, ◌<◌, ◌==◌, ℕ, suc, Bool, true, false, cond, Option, None, Some, is_some, List, [], ◌∷◌, length, map, refl, sym, ◌∙◌, ap, subst, true≢false, inl, inr, ◌⊎◌}
 use Rattle.std.specs.List.{Contains}
@@ -96,7 +96,7 @@ module _ (commits : List Commit) where
   pub ranks_are : (xs : List (Bor Commit)) → AreNodes (walk_of commits) (map (node commits) xs) → map ranked_walk.node xs ≡ map to (map (node commits) xs)
   ranks_are xs nodes = sym (map_twice _ (node commits) xs) ∙ numbers_are (walk_of commits) to back unused undo free (walk_closed commits) (map (node commits) xs) nodes
 
-  -- which of two commits is older is told by the times of their ids
+  -- the times of the ids decide which of two commits is older
   older_there : (a b : ℕ) → is_some (commit_with commits a) ≡ true → is_some (commit_with commits b) ≡ true → IsBefore time_of b a → IsNewer commits a b
   older_there a b is_a is_b before = by (commit_with commits a) (commit_with commits b) refl refl is_a is_b before
     where

@@ -1,5 +1,5 @@
--- The numbering under which a walk sees a list of commits: a commit of the list has its id for its
--- number, and any other value a number that is no id.
+-- The model of a list of commits: the number of a commit is its id, and that of any other value
+-- is no id.
 use Rattle.std.proofs.Common.{◌≡◌, ℕ, zero, suc, ◌+◌, ◌≤◌, Bool, true, false, cond, ◌&&◌, ◌==◌, List, [], ◌∷◌, map, Option, None, Some, is_some, Result, Ok, refl, sym, ◌∙◌, ap, subst, arith, true≢false, eqb}
 use Rattle.std.specs.List.{Contains, IsDistinct, AllByRecursion, filter_map, cons_option}
 use Rattle.std.proofs.lemmas.Bool.Decides.{Decides-eqb}
@@ -35,7 +35,7 @@ other_ids n [] c a (k, lt, e) = absurd (omega arith)
 other_ids n (d ∷ cs) c a (zero, lt, e) = ap (λ x. n == x.id) (sym e) ∙ a.0
 other_ids n (d ∷ cs) c a (suc k, lt, e) = other_ids n cs c a.1 (k, omega arith, e)
 
--- where no id comes twice, a commit of the list is the one of its id
+-- if the ids are distinct, a commit of the list is the one of its id
 pub found_first : (cs : List Commit) (c : Commit) → IsDistinct eqb (ids_of cs) → Contains cs c → commit_with cs c.id ≡ Some c
 found_first [] c once (k, lt, e) = absurd (omega arith)
 found_first (d ∷ cs) c once (zero, lt, e) =
@@ -138,7 +138,7 @@ module _ (commits : List Commit) where
       ap (λ n. n ∷ map node xs) (node_id x (h x.now (0, omega arith, refl)))
       ∙ ap (λ l. x.now.id ∷ l) (numbers_had xs (λ c k. h c (Contains-append_right (x.now ∷ []) (map (λ y. y.now) xs) c k)))
 
-  -- neighbours of nodes are nodes
+  -- neighbors of nodes are nodes
   pub walk_closed : (n : ℕ) → is_some (commit_with commits n) ≡ true → AreNodes walk_of (parent_graph commits n)
   walk_closed n h b =
       let P : Option Commit → Type 0 = λ o. Contains (elim o [ None ↦ [] | Some c ↦ ids_of (parents_in commits c) ]) b → is_some (commit_with commits b) ≡ true in
@@ -150,7 +150,7 @@ module _ (commits : List Commit) where
             ap (λ m. is_some (commit_with commits m)) (sym d.2) ∙ ap is_some f.1
       ]
 
-  -- what the look-up gives for the parents of a node are its neighbours
+  -- the commits looked up for the parents of a node are its neighbors
   pub walk_neighbors : (x : Bor Commit) (xs : List (Bor Commit)) → is_some (commit_with commits (node x)) ≡ true → map (λ y. y.now) xs ≡ parents_in commits x.now → map node xs ≡ parent_graph commits (node x)
   walk_neighbors x xs h e =
       let has = node_has x h in
@@ -177,7 +177,7 @@ module _ (commits : List Commit) where
       let k = has_found c h in
       ap (λ o. elim o [ None ↦ false | Some e ↦ is_same e d ]) (ap (commit_with commits) (sym f.0) ∙ k.1) ∙ (Decides-same k.0 d).1 (k.2.0 ∙ f.0, k.2.1 ∙ f.1, k.2.2 ∙ f.2, k.2.3 ∙ f.3)
 
-  -- a value has the fields of a node just where it has its number
+  -- a value has the fields of a node exactly if it has its number
   pub walk_stands : (x y : Bor Commit) → is_some (commit_with commits (node x)) ≡ true → is_same x.now y.now ≡ (node x == node y)
   walk_stands x y is =
       let hx = node_has x is in

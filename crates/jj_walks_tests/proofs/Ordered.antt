@@ -1,4 +1,4 @@
--- What a postorder of the ids says of the commits.
+-- A postorder of the ids as an order of the commits.
 use Rattle.std.proofs.Common.{◌≡◌, ℕ, true, List, [], ◌∷◌, ◌++◌, ap, map, refl, sym, ◌∙◌, subst, ⊎_elim, reverse, eqb, is_some}
 use Rattle.std.specs.List.{Contains, IsDistinct}
 use Rattle.std.proofs.lemmas.List.{map-append, reverse-append}

@@ -1,4 +1,4 @@
--- What a preorder gives: nothing that its starts do not reach.
+-- A preorder has only reachable nodes.
 use Rattle.std.proofs.Common.{ℕ, suc, List, [], ◌∷◌, ◌++◌, reverse, refl, arith, subst, inl, inr, ◌⊎◌, ⊎_elim}
 use Rattle.std.specs.List.{Contains}
 use Rattle.std.proofs.lemmas.List.Elements.{Contains-append_right, Contains-push_cases}

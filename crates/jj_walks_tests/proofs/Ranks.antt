@@ -1,5 +1,5 @@
--- Numbers by rank: how many of some numbers stand below each, in the order of their times and then
--- of the numbers.
+-- Ranks of numbers: how many of them precede each, in the order of their times and then of the
+-- numbers.
 use Rattle.std.proofs.Common.{◌≡◌, ◌≢◌, ◌<◌, ◌≤◌, ◌+◌, ℕ, zero, suc, Bool, true, false, cond, ◌&&◌, ◌||◌, ◌==◌, List, [], ◌∷◌, length, refl, sym, ◌∙◌, ap, arith, true≢false, inl, inr, ◌⊎◌}
 use Rattle.std.specs.Prelude.{nat_lt}
 use Rattle.std.specs.List.{Contains, count_by}
@@ -34,7 +34,7 @@ module _ (time : ℕ → ℕ) where
   chained : (a b c : ℕ) → is_before a b ≡ true → is_before b c ≡ true → is_before a c ≡ true
   chained a b c h g = grind (arith, nat_tests)
 
-  -- two numbers are one, or one of them is before the other
+  -- two numbers are equal, or one precedes the other
   pub three_ways : (a b : ℕ) → (a ≡ b) ⊎ (IsBefore a b ⊎ IsBefore b a)
   three_ways a b = grind (arith)
 

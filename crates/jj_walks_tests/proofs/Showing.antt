@@ -1,4 +1,4 @@
--- Closures that list parents show the graph of the commits.
+-- Closures that list parents implement the graph of the commits.
 use Rattle.std.proofs.Common.{◌≡◌, ℕ, List, Result, Ok, map, refl, ◌∙◌, ap, eqb}
 use Rattle.std.specs.Fn.{Called, FnReturnsAt, Mut, Shared}
 use Rattle.std.specs.Iterator.{YieldsFirst, YieldsFirstRef}

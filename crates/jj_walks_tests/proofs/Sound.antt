@@ -93,7 +93,7 @@ module _ (commits : List Commit) where
         first = λ xs e d. absurd (never_fails commits x.now.parents.items value xs e same list d);
       }
 
-  -- Closures that tell a commit's id and list its parents show the graph of the commits.
+  -- Closures that return a commit's id and list its parents implement the graph of the commits.
   module _ {F N : Type 0} (ids : Shared F (Bor (Bor Commit) × Unit {0}) (Bor ℕ)) (lists : Mut N (Bor (Bor Commit) × Unit {0}) SoundCommits) (id_fn : F) (neighbors_fn : N)
       (tells : (x : Bor Commit) (i : Bor ℕ) → FnReturnsAt ids id_fn x i → i.now ≡ x.now.id)
       (looks : (a : Bor (Bor Commit) × Unit {0}) (r : SoundCommits) (after : N) → Called lists neighbors_fn a r after
@@ -122,7 +122,7 @@ module _ (commits : List Commit) where
   pub no_failure : (a : ℕ) (fault : Fault ℕ) → Contains (items_of commits a) (Err fault) → ⊥
   no_failure a fault h = none_of_nodes (λ n. n) (parent_graph commits a) fault h
 
-  -- nodes in child-first order have their ids for their numbers
+  -- nodes in topological order have their ids for their numbers
   pub child_first_ids : (starts : List ℕ) → AreNodes (walk_of commits) starts → (xs : List (Bor Commit)) → IsTopologicalOrder (parent_graph commits) starts (map (node commits) xs)
       → IsTopologicalOrder (parent_graph commits) starts (map (λ x. x.now.id) xs)
   child_first_ids starts nodes xs order =

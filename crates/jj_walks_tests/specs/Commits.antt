@@ -29,7 +29,7 @@ abbrev pub parent_graph : List Commit → Graph
 parent_graph commits id = elim (commit_with commits id)
     [ None ↦ [] | Some c ↦ ids_of (parents_in commits c) ]
 
--- the two commits have one time, one id, the same parents and the same text
+-- the two commits have equal times, ids, parents and descriptions
 abbrev pub is_same : Commit → Commit → Bool
 is_same c d = (c.time == d.time) && ((c.id == d.id)
     && (pointwise eqb c.parents.items d.parents.items && string_eq c.text d.text))

@@ -1,4 +1,4 @@
--- A list of commits that may lack parents of its commits, and what an error tells of one that does.
+-- A list of commits that may lack parents of its commits, and the errors at those.
 -- Cited by contracts of public items: IsGapIn, whole_graph.
 use Rattle.std.specs.Prelude.{◌≡◌, ◌&&◌, ℕ, Bool, true, false, cond, List, [], ◌∷◌, None, Some, is_some}
 use Rattle.std.specs.String.{string_bytes, string_eq}
@@ -13,7 +13,7 @@ abbrev pub has_ids : List Commit → List ℕ → Bool
 has_ids commits [] = true
 has_ids commits (id ∷ ids) = is_some (commit_with commits id) && has_ids commits ids
 
--- the graph of the commits whose parents the list has all; any other has no neighbour
+-- the graph of the commits whose parents are all in the list; any other has no neighbor
 abbrev pub whole_graph : List Commit → Graph
 whole_graph commits id = elim (commit_with commits id) [
   | None ↦ []
@@ -21,7 +21,7 @@ whole_graph commits id = elim (commit_with commits id) [
       []
 ]
 
--- the error's text, where there was memory for one, is that of the commit
+-- the error's description, unless out of memory, is that of the commit
 abbrev pub tells_gap : Commit → Gap → Bool
 tells_gap c Memory = true
 tells_gap c (Text text) = string_eq text c.text

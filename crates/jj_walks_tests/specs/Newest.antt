@@ -1,4 +1,4 @@
--- A list of commits with the newest first, as far as each stands before its parents.
+-- Topological orders of commits with the newest first.
 -- Cited by contracts of public items: IsNewestFirst.
 use Rattle.std.specs.Prelude.{◌≡◌, ◌≢◌, ◌<◌, ◌⊎◌, ℕ, List, ◌∷◌, ◌++◌, Some}
 use Rattle.jj_dag.specs.Graph.{IsTopologicalOrder}
@@ -14,7 +14,7 @@ abbrev pub IsNewer : List Commit → ℕ → ℕ → Type 0
 IsNewer commits a b = (c d : Commit) × (commit_with commits a ≡ Some c)
     × (commit_with commits b ≡ Some d) × IsOlder d c
 
--- each commit stands before its parents, and where another such list first differs from this one,
+-- each commit precedes its parents, and where another such list first differs from this one,
 -- it has an older commit
 pub record IsNewestFirst (commits : List Commit) (starts order : List ℕ) : Type 0 where
   pub child_first : IsTopologicalOrder (parent_graph commits) starts order

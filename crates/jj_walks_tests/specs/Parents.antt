@@ -1,4 +1,4 @@
--- What is left of an iterator over the parents of a commit.
+-- The remaining items of an iterator over the parents of a commit.
 -- Cited by contracts of public items: ids_left, items_left, parents_left, shown_item.
 use Rattle.std.specs.Prelude.{ℕ, List, map, Result}
 use Rattle.std.specs.declared.result.Result.TheVariants.{Ok, Err}

@@ -1,5 +1,4 @@
-//! Callers over a list of commits: each states what a walk gives in the words of commits, and is
-//! proved by the walk's contract.
+//! Proved callers over a list of commits: each states the result of a walk as commits.
 ghost use Rattle.std.specs.Prelude.{◌≡◌, true, IfOk, IfErr, eqb, map, reverse};
 ghost use Rattle.std.specs.List.{Contains, IsDistinct};
 ghost use Rattle.jj_dag.specs.CommonNodes.{AreClosestCommon};
@@ -15,8 +14,8 @@ use jj_walks::dag_walk_async::closest_common_nodes;
 use std::alloc::{AllocError, Global};
 use std::collections::HashSet;
 
-/// The commits of the list, each after its parents that are in the list; the id of a commit on a
-/// cycle is an error.
+/// Returns the commits of the list, each after its parents that are in the list. Fails with the id
+/// of a commit on a cycle.
 pub fn parents_first<'a>(
     alloc: Global,
     commits: &'a [Commit],
@@ -55,7 +54,7 @@ pub fn parents_last<'a>(
     )
 }
 
-/// The commits of the list that no other of them has for an ancestor.
+/// Returns the commits of the list that are no ancestor of another one.
 pub fn tips<'a>(alloc: Global, commits: &'a [Commit]) -> Result<HashSet<&'a Commit>, AllocError>
     requires once { IsDistinct eqb (ids_of commits.now) }
     requires acyclic { IsAcyclicFrom (parent_graph commits.now) (ids_of commits.now) }
@@ -70,8 +69,8 @@ pub fn tips<'a>(alloc: Global, commits: &'a [Commit]) -> Result<HashSet<&'a Comm
     )
 }
 
-/// The commits from which two sets of commits of the list both come, and which no other such commit
-/// has for an ancestor.
+/// Returns the common ancestors of two sets of commits of the list that are no ancestor of another
+/// one.
 pub fn merge_bases<'a>(
     alloc: Global,
     commits: &'a [Commit],
@@ -93,7 +92,7 @@ pub fn merge_bases<'a>(
     )
 }
 
-/// The commits with these ids and their ancestors, as a depth-first walk meets them.
+/// Returns the commits with these ids and their ancestors in depth-first preorder.
 pub fn ancestors<'a>(
     alloc: Global,
     commits: &'a [Commit],

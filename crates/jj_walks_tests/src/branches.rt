@@ -1,4 +1,4 @@
-//! A caller over a list of commits that keeps branches together, the wanted one first.
+//! A caller over a list of commits that keeps branches together, the prioritized one first.
 ghost use Rattle.std.specs.Prelude.{◌≡◌, ◌⊎◌, List, IfOk, IfErr, Ok, Some, eqb, map, true};
 ghost use denote.Ref.{Bor};
 ghost use Rattle.jj_walks.specs.declared.grouped.GroupedGraphError.TheVariants.{Memory};
@@ -10,7 +10,7 @@ use crate::commits::{Commit, commit_of};
 use jj_walks::graph::{GraphEdge, GraphNode, GroupedGraphError, TopoGroupedGraph};
 use std::alloc::{AllocError, Global};
 
-// The edge to a parent, missing where the list has no such commit.
+// The edge to a parent; missing if the list has no such commit.
 fn parent_edge(commits: &[Commit], id: u64) -> GraphEdge<u64>
     ensures { result ≡ parent_edge commits.now id }
 {
@@ -34,7 +34,7 @@ fn parent_edges(
     Ok(edges)
 }
 
-// The commits with their edges, as an input that never fails.
+// The commits with their edges, as an infallible input.
 fn shown_commits<'a>(
     alloc: Global,
     commits: &'a [Commit],
@@ -57,10 +57,10 @@ fn commit_id<'a, 'b>(commit: &'b &'a Commit) -> &'b u64
     &commit.id
 }
 
-/// The commits, each after all that have it as a parent, and branches together: after a commit
-/// comes the last of its parents that is ready, if one is. The first reaches the wanted one. Where
-/// each commit stands before its parents in the list, and the wanted one is in it, there is no
-/// error but want of memory.
+/// Returns the commits, each after its children, with branches together: a commit is followed by
+/// the last of its parents that is ready, if one is. The first commit reaches the prioritized one.
+/// If each commit precedes its parents in the list, and the prioritized one is in it, the only
+/// error is out of memory.
 pub fn grouped_commits<'a>(
     alloc: Global,
     commits: &'a [Commit],
@@ -116,7 +116,7 @@ mod tests {
         Ok(commits)
     }
 
-    /// The branch of 3 comes first, where 3 is wanted.
+    /// The branch of 3 comes first if 3 is prioritized.
     #[test]
     fn the_wanted_branch_comes_first(rt: HostRuntime) -> Result<(), Fail> {
         passes(&rt, |rt, alloc| {

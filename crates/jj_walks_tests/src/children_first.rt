@@ -1,4 +1,4 @@
-//! Callers over a list of commits that put each commit before its parents.
+//! Callers that order a list of commits, children first.
 ghost use Rattle.std.specs.Prelude.{◌≡◌, IfOk, IfErr, map};
 ghost use Rattle.jj_walks.specs.Chunks.{IsNextChunk};
 ghost use Rattle.jj_dag.specs.Errors.{IfNode};
@@ -14,9 +14,8 @@ use jj_walks::dag_walk_async::{
 use smallvec::SmallVec;
 use std::alloc::Global;
 
-/// The commits with these ids and their ancestors, each before its parents, one after the other as
-/// they are asked for. An error other than want of memory means that one of them is its own
-/// ancestor.
+/// Returns the commits with these ids and their ancestors, each before its parents, produced
+/// lazily. An error other than out of memory means that one of them is its own ancestor.
 pub fn children_first<'a>(
     alloc: Global,
     commits: &'a [Commit],
@@ -44,7 +43,7 @@ pub fn children_first<'a>(
     Ok(order)
 }
 
-/// The same list in one call, with the newest commit first of all that may stand there.
+/// Returns such a list in one call, with the newest ready commit at each position.
 pub fn newest_first<'a>(
     alloc: Global,
     commits: &'a [Commit],
@@ -64,7 +63,7 @@ pub fn newest_first<'a>(
     )
 }
 
-/// The next chunk of the ids of such a list. It leaves the ids from which the list goes on.
+/// Returns the next chunk of the ids of such a list, and leaves the starts of the next one.
 pub fn next_ids(
     alloc: Global,
     commits: &[Commit],
@@ -111,7 +110,7 @@ mod tests {
         Ok(commits)
     }
 
-    // The ids of what these reach, the newest first where there is a choice.
+    // The reachable ids, the newest first where there is a choice.
     fn newest_ids(
         alloc: Global,
         commits: &[Commit],

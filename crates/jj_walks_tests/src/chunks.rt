@@ -8,10 +8,10 @@ use std::alloc::{AllocError, Global};
 use std::process::Abort;
 use std::test::Fail;
 
-// Each letter with its items: neighbours, or errors in their place.
+// Each letter with its items: neighbors, or errors.
 type Table<'a> = &'a [(char, &'a [Result<char, char>])];
 
-// Each is its own neighbour.
+// Each is its own neighbor.
 const ROUND: Table<'static> = &[('a', &[Ok('a')]), ('x', &[Ok('x')])];
 
 // B to A and to a failed item, C to B.

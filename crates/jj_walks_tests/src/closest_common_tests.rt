@@ -9,7 +9,7 @@ use std::ops::Range;
 use std::process::Abort;
 use std::test::Fail;
 
-// Where the two sides of a chain part.
+// The node at which a chain forks.
 const BASE: u64 = 100_000;
 
 // A chain from `BASE` down to 0, and above it two chains, of the odd and of the even numbers.
@@ -23,7 +23,7 @@ fn beside(node: u64) -> Range<u64> {
     }
 }
 
-// The closest nodes of two sets of one node in these chains, and how many lists were asked for.
+// The closest common nodes of two nodes of these chains, and the number of calls of `neighbors_fn`.
 fn counted_chain(
     alloc: Global,
     first: u64,

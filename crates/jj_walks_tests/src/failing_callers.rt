@@ -1,5 +1,4 @@
-//! A caller whose lists of neighbours fail with errors that own a text: at each call another value,
-//! with the same words.
+//! A caller whose lists of neighbors fail with errors that own a string: a new value at each call.
 ghost use Rattle.std.specs.Prelude.{◌≡◌, true, false, IfOk, IfErr, eqb, map};
 ghost use Rattle.std.specs.List.{IsDistinct};
 ghost use Rattle.jj_dag.specs.Errors.{IfNode};
@@ -13,15 +12,15 @@ use jj_walks::dag_walk_async::heads;
 use std::alloc::Global;
 use std::collections::HashSet;
 
-/// Why the parents of a commit are not listed.
+/// An error of listing the parents of a commit.
 #[derive(Debug, Drop)]
 pub enum Gap {
     Memory,
-    /// The text of a commit that names a parent which the list does not have.
+    /// The description of a commit with a parent that is not in the list.
     Text(String),
 }
 
-// Whether the list has a commit of each of these ids.
+// Returns whether the list has a commit of each of these ids.
 fn has_all(commits: &[Commit], ids: &[u64]) -> bool
     ensures { result ≡ has_ids commits.now ids.now }
 {
@@ -33,7 +32,7 @@ fn has_all(commits: &[Commit], ids: &[u64]) -> bool
     true
 }
 
-// The parents of a commit, if the list has them all.
+// Returns the parents of a commit, if the list has them all.
 fn whole_parents_of<'a>(
     alloc: Global,
     commits: &'a [Commit],
@@ -54,9 +53,9 @@ fn whole_parents_of<'a>(
     Ok(parents_of(commits, commit))
 }
 
-/// The commits of the list that no other of them has for an ancestor, by commits whose parents the
-/// list has all. Where the walk meets a commit with a parent that is not in the list, the error
-/// holds that commit's text.
+/// Returns the commits of the list that are no ancestor of another one, over commits whose parents
+/// are all in the list. If the walk reaches a commit with a missing parent, fails with that
+/// commit's description.
 pub fn whole_tips<'a>(
     alloc: Global,
     commits: &'a [Commit],
@@ -104,7 +103,7 @@ mod tests {
         )
     }
 
-    // Ids, parents and texts of commits.
+    // Ids, parents and descriptions of commits.
     type Rows<'a> = &'a [(u64, &'a [u64], &'a str)];
 
     fn commits_of(alloc: Global, rows: Rows<'_>) -> Result<Vec<Commit>, AllocError> {
@@ -115,7 +114,7 @@ mod tests {
         Ok(commits)
     }
 
-    // How many tips there are, or the text of a commit whose parents are not all there.
+    // The number of tips, or the description of a commit with a missing parent.
     fn tips_of(alloc: Global, rows: Rows<'_>) -> Result<Result<usize, String>, AllocError> {
         let commits = commits_of(alloc, rows)?;
         match found_tips(alloc, &commits) {

@@ -9,7 +9,7 @@ use std::alloc::{AllocError, Global};
 use std::collections::HashSet;
 use std::ops::Range;
 
-/// How the nodes below the head hang together.
+/// The shape of the graph below the head.
 #[derive(Clone, Copy)]
 pub enum Shape {
     /// Each node over the next lesser one.
@@ -20,7 +20,7 @@ pub enum Shape {
     Merges,
 }
 
-// The neighbours of a node.
+// The neighbors of a node.
 fn below(shape: Shape, head: u64, node: u64) -> Range<u64> {
     match shape {
         Shape::Chain => node.saturating_sub(1)..node,
@@ -30,7 +30,7 @@ fn below(shape: Shape, head: u64, node: u64) -> Range<u64> {
     }
 }
 
-/// What the head reaches, each node after its neighbours.
+/// The nodes reachable from the head in postorder.
 pub fn forward(alloc: Global, shape: Shape, head: u64) -> Result<Vec<u64>, WalkError<u64>> {
     topo_order_forward(
         alloc,
@@ -41,7 +41,7 @@ pub fn forward(alloc: Global, shape: Shape, head: u64) -> Result<Vec<u64>, WalkE
     )
 }
 
-/// The nodes below the head that no other of them reaches.
+/// The maximal elements of the nodes below the head.
 pub fn maximal(alloc: Global, shape: Shape, head: u64) -> Result<HashSet<u64>, AllocError> {
     heads(
         alloc,
@@ -51,7 +51,7 @@ pub fn maximal(alloc: Global, shape: Shape, head: u64) -> Result<HashSet<u64>, A
     )
 }
 
-/// The lazy order of what the head reaches.
+/// The lazy order of the nodes reachable from the head.
 pub fn lazy(alloc: Global, shape: Shape, head: u64) -> Result<Vec<u64>, WalkError<u64>> {
     let nodes = topo_order_reverse_lazy(
         alloc,
@@ -67,7 +67,7 @@ pub fn lazy(alloc: Global, shape: Shape, head: u64) -> Result<Vec<u64>, WalkErro
     Ok(order)
 }
 
-// Puts the next chunk at the end of the order, and says whether there was one.
+// Appends the next chunk to the order, and returns whether there was one.
 fn chunk(
     alloc: Global,
     shape: Shape,
@@ -88,7 +88,7 @@ fn chunk(
     Ok(!nodes.is_empty())
 }
 
-/// The order of what the head reaches, chunk by chunk.
+/// The order of the nodes reachable from the head, chunk by chunk.
 pub fn chunked(alloc: Global, shape: Shape, head: u64) -> Result<Vec<u64>, WalkError<u64>> {
     let mut start = Vec::new(alloc);
     start.push(head)?;
@@ -101,7 +101,7 @@ pub fn chunked(alloc: Global, shape: Shape, head: u64) -> Result<Vec<u64>, WalkE
     Ok(order)
 }
 
-/// The nodes as a graph to be shown, the greatest first.
+/// The nodes with their edges, the greatest first.
 pub fn input_of(
     alloc: Global,
     shape: Shape,

@@ -1,9 +1,9 @@
-//! What walks return, where one kind of result is wanted.
+//! Results of walks of which one kind is expected.
 use jj_walks::dag_walk::WalkError;
 use std::alloc::AllocError;
 use std::process::Abort;
 
-/// What a walk found, where no error of a node is wanted.
+/// Returns the result of a walk; an error of a node is unexpected.
 pub fn found<R: Abort, V: Drop, E: Drop>(
     rt: &R,
     outcome: Result<V, WalkError<E>>,
@@ -17,7 +17,7 @@ pub fn found<R: Abort, V: Drop, E: Drop>(
     }
 }
 
-/// The error of a node that a walk met, where one is wanted.
+/// Returns the error of a node; any other result is unexpected.
 pub fn met<R: Abort, V: Drop, E: Drop>(
     rt: &R,
     outcome: Result<V, WalkError<E>>,

@@ -1,4 +1,4 @@
-//! The edges of shown graphs.
+//! Edges of graphs.
 use jj_walks::graph::{GraphEdge, GraphEdgeType};
 use std::test::Fail;
 

@@ -1,4 +1,4 @@
-//! Walks over texts: a clone of a text equals it, and is another value.
+//! Walks over strings, whose clones are equal but different values.
 use crate::outcomes::found;
 use jj_content_tests::retry::passes;
 use jj_walks::dag_walk::{WalkError, heads, topo_order_forward};
@@ -16,7 +16,7 @@ fn texts(alloc: Global, words: &[&str]) -> Result<Vec<String>, AllocError> {
     Ok(texts)
 }
 
-// The heads of texts that have no neighbours, with their lengths as ids.
+// The heads of strings without neighbors, with their lengths as ids.
 fn heads_of_texts(alloc: Global, words: &[&str]) -> Result<HashSet<String>, AllocError> {
     let texts = texts(alloc, words)?;
     heads(
@@ -27,7 +27,7 @@ fn heads_of_texts(alloc: Global, words: &[&str]) -> Result<HashSet<String>, Allo
     )
 }
 
-// An order of texts that all have the empty text as their id.
+// An order of strings that all have the empty string as their id.
 fn order_by_one_id(alloc: Global, words: &[&str]) -> Result<Vec<String>, WalkError<String>> {
     let texts = texts(alloc, words)?;
     topo_order_forward(

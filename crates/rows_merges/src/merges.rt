@@ -318,7 +318,7 @@ fn diff(request: &Request, values: &mut Values) -> Result<(), RowError> {
     )
 }
 
-// `merge-content TERMS`: the JSON text. The digest is that of the list of terms.
+// `merge-content TERMS`: the JSON string. The digest is that of the list of terms.
 fn content(alloc: Global, request: &Request, values: &mut Values) -> Result<(), RowError> {
     let whole = merge_of(request.group(0)?)?;
     match whole.to_json(alloc) {

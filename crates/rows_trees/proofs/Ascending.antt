@@ -25,7 +25,7 @@ module _ {V : Type 0} where
       let p = and_parts _ _ above in
       both_true _ _ (ap is_lt (nat_list_cmp_total.trans n m e.0 less (less_from_is_lt _ p.0))) (above_smaller n m es less p.1)
 
-  -- neighbours below that place ascend
+  -- neighbors below that index ascend
   abbrev pub AscendBelow : List (Name × V) → ℕ → Type 0
   AscendBelow es n = (i : ℕ) (d : Name × V) → suc i < n → name_cmp (get_or es i d).0 (get_or es (suc i) d).0 ≡ Less
 

@@ -5,10 +5,10 @@ use rows::values::Values;
 use std::alloc::{AllocError, Global};
 use std::str::Chars;
 
-/// A node, or the error in its place.
+/// A node, or an error.
 pub type Item = Result<char, char>;
 
-/// The nodes that a walk found, or its error.
+/// The nodes of a walk, or its error.
 pub type Order = Result<Vec<char>, WalkError<char>>;
 
 /// Returns the neighbours of a node as a string.
@@ -83,7 +83,7 @@ pub fn id(node: &char) -> Result<char, AllocError> {
     Ok(*node)
 }
 
-/// The error of any node on or below a cycle: which one it is, is not laid down.
+/// The error of any node on or below a cycle; which node is unspecified.
 pub fn cycle(_node: char) -> char {
     '*'
 }
@@ -123,7 +123,7 @@ pub fn put_order(alloc: Global, values: &mut Values, order: Order) -> Result<(),
     }
 }
 
-/// Appends the same, the nodes in ascending order.
+/// Appends `ok` and the nodes in ascending order, or `error` and the error.
 pub fn put_sorted(alloc: Global, values: &mut Values, order: Order) -> Result<(), RowError> {
     match order {
         Ok(mut nodes) => {

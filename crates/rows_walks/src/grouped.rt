@@ -1,8 +1,8 @@
-//! Requests on graphs to be shown: grouped orders, and reversed graphs.
+//! Requests on grouped orders and reversed graphs.
 //!
 //! A graph is the nodes in their order, each with the targets of its edges: `C:A,~B,?Z A:` has C
 //! with a direct edge to A, an indirect one to B and a missing one to Z, and A. `!X` is an input
-//! that fails with X. A node may have a mark behind its id, which is no part of the id: `A1:`.
+//! that fails with X. A node may have a mark after its id, which is no part of the id: `A1:`.
 use crate::graphs::{put_error, put_nodes};
 use jj_walks::dag_walk::WalkError;
 use jj_walks::graph::{GraphEdge, GraphNode, GroupedGraphError, TopoGroupedGraph, reverse_graph};
@@ -52,7 +52,7 @@ fn letter(node: &Node) -> &char {
     &node.0
 }
 
-// The ids of the nodes that a grouped graph gives, and the error with which it ends.
+// The ids of the nodes that a grouped graph yields, and the error with which it ends.
 fn grouped_order(
     alloc: Global,
     graph: &str,

@@ -1,4 +1,4 @@
-//! Requests on topological orders that come node by node, or chunk by chunk.
+//! Requests on lazy and chunked topological orders.
 ghost use Rattle.std.specs.Iterator.{IsFinite};
 
 use crate::graphs::{FailingGraph, Item, cycle, id, items_of, put_error, put_nodes};
@@ -10,7 +10,7 @@ use rows::values::Values;
 use smallvec::SmallVec;
 use std::alloc::{AllocError, Global};
 
-// The nodes that an order gives, and the error with which it ends.
+// The nodes that an order yields, and the error with which it ends.
 fn all_of<W>(alloc: Global, order: W) -> Result<(Vec<char>, Option<char>), AllocError>
 where
     W: Iterator<Item = Result<char, WalkError<char>>> + Drop,
@@ -54,7 +54,7 @@ fn lazy(alloc: Global, request: &Request, values: &mut Values) -> Result<(), Row
     Ok(())
 }
 
-// Whether the node stands in the list behind this index.
+// Whether the node is in the list after this index.
 fn stands_behind(order: &[char], index: usize, node: char) -> bool {
     for (other_index, other) in order.iter().enumerate() {
         if other_index > index && *other == node {
@@ -64,7 +64,7 @@ fn stands_behind(order: &[char], index: usize, node: char) -> bool {
     false
 }
 
-// Whether each node stands before its neighbours.
+// Whether each node precedes its neighbors.
 fn is_topological(graph: &FailingGraph, order: &[char]) -> bool {
     for (index, node) in order.iter().enumerate() {
         for item in graph.items(*node) {
@@ -78,7 +78,7 @@ fn is_topological(graph: &FailingGraph, order: &[char]) -> bool {
     true
 }
 
-// Whether each node stands before its neighbours, and the nodes in ascending order.
+// Whether each node precedes its neighbors, and the nodes in ascending order.
 fn lazy_sorted(alloc: Global, request: &Request, values: &mut Values) -> Result<(), RowError> {
     let fields = request.group(0)?;
     let start = items_of(alloc, fields.string(0)?)?;
@@ -128,7 +128,8 @@ fn put_chunk(
     Ok(goes_on)
 }
 
-// Each chunk in ascending order, and the starts behind it, up to the first empty one or an error.
+// Each chunk in ascending order with the starts that it leaves, up to the first empty one or an
+// error.
 fn chunked(alloc: Global, request: &Request, values: &mut Values) -> Result<(), RowError> {
     let fields = request.group(0)?;
     let mut start = fields.string(0)?.chars().collect(alloc)?;

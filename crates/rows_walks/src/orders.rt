@@ -23,7 +23,7 @@ fn preorder(alloc: Global, graph: &str, start: &str) -> Result<Vec<char>, AllocE
     Ok(order)
 }
 
-// Errors are given in their places, behind a `!`.
+// Errors appear in order, after a `!`.
 fn preorder_ok(
     alloc: Global,
     graph: &FailingGraph,

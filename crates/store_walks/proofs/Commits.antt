@@ -51,7 +51,7 @@ number_eq x y =
 
 module _ {X S : Type 0} (becomes : Vec X Global → S → Type 0) (steps : S → Option X → S → Type 0)
     (items : (v : Vec X Global) (it : S) → becomes v it → YieldsList steps (λ y. y) it v.items) where
-  -- what an iterator of a list yields are its items
+  -- an iterator of a list yields its items
   pub drained : (v : Vec X Global) (xs : List X) → DrainsTo becomes steps v xs → xs ≡ v.items
   drained v xs d = sym (map-id xs) ∙ drained_are becomes steps v xs (λ y. y) v.items (items v) d
 
