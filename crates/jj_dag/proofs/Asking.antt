@@ -1,5 +1,5 @@
 -- Lemmas about the depth-first search that collects nodes.
-use Rattle.std.proofs.Common.{◌≡◌, ℕ, ◌+◌, ◌<◌, get_or, take, Bool, true, List, [], ◌∷◌, ◌++◌, map, length, Some, Result, Ok, cond, refl, sym, ◌∙◌, ap, subst, arith}
+use Rattle.std.proofs.Common.{◌≡◌, ℕ, ◌+◌, ◌<◌, get_or, take, Bool, true, List, [], ◌∷◌, ◌++◌, map, length, Some, Result, Ok, cond, refl, sym, ◌∙◌, ap, arith}
 use Rattle.std.specs.Fn.{CalledAt, Mut, Shared}
 use Rattle.std.specs.Global.{Global}
 use Rattle.std.specs.HashMap.{get}
@@ -26,7 +26,6 @@ use Rattle.jj_dag.specs.Owed.{CanShow}
 use Rattle.jj_dag.specs.Walk.{AreNodes, Numbered}
 use Rattle.jj_dag.proofs.Collecting.{places_more}
 use Rattle.jj_dag.proofs.FailingOrders.{ReachedFrom-same}
-use Rattle.jj_dag.proofs.Plain.{only}
 use Rattle.jj_dag.proofs.Reaching.{Reaches-trans}
 use Rattle.jj_dag.proofs.Walking.{AlwaysReturns-call}
 
@@ -117,8 +116,3 @@ pub failure_through : {E : Type 0} (g : Graph) (items : FailingGraph (Fault E)) 
 failure_through g items starts left e same through (a, fault, reached, at, is) =
     let out = reached_through g starts left through a (ReachedFrom-same (sound items) g (λ b. sym (same b)) left a reached) in
     (a, fault, ReachedFrom-same g (sound items) same starts a out, at, is)
-
--- an error of a node below a reached one is an error below the starts
-pub failed_below : {E : Type 0} (g : Graph) (items : FailingGraph (Fault E)) (starts : List ℕ) (a : ℕ) (e : E) → ((b : ℕ) → g b ≡ sound items b) → ReachedFrom g starts a → ReachesFailure items (a ∷ []) e
-    → ReachesFailure items starts e
-failed_below g items starts a e same reached failure = failure_through g items starts (a ∷ []) e same (λ b h. subst (ReachedFrom g starts) (only a b h) reached) failure

@@ -1,15 +1,14 @@
 -- Preconditions of walks, for callers whose `neighbors_fn` has no state.
-use Rattle.std.proofs.Common.{◌≡◌, Bool, Result}
-use Rattle.std.specs.Prelude.{IfOk}
-use Rattle.std.specs.Fn.{Called, Mut, Once, Shared}
+use Rattle.std.proofs.Common.{◌≡◌}
+use Rattle.std.specs.Fn.{Called, Mut, Shared}
 use Rattle.std.specs.declared.iter.IntoIterator as into
 use Rattle.std.specs.declared.iter.Iterator as iter
 use Rattle.std.proofs.lemmas.Fn.{always_returns_same}
 use denote.Ref.{Bor}
-use denote.Param.Always.{always_fn, always_mut, always_once}
+use denote.Param.Always.{always_fn, always_mut}
 use Rattle.jj_dag.specs.ClosureGraph.{IsWalkable}
-use Rattle.jj_dag.specs.Outcomes.{ClonesAreEqual, Ends}
-use Rattle.jj_dag.specs.Owed.{CanBeOrdered, CanShow, MayShow}
+use Rattle.jj_dag.specs.Outcomes.{Ends}
+use Rattle.jj_dag.specs.Owed.{CanShow}
 
 module _ {T ID F N U X J : Type 0} {ids : Shared F (Bor T × Unit {0}) ID} {lists_of : Mut N (Bor T × Unit {0}) U}
     {value : into.Ghosts U X J} {items : iter.Ghosts J X} {id_of : F} {neighbors_of : N} where
@@ -17,17 +16,6 @@ module _ {T ID F N U X J : Type 0} {ids : Shared F (Bor T × Unit {0}) ID} {list
       → ((a : Bor T × Unit {0}) (r : U) (f : N) → Called lists_of neighbors_of a r f → Ends value items r × (f ≡ neighbors_of))
       → CanShow ids lists_of value items id_of neighbors_of
   can_show id_fn neighbors_fn ends = record { id_fn = id_fn; neighbors_fn = neighbors_fn; lists = always_returns_same _ _ _ ends }
-
-  pub can_be_ordered : {C E II I K : Type 0} {cycles : Once C (T × Unit {0}) E} {starts : into.Ghosts II X I} {start_items : iter.Ghosts I X} {clone : K → K → Type 0} {eq : K → K → Bool}
-      {cycle_of : C} {from : II} → CanShow ids lists_of value items id_of neighbors_of → always_once cycles cycle_of → Ends starts start_items from → ClonesAreEqual clone eq
-      → CanBeOrdered ids lists_of cycles starts start_items value items clone eq id_of neighbors_of cycle_of from
-  can_be_ordered graph cycle_fn start clones = record { graph = graph; cycle_fn = cycle_fn; start = start; clones = clones }
-
-pub may_show : {T ID E F N U J : Type 0} {ids : Shared F (Bor T × Unit {0}) ID} {lists_of : Mut N (Bor T × Unit {0}) (Result U E)} {value : into.Ghosts U T J} {items : iter.Ghosts J T}
-    {id_of : F} {neighbors_of : N} → always_fn ids id_of → always_mut lists_of neighbors_of
-    → ((a : Bor T × Unit {0}) (r : Result U E) (f : N) → Called lists_of neighbors_of a r f → IfOk r (Ends value items) × (f ≡ neighbors_of))
-    → MayShow ids lists_of value items id_of neighbors_of
-may_show id_fn neighbors_fn ends = record { id_fn = id_fn; neighbors_fn = neighbors_fn; lists = always_returns_same _ _ _ ends }
 
 -- the precondition `walkable`
 pub walkable_by : {T I F N R : Type 0} {ids : Shared F (Bor T × Unit {0}) I} {lists_of : Mut N (Bor T × Unit {0}) R} {ends : R → Type 0} {id_of : F} {neighbors_of : N} → always_fn ids id_of → always_mut lists_of neighbors_of

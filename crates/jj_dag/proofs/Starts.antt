@@ -4,10 +4,5 @@
 pub of_starts : {A : Type 0} {D P Q : A → Type 0} (k : (xs : A) × D xs × P xs) → (P k.0 → Q k.0) → (xs : A) × D xs × Q xs
 of_starts k f = (k.0, k.1, f k.2)
 
--- so it is of the starts of two sets
-pub of_two_sets : {A B : Type 0} {D : A → Type 0} {F : B → Type 0} {P Q : A → B → Type 0} (k : (xs : A) × (ys : B) × D xs × F ys × P xs ys) → (P k.0 k.1 → Q k.0 k.1)
-    → (xs : A) × (ys : B) × D xs × F ys × Q xs ys
-of_two_sets k f = (k.0, k.1, k.2, k.3, f k.4)
-
 pub of_collected : {A : Type 0} {P Q : A → Type 0} (k : (filled : A) × P filled) → (P k.0 → Q k.0) → (filled : A) × Q filled
 of_collected k f = (k.0, f k.1)
