@@ -64,7 +64,7 @@ pub fn parents_of<'a>(commits: &'a [Commit], commit: &'a Commit) -> Parents<'a>
     }
 }
 
-/// The same, as a list that may fail in the eyes of a walk. It never does.
+/// Returns the parents as a result, which is never an error.
 pub fn sound_parents_of<'a>(commits: &'a [Commit], commit: &'a Commit) -> Result<Parents<'a>, u64>
     ensures { IsOkAnd result (λ parents. (parents.commits.now ≡ commits.now)
         × (parents.ids.now ≡ commit.now.parents.items)) }
