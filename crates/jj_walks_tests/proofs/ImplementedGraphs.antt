@@ -1,5 +1,5 @@
 -- Closures that list parents as items implement the graph of the commits.
-use Rattle.std.proofs.Common.{◌≡◌, ◌≢◌, ◌==◌, ℕ, Bool, true, List, [], ◌∷◌, ◌++◌, map, refl, sym, ◌∙◌, ap, arith, Result, Ok, Err, eqb, inl, inr, ◌⊎◌}
+use Rattle.std.proofs.Common.{◌≡◌, ◌≢◌, ◌==◌, ℕ, Bool, true, List, [], ◌∷◌, ◌++◌, map, refl, sym, ◌∙◌, ap, Result, Ok, Err, eqb, inl, inr, ◌⊎◌}
 use Rattle.std.specs.Fn.{Called, Mut, Shared}
 use Rattle.std.proofs.lemmas.Fn.{always_returns_same}
 use Rattle.std.specs.Iterator.{YieldsFirst, YieldsFirstBy}
@@ -27,7 +27,7 @@ use Rattle.jj_walks.specs.LazySteps.{FailsNext, IsLeftOf}
 use Rattle.jj_walks_tests.specs.declared.commits.Commit.{Commit}
 use Rattle.jj_walks_tests.specs.declared.commits.SoundCommits.{SoundCommits}
 use Rattle.jj_walks_tests.specs.declared.commits.SoundIds.{SoundIds}
-use Rattle.jj_walks_tests.specs.Commits.{commit_with, known_ids, parents_in, parent_graph}
+use Rattle.jj_walks_tests.specs.Commits.{known_ids, parents_in, parent_graph}
 use Rattle.jj_walks_tests.specs.Parents.{shown_item, ids_left, items_left}
 use Rattle.jj_walks_tests.proofs.Numbering.{node, node_stands, walk_closed, walk_neighbors, walk_of}
 use Rattle.jj_walks_tests.proofs.Sound.{becomes, commits_drained, drained_starts, id_walk, known_are_nodes, never_fails, shown_are}

@@ -8,7 +8,7 @@ use Rattle.std.proofs.lemmas.Iterator.Consumers.{YieldsList-from_first}
 use Rattle.std.proofs.lemmas.List.{map-id}
 use Rattle.std.proofs.lemmas.List.Elements.{Contains-append_right}
 use denote.Ref.{Bor}
-use Rattle.jj_dag.specs.Failing.{AreItems, BeginsWith, FailingGraph, Fault, ListsItems, ShowsItems}
+use Rattle.jj_dag.specs.Failing.{AreItems, BeginsWith, Fault, ListsItems, ShowsItems}
 use Rattle.jj_dag.specs.Walk.{Numbered, AreNodes, DrainsTo}
 use Rattle.jj_dag.specs.Graph.{IsTopologicalOrder, IsPreorder, ReachedFrom}
 use Rattle.jj_dag.proofs.Collecting.{are_nodes}
