@@ -25,11 +25,11 @@ Contains-sound (Ok x ∷ xs) a (suc k, lt, e) = Contains-append_right (x ∷ [])
 Contains-sound (Err y ∷ xs) a (zero, lt, e) = cc
 Contains-sound (Err y ∷ xs) a (suc k, lt, e) = Contains-sound xs a (k, omega arith, e)
 
-pub Contains-from_sound : {K : Type 0} (xs : List (Result ℕ K)) (a : ℕ) → Contains (sound_items xs) a → Contains xs (Ok a)
+pub Contains-from_sound : {X K : Type 0} (xs : List (Result X K)) (a : X) → Contains (sound_items xs) a → Contains xs (Ok a)
 Contains-from_sound [] a (k, lt, e) = absurd (omega arith)
-Contains-from_sound (Ok x ∷ xs) a (zero, lt, e) = (0, omega arith, ap (λ (n : ℕ). Ok n) e)
-Contains-from_sound {K} (Ok x ∷ xs) a (suc k, lt, e) = Contains-append_right {X = Result ℕ K} (Ok x ∷ []) xs (Ok a) (Contains-from_sound xs a (k, omega arith, e))
-Contains-from_sound {K} (Err y ∷ xs) a h = Contains-append_right {X = Result ℕ K} (Err y ∷ []) xs (Ok a) (Contains-from_sound xs a h)
+Contains-from_sound {X} {K} (Ok x ∷ xs) a (zero, lt, e) = let wrap : X → Result X K = λ n. Ok n in (0, omega arith, ap wrap e)
+Contains-from_sound {X} {K} (Ok x ∷ xs) a (suc k, lt, e) = Contains-append_right {X = Result X K} (Ok x ∷ []) xs (Ok a) (Contains-from_sound xs a (k, omega arith, e))
+Contains-from_sound {X} {K} (Err y ∷ xs) a h = Contains-append_right {X = Result X K} (Err y ∷ []) xs (Ok a) (Contains-from_sound xs a h)
 
 -- ---- items, and those of the graph
 
@@ -133,7 +133,7 @@ module _ {T ID K : Type 0} (w : Numbered T ID) (items : FailingGraph K) where
       let ns : sound_items work ≡ sound_items rest ++ a ∷ [] = ap sound_items e ∙ sound_items-append rest (Ok a ∷ []) in
       k.nodes a (rw ns (Contains-push (sound_items rest) a))
 
-  item_tested : {starts : List (Result ℕ K)} {test : ID → Bool} {work given : List (Result ℕ K)} (rest : List (Result ℕ K)) (a : ℕ) (i : ID) (b : Bool)
+  pub item_tested : {starts : List (Result ℕ K)} {test : ID → Bool} {work given : List (Result ℕ K)} (rest : List (Result ℕ K)) (a : ℕ) (i : ID) (b : Bool)
       → IsWalkingItems w items starts test work given → work ≡ rest ++ Ok a ∷ [] → w.id i ≡ a → b ≡ test i → has (sound_items given) a ≡ b
   item_tested {given = given} rest a i b walking e same is =
       let here : w.is_node (w.id i) ≡ true = rw same (item_is_node rest a walking e) in
@@ -174,7 +174,7 @@ module _ {T ID K : Type 0} (w : Numbered T ID) (items : FailingGraph K) where
 
   pub walking_item_entered : {starts : List (Result ℕ K)} {test : ID → Bool} {work given : List (Result ℕ K)} (eq : ID → ID → Bool) (test2 : ID → Bool)
       (rest : List (Result ℕ K)) (a : ℕ) (i : ID)
-      → ((b : ℕ) → w.is_node b ≡ true → AreNodes w (sound_items (items b))) → ((i j : ID) → w.is_node (w.id i) ≡ true → w.is_node (w.id j) ≡ true → eq i j ≡ (w.id i == w.id j))
+      → AreNodes w (sound_items (items a)) → ((i j : ID) → w.is_node (w.id i) ≡ true → w.is_node (w.id j) ≡ true → eq i j ≡ (w.id i == w.id j))
       → IsWalkingItems w items starts test work given → work ≡ rest ++ Ok a ∷ [] → w.id i ≡ a → false ≡ test i
       → ((q : ID) → test2 q ≡ cond (eq i q) true (test q))
       → IsWalkingItems w items starts test2 (rest ++ items a) (given ++ Ok a ∷ [])
@@ -184,7 +184,7 @@ module _ {T ID K : Type 0} (w : Numbered T ID) (items : FailingGraph K) where
       let nodes2 : sound_items (given ++ Ok a ∷ []) ≡ sound_items given ++ a ∷ [] = sound_items-append given (Ok a ∷ []) in
       let fresh : Contains given (Ok a) → ⊥ = λ h. absurd (true≢false (sym (has-from_Contains (sound_items given) a (Contains-sound given a h)) ∙ new)) in
       record {
-        nodes = λ b h. ⊎_elim (λ l. keeps_nodes rest (Ok a) k e b l) (λ r. closed a here b r)
+        nodes = λ b h. ⊎_elim (λ l. keeps_nodes rest (Ok a) k e b l) (λ r. closed b r)
             (Contains-append_cases (sound_items rest) (sound_items (items a)) b (rw (sound_items-append rest (items a)) at h));
         knows = λ j lt.
             let told : eq i j ≡ (w.id i == w.id j) = apart i j (rw same here) lt in
