@@ -1,0 +1,12 @@
+//! Laws of the parser of globs, as contracts of functions with empty bodies.
+ghost use Rattle.glob_grammar.specs.Grammar.{SpelledGlobsAreParsed, SpellingIsUnique};
+
+/// A pattern that spells a syntax tree by the grammar parses as tokens with that tree.
+pub fn spelled_globs_are_parsed()
+    ensures { SpelledGlobsAreParsed }
+{}
+
+/// A pattern spells at most one syntax tree.
+pub fn spelling_is_unique()
+    ensures { SpellingIsUnique }
+{}

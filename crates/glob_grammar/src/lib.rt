@@ -1,0 +1,4 @@
+//! The grammar of globs, and laws that relate it to the parser.
+#![tactic(auto)]
+
+pub mod laws;
