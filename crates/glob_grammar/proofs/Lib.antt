@@ -1,3 +1,4 @@
 pub mod Steps
 pub mod Trees
 pub mod Parsed
+pub mod Spelled

@@ -1,5 +1,10 @@
 //! Laws of the parser of globs, as contracts of functions with empty bodies.
-ghost use Rattle.glob_grammar.specs.Grammar.{SpelledGlobsAreParsed, SpellingIsUnique};
+ghost use Rattle.glob_grammar.specs.Grammar.{ParsedGlobsAreSpelled, SpelledGlobsAreParsed, SpellingIsUnique};
+
+/// The tokens of a pattern have a syntax tree that the pattern spells by the grammar.
+pub fn parsed_globs_are_spelled()
+    ensures { ParsedGlobsAreSpelled }
+{}
 
 /// A pattern that spells a syntax tree by the grammar parses as tokens with that tree.
 pub fn spelled_globs_are_parsed()
