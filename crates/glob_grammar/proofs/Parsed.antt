@@ -1,5 +1,5 @@
 -- A spelled tree is what the parser reads.
-use Rattle.std.proofs.Common.{◌≡◌, ◌≢◌, ◌⊎◌, ◌∙◌, ap, sym, ℕ, zero, suc, Bool, true, false, ◌&&◌, if◌then◌else◌, List, [], ◌∷◌, map, reverse, Result, Ok, refl, inl, inr}
+use Rattle.std.proofs.Common.{◌≡◌, ◌≢◌, ◌⊎◌, ◌∙◌, ap, sym, ℕ, zero, suc, Bool, true, false, ◌&&◌, List, [], ◌∷◌, map, reverse, Result, Ok, refl, inl, inr}
 use Rattle.jj_globs.specs.declared.glob.token.Token.{Token}
 use Rattle.jj_globs.specs.declared.glob.token.Token.TheVariants.{Part as part, Open, Or, Close}
 use Rattle.jj_globs.specs.declared.glob.token.Part.TheVariants.{Byte, AnyByte, Star, LeadingDirs, InnerDirs, Below, Everything, OneOf}
@@ -7,10 +7,10 @@ use Rattle.jj_globs.specs.declared.glob.symbol.Position.{Position}
 use Rattle.jj_globs.specs.declared.glob.symbol.Position.TheVariants.{Start, LeadingRun, InnerRun, AfterSlash, Elsewhere}
 use Rattle.jj_globs.specs.declared.glob.error.GlobError.{GlobError}
 use Rattle.jj_globs.specs.GlobMeaning.{Sequence, done, next, group, Alternatives, no_more, either, Reading, reading_of}
-use Rattle.jj_globs.specs.GlobSyntax.{Lexeme, asterisk, slash, open_brace, comma, close_brace, literal, symbol_of, lexemes, only_dirs, position_after, position_after_group, position_of, with_or, with_close, closes_empty_group, parse, tokens_of}
-use Rattle.glob_grammar.specs.Grammar.{ends, is_slash, has_dirs, has_component, Dirs, none, more, with_alternative, Spells, SpellsAlternatives, end, any_byte, one_of, byte, comma_byte, star, slash_byte, leading, leading_last, inner, below, empty_group, whole_group, last, another, IsSpelled, SpelledGlobsAreParsed, SpellingIsUnique}
+use Rattle.jj_globs.specs.GlobSyntax.{Lexeme, asterisk, slash, open_brace, comma, close_brace, symbol_of, lexemes, only_dirs, position_after, position_after_group, position_of, with_or, with_close, closes_empty_group, parse, tokens_of}
+use Rattle.glob_grammar.specs.Grammar.{ends, has_dirs, has_component, Dirs, none, more, with_alternative, Spells, SpellsAlternatives, end, any_byte, one_of, byte, comma_byte, star, slash_byte, leading, leading_last, inner, below, empty_group, whole_group, last, another, SpelledGlobsAreParsed, SpellingIsUnique}
 use Rattle.glob_grammar.proofs.Steps.{in_group, end-step, slash-step, comma-step, last-step, dirs-step, IsStarHere, star-step, leading-run, inner-run}
-use Rattle.glob_grammar.proofs.Trees.{HasAlternatives, AllHaveAlternatives, push, push_first, push_more, reading, reading_of-push}
+use Rattle.glob_grammar.proofs.Trees.{HasAlternatives, AllHaveAlternatives, push, push_first, push_more, reading_of-push}
 
 -- 1. Each group of a spelled tree has an alternative.
 

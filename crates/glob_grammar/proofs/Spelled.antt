@@ -1,5 +1,5 @@
 -- A pattern that parses spells a tree: a derivation is built from the last lexeme to the first.
-use Rattle.std.proofs.Common.{◌≡◌, ◌⊎◌, ◌∙◌, ap, sym, subst, ℕ, zero, suc, Bool, true, false, ◌&&◌, ◌==◌, if◌then◌else◌, List, [], ◌∷◌, map, Ok, refl, inl, inr}
+use Rattle.std.proofs.Common.{◌≡◌, ◌⊎◌, ◌∙◌, ap, sym, subst, ℕ, zero, suc, Bool, true, false, ◌&&◌, if◌then◌else◌, List, [], ◌∷◌, map, Ok, refl, inl, inr}
 use Rattle.jj_globs.specs.declared.glob.token.Token.{Token}
 use Rattle.jj_globs.specs.declared.glob.token.Token.TheVariants.{Part as part, Open}
 use Rattle.jj_globs.specs.declared.glob.token.Part.TheVariants.{Byte, AnyByte, Star, LeadingDirs, InnerDirs, Below, Everything, OneOf}
@@ -8,7 +8,7 @@ use Rattle.jj_globs.specs.GlobMeaning.{Sequence, done, next, group, Alternatives
 use Rattle.jj_globs.specs.GlobSyntax.{Lexeme, question, asterisk, slash, open_brace, comma, close_brace, literal, class, syntax_error, symbol_of, lexemes, only_dirs, position_of, with_dirs, with_last_dirs, two_stars, ends_sequence, with_or, with_close, closes_empty_group, parse, tokens_of}
 use Rattle.glob_grammar.specs.Grammar.{ends, is_slash, has_dirs, has_component, Dirs, none, more, with_alternative, Spells, SpellsAlternatives, end, any_byte, one_of, byte, comma_byte, star, slash_byte, leading, leading_last, inner, below, empty_group, whole_group, last, another, IsSpelled, ParsedGlobsAreSpelled}
 use Rattle.glob_grammar.proofs.Steps.{in_group}
-use Rattle.glob_grammar.proofs.Parsed.{spelled_globs_are_parsed, same-tokens, tokens_of-parse, tokens_of-dirs}
+use Rattle.glob_grammar.proofs.Parsed.{spelled_globs_are_parsed, same-tokens, tokens_of-parse}
 
 -- 1. The groups of a pattern that parses are closed.
 

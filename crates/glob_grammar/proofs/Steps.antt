@@ -1,11 +1,11 @@
 -- The parser's steps over the lexemes of a rule.
-use Rattle.std.proofs.Common.{◌≡◌, ◌≢◌, ◌⊎◌, ◌∙◌, ap, ℕ, zero, suc, Bool, true, false, ◌==◌, List, [], ◌∷◌, refl, sym, inl, inr, eqb-true}
+use Rattle.std.proofs.Common.{◌≡◌, ◌⊎◌, ◌∙◌, ap, ℕ, zero, suc, Bool, true, false, List, [], ◌∷◌, refl, sym, inl, inr, eqb-true}
 use Rattle.jj_globs.specs.declared.glob.token.Token.{Token}
 use Rattle.jj_globs.specs.declared.glob.token.Token.TheVariants.{Part as part}
-use Rattle.jj_globs.specs.declared.glob.token.Part.TheVariants.{Byte, Star, LeadingDirs, InnerDirs, Below}
+use Rattle.jj_globs.specs.declared.glob.token.Part.TheVariants.{Byte, Star, LeadingDirs, InnerDirs}
 use Rattle.jj_globs.specs.declared.glob.symbol.Position.{Position}
 use Rattle.jj_globs.specs.declared.glob.symbol.Position.TheVariants.{Start, Elsewhere}
-use Rattle.jj_globs.specs.GlobSyntax.{Lexeme, question, asterisk, slash, open_brace, comma, close_brace, literal, class, syntax_error, position_of, two_stars, with_dirs, with_last_dirs, ends_sequence, parse}
+use Rattle.jj_globs.specs.GlobSyntax.{Lexeme, asterisk, slash, comma, close_brace, literal, position_of, two_stars, with_dirs, with_last_dirs, parse}
 use Rattle.glob_grammar.specs.Grammar.{ends, is_slash, has_dirs, has_component, Dirs, none, more}
 
 -- whether groups are open
