@@ -1,4 +1,4 @@
--- A spelled tree is what the parser reads.
+-- The parser reads the tree that a pattern spells.
 use Rattle.std.proofs.Common.{◌≡◌, ◌≢◌, ◌⊎◌, ◌∙◌, ap, sym, ℕ, zero, suc, Bool, true, false, ◌&&◌, List, [], ◌∷◌, map, reverse, Result, Ok, refl, inl, inr}
 use Rattle.jj_globs.specs.declared.glob.token.Token.{Token}
 use Rattle.jj_globs.specs.declared.glob.token.Token.TheVariants.{Part as part, Open, Or, Close}
@@ -41,8 +41,8 @@ mutual
 
 -- 2. Tokens so far, and the lexemes after them.
 
-
--- what the parser knows agrees with the rule's start
+-- the parser's position agrees with the rule: at the start, or one where the lexemes are no `**`
+-- component unless it is `Elsewhere`
 abbrev Agrees : ℕ → Bool → Bool → List Token → List Lexeme → Type 0
 Agrees n true e ts ws = position_of e ts ≡ Start
 Agrees n false e ts ws = (position_of e ts ≡ Elsewhere) ⊎ ((position_of e ts ≢ Start) × (has_component (in_group n) ws ≡ false))
@@ -87,7 +87,7 @@ comma-alternative : (n : ℕ) (ts : List Token) (ws : List Lexeme) → parse (su
 unfolding parse
 comma-alternative n ts ws = refl
 
--- another alternative, given what the next ones are read as
+-- another alternative, by how the next ones are parsed
 another-alternative : (s : Sequence) (a : Alternatives) (n : ℕ) (ts : List Token) (ws rest : List Lexeme) → IsFresh ts
     → ((us : List Token) → IsFresh us → parse (suc n) false us ws ≡ parse n (is_empty a us) (closed a us) rest)
     → parse (suc n) false (push s ts) (comma ∷ ws) ≡ parse n (is_empty (with_alternative s a) ts) (closed (with_alternative s a) ts) rest

@@ -126,7 +126,7 @@ literal-spelled : (n : ℕ) (b : ℕ) (ws : List Lexeme) (v : Bool) → is_slash
 literal-spelled n b ws true h (first, others, j) start = slash-spelled n start (literal b) ws h j
 literal-spelled n b ws false h (first, (rest, s, d, a), j) start = (rest, next (Byte b) s, byte h d, a)
 
--- the alternatives of a group, and what is after it
+-- the alternatives of a group, and the lexemes after it
 alternatives : (n : ℕ) {ws rest : List Lexeme} {s : Sequence} → Spells true true ws rest s → After (suc n) rest
     → (after : List Lexeme) × (a : Alternatives) × SpellsAlternatives ws after a × Spelled n true after × Spelled n false after
 alternatives n {s = s} d (alternative_ends e more_after) =

@@ -66,7 +66,8 @@ mutual
         → is_slash (literal b) ≡ false → Spells in_group false ws rest s
         → Spells in_group start (literal b ∷ ws) rest (next (Byte b) s)
     -- a `,` outside of groups
-    comma_byte : {start : Bool} {ws rest : List Lexeme} {s : Sequence} → Spells false false ws rest s
+    comma_byte : {start : Bool} {ws rest : List Lexeme} {s : Sequence}
+        → Spells false false ws rest s
         → Spells false start (comma ∷ ws) rest (next (Byte 44) s)
     -- a `*`, unless it begins a `**/` at the start
     star : {in_group start : Bool} {ws rest : List Lexeme} {s : Sequence}
