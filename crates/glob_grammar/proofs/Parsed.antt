@@ -41,8 +41,8 @@ mutual
 
 -- 2. Tokens so far, and the lexemes after them.
 
--- the parser's position agrees with the rule: at the start, or one where the lexemes are no `**`
--- component unless it is `Elsewhere`
+-- the parser's position agrees with the rule: it is the start; or it is another, and only `Elsewhere`
+-- if a `**` component is here
 abbrev Agrees : ℕ → Bool → Bool → List Token → List Lexeme → Type 0
 Agrees n true e ts ws = position_of e ts ≡ Start
 Agrees n false e ts ws = (position_of e ts ≡ Elsewhere) ⊎ ((position_of e ts ≢ Start) × (has_component (in_group n) ws ≡ false))

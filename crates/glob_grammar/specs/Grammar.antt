@@ -1,6 +1,6 @@
 -- The grammar of globs, by rules of the syntax and without a parser: which syntax trees a pattern
 -- spells. Escapes and classes are lexemes here (`lexemes`).
--- Cited by contracts of public items: IsSpelled, ParsedGlobsAreSpelled, SpelledGlobsAreParsed,
+-- Cited by contracts of public items: ParsedGlobsAreSpelled, SpelledGlobsAreParsed,
 -- SpellingIsUnique.
 use Rattle.std.specs.Prelude.{◌≡◌, ℕ, Bool, true, false, not, ◌&&◌, ◌==◌, ◌⊎◌, List, [], ◌∷◌, map, Ok}
 use Rattle.jj_globs.specs.declared.glob.token.ByteRange.{ByteRange}
@@ -40,7 +40,7 @@ pub data Dirs : List Lexeme → List Lexeme → Type 0 where
   none : {ws : List Lexeme} → Dirs ws ws
   more : {ws rest : List Lexeme} → Dirs ws rest → Dirs (asterisk ∷ asterisk ∷ slash ∷ ws) rest
 
--- 2. The grammar. Lexemes spell a tree, and `rest` is left after it.
+-- 2. The grammar: the lexemes `ws` begin with a sequence, and `rest` remains after it.
 
 -- an empty alternative is no alternative
 abbrev pub with_alternative : Sequence → Alternatives → Alternatives
@@ -106,8 +106,10 @@ mutual
 
   -- the alternatives of a group, up to its `}`
   pub data SpellsAlternatives : (ws rest : List Lexeme) → Alternatives → Type 0 where
+    -- the last alternative
     last : {ws rest : List Lexeme} {s : Sequence} → Spells true true ws (close_brace ∷ rest) s
         → SpellsAlternatives ws rest (with_alternative s no_more)
+    -- an alternative, then others
     another : {ws after rest : List Lexeme} {s : Sequence} {a : Alternatives}
         → Spells true true ws (comma ∷ after) s → SpellsAlternatives after rest a
         → SpellsAlternatives ws rest (with_alternative s a)
@@ -132,7 +134,7 @@ SpelledGlobsAreParsed = (text : List ℕ) (s : Sequence) → IsSpelled text s
     → (ts : List Token) × (tokens_of text ≡ Ok ts)
     × (reading_of ts ≡ record { here = s; outer = [] })
 
--- a pattern spells one tree
+-- a pattern spells at most one tree
 abbrev pub SpellingIsUnique : Type 0
 SpellingIsUnique = (text : List ℕ) (first second : Sequence) → IsSpelled text first
     → IsSpelled text second → first ≡ second
