@@ -1,5 +1,8 @@
 //! Laws of all libraries: empty functions whose contracts state properties of definitions, for use
 //! in proofs.
+pub use glob_grammar::laws::{
+    parsed_globs_are_spelled, spelled_globs_are_parsed, spelling_is_unique,
+};
 pub use jj_ids::object_id::sum_laws;
 pub use jj_ids::ref_name::remote_symbol_display_is_injective;
 pub use jj_matchers::laws::{acceptance_laws, walks_find_accepted_marks};
@@ -9,3 +12,4 @@ pub use jj_program::laws::{
     commands_give_one_answer, faults_are_of_first_kinds, faults_are_of_first_lines,
     walks_find_their_files,
 };
+pub use jj_walks::laws::grouped_graphs_yield_grouped_orders;
