@@ -8,4 +8,5 @@ pub mod Ranks
 pub mod Newest
 pub mod Showing
 pub mod Lookups
+pub mod KnownAncestors
 pub mod ImplementedGraphs

@@ -1,5 +1,5 @@
 -- Lookups of commits implement the graph of the commits, and fail only at missing ones.
-use Rattle.std.proofs.Common.{◌≡◌, ◌⊎◌, inl, inr, ℕ, true, false, Option, None, Some, is_some, Result, Ok, Err, List, [], ◌∷◌, ◌++◌, map, refl, sym, ◌∙◌, ap, subst, arith, eqb, reverse, ⊎_elim}
+use Rattle.std.proofs.Common.{◌≡◌, inl, inr, ℕ, true, Option, None, Some, Result, Ok, Err, List, [], ◌∷◌, ◌++◌, map, refl, sym, ◌∙◌, ap, subst, arith, eqb, reverse, ⊎_elim}
 use Rattle.std.specs.Fn.{Called, Mut, Shared}
 use Rattle.std.specs.Iterator.{YieldsFirstBy}
 use Rattle.std.specs.List.{Contains, cons_option, filter_map}
@@ -10,9 +10,9 @@ use Rattle.std.proofs.lemmas.List.Elements.{Contains-append_right}
 use denote.Ref.{Bor}
 use Rattle.jj_dag.specs.ClosureGraph.{Implements, MayReturn, ReturnsId}
 use Rattle.jj_dag.specs.Failing.{FailsAfterNodes}
-use Rattle.jj_dag.specs.Graph.{IsAcyclicFrom, AreMaximalElements, IsPostorder, OnCycleFrom, ReachedFrom}
+use Rattle.jj_dag.specs.Graph.{AreMaximalElements, IsPostorder, OnCycleFrom, ReachedFrom}
 use Rattle.jj_dag.specs.Orders.{IsWholePostorder}
-use Rattle.jj_dag.specs.Walk.{AreNodes, DrainsTo}
+use Rattle.jj_dag.specs.Walk.{DrainsTo}
 use Rattle.jj_dag.proofs.ClosureGraphs.{may_return_says}
 use Rattle.jj_walks.proofs.Answering.{in_reverse}
 use Rattle.jj_dag.proofs.Collecting.{are_nodes}
@@ -23,23 +23,23 @@ use Rattle.jj_dag.proofs.Relabelled.{Contains-map}
 use Rattle.jj_dag.proofs.Walking.{drained_are}
 use Rattle.jj_walks_tests.specs.declared.commits.Commit.{Commit}
 use Rattle.jj_walks_tests.specs.declared.missing.Lookups.{Lookups}
-use Rattle.jj_walks_tests.specs.Commits.{commit_with, has_commit, ids_of, known_ids, parents_in, parent_graph}
+use Rattle.jj_walks_tests.specs.Commits.{commit_with, has_commit, known_ids, parent_graph}
 use Rattle.jj_walks_tests.specs.Missing.{IsMissingFrom, looked_up, lookups_left, or_missing}
 use Rattle.jj_walks_tests.specs.Parents.{shown_item}
 use Rattle.jj_walks_tests.proofs.Numbering.{ids_are, node, node_has, node_id, node_stands, walk_closed, walk_neighbors, walk_of}
 use Rattle.jj_walks_tests.proofs.Sound.{known_are_nodes, known_starts}
 
-abbrev becomes : Lookups → Lookups → Type 0
+abbrev pub becomes : Lookups → Lookups → Type 0
 becomes s t = t ≡ s
 
-abbrev steps : Lookups → Option (Result (Bor Commit) ℕ) → Lookups → Type 0
+abbrev pub steps : Lookups → Option (Result (Bor Commit) ℕ) → Lookups → Type 0
 steps = YieldsFirstBy shown_item lookups_left
 
-found_one : (x : Commit) (id : ℕ) (o : Option Commit) → Ok x ≡ or_missing id o → o ≡ Some x
+pub found_one : (x : Commit) (id : ℕ) (o : Option Commit) → Ok x ≡ or_missing id o → o ≡ Some x
 found_one x id None e = absurd cc
 found_one x id (Some c) e = let same : x ≡ c = cc in ap (λ d. Some d) (sym same)
 
-lacked_one : (id missing : ℕ) (o : Option Commit) → or_missing id o ≡ Err missing → (o ≡ None) × (id ≡ missing)
+pub lacked_one : (id missing : ℕ) (o : Option Commit) → or_missing id o ≡ Err missing → (o ≡ None) × (id ≡ missing)
 lacked_one id missing None e = (refl, cc)
 lacked_one id missing (Some c) e = absurd cc
 
@@ -69,7 +69,7 @@ module _ (commits : List Commit) where
       (Contains-append_right (i ∷ []) ids id found.0, found.1)
 
   module _ (ids : List ℕ) (value : Lookups) (same : value.commits.now ≡ commits) (list : value.ids.now ≡ ids) where
-    left : lookups_left value ≡ map (looked_up commits) ids
+    pub left : lookups_left value ≡ map (looked_up commits) ids
     left = ap (λ cs. map (looked_up cs) value.ids.now) same ∙ ap (map (looked_up commits)) list
 
     pub drained_all : (xs : List (Bor Commit)) → DrainsTo becomes steps value (map (λ x. Ok x) xs) → map (λ x. x.now) xs ≡ filter_map (commit_with commits) ids
@@ -102,7 +102,7 @@ module _ (commits : List Commit) where
           (λ xs here d. walk_neighbors commits a.0.now xs here (drained_all a.0.now.now.parents.items r k.0 k.1 xs d), k.2));
     }
 
-  node_found : (ids : List ℕ) (x : Bor Commit) → ReachedFrom (parent_graph commits) (known_ids commits ids) (node commits x) → has_commit commits x.now ≡ true
+  pub node_found : (ids : List ℕ) (x : Bor Commit) → ReachedFrom (parent_graph commits) (known_ids commits ids) (node commits x) → has_commit commits x.now ≡ true
   node_found ids x reached = node_has commits x (are_nodes {E = ℕ} (walk_of commits) (λ a. []) (known_ids commits ids) (walk_closed commits) (known_are_nodes commits ids) (node commits x) reached)
 
   module _ {N : Type 0} (lists : Mut N (Bor (Bor Commit) × Unit {0}) Lookups) (neighbors_fn : N)
@@ -118,7 +118,7 @@ module _ (commits : List Commit) where
         record { missing = f.1; named = inr (x.now, here, subst (λ (n : ℕ). ReachedFrom (parent_graph commits) (known_ids commits ids) n) (node_id commits x here) reached, f.0) }
 
   -- nodes that the ids reach have their ids for their numbers
-  reached_ids : (ids : List ℕ) (xs : List (Bor Commit)) → ((a : ℕ) → Contains (map (node commits) xs) a → ReachedFrom (parent_graph commits) (known_ids commits ids) a) → map (node commits) xs ≡ map (λ x. x.now.id) xs
+  pub reached_ids : (ids : List ℕ) (xs : List (Bor Commit)) → ((a : ℕ) → Contains (map (node commits) xs) a → ReachedFrom (parent_graph commits) (known_ids commits ids) a) → map (node commits) xs ≡ map (λ x. x.now.id) xs
   reached_ids ids xs reached =
       ids_are commits xs (λ x h. node_has commits x (are_nodes {E = ℕ} (walk_of commits) (λ a. []) (known_ids commits ids) (walk_closed commits) (known_are_nodes commits ids) (node commits x)
       (reached (node commits x) (Contains-map (node commits) xs x h))))

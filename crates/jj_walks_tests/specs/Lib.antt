@@ -5,3 +5,4 @@ pub mod Parents
 pub mod Gaps
 pub mod Newest
 pub mod Missing
+pub mod WalkItems

@@ -1,8 +1,10 @@
 -- Commits that a list lacks.
--- Cited by contracts of public items: IsMissingFrom, lookups_left.
-use Rattle.std.specs.Prelude.{◌≡◌, ◌⊎◌, ℕ, true, List, map, Option, None, Some, Result}
+-- Cited by contracts of public items: AreKnownAncestors, IsMissingFrom, lookups_left.
+use Rattle.std.specs.Prelude.{◌≡◌, ◌⊎◌, ◌↔◌, ℕ, true, eqb, List, map, Option, None, Some, Result}
 use Rattle.std.specs.declared.result.Result.TheVariants.{Ok, Err}
-use Rattle.std.specs.List.{Contains}
+use Rattle.std.specs.List.{Contains, IsDistinct}
+use denote.Ref.{Bor}
+use Rattle.jj_dag.specs.Failing.{sound_items}
 use Rattle.jj_dag.specs.Graph.{ReachedFrom}
 use Rattle.jj_walks_tests.specs.declared.commits.Commit.{Commit}
 use Rattle.jj_walks_tests.specs.declared.missing.Lookups.{Lookups}
@@ -26,3 +28,16 @@ pub record IsMissingFrom (commits : List Commit) (ids : List ℕ) (id : ℕ) : T
   pub named : Contains ids id ⊎ ((c : Commit) × (has_commit commits c ≡ true)
       × ReachedFrom (parent_graph commits) (known_ids commits ids) c.id
       × Contains c.parents.items id)
+
+-- the ids of the commits among the items
+abbrev pub found_ids : List (Result (Bor Commit) ℕ) → List ℕ
+found_ids items = map (λ c. c.now.id) (sound_items items)
+
+-- The commits found are exactly those that the list has of the ids and their ancestors, each once.
+-- The errors are exactly the missing ids: without one, these are all ancestors.
+pub record AreKnownAncestors (commits : List Commit) (ids : List ℕ)
+    (found : List (Result (Bor Commit) ℕ)) : Type 0 where
+  pub exactly : (id : ℕ) → Contains (found_ids found) id
+      ↔ ReachedFrom (parent_graph commits) (known_ids commits ids) id
+  pub once : IsDistinct eqb (found_ids found)
+  pub errors : (id : ℕ) → Contains found (Err id) ↔ IsMissingFrom commits ids id

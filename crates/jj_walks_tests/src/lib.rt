@@ -26,3 +26,4 @@ mod shown;
 mod texts;
 #[cfg(test)]
 mod walk_errors;
+pub mod walk_items;

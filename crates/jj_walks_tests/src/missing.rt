@@ -5,11 +5,14 @@ ghost use Rattle.jj_dag.specs.Errors.{IfNode};
 ghost use Rattle.jj_dag.specs.Graph.{IsAcyclicFrom, AreMaximalElements, OnCycleFrom};
 ghost use Rattle.jj_dag.specs.Orders.{IsWholePostorder};
 ghost use Rattle.jj_walks_tests.specs.Commits.{known_ids, parent_graph};
-ghost use Rattle.jj_walks_tests.specs.Missing.{IsMissingFrom};
+ghost use Rattle.jj_walks_tests.specs.Missing.{AreKnownAncestors, IsMissingFrom};
 
 use crate::commits::{Commit, commit_of};
-use jj_walks::dag_walk::{WalkError, heads_ok, topo_order_forward_ok, topo_order_reverse_ok};
-use std::alloc::Global;
+use crate::walk_items::collect_items;
+use jj_walks::dag_walk::{
+    WalkError, dfs_ok, heads_ok, topo_order_forward_ok, topo_order_reverse_ok,
+};
+use std::alloc::{AllocError, Global};
 use std::collections::HashSet;
 
 /// Iterates over the commits with these ids. The item of a missing commit is its id.
@@ -108,4 +111,22 @@ pub fn ancestors_last<'a>(
         |commit: &&Commit| look_up(commits, &commit.parents),
         |commit: &Commit| commit.id,
     )
+}
+
+/// Returns the commits with these ids and their ancestors, depth first, and the id of each missing
+/// commit in its place.
+pub fn known_ancestors<'a>(
+    alloc: Global,
+    commits: &'a [Commit],
+    ids: &'a [u64],
+) -> Result<Vec<Result<&'a Commit, u64>>, AllocError>
+    ensures { IfOk result (λ found. AreKnownAncestors commits.now ids.now found.items) }
+{
+    let walk = dfs_ok(
+        alloc,
+        look_up(commits, ids),
+        |commit: &&Commit| Ok(&commit.id),
+        |commit: &&Commit| look_up(commits, &commit.parents),
+    )?;
+    collect_items(alloc, walk)
 }
