@@ -113,8 +113,8 @@ pub fn ancestors_last<'a>(
     )
 }
 
-/// Returns the commits with these ids and their ancestors, depth first, and the id of each missing
-/// commit in its place.
+/// Returns the commits with these ids and their ancestors, depth first. The item of a missing
+/// commit is its id.
 pub fn known_ancestors<'a>(
     alloc: Global,
     commits: &'a [Commit],

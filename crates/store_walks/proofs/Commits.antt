@@ -39,7 +39,7 @@ use Rattle.store_walks.proofs.SameCommits.{same_commit}
 abbrev pub id_graph : Parents → Graph
 id_graph parents = numbers_graph parents number list_of_number list_of_number-number
 
-number_is_node : (id : List ℕ) → not (number id == 0) ≡ true
+pub number_is_node : (id : List ℕ) → not (number id == 0) ≡ true
 number_is_node id = ap not (number-not_zero id)
 
 -- ids are equal just where their numbers are
@@ -122,7 +122,7 @@ module _ (may_fail : BackendError → Type 0) (store : Objects) where
       by_test true e h = (refl, found_commit (store.commits c.id) c.commit e)
       by_test false e h = absurd (true≢false (sym h))
 
-  stored_node : (c : ReadCommit) → IsStored store c → node_of c ≡ number c.id
+  pub stored_node : (c : ReadCommit) → IsStored store c → node_of c ≡ number c.id
   stored_node c stored =
       let found : is_found (store.commits c.id) c.commit ≡ true = ap (λ o. is_found o c.commit) stored ∙ commit_equiv.refl c.commit in
       ap (λ t. cond t (number c.id) 0) found
@@ -146,14 +146,17 @@ module _ (may_fail : BackendError → Type 0) (store : Objects) where
   ReadsAll ids r = IfOk r (λ v. map id_of v.items ≡ ids) × IfOk r (λ v. All (IsStored store) v.items) × IfErr r (IsErrorOfIds may_fail store ids)
 
   -- the stored parents of a node are its neighbours
-  pub listed_from : (parents : Parents) → Completes store parents → (c : ReadCommit) → not (node_of c == 0) ≡ true → (v : Vec ReadCommit Global) (xs : List ReadCommit) → xs ≡ v.items
-      → map id_of v.items ≡ c.commit.parents → All (IsStored store) v.items → map node_of xs ≡ id_graph parents (node_of c)
-  listed_from parents complete c here v xs same ids stored =
+  pub listed_commits : (parents : Parents) → Completes store parents → (c : ReadCommit) → not (node_of c == 0) ≡ true → (xs : List ReadCommit)
+      → map id_of xs ≡ c.commit.parents → All (IsStored store) xs → map node_of xs ≡ id_graph parents (node_of c)
+  listed_commits parents complete c here xs ids stored =
       let known = known_node c here in
-      ap (map node_of) same
-      ∙ stored_nodes v.items stored
+      stored_nodes xs stored
       ∙ ap (map number) (ids ∙ sym (complete c.id c.commit known.1) ∙ ap parents (sym (list_of_number-number c.id)))
       ∙ ap (id_graph parents) (sym known.0)
+
+  pub listed_from : (parents : Parents) → Completes store parents → (c : ReadCommit) → not (node_of c == 0) ≡ true → (v : Vec ReadCommit Global) (xs : List ReadCommit) → xs ≡ v.items
+      → map id_of v.items ≡ c.commit.parents → All (IsStored store) v.items → map node_of xs ≡ id_graph parents (node_of c)
+  listed_from parents complete c here v xs same ids stored = ap (map node_of) same ∙ listed_commits parents complete c here v.items ids stored
 
   module _ {S : Type 0} (becomes : Vec ReadCommit Global → S → Type 0) (steps : S → Option ReadCommit → S → Type 0)
       (items : (v : Vec ReadCommit Global) (it : S) → becomes v it → YieldsList steps (λ y. y) it v.items) where

@@ -1,3 +1,5 @@
 pub mod SameCommits
 pub mod Commits
 pub mod HistoryItems
+pub mod ReadResults
+pub mod FoundAncestors

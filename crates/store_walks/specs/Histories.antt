@@ -1,14 +1,16 @@
 -- The history of a store: its commits, with an edge from each to its parents.
--- Cited by contracts of public items: AreHeadCommits, AreMergeBases, IsErrorBelow, IsHistoryError,
--- IsHistoryOrder, IsReadErrorBelow.
-use Rattle.std.specs.Prelude.{◌≡◌, ◌⊎◌, ℕ, List, All, Some, map}
+-- Cited by contracts of public items: AreFoundAncestors, AreHeadCommits, AreMergeBases,
+-- IsErrorBelow, IsHistoryError, IsHistoryOrder, IsReadErrorBelow.
+use Rattle.std.specs.Prelude.{◌≡◌, ◌≢◌, ◌⊎◌, ℕ, List, All, AllPairs, Result, Some, map}
 use Rattle.std.specs.List.{Contains}
+use Rattle.std.specs.declared.result.Result.TheVariants.{Ok, Err}
 use Rattle.jj_backend.specs.Objects.{Objects}
 use Rattle.jj_backend.specs.Records.{CommitValue}
 use Rattle.jj_backend.specs.declared.backend.errors.BackendError.{BackendError}
 use Rattle.jj_backend.specs.declared.backend.errors.BackendError.TheVariants.{Memory}
+use Rattle.jj_dag.specs.Failing.{sound_items}
 use Rattle.jj_dag.specs.NodeGraph.{AreMaximalNodes, HasNoCommonNodeCycle, IsChildFirstOrder, IsCommonNode, NodeGraph, ReachesNoCycle, ReachesNode, ReachesSomeCycle}
-use Rattle.store_walks.specs.ReadCommits.{IsReadError, IsStored, id_of}
+use Rattle.store_walks.specs.ReadCommits.{IsReadError, IsReadFailure, IsStored, id_of}
 use Rattle.store_walks.specs.declared.read_commit.ReadCommit.{ReadCommit}
 use Rattle.store_walks.specs.declared.order.HistoryError.{HistoryError}
 use Rattle.store_walks.specs.declared.order.HistoryError.TheVariants.{Read, Cycle}
@@ -61,3 +63,30 @@ module _ (store : Objects) where
   IsHistoryError may_fail ids (Read e) = IsErrorBelow may_fail ids e
   IsHistoryError may_fail ids (Cycle id) = InEachHistory (λ parents. ReachesNode parents ids id
       × ReachesSomeCycle parents ids)
+
+-- the ids of the commits among the results
+abbrev pub found_ids : List (Result ReadCommit BackendError) → List (List ℕ)
+found_ids found = map id_of (sound_items found)
+
+module _ (store : Objects) (may_fail : BackendError → Type 0) where
+  -- the commit was found, or an error of reading it
+  abbrev pub IsFoundOrFailed : List (Result ReadCommit BackendError) → List ℕ → Type 0
+  IsFoundOrFailed found id = Contains (found_ids found) id
+      ⊎ ((e : BackendError) × Contains found (Err e) × IsReadFailure may_fail store e id)
+
+  -- The commits found are ancestors of the ids, as the store has them, each once, and each error is
+  -- one of reading an ancestor. The ids and the parents of each commit found were read. Without an
+  -- error these are all ancestors.
+  pub record AreFoundAncestors (ids : List (List ℕ)) (found : List (Result ReadCommit BackendError))
+      : Type 0 where
+    pub stored : (c : ReadCommit) → Contains found (Ok c) → IsStored store c
+    pub reached : (c : ReadCommit) → Contains found (Ok c)
+        → InEachHistory store (λ parents. ReachesNode parents ids c.id)
+    pub once : AllPairs (λ a b. a ≢ b) (found_ids found)
+    pub errors : (e : BackendError) → Contains found (Err e) → IsErrorBelow store may_fail ids e
+    pub starts_read : (id : List ℕ) → Contains ids id → IsFoundOrFailed found id
+    pub parents_read : (c : ReadCommit) (id : List ℕ) → Contains found (Ok c)
+        → Contains c.commit.parents id → IsFoundOrFailed found id
+    pub all : ((e : BackendError) → Contains found (Err e) → ⊥)
+        → InEachHistory store (λ parents. (id : List ℕ) → ReachesNode parents ids id
+        → Contains (found_ids found) id)

@@ -1,3 +1,4 @@
 pub mod ReadCommits
+pub mod ReadResults
 pub mod Histories
 pub mod HistoryItems

@@ -22,6 +22,10 @@ module _ (may_fail : BackendError → Type 0) (store : Objects) where
   abbrev pub IsReadError : BackendError → List ℕ → Type 0
   IsReadError e id = IsRead {R = CommitValue} may_fail (store.commits id) (λ c. c) (Err e)
 
+  -- or it is out of memory
+  abbrev pub IsReadFailure : BackendError → List ℕ → Type 0
+  IsReadFailure e id = (e ≡ Memory) ⊎ IsReadError e id
+
   -- the error is out of memory, or one of reading one of these ids
   abbrev pub IsErrorOfIds : List (List ℕ) → BackendError → Type 0
   IsErrorOfIds ids e = (e ≡ Memory) ⊎ Any (IsReadError e) ids

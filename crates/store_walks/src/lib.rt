@@ -1,12 +1,16 @@
-//! Walks over the commits of a store: heads, merge bases and a topological order. A commit is read
-//! when a walk reaches it, and each read may fail.
+//! Walks over the commits of a store: ancestors, heads, merge bases and a topological order. A
+//! commit is read when a walk reaches it, and each read may fail.
 #![tactic(auto)]
 
+mod ancestry;
 mod bases;
 mod heads;
 mod order;
 mod read_commit;
+mod reads;
+mod walk_items;
 
+pub use crate::ancestry::ancestors;
 pub use crate::bases::merge_bases;
 pub use crate::heads::head_commits;
 pub use crate::order::{HistoryError, history_order};

@@ -73,7 +73,7 @@ pub(crate) fn parent_ids<B: Backend>(
 }
 
 // Reads the commit of this id.
-fn read<B: Backend>(alloc: Global, store: &B, id: &CommitId) -> BackendResult<ReadCommit>
+pub(crate) fn read<B: Backend>(alloc: Global, store: &B, id: &CommitId) -> BackendResult<ReadCommit>
     ensures stored { IfOk result (IsStored (B.objects store.now)) }
     ensures id { IfOk result (λ c. c.id ≡ id.now) }
     ensures error { IfErr result (λ e. (e ≡ BackendError.Memory)
