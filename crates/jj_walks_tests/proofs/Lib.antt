@@ -10,3 +10,4 @@ pub mod Showing
 pub mod Lookups
 pub mod KnownAncestors
 pub mod ImplementedGraphs
+pub mod Children

@@ -6,3 +6,4 @@ pub mod Gaps
 pub mod Newest
 pub mod Missing
 pub mod WalkItems
+pub mod Children

@@ -1,13 +1,19 @@
-//! A caller over a list of commits that keeps branches together, the prioritized one first.
+//! Callers over the graph of a list of commits: its branches, the prioritized one first, and its
+//! reverse.
 ghost use Rattle.std.specs.Prelude.{◌≡◌, ◌⊎◌, List, IfOk, IfErr, Ok, Some, eqb, map, true};
+ghost use Rattle.std.specs.List.{IsDistinct};
 ghost use denote.Ref.{Bor};
 ghost use Rattle.jj_walks.specs.declared.grouped.GroupedGraphError.TheVariants.{Memory};
 ghost use Rattle.jj_walks.specs.GroupedOrders.{IsGroupedOrder, IsWhole, has_node};
 ghost use Rattle.jj_walks_tests.specs.declared.commits.Commit.{Commit as commit};
 ghost use Rattle.jj_walks_tests.specs.Branches.{ShowsCommits, nodes_of, parent_edge, parent_edges};
+ghost use Rattle.jj_walks_tests.specs.Children.{HaveChildren};
+ghost use Rattle.jj_walks_tests.specs.Commits.{ids_of};
 
 use crate::commits::{Commit, commit_of};
-use jj_walks::graph::{GraphEdge, GraphNode, GroupedGraphError, TopoGroupedGraph};
+use jj_walks::graph::{
+    GraphEdge, GraphNode, GroupedGraphError, TopoGroupedGraph, WalkError, reverse_graph,
+};
 use std::alloc::{AllocError, Global};
 
 // The edge to a parent; missing if the list has no such commit.
@@ -85,6 +91,18 @@ pub fn grouped_commits<'a>(
         }
     }
     Ok(order)
+}
+
+/// Returns the commits from the last to the first, each with edges to its children in the list.
+pub fn children_of<'a>(
+    alloc: Global,
+    commits: &'a [Commit],
+) -> Result<Vec<GraphNode<&'a Commit, u64>>, WalkError<u64>>
+    requires { IsDistinct eqb (ids_of commits.now) }
+    ensures { IfOk result (λ nodes. HaveChildren commits.now nodes.items) }
+{
+    let input = shown_commits(alloc, commits)?;
+    reverse_graph(alloc, input.into_iter(), commit_id)
 }
 
 #[cfg(test)]
