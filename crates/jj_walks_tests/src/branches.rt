@@ -94,6 +94,7 @@ pub fn grouped_commits<'a>(
 }
 
 /// Returns the commits from the last to the first, each with edges to its children in the list.
+/// Fails if memory runs out.
 pub fn children_of<'a>(
     alloc: Global,
     commits: &'a [Commit],

@@ -114,7 +114,7 @@ pub fn ancestors_last<'a>(
 }
 
 /// Returns the commits with these ids and their ancestors, depth first. The item of a missing
-/// commit is its id.
+/// commit is its id. Fails if memory runs out.
 pub fn known_ancestors<'a>(
     alloc: Global,
     commits: &'a [Commit],

@@ -1,4 +1,4 @@
--- Lists of read results: what each result says of the ids.
+-- Properties of the results of reading several commits.
 use Rattle.std.proofs.Common.{◌≡◌, ◌⊎◌, inl, inr, ℕ, suc, Result, Ok, Err, IfOk, List, [], ◌∷◌, ◌++◌, get_or, map, refl, sym, subst, arith, ⊎_elim}
 use Rattle.std.specs.Prelude.{All, IfErr}
 use Rattle.std.specs.List.{AllZip, Contains}

@@ -9,7 +9,7 @@ use jj_backend::backend::{Backend, BackendResult, CommitId};
 use std::alloc::{AllocError, Global};
 
 /// Returns the ancestors of `ids`, each once, depth first, with the error of each failed read. A
-/// failed read does not end the walk.
+/// failed read does not end the walk. Fails if memory runs out.
 pub fn ancestors<B: Backend>(
     alloc: Global,
     store: &B,
