@@ -1,5 +1,5 @@
 use Rattle.std.proofs.Common.{◌∙◌, Some, ap, subst, rules}
-use Rattle.jj_stores.specs.JoinRows.{AreLeft}
+use Rattle.jj_stores.specs.JoinRows.{AreRemainingRows}
 use Rattle.jj_stores.specs.JoinSteps.{row_of, YieldsRow}
 use Rattle.jj_stores.specs.ViewJoins.{IsViewJoin}
 use Rattle.jj_stores.proofs.SelectedRefs.{remotes_shown}
@@ -17,7 +17,7 @@ loop-row-init c =
       join = λ rest left. rw c.new-rows.ensures.items
           (subst (λ r. IsViewJoin c.args.view.now.local_bookmarks.entries r rest) remotes
           (subst (λ l. IsViewJoin l begun.remotes rest) c.in_ok-row-items.ensures.locals
-          (subst (λ j. AreLeft j rest) c.into_iter-row-iterator.ensures.into_iter_gives left)));
+          (subst (λ j. AreRemainingRows j rest) c.into_iter-row-iterator.ensures.into_iter_gives left)));
     }
 
 pub loop-row-preserved : goal.loop-row-preserved
@@ -27,11 +27,11 @@ loop-row-preserved c =
     record {
       can = tt;
       ends = tt;
-      join = one_taken row_of (IsViewJoin c.args.view.now.local_bookmarks.entries _) _ (AreLeft c.loop-row.row-iterator) c.loop-row.invariant.join
-          _ c.in_ok-row.field-0 (AreLeft c.next.new.self) c.in_ok-push.ensures.items gave;
+      join = one_taken row_of (IsViewJoin c.args.view.now.local_bookmarks.entries _) _ (AreRemainingRows c.loop-row.row-iterator) c.loop-row.invariant.join
+          _ c.in_ok-row.field-0 (AreRemainingRows c.next.new.self) c.in_ok-push.ensures.items gave;
     }
 
 pub returns : goal.returns
 returns c =
-    all_taken row_of (IsViewJoin c.args.view.now.local_bookmarks.entries _) _ (AreLeft c.loop-row.row-iterator) c.loop-row.invariant.join
+    all_taken row_of (IsViewJoin c.args.view.now.local_bookmarks.entries _) _ (AreRemainingRows c.loop-row.row-iterator) c.loop-row.invariant.join
     (subst (λ r. YieldsRow c.loop-row.row-iterator r c.next.new.self) c.in-None.is c.next.ensures.steps).0
