@@ -15,7 +15,7 @@ def crates():
 
 
 def libraries_below(name, known):
-    """The repository's libraries that a crate stands on, at any depth. `known` is what `crates` answers, or a part of it."""
+    """The repository's libraries below a crate, at any depth. `known` is the result of `crates`, or a part of it."""
     found = []
     for it in known[name]:
         if it in known and it not in found:
