@@ -12,4 +12,8 @@ pub use jj_program::laws::{
     commands_give_one_answer, faults_are_of_first_kinds, faults_are_of_first_lines,
     walks_find_their_files,
 };
-pub use jj_walks::laws::grouped_graphs_yield_grouped_orders;
+pub use jj_walks::laws::{
+    closest_common_nodes_are_maximal, dfs_yields_preorder, grouped_graphs_yield_grouped_orders,
+    heads_are_maximal, topo_order_forward_is_topological, topo_order_reverse_chunked_is_next,
+    topo_order_reverse_lazy_yields_order, topo_order_reverse_ord_is_greatest,
+};

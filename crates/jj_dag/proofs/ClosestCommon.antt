@@ -11,15 +11,15 @@ use Rattle.std.proofs.lemmas.List.Elements.{Contains-append_left, Contains-appen
 use Rattle.std.proofs.lemmas.List.Sorted.{IsPermutation-sym, IsPermutation-trans, IsPermutation-map, IsPermutation-to_front, Contains-permutation}
 use Rattle.std.proofs.lemmas.Map.Keys.{IsDistinct-push, IsDistinct-head, IsDistinct-tail, IsDistinct-cons, IsDistinct-IsPermutation}
 use Rattle.std.proofs.lemmas.Bool.{and_parts}
-use Rattle.jj_dag.specs.declared.closest_common.Reach.{Reach}
-use Rattle.jj_dag.specs.declared.closest_common.Mark.{Mark}
+use Rattle.jj_dag.specs.declared.closest_common.Sides.{Sides}
+use Rattle.jj_dag.specs.declared.closest_common.NodeState.{NodeState}
 use Rattle.indexmap.specs.IndexMap.{insert_entry}
 use Rattle.std.specs.Prelude.{if◌then◌else◌}
 use Rattle.jj_dag.specs.CommonNodes.{HasNoCommonCycle, AreClosestCommon}
-use Rattle.jj_dag.specs.CommonSearch.{KnowsMarks, IsStarting, reach_of_sets}
+use Rattle.jj_dag.specs.CommonSearch.{KnowsMarks, IsStarting, sides_of_sets}
 use Rattle.jj_dag.specs.Graph.{HasEdge, ReachedFrom}
-use Rattle.jj_dag.specs.Marks.{no_mark, reach_of_both, grows, propagated, mark_with, starts_waiting, without_waiting, closest_of}
-use Rattle.jj_dag.specs.Walk.{Numbered, AreNodes}
+use Rattle.jj_dag.specs.Marks.{new_state, union_of_sides, adds_side, propagated, state_with, becomes_pending, without_waiting, closest_of}
+use Rattle.jj_dag.specs.Walk.{Model, AreNodes}
 use Rattle.jj_dag.proofs.Collecting.{are_nodes}
 use Rattle.jj_dag.proofs.CommonMarks.{IsBoth, Passes, IsMarking, IsAtEnd, at_mark, marks_more, marking_more, marking_asked, passes_marked, passes_kept, is_common, end_common, end_maximal, maximal_ends}
 use Rattle.jj_dag.proofs.Reaching.{ReachedFrom-edge}
@@ -122,7 +122,7 @@ insert_new eq (e ∷ es) i x apart =
     let rest = insert_new eq es i x (λ entry h. apart entry (Contains-append_right (e ∷ []) es entry h)) in
     ap (λ t. if t then (e.0, x) ∷ es else e ∷ insert_entry eq es i x) no ∙ ap (λ l. e ∷ l) rest
 
-module _ {T ID : Type 0} (w : Numbered T ID) where
+module _ {T ID : Type 0} (w : Model T ID) where
   abbrev pub Apart : (ID → ID → Bool) → Type 0
   Apart eq = (i j : ID) → w.is_node (w.id i) ≡ true → w.is_node (w.id j) ≡ true → eq i j ≡ (w.id i == w.id j)
 
@@ -135,68 +135,68 @@ module _ {T ID : Type 0} (w : Numbered T ID) where
   -- ---- a node is marked
 
   -- by which one more may wait
-  abbrev pub Joins : (waiting waiting2 : List T) (y : ℕ) (known added : Reach) → Type 0
-  Joins waiting waiting2 y known added = (b : ℕ) → has (map w.node waiting2) b ≡ (has (map w.node waiting) b || ((b == y) && grows known added))
+  abbrev pub Joins : (waiting waiting2 : List T) (y : ℕ) (known added : Sides) → Type 0
+  Joins waiting waiting2 y known added = (b : ℕ) → has (map w.node waiting2) b ≡ (has (map w.node waiting) b || ((b == y) && adds_side known added))
 
-  joins : (waiting waiting2 : List T) (x : T) (known added : Reach) (mark : Mark) → mark ≡ record { reach = known; waits = has (map w.node waiting) (w.node x) }
-      → MatchBool (starts_waiting mark added) (IsPermutation (x ∷ waiting) waiting2) (waiting2 ≡ waiting) → IsDistinct eqb (map w.node waiting)
+  joins : (waiting waiting2 : List T) (x : T) (known added : Sides) (state : NodeState) → state ≡ record { sides = known; is_pending = has (map w.node waiting) (w.node x) }
+      → MatchBool (becomes_pending state added) (IsPermutation (x ∷ waiting) waiting2) (waiting2 ≡ waiting) → IsDistinct eqb (map w.node waiting)
       → Joins waiting waiting2 (w.node x) known added × IsDistinct eqb (map w.node waiting2)
-  joins waiting waiting2 x known added mark is puts once =
+  joins waiting waiting2 x known added state is puts once =
       let y = w.node x in
       let old = map w.node waiting in
-      let result : Type 0 = ((b : ℕ) → has (map w.node waiting2) b ≡ (has old b || ((b == y) && grows known added))) × IsDistinct eqb (map w.node waiting2) in
-      let P : Bool → Type 0 = λ t. (grows known added && not (has old y)) ≡ t → MatchBool t (IsPermutation (x ∷ waiting) waiting2) (waiting2 ≡ waiting) → result in
-      elim (grows known added && not (has old y)) as P [
+      let result : Type 0 = ((b : ℕ) → has (map w.node waiting2) b ≡ (has old b || ((b == y) && adds_side known added))) × IsDistinct eqb (map w.node waiting2) in
+      let P : Bool → Type 0 = λ t. (adds_side known added && not (has old y)) ≡ t → MatchBool t (IsPermutation (x ∷ waiting) waiting2) (waiting2 ≡ waiting) → result in
+      elim (adds_side known added && not (has old y)) as P [
         | true ↦ λ e p.
-            let parts = and_parts (grows known added) (not (has old y)) e in
+            let parts = and_parts (adds_side known added) (not (has old y)) e in
             let q = IsPermutation-map w.node (x ∷ waiting) waiting2 p in (
-              (λ b. has-permutation (y ∷ old) (map w.node waiting2) q b ∙ moved (b == y) (has old b) (grows known added) parts.0),
+              (λ b. has-permutation (y ∷ old) (map w.node waiting2) q b ∙ moved (b == y) (has old b) (adds_side known added) parts.0),
               distinct_put old (map w.node waiting2) y q once (is_false (has old y) parts.1),
             )
         | false ↦ λ e same. (
-          (λ b. ap (λ l. has (map w.node l) b) same ∙ stays b (b == y) (grows known added) refl refl e),
+          (λ b. ap (λ l. has (map w.node l) b) same ∙ stays b (b == y) (adds_side known added) refl refl e),
           subst (λ l. IsDistinct eqb (map w.node l)) (sym same) once,
         )
-      ] refl (subst (λ k. MatchBool (starts_waiting k added) (IsPermutation (x ∷ waiting) waiting2) (waiting2 ≡ waiting)) is puts)
+      ] refl (subst (λ k. MatchBool (becomes_pending k added) (IsPermutation (x ∷ waiting) waiting2) (waiting2 ≡ waiting)) is puts)
     where
-      stays : (b : ℕ) (t g : Bool) → b == w.node x ≡ t → grows known added ≡ g → (grows known added && not (has (map w.node waiting) (w.node x))) ≡ false
+      stays : (b : ℕ) (t g : Bool) → b == w.node x ≡ t → adds_side known added ≡ g → (adds_side known added && not (has (map w.node waiting) (w.node x))) ≡ false
           → has (map w.node waiting) b ≡ (has (map w.node waiting) b || (t && g))
       stays b false g at is none = sym (or_false (has (map w.node waiting) b))
       stays b true false at is none = sym (or_false (has (map w.node waiting) b))
       stays b true true at is none =
           absorbed (has (map w.node waiting) b) true true
-          (subst (λ n. has (map w.node waiting) n ≡ true) (sym ((Decides-eqb b (w.node x)).0 at)) (must_wait (grows known added) (has (map w.node waiting) (w.node x)) none is))
+          (subst (λ n. has (map w.node waiting) n ≡ true) (sym ((Decides-eqb b (w.node x)).0 at)) (must_wait (adds_side known added) (has (map w.node waiting) (w.node x)) none is))
 
-  same_mark : (a b : Reach) (u v : Bool) → a ≡ b → u ≡ v → (let left : Mark = record { reach = a; waits = u } in let right : Mark = record { reach = b; waits = v } in left ≡ right)
-  same_mark a b u v e f = let make : Reach → Bool → Mark = λ r t. record { reach = r; waits = t } in ap (λ r. make r u) e ∙ ap (make b) f
+  same_mark : (a b : Sides) (u v : Bool) → a ≡ b → u ≡ v → (let left : NodeState = record { sides = a; is_pending = u } in let right : NodeState = record { sides = b; is_pending = v } in left ≡ right)
+  same_mark a b u v e f = let make : Sides → Bool → NodeState = λ r t. record { sides = r; is_pending = t } in ap (λ r. make r u) e ∙ ap (make b) f
 
-  pub knows_more : (eq : ID → ID → Bool) (m : ℕ → Reach) (waiting waiting2 : List T) (find find2 : ID → Mark) (x : T) (i : ID) (added : Reach) → Apart eq → KnowsMarks w m waiting find
-      → w.is_node (w.node x) ≡ true → w.id i ≡ w.node x → ((q : ID) → find2 q ≡ cond (eq i q) (mark_with (find i) added) (find q))
-      → MatchBool (starts_waiting (find i) added) (IsPermutation (x ∷ waiting) waiting2) (waiting2 ≡ waiting)
+  pub knows_more : (eq : ID → ID → Bool) (m : ℕ → Sides) (waiting waiting2 : List T) (find find2 : ID → NodeState) (x : T) (i : ID) (added : Sides) → Apart eq → KnowsMarks w m waiting find
+      → w.is_node (w.node x) ≡ true → w.id i ≡ w.node x → ((q : ID) → find2 q ≡ cond (eq i q) (state_with (find i) added) (find q))
+      → MatchBool (becomes_pending (find i) added) (IsPermutation (x ∷ waiting) waiting2) (waiting2 ≡ waiting)
       → KnowsMarks w (marks_more m (w.node x) added) waiting2 find2 × Joins waiting waiting2 (w.node x) (m (w.node x)) added
   knows_more eq m waiting waiting2 find find2 x i added apart k here same updates puts =
       let y = w.node x in
       let here_id : w.is_node (w.id i) ≡ true = subst (λ n. w.is_node n ≡ true) (sym same) here in
       let old = map w.node waiting in
-      let is : find i ≡ record { reach = m y; waits = has old y } = k.knows i here_id ∙ ap (λ n. record { reach = m n; waits = has old n }) same in
+      let is : find i ≡ record { sides = m y; is_pending = has old y } = k.knows i here_id ∙ ap (λ n. record { sides = m n; is_pending = has old n }) same in
       let more = joins waiting waiting2 x (m y) added (find i) is puts k.distinct in (
         record {
           knows = λ q there.
               let told : eq i q ≡ (w.id q == y) = apart i q here_id there ∙ ap (λ n. n == w.id q) same ∙ eqb-flip y (w.id q) in
-              let new : Mark = mark_with (find i) added in
+              let new : NodeState = state_with (find i) added in
               let P : Bool → Type 0 = λ t. w.id q == y ≡ t
-              → cond t new (find q) ≡ record { reach = cond t (reach_of_both (m (w.id q)) added) (m (w.id q)); waits = has (map w.node waiting2) (w.id q) } in
+              → cond t new (find q) ≡ record { sides = cond t (union_of_sides (m (w.id q)) added) (m (w.id q)); is_pending = has (map w.node waiting2) (w.id q) } in
               updates q ∙ ap (λ b. cond b new (find q)) told
               ∙ elim (w.id q == y) as P [
                 | true ↦ λ e.
                     let at : w.id q ≡ y = (Decides-eqb (w.id q) y).0 e in
-                    ap (λ mark. mark_with mark added) is
-                    ∙ same_mark (reach_of_both (m y) added) (reach_of_both (m (w.id q)) added) (has old y || grows (m y) added) (has (map w.node waiting2) (w.id q)) (ap (λ n. reach_of_both (m n) added) (sym at))
-                    (ap (λ n. has old n || grows (m y) added) (sym at) ∙ ap (λ t. has old (w.id q) || (t && grows (m y) added)) (sym e) ∙ sym (more.0 (w.id q)))
+                    ap (λ state. state_with state added) is
+                    ∙ same_mark (union_of_sides (m y) added) (union_of_sides (m (w.id q)) added) (has old y || adds_side (m y) added) (has (map w.node waiting2) (w.id q)) (ap (λ n. union_of_sides (m n) added) (sym at))
+                    (ap (λ n. has old n || adds_side (m y) added) (sym at) ∙ ap (λ t. has old (w.id q) || (t && adds_side (m y) added)) (sym e) ∙ sym (more.0 (w.id q)))
                 | false ↦ λ e.
                     k.knows q there
                     ∙ same_mark (m (w.id q)) (m (w.id q)) (has old (w.id q)) (has (map w.node waiting2) (w.id q)) refl
-                    (sym (or_false (has old (w.id q))) ∙ ap (λ t. has old (w.id q) || (t && grows (m y) added)) (sym e) ∙ sym (more.0 (w.id q)))
+                    (sym (or_false (has old (w.id q))) ∙ ap (λ t. has old (w.id q) || (t && adds_side (m y) added)) (sym e) ∙ sym (more.0 (w.id q)))
               ] refl;
           distinct = more.1;
         },
@@ -205,29 +205,29 @@ module _ {T ID : Type 0} (w : Numbered T ID) where
 
   -- ---- the sets are marked
 
-  abbrev pub on_left : Reach
+  abbrev pub on_left : Sides
   on_left = record { left = true; right = false; below = false }
 
-  abbrev pub on_right : Reach
+  abbrev pub on_right : Sides
   on_right = record { left = false; right = true; below = false }
 
-  pub starting_none : (waiting : List T) (find : ID → Mark) → waiting ≡ [] → ((i : ID) → find i ≡ no_mark) → IsStarting w [] [] waiting find
+  pub starting_none : (waiting : List T) (find : ID → NodeState) → waiting ≡ [] → ((i : ID) → find i ≡ new_state) → IsStarting w [] [] waiting find
   unfolding IsDistinct
-  starting_none waiting find none unknown = rw none (record { marks = record { knows = λ i h. unknown i; distinct = tt }; waits = λ b. refl })
+  starting_none waiting find none unknown = rw none (record { marks = record { knows = λ i h. unknown i; distinct = tt }; is_pending = λ b. refl })
 
   at_same : (b y : ℕ) (F : ℕ → Bool) → ((b == y) && F y) ≡ ((b == y) && F b)
   at_same b y F =
       let P : Bool → Type 0 = λ t. b == y ≡ t → (t && F y) ≡ (t && F b) in
       elim (b == y) as P [ true ↦ λ e. ap F (sym ((Decides-eqb b y).0 e)) | false ↦ λ e. refl ] refl
 
-  left_mark : (t h g : Bool) → (let known : Reach = record { left = h; right = g; below = false } in let more : Reach = record { left = t || h; right = g; below = false } in cond t (reach_of_both known on_left) known ≡ more)
+  left_mark : (t h g : Bool) → (let known : Sides = record { left = h; right = g; below = false } in let more : Sides = record { left = t || h; right = g; below = false } in cond t (union_of_sides known on_left) known ≡ more)
   left_mark true true true = refl
   left_mark true true false = refl
   left_mark true false true = refl
   left_mark true false false = refl
   left_mark false h g = refl
 
-  right_mark : (t h g : Bool) → (let known : Reach = record { left = h; right = g; below = false } in let more : Reach = record { left = h; right = t || g; below = false } in cond t (reach_of_both known on_right) known ≡ more)
+  right_mark : (t h g : Bool) → (let known : Sides = record { left = h; right = g; below = false } in let more : Sides = record { left = h; right = t || g; below = false } in cond t (union_of_sides known on_right) known ≡ more)
   right_mark true true true = refl
   right_mark true true false = refl
   right_mark true false true = refl
@@ -246,45 +246,45 @@ module _ {T ID : Type 0} (w : Numbered T ID) where
   right_waits true false false = refl
   right_waits false h g = or_false (h || g)
 
-  other_marks : (m m2 : ℕ → Reach) (waiting : List T) (find : ID → Mark) → ((b : ℕ) → m b ≡ m2 b) → KnowsMarks w m waiting find → KnowsMarks w m2 waiting find
+  other_marks : (m m2 : ℕ → Sides) (waiting : List T) (find : ID → NodeState) → ((b : ℕ) → m b ≡ m2 b) → KnowsMarks w m waiting find → KnowsMarks w m2 waiting find
   other_marks m m2 waiting find same k = record {
-    knows = λ i h. k.knows i h ∙ ap (λ r. record { reach = r; waits = has (map w.node waiting) (w.id i) }) (same (w.id i));
+    knows = λ i h. k.knows i h ∙ ap (λ r. record { sides = r; is_pending = has (map w.node waiting) (w.id i) }) (same (w.id i));
     distinct = k.distinct;
   }
 
-  pub starting_left : (eq : ID → ID → Bool) (set1 set2 : List ℕ) (waiting waiting2 : List T) (find find2 : ID → Mark) (x : T) (i : ID) → Apart eq → IsStarting w set1 set2 waiting find
-      → w.is_node (w.node x) ≡ true → w.id i ≡ w.node x → ((q : ID) → find2 q ≡ cond (eq i q) (mark_with (find i) on_left) (find q))
-      → MatchBool (starts_waiting (find i) on_left) (IsPermutation (x ∷ waiting) waiting2) (waiting2 ≡ waiting) → IsStarting w (set1 ++ w.node x ∷ []) set2 waiting2 find2
+  pub starting_left : (eq : ID → ID → Bool) (set1 set2 : List ℕ) (waiting waiting2 : List T) (find find2 : ID → NodeState) (x : T) (i : ID) → Apart eq → IsStarting w set1 set2 waiting find
+      → w.is_node (w.node x) ≡ true → w.id i ≡ w.node x → ((q : ID) → find2 q ≡ cond (eq i q) (state_with (find i) on_left) (find q))
+      → MatchBool (becomes_pending (find i) on_left) (IsPermutation (x ∷ waiting) waiting2) (waiting2 ≡ waiting) → IsStarting w (set1 ++ w.node x ∷ []) set2 waiting2 find2
   starting_left eq set1 set2 waiting waiting2 find find2 x i apart k here same updates puts =
       let y = w.node x in
-      let more = knows_more eq (reach_of_sets set1 set2) waiting waiting2 find find2 x i on_left apart k.marks here same updates puts in
+      let more = knows_more eq (sides_of_sets set1 set2) waiting waiting2 find find2 x i on_left apart k.marks here same updates puts in
       record {
-        marks = other_marks (marks_more (reach_of_sets set1 set2) y on_left) (reach_of_sets (set1 ++ y ∷ []) set2) waiting2 find2
+        marks = other_marks (marks_more (sides_of_sets set1 set2) y on_left) (sides_of_sets (set1 ++ y ∷ []) set2) waiting2 find2
             (λ b. left_mark (b == y) (has set1 b) (has set2 b) ∙ ap (λ t. record { left = t; right = has set2 b; below = false }) (sym (has-push set1 y b))) more.0;
-        waits = λ b.
-            more.1 b ∙ ap (λ t. t || ((b == y) && grows (reach_of_sets set1 set2 y) on_left)) (k.waits b)
-            ∙ ap (λ t. (has set1 b || has set2 b) || t) (at_same b y (λ n. grows (reach_of_sets set1 set2 n) on_left))
+        is_pending = λ b.
+            more.1 b ∙ ap (λ t. t || ((b == y) && adds_side (sides_of_sets set1 set2 y) on_left)) (k.is_pending b)
+            ∙ ap (λ t. (has set1 b || has set2 b) || t) (at_same b y (λ n. adds_side (sides_of_sets set1 set2 n) on_left))
             ∙ left_waits (b == y) (has set1 b) (has set2 b) ∙ ap (λ t. t || has set2 b) (sym (has-push set1 y b));
       }
 
-  pub starting_right : (eq : ID → ID → Bool) (set1 set2 : List ℕ) (waiting waiting2 : List T) (find find2 : ID → Mark) (x : T) (i : ID) → Apart eq → IsStarting w set1 set2 waiting find
-      → w.is_node (w.node x) ≡ true → w.id i ≡ w.node x → ((q : ID) → find2 q ≡ cond (eq i q) (mark_with (find i) on_right) (find q))
-      → MatchBool (starts_waiting (find i) on_right) (IsPermutation (x ∷ waiting) waiting2) (waiting2 ≡ waiting) → IsStarting w set1 (set2 ++ w.node x ∷ []) waiting2 find2
+  pub starting_right : (eq : ID → ID → Bool) (set1 set2 : List ℕ) (waiting waiting2 : List T) (find find2 : ID → NodeState) (x : T) (i : ID) → Apart eq → IsStarting w set1 set2 waiting find
+      → w.is_node (w.node x) ≡ true → w.id i ≡ w.node x → ((q : ID) → find2 q ≡ cond (eq i q) (state_with (find i) on_right) (find q))
+      → MatchBool (becomes_pending (find i) on_right) (IsPermutation (x ∷ waiting) waiting2) (waiting2 ≡ waiting) → IsStarting w set1 (set2 ++ w.node x ∷ []) waiting2 find2
   starting_right eq set1 set2 waiting waiting2 find find2 x i apart k here same updates puts =
       let y = w.node x in
-      let more = knows_more eq (reach_of_sets set1 set2) waiting waiting2 find find2 x i on_right apart k.marks here same updates puts in
+      let more = knows_more eq (sides_of_sets set1 set2) waiting waiting2 find find2 x i on_right apart k.marks here same updates puts in
       record {
-        marks = other_marks (marks_more (reach_of_sets set1 set2) y on_right) (reach_of_sets set1 (set2 ++ y ∷ [])) waiting2 find2
+        marks = other_marks (marks_more (sides_of_sets set1 set2) y on_right) (sides_of_sets set1 (set2 ++ y ∷ [])) waiting2 find2
             (λ b. right_mark (b == y) (has set1 b) (has set2 b) ∙ ap (λ t. record { left = has set1 b; right = t; below = false }) (sym (has-push set2 y b))) more.0;
-        waits = λ b.
-            more.1 b ∙ ap (λ t. t || ((b == y) && grows (reach_of_sets set1 set2 y) on_right)) (k.waits b)
-            ∙ ap (λ t. (has set1 b || has set2 b) || t) (at_same b y (λ n. grows (reach_of_sets set1 set2 n) on_right))
+        is_pending = λ b.
+            more.1 b ∙ ap (λ t. t || ((b == y) && adds_side (sides_of_sets set1 set2 y) on_right)) (k.is_pending b)
+            ∙ ap (λ t. (has set1 b || has set2 b) || t) (at_same b y (λ n. adds_side (sides_of_sets set1 set2 n) on_right))
             ∙ right_waits (b == y) (has set1 b) (has set2 b) ∙ ap (λ t. has set1 b || t) (sym (has-push set2 y b));
       }
 
   -- ---- the search
 
-  pub record HoldsMarks (set1 set2 : List ℕ) (m : ℕ → Reach) (waiting : List T) (common : List (ID × T)) (rooted : Bool) (find : ID → Mark) : Type 0 where
+  pub record HoldsMarks (set1 set2 : List ℕ) (m : ℕ → Sides) (waiting : List T) (common : List (ID × T)) (rooted : Bool) (find : ID → NodeState) : Type 0 where
     pub marking : IsMarking w.graph set1 set2 m (map w.node waiting) (map (λ entry. w.node entry.1) common) rooted
     pub marks : KnowsMarks w m waiting find
     pub ids : (entry : ID × T) → Contains common entry → w.id entry.0 ≡ w.node entry.1
@@ -302,12 +302,12 @@ module _ {T ID : Type 0} (w : Numbered T ID) where
   or_one true b e = inl refl
   or_one false b e = inr e
 
-  pub started_holds : (set1 set2 : List ℕ) (waiting : List T) (common : List (ID × T)) (find : ID → Mark) → common ≡ [] → IsStarting w set1 set2 waiting find
-      → HoldsMarks set1 set2 (reach_of_sets set1 set2) waiting common false find
+  pub started_holds : (set1 set2 : List ℕ) (waiting : List T) (common : List (ID × T)) (find : ID → NodeState) → common ≡ [] → IsStarting w set1 set2 waiting find
+      → HoldsMarks set1 set2 (sides_of_sets set1 set2) waiting common false find
   unfolding IsDistinct
   started_holds set1 set2 waiting common find none k =
       let W = map w.node waiting in
-      let waits : (b : ℕ) → (has set1 b || has set2 b) ≡ true → Contains W b = λ b h. Contains-from_has W b (k.waits b ∙ h) in
+      let is_pending : (b : ℕ) → (has set1 b || has set2 b) ≡ true → Contains W b = λ b h. Contains-from_has W b (k.is_pending b ∙ h) in
       let nobody : (entry : ID × T) → Contains [] entry → ⊥ = λ entry (n, lt, e). omega arith in
       rw none (record {
         marking = record {
@@ -317,26 +317,26 @@ module _ {T ID : Type 0} (w : Numbered T ID) where
           first = λ a h. has-from_Contains set1 a h;
           second = λ a h. has-from_Contains set2 a h;
           passed = λ a b closed e. record {
-            left = λ h. absurd (closed (waits a (or_true (has set1 a) (has set2 a) h)));
-            right = λ h. absurd (closed (waits a (or_other (has set1 a) (has set2 a) h)));
-            below = λ (l, h). absurd (closed (waits a (or_true (has set1 a) (has set2 a) l)));
+            left = λ h. absurd (closed (is_pending a (or_true (has set1 a) (has set2 a) h)));
+            right = λ h. absurd (closed (is_pending a (or_other (has set1 a) (has set2 a) h)));
+            below = λ (l, h). absurd (closed (is_pending a (or_true (has set1 a) (has set2 a) l)));
           };
-          common = λ a. ((λ h. absurd (nothing a h)), (λ (both, closed). absurd (closed (waits a (or_true (has set1 a) (has set2 a) both.0)))));
+          common = λ a. ((λ h. absurd (nothing a h)), (λ (both, closed). absurd (closed (is_pending a (or_true (has set1 a) (has set2 a) both.0)))));
           once = tt;
-          leads = λ rootless acyclic a both. (a, waits a (or_true (has set1 a) (has set2 a) both.0), both, (0, refl));
+          leads = λ rootless acyclic a both. (a, is_pending a (or_true (has set1 a) (has set2 a) both.0), both, (0, refl));
         };
         marks = k.marks;
         ids = λ entry h. absurd (nobody entry h);
         reached = λ a h. (
           a,
           ⊎_elim (λ l. Contains-append_left set1 set2 a (Contains-from_has set1 a l)) (λ r. Contains-append_right set1 set2 a (Contains-from_has set2 a r))
-              (or_one (has set1 a) (has set2 a) (sym (k.waits a) ∙ has-from_Contains W a h)),
+              (or_one (has set1 a) (has set2 a) (sym (k.is_pending a) ∙ has-from_Contains W a h)),
           (0, refl),
         );
       })
 
-  -- the node a was popped, and its mark was passed to its neighbours in `given`
-  pub record HandsOn (set1 set2 : List ℕ) (m : ℕ → Reach) (a : ℕ) (known : Reach) (waiting : List T) (common : List (ID × T)) (rooted : Bool) (find : ID → Mark) (given : List ℕ) : Type 0 where
+  -- the node a was popped, and its state was passed to its neighbours in `given`
+  pub record HandsOn (set1 set2 : List ℕ) (m : ℕ → Sides) (a : ℕ) (known : Sides) (waiting : List T) (common : List (ID × T)) (rooted : Bool) (find : ID → NodeState) (given : List ℕ) : Type 0 where
     pub marking : IsMarking w.graph set1 set2 m (a ∷ map w.node waiting) (map (λ entry. w.node entry.1) common) rooted
     pub marks : KnowsMarks w m waiting find
     pub ids : (entry : ID × T) → Contains common entry → w.id entry.0 ≡ w.node entry.1
@@ -347,9 +347,9 @@ module _ {T ID : Type 0} (w : Numbered T ID) where
     pub handed : (b : ℕ) → Contains given b → Passes known (m b)
 
   -- it waits no longer
-  hands_none : (eq : ID → ID → Bool) (set1 set2 : List ℕ) (m : ℕ → Reach) (waiting waiting2 : List T) (common : List (ID × T)) (rooted : Bool) (find find2 : ID → Mark) (x : T) (i : ID) (known : Reach)
-      → Apart eq → HoldsMarks set1 set2 m waiting common rooted find → IsPermutation waiting (x ∷ waiting2) → w.is_node (w.node x) ≡ true → w.id i ≡ w.node x → known ≡ (find i).reach
-      → (IsTrue (find i).waits → (q : ID) → find2 q ≡ cond (eq i q) (without_waiting (find i)) (find q)) → HandsOn set1 set2 m (w.node x) known waiting2 common rooted find2 []
+  hands_none : (eq : ID → ID → Bool) (set1 set2 : List ℕ) (m : ℕ → Sides) (waiting waiting2 : List T) (common : List (ID × T)) (rooted : Bool) (find find2 : ID → NodeState) (x : T) (i : ID) (known : Sides)
+      → Apart eq → HoldsMarks set1 set2 m waiting common rooted find → IsPermutation waiting (x ∷ waiting2) → w.is_node (w.node x) ≡ true → w.id i ≡ w.node x → known ≡ (find i).sides
+      → (IsTrue (find i).is_pending → (q : ID) → find2 q ≡ cond (eq i q) (without_waiting (find i)) (find q)) → HandsOn set1 set2 m (w.node x) known waiting2 common rooted find2 []
   hands_none eq set1 set2 m waiting waiting2 common rooted find find2 x i known apart k popped here same is updates =
       let y = w.node x in
       let W = map w.node waiting in
@@ -360,10 +360,10 @@ module _ {T ID : Type 0} (w : Numbered T ID) where
       let once : IsDistinct eqb (y ∷ later) = IsDistinct-IsPermutation eqb eqb-flip W (y ∷ later) moves k.marks.distinct in
       let fresh : has later y ≡ false = none_has y later (IsDistinct-head eqb y later once) in
       let here_id : w.is_node (w.id i) ≡ true = subst (λ n. w.is_node n ≡ true) (sym same) here in
-      let mark : find i ≡ record { reach = m y; waits = has W y } = k.marks.knows i here_id ∙ ap (λ n. record { reach = m n; waits = has W n }) same in
+      let state : find i ≡ record { sides = m y; is_pending = has W y } = k.marks.knows i here_id ∙ ap (λ n. record { sides = m n; is_pending = has W n }) same in
       let waited : has W y ≡ true = has-from_Contains W y (back y (0, omega arith, refl)) in
-      let told = updates (ap (λ mark. mark.waits) mark ∙ waited) in
-      let reach : known ≡ m y = is ∙ ap (λ mark. mark.reach) mark in
+      let told = updates (ap (λ state. state.is_pending) state ∙ waited) in
+      let sides : known ≡ m y = is ∙ ap (λ state. state.sides) state in
       record {
         marking = record {
           left = k.marking.left;
@@ -379,13 +379,13 @@ module _ {T ID : Type 0} (w : Numbered T ID) where
         marks = record {
           knows = λ q there.
               let equal : eq i q ≡ (w.id q == y) = apart i q here_id there ∙ ap (λ n. n == w.id q) same ∙ eqb-flip y (w.id q) in
-              let new : Mark = without_waiting (find i) in
-              let P : Bool → Type 0 = λ t. w.id q == y ≡ t → cond t new (find q) ≡ record { reach = m (w.id q); waits = has later (w.id q) } in
+              let new : NodeState = without_waiting (find i) in
+              let P : Bool → Type 0 = λ t. w.id q == y ≡ t → cond t new (find q) ≡ record { sides = m (w.id q); is_pending = has later (w.id q) } in
               told q ∙ ap (λ b. cond b new (find q)) equal
               ∙ elim (w.id q == y) as P [
                 | true ↦ λ e.
                     let at : w.id q ≡ y = (Decides-eqb (w.id q) y).0 e in
-                    ap without_waiting mark ∙ same_mark (m y) (m (w.id q)) false (has later (w.id q)) (ap m (sym at)) (sym fresh ∙ ap (has later) (sym at))
+                    ap without_waiting state ∙ same_mark (m y) (m (w.id q)) false (has later (w.id q)) (ap m (sym at)) (sym fresh ∙ ap (has later) (sym at))
                 | false ↦ λ e.
                     k.marks.knows q there ∙ same_mark (m (w.id q)) (m (w.id q)) (has W (w.id q)) (has later (w.id q)) refl (sym (has-permutation W (y ∷ later) moves (w.id q)) ∙ ap (λ t. t || has later (w.id q)) e)
               ] refl;
@@ -394,13 +394,13 @@ module _ {T ID : Type 0} (w : Numbered T ID) where
         ids = k.ids;
         reached = λ b h. k.reached b (back b h);
         apart = fresh;
-        same_left = ap (λ r. r.left) (sym reach);
-        same_right = ap (λ r. r.right) (sym reach);
+        same_left = ap (λ r. r.left) (sym sides);
+        same_right = ap (λ r. r.right) (sym sides);
         handed = λ b h. absurd (nothing b h);
       }
 
   -- a node that waited is reached
-  pub was_reached : {set1 set2 : List ℕ} {m : ℕ → Reach} {waiting : List T} {common : List (ID × T)} {rooted : Bool} {find : ID → Mark} (waiting2 : List T) (x : T)
+  pub was_reached : {set1 set2 : List ℕ} {m : ℕ → Sides} {waiting : List T} {common : List (ID × T)} {rooted : Bool} {find : ID → NodeState} (waiting2 : List T) (x : T)
       → ((a : ℕ) → w.is_node a ≡ true → AreNodes w (w.graph a)) → AreNodes w set1 → AreNodes w set2 → HoldsMarks set1 set2 m waiting common rooted find → IsPermutation waiting (x ∷ waiting2)
       → ReachedFrom w.graph (set1 ++ set2) (w.node x) × (w.is_node (w.node x) ≡ true)
   was_reached {set1} {set2} {waiting = waiting} waiting2 x closed first second k popped =
@@ -411,10 +411,10 @@ module _ {T ID : Type 0} (w : Numbered T ID) where
       (reached, are_nodes {E = ℕ} w (λ a. []) (set1 ++ set2) closed (both_nodes set1 set2 first second) (w.node x) reached)
 
   -- the popped node is expanded: its neighbours are to be marked
-  pub asks : {set1 set2 : List ℕ} {m : ℕ → Reach} {waiting waiting2 : List T} {common : List (ID × T)} {rooted : Bool} {find : ID → Mark} (eq : ID → ID → Bool) (find2 : ID → Mark) (x : T) (i : ID) (known : Reach)
+  pub asks : {set1 set2 : List ℕ} {m : ℕ → Sides} {waiting waiting2 : List T} {common : List (ID × T)} {rooted : Bool} {find : ID → NodeState} (eq : ID → ID → Bool) (find2 : ID → NodeState) (x : T) (i : ID) (known : Sides)
       → ((a : ℕ) → w.is_node a ≡ true → AreNodes w (w.graph a)) → Apart eq → AreNodes w set1 → AreNodes w set2 → HoldsMarks set1 set2 m waiting common rooted find
-      → IsPermutation waiting (x ∷ waiting2) → (w.is_node (w.node x) ≡ true → w.id i ≡ w.node x) → known ≡ (find i).reach
-      → (IsTrue (find i).waits → (q : ID) → find2 q ≡ cond (eq i q) (without_waiting (find i)) (find q))
+      → IsPermutation waiting (x ∷ waiting2) → (w.is_node (w.node x) ≡ true → w.id i ≡ w.node x) → known ≡ (find i).sides
+      → (IsTrue (find i).is_pending → (q : ID) → find2 q ≡ cond (eq i q) (without_waiting (find i)) (find q))
       → (w.is_node (w.node x) ≡ true) × (w.id i ≡ w.node x) × HandsOn set1 set2 m (w.node x) known waiting2 common rooted find2 []
   asks {set1} {set2} {m} {waiting} {waiting2} {common} {rooted} {find} eq find2 x i known closed apart first second k popped named is updates =
       let here = (was_reached waiting2 x closed first second k popped).1 in
@@ -433,16 +433,16 @@ module _ {T ID : Type 0} (w : Numbered T ID) where
   and_false true = refl
   and_false false = refl
 
-  full : (known added : Reach) → known.left ≡ added.left → known.right ≡ added.right → grows known (propagated added) ≡ false
+  full : (known added : Sides) → known.left ≡ added.left → known.right ≡ added.right → adds_side known (propagated added) ≡ false
   full known added l r =
       ap (λ t. (added.left && not t) || (added.right && not known.right)) l ∙ ap (λ t. (added.left && not added.left) || (added.right && not t)) r
       ∙ ap (λ t. t || (added.right && not added.right)) (not_self added.left) ∙ not_self added.right
 
   -- one neighbour more has it
-  pub hands_more : (eq : ID → ID → Bool) (set1 set2 : List ℕ) (m : ℕ → Reach) (a : ℕ) (known : Reach) (waiting waiting2 : List T) (common : List (ID × T)) (rooted : Bool) (find find2 : ID → Mark) (given : List ℕ) (x : T) (i : ID)
+  pub hands_more : (eq : ID → ID → Bool) (set1 set2 : List ℕ) (m : ℕ → Sides) (a : ℕ) (known : Sides) (waiting waiting2 : List T) (common : List (ID × T)) (rooted : Bool) (find find2 : ID → NodeState) (given : List ℕ) (x : T) (i : ID)
       → Apart eq → HandsOn set1 set2 m a known waiting common rooted find given → HasEdge w.graph a (w.node x) → w.is_node (w.node x) ≡ true → w.id i ≡ w.node x
-      → ((q : ID) → find2 q ≡ cond (eq i q) (mark_with (find i) (propagated known)) (find q))
-      → MatchBool (starts_waiting (find i) (propagated known)) (IsPermutation (x ∷ waiting) waiting2) (waiting2 ≡ waiting)
+      → ((q : ID) → find2 q ≡ cond (eq i q) (state_with (find i) (propagated known)) (find q))
+      → MatchBool (becomes_pending (find i) (propagated known)) (IsPermutation (x ∷ waiting) waiting2) (waiting2 ≡ waiting)
       → HandsOn set1 set2 (marks_more m (w.node x) (propagated known)) a known waiting2 common rooted find2 (given ++ w.node x ∷ [])
   hands_more eq set1 set2 m a known waiting waiting2 common rooted find find2 given x i apart k edge here same updates puts =
       let y = w.node x in
@@ -452,42 +452,42 @@ module _ {T ID : Type 0} (w : Numbered T ID) where
       let more = knows_more eq m waiting waiting2 find find2 x i r apart k.marks here same updates puts in
       let keeps : (b : ℕ) → Contains (a ∷ W) b → Contains (a ∷ later) b = λ b h.
       ⊎_elim (λ first. (0, omega arith, first))
-      (λ rest. Contains-append_right (a ∷ []) later b (Contains-from_has later b (more.1 b ∙ or_true (has W b) ((b == y) && grows (m y) r) (has-from_Contains W b rest))))
+      (λ rest. Contains-append_right (a ∷ []) later b (Contains-from_has later b (more.1 b ∙ or_true (has W b) ((b == y) && adds_side (m y) r) (has-from_Contains W b rest))))
       (head_or_rest a W b h) in
-      let adds : (b : ℕ) → Contains (a ∷ later) b → Contains (a ∷ W) b ⊎ ((b ≡ y) × (grows (m y) r ≡ true)) = λ b h.
+      let adds : (b : ℕ) → Contains (a ∷ later) b → Contains (a ∷ W) b ⊎ ((b ≡ y) × (adds_side (m y) r ≡ true)) = λ b h.
       ⊎_elim (λ first. inl (0, omega arith, first))
       (λ rest. ⊎_elim (λ old. inl (Contains-append_right (a ∷ []) W b (Contains-from_has W b old)))
-      (λ new. let parts = and_parts (b == y) (grows (m y) r) new in inr ((Decides-eqb b y).0 parts.0, parts.1))
-      (or_one (has W b) ((b == y) && grows (m y) r) (sym (more.1 b) ∙ has-from_Contains later b rest)))
+      (λ new. let parts = and_parts (b == y) (adds_side (m y) r) new in inr ((Decides-eqb b y).0 parts.0, parts.1))
+      (or_one (has W b) ((b == y) && adds_side (m y) r) (sym (more.1 b) ∙ has-from_Contains later b rest)))
       (head_or_rest a later b h) in
-      let grown : grows (m y) r ≡ true → Contains (a ∷ later) y = λ e.
+      let grown : adds_side (m y) r ≡ true → Contains (a ∷ later) y = λ e.
       let t : (y == y) ≡ true = (Decides-eqb y y).1 refl in
-      let f : ((y == y) && grows (m y) r) ≡ true = ap (λ b. b && grows (m y) r) t ∙ e in
-      Contains-append_right (a ∷ []) later y (Contains-from_has later y (more.1 y ∙ or_other (has W y) ((y == y) && grows (m y) r) f)) in
+      let f : ((y == y) && adds_side (m y) r) ≡ true = ap (λ b. b && adds_side (m y) r) t ∙ e in
+      Contains-append_right (a ∷ []) later y (Contains-from_has later y (more.1 y ∙ or_other (has W y) ((y == y) && adds_side (m y) r) f)) in
       record {
         marking = marking_more w.graph set1 set2 (a ∷ later) known a y k.marking (λ h. k.same_left ∙ h) (λ h. k.same_right ∙ h) edge keeps adds grown;
         marks = more.0;
         ids = k.ids;
         reached = λ b h. ⊎_elim (λ old. k.reached b old) (λ new. subst (λ n. ReachedFrom w.graph (set1 ++ set2) n) (sym new.0) (ReachedFrom-edge w.graph (set1 ++ set2) a y (k.reached a (0, omega arith, refl)) edge)) (adds b h);
         apart =
-            more.1 a ∙ ap (λ t. t || ((a == y) && grows (m y) r)) k.apart ∙ at_same a y (λ n. grows (m n) r)
+            more.1 a ∙ ap (λ t. t || ((a == y) && adds_side (m y) r)) k.apart ∙ at_same a y (λ n. adds_side (m n) r)
             ∙ ap (λ t. (a == y) && t) (full (m a) known k.same_left k.same_right) ∙ and_false (a == y);
         same_left = at_mark m y r a (λ l. l.left ≡ known.left) (λ at. ap (λ t. t || known.left) k.same_left ∙ or_self known.left) (λ ne. k.same_left);
         same_right = at_mark m y r a (λ l. l.right ≡ known.right) (λ at. ap (λ t. t || known.right) k.same_right ∙ or_self known.right) (λ ne. k.same_right);
         handed = λ b h. ⊎_elim (λ old. passes_kept m y r known b (k.handed b old)) (λ new. subst (λ n. Passes known (marks_more m y r n)) new (passes_marked m known y)) (Contains-push_cases given y b h);
       }
 
-  not_waiting : {set1 set2 : List ℕ} {m : ℕ → Reach} {a : ℕ} {known : Reach} {waiting : List T} {common : List (ID × T)} {rooted : Bool} {find : ID → Mark} {given : List ℕ}
+  not_waiting : {set1 set2 : List ℕ} {m : ℕ → Sides} {a : ℕ} {known : Sides} {waiting : List T} {common : List (ID × T)} {rooted : Bool} {find : ID → NodeState} {given : List ℕ}
       → HandsOn set1 set2 m a known waiting common rooted find given → Contains (map w.node waiting) a → ⊥
   not_waiting {a = a} {waiting = waiting} k h = true≢false (sym (has-from_Contains (map w.node waiting) a h) ∙ k.apart)
 
-  passes_all : {set1 set2 : List ℕ} {m : ℕ → Reach} {a : ℕ} {known : Reach} {waiting : List T} {common : List (ID × T)} {rooted : Bool} {find : ID → Mark} {given : List ℕ}
+  passes_all : {set1 set2 : List ℕ} {m : ℕ → Sides} {a : ℕ} {known : Sides} {waiting : List T} {common : List (ID × T)} {rooted : Bool} {find : ID → NodeState} {given : List ℕ}
       → HandsOn set1 set2 m a known waiting common rooted find given → ((b : ℕ) → HasEdge w.graph a b → Contains given b) → (b : ℕ) → HasEdge w.graph a b → Passes (m a) (m b)
   passes_all k all b edge =
       let p = k.handed b (all b edge) in
       record { left = λ h. p.left (sym k.same_left ∙ h); right = λ h. p.right (sym k.same_right ∙ h); below = λ (l, r). p.below (sym k.same_left ∙ l, sym k.same_right ∙ r) }
 
-  not_found : {set1 set2 : List ℕ} {m : ℕ → Reach} {a : ℕ} {known : Reach} {waiting : List T} {common : List (ID × T)} {rooted : Bool} {find : ID → Mark} {given : List ℕ}
+  not_found : {set1 set2 : List ℕ} {m : ℕ → Sides} {a : ℕ} {known : Sides} {waiting : List T} {common : List (ID × T)} {rooted : Bool} {find : ID → NodeState} {given : List ℕ}
       → HandsOn set1 set2 m a known waiting common rooted find given → has (map (λ entry. w.node entry.1) common) a ≡ false
   not_found {a = a} {common = common} k =
       let found = map (λ (entry : ID × T). w.node entry.1) common in
@@ -499,7 +499,7 @@ module _ {T ID : Type 0} (w : Numbered T ID) where
   in_map entry (x ∷ xs) h = ⊎_elim (λ first. (0, omega arith, ap (λ (e : ID × T). w.node e.1) first)) (λ rest. Contains-append_right (w.node x.1 ∷ []) (map (λ (e : ID × T). w.node e.1) xs) (w.node entry.1) (in_map entry xs rest)) (head_or_rest x xs entry h)
 
   -- the id of the node is not among those of the candidates
-  pub new_id : {set1 set2 : List ℕ} {m : ℕ → Reach} {known : Reach} {waiting : List T} {common : List (ID × T)} {rooted : Bool} {find : ID → Mark} {given : List ℕ} (eq : ID → ID → Bool) (x : T) (i : ID)
+  pub new_id : {set1 set2 : List ℕ} {m : ℕ → Sides} {known : Sides} {waiting : List T} {common : List (ID × T)} {rooted : Bool} {find : ID → NodeState} {given : List ℕ} (eq : ID → ID → Bool) (x : T) (i : ID)
       → ((a : ℕ) → w.is_node a ≡ true → AreNodes w (w.graph a)) → Apart eq → AreNodes w set1 → HandsOn set1 set2 m (w.node x) known waiting common rooted find given
       → w.is_node (w.node x) ≡ true → w.id i ≡ w.node x → (entry : ID × T) → Contains common entry → eq i entry.0 ≡ false
   new_id {set1 = set1} {common = common} eq x i closed apart nodes k here same entry h = by_test (eq i entry.0) refl
@@ -523,7 +523,7 @@ module _ {T ID : Type 0} (w : Numbered T ID) where
   ids_more common x i ids same entry h = ⊎_elim (λ old. ids entry old) (λ new. subst (λ (e : ID × T). w.id e.0 ≡ w.node e.1) new same) (Contains-push_cases common (i, x) entry h)
 
   -- all its neighbours have it, and the node is common
-  hands_common : {set1 set2 : List ℕ} {m : ℕ → Reach} {known : Reach} {waiting : List T} {common : List (ID × T)} {rooted : Bool} {find : ID → Mark} {given : List ℕ} (x : T) (i : ID) (is_root : Bool)
+  hands_common : {set1 set2 : List ℕ} {m : ℕ → Sides} {known : Sides} {waiting : List T} {common : List (ID × T)} {rooted : Bool} {find : ID → NodeState} {given : List ℕ} (x : T) (i : ID) (is_root : Bool)
       → HandsOn set1 set2 m (w.node x) known waiting common rooted find given → w.id i ≡ w.node x → IsBoth known
       → ((b : ℕ) → HasEdge w.graph (w.node x) b → Contains given b) → (is_root ≡ false → (b : ℕ) × HasEdge w.graph (w.node x) b)
       → HoldsMarks set1 set2 m waiting (common ++ (i, x) ∷ []) (rooted || is_root) find
@@ -545,7 +545,7 @@ module _ {T ID : Type 0} (w : Numbered T ID) where
       }
 
   -- all its neighbours have it, and the node is on one side
-  hands_side : {set1 set2 : List ℕ} {m : ℕ → Reach} {a : ℕ} {known : Reach} {waiting : List T} {common : List (ID × T)} {rooted : Bool} {find : ID → Mark} {given : List ℕ} (is_root : Bool)
+  hands_side : {set1 set2 : List ℕ} {m : ℕ → Sides} {a : ℕ} {known : Sides} {waiting : List T} {common : List (ID × T)} {rooted : Bool} {find : ID → NodeState} {given : List ℕ} (is_root : Bool)
       → HandsOn set1 set2 m a known waiting common rooted find given → (known.left && known.right) ≡ false
       → ((b : ℕ) → HasEdge w.graph a b → Contains given b) → (is_root ≡ false → (b : ℕ) × HasEdge w.graph a b)
       → HoldsMarks set1 set2 m waiting common (rooted || is_root) find
@@ -567,7 +567,7 @@ module _ {T ID : Type 0} (w : Numbered T ID) where
 
   -- an expanded node, all of whose neighbours were marked, becomes a candidate if both sets reach
   -- it
-  pub hands_over : {set1 set2 : List ℕ} {m : ℕ → Reach} {known : Reach} {waiting : List T} {common common2 : List (ID × T)} {rooted : Bool} {find : ID → Mark} {given : List ℕ} (more : List (ID × T)) (x : T) (i : ID) (is_root : Bool)
+  pub hands_over : {set1 set2 : List ℕ} {m : ℕ → Sides} {known : Sides} {waiting : List T} {common common2 : List (ID × T)} {rooted : Bool} {find : ID → NodeState} {given : List ℕ} (more : List (ID × T)) (x : T) (i : ID) (is_root : Bool)
       → HandsOn set1 set2 m (w.node x) known waiting common rooted find given → w.id i ≡ w.node x → common2 ≡ cond (known.left && known.right) more common → more ≡ common ++ (i, x) ∷ []
       → ((b : ℕ) → HasEdge w.graph (w.node x) b → Contains given b) → (is_root ≡ false → (b : ℕ) × HasEdge w.graph (w.node x) b)
       → HoldsMarks set1 set2 m waiting common2 (rooted || is_root) find
@@ -583,7 +583,7 @@ module _ {T ID : Type 0} (w : Numbered T ID) where
   -- ---- the end
 
   -- one node was left, which both sets reach
-  pub ends_early : {set1 set2 : List ℕ} {m : ℕ → Reach} {known : Reach} {waiting : List T} {common : List (ID × T)} {rooted : Bool} {find : ID → Mark} {given : List ℕ} (x : T) (i : ID)
+  pub ends_early : {set1 set2 : List ℕ} {m : ℕ → Sides} {known : Sides} {waiting : List T} {common : List (ID × T)} {rooted : Bool} {find : ID → NodeState} {given : List ℕ} (x : T) (i : ID)
       → HandsOn set1 set2 m (w.node x) known waiting common rooted find given → waiting ≡ [] → IsBoth known → rooted ≡ false
       → IsAtEnd w.graph set1 set2 m (w.node x ∷ []) (map (λ entry. w.node entry.1) common) (map (λ entry. w.node entry.1) (common ++ (i, x) ∷ [])) rooted
   ends_early {set1} {set2} {m} {known} {waiting} {common} {rooted} {find} {given} x i k none both rootless =
@@ -602,7 +602,7 @@ module _ {T ID : Type 0} (w : Numbered T ID) where
       })
 
   -- no node waits
-  pub ends : {set1 set2 : List ℕ} {m : ℕ → Reach} {waiting : List T} {common : List (ID × T)} {rooted : Bool} {find : ID → Mark} → HoldsMarks set1 set2 m waiting common rooted find → waiting ≡ []
+  pub ends : {set1 set2 : List ℕ} {m : ℕ → Sides} {waiting : List T} {common : List (ID × T)} {rooted : Bool} {find : ID → NodeState} → HoldsMarks set1 set2 m waiting common rooted find → waiting ≡ []
       → IsAtEnd w.graph set1 set2 m [] (map (λ entry. w.node entry.1) common) (map (λ entry. w.node entry.1) common) rooted
   ends {set1} {set2} {m} {waiting} {common} {rooted} {find} k none = record {
     marking = subst (λ l. IsMarking w.graph set1 set2 m (map w.node l) (map (λ (entry : ID × T). w.node entry.1) common) rooted) none k.marking;
@@ -613,7 +613,7 @@ module _ {T ID : Type 0} (w : Numbered T ID) where
   }
 
   -- so the nodes without a common one above them are the closest ones
-  pub closest_at_end : {set1 set2 : List ℕ} {m : ℕ → Reach} {waiting : List T} {rooted : Bool} {find : ID → Mark} (todo found : List ℕ) (all : List (ID × T))
+  pub closest_at_end : {set1 set2 : List ℕ} {m : ℕ → Sides} {waiting : List T} {rooted : Bool} {find : ID → NodeState} (todo found : List ℕ) (all : List (ID × T))
       → IsAtEnd w.graph set1 set2 m todo found (map (λ entry. w.node entry.1) all) rooted → KnowsMarks w m waiting find → ((entry : ID × T) → Contains all entry → w.id entry.0 ≡ w.node entry.1)
       → ((a : ℕ) → w.is_node a ≡ true → AreNodes w (w.graph a)) → AreNodes w set1 → HasNoCommonCycle w.graph set1 set2
       → AreClosestCommon w.graph set1 set2 (map w.node (closest_of find all))
@@ -623,10 +623,10 @@ module _ {T ID : Type 0} (w : Numbered T ID) where
       let listed : (entry : ID × T) → Contains all entry → Contains (map number all) (w.node entry.1) = λ entry h. in_map entry all h in
       let is : (entry : ID × T) → Contains all entry → w.is_node (w.node entry.1) ≡ true = λ entry h.
       are_nodes {E = ℕ} w (λ a. []) set1 closed nodes (w.node entry.1) (is_common w.graph set1 set2 k.marking (w.node entry.1) (end_common w.graph set1 set2 k (w.node entry.1) (listed entry h))).0 in
-      let same : (entry : ID × T) → Contains all entry → not (find entry.0).reach.below ≡ passes (w.node entry.1) = λ entry h.
+      let same : (entry : ID × T) → Contains all entry → not (find entry.0).sides.below ≡ passes (w.node entry.1) = λ entry h.
       let here : w.is_node (w.id entry.0) ≡ true = subst (λ n. w.is_node n ≡ true) (sym (ids entry h)) (is entry h) in
-      ap (λ mark. not mark.reach.below) (marks.knows entry.0 here) ∙ ap passes (ids entry h) in
-      let whole : map w.node (closest_of find all) ≡ filter passes (map number all) = filter_numbers (λ (entry : ID × T). entry.1) w.node (λ entry. not (find entry.0).reach.below) passes all same in
+      ap (λ state. not state.sides.below) (marks.knows entry.0 here) ∙ ap passes (ids entry h) in
+      let whole : map w.node (closest_of find all) ≡ filter passes (map number all) = filter_numbers (λ (entry : ID × T). entry.1) w.node (λ entry. not (find entry.0).sides.below) passes all same in
       rw whole (record {
         all = λ a. (
           (λ h. let r = Contains-filtered passes (map number all) a h in end_maximal w.graph set1 set2 k acyclic a r.0 (is_false (m a).below r.1)),

@@ -7,15 +7,15 @@ use Rattle.std.proofs.lemmas.Bool.Decides.{Decides-eqb}
 use Rattle.std.proofs.lemmas.List.{map-append, map_push, length-map, get_or_append_left, get_or_push}
 use Rattle.std.proofs.lemmas.List.Elements.{Contains-append_left, Contains-append_right, Contains-append_cases, Contains-push, Contains-push_cases, Contains-get_or}
 use Rattle.jj_dag.specs.Graph.{HasEdge, IsWalkOfLength, ReachedFrom}
-use Rattle.jj_dag.specs.Failing.{FailingGraph, sound}
+use Rattle.jj_dag.specs.FallibleGraphs.{FallibleGraph, sound}
 use Rattle.jj_dag.specs.Collecting.{IsInjective, IsCollecting}
-use Rattle.jj_dag.specs.Walk.{Numbered, AreNodes}
+use Rattle.jj_dag.specs.Walk.{Model, AreNodes}
 use Rattle.jj_dag.proofs.Reaching.{ReachedFrom-edge}
 
 -- the items of a list that did not fail
-pub sound_items : {X : Type 0} (E : Type 0) (f : X → ℕ) (xs : List X) → filter_map result_ok (map {B = Result ℕ E} (λ x. Ok (f x)) xs) ≡ map f xs
-sound_items E f [] = refl
-sound_items E f (x ∷ xs) = ap (λ l. f x ∷ l) (sound_items E f xs)
+pub ok_items : {X : Type 0} (E : Type 0) (f : X → ℕ) (xs : List X) → filter_map result_ok (map {B = Result ℕ E} (λ x. Ok (f x)) xs) ≡ map f xs
+ok_items E f [] = refl
+ok_items E f (x ∷ xs) = ap (λ l. f x ∷ l) (ok_items E f xs)
 
 no_failure : {X E : Type 0} (f : X → ℕ) (xs : List X) (e : E) → Contains (map {B = Result ℕ E} (λ x. Ok (f x)) xs) (Err e) → ⊥
 no_failure f [] e (k, lt, q) = absurd (omega arith)
@@ -51,7 +51,7 @@ IsInjective-push ns a inj new i j il jl e =
           ]
     ]
 
-module _ {T ID E : Type 0} (w : Numbered T ID) (items : FailingGraph E) where
+module _ {T ID E : Type 0} (w : Model T ID) (items : FallibleGraph E) where
   -- numbers that the starts reach are nodes
   pub are_nodes : (starts : List ℕ) → ((a : ℕ) → w.is_node a ≡ true → AreNodes w (w.graph a)) → AreNodes w starts → (a : ℕ) → ReachedFrom w.graph starts a → w.is_node a ≡ true
   are_nodes starts closed nodes a (s, at, r) = along r.0 s (nodes s at) r.1
@@ -116,7 +116,7 @@ module _ {T ID E : Type 0} (w : Numbered T ID) (items : FailingGraph E) where
       let is_i : w.is_node (w.id i) ≡ true = subst (λ (n : ℕ). w.is_node n ≡ true) (sym same) is in
       let new_at : Contains (map w.node given) (w.id i) → ⊥ = subst (λ (o : Option ℕ). MatchOption o (Contains (map w.node given) (w.id i) → ⊥) (λ k. (k < length (map w.node given)) × (get_or (map w.node given) k 0 ≡ w.id i))) missed (k.finds i is_i) in
       let new : Contains (map w.node given) a → ⊥ = λ h. new_at (subst (λ (n : ℕ). Contains (map w.node given) n) (sym same) h) in
-      let neighbors : w.graph a ≡ map w.node below = sound_graph a ∙ ap (filter_map result_ok) listed ∙ sound_items E w.node below in
+      let neighbors : w.graph a ≡ map w.node below = sound_graph a ∙ ap (filter_map result_ok) listed ∙ ok_items E w.node below in
       let ns2 : map w.node work2 ≡ map w.node rest ++ w.graph a = ap (map w.node) more ∙ map-append w.node rest below ∙ ap (λ l. map w.node rest ++ l) (sym neighbors) in
       let gs : map w.node given2 ≡ map w.node given ++ a ∷ [] = ap (map w.node) pushed ∙ map_push w.node given x in
       let len : length (map w.node given) ≡ length given = length-map given w.node in

@@ -1,4 +1,4 @@
--- The search for the closest common nodes of two sets, on numbers: the marks of the nodes while
+-- The search for the closest common nodes of two sets, on numbers: the states of the nodes while
 -- some are open, and at the end.
 use Rattle.std.proofs.Common.{◌≡◌, ℕ, zero, suc, ◌==◌, Bool, true, false, not, cond, ◌&&◌, ◌||◌, List, [], ◌∷◌, refl, sym, ◌∙◌, subst, arith, inl, inr, ◌⊎◌, ⊎_elim, true≢false, eqb}
 use Rattle.std.specs.Prelude.{◌↔◌}
@@ -8,8 +8,8 @@ use Rattle.std.proofs.lemmas.List.Elements.{Contains-append_right}
 use Rattle.std.proofs.lemmas.Bool.{and_parts, or_cases, or_left, or_right}
 use Rattle.jj_dag.specs.Graph.{Graph, HasEdge, IsWalkOfLength, Reaches, StrictlyReaches, ReachedFrom, IsMaximal}
 use Rattle.jj_dag.specs.CommonNodes.{IsCommon, HasNoCommonCycle}
-use Rattle.jj_dag.specs.declared.closest_common.Reach.{Reach}
-use Rattle.jj_dag.specs.Marks.{reach_of_both, grows, propagated}
+use Rattle.jj_dag.specs.declared.closest_common.Sides.{Sides}
+use Rattle.jj_dag.specs.Marks.{union_of_sides, adds_side, propagated}
 use Rattle.jj_dag.proofs.Walking.{has, has-from_Contains, Contains-from_has}
 use Rattle.jj_dag.proofs.Reaching.{Reaches-trans, Reaches-then_strictly, edge_then_Reaches, ReachedFrom-edge}
 use Rattle.jj_dag.proofs.Plain.{neither}
@@ -31,72 +31,62 @@ not_grown_right false r true e = absurd (true≢false e)
 not_grown_right false true false e = absurd (true≢false e)
 not_grown_right false false false e = refl
 
-grown_left : (k r x : Bool) → k ≡ false → r ≡ true → ((r && not k) || x) ≡ true
-grown_left true r x e f = absurd (true≢false e)
-grown_left false true x e f = refl
-grown_left false false x e f = absurd (true≢false (sym f))
-
-grown_right : (k r x : Bool) → k ≡ false → r ≡ true → (x || (r && not k)) ≡ true
-grown_right true r x e f = absurd (true≢false e)
-grown_right false true x e f = or_right x true refl
-grown_right false false x e f = absurd (true≢false (sym f))
-
--- both sets reach a node with this mark
-abbrev pub IsBoth : Reach → Type 0
+-- both sets reach a node with this state
+abbrev pub IsBoth : Sides → Type 0
 IsBoth k = (k.left ≡ true) × (k.right ≡ true)
 
 -- where both are so after something was added and were not before, it has grown
-both_grown : (k r : Reach) → IsBoth (reach_of_both k r) → IsBoth k ⊎ (grows k r ≡ true)
+both_grown : (k r : Sides) → IsBoth (union_of_sides k r) → IsBoth k ⊎ (adds_side k r ≡ true)
 both_grown k r (l, h) =
-    let P : Bool → Type 0 = λ b. grows k r ≡ b → IsBoth k ⊎ (grows k r ≡ true) in
-    elim (grows k r) as P [
+    let P : Bool → Type 0 = λ b. adds_side k r ≡ b → IsBoth k ⊎ (adds_side k r ≡ true) in
+    elim (adds_side k r) as P [
       | true ↦ λ e. inr e
       | false ↦ λ e. inl (sym (not_grown_left k.left r.left _ e) ∙ l, sym (not_grown_right k.right r.right _ e) ∙ h)
     ] refl
 
--- ---- one mark more
+-- ---- one state more
 
-abbrev pub marks_more : (ℕ → Reach) → ℕ → Reach → ℕ → Reach
-marks_more m y r b = cond (b == y) (reach_of_both (m b) r) (m b)
+abbrev pub marks_more : (ℕ → Sides) → ℕ → Sides → ℕ → Sides
+marks_more m y r b = cond (b == y) (union_of_sides (m b) r) (m b)
 
-pub at_mark : (m : ℕ → Reach) (y : ℕ) (r : Reach) (b : ℕ) (P : Reach → Type 0) → (b ≡ y → P (reach_of_both (m b) r)) → ((b ≡ y → ⊥) → P (m b)) → P (marks_more m y r b)
+pub at_mark : (m : ℕ → Sides) (y : ℕ) (r : Sides) (b : ℕ) (P : Sides → Type 0) → (b ≡ y → P (union_of_sides (m b) r)) → ((b ≡ y → ⊥) → P (m b)) → P (marks_more m y r b)
 at_mark m y r b P here there =
-    let Q : Bool → Type 0 = λ t. b == y ≡ t → P (cond t (reach_of_both (m b) r) (m b)) in
+    let Q : Bool → Type 0 = λ t. b == y ≡ t → P (cond t (union_of_sides (m b) r) (m b)) in
     elim (b == y) as Q [ true ↦ λ e. here ((Decides-eqb b y).0 e) | false ↦ λ e. there (λ same. true≢false (sym ((Decides-eqb b y).1 same) ∙ e)) ] refl
 
-kept_left : (m : ℕ → Reach) (y : ℕ) (r : Reach) (b : ℕ) → (m b).left ≡ true → (marks_more m y r b).left ≡ true
+kept_left : (m : ℕ → Sides) (y : ℕ) (r : Sides) (b : ℕ) → (m b).left ≡ true → (marks_more m y r b).left ≡ true
 kept_left m y r b h = at_mark m y r b (λ k. k.left ≡ true) (λ e. or_left (m b).left r.left h) (λ ne. h)
 
-kept_right : (m : ℕ → Reach) (y : ℕ) (r : Reach) (b : ℕ) → (m b).right ≡ true → (marks_more m y r b).right ≡ true
+kept_right : (m : ℕ → Sides) (y : ℕ) (r : Sides) (b : ℕ) → (m b).right ≡ true → (marks_more m y r b).right ≡ true
 kept_right m y r b h = at_mark m y r b (λ k. k.right ≡ true) (λ e. or_left (m b).right r.right h) (λ ne. h)
 
-kept_below : (m : ℕ → Reach) (y : ℕ) (r : Reach) (b : ℕ) → (m b).below ≡ true → (marks_more m y r b).below ≡ true
+kept_below : (m : ℕ → Sides) (y : ℕ) (r : Sides) (b : ℕ) → (m b).below ≡ true → (marks_more m y r b).below ≡ true
 kept_below m y r b h = at_mark m y r b (λ k. k.below ≡ true) (λ e. or_left (m b).below r.below h) (λ ne. h)
 
-pub kept_both : (m : ℕ → Reach) (y : ℕ) (r : Reach) (b : ℕ) → IsBoth (m b) → IsBoth (marks_more m y r b)
+pub kept_both : (m : ℕ → Sides) (y : ℕ) (r : Sides) (b : ℕ) → IsBoth (m b) → IsBoth (marks_more m y r b)
 kept_both m y r b (l, h) = (kept_left m y r b l, kept_right m y r b h)
 
--- the mark l of a neighbour includes what the mark k of a node passes on
-pub record Passes (k l : Reach) : Type 0 where
+-- the state l of a neighbour includes what the state k of a node passes on
+pub record Passes (k l : Sides) : Type 0 where
   pub left : k.left ≡ true → l.left ≡ true
   pub right : k.right ≡ true → l.right ≡ true
   pub below : IsBoth k → l.below ≡ true
 
-pub passes_marked : (m : ℕ → Reach) (k : Reach) (y : ℕ) → Passes k (marks_more m y (propagated k) y)
+pub passes_marked : (m : ℕ → Sides) (k : Sides) (y : ℕ) → Passes k (marks_more m y (propagated k) y)
 passes_marked m k y = record {
   left = λ h. at_mark m y (propagated k) y (λ l. l.left ≡ true) (λ e. or_right (m y).left k.left h) (λ ne. absurd (ne refl));
   right = λ h. at_mark m y (propagated k) y (λ l. l.right ≡ true) (λ e. or_right (m y).right k.right h) (λ ne. absurd (ne refl));
   below = λ (l, h). at_mark m y (propagated k) y (λ l. l.below ≡ true) (λ e. or_right (m y).below (k.left && k.right) (both_and k.left k.right l h)) (λ ne. absurd (ne refl));
 }
 
-pub passes_kept : (m : ℕ → Reach) (y : ℕ) (r k : Reach) (b : ℕ) → Passes k (m b) → Passes k (marks_more m y r b)
+pub passes_kept : (m : ℕ → Sides) (y : ℕ) (r k : Sides) (b : ℕ) → Passes k (m b) → Passes k (marks_more m y r b)
 passes_kept m y r k b p = record { left = λ h. kept_left m y r b (p.left h); right = λ h. kept_right m y r b (p.right h); below = λ h. kept_below m y r b (p.below h) }
 
 module _ (g : Graph) (set1 set2 : List ℕ) where
-  -- Marks are sound. A node that is not open has passed on its mark; the candidates are the common
+  -- Marks are sound. A node that is not open has passed on its state; the candidates are the common
   -- nodes that are not open. While no root was found, each node marked as common leads to an open
   -- one.
-  pub record IsMarking (m : ℕ → Reach) (todo found : List ℕ) (rooted : Bool) : Type 0 where
+  pub record IsMarking (m : ℕ → Sides) (todo found : List ℕ) (rooted : Bool) : Type 0 where
     pub left : (a : ℕ) → (m a).left ≡ true → ReachedFrom g set1 a
     pub right : (a : ℕ) → (m a).right ≡ true → ReachedFrom g set2 a
     pub below : (a : ℕ) → (m a).below ≡ true → (c : ℕ) × IsCommon g set1 set2 c × StrictlyReaches g c a
@@ -107,22 +97,22 @@ module _ (g : Graph) (set1 set2 : List ℕ) where
     pub once : IsDistinct eqb found
     pub leads : rooted ≡ false → HasNoCommonCycle g set1 set2 → (a : ℕ) → IsBoth (m a) → (w : ℕ) × Contains todo w × IsBoth (m w) × Reaches g a w
 
-  pub is_common : {m : ℕ → Reach} {todo found : List ℕ} {rooted : Bool} → IsMarking m todo found rooted → (a : ℕ) → IsBoth (m a) → IsCommon g set1 set2 a
+  pub is_common : {m : ℕ → Sides} {todo found : List ℕ} {rooted : Bool} → IsMarking m todo found rooted → (a : ℕ) → IsBoth (m a) → IsCommon g set1 set2 a
   is_common k a (l, h) = (k.left a l, k.right a h)
 
   -- ---- a neighbour of an open node is marked
 
-  pub marking_more : {m : ℕ → Reach} {todo found : List ℕ} {rooted : Bool} (todo2 : List ℕ) (k : Reach) (a y : ℕ) → IsMarking m todo found rooted
+  pub marking_more : {m : ℕ → Sides} {todo found : List ℕ} {rooted : Bool} (todo2 : List ℕ) (k : Sides) (a y : ℕ) → IsMarking m todo found rooted
       → ((k.left ≡ true) → (m a).left ≡ true) → ((k.right ≡ true) → (m a).right ≡ true) → HasEdge g a y
-      → ((b : ℕ) → Contains todo b → Contains todo2 b) → ((b : ℕ) → Contains todo2 b → Contains todo b ⊎ ((b ≡ y) × (grows (m y) (propagated k) ≡ true)))
-      → (grows (m y) (propagated k) ≡ true → Contains todo2 y) → IsMarking (marks_more m y (propagated k)) todo2 found rooted
+      → ((b : ℕ) → Contains todo b → Contains todo2 b) → ((b : ℕ) → Contains todo2 b → Contains todo b ⊎ ((b ≡ y) × (adds_side (m y) (propagated k) ≡ true)))
+      → (adds_side (m y) (propagated k) ≡ true → Contains todo2 y) → IsMarking (marks_more m y (propagated k)) todo2 found rooted
   marking_more {m} {todo} {found} {rooted} todo2 k a y s has_left has_right edge keeps adds grown =
       let r = propagated k in
       let m2 = marks_more m y r in
       let unchanged : (c : ℕ) → (Contains todo2 c → ⊥) → ((m2 c).left ≡ (m c).left) × ((m2 c).right ≡ (m c).right) = λ c closed.
-      let still : c ≡ y → grows (m c) r ≡ false = λ same.
-      let P : Bool → Type 0 = λ t. grows (m c) r ≡ t → grows (m c) r ≡ false in
-      elim (grows (m c) r) as P [ true ↦ λ e. absurd (closed (subst (λ n. Contains todo2 n) (sym same) (grown (subst (λ n. grows (m n) r ≡ true) same e)))) | false ↦ λ e. e ] refl in
+      let still : c ≡ y → adds_side (m c) r ≡ false = λ same.
+      let P : Bool → Type 0 = λ t. adds_side (m c) r ≡ t → adds_side (m c) r ≡ false in
+      elim (adds_side (m c) r) as P [ true ↦ λ e. absurd (closed (subst (λ n. Contains todo2 n) (sym same) (grown (subst (λ n. adds_side (m n) r ≡ true) same e)))) | false ↦ λ e. e ] refl in
       let to_left : (m2 c).left ≡ (m c).left = at_mark m y r c (λ l. l.left ≡ (m c).left) (λ same. not_grown_left (m c).left r.left _ (still same)) (λ ne. refl) in
       let to_right : (m2 c).right ≡ (m c).right = at_mark m y r c (λ l. l.right ≡ (m c).right) (λ same. not_grown_right (m c).right r.right _ (still same)) (λ ne. refl) in
       (to_left, to_right) in
@@ -163,7 +153,7 @@ module _ (g : Graph) (set1 set2 : List ℕ) where
             (both_cases c both);
       }
     where
-      not_open_twice : (c : ℕ) → (c ≡ y) × (grows (m y) (propagated k) ≡ true) → IsBoth (m c) → ⊥
+      not_open_twice : (c : ℕ) → (c ≡ y) × (adds_side (m y) (propagated k) ≡ true) → IsBoth (m c) → ⊥
       not_open_twice c (same, e) (l, h) =
           let l2 : (m y).left ≡ true = subst (λ n. (m n).left ≡ true) same l in
           let h2 : (m y).right ≡ true = subst (λ n. (m n).right ≡ true) same h in
@@ -177,11 +167,11 @@ module _ (g : Graph) (set1 set2 : List ℕ) where
           full true false e f = true≢false (sym f)
           full false r e f = true≢false (sym e)
 
-      both_cases : (c : ℕ) → IsBoth (marks_more m y (propagated k) c) → IsBoth (m c) ⊎ ((c ≡ y) × (grows (m y) (propagated k) ≡ true))
-      both_cases c = at_mark m y (propagated k) c (λ l. IsBoth l → IsBoth (m c) ⊎ ((c ≡ y) × (grows (m y) (propagated k) ≡ true)))
-          (λ same both. ⊎_elim (λ old. inl old) (λ new. inr (same, subst (λ n. grows (m n) (propagated k) ≡ true) same new)) (both_grown (m c) (propagated k) both)) (λ ne both. inl both)
+      both_cases : (c : ℕ) → IsBoth (marks_more m y (propagated k) c) → IsBoth (m c) ⊎ ((c ≡ y) × (adds_side (m y) (propagated k) ≡ true))
+      both_cases c = at_mark m y (propagated k) c (λ l. IsBoth l → IsBoth (m c) ⊎ ((c ≡ y) × (adds_side (m y) (propagated k) ≡ true)))
+          (λ same both. ⊎_elim (λ old. inl old) (λ new. inr (same, subst (λ n. adds_side (m n) (propagated k) ≡ true) same new)) (both_grown (m c) (propagated k) both)) (λ ne both. inl both)
 
-  -- ---- an open node has passed on its mark
+  -- ---- an open node has passed on its state
 
   is_open : (todo : List ℕ) (c : ℕ) → Contains todo c ⊎ (Contains todo c → ⊥)
   is_open todo c =
@@ -197,7 +187,7 @@ module _ (g : Graph) (set1 set2 : List ℕ) where
   head_or_rest a todo c (zero, lt, e) = inl e
   head_or_rest a todo c (suc n, lt, e) = inr (n, omega arith, e)
 
-  pub marking_asked : {m : ℕ → Reach} {todo found : List ℕ} {rooted : Bool} (a : ℕ) (found2 : List ℕ) (is_root : Bool) → IsMarking m (a ∷ todo) found rooted
+  pub marking_asked : {m : ℕ → Sides} {todo found : List ℕ} {rooted : Bool} (a : ℕ) (found2 : List ℕ) (is_root : Bool) → IsMarking m (a ∷ todo) found rooted
       → (Contains todo a → ⊥) → ((b : ℕ) → HasEdge g a b → Passes (m a) (m b))
       → ((c : ℕ) → Contains found2 c ↔ (Contains found c ⊎ ((c ≡ a) × IsBoth (m a)))) → IsDistinct eqb found2
       → (is_root ≡ false → (b : ℕ) × HasEdge g a b) → IsMarking m todo found2 (rooted || is_root)
@@ -236,56 +226,56 @@ module _ (g : Graph) (set1 set2 : List ℕ) where
           (λ rest. (v.0, rest, v.2, (let q = Reaches-then_strictly g c a v.0 way_a.0 way_a.1 (edge_then_Reaches g a b.0 v.0 b.1 v.3) in (suc q.0, q.1))))
           (head_or_rest a todo v.0 v.1)
 
-  -- ---- the marks at the end
+  -- ---- the states at the end
 
   OpenAbove : List ℕ → ℕ → Type 0
   OpenAbove todo b = (w : ℕ) × Contains todo w × StrictlyReaches g w b
 
-  on_left : {m : ℕ → Reach} {todo found : List ℕ} {rooted : Bool} → IsMarking m todo found rooted → (n c b : ℕ) → (m c).left ≡ true → IsWalkOfLength g c b n → ((m b).left ≡ true) ⊎ OpenAbove todo b
+  on_left : {m : ℕ → Sides} {todo found : List ℕ} {rooted : Bool} → IsMarking m todo found rooted → (n c b : ℕ) → (m c).left ≡ true → IsWalkOfLength g c b n → ((m b).left ≡ true) ⊎ OpenAbove todo b
   unfolding OpenAbove
   on_left {m} k zero c b h p = inl (subst (λ x. (m x).left ≡ true) p h)
   on_left {m} {todo} k (suc n) c b h (d, e, p) =
       ⊎_elim (λ at. inr (c, at, (n, (d, e, p)))) (λ closed. on_left k n d b ((k.passed c d closed e).left h) p) (is_open todo c)
 
-  on_right : {m : ℕ → Reach} {todo found : List ℕ} {rooted : Bool} → IsMarking m todo found rooted → (n c b : ℕ) → (m c).right ≡ true → IsWalkOfLength g c b n → ((m b).right ≡ true) ⊎ OpenAbove todo b
+  on_right : {m : ℕ → Sides} {todo found : List ℕ} {rooted : Bool} → IsMarking m todo found rooted → (n c b : ℕ) → (m c).right ≡ true → IsWalkOfLength g c b n → ((m b).right ≡ true) ⊎ OpenAbove todo b
   unfolding OpenAbove
   on_right {m} k zero c b h p = inl (subst (λ x. (m x).right ≡ true) p h)
   on_right {m} {todo} k (suc n) c b h (d, e, p) =
       ⊎_elim (λ at. inr (c, at, (n, (d, e, p)))) (λ closed. on_right k n d b ((k.passed c d closed e).right h) p) (is_open todo c)
 
-  below_both : {m : ℕ → Reach} {todo found : List ℕ} {rooted : Bool} → IsMarking m todo found rooted → (n c b : ℕ) → IsBoth (m c) → IsWalkOfLength g c b (suc n) → ((m b).below ≡ true) ⊎ OpenAbove todo b
+  below_both : {m : ℕ → Sides} {todo found : List ℕ} {rooted : Bool} → IsMarking m todo found rooted → (n c b : ℕ) → IsBoth (m c) → IsWalkOfLength g c b (suc n) → ((m b).below ≡ true) ⊎ OpenAbove todo b
   unfolding OpenAbove
   below_both {m} {todo} k zero c b h (d, e, p) =
       ⊎_elim (λ at. inr (c, at, (0, (d, e, p)))) (λ closed. inl (subst (λ x. (m x).below ≡ true) p ((k.passed c d closed e).below h))) (is_open todo c)
   below_both {m} {todo} k (suc n) c b h (d, e, p) =
       ⊎_elim (λ at. inr (c, at, (suc n, (d, e, p)))) (λ closed. let q = k.passed c d closed e in below_both k n d b (q.left h.0, q.right h.1) p) (is_open todo c)
 
-  common_marked : {m : ℕ → Reach} {todo found : List ℕ} {rooted : Bool} → IsMarking m todo found rooted → (b : ℕ) → IsCommon g set1 set2 b → IsBoth (m b) ⊎ OpenAbove todo b
+  common_marked : {m : ℕ → Sides} {todo found : List ℕ} {rooted : Bool} → IsMarking m todo found rooted → (b : ℕ) → IsCommon g set1 set2 b → IsBoth (m b) ⊎ OpenAbove todo b
   common_marked k b ((s, at, (n, p)), (t, there, (o, q))) =
       ⊎_elim (λ l. ⊎_elim (λ r. inl (l, r)) (λ above. inr above) (on_right k o t b (k.second t there) q)) (λ above. inr above) (on_left k n s b (k.first s at) p)
 
   then_strictly : (w b a : ℕ) → StrictlyReaches g w b → StrictlyReaches g b a → StrictlyReaches g w a
   then_strictly w b a (n, p) q = Reaches-then_strictly g w b a (suc n) p q
 
-  -- a node that a common node strictly reaches has the mark, or an open node reaches it
-  marked_or_open : {m : ℕ → Reach} {todo found : List ℕ} {rooted : Bool} → IsMarking m todo found rooted → (b a : ℕ) → IsCommon g set1 set2 b → StrictlyReaches g b a → ((m a).below ≡ true) ⊎ OpenAbove todo a
+  -- a node that a common node strictly reaches has the state, or an open node reaches it
+  marked_or_open : {m : ℕ → Sides} {todo found : List ℕ} {rooted : Bool} → IsMarking m todo found rooted → (b a : ℕ) → IsCommon g set1 set2 b → StrictlyReaches g b a → ((m a).below ≡ true) ⊎ OpenAbove todo a
   unfolding OpenAbove
   marked_or_open k b a common (n, p) =
       ⊎_elim (λ both. below_both k n b a both p) (λ (w, at, way). inr (w, at, then_strictly w b a way (n, p))) (common_marked k b common)
 
   -- the end: at most one node is open, both sets reach it, and no root was found
-  pub record IsAtEnd (m : ℕ → Reach) (todo found all : List ℕ) (rooted : Bool) : Type 0 where
+  pub record IsAtEnd (m : ℕ → Sides) (todo found all : List ℕ) (rooted : Bool) : Type 0 where
     pub marking : IsMarking m todo found rooted
     pub one : (a b : ℕ) → Contains todo a → Contains todo b → a ≡ b
     pub last : (a : ℕ) → Contains todo a → IsBoth (m a) × (rooted ≡ false)
     pub either : (a : ℕ) → Contains all a ↔ (Contains found a ⊎ Contains todo a)
     pub each_once : IsDistinct eqb all
 
-  pub end_common : {m : ℕ → Reach} {todo found all : List ℕ} {rooted : Bool} → IsAtEnd m todo found all rooted → (a : ℕ) → Contains all a → IsBoth (m a)
+  pub end_common : {m : ℕ → Sides} {todo found all : List ℕ} {rooted : Bool} → IsAtEnd m todo found all rooted → (a : ℕ) → Contains all a → IsBoth (m a)
   end_common k a h = ⊎_elim (λ f. ((k.marking.common a).0 f).0) (λ o. (k.last a o).0) ((k.either a).0 h)
 
   -- an open node is not above a common one that was found
-  not_above : {m : ℕ → Reach} {todo found all : List ℕ} {rooted : Bool} → IsAtEnd m todo found all rooted → HasNoCommonCycle g set1 set2 → (a : ℕ) → Contains all a → OpenAbove todo a → ⊥
+  not_above : {m : ℕ → Sides} {todo found all : List ℕ} {rooted : Bool} → IsAtEnd m todo found all rooted → HasNoCommonCycle g set1 set2 → (a : ℕ) → Contains all a → OpenAbove todo a → ⊥
   unfolding OpenAbove
   not_above k acyclic a h (w, at, way) =
       let last = k.last w at in
@@ -301,14 +291,14 @@ module _ (g : Graph) (set1 set2 : List ℕ) where
           strict : (w a v n : ℕ) → IsWalkOfLength g w a (suc n) → (o : ℕ) → IsWalkOfLength g a v o → StrictlyReaches g w v
           strict w a v n (d, e, p) o q = edge_then_Reaches g w d v e (Reaches-trans g d a v n p (o, q))
 
-  pub end_maximal : {m : ℕ → Reach} {todo found all : List ℕ} {rooted : Bool} → IsAtEnd m todo found all rooted → HasNoCommonCycle g set1 set2
+  pub end_maximal : {m : ℕ → Sides} {todo found all : List ℕ} {rooted : Bool} → IsAtEnd m todo found all rooted → HasNoCommonCycle g set1 set2
       → (a : ℕ) → Contains all a → (m a).below ≡ false → IsMaximal g (IsCommon g set1 set2) a
   end_maximal k acyclic a h fresh = (
     is_common k.marking a (end_common k a h),
     λ b common other way. ⊎_elim (λ marked. true≢false (sym marked ∙ fresh)) (λ above. not_above k acyclic a h above) (marked_or_open k.marking b a common way),
   )
 
-  pub maximal_ends : {m : ℕ → Reach} {todo found all : List ℕ} {rooted : Bool} → IsAtEnd m todo found all rooted → HasNoCommonCycle g set1 set2
+  pub maximal_ends : {m : ℕ → Sides} {todo found all : List ℕ} {rooted : Bool} → IsAtEnd m todo found all rooted → HasNoCommonCycle g set1 set2
       → (a : ℕ) → IsMaximal g (IsCommon g set1 set2) a → Contains all a × ((m a).below ≡ false)
   unfolding OpenAbove
   maximal_ends {m} {todo} k acyclic a (common, maximal) =

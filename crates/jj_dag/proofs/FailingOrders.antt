@@ -1,31 +1,11 @@
 -- Failed items of orders over items that may fail.
-use Rattle.std.proofs.Common.{◌≡◌, ℕ, zero, suc, Bool, false, List, [], ◌∷◌, ◌++◌, map, refl, sym, ◌∙◌, ap, subst, arith, ⊎_elim, Option, Result, Ok, Err, Some, None}
+use Rattle.std.proofs.Common.{◌≡◌, Bool, false, List, [], ◌∷◌, ◌++◌, map, refl, sym, ◌∙◌, ap, subst, Option, Result, Ok, Err, Some, None}
 use Rattle.std.proofs.lemmas.List.{map-append}
 use Rattle.std.specs.Iterator.{Yields}
-use Rattle.std.specs.List.{Contains}
-use Rattle.jj_dag.specs.Graph.{Graph, IsWalkOfLength, ReachedFrom}
-use Rattle.jj_dag.specs.Failing.{BeginsWith, sound_items}
+use Rattle.jj_dag.specs.FallibleGraphs.{BeginsWith}
 use Rattle.jj_dag.specs.Walk.{DrainsTo}
 
--- ---- a list of sound items
-
-pub sound_items-nodes : {T : Type 0} (K : Type 0) (node : T → ℕ) (xs : List T) → sound_items {K = K} (map (λ x. Ok (node x)) xs) ≡ map node xs
-sound_items-nodes K node [] = refl
-sound_items-nodes K node (x ∷ xs) = ap (λ l. node x ∷ l) (sound_items-nodes K node xs)
-
-pub none_of_nodes : {T K : Type 0} (node : T → ℕ) (xs : List T) (fault : K) → Contains {X = Result ℕ K} (map (λ x. Ok (node x)) xs) (Err fault) → ⊥
-none_of_nodes node [] fault (k, lt, same) = absurd (omega arith)
-none_of_nodes node (x ∷ xs) fault (zero, lt, same) = cc
-none_of_nodes node (x ∷ xs) fault (suc k, lt, same) = none_of_nodes node xs fault (k, omega arith, same)
-
 -- ---- one graph for another
-
-pub ReachedFrom-same : (g h : Graph) → ((a : ℕ) → g a ≡ h a) → (starts : List ℕ) (b : ℕ) → ReachedFrom g starts b → ReachedFrom h starts b
-ReachedFrom-same g h same starts b (a, at, (n, p)) = (a, at, (n, path n a p))
-  where
-    path : (n a : ℕ) → IsWalkOfLength g a b n → IsWalkOfLength h a b n
-    path zero a p = p
-    path (suc n) a (c, e, p) = (c, subst (λ (l : List ℕ). Contains l c) (same a) e, path n c p)
 
 -- ---- one more item
 

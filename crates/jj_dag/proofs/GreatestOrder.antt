@@ -9,13 +9,12 @@ use Rattle.std.proofs.lemmas.Bool.{cases_eq}
 use Rattle.std.proofs.lemmas.Bool.Decides.{nat_tests}
 use Rattle.std.proofs.lemmas.List.{length-map, get_or-map, get_or_past, get_or_default}
 use Rattle.jj_dag.specs.Graph.{HasEdge, ReachedFrom, IsAcyclicFrom, ReachesCycle, IsTopologicalOrder, IsGreatestTopologicalOrder}
-use Rattle.jj_dag.specs.Failing.{FailingGraph, HasNoFailure, sound}
-use Rattle.jj_dag.specs.Walk.{Numbered, AreNodes, IsOrderedLike}
+use Rattle.jj_dag.specs.FallibleGraphs.{FallibleGraph, sound}
+use Rattle.jj_dag.specs.Walk.{Model, AreNodes, IsOrderedLike}
 use Rattle.jj_dag.specs.Collecting.{IsCollecting}
 use Rattle.jj_dag.specs.ReadyNodes.{TakesGreatestReady, IsStuck, IsNotBelow, places_graph}
 use Rattle.jj_dag.proofs.Reaching.{Contains-reached}
 use Rattle.jj_dag.proofs.Collecting.{are_nodes}
-use Rattle.jj_dag.proofs.FailingOrders.{ReachedFrom-same}
 use Rattle.jj_dag.proofs.ReadyOrders.{here, later, IsTopologicalOrder-from_taken, IsGreatest-from_taken, IsAcyclicFrom-from_child_first, cycle_from_stuck}
 use Rattle.jj_dag.proofs.Relabelled.{Contains-map, AtPlaces, relabelled, StrictlyReaches-up}
 use Rattle.jj_dag.proofs.Plain.{nothing}
@@ -69,7 +68,7 @@ slots_present (y ∷ ys) (suc k) lt = slots_present ys k (omega arith)
 not_lt : (a b : ℕ) → is_lt (nat_cmp a b) ≡ false → b ≤ a
 not_lt a b h = grind (arith, nat_tests)
 
-module _ {T ID E : Type 0} (w : Numbered T ID) (items : FailingGraph E) (cmp : T → T → Ordering) where
+module _ {T ID E : Type 0} (w : Model T ID) (items : FallibleGraph E) (cmp : T → T → Ordering) where
   slot_number : (given : List T) (k : ℕ) (x : T) → get_or (map (λ x. Some x) given) k None ≡ Some x → get_or (map w.node given) k 0 ≡ w.node x
   slot_number [] k x e = absurd cc
   slot_number (y ∷ ys) zero x e = let q : y ≡ x = cc in ap w.node q
@@ -134,10 +133,6 @@ module _ {T ID E : Type 0} (w : Numbered T ID) (items : FailingGraph E) (cmp : T
 
     within : (a b : ℕ) → Contains (get_or ts a []) b → b < length ns
     within a b h = rw (length-map given w.node) (linked_within find ids ts (length given) linked places a b h)
-
-    pub nothing_failed : HasNoFailure items starts
-    nothing_failed a fault reached bad =
-        collected.none_failed a fault ((are_reached a).1 (ReachedFrom-same (sound items) w.graph (λ b. sym (sound_graph b)) starts a reached)) bad
 
     module _ (order : List ℕ) (takes : TakesGreatestReady (places_graph ts) (λ k. k < length (map (λ x. Some x) given)) (IsNotBelow cmp (map (λ x. Some x) given)) order) where
       numbers_taken : TakesGreatestReady w.graph (Contains ns) (AtPlaces w.graph ns ts collected.injective edges_stand within (IsNotBelow cmp (map (λ x. Some x) given))) (map (λ k. get_or ns k 0) order)

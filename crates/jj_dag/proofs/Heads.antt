@@ -10,7 +10,7 @@ use Rattle.std.proofs.lemmas.List.Elements.{Contains-append_left, Contains-appen
 use Rattle.std.proofs.lemmas.Map.Keys.{IsDistinct-tail, IsDistinct-head, IsDistinct-cons}
 use Rattle.jj_dag.specs.Graph.{HasEdge, ReachedFrom, IsAcyclicFrom, IsMaximal, AreMaximalElements}
 use Rattle.jj_dag.specs.HeadsSearch.{IsStarted}
-use Rattle.jj_dag.specs.Walk.{Numbered, AreNodes, StandsForNodes}
+use Rattle.jj_dag.specs.Walk.{Model, AreNodes, IsEqualityOfNodes}
 use Rattle.jj_dag.proofs.Walking.{has, has-push, has-from_Contains, Contains-from_has, eqb-flip, numbers}
 use Rattle.jj_dag.proofs.Reaching.{ReachedFrom-edge}
 use Rattle.jj_dag.proofs.Searching.{Seen, IsSearching, search_met, search_asked, search_maximal, met_not_maximal}
@@ -89,16 +89,16 @@ both true true e = absurd (true≢false (sym e))
 both true false e = (refl, refl)
 both false m e = absurd (true≢false (sym e))
 
-module _ {T ID : Type 0} (w : Numbered T ID) where
+module _ {T ID : Type 0} (w : Model T ID) where
   abbrev Apart : (ID → ID → Bool) → Type 0
   Apart eq = (i j : ID) → w.is_node (w.id i) ≡ true → w.is_node (w.id j) ≡ true → eq i j ≡ (w.id i == w.id j)
 
   -- a value that equals a node's is of that node
-  stands_for : {eqT : T → T → Bool} → StandsForNodes w eqT → (x y : T) → w.is_node (w.node x) ≡ true → eqT x y ≡ true → w.node x ≡ w.node y
+  stands_for : {eqT : T → T → Bool} → IsEqualityOfNodes w eqT → (x y : T) → w.is_node (w.node x) ≡ true → eqT x y ≡ true → w.node x ≡ w.node y
   stands_for stands x y here same = (Decides-eqb (w.node x) (w.node y)).0 (sym (stands x y here) ∙ same)
 
   -- the keys after a value of a node was inserted: each was there before, or is of the node
-  pub put_for : {eqT : T → T → Bool} → StandsForNodes w eqT → (old new : List T) (x : T) → w.is_node (w.node x) ≡ true
+  pub put_for : {eqT : T → T → Bool} → IsEqualityOfNodes w eqT → (old new : List T) (x : T) → w.is_node (w.node x) ≡ true
       → ((y : T) → Contains new y → Contains old y ⊎ (eqT x y ≡ true)) → (y : T) → Contains new y → Contains old y ⊎ (w.node x ≡ w.node y)
   put_for stands old new x here adds y h = ⊎_elim (λ kept. inl kept) (λ put. inr (stands_for stands x y here put)) (adds y h)
 
@@ -126,7 +126,7 @@ module _ {T ID : Type 0} (w : Numbered T ID) where
       }
 
   pub started_new : {starts : List ℕ} {keys : List T} {in_heads : T → Bool} {test : ID → Bool} {waiting : List ℕ} (eqT : T → T → Bool) (eq : ID → ID → Bool)
-      (keys2 : List T) (in_heads2 : T → Bool) (test2 : ID → Bool) (x : T) (i : ID) → StandsForNodes w eqT → Apart eq → IsStarted w starts keys in_heads test waiting
+      (keys2 : List T) (in_heads2 : T → Bool) (test2 : ID → Bool) (x : T) (i : ID) → IsEqualityOfNodes w eqT → Apart eq → IsStarted w starts keys in_heads test waiting
       → w.is_node (w.node x) ≡ true → w.id i ≡ w.node x → ((y : T) → Contains keys2 y → Contains keys y ⊎ (w.node x ≡ w.node y))
       → ((q : T) → in_heads2 q ≡ cond (eqT x q) true (in_heads q)) → ((q : ID) → test2 q ≡ cond (eq i q) true (test q))
       → IsStarted w (starts ++ w.node x ∷ []) keys2 in_heads2 test2 (waiting ++ w.node x ∷ [])
@@ -178,7 +178,7 @@ module _ {T ID : Type 0} (w : Numbered T ID) where
 
   -- a neighbour of a pending node is found
   pub holds_met : {starts met waiting : List ℕ} {rooted : Bool} {keys : List T} {in_heads : T → Bool} {test : ID → Bool} (eqT : T → T → Bool) (eq : ID → ID → Bool)
-      (waiting2 : List ℕ) (keys2 : List T) (in_heads2 : T → Bool) (test2 : ID → Bool) (asked : ℕ) (y : T) (i : ID) → StandsForNodes w eqT → Apart eq
+      (waiting2 : List ℕ) (keys2 : List T) (in_heads2 : T → Bool) (test2 : ID → Bool) (asked : ℕ) (y : T) (i : ID) → IsEqualityOfNodes w eqT → Apart eq
       → ((a : ℕ) → w.is_node a ≡ true → AreNodes w (w.graph a))
       → HoldsSearch starts met waiting rooted keys in_heads test → Contains waiting asked → HasEdge w.graph asked (w.node y) → w.id i ≡ w.node y
       → ((x : T) → Contains keys2 x → Contains keys x) → ((q : T) → in_heads2 q ≡ cond (eqT y q) false (in_heads q)) → ((q : ID) → test2 q ≡ cond (eq i q) true (test q))
@@ -239,7 +239,7 @@ module _ {T ID : Type 0} (w : Numbered T ID) where
 
   -- ---- the end
 
-  distinct_numbers : (eqT : T → T → Bool) → StandsForNodes w eqT → (keys : List T) → ((x : T) → Contains keys x → w.is_node (w.node x) ≡ true) → IsDistinct eqT keys → IsDistinct eqb (numbers w keys)
+  distinct_numbers : (eqT : T → T → Bool) → IsEqualityOfNodes w eqT → (keys : List T) → ((x : T) → Contains keys x → w.is_node (w.node x) ≡ true) → IsDistinct eqT keys → IsDistinct eqb (numbers w keys)
   unfolding IsDistinct
   distinct_numbers eqT stands [] nodes d = tt
   distinct_numbers eqT stands (x ∷ keys) nodes d =
@@ -252,7 +252,7 @@ module _ {T ID : Type 0} (w : Numbered T ID) where
           (sym (stands x y (nodes x (0, omega arith, refl))) ∙ a.0, apart ys (λ z h. stand z (Contains-append_right (y ∷ []) ys z h)) a.1)
 
   pub holds_maximal : {met waiting : List ℕ} {rooted : Bool} {keys : List T} {test : ID → Bool} (eqT : T → T → Bool) (xs : List T)
-      → HoldsSearch (numbers w xs) met waiting rooted keys (λ x. list_any (eqT x) keys) test → StandsForNodes w eqT → IsDistinct eqT keys
+      → HoldsSearch (numbers w xs) met waiting rooted keys (λ x. list_any (eqT x) keys) test → IsEqualityOfNodes w eqT → IsDistinct eqT keys
       → ((a b : ℕ) → Contains waiting a → Contains waiting b → a ≡ b) → ((a : ℕ) → Contains waiting a → rooted ≡ false) → IsAcyclicFrom w.graph (numbers w xs)
       → AreMaximalElements w.graph (numbers w xs) (numbers w keys)
   holds_maximal {met} {waiting} {rooted} {keys} {test} eqT xs k stands distinct one no_root acyclic = record {

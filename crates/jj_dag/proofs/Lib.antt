@@ -20,12 +20,12 @@ pub mod Marking
 pub mod Meeting
 pub mod Wrapped
 pub mod ListsOrErrors
-pub mod Collected
+pub mod IndexedGraph
 pub mod Plain
 pub mod Starts
-pub mod Asking
+pub mod Expanding
 pub mod Calling
-pub mod Owing
+pub mod Walkable
 pub mod Postorders
 pub mod Renumbered
 pub mod ClosureGraphs

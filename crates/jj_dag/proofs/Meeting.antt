@@ -4,24 +4,24 @@ use Rattle.std.specs.HashSet.{HashSet, contains}
 use Rattle.std.specs.List.{Contains}
 use Rattle.std.proofs.lemmas.List.Elements.{Contains-append_left, Contains-append_right, Contains-push, Contains-push_cases}
 use Rattle.jj_dag.specs.Graph.{HasEdge}
-use Rattle.jj_dag.specs.HeadsSearch.{MeetsNodes, TellsNodes}
-use Rattle.jj_dag.specs.HeadsSearch.MeetsNodes.{none, more}
-use Rattle.jj_dag.specs.Walk.{AreNodes, Numbered, StandsForNodes}
+use Rattle.jj_dag.specs.HeadsSearch.{VisitsNeighbors, ReturnsNodeIds}
+use Rattle.jj_dag.specs.HeadsSearch.VisitsNeighbors.{none, more}
+use Rattle.jj_dag.specs.Walk.{AreNodes, Model, IsEqualityOfNodes}
 use Rattle.jj_dag.proofs.Heads.{HoldsSearch, adds_more, adds_one, holds_met, seen_is_node}
 use Rattle.jj_dag.proofs.Plain.{nothing}
 use Rattle.jj_dag.proofs.Walking.{numbers, numbers-push}
 
 module _ {T ID S R : Type 0} {same : T → T → Bool} {eq : ID → ID → Bool} {tells : T → ID → Type 0} {heads : HashSet T S} {visited : HashSet ID R} {waiting : List T} where
   -- a pending node was pending before, or was found
-  pub all_waiting : {xs : List T} {heads2 : HashSet T S} {visited2 : HashSet ID R} {waiting2 : List T} → MeetsNodes same eq tells heads visited waiting xs heads2 visited2 waiting2
+  pub all_waiting : {xs : List T} {heads2 : HashSet T S} {visited2 : HashSet ID R} {waiting2 : List T} → VisitsNeighbors same eq tells heads visited waiting xs heads2 visited2 waiting2
       → (b : T) → Contains waiting2 b → Contains waiting b ⊎ Contains xs b
   all_waiting none b h = inl h
   all_waiting {waiting2 = waiting3} (more {xs = xs} {waiting2 = waiting2} {visited2 = visited2} x i before told did) b h =
       adds_more waiting xs waiting2 waiting3 x (all_waiting before) (adds_one (contains eq visited2 i) waiting2 waiting3 x did.known did.new) b h
 
   -- the neighbours of a pending node were found
-  pub all_met : (w : Numbered T ID) (starts met : List ℕ) (rooted : Bool) (a : ℕ) (zs : List ℕ) {xs : List T} {heads2 : HashSet T S} {visited2 : HashSet ID R} {waiting2 : List T}
-      → StandsForNodes w same → TellsNodes w eq tells → ((b : ℕ) → w.is_node b ≡ true → AreNodes w (w.graph b)) → MeetsNodes same eq tells heads visited waiting xs heads2 visited2 waiting2
+  pub all_met : (w : Model T ID) (starts met : List ℕ) (rooted : Bool) (a : ℕ) (zs : List ℕ) {xs : List T} {heads2 : HashSet T S} {visited2 : HashSet ID R} {waiting2 : List T}
+      → IsEqualityOfNodes w same → ReturnsNodeIds w eq tells → ((b : ℕ) → w.is_node b ≡ true → AreNodes w (w.graph b)) → VisitsNeighbors same eq tells heads visited waiting xs heads2 visited2 waiting2
       → HoldsSearch w starts met (a ∷ numbers w waiting) rooted heads.keys (contains same heads) (contains eq visited) → numbers w xs ++ zs ≡ w.graph a
       → (met2 : List ℕ) × HoldsSearch w starts met2 (a ∷ numbers w waiting2) rooted heads2.keys (contains same heads2) (contains eq visited2) × ((b : ℕ) → Contains (numbers w xs) b → Contains met2 b)
   all_met w starts met rooted a zs stands knows closed none holds e = (met, holds, λ b h. absurd (nothing b h))
@@ -33,7 +33,7 @@ module _ {T ID S R : Type 0} {same : T → T → Bool} {eq : ID → ID → Bool}
       let here = closed a (seen_is_node w old.1 a (old.1.searching.waits a (0, omega arith, refl))) (w.node y) edge in (
         old.0 ++ w.node y ∷ [],
         holds_met w same eq (a ∷ numbers w waiting3) heads3.keys (contains same heads3) (contains eq visited3) a y i stands knows.apart closed old.1 (0, omega arith, refl) edge
-            (knows.ids_stand y i here told) did.keys did.leaves.0 did.visits.0
+            (knows.ids_match y i here told) did.keys did.leaves.0 did.visits.0
             (λ t. ap (λ l. a ∷ numbers w l) (did.known t))
             (λ t. ap (λ l. a ∷ numbers w l) (did.new t) ∙ ap (λ l. a ∷ l) (numbers-push w waiting2 y)),
         λ b h. ⊎_elim (λ o. Contains-append_left old.0 (w.node y ∷ []) b (old.2 b o)) (λ equal. subst (λ (n : ℕ). Contains (old.0 ++ w.node y ∷ []) n) equal (Contains-push old.0 (w.node y)))

@@ -1,10 +1,10 @@
 -- A list that takes the greatest ready node until all are taken is the greatest child-first list;
 -- where it gets stuck there is a cycle.
-use Rattle.std.proofs.Common.{◌≡◌, ◌↔◌, ℕ, zero, suc, ◌+◌, ◌≤◌, true, false, List, [], ◌∷◌, ◌++◌, length, refl, sym, ◌∙◌, ap, subst, arith, eqb, inl, inr, ◌⊎◌, ⊎_elim, true≢false, append_assoc, length-append}
+use Rattle.std.proofs.Common.{◌≡◌, ◌≢◌, ◌<◌, ◌↔◌, ℕ, zero, suc, ◌+◌, ◌≤◌, true, false, List, [], ◌∷◌, ◌++◌, length, refl, sym, ◌∙◌, ap, subst, arith, eqb, inl, inr, ◌⊎◌, ⊎_elim, true≢false, append_assoc, length-append}
 use Rattle.std.specs.List.{Contains, IsDistinct, AllByRecursion}
 use Rattle.std.proofs.lemmas.Bool.Decides.{Decides-eqb}
 use Rattle.std.proofs.lemmas.List.Elements.{Contains-append_left, Contains-append_right, Contains-append_cases, All-contains, All-from_recursion}
-use Rattle.jj_dag.specs.Graph.{Graph, HasEdge, IsWalkOfLength, Reaches, StrictlyReaches, ReachedFrom, IsAcyclicFrom, IsTopologicalOrder, IsAbove}
+use Rattle.jj_dag.specs.Graph.{Graph, HasEdge, IsWalkOfLength, Reaches, StrictlyReaches, ReachedFrom, IsAcyclicFrom, IsTopologicalOrder}
 use Rattle.jj_dag.specs.ReadyNodes.{IsReady, TakesGreatestReady, IsStuck}
 use Rattle.jj_dag.proofs.TakingReady.{only_one}
 use Rattle.jj_dag.proofs.Reaching.{Contains-split, ReachedFrom-edge, edge_then_Reaches}
@@ -118,7 +118,7 @@ module _ (g : Graph) (starts : List ℕ) (IsNode : ℕ → Type 0) (NotBelow : �
       Contains_reached (suc n) a b h (c, edge, p) = Contains_reached n c b (node_edge a c h edge) p
 
   -- the node that another child-first list has at the first difference was ready too
-  pub IsGreatest-from_taken : (order : List ℕ) → TakesGreatestReady g IsNode NotBelow order → ((a b : ℕ) → IsNode a → IsNode b → NotBelow a b → b ≤ a) → (other : List ℕ) → IsTopologicalOrder g starts other → IsAbove order other
+  pub IsGreatest-from_taken : (order : List ℕ) → TakesGreatestReady g IsNode NotBelow order → ((a b : ℕ) → IsNode a → IsNode b → NotBelow a b → b ≤ a) → (other : List ℕ) → IsTopologicalOrder g starts other → (front highs lows : List ℕ) (a b : ℕ) → order ≡ front ++ a ∷ highs → other ≡ front ++ b ∷ lows → a ≢ b → b < a
   IsGreatest-from_taken order k ordered other o front highs lows a b e f ne =
       let is_a = (k.ready front highs a e).0 in
       let in_b : Contains other b = subst (λ (l : List ℕ). Contains l b) (sym f) (at_split front b lows) in

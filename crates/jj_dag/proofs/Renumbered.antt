@@ -1,18 +1,14 @@
 -- A walk under other numbers: closures define the renumbered graph too, if the numbering is
 -- one-to-one.
-use Rattle.std.proofs.Common.{◌≡◌, ◌≢◌, ◌<◌, ℕ, zero, suc, append_assoc, Bool, true, false, cond, ◌&&◌, ◌==◌, Option, Result, Ok, Err, List, [], ◌∷◌, ◌++◌, map, refl, sym, ◌∙◌, ap, subst, arith}
-use Rattle.std.specs.List.{Contains, cons_option}
-use Rattle.std.specs.Result.{result_ok}
-use Rattle.std.specs.Bool.{one_answer}
-use Rattle.std.specs.Fn.{Shared, Mut, AlwaysReturns, ReturnsEach}
+use Rattle.std.proofs.Common.{◌≡◌, ◌≢◌, ◌<◌, ℕ, zero, suc, append_assoc, Bool, true, false, cond, ◌&&◌, ◌==◌, List, [], ◌∷◌, ◌++◌, map, refl, sym, ◌∙◌, ap, subst}
+use Rattle.std.specs.List.{Contains}
+use Rattle.std.specs.Fn.{Mut, AlwaysReturns, ReturnsEach}
 use Rattle.std.proofs.lemmas.Bool.Decides.{Decides-eqb}
 use Rattle.std.proofs.lemmas.List.{map-append}
 use Rattle.std.proofs.lemmas.List.Elements.{Contains-append_left}
 use Rattle.std.proofs.lemmas.Bool.{and_from, and_parts}
-use denote.Ref.{Bor}
 use Rattle.jj_dag.specs.Graph.{HasEdge, IsWalkOfLength, ReachedFrom, Precedes, IsTopologicalOrder, IsGreatestTopologicalOrder}
-use Rattle.jj_dag.specs.Walk.{Numbered, AreNodes}
-use Rattle.jj_dag.specs.Failing.{AreItems, FailingGraph, Fault, IsItem, ListsItems, ShowsItems, sound_items}
+use Rattle.jj_dag.specs.Walk.{Model, AreNodes}
 use Rattle.jj_dag.proofs.Collecting.{are_nodes}
 use Rattle.jj_dag.proofs.Reaching.{Contains-split}
 use Rattle.jj_dag.proofs.ReadyOrders.{at_split, distinct, here, later, twice}
@@ -30,23 +26,13 @@ AlwaysReturns-weaker {F} {X} {R} g P Q f h k = record { at = λ xs. each xs f (k
 
 -- ---- graphs
 
--- the numbers of the items that did not fail
-abbrev pub renumbered_item : {K : Type 0} → (ℕ → ℕ) → Result ℕ K → Result ℕ K
-renumbered_item to (Ok n) = Ok (to n)
-renumbered_item to (Err e) = Err e
-
-sound-renumbered : {K : Type 0} (to : ℕ → ℕ) (xs : List (Result ℕ K)) → map to (sound_items xs) ≡ sound_items (map (renumbered_item to) xs)
-sound-renumbered to [] = refl
-sound-renumbered to (Ok n ∷ xs) = ap (λ l. to n ∷ l) (sound-renumbered to xs)
-sound-renumbered to (Err e ∷ xs) = sound-renumbered to xs
-
 -- The nodes have the numbers of `to`, and `back` is its inverse. A value that is no node has a
 -- number that no node has.
-module _ {T ID : Type 0} (w : Numbered T ID) (to back : ℕ → ℕ) (unused : ℕ) where
+module _ {T ID : Type 0} (w : Model T ID) (to back : ℕ → ℕ) (unused : ℕ) where
   abbrev pub number_of : ℕ → ℕ
   number_of n = cond (w.is_node n) (to n) unused
 
-  abbrev pub renumbered : Numbered T ID
+  abbrev pub renumbered : Model T ID
   renumbered = record {
     graph = λ b. map to (w.graph (back b));
     is_node = λ b. w.is_node (back b) && (to (back b) == b);
@@ -96,69 +82,6 @@ module _ {T ID : Type 0} (w : Numbered T ID) (to back : ℕ → ℕ) (unused : �
         subst (λ (n : ℕ). renumbered.is_node n ≡ true) m.2 (is_renumbered m.0 (nodes m.0 m.1))
 
     -- ---- the graph of the closures
-
-    item_is : {E : Type 0} (x : Result T E) (item : Result ℕ (Fault E)) → ((n : ℕ) → item ≡ Ok n → w.is_node n ≡ true) → IsItem w.node x item → IsItem renumbered.node x (renumbered_item to item)
-    item_is (Ok x) (Ok n) nodes h = ap number_of h ∙ number_is n (nodes n refl)
-    item_is (Ok x) (Err e) nodes h = h
-    item_is (Err x) (Ok n) nodes h = h
-    item_is (Err x) (Err e) nodes h = h
-
-    items_are : {E : Type 0} (xs : List (Result T E)) (items : List (Result ℕ (Fault E))) → AreNodes w (sound_items items) → AreItems w.node xs items → AreItems renumbered.node xs (map (renumbered_item to) items)
-    items_are [] [] nodes h = h
-    items_are [] (item ∷ items) nodes h = h
-    items_are (x ∷ xs) [] nodes h = h
-    items_are {E} (x ∷ xs) (item ∷ items) nodes h = (
-      item_is x item (λ n e. nodes n (subst (λ (i : Result ℕ (Fault E)). Contains (cons_option (result_ok i) (sound_items items)) n) (sym e) (here n (sound_items items)))) h.0,
-      items_are xs items (λ a k. nodes a (behind item a k)) h.1,
-    )
-      where
-        behind : (item : Result ℕ (Fault E)) (a : ℕ) → Contains (sound_items items) a → Contains (cons_option (result_ok item) (sound_items items)) a
-        behind (Ok n) a k = later n (sound_items items) a k
-        behind (Err e) a k = k
-
-    -- the items of a node's list, up to some index
-    begun_nodes : {E : Type 0} (begun rest : List (Result ℕ (Fault E))) → AreNodes w (sound_items (begun ++ rest)) → AreNodes w (sound_items begun)
-    begun_nodes [] rest nodes a (k, lt, e) = absurd (omega arith)
-    begun_nodes (Ok n ∷ begun) rest nodes a (zero, lt, e) = subst (λ (m : ℕ). w.is_node m ≡ true) e (nodes n (here n (sound_items (begun ++ rest))))
-    begun_nodes (Ok n ∷ begun) rest nodes a (suc k, lt, e) = begun_nodes begun rest (λ b h. nodes b (later n (sound_items (begun ++ rest)) b h)) a (k, omega arith, e)
-    begun_nodes (Err x ∷ begun) rest nodes a h = begun_nodes begun rest nodes a h
-
-    lists_items : {E U S : Type 0} (becomes : U → S → Type 0) (steps : S → Option (Result T E) → S → Type 0) (value : U) (items : List (Result ℕ (Fault E))) → AreNodes w (sound_items items)
-        → ListsItems w.node becomes steps value items → ListsItems renumbered.node becomes steps value (map (renumbered_item to) items)
-    lists_items {E} becomes steps value items nodes k = record {
-      whole = λ xs d. items_are xs items nodes (k.whole xs d);
-      first = λ xs e d.
-          let b = k.first xs e d in (
-            map (renumbered_item to) b.0,
-            map (renumbered_item to) b.1,
-            ap (map (renumbered_item to)) b.2 ∙ map-append (renumbered_item to) b.0 b.1,
-            items_are (xs ++ Err e ∷ []) b.0 (begun_nodes b.0 b.1 (subst (λ (l : List (Result ℕ (Fault E))). AreNodes w (sound_items l)) b.2 nodes)) b.3,
-          );
-    }
-
-    pub renumbered_shows : {E F N U S : Type 0} (items : FailingGraph (Fault E)) (eq : ID → ID → Bool) (ids : Shared F (Bor T × Unit {0}) ID) (lists : Mut N (Bor T × Unit {0}) U)
-        (becomes : U → S → Type 0) (steps : S → Option (Result T E) → S → Type 0) (id_fn : F) (neighbors_fn : N)
-        → ShowsItems w items eq ids lists becomes steps id_fn neighbors_fn
-        → ShowsItems renumbered (λ b. map (renumbered_item to) (items (back b))) eq ids lists becomes steps id_fn neighbors_fn
-    renumbered_shows items eq ids lists becomes steps id_fn neighbors_fn k = record {
-      sound_graph = λ b. ap (map to) (k.sound_graph (back b)) ∙ sound-renumbered to (items (back b));
-      closed = renumbered_closed;
-      apart = λ i j is_i is_j.
-          let at_i = is_node_of (w.id i) is_i in
-          let at_j = is_node_of (w.id j) is_j in
-          k.apart i j at_i at_j
-          ∙ one_answer (w.id i == w.id j) (number_of (w.id i) == number_of (w.id j)) (Decides-eqb (w.id i) (w.id j)) (
-            λ e. one_to_one (w.id i) (w.id j) at_i at_j (sym (number_is (w.id i) at_i) ∙ (Decides-eqb (number_of (w.id i)) (number_of (w.id j))).0 e ∙ number_is (w.id j) at_j),
-            λ e. (Decides-eqb (number_of (w.id i)) (number_of (w.id j))).1 (ap number_of e),
-          );
-      ids_stand = λ x i is h. ap number_of (k.ids_stand x i (is_node_of (w.node x) is) h);
-      neighbors = AlwaysReturns-weaker lists _ _ neighbors_fn (λ a r h is.
-          let n = w.node a.0.now in
-          let here_is = is_node_of n is in
-          let at : back (number_of n) ≡ n = ap back (number_is n here_is) ∙ undo n here_is in
-          subst (λ (m : ℕ). ListsItems renumbered.node becomes steps r (map (renumbered_item to) (items m))) (sym at)
-          (lists_items becomes steps r (items n) (λ b c. closed n here_is b (subst (λ (l : List ℕ). Contains l b) (sym (k.sound_graph n)) c)) (h here_is))) k.neighbors;
-    }
 
     -- ---- orders
 

@@ -347,14 +347,6 @@ module _ {T : Type 0} (cmp : T → T → Ordering) (slots : List (Option T)) (ts
     pub done : (k : ℕ) → k < index → HasStatus waiting degrees [] ready k
     pub rest : (k : ℕ) → index ≤ k → k < length slots → (get_or waiting k None ≡ get_or slots k None) × (placed [] ready k ≡ 0)
 
-  pub sorting_starts : (degrees : List ℕ) (ready : List (T × ℕ)) → ready ≡ [] → IsSorting degrees 0 slots ready
-  sorting_starts degrees ready e = rw e (record {
-    waits = refl;
-    heaped = λ x k (j, lt, q). absurd (omega arith);
-    done = λ k lt. absurd (omega arith);
-    rest = λ k ge lt. (refl, refl);
-  })
-
   pub sorting_kept : {degrees : List ℕ} {waiting : List (Option T)} {ready : List (T × ℕ)} (index : ℕ) → IsSorting degrees index waiting ready → index < length slots → 0 < get_or degrees index 0
       → IsSorting degrees (index + 1) waiting ready
   sorting_kept {degrees} {waiting} {ready} index k lt some = record {

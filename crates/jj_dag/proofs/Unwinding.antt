@@ -6,7 +6,7 @@ use Rattle.std.proofs.lemmas.List.{reverse-append, map-append}
 use Rattle.std.proofs.lemmas.List.Elements.{Contains-append_left, Contains-append_right, Contains-append_cases}
 use Rattle.jj_dag.specs.Graph.{Graph, HasEdge, StrictlyReaches, ReachedFrom, OnCycleFrom, Postorder}
 use Rattle.jj_dag.specs.Graph.Postorder.{ended as post_ended, passed as post_passed, entered as post_entered}
-use Rattle.jj_dag.specs.Walk.{Numbered, AreNodes}
+use Rattle.jj_dag.specs.Walk.{Model, AreNodes}
 use Rattle.jj_dag.proofs.Reaching.{Reaches-then_strictly, ReachedFrom-edge}
 use Rattle.jj_dag.proofs.Walking.{has, has-push, has-from_Contains, Contains-from_has, eqb-flip, numbers}
 
@@ -102,7 +102,7 @@ abbrev pub IsFresh : List ℕ → Type 0
 IsFresh [] = Unit {0}
 IsFresh (a ∷ xs) = (has xs a ≡ false) × IsFresh xs
 
-module _ {T ID : Type 0} (w : Numbered T ID) where
+module _ {T ID : Type 0} (w : Model T ID) where
   abbrev pub marks : List (T × Bool) → List (ℕ × Bool)
   marks top = map (λ p. (w.node p.0, p.1)) top
 

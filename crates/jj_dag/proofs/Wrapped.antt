@@ -1,18 +1,16 @@
 -- From items to items in an `Ok`.
-use Rattle.std.proofs.Common.{◌≡◌, ℕ, Bool, List, [], ◌∷◌, ◌++◌, map, Option, Result, Ok, Err, refl, sym, ap, subst}
+use Rattle.std.proofs.Common.{◌≡◌, ℕ, List, [], ◌∷◌, ◌++◌, map, Option, Result, Ok, Err, refl, sym, ap, subst}
 use Rattle.std.specs.Fn.{Shared, Mut, Called, AlwaysReturns, ReturnsEach}
 use Rattle.std.specs.Iterator.{IsFinite, IsFiniteIterable, Yields}
 use Rattle.std.specs.declared.iter.IntoIterator as into
 use Rattle.std.specs.declared.iter.Iterator as iter
 use denote.Param.Always.{always_mut, mut_by, mut_next}
 use denote.Ref.{Bor}
-use Rattle.jj_dag.specs.AllOk.{GivesOk}
-use Rattle.jj_dag.specs.Failing.{AreItems, BeginsWith, Fault, ListsItems, ShowsItems, sound_items}
-use Rattle.jj_dag.specs.Outcomes.{Ends}
+use Rattle.jj_dag.specs.AllOk.{StepsOk}
+use Rattle.jj_dag.specs.FallibleGraphs.{BeginsWith, ok_items}
 use Rattle.jj_dag.specs.ClosureGraph.{IsWalkable}
-use Rattle.jj_dag.specs.Owed.{CanShow}
 use Rattle.jj_dag.specs.Stops.{IfFailed, IfCycle}
-use Rattle.jj_dag.specs.Walk.{DrainsTo, IsShownBy, Numbered}
+use Rattle.jj_dag.specs.Walk.{DrainsTo}
 use Rattle.jj_dag.specs.declared.all_ok.AllOk.{AllOk}
 use Rattle.jj_dag.specs.declared.forward.Stop.{Stop}
 use Rattle.jj_dag.specs.declared.forward.Stop.TheVariants.{Failed, Cycle}
@@ -37,7 +35,7 @@ always_mut-through outer inner of asks calls f k =
 
 module _ {I T E : Type 0} (steps : I → Option T → I → Type 0) where
   abbrev pub wrapped : AllOk I E → Option (Result T E) → AllOk I E → Type 0
-  wrapped s r t = GivesOk steps s.items r t.items
+  wrapped s r t = StepsOk steps s.items r t.items
 
   -- a run of the wrapped items is one of the items
   pub unwrapped : (ys : List (Result T E)) (s t : AllOk I E) → Yields wrapped s ys t → (xs : List T) × (ys ≡ map (λ x. Ok x) xs) × Yields steps s.items xs t.items
@@ -45,7 +43,7 @@ module _ {I T E : Type 0} (steps : I → Option T → I → Type 0) where
   unwrapped (Ok y ∷ ys) s t (u, first, more) = let r = unwrapped ys u t more in (y ∷ r.0, ap (λ l. Ok y ∷ l) r.1, (u.items, first, r.2))
   unwrapped (Err e ∷ ys) s t (u, first, more) = absurd first
 
-pub all_sound : (K : Type 0) (ns : List ℕ) → ns ≡ sound_items (map {B = Result ℕ K} (λ n. Ok n) ns)
+pub all_sound : (K : Type 0) (ns : List ℕ) → ns ≡ ok_items (map {B = Result ℕ K} (λ n. Ok n) ns)
 all_sound K [] = refl
 all_sound K (n ∷ ns) = ap (λ l. n ∷ l) (all_sound K ns)
 
@@ -68,10 +66,6 @@ no_error (x ∷ front) e back (y ∷ ys) h =
     let tail : front ++ Err e ∷ back ≡ map (λ z. Ok z) ys = cc in
     no_error front e back ys tail
 
-pub wrapped_items : {T : Type 0} (E : Type 0) (node : T → ℕ) (xs : List T) → AreItems node (map {B = Result T E} (λ x. Ok x) xs) (map {B = Result ℕ (Fault E)} (λ n. Ok n) (map node xs))
-wrapped_items E node [] = tt
-wrapped_items E node (x ∷ xs) = (refl, wrapped_items E node xs)
-
 module _ {U I T E : Type 0} (becomes : U → I → Type 0) (steps : I → Option T → I → Type 0) where
   -- the items in an `Ok` of an iterator that this value becomes are its items
   pub drains_unwrapped : (value : U) (s : AllOk I E) → becomes value s.items → (ys : List (Result T E)) → DrainsTo (λ v k. k ≡ v) (wrapped steps) s ys
@@ -84,16 +78,6 @@ module _ {U I T E : Type 0} (becomes : U → I → Type 0) (steps : I → Option
   pub none_fails : (s : AllOk I E) (front : List (Result T E)) (e : E) → BeginsWith (λ v k. k ≡ v) (wrapped steps) s (front ++ Err e ∷ []) → ⊥
   none_fails s front e (k, same, (t, run)) = let r = unwrapped steps (front ++ Err e ∷ []) k t run in no_error front e [] r.0 r.1
 
-  -- so they are a list of items none of which failed
-  pub lists_wrapped : (node : T → ℕ) (value : U) (s : AllOk I E) → becomes value s.items → (ns : List ℕ) → ((xs : List T) → DrainsTo becomes steps value xs → map node xs ≡ ns)
-      → ListsItems {E = E} node (λ v k. k ≡ v) (wrapped steps) s (map (λ n. Ok n) ns)
-  lists_wrapped node value s b ns listed = record {
-    whole = λ ys d.
-        let r = drains_unwrapped value s b ys d in
-        subst (λ (l : List (Result T E)). AreItems node l (map (λ n. Ok n) ns)) (sym r.1) (subst (λ (l : List ℕ). AreItems node (map {B = Result T E} (λ x. Ok x) r.0) (map (λ n. Ok n) l)) (listed r.0 r.2) (wrapped_items E node r.0));
-    first = λ xs e d. absurd (none_fails s xs e d);
-  }
-
 -- where all of them come in an `Ok`
 pub drains_ok : {U I T : Type 0} (E : Type 0) (becomes : U → I → Type 0) (steps : I → Option T → I → Type 0) (value : U) (s : AllOk I E) → becomes value s.items → (xs : List T)
     → DrainsTo (λ v k. k ≡ v) (wrapped {E = E} steps) s (map (λ x. Ok x) xs) → DrainsTo becomes steps value xs
@@ -101,37 +85,7 @@ drains_ok E becomes steps value s b xs d =
     let r = drains_unwrapped becomes steps value s b (map (λ x. Ok x) xs) d in
     subst (λ (l : List _). DrainsTo becomes steps value l) (sym (ok_same E xs r.0 r.1)) r.2
 
--- A closure that returns the items of another one, each in an `Ok`.
-module _ {T ID E F N G U I : Type 0} (eq : ID → ID → Bool) (ids : Shared F (Bor T × Unit {0}) ID) (lists : Mut N (Bor T × Unit {0}) U) (becomes : U → I → Type 0) (steps : I → Option T → I → Type 0)
-    (outer : Mut G (Bor T × Unit {0}) (AllOk I E)) (inner : G → N)
-    (hands_on : (f : G) (a : Bor T × Unit {0}) (r : AllOk I E) (f' : G) → Called outer f a r f' → (n : U) × Called lists (inner f) a n (inner f') × becomes n r.items) where
-  -- it defines the same graph by items, none of which fails
-  pub shows_wrapped : (w : Numbered T ID) (id_fn : F) (f : G) → IsShownBy w eq ids lists becomes steps id_fn (inner f)
-      → ShowsItems {E = E} w (λ n. map (λ a. Ok a) (w.graph n)) eq ids outer (λ v k. k ≡ v) (wrapped steps) id_fn f
-  shows_wrapped w id_fn f shown = record {
-    sound_graph = λ a. all_sound _ (w.graph a);
-    closed = shown.closed;
-    apart = shown.apart;
-    ids_stand = shown.ids_stand;
-    neighbors = AlwaysReturns-through outer lists _ _ inner (λ f a r after h.
-        let q = hands_on f a r after h in (q.0, q.1, λ listed is. lists_wrapped becomes steps w.node q.0 r q.2 (w.graph (w.node a.0.now)) (λ xs d. listed xs is d))) f shown.neighbors;
-  }
-
--- the preconditions of the inner closure are those of the outer one
-pub can_show_wrapped : {T ID E F N G U I : Type 0} (ids : Shared F (Bor T × Unit {0}) ID) (lists : Mut N (Bor T × Unit {0}) U) (value : into.Ghosts U T I) (items : iter.Ghosts I T)
-    (outer : Mut G (Bor T × Unit {0}) (AllOk I E)) (inner : G → N) (whole : into.Ghosts (AllOk I E) (Result T E) (AllOk I E)) (whole_items : iter.Ghosts (AllOk I E) (Result T E))
-    → ((f : G) (a : Bor T × Unit {0}) (r : AllOk I E) (f' : G) → Called outer f a r f' → (n : U) × Called lists (inner f) a n (inner f') × value.into_iter_gives n r.items)
-    → ((f : G) (a : Bor T × Unit {0}) → always_mut lists (inner f) → outer.pre f a)
-    → ((r : AllOk I E) → IsFiniteIterable (λ v k. k ≡ v) (λ k. items.can_next k.items) (λ k. items.remaining k.items) r → Ends whole whole_items r)
-    → (id_fn : F) (f : G) → IsWalkable ids lists (IsFiniteIterable value.into_iter_gives items.can_next items.remaining) id_fn (inner f) → CanShow ids outer whole whole_items id_fn f
-can_show_wrapped ids lists value items outer inner whole whole_items hands_on asks ends id_fn f k = record {
-  id_fn = k.id_fn;
-  neighbors_fn = always_mut-through outer lists inner asks (λ f a r after h. let q = hands_on f a r after h in (q.0, q.1)) f k.neighbors_fn;
-  lists = AlwaysReturns-through outer lists _ _ inner (λ f a r after h.
-      let q = hands_on f a r after h in (q.0, q.1, λ left. ends r (λ it is. subst (λ v. items.can_next v.items × IsFinite (items.remaining v.items)) (sym is) (left r.items q.2)))) f k.lists;
-}
-
--- and so is `IsWalkable`
+-- where a walk may call the inner closure, it may call the outer one
 pub walkable_wrapped : {T ID E F N G U I : Type 0} (ids : Shared F (Bor T × Unit {0}) ID) (lists : Mut N (Bor T × Unit {0}) U) (value : into.Ghosts U T I) (items : iter.Ghosts I T)
     (outer : Mut G (Bor T × Unit {0}) (AllOk I E)) (inner : G → N) (ends : AllOk I E → Type 0)
     → ((f : G) (a : Bor T × Unit {0}) (r : AllOk I E) (f' : G) → Called outer f a r f' → (n : U) × Called lists (inner f) a n (inner f') × value.into_iter_gives n r.items)

@@ -4,20 +4,20 @@ use Rattle.std.specs.Prelude.{◌≡◌, ℕ, ◌<◌, Bool, true, Option, Some,
 use Rattle.std.specs.declared.result.Result.TheVariants.{Err}
 use Rattle.std.specs.HashMap.{get}
 use Rattle.std.specs.List.{Contains, filter_map}
-use Rattle.jj_dag.specs.declared.greatest_order.Collected.{Collected}
+use Rattle.jj_dag.specs.declared.greatest_order.IndexedGraph.{IndexedGraph}
 use Rattle.jj_dag.specs.Graph.{HasEdge, ReachedFrom}
-use Rattle.jj_dag.specs.Failing.{FailingGraph}
-use Rattle.jj_dag.specs.Walk.{Numbered}
+use Rattle.jj_dag.specs.FallibleGraphs.{FallibleGraph}
+use Rattle.jj_dag.specs.Walk.{Model}
 
 -- as many lists of ids as nodes, all of which are present, and each index is that of a node
-pub record IsFilled {T ID : Type 0} (eq : ID → ID → Bool) (found : Collected T ID) : Type 0 where
+pub record IsFilled {T ID : Type 0} (eq : ID → ID → Bool) (found : IndexedGraph T ID) : Type 0 where
   pub given : List T
   pub nodes : found.nodes.items ≡ map (λ x. Some x) given
   pub ids : length found.neighbor_ids.items ≡ length given
   pub places : (i : ID) (k : ℕ) → get eq found.index_of i ≡ Some k → k < length given
 
 -- the indices of the neighbours of each node
-abbrev pub neighbor_places : {T ID : Type 0} → (ID → ID → Bool) → Collected T ID → List (List ℕ)
+abbrev pub neighbor_places : {T ID : Type 0} → (ID → ID → Bool) → IndexedGraph T ID → List (List ℕ)
 neighbor_places eq found =
     map (λ v. filter_map (get eq found.index_of) v.items) found.neighbor_ids.items
 
@@ -26,7 +26,7 @@ abbrev pub IsInjective : List ℕ → Type 0
 IsInjective ns = (i j : ℕ) → i < length ns → j < length ns → slice_index ns i ≡ slice_index ns j
     → i ≡ j
 
-module _ {T ID E : Type 0} (w : Numbered T ID) (items : FailingGraph E) where
+module _ {T ID E : Type 0} (w : Model T ID) (items : FallibleGraph E) where
   -- a look-up of an id returns the index of its node
   abbrev pub Finds : (ID → Option ℕ) → List ℕ → Type 0
   Finds find ns = (i : ID) → w.is_node (w.id i) ≡ true

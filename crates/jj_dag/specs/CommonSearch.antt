@@ -2,42 +2,44 @@
 -- Machinery of private functions and fields.
 use Rattle.std.specs.Prelude.{◌≡◌, ℕ, ◌==◌, true, false, ◌||◌, List, ◌++◌, map, Result, IfOk, eqb}
 use Rattle.std.specs.List.{IsDistinct, list_any}
-use Rattle.jj_dag.specs.declared.closest_common.Mark.{Mark}
-use Rattle.jj_dag.specs.declared.closest_common.Reach.{Reach}
+use Rattle.jj_dag.specs.declared.closest_common.NodeState.{NodeState}
+use Rattle.jj_dag.specs.declared.closest_common.Sides.{Sides}
 use Rattle.jj_dag.specs.declared.walk_error.WalkError.{WalkError}
 use Rattle.jj_dag.specs.ClosureGraph.{ClosureGraph}
 use Rattle.jj_dag.specs.Found.{AreClosestNodes}
 use Rattle.jj_dag.specs.Graph.{ReachedFrom}
 use Rattle.jj_dag.specs.Outcomes.{IfFails}
-use Rattle.jj_dag.specs.Walk.{AreNodes, Numbered}
+use Rattle.jj_dag.specs.Walk.{AreNodes, Model}
 
--- the mark of a node if only the nodes of the two sets were marked
-abbrev pub reach_of_sets : List ℕ → List ℕ → ℕ → Reach
-reach_of_sets set1 set2 b = record {
+-- the state of a node if only the nodes of the two sets were marked
+abbrev pub sides_of_sets : List ℕ → List ℕ → ℕ → Sides
+sides_of_sets set1 set2 b = record {
   left = list_any (λ a. b == a) set1;
   right = list_any (λ a. b == a) set2;
   below = false;
 }
 
-module _ {T ID : Type 0} (w : Numbered T ID) where
-  -- the map has these marks for the nodes, and the pending ones are in the heap, each once
-  pub record KnowsMarks (m : ℕ → Reach) (waiting : List T) (find : ID → Mark) : Type 0 where
+module _ {T ID : Type 0} (w : Model T ID) where
+  -- the map has these states for the nodes, and the pending ones are in the heap, each once
+  pub record KnowsMarks (m : ℕ → Sides) (waiting : List T) (find : ID → NodeState) : Type 0 where
     pub knows : (i : ID) → w.is_node (w.id i) ≡ true → find i ≡ record {
-      reach = m (w.id i);
-      waits = list_any (λ a. w.id i == a) (map w.node waiting);
+      sides = m (w.id i);
+      is_pending = list_any (λ a. w.id i == a) (map w.node waiting);
     }
     pub distinct : IsDistinct eqb (map w.node waiting)
 
   -- the nodes of the two sets were marked, and they all wait
-  pub record IsStarting (set1 set2 : List ℕ) (waiting : List T) (find : ID → Mark) : Type 0 where
-    pub marks : KnowsMarks (reach_of_sets set1 set2) waiting find
-    pub waits : (b : ℕ) → list_any (λ a. b == a) (map w.node waiting)
+  pub record IsStarting (set1 set2 : List ℕ) (waiting : List T) (find : ID → NodeState)
+      : Type 0 where
+    pub marks : KnowsMarks (sides_of_sets set1 set2) waiting find
+    pub is_pending : (b : ℕ) → list_any (λ a. b == a) (map w.node waiting)
         ≡ (list_any (λ a. b == a) set1 || list_any (λ a. b == a) set2)
 
-module _ {T ID E : Type 0} (graph : ClosureGraph T ID E) (find : ID → Mark) (waiting : List T) where
+module _ {T ID E : Type 0} (graph : ClosureGraph T ID E) (find : ID → NodeState)
+    (waiting : List T) where
   -- P of each model that the closures implement, and of two sets whose nodes were marked so
-  abbrev pub FromMarks : (Numbered T ID → List ℕ → List ℕ → Type 0) → Type 0
-  FromMarks P = (walk : Numbered T ID) (set1 set2 : List ℕ) → graph.implements walk
+  abbrev pub FromMarks : (Model T ID → List ℕ → List ℕ → Type 0) → Type 0
+  FromMarks P = (walk : Model T ID) (set1 set2 : List ℕ) → graph.implements walk
       → AreNodes walk set1 → AreNodes walk set2 → IsStarting walk set1 set2 waiting find
       → P walk set1 set2
 

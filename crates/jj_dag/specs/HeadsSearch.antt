@@ -9,15 +9,15 @@ use Rattle.jj_dag.specs.ClosureGraph.{ClosureGraph}
 use Rattle.jj_dag.specs.Graph.{ReachedFrom}
 use Rattle.jj_dag.specs.Found.{AreHeads}
 use Rattle.jj_dag.specs.Outcomes.{IfFails}
-use Rattle.jj_dag.specs.Walk.{AreNodes, DrainsTo, Numbered, StandsForNodes}
+use Rattle.jj_dag.specs.Walk.{AreNodes, DrainsTo, Model, IsEqualityOfNodes}
 
-module _ {T ID : Type 0} (w : Numbered T ID) where
+module _ {T ID : Type 0} (w : Model T ID) where
   -- ids of nodes are equal exactly if they are of one node, and each id that `tells` of a node is
   -- its id
-  pub record TellsNodes (eq : ID → ID → Bool) (tells : T → ID → Type 0) : Type 0 where
+  pub record ReturnsNodeIds (eq : ID → ID → Bool) (tells : T → ID → Type 0) : Type 0 where
     pub apart : (i j : ID) → w.is_node (w.id i) ≡ true → w.is_node (w.id j) ≡ true
         → eq i j ≡ (w.id i == w.id j)
-    pub ids_stand : (x : T) (i : ID) → w.is_node (w.node x) ≡ true → tells x i → w.id i ≡ w.node x
+    pub ids_match : (x : T) (i : ID) → w.is_node (w.node x) ≡ true → tells x i → w.id i ≡ w.node x
 
   -- the starts are the heads, their ids are known, and they wait
   pub record IsStarted (starts : List ℕ) (keys : List T) (in_heads : T → Bool) (test : ID → Bool)
@@ -37,13 +37,13 @@ module _ {T ID S R : Type 0} (same : T → T → Bool) (eq : ID → ID → Bool)
     pub nodes : List T
     pub drained : DrainsTo becomes steps value (map Ok nodes)
     pub waits : (x : T) → Contains waiting x → Contains nodes x
-    pub started : (walk : Numbered T ID) → TellsNodes walk eq tells → StandsForNodes walk same
+    pub started : (walk : Model T ID) → ReturnsNodeIds walk eq tells → IsEqualityOfNodes walk same
         → AreNodes walk (map walk.node nodes)
         → IsStarted walk (map walk.node nodes) heads.keys (contains same heads)
         (contains eq visited) (map walk.node waiting)
 
   -- the neighbour x of this id is no head, and waits if its id is new
-  pub record MeetsNode (x : T) (i : ID) (heads heads2 : HashSet T S)
+  pub record VisitsNeighbor (x : T) (i : ID) (heads heads2 : HashSet T S)
       (visited visited2 : HashSet ID R) (waiting waiting2 : List T) : Type 0 where
     pub keys : (y : T) → Contains heads2.keys y → Contains heads.keys y
     pub leaves : Updates same heads heads2 x false
@@ -52,33 +52,33 @@ module _ {T ID S R : Type 0} (same : T → T → Bool) (eq : ID → ID → Bool)
     pub new : contains eq visited i ≡ false → waiting2 ≡ waiting ++ x ∷ []
 
   -- the neighbours of a list, with these ids, were found one after the other
-  pub data MeetsNodes (tells : T → ID → Type 0) (heads : HashSet T S) (visited : HashSet ID R)
+  pub data VisitsNeighbors (tells : T → ID → Type 0) (heads : HashSet T S) (visited : HashSet ID R)
       (waiting : List T) : List T → HashSet T S → HashSet ID R → List T → Type 0 where
-    none : MeetsNodes tells heads visited waiting [] heads visited waiting
+    none : VisitsNeighbors tells heads visited waiting [] heads visited waiting
     more : {xs waiting2 waiting3 : List T} {heads2 heads3 : HashSet T S}
         {visited2 visited3 : HashSet ID R} (x : T) (i : ID)
-        → MeetsNodes tells heads visited waiting xs heads2 visited2 waiting2 → tells x i
-        → MeetsNode x i heads2 heads3 visited2 visited3 waiting2 waiting3
-        → MeetsNodes tells heads visited waiting (xs ++ x ∷ []) heads3 visited3 waiting3
+        → VisitsNeighbors tells heads visited waiting xs heads2 visited2 waiting2 → tells x i
+        → VisitsNeighbor x i heads2 heads3 visited2 visited3 waiting2 waiting3
+        → VisitsNeighbors tells heads visited waiting (xs ++ x ∷ []) heads3 visited3 waiting3
 
   -- the neighbours that an iterator of this value yields were found, and `empty` is whether there
   -- was none
-  pub record MeetsAll {E U I : Type 0} (tells : T → ID → Type 0) (becomes : U → I → Type 0)
+  pub record VisitsAll {E U I : Type 0} (tells : T → ID → Type 0) (becomes : U → I → Type 0)
       (steps : I → Option (Result T E) → I → Type 0) (value : U) (heads heads2 : HashSet T S)
       (visited visited2 : HashSet ID R) (waiting waiting2 : List T) (empty : Bool) : Type 0 where
     pub nodes : List T
     pub drained : DrainsTo becomes steps value (map Ok nodes)
-    pub met : MeetsNodes tells heads visited waiting nodes heads2 visited2 waiting2
+    pub met : VisitsNeighbors tells heads visited waiting nodes heads2 visited2 waiting2
     pub none : MatchBool empty (nodes ≡ []) ((x : T) × Contains nodes x)
 
 module _ {T ID E S R : Type 0} (same : T → T → Bool) (eq : ID → ID → Bool)
     (graph : ClosureGraph T ID E) (heads : HashSet T S) (visited : HashSet ID R) (waiting : List T)
   where
     -- P of each model that the closures implement, and of starts that were taken so
-    abbrev pub FromStarted : (Numbered T ID → List ℕ → Type 0) → Type 0
-    FromStarted P = (walk : Numbered T ID) (xs : List T) → graph.implements walk
+    abbrev pub FromStarted : (Model T ID → List ℕ → Type 0) → Type 0
+    FromStarted P = (walk : Model T ID) (xs : List T) → graph.implements walk
         → AreNodes walk (map walk.node xs) → ((x : T) → Contains waiting x → Contains xs x)
-        → (StandsForNodes walk same → IsStarted walk (map walk.node xs) heads.keys
+        → (IsEqualityOfNodes walk same → IsStarted walk (map walk.node xs) heads.keys
         (contains same heads) (contains eq visited) (map walk.node waiting))
         → P walk (map walk.node xs)
 

@@ -1,6 +1,6 @@
 pub mod Graph
 pub mod Walk
-pub mod Failing
+pub mod FallibleGraphs
 pub mod ClosureGraph
 pub mod Errors
 pub mod ReadyNodes
@@ -11,11 +11,10 @@ pub mod AllOk
 pub mod Stops
 pub mod ListOrError
 pub mod Outcomes
-pub mod Owed
 pub mod Orders
 pub mod Found
 pub mod GreatestOrder
-pub mod Asking
+pub mod Expanding
 pub mod CommonSearch
 pub mod HeadsSearch
 pub mod NodeGraph

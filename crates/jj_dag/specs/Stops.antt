@@ -6,7 +6,7 @@ use Rattle.std.specs.declared.vec.Vec.{Vec}
 use Rattle.jj_dag.specs.ClosureGraph.{ClosureGraph, InEachModel, IsInputError, Listing}
 use Rattle.jj_dag.specs.Graph.{OnCycleFrom, ReachedFrom}
 use Rattle.jj_dag.specs.Orders.{IsWholePostorder}
-use Rattle.jj_dag.specs.Walk.{AreNodes, Numbered}
+use Rattle.jj_dag.specs.Walk.{AreNodes, Model}
 use Rattle.jj_dag.specs.declared.forward.Stop.{Stop}
 use Rattle.jj_dag.specs.declared.forward.Stop.TheVariants.{Memory, Failed, Cycle}
 
@@ -36,9 +36,9 @@ module _ {T ID E : Type 0} (graph : ClosureGraph T ID E) where
   module _ (stack : List (T × Bool)) where
     -- P of each model that the closures implement, and of the nodes that wait on the stack, none
     -- of which was entered
-    abbrev pub FromStack : (Numbered T ID → List ℕ → Type 0) → Type 0
+    abbrev pub FromStack : (Model T ID → List ℕ → Type 0) → Type 0
     FromStack P = (xs : List T) → stack ≡ map (λ x. (x, false)) xs
-        → (walk : Numbered T ID) → graph.implements walk → AreNodes walk (map walk.node xs)
+        → (walk : Model T ID) → graph.implements walk → AreNodes walk (map walk.node xs)
         → P walk (map walk.node xs)
 
     -- a walk from such a stack

@@ -11,11 +11,11 @@ pub struct AllOk<I, E> {
 impl<I: Iterator, E> Iterator for AllOk<I, E> {
     type Item = Result<I::Item, E>;
 
-    ghost use Rattle.jj_dag.specs.AllOk.{GivesOk};
+    ghost use Rattle.jj_dag.specs.AllOk.{StepsOk};
 
     ghost can_next = { λ s. I.can_next s.items };
 
-    ghost next_gives = { λ s r t. GivesOk I.next_gives s.items r t.items };
+    ghost next_gives = { λ s r t. StepsOk I.next_gives s.items r t.items };
 
     ghost remaining = { λ s. I.remaining s.items };
 

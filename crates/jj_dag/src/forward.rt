@@ -1,12 +1,10 @@
 //! Postorder by depth-first search with an explicit stack, over items that may fail.
-ghost use Rattle.std.specs.Prelude.{◌≡◌, ◌+◌, ◌≤◌, ◌<◌, ◌^◌, ◌++◌, ◌∷◌, [], List, Ok, Err, true, false, cond, map, IfErr, OnOk};
-ghost use Rattle.std.specs.Fn.{CalledAt};
+ghost use Rattle.std.specs.Prelude.{◌≡◌, ◌+◌, ◌≤◌, ◌<◌, ◌^◌, ◌++◌, ◌∷◌, [], List, Ok, Err, true, false, cond, map, IfErr, OnOk, IsTrue};
+ghost use Rattle.std.specs.Fn.{CalledAt, AlwaysReturns};
 ghost use Rattle.std.specs.HashSet.{contains, hash_set_len, Updates};
-ghost use Rattle.std.specs.Iterator.{Drains, IsFinite, Yields};
-ghost use Rattle.jj_dag.specs.ClosureGraph.{graph_of_items, list_of_items};
-ghost use Rattle.jj_dag.specs.Failing.{FailsAfterNodes};
-ghost use Rattle.jj_dag.specs.Outcomes.{ClonesAreEqual, Ends, ListsEnd};
-ghost use Rattle.jj_dag.specs.Owed.{CanShow};
+ghost use Rattle.std.specs.Iterator.{Drains, IsFinite, Yields, IsFiniteIterable};
+ghost use Rattle.jj_dag.specs.ClosureGraph.{graph_of_items, list_of_items, IsWalkable};
+ghost use Rattle.jj_dag.specs.FallibleGraphs.{FailsAfterNodes};
 ghost use Rattle.jj_dag.specs.Stops.{IfCycle, IfFailed, UnwindsFrom, WalksForward};
 ghost use Rattle.jj_dag.specs.Walk.{DrainsTo};
 ghost use Rattle.jj_dag.specs.declared.forward.Stop.{Stop};
@@ -54,9 +52,11 @@ where
     NI: IntoIterator<Item = Result<T, E>, IntoIter: Drop>,
     F: Fn(&T) -> Result<ID, AllocError> + Drop,
     N: FnMut(&T) -> NI + Drop,
-    requires graph { CanShow F.Fn N.FnMut NI.IntoIterator NI.IntoIter.Iterator id_fn neighbors_fn }
-    requires start { Ends II.IntoIterator II.IntoIter.Iterator start }
-    requires clones { ClonesAreEqual ID.is_clone ID.eq }
+    requires graph { IsWalkable F.Fn N.FnMut (IsFiniteIterable NI.into_iter_gives
+        NI.IntoIter.can_next NI.IntoIter.remaining) id_fn neighbors_fn }
+    requires start { IsFiniteIterable II.into_iter_gives II.IntoIter.can_next II.IntoIter.remaining
+        start }
+    requires clones { (x y : ID) → ID.is_clone x y → IsTrue (ID.eq x y) }
     ensures { WalksForward (graph_of_items ID.eq F.Fn N.FnMut NI.IntoIterator NI.IntoIter.Iterator
         id_fn neighbors_fn) (list_of_items II.IntoIterator II.IntoIter.Iterator start) result }
 {
@@ -119,11 +119,12 @@ where
     NI: IntoIterator<Item = Result<T, E>, IntoIter: Drop>,
     N: FnMut(&T) -> NI,
     requires neighbors_fn { N.IsAlwaysCallable neighbors_fn.old }
-    requires lists { ListsEnd N.FnMut NI.IntoIterator NI.IntoIter.Iterator neighbors_fn.old }
-    requires clones { ClonesAreEqual ID.is_clone ID.eq }
+    requires lists { AlwaysReturns N.FnMut (λ a r. IsFiniteIterable NI.into_iter_gives
+        NI.IntoIter.can_next NI.IntoIter.remaining r) neighbors_fn.old }
+    requires clones { (x y : ID) → ID.is_clone x y → IsTrue (ID.eq x y) }
     ensures neighbors_fn { OnOk result (N.IsAlwaysCallable neighbors_fn.new) }
-    ensures lists { OnOk result (ListsEnd N.FnMut NI.IntoIterator NI.IntoIter.Iterator
-        neighbors_fn.new) }
+    ensures lists { OnOk result (AlwaysReturns N.FnMut (λ a r. IsFiniteIterable NI.into_iter_gives
+        NI.IntoIter.can_next NI.IntoIter.remaining r) neighbors_fn.new) }
     ensures neighbors { OnOk result ((list : NI) × (xs : List T)
         × CalledAt N.FnMut neighbors_fn.old node list neighbors_fn.new
         × DrainsTo NI.into_iter_gives NI.IntoIter.next_gives list (map (λ x. Ok x) xs)
@@ -161,9 +162,9 @@ where
     NI: IntoIterator<Item = Result<T, E>, IntoIter: Drop>,
     F: Fn(&T) -> Result<ID, AllocError>,
     N: FnMut(&T) -> NI,
-    requires graph { CanShow F.Fn N.FnMut NI.IntoIterator NI.IntoIter.Iterator id_fn.now
-        neighbors_fn.old }
-    requires clones { ClonesAreEqual ID.is_clone ID.eq }
+    requires graph { IsWalkable F.Fn N.FnMut (IsFiniteIterable NI.into_iter_gives
+        NI.IntoIter.can_next NI.IntoIter.remaining) id_fn.now neighbors_fn.old }
+    requires clones { (x y : ID) → ID.is_clone x y → IsTrue (ID.eq x y) }
     ensures { UnwindsFrom (graph_of_items ID.eq F.Fn N.FnMut NI.IntoIterator NI.IntoIter.Iterator
         id_fn.now neighbors_fn.old) stack.old.items result }
 {

@@ -6,13 +6,13 @@ ghost use Rattle.std.specs.List.Sorted.{IsPermutation};
 ghost use Rattle.std.specs.BinaryHeap.{heap_items, KeepsHeap};
 ghost use Rattle.std.specs.Ordering.{nat_cmp, ordering_then};
 ghost use Rattle.jj_dag.specs.Collecting.{IsFilled, neighbor_places};
-ghost use Rattle.jj_dag.specs.ClosureGraph.{InEachModel, IsInputError, IsMadeFrom, graph_of_items, list_of_items};
+ghost use Rattle.jj_dag.specs.ClosureGraph.{InEachModel, IsInputError, IsMadeBesideCycle, graph_of_items, list_of_items};
 ghost use Rattle.jj_dag.specs.GreatestOrder.{IsGreatestOrder};
-ghost use Rattle.jj_dag.specs.Outcomes.{IfFails, IsReachedBesideCycle};
+ghost use Rattle.jj_dag.specs.Outcomes.{IfFails};
 ghost use Rattle.jj_dag.specs.ReadyNodes.{TakesGreatestFirst, edges_to, places_graph};
 
-use crate::shown::Shown;
-use crate::sound_nodes::sound_nodes;
+use crate::closures::Closures;
+use crate::collect_ok::collect_ok;
 use crate::walk_error::WalkError;
 use std::alloc::{AllocError, Global};
 use std::collections::{BinaryHeap, HashMap};
@@ -47,15 +47,15 @@ where
     ensures error { IfFails result (λ e. IsInputError
         (graph_of_items ID.eq F.Fn N.FnMut NI.IntoIterator NI.IntoIter.Iterator id_fn neighbors_fn)
         (list_of_items II.IntoIterator II.IntoIter.Iterator start) e
-        ⊎ IsMadeFrom (C.post cycle_fn) IsReachedBesideCycle
+        ⊎ IsMadeBesideCycle (C.post cycle_fn)
         (graph_of_items ID.eq F.Fn N.FnMut NI.IntoIterator NI.IntoIter.Iterator id_fn neighbors_fn)
         (list_of_items II.IntoIterator II.IntoIter.Iterator start) e) }
 {
-    let nodes = match sound_nodes(alloc, start) {
+    let nodes = match collect_ok(alloc, start) {
         Ok(nodes) => nodes,
         Err(refused) => return Err(refused),
     };
-    let mut graph = Shown {
+    let mut graph = Closures {
         id_fn,
         neighbors_fn,
     };
@@ -63,7 +63,7 @@ where
         Ok(found) => found,
         Err(refused) => return Err(refused),
     };
-    let (order, left) = found.greatest_first(alloc)?;
+    let (order, left) = found.into_greatest_order(alloc)?;
     match left {
         Some(node) => Err(WalkError::Node(cycle_fn(node))),
         None => Ok(order),
@@ -93,20 +93,20 @@ fn make_ready<T: Ord + Drop>(
 
 /// The nodes that a walk visited, in that order, and the ids of the neighbours of each.
 #[derive(Drop)]
-pub struct Collected<T, ID: Hash + Eq> {
+pub struct IndexedGraph<T, ID: Hash + Eq> {
     pub nodes: Vec<Option<T>>,
     pub neighbor_ids: Vec<Vec<ID>>,
     pub index_of: HashMap<ID, usize>,
 }
 
-impl<T: Drop, ID: Hash + Eq + Drop> Collected<T, ID> {
+impl<T: Drop, ID: Hash + Eq + Drop> IndexedGraph<T, ID> {
     /// Creates it without nodes.
     pub fn new(alloc: Global) -> Self
         ensures nodes { result.nodes.items ≡ [] }
         ensures ids { result.neighbor_ids.items ≡ [] }
         ensures places { (i : ID) → get ID.eq result.index_of i ≡ None }
     {
-        Collected {
+        IndexedGraph {
             nodes: Vec::new(alloc),
             neighbor_ids: Vec::new(alloc),
             index_of: HashMap::new(alloc),
@@ -114,7 +114,7 @@ impl<T: Drop, ID: Hash + Eq + Drop> Collected<T, ID> {
     }
 
     /// Appends a node.
-    pub fn keep(&mut self, node: T, id: ID, neighbor_ids: Vec<ID>) -> Result<(), AllocError>
+    pub fn add_node(&mut self, node: T, id: ID, neighbor_ids: Vec<ID>) -> Result<(), AllocError>
         ensures nodes { OnOk result (self.new.nodes.items
             ≡ self.old.nodes.items ++ Some node ∷ []) }
         ensures ids { OnOk result (self.new.neighbor_ids.items
@@ -130,15 +130,15 @@ impl<T: Drop, ID: Hash + Eq + Drop> Collected<T, ID> {
     }
 }
 
-impl<T: Ord + Drop, ID: Hash + Eq + Drop> Collected<T, ID> {
+impl<T: Ord + Drop, ID: Hash + Eq + Drop> IndexedGraph<T, ID> {
     /// Returns the nodes in the greatest topological order, and a node that is left if there is a
     /// cycle.
-    pub fn greatest_first(self, alloc: Global) -> Result<(Vec<T>, Option<T>), AllocError>
+    pub fn into_greatest_order(self, alloc: Global) -> Result<(Vec<T>, Option<T>), AllocError>
         requires { IsFilled ID.eq self }
         ensures { IfOk result
             (TakesGreatestFirst T.cmp self.nodes.items (neighbor_places ID.eq self)) }
     {
-        let Collected {
+        let IndexedGraph {
             nodes,
             neighbor_ids,
             index_of,

@@ -4,6 +4,8 @@
 
 mod all_ok;
 mod closest_common;
+pub mod closures;
+mod collect_ok;
 pub mod dag_walk;
 pub mod dag_walk_async;
 mod forward;
@@ -11,7 +13,5 @@ pub mod greatest_order;
 pub mod list_or_error;
 mod maximal;
 mod maximal_lists;
-pub mod shown;
-mod sound_nodes;
 mod topo_order;
 pub mod walk_error;

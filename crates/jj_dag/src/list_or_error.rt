@@ -1,5 +1,5 @@
 //! An adapter for lists of neighbours that may fail as a whole.
-ghost use Rattle.jj_dag.specs.ListOrError.{StandsFor};
+ghost use Rattle.jj_dag.specs.ListOrError.{IteratesOver};
 
 /// Iterates over the items of a list, each in an `Ok`, or yields one error.
 #[derive(Drop)]
@@ -12,11 +12,11 @@ pub enum ListOrError<I, E> {
 impl<I: Iterator, E: Drop> Iterator for ListOrError<I, E> {
     type Item = Result<I::Item, E>;
 
-    ghost use Rattle.jj_dag.specs.ListOrError.{CanList, GivesListed, listed_left};
+    ghost use Rattle.jj_dag.specs.ListOrError.{CanList, StepsListed, listed_left};
 
     ghost can_next = { CanList I.can_next };
 
-    ghost next_gives = { GivesListed I.next_gives };
+    ghost next_gives = { StepsListed I.next_gives };
 
     ghost remaining = { listed_left I.remaining };
 
@@ -38,7 +38,7 @@ impl<I: Iterator, E: Drop> Iterator for ListOrError<I, E> {
 pub fn as_list_or_error<L: IntoIterator, E: Drop>(
     answer: Result<L, E>,
 ) -> ListOrError<L::IntoIter, E>
-    ensures { StandsFor L.into_iter_gives answer result }
+    ensures { IteratesOver L.into_iter_gives answer result }
 {
     match answer {
         Ok(list) => ListOrError::List(list.into_iter()),

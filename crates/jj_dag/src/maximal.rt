@@ -1,14 +1,14 @@
 //! Heads: breadth-first search from the starts, which removes each node that it reaches from them.
 ghost use Rattle.std.specs.Prelude.{◌≡◌, ◌⊎◌, ◌+◌, ◌≤◌, ◌++◌, ◌∷◌, [], true, false, cond, IfOk, OnOk, IfSome, IfNone, IsTrue, length};
+ghost use Rattle.std.specs.Iterator.{IsFiniteIterable};
 ghost use Rattle.std.specs.Fn.{CalledAt};
 ghost use Rattle.std.specs.HashSet.{contains, Updates, hash_set_len, IsUnique};
 ghost use Rattle.std.specs.List.{Contains};
-ghost use Rattle.jj_dag.specs.Failing.{FailsAfterNodes};
-ghost use Rattle.jj_dag.specs.ClosureGraph.{InEachModel, IsInputError, ReturnsId, graph_of, graph_of_items, list_of, list_of_items};
+ghost use Rattle.jj_dag.specs.FallibleGraphs.{FailsAfterNodes};
+ghost use Rattle.jj_dag.specs.ClosureGraph.{InEachModel, IsInputError, ReturnsId, graph_of, graph_of_items, list_of, list_of_items, IsWalkable};
 ghost use Rattle.jj_dag.specs.Found.{AreHeads};
-ghost use Rattle.jj_dag.specs.HeadsSearch.{LeavesHeads, MeetsAll, TakesStarts};
-ghost use Rattle.jj_dag.specs.Outcomes.{ClonesAreEqual, Ends, IfFails};
-ghost use Rattle.jj_dag.specs.Owed.{CanShow};
+ghost use Rattle.jj_dag.specs.HeadsSearch.{LeavesHeads, VisitsAll, TakesStarts};
+ghost use Rattle.jj_dag.specs.Outcomes.{IfFails};
 
 use crate::all_ok::AllOk;
 use crate::walk_error::WalkError;
@@ -79,7 +79,7 @@ where
     requires graph { (graph_of ID.eq F.Fn {E = Infallible} N.FnMut NI.IntoIterator
         NI.IntoIter.Iterator id_fn neighbors_fn).walkable }
     requires start { (list_of {E = Infallible} II.IntoIterator II.IntoIter.Iterator start).finite }
-    requires clones { ClonesAreEqual T.is_clone T.eq }
+    requires clones { (x y : T) → T.is_clone x y → IsTrue (T.eq x y) }
     ensures heads { IfOk result (λ heads. InEachModel {E = Infallible}
         (graph_of ID.eq F.Fn N.FnMut NI.IntoIterator NI.IntoIter.Iterator id_fn neighbors_fn)
         (list_of II.IntoIterator II.IntoIter.Iterator start)
@@ -123,7 +123,7 @@ where
     requires graph { (graph_of_items ID.eq F.Fn N.FnMut NI.IntoIterator NI.IntoIter.Iterator
         id_fn neighbors_fn).walkable }
     requires start { (list_of_items II.IntoIterator II.IntoIter.Iterator start).finite }
-    requires clones { ClonesAreEqual T.is_clone T.eq }
+    requires clones { (x y : T) → T.is_clone x y → IsTrue (T.eq x y) }
     ensures heads { IfOk result (λ heads. InEachModel
         (graph_of_items ID.eq F.Fn N.FnMut NI.IntoIterator NI.IntoIter.Iterator id_fn neighbors_fn)
         (list_of_items II.IntoIterator II.IntoIter.Iterator start)
@@ -159,7 +159,7 @@ fn add_start<T: Hash + Eq + Clone + Drop, ID: Hash + Eq + Drop>(
     node: T,
     id: ID,
 ) -> Result<(), AllocError>
-    requires clones { ClonesAreEqual T.is_clone T.eq }
+    requires clones { (x y : T) → T.is_clone x y → IsTrue (T.eq x y) }
     ensures visited { OnOk result (Updates ID.eq visited.old visited.new id true) }
     ensures heads { OnOk result ((x : T) → contains T.eq heads.new x
         ≡ cond (T.eq node x) true (contains T.eq heads.old x)) }
@@ -186,8 +186,9 @@ where
     II: IntoIterator<Item = Result<T, E>, IntoIter: Drop>,
     F: Fn(&T) -> Result<ID, AllocError>,
     requires id_fn { F.IsAlwaysCallable id_fn.now }
-    requires start { Ends II.IntoIterator II.IntoIter.Iterator start }
-    requires clones { ClonesAreEqual T.is_clone T.eq }
+    requires start { IsFiniteIterable II.into_iter_gives II.IntoIter.can_next II.IntoIter.remaining
+        start }
+    requires clones { (x y : T) → T.is_clone x y → IsTrue (T.eq x y) }
     requires unique { IsUnique T.eq heads.old }
     requires no_heads { heads.old.keys ≡ [] }
     requires no_ids { visited.old.keys ≡ [] }
@@ -225,15 +226,15 @@ where
     NI: IntoIterator<Item = Result<T, E>, IntoIter: Drop>,
     F: Fn(&T) -> Result<ID, AllocError>,
     N: FnMut(&T) -> NI,
-    requires graph { CanShow F.Fn N.FnMut NI.IntoIterator NI.IntoIter.Iterator id_fn.now
-        neighbors_fn.old }
+    requires graph { IsWalkable F.Fn N.FnMut (IsFiniteIterable NI.into_iter_gives
+        NI.IntoIter.can_next NI.IntoIter.remaining) id_fn.now neighbors_fn.old }
     requires unique { IsUnique T.eq heads.old }
-    ensures graph { OnOk result (CanShow F.Fn N.FnMut NI.IntoIterator NI.IntoIter.Iterator
-        id_fn.now neighbors_fn.new) }
+    ensures graph { OnOk result (IsWalkable F.Fn N.FnMut (IsFiniteIterable NI.into_iter_gives
+        NI.IntoIter.can_next NI.IntoIter.remaining) id_fn.now neighbors_fn.new) }
     ensures unique { OnOk result (IsUnique T.eq heads.new) }
     ensures met { IfOk result (λ empty. (list : NI)
         × CalledAt N.FnMut neighbors_fn.old node.now list neighbors_fn.new
-        × MeetsAll T.eq ID.eq (ReturnsId F.Fn id_fn.now) NI.into_iter_gives
+        × VisitsAll T.eq ID.eq (ReturnsId F.Fn id_fn.now) NI.into_iter_gives
         NI.IntoIter.next_gives list heads.old heads.new visited.old visited.new
         waiting.old.items waiting.new.items empty) }
     ensures grows { OnOk result (length waiting.old.items ≤ length waiting.new.items) }
@@ -268,8 +269,8 @@ where
     NI: IntoIterator<Item = Result<T, E>, IntoIter: Drop>,
     F: Fn(&T) -> Result<ID, AllocError>,
     N: FnMut(&T) -> NI,
-    requires graph { CanShow F.Fn N.FnMut NI.IntoIterator NI.IntoIter.Iterator id_fn.now
-        neighbors_fn.old }
+    requires graph { IsWalkable F.Fn N.FnMut (IsFiniteIterable NI.into_iter_gives
+        NI.IntoIter.can_next NI.IntoIter.remaining) id_fn.now neighbors_fn.old }
     requires unique { IsUnique T.eq heads.old }
     ensures { LeavesHeads T.eq ID.eq (graph_of_items ID.eq F.Fn N.FnMut NI.IntoIterator
         NI.IntoIter.Iterator id_fn.now neighbors_fn.old) heads.old visited.old waiting.old.items

@@ -1,9 +1,9 @@
 //! Heads where a list of neighbours may fail as a whole.
-ghost use Rattle.std.specs.Prelude.{IfOk, Result};
+ghost use Rattle.std.specs.Prelude.{IfOk, Result, IsTrue};
 ghost use Rattle.jj_dag.specs.ClosureGraph.{InEachModel, IsInputError, graph_of_lists, list_of};
 ghost use Rattle.jj_dag.specs.Found.{AreHeads};
-ghost use Rattle.jj_dag.specs.ListOrError.{StandsFor};
-ghost use Rattle.jj_dag.specs.Outcomes.{ClonesAreEqual, IfFails};
+ghost use Rattle.jj_dag.specs.ListOrError.{IteratesOver};
+ghost use Rattle.jj_dag.specs.Outcomes.{IfFails};
 
 use crate::all_ok::AllOk;
 use crate::list_or_error::as_list_or_error;
@@ -29,7 +29,7 @@ where
     requires graph { (graph_of_lists ID.eq F.Fn N.FnMut NI.IntoIterator NI.IntoIter.Iterator id_fn
         neighbors_fn).walkable }
     requires start { (list_of {E = E} II.IntoIterator II.IntoIter.Iterator start).finite }
-    requires clones { ClonesAreEqual T.is_clone T.eq }
+    requires clones { (x y : T) → T.is_clone x y → IsTrue (T.eq x y) }
     ensures heads { IfOk result (λ heads. InEachModel
         (graph_of_lists ID.eq F.Fn N.FnMut NI.IntoIterator NI.IntoIter.Iterator id_fn neighbors_fn)
         (list_of II.IntoIterator II.IntoIter.Iterator start)
@@ -46,7 +46,7 @@ where
         requires { N.IsAlwaysCallable neighbors_fn }
         ensures { (answer : Result NI E)
             × N.step neighbors_fn.entry node.entry answer neighbors_fn.exit
-            × StandsFor NI.into_iter_gives answer result }
+            × IteratesOver NI.into_iter_gives answer result }
     { as_list_or_error(neighbors_fn(node)) };
     heads_ok(alloc, start, id_fn, items_fn)
 }

@@ -1,9 +1,9 @@
 //! Topological orders: postorder and reverse postorder; the forms `_ok` are over items that may
 //! fail.
-ghost use Rattle.std.specs.Prelude.{◌⊎◌, IfOk, map, reverse};
+ghost use Rattle.std.specs.Prelude.{◌⊎◌, IfOk, map, reverse, IsTrue};
 ghost use Rattle.jj_dag.specs.ClosureGraph.{InEachModel, IsCycleError, IsInputError, graph_of, graph_of_items, list_of, list_of_items};
 ghost use Rattle.jj_dag.specs.Orders.{IsWholePostorder};
-ghost use Rattle.jj_dag.specs.Outcomes.{ClonesAreEqual, IfFails};
+ghost use Rattle.jj_dag.specs.Outcomes.{IfFails};
 
 use crate::all_ok::AllOk;
 use crate::forward::{Stop, walk_forward};
@@ -31,7 +31,7 @@ where
     requires graph { (graph_of ID.eq F.Fn {E = E} N.FnMut NI.IntoIterator NI.IntoIter.Iterator
         id_fn neighbors_fn).walkable }
     requires start { (list_of {E = E} II.IntoIterator II.IntoIter.Iterator start).finite }
-    requires clones { ClonesAreEqual ID.is_clone ID.eq }
+    requires clones { (x y : ID) → ID.is_clone x y → IsTrue (ID.eq x y) }
     requires cycle_fn { C.IsAlwaysCallable cycle_fn }
     ensures order { IfOk result (λ v. InEachModel {E = E}
         (graph_of ID.eq F.Fn N.FnMut NI.IntoIterator NI.IntoIter.Iterator id_fn neighbors_fn)
@@ -82,7 +82,7 @@ where
     requires graph { (graph_of ID.eq F.Fn {E = E} N.FnMut NI.IntoIterator NI.IntoIter.Iterator
         id_fn neighbors_fn).walkable }
     requires start { (list_of {E = E} II.IntoIterator II.IntoIter.Iterator start).finite }
-    requires clones { ClonesAreEqual ID.is_clone ID.eq }
+    requires clones { (x y : ID) → ID.is_clone x y → IsTrue (ID.eq x y) }
     requires cycle_fn { C.IsAlwaysCallable cycle_fn }
     ensures order { IfOk result (λ v. InEachModel {E = E}
         (graph_of ID.eq F.Fn N.FnMut NI.IntoIterator NI.IntoIter.Iterator id_fn neighbors_fn)
@@ -116,7 +116,7 @@ where
     requires graph { (graph_of_items ID.eq F.Fn N.FnMut NI.IntoIterator NI.IntoIter.Iterator
         id_fn neighbors_fn).walkable }
     requires start { (list_of_items II.IntoIterator II.IntoIter.Iterator start).finite }
-    requires clones { ClonesAreEqual ID.is_clone ID.eq }
+    requires clones { (x y : ID) → ID.is_clone x y → IsTrue (ID.eq x y) }
     requires cycle_fn { C.IsAlwaysCallable cycle_fn }
     ensures order { IfOk result (λ v. InEachModel
         (graph_of_items ID.eq F.Fn N.FnMut NI.IntoIterator NI.IntoIter.Iterator id_fn neighbors_fn)
@@ -158,7 +158,7 @@ where
     requires graph { (graph_of_items ID.eq F.Fn N.FnMut NI.IntoIterator NI.IntoIter.Iterator
         id_fn neighbors_fn).walkable }
     requires start { (list_of_items II.IntoIterator II.IntoIter.Iterator start).finite }
-    requires clones { ClonesAreEqual ID.is_clone ID.eq }
+    requires clones { (x y : ID) → ID.is_clone x y → IsTrue (ID.eq x y) }
     requires cycle_fn { C.IsAlwaysCallable cycle_fn }
     ensures order { IfOk result (λ v. InEachModel
         (graph_of_items ID.eq F.Fn N.FnMut NI.IntoIterator NI.IntoIter.Iterator id_fn neighbors_fn)

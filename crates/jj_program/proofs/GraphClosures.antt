@@ -12,7 +12,7 @@ use Rattle.std.proofs.iter.Yields.{copies, fronts}
 use Rattle.std.proofs.lemmas.Fn.{always_returns_same}
 use denote.Ref.{Bor}
 use Rattle.jj_dag.specs.ClosureGraph.{Implements, MayReturn, ReturnsId, YieldsOk}
-use Rattle.jj_dag.specs.Walk.{DrainsTo, Numbered}
+use Rattle.jj_dag.specs.Walk.{DrainsTo, Model}
 use Rattle.jj_dag.proofs.ClosureGraphs.{may_return_says}
 use Rattle.jj_program.specs.declared.graph_walks.SoundIds.{SoundIds}
 use Rattle.jj_program.specs.declared.listed_graph.ListedGraph.{ListedGraph}
@@ -23,7 +23,7 @@ use Rattle.jj_program.proofs.ListedGraphs.{copied_ids, given_ids}
 use Rattle.jj_program.proofs.NumberedWalks.{number_stands, numbered, numbers_apart}
 
 -- the model of the graph
-abbrev pub walk_over : ListedGraph → Numbered ℕ ℕ
+abbrev pub walk_over : ListedGraph → Model ℕ ℕ
 walk_over g = numbered (shown_by g) (named_by g)
 
 -- a complete list of copied ids, and of fallible ids

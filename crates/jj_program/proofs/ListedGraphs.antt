@@ -19,7 +19,7 @@ use Rattle.std.proofs.lemmas.List.Sorted.{Contains-permutation, IsPermutation-sy
 use Rattle.std.proofs.lemmas.Map.Keys.{IsDistinct-IsPermutation, IsStrictlyIncreasing-from_distinct}
 use Rattle.jj_dag.specs.CommonNodes.{AreClosestCommon}
 use Rattle.jj_dag.specs.Graph.{Graph, IsAcyclicFrom, AreMaximalElements}
-use Rattle.jj_dag.specs.Failing.{BeginsWith}
+use Rattle.jj_dag.specs.FallibleGraphs.{BeginsWith}
 use Rattle.jj_dag.proofs.FailingWalks.{begun_are}
 use Rattle.jj_program.specs.declared.graph_walks.SoundIds.{SoundIds}
 use Rattle.jj_program.specs.SoundIds.{sound_left}

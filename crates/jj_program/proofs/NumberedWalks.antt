@@ -10,7 +10,7 @@ use Rattle.std.proofs.lemmas.List.Elements.{All-contains}
 use Rattle.std.proofs.lemmas.List.Kept.{AllPairs-from_increasing}
 use Rattle.std.proofs.lemmas.List.Sums.{get_or-le-sum_by}
 use Rattle.jj_dag.specs.Graph.{Graph}
-use Rattle.jj_dag.specs.Walk.{Numbered}
+use Rattle.jj_dag.specs.Walk.{Model}
 use Rattle.jj_dag.proofs.Walking.{has, has-from_Contains, Contains-from_has}
 use Rattle.jj_program.specs.Numbering.{IsNumberOf}
 
@@ -19,7 +19,7 @@ abbrev id_of : List ℕ → ℕ → ℕ
 id_of ids number = cond (nat_lt number (length ids)) (get_or ids number 0) (suc (sum_by (λ id. id) ids + number))
 
 -- the model: its nodes are ids, and the ids of the walk are their numbers
-abbrev pub numbered : Graph → List ℕ → Numbered ℕ ℕ
+abbrev pub numbered : Graph → List ℕ → Model ℕ ℕ
 numbered graph ids = record { graph = graph; is_node = has ids; node = λ id. id; id = id_of ids }
 
 id_within : (ids : List ℕ) (number : ℕ) → number < length ids → id_of ids number ≡ get_or ids number 0

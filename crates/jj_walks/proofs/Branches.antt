@@ -12,8 +12,8 @@ use Rattle.jj_walks.specs.declared.candidates.Candidates.{Candidates}
 use Rattle.jj_walks.specs.Candidates.{count_of, has_id, is_listed}
 use Rattle.jj_walks.specs.Branches.{AreCounts, Climbs, IsFirstBranch, IsUntaken, KeepsBranch, TakesHead, Unblocks, has_child}
 use Rattle.jj_walks.specs.ListsByKey.{items_of}
-use Rattle.jj_walks.specs.Grouped.{AreReadChildFirst, Entry, Gave, History, IsWay, Prioritized, Reaches, Read, first_wanted, given_nodes, has_edge, held, held_at, is_wanted, leads_to, read_nodes}
-use Rattle.jj_walks.specs.HeldNodes.{KeepsHistory}
+use Rattle.jj_walks.specs.Grouped.{AreReadChildFirst, Entry, Yielded, History, IsWay, Prioritized, Reaches, Read, first_prioritized, yielded_nodes, has_edge, pending_nodes, pending_at, is_required, leads_to, read_nodes}
+use Rattle.jj_walks.specs.PendingNodes.{KeepsHistory}
 use Rattle.jj_walks.proofs.CandidateLists.{and_left, and_right}
 use Rattle.jj_walks.proofs.Histories.{cons-cases, cons-first, cons-later}
 use Rattle.jj_walks.proofs.HistoryLists.{congr-right}
@@ -240,18 +240,18 @@ module _ {ID : Type 0} {eq : ID → ID → Bool} (laws : IsEquivalence eq) where
       known i = is_listed eq s.ids.items s.blocked.items i || k.replaced i
 
 module _ {N ID : Type 0} {eq : ID → ID → Bool} (laws : IsEquivalence eq) where
-  held-read : (h : History N ID) → given_nodes h ≡ [] → held eq h ≡ read_nodes h
-  held-read [] none = refl
-  held-read (Prioritized i ∷ h) none = held-read h none
-  held-read (Read e ∷ h) none = ap (λ l. e ∷ l) (held-read h none)
-  held-read (Gave e ∷ h) none = cc
+  pending-read : (h : History N ID) → yielded_nodes h ≡ [] → pending_nodes eq h ≡ read_nodes h
+  pending-read [] none = refl
+  pending-read (Prioritized i ∷ h) none = pending-read h none
+  pending-read (Read e ∷ h) none = ap (λ l. e ∷ l) (pending-read h none)
+  pending-read (Yielded e ∷ h) none = cc
 
-  first-wanted : (h : History N ID) (wanted : ID) → given_nodes h ≡ [] → first_wanted h ≡ Some wanted → is_wanted eq h wanted ≡ true
+  first-wanted : (h : History N ID) (wanted : ID) → yielded_nodes h ≡ [] → first_prioritized h ≡ Some wanted → is_required eq h wanted ≡ true
   first-wanted [] wanted none first = cc
   first-wanted (Prioritized i ∷ []) wanted none first = let same : i ≡ wanted = cc in or_left (eq i wanted) false (ap (λ x. eq x wanted) same ∙ laws.refl wanted)
-  first-wanted (Prioritized i ∷ event ∷ h) wanted none first = or_right (eq i wanted) (is_wanted eq (event ∷ h) wanted) (first-wanted (event ∷ h) wanted none first)
-  first-wanted (Read e ∷ h) wanted none first = or_right (list_any (leads_to eq wanted) e.edges) (is_wanted eq h wanted) (first-wanted h wanted none first)
-  first-wanted (Gave e ∷ h) wanted none first = cc
+  first-wanted (Prioritized i ∷ event ∷ h) wanted none first = or_right (eq i wanted) (is_required eq (event ∷ h) wanted) (first-wanted (event ∷ h) wanted none first)
+  first-wanted (Read e ∷ h) wanted none first = or_right (list_any (leads_to eq wanted) e.edges) (is_required eq h wanted) (first-wanted h wanted none first)
+  first-wanted (Yielded e ∷ h) wanted none first = cc
 
   pub edge-entry : (es : List (Entry N ID)) (i j : ID) → has_edge eq es i j ≡ true → (c : Entry N ID) × Contains es c × (eq c.id i ≡ true) × (list_any (leads_to eq j) c.edges ≡ true)
   edge-entry [] i j e = no-false e
@@ -317,7 +317,7 @@ module _ {N ID : Type 0} {eq : ID → ID → Bool} (laws : IsEquivalence eq) whe
 
   -- the stored state counts the edges of the nodes that were read
   pub counts-are : (h : History N ID) (node_at : ID → Option (N × List (GraphEdge ID))) (count : ID → Option ℕ) (ids heads : List ID) (wanted : ID) → ((x y : ID) → eq x y ≡ true → count x ≡ count y)
-      → given_nodes h ≡ [] → AreReadChildFirst eq (read_nodes h) → first_wanted h ≡ Some wanted → KeepsHistory eq h node_at count ids heads → AreCounts eq (has_edge eq (read_nodes h)) count wanted
+      → yielded_nodes h ≡ [] → AreReadChildFirst eq (read_nodes h) → first_prioritized h ≡ Some wanted → KeepsHistory eq h node_at count ids heads → AreCounts eq (has_edge eq (read_nodes h)) count wanted
   counts-are h node_at count ids heads wanted alike none order first k = record {
     known = λ i r. counted i r.0 r.1;
     child = λ j pos. let more : 0 < count_of (count j) = positive-count (count j) pos in let edges = k.counts j in
@@ -325,12 +325,12 @@ module _ {N ID : Type 0} {eq : ID → ID → Bool} (laws : IsEquivalence eq) whe
     founded = λ is_in same closed j within. let c = above is_in same closed j within in circle-free (read_nodes h) order is_in (λ f at in_f. above is_in same closed f.id in_f) c.0 c.1 c.3;
   }
     where
-      all : held eq h ≡ read_nodes h
-      all = held-read h none
+      all : pending_nodes eq h ≡ read_nodes h
+      all = pending-read h none
 
       counted : (i : ID) (steps : ℕ) → IsWay eq (has_edge eq (read_nodes h)) i wanted steps → is_some (count i) ≡ true
-      counted i zero e = ap is_some (alike i wanted e) ∙ k.known wanted ∙ or_left (is_wanted eq h wanted) (is_some (held_at eq h wanted)) (first-wanted h wanted none first)
-      counted i (suc steps) (j, e, way) = k.known i ∙ or_right (is_wanted eq h i) (is_some (held_at eq h i)) (ap (λ (l : List (Entry N ID)). is_some (find (λ e. eq e.id i) l)) all ∙ edge-found (read_nodes h) i j e)
+      counted i zero e = ap is_some (alike i wanted e) ∙ k.known wanted ∙ or_left (is_required eq h wanted) (is_some (pending_at eq h wanted)) (first-wanted h wanted none first)
+      counted i (suc steps) (j, e, way) = k.known i ∙ or_right (is_required eq h i) (is_some (pending_at eq h i)) (ap (λ (l : List (Entry N ID)). is_some (find (λ e. eq e.id i) l)) all ∙ edge-found (read_nodes h) i j e)
 
       above : (is_in : ID → Bool) → ((i j : ID) → eq i j ≡ true → is_in i ≡ is_in j) → ((j : ID) → is_in j ≡ true → (i : ID) × (has_edge eq (read_nodes h) i j ≡ true) × (is_in i ≡ true))
           → (j : ID) → is_in j ≡ true → (c : Entry N ID) × Contains (read_nodes h) c × (list_any (leads_to eq j) c.edges ≡ true) × (is_in c.id ≡ true)
@@ -374,7 +374,7 @@ module _ {N ID : Type 0} {eq : ID → ID → Bool} (laws : IsEquivalence eq) whe
   }
 
   -- a node was yielded
-  pub branch-gave : (h : History N ID) (t : Candidates ID) (e : Entry N ID) → KeepsBranch eq (Gave e ∷ h) t
+  pub branch-gave : (h : History N ID) (t : Candidates ID) (e : Entry N ID) → KeepsBranch eq (Yielded e ∷ h) t
   branch-gave h t e = record { begun = λ e. cc; first = λ none order wanted first. cc }
 
 -- a list with a candidate is not the initial one

@@ -8,13 +8,13 @@ use Rattle.jj_walks.specs.declared.graph.GraphEdgeType.{GraphEdgeType}
 use Rattle.jj_walks.specs.declared.graph.GraphEdgeType.TheVariants.{Missing, Direct, Indirect}
 use Rattle.std.proofs.lemmas.List.Folds.{list_any-append}
 use Rattle.jj_walks.specs.Candidates.{AreSameIds, AreToFollow, has_id, is_listed, is_positive}
-use Rattle.jj_walks.specs.Grouped.{is_shown, targets_of}
+use Rattle.jj_walks.specs.Grouped.{is_in_graph, targets_of}
 
 -- the test of an edge
-pub is_shown-missing : (t : GraphEdgeType) → t ≡ Missing → is_shown t ≡ false
-is_shown-missing t e = ap is_shown e
+pub is_shown-missing : (t : GraphEdgeType) → t ≡ Missing → is_in_graph t ≡ false
+is_shown-missing t e = ap is_in_graph e
 
-pub is_shown-other : (t : GraphEdgeType) → (t ≡ Missing → ⊥) → is_shown t ≡ true
+pub is_shown-other : (t : GraphEdgeType) → (t ≡ Missing → ⊥) → is_in_graph t ≡ true
 is_shown-other Missing n = absurd (n refl)
 is_shown-other Direct n = refl
 is_shown-other Indirect n = refl
@@ -28,11 +28,11 @@ and_right true b e = e
 and_right false b e = absurd (true≢false (sym e))
 
 module _ {ID : Type 0} where
-  targets-push : (edges : List (GraphEdge ID)) (edge : GraphEdge ID) → targets_of (edges ++ edge ∷ []) ≡ targets_of edges ++ cond (is_shown edge.edge_type) (edge.target ∷ []) []
+  targets-push : (edges : List (GraphEdge ID)) (edge : GraphEdge ID) → targets_of (edges ++ edge ∷ []) ≡ targets_of edges ++ cond (is_in_graph edge.edge_type) (edge.target ∷ []) []
   targets-push edges edge =
-      ap (map (λ e. e.target)) (filter-append (λ e. is_shown e.edge_type) edges (edge ∷ []))
-      ∙ map-append (λ e. e.target) (filter (λ e. is_shown e.edge_type) edges) (filter (λ e. is_shown e.edge_type) (edge ∷ []))
-      ∙ ap (λ l. targets_of edges ++ l) (one (is_shown edge.edge_type))
+      ap (map (λ e. e.target)) (filter-append (λ e. is_in_graph e.edge_type) edges (edge ∷ []))
+      ∙ map-append (λ e. e.target) (filter (λ e. is_in_graph e.edge_type) edges) (filter (λ e. is_in_graph e.edge_type) (edge ∷ []))
+      ∙ ap (λ l. targets_of edges ++ l) (one (is_in_graph edge.edge_type))
     where
       one : (b : Bool) → map (λ e. e.target) (cond b (edge ∷ []) []) ≡ cond b (edge.target ∷ []) []
       one true = refl
@@ -40,7 +40,7 @@ module _ {ID : Type 0} where
 
   -- the targets of one more edge
   pub targets-more : (edges : List (GraphEdge ID)) (i : ℕ) (edge : GraphEdge ID) → i < length edges → edge ≡ get_or edges i edge
-      → targets_of (take (i + 1) edges) ≡ targets_of (take i edges) ++ cond (is_shown edge.edge_type) (edge.target ∷ []) []
+      → targets_of (take (i + 1) edges) ≡ targets_of (take i edges) ++ cond (is_in_graph edge.edge_type) (edge.target ∷ []) []
   targets-more edges i edge h e = ap targets_of (take_more edges i edge h) ∙ ap (λ x. targets_of (take i edges ++ x ∷ [])) (sym e) ∙ targets-push (take i edges) edge
 
   pub last-or-none : (xs : List ID) → (xs ≡ []) ⊎ ((front : List ID) × (x : ID) × (xs ≡ front ++ x ∷ []))

@@ -6,7 +6,7 @@ use Rattle.std.specs.Cmp.{IsEquivalence}
 use Rattle.std.specs.List.{list_any}
 use Rattle.jj_walks.specs.declared.graph.GraphEdge.{GraphEdge}
 use Rattle.jj_walks.specs.Candidates.{has_id}
-use Rattle.jj_walks.specs.Grouped.{is_shown, leads_to}
+use Rattle.jj_walks.specs.Grouped.{is_in_graph, leads_to}
 
 or_false : (a : Bool) → (a || false) ≡ a
 or_false true = refl
@@ -21,7 +21,7 @@ module _ {ID : Type 0} {eq : ID → ID → Bool} (laws : IsEquivalence eq) where
 
   -- a child was appended to those of the target of an edge
   pub child-put : (edges : List (GraphEdge ID)) (n : ℕ) (edge : GraphEdge ID) (parent from child : ID) (first before after : ID → List ID) → n < length edges → edge ≡ get_or edges n edge
-      → is_shown edge.edge_type ≡ true → eq edge.target parent ≡ true → eq from child ≡ true → ((q : ID) → after q ≡ cond (eq parent q) (before q ++ child ∷ []) (before q))
+      → is_in_graph edge.edge_type ≡ true → eq edge.target parent ≡ true → eq from child ≡ true → ((q : ID) → after q ≡ cond (eq parent q) (before q ++ child ∷ []) (before q))
       → ((j i : ID) → has_id eq (before j) i ≡ (has_id eq (first j) i || (list_any (leads_to eq j) (take n edges) && eq from i)))
       → (j i : ID) → has_id eq (after j) i ≡ (has_id eq (first j) i || (list_any (leads_to eq j) (take (n + 1) edges) && eq from i))
   child-put edges n edge parent from child first before after h e shown target same put k j i =
@@ -46,7 +46,7 @@ module _ {ID : Type 0} {eq : ID → ID → Bool} (laws : IsEquivalence eq) where
       turn false false t d = refl
 
   -- an edge that is missing lists no child
-  pub child-missing : (edges : List (GraphEdge ID)) (n : ℕ) (edge : GraphEdge ID) (from : ID) (first before : ID → List ID) → n < length edges → edge ≡ get_or edges n edge → is_shown edge.edge_type ≡ false
+  pub child-missing : (edges : List (GraphEdge ID)) (n : ℕ) (edge : GraphEdge ID) (from : ID) (first before : ID → List ID) → n < length edges → edge ≡ get_or edges n edge → is_in_graph edge.edge_type ≡ false
       → ((j i : ID) → has_id eq (before j) i ≡ (has_id eq (first j) i || (list_any (leads_to eq j) (take n edges) && eq from i)))
       → (j i : ID) → has_id eq (before j) i ≡ (has_id eq (first j) i || (list_any (leads_to eq j) (take (n + 1) edges) && eq from i))
   child-missing edges n edge from first before h e missing k j i =

@@ -3,12 +3,12 @@ use Rattle.std.proofs.Common.{◌≡◌, ℕ, zero, suc, ◌<◌, ◌≤◌, Boo
 use Rattle.std.specs.List.{Contains, IsDistinct, filter, filter_map, cons_option}
 use Rattle.std.specs.Result.{result_ok}
 use Rattle.std.proofs.lemmas.List.{length-map}
-use Rattle.jj_walks.specs.Chunks.{IsChunkOfMany, IsNextChunk, IsStretch}
+use Rattle.jj_walks.specs.Chunks.{IsChunkOfMany, IsNextChunk, IsChunkOfAnyGraph}
 use Rattle.jj_dag.specs.Collecting.{IsCollecting}
-use Rattle.jj_dag.specs.Failing.{FailingGraph, sound}
+use Rattle.jj_dag.specs.FallibleGraphs.{FallibleGraph, sound}
 use Rattle.jj_dag.specs.Graph.{Graph, HasEdge, IsWalkOfLength, Reaches, StrictlyReaches, ReachedFrom, ReachesCycle, IsAcyclicFrom, IsTopologicalOrder}
 use Rattle.jj_walks.specs.LookingAhead.{HasLooked, copies}
-use Rattle.jj_dag.specs.Walk.{Numbered, AreNodes}
+use Rattle.jj_dag.specs.Walk.{Model, AreNodes}
 use Rattle.jj_dag.proofs.Collecting.{are_nodes, at_place}
 use Rattle.jj_walks.proofs.LookingAhead.{copies_short}
 use Rattle.jj_dag.proofs.Reaching.{Contains-reached, Reaches-trans, edge_then_Reaches}
@@ -91,7 +91,7 @@ IsWalkOfLength-more g h more (suc n) a b (c, e, p) = (c, more a c e, IsWalkOfLen
 
 -- ---- the graph of the nodes that were explored
 
-module _ {T ID K : Type 0} (w : Numbered T ID) (items : FailingGraph K) (starts : List ℕ) (find : ID → Option ℕ) (left given : List T) (ids : List (List ID))
+module _ {T ID K : Type 0} (w : Model T ID) (items : FallibleGraph K) (starts : List ℕ) (find : ID → Option ℕ) (left given : List T) (ids : List (List ID))
     (looked : HasLooked w items starts find left given ids) (closed : (a : ℕ) → w.is_node a ≡ true → AreNodes w (w.graph a)) (nodes : AreNodes w starts) where
   abbrev pub explored : List ℕ
   explored = map w.node given
@@ -99,10 +99,10 @@ module _ {T ID K : Type 0} (w : Numbered T ID) (items : FailingGraph K) (starts 
   abbrev pub inner : Graph
   inner a = filter (has explored) (w.graph a)
 
-  abbrev pub walk_inner : Numbered T ID
+  abbrev pub walk_inner : Model T ID
   walk_inner = record { graph = inner; is_node = w.is_node; node = w.node; id = w.id }
 
-  abbrev pub inner_items : FailingGraph K
+  abbrev pub inner_items : FallibleGraph K
   inner_items a = map (λ b. Ok b) (inner a)
 
   abbrev pub inner_ids : List (List ID)
@@ -248,11 +248,6 @@ module _ {T ID K : Type 0} (w : Numbered T ID) (items : FailingGraph K) (starts 
             let empty : given ≡ [] = no_given given (λ a k. nothing a (subst (λ (l : List ℕ). Contains l a) none (in_order a k))) in
             nothing r (subst (λ (l : List T). Contains (map w.node l) r) (begun empty) h)
 
-    not_explored : (r : ℕ) → Contains rest r → Contains explored r → ⊥
-    not_explored r h k =
-        let z = last_leads r h in
-        z.5 (subst (λ (n : ℕ). Contains explored n) (one_of rest r z.1 few_rest h z.4) k)
-
     -- each explored node leads down to the pending one
     leads : (r : ℕ) → Contains rest r → (back front : List ℕ) → order ≡ front ++ back → (b : ℕ) → Contains back b → StrictlyReaches w.graph b r
     leads r h [] front e b (k, lt, q) = absurd (omega arith)
@@ -324,7 +319,7 @@ module _ {T ID K : Type 0} (w : Numbered T ID) (items : FailingGraph K) (starts 
       few = few_rest;
     }
 
-    pub many_stretch : IsStretch w.graph starts order rest
+    pub many_stretch : IsChunkOfAnyGraph w.graph starts order rest
     many_stretch = record {
       once = first.once;
       has_starts = λ a s. in_order a (starts_in a s);

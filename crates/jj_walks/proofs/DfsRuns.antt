@@ -6,11 +6,11 @@ use Rattle.std.specs.declared.alloc.AllocError.{AllocError}
 use denote.Ref.{Bor}
 use Rattle.jj_walks.specs.declared.depth_first.DepthFirst.{DepthFirst}
 use Rattle.jj_dag.specs.Graph.{IsPreorder}
-use Rattle.jj_dag.specs.Walk.{Numbered}
+use Rattle.jj_dag.specs.Walk.{Model}
 use Rattle.jj_walks.specs.DfsSteps.{IsLeftOf, Steps}
 
 module _ {T ID F N U S : Type 0} (ids : Shared F (Bor T × Unit {0}) (Result ID AllocError)) (lists : Mut N (Bor T × Unit {0}) U)
-    (w : Numbered T ID) (eq : ID → ID → Bool) (becomes : U → S → Type 0) (steps : S → Option T → S → Type 0) (can : S → Type 0) (left : S → Count) (starts : List ℕ) where
+    (w : Model T ID) (eq : ID → ID → Bool) (becomes : U → S → Type 0) (steps : S → Option T → S → Type 0) (can : S → Type 0) (left : S → Count) (starts : List ℕ) where
   -- without an allocation failure the run is the preorder
   pub IsPreorder-from_drains : (xs given : List T) (s : DepthFirst T ID F N) → IsLeftOf ids lists w eq becomes steps starts given s
       → Drains (Steps ids lists eq becomes steps can left) s (map (λ x. Ok x) xs) → IsPreorder w.graph starts (map w.node (given ++ xs))

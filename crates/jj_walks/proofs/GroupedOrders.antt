@@ -7,7 +7,7 @@ use Rattle.std.specs.List.{Contains, list_all, list_any}
 use Rattle.std.proofs.lemmas.List.{reverse-append}
 use Rattle.std.proofs.lemmas.Bool.{or_cases, or_left, or_right}
 use Rattle.jj_walks.specs.declared.graph.GraphEdge.{GraphEdge}
-use Rattle.jj_walks.specs.Grouped.{AreReadChildFirst, Entry, Gave, History, IsHistory, Prioritized, Reaches, Read, edges_to, first_wanted, given_nodes, has_edge, held, held_at, is_free, is_shown, is_wanted, last_edges, last_free, leads_to, read_nodes, targets_of}
+use Rattle.jj_walks.specs.Grouped.{AreReadChildFirst, Entry, Yielded, History, IsHistory, Prioritized, Reaches, Read, edges_to, first_prioritized, yielded_nodes, has_edge, pending_nodes, pending_at, is_unblocked, is_in_graph, is_required, last_edges, last_unblocked, leads_to, read_nodes, targets_of}
 use Rattle.jj_walks.specs.GroupedOrders.{AreApart, AreGrouped, IsGroupedOrder, IsOldest, IsWhole, has_node, is_ready, newest_edges, prioritized_ids, PrioritizesFirst}
 use Rattle.jj_walks.proofs.Branches.{circle-free, edge-counted, edge-entry, reaches-more}
 use Rattle.jj_walks.proofs.CandidateLists.{and_left, and_right}
@@ -78,14 +78,14 @@ false-from false k = refl
 module _ {ID : Type 0} {eq : ID → ID → Bool} (laws : IsEquivalence eq) where
   leads-alike : (i j : ID) (edges : List (GraphEdge ID)) → eq i j ≡ true → list_any (leads_to eq i) edges ≡ list_any (leads_to eq j) edges
   leads-alike i j [] e = refl
-  leads-alike i j (x ∷ edges) e = ap (λ b. (is_shown x.edge_type && b) || list_any (leads_to eq i) edges) (congr-right laws i j x.target e) ∙ ap (λ b. leads_to eq j x || b) (leads-alike i j edges e)
+  leads-alike i j (x ∷ edges) e = ap (λ b. (is_in_graph x.edge_type && b) || list_any (leads_to eq i) edges) (congr-right laws i j x.target e) ∙ ap (λ b. leads_to eq j x || b) (leads-alike i j edges e)
 
   target-leads : (edges : List (GraphEdge ID)) (t : ID) → Contains (targets_of edges) t → list_any (leads_to eq t) edges ≡ true
   target-leads [] t m = nothing m
-  target-leads (x ∷ edges) t m = go (target-leads edges t) (is_shown x.edge_type) refl m
+  target-leads (x ∷ edges) t m = go (target-leads edges t) (is_in_graph x.edge_type) refl m
     where
-      go : (Contains (targets_of edges) t → list_any (leads_to eq t) edges ≡ true) → (b : Bool) → is_shown x.edge_type ≡ b
-          → Contains (map (λ e. e.target) (cond b (x ∷ filter (λ e. is_shown e.edge_type) edges) (filter (λ e. is_shown e.edge_type) edges))) t → (leads_to eq t x || list_any (leads_to eq t) edges) ≡ true
+      go : (Contains (targets_of edges) t → list_any (leads_to eq t) edges ≡ true) → (b : Bool) → is_in_graph x.edge_type ≡ b
+          → Contains (map (λ e. e.target) (cond b (x ∷ filter (λ e. is_in_graph e.edge_type) edges) (filter (λ e. is_in_graph e.edge_type) edges))) t → (leads_to eq t x || list_any (leads_to eq t) edges) ≡ true
       go rest true shown m = ⊎_elim (λ s. or_left (leads_to eq t x) (list_any (leads_to eq t) edges) (ap (λ b. b && eq x.target t) shown ∙ ap (λ y. eq y t) s ∙ laws.refl t))
           (λ l. or_right (leads_to eq t x) (list_any (leads_to eq t) edges) (rest l)) (cons-cases (targets_of edges) x.target t m)
       go rest false shown m = or_right (leads_to eq t x) (list_any (leads_to eq t) edges) (rest m)
@@ -94,10 +94,6 @@ module _ {N ID : Type 0} {eq : ID → ID → Bool} (laws : IsEquivalence eq) whe
   pub apart-rest : (xs ys : List (Entry N ID)) → AreApart eq (xs ++ ys) → AreApart eq ys
   apart-rest [] ys k = k
   apart-rest (x ∷ xs) ys k = apart-rest xs ys k.1
-
-  order-rest : (xs ys : List (Entry N ID)) → AreReadChildFirst eq (xs ++ ys) → AreReadChildFirst eq ys
-  order-rest [] ys k = k
-  order-rest (x ∷ xs) ys k = order-rest xs ys k.1
 
   append-later : (xs ys : List (Entry N ID)) (y : Entry N ID) → Contains ys y → Contains (xs ++ ys) y
   append-later [] ys y m = m
@@ -124,25 +120,17 @@ module _ {N ID : Type 0} {eq : ID → ID → Bool} (laws : IsEquivalence eq) whe
   found-node : (es : List (Entry N ID)) (f : Entry N ID) (i : ID) → Contains es f → eq f.id i ≡ true → find (λ e. eq e.id i) es ≡ None → ⊥
   found-node es f i m e none = true≢false (sym e ∙ none-found laws i es f none m)
 
-  absent-none : (es : List (Entry N ID)) (i : ID) → has_node eq es i ≡ false → find (λ e. eq e.id i) es ≡ None
-  absent-none [] i e = refl
-  absent-none (f ∷ es) i e = go (absent-none es i) (eq f.id i) e
-    where
-      go : (has_node eq es i ≡ false → find (λ e. eq e.id i) es ≡ None) → (b : Bool) → (b || has_node eq es i) ≡ false → cond b (Some f) (find (λ e. eq e.id i) es) ≡ None
-      go rest true e = absurd (true≢false e)
-      go rest false e = rest e
+  pub pending-read : (h : History N ID) (e : Entry N ID) → Contains (pending_nodes eq h) e → Contains (read_nodes h) e
+  pending-read [] e m = m
+  pending-read (Prioritized i ∷ h) e m = pending-read h e m
+  pending-read (Read f ∷ h) e m = ⊎_elim (λ s. cons-first (read_nodes h) f e s) (λ l. cons-later (read_nodes h) f e (pending-read h e l)) (cons-cases (pending_nodes eq h) f e m)
+  pending-read (Yielded f ∷ h) e m = pending-read h e (filtered (λ g. not (eq f.id g.id)) (pending_nodes eq h) e m)
 
-  pub held-read : (h : History N ID) (e : Entry N ID) → Contains (held eq h) e → Contains (read_nodes h) e
-  held-read [] e m = m
-  held-read (Prioritized i ∷ h) e m = held-read h e m
-  held-read (Read f ∷ h) e m = ⊎_elim (λ s. cons-first (read_nodes h) f e s) (λ l. cons-later (read_nodes h) f e (held-read h e l)) (cons-cases (held eq h) f e m)
-  held-read (Gave f ∷ h) e m = held-read h e (filtered (λ g. not (eq f.id g.id)) (held eq h) e m)
-
-  given-read : (h : History N ID) (e : Entry N ID) → IsHistory eq h → Contains (given_nodes h) e → Contains (read_nodes h) e
+  given-read : (h : History N ID) (e : Entry N ID) → IsHistory eq h → Contains (yielded_nodes h) e → Contains (read_nodes h) e
   given-read [] e k m = m
   given-read (Prioritized i ∷ h) e k m = given-read h e k m
   given-read (Read f ∷ h) e k m = cons-later (read_nodes h) f e (given-read h e k.1 m)
-  given-read (Gave f ∷ h) e k m = ⊎_elim (λ s. held-read h e (found-in (λ g. eq g.id f.id) (held eq h) e (k.0.held ∙ ap (λ x. Some x) s))) (λ l. given-read h e k.1 l) (cons-cases (given_nodes h) f e m)
+  given-read (Yielded f ∷ h) e k m = ⊎_elim (λ s. pending-read h e (found-in (λ g. eq g.id f.id) (pending_nodes eq h) e (k.0.pending ∙ ap (λ x. Some x) s))) (λ l. given-read h e k.1 l) (cons-cases (yielded_nodes h) f e m)
 
   none-after : (b : Bool) (o : Option (Entry N ID)) → (b ≡ true) ⊎ (o ≡ None) → cond b None o ≡ None
   none-after true o k = refl
@@ -150,30 +138,30 @@ module _ {N ID : Type 0} {eq : ID → ID → Bool} (laws : IsEquivalence eq) whe
   none-after false o (inr e) = e
 
   -- a yielded node is no longer pending
-  given-gone : (h : History N ID) (e : Entry N ID) → AreApart eq (read_nodes h) → IsHistory eq h → Contains (given_nodes h) e → held_at eq h e.id ≡ None
+  given-gone : (h : History N ID) (e : Entry N ID) → AreApart eq (read_nodes h) → IsHistory eq h → Contains (yielded_nodes h) e → pending_at eq h e.id ≡ None
   given-gone [] e apart k m = nothing m
   given-gone (Prioritized i ∷ h) e apart k m = given-gone h e apart k m
   given-gone (Read f ∷ h) e apart k m =
       let other : eq f.id e.id ≡ false = false-from (eq f.id e.id) (λ s. true≢false (sym (any-at (λ g. eq g.id f.id) (read_nodes h) e (given-read h e k.1 m) (laws.symm e.id f.id ∙ s)) ∙ apart.0)) in
-      ap (λ b. cond b (Some f) (held_at eq h e.id)) other ∙ given-gone h e apart.1 k.1 m
-  given-gone (Gave f ∷ h) e apart k m =
-      find-others eq laws f.id e.id (held eq h) ∙ none-after (eq f.id e.id) (held_at eq h e.id)
-      (⊎_elim (λ s. inl (ap (λ x. eq f.id x.id) (sym s) ∙ laws.refl f.id)) (λ l. inr (given-gone h e apart k.1 l)) (cons-cases (given_nodes h) f e m))
+      ap (λ b. cond b (Some f) (pending_at eq h e.id)) other ∙ given-gone h e apart.1 k.1 m
+  given-gone (Yielded f ∷ h) e apart k m =
+      find-others eq laws f.id e.id (pending_nodes eq h) ∙ none-after (eq f.id e.id) (pending_at eq h e.id)
+      (⊎_elim (λ s. inl (ap (λ x. eq f.id x.id) (sym s) ∙ laws.refl f.id)) (λ l. inr (given-gone h e apart k.1 l)) (cons-cases (yielded_nodes h) f e m))
 
-  newest-last : (h : History N ID) → last_edges h ≡ newest_edges (given_nodes h)
+  newest-last : (h : History N ID) → last_edges h ≡ newest_edges (yielded_nodes h)
   newest-last [] = refl
   newest-last (Prioritized i ∷ h) = newest-last h
   newest-last (Read e ∷ h) = newest-last h
-  newest-last (Gave e ∷ h) = refl
+  newest-last (Yielded e ∷ h) = refl
 
   -- an edge that was read makes its target required until it is yielded
-  read-wanted : (h : History N ID) (c : Entry N ID) (t : ID) → Contains (read_nodes h) c → list_any (leads_to eq t) c.edges ≡ true → ((f : Entry N ID) → Contains (given_nodes h) f → eq f.id t ≡ false) → is_wanted eq h t ≡ true
+  read-wanted : (h : History N ID) (c : Entry N ID) (t : ID) → Contains (read_nodes h) c → list_any (leads_to eq t) c.edges ≡ true → ((f : Entry N ID) → Contains (yielded_nodes h) f → eq f.id t ≡ false) → is_required eq h t ≡ true
   read-wanted [] c t m e none = nothing m
-  read-wanted (Prioritized i ∷ h) c t m e none = or_right (eq i t) (is_wanted eq h t) (read-wanted h c t m e none)
-  read-wanted (Read f ∷ h) c t m e none = ⊎_elim (λ s. or_left (list_any (leads_to eq t) f.edges) (is_wanted eq h t) (ap (λ x. list_any (leads_to eq t) x.edges) s ∙ e))
-      (λ l. or_right (list_any (leads_to eq t) f.edges) (is_wanted eq h t) (read-wanted h c t l e none)) (cons-cases (read_nodes h) f c m)
-  read-wanted (Gave f ∷ h) c t m e none =
-      ap (λ b. not b && is_wanted eq h t) (none f (cons-first (given_nodes h) f f refl)) ∙ read-wanted h c t m e (λ g n. none g (cons-later (given_nodes h) f g n))
+  read-wanted (Prioritized i ∷ h) c t m e none = or_right (eq i t) (is_required eq h t) (read-wanted h c t m e none)
+  read-wanted (Read f ∷ h) c t m e none = ⊎_elim (λ s. or_left (list_any (leads_to eq t) f.edges) (is_required eq h t) (ap (λ x. list_any (leads_to eq t) x.edges) s ∙ e))
+      (λ l. or_right (list_any (leads_to eq t) f.edges) (is_required eq h t) (read-wanted h c t l e none)) (cons-cases (read_nodes h) f c m)
+  read-wanted (Yielded f ∷ h) c t m e none =
+      ap (λ b. not b && is_required eq h t) (none f (cons-first (yielded_nodes h) f f refl)) ∙ read-wanted h c t m e (λ g n. none g (cons-later (yielded_nodes h) f g n))
 
   -- a node that leads to a node yielded in turn was yielded before
   grouped-children : (nodes given : List (Entry N ID)) (f c : Entry N ID) → AreGrouped eq nodes given → Contains given f → Contains nodes c → list_any (leads_to eq f.id) c.edges ≡ true → has_node eq given c.id ≡ true
@@ -188,23 +176,23 @@ module _ {N ID : Type 0} {eq : ID → ID → Bool} (laws : IsEquivalence eq) whe
 
   module _ (nodes : List (Entry N ID)) (apart : AreApart eq nodes) (order : AreReadChildFirst eq nodes) where
     grouped-ready : (h : History N ID) (newer : List (Entry N ID)) (i : ID) (e : Entry N ID) → nodes ≡ newer ++ read_nodes h → IsHistory eq h → Contains (read_nodes h) e → eq e.id i ≡ true → edges_to eq h i ≡ 0
-        → is_ready eq nodes (given_nodes h) i ≡ true
-    grouped-ready h newer i e all k m same none = all-from (λ c. not (list_any (leads_to eq i) c.edges) || has_node eq (given_nodes h) c.id) nodes (λ c n. one c n (list_any (leads_to eq i) c.edges) refl)
+        → is_ready eq nodes (yielded_nodes h) i ≡ true
+    grouped-ready h newer i e all k m same none = all-from (λ c. not (list_any (leads_to eq i) c.edges) || has_node eq (yielded_nodes h) c.id) nodes (λ c n. one c n (list_any (leads_to eq i) c.edges) refl)
       where
-        given : (c : Entry N ID) → Contains nodes c → list_any (leads_to eq i) c.edges ≡ true → has_node eq (given_nodes h) c.id ≡ true
+        given : (c : Entry N ID) → Contains nodes c → list_any (leads_to eq i) c.edges ≡ true → has_node eq (yielded_nodes h) c.id ≡ true
         given c n leads = ⊎_elim
             (λ new. no-false (sym (order-later newer (read_nodes h) c e (subst (λ (l : List (Entry N ID)). AreReadChildFirst eq l) all order) new m) ∙ leads-alike laws e.id i c.edges same ∙ leads))
-            (λ old. ⊎_elim (λ g. any-at (λ x. eq x.id c.id) (given_nodes h) c g (laws.refl c.id)) (λ a. let pos = edge-counts laws i (held eq h) c a leads in absurd (omega (arith, pos, none))) (read-given_or_held laws h k c old))
+            (λ old. ⊎_elim (λ g. any-at (λ x. eq x.id c.id) (yielded_nodes h) c g (laws.refl c.id)) (λ a. let pos = edge-counts laws i (pending_nodes eq h) c a leads in absurd (omega (arith, pos, none))) (read-given_or_held laws h k c old))
             (append-cases newer (read_nodes h) c (subst (λ (l : List (Entry N ID)). Contains l c) all n))
 
-        one : (c : Entry N ID) → Contains nodes c → (b : Bool) → list_any (leads_to eq i) c.edges ≡ b → (not (list_any (leads_to eq i) c.edges) || has_node eq (given_nodes h) c.id) ≡ true
-        one c n true leads = or_right (not (list_any (leads_to eq i) c.edges)) (has_node eq (given_nodes h) c.id) (given c n leads)
-        one c n false leads = or_left (not (list_any (leads_to eq i) c.edges)) (has_node eq (given_nodes h) c.id) (ap not leads)
+        one : (c : Entry N ID) → Contains nodes c → (b : Bool) → list_any (leads_to eq i) c.edges ≡ b → (not (list_any (leads_to eq i) c.edges) || has_node eq (yielded_nodes h) c.id) ≡ true
+        one c n true leads = or_right (not (list_any (leads_to eq i) c.edges)) (has_node eq (yielded_nodes h) c.id) (given c n leads)
+        one c n false leads = or_left (not (list_any (leads_to eq i) c.edges)) (has_node eq (yielded_nodes h) c.id) (ap not leads)
 
     -- a ready target of the last node is free
-    grouped-free : (h : History N ID) (newer : List (Entry N ID)) (t : ID) → nodes ≡ newer ++ read_nodes h → IsHistory eq h → AreGrouped eq nodes (given_nodes h) → Contains (targets_of (newest_edges (given_nodes h))) t
-        → is_ready eq nodes (given_nodes h) t ≡ true → is_free eq h t ≡ true
-    grouped-free h newer t all k grouped target ready = ap (λ b. b && (edges_to eq h t == 0)) (or_left (is_wanted eq h t) (is_some (held_at eq h t)) (wanted (given_nodes h) refl grouped target)) ∙ eq-eqb (edges_to eq h t) 0 childless
+    grouped-free : (h : History N ID) (newer : List (Entry N ID)) (t : ID) → nodes ≡ newer ++ read_nodes h → IsHistory eq h → AreGrouped eq nodes (yielded_nodes h) → Contains (targets_of (newest_edges (yielded_nodes h))) t
+        → is_ready eq nodes (yielded_nodes h) t ≡ true → is_unblocked eq h t ≡ true
+    grouped-free h newer t all k grouped target ready = ap (λ b. b && (edges_to eq h t == 0)) (or_left (is_required eq h t) (is_some (pending_at eq h t)) (wanted (yielded_nodes h) refl grouped target)) ∙ eq-eqb (edges_to eq h t) 0 childless
       where
         in-nodes : (c : Entry N ID) → Contains (read_nodes h) c → Contains nodes c
         in-nodes c m = subst (λ (l : List (Entry N ID)). Contains l c) (sym all) (append-later newer (read_nodes h) c m)
@@ -212,7 +200,7 @@ module _ {N ID : Type 0} {eq : ID → ID → Bool} (laws : IsEquivalence eq) whe
         read-apart : AreApart eq (read_nodes h)
         read-apart = apart-rest newer (read_nodes h) (subst (λ (l : List (Entry N ID)). AreApart eq l) all apart)
 
-        wanted : (given : List (Entry N ID)) → given_nodes h ≡ given → AreGrouped eq nodes given → Contains (targets_of (newest_edges given)) t → is_wanted eq h t ≡ true
+        wanted : (given : List (Entry N ID)) → yielded_nodes h ≡ given → AreGrouped eq nodes given → Contains (targets_of (newest_edges given)) t → is_required eq h t ≡ true
         wanted [] same g m = nothing m
         wanted (a ∷ older) same g m =
             let leads : list_any (leads_to eq t) a.edges ≡ true = target-leads laws a.edges t m in
@@ -229,16 +217,16 @@ module _ {N ID : Type 0} {eq : ID → ID → Bool} (laws : IsEquivalence eq) whe
             go : (n : ℕ) → edges_to eq h t ≡ n → edges_to eq h t ≡ 0
             go zero e = e
             go (suc n) e =
-                let more = edge-counted laws t (held eq h) (omega (arith, e)) in
-                let c = edge-entry laws (held eq h) more.0 t more.1 in
-                let n = in-nodes c.0 (held-read h c.0 c.1) in
-                let was = all-at (λ d. not (list_any (leads_to eq t) d.edges) || has_node eq (given_nodes h) d.id) nodes c.0 ready n in
-                let given = any-from (λ x. eq x.id c.0.id) (given_nodes h) (⊎_elim (λ no. absurd (true≢false (sym no ∙ ap not c.3))) (λ yes. yes) (or_cases (not (list_any (leads_to eq t) c.0.edges)) (has_node eq (given_nodes h) c.0.id) was)) in
-                let gone : held_at eq h given.0.id ≡ None = given-gone h given.0 read-apart k given.1 in
-                absurd (found-node (held eq h) c.0 given.0.id c.1 (laws.symm c.0.id given.0.id ∙ given.2) gone)
+                let more = edge-counted laws t (pending_nodes eq h) (omega (arith, e)) in
+                let c = edge-entry laws (pending_nodes eq h) more.0 t more.1 in
+                let n = in-nodes c.0 (pending-read h c.0 c.1) in
+                let was = all-at (λ d. not (list_any (leads_to eq t) d.edges) || has_node eq (yielded_nodes h) d.id) nodes c.0 ready n in
+                let given = any-from (λ x. eq x.id c.0.id) (yielded_nodes h) (⊎_elim (λ no. absurd (true≢false (sym no ∙ ap not c.3))) (λ yes. yes) (or_cases (not (list_any (leads_to eq t) c.0.edges)) (has_node eq (yielded_nodes h) c.0.id) was)) in
+                let gone : pending_at eq h given.0.id ≡ None = given-gone h given.0 read-apart k given.1 in
+                absurd (found-node (pending_nodes eq h) c.0 given.0.id c.1 (laws.symm c.0.id given.0.id ∙ given.2) gone)
 
     -- each node was yielded in turn
-    pub grouped-history : (h : History N ID) (newer : List (Entry N ID)) → nodes ≡ newer ++ read_nodes h → IsHistory eq h → AreGrouped eq nodes (given_nodes h)
+    pub grouped-history : (h : History N ID) (newer : List (Entry N ID)) → nodes ≡ newer ++ read_nodes h → IsHistory eq h → AreGrouped eq nodes (yielded_nodes h)
     grouped-history [] newer all k = tt
     grouped-history (Prioritized i ∷ h) newer all k = grouped-history h newer all k
     grouped-history (Read e ∷ h) newer all k = grouped-history h (newer ++ e ∷ []) (all ∙ sym (push newer)) k.1
@@ -246,16 +234,16 @@ module _ {N ID : Type 0} {eq : ID → ID → Bool} (laws : IsEquivalence eq) whe
         push : (xs : List (Entry N ID)) → (xs ++ e ∷ []) ++ read_nodes h ≡ xs ++ e ∷ read_nodes h
         push [] = refl
         push (x ∷ xs) = ap (λ l. x ∷ l) (push xs)
-    grouped-history (Gave e ∷ h) newer all k =
+    grouped-history (Yielded e ∷ h) newer all k =
         let before = grouped-history h newer all k.1 in
-        let at : Contains (held eq h) e = found-in (λ g. eq g.id e.id) (held eq h) e k.0.held in
-        let was : Contains (read_nodes h) e = held-read h e at in
+        let at : Contains (pending_nodes eq h) e = found-in (λ g. eq g.id e.id) (pending_nodes eq h) e k.0.pending in
+        let was : Contains (read_nodes h) e = pending-read h e at in
         let read_apart = apart-rest newer (read_nodes h) (subst (λ (l : List (Entry N ID)). AreApart eq l) all apart) in
         let ready = grouped-ready h newer e.id e all k.1 was (laws.refl e.id) k.0.childless in (
           record {
             node = subst (λ (l : List (Entry N ID)). Contains l e) (sym all) (append-later newer (read_nodes h) e was);
-            new = false-from (has_node eq (given_nodes h) e.id) (λ y. let d = any-from (λ x. eq x.id e.id) (given_nodes h) y in
-                found-node (held eq h) e d.0.id at (laws.symm e.id d.0.id ∙ d.2) (given-gone h d.0 read_apart k.1 d.1));
+            new = false-from (has_node eq (yielded_nodes h) e.id) (λ y. let d = any-from (λ x. eq x.id e.id) (yielded_nodes h) y in
+                found-node (pending_nodes eq h) e d.0.id at (laws.symm e.id d.0.id ∙ d.2) (given-gone h d.0 read_apart k.1 d.1));
             ready = ready;
             follows = follows before ready;
           },
@@ -263,105 +251,105 @@ module _ {N ID : Type 0} {eq : ID → ID → Bool} (laws : IsEquivalence eq) whe
         )
       where
         turned : List ID
-        turned = reverse (targets_of (newest_edges (given_nodes h)))
+        turned = reverse (targets_of (newest_edges (yielded_nodes h)))
 
-        same : last_free eq h ≡ find (is_free eq h) (reverse (targets_of (newest_edges (given_nodes h))))
-        same = ap (λ l. find (is_free eq h) (reverse (targets_of l))) (newest-last h)
+        same : last_unblocked eq h ≡ find (is_unblocked eq h) (reverse (targets_of (newest_edges (yielded_nodes h))))
+        same = ap (λ l. find (is_unblocked eq h) (reverse (targets_of l))) (newest-last h)
 
-        known : MatchOption (find (is_free eq h) (reverse (targets_of (newest_edges (given_nodes h))))) ⊤ (λ i. eq i e.id ≡ true)
+        known : MatchOption (find (is_unblocked eq h) (reverse (targets_of (newest_edges (yielded_nodes h))))) ⊤ (λ i. eq i e.id ≡ true)
         known = subst (λ (o : Option ID). MatchOption o ⊤ (λ i. eq i e.id ≡ true)) same k.0.follows
 
-        follows : AreGrouped eq nodes (given_nodes h) → is_ready eq nodes (given_nodes h) e.id ≡ true → MatchOption (find (is_ready eq nodes (given_nodes h)) (reverse (targets_of (newest_edges (given_nodes h))))) ⊤ (λ i. eq i e.id ≡ true)
+        follows : AreGrouped eq nodes (yielded_nodes h) → is_ready eq nodes (yielded_nodes h) e.id ≡ true → MatchOption (find (is_ready eq nodes (yielded_nodes h)) (reverse (targets_of (newest_edges (yielded_nodes h))))) ⊤ (λ i. eq i e.id ≡ true)
         follows before ready =
-            subst (λ (o : Option ID). MatchOption o ⊤ (λ i. eq i e.id ≡ true)) (sym (find-both (is_ready eq nodes (given_nodes h)) (is_free eq h) (reverse (targets_of (newest_edges (given_nodes h))))
-            (λ t m r. grouped-free h newer t all k.1 before (unturned (targets_of (newest_edges (given_nodes h))) t m) r)
-            (weaker (find (is_free eq h) (reverse (targets_of (newest_edges (given_nodes h))))) known))) known
+            subst (λ (o : Option ID). MatchOption o ⊤ (λ i. eq i e.id ≡ true)) (sym (find-both (is_ready eq nodes (yielded_nodes h)) (is_unblocked eq h) (reverse (targets_of (newest_edges (yielded_nodes h))))
+            (λ t m r. grouped-free h newer t all k.1 before (unturned (targets_of (newest_edges (yielded_nodes h))) t m) r)
+            (weaker (find (is_unblocked eq h) (reverse (targets_of (newest_edges (yielded_nodes h))))) known))) known
           where
-            weaker : (o : Option ID) → MatchOption o ⊤ (λ i. eq i e.id ≡ true) → MatchOption o ⊤ (λ i. is_ready eq nodes (given_nodes h) i ≡ true)
+            weaker : (o : Option ID) → MatchOption o ⊤ (λ i. eq i e.id ≡ true) → MatchOption o ⊤ (λ i. is_ready eq nodes (yielded_nodes h) i ≡ true)
             weaker None m = tt
-            weaker (Some i) m = ready-alike nodes (given_nodes h) i e.id m ∙ ready
+            weaker (Some i) m = ready-alike nodes (yielded_nodes h) i e.id m ∙ ready
 
   -- an id is required since it was prioritized or an edge to it was read
-  wanted-from : (h : History N ID) (i : ID) → is_wanted eq h i ≡ true → ((j : ID) × Contains (prioritized_ids h) j × (eq j i ≡ true)) ⊎ ((c : Entry N ID) × Contains (read_nodes h) c × (list_any (leads_to eq i) c.edges ≡ true))
+  wanted-from : (h : History N ID) (i : ID) → is_required eq h i ≡ true → ((j : ID) × Contains (prioritized_ids h) j × (eq j i ≡ true)) ⊎ ((c : Entry N ID) × Contains (read_nodes h) c × (list_any (leads_to eq i) c.edges ≡ true))
   wanted-from [] i w = no-false w
   wanted-from (Prioritized j ∷ h) i w = ⊎_elim (λ e. inl (j, cons-first (prioritized_ids h) j j refl, e))
-      (λ l. ⊎_elim (λ (k, m, e). inl (k, cons-later (prioritized_ids h) j k m, e)) (λ c. inr c) (wanted-from h i l)) (or_cases (eq j i) (is_wanted eq h i) w)
+      (λ l. ⊎_elim (λ (k, m, e). inl (k, cons-later (prioritized_ids h) j k m, e)) (λ c. inr c) (wanted-from h i l)) (or_cases (eq j i) (is_required eq h i) w)
   wanted-from (Read e ∷ h) i w = ⊎_elim (λ a. inr (e, cons-first (read_nodes h) e e refl, a))
-      (λ l. ⊎_elim (λ p. inl p) (λ (c, m, a). inr (c, cons-later (read_nodes h) e c m, a)) (wanted-from h i l)) (or_cases (list_any (leads_to eq i) e.edges) (is_wanted eq h i) w)
-  wanted-from (Gave e ∷ h) i w = wanted-from h i (and_right (not (eq e.id i)) (is_wanted eq h i) w)
+      (λ l. ⊎_elim (λ p. inl p) (λ (c, m, a). inr (c, cons-later (read_nodes h) e c m, a)) (wanted-from h i l)) (or_cases (list_any (leads_to eq i) e.edges) (is_required eq h i) w)
+  wanted-from (Yielded e ∷ h) i w = wanted-from h i (and_right (not (eq e.id i)) (is_required eq h i) w)
 
   -- no id is required after its node was yielded
-  given-unwanted : (h : History N ID) (f : Entry N ID) (i : ID) → IsHistory eq h → PrioritizesFirst h → AreReadChildFirst eq (read_nodes h) → Contains (given_nodes h) f → eq f.id i ≡ true → is_wanted eq h i ≡ true → ⊥
+  given-unwanted : (h : History N ID) (f : Entry N ID) (i : ID) → IsHistory eq h → PrioritizesFirst h → AreReadChildFirst eq (read_nodes h) → Contains (yielded_nodes h) f → eq f.id i ≡ true → is_required eq h i ≡ true → ⊥
   given-unwanted [] f i k first order m e w = no-false w
   given-unwanted (Prioritized j ∷ h) f i k first order m e w = nothing (subst (λ (l : List (Entry N ID)). Contains l f) first.0 (given-read h f k m))
   given-unwanted (Read c ∷ h) f i k first order m e w = ⊎_elim
       (λ a. true≢false (sym (leads-alike laws f.id i c.edges e ∙ a) ∙ order.0 f (cons-later (read_nodes h) c f (given-read h f k.1 m))))
-      (λ l. given-unwanted h f i k.1 first order.1 m e l) (or_cases (list_any (leads_to eq i) c.edges) (is_wanted eq h i) w)
-  given-unwanted (Gave c ∷ h) f i k first order m e w = ⊎_elim
-      (λ s. true≢false (sym (and_left (not (eq c.id i)) (is_wanted eq h i) w) ∙ ap not (ap (λ x. eq x.id i) s ∙ e)))
-      (λ l. given-unwanted h f i k.1 first order l e (and_right (not (eq c.id i)) (is_wanted eq h i) w)) (cons-cases (given_nodes h) c f m)
+      (λ l. given-unwanted h f i k.1 first order.1 m e l) (or_cases (list_any (leads_to eq i) c.edges) (is_required eq h i) w)
+  given-unwanted (Yielded c ∷ h) f i k first order m e w = ⊎_elim
+      (λ s. true≢false (sym (and_left (not (eq c.id i)) (is_required eq h i) w) ∙ ap not (ap (λ x. eq x.id i) s ∙ e)))
+      (λ l. given-unwanted h f i k.1 first order l e (and_right (not (eq c.id i)) (is_required eq h i) w)) (cons-cases (yielded_nodes h) c f m)
 
-  some-held : (h : History N ID) (f : Entry N ID) (i : ID) → Contains (held eq h) f → eq f.id i ≡ true → is_some (held_at eq h i) ≡ true
-  some-held h f i m e = go (held_at eq h i) refl
+  some-pending : (h : History N ID) (f : Entry N ID) (i : ID) → Contains (pending_nodes eq h) f → eq f.id i ≡ true → is_some (pending_at eq h i) ≡ true
+  some-pending h f i m e = go (pending_at eq h i) refl
     where
-      go : (o : Option (Entry N ID)) → held_at eq h i ≡ o → is_some o ≡ true
-      go None none = absurd (found-node (held eq h) f i m e none)
+      go : (o : Option (Entry N ID)) → pending_at eq h i ≡ o → is_some o ≡ true
+      go None none = absurd (found-node (pending_nodes eq h) f i m e none)
       go (Some x) some = refl
 
   -- once the input is read, each required node is pending
   pub none-missing : (h : History N ID) (i : ID) → IsHistory eq h → PrioritizesFirst h → IsWhole eq (read_nodes h) → ((j : ID) → Contains (prioritized_ids h) j → has_node eq (read_nodes h) j ≡ true)
-      → is_wanted eq h i ≡ true → held_at eq h i ≡ None → ⊥
+      → is_required eq h i ≡ true → pending_at eq h i ≡ None → ⊥
   none-missing h i k first whole among wanted none =
       let known : has_node eq (read_nodes h) i ≡ true = ⊎_elim (λ (j, m, e). sym (has-alike (read_nodes h) j i e) ∙ among j m) (λ (c, m, e). whole.closed c i m e) (wanted-from h i wanted) in
       let f = any-from (λ e. eq e.id i) (read_nodes h) known in
-      ⊎_elim (λ g. given-unwanted h f.0 i k first whole.child_first g f.2 wanted) (λ a. found-node (held eq h) f.0 i a f.2 none) (read-given_or_held laws h k f.0 f.1)
+      ⊎_elim (λ g. given-unwanted h f.0 i k first whole.child_first g f.2 wanted) (λ a. found-node (pending_nodes eq h) f.0 i a f.2 none) (read-given_or_held laws h k f.0 f.1)
 
   -- a node that is read is not pending
-  pub none-twice : (h : History N ID) (e : Entry N ID) → has_node eq (read_nodes h) e.id ≡ false → is_some (held_at eq h e.id) ≡ true → ⊥
-  none-twice h e apart some = go (held_at eq h e.id) refl some
+  pub none-twice : (h : History N ID) (e : Entry N ID) → has_node eq (read_nodes h) e.id ≡ false → is_some (pending_at eq h e.id) ≡ true → ⊥
+  none-twice h e apart some = go (pending_at eq h e.id) refl some
     where
-      go : (o : Option (Entry N ID)) → held_at eq h e.id ≡ o → is_some o ≡ true → ⊥
+      go : (o : Option (Entry N ID)) → pending_at eq h e.id ≡ o → is_some o ≡ true → ⊥
       go None at s = no-false s
-      go (Some f) at s = true≢false (sym (any-at (λ x. eq x.id e.id) (read_nodes h) f (held-read h f (found-in (λ x. eq x.id e.id) (held eq h) f at)) (find-passes eq (λ x. eq x.id e.id) (held eq h) f at)) ∙ apart)
+      go (Some f) at s = true≢false (sym (any-at (λ x. eq x.id e.id) (read_nodes h) f (pending-read h f (found-in (λ x. eq x.id e.id) (pending_nodes eq h) f at)) (find-passes eq (λ x. eq x.id e.id) (pending_nodes eq h) f at)) ∙ apart)
 
   -- some pending node has no pending child
-  pub none-stuck : (h : History N ID) → AreReadChildFirst eq (read_nodes h) → (held eq h ≡ [] → ⊥) → ((i : ID) → is_some (held_at eq h i) ≡ true → edges_to eq h i ≡ 0 → ⊥) → ⊥
-  none-stuck h order some stuck = start (held eq h) refl
+  pub none-stuck : (h : History N ID) → AreReadChildFirst eq (read_nodes h) → (pending_nodes eq h ≡ [] → ⊥) → ((i : ID) → is_some (pending_at eq h i) ≡ true → edges_to eq h i ≡ 0 → ⊥) → ⊥
+  none-stuck h order some stuck = start (pending_nodes eq h) refl
     where
-      above : (i : ID) → is_some (held_at eq h i) ≡ true → (c : Entry N ID) × Contains (held eq h) c × (list_any (leads_to eq i) c.edges ≡ true)
+      above : (i : ID) → is_some (pending_at eq h i) ≡ true → (c : Entry N ID) × Contains (pending_nodes eq h) c × (list_any (leads_to eq i) c.edges ≡ true)
       above i s = go (edges_to eq h i) refl
         where
-          go : (n : ℕ) → edges_to eq h i ≡ n → (c : Entry N ID) × Contains (held eq h) c × (list_any (leads_to eq i) c.edges ≡ true)
+          go : (n : ℕ) → edges_to eq h i ≡ n → (c : Entry N ID) × Contains (pending_nodes eq h) c × (list_any (leads_to eq i) c.edges ≡ true)
           go zero e = absurd (stuck i s e)
           go (suc n) e =
-              let more = edge-counted laws i (held eq h) (omega (arith, e)) in
-              let c = edge-entry laws (held eq h) more.0 i more.1 in
+              let more = edge-counted laws i (pending_nodes eq h) (omega (arith, e)) in
+              let c = edge-entry laws (pending_nodes eq h) more.0 i more.1 in
               (c.0, c.1, c.3)
 
-      start : (l : List (Entry N ID)) → held eq h ≡ l → ⊥
+      start : (l : List (Entry N ID)) → pending_nodes eq h ≡ l → ⊥
       start [] e = some e
       start (f ∷ l) e =
-          let at : Contains (held eq h) f = subst (λ (x : List (Entry N ID)). Contains x f) (sym e) (cons-first l f f refl) in
-          circle-free laws (read_nodes h) order (λ i. is_some (held_at eq h i))
-          (λ g m s. let c = above g.id s in (c.0, held-read h c.0 c.1, c.2, some-held h c.0 c.0.id c.1 (laws.refl c.0.id)))
-          f (held-read h f at) (some-held h f f.id at (laws.refl f.id))
+          let at : Contains (pending_nodes eq h) f = subst (λ (x : List (Entry N ID)). Contains x f) (sym e) (cons-first l f f refl) in
+          circle-free laws (read_nodes h) order (λ i. is_some (pending_at eq h i))
+          (λ g m s. let c = above g.id s in (c.0, pending-read h c.0 c.1, c.2, some-pending h c.0 c.0.id c.1 (laws.refl c.0.id)))
+          f (pending-read h f at) (some-pending h f f.id at (laws.refl f.id))
 
   -- the first reaches the required id
-  first-reaches : (h : History N ID) (e : Entry N ID) (i : ID) → IsHistory eq h → AreReadChildFirst eq (read_nodes h) → IsOldest (given_nodes h) e → first_wanted h ≡ Some i → Reaches eq (has_edge eq (read_nodes h)) e.id i
+  first-reaches : (h : History N ID) (e : Entry N ID) (i : ID) → IsHistory eq h → AreReadChildFirst eq (read_nodes h) → IsOldest (yielded_nodes h) e → first_prioritized h ≡ Some i → Reaches eq (has_edge eq (read_nodes h)) e.id i
   first-reaches [] e i k order oldest first = absurd oldest
   first-reaches (Prioritized j ∷ []) e i k order oldest first = absurd oldest
   first-reaches (Prioritized j ∷ event ∷ h) e i k order oldest first = first-reaches (event ∷ h) e i k order oldest first
   first-reaches (Read f ∷ h) e i k order oldest first =
       reaches-more laws (has_edge eq (read_nodes h)) (has_edge eq (read_nodes (Read f ∷ h))) (λ x y a. or_right (eq f.id x && list_any (leads_to eq y) f.edges) (has_edge eq (read_nodes h) x y) a) e.id i
       (first-reaches h e i k.1 order.1 oldest first)
-  first-reaches (Gave f ∷ h) e i k order oldest first = go (given_nodes h) refl oldest (λ o. first-reaches h e i k.1 order o first)
+  first-reaches (Yielded f ∷ h) e i k order oldest first = go (yielded_nodes h) refl oldest (λ o. first-reaches h e i k.1 order o first)
     where
-      go : (given : List (Entry N ID)) → given_nodes h ≡ given → IsOldest (f ∷ given) e → (IsOldest (given_nodes h) e → Reaches eq (has_edge eq (read_nodes h)) e.id i) → Reaches eq (has_edge eq (read_nodes h)) e.id i
+      go : (given : List (Entry N ID)) → yielded_nodes h ≡ given → IsOldest (f ∷ given) e → (IsOldest (yielded_nodes h) e → Reaches eq (has_edge eq (read_nodes h)) e.id i) → Reaches eq (has_edge eq (read_nodes h)) e.id i
       go [] none same below = subst (λ (x : Entry N ID). Reaches eq (has_edge eq (read_nodes h)) x.id i) same (k.0.first none order i first)
       go (g ∷ given) more o below = below (subst (λ (l : List (Entry N ID)). IsOldest l e) (sym more) o)
 
   -- a whole run yields a grouped order
-  pub grouped-order : (h : History N ID) → IsHistory eq h → IsWhole eq (read_nodes h) → held eq h ≡ [] → IsGroupedOrder eq (read_nodes h) (first_wanted h) (given_nodes h)
+  pub grouped-order : (h : History N ID) → IsHistory eq h → IsWhole eq (read_nodes h) → pending_nodes eq h ≡ [] → IsGroupedOrder eq (read_nodes h) (first_prioritized h) (yielded_nodes h)
   grouped-order h k whole none = record {
     all = λ e m. read-given laws h k none e m;
     grouped = grouped-history (read_nodes h) whole.apart whole.child_first h [] refl k;

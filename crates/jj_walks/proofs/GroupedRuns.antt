@@ -7,7 +7,7 @@ use Rattle.std.proofs.lemmas.List.{map-append}
 use denote.Ref.{Bor}
 use Rattle.jj_walks.specs.Grouped.{Entry, History, Read}
 use Rattle.jj_walks.specs.GroupedSteps.{IsEntryOf, Item, ReadsTo, read_on}
-use Rattle.jj_dag.proofs.Asking.{zip-push}
+use Rattle.jj_dag.proofs.Expanding.{zip-push}
 use Rattle.jj_dag.proofs.FailingOrders.{Yields-push}
 
 -- one node more was read

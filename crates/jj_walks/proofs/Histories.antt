@@ -4,8 +4,8 @@ use Rattle.std.specs.Cmp.{IsEquivalence}
 use Rattle.std.specs.List.{Contains, list_any, sum_by}
 use Rattle.std.proofs.lemmas.List.Elements.{Contains-append_right, Contains-append_cases, Contains-push_cases}
 use Rattle.std.proofs.lemmas.List.Sums.{sum_by-cons}
-use Rattle.jj_walks.specs.Grouped.{Entry, History, Prioritized, Read, Gave, IsHistory, held, leads_to, read_nodes, given_nodes, GivesChildrenFirst}
-use Rattle.jj_walks.proofs.HistoryLists.{AreUnique, held-unique, find-congr}
+use Rattle.jj_walks.specs.Grouped.{Entry, History, Prioritized, Read, Yielded, IsHistory, pending_nodes, leads_to, read_nodes, yielded_nodes}
+use Rattle.jj_walks.proofs.HistoryLists.{AreUnique, pending-unique, find-congr}
 use Rattle.jj_walks.proofs.KeptHistories.{leads-none}
 
 pub cons-cases : {X : Type 0} (xs : List X) (y x : X) → Contains (y ∷ xs) x → (y ≡ x) ⊎ Contains xs x
@@ -30,9 +30,9 @@ module _ {N ID : Type 0} {eq : ID → ID → Bool} (laws : IsEquivalence eq) whe
       go rest false is n = ⊎_elim (λ e. ap (λ x. eq x.id i) (sym e) ∙ is) (rest n) (cons-cases es f c k)
 
   -- a pending node stays pending until its id is yielded
-  stays-held : (i : ID) (es : List (Entry N ID)) (e c : Entry N ID) → AreUnique eq es → find (λ f. eq f.id i) es ≡ Some e → Contains es c → (e ≡ c) ⊎ Contains (filter (λ f. not (eq i f.id)) es) c
-  stays-held i [] e c u h (k, less, x) = absurd (omega arith)
-  stays-held i (f ∷ es) e c (none, u) h k = go (stays-held i es e c u) (eq f.id i) refl h (cons-cases es f c k)
+  stays-pending : (i : ID) (es : List (Entry N ID)) (e c : Entry N ID) → AreUnique eq es → find (λ f. eq f.id i) es ≡ Some e → Contains es c → (e ≡ c) ⊎ Contains (filter (λ f. not (eq i f.id)) es) c
+  stays-pending i [] e c u h (k, less, x) = absurd (omega arith)
+  stays-pending i (f ∷ es) e c (none, u) h k = go (stays-pending i es e c u) (eq f.id i) refl h (cons-cases es f c k)
     where
       out : (b : Bool) → eq f.id i ≡ b → filter (λ x. not (eq i x.id)) (f ∷ es) ≡ cond (not b) (f ∷ filter (λ x. not (eq i x.id)) es) (filter (λ x. not (eq i x.id)) es)
       out b is = ap (λ b. cond (not b) (f ∷ filter (λ x. not (eq i x.id)) es) (filter (λ x. not (eq i x.id)) es)) (laws.symm i f.id ∙ is)
@@ -56,16 +56,16 @@ module _ {N ID : Type 0} {eq : ID → ID → Bool} (laws : IsEquivalence eq) whe
       go rest false is found (inr later) = ⊎_elim (λ e. inl e) (λ m. inr (subst (λ (l : List (Entry N ID)). Contains l c) (sym (out false is)) (cons-later (filter (λ x. not (eq i x.id)) es) f c m))) (rest found later)
 
   -- each node that was read was yielded or is pending
-  pub read-given_or_held : (h : History N ID) → IsHistory eq h → (c : Entry N ID) → Contains (read_nodes h) c → Contains (given_nodes h) c ⊎ Contains (held eq h) c
+  pub read-given_or_held : (h : History N ID) → IsHistory eq h → (c : Entry N ID) → Contains (read_nodes h) c → Contains (yielded_nodes h) c ⊎ Contains (pending_nodes eq h) c
   read-given_or_held [] k c (i, less, e) = absurd (omega arith)
   read-given_or_held (Prioritized i ∷ h) k c m = read-given_or_held h k c m
   read-given_or_held (Read e ∷ h) (none, k) c m =
-      ⊎_elim (λ first. inr (cons-first (held eq h) e c first))
-      (λ later. ⊎_elim (λ g. inl g) (λ a. inr (cons-later (held eq h) e c a)) (read-given_or_held h k c later))
+      ⊎_elim (λ first. inr (cons-first (pending_nodes eq h) e c first))
+      (λ later. ⊎_elim (λ g. inl g) (λ a. inr (cons-later (pending_nodes eq h) e c a)) (read-given_or_held h k c later))
       (cons-cases (read_nodes h) e c m)
-  read-given_or_held (Gave e ∷ h) (next, k) c m =
-      ⊎_elim (λ g. inl (cons-later (given_nodes h) e c g))
-      (λ a. ⊎_elim (λ same. inl (cons-first (given_nodes h) e c same)) (λ l. inr l) (stays-held e.id (held eq h) e c (held-unique eq laws h k) next.held a))
+  read-given_or_held (Yielded e ∷ h) (next, k) c m =
+      ⊎_elim (λ g. inl (cons-later (yielded_nodes h) e c g))
+      (λ a. ⊎_elim (λ same. inl (cons-first (yielded_nodes h) e c same)) (λ l. inr l) (stays-pending e.id (pending_nodes eq h) e c (pending-unique eq laws h k) next.pending a))
       (read-given_or_held h k c m)
 
   pub edge-counts : (i : ID) (es : List (Entry N ID)) (c : Entry N ID) → Contains es c → list_any (leads_to eq i) c.edges ≡ true → 0 < sum_by (λ e. count_by (leads_to eq i) e.edges) es
@@ -75,18 +75,8 @@ module _ {N ID : Type 0} {eq : ID → ID → Bool} (laws : IsEquivalence eq) whe
       ⊎_elim (λ same. let one : 0 < count_by (leads_to eq i) f.edges = leads-none eq i f.edges (ap (λ x. list_any (leads_to eq i) x.edges) same ∙ any) in omega (arith, whole, one))
       (λ later. let rest = edge-counts i es c later any in omega (arith, whole, rest)) (cons-cases es f c k)
 
-  -- each node was yielded after all nodes that had been read and have an edge to it
-  pub gives-children_first : (h : History N ID) → IsHistory eq h → GivesChildrenFirst eq h
-  gives-children_first [] k = tt
-  gives-children_first (Prioritized i ∷ h) k = gives-children_first h k
-  gives-children_first (Read e ∷ h) (none, k) = gives-children_first h k
-  gives-children_first (Gave e ∷ h) (next, k) = (
-    λ c m any. ⊎_elim (λ g. g) (λ a. let pos = edge-counts e.id (held eq h) c a any in let z = next.childless in absurd (omega (arith, pos, z))) (read-given_or_held h k c m),
-    gives-children_first h k,
-  )
-
   -- if nothing is pending, each node that was read was yielded
-  pub read-given : (h : History N ID) → IsHistory eq h → held eq h ≡ [] → (c : Entry N ID) → Contains (read_nodes h) c → Contains (given_nodes h) c
+  pub read-given : (h : History N ID) → IsHistory eq h → pending_nodes eq h ≡ [] → (c : Entry N ID) → Contains (read_nodes h) c → Contains (yielded_nodes h) c
   read-given h k none c m = ⊎_elim (λ g. g) (λ a. absurd (nothing (subst (λ (l : List (Entry N ID)). Contains l c) none a))) (read-given_or_held h k c m)
     where
       nothing : Contains [] c → ⊥

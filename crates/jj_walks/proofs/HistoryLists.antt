@@ -3,7 +3,7 @@ use Rattle.std.proofs.Common.{arith, ◌≡◌, ℕ, ◌+◌, ◌≤◌, Bool, t
 use Rattle.std.specs.Cmp.{IsEquivalence}
 use Rattle.std.specs.List.{sum_by}
 use Rattle.std.proofs.lemmas.List.Sums.{sum_by-cons}
-use Rattle.jj_walks.specs.Grouped.{Entry, History, Prioritized, Read, Gave, leads_to, held, IsHistory}
+use Rattle.jj_walks.specs.Grouped.{Entry, History, Prioritized, Read, Yielded, leads_to, pending_nodes, IsHistory}
 
 pub congr-right : {ID : Type 0} {eq : ID → ID → Bool} → IsEquivalence eq → (x y z : ID) → eq x y ≡ true → eq z x ≡ eq z y
 congr-right laws x y z e = laws.symm z x ∙ laws.congr x y z e ∙ laws.symm y z
@@ -116,8 +116,8 @@ module _ {N ID : Type 0} (eq : ID → ID → Bool) where
             omega (arith, a, rest, whole)
 
     -- a history has at most one pending node per id
-    pub held-unique : (h : History N ID) → IsHistory eq h → AreUnique (held eq h)
-    held-unique [] k = tt
-    held-unique (Prioritized i ∷ h) k = held-unique h k
-    held-unique (Read e ∷ h) (none, k) = (none, held-unique h k)
-    held-unique (Gave e ∷ h) (next, k) = others-unique e.id (held eq h) (held-unique h k)
+    pub pending-unique : (h : History N ID) → IsHistory eq h → AreUnique (pending_nodes eq h)
+    pending-unique [] k = tt
+    pending-unique (Prioritized i ∷ h) k = pending-unique h k
+    pending-unique (Read e ∷ h) (none, k) = (none, pending-unique h k)
+    pending-unique (Yielded e ∷ h) (next, k) = others-unique e.id (pending_nodes eq h) (pending-unique h k)

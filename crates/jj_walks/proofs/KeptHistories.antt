@@ -12,16 +12,16 @@ use Rattle.std.proofs.lemmas.List.Sums.{sum_by-cons}
 use Rattle.std.proofs.lemmas.List.Folds.{list_any-append}
 use Rattle.jj_walks.specs.declared.graph.GraphEdge.{GraphEdge}
 use Rattle.jj_walks.specs.Candidates.{AreSameIds, AreToFollow, count_of, has_id, is_listed, is_positive, is_zero}
-use Rattle.jj_walks.specs.Grouped.{Entry, History, Prioritized, Read, Gave, IsOfFirstBranch, edges_to, given_nodes, held, held_at, is_free, is_known, is_shown, is_wanted, last_edges, last_free, leads_to, targets_of}
+use Rattle.jj_walks.specs.Grouped.{Entry, History, Prioritized, Read, Yielded, IsOfFirstBranch, edges_to, yielded_nodes, pending_nodes, pending_at, is_unblocked, is_known, is_in_graph, is_required, last_edges, last_unblocked, leads_to, targets_of}
 use Rattle.std.specs.HashMap.{hash_map_len}
 use Rattle.std.specs.Map.{lookup}
 use Rattle.std.specs.Global.{Global}
 use Rattle.std.specs.declared.vec.Vec.{Vec}
 use Rattle.std.proofs.lemmas.Bool.{or_cases, or_left, or_right}
-use Rattle.jj_walks.specs.declared.held_nodes.HeldNodes.{HeldNodes}
-use Rattle.jj_walks.specs.HeldNodes.{Keeps, KeepsHistory, item_of, listed_item}
+use Rattle.jj_walks.specs.declared.pending_nodes.PendingNodes.{PendingNodes}
+use Rattle.jj_walks.specs.PendingNodes.{Keeps, KeepsHistory, item_of, listed_item}
 use Rattle.jj_walks.proofs.CandidateLists.{and_left, and_right, last-or-none, list_all-append, listed-passed}
-use Rattle.jj_walks.proofs.HistoryLists.{congr-right, find-passes, find-congr, find-others, edges-of_found, edges-others, held-unique}
+use Rattle.jj_walks.proofs.HistoryLists.{congr-right, find-passes, find-congr, find-others, edges-of_found, edges-others, pending-unique}
 
 zero-is : (c : Option ℕ) → is_zero c ≡ (is_some c && (count_of c == 0))
 zero-is None = refl
@@ -140,19 +140,19 @@ module _ {ID : Type 0} {eq : ID → ID → Bool} (laws : IsEquivalence eq) where
   -- an id to which edges lead is one of their targets
   target-has : (q : ID) (edges : List (GraphEdge ID)) → 0 < count_by (leads_to eq q) edges → has_id eq (targets_of edges) q ≡ true
   target-has q [] h = absurd (omega arith)
-  target-has q (x ∷ edges) h = go (target-has q edges) (is_shown x.edge_type) refl (eq x.target q) refl
+  target-has q (x ∷ edges) h = go (target-has q edges) (is_in_graph x.edge_type) refl (eq x.target q) refl
     where
       whole : count_by (leads_to eq q) (x ∷ edges) ≡ count_one (leads_to eq q x) + count_by (leads_to eq q) edges
       whole = sum_by-cons (λ y. cond (leads_to eq q y) 1 0) x edges
 
-      targets : targets_of (x ∷ edges) ≡ cond (is_shown x.edge_type) (x.target ∷ targets_of edges) (targets_of edges)
-      targets = one (is_shown x.edge_type)
+      targets : targets_of (x ∷ edges) ≡ cond (is_in_graph x.edge_type) (x.target ∷ targets_of edges) (targets_of edges)
+      targets = one (is_in_graph x.edge_type)
         where
-          one : (b : Bool) → map (λ e. e.target) (cond b (x ∷ filter (λ e. is_shown e.edge_type) edges) (filter (λ e. is_shown e.edge_type) edges)) ≡ cond b (x.target ∷ targets_of edges) (targets_of edges)
+          one : (b : Bool) → map (λ e. e.target) (cond b (x ∷ filter (λ e. is_in_graph e.edge_type) edges) (filter (λ e. is_in_graph e.edge_type) edges)) ≡ cond b (x.target ∷ targets_of edges) (targets_of edges)
           one true = refl
           one false = refl
 
-      go : (0 < count_by (leads_to eq q) edges → has_id eq (targets_of edges) q ≡ true) → (b : Bool) → is_shown x.edge_type ≡ b → (d : Bool) → eq x.target q ≡ d → has_id eq (targets_of (x ∷ edges)) q ≡ true
+      go : (0 < count_by (leads_to eq q) edges → has_id eq (targets_of edges) q ≡ true) → (b : Bool) → is_in_graph x.edge_type ≡ b → (d : Bool) → eq x.target q ≡ d → has_id eq (targets_of (x ∷ edges)) q ≡ true
       go rest true shown true here =
           ap (λ l. has_id eq l q) (targets ∙ ap (λ b. cond b (x.target ∷ targets_of edges) (targets_of edges)) shown) ∙ ap (λ b. b || has_id eq (targets_of edges) q) here
       go rest true shown false other =
@@ -165,22 +165,22 @@ module _ {ID : Type 0} {eq : ID → ID → Bool} (laws : IsEquivalence eq) where
   -- a property of every id to which edges lead is one of their targets
   targets-all : (p : ID → Bool) (edges : List (GraphEdge ID)) → ((q : ID) → 0 < count_by (leads_to eq q) edges → p q ≡ true) → list_all p (targets_of edges) ≡ true
   targets-all p [] k = refl
-  targets-all p (x ∷ edges) k = go (targets-all p edges (λ q h. let w = whole q in k q (omega (arith, w, h)))) (is_shown x.edge_type) refl
+  targets-all p (x ∷ edges) k = go (targets-all p edges (λ q h. let w = whole q in k q (omega (arith, w, h)))) (is_in_graph x.edge_type) refl
     where
       whole : (q : ID) → count_by (leads_to eq q) (x ∷ edges) ≡ count_one (leads_to eq q x) + count_by (leads_to eq q) edges
       whole q = sum_by-cons (λ y. cond (leads_to eq q y) 1 0) x edges
 
-      targets : (b : Bool) → map (λ e. e.target) (cond b (x ∷ filter (λ e. is_shown e.edge_type) edges) (filter (λ e. is_shown e.edge_type) edges)) ≡ cond b (x.target ∷ targets_of edges) (targets_of edges)
+      targets : (b : Bool) → map (λ e. e.target) (cond b (x ∷ filter (λ e. is_in_graph e.edge_type) edges) (filter (λ e. is_in_graph e.edge_type) edges)) ≡ cond b (x.target ∷ targets_of edges) (targets_of edges)
       targets true = refl
       targets false = refl
 
-      go : list_all p (targets_of edges) ≡ true → (b : Bool) → is_shown x.edge_type ≡ b → list_all p (targets_of (x ∷ edges)) ≡ true
+      go : list_all p (targets_of edges) ≡ true → (b : Bool) → is_in_graph x.edge_type ≡ b → list_all p (targets_of (x ∷ edges)) ≡ true
       go rest true shown =
           let one : count_one (leads_to eq x.target x) ≡ 1 = ap (λ b. count_one (b && eq x.target x.target)) shown ∙ ap count_one (laws.refl x.target) in
           let w = whole x.target in
-          ap (list_all p) (targets (is_shown x.edge_type) ∙ ap (λ b. cond b (x.target ∷ targets_of edges) (targets_of edges)) shown)
+          ap (list_all p) (targets (is_in_graph x.edge_type) ∙ ap (λ b. cond b (x.target ∷ targets_of edges) (targets_of edges)) shown)
           ∙ ap (λ b. b && list_all p (targets_of edges)) (k x.target (omega (arith, w, one))) ∙ rest
-      go rest false shown = ap (list_all p) (targets (is_shown x.edge_type) ∙ ap (λ b. cond b (x.target ∷ targets_of edges) (targets_of edges)) shown) ∙ rest
+      go rest false shown = ap (list_all p) (targets (is_in_graph x.edge_type) ∙ ap (λ b. cond b (x.target ∷ targets_of edges) (targets_of edges)) shown) ∙ rest
 
   module _ (count : ID → Option ℕ) (alike : (x y : ID) → eq x y ≡ true → count x ≡ count y) where
     -- those with a pending child are skipped
@@ -237,7 +237,7 @@ module _ {N ID : Type 0} {eq : ID → ID → Bool} (laws : IsEquivalence eq) whe
   keeps-prioritized h node_at count more ids heads heads2 i copy same known counts pushed k = record {
     told = k.told;
     nodes = k.nodes;
-    known = λ q. known q ∙ ap (λ b. eq i q || b) (k.known q) ∙ sym (or_assoc (eq i q) (is_wanted eq h q) (is_some (held_at eq h q)));
+    known = λ q. known q ∙ ap (λ b. eq i q || b) (k.known q) ∙ sym (or_assoc (eq i q) (is_required eq h q) (is_some (pending_at eq h q)));
     counts = λ q. counts q ∙ k.counts q;
     listed = λ q zero. rw pushed (go q (eq i q) refl zero);
     follows = follows-more eq count more (targets_of (last_edges h)) ids (λ q e. known q ∙ or_right (eq i q) (is_some (count q)) e)
@@ -265,10 +265,10 @@ module _ {N ID : Type 0} {eq : ID → ID → Bool} (laws : IsEquivalence eq) whe
       → ((q : ID) → eq e.id q ≡ true → (list_any (leads_to eq q) e.edges || is_some (count q)) ≡ true ⊎ (is_listed eq ids heads2 q ≡ true))
       → KeepsHistory eq h node_at count ids heads → KeepsHistory eq (Read e ∷ h) nodes2 more ids heads2
   keeps-read h node_at nodes2 count more ids heads heads2 e absent nodes known counts kept head k = record {
-    told = (none-mapped item_of (held_at eq h e.id) (sym (k.nodes e.id) ∙ absent), k.told);
-    nodes = λ q. nodes q ∙ ap (cond (eq e.id q) (Some (item_of e))) (k.nodes q) ∙ node (eq e.id q) (held_at eq h q);
-    known = λ q. known q ∙ ap (λ b. eq e.id q || (list_any (leads_to eq q) e.edges || b)) (k.known q) ∙ test (eq e.id q) (list_any (leads_to eq q) e.edges) (is_wanted eq h q) (held_at eq h q);
-    counts = λ q. let whole = sum_by-cons (λ f. count_by (leads_to eq q) f.edges) e (held eq h) in let a = counts q in let b = k.counts q in omega (arith, whole, a, b);
+    told = (none-mapped item_of (pending_at eq h e.id) (sym (k.nodes e.id) ∙ absent), k.told);
+    nodes = λ q. nodes q ∙ ap (cond (eq e.id q) (Some (item_of e))) (k.nodes q) ∙ node (eq e.id q) (pending_at eq h q);
+    known = λ q. known q ∙ ap (λ b. eq e.id q || (list_any (leads_to eq q) e.edges || b)) (k.known q) ∙ test (eq e.id q) (list_any (leads_to eq q) e.edges) (is_required eq h q) (pending_at eq h q);
+    counts = λ q. let whole = sum_by-cons (λ f. count_by (leads_to eq q) f.edges) e (pending_nodes eq h) in let a = counts q in let b = k.counts q in omega (arith, whole, a, b);
     listed = λ q zero. known_listed q zero (eq e.id q) refl;
     follows = follows-more eq count more (targets_of (last_edges h)) ids
         (λ q s. known q ∙ or_right (eq e.id q) (list_any (leads_to eq q) e.edges || is_some (count q)) (or_right (list_any (leads_to eq q) e.edges) (is_some (count q)) s))
@@ -298,16 +298,16 @@ module _ {N ID : Type 0} {eq : ID → ID → Bool} (laws : IsEquivalence eq) whe
 
   -- a node was yielded
   pub keeps-gave : (h : History N ID) (node_at nodes2 : ID → Option (N × List (GraphEdge ID))) (count more : ID → Option ℕ) (rest added heads : List ID) (i : ID) (e : Entry N ID)
-      → ((x y : ID) → eq x y ≡ true → count x ≡ count y) → held_at eq h i ≡ Some e → is_zero (count i) ≡ true
+      → ((x y : ID) → eq x y ≡ true → count x ≡ count y) → pending_at eq h i ≡ Some e → is_zero (count i) ≡ true
       → ((q : ID) → nodes2 q ≡ cond (eq i q) None (node_at q))
       → ((q : ID) → is_some (more q) ≡ is_some (cond (eq i q) None (count q)))
       → ((q : ID) → count_of (more q) ≡ count_of (cond (eq i q) None (count q)) - count_by (leads_to eq q) e.edges)
       → AreSameIds eq (targets_of e.edges) added
-      → (given_nodes h ≡ [] → IsOfFirstBranch eq h e) → KeepsHistory eq h node_at count (rest ++ i ∷ []) heads → KeepsHistory eq (Gave e ∷ h) nodes2 more (rest ++ added) heads
+      → (yielded_nodes h ≡ [] → IsOfFirstBranch eq h e) → KeepsHistory eq h node_at count (rest ++ i ∷ []) heads → KeepsHistory eq (Yielded e ∷ h) nodes2 more (rest ++ added) heads
   keeps-gave h node_at nodes2 count more rest added heads i e alike at zero nodes known counts pushed first k = record {
-    told = (record { held = here; childless = sym (k.counts e.id) ∙ ap count_of (alike e.id i same) ∙ zero-count (count i) zero; follows = next; first = first }, k.told);
-    nodes = λ q. nodes q ∙ ap (cond (eq i q) None) (k.nodes q) ∙ node (eq i q) (held_at eq h q) ∙ ap (option_map item_of) (sym (after q));
-    known = λ q. known q ∙ test (eq i q) (count q) (is_wanted eq h q) (held_at eq h q) (k.known q) ∙ ap (λ b. (not b && is_wanted eq h q) || is_some (cond (eq i q) None (held_at eq h q))) (sym (other q)) ∙ ap (λ o. (not (eq e.id q) && is_wanted eq h q) || is_some o) (sym (after q));
+    told = (record { pending = here; childless = sym (k.counts e.id) ∙ ap count_of (alike e.id i same) ∙ zero-count (count i) zero; follows = next; first = first }, k.told);
+    nodes = λ q. nodes q ∙ ap (cond (eq i q) None) (k.nodes q) ∙ node (eq i q) (pending_at eq h q) ∙ ap (option_map item_of) (sym (after q));
+    known = λ q. known q ∙ test (eq i q) (count q) (is_required eq h q) (pending_at eq h q) (k.known q) ∙ ap (λ b. (not b && is_required eq h q) || is_some (cond (eq i q) None (pending_at eq h q))) (sym (other q)) ∙ ap (λ o. (not (eq e.id q) && is_required eq h q) || is_some o) (sym (after q));
     counts = λ q. counts q ∙ left q (eq i q) refl;
     listed = λ q none. listed q none (eq i q) refl;
     follows = record {
@@ -322,25 +322,25 @@ module _ {N ID : Type 0} {eq : ID → ID → Bool} (laws : IsEquivalence eq) whe
   }
     where
       same : eq e.id i ≡ true
-      same = find-passes eq (λ f. eq f.id i) (held eq h) e at
+      same = find-passes eq (λ f. eq f.id i) (pending_nodes eq h) e at
 
-      here : held_at eq h e.id ≡ Some e
-      here = find-congr eq laws e.id i (held eq h) same ∙ at
+      here : pending_at eq h e.id ≡ Some e
+      here = find-congr eq laws e.id i (pending_nodes eq h) same ∙ at
 
       other : (q : ID) → eq e.id q ≡ eq i q
       other q = laws.congr e.id i q same
 
-      after : (q : ID) → find (λ f. eq f.id q) (filter (λ f. not (eq e.id f.id)) (held eq h)) ≡ cond (eq i q) None (held_at eq h q)
-      after q = find-others eq laws e.id q (held eq h) ∙ ap (λ b. cond b None (held_at eq h q)) (other q)
+      after : (q : ID) → find (λ f. eq f.id q) (filter (λ f. not (eq e.id f.id)) (pending_nodes eq h)) ≡ cond (eq i q) None (pending_at eq h q)
+      after q = find-others eq laws e.id q (pending_nodes eq h) ∙ ap (λ b. cond b None (pending_at eq h q)) (other q)
 
-      free : (q : ID) → is_free eq h q ≡ is_zero (count q)
+      free : (q : ID) → is_unblocked eq h q ≡ is_zero (count q)
       free q = ap (λ b. b && (edges_to eq h q == 0)) (sym (k.known q)) ∙ ap (λ n. is_some (count q) && (n == 0)) (sym (k.counts q)) ∙ sym (zero-is (count q))
 
-      next : MatchOption (last_free eq h) ⊤ (λ t. eq t e.id ≡ true)
+      next : MatchOption (last_unblocked eq h) ⊤ (λ t. eq t e.id ≡ true)
       next =
           let found = last-found laws count alike (targets_of (last_edges h)) rest i zero k.follows in
           let P : Option ID → Type 0 = λ o. MatchOption o ⊤ (λ t. eq t e.id ≡ true) in
-          subst P (sym (find-same laws (is_free eq h) (λ t. is_zero (count t)) (reverse (targets_of (last_edges h))) free)) (weaker (find (λ t. is_zero (count t)) (reverse (targets_of (last_edges h)))) found)
+          subst P (sym (find-same laws (is_unblocked eq h) (λ t. is_zero (count t)) (reverse (targets_of (last_edges h))) free)) (weaker (find (λ t. is_zero (count t)) (reverse (targets_of (last_edges h)))) found)
         where
           weaker : (o : Option ID) → MatchOption o ⊤ (λ t. eq t i ≡ true) → MatchOption o ⊤ (λ t. eq t e.id ≡ true)
           weaker None m = tt
@@ -354,10 +354,10 @@ module _ {N ID : Type 0} {eq : ID → ID → Bool} (laws : IsEquivalence eq) whe
       test true o w f e = refl
       test false o w f e = e
 
-      sum : (q : ID) → edges_to eq (Gave e ∷ h) q + count_by (leads_to eq q) e.edges ≡ edges_to eq h q
-      sum q = edges-others eq laws q e.id (held eq h) e (held-unique eq laws h k.told) here
+      sum : (q : ID) → edges_to eq (Yielded e ∷ h) q + count_by (leads_to eq q) e.edges ≡ edges_to eq h q
+      sum q = edges-others eq laws q e.id (pending_nodes eq h) e (pending-unique eq laws h k.told) here
 
-      left : (q : ID) (b : Bool) → eq i q ≡ b → count_of (cond (eq i q) None (count q)) - count_by (leads_to eq q) e.edges ≡ edges_to eq (Gave e ∷ h) q
+      left : (q : ID) (b : Bool) → eq i q ≡ b → count_of (cond (eq i q) None (count q)) - count_by (leads_to eq q) e.edges ≡ edges_to eq (Yielded e ∷ h) q
       left q true is =
           let a : count_of (cond (eq i q) None (count q)) ≡ 0 = ap (λ b. count_of (cond b None (count q))) is in
           let b : edges_to eq h q ≡ 0 = sym (k.counts q) ∙ ap count_of (sym (alike i q is)) ∙ zero-count (count i) zero in
@@ -390,7 +390,7 @@ module _ {N ID : Type 0} {eq : ID → ID → Bool} (laws : IsEquivalence eq) whe
 
       target_known : (q : ID) → 0 < count_by (leads_to eq q) e.edges → is_some (more q) ≡ true
       target_known q pos =
-          let below = edges-of_found eq q (λ f. eq f.id e.id) (held eq h) e here in
+          let below = edges-of_found eq q (λ f. eq f.id e.id) (pending_nodes eq h) e here in
           let counted : 0 < count_of (count q) = let c = k.counts q in omega (arith, pos, below, c) in
           known q ∙ cases (eq i q) refl counted
         where
@@ -422,10 +422,10 @@ none-free eq h node_at count ids heads no_ids no_heads k i known zero =
 
 -- an id that is counted and not pending is required
 pub unread-wanted : {N ID : Type 0} (eq : ID → ID → Bool) (h : History N ID) (node_at : ID → Option (N × List (GraphEdge ID))) (count : ID → Option ℕ) (ids heads : List ID) (i : ID)
-    → is_zero (count i) ≡ true → node_at i ≡ None → KeepsHistory eq h node_at count ids heads → (is_wanted eq h i ≡ true) × (held_at eq h i ≡ None)
+    → is_zero (count i) ≡ true → node_at i ≡ None → KeepsHistory eq h node_at count ids heads → (is_required eq h i ≡ true) × (pending_at eq h i ≡ None)
 unread-wanted eq h node_at count ids heads i zero absent k =
-    let none : held_at eq h i ≡ None = none-mapped item_of (held_at eq h i) (sym (k.nodes i) ∙ absent) in
-    (⊎_elim (λ a. a) (λ a. absurd (true≢false (sym a ∙ ap is_some none))) (or_cases (is_wanted eq h i) (is_some (held_at eq h i)) (sym (k.known i) ∙ zero-some (count i) zero)), none)
+    let none : pending_at eq h i ≡ None = none-mapped item_of (pending_at eq h i) (sym (k.nodes i) ∙ absent) in
+    (⊎_elim (λ a. a) (λ a. absurd (true≢false (sym a ∙ ap is_some none))) (or_cases (is_required eq h i) (is_some (pending_at eq h i)) (sym (k.known i) ∙ zero-some (count i) zero)), none)
 
 -- a list of heads grows, and so do its members
 pub listed-more : {ID : Type 0} (eq : ID → ID → Bool) (ids heads more : List ID) (i : ID) → (has_id eq heads i ≡ true → has_id eq more i ≡ true) → is_listed eq ids heads i ≡ true → is_listed eq ids more i ≡ true
@@ -453,10 +453,10 @@ no-entries : {A B : Type 0} (es : List (A × B)) → length es ≡ 0 → es ≡ 
 no-entries [] e = refl
 no-entries (x ∷ es) e = cc
 
-module _ {N ID : Type 0} {eq : ID → ID → Bool} (laws : IsEquivalence eq) (h : History N ID) (s : HeldNodes N ID) (k : Keeps eq h s) where
+module _ {N ID : Type 0} {eq : ID → ID → Bool} (laws : IsEquivalence eq) (h : History N ID) (s : PendingNodes N ID) (k : Keeps eq h s) where
   -- if the map is empty, nothing is pending
-  pub nothing-held : hash_map_len s.nodes ≡ 0 → held eq h ≡ []
-  nothing-held none = go (held eq h) (λ i. none-mapped item_of (find (λ e. eq e.id i) (held eq h)) (sym (k.history.nodes i) ∙ ap (λ es. option_map listed_item (lookup (eq i) es)) (no-entries s.nodes.entries none)))
+  pub nothing-pending : hash_map_len s.nodes ≡ 0 → pending_nodes eq h ≡ []
+  nothing-pending none = go (pending_nodes eq h) (λ i. none-mapped item_of (find (λ e. eq e.id i) (pending_nodes eq h)) (sym (k.history.nodes i) ∙ ap (λ es. option_map listed_item (lookup (eq i) es)) (no-entries s.nodes.entries none)))
     where
       go : (es : List (Entry N ID)) → ((i : ID) → find (λ e. eq e.id i) es ≡ None) → es ≡ []
       go [] f = refl
@@ -466,7 +466,7 @@ module _ {N ID : Type 0} {eq : ID → ID → Bool} (laws : IsEquivalence eq) (h 
           differ d = cc
 
   -- if nothing is pending, the map is empty
-  pub nothing-kept : held eq h ≡ [] → hash_map_len s.nodes ≡ 0
+  pub nothing-kept : pending_nodes eq h ≡ [] → hash_map_len s.nodes ≡ 0
   nothing-kept none = go s.nodes.entries (λ i. none-mapped listed_item (lookup (eq i) s.nodes.entries) (k.history.nodes i ∙ ap (λ (es : List (Entry N ID)). option_map item_of (find (λ e. eq e.id i) es)) none))
     where
       go : (es : List (ID × (N × Vec (GraphEdge ID) Global))) → ((i : ID) → lookup (eq i) es ≡ None) → length es ≡ 0

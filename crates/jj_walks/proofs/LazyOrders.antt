@@ -2,7 +2,7 @@
 use Rattle.std.proofs.Common.{◌≡◌, ℕ, zero, suc, List, [], ◌∷◌, ◌++◌, refl, sym, ◌∙◌, ap, subst, inl, inr, ◌⊎◌, ⊎_elim, append_assoc, eqb}
 use Rattle.std.specs.List.{Contains, IsDistinct}
 use Rattle.std.proofs.lemmas.List.Elements.{Contains-append_left, Contains-append_right, Contains-append_cases}
-use Rattle.jj_walks.specs.Chunks.{IsStretch, IsBegun, LeadsOn, LeadsForward}
+use Rattle.jj_walks.specs.Chunks.{IsChunkOfAnyGraph, IsOrderPrefix, ContinuesFrom, LeadsForward}
 use Rattle.jj_dag.specs.Graph.{Graph, HasEdge, IsWalkOfLength, Reaches, StrictlyReaches, ReachedFrom, ReachesCycle, IsAcyclicFrom, IsTopologicalOrder}
 use Rattle.jj_dag.proofs.Reaching.{Contains-split, Contains-reached, Reaches-trans, edge_then_Reaches}
 use Rattle.jj_dag.proofs.ReadyOrders.{here, at_split, twice}
@@ -34,7 +34,7 @@ once_alone xs front back a once e h =
 
 -- ---- the beginning
 
-pub begun_none : (g : Graph) (starts : List ℕ) → IsBegun g starts []
+pub begun_none : (g : Graph) (starts : List ℕ) → IsOrderPrefix g starts []
 begun_none g starts = record {
   reached = λ a h. absurd (nothing a h);
   repeated = λ front back a e h. absurd (empty front back a e);
@@ -44,7 +44,7 @@ begun_none g starts = record {
     empty [] back a e = cc
     empty (f ∷ front) back a e = cc
 
-pub leads_none : (g : Graph) (starts : List ℕ) → LeadsOn g starts [] starts
+pub leads_none : (g : Graph) (starts : List ℕ) → ContinuesFrom g starts [] starts
 leads_none g starts = record {
   starts_met = λ a h. inr h;
   left_reached = λ a h. (a, h, (0, refl));
@@ -54,8 +54,8 @@ leads_none g starts = record {
 
 -- ---- one more chunk
 
-pub begun_more : (g : Graph) (starts order left chunk : List ℕ) → IsBegun g starts order → LeadsOn g starts order left → IsDistinct eqb chunk
-    → ((a : ℕ) → Contains chunk a → ReachedFrom g left a) → IsBegun g starts (order ++ chunk)
+pub begun_more : (g : Graph) (starts order left chunk : List ℕ) → IsOrderPrefix g starts order → ContinuesFrom g starts order left → IsDistinct eqb chunk
+    → ((a : ℕ) → Contains chunk a → ReachedFrom g left a) → IsOrderPrefix g starts (order ++ chunk)
 begun_more g starts order left chunk begun leads once reached = record {
   reached = λ a h. ⊎_elim (λ l. begun.reached a l) (λ r. from_left a (reached a r)) (Contains-append_cases order chunk a h);
   repeated = λ front back a e h. elim (split_append order chunk front back a e) [
@@ -72,7 +72,7 @@ begun_more g starts order left chunk begun leads once reached = record {
     from_left : (a : ℕ) → ReachedFrom g left a → ReachedFrom g starts a
     from_left a (s, at, (n, p)) = let first = leads.left_reached s at in (first.0, first.1, Reaches-trans g first.0 s a first.2.0 first.2.1 (n, p))
 
-pub leads_more : (g : Graph) (starts order left chunk left2 : List ℕ) → LeadsOn g starts order left → IsStretch g left chunk left2 → LeadsOn g starts (order ++ chunk) left2
+pub leads_more : (g : Graph) (starts order left chunk left2 : List ℕ) → ContinuesFrom g starts order left → IsChunkOfAnyGraph g left chunk left2 → ContinuesFrom g starts (order ++ chunk) left2
 leads_more g starts order left chunk left2 leads stretch = record {
   starts_met = λ a h. ⊎_elim (λ l. inl (Contains-append_left order chunk a l)) (λ r. inl (Contains-append_right order chunk a (stretch.has_starts a r))) (leads.starts_met a h);
   left_reached = λ a h.
@@ -90,7 +90,7 @@ leads_more g starts order left chunk left2 leads stretch = record {
 }
 
 -- a chunk of one node leaves its neighbours
-pub one_stretch : (g : Graph) (a : ℕ) → IsStretch g (a ∷ []) (a ∷ []) (g a)
+pub one_stretch : (g : Graph) (a : ℕ) → IsChunkOfAnyGraph g (a ∷ []) (a ∷ []) (g a)
 one_stretch g a = record {
   once = one_distinct a;
   has_starts = λ b h. h;
@@ -111,7 +111,7 @@ behind g order forward (suc n) front back a b e (c, edge, p) =
     let deeper : Contains s.1 b = behind g order forward n (front ++ a ∷ s.0) s.1 c b whole p in
     subst (λ (l : List ℕ). Contains l b) (sym s.2) (Contains-append_right s.0 (c ∷ s.1) b (Contains-append_right (c ∷ []) s.1 b deeper))
 
-pub ended_all : (g : Graph) (starts order : List ℕ) → LeadsOn g starts order [] → (a : ℕ) → ReachedFrom g starts a → Contains order a
+pub ended_all : (g : Graph) (starts order : List ℕ) → ContinuesFrom g starts order [] → (a : ℕ) → ReachedFrom g starts a → Contains order a
 ended_all g starts order leads a (s, at, (m, p)) =
     let first : Contains order s = ⊎_elim (λ l. l) (λ r. absurd (nothing s r)) (leads.starts_met s at) in
     Contains-reached g order closed m s a first p
@@ -122,12 +122,12 @@ ended_all g starts order leads a (s, at, (m, p)) =
         subst (λ (l : List ℕ). Contains l c) (sym split.2)
         (Contains-append_right split.0 (b ∷ split.1) c (Contains-append_right (b ∷ []) split.1 c (behind g order leads.forward 0 split.0 split.1 b c split.2 (c, edge, refl))))
 
-pub ended_acyclic : (g : Graph) (starts order : List ℕ) → LeadsOn g starts order [] → IsDistinct eqb order → IsAcyclicFrom g starts
+pub ended_acyclic : (g : Graph) (starts order : List ℕ) → ContinuesFrom g starts order [] → IsDistinct eqb order → IsAcyclicFrom g starts
 ended_acyclic g starts order leads once a (s, at, (m, p)) (n, path) =
     let split = Contains-split order a (ended_all g starts order leads a (s, at, (m, p))) in
     twice order split.0 split.1 a once split.2 (behind g order leads.forward n split.0 split.1 a a split.2 path)
 
-pub ended_order : (g : Graph) (starts order : List ℕ) → IsBegun g starts order → LeadsOn g starts order [] → IsDistinct eqb order → IsTopologicalOrder g starts order
+pub ended_order : (g : Graph) (starts order : List ℕ) → IsOrderPrefix g starts order → ContinuesFrom g starts order [] → IsDistinct eqb order → IsTopologicalOrder g starts order
 ended_order g starts order begun leads once = record {
   all = λ a. (λ h. begun.reached a h, λ r. ended_all g starts order leads a r);
   once = once;
@@ -137,7 +137,7 @@ ended_order g starts order begun leads once = record {
 }
 
 -- a repeated node is on a cycle
-pub again_cycle : (g : Graph) (starts order front back : List ℕ) (a : ℕ) → IsBegun g starts order → order ≡ front ++ a ∷ back → Contains front a → ReachedFrom g starts a × ReachesCycle g starts
+pub again_cycle : (g : Graph) (starts order front back : List ℕ) (a : ℕ) → IsOrderPrefix g starts order → order ≡ front ++ a ∷ back → Contains front a → ReachedFrom g starts a × ReachesCycle g starts
 again_cycle g starts order front back a begun e h =
     let reached = begun.reached a (subst (λ (l : List ℕ). Contains l a) (sym e) (at_split front a back)) in
     (reached, (a, (reached, begun.repeated front back a e h)))

@@ -8,12 +8,12 @@ use Rattle.std.specs.declared.iter.Iterator as iter
 use denote.Ref.{Bor}
 use Rattle.jj_walks.specs.declared.topo_order_lazy.TopoOrderReverseLazy.{TopoOrderReverseLazy}
 use Rattle.jj_dag.specs.declared.walk_error.WalkError.{WalkError}
-use Rattle.jj_dag.specs.Asking.{graph_at}
+use Rattle.jj_dag.specs.Expanding.{graph_at}
 use Rattle.jj_dag.specs.ClosureGraph.{InEachModel}
 use Rattle.jj_dag.specs.Errors.{IfNode}
 use Rattle.jj_dag.specs.Graph.{IsAcyclicFrom, IsTopologicalOrder}
 use Rattle.jj_walks.specs.LazySteps.{IsCause, IsLeftOf, Steps}
-use Rattle.jj_walks.specs.NextChunk.{list_of_nodes}
+use Rattle.jj_walks.specs.NodeLists.{list_of_nodes}
 
 module _ {T ID E F N C U J : Type 0} (eq : ID → ID → Bool) (ids : Shared F (Bor T × Unit {0}) (Result ID AllocError)) (lists : Mut N (Bor T × Unit {0}) U) (value : into.Ghosts U (Result T E) J) (items : iter.Ghosts J (Result T E))
     (cycles : Mut C (T × Unit {0}) E) {id_fn : F} {neighbors_fn : N} {on_cycle : C} {starts : List T} where

@@ -9,9 +9,9 @@ use Rattle.std.proofs.lemmas.List.{map_push}
 use Rattle.std.proofs.lemmas.List.Elements.{Contains-append_left, Contains-push, Contains-push_cases}
 use Rattle.jj_dag.specs.Collecting.{IsCollecting}
 use Rattle.jj_dag.specs.Graph.{HasEdge}
-use Rattle.jj_dag.specs.Failing.{FailingGraph, sound}
+use Rattle.jj_dag.specs.FallibleGraphs.{FallibleGraph, sound}
 use Rattle.jj_walks.specs.LookingAhead.{copies, IsLooking, HasLooked}
-use Rattle.jj_dag.specs.Walk.{Numbered, AreNodes}
+use Rattle.jj_dag.specs.Walk.{Model, AreNodes}
 use Rattle.jj_dag.proofs.Collecting.{at_place, collecting_starts, collecting_passed, collecting_entered}
 use Rattle.jj_dag.proofs.Plain.{at_most_one, nothing}
 
@@ -37,7 +37,7 @@ copies_short node (x ∷ xs) a =
     let one : cond (node x == a) 1 0 ≤ 1 = at_most_one (node x == a) in
     omega arith
 
-module _ {T ID K : Type 0} (w : Numbered T ID) (items : FailingGraph K) where
+module _ {T ID K : Type 0} (w : Model T ID) (items : FallibleGraph K) where
   -- the pending nodes may be permuted
   collecting_permuted : {starts : List ℕ} {find : ID → Option ℕ} {given : List T} {ids : List (List ID)} (work work2 : List T) → IsPermutation work work2
       → IsCollecting w items starts find work given ids → IsCollecting w items starts find work2 given ids

@@ -1,7 +1,7 @@
 -- Steps of a depth-first search.
 use Rattle.std.proofs.Common.{◌≡◌, ℕ, Bool, true, true≢false, Result, Ok, Err, Option, None, Some, IfNone, IfSome, IfOk, IfErr, IsNone, List, [], ◌∷◌, ◌++◌, map, reverse, refl, sym, ◌∙◌, ap, subst, append_assoc, append-nil, ⊎_elim}
 use Rattle.std.specs.Fn.{Shared, Mut, FnReturns}
-use Rattle.std.specs.Iterator.{Count}
+use Rattle.std.specs.Iterator.{Count, IsFiniteIterable}
 use Rattle.std.specs.HashSet.{contains}
 use Rattle.std.specs.List.{Contains}
 use Rattle.std.specs.declared.alloc.AllocError.{AllocError}
@@ -12,27 +12,28 @@ use Rattle.jj_walks.specs.declared.depth_first.DepthFirst.{DepthFirst}
 use Rattle.jj_walks.specs.declared.depth_first.DepthFirstOk.{DepthFirstOk}
 use Rattle.jj_dag.specs.declared.walk_error.WalkError.{WalkError}
 use Rattle.jj_dag.specs.declared.walk_error.WalkError.TheVariants.{Memory, Node}
-use Rattle.jj_dag.specs.ClosureGraph.{MayReturn, ReturnsId}
+use Rattle.jj_dag.specs.ClosureGraph.{IsWalkable, MayReturn, ReturnsId}
 use Rattle.jj_dag.specs.Errors.{IfMemory, IfNode}
-use Rattle.jj_dag.specs.Failing.{sound_items}
+use Rattle.jj_dag.specs.FallibleGraphs.{ok_items}
 use Rattle.jj_dag.specs.Graph.{IsPreorder}
-use Rattle.jj_dag.specs.Walk.{AreNodes, DrainsTo, IsWalking, Numbered}
+use Rattle.jj_dag.specs.Walk.{AreNodes, DrainsTo, IsWalking, Model}
 use Rattle.jj_walks.specs.NextItem.{Enters, Fails, IsNode, Passes, WasVisited}
-use Rattle.jj_walks.specs.Answers.{Answer, ImplementsItems, IsRun, answers_graph, item_of}
+use Rattle.jj_walks.specs.Expansions.{Expansion, ImplementsItems, IsRun, expansions_graph, item_of}
 use Rattle.jj_walks.specs.DfsSteps.{IsLeftOf}
-use Rattle.jj_walks.specs.DfsOkSteps.{CanWalkItems, IsLeftOf as IsLeftOfItems, IsWalkingAnswers, Steps}
-use Rattle.jj_dag.proofs.ClosureGraphs.{implements_after, may_return_says}
+use Rattle.jj_walks.specs.DfsOkSteps.{IsLeftOf as IsLeftOfItems, IsWalkingExpansions, Steps}
+use Rattle.jj_dag.specs.ClosureGraph.MayReturn.{at_once}
+use Rattle.jj_dag.proofs.ClosureGraphs.{implements_after, may_return_says, may_return_later}
 use Rattle.jj_dag.proofs.Walking.{is_node_on_top, walked, walking_entered, walking_passed}
-use Rattle.jj_dag.proofs.FailingWalks.{Contains-from_sound, sound_items-append, walked_items}
-use Rattle.jj_walks.specs.Answers.AnswersLead.{one_more}
+use Rattle.jj_dag.proofs.FailingWalks.{Contains-from_sound, ok_items-append, walked_items}
+use Rattle.jj_walks.specs.Expansions.ExpansionsLead.{one_more}
 use Rattle.jj_walks.proofs.Chains.{chain_leads}
-use Rattle.jj_walks.proofs.Answering.{answers_entered, answers_failed, answers_passed, in_map, in_reverse, numbered_back, on_top_is_node}
+use Rattle.jj_walks.proofs.Expanding.{answers_entered, answers_failed, answers_passed, in_map, in_reverse, numbered_back, on_top_is_node}
 
 -- ---- infallible items
 
 module _ {T E ID F P N U S : Type 0} (finds : Shared P (T × Unit {0}) (Result T E)) (ids : Shared F (Bor T × Unit {0}) (Result ID AllocError)) (lists : Mut N (Bor T × Unit {0}) U)
     (eq : ID → ID → Bool) (node_of : P) (itself : (item node : T) → FnReturns finds node_of (item, tt) (Ok node) → item ≡ node)
-    (w : Numbered T ID) (becomes : U → S → Type 0) (steps : S → Option T → S → Type 0) (starts : List ℕ) (given : List T) (s : DepthFirst T ID F N)
+    (w : Model T ID) (becomes : U → S → Type 0) (steps : S → Option T → S → Type 0) (starts : List ℕ) (given : List T) (s : DepthFirst T ID F N)
     (left : IsLeftOf ids lists w eq becomes steps starts given s) where
   -- the id of the node on top of the stack
   id_on_top : (work rest : List T) (item node : T) (i : ID) → IsWalking w starts (contains eq s.visited) work given → work ≡ rest ++ item ∷ []
@@ -80,17 +81,17 @@ module _ {T E ID F P N U S : Type 0} (finds : Shared P (Result T E × Unit {0}) 
   module _ (id_fn : F) (neighbors_fn : N) (starts given : List (Result T E))
       (left : IsLeftOfItems ids lists eq becomes steps id_fn neighbors_fn starts given s) where
     -- each list is that of an emitted node
-    was_given : (x : Answer T E) → Contains left.answers x → Contains given (Ok x.node)
+    was_given : (x : Expansion T E) → Contains left.expansions x → Contains given (Ok x.node)
     was_given x h =
-        let nodes : List T = map (λ (a : Answer T E). a.node) left.answers in
-        let turned : Contains (reverse nodes) x.node = in_reverse nodes x.node (in_map (λ (a : Answer T E). a.node) left.answers x h) in
-        Contains-from_sound given x.node (subst (λ (l : List T). Contains l x.node) left.asked turned)
+        let nodes : List T = map (λ (a : Expansion T E). a.node) left.expansions in
+        let turned : Contains (reverse nodes) x.node = in_reverse nodes x.node (in_map (λ (a : Expansion T E). a.node) left.expansions x h) in
+        Contains-from_sound given x.node (subst (λ (l : List T). Contains l x.node) left.expanded turned)
 
-    module _ (g : Numbered T ID) (implemented : ImplementsItems g eq ids lists (DrainsTo becomes steps) id_fn neighbors_fn)
-        (start_nodes : AreNodes g (sound_items (map (item_of g.node) starts))) where
+    module _ (g : Model T ID) (implemented : ImplementsItems g eq ids lists (DrainsTo becomes steps) id_fn neighbors_fn)
+        (start_nodes : AreNodes g (ok_items (map (item_of g.node) starts))) where
       -- the pending items of the search
       abbrev Waits : List (Result T E) → Type 0
-      Waits work = IsWalkingAnswers g (contains eq s.visited) left.answers starts work given
+      Waits work = IsWalkingExpansions g (contains eq s.visited) left.expansions starts work given
 
       -- the top of the stack is the item that was popped
       top_is : (rest : List (Result T E)) (item found : Result T E) → Waits (rest ++ item ∷ []) → FnReturns finds node_of (item, tt) found → Waits (rest ++ found ∷ [])
@@ -115,7 +116,7 @@ module _ {T E ID F P N U S : Type 0} (finds : Shared P (Result T E × Unit {0}) 
 
       -- the neighbors returned for a node are nodes
       answered_nodes : (node : T) (answer : U) (below : List (Result T E)) → MayReturn lists neighbors_fn node answer → DrainsTo becomes steps answer below → g.is_node (g.node node) ≡ true
-          → AreNodes g (sound_items (map (item_of g.node) below))
+          → AreNodes g (ok_items (map (item_of g.node) below))
       answered_nodes node answer below may listed here a h =
           let says = may_return_says lists (λ (y : T) (r : U). (xs : List (Result T E)) (x : T) → g.is_node (g.node y) ≡ true → DrainsTo becomes steps r xs → Contains xs (Ok x)
           → Contains (g.graph (g.node y)) (g.node x)) implemented.partial may in
@@ -127,18 +128,18 @@ module _ {T E ID F P N U S : Type 0} (finds : Shared P (Result T E × Unit {0}) 
         → Enters finds ids eq node_of s.id_fn s.visited lists becomes steps s.work.items s.neighbors_fn node t.work.items t.visited t.neighbors_fn
         → IsLeftOfItems ids lists eq becomes steps id_fn neighbors_fn starts (given ++ Ok node ∷ []) t
     item_given node t kept did =
-        let new : Answer T E = record { node = node; items = did.neighbors } in
-        let may : MayReturn lists neighbors_fn node did.answer = (s.neighbors_fn, t.neighbors_fn, chain_leads lists (DrainsTo becomes steps) neighbors_fn left.in_turn, did.called) in
-        let nodes : List T = map (λ (a : Answer T E). a.node) left.answers in
+        let new : Expansion T E = record { node = node; items = did.neighbors } in
+        let may : MayReturn lists neighbors_fn node did.answer = may_return_later (chain_leads lists (DrainsTo becomes steps) neighbors_fn left.in_turn) (at_once did.called) in
+        let nodes : List T = map (λ (a : Expansion T E). a.node) left.expansions in
         record {
           same_ids = kept ∙ left.same_ids;
-          answers = new ∷ left.answers;
+          expansions = new ∷ left.expansions;
           in_turn = one_more left.in_turn did.called did.listed;
-          asked = reverse-append (node ∷ []) nodes ∙ ap (λ (l : List T). l ++ node ∷ []) left.asked ∙ sym (sound_items-append given (Ok node ∷ []));
+          expanded = reverse-append (node ∷ []) nodes ∙ ap (λ (l : List T). l ++ node ∷ []) left.expanded ∙ sym (ok_items-append given (Ok node ∷ []));
           walks = λ g implemented start_nodes.
               let before = top_is g implemented start_nodes did.rest did.item (Ok node) (items_left_after g implemented start_nodes (did.rest ++ did.item ∷ []) did.passes) did.is_node.0 in
               let here = on_top_is_node g did.rest node before refl in
-              subst (λ (l : List (Result T E)). IsWalkingAnswers g (contains eq t.visited) (new ∷ left.answers) starts l (given ++ Ok node ∷ [])) (sym did.waits)
+              subst (λ (l : List (Result T E)). IsWalkingExpansions g (contains eq t.visited) (new ∷ left.expansions) starts l (given ++ Ok node ∷ [])) (sym did.waits)
               (answers_entered g eq (contains eq t.visited) did.rest node did.id did.neighbors (answered_nodes g implemented start_nodes node did.answer did.neighbors may did.listed here) implemented.complete.apart was_given
               before refl (item_id_on_top g implemented start_nodes did.rest node did.id before did.is_node.1) (sym did.fresh) did.updates.0);
         }
@@ -149,28 +150,28 @@ module _ {T E ID F P N U S : Type 0} (finds : Shared P (Result T E × Unit {0}) 
         → IsLeftOfItems ids lists eq becomes steps id_fn neighbors_fn starts (given ++ Err error ∷ []) t
     failed_given error t kept same_visited same_neighbors did = record {
       same_ids = kept ∙ left.same_ids;
-      answers = left.answers;
+      expansions = left.expansions;
       in_turn = rw same_neighbors left.in_turn;
-      asked = left.asked ∙ sym (sound_items-append given (Err error ∷ []) ∙ append-nil (sound_items given));
+      expanded = left.expanded ∙ sym (ok_items-append given (Err error ∷ []) ∙ append-nil (ok_items given));
       walks = λ g implemented start_nodes.
           let before = top_is g implemented start_nodes t.work.items did.item (Err error) (items_left_after g implemented start_nodes (t.work.items ++ did.item ∷ []) did.passes) did.failed in
-          subst (λ v. IsWalkingAnswers g (contains eq v) left.answers starts t.work.items (given ++ Err error ∷ [])) (sym same_visited) (answers_failed g t.work.items error before refl);
+          subst (λ v. IsWalkingExpansions g (contains eq v) left.expansions starts t.work.items (given ++ Err error ∷ [])) (sym same_visited) (answers_failed g t.work.items error before refl);
     }
 
     -- if only visited nodes are pending, the search is complete
     all_items_given : Passes finds ids eq node_of s.id_fn s.visited s.work.items [] → IsRun eq ids lists (DrainsTo becomes steps) id_fn neighbors_fn starts given
     all_items_given k = record {
-      answers = left.answers;
+      expansions = left.expansions;
       last = s.neighbors_fn;
       in_turn = left.in_turn;
-      asked = left.asked;
+      expanded = left.expanded;
       preorder = λ g implemented start_nodes.
           let whole = items_left_after g implemented start_nodes [] k in
-          (whole.has_answers, walked_items g (answers_graph g.node left.answers) (whole.walking _ whole.has_answers) refl);
+          (whole.has_answers, walked_items g (expansions_graph g.node left.expansions) (whole.walking _ whole.has_answers) refl);
     }
 
   -- one call of `next`, which returns the item of the step
-  pub step_of_items : (t : DepthFirstOk T ID E F N) (can : S → Type 0) (count : S → Count) (r : Option (Result T (WalkError E))) → t.id_fn ≡ s.id_fn → CanWalkItems ids lists becomes can count t
+  pub step_of_items : (t : DepthFirstOk T ID E F N) (can : S → Type 0) (count : S → Count) (r : Option (Result T (WalkError E))) → t.id_fn ≡ s.id_fn → IsWalkable ids lists (IsFiniteIterable becomes can count) t.id_fn t.neighbors_fn
       → (s.work.items ≡ [] → IsNone r)
       → IfNone r (Passes finds ids eq node_of s.id_fn s.visited s.work.items [] × (t.work.items ≡ []) × (t.visited ≡ s.visited) × (t.neighbors_fn ≡ s.neighbors_fn))
       → IfSome r (λ item. IfOk item (λ node. Enters finds ids eq node_of s.id_fn s.visited lists becomes steps s.work.items s.neighbors_fn node t.work.items t.visited t.neighbors_fn))

@@ -6,7 +6,7 @@ use Rattle.std.specs.List.{AllZip, list_any}
 use Rattle.std.specs.Global.{Global}
 use Rattle.std.specs.declared.vec.Vec.{Vec}
 use Rattle.jj_walks.specs.declared.graph.GraphEdge.{GraphEdge}
-use Rattle.jj_walks.specs.Reversed.{ShownGraph, shown_graph, edge_to, turned_edges, incoming_edges, with_incoming, reversed_graph, LeadsToId, ShowsById}
+use Rattle.jj_walks.specs.Reversed.{ShownGraph, shown_graph, edge_to, reversed_edges, incoming_edges, with_incoming, reversed_graph, LeadsToId, ShowsById}
 
 AllZip-append : {A B : Type 0} (R : A → B → Type 0) (xs more : List A) (ys last : List B) → AllZip R xs ys → AllZip R more last → AllZip R (xs ++ more) (ys ++ last)
 AllZip-append R [] more [] last k h = h
@@ -16,20 +16,20 @@ AllZip-append R (x ∷ xs) more (y ∷ ys) last k h = (k.0, AllZip-append R xs m
 
 module _ {N ID : Type 0} (eq : ID → ID → Bool) where
   turned_edges-push : (q : ID) (node : N) (edges : List (GraphEdge ID)) (edge : GraphEdge ID)
-      → turned_edges eq q node (edges ++ edge ∷ []) ≡ turned_edges eq q node edges ++ cond (eq edge.target q) (edge_to node edge ∷ []) []
+      → reversed_edges eq q node (edges ++ edge ∷ []) ≡ reversed_edges eq q node edges ++ cond (eq edge.target q) (edge_to node edge ∷ []) []
   turned_edges-push q node edges edge =
-      ap (map (edge_to node)) (filter-append (λ e. eq e.target q) edges (edge ∷ [])) ∙ map-append (edge_to node) _ _ ∙ ap (λ l. turned_edges eq q node edges ++ l) (one (eq edge.target q))
+      ap (map (edge_to node)) (filter-append (λ e. eq e.target q) edges (edge ∷ [])) ∙ map-append (edge_to node) _ _ ∙ ap (λ l. reversed_edges eq q node edges ++ l) (one (eq edge.target q))
     where
       one : (b : Bool) → map (edge_to node) (cond b (edge ∷ []) []) ≡ cond b (edge_to node edge ∷ []) []
       one true = refl
       one false = refl
 
   incoming_edges-push : (q : ID) (graph : ShownGraph N ID) (node : N) (edges : List (GraphEdge ID))
-      → incoming_edges eq q (graph ++ (node, edges) ∷ []) ≡ incoming_edges eq q graph ++ turned_edges eq q node edges
-  incoming_edges-push q [] node edges = append-nil (turned_edges eq q node edges)
+      → incoming_edges eq q (graph ++ (node, edges) ∷ []) ≡ incoming_edges eq q graph ++ reversed_edges eq q node edges
+  incoming_edges-push q [] node edges = append-nil (reversed_edges eq q node edges)
   incoming_edges-push q (entry ∷ graph) node edges =
-      ap (λ l. turned_edges eq q entry.0 entry.1 ++ l) (incoming_edges-push q graph node edges)
-      ∙ sym (append_assoc (turned_edges eq q entry.0 entry.1) (incoming_edges eq q graph) (turned_edges eq q node edges))
+      ap (λ l. reversed_edges eq q entry.0 entry.1 ++ l) (incoming_edges-push q graph node edges)
+      ∙ sym (append_assoc (reversed_edges eq q entry.0 entry.1) (incoming_edges eq q graph) (reversed_edges eq q node edges))
 
   module _ (clone : ID → ID → Type 0) (id : N → ID) where
     abbrev Leads : List (GraphEdge N) → List (GraphEdge ID) → Type 0
@@ -38,25 +38,25 @@ module _ {N ID : Type 0} (eq : ID → ID → Bool) where
     -- one more edge of a node is reversed
     pub leads_turned : (before : List (GraphEdge N)) (edges : List (GraphEdge ID)) (edge : GraphEdge ID) (node : N) (source q : ID) (old new : List (GraphEdge ID)) → clone (id node) source
         → new ≡ cond (eq edge.target q) (old ++ record { target = source; edge_type = edge.edge_type } ∷ []) old
-        → Leads (before ++ turned_edges eq q node edges) old → Leads (before ++ turned_edges eq q node (edges ++ edge ∷ [])) new
+        → Leads (before ++ reversed_edges eq q node edges) old → Leads (before ++ reversed_edges eq q node (edges ++ edge ∷ [])) new
     leads_turned before edges edge node source q old new copy puts k =
         subst (λ (l : List (GraphEdge N)). Leads (before ++ l) new) (sym (turned_edges-push q node edges edge))
-        (subst (λ (l : List (GraphEdge ID)). Leads (before ++ (turned_edges eq q node edges ++ cond (eq edge.target q) (edge_to node edge ∷ []) [])) l) (sym puts) (step (eq edge.target q)))
+        (subst (λ (l : List (GraphEdge ID)). Leads (before ++ (reversed_edges eq q node edges ++ cond (eq edge.target q) (edge_to node edge ∷ []) [])) l) (sym puts) (step (eq edge.target q)))
       where
-        step : (b : Bool) → Leads (before ++ (turned_edges eq q node edges ++ cond b (edge_to node edge ∷ []) [])) (cond b (old ++ record { target = source; edge_type = edge.edge_type } ∷ []) old)
-        step true = subst (λ (l : List (GraphEdge N)). Leads l (old ++ record { target = source; edge_type = edge.edge_type } ∷ [])) (append_assoc before (turned_edges eq q node edges) (edge_to node edge ∷ []))
-            (AllZip-append (LeadsToId clone id) (before ++ turned_edges eq q node edges) (edge_to node edge ∷ []) old (record { target = source; edge_type = edge.edge_type } ∷ []) k ((copy, refl), tt))
-        step false = subst (λ (l : List (GraphEdge N)). Leads (before ++ l) old) (sym (append-nil (turned_edges eq q node edges))) k
+        step : (b : Bool) → Leads (before ++ (reversed_edges eq q node edges ++ cond b (edge_to node edge ∷ []) [])) (cond b (old ++ record { target = source; edge_type = edge.edge_type } ∷ []) old)
+        step true = subst (λ (l : List (GraphEdge N)). Leads l (old ++ record { target = source; edge_type = edge.edge_type } ∷ [])) (append_assoc before (reversed_edges eq q node edges) (edge_to node edge ∷ []))
+            (AllZip-append (LeadsToId clone id) (before ++ reversed_edges eq q node edges) (edge_to node edge ∷ []) old (record { target = source; edge_type = edge.edge_type } ∷ []) k ((copy, refl), tt))
+        step false = subst (λ (l : List (GraphEdge N)). Leads (before ++ l) old) (sym (append-nil (reversed_edges eq q node edges))) k
 
     pub leads_nothing : (before : List (GraphEdge N)) (given : List (GraphEdge ID)) → Leads before given → Leads (before ++ []) given
     leads_nothing before given k = subst (λ (l : List (GraphEdge N)). Leads l given) (sym (append-nil before)) k
 
     -- all edges of a node are reversed
     pub leads_entered : (nodes : List (N × Vec (GraphEdge ID) Global)) (entry : N × Vec (GraphEdge ID) Global) (edges given : List (GraphEdge ID)) (q : ID) → edges ≡ entry.1.items
-        → Leads (incoming_edges eq q (shown_graph nodes) ++ turned_edges eq q entry.0 edges) given → Leads (incoming_edges eq q (shown_graph (nodes ++ entry ∷ []))) given
+        → Leads (incoming_edges eq q (shown_graph nodes) ++ reversed_edges eq q entry.0 edges) given → Leads (incoming_edges eq q (shown_graph (nodes ++ entry ∷ []))) given
     leads_entered nodes entry edges given q same k =
         subst (λ (l : List (GraphEdge N)). Leads l given) (
-        ap (λ l. incoming_edges eq q (shown_graph nodes) ++ turned_edges eq q entry.0 l) same ∙ sym (incoming_edges-push q (shown_graph nodes) entry.0 entry.1.items)
+        ap (λ l. incoming_edges eq q (shown_graph nodes) ++ reversed_edges eq q entry.0 l) same ∙ sym (incoming_edges-push q (shown_graph nodes) entry.0 entry.1.items)
         ∙ ap (incoming_edges eq q) (sym (map-append {B = N × List (GraphEdge ID)} (λ e. (e.0, e.1.items)) nodes (entry ∷ [])))
         ) k
 

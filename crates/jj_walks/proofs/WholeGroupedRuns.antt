@@ -6,15 +6,15 @@ use Rattle.std.specs.Iterator.{Drains, Yields}
 use Rattle.std.specs.List.{AllZip, Contains}
 use Rattle.std.proofs.lemmas.List.{map-append, reverse-append}
 use denote.Ref.{Bor}
-use Rattle.jj_dag.proofs.Asking.{zip-push}
+use Rattle.jj_dag.proofs.Expanding.{zip-push}
 use Rattle.jj_walks.specs.declared.grouped.GroupedGraphError.{GroupedGraphError}
 use Rattle.jj_walks.specs.declared.grouped.GroupedGraphError.TheVariants.{Input, DuplicateId, MissingNode, NotChildFirst, Memory}
 use Rattle.jj_walks.specs.declared.grouped.GroupedNodes.{GroupedNodes}
-use Rattle.jj_walks.specs.Grouped.{Entry, Event, Gave, History, IsHistory, Prioritized, Read, first_wanted, given_nodes, held_at, read_nodes}
+use Rattle.jj_walks.specs.Grouped.{Entry, Event, Yielded, History, IsHistory, Prioritized, Read, first_prioritized, yielded_nodes, pending_at, read_nodes}
 use Rattle.jj_walks.specs.GroupedLaw.{Explains, FailsForCause, IsFailedRun, IsGroupedRun, IsUnread, YieldsGroupedOrders, first_of}
 use Rattle.jj_walks.specs.GroupedOrders.{IsGroupedOrder, IsWhole, PrioritizesFirst, has_node, prioritized_ids}
-use Rattle.jj_walks.specs.GroupedSteps.{GivesOn, IsCause, IsEntryOf, Item, ReadsTo, read_on}
-use Rattle.jj_walks.specs.HeldNodes.{Keeps, item_of, listed_item}
+use Rattle.jj_walks.specs.GroupedSteps.{Steps, IsCause, IsEntryOf, Item, ReadsTo, read_on}
+use Rattle.jj_walks.specs.PendingNodes.{Keeps, item_of, listed_item}
 use Rattle.jj_walks.proofs.GroupedOrders.{grouped-order, none-missing, none-stuck, none-twice}
 use Rattle.jj_walks.proofs.Preorders.{from_reverse}
 
@@ -39,11 +39,11 @@ module _ {N ID : Type 0} where
       read_on-reads es (Read e ∷ h) ∙ sym (append_assoc (reverse es) (e ∷ []) (read_nodes h))
       ∙ ap (λ (l : List (Entry N ID)). l ++ read_nodes h) (sym (reverse-append (e ∷ []) es))
 
-  read_on-gives : (es : List (Entry N ID)) (h : History N ID) → given_nodes (read_on es h) ≡ given_nodes h
+  read_on-gives : (es : List (Entry N ID)) (h : History N ID) → yielded_nodes (read_on es h) ≡ yielded_nodes h
   read_on-gives [] h = refl
   read_on-gives (e ∷ es) h = read_on-gives es (Read e ∷ h)
 
-  read_on-wanted : (es : List (Entry N ID)) (h : History N ID) → first_wanted (read_on es h) ≡ first_wanted h
+  read_on-wanted : (es : List (Entry N ID)) (h : History N ID) → first_prioritized (read_on es h) ≡ first_prioritized h
   read_on-wanted [] h = refl
   read_on-wanted (e ∷ es) h = read_on-wanted es (Read e ∷ h)
 
@@ -56,12 +56,12 @@ module _ {N ID : Type 0} where
   read_on-first (e ∷ es) h k = read_on-first es (Read e ∷ h) k
 
   -- the oldest event prioritized the id
-  oldest-wanted : (h : History N ID) (i : ID) → first_wanted (h ++ Prioritized i ∷ []) ≡ Some i
+  oldest-wanted : (h : History N ID) (i : ID) → first_prioritized (h ++ Prioritized i ∷ []) ≡ Some i
   oldest-wanted [] i = refl
   oldest-wanted (Prioritized j ∷ []) i = refl
   oldest-wanted (Prioritized j ∷ event ∷ h) i = oldest-wanted (event ∷ h) i
   oldest-wanted (Read e ∷ h) i = oldest-wanted h i
-  oldest-wanted (Gave e ∷ h) i = oldest-wanted h i
+  oldest-wanted (Yielded e ∷ h) i = oldest-wanted h i
 
   abbrev prioritized_only : List ID → History N ID
   prioritized_only is = reverse (map (λ i. Prioritized i) is)
@@ -72,11 +72,11 @@ module _ {N ID : Type 0} where
       ap (λ l. read_nodes (l ++ h)) (reverse-append (Prioritized i ∷ []) (map (λ j. Prioritized j) is))
       ∙ ap read_nodes (append_assoc (prioritized_only is) (Prioritized i ∷ []) h) ∙ reads-append is (Prioritized i ∷ h)
 
-  gives-append : (is : List ID) (h : History N ID) → given_nodes (prioritized_only is ++ h) ≡ given_nodes h
+  gives-append : (is : List ID) (h : History N ID) → yielded_nodes (prioritized_only is ++ h) ≡ yielded_nodes h
   gives-append [] h = refl
   gives-append (i ∷ is) h =
-      ap (λ l. given_nodes (l ++ h)) (reverse-append (Prioritized i ∷ []) (map (λ j. Prioritized j) is))
-      ∙ ap given_nodes (append_assoc (prioritized_only is) (Prioritized i ∷ []) h) ∙ gives-append is (Prioritized i ∷ h)
+      ap (λ l. yielded_nodes (l ++ h)) (reverse-append (Prioritized i ∷ []) (map (λ j. Prioritized j) is))
+      ∙ ap yielded_nodes (append_assoc (prioritized_only is) (Prioritized i ∷ []) h) ∙ gives-append is (Prioritized i ∷ h)
 
 no-reads : (N : Type 0) {ID : Type 0} (is : List ID) → read_nodes {N = N} (prioritized_only {N = N} is) ≡ []
 no-reads N is = ap read_nodes (sym (append-nil (prioritized_only {N = N} is))) ∙ reads-append {N = N} is []
@@ -103,14 +103,14 @@ first-append N {ID} (i ∷ is) h none k =
 first-only : (N : Type 0) {ID : Type 0} (is : List ID) → PrioritizesFirst (prioritized_only {N = N} is)
 first-only N {ID} is = subst (λ (l : History N ID). PrioritizesFirst l) (append-nil (prioritized_only {N = N} is)) (first-append N is [] refl tt)
 
-no-gives : (N : Type 0) {ID : Type 0} (is : List ID) → given_nodes {N = N} (prioritized_only {N = N} is) ≡ []
-no-gives N is = ap given_nodes (sym (append-nil (prioritized_only {N = N} is))) ∙ gives-append {N = N} is []
+no-gives : (N : Type 0) {ID : Type 0} (is : List ID) → yielded_nodes {N = N} (prioritized_only {N = N} is) ≡ []
+no-gives N is = ap yielded_nodes (sym (append-nil (prioritized_only {N = N} is))) ∙ gives-append {N = N} is []
 
-first-prioritized : (N : Type 0) {ID : Type 0} (is : List ID) → first_wanted {N = N} (prioritized_only {N = N} is) ≡ first_of is
+first-prioritized : (N : Type 0) {ID : Type 0} (is : List ID) → first_prioritized {N = N} (prioritized_only {N = N} is) ≡ first_of is
 first-prioritized N [] = refl
 first-prioritized N {ID} (i ∷ is) =
     let each : List (Event N ID) = map {B = Event N ID} (λ j. Prioritized j) is in
-    ap first_wanted (reverse-append (Prioritized i ∷ []) each) ∙ oldest-wanted (prioritized_only {N = N} is) i
+    ap first_prioritized (reverse-append (Prioritized i ∷ []) each) ∙ oldest-wanted (prioritized_only {N = N} is) i
 
 -- ---- runs
 
@@ -124,7 +124,7 @@ module _ {N ID S E F : Type 0} (ids : Shared F (Bor N × Unit {0}) (Bor ID)) (eq
     has_ended : s.has_ended ≡ false
     same_as_id : s.graph.as_id ≡ as_id
     h : History N ID
-    keeps : Keeps eq h s.graph.held
+    keeps : Keeps eq h s.graph.pending
     nodes : List (Item N ID)
     read : Yields steps input (map ok nodes) s.graph.input
     entries : List (Entry N ID)
@@ -132,8 +132,8 @@ module _ {N ID S E F : Type 0} (ids : Shared F (Bor N × Unit {0}) (Bor ID)) (eq
     reads : read_nodes h ≡ reverse entries
     order : List (Entry N ID)
     listed : AllZip (λ e x. item_of e ≡ listed_item x) order yielded
-    gives : given_nodes h ≡ reverse order
-    wanted : first_wanted h ≡ first_of prioritized
+    gives : yielded_nodes h ≡ reverse order
+    wanted : first_prioritized h ≡ first_of prioritized
     ids_are : prioritized_ids h ≡ reverse prioritized
     before : PrioritizesFirst h
 
@@ -149,14 +149,14 @@ module _ {N ID S E F : Type 0} (ids : Shared F (Bor N × Unit {0}) (Bor ID)) (eq
     reads-all : read_nodes (read_on more_entries k.h) ≡ reverse (k.entries ++ more_entries)
     reads-all = read_on-reads more_entries k.h ∙ ap (λ l. reverse more_entries ++ l) k.reads ∙ sym (reverse-append k.entries more_entries)
 
-  goes-on : (s t : GroupedNodes N ID S F) (x : Item N ID) (yielded : List (Item N ID)) → IsReading s yielded → GivesOn ids eq steps s (Some (Ok x)) t → IsReading t (yielded ++ x ∷ [])
+  goes-on : (s t : GroupedNodes N ID S F) (x : Item N ID) (yielded : List (Item N ID)) → IsReading s yielded → Steps ids eq steps s (Some (Ok x)) t → IsReading t (yielded ++ x ∷ [])
   goes-on s t x yielded k step =
       let open_step = rw k.has_ended at step in
       let g = open_step.1 k.h k.keeps in
       record {
         has_ended = open_step.0;
         same_as_id = g.6 ∙ k.same_as_id;
-        h = Gave g.2 ∷ read_on g.1 k.h;
+        h = Yielded g.2 ∷ read_on g.1 k.h;
         keeps = g.5;
         nodes = k.nodes ++ g.0;
         read = read-all s yielded k g.0 g.1 t.graph.input g.3;
@@ -171,7 +171,7 @@ module _ {N ID S E F : Type 0} (ids : Shared F (Bor N × Unit {0}) (Bor ID)) (eq
         before = read_on-first g.1 k.h k.before;
       }
 
-  ends : (s t : GroupedNodes N ID S F) (yielded : List (Item N ID)) → IsReading s yielded → GivesOn ids eq steps s None t → IsGroupedRun ids eq steps as_id input prioritized yielded
+  ends : (s t : GroupedNodes N ID S F) (yielded : List (Item N ID)) → IsReading s yielded → Steps ids eq steps s None t → IsGroupedRun ids eq steps as_id input prioritized yielded
   ends s t yielded k step =
       let g = (rw k.has_ended at step).1 k.h k.keeps in
       let h = read_on g.1 k.h in
@@ -186,13 +186,13 @@ module _ {N ID S E F : Type 0} (ids : Shared F (Bor N × Unit {0}) (Bor ID)) (eq
         grouped = λ whole.
             subst (λ l. IsGroupedOrder eq l (first_of prioritized) (reverse k.order)) all
             (subst (λ o. IsGroupedOrder eq (read_nodes h) o (reverse k.order)) (read_on-wanted g.1 k.h ∙ k.wanted)
-            (subst (λ l. IsGroupedOrder eq (read_nodes h) (first_wanted h) l) (read_on-gives g.1 k.h ∙ k.gives)
+            (subst (λ l. IsGroupedOrder eq (read_nodes h) (first_prioritized h) l) (read_on-gives g.1 k.h ∙ k.gives)
             (grouped-order laws h g.5 (subst (λ l. IsWhole eq l) (sym all) whole) g.6)));
       }
 
-  runs : (xs yielded : List (Item N ID)) (s : GroupedNodes N ID S F) → IsReading s yielded → Drains (GivesOn ids eq steps) s (map (λ x. Ok x) xs) → IsGroupedRun ids eq steps as_id input prioritized (yielded ++ xs)
+  runs : (xs yielded : List (Item N ID)) (s : GroupedNodes N ID S F) → IsReading s yielded → Drains (Steps ids eq steps) s (map (λ x. Ok x) xs) → IsGroupedRun ids eq steps as_id input prioritized (yielded ++ xs)
   runs [] yielded s k (u, (t, same, last)) =
-      subst (λ l. IsGroupedRun ids eq steps as_id input prioritized l) (sym (append-nil yielded)) (ends s u yielded k (subst (λ v. GivesOn ids eq steps v None u) (sym same) last))
+      subst (λ l. IsGroupedRun ids eq steps as_id input prioritized l) (sym (append-nil yielded)) (ends s u yielded k (subst (λ v. Steps ids eq steps v None u) (sym same) last))
   runs (x ∷ xs) yielded s k (u, (t, (j, step, rest), last)) =
       subst (λ l. IsGroupedRun ids eq steps as_id input prioritized l) (append_assoc yielded (x ∷ []) xs) (runs xs (yielded ++ x ∷ []) j (goes-on s j x yielded k step) (u, (t, rest, last)))
 
@@ -213,7 +213,7 @@ module _ {N ID S E F : Type 0} (ids : Shared F (Bor N × Unit {0}) (Bor ID)) (eq
   explains h entries u t NotChildFirst told reads ids_of before (step, more, stuck) = (t, step, λ whole. none-stuck laws h (subst (λ l. IsWhole eq l) (sym reads) whole).child_first more stuck)
   explains h entries u t Memory told reads ids_of before cause = tt
 
-  fails : (s t : GroupedNodes N ID S F) (yielded : List (Item N ID)) (error : GroupedGraphError E) → IsReading s yielded → GivesOn ids eq steps s (Some (Err error)) t → IsFailedRun ids eq steps as_id input prioritized error
+  fails : (s t : GroupedNodes N ID S F) (yielded : List (Item N ID)) (error : GroupedGraphError E) → IsReading s yielded → Steps ids eq steps s (Some (Err error)) t → IsFailedRun ids eq steps as_id input prioritized error
   fails s t yielded error k step =
       let g = (rw k.has_ended at step).1 k.h k.keeps in
       let cause = subst (λ a. IsCause ids eq steps a (read_on g.1 k.h) g.2 error t.graph.input) k.same_as_id g.5 in
@@ -226,7 +226,7 @@ module _ {N ID S E F : Type 0} (ids : Shared F (Bor N × Unit {0}) (Bor ID)) (eq
         explained = explains (read_on g.1 k.h) (k.entries ++ g.1) g.2 t.graph.input error g.4 (reads-all s yielded k g.0 g.1 g.2 g.3) (read_on-ids g.1 k.h ∙ k.ids_are) (read_on-first g.1 k.h k.before) cause;
       }
 
-  runs-to-error : (xs yielded : List (Item N ID)) (s t : GroupedNodes N ID S F) (error : GroupedGraphError E) → IsReading s yielded → Yields (GivesOn ids eq steps) s (map (λ x. Ok x) xs ++ Err error ∷ []) t
+  runs-to-error : (xs yielded : List (Item N ID)) (s t : GroupedNodes N ID S F) (error : GroupedGraphError E) → IsReading s yielded → Yields (Steps ids eq steps) s (map (λ x. Ok x) xs ++ Err error ∷ []) t
       → IsFailedRun ids eq steps as_id input prioritized error
   runs-to-error [] yielded s t error k (j, step, last) = fails s j yielded error k step
   runs-to-error (x ∷ xs) yielded s t error k (j, step, rest) = runs-to-error xs (yielded ++ x ∷ []) j t error (goes-on s j x yielded k step) rest

@@ -1,5 +1,5 @@
 -- Invariant of the candidates of a grouped graph: the branch that leads to a required id.
--- Cited by contracts of public items through HeldNodes.
+-- Cited by contracts of public items through PendingNodes.
 use Rattle.std.specs.Prelude.{◌≡◌, ◌⊎◌, Bool, true, false, not, ◌&&◌, ◌||◌, is_some, List, [], ◌∷◌, ◌++◌, Option, Some, ℕ}
 use Rattle.std.specs.HashMap.{HashMap}
 use Rattle.std.specs.Global.{Global}
@@ -8,7 +8,7 @@ use Rattle.std.specs.declared.vec.Vec.{Vec}
 use Rattle.jj_walks.specs.declared.candidates.Candidates.{Candidates}
 use Rattle.jj_walks.specs.Candidates.{has_id, is_listed, is_positive}
 use Rattle.jj_walks.specs.ListsByKey.{items_at}
-use Rattle.jj_walks.specs.Grouped.{History, AreReadChildFirst, Reaches, first_wanted, given_nodes, has_edge, read_nodes}
+use Rattle.jj_walks.specs.Grouped.{History, AreReadChildFirst, Reaches, first_prioritized, yielded_nodes, has_edge, read_nodes}
 
 module _ {ID : Type 0} where
   module _ (eq : ID → ID → Bool) where
@@ -75,5 +75,5 @@ module _ {N ID : Type 0} (eq : ID → ID → Bool) where
   -- the invariant of the branch that is yielded first, until a node is yielded
   pub record KeepsBranch (h : History N ID) (s : Candidates ID) : Type 0 where
     pub begun : h ≡ [] → IsUntaken eq (λ _ _. false) [] s
-    pub first : given_nodes h ≡ [] → AreReadChildFirst eq (read_nodes h) → (wanted : ID)
-        → first_wanted h ≡ Some wanted → IsFirstBranch eq (has_edge eq (read_nodes h)) wanted s
+    pub first : yielded_nodes h ≡ [] → AreReadChildFirst eq (read_nodes h) → (wanted : ID)
+        → first_prioritized h ≡ Some wanted → IsFirstBranch eq (has_edge eq (read_nodes h)) wanted s

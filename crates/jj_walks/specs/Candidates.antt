@@ -1,5 +1,5 @@
 -- Candidates for the next node: in-degrees by id, and lists of ids.
--- Cited by contracts of public items through Branches, HeldNodes.
+-- Cited by contracts of public items through Branches, PendingNodes.
 use Rattle.std.specs.Prelude.{◌≡◌, ℕ, ◌+◌, ◌*◌, ◌^◌, ◌==◌, Bool, true, false, ◌||◌, not, is_some, List, ◌++◌, length, Option, None, Some}
 use Rattle.std.specs.List.{list_any, list_all, AllZip}
 use Rattle.std.specs.HashMap.{HashMap, get, hash_map_len}
@@ -48,7 +48,7 @@ module _ {ID : Type 0} (eq : ID → ID → Bool) where
     pub blocked : list_all (λ i. is_positive (counts i)) passed ≡ true
 
 -- more turns cannot come before a candidate is found
-abbrev pub turns_left : {ID : Type 0} → Candidates ID → ℕ
-turns_left s =
+abbrev pub reversals_left : {ID : Type 0} → Candidates ID → ℕ
+reversals_left s =
     (hash_map_len s.children + deque_len s.heads) * 2 ^ 66 + 2 * length s.ids.items + length
     s.blocked.items

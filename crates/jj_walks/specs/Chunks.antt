@@ -2,7 +2,7 @@
 -- Cited by contracts of public items through LazySteps, NextChunk.
 use Rattle.std.specs.Prelude.{◌≡◌, ◌↔◌, ◌⊎◌, ℕ, ◌≤◌, List, [], ◌∷◌, ◌++◌, length, eqb}
 use Rattle.std.specs.List.{Contains, IsDistinct}
-use Rattle.jj_dag.specs.Graph.{Graph, HasEdge, ReachedFrom, IsAcyclicFrom, StrictlyReaches, Precedes}
+use Rattle.jj_dag.specs.Graph.{Graph, ReachedFrom, IsAcyclicFrom, StrictlyReaches, Precedes}
 
 -- The chunk has no node twice, and the nodes reachable from the starts are those of the chunk and
 -- those reachable from the starts left. If the starts reach no cycle, the chunk is in topological
@@ -32,7 +32,7 @@ pub record IsNextChunk (g : Graph) (starts chunk left : List ℕ) : Type 0 where
 -- each edge of a node of the list leads to a later node of it, or to one that is left
 abbrev pub LeadsForward : Graph → List ℕ → List ℕ → Type 0
 LeadsForward g order left = (front back : List ℕ) (a b : ℕ) → order ≡ front ++ a ∷ back
-    → HasEdge g a b → Contains back b ⊎ Contains left b
+    → Contains (g a) b → Contains back b ⊎ Contains left b
 
 -- each node of the list strictly reaches each one that is left
 abbrev pub AreAbove : Graph → List ℕ → List ℕ → Type 0
@@ -40,7 +40,7 @@ AreAbove g order left = (a b : ℕ) → Contains order a → Contains left b →
 
 -- the properties of a chunk on any graph, with or without a cycle: it has the starts, no node
 -- twice, and only reachable nodes; its edges lead forward, and it is above the nodes left
-pub record IsStretch (g : Graph) (starts chunk left : List ℕ) : Type 0 where
+pub record IsChunkOfAnyGraph (g : Graph) (starts chunk left : List ℕ) : Type 0 where
   pub once : IsDistinct eqb chunk
   pub has_starts : (a : ℕ) → Contains starts a → Contains chunk a
   pub reached : (a : ℕ) → Contains chunk a ⊎ Contains left a → ReachedFrom g starts a
@@ -48,13 +48,13 @@ pub record IsStretch (g : Graph) (starts chunk left : List ℕ) : Type 0 where
   pub above : AreAbove g chunk left
 
 -- the nodes ordered so far are reachable from the starts, and a repeated one is on a cycle
-pub record IsBegun (g : Graph) (starts order : List ℕ) : Type 0 where
+pub record IsOrderPrefix (g : Graph) (starts order : List ℕ) : Type 0 where
   pub reached : (a : ℕ) → Contains order a → ReachedFrom g starts a
   pub repeated : (front back : List ℕ) (a : ℕ) → order ≡ front ++ a ∷ back → Contains front a
       → StrictlyReaches g a a
 
 -- the order continues from the nodes left
-pub record LeadsOn (g : Graph) (starts order left : List ℕ) : Type 0 where
+pub record ContinuesFrom (g : Graph) (starts order left : List ℕ) : Type 0 where
   pub starts_met : (a : ℕ) → Contains starts a → Contains order a ⊎ Contains left a
   pub left_reached : (a : ℕ) → Contains left a → ReachedFrom g starts a
   pub forward : LeadsForward g order left

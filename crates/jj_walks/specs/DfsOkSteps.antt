@@ -1,23 +1,23 @@
 -- Steps of the iterator `DepthFirstOk`.
--- Cited by contracts of public items: CanWalkItems, Steps, StartsWalk, items_left.
+-- Cited by contracts of public items: Steps, StartsWalk, items_left.
 use Rattle.std.specs.Prelude.{◌≡◌, ℕ, ◌+◌, ◌*◌, ◌-◌, ◌^◌, Bool, List, [], ◌∷◌, ◌++◌, length, map, reverse, Option, Result, MatchOption, MatchResult, IfErr, IsNone}
 use Rattle.std.specs.declared.result.Result.TheVariants.{Ok, Err}
 use Rattle.std.specs.Iterator.{Count, IsFiniteIterable}
-use Rattle.std.specs.Fn.{Shared, Mut, AlwaysReturns}
+use Rattle.std.specs.Fn.{Shared, Mut}
 use Rattle.std.specs.HashSet.{HashSet, contains, hash_set_len}
 use Rattle.std.specs.List.{Contains}
 use Rattle.std.specs.declared.alloc.AllocError.{AllocError}
 use Rattle.std.specs.declared.iter.IntoIterator as into
 use Rattle.std.specs.declared.iter.Iterator as iter
 use denote.Ref.{Bor}
-use denote.Param.Always.{always_fn, always_mut}
 use Rattle.jj_walks.specs.declared.depth_first.DepthFirstOk.{DepthFirstOk}
 use Rattle.jj_dag.specs.declared.walk_error.WalkError.{WalkError}
 use Rattle.jj_dag.specs.declared.walk_error.WalkError.TheVariants.{Memory, Node}
-use Rattle.jj_dag.specs.Walk.{AreNodes, DrainsTo, Numbered}
+use Rattle.jj_dag.specs.ClosureGraph.{IsWalkable}
+use Rattle.jj_dag.specs.Walk.{AreNodes, DrainsTo, Model}
 use Rattle.jj_dag.specs.Errors.{IfMemory}
-use Rattle.jj_dag.specs.Failing.{FailingGraph, IsWalkingItems, sound_items}
-use Rattle.jj_walks.specs.Answers.{Answer, AnswersLead, HasAnswers, ImplementsItems, IsRun, answers_graph, item_of}
+use Rattle.jj_dag.specs.FallibleGraphs.{FallibleGraph, IsWalkingItems, ok_items}
+use Rattle.jj_walks.specs.Expansions.{Expansion, ExpansionsLead, HasItemsOf, ImplementsItems, IsRun, expansions_graph, item_of}
 
 -- more items cannot come: a node puts one more id into a set of fewer than 2^63, and a failed item
 -- leaves fewer to do
@@ -35,22 +35,15 @@ HasEnded s = s.work.items ≡ []
 -- In the model, a search from these starts that expanded these nodes has yielded these items, and
 -- `work` is its stack. Whatever graph extends the items of the expanded nodes, the search continues
 -- the preorder of that graph.
-pub record IsWalkingAnswers {T ID E : Type 0} (g : Numbered T ID) (test : ID → Bool)
-    (answers : List (Answer T E)) (starts work given : List (Result T E)) : Type 0 where
-  pub has_answers : HasAnswers g.node (answers_graph g.node answers) answers
-  pub walking : (graph : FailingGraph E) → HasAnswers g.node graph answers
+pub record IsWalkingExpansions {T ID E : Type 0} (g : Model T ID) (test : ID → Bool)
+    (expansions : List (Expansion T E)) (starts work given : List (Result T E)) : Type 0 where
+  pub has_answers : HasItemsOf g.node (expansions_graph g.node expansions) expansions
+  pub walking : (graph : FallibleGraph E) → HasItemsOf g.node graph expansions
       → IsWalkingItems g graph (map (item_of g.node) starts) test (map (item_of g.node) work)
       (map (item_of g.node) given)
 
 module _ {T ID E F N U S : Type 0} (ids : Shared F (Bor T × Unit {0}) (Result ID AllocError))
     (lists : Mut N (Bor T × Unit {0}) U) where
-  -- the closures may always be called, and each list that `neighbors_fn` returns ends
-  pub record CanWalkItems (becomes : U → S → Type 0) (can : S → Type 0) (left : S → Count)
-      (s : DepthFirstOk T ID E F N) : Type 0 where
-    pub id_fn : always_fn ids s.id_fn
-    pub neighbors_fn : always_mut lists s.neighbors_fn
-    pub ends : AlwaysReturns lists (λ a r. IsFiniteIterable becomes can left r) s.neighbors_fn
-
   -- s is the state of a depth-first search that began with these closures and starts, and has
   -- yielded these items
   pub record IsLeftOf (eq : ID → ID → Bool)
@@ -58,13 +51,14 @@ module _ {T ID E F N U S : Type 0} (ids : Shared F (Bor T × Unit {0}) (Result I
       (id_fn : F) (neighbors_fn : N) (starts given : List (Result T E))
       (s : DepthFirstOk T ID E F N) : Type 0 where
     pub same_ids : s.id_fn ≡ id_fn
-    pub answers : List (Answer T E)
-    pub in_turn : AnswersLead lists (DrainsTo becomes steps) neighbors_fn answers s.neighbors_fn
-    pub asked : reverse (map (λ x. x.node) answers) ≡ sound_items given
-    pub walks : (g : Numbered T ID)
+    pub expansions : List (Expansion T E)
+    pub in_turn : ExpansionsLead lists (DrainsTo becomes steps) neighbors_fn expansions
+        s.neighbors_fn
+    pub expanded : reverse (map (λ x. x.node) expansions) ≡ ok_items given
+    pub walks : (g : Model T ID)
         → ImplementsItems g eq ids lists (DrainsTo becomes steps) id_fn neighbors_fn
-        → AreNodes g (sound_items (map (item_of g.node) starts))
-        → IsWalkingAnswers g (contains eq s.visited) answers starts s.work.items given
+        → AreNodes g (ok_items (map (item_of g.node) starts))
+        → IsWalkingExpansions g (contains eq s.visited) expansions starts s.work.items given
 
   -- the search yields one more item, or ends as a complete run, or runs out of memory and ends
   abbrev pub WalksOn : (ID → ID → Bool) → (U → S → Type 0) → (S → Option (Result T E) → S → Type 0)
@@ -89,7 +83,7 @@ module _ {T ID E F N U S : Type 0} (ids : Shared F (Bor T × Unit {0}) (Result I
       (s : DepthFirstOk T ID E F N) (r : Option (Result T (WalkError E)))
       (t : DepthFirstOk T ID E F N) : Type 0 where
     pub walks : WalksOn eq becomes steps s r t
-    pub again : CanWalkItems becomes can left t
+    pub again : IsWalkable ids lists (IsFiniteIterable becomes can left) t.id_fn t.neighbors_fn
     pub ends : MatchOption r (HasEnded t) (λ x. IfErr x (λ refused. IfMemory refused (HasEnded t)))
     pub ended : HasEnded s → IsNone r × HasEnded t
 

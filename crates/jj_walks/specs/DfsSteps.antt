@@ -1,16 +1,15 @@
 -- Steps of the iterator `DepthFirst`.
--- Cited by contracts of public items: CanWalk, Steps, items_left.
+-- Cited by contracts of public items: IsLeftOf, Steps, items_left.
 use Rattle.std.specs.Prelude.{◌≡◌, ℕ, ◌+◌, ◌-◌, ◌^◌, Bool, List, [], ◌∷◌, ◌++◌, map, Option, Result, MatchOption, MatchResult, IfErr, IsNone}
 use Rattle.std.specs.Iterator.{Count, IsFiniteIterable}
-use Rattle.std.specs.Fn.{Shared, Mut, AlwaysReturns}
+use Rattle.std.specs.Fn.{Shared, Mut}
 use Rattle.std.specs.HashSet.{contains, hash_set_len}
 use Rattle.std.specs.declared.alloc.AllocError.{AllocError}
 use denote.Ref.{Bor}
-use denote.Param.Always.{always_fn, always_mut}
 use Rattle.jj_walks.specs.declared.depth_first.DepthFirst.{DepthFirst}
 use Rattle.jj_dag.specs.Graph.{IsPreorder}
-use Rattle.jj_dag.specs.ClosureGraph.{Implements}
-use Rattle.jj_dag.specs.Walk.{DrainsTo, IsWalking, Numbered}
+use Rattle.jj_dag.specs.ClosureGraph.{Implements, IsWalkable}
+use Rattle.jj_dag.specs.Walk.{DrainsTo, IsWalking, Model}
 
 -- more items cannot come: an error ends the walk, and each other item puts one more id into a set
 -- of fewer than 2^63
@@ -23,15 +22,8 @@ HasEnded s = s.work.items ≡ []
 
 module _ {T ID F N U S : Type 0} (ids : Shared F (Bor T × Unit {0}) (Result ID AllocError))
     (lists : Mut N (Bor T × Unit {0}) U) where
-  -- the closures may always be called, and each list that `neighbors_fn` returns ends
-  pub record CanWalk (becomes : U → S → Type 0) (can : S → Type 0) (left : S → Count)
-      (s : DepthFirst T ID F N) : Type 0 where
-    pub id_fn : always_fn ids s.id_fn
-    pub neighbors_fn : always_mut lists s.neighbors_fn
-    pub ends : AlwaysReturns lists (λ a r. IsFiniteIterable becomes can left r) s.neighbors_fn
-
   -- s is the state of a depth-first search from these starts that has yielded these nodes
-  pub record IsLeftOf (w : Numbered T ID) (eq : ID → ID → Bool) (becomes : U → S → Type 0)
+  pub record IsLeftOf (w : Model T ID) (eq : ID → ID → Bool) (becomes : U → S → Type 0)
       (steps : S → Option T → S → Type 0) (starts : List ℕ) (given : List T)
       (s : DepthFirst T ID F N) : Type 0 where
     pub implemented : Implements w eq ids lists (DrainsTo becomes steps) s.id_fn s.neighbors_fn
@@ -42,7 +34,7 @@ module _ {T ID F N U S : Type 0} (ids : Shared F (Bor T × Unit {0}) (Result ID 
   abbrev pub WalksOn : (ID → ID → Bool) → (U → S → Type 0) → (S → Option T → S → Type 0)
       → DepthFirst T ID F N → Option (Result T AllocError) → DepthFirst T ID F N → Type 0
   WalksOn eq becomes steps s r t =
-      (w : Numbered T ID) (starts : List ℕ) (given : List T)
+      (w : Model T ID) (starts : List ℕ) (given : List T)
       → IsLeftOf w eq becomes steps starts given s →
       MatchOption r (IsPreorder w.graph starts (map w.node given) × (t.work.items ≡ []))
       (λ x. MatchResult x (λ node. IsLeftOf w eq becomes steps starts (given ++ node ∷ []) t)
@@ -55,6 +47,6 @@ module _ {T ID F N U S : Type 0} (ids : Shared F (Bor T × Unit {0}) (Result ID 
       (s : DepthFirst T ID F N) (r : Option (Result T AllocError))
       (t : DepthFirst T ID F N) : Type 0 where
     pub walks : WalksOn eq becomes steps s r t
-    pub again : CanWalk becomes can left t
+    pub again : IsWalkable ids lists (IsFiniteIterable becomes can left) t.id_fn t.neighbors_fn
     pub ends : MatchOption r (HasEnded t) (λ x. IfErr x (λ _. HasEnded t))
     pub ended : HasEnded s → IsNone r × HasEnded t

@@ -10,12 +10,12 @@ use Rattle.std.specs.declared.iter.IntoIterator as into
 use Rattle.std.specs.declared.iter.Iterator as iter
 use Rattle.std.specs.declared.vec.Vec.{Vec}
 use denote.Ref.{Bor}
-use Rattle.jj_dag.specs.declared.greatest_order.Collected.{Collected}
+use Rattle.jj_dag.specs.declared.greatest_order.IndexedGraph.{IndexedGraph}
 use Rattle.jj_walks.specs.declared.look_ahead.Chunk.{Chunk}
-use Rattle.jj_dag.specs.declared.shown.Shown.{Shown}
+use Rattle.jj_dag.specs.declared.closures.Closures.{Closures}
 use Rattle.jj_dag.specs.declared.walk_error.WalkError.{WalkError}
-use Rattle.jj_walks.specs.Chunks.{IsChunkOfMany, IsStretch}
-use Rattle.jj_dag.specs.Asking.{GoesOn, InModels, graph_at, whole}
+use Rattle.jj_walks.specs.Chunks.{IsChunkOfMany, IsChunkOfAnyGraph}
+use Rattle.jj_dag.specs.Expanding.{StillImplements, InModels, graph_at, whole}
 use Rattle.jj_dag.specs.Collecting.{IsFilled}
 use Rattle.jj_dag.specs.Graph.{ReachedFrom, ReachesCycle}
 use Rattle.jj_walks.specs.LookingAhead.{HasLooked}
@@ -25,38 +25,38 @@ module _ {T ID E F N U J : Type 0} (eq : ID → ID → Bool)
     (ids : Shared F (Bor T × Unit {0}) (Result ID AllocError)) (lists : Mut N (Bor T × Unit {0}) U)
     (value : into.Ghosts U (Result T E) J) (items : iter.Ghosts J (Result T E)) where
   -- `neighbors_fn` may fail with this error for a node that these reach
-  abbrev pub FailsBelow : Shown F N → List T → E → Type 0
+  abbrev pub FailsBelow : Closures F N → List T → E → Type 0
   FailsBelow s starts error = (x : T)
       × (graph_at eq ids lists value items s.id_fn s.neighbors_fn).fails x error
       × InModels eq ids lists value items s starts
       (λ walk nodes. ReachedFrom walk.graph nodes (walk.node x))
 
   -- the explored nodes, with the ids of the neighbours of each, and at most one frontier node
-  abbrev pub HasExplored : Shown F N → List T → Collected T ID × Vec T Global → Type 0
+  abbrev pub HasExplored : Closures F N → List T → IndexedGraph T ID × Vec T Global → Type 0
   HasExplored s starts r = (filled : IsFilled eq r.0)
       × (filled.given ≡ [] → r.1.items ≡ []) × (length r.1.items ≤ 1)
       × InModels eq ids lists value items s starts (λ walk nodes.
       HasLooked walk (whole walk) nodes (get eq r.0.index_of) r.1.items filled.given
       (map (λ v. v.items) r.0.neighbor_ids.items))
 
-  pub record ExploresFrom (s t : Shown F N) (starts : List T)
-      (r : Result (Collected T ID × Vec T Global) (WalkError E)) : Type 0 where
-    pub graph : GoesOn eq ids lists value items s t
+  pub record ExploresFrom (s t : Closures F N) (starts : List T)
+      (r : Result (IndexedGraph T ID × Vec T Global) (WalkError E)) : Type 0 where
+    pub graph : StillImplements eq ids lists value items s t
     pub explored : IfOk r (HasExplored s starts)
     pub failed : IfFails r (FailsBelow s starts)
 
   -- a chunk of the reachable nodes; or a reachable node, and a cycle is reachable
-  abbrev pub HasChunk : Shown F N → List T → Chunk T → Type 0
+  abbrev pub HasChunk : Closures F N → List T → Chunk T → Type 0
   HasChunk s starts chunk = InModels eq ids lists value items s starts
       (λ walk nodes. MatchOption chunk.stuck
       (IsChunkOfMany walk.graph nodes (map walk.node chunk.nodes.items)
       (map walk.node chunk.left.items)
-      × IsStretch walk.graph nodes (map walk.node chunk.nodes.items)
+      × IsChunkOfAnyGraph walk.graph nodes (map walk.node chunk.nodes.items)
       (map walk.node chunk.left.items))
       (λ x. ReachedFrom walk.graph nodes (walk.node x) × ReachesCycle walk.graph nodes))
 
-  pub record TakesChunk (s t : Shown F N) (starts : List T) (r : Result (Chunk T) (WalkError E))
+  pub record TakesChunk (s t : Closures F N) (starts : List T) (r : Result (Chunk T) (WalkError E))
       : Type 0 where
-    pub graph : GoesOn eq ids lists value items s t
+    pub graph : StillImplements eq ids lists value items s t
     pub chunk : IfOk r (HasChunk s starts)
     pub failed : IfFails r (FailsBelow s starts)

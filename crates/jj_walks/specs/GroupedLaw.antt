@@ -11,8 +11,8 @@ use Rattle.jj_walks.specs.declared.grouped.GroupedGraphError.TheVariants.{Input,
 use Rattle.jj_walks.specs.declared.grouped.GroupedNodes.{GroupedNodes}
 use Rattle.jj_walks.specs.Grouped.{Entry, Prioritized}
 use Rattle.jj_walks.specs.GroupedOrders.{IsGroupedOrder, IsWhole, has_node}
-use Rattle.jj_walks.specs.GroupedSteps.{GivesOn, IsEntryOf, Item}
-use Rattle.jj_walks.specs.HeldNodes.{Keeps, item_of, listed_item}
+use Rattle.jj_walks.specs.GroupedSteps.{Steps, IsEntryOf, Item}
+use Rattle.jj_walks.specs.PendingNodes.{Keeps, item_of, listed_item}
 
 -- the first element, if there is one
 abbrev pub first_of : {A : Type 0} → List A → Option A
@@ -28,7 +28,7 @@ module _ {N ID S E F : Type 0} (ids : Shared F (Bor N × Unit {0}) (Bor ID)) (eq
     pub has_ended : s.has_ended ≡ false
     pub same_as_id : s.graph.as_id ≡ as_id
     pub same_input : s.graph.input ≡ input
-    pub keeps : Keeps eq (reverse (map (λ i. Prioritized i) prioritized)) s.graph.held
+    pub keeps : Keeps eq (reverse (map (λ i. Prioritized i) prioritized)) s.graph.pending
 
   -- The input yields `nodes` and ends, and `entries` are these with their ids. `order` are the
   -- entries of the nodes that were yielded. Where the input is in topological order, it is the
@@ -49,7 +49,7 @@ module _ {N ID S E F : Type 0} (ids : Shared F (Bor N × Unit {0}) (Bor ID)) (eq
   abbrev pub YieldsGroupedOrders : Type 0
   YieldsGroupedOrders = (as_id : F) (input : S) (prioritized : List ID) (s : GroupedNodes N ID S F)
       (yielded : List (Item N ID)) → IsUnread as_id input prioritized s
-      → Drains (GivesOn ids eq steps) s (map (λ x. Ok x) yielded)
+      → Drains (Steps ids eq steps) s (map (λ x. Ok x) yielded)
       → IsGroupedRun as_id input prioritized yielded
 
   -- Why a run fails once the input has yielded nodes with these entries and is at `at`: the next
@@ -82,5 +82,5 @@ module _ {N ID S E F : Type 0} (ids : Shared F (Bor N × Unit {0}) (Bor ID)) (eq
   FailsForCause = (as_id : F) (input : S) (prioritized : List ID) (s t : GroupedNodes N ID S F)
       (yielded : List (Item N ID)) (error : GroupedGraphError E)
       → IsUnread as_id input prioritized s
-      → Yields (GivesOn ids eq steps) s (map (λ x. Ok x) yielded ++ Err error ∷ []) t
+      → Yields (Steps ids eq steps) s (map (λ x. Ok x) yielded ++ Err error ∷ []) t
       → IsFailedRun as_id input prioritized error

@@ -3,7 +3,7 @@
 use Rattle.std.specs.Prelude.{◌≡◌, Bool, true, false, not, ◌||◌, List, [], ◌∷◌, reverse, find, Option, Some, MatchOption, ⊤}
 use Rattle.std.specs.List.{Contains, list_all, list_any}
 use Rattle.jj_walks.specs.declared.graph.GraphEdge.{GraphEdge}
-use Rattle.jj_walks.specs.Grouped.{AreReadChildFirst, Entry, Gave, History, Prioritized, Reaches, Read, has_edge, leads_to, read_nodes, targets_of}
+use Rattle.jj_walks.specs.Grouped.{AreReadChildFirst, Entry, Yielded, History, Prioritized, Reaches, Read, has_edge, leads_to, read_nodes, targets_of}
 
 -- the edges of the newest
 abbrev pub newest_edges : {N ID : Type 0} → List (Entry N ID) → List (GraphEdge ID)
@@ -21,14 +21,14 @@ abbrev pub prioritized_ids : {N ID : Type 0} → History N ID → List ID
 prioritized_ids [] = []
 prioritized_ids (Prioritized i ∷ h) = i ∷ prioritized_ids h
 prioritized_ids (Read e ∷ h) = prioritized_ids h
-prioritized_ids (Gave e ∷ h) = prioritized_ids h
+prioritized_ids (Yielded e ∷ h) = prioritized_ids h
 
 -- each was, before a node was read
 abbrev pub PrioritizesFirst : {N ID : Type 0} → History N ID → Type 0
 PrioritizesFirst [] = ⊤
 PrioritizesFirst (Prioritized i ∷ h) = (read_nodes h ≡ []) × PrioritizesFirst h
 PrioritizesFirst (Read e ∷ h) = PrioritizesFirst h
-PrioritizesFirst (Gave e ∷ h) = PrioritizesFirst h
+PrioritizesFirst (Yielded e ∷ h) = PrioritizesFirst h
 
 module _ {N ID : Type 0} (eq : ID → ID → Bool) where
   -- one of the nodes has the id

@@ -1,5 +1,5 @@
 -- Steps of the iterator over a grouped graph.
--- Cited by contracts of public items: CanRead, GivesOn, nodes_left.
+-- Cited by contracts of public items: CanRead, Steps, nodes_left.
 use Rattle.std.specs.Prelude.{◌≡◌, ℕ, ◌+◌, Bool, true, false, cond, is_some, List, [], ◌∷◌, map, Option, None, Some, Result, Ok, Err, MatchBool}
 use Rattle.std.specs.Iterator.{Count, IsFinite, Yields, size}
 use Rattle.std.specs.Fn.{Shared, FnReturnsAt}
@@ -14,8 +14,8 @@ use Rattle.jj_walks.specs.declared.grouped.TopoGroupedGraph.{TopoGroupedGraph}
 use Rattle.jj_walks.specs.declared.grouped.GroupedNodes.{GroupedNodes}
 use Rattle.jj_walks.specs.declared.grouped.GroupedGraphError.{GroupedGraphError}
 use Rattle.jj_walks.specs.declared.grouped.GroupedGraphError.TheVariants.{Input, DuplicateId, MissingNode, NotChildFirst, Memory}
-use Rattle.jj_walks.specs.Grouped.{Entry, History, Read, Gave, IsHistory, edges_to, held, held_at, is_wanted}
-use Rattle.jj_walks.specs.HeldNodes.{Keeps, item_of, listed_item}
+use Rattle.jj_walks.specs.Grouped.{Entry, History, Read, Yielded, IsHistory, edges_to, pending_nodes, pending_at, is_required}
+use Rattle.jj_walks.specs.PendingNodes.{Keeps, item_of, listed_item}
 
 -- these nodes were read after that history
 abbrev pub read_on : {N ID : Type 0} → List (Entry N ID) → History N ID → History N ID
@@ -41,7 +41,7 @@ Item N ID = N × Vec (GraphEdge ID) Global
 -- an upper bound of the items left: each node pending or in the input, and an error
 abbrev pub nodes_left : {N ID S F : Type 0} → (S → Count) → GroupedNodes N ID S F → ℕ
 nodes_left left s = cond s.has_ended 0 (size
-    (left s.graph.input) + hash_map_len s.graph.held.nodes + 1)
+    (left s.graph.input) + hash_map_len s.graph.pending.nodes + 1)
 
 module _ {N ID F : Type 0} (ids : Shared F (Bor N × Unit {0}) (Bor ID)) (eq : ID → ID → Bool) where
   -- the entry of an item, with an id equal to that which the closure returns
@@ -70,33 +70,34 @@ module _ {N ID F : Type 0} (ids : Shared F (Bor N × Unit {0}) (Bor ID)) (eq : I
       IsCause as_id h s (Input e) t = steps s (Some (Err e)) t
       IsCause as_id h s DuplicateId t = (item : Item N ID) × (e : Entry N ID)
           × steps s (Some (Ok item)) t × IsEntryOf as_id item e
-          × (is_some (held_at eq h e.id) ≡ true)
-      IsCause as_id h s MissingNode t = (i : ID) × steps s None t × (is_wanted eq h i ≡ true)
-          × (held_at eq h i ≡ None)
-      IsCause as_id h s NotChildFirst t = steps s None t × (held eq h ≡ [] → ⊥)
-          × ((i : ID) → is_some (held_at eq h i) ≡ true → edges_to eq h i ≡ 0 → ⊥)
+          × (is_some (pending_at eq h e.id) ≡ true)
+      IsCause as_id h s MissingNode t = (i : ID) × steps s None t × (is_required eq h i ≡ true)
+          × (pending_at eq h i ≡ None)
+      IsCause as_id h s NotChildFirst t = steps s None t × (pending_nodes eq h ≡ [] → ⊥)
+          × ((i : ID) → is_some (pending_at eq h i) ≡ true → edges_to eq h i ≡ 0 → ⊥)
       IsCause as_id h s Memory t = Unit {0}
 
       -- after the history h some nodes are read, and then: the input has ended, all nodes were
       -- yielded, and no id is required; or a node is yielded that may come next; or an error has
       -- its cause
-      abbrev pub GivesNext : History N ID → TopoGroupedGraph N ID S F
+      abbrev pub ReturnsNext : History N ID → TopoGroupedGraph N ID S F
           → Option (Result (Item N ID) (GroupedGraphError E)) → TopoGroupedGraph N ID S F → Type 0
-      GivesNext h s None t = (items : List (Item N ID)) × (reads : List (Entry N ID)) × (u : S)
+      ReturnsNext h s None t = (items : List (Item N ID)) × (reads : List (Entry N ID)) × (u : S)
           × ReadsTo s.as_id s.input items reads u
-          × steps u None t.input × IsHistory eq (read_on reads h) × (held eq (read_on reads h) ≡ [])
-          × ((i : ID) → is_wanted eq (read_on reads h) i ≡ false)
-      GivesNext h s (Some (Ok x)) t = (items : List (Item N ID)) × (reads : List (Entry N ID))
+          × steps u None t.input × IsHistory eq (read_on reads h)
+          × (pending_nodes eq (read_on reads h) ≡ [])
+          × ((i : ID) → is_required eq (read_on reads h) i ≡ false)
+      ReturnsNext h s (Some (Ok x)) t = (items : List (Item N ID)) × (reads : List (Entry N ID))
           × (e : Entry N ID) × ReadsTo s.as_id s.input items reads t.input
-          × (item_of e ≡ listed_item x) × Keeps eq (Gave e ∷ read_on reads h) t.held
+          × (item_of e ≡ listed_item x) × Keeps eq (Yielded e ∷ read_on reads h) t.pending
           × (t.as_id ≡ s.as_id)
-      GivesNext h s (Some (Err error)) t = (items : List (Item N ID)) × (reads : List (Entry N ID))
-          × (u : S) × ReadsTo s.as_id s.input items reads u
+      ReturnsNext h s (Some (Err error)) t = (items : List (Item N ID))
+          × (reads : List (Entry N ID)) × (u : S) × ReadsTo s.as_id s.input items reads u
           × IsHistory eq (read_on reads h) × IsCause s.as_id (read_on reads h) u error t.input
 
       -- one call of `next`; after the end it returns `None` and leaves the state as it was
-      abbrev pub GivesOn : GroupedNodes N ID S F → Option (Result (Item N ID) (GroupedGraphError E))
+      abbrev pub Steps : GroupedNodes N ID S F → Option (Result (Item N ID) (GroupedGraphError E))
           → GroupedNodes N ID S F → Type 0
-      GivesOn s r t = MatchBool s.has_ended ((r ≡ None) × (t ≡ s))
-          ((t.has_ended ≡ is_last r) × ((h : History N ID) → Keeps eq h s.graph.held
-          → GivesNext h s.graph r t.graph))
+      Steps s r t = MatchBool s.has_ended ((r ≡ None) × (t ≡ s))
+          ((t.has_ended ≡ is_last r) × ((h : History N ID) → Keeps eq h s.graph.pending
+          → ReturnsNext h s.graph r t.graph))

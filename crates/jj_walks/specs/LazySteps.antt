@@ -3,6 +3,7 @@
 use Rattle.std.specs.Prelude.{◌≡◌, ◌⊎◌, ℕ, ◌+◌, ◌-◌, ◌^◌, ◌==◌, Bool, true, false, cond, List, [], ◌∷◌, ◌++◌, map, reverse, Option, None, Some, Result, Err, MatchOption, MatchResult, eqb}
 use Rattle.std.specs.Fn.{Shared, Mut, Called}
 use Rattle.std.specs.HashSet.{contains, hash_set_len}
+use Rattle.std.specs.Iterator.{IsFiniteIterable}
 use Rattle.std.specs.List.{IsDistinct, list_any}
 use Rattle.std.specs.declared.alloc.AllocError.{AllocError}
 use Rattle.std.specs.declared.iter.IntoIterator as into
@@ -13,16 +14,14 @@ use Rattle.jj_walks.specs.declared.lazy_order.LazyOrder.{LazyOrder}
 use Rattle.jj_walks.specs.declared.topo_order_lazy.TopoOrderReverseLazy.{TopoOrderReverseLazy}
 use Rattle.jj_dag.specs.declared.walk_error.WalkError.{WalkError}
 use Rattle.jj_dag.specs.declared.walk_error.WalkError.TheVariants.{Node}
-use Rattle.jj_walks.specs.Chunks.{IsBegun, LeadsOn}
-use Rattle.jj_walks.specs.NextChunk.{list_of_nodes}
-use Rattle.jj_dag.specs.Asking.{GoesOn, graph_at}
-use Rattle.jj_dag.specs.ClosureGraph.{InEachModel, IsMadeFrom, IsNeighborsError, Listing}
+use Rattle.jj_walks.specs.Chunks.{IsOrderPrefix, ContinuesFrom}
+use Rattle.jj_walks.specs.NodeLists.{list_of_nodes}
+use Rattle.jj_dag.specs.Expanding.{StillImplements, graph_at}
+use Rattle.jj_dag.specs.ClosureGraph.{InEachModel, IsMadeBesideCycle, IsNeighborsError, IsWalkable, Listing}
 use Rattle.jj_dag.specs.Errors.{IfNode}
 use Rattle.jj_dag.specs.Graph.{IsAcyclicFrom, IsTopologicalOrder}
-use Rattle.jj_dag.specs.Outcomes.{IsReachedBesideCycle}
-use Rattle.jj_dag.specs.Owed.{CanShow}
 use Rattle.jj_walks.specs.GroupedSteps.{is_last}
-use Rattle.jj_dag.specs.Walk.{AreNodes, Numbered}
+use Rattle.jj_dag.specs.Walk.{AreNodes, Model}
 
 -- an upper bound on the items to come: each node inserts an id into a set of fewer than 2^63, and
 -- an error ends the order
@@ -44,14 +43,14 @@ yielded_or_ready node yielded s = map node (yielded ++ reverse s.ready.items)
 
 -- In a model: each node was yielded once, these and the ready ones begin an order of the reachable
 -- nodes, and unless a list failed, it continues from the nodes that are left.
-pub record IsLeftIn {T ID E F N C : Type 0} (w : Numbered T ID) (eq : ID → ID → Bool)
+pub record IsLeftIn {T ID E F N C : Type 0} (w : Model T ID) (eq : ID → ID → Bool)
     (starts : List ℕ) (yielded : List T) (s : LazyOrder T ID E F N C) : Type 0 where
   pub knows : (i : ID) → w.is_node (w.id i) ≡ true
       → contains eq s.emitted i ≡ list_any (λ a. w.id i == a) (map w.node yielded)
   pub once : IsDistinct eqb (map w.node yielded)
-  pub begun : IsBegun w.graph starts (yielded_or_ready w.node yielded s)
+  pub begun : IsOrderPrefix w.graph starts (yielded_or_ready w.node yielded s)
   pub rest : s.failed ≡ None
-      → LeadsOn w.graph starts (yielded_or_ready w.node yielded s) (map w.node s.start.items)
+      → ContinuesFrom w.graph starts (yielded_or_ready w.node yielded s) (map w.node s.start.items)
 
 module _ {T ID E F N C U J : Type 0} (eq : ID → ID → Bool)
     (ids : Shared F (Bor T × Unit {0}) (Result ID AllocError)) (lists : Mut N (Bor T × Unit {0}) U)
@@ -60,19 +59,21 @@ module _ {T ID E F N C U J : Type 0} (eq : ID → ID → Bool)
   -- error that is to come is one that `neighbors_fn` may return for a node that the starts reach
   pub record IsLeftOf (id_fn : F) (neighbors_fn : N) (on_cycle : C) (starts yielded : List T)
       (s : LazyOrder T ID E F N C) : Type 0 where
-    pub graph : GoesOn eq ids lists value items
+    pub graph : StillImplements eq ids lists value items
         (record { id_fn = id_fn; neighbors_fn = neighbors_fn }) s.graph
     pub cycle_fn : s.cycle_fn ≡ on_cycle
     pub failed : (error : E) → s.failed ≡ Some error → IsNeighborsError
         (graph_at eq ids lists value items id_fn neighbors_fn) (list_of_nodes starts) error
-    pub models : (w : Numbered T ID)
+    pub models : (w : Model T ID)
         → (graph_at eq ids lists value items id_fn neighbors_fn).implements w
         → AreNodes w (map w.node starts) → IsLeftIn w eq (map w.node starts) yielded s
 
   module _ (cycles : Mut C (T × Unit {0}) E) where
     -- the closures may always be called, and each list of neighbours is finite
     pub record CanGo (s : LazyOrder T ID E F N C) : Type 0 where
-      pub graph : CanShow ids lists value items s.graph.id_fn s.graph.neighbors_fn
+      pub graph : IsWalkable ids lists
+          (IsFiniteIterable value.into_iter_gives items.can_next items.remaining) s.graph.id_fn
+          s.graph.neighbors_fn
       pub cycle_fn : always_mut cycles s.cycle_fn
 
     -- `neighbors_fn` may return the error for a node that the starts reach; or `cycle_fn` made it
@@ -81,8 +82,8 @@ module _ {T ID E F N C U J : Type 0} (eq : ID → ID → Bool)
     IsCause id_fn neighbors_fn on_cycle starts error =
         IsNeighborsError (graph_at eq ids lists value items id_fn neighbors_fn)
         (list_of_nodes starts) error
-        ⊎ IsMadeFrom (λ x e. (after : C) × Called cycles on_cycle (x, tt) e after)
-        IsReachedBesideCycle (graph_at eq ids lists value items id_fn neighbors_fn)
+        ⊎ IsMadeBesideCycle (λ x e. (after : C) × Called cycles on_cycle (x, tt) e after)
+        (graph_at eq ids lists value items id_fn neighbors_fn)
         (list_of_nodes starts) error
 
     -- t is the rest of each order that s is the rest of, and has a ready node, if any is to come
@@ -90,7 +91,7 @@ module _ {T ID E F N C U J : Type 0} (eq : ID → ID → Bool)
     Refills s t = (id_fn : F) (neighbors_fn : N) (on_cycle : C) (starts yielded : List T)
         → IsLeftOf id_fn neighbors_fn on_cycle starts yielded s
         → IsLeftOf id_fn neighbors_fn on_cycle starts yielded t
-        × ((w : Numbered T ID)
+        × ((w : Model T ID)
         → (graph_at eq ids lists value items id_fn neighbors_fn).implements w
         → AreNodes w (map w.node starts) → t.ready.items ≡ [] → IsExhausted t)
 

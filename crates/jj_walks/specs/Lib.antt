@@ -1,4 +1,4 @@
-pub mod Answers
+pub mod Expansions
 pub mod DfsSteps
 pub mod DfsOkSteps
 pub mod NextItem
@@ -10,10 +10,11 @@ pub mod Chunks
 pub mod Grouped
 pub mod Candidates
 pub mod Branches
-pub mod HeldNodes
+pub mod PendingNodes
 pub mod GroupedSteps
 pub mod GroupedOrders
 pub mod GroupedLaw
-pub mod NextChunk
+pub mod NodeLists
 pub mod Reversing
 pub mod Exploring
+pub mod GraphLaws

@@ -4,14 +4,14 @@ use Rattle.std.specs.Prelude.{◌≡◌, ℕ, ◌==◌, ◌≤◌, Bool, false, 
 use Rattle.std.specs.List.{Contains, sum_by}
 use Rattle.jj_dag.specs.Collecting.{IsCollecting}
 use Rattle.jj_dag.specs.Graph.{HasEdge}
-use Rattle.jj_dag.specs.Failing.{FailingGraph}
-use Rattle.jj_dag.specs.Walk.{Numbered}
+use Rattle.jj_dag.specs.FallibleGraphs.{FallibleGraph}
+use Rattle.jj_dag.specs.Walk.{Model}
 
 -- how often the list has the node of this number
 abbrev pub copies : {T : Type 0} → (T → ℕ) → List T → ℕ → ℕ
 copies node xs a = sum_by (λ x. cond (node x == a) 1 0) xs
 
-module _ {T ID K : Type 0} (w : Numbered T ID) (items : FailingGraph K) where
+module _ {T ID K : Type 0} (w : Model T ID) (items : FallibleGraph K) where
   -- `work` is pending and `given` explored; a start that is a neighbor of an explored node, and is
   -- not explored, is pending twice
   pub record IsLooking (starts : List ℕ) (find : ID → Option ℕ) (root_met : Bool)

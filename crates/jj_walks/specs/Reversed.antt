@@ -21,13 +21,13 @@ edge_to node edge = record { target = node; edge_type = edge.edge_type }
 
 module _ {N ID : Type 0} (eq : ID → ID → Bool) where
   -- an edge to the node for each of its edges that leads to i
-  abbrev pub turned_edges : ID → N → List (GraphEdge ID) → List (GraphEdge N)
-  turned_edges i node edges = map (edge_to node) (filter (λ edge. eq edge.target i) edges)
+  abbrev pub reversed_edges : ID → N → List (GraphEdge ID) → List (GraphEdge N)
+  reversed_edges i node edges = map (edge_to node) (filter (λ edge. eq edge.target i) edges)
 
   -- the edges of all nodes that lead to i, in the order of the nodes
   abbrev pub incoming_edges : ID → ShownGraph N ID → List (GraphEdge N)
   incoming_edges i [] = []
-  incoming_edges i (entry ∷ graph) = turned_edges i entry.0 entry.1 ++ incoming_edges i graph
+  incoming_edges i (entry ∷ graph) = reversed_edges i entry.0 entry.1 ++ incoming_edges i graph
 
   module _ (id : N → ID) where
     -- each of the nodes with the edges that lead to it, which a node has only where no later one

@@ -1,5 +1,5 @@
 -- The result and the error of `reverse_graph` in terms of its input.
--- Cited by contracts of public items: GivesReversed, InputFails.
+-- Cited by contracts of public items: ReturnsReversed, InputFails.
 use Rattle.std.specs.Prelude.{◌≡◌, Bool, List, [], ◌∷◌, ◌++◌, map, Option, Result}
 use Rattle.std.specs.declared.result.Result.TheVariants.{Ok, Err}
 use Rattle.std.specs.Fn.{Shared, FnReturnsAt}
@@ -16,10 +16,10 @@ GraphNode N ID = N × Vec (GraphEdge ID) Global
 
 -- the input yielded nodes and ended, and for the ids that `as_id` returns, the list is the reverse
 -- of their graph
-abbrev pub GivesReversed : {N ID E I F : Type 0} → Shared F (Bor N × Unit {0}) (Bor ID)
+abbrev pub ReturnsReversed : {N ID E I F : Type 0} → Shared F (Bor N × Unit {0}) (Bor ID)
     → (I → Option (Result (GraphNode N ID) E) → I → Type 0) → (ID → ID → Type 0) → (ID → ID → Bool)
     → I → F → Vec (GraphNode N ID) Global → Type 0
-GivesReversed {N} {ID} ids steps clone eq input as_id v = (nodes : List (GraphNode N ID))
+ReturnsReversed {N} {ID} ids steps clone eq input as_id v = (nodes : List (GraphNode N ID))
     × Drains steps input (map Ok nodes)
     × ((id : N → ID) → ((x : N) (r : Bor ID) → FnReturnsAt ids as_id x r → r.now ≡ id x)
     → ShowsById clone id (reversed_graph eq id (shown_graph nodes)) (shown_graph v.items))

@@ -4,7 +4,7 @@ ghost use Rattle.std.specs.List.{list_any};
 ghost use Rattle.std.specs.HashMap.{get};
 ghost use Rattle.std.specs.VecDeque.{deque_items};
 ghost use Rattle.jj_walks.specs.Branches.{AreCounts, Climbs, IsFirstBranch, IsUntaken, TakesHead, Unblocks, has_child};
-ghost use Rattle.jj_walks.specs.Candidates.{AreSameIds, AreToFollow, has_id, is_listed, is_zero, turns_left};
+ghost use Rattle.jj_walks.specs.Candidates.{AreSameIds, AreToFollow, has_id, is_listed, is_zero, reversals_left};
 ghost use Rattle.jj_walks.specs.Grouped.{leads_to, targets_of};
 
 use crate::graph::GraphEdge;
@@ -154,7 +154,7 @@ impl<ID: Hash + Eq + Clone + Drop> Candidates<ID> {
             → has_id ID.eq (deque_items self.old.heads) i ≡ true
             → is_listed ID.eq self.new.ids.items (deque_items self.new.heads) i ≡ true) }
         ensures falls { IfOk result (λ more. more ≡ true
-            → turns_left self.new < turns_left self.old) }
+            → reversals_left self.new < reversals_left self.old) }
         ensures more { IfOk result (λ more. more ≡ true
             → Unblocks ID.eq self.old self.new ⊎ TakesHead ID.eq self.old self.new) }
         ensures none { IfOk result (λ more. more ≡ false → (self.new.ids.items ≡ [])

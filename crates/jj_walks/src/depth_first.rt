@@ -1,9 +1,9 @@
 //! Depth-first search with an explicit stack, as an iterator; also over items that may fail.
 ghost use Rattle.std.specs.Prelude.{[], IfOk};
-ghost use Rattle.std.specs.Iterator.{at_most};
-ghost use Rattle.jj_dag.specs.ClosureGraph.{InEachModel, graph_of, graph_of_items, list_of, list_of_items};
-ghost use Rattle.jj_walks.specs.DfsOkSteps.{CanWalkItems, StartsWalk};
-ghost use Rattle.jj_walks.specs.DfsSteps.{CanWalk, IsLeftOf};
+ghost use Rattle.std.specs.Iterator.{IsFiniteIterable, at_most};
+ghost use Rattle.jj_dag.specs.ClosureGraph.{InEachModel, IsWalkable, graph_of, graph_of_items, list_of, list_of_items};
+ghost use Rattle.jj_walks.specs.DfsOkSteps.{StartsWalk};
+ghost use Rattle.jj_walks.specs.DfsSteps.{IsLeftOf};
 
 use crate::next_item::next_item;
 use crate::sources::items_of;
@@ -30,10 +30,12 @@ where
 {
     type Item = Result<T, AllocError>;
 
-    ghost use Rattle.jj_walks.specs.DfsSteps.{CanWalk, Steps, items_left};
+    ghost use Rattle.std.specs.Iterator.{IsFiniteIterable};
+    ghost use Rattle.jj_dag.specs.ClosureGraph.{IsWalkable};
+    ghost use Rattle.jj_walks.specs.DfsSteps.{Steps, items_left};
 
-    ghost can_next = { λ s. CanWalk F.Fn N.FnMut NI.into_iter_gives
-        NI.IntoIter.can_next NI.IntoIter.remaining s };
+    ghost can_next = { λ s. IsWalkable F.Fn N.FnMut (IsFiniteIterable NI.into_iter_gives
+        NI.IntoIter.can_next NI.IntoIter.remaining) s.id_fn s.neighbors_fn };
 
     ghost next_gives = { λ s r t.
         Steps F.Fn N.FnMut ID.eq NI.into_iter_gives NI.IntoIter.next_gives NI.IntoIter.can_next
@@ -76,8 +78,8 @@ where
     requires graph { (graph_of ID.eq F.Fn {E = AllocError} N.FnMut NI.IntoIterator
         NI.IntoIter.Iterator id_fn neighbors_fn).walkable }
     requires start { (list_of {E = AllocError} II.IntoIterator II.IntoIter.Iterator start).finite }
-    ensures can_walk { IfOk result (CanWalk F.Fn N.FnMut NI.into_iter_gives NI.IntoIter.can_next
-        NI.IntoIter.remaining) }
+    ensures can_walk { IfOk result (λ it. IsWalkable F.Fn N.FnMut (IsFiniteIterable
+        NI.into_iter_gives NI.IntoIter.can_next NI.IntoIter.remaining) it.id_fn it.neighbors_fn) }
     ensures walk { IfOk result (λ it. InEachModel {E = AllocError}
         (graph_of ID.eq F.Fn N.FnMut NI.IntoIterator NI.IntoIter.Iterator id_fn neighbors_fn)
         (list_of II.IntoIterator II.IntoIter.Iterator start)
@@ -110,10 +112,12 @@ where
 {
     type Item = Result<T, WalkError<E>>;
 
-    ghost use Rattle.jj_walks.specs.DfsOkSteps.{CanWalkItems, Steps, items_left};
+    ghost use Rattle.std.specs.Iterator.{IsFiniteIterable};
+    ghost use Rattle.jj_dag.specs.ClosureGraph.{IsWalkable};
+    ghost use Rattle.jj_walks.specs.DfsOkSteps.{Steps, items_left};
 
-    ghost can_next = { λ s. CanWalkItems F.Fn N.FnMut NI.into_iter_gives
-        NI.IntoIter.can_next NI.IntoIter.remaining s };
+    ghost can_next = { λ s. IsWalkable F.Fn N.FnMut (IsFiniteIterable NI.into_iter_gives
+        NI.IntoIter.can_next NI.IntoIter.remaining) s.id_fn s.neighbors_fn };
 
     ghost next_gives = { λ s r t.
         Steps F.Fn N.FnMut ID.eq NI.into_iter_gives NI.IntoIter.next_gives NI.IntoIter.can_next
@@ -148,8 +152,8 @@ where
     requires graph { (graph_of_items ID.eq F.Fn N.FnMut NI.IntoIterator NI.IntoIter.Iterator
         id_fn neighbors_fn).walkable }
     requires start { (list_of_items II.IntoIterator II.IntoIter.Iterator start).finite }
-    ensures can_walk { IfOk result (CanWalkItems F.Fn N.FnMut NI.into_iter_gives
-        NI.IntoIter.can_next NI.IntoIter.remaining) }
+    ensures can_walk { IfOk result (λ it. IsWalkable F.Fn N.FnMut (IsFiniteIterable
+        NI.into_iter_gives NI.IntoIter.can_next NI.IntoIter.remaining) it.id_fn it.neighbors_fn) }
     ensures walk { IfOk result (StartsWalk F.Fn N.FnMut ID.eq NI.into_iter_gives
         NI.IntoIter.next_gives II.IntoIterator II.IntoIter.Iterator id_fn neighbors_fn start) }
 {

@@ -3,13 +3,13 @@ ghost use Rattle.std.specs.Prelude.{◌≡◌, ◌+◌, ◌<◌, ◌∷◌, [], 
 ghost use Rattle.std.specs.HashMap.{hash_map_len};
 ghost use Rattle.std.specs.Iterator.{at_most, size};
 ghost use Rattle.jj_walks.specs.Grouped.{Entry, History, Prioritized, Read};
-ghost use Rattle.jj_walks.specs.GroupedSteps.{CanRead, GivesNext, IsCause, IsEntryOf, Item, answer_of};
-ghost use Rattle.jj_walks.specs.HeldNodes.{Adds, Keeps, KeepsOn};
+ghost use Rattle.jj_walks.specs.GroupedSteps.{CanRead, ReturnsNext, IsCause, IsEntryOf, Item, answer_of};
+ghost use Rattle.jj_walks.specs.PendingNodes.{Adds, Keeps, KeepsOn};
 ghost use Rattle.jj_walks.specs.declared.grouped.GroupedGraphError.{GroupedGraphError};
 
 use crate::ended::item_or_end;
 use crate::graph::GraphNode;
-use crate::held_nodes::{HeldNodes, Ready};
+use crate::pending_nodes::{PendingNodes, Ready};
 use std::alloc::{AllocError, AllocFailed, Global};
 use std::error::Error;
 use std::fmt;
@@ -36,7 +36,7 @@ pub enum GroupedGraphError<E> {
 pub struct TopoGroupedGraph<N, ID: Hash + Eq, S, F> {
     input: S,
     as_id: F,
-    held: HeldNodes<N, ID>,
+    pending: PendingNodes<N, ID>,
 }
 
 /// Iterates over the nodes of a grouped graph, children first. An error is the last item.
@@ -55,12 +55,12 @@ where
     pub fn new(alloc: Global, input: S, as_id: F) -> Self
         ensures input { result.input ≡ input }
         ensures as_id { result.as_id ≡ as_id }
-        ensures held { Keeps ID.eq [] result.held }
+        ensures pending { Keeps ID.eq [] result.pending }
     {
         TopoGroupedGraph {
             input,
             as_id,
-            held: HeldNodes::new(alloc),
+            pending: PendingNodes::new(alloc),
         }
     }
 
@@ -68,13 +68,13 @@ where
     /// memory runs out; the graph is then as it was.
     pub fn prioritize_branch(&mut self, id: ID) -> Result<(), AllocError>
         requires clones { (i j : ID) → ID.is_clone i j → IsTrue (ID.eq i j) }
-        ensures prioritized { OnOk result (Adds ID.eq (Prioritized id) self.old.held
-            self.new.held) }
-        ensures refused { OnErr result (KeepsOn ID.eq self.old.held self.new.held) }
+        ensures prioritized { OnOk result (Adds ID.eq (Prioritized id) self.old.pending
+            self.new.pending) }
+        ensures refused { OnErr result (KeepsOn ID.eq self.old.pending self.new.pending) }
         ensures input { self.new.input ≡ self.old.input }
         ensures as_id { self.new.as_id ≡ self.old.as_id }
     {
-        self.held.prioritize(id)
+        self.pending.prioritize(id)
     }
 
     /// Returns an iterator over the nodes.
@@ -93,13 +93,13 @@ where
         ensures can_read { IfOk result (λ o. IsSome o
             → CanRead F.Fn ID.eq ID.is_clone S.can_next S.remaining self.new) }
         ensures left { IfOk result (λ o. IsSome o
-            → size (S.remaining self.new.input) + hash_map_len self.new.held.nodes < size
-            (S.remaining self.old.input) + hash_map_len self.old.held.nodes) }
-        ensures gives { (h : History N ID) → Keeps ID.eq h self.old.held
-            → GivesNext F.Fn ID.eq S.next_gives h self.old (answer_of result) self.new }
+            → size (S.remaining self.new.input) + hash_map_len self.new.pending.nodes < size
+            (S.remaining self.old.input) + hash_map_len self.old.pending.nodes) }
+        ensures next { (h : History N ID) → Keeps ID.eq h self.old.pending
+            → ReturnsNext F.Fn ID.eq S.next_gives h self.old (answer_of result) self.new }
     {
         'reading: loop {
-            let is_unread = match self.held.take_ready()? {
+            let is_unread = match self.pending.pop_ready()? {
                 Ready::Node(node) => return Ok(Some(node)),
                 Ready::Unread => true,
                 Ready::Nothing => false,
@@ -107,7 +107,7 @@ where
             match self.read_next() {
                 Ok(true) => {}
                 Ok(false) if is_unread => return Err(GroupedGraphError::MissingNode),
-                Ok(false) if self.held.is_empty() => return Ok(None),
+                Ok(false) if self.pending.is_empty() => return Ok(None),
                 Ok(false) => return Err(GroupedGraphError::NotChildFirst),
                 Err(error) => return Err(error),
             }
@@ -122,15 +122,15 @@ where
             → CanRead F.Fn ID.eq ID.is_clone S.can_next S.remaining self.new) }
         ensures left { IfOk result (λ more. more ≡ true
             → (size (S.remaining self.new.input) < size (S.remaining self.old.input))
-            × (hash_map_len self.new.held.nodes ≡ hash_map_len self.old.held.nodes + 1)) }
+            × (hash_map_len self.new.pending.nodes ≡ hash_map_len self.old.pending.nodes + 1)) }
         ensures read { IfOk result (λ more. more ≡ true → (item : Item N ID) × (e : Entry N ID)
             × S.next_gives self.old.input (Some (Ok item)) self.new.input
             × IsEntryOf F.Fn ID.eq self.old.as_id item e
-            × Adds ID.eq (Read e) self.old.held self.new.held) }
-        ensures ended { IfOk result (λ more. more ≡ false
-            → S.next_gives self.old.input None self.new.input × (self.new.held ≡ self.old.held)) }
+            × Adds ID.eq (Read e) self.old.pending self.new.pending) }
+        ensures ended { IfOk result (λ more. more ≡ false → S.next_gives self.old.input None
+            self.new.input × (self.new.pending ≡ self.old.pending)) }
         ensures refused { IfErr result (λ error.
-            ((h : History N ID) → Keeps ID.eq h self.old.held
+            ((h : History N ID) → Keeps ID.eq h self.old.pending
             → IsCause F.Fn ID.eq S.next_gives self.old.as_id h self.old.input error
             self.new.input)) }
     {
@@ -140,10 +140,10 @@ where
             None => return Ok(false),
         };
         let id = (self.as_id)(&node).clone()?;
-        if self.held.is_held(&id) {
+        if self.pending.contains(&id) {
             return Err(GroupedGraphError::DuplicateId);
         }
-        self.held.hold(id, node, edges)?;
+        self.pending.insert(id, node, edges)?;
         Ok(true)
     }
 }
@@ -156,12 +156,12 @@ where
     type Item = Result<GraphNode<N, ID>, GroupedGraphError<E>>;
 
     ghost use Rattle.std.specs.Prelude.{◌≡◌, false};
-    ghost use Rattle.jj_walks.specs.GroupedSteps.{CanRead, GivesOn, nodes_left};
+    ghost use Rattle.jj_walks.specs.GroupedSteps.{CanRead, Steps, nodes_left};
 
     ghost can_next = { λ s. s.has_ended ≡ false
         → CanRead F.Fn ID.eq ID.is_clone S.can_next S.remaining s.graph };
 
-    ghost next_gives = { λ s r t. GivesOn F.Fn ID.eq S.next_gives s r t };
+    ghost next_gives = { λ s r t. Steps F.Fn ID.eq S.next_gives s r t };
 
     ghost remaining = { λ s. at_most (nodes_left S.remaining s) };
 

@@ -7,7 +7,7 @@ ghost use Rattle.jj_walks.specs.GroupedSteps.{answer_of};
 ghost use Rattle.jj_walks.specs.LazySteps.{CanGo, FailsNext, HasCause, Refills, YieldsOn};
 
 use crate::look_ahead::{Chunk, take_chunk};
-use jj_dag::shown::Shown;
+use jj_dag::closures::Closures;
 use jj_dag::walk_error::WalkError;
 use std::alloc::{AllocError, Global};
 use std::collections::HashSet;
@@ -18,7 +18,7 @@ use std::mem;
 #[derive(Drop)]
 pub struct LazyOrder<T, ID: Hash + Eq, E, F, N, C> {
     pub alloc: Global,
-    pub graph: Shown<F, N>,
+    pub graph: Closures<F, N>,
     pub cycle_fn: C,
     /// The nodes that come next, in reverse.
     pub ready: Vec<T>,

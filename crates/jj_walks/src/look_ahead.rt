@@ -1,13 +1,14 @@
 //! Look-ahead of the chunked order: best-first exploration until one pending node is left that all
 //! explored nodes reach.
 ghost use Rattle.std.specs.Prelude.{◌≡◌, ◌≤◌, ◌∷◌, [], length, true, IfSome, IfNone};
+ghost use Rattle.std.specs.Iterator.{IsFiniteIterable};
 ghost use Rattle.std.specs.List.Sorted.{IsPermutation};
 ghost use Rattle.std.specs.BinaryHeap.{heap_items};
+ghost use Rattle.jj_dag.specs.ClosureGraph.{IsWalkable};
 ghost use Rattle.jj_walks.specs.Exploring.{ExploresFrom, TakesChunk};
-ghost use Rattle.jj_dag.specs.Owed.{CanShow};
 
-use jj_dag::greatest_order::Collected;
-use jj_dag::shown::{Shown, ids_of};
+use jj_dag::closures::{Closures, ids_of};
+use jj_dag::greatest_order::IndexedGraph;
 use jj_dag::walk_error::WalkError;
 use std::alloc::{AllocError, Global};
 use std::collections::BinaryHeap;
@@ -44,34 +45,34 @@ pub struct Chunk<T> {
 
 // Expands the greatest pending node until at most one remains and no root was found.
 fn explore<F, N, T: Ord + Drop, ID: Hash + Eq + Drop, E: Drop, NI>(
-    shown: &mut Shown<F, N>,
+    closures: &mut Closures<F, N>,
     alloc: Global,
     start: Vec<T>,
-) -> Result<(Collected<T, ID>, Vec<T>), WalkError<E>>
+) -> Result<(IndexedGraph<T, ID>, Vec<T>), WalkError<E>>
 where
     NI: IntoIterator<Item = Result<T, E>, IntoIter: Drop>,
     F: Fn(&T) -> Result<ID, AllocError>,
     N: FnMut(&T) -> NI,
-    requires { CanShow F.Fn N.FnMut NI.IntoIterator NI.IntoIter.Iterator shown.old.id_fn
-        shown.old.neighbors_fn }
-    ensures { ExploresFrom ID.eq F.Fn N.FnMut NI.IntoIterator NI.IntoIter.Iterator shown.old
-        shown.new start.items result }
+    requires { IsWalkable F.Fn N.FnMut (IsFiniteIterable NI.into_iter_gives NI.IntoIter.can_next
+        NI.IntoIter.remaining) closures.old.id_fn closures.old.neighbors_fn }
+    ensures { ExploresFrom ID.eq F.Fn N.FnMut NI.IntoIterator NI.IntoIter.Iterator closures.old
+        closures.new start.items result }
 {
     let mut waiting = BinaryHeap::from(start);
-    let mut found = Collected::new(alloc);
+    let mut found = IndexedGraph::new(alloc);
     let mut root_met = false;
     while let Some(node) = next_to_explore(&mut waiting, found.nodes.len(), root_met) {
-        let id = (shown.id_fn)(&node)?;
+        let id = (closures.id_fn)(&node)?;
         if found.index_of.contains_key(&id) {
             continue;
         }
-        let neighbors = match shown.neighbors(alloc, &node) {
+        let neighbors = match closures.neighbors(alloc, &node) {
             Ok(neighbors) => neighbors,
             Err(refused) => return Err(refused),
         };
-        let ids = ids_of(alloc, &shown.id_fn, &neighbors)?;
+        let ids = ids_of(alloc, &closures.id_fn, &neighbors)?;
         root_met |= ids.is_empty();
-        found.keep(node, id, ids)?;
+        found.add_node(node, id, ids)?;
         waiting.append(&mut BinaryHeap::from(neighbors))?;
     }
     Ok((found, waiting.into_vec()))
@@ -80,7 +81,7 @@ where
 /// Takes a chunk from several starts: all starts, and every node explored before one pending node
 /// is left that they all reach.
 pub fn take_chunk<F, N, T: Ord + Drop, ID: Hash + Eq + Drop, E: Drop, NI>(
-    shown: &mut Shown<F, N>,
+    closures: &mut Closures<F, N>,
     alloc: Global,
     start: Vec<T>,
 ) -> Result<Chunk<T>, WalkError<E>>
@@ -88,12 +89,12 @@ where
     NI: IntoIterator<Item = Result<T, E>, IntoIter: Drop>,
     F: Fn(&T) -> Result<ID, AllocError>,
     N: FnMut(&T) -> NI,
-    requires { CanShow F.Fn N.FnMut NI.IntoIterator NI.IntoIter.Iterator shown.old.id_fn
-        shown.old.neighbors_fn }
-    ensures { TakesChunk ID.eq F.Fn N.FnMut NI.IntoIterator NI.IntoIter.Iterator shown.old
-        shown.new start.items result }
+    requires { IsWalkable F.Fn N.FnMut (IsFiniteIterable NI.into_iter_gives NI.IntoIter.can_next
+        NI.IntoIter.remaining) closures.old.id_fn closures.old.neighbors_fn }
+    ensures { TakesChunk ID.eq F.Fn N.FnMut NI.IntoIterator NI.IntoIter.Iterator closures.old
+        closures.new start.items result }
 {
-    let (found, left) = explore(shown, alloc, start)?;
-    let (nodes, stuck) = found.greatest_first(alloc)?;
+    let (found, left) = explore(closures, alloc, start)?;
+    let (nodes, stuck) = found.into_greatest_order(alloc)?;
     Ok(Chunk { nodes, left, stuck })
 }

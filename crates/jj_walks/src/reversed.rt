@@ -3,7 +3,7 @@ ghost use Rattle.std.specs.Prelude.{◌≡◌, [], IfOk, if◌then◌else◌};
 ghost use Rattle.std.specs.Iterator.{IsFinite};
 ghost use Rattle.jj_walks.specs.ListsByKey.{items_at};
 ghost use Rattle.jj_dag.specs.Outcomes.{IfFails};
-ghost use Rattle.jj_walks.specs.Reversing.{GivesReversed, InputFails};
+ghost use Rattle.jj_walks.specs.Reversing.{ReturnsReversed, InputFails};
 
 use crate::graph::{GraphEdge, GraphNode};
 use crate::lists::push_at;
@@ -31,7 +31,8 @@ where
     requires as_id { F.IsAlwaysCallable as_id }
     requires callable { I.can_next input }
     requires finite { IsFinite (I.remaining input) }
-    ensures reversed { IfOk result (GivesReversed F.Fn I.next_gives ID.is_clone ID.eq input as_id) }
+    ensures reversed { IfOk result (ReturnsReversed F.Fn I.next_gives ID.is_clone ID.eq input
+        as_id) }
     ensures refused { IfFails result (InputFails I.next_gives input) }
 {
     let mut nodes = Vec::new(alloc);

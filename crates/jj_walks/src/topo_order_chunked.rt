@@ -1,12 +1,12 @@
 //! A topological order, one chunk at a time.
 ghost use Rattle.std.specs.Prelude.{◌≡◌, ◌⊎◌, [], map, IfOk, OnErr};
-ghost use Rattle.jj_dag.specs.ClosureGraph.{InEachModel, IsMadeFrom, IsNeighborsError, graph_of_items};
-ghost use Rattle.jj_dag.specs.Outcomes.{IfFails, IsReachedBesideCycle};
+ghost use Rattle.jj_dag.specs.ClosureGraph.{InEachModel, IsMadeBesideCycle, IsNeighborsError, graph_of_items};
+ghost use Rattle.jj_dag.specs.Outcomes.{IfFails};
 ghost use Rattle.jj_walks.specs.Chunks.{IsNextChunk};
-ghost use Rattle.jj_walks.specs.NextChunk.{list_of_nodes};
+ghost use Rattle.jj_walks.specs.NodeLists.{list_of_nodes};
 
 use crate::look_ahead::{Chunk, take_chunk};
-use jj_dag::shown::Shown;
+use jj_dag::closures::Closures;
 use jj_dag::walk_error::WalkError;
 use smallvec::SmallVec;
 use std::alloc::{AllocError, Global};
@@ -46,12 +46,12 @@ where
     ensures error { IfFails result (λ e. IsNeighborsError
         (graph_of_items ID.eq F.Fn N.FnMut NI.IntoIterator NI.IntoIter.Iterator id_fn neighbors_fn)
         (list_of_nodes start.old.items) e
-        ⊎ IsMadeFrom (C.post cycle_fn) IsReachedBesideCycle
+        ⊎ IsMadeBesideCycle (C.post cycle_fn)
         (graph_of_items ID.eq F.Fn N.FnMut NI.IntoIterator NI.IntoIter.Iterator id_fn neighbors_fn)
         (list_of_nodes start.old.items) e) }
     ensures ended { OnErr result (start.new.items ≡ []) }
 {
-    let mut graph = Shown {
+    let mut graph = Closures {
         id_fn,
         neighbors_fn,
     };

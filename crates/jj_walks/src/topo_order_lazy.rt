@@ -6,7 +6,7 @@ ghost use Rattle.jj_walks.specs.LazySteps.{StartsOrder};
 
 use crate::ended::item_or_end;
 use crate::lazy_order::LazyOrder;
-use jj_dag::shown::Shown;
+use jj_dag::closures::Closures;
 use jj_dag::walk_error::WalkError;
 use std::alloc::{AllocError, Global};
 use std::collections::HashSet;
@@ -89,7 +89,7 @@ where
     }
     let order = LazyOrder {
         alloc,
-        graph: Shown {
+        graph: Closures {
             id_fn,
             neighbors_fn,
         },

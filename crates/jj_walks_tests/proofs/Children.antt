@@ -15,8 +15,8 @@ use Rattle.std.proofs.lemmas.List.Elements.{Contains-append_left, Contains-appen
 use Rattle.std.proofs.lemmas.Map.Keys.{IsDistinct-head, IsDistinct-tail}
 use denote.Ref.{Bor}
 use Rattle.jj_walks.specs.declared.graph.GraphEdge.{GraphEdge}
-use Rattle.jj_walks.specs.Reversed.{LeadsToId, ShowsById, ShownGraph, edge_to, incoming_edges, reversed_graph, shown_graph, turned_edges, with_incoming}
-use Rattle.jj_walks.proofs.Answering.{at_first, first_or_rest, in_map, in_rest}
+use Rattle.jj_walks.specs.Reversed.{LeadsToId, ShowsById, ShownGraph, edge_to, incoming_edges, reversed_graph, shown_graph, reversed_edges, with_incoming}
+use Rattle.jj_walks.proofs.Expanding.{at_first, first_or_rest, in_map, in_rest}
 use Rattle.jj_walks.proofs.GroupedOrders.{append-cases}
 use Rattle.jj_walks_tests.specs.declared.commits.Commit.{Commit}
 use Rattle.jj_walks_tests.specs.Branches.{ShowsCommits, parent_edge, parent_edges}
@@ -79,10 +79,10 @@ module _ (commits : List Commit) where
   graph_shown (c ∷ shown) [] h = absurd h
   graph_shown (c ∷ shown) (n ∷ nodes) h = let rest = graph_shown shown nodes h.1 in let first = h.0 in λ i. (first.0 i, first.1 i) ∷ rest i
 
-  turned_from : (i : ℕ) (c : Bor Commit) (ps : List ℕ) (e : GraphEdge (Bor Commit)) → Contains (turned_edges eqb i c (map (parent_edge commits) ps)) e → Contains ps i × (e.target ≡ c)
+  turned_from : (i : ℕ) (c : Bor Commit) (ps : List ℕ) (e : GraphEdge (Bor Commit)) → Contains (reversed_edges eqb i c (map (parent_edge commits) ps)) e → Contains ps i × (e.target ≡ c)
   turned_from i c [] e h = absurd (omega (arith, h.1))
   turned_from i c (p ∷ ps) e h =
-      let rest = turned_edges eqb i c (map (parent_edge commits) ps) in
+      let rest = reversed_edges eqb i c (map (parent_edge commits) ps) in
       let P : Bool → Type 0 = λ b. eqb p i ≡ b → Contains (map (edge_to c) (cond b (parent_edge commits p ∷ filter (λ edge. eqb edge.target i) (map (parent_edge commits) ps)) (filter (λ edge. eqb edge.target i) (map (parent_edge commits) ps)))) e
       → Contains (p ∷ ps) i × (e.target ≡ c) in
       elim (eqb p i) as P [
@@ -92,10 +92,10 @@ module _ (commits : List Commit) where
         | false ↦ λ t at. let q = turned_from i c ps e at in (in_rest p ps i q.0, q.1)
       ] refl h
 
-  turned_has : (i : ℕ) (c : Bor Commit) (ps : List ℕ) → Contains ps i → (e : GraphEdge (Bor Commit)) × Contains (turned_edges eqb i c (map (parent_edge commits) ps)) e × (e.target ≡ c)
+  turned_has : (i : ℕ) (c : Bor Commit) (ps : List ℕ) → Contains ps i → (e : GraphEdge (Bor Commit)) × Contains (reversed_edges eqb i c (map (parent_edge commits) ps)) e × (e.target ≡ c)
   turned_has i c [] h = absurd (omega (arith, h.1))
   turned_has i c (p ∷ ps) h =
-      let rest = turned_edges eqb i c (map (parent_edge commits) ps) in
+      let rest = reversed_edges eqb i c (map (parent_edge commits) ps) in
       let P : Bool → Type 0 = λ b. eqb p i ≡ b → (e : GraphEdge (Bor Commit))
       × Contains (map (edge_to c) (cond b (parent_edge commits p ∷ filter (λ edge. eqb edge.target i) (map (parent_edge commits) ps)) (filter (λ edge. eqb edge.target i) (map (parent_edge commits) ps)))) e
       × (e.target ≡ c) in
@@ -111,12 +111,12 @@ module _ (commits : List Commit) where
   incoming_from i (c ∷ shown) e h =
       ⊎_elim (λ own. let q = turned_from i c c.now.parents.items e own in (c, at_first c shown, q.0, q.1))
       (λ later. let q = incoming_from i shown e later in (q.0, in_rest c shown q.0 q.1, q.2, q.3))
-      (append-cases (turned_edges eqb i c (parent_edges commits c.now)) (incoming_edges eqb i (edges_of shown)) e h)
+      (append-cases (reversed_edges eqb i c (parent_edges commits c.now)) (incoming_edges eqb i (edges_of shown)) e h)
 
   incoming_has : (i : ℕ) (shown : List (Bor Commit)) (c : Bor Commit) → Contains shown c → Contains c.now.parents.items i → (e : GraphEdge (Bor Commit)) × Contains (incoming_edges eqb i (edges_of shown)) e × (e.target ≡ c)
   incoming_has i [] c at parent = absurd (omega (arith, at.1))
   incoming_has i (d ∷ shown) c at parent =
-      let own = turned_edges eqb i d (parent_edges commits d.now) in
+      let own = reversed_edges eqb i d (parent_edges commits d.now) in
       let later = incoming_edges eqb i (edges_of shown) in
       ⊎_elim (λ here.
       let q = turned_has i d d.now.parents.items (subst (λ (x : Bor Commit). Contains x.now.parents.items i) (sym here) parent) in

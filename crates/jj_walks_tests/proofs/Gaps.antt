@@ -15,7 +15,7 @@ use Rattle.std.proofs.lemmas.Slice.Eq.{slice_eq-Decides}
 use Rattle.std.proofs.lemmas.Iterator.Consumers.{YieldsList-from_first}
 use denote.Ref.{Bor}
 use Rattle.jj_dag.specs.ClosureGraph.{Implements, MayReturn, ReturnsId, YieldsOk}
-use Rattle.jj_dag.specs.Walk.{AreNodes, DrainsTo, Numbered}
+use Rattle.jj_dag.specs.Walk.{AreNodes, DrainsTo, Model}
 use Rattle.jj_dag.proofs.ClosureGraphs.{may_return_says}
 use Rattle.jj_dag.proofs.Collecting.{are_nodes}
 use Rattle.jj_dag.proofs.Walking.{drained_are}
@@ -29,7 +29,7 @@ use Rattle.jj_walks_tests.specs.Gaps.{has_ids, whole_graph, tells_gap, HasTextOf
 use Rattle.jj_walks_tests.proofs.Numbering.{walk_closed, walk_neighbors, node, node_has, node_stands, has_found, found_has, found_id, ids_are, starts_are_nodes}
 
 module _ (commits : List Commit) where
-  abbrev pub walk_whole : Numbered (Bor Commit) ℕ
+  abbrev pub walk_whole : Model (Bor Commit) ℕ
   walk_whole = record { graph = whole_graph commits; is_node = λ n. is_some (commit_with commits n); node = node commits; id = λ i. i }
 
   pub whole_closed : (n : ℕ) → is_some (commit_with commits n) ≡ true → AreNodes walk_whole (whole_graph commits n)

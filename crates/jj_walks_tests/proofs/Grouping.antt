@@ -12,12 +12,12 @@ use denote.Ref.{Bor}
 use Rattle.jj_walks.specs.declared.graph.GraphEdge.{GraphEdge}
 use Rattle.jj_walks.specs.declared.grouped.GroupedGraphError.{GroupedGraphError}
 use Rattle.jj_walks.specs.declared.grouped.GroupedGraphError.TheVariants.{Input, DuplicateId, MissingNode, NotChildFirst, Memory}
-use Rattle.jj_walks.specs.Grouped.{Entry, History, IsHistory, Gave, Prioritized, Read, first_wanted, given_nodes, held, held_at, is_wanted, edges_to, read_nodes}
+use Rattle.jj_walks.specs.Grouped.{Entry, History, IsHistory, Yielded, Prioritized, Read, first_prioritized, yielded_nodes, pending_nodes, pending_at, is_required, edges_to, read_nodes}
 use Rattle.jj_walks.specs.GroupedOrders.{AreApart, IsGroupedOrder, IsWhole, PrioritizesFirst, has_node, prioritized_ids}
 use Rattle.jj_walks.specs.GroupedSteps.{IsCause, IsEntryOf, Item, ReadsTo, read_on}
-use Rattle.jj_walks.specs.HeldNodes.{item_of, listed_item}
-use Rattle.jj_walks.proofs.GroupedOrders.{apart-rest, append-cases, found-in, grouped-order, held-read, none-missing, none-stuck, none-twice}
-use Rattle.jj_dag.proofs.Asking.{zip-push}
+use Rattle.jj_walks.specs.PendingNodes.{item_of, listed_item}
+use Rattle.jj_walks.proofs.GroupedOrders.{apart-rest, append-cases, found-in, grouped-order, pending-read, none-missing, none-stuck, none-twice}
+use Rattle.jj_dag.proofs.Expanding.{zip-push}
 use Rattle.jj_walks.proofs.Histories.{cons-cases}
 use Rattle.jj_walks_tests.specs.declared.commits.Commit.{Commit}
 use Rattle.jj_walks_tests.specs.Branches.{ShowsCommits, node_of, nodes_of, parent_edges}
@@ -32,10 +32,10 @@ pub record IsRun (commits : List Commit) (wanted : ℕ) (h : History (Bor Commit
   pub all : map (λ c. c.now) (done ++ rest) ≡ commits
   pub shows : ShowsCommits commits rest input
   pub reads : read_nodes h ≡ nodes_of commits done
-  pub gives : given_nodes h ≡ nodes_of commits order
+  pub gives : yielded_nodes h ≡ nodes_of commits order
   pub ids : prioritized_ids h ≡ wanted ∷ []
   pub before : PrioritizesFirst h
-  pub wanted_is : first_wanted h ≡ Some wanted
+  pub wanted_is : first_prioritized h ≡ Some wanted
 
 module _ (commits : List Commit) (wanted : ℕ) where
   nodes-push : (xs : List (Bor Commit)) (x : Bor Commit) → nodes_of commits (xs ++ x ∷ []) ≡ node_of commits x ∷ nodes_of commits xs
@@ -88,11 +88,11 @@ module _ (commits : List Commit) (wanted : ℕ) where
         wanted_is = k.wanted_is;
       }
 
-  pub gave-one : (h : History (Bor Commit) ℕ) (input : List (Result Node ℕ)) (order : List (Bor Commit)) (e : Entry (Bor Commit) ℕ) (c : Bor Commit) → e.node ≡ c → IsHistory eqb (Gave e ∷ h)
-      → IsRun commits wanted h input order → IsRun commits wanted (Gave e ∷ h) input (order ++ c ∷ [])
+  pub gave-one : (h : History (Bor Commit) ℕ) (input : List (Result Node ℕ)) (order : List (Bor Commit)) (e : Entry (Bor Commit) ℕ) (c : Bor Commit) → e.node ≡ c → IsHistory eqb (Yielded e ∷ h)
+      → IsRun commits wanted h input order → IsRun commits wanted (Yielded e ∷ h) input (order ++ c ∷ [])
   gave-one h input order e c node told k =
-      let at : Contains (held eqb h) e = found-in (λ g. eqb g.id e.id) (held eqb h) e told.0.held in
-      let is : e ≡ node_of commits e.node = its-node k.done e (subst (λ (l : List (Entry (Bor Commit) ℕ)). Contains l e) k.reads (held-read nat_eq_equiv h e at)) in
+      let at : Contains (pending_nodes eqb h) e = found-in (λ g. eqb g.id e.id) (pending_nodes eqb h) e told.0.pending in
+      let is : e ≡ node_of commits e.node = its-node k.done e (subst (λ (l : List (Entry (Bor Commit) ℕ)). Contains l e) k.reads (pending-read nat_eq_equiv h e at)) in
       let same : e ≡ node_of commits c = is ∙ ap (node_of commits) node in
       record {
         done = k.done;
@@ -100,7 +100,7 @@ module _ (commits : List Commit) (wanted : ℕ) where
         all = k.all;
         shows = k.shows;
         reads = k.reads;
-        gives = ap (λ x. x ∷ given_nodes h) same ∙ ap (λ l. node_of commits c ∷ l) k.gives ∙ sym (nodes-push order c);
+        gives = ap (λ x. x ∷ yielded_nodes h) same ∙ ap (λ l. node_of commits c ∷ l) k.gives ∙ sym (nodes-push order c);
         ids = k.ids;
         before = k.before;
         wanted_is = k.wanted_is;
@@ -118,7 +118,7 @@ module _ (commits : List Commit) (wanted : ℕ) where
       go (c ∷ more) e s = absurd s
 
   -- a run that ends has yielded the commits in a grouped order
-  pub run-ended : (h : History (Bor Commit) ℕ) (order : List (Bor Commit)) → IsRun commits wanted h [] order → IsHistory eqb h → held eqb h ≡ []
+  pub run-ended : (h : History (Bor Commit) ℕ) (order : List (Bor Commit)) → IsRun commits wanted h [] order → IsHistory eqb h → pending_nodes eqb h ≡ []
       → (shown : List (Bor Commit)) × (map (λ c. c.now) shown ≡ commits) × (IsWhole eqb (nodes_of commits shown) → IsGroupedOrder eqb (nodes_of commits shown) (Some wanted) (nodes_of commits order))
   run-ended h order k told none =
       let all = all-read h order k in
@@ -127,7 +127,7 @@ module _ (commits : List Commit) (wanted : ℕ) where
   abbrev pub Fails : Type 0
   Fails = (shown : List (Bor Commit)) × (map (λ c. c.now) shown ≡ commits) × (IsWhole eqb (nodes_of commits shown) → has_node eqb (nodes_of commits shown) wanted ≡ true → ⊥)
 
-  run-missing : (h : History (Bor Commit) ℕ) (order : List (Bor Commit)) (i : ℕ) → IsRun commits wanted h [] order → IsHistory eqb h → is_wanted eqb h i ≡ true → held_at eqb h i ≡ None → Fails
+  run-missing : (h : History (Bor Commit) ℕ) (order : List (Bor Commit)) (i : ℕ) → IsRun commits wanted h [] order → IsHistory eqb h → is_required eqb h i ≡ true → pending_at eqb h i ≡ None → Fails
   run-missing h order i k told want none =
       let all = all-read h order k in (
         k.done,
@@ -142,13 +142,13 @@ module _ (commits : List Commit) (wanted : ℕ) where
           nothing : Contains {X = ℕ} [] j → ⊥
           nothing (n, less, s) = absurd (omega arith)
 
-  run-stuck : (h : History (Bor Commit) ℕ) (order : List (Bor Commit)) → IsRun commits wanted h [] order → (held eqb h ≡ [] → ⊥) → ((i : ℕ) → is_some (held_at eqb h i) ≡ true → edges_to eqb h i ≡ 0 → ⊥) → Fails
+  run-stuck : (h : History (Bor Commit) ℕ) (order : List (Bor Commit)) → IsRun commits wanted h [] order → (pending_nodes eqb h ≡ [] → ⊥) → ((i : ℕ) → is_some (pending_at eqb h i) ≡ true → edges_to eqb h i ≡ 0 → ⊥) → Fails
   run-stuck h order k some stuck =
       let all = all-read h order k in
       (k.done, all.1, λ whole has. let w : IsWhole eqb (read_nodes h) = rw (← all.0) at whole in none-stuck nat_eq_equiv h w.child_first some stuck)
 
   run-twice : (h : History (Bor Commit) ℕ) (item : Node) (input : List (Result Node ℕ)) (order : List (Bor Commit)) (e : Entry (Bor Commit) ℕ) → e.id ≡ item.0.now.id → IsRun commits wanted h (Ok item ∷ input) order
-      → is_some (held_at eqb h e.id) ≡ true → Fails
+      → is_some (pending_at eqb h e.id) ≡ true → Fails
   run-twice h item input order e id k some =
       let n = next-item h (Ok item) input order k in
       let item_is : item ≡ n.2 = cc in
@@ -201,8 +201,8 @@ module _ (commits : List Commit) (wanted : ℕ) where
         let n = next-item h (Err e) (left t) order (subst (λ (l : List (Result Node ℕ)). IsRun commits wanted h l order) (some s t (Err e) good step).0 k) in
         let same : Err e ≡ Ok n.2 = n.4 in
         absurd cc
-    run-refused h s t DuplicateId order good told k (item, e, step, entry, held) =
-        inr (run-twice h item (left t) order e (its-id item e entry) (subst (λ (l : List (Result Node ℕ)). IsRun commits wanted h l order) (some s t (Ok item) good step).0 k) held)
+    run-refused h s t DuplicateId order good told k (item, e, step, entry, pending_nodes) =
+        inr (run-twice h item (left t) order e (its-id item e entry) (subst (λ (l : List (Result Node ℕ)). IsRun commits wanted h l order) (some s t (Ok item) good step).0 k) pending_nodes)
     run-refused h s t MissingNode order good told k (i, step, want, absent) =
         inr (run-missing h order i (subst (λ (l : List (Result Node ℕ)). IsRun commits wanted h l order) (none s t good step) k) told want absent)
     run-refused h s t NotChildFirst order good told k (step, more, stuck) =
@@ -216,10 +216,10 @@ module _ (commits : List Commit) (wanted : ℕ) {S F : Type 0} {ids : Shared F (
   after : IsRun commits wanted (read_on reads h) (left t) order × IsGood t
   after = run-read commits wanted ids steps as_id left IsGood some none says h s t items reads order good run.given run.entries k
 
-  pub run-gave : (e : Entry (Bor Commit) ℕ) (c : Bor Commit) → e.node ≡ c → IsHistory eqb (Gave e ∷ read_on reads h) → IsRun commits wanted (Gave e ∷ read_on reads h) (left t) (order ++ c ∷ []) × IsGood t
+  pub run-gave : (e : Entry (Bor Commit) ℕ) (c : Bor Commit) → e.node ≡ c → IsHistory eqb (Yielded e ∷ read_on reads h) → IsRun commits wanted (Yielded e ∷ read_on reads h) (left t) (order ++ c ∷ []) × IsGood t
   run-gave e c node told = (gave-one commits wanted (read_on reads h) (left t) order e c node told after.0, after.1)
 
-  pub run-done : (u : S) → steps t None u → IsHistory eqb (read_on reads h) → held eqb (read_on reads h) ≡ []
+  pub run-done : (u : S) → steps t None u → IsHistory eqb (read_on reads h) → pending_nodes eqb (read_on reads h) ≡ []
       → (shown : List (Bor Commit)) × (map (λ c. c.now) shown ≡ commits) × (IsWhole eqb (nodes_of commits shown) → IsGroupedOrder eqb (nodes_of commits shown) (Some wanted) (nodes_of commits order))
   run-done u step told nothing = run-ended commits wanted (read_on reads h) order (subst (λ (l : List (Result Node ℕ)). IsRun commits wanted (read_on reads h) l order) (none t u after.1 step) after.0) told nothing
 

@@ -11,11 +11,10 @@ use Rattle.std.specs.declared.iter.Iterator as iter
 use Rattle.std.proofs.lemmas.Iterator.Consumers.{YieldsList-from_first}
 use Rattle.std.proofs.lemmas.List.{map-id}
 use denote.Ref.{Bor}
-use Rattle.jj_dag.specs.ClosureGraph.{ClosureGraph, Implements, InEachModel, IsInputError, IsMadeFrom, IsNeighborsError, Listing, MayReturn, ReturnsId}
+use Rattle.jj_dag.specs.ClosureGraph.{ClosureGraph, Implements, InEachModel, IsInputError, IsMadeBesideCycle, IsNeighborsError, Listing, MayReturn, ReturnsId}
 use Rattle.jj_dag.specs.Graph.{ReachesCycle}
-use Rattle.jj_dag.specs.Outcomes.{IsReachedBesideCycle}
-use Rattle.jj_dag.specs.Failing.{FailsAfterNodes}
-use Rattle.jj_dag.specs.Walk.{DrainsTo, Numbered}
+use Rattle.jj_dag.specs.FallibleGraphs.{FailsAfterNodes}
+use Rattle.jj_dag.specs.Walk.{DrainsTo, Model}
 use Rattle.jj_dag.proofs.ClosureGraphs.{may_return_says}
 use Rattle.jj_dag.proofs.FailingWalks.{begun_are}
 use Rattle.jj_dag.proofs.GreatestOrder.{map_twice}
@@ -105,12 +104,12 @@ module _ (commits : List Commit) where
       no_id_fails items e begun.0 (parent_graph commits x) (begun.1 ∙ ap (λ l. l ++ begun.0) (map-id (items ++ Err e ∷ [])))
 
   -- a property of each model is one of the commits with some ids
-  pub of_commits : {E : Type 0} {graph : ClosureGraph (Bor Commit) (Bor ℕ) E} {start : Listing (Bor Commit) E} {P : Numbered (Bor Commit) (Bor ℕ) → List ℕ → Type 0} (ids : List ℕ)
+  pub of_commits : {E : Type 0} {graph : ClosureGraph (Bor Commit) (Bor ℕ) E} {start : Listing (Bor Commit) E} {P : Model (Bor Commit) (Bor ℕ) → List ℕ → Type 0} (ids : List ℕ)
       → ((xs : List (Bor Commit)) → start.yields xs → map (node commits) xs ≡ known_ids commits ids) → InEachModel graph start P → graph.implements (walk_of commits) → P (walk_of commits) (known_ids commits ids)
   of_commits ids same k implemented = let starts = same k.starts k.yielded in rw starts at (k.holds (walk_of commits) implemented (rw starts (known_are_nodes commits ids)))
 
   -- an error of a walk from them, whose lists never fail, was made beside a cycle
-  pub beside_cycle : {E : Type 0} {graph : ClosureGraph (Bor Commit) (Bor ℕ) E} {start : Listing (Bor Commit) E} {made : Bor Commit → E → Type 0} {e : E} → IsNeighborsError graph start e ⊎ IsMadeFrom made IsReachedBesideCycle graph start e
+  pub beside_cycle : {E : Type 0} {graph : ClosureGraph (Bor Commit) (Bor ℕ) E} {start : Listing (Bor Commit) E} {made : Bor Commit → E → Type 0} {e : E} → IsNeighborsError graph start e ⊎ IsMadeBesideCycle made graph start e
       → (ids : List ℕ) → ((xs : List (Bor Commit)) → start.yields xs → map (node commits) xs ≡ known_ids commits ids) → ((x : Bor Commit) → graph.fails x e → ⊥) → graph.implements (walk_of commits) → ReachesCycle (parent_graph commits) (known_ids commits ids)
   beside_cycle (inl failed) ids same never implemented = absurd (never failed.node failed.fails)
   beside_cycle (inr made) ids same never implemented = (of_commits ids same made.holds implemented).1
@@ -131,7 +130,7 @@ module _ (commits : List Commit) where
   known_rest ids starts same list (inr (error, (xs, begins), next)) looks returns = absurd (never_fails commits ids starts (map (λ x. Ok x) xs) error same list begins)
 
 -- Closures that implement a model implement it under other numbers.
-module _ {T ID F N R : Type 0} (w : Numbered T ID) (to back : ℕ → ℕ) (unused : ℕ) (undo : (n : ℕ) → w.is_node n ≡ true → back (to n) ≡ n) (free : (n : ℕ) → w.is_node n ≡ true → to n ≢ unused)
+module _ {T ID F N R : Type 0} (w : Model T ID) (to back : ℕ → ℕ) (unused : ℕ) (undo : (n : ℕ) → w.is_node n ≡ true → back (to n) ≡ n) (free : (n : ℕ) → w.is_node n ≡ true → to n ≢ unused)
     (eq : ID → ID → Bool) (ids : Shared F (Bor T × Unit {0}) (Result ID AllocError)) (lists : Mut N (Bor T × Unit {0}) R) (yields : R → List T → Type 0) {id_fn : F} {neighbors_fn : N} where
   pub renumbered_implemented : Implements w eq ids lists yields id_fn neighbors_fn → Implements (renumbered w to back unused) eq ids lists yields id_fn neighbors_fn
   renumbered_implemented k =

@@ -7,7 +7,7 @@ use Rattle.std.proofs.lemmas.Fn.{always_returns_same}
 use Rattle.std.proofs.lemmas.Iterator.Consumers.{YieldsList-from_first}
 use denote.Ref.{Bor}
 use Rattle.jj_dag.specs.ClosureGraph.{ReturnsId}
-use Rattle.jj_dag.specs.Failing.{sound_items}
+use Rattle.jj_dag.specs.FallibleGraphs.{ok_items}
 use Rattle.jj_dag.specs.Graph.{HasEdge, ReachedFrom}
 use Rattle.jj_dag.specs.Walk.{AreNodes, DrainsTo}
 use Rattle.jj_dag.proofs.ClosureGraphs.{may_return_says}
@@ -15,8 +15,8 @@ use Rattle.jj_dag.proofs.Collecting.{are_nodes}
 use Rattle.jj_dag.proofs.FailingWalks.{Contains-from_sound, Contains-sound}
 use Rattle.jj_dag.proofs.Reaching.{Contains-reached}
 use Rattle.jj_dag.proofs.Walking.{drained_are}
-use Rattle.jj_walks.specs.Answers.{Answer, ImplementsItems, IsRun, MayAnswer, item_of}
-use Rattle.jj_walks.proofs.Answering.{at_first, first_or_rest, in_map, in_rest, numbered_back}
+use Rattle.jj_walks.specs.Expansions.{Expansion, ImplementsItems, IsRun, MayList, item_of}
+use Rattle.jj_walks.proofs.Expanding.{at_first, first_or_rest, in_map, in_rest, numbered_back}
 use Rattle.jj_walks.proofs.DfsOkRuns.{answer_of, answered, error_cause, errors_given, given_once, items_given, reached, returned, start_errors_given, starts_given}
 use Rattle.jj_walks_tests.specs.declared.commits.Commit.{Commit}
 use Rattle.jj_walks_tests.specs.declared.missing.Lookups.{Lookups}
@@ -67,7 +67,7 @@ module _ (commits : List Commit) where
       is_error (Err n) m e = let same : n ≡ m = cc in ap (λ k. Err k) same
 
   -- the commits among the items have the known ids for their numbers
-  known_of : (xs : List (Result (Bor Commit) ℕ)) (ids : List ℕ) → Items xs ids → sound_items (map (item_of (node commits)) xs) ≡ known_ids commits ids
+  known_of : (xs : List (Result (Bor Commit) ℕ)) (ids : List ℕ) → Items xs ids → ok_items (map (item_of (node commits)) xs) ≡ known_ids commits ids
   known_of [] [] e = refl
   known_of [] (id ∷ ids) e = absurd cc
   known_of (x ∷ xs) [] e = absurd cc
@@ -77,7 +77,7 @@ module _ (commits : List Commit) where
       let found : commit_with commits id ≡ Some c.now = found_one c.now id (commit_with commits id) first in
       let named : c.now.id ≡ id = found_id commits id c.now found in
       let has : has_commit commits c.now ≡ true = found_has commits c.now (ap (commit_with commits) named ∙ found) in
-      ap (λ n. n ∷ sound_items (map (item_of (node commits)) xs)) (node_id commits c has) ∙ ap (λ l. c.now.id ∷ l) (known_of xs ids rest)
+      ap (λ n. n ∷ ok_items (map (item_of (node commits)) xs)) (node_id commits c has) ∙ ap (λ l. c.now.id ∷ l) (known_of xs ids rest)
       ∙ sym (ap (λ o. ids_of (cons_option o (filter_map (commit_with commits) ids))) found)
   known_of (Err n ∷ xs) (id ∷ ids) e =
       let rest : Items xs ids = cc in
@@ -95,7 +95,7 @@ module _ (commits : List Commit) where
       ap (λ ps. ids_of (filter_map (commit_with commits) ps)) (sym found.2.2)
       ∙ sym (ap (λ o. elim o [ None ↦ [] | Some d ↦ ids_of (parents_in commits d) ]) (ap (commit_with commits) (node_id commits x has) ∙ found.1))
 
-  sound_numbers : (f : Bor Commit → ℕ) (xs : List (Result (Bor Commit) ℕ)) → sound_items (map (item_of f) xs) ≡ map f (sound_items xs)
+  sound_numbers : (f : Bor Commit → ℕ) (xs : List (Result (Bor Commit) ℕ)) → ok_items (map (item_of f) xs) ≡ map f (ok_items xs)
   sound_numbers f [] = refl
   sound_numbers f (Ok x ∷ xs) = ap (λ l. f x ∷ l) (sound_numbers f xs)
   sound_numbers f (Err e ∷ xs) = sound_numbers f xs
@@ -120,18 +120,18 @@ module _ (commits : List Commit) where
 
     module _ (ids : List ℕ) (starts found : List (Result (Bor Commit) ℕ)) (listed : Items starts ids)
         (run : IsRun (λ i j. eqb i.now j.now) ids_of_nodes lists (DrainsTo becomes steps) id_fn neighbors_fn starts found) where
-      start_nodes : AreNodes (walk_of commits) (sound_items (map (item_of (node commits)) starts))
+      start_nodes : AreNodes (walk_of commits) (ok_items (map (item_of (node commits)) starts))
       start_nodes = rw (known_of starts ids listed) (known_are_nodes commits ids)
 
-      reached_found : (a : ℕ) → Contains (sound_items (map (item_of (node commits)) found)) a → ReachedFrom (parent_graph commits) (known_ids commits ids) a
+      reached_found : (a : ℕ) → Contains (ok_items (map (item_of (node commits)) found)) a → ReachedFrom (parent_graph commits) (known_ids commits ids) a
       reached_found a h =
           subst (λ (l : List ℕ). ReachedFrom (parent_graph commits) l a) (known_of starts ids listed)
           (reached (λ i j. eqb i.now j.now) ids_of_nodes lists (DrainsTo becomes steps) id_fn neighbors_fn starts found run (walk_of commits) items_implemented start_nodes a h)
 
-      ids_found : sound_items (map (item_of (node commits)) found) ≡ found_ids found
-      ids_found = sound_numbers (node commits) found ∙ reached_ids commits ids (sound_items found) (λ a h. reached_found a (subst (λ (l : List ℕ). Contains l a) (sym (sound_numbers (node commits) found)) h))
+      ids_found : ok_items (map (item_of (node commits)) found) ≡ found_ids found
+      ids_found = sound_numbers (node commits) found ∙ reached_ids commits ids (ok_items found) (λ a h. reached_found a (subst (λ (l : List ℕ). Contains l a) (sym (sound_numbers (node commits) found)) h))
 
-      answered_items : (x : Answer (Bor Commit) ℕ) → MayAnswer (λ i j. eqb i.now j.now) ids_of_nodes lists (DrainsTo becomes steps) neighbors_fn x → Items x.items x.node.now.parents.items
+      answered_items : (x : Expansion (Bor Commit) ℕ) → MayList (λ i j. eqb i.now j.now) ids_of_nodes lists (DrainsTo becomes steps) neighbors_fn x → Items x.items x.node.now.parents.items
       answered_items x (r, may, d) =
           let P : Bor Commit → Lookups → Type 0 = λ y s. (s.commits.now ≡ commits) × (s.ids.now ≡ y.now.parents.items) in
           let says : P x.node r = may_return_says lists P (always_returns_same lists _ neighbors_fn (λ a s after h. let k = looks a s after h in ((k.0, k.1), k.2))) may in
@@ -143,27 +143,27 @@ module _ (commits : List Commit) where
       node_reached : (x : Bor Commit) → Contains found (Ok x) → ReachedFrom (parent_graph commits) (known_ids commits ids) (node commits x)
       node_reached x h = reached_found (node commits x) (Contains-sound (numbers found) (node commits x) (in_map (item_of (node commits)) found (Ok x) h))
 
-      own_items : (x : Bor Commit) → Contains found (Ok x) → (a : Answer (Bor Commit) ℕ) × Contains run.answers a × (a.node ≡ x) × Items a.items x.now.parents.items
+      own_items : (x : Bor Commit) → Contains found (Ok x) → (a : Expansion (Bor Commit) ℕ) × Contains run.expansions a × (a.node ≡ x) × Items a.items x.now.parents.items
       own_items x h =
           let own = answer_of (λ i j. eqb i.now j.now) ids_of_nodes lists (DrainsTo becomes steps) id_fn neighbors_fn starts found run (walk_of commits) items_implemented start_nodes x h in
           (own.0, own.1, own.2, subst (λ (y : Bor Commit). Items own.0.items y.now.parents.items) own.2 (answered_items own.0 (returned (λ i j. eqb i.now j.now) ids_of_nodes lists (DrainsTo becomes steps) id_fn neighbors_fn starts found run (walk_of commits) items_implemented start_nodes own.0 own.1)))
 
-      edge_found : (a b : ℕ) → Contains (sound_items (numbers found)) a → HasEdge (parent_graph commits) a b → Contains (sound_items (numbers found)) b
+      edge_found : (a b : ℕ) → Contains (ok_items (numbers found)) a → HasEdge (parent_graph commits) a b → Contains (ok_items (numbers found)) b
       edge_found a b h edge =
           let back = numbered_back (node commits) found a (Contains-from_sound (numbers found) a h) in
           let own = own_items back.0 back.1 in
           let here : is_some (commit_with commits (node commits back.0)) ≡ true = are_nodes {E = ℕ} (walk_of commits) (λ n. []) (known_ids commits ids) (walk_closed commits) (known_are_nodes commits ids) (node commits back.0) (node_reached back.0 back.1) in
           let listed : Contains (parent_graph commits (node commits back.0)) b = subst (λ (n : ℕ). Contains (parent_graph commits n) b) (sym back.2) edge in
-          let item : Contains (sound_items (numbers own.0.items)) b = subst (λ (l : List ℕ). Contains l b) (sym (known_of own.0.items back.0.now.parents.items own.3 ∙ neighbors_are back.0 here)) listed in
+          let item : Contains (ok_items (numbers own.0.items)) b = subst (λ (l : List ℕ). Contains l b) (sym (known_of own.0.items back.0.now.parents.items own.3 ∙ neighbors_are back.0 here)) listed in
           let parent = numbered_back (node commits) own.0.items b (Contains-from_sound (numbers own.0.items) b item) in
           Contains-sound (numbers found) b (subst (λ (n : ℕ). Contains (numbers found) (Ok n)) parent.2 (items_given (λ i j. eqb i.now j.now) ids_of_nodes lists (DrainsTo becomes steps) id_fn neighbors_fn starts found run (walk_of commits) items_implemented start_nodes own.0 own.1 (Ok parent.0) parent.1))
 
-      all_found : (a : ℕ) → ReachedFrom (parent_graph commits) (known_ids commits ids) a → Contains (sound_items (numbers found)) a
+      all_found : (a : ℕ) → ReachedFrom (parent_graph commits) (known_ids commits ids) a → Contains (ok_items (numbers found)) a
       all_found a (b, at, (n, path)) =
-          let start : Contains (sound_items (numbers starts)) b = subst (λ (l : List ℕ). Contains l b) (sym (known_of starts ids listed)) at in
+          let start : Contains (ok_items (numbers starts)) b = subst (λ (l : List ℕ). Contains l b) (sym (known_of starts ids listed)) at in
           let from = numbered_back (node commits) starts b (Contains-from_sound (numbers starts) b start) in
           let begun : Contains (numbers found) (Ok b) = subst (λ (m : ℕ). Contains (numbers found) (Ok m)) from.2 (starts_given (λ i j. eqb i.now j.now) ids_of_nodes lists (DrainsTo becomes steps) id_fn neighbors_fn starts found run (walk_of commits) items_implemented start_nodes (Ok from.0) from.1) in
-          Contains-reached (parent_graph commits) (sound_items (numbers found)) edge_found n b a (Contains-sound (numbers found) b begun) path
+          Contains-reached (parent_graph commits) (ok_items (numbers found)) edge_found n b a (Contains-sound (numbers found) b begun) path
 
       parent_failed : (x : Bor Commit) (id : ℕ) → Contains found (Ok x) → Contains x.now.parents.items id → commit_with commits id ≡ None → Contains found (Err id)
       parent_failed x id at parent none =

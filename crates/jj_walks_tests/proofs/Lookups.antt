@@ -9,12 +9,12 @@ use Rattle.std.proofs.lemmas.Iterator.Consumers.{YieldsList-from_first}
 use Rattle.std.proofs.lemmas.List.Elements.{Contains-append_right}
 use denote.Ref.{Bor}
 use Rattle.jj_dag.specs.ClosureGraph.{Implements, MayReturn, ReturnsId}
-use Rattle.jj_dag.specs.Failing.{FailsAfterNodes}
+use Rattle.jj_dag.specs.FallibleGraphs.{FailsAfterNodes}
 use Rattle.jj_dag.specs.Graph.{AreMaximalElements, IsPostorder, OnCycleFrom, ReachedFrom}
 use Rattle.jj_dag.specs.Orders.{IsWholePostorder}
 use Rattle.jj_dag.specs.Walk.{DrainsTo}
 use Rattle.jj_dag.proofs.ClosureGraphs.{may_return_says}
-use Rattle.jj_walks.proofs.Answering.{in_reverse}
+use Rattle.jj_walks.proofs.Expanding.{in_reverse}
 use Rattle.jj_dag.proofs.Collecting.{are_nodes}
 use Rattle.jj_dag.proofs.FailingWalks.{begun_are}
 use Rattle.jj_dag.proofs.Plain.{nothing}

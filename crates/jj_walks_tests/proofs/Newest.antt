@@ -10,17 +10,16 @@ use Rattle.std.proofs.lemmas.Bool.Decides.{Decides-eqb}
 use Rattle.std.proofs.lemmas.Cmp.{nat_list_cmp_total, tied_itself}
 use denote.Ref.{Bor}
 use Rattle.jj_dag.specs.Graph.{ReachedFrom, IsTopologicalOrder, IsGreatestTopologicalOrder}
-use Rattle.jj_dag.specs.Failing.{FailingGraph, Fault}
-use Rattle.jj_dag.specs.Walk.{Numbered, AreNodes}
+use Rattle.jj_dag.specs.Walk.{Model, AreNodes}
 use Rattle.jj_dag.proofs.Collecting.{are_nodes}
 use Rattle.jj_dag.proofs.GreatestOrder.{map_twice}
 use Rattle.jj_dag.proofs.Relabelled.{Contains-map}
 use Rattle.jj_dag.proofs.ReadyOrders.{at_split, here, later}
-use Rattle.jj_dag.proofs.Renumbered.{renumbered, renumbered_item, number_is, is_node_of, numbers_are, greater_there}
+use Rattle.jj_dag.proofs.Renumbered.{renumbered, number_is, is_node_of, numbers_are, greater_there}
 use Rattle.jj_walks_tests.specs.declared.commits.Commit.{Commit}
 use Rattle.jj_walks_tests.specs.Commits.{ids_of, commit_with, parent_graph}
 use Rattle.jj_walks_tests.specs.Newest.{IsNewer, IsNewestFirst}
-use Rattle.jj_walks_tests.proofs.Numbering.{walk_of, walk_closed, node, node_has, node_id, has_found, found_id, ids_are, items_of}
+use Rattle.jj_walks_tests.proofs.Numbering.{walk_of, walk_closed, node, node_has, node_id, has_found, found_id, ids_are}
 use Rattle.jj_walks_tests.proofs.Ranks.{IsBefore, rank, rank_below, rank_tells, rank_compares, number_ranked, ranked_back}
 
 found_in : (cs : List Commit) (n : ℕ) → is_some (commit_with cs n) ≡ true → Contains (ids_of cs) n
@@ -57,12 +56,8 @@ module _ (commits : List Commit) where
   free n h = rank_below time_of (ids_of commits) n
 
   -- the numbering by rank
-  abbrev pub ranked_walk : Numbered (Bor Commit) (Bor ℕ)
+  abbrev pub ranked_walk : Model (Bor Commit) (Bor ℕ)
   ranked_walk = renumbered (walk_of commits) to back unused
-
-  -- the parents of the commit of a rank, by their ranks
-  abbrev pub ranked_items : FailingGraph (Fault ℕ)
-  ranked_items r = map (renumbered_item to) (items_of commits (back r))
 
   -- commits of the list compare as their ranks do
   pub commits_compare : (x y : Bor Commit) → ranked_walk.is_node (ranked_walk.node x) ≡ true → ranked_walk.is_node (ranked_walk.node y) ≡ true

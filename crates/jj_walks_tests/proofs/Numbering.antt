@@ -1,6 +1,6 @@
 -- The model of a list of commits: the number of a commit is its id, and that of any other value
 -- is no id.
-use Rattle.std.proofs.Common.{◌≡◌, ℕ, zero, suc, ◌+◌, ◌≤◌, Bool, true, false, cond, ◌&&◌, ◌==◌, List, [], ◌∷◌, map, Option, None, Some, is_some, Result, Ok, refl, sym, ◌∙◌, ap, subst, arith, true≢false, eqb}
+use Rattle.std.proofs.Common.{◌≡◌, ℕ, zero, suc, ◌+◌, ◌≤◌, Bool, true, false, cond, ◌&&◌, ◌==◌, List, [], ◌∷◌, map, Option, None, Some, is_some, refl, sym, ◌∙◌, ap, subst, arith, true≢false, eqb}
 use Rattle.std.specs.List.{Contains, IsDistinct, AllByRecursion, filter_map, cons_option}
 use Rattle.std.proofs.lemmas.Bool.Decides.{Decides-eqb}
 use Rattle.std.proofs.lemmas.Slice.Eq.{slice_eq-Decides}
@@ -12,8 +12,7 @@ use Rattle.std.proofs.lemmas.List.Elements.{Contains-append_right}
 use denote.Ref.{Bor}
 use Rattle.jj_dag.specs.Graph.{HasEdge, AreMaximalElements}
 use Rattle.jj_dag.specs.CommonNodes.{AreClosestCommon}
-use Rattle.jj_dag.specs.Failing.{Fault, sound_items}
-use Rattle.jj_dag.specs.Walk.{Numbered, AreNodes}
+use Rattle.jj_dag.specs.Walk.{Model, AreNodes}
 use Rattle.jj_dag.proofs.Collecting.{are_nodes}
 use Rattle.jj_dag.proofs.Heads.{Contains-from_map, Contains-map}
 use Rattle.jj_walks_tests.specs.declared.commits.Commit.{Commit}
@@ -102,7 +101,7 @@ module _ (commits : List Commit) where
   node x = cond (has_commit commits x.now) x.now.id (unused_id commits)
 
   -- the numbering, where commits lend their ids
-  abbrev pub walk_of : Numbered (Bor Commit) (Bor ℕ)
+  abbrev pub walk_of : Model (Bor Commit) (Bor ℕ)
   walk_of = record { graph = parent_graph commits; is_node = λ n. is_some (commit_with commits n); node = node; id = λ i. i.now }
 
   pub node_id : (x : Bor Commit) → has_commit commits x.now ≡ true → node x ≡ x.now.id
@@ -218,11 +217,3 @@ module _ (commits : List Commit) where
   closest_ids set1 set2 nodes xs m =
       subst (λ l. AreClosestCommon (parent_graph commits) set1 set2 l)
       (ids_are xs (λ x h. node_has x (are_nodes {E = ℕ} walk_of (λ a. []) set1 walk_closed nodes (node x) ((m.all (node x)).0 (Contains-map node xs x h)).0.0))) m
-
-  -- the parents of a commit, as a list that does not fail
-  abbrev pub items_of : ℕ → List (Result ℕ (Fault ℕ))
-  items_of a = map (λ b. Ok b) (parent_graph commits a)
-
-  pub items_sound : (ns : List ℕ) → ns ≡ sound_items (map {B = Result ℕ (Fault ℕ)} (λ b. Ok b) ns)
-  items_sound [] = refl
-  items_sound (n ∷ ns) = ap (λ l. n ∷ l) (items_sound ns)

@@ -22,9 +22,6 @@ module _ (time : ℕ → ℕ) where
   abbrev pub rank : List ℕ → ℕ → ℕ
   rank ns a = count_by (λ m. is_before m a) ns
 
-  before_from : (a b : ℕ) → is_before a b ≡ true → IsBefore a b
-  before_from a b e = grind (arith, nat_tests)
-
   before_true : (a b : ℕ) → IsBefore a b → is_before a b ≡ true
   before_true a b h = grind (arith, nat_tests)
 

@@ -1,23 +1,20 @@
 -- Closures that list parents implement the graph of the commits.
-use Rattle.std.proofs.Common.{◌≡◌, ℕ, List, Result, Ok, map, refl, ◌∙◌, ap, eqb}
-use Rattle.std.specs.Fn.{Called, FnReturnsAt, Mut, Shared}
-use Rattle.std.specs.Iterator.{YieldsFirst, YieldsFirstRef}
+use Rattle.std.proofs.Common.{◌≡◌, ℕ, List, Result, refl, ◌∙◌, ap, eqb}
+use Rattle.std.specs.Fn.{Called, Mut, Shared}
+use Rattle.std.specs.Iterator.{YieldsFirstRef}
 use Rattle.std.specs.List.{filter_map}
 use Rattle.std.proofs.lemmas.Fn.{always_returns_same}
 use Rattle.std.proofs.lemmas.Iterator.Consumers.{YieldsList-from_first}
 use Rattle.std.specs.declared.alloc.AllocError.{AllocError}
 use denote.Ref.{Bor}
-use Rattle.jj_dag.specs.Failing.{ShowsItems}
 use Rattle.jj_dag.specs.ClosureGraph.{Implements, ReturnsId}
 use Rattle.jj_dag.specs.Walk.{DrainsTo}
 use Rattle.jj_dag.proofs.Walking.{drained_are}
 use Rattle.jj_walks_tests.specs.declared.commits.Commit.{Commit}
 use Rattle.jj_walks_tests.specs.declared.commits.Parents.{Parents}
-use Rattle.jj_walks_tests.specs.declared.commits.SoundIds.{SoundIds}
-use Rattle.jj_walks_tests.specs.Commits.{commit_with, parents_in, parent_graph}
-use Rattle.jj_walks_tests.specs.Parents.{ids_left, parents_left}
-use Rattle.jj_walks_tests.proofs.Numbering.{items_of, items_sound, node_stands, walk_closed, walk_neighbors, walk_of}
-use Rattle.jj_walks_tests.proofs.Sound.{id_walk, lists_ids}
+use Rattle.jj_walks_tests.specs.Commits.{commit_with, parents_in}
+use Rattle.jj_walks_tests.specs.Parents.{parents_left}
+use Rattle.jj_walks_tests.proofs.Numbering.{node_stands, walk_closed, walk_neighbors, walk_of}
 
 module _ (commits : List Commit) {F N : Type 0} (id_fn : F) (neighbors_fn : N) where
   module _ (ids : Shared F (Bor (Bor Commit) × Unit {0}) (Result (Bor ℕ) AllocError)) (lists : Mut N (Bor (Bor Commit) × Unit {0}) Parents)
@@ -37,18 +34,4 @@ module _ (commits : List Commit) {F N : Type 0} (id_fn : F) (neighbors_fn : N) w
                 (λ it b. YieldsList-from_first (λ y. y.now) parents_left _ (ap parents_left b ∙ left)) d),
             k.2,
           ));
-    }
-
-  module _ (ids : Shared F (Bor ℕ × Unit {0}) ℕ) (lists : Mut N (Bor ℕ × Unit {0}) SoundIds)
-      (tells : (n i : ℕ) → FnReturnsAt ids id_fn n i → i ≡ n)
-      (looks : (a : Bor ℕ × Unit {0}) (r : SoundIds) (after : N) → Called lists neighbors_fn a r after
-      → (ids_left r ≡ map (λ n. Ok n) (parent_graph commits a.0.now)) × (after ≡ neighbors_fn)) where
-    -- as ids with the ids of parents
-    pub ids_shown : ShowsItems (id_walk commits) (items_of commits) eqb ids lists (λ s t. t ≡ s) (YieldsFirst ids_left) id_fn neighbors_fn
-    ids_shown = record {
-      sound_graph = λ a. items_sound commits (parent_graph commits a);
-      closed = λ a h b e. refl;
-      apart = λ i j a b. refl;
-      ids_stand = λ x i is h. tells x i h;
-      neighbors = always_returns_same lists _ neighbors_fn (λ a r after h. let k = looks a r after h in (λ here. lists_ids commits a.0.now r k.0, k.1));
     }

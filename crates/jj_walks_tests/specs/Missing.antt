@@ -4,7 +4,7 @@ use Rattle.std.specs.Prelude.{◌≡◌, ◌⊎◌, ◌↔◌, ℕ, true, eqb, L
 use Rattle.std.specs.declared.result.Result.TheVariants.{Ok, Err}
 use Rattle.std.specs.List.{Contains, IsDistinct}
 use denote.Ref.{Bor}
-use Rattle.jj_dag.specs.Failing.{sound_items}
+use Rattle.jj_dag.specs.FallibleGraphs.{ok_items}
 use Rattle.jj_dag.specs.Graph.{ReachedFrom}
 use Rattle.jj_walks_tests.specs.declared.commits.Commit.{Commit}
 use Rattle.jj_walks_tests.specs.declared.missing.Lookups.{Lookups}
@@ -31,7 +31,7 @@ pub record IsMissingFrom (commits : List Commit) (ids : List ℕ) (id : ℕ) : T
 
 -- the ids of the commits among the items
 abbrev pub found_ids : List (Result (Bor Commit) ℕ) → List ℕ
-found_ids items = map (λ c. c.now.id) (sound_items items)
+found_ids items = map (λ c. c.now.id) (ok_items items)
 
 -- The commits found are exactly those that the list has of the ids and their ancestors, each once.
 -- The errors are exactly the missing ids: without one, these are all ancestors.

@@ -25,7 +25,7 @@ use Rattle.jj_dag.specs.ClosureGraph.{Implements, MayReturn, ReturnsId, YieldsOk
 use Rattle.jj_dag.specs.CommonNodes.{AreClosestCommon, HasNoCommonCycle}
 use Rattle.jj_dag.specs.Graph.{Graph, IsAcyclicFrom, IsTopologicalOrder, ReachedFrom}
 use Rattle.jj_dag.specs.NodeGraph.{AreMaximalNodes, HasNoCommonNodeCycle, IsChildFirstOrder, IsCommonNode, ReachesNoCycle, ReachesNode}
-use Rattle.jj_dag.specs.Walk.{DrainsTo, Numbered}
+use Rattle.jj_dag.specs.Walk.{DrainsTo, Model}
 use Rattle.jj_dag.proofs.ClosureGraphs.{may_return_says}
 use Rattle.jj_dag.proofs.ListNumbers.{list_of_number, list_of_number-number, number, number-not_zero}
 use Rattle.jj_dag.proofs.NodeGraphs.{Contains-from_map, child_first_nodes, closest_nodes, no_common_cycle_up, no_cycle_back, numbers_graph, one_node, reached_down, reaches_more}
@@ -65,7 +65,7 @@ module _ (may_fail : BackendError → Type 0) (store : Objects) where
   -- ---- nodes that are ids
 
   -- each number is a node
-  abbrev pub walk_of_ids : Parents → Numbered (List ℕ) (List ℕ)
+  abbrev pub walk_of_ids : Parents → Model (List ℕ) (List ℕ)
   walk_of_ids parents = record { graph = id_graph parents; is_node = λ a. true; node = number; id = number }
 
   abbrev pub Reads : List ℕ → Result (Vec (List ℕ) Global) BackendError → Type 0
@@ -108,7 +108,7 @@ module _ (may_fail : BackendError → Type 0) (store : Objects) where
   node_of c = cond (is_found (store.commits c.id) c.commit) (number c.id) 0
 
   -- each number but 0 is a node
-  abbrev pub walk_of : Parents → Numbered ReadCommit (List ℕ)
+  abbrev pub walk_of : Parents → Model ReadCommit (List ℕ)
   walk_of parents = record { graph = id_graph parents; is_node = λ a. not (a == 0); node = node_of; id = number }
 
   found_commit : (found : Option CommitValue) (c : CommitValue) → is_found found c ≡ true → found ≡ Some c

@@ -15,7 +15,7 @@ use denote.Ref.{Bor}
 use Rattle.jj_backend.specs.Objects.{Objects}
 use Rattle.jj_backend.specs.declared.backend.errors.BackendError.{BackendError}
 use Rattle.jj_dag.specs.ClosureGraph.{ReturnsId}
-use Rattle.jj_dag.specs.Failing.{sound_items}
+use Rattle.jj_dag.specs.FallibleGraphs.{ok_items}
 use Rattle.jj_dag.specs.Graph.{ReachedFrom}
 use Rattle.jj_dag.specs.NodeGraph.{NodePath}
 use Rattle.jj_dag.specs.Walk.{AreNodes, DrainsTo}
@@ -24,8 +24,8 @@ use Rattle.jj_dag.proofs.FailingWalks.{Contains-from_sound, Contains-sound}
 use Rattle.jj_dag.proofs.ListNumbers.{list_of_number, list_of_number-number, number}
 use Rattle.jj_dag.proofs.NodeGraphs.{Contains-map, one_node}
 use Rattle.jj_dag.proofs.Walking.{drained_are}
-use Rattle.jj_walks.specs.Answers.{Answer, ImplementsItems, IsRun, MayAnswer, item_of}
-use Rattle.jj_walks.proofs.Answering.{at_first, first_or_rest, in_map, in_rest, numbered_back}
+use Rattle.jj_walks.specs.Expansions.{Expansion, ImplementsItems, IsRun, MayList, item_of}
+use Rattle.jj_walks.proofs.Expanding.{at_first, first_or_rest, in_map, in_rest, numbered_back}
 use Rattle.jj_walks.proofs.DfsOkRuns.{answer_of, error_place, errors_given, given_of, given_once, items_given, reached, returned, start_errors_given, starts_given}
 use Rattle.store_walks.specs.Histories.{AreFoundAncestors, Completes, IsErrorBelow, IsFoundOrFailed, Parents, found_ids}
 use Rattle.store_walks.specs.ReadCommits.{IsStored, id_of}
@@ -49,10 +49,10 @@ drained r xs d = sym (map-id xs) ∙ drained_are becomes steps r xs (λ y. y) (r
 
 -- ---- lists
 
-sound_in : (xs : List Item) (x : ReadCommit) → Contains xs (Ok x) → Contains (sound_items xs) x
+sound_in : (xs : List Item) (x : ReadCommit) → Contains xs (Ok x) → Contains (ok_items xs) x
 sound_in [] x (k, lt, e) = absurd (omega arith)
 sound_in (Ok y ∷ xs) x (zero, lt, e) = (0, omega arith, cc)
-sound_in (Ok y ∷ xs) x (suc k, lt, e) = in_rest y (sound_items xs) x (sound_in xs x (k, omega arith, e))
+sound_in (Ok y ∷ xs) x (suc k, lt, e) = in_rest y (ok_items xs) x (sound_in xs x (k, omega arith, e))
 sound_in (Err y ∷ xs) x (zero, lt, e) = cc
 sound_in (Err y ∷ xs) x (suc k, lt, e) = sound_in xs x (k, omega arith, e)
 
@@ -81,7 +81,7 @@ module _ (may_fail : BackendError → Type 0) (store : Objects) where
   known_completes : Completes store known_parents
   known_completes id commit is = ap (λ o. elim o [ None ↦ [] | Some c ↦ c.parents ]) is
 
-  stored_numbers : (xs : List Item) → ((c : ReadCommit) → Contains xs (Ok c) → IsStored store c) → sound_items (numbers xs) ≡ map number (found_ids xs)
+  stored_numbers : (xs : List Item) → ((c : ReadCommit) → Contains xs (Ok c) → IsStored store c) → ok_items (numbers xs) ≡ map number (found_ids xs)
   stored_numbers [] stored = refl
   stored_numbers (Ok x ∷ xs) stored =
       let first : node x ≡ number x.id = stored_node may_fail store x (stored x (at_first (Ok x) xs)) in
@@ -120,14 +120,14 @@ module _ (may_fail : BackendError → Type 0) (store : Objects) where
           ));
     }
 
-    answered_reads : (x : Answer ReadCommit BackendError) → MayAnswer bytes_eq ids lists yields neighbors_fn x → AreReads may_fail store x.node.commit.parents x.items
+    answered_reads : (x : Expansion ReadCommit BackendError) → MayList bytes_eq ids lists yields neighbors_fn x → AreReads may_fail store x.node.commit.parents x.items
     answered_reads x (r, may, d) =
         let P : ReadCommit → Reads → Type 0 = λ y s. AreReads may_fail store y.commit.parents (reads_left s) in
         let says : P x.node r = may_return_says lists P (always_returns_same lists _ neighbors_fn reads) may in
         subst (λ (l : List Item). AreReads may_fail store x.node.commit.parents l) (sym (drained r x.items d)) says
 
     module _ (all : List (List ℕ)) (starts found : List Item) (start_reads : AreReads may_fail store all starts) (run : IsRun bytes_eq ids lists yields id_fn neighbors_fn starts found) where
-      start_nodes : (parents : Parents) → AreNodes (walk_of may_fail store parents) (sound_items (numbers starts))
+      start_nodes : (parents : Parents) → AreNodes (walk_of may_fail store parents) (ok_items (numbers starts))
       start_nodes parents a h =
           let back = numbered_back node starts a (Contains-from_sound (numbers starts) a h) in
           let k = reads_sound may_fail store all starts start_reads back.0 back.1 in
@@ -148,7 +148,7 @@ module _ (may_fail : BackendError → Type 0) (store : Objects) where
       id_found id h =
           let back = numbered_back node found (number id) h in
           let same : back.0.id ≡ id = one_node known_parents number list_of_number list_of_number-number back.0.id id (sym (stored_node may_fail store back.0 (found_stored back.0 back.1)) ∙ back.2) in
-          subst (λ (y : List ℕ). Contains (found_ids found) y) same (in_map id_of (sound_items found) back.0 (sound_in found back.0 back.1))
+          subst (λ (y : List ℕ). Contains (found_ids found) y) same (in_map id_of (ok_items found) back.0 (sound_in found back.0 back.1))
 
       found_or_failed : (names : List (List ℕ)) (items : List Item) → AreReads may_fail store names items → ((y : Item) → Contains items y → Contains (numbers found) (item_of node y))
           → ((e : BackendError) → Contains items (Err e) → Contains found (Err e)) → (id : List ℕ) → Contains names id → IsFoundOrFailed store may_fail found id
@@ -179,7 +179,7 @@ module _ (may_fail : BackendError → Type 0) (store : Objects) where
       path_found : ((e : BackendError) → Contains found (Err e) → ⊥) → (parents : Parents) → Completes store parents → (n : ℕ) (a b : List ℕ) → Contains (found_ids found) a → NodePath parents a b n → Contains (found_ids found) b
       path_found none parents complete zero a b h same = subst (λ (y : List ℕ). Contains (found_ids found) y) same h
       path_found none parents complete (suc n) a b h (c, edge, rest) =
-          let back = id_back (sound_items found) a h in
+          let back = id_back (ok_items found) a h in
           let at = Contains-from_sound found back.0 back.1 in
           let listed : parents a ≡ back.0.commit.parents = ap parents (sym back.2) ∙ complete back.0.id back.0.commit (found_stored back.0 at) in
           let inside : Contains back.0.commit.parents c = subst (λ (l : List (List ℕ)). Contains l c) listed edge in

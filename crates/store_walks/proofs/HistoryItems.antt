@@ -13,9 +13,9 @@ use denote.Ref.{Bor}
 use Rattle.jj_backend.specs.Objects.{Objects}
 use Rattle.jj_backend.specs.declared.backend.errors.BackendError.{BackendError}
 use Rattle.jj_dag.specs.ClosureGraph.{Implements, MayReturn, ReturnsId, YieldsOk}
-use Rattle.jj_dag.specs.Failing.{FailsAfterNodes}
+use Rattle.jj_dag.specs.FallibleGraphs.{FailsAfterNodes}
 use Rattle.jj_dag.specs.Graph.{ReachedFrom, ReachesCycle}
-use Rattle.jj_dag.specs.ListOrError.{GivesListed}
+use Rattle.jj_dag.specs.ListOrError.{StepsListed}
 use Rattle.jj_dag.specs.Walk.{DrainsTo}
 use Rattle.jj_dag.specs.declared.list_or_error.ListOrError.{ListOrError}
 use Rattle.jj_dag.proofs.ClosureGraphs.{may_return_says}
@@ -34,10 +34,10 @@ abbrev pub Items : Type 0
 Items = ListOrError (IntoIter ReadCommit Global) HistoryError
 
 abbrev pub YieldsItems : Items → List ReadCommit → Type 0
-YieldsItems r xs = DrainsTo (λ v k. k ≡ v) (GivesListed into_iter_steps) r (map (λ x. Ok x) xs)
+YieldsItems r xs = DrainsTo (λ v k. k ≡ v) (StepsListed into_iter_steps) r (map (λ x. Ok x) xs)
 
 abbrev pub FailsWith : Items → HistoryError → Type 0
-FailsWith r e = FailsAfterNodes (λ v k. k ≡ v) (GivesListed into_iter_steps) r e
+FailsWith r e = FailsAfterNodes (λ v k. k ≡ v) (StepsListed into_iter_steps) r e
 
 module _ (may_fail : BackendError → Type 0) (store : Objects) where
   -- the commits that were read

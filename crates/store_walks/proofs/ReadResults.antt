@@ -6,7 +6,7 @@ use Rattle.std.proofs.lemmas.List.Elements.{Contains-get_or}
 use Rattle.jj_backend.specs.Objects.{Objects}
 use Rattle.jj_backend.specs.declared.backend.errors.BackendError.{BackendError}
 use Rattle.jj_backend.specs.declared.backend.errors.BackendError.TheVariants.{Memory}
-use Rattle.jj_walks.proofs.Answering.{at_first, first_or_rest, in_map, in_rest}
+use Rattle.jj_walks.proofs.Expanding.{at_first, first_or_rest, in_map, in_rest}
 use Rattle.store_walks.specs.ReadCommits.{IsErrorOfIds, IsReadFailure, IsStored, id_of}
 use Rattle.store_walks.specs.ReadResults.{AreReads, IsReadOf}
 use Rattle.store_walks.specs.declared.read_commit.ReadCommit.{ReadCommit}

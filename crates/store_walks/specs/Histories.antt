@@ -8,7 +8,7 @@ use Rattle.jj_backend.specs.Objects.{Objects}
 use Rattle.jj_backend.specs.Records.{CommitValue}
 use Rattle.jj_backend.specs.declared.backend.errors.BackendError.{BackendError}
 use Rattle.jj_backend.specs.declared.backend.errors.BackendError.TheVariants.{Memory}
-use Rattle.jj_dag.specs.Failing.{sound_items}
+use Rattle.jj_dag.specs.FallibleGraphs.{ok_items}
 use Rattle.jj_dag.specs.NodeGraph.{AreMaximalNodes, HasNoCommonNodeCycle, IsChildFirstOrder, IsCommonNode, NodeGraph, ReachesNoCycle, ReachesNode, ReachesSomeCycle}
 use Rattle.store_walks.specs.ReadCommits.{IsReadError, IsReadFailure, IsStored, id_of}
 use Rattle.store_walks.specs.declared.read_commit.ReadCommit.{ReadCommit}
@@ -66,7 +66,7 @@ module _ (store : Objects) where
 
 -- the ids of the commits among the results
 abbrev pub found_ids : List (Result ReadCommit BackendError) → List (List ℕ)
-found_ids found = map id_of (sound_items found)
+found_ids found = map id_of (ok_items found)
 
 module _ (store : Objects) (may_fail : BackendError → Type 0) where
   -- the commit was found, or an error of reading it

@@ -10,7 +10,7 @@ use Rattle.std.specs.declared.vec.IntoIter.{IntoIter}
 use Rattle.std.specs.declared.vec.Vec.{Vec}
 use Rattle.jj_backend.specs.Objects.{Objects}
 use Rattle.jj_backend.specs.declared.backend.errors.BackendError.{BackendError}
-use Rattle.jj_dag.specs.ListOrError.{StandsFor}
+use Rattle.jj_dag.specs.ListOrError.{IteratesOver}
 use Rattle.jj_dag.specs.declared.list_or_error.ListOrError.{ListOrError}
 use Rattle.store_walks.specs.ReadCommits.{IsErrorOfIds, IsStored, id_of}
 use Rattle.store_walks.specs.declared.order.HistoryError.{HistoryError}
@@ -34,4 +34,4 @@ module _ (may_fail : BackendError → Type 0) (store : Objects) where
   abbrev pub AreItemsOf : List (List ℕ) → ListOrError (IntoIter ReadCommit Global) HistoryError
       → Type 0
   AreItemsOf ids items = (read : Result (Vec ReadCommit Global) HistoryError)
-      × ReadsHistory ids read × StandsFor vec_becomes read items
+      × ReadsHistory ids read × IteratesOver vec_becomes read items

@@ -2,7 +2,7 @@
 ghost use Rattle.std.specs.Prelude.{IfOk, List, Result};
 ghost use Rattle.jj_dag.specs.ClosureGraph.{graph_of_items, list_of_items};
 ghost use Rattle.jj_dag.specs.Walk.{DrainsTo};
-ghost use Rattle.jj_walks.specs.Answers.{IsRun};
+ghost use Rattle.jj_walks.specs.Expansions.{IsRun};
 
 use jj_dag::walk_error::WalkError;
 use jj_walks::dag_walk::dfs_ok;

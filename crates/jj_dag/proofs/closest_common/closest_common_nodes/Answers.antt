@@ -1,11 +1,11 @@
 use Rattle.std.proofs.Common.{◌≡◌}
-use Rattle.jj_dag.specs.Marks.{mark_at, closest_of}
+use Rattle.jj_dag.specs.Marks.{state_at, closest_of}
 use Rattle.jj_dag.proofs.closest_common.closest_common_nodes.Goals as goal
 
 pub returns-clause-closest : goal.returns-clause-closest
 returns-clause-closest g c =
     let p = c.in_ok-met.ensures.closest in
-    let left : c.in_ok-closest.field-0.items ≡ closest_of (mark_at g.ID.PartialEq.eq c.in_ok-met.met.known) c.in_ok-met.met.common.entries = c.in_ok-closest.ensures in
+    let left : c.in_ok-closest.field-0.items ≡ closest_of (state_at g.ID.PartialEq.eq c.in_ok-met.met.known) c.in_ok-met.met.common.entries = c.in_ok-closest.ensures in
     record {
       set1 = p.set1;
       set2 = p.set2;

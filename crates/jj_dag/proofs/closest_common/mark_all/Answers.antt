@@ -17,7 +17,7 @@ loop-node-preserved g c =
     record {
       can = search rules;
       finite = search rules;
-      marks = more node c.in_ok-id.id before.marks (returns_id g.F.Fn c.id_fn.ensures c.in_ok-id.was) (record { marks = done.known; waits = done.waiting });
+      marks = more node c.in_ok-id.id before.marks (returns_id g.F.Fn c.id_fn.ensures c.in_ok-id.was) (record { marks = done.known; is_pending = done.waiting });
       balance = omega (arith, before.balance, done.balance);
       small = λ h. done.small;
       some = (node, Contains-push c.loop-node.yielded node);

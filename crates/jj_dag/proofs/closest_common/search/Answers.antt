@@ -5,11 +5,12 @@ use Rattle.std.specs.List.{Contains}
 use Rattle.std.specs.List.Sorted.{IsPermutation}
 use Rattle.std.proofs.lemmas.List.{nil_from_length}
 use Rattle.std.proofs.lemmas.Bool.{and_parts}
-use Rattle.jj_dag.specs.CommonSearch.{reach_of_sets}
+use Rattle.jj_dag.specs.CommonSearch.{sides_of_sets}
 use Rattle.jj_dag.specs.ClosureGraph.CallsLead.{none}
-use Rattle.jj_dag.specs.Marks.{mark_at}
+use Rattle.jj_dag.specs.Marks.{state_at}
+use Rattle.jj_dag.specs.ClosureGraph.MayReturn.{at_once}
 use Rattle.jj_dag.proofs.ClosestCommon.{asks, closest_at_end, ends, ends_early, hands_over, ids_more, insert_new, new_id, started_holds, was_reached}
-use Rattle.jj_dag.proofs.ClosureGraphs.{implements_after, leads_on, returns_id}
+use Rattle.jj_dag.proofs.ClosureGraphs.{implements_after, leads_on, returns_id, may_return_later}
 use Rattle.jj_dag.proofs.Errors.{node_weaker}
 use Rattle.jj_dag.proofs.Heads.{Contains-map}
 use Rattle.jj_dag.proofs.Marking.{all_handed}
@@ -22,7 +23,7 @@ loop-node-init g c = record {
   small = c.requires.small;
   walking = λ walk set1 set2 implemented first second start. (
     implemented,
-    (reach_of_sets set1 set2, started_holds walk set1 set2 (heap_items c.args.waiting.now) c.args.met.now.common.entries (mark_at g.ID.PartialEq.eq c.args.met.now.known) c.requires.none start),
+    (sides_of_sets set1 set2, started_holds walk set1 set2 (heap_items c.args.waiting.now) c.args.met.now.common.entries (state_at g.ID.PartialEq.eq c.args.met.now.known) c.requires.none start),
   );
 }
 
@@ -38,15 +39,15 @@ loop-node-preserved g c =
     record {
       can = c.mark_neighbors.ensures.graph;
       calls = leads_on before.calls did.1;
-      small = c.in-Ok.ensures.small (omega (arith, c.take_queued-reach.ensures.sides, before.small));
+      small = c.in-Ok.ensures.small (omega (arith, c.take_queued-sides.ensures.side_count, before.small));
       walking = λ walk set1 set2 implemented first second start.
           let known = before.walking walk set1 set2 implemented first second start in
           let held = known.1.1 in
-          let at = asks walk g.ID.PartialEq.eq (mark_at g.ID.PartialEq.eq c.take_queued-reach.new.known) node id c.take_queued-reach.result implemented.closed implemented.apart first second held popped
-          (λ here. implemented.ids_match node id here (returns_id g.F.Fn c.id_fn.ensures c.in_ok-id.was)) c.take_queued-reach.ensures.reach c.take_queued-reach.ensures.known in
+          let at = asks walk g.ID.PartialEq.eq (state_at g.ID.PartialEq.eq c.take_queued-sides.new.known) node id c.take_queued-sides.result implemented.closed implemented.apart first second held popped
+          (λ here. implemented.ids_match node id here (returns_id g.F.Fn c.id_fn.ensures c.in_ok-id.was)) c.take_queued-sides.ensures.sides c.take_queued-sides.ensures.known in
           let turn = implements_after walk g.ID.PartialEq.eq g.F.Fn g.N.FnMut _ known.0 did.1 in
           let listed : map walk.node nodes ≡ walk.graph (walk.node node) = turn.1 nodes at.0 marked.drained in
-          let inner = all_handed walk set1 set2 known.1.0 (walk.node node) c.take_queued-reach.result c.loop-node.met.common.entries c.loop-node.root_met [] implemented.apart implemented.ids_match implemented.closed
+          let inner = all_handed walk set1 set2 known.1.0 (walk.node node) c.take_queued-sides.result c.loop-node.met.common.entries c.loop-node.root_met [] implemented.apart implemented.ids_match implemented.closed
           (rw c.propagated-above.ensures at marked.marks) at.0 at.2 (append-nil (map walk.node nodes) ∙ listed) in (
             turn.0,
             (
@@ -68,7 +69,7 @@ returns-in-Err g c = record {
       let node = c.in-Some.node in
       let popped : IsPermutation (heap_items c.loop-node.waiting) (node ∷ heap_items c.pop.new.self) = c.in-Some.ensures.permutation in (
         node,
-        (_, (c.loop-node.neighbors_fn, c.mark_neighbors.new.neighbors_fn, c.loop-node.invariant.calls, called), refl),
+        (_, may_return_later c.loop-node.invariant.calls (at_once called), refl),
         λ walk set1 set2 implemented first second start.
             let known = c.loop-node.invariant.walking walk set1 set2 implemented first second start in
             (was_reached walk (heap_items c.pop.new.self) node implemented.closed first second known.1.1 popped).0,
@@ -88,8 +89,8 @@ returns-then-not-root_met g c = record {
       λ walk set1 set2 implemented first second start acyclic.
       let known = c.loop-node.invariant.walking walk set1 set2 implemented first second start in
       let held = known.1.1 in
-      let at = asks walk g.ID.PartialEq.eq (mark_at g.ID.PartialEq.eq c.take_queued-reach.new.known) node id c.take_queued-reach.result implemented.closed implemented.apart first second held popped
-      (λ here. implemented.ids_match node id here (returns_id g.F.Fn c.id_fn.ensures c.in_ok-id.was)) c.take_queued-reach.ensures.reach c.take_queued-reach.ensures.known in
+      let at = asks walk g.ID.PartialEq.eq (state_at g.ID.PartialEq.eq c.take_queued-sides.new.known) node id c.take_queued-sides.result implemented.closed implemented.apart first second held popped
+      (λ here. implemented.ids_match node id here (returns_id g.F.Fn c.id_fn.ensures c.in_ok-id.was)) c.take_queued-sides.ensures.sides c.take_queued-sides.ensures.known in
       let end = ends_early walk node id at.2 empty (and_parts _ _ (sym c.is_common.ensures ∙ c.if-is_common.true)) c.if-not-root_met.true in
       let more : c.insert.new.self.entries ≡ c.loop-node.met.common.entries ++ (id, node) ∷ [] =
       c.in_ok-insert.ensures.entries ∙ insert_new g.ID.PartialEq.eq c.loop-node.met.common.entries id node (new_id walk g.ID.PartialEq.eq node id implemented.closed implemented.apart first at.2 at.0 at.1) in

@@ -2,8 +2,9 @@ use Rattle.std.proofs.Common.{rules, length, append-nil, ◌≡◌, true, false,
 use Rattle.std.proofs.lemmas.Grind.{common_steps}
 use Rattle.std.proofs.lemmas.List.{length_push}
 use Rattle.jj_dag.specs.ClosureGraph.CallsLead.{none}
+use Rattle.jj_dag.specs.ClosureGraph.MayReturn.{at_once}
 use Rattle.jj_dag.proofs.Calling.{cycle_weaker, failed_weaker}
-use Rattle.jj_dag.proofs.ClosureGraphs.{implements_after, leads_on, returns_id}
+use Rattle.jj_dag.proofs.ClosureGraphs.{implements_after, leads_on, returns_id, may_return_later}
 use Rattle.jj_dag.proofs.Reaching.{IsAcyclicFrom-from_postorder}
 use Rattle.jj_dag.proofs.Unwinding.{unwinding_starts, unwinding_passed, unwinding_finished, unwinding_entered, unwinding_cycle, top_is_node, here_reached, from_top-push, from_top-neighbors}
 use Rattle.jj_dag.proofs.Unwinding.Unwinds.{ended}
@@ -98,7 +99,7 @@ returns-in-Err g c =
       order = tt;
       failed = failed_weaker c.in-Err.stop _ _ (λ error did. (
         node,
-        (did.0, (c.loop-node.neighbors_fn, c.enter.new.neighbors_fn, before.calls, did.1), did.2),
+        (did.0, may_return_later before.calls (at_once did.1), did.2),
         λ xs waits walk implemented nodes.
             let top = rw (e, from_top-push walk, flag) at (before.walking xs waits walk implemented nodes).1 in here_reached walk top,
       )) c.in-Err.ensures.failed;

@@ -1,7 +1,7 @@
 use Rattle.std.proofs.Common.{◌+◌, ◌-◌, ◌*◌, ◌^◌, length}
 use Rattle.std.specs.HashSet.{contains, hash_set_len}
-use Rattle.jj_dag.specs.ClosureGraph.{CallsLead, graph_of_items}
-use Rattle.jj_dag.specs.Owed.{CanShow}
+use Rattle.std.specs.Iterator.{IsFiniteIterable}
+use Rattle.jj_dag.specs.ClosureGraph.{CallsLead, graph_of_items, IsWalkable}
 use Rattle.jj_dag.specs.Stops.{FromStack}
 use Rattle.jj_dag.proofs.Unwinding.{IsUnwinding, from_top}
 use Rattle.jj_dag.proofs.Walking.{numbers}
@@ -11,7 +11,7 @@ abbrev pub invariant-loop-node : goal.invariant-loop-node
 invariant-loop-node g l =
     let graph = graph_of_items g.ID.PartialEq.eq g.F.Fn g.N.FnMut g.NI.IntoIterator g.NI.IntoIter.Iterator l.id_fn in
     record {
-      can : CanShow g.F.Fn g.N.FnMut g.NI.IntoIterator g.NI.IntoIter.Iterator l.id_fn l.neighbors_fn;
+      can : IsWalkable g.F.Fn g.N.FnMut (IsFiniteIterable g.NI.IntoIterator.into_iter_gives g.NI.IntoIter.Iterator.can_next g.NI.IntoIter.Iterator.remaining) l.id_fn l.neighbors_fn;
       calls : CallsLead g.N.FnMut l.initial.neighbors_fn l.neighbors_fn;
       walking : FromStack (graph l.initial.neighbors_fn) l.initial.stack.items (λ walk nodes.
           (graph l.neighbors_fn).implements walk

@@ -1,6 +1,6 @@
 use Rattle.std.proofs.Common.{rules, inl, inr}
-use Rattle.jj_dag.specs.Asking.{whole}
-use Rattle.jj_dag.proofs.Collected.{beside_cycle, whole_order}
+use Rattle.jj_dag.specs.Expanding.{whole}
+use Rattle.jj_dag.proofs.IndexedGraph.{beside_cycle, whole_order}
 use Rattle.jj_dag.proofs.Errors.{node_weaker}
 use Rattle.jj_dag.proofs.Wrapped.{all_sound}
 use Rattle.jj_dag.proofs.greatest_order.topo_order_reverse_ord.Goals as goal
@@ -34,14 +34,14 @@ returns-in-None-clause-order g c =
       holds = λ walk implemented nodes. whole_order walk (whole walk) g.T.Ord.cmp g.ID.PartialEq.eq c.in-Ok-collect.found p.0 _ (λ a. all_sound _ (walk.graph a)) implemented.closed nodes (p.1 walk implemented nodes) (c.in_ok-order.order, c.in_ok-order.left) c.in_ok-order.ensures c.in-None.is;
     }
 
-pub sound_nodes-requires : goal.sound_nodes-requires
-sound_nodes-requires g c = c.requires.start
+pub collect_ok-requires : goal.collect_ok-requires
+collect_ok-requires g c = c.requires.start
 
 pub collect-requires : goal.collect-requires
 collect-requires g c = record { id_fn = c.requires.graph.id_fn; neighbors_fn = c.requires.graph.neighbors_fn; lists = c.requires.graph.lists }
 
-pub greatest_first-requires : goal.greatest_first-requires
-greatest_first-requires g c = c.in-Ok-collect.ensures.collected.0
+pub into_greatest_order-requires : goal.into_greatest_order-requires
+into_greatest_order-requires g c = c.in-Ok-collect.ensures.collected.0
 
 pub cycle_fn-requires : goal.cycle_fn-requires
 cycle_fn-requires g c = search rules

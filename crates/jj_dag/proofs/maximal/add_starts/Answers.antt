@@ -62,7 +62,7 @@ loop-item-preserved g c =
             rw (split, more, numbers-push walk c.loop-item.waiting.items node) (started_new walk g.T.PartialEq.eq g.ID.PartialEq.eq
             c.add_start.new.heads.keys (contains g.T.PartialEq.eq c.add_start.new.heads) (contains g.ID.PartialEq.eq c.add_start.new.visited) node c.in_ok-id.id stands knows.apart
             (before.3 walk knows stands (λ a h. nodes a (rw split (Contains-append_left (numbers walk before.0) (walk.node node ∷ []) a h))))
-            here (knows.ids_stand node c.in_ok-id.id here (returns_id g.F.Fn c.id_fn.ensures c.in_ok-id.was))
+            here (knows.ids_match node c.in_ok-id.id here (returns_id g.F.Fn c.id_fn.ensures c.in_ok-id.was))
             (put_for walk stands c.loop-item.heads.keys c.add_start.new.heads.keys node here did.keys) did.heads did.visited.0),
       );
     }

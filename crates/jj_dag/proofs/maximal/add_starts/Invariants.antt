@@ -2,8 +2,8 @@ use Rattle.std.proofs.Common.{◌≡◌, List, Ok, map}
 use Rattle.jj_dag.specs.ClosureGraph.{ReturnsId}
 use Rattle.std.specs.HashSet.{contains, IsUnique}
 use Rattle.std.specs.List.{Contains}
-use Rattle.jj_dag.specs.HeadsSearch.{IsStarted, TellsNodes}
-use Rattle.jj_dag.specs.Walk.{AreNodes, Numbered, StandsForNodes}
+use Rattle.jj_dag.specs.HeadsSearch.{IsStarted, ReturnsNodeIds}
+use Rattle.jj_dag.specs.Walk.{AreNodes, Model, IsEqualityOfNodes}
 use Rattle.jj_dag.proofs.Walking.{numbers}
 use Rattle.jj_dag.proofs.maximal.add_starts.Given as goal
 
@@ -13,6 +13,6 @@ invariant-loop-item g l = record {
   finite : (goal.iterator-loop-item g).is_finite l.item-iterator;
   unique : IsUnique g.T.PartialEq.eq l.heads;
   sound : (xs : List g.row.T.Denot) × (l.yielded ≡ map (λ x. Ok x) xs) × ((b : g.row.T.Denot) → Contains l.waiting.items b → Contains xs b)
-      × ((walk : Numbered g.row.T.Denot g.row.ID.Denot) → TellsNodes walk g.ID.PartialEq.eq (ReturnsId g.F.Fn l.id_fn) → StandsForNodes walk g.T.PartialEq.eq → AreNodes walk (numbers walk xs)
+      × ((walk : Model g.row.T.Denot g.row.ID.Denot) → ReturnsNodeIds walk g.ID.PartialEq.eq (ReturnsId g.F.Fn l.id_fn) → IsEqualityOfNodes walk g.T.PartialEq.eq → AreNodes walk (numbers walk xs)
       → IsStarted walk (numbers walk xs) l.heads.keys (contains g.T.PartialEq.eq l.heads) (contains g.ID.PartialEq.eq l.visited) (numbers walk l.waiting.items));
 }

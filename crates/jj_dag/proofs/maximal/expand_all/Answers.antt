@@ -3,7 +3,8 @@ use Rattle.std.specs.Bool.{MatchBool}
 use Rattle.std.specs.HashSet.{hash_set_len}
 use Rattle.std.specs.List.{Contains}
 use Rattle.jj_dag.specs.ClosureGraph.CallsLead.{none}
-use Rattle.jj_dag.proofs.ClosureGraphs.{implements_after, leads_on}
+use Rattle.jj_dag.specs.ClosureGraph.MayReturn.{at_once}
+use Rattle.jj_dag.proofs.ClosureGraphs.{implements_after, leads_on, may_return_later}
 use Rattle.jj_dag.proofs.Errors.{node_weaker}
 use Rattle.jj_dag.proofs.Heads.{Contains-map, holds_asked, holds_maximal, no_root_waits, one_waits, search_falls, started_holds, starts_reached, still_reached}
 use Rattle.jj_dag.proofs.Meeting.{all_met, all_waiting}
@@ -41,7 +42,7 @@ loop-node-preserved g c =
             λ stands.
                 let search = known.2 stands in
                 let held = rw popped at search.1 in
-                let inner = all_met walk (numbers walk xs) search.0 c.loop-node.root_met (walk.node node) [] stands (record { apart = implemented.apart; ids_stand = implemented.ids_match }) implemented.closed meets.met held
+                let inner = all_met walk (numbers walk xs) search.0 c.loop-node.root_met (walk.node node) [] stands (record { apart = implemented.apart; ids_match = implemented.ids_match }) implemented.closed meets.met held
                 (append-nil (numbers walk ys) ∙ listed) in (
                   inner.0,
                   holds_asked walk (numbers walk c.visit_neighbors.new.waiting.items) _ (walk.node node) inner.1
@@ -71,7 +72,7 @@ returns-in-Err g c = record {
       let node = c.in-Some.node in
       let popped : c.loop-node.waiting.items ≡ node ∷ c.pop_in_level.new.waiting.items = c.in-Some.ensures.first in (
         node,
-        (did.0, (c.loop-node.neighbors_fn, c.visit_neighbors.new.neighbors_fn, c.loop-node.invariant.calls, did.1), (_, did.2.1)),
+        (did.0, may_return_later c.loop-node.invariant.calls (at_once did.1), (_, did.2.1)),
         λ walk xs implemented nodes among started.
             let known = c.loop-node.invariant.walking walk xs implemented nodes among started in
             ((rw popped at known.1) (walk.node node) (0, omega arith, refl)).1,

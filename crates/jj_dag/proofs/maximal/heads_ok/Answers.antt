@@ -12,7 +12,7 @@ returns-in-Ok-expand_all-clause-heads g c =
       starts = starts.nodes;
       yielded = starts.drained;
       holds = λ walk implemented nodes acyclic stands. c.in-Ok-expand_all.ensures.found walk starts.nodes implemented nodes starts.waits
-          (λ same. starts.started walk (record { apart = implemented.apart; ids_stand = implemented.ids_match }) same nodes) acyclic stands;
+          (λ same. starts.started walk (record { apart = implemented.apart; ids_match = implemented.ids_match }) same nodes) acyclic stands;
     }
 
 pub returns-clause-error : goal.returns-clause-error
@@ -25,7 +25,7 @@ returns-clause-error g c = node_weaker c.in-Err-expand_all.refused _ _ (λ error
         starts = starts.nodes;
         yielded = starts.drained;
         holds = λ walk implemented nodes. failed.2 walk starts.nodes implemented nodes starts.waits
-            (λ same. starts.started walk (record { apart = implemented.apart; ids_stand = implemented.ids_match }) same nodes);
+            (λ same. starts.started walk (record { apart = implemented.apart; ids_match = implemented.ids_match }) same nodes);
       };
     })) c.in-Err-expand_all.ensures.refused
 

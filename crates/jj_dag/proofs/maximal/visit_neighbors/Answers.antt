@@ -1,7 +1,7 @@
 use Rattle.std.proofs.Common.{rules, of_calls, arith, ◌≡◌, ◌++◌, ◌∷◌, [], Ok, refl, ◌∙◌, ap}
 use Rattle.std.proofs.lemmas.Fn.{called_at}
 use Rattle.std.proofs.lemmas.List.Elements.{Contains-push}
-use Rattle.jj_dag.specs.HeadsSearch.MeetsNodes.{none, more}
+use Rattle.jj_dag.specs.HeadsSearch.VisitsNeighbors.{none, more}
 use Rattle.jj_dag.proofs.FailingOrders.{begins_failed, drained_nodes, ok-push}
 use Rattle.jj_dag.proofs.ClosureGraphs.{returns_id}
 use Rattle.jj_dag.proofs.Walking.{AlwaysReturns-call}

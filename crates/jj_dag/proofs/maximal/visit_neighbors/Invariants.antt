@@ -3,7 +3,7 @@ use Rattle.std.specs.Bool.{MatchBool}
 use Rattle.jj_dag.specs.ClosureGraph.{ReturnsId}
 use Rattle.std.specs.HashSet.{hash_set_len, IsUnique}
 use Rattle.std.specs.List.{Contains}
-use Rattle.jj_dag.specs.HeadsSearch.{MeetsNodes}
+use Rattle.jj_dag.specs.HeadsSearch.{VisitsNeighbors}
 use Rattle.jj_dag.proofs.maximal.visit_neighbors.Given as goal
 
 abbrev pub invariant-loop-neighbor : goal.invariant-loop-neighbor
@@ -14,6 +14,6 @@ invariant-loop-neighbor g l = record {
   balance : hash_set_len l.visited + length l.initial.waiting.items ≡ hash_set_len l.initial.visited + length l.waiting.items;
   grows : length l.initial.waiting.items ≤ length l.waiting.items;
   sound : (ys : List g.row.T.Denot) × (l.yielded ≡ map (λ x. Ok x) ys)
-      × MeetsNodes g.T.PartialEq.eq g.ID.PartialEq.eq (ReturnsId g.F.Fn l.id_fn) l.initial.heads l.initial.visited l.initial.waiting.items ys l.heads l.visited l.waiting.items
+      × VisitsNeighbors g.T.PartialEq.eq g.ID.PartialEq.eq (ReturnsId g.F.Fn l.id_fn) l.initial.heads l.initial.visited l.initial.waiting.items ys l.heads l.visited l.waiting.items
       × MatchBool l.empty (ys ≡ []) ((y : g.row.T.Denot) × Contains ys y);
 }

@@ -1,11 +1,11 @@
 use Rattle.std.proofs.Common.{rules, of_calls}
 use Rattle.jj_dag.proofs.ClosureGraphs.{each_model, implements_outside}
-use Rattle.jj_dag.proofs.Wrapped.{can_show_wrapped, cycle_says, drains_ok}
+use Rattle.jj_dag.proofs.Wrapped.{walkable_wrapped, cycle_says, drains_ok}
 use Rattle.jj_dag.proofs.topo_order.topo_order_forward.Goals as goal
 
 pub walk_forward-order-requires-clause-graph : goal.walk_forward-order-requires-clause-graph
 walk_forward-order-requires-clause-graph g c =
-    can_show_wrapped g.F.Fn g.N.FnMut g.NI.IntoIterator g.NI.IntoIter.Iterator _ (λ f. f.0) _ _ (λ f a r after h. search (rules, of_calls, h)) (λ f a k. search (rules, k)) (λ r k. k) _ _ c.requires.graph
+    walkable_wrapped g.F.Fn g.N.FnMut g.NI.IntoIterator g.NI.IntoIter.Iterator _ (λ f. f.0) _ (λ f a r after h. search (rules, of_calls, h)) (λ f a k. search (rules, k)) (λ r k. k) _ _ c.requires.graph
 
 pub returns-in-Ok-clause-order : goal.returns-in-Ok-clause-order
 returns-in-Ok-clause-order g c =

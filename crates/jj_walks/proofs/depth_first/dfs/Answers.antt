@@ -4,7 +4,7 @@ use Rattle.jj_walks.proofs.depth_first.dfs.Goals as goal
 
 pub returns : goal.returns
 returns g c = record {
-  can_walk = record { id_fn = c.requires.graph.id_fn; neighbors_fn = c.requires.graph.neighbors_fn; ends = c.requires.graph.lists };
+  can_walk = c.requires.graph;
   walk = record {
     starts = c.in_ok-work.work.items;
     yielded = c.in_ok-work.ensures;

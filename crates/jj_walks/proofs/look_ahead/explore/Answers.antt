@@ -5,8 +5,8 @@ use Rattle.std.specs.BinaryHeap.{heap_items}
 use Rattle.std.specs.HashMap.{get}
 use Rattle.jj_dag.proofs.Collecting.{are_nodes, some_of, top_reached}
 use Rattle.jj_dag.proofs.Errors.{node_weaker}
-use Rattle.jj_dag.specs.Asking.{whole}
-use Rattle.jj_dag.proofs.Asking.{fails_before, filled_more, goes_on-more, goes_on-none, ids_told, whole_listed}
+use Rattle.jj_dag.specs.Expanding.{whole}
+use Rattle.jj_dag.proofs.Expanding.{fails_before, filled_more, implements-more, implements-none, ids_told, whole_listed}
 use Rattle.jj_dag.proofs.ClosureGraphs.{returns_id}
 use Rattle.jj_dag.proofs.Wrapped.{all_sound}
 use Rattle.jj_walks.proofs.LookingAhead.{looked, looking_entered, looking_passed, looking_starts, some_edge, top_collecting}
@@ -17,7 +17,7 @@ use Rattle.jj_walks.proofs.look_ahead.explore.Goals as goal
 
 pub loop-node-init : goal.loop-node-init
 loop-node-init g c = record {
-  graph = goes_on-none g.ID.PartialEq.eq g.F.Fn g.N.FnMut g.NI.IntoIterator g.NI.IntoIter.Iterator _ c.requires;
+  graph = implements-none g.ID.PartialEq.eq g.F.Fn g.N.FnMut g.NI.IntoIterator g.NI.IntoIter.Iterator _ c.requires;
   found = (
     record { given = []; nodes = c.new-found.ensures.nodes; ids = ap length c.new-found.ensures.ids; places = λ i k found. let none = rw (c.new-found.ensures.places i) at found in absurd cc },
     λ walk implemented nodes. looking_starts walk (whole walk) c.args.start.items (heap_items c.from-waiting.result) [] (map (λ v. v.items) c.new-found.result.neighbor_ids.items) _
@@ -54,8 +54,8 @@ loop-node-preserved g c =
     let told = rw before.graph.id_fn at (returns_id g.F.Fn c.id_fn.ensures c.in_ok-id.was) in
     let below = c.in-Ok.neighbors.items in
     let missed = none_is (get g.ID.PartialEq.eq c.loop-node.found.index_of id) (sym c.if-contains_key.ensures) in
-    let more = filled_more g.ID.PartialEq.eq c.loop-node.found c.keep.new.self node id c.in_ok-ids.ids before.found.0 c.in_ok-keep.ensures.nodes c.in_ok-keep.ensures.ids c.in_ok-keep.ensures.places in
-    let graph = goes_on-more g.ID.PartialEq.eq g.F.Fn g.N.FnMut g.NI.IntoIterator g.NI.IntoIter.Iterator c.args.shown.now c.loop-node.shown c.neighbors.new.self before.graph c.neighbors.ensures.graph in
+    let more = filled_more g.ID.PartialEq.eq c.loop-node.found c.add_node.new.self node id c.in_ok-ids.ids before.found.0 c.in_ok-add_node.ensures.nodes c.in_ok-add_node.ensures.ids c.in_ok-add_node.ensures.places in
+    let graph = implements-more g.ID.PartialEq.eq g.F.Fn g.N.FnMut g.NI.IntoIterator g.NI.IntoIter.Iterator c.args.closures.now c.loop-node.closures c.neighbors.new.self before.graph c.neighbors.ensures.graph in
     let ids_ok = c.in_ok-ids.ids.ok in
     let count : c.in_ok-ids.ids.len ≡ length c.in_ok-ids.ids.items = omega arith in
     let waits = IsPermutation-trans _ _ _ (IsPermutation-append_right rest below (heap_items c.from.result) c.from.ensures.1) c.in_ok-append.ensures.permutation in
@@ -68,41 +68,41 @@ loop-node-preserved g c =
           let same_ids = ids_told walk _ (rw (← graph.id_fn) at implemented.ids_match) below c.in_ok-ids.ids.items (rw c.deref.ensures.value at c.in_ok-ids.ensures) (λ b h. implemented.closed (walk.node node) is b (rw listed at h)) in
           looking_entered walk (whole walk) g.ID.PartialEq.eq _ _ rest node id below _ _ c.in_ok-ids.ids.items _ (length c.loop-node.found.nodes.items)
           (λ a. all_sound _ (walk.graph a)) implemented.closed implemented.apart known c.in-Some.ensures.taken is (implemented.ids_match node id is told) missed
-          (whole_listed walk (walk.node node) below listed) listed same_ids waits given (ap (map (λ v. v.items)) c.in_ok-keep.ensures.ids ∙ map_push (λ v. v.items) c.loop-node.found.neighbor_ids.items c.in_ok-ids.ids)
-          (ap length before.found.0.nodes ∙ length-map before.found.0.given (λ x. Some x)) c.in_ok-keep.ensures.places
+          (whole_listed walk (walk.node node) below listed) listed same_ids waits given (ap (map (λ v. v.items)) c.in_ok-add_node.ensures.ids ∙ map_push (λ v. v.items) c.loop-node.found.neighbor_ids.items c.in_ok-ids.ids)
+          (ap length before.found.0.nodes ∙ length-map before.found.0.given (λ x. Some x)) c.in_ok-add_node.ensures.places
           (λ f. let both = neither c.loop-node.root_met c.is_empty-root_met.result f in (both.0, some_edge walk.node walk.id c.in_ok-ids.ids.items below (walk.graph (walk.node node)) c.in_ok-ids.ids.len same_ids listed count (sym c.is_empty-root_met.ensures ∙ both.1))));
     }
 
 pub returns-in-Err : goal.returns-in-Err
 returns-in-Err g c = record {
-  graph = goes_on-more g.ID.PartialEq.eq g.F.Fn g.N.FnMut g.NI.IntoIterator g.NI.IntoIter.Iterator c.args.shown.now c.loop-node.shown c.neighbors.new.self c.loop-node.invariant.graph c.neighbors.ensures.graph;
+  graph = implements-more g.ID.PartialEq.eq g.F.Fn g.N.FnMut g.NI.IntoIterator g.NI.IntoIter.Iterator c.args.closures.now c.loop-node.closures c.neighbors.new.self c.loop-node.invariant.graph c.neighbors.ensures.graph;
   explored = tt;
   failed = node_weaker c.in-Err.refused _ _ (λ error failure.
       let before = c.loop-node.invariant in
       let rest = heap_items c.next_to_explore.new.waiting in (
         c.in-Some.node,
-        fails_before g.ID.PartialEq.eq g.F.Fn g.N.FnMut g.NI.IntoIterator g.NI.IntoIter.Iterator c.args.shown.now c.loop-node.shown before.graph c.in-Some.node error failure,
+        fails_before g.ID.PartialEq.eq g.F.Fn g.N.FnMut g.NI.IntoIterator g.NI.IntoIter.Iterator c.args.closures.now c.loop-node.closures before.graph c.in-Some.node error failure,
         λ walk implemented nodes. top_reached walk (whole walk) rest c.in-Some.node (top_collecting walk (whole walk) rest c.in-Some.node (before.found.1 walk implemented nodes) c.in-Some.ensures.taken) refl,
       )) c.in-Err.ensures.failed;
 }
 
 pub returns-in_err-ids : goal.returns-in_err-ids
 returns-in_err-ids g c = record {
-  graph = goes_on-more g.ID.PartialEq.eq g.F.Fn g.N.FnMut g.NI.IntoIterator g.NI.IntoIter.Iterator c.args.shown.now c.loop-node.shown c.neighbors.new.self c.loop-node.invariant.graph c.neighbors.ensures.graph;
+  graph = implements-more g.ID.PartialEq.eq g.F.Fn g.N.FnMut g.NI.IntoIterator g.NI.IntoIter.Iterator c.args.closures.now c.loop-node.closures c.neighbors.new.self c.loop-node.invariant.graph c.neighbors.ensures.graph;
   explored = search rules;
   failed = search rules;
 }
 
-pub returns-in_err-keep : goal.returns-in_err-keep
-returns-in_err-keep g c = record {
-  graph = goes_on-more g.ID.PartialEq.eq g.F.Fn g.N.FnMut g.NI.IntoIterator g.NI.IntoIter.Iterator c.args.shown.now c.loop-node.shown c.neighbors.new.self c.loop-node.invariant.graph c.neighbors.ensures.graph;
+pub returns-in_err-add_node : goal.returns-in_err-add_node
+returns-in_err-add_node g c = record {
+  graph = implements-more g.ID.PartialEq.eq g.F.Fn g.N.FnMut g.NI.IntoIterator g.NI.IntoIter.Iterator c.args.closures.now c.loop-node.closures c.neighbors.new.self c.loop-node.invariant.graph c.neighbors.ensures.graph;
   explored = search rules;
   failed = search rules;
 }
 
 pub returns-in_err-append : goal.returns-in_err-append
 returns-in_err-append g c = record {
-  graph = goes_on-more g.ID.PartialEq.eq g.F.Fn g.N.FnMut g.NI.IntoIterator g.NI.IntoIter.Iterator c.args.shown.now c.loop-node.shown c.neighbors.new.self c.loop-node.invariant.graph c.neighbors.ensures.graph;
+  graph = implements-more g.ID.PartialEq.eq g.F.Fn g.N.FnMut g.NI.IntoIterator g.NI.IntoIter.Iterator c.args.closures.now c.loop-node.closures c.neighbors.new.self c.loop-node.invariant.graph c.neighbors.ensures.graph;
   explored = search rules;
   failed = search rules;
 }

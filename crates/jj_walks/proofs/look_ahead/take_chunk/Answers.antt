@@ -4,8 +4,8 @@ use Rattle.std.specs.List.{Contains, filter, filter_map}
 use Rattle.std.specs.Option.{MatchOption}
 use Rattle.std.proofs.lemmas.List.{length-map}
 use Rattle.jj_dag.specs.Graph.{ReachedFrom, ReachesCycle}
-use Rattle.jj_walks.specs.Chunks.{IsChunkOfMany, IsStretch}
-use Rattle.jj_dag.specs.Asking.{whole}
+use Rattle.jj_walks.specs.Chunks.{IsChunkOfMany, IsChunkOfAnyGraph}
+use Rattle.jj_dag.specs.Expanding.{whole}
 use Rattle.jj_dag.specs.ReadyNodes.{places_graph, IsStuck}
 use Rattle.jj_walks.proofs.Chunks.{walk_inner, inner_items, inner_ids, explored, explored_nodes, inner_sound, inner_nodes_closed, inner_collected, inner_linked, inner_reached, inner_cycle, many_chunk, many_stretch}
 use Rattle.jj_dag.specs.Collecting.{neighbor_places}
@@ -43,7 +43,7 @@ returns g c = record {
       let linked_inside = inner_linked walk items starts find left given ids known implemented.closed nodes ts places in
       elim c.in_ok-nodes.stuck as (λ o. MatchOption o ((k : ℕ) → k < length c.in_ok-found.found.nodes.items → Contains q.0 k)
       (λ x. (k : ℕ) × (k < length c.in_ok-found.found.nodes.items) × (get_or c.in_ok-found.found.nodes.items k None ≡ Some x) × (Contains q.0 k → ⊥) × IsStuck (places_graph ts) (λ k. k < length c.in_ok-found.found.nodes.items) q.0)
-      → MatchOption o (IsChunkOfMany walk.graph starts (map walk.node vs) (map walk.node left) × IsStretch walk.graph starts (map walk.node vs) (map walk.node left)) (λ x. ReachedFrom walk.graph starts (walk.node x) × ReachesCycle walk.graph starts)) [
+      → MatchOption o (IsChunkOfMany walk.graph starts (map walk.node vs) (map walk.node left) × IsChunkOfAnyGraph walk.graph starts (map walk.node vs) (map walk.node left)) (λ x. ReachedFrom walk.graph starts (walk.node x) × ReachesCycle walk.graph starts)) [
         | None ↦ λ all.
             let o = order_is inner_walk items_inside g.T.Ord.cmp seen find given ids_inside ts sound closed seen_nodes collected sizes_inside linked_inside p.0.places q.0 (rw p.0.nodes at q.2) vs (rw p.0.nodes at q.1) (rw p.0.nodes at all) in
             let begun = many_chunk walk items starts find left given ids known implemented.closed nodes p.2 p.1 (map walk.node vs) o.0 in

@@ -7,7 +7,7 @@ use Rattle.std.specs.declared.vec.Vec.{Vec as vec}
 use denote.Ref.{Bor}
 use Rattle.jj_walks.specs.declared.graph.GraphEdge.{GraphEdge}
 use Rattle.jj_walks.specs.ListsByKey.{items_at}
-use Rattle.jj_walks.specs.Reversed.{LeadsToId, ShowsById, incoming_edges, shown_graph, turned_edges, with_incoming}
+use Rattle.jj_walks.specs.Reversed.{LeadsToId, ShowsById, incoming_edges, shown_graph, reversed_edges, with_incoming}
 use Rattle.jj_walks.proofs.reversed.reverse_graph.Given as goal
 
 abbrev pub invariant-loop-edge : goal.invariant-loop-edge
@@ -16,7 +16,7 @@ invariant-loop-edge g l = record {
   finite : (goal.iterator-loop-edge g).is_finite l.edge-iterator;
   turned : (id : g.row.N.Denot → g.row.ID.Denot) → ((x : g.row.N.Denot) (r : Bor g.row.ID.Denot) → FnReturnsAt g.F.Fn l.fn.as_id x r → r.now ≡ id x)
       → (before : List (GraphEdge g.row.N.Denot)) (q : g.row.ID.Denot) → AllZip (LeadsToId g.ID.Clone.is_clone id) before (items_at g.ID.PartialEq.eq l.initial.incoming q)
-      → AllZip (LeadsToId g.ID.Clone.is_clone id) (before ++ turned_edges g.ID.PartialEq.eq q l.node l.yielded) (items_at g.ID.PartialEq.eq l.incoming q);
+      → AllZip (LeadsToId g.ID.Clone.is_clone id) (before ++ reversed_edges g.ID.PartialEq.eq q l.node l.yielded) (items_at g.ID.PartialEq.eq l.incoming q);
 }
 
 abbrev pub invariant-loop-item : goal.invariant-loop-item

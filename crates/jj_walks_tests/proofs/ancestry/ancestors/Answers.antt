@@ -4,7 +4,7 @@ use Rattle.std.proofs.lemmas.Iterator.Consumers.{YieldsList-from_first}
 use Rattle.std.proofs.lemmas.Result.{IfOk-weaker}
 use Rattle.jj_walks.proofs.DfsRuns.{IsPreorder-from_drains}
 use Rattle.jj_dag.proofs.Walking.{drained_are}
-use Rattle.jj_dag.proofs.Owing.{walkable_by}
+use Rattle.jj_dag.proofs.Walkable.{walkable_by}
 use Rattle.jj_walks_tests.specs.Commits.{commit_with, known_ids}
 use Rattle.jj_walks_tests.specs.Parents.{parents_left}
 use Rattle.jj_walks_tests.proofs.Numbering.{walk_of, node}

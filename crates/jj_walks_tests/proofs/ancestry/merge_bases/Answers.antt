@@ -10,7 +10,7 @@ use denote.Ref.{Bor}
 use Rattle.jj_dag.specs.ClosureGraph.{YieldsOk}
 use Rattle.jj_dag.specs.Walk.{DrainsTo}
 use Rattle.jj_dag.proofs.Walking.{drained_are}
-use Rattle.jj_dag.proofs.Owing.{walkable_by}
+use Rattle.jj_dag.proofs.Walkable.{walkable_by}
 use Rattle.jj_walks_tests.specs.declared.commits.Commit.{Commit}
 use Rattle.jj_walks_tests.specs.declared.commits.Parents.{Parents}
 use Rattle.jj_walks_tests.specs.Commits.{commit_with, ids_of, parents_in, parent_graph}

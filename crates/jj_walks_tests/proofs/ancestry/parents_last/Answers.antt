@@ -3,7 +3,7 @@ use Rattle.std.proofs.lemmas.Iterator.{YieldsList-from_slice}
 use Rattle.std.proofs.lemmas.Result.{IfOk-weaker, IfErr-weaker}
 use denote.Param.Always.{mut_total}
 use Rattle.jj_dag.proofs.Walking.{drained_are}
-use Rattle.jj_dag.proofs.Owing.{walkable_by}
+use Rattle.jj_dag.proofs.Walkable.{walkable_by}
 use Rattle.jj_walks_tests.proofs.Numbering.{walk_of, walk_starts, starts_are_nodes}
 use Rattle.jj_dag.proofs.Errors.{node_weaker}
 use Rattle.jj_walks_tests.proofs.Ordered.{ordered_reversed, on_cycle}

@@ -2,7 +2,7 @@ use Rattle.std.proofs.Common.{rules, of_calls, ◌≡◌}
 use Rattle.std.proofs.lemmas.Iterator.{YieldsList-from_slice}
 use Rattle.std.proofs.lemmas.Result.{IfOk-weaker}
 use Rattle.jj_dag.proofs.Walking.{drained_are}
-use Rattle.jj_dag.proofs.Owing.{walkable_by}
+use Rattle.jj_dag.proofs.Walkable.{walkable_by}
 use Rattle.jj_walks_tests.proofs.Numbering.{walk_of, walk_starts, walk_stands, starts_are_nodes, maximal_ids}
 use Rattle.jj_walks_tests.proofs.Showing.{parents_implemented}
 use Rattle.jj_walks_tests.proofs.ancestry.tips.Goals as goal

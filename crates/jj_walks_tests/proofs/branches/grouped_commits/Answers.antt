@@ -19,7 +19,7 @@ loop-item-init c =
       good = ap (λ s. into_iter_len s) input ∙ c.into_iter.ensures.len ∙ c.in_ok-input.input.ok.0 ∙ sym (ap length items);
       run = (
         Prioritized c.args.wanted ∷ [],
-        rw graph (c.in_ok-prioritize_branch.ensures.prioritized [] c.new-graph.ensures.held),
+        rw graph (c.in_ok-prioritize_branch.ensures.prioritized [] c.new-graph.ensures.pending),
         rw items (run-begins c.args.commits.now c.args.wanted shown.0 c.in_ok-input.input.items c.new-order.result.items shown.1 shown.2 c.new-order.ensures.items),
       );
     }

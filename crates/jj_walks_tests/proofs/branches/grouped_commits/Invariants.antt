@@ -2,7 +2,7 @@ use Rattle.std.proofs.Common.{◌≡◌, false, eqb, length, ℕ}
 use Rattle.std.specs.Vec.Iter.{into_iter_items, into_iter_len}
 use denote.Ref.{Bor}
 use Rattle.jj_walks.specs.Grouped.{History}
-use Rattle.jj_walks.specs.HeldNodes.{Keeps}
+use Rattle.jj_walks.specs.PendingNodes.{Keeps}
 use Rattle.jj_walks_tests.specs.declared.commits.Commit.{Commit}
 use Rattle.jj_walks_tests.proofs.Grouping.{IsRun}
 use Rattle.jj_walks_tests.proofs.branches.grouped_commits.Given as goal
@@ -13,5 +13,5 @@ invariant-loop-item l = record {
   finite : goal.iterator-loop-item.is_finite l.item-iterator;
   goes_on : l.item-iterator.has_ended ≡ false;
   good : into_iter_len l.item-iterator.graph.input ≡ length (into_iter_items l.item-iterator.graph.input);
-  run : (h : History (Bor Commit) ℕ) × Keeps eqb h l.item-iterator.graph.held × IsRun l.fn.commits l.fn.wanted h (into_iter_items l.item-iterator.graph.input) l.order.items;
+  run : (h : History (Bor Commit) ℕ) × Keeps eqb h l.item-iterator.graph.pending × IsRun l.fn.commits l.fn.wanted h (into_iter_items l.item-iterator.graph.input) l.order.items;
 }

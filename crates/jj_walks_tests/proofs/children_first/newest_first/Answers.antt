@@ -1,6 +1,6 @@
 use Rattle.std.proofs.Common.{rules, of_calls, ◌≡◌, ◌∙◌, ap, map, Ok}
 use Rattle.jj_dag.proofs.Errors.{if_fails, if_ok}
-use Rattle.jj_dag.proofs.Owing.{walkable_by}
+use Rattle.jj_dag.proofs.Walkable.{walkable_by}
 use Rattle.jj_walks_tests.specs.Commits.{known_ids}
 use Rattle.jj_walks_tests.proofs.Numbering.{walk_of, walk_closed}
 use Rattle.jj_walks_tests.proofs.Sound.{drained_starts, known_are_nodes, never_fails}

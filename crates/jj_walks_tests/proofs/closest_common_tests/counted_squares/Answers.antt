@@ -1,5 +1,5 @@
 use Rattle.std.proofs.Common.{rules, of_calls}
-use Rattle.jj_dag.proofs.Owing.{walkable_by}
+use Rattle.jj_dag.proofs.Walkable.{walkable_by}
 use Rattle.jj_walks_tests.proofs.closest_common_tests.counted_squares.Goals as goal
 
 pub closest_common_nodes-requires-clause-graph : goal.closest_common_nodes-requires-clause-graph

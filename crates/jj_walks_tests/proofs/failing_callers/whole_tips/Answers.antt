@@ -4,7 +4,7 @@ use Rattle.std.proofs.lemmas.Result.{IfOk-weaker, IfErr-weaker}
 use denote.Param.Always.{mut_total}
 use Rattle.jj_dag.proofs.Walking.{drained_are}
 use Rattle.jj_dag.proofs.Errors.{node_weaker}
-use Rattle.jj_dag.proofs.Owing.{walkable_by}
+use Rattle.jj_dag.proofs.Walkable.{walkable_by}
 use Rattle.jj_walks_tests.specs.Commits.{ids_of}
 use Rattle.jj_walks_tests.specs.Gaps.{IsGapIn}
 use Rattle.jj_walks_tests.proofs.Numbering.{walk_starts, walk_stands, starts_are_nodes}

@@ -1,5 +1,5 @@
 use Rattle.std.proofs.Common.{rules, of_calls}
-use Rattle.jj_dag.proofs.Owing.{walkable_by}
+use Rattle.jj_dag.proofs.Walkable.{walkable_by}
 use Rattle.jj_walks_tests.proofs.large.forward.Goals as goal
 
 pub topo_order_forward-requires-clause-graph : goal.topo_order_forward-requires-clause-graph

@@ -1,7 +1,7 @@
 use Rattle.std.proofs.Common.{rules, of_calls, ◌≡◌, ⊎_elim, ◌⊎◌, inl, inr}
 use Rattle.std.proofs.lemmas.Result.{IfOk-weaker, IfErr-weaker}
 use Rattle.jj_dag.proofs.Errors.{node_weaker}
-use Rattle.jj_dag.proofs.Owing.{walkable_by}
+use Rattle.jj_dag.proofs.Walkable.{walkable_by}
 use Rattle.jj_dag.specs.Graph.{OnCycleFrom}
 use Rattle.jj_walks_tests.specs.Commits.{known_ids, parent_graph}
 use Rattle.jj_walks_tests.specs.Missing.{IsMissingFrom}

@@ -1,6 +1,6 @@
 use Rattle.std.proofs.Common.{rules, of_calls, []}
 use Rattle.std.proofs.lemmas.Result.{IfOk-weaker}
-use Rattle.jj_dag.proofs.Owing.{walkable_by}
+use Rattle.jj_dag.proofs.Walkable.{walkable_by}
 use Rattle.jj_walks.proofs.DfsOkRuns.{IsRun-from_drains}
 use Rattle.jj_walks_tests.proofs.KnownAncestors.{drained_items, known_by_run, same_items}
 use Rattle.jj_walks_tests.proofs.missing.known_ancestors.Goals as goal

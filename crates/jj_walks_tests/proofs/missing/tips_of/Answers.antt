@@ -1,7 +1,7 @@
 use Rattle.std.proofs.Common.{rules, of_calls, ◌≡◌, ⊎_elim}
 use Rattle.std.proofs.lemmas.Result.{IfOk-weaker, IfErr-weaker}
 use Rattle.jj_dag.proofs.Errors.{node_weaker}
-use Rattle.jj_dag.proofs.Owing.{walkable_by}
+use Rattle.jj_dag.proofs.Walkable.{walkable_by}
 use Rattle.jj_walks_tests.specs.Missing.{IsMissingFrom}
 use Rattle.jj_walks_tests.proofs.Numbering.{walk_of, walk_stands}
 use Rattle.jj_walks_tests.proofs.Sound.{known_are_nodes}

@@ -1,6 +1,6 @@
 use Rattle.std.proofs.Common.{rules, of_calls, arith}
 use Rattle.std.proofs.lemmas.Grind.{common_steps}
-use Rattle.jj_dag.proofs.Owing.{walkable_by}
+use Rattle.jj_dag.proofs.Walkable.{walkable_by}
 use Rattle.rows_walks.proofs.lazy.next_chunk.Goals as goal
 
 pub topo_order_reverse_chunked-requires : goal.topo_order_reverse_chunked-requires

@@ -1,5 +1,5 @@
 use Rattle.std.proofs.Common.{rules, of_calls}
-use Rattle.jj_dag.proofs.Owing.{walkable_by}
+use Rattle.jj_dag.proofs.Walkable.{walkable_by}
 use Rattle.rows_walks.proofs.orders.maximal_ok.Goals as goal
 
 pub heads_ok-requires-clause-graph : goal.heads_ok-requires-clause-graph

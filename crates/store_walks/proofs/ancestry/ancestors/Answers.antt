@@ -1,7 +1,7 @@
 use Rattle.std.proofs.Common.{rules, of_calls, List, sym, subst}
 use Rattle.std.proofs.lemmas.Result.{IfOk-weaker}
 use denote.Param.Always.{mut_total}
-use Rattle.jj_dag.proofs.Owing.{walkable_by}
+use Rattle.jj_dag.proofs.Walkable.{walkable_by}
 use Rattle.store_walks.specs.ReadResults.{AreReads}
 use Rattle.store_walks.proofs.FoundAncestors.{drained, found_by_run}
 use Rattle.store_walks.proofs.ReadResults.{Item}

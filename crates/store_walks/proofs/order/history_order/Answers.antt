@@ -3,7 +3,7 @@ use denote.Param.Always.{mut_total}
 use Rattle.jj_dag.specs.Graph.{ReachedFrom, ReachesCycle}
 use Rattle.jj_dag.proofs.Errors.{if_fails, if_ok}
 use Rattle.jj_dag.proofs.ListNumbers.{number}
-use Rattle.jj_dag.proofs.Owing.{walkable_by}
+use Rattle.jj_dag.proofs.Walkable.{walkable_by}
 use Rattle.store_walks.proofs.Commits.{are_nodes, id_graph, node_of, order_from, starts_are, walk_of}
 use Rattle.store_walks.proofs.HistoryItems.{cycle_error, history_error_at, history_error_below, implements_items, items_error, items_read, may_read_items}
 use Rattle.store_walks.proofs.order.history_order.Goals as goal

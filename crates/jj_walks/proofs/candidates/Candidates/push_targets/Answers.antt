@@ -1,7 +1,7 @@
 use Rattle.std.proofs.Common.{◌≡◌, ◌++◌, ◌∷◌, [], List, cond, take, true, false, true≢false, sym, ◌∙◌, ap, subst, append-nil, append_assoc}
 use Rattle.std.proofs.lemmas.List.Elements.{AllZip-push}
 use Rattle.jj_walks.specs.Candidates.{AreSameIds}
-use Rattle.jj_walks.specs.Grouped.{targets_of, is_shown}
+use Rattle.jj_walks.specs.Grouped.{targets_of, is_in_graph}
 use Rattle.jj_walks.proofs.CandidateLists.{targets-more, is_shown-missing, is_shown-other}
 use Rattle.jj_walks.proofs.candidates.Candidates.push_targets.Goals as goal
 use Rattle.jj_walks.proofs.candidates.Candidates.push_targets.Goals.{then-not-is_missing+in_ok-clone+in_ok-push, else-not-is_missing}
@@ -15,7 +15,7 @@ loop-edge-preserved g c =
     let more = targets-more c.args.edges.now c.loop-edge.edge-index edge c.loop-edge-test.true c.edge-item.is in
     elim c.if-not-is_missing.branch [
       | then-not-is_missing+in_ok-clone+in_ok-push w ↦
-          let shown : is_shown edge.edge_type ≡ true = is_shown-other edge.edge_type (λ e. absurd (true≢false (sym (c.is_missing.ensures.1 e) ∙ w.if-not-is_missing.true))) in
+          let shown : is_in_graph edge.edge_type ≡ true = is_shown-other edge.edge_type (λ e. absurd (true≢false (sym (c.is_missing.ensures.1 e) ∙ w.if-not-is_missing.true))) in
           record {
             heads = ap (λ s. s.heads) w.self-is ∙ before.heads;
             ids = (
@@ -26,7 +26,7 @@ loop-edge-preserved g c =
             );
           }
       | else-not-is_missing w ↦
-          let shown : is_shown edge.edge_type ≡ false = is_shown-missing edge.edge_type (c.is_missing.ensures.0 w.if-not-is_missing.false) in
+          let shown : is_in_graph edge.edge_type ≡ false = is_shown-missing edge.edge_type (c.is_missing.ensures.0 w.if-not-is_missing.false) in
           record {
             heads = ap (λ s. s.heads) w.self-is ∙ before.heads;
             ids = (

@@ -1,5 +1,5 @@
 use Rattle.std.proofs.Common.{◌≡◌, true, false, true≢false, sym, ◌∙◌}
-use Rattle.jj_walks.specs.Grouped.{is_shown}
+use Rattle.jj_walks.specs.Grouped.{is_in_graph}
 use Rattle.jj_walks.specs.ListsByKey.{items_at}
 use Rattle.jj_walks.proofs.CandidateLists.{is_shown-missing, is_shown-other}
 use Rattle.jj_walks.proofs.Children.{child-put, child-missing}
@@ -13,7 +13,7 @@ loop-edge-preserved g c =
     let before = c.loop-edge.invariant in
     elim c.if-not-is_missing.branch [
       | then-not-is_missing+in_ok-clone+in_ok-clone-2+in_ok-push_at w ↦
-          let shown : is_shown edge.edge_type ≡ true = is_shown-other edge.edge_type (λ e. absurd (true≢false (sym (c.is_missing.ensures.1 e) ∙ w.if-not-is_missing.true))) in
+          let shown : is_in_graph edge.edge_type ≡ true = is_shown-other edge.edge_type (λ e. absurd (true≢false (sym (c.is_missing.ensures.1 e) ∙ w.if-not-is_missing.true))) in
           rw (w.self-is) (record {
             ids = before.ids;
             heads = before.heads;
@@ -25,7 +25,7 @@ loop-edge-preserved g c =
                 w.in_ok-push_at.ensures before.children;
           })
       | else-not-is_missing w ↦
-          let missing : is_shown edge.edge_type ≡ false = is_shown-missing edge.edge_type (c.is_missing.ensures.0 w.if-not-is_missing.false) in
+          let missing : is_in_graph edge.edge_type ≡ false = is_shown-missing edge.edge_type (c.is_missing.ensures.0 w.if-not-is_missing.false) in
           rw (w.self-is) (record {
             ids = before.ids;
             heads = before.heads;

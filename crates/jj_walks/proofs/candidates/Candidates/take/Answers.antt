@@ -36,10 +36,10 @@ pub turns-preserved-in-None-get : goal.turns-preserved-in-None-get
 turns-preserved-in-None-get g c =
     let top : c.turns.self.ids.items ≡ c.pop.new.self.items ++ c.in-Some.id ∷ [] = c.in-Some.ensures.items in
     let none : None ≡ get g.ID.PartialEq.eq c.args.counts.now c.in-Some.id = c.in-None.ensures.value in
-    let held : is_zero (get g.ID.PartialEq.eq c.args.counts.now c.in-Some.id) ≡ false = ap is_zero (sym none) in
+    let pending_nodes : is_zero (get g.ID.PartialEq.eq c.args.counts.now c.in-Some.id) ≡ false = ap is_zero (sym none) in
     record {
       listed = λ i zero k. listed-passed g.ID.PartialEq.eq c.pop.new.self.items c.turns.self.ids.items (deque_items c.turns.self.heads) c.in-Some.id i top
-          (λ same. absurd (true≢false (sym zero ∙ ap is_zero (sym (lookup_congr g.ID.PartialEq.eq g.met.ID.Eq.laws.congr c.args.counts.now.entries c.in-Some.id i same)) ∙ held)))
+          (λ same. absurd (true≢false (sym zero ∙ ap is_zero (sym (lookup_congr g.ID.PartialEq.eq g.met.ID.Eq.laws.congr c.args.counts.now.entries c.in-Some.id i same)) ∙ pending_nodes)))
           (c.turns.invariant.listed i zero k);
       follows = λ targets k. follows-passed g.ID.PartialEq.eq _ targets c.pop.new.self.items c.turns.self.ids.items c.in-Some.id top (λ known. absurd (true≢false (sym known ∙ ap is_some (sym none)))) (c.turns.invariant.follows targets k);
       begun = λ u. untaken-none c.turns.self c.pop.new.self.items c.in-Some.id top (c.turns.invariant.begun u);
@@ -64,12 +64,12 @@ turns-preserved g c =
     let value : Some c.in-Some-get.field-0.now ≡ get g.ID.PartialEq.eq c.args.counts.now c.in-Some.id = c.in-Some-get.ensures.value in
     let test = c.in-Some-get.field-0-test in
     let held_zero : (c.in-Some-get.field-0.now == 0) ≡ false = search (rules, test) in
-    let held : is_zero (get g.ID.PartialEq.eq c.args.counts.now c.in-Some.id) ≡ false = ap is_zero (sym value) ∙ held_zero in
+    let pending_nodes : is_zero (get g.ID.PartialEq.eq c.args.counts.now c.in-Some.id) ≡ false = ap is_zero (sym value) ∙ held_zero in
     let positive : is_positive (get g.ID.PartialEq.eq c.args.counts.now c.in-Some.id) ≡ true = ap is_positive (sym value) ∙ ap not held_zero in
     let alike = λ (j : g.row.ID.Denot). lookup_congr g.ID.PartialEq.eq g.met.ID.Eq.laws.congr c.args.counts.now.entries c.in-Some.id j in
     record {
       listed = λ i zero k. listed-passed g.ID.PartialEq.eq c.pop.new.self.items c.turns.self.ids.items (deque_items c.turns.self.heads) c.in-Some.id i top
-          (λ same. absurd (true≢false (sym zero ∙ ap is_zero (sym (alike i same)) ∙ held)))
+          (λ same. absurd (true≢false (sym zero ∙ ap is_zero (sym (alike i same)) ∙ pending_nodes)))
           (c.turns.invariant.listed i zero k);
       follows = λ targets k. follows-passed g.ID.PartialEq.eq _ targets c.pop.new.self.items c.turns.self.ids.items c.in-Some.id top (λ known. positive) (c.turns.invariant.follows targets k);
       begun = λ u. untaken-none c.turns.self c.pop.new.self.items c.in-Some.id top (c.turns.invariant.begun u);

@@ -2,7 +2,7 @@ use Rattle.std.proofs.Common.{◌≡◌, Bool, true, false, List, []}
 use Rattle.std.specs.HashMap.{get}
 use Rattle.std.specs.VecDeque.{deque_items}
 use Rattle.jj_walks.specs.Branches.{AreCounts, IsFirstBranch, IsUntaken}
-use Rattle.jj_walks.specs.Candidates.{AreToFollow, is_listed, is_zero, turns_left}
+use Rattle.jj_walks.specs.Candidates.{AreToFollow, is_listed, is_zero, reversals_left}
 use Rattle.jj_walks.proofs.candidates.Candidates.take.Given as goal
 
 abbrev pub invariant-turns : goal.invariant-turns
@@ -17,4 +17,4 @@ invariant-turns g l = record {
 }
 
 abbrev pub decreases-turns : goal.decreases-turns
-decreases-turns g l = turns_left l.self
+decreases-turns g l = reversals_left l.self

@@ -2,7 +2,7 @@ use Rattle.std.proofs.Common.{arith, ◌≡◌, ◌∷◌, ◌++◌, [], refl, �
 use Rattle.jj_walks.specs.Grouped.{History}
 use Rattle.std.specs.HashMap.{hash_map_len}
 use Rattle.jj_walks.specs.GroupedSteps.{IsEntryOf, read_on}
-use Rattle.jj_walks.specs.HeldNodes.{Keeps}
+use Rattle.jj_walks.specs.PendingNodes.{Keeps}
 use Rattle.jj_walks.proofs.GroupedRuns.{read_on-push, reads-push}
 use Rattle.jj_walks.proofs.grouped.TopoGroupedGraph.next_node.Goals as goal
 use Rattle.jj_walks.proofs.grouped.TopoGroupedGraph.next_node.Goals.{in-Unread, in-Nothing}
@@ -10,8 +10,8 @@ use Rattle.jj_walks.proofs.grouped.TopoGroupedGraph.next_node.Goals.{in-Unread, 
 pub reading-init : goal.reading-init
 reading-init g c = record { can_read = c.requires; as_id = refl; left = omega arith; reads = ([], [], record { given = refl; entries = tt }, λ h k. k) }
 
-pub returns-in-Node-clause-gives : goal.returns-in-Node-clause-gives
-returns-in-Node-clause-gives g c = λ h k.
+pub returns-in-Node-clause-next : goal.returns-in-Node-clause-next
+returns-in-Node-clause-next g c = λ h k.
     let before = c.reading.invariant.reads in
     let taken = (rw c.in-Node.is at c.in_ok-node.ensures.taken) (read_on before.1 h) (before.3 h k) in
     (before.0, before.1, taken.0, before.2, taken.1, taken.2, c.reading.invariant.as_id)
@@ -24,11 +24,11 @@ reading-preserved g c =
     let yes = c.in-Ok-true.field-0-test in
     let more = c.in-Ok-true.ensures.read yes in
     let left = c.in-Ok-true.ensures.left yes in
-    let still : (h : History g.row.N.Denot g.row.ID.Denot) → Keeps eq h c.reading.self.held → Keeps eq h c.take_ready.new.self = elim c.match-branch-2.branch [
+    let still : (h : History g.row.N.Denot g.row.ID.Denot) → Keeps eq h c.reading.self.pending → Keeps eq h c.pop_ready.new.self = elim c.match-branch-2.branch [
       | in-Unread w ↦ λ h k. ((rw w.in-Unread.is at c.in_ok-node.ensures.taken) h k).0
       | in-Nothing w ↦ λ h k. ((rw w.in-Nothing.is at c.in_ok-node.ensures.taken) h k).0
     ] in
-    let len : hash_map_len c.reading.self.held.nodes ≡ hash_map_len c.take_ready.new.self.nodes = elim c.match-branch-2.branch [
+    let len : hash_map_len c.reading.self.pending.nodes ≡ hash_map_len c.pop_ready.new.self.nodes = elim c.match-branch-2.branch [
       | in-Unread w ↦ rw w.in-Unread.is at c.in_ok-node.ensures.len
       | in-Nothing w ↦ rw w.in-Nothing.is at c.in_ok-node.ensures.len
     ] in

@@ -1,6 +1,6 @@
 use Rattle.std.proofs.Common.{◌≡◌, map, reverse, ◌∙◌, ap, refl, sym, Some, None, inl}
 use Rattle.std.proofs.lemmas.List.{reverse-reverse}
-use Rattle.jj_dag.proofs.Asking.{goes_on-more}
+use Rattle.jj_dag.proofs.Expanding.{implements-more}
 use Rattle.jj_dag.proofs.Errors.{node_weaker}
 use Rattle.jj_walks.proofs.LazyStates.{chunk_some, fails_left, implement_now, in_model_more, left_nodes, made_left}
 use Rattle.jj_walks.proofs.lazy_order.LazyOrder.look_ahead.Goals as goal
@@ -27,7 +27,7 @@ returns-in-None-clause-refilled g c =
     let turned : c.reverse.new.self.items ≡ reverse c.in-Ok.chunk.nodes.items = c.reverse.ensures.items in
     λ id_fn neighbors_fn on_cycle starts yielded k. (
       record {
-        graph = goes_on-more g.ID.PartialEq.eq g.F.Fn g.N.FnMut g.NI.IntoIterator g.NI.IntoIter.Iterator _ s.graph c.take_chunk.new.shown k.graph c.take_chunk.ensures.graph;
+        graph = implements-more g.ID.PartialEq.eq g.F.Fn g.N.FnMut g.NI.IntoIterator g.NI.IntoIter.Iterator _ s.graph c.take_chunk.new.closures k.graph c.take_chunk.ensures.graph;
         cycle_fn = k.cycle_fn;
         failed = λ error some. let bad : None ≡ Some error = sym c.requires.failed ∙ some in absurd cc;
         models = λ w implemented nodes.

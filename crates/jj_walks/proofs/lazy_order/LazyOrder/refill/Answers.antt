@@ -1,6 +1,6 @@
 use Rattle.std.proofs.Common.{rules, arith, ◌≡◌, ◌≤◌, ◌++◌, [], ◌∷◌, None, Some, length, map, sym, ◌∙◌, ap, refl}
 use Rattle.std.proofs.lemmas.Grind.{common_steps}
-use Rattle.jj_dag.proofs.Asking.{goes_on-more}
+use Rattle.jj_dag.proofs.Expanding.{implements-more}
 use Rattle.jj_dag.proofs.Plain.{lone}
 use Rattle.jj_walks.proofs.LazyStates.{fails_left, implement_now, in_model_failed, in_model_one, in_model_same, left_nodes, ok_weaker}
 use Rattle.jj_walks.proofs.lazy_order.LazyOrder.refill.Goals as goal
@@ -20,7 +20,7 @@ returns-then-len-gt1-clause-refilled g c =
 
 pub returns-in-Ok-clause-can_go : goal.returns-in-Ok-clause-can_go
 returns-in-Ok-clause-can_go g c = ok_weaker c.make_ready.result _ _ (λ _. record {
-  graph = rw c.make_ready.ensures.graph c.neighbors.ensures.graph.can_show;
+  graph = rw c.make_ready.ensures.graph c.neighbors.ensures.graph.walkable;
   cycle_fn = rw c.make_ready.ensures.cycle_fn c.requires.cycle_fn;
 }) c.make_ready.ensures.ready
 
@@ -36,7 +36,7 @@ returns-in-Ok-clause-refilled g c =
     ok_weaker c.make_ready.result _ _ (λ put. λ id_fn neighbors_fn on_cycle starts yielded k.
     let ready : c.make_ready.new.self.ready.items ≡ node ∷ [] = put ∙ ap (λ l. l ++ node ∷ []) empty in (
       record {
-        graph = rw c.make_ready.ensures.graph (goes_on-more g.ID.PartialEq.eq g.F.Fn g.N.FnMut g.NI.IntoIterator g.NI.IntoIter.Iterator _ s.graph c.neighbors.new.self k.graph c.neighbors.ensures.graph);
+        graph = rw c.make_ready.ensures.graph (implements-more g.ID.PartialEq.eq g.F.Fn g.N.FnMut g.NI.IntoIterator g.NI.IntoIter.Iterator _ s.graph c.neighbors.new.self k.graph c.neighbors.ensures.graph);
         cycle_fn = c.make_ready.ensures.cycle_fn ∙ k.cycle_fn;
         failed = λ error some. let bad : None ≡ Some error = sym c.make_ready.ensures.failed ∙ some in absurd cc;
         models = λ w implemented nodes.
@@ -48,7 +48,7 @@ returns-in-Ok-clause-refilled g c =
 
 pub returns-in-Err-Node-clause-can_go : goal.returns-in-Err-Node-clause-can_go
 returns-in-Err-Node-clause-can_go g c = ok_weaker c.make_ready-in-Err-Node.result _ _ (λ _. record {
-  graph = rw c.make_ready-in-Err-Node.ensures.graph c.neighbors.ensures.graph.can_show;
+  graph = rw c.make_ready-in-Err-Node.ensures.graph c.neighbors.ensures.graph.walkable;
   cycle_fn = rw c.make_ready-in-Err-Node.ensures.cycle_fn c.requires.cycle_fn;
 }) c.make_ready-in-Err-Node.ensures.ready
 
@@ -65,7 +65,7 @@ returns-in-Err-Node-clause-refilled g c =
     ok_weaker c.make_ready-in-Err-Node.result _ _ (λ put. λ id_fn neighbors_fn on_cycle starts yielded k.
     let ready : c.make_ready-in-Err-Node.new.self.ready.items ≡ node ∷ [] = put ∙ ap (λ l. l ++ node ∷ []) empty in (
       record {
-        graph = rw c.make_ready-in-Err-Node.ensures.graph (goes_on-more g.ID.PartialEq.eq g.F.Fn g.N.FnMut g.NI.IntoIterator g.NI.IntoIter.Iterator _ s.graph c.neighbors.new.self k.graph c.neighbors.ensures.graph);
+        graph = rw c.make_ready-in-Err-Node.ensures.graph (implements-more g.ID.PartialEq.eq g.F.Fn g.N.FnMut g.NI.IntoIterator g.NI.IntoIter.Iterator _ s.graph c.neighbors.new.self k.graph c.neighbors.ensures.graph);
         cycle_fn = c.make_ready-in-Err-Node.ensures.cycle_fn ∙ k.cycle_fn;
         failed = λ error some.
             let same : c.in-Err-Node.error ≡ error = let both : Some c.in-Err-Node.error ≡ Some error = sym c.make_ready-in-Err-Node.ensures.failed ∙ some in cc in

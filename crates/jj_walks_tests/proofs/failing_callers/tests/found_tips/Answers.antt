@@ -1,6 +1,6 @@
 use Rattle.std.proofs.Common.{rules, of_calls}
 use denote.Param.Always.{mut_total}
-use Rattle.jj_dag.proofs.Owing.{walkable_by}
+use Rattle.jj_dag.proofs.Walkable.{walkable_by}
 use Rattle.jj_walks_tests.proofs.failing_callers.tests.found_tips.Goals as goal
 
 pub heads-requires-clause-graph : goal.heads-requires-clause-graph

@@ -1,9 +1,0 @@
-use Rattle.std.proofs.Common.{◌≡◌, Ok, map}
-use Rattle.jj_dag.proofs.sound_nodes.sound_nodes.Given as goal
-
-abbrev pub invariant-loop-item : goal.invariant-loop-item
-invariant-loop-item g l = record {
-  can : (goal.iterator-loop-item g).can_next l.item-iterator;
-  finite : (goal.iterator-loop-item g).is_finite l.item-iterator;
-  sound : l.yielded ≡ map (λ x. Ok x) l.nodes.items;
-}

@@ -1,0 +1,90 @@
+//! The closures of a graph, and the nodes that starts reach by depth-first search.
+ghost use Rattle.std.specs.Prelude.{IfOk};
+ghost use Rattle.std.specs.Iterator.{IsFiniteIterable};
+ghost use Rattle.std.specs.List.{AllZip};
+ghost use Rattle.jj_dag.specs.Expanding.{CollectsFrom, ListsNode};
+ghost use Rattle.jj_dag.specs.ClosureGraph.{ReturnsId, IsWalkable};
+
+use crate::collect_ok::collect_ok;
+use crate::greatest_order::IndexedGraph;
+use crate::walk_error::WalkError;
+use std::alloc::{AllocError, Global};
+use std::hash::Hash;
+
+/// The closures that define a graph.
+#[derive(Drop)]
+pub struct Closures<F, N> {
+    pub id_fn: F,
+    pub neighbors_fn: N,
+}
+
+/// Returns the ids of these nodes, in their order.
+pub fn ids_of<T, ID: Drop, F: Fn(&T) -> Result<ID, AllocError>>(
+    alloc: Global,
+    id_fn: &F,
+    nodes: &[T],
+) -> Result<Vec<ID>, AllocError>
+    requires { F.IsAlwaysCallable id_fn.now }
+    ensures { IfOk result (λ ids. AllZip (ReturnsId F.Fn id_fn.now) nodes.now ids.items) }
+{
+    let mut ids = Vec::new(alloc);
+    for node in nodes {
+        let id = id_fn(node)?;
+        ids.push(id)?;
+    }
+    Ok(ids)
+}
+
+impl<F, N> Closures<F, N> {
+    /// Returns the neighbours of a node.
+    pub fn neighbors<T: Drop, ID: Hash + Eq + Drop, E: Drop, NI>(
+        &mut self,
+        alloc: Global,
+        node: &T,
+    ) -> Result<Vec<T>, WalkError<E>>
+    where
+        NI: IntoIterator<Item = Result<T, E>, IntoIter: Drop>,
+        F: Fn(&T) -> Result<ID, AllocError>,
+        N: FnMut(&T) -> NI,
+        requires { IsWalkable F.Fn N.FnMut (IsFiniteIterable NI.into_iter_gives NI.IntoIter.can_next
+            NI.IntoIter.remaining) self.old.id_fn self.old.neighbors_fn }
+        ensures { ListsNode ID.eq F.Fn N.FnMut NI.IntoIterator NI.IntoIter.Iterator self.old
+            self.new node.now result }
+    {
+        collect_ok(alloc, (self.neighbors_fn)(node))
+    }
+
+    /// Returns all nodes that the starts reach, in the order of visits: the last start and the last
+    /// neighbour first.
+    pub fn collect<T: Drop, ID: Hash + Eq + Drop, E: Drop, NI>(
+        &mut self,
+        alloc: Global,
+        start: Vec<T>,
+    ) -> Result<IndexedGraph<T, ID>, WalkError<E>>
+    where
+        NI: IntoIterator<Item = Result<T, E>, IntoIter: Drop>,
+        F: Fn(&T) -> Result<ID, AllocError>,
+        N: FnMut(&T) -> NI,
+        requires { IsWalkable F.Fn N.FnMut (IsFiniteIterable NI.into_iter_gives NI.IntoIter.can_next
+            NI.IntoIter.remaining) self.old.id_fn self.old.neighbors_fn }
+        ensures { CollectsFrom ID.eq F.Fn N.FnMut NI.IntoIterator NI.IntoIter.Iterator self.old
+            start.items result }
+    {
+        let mut stack = start;
+        let mut found = IndexedGraph::new(alloc);
+        while let Some(node) = stack.pop() {
+            let id = (self.id_fn)(&node)?;
+            if found.index_of.contains_key(&id) {
+                continue;
+            }
+            let mut neighbors = match self.neighbors(alloc, &node) {
+                Ok(neighbors) => neighbors,
+                Err(refused) => return Err(refused),
+            };
+            let ids = ids_of(alloc, &self.id_fn, &neighbors)?;
+            found.add_node(node, id, ids)?;
+            stack.append(&mut neighbors)?;
+        }
+        Ok(found)
+    }
+}
