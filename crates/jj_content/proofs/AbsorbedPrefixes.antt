@@ -1,6 +1,6 @@
 -- Proofs about absorbed prefixes: sequences of calls that append to a state.
 use Rattle.std.proofs.Common.{◌≡◌, ℕ, List, [], ◌∷◌, ◌++◌, ◌+◌, ◌^◌, ◌<◌, ◌≤◌, length, take, drop, map, get_or, sym, ap, ◌∙◌, subst, Result, Ok, Err, OnErr}
-use Rattle.std.proofs.lemmas.List.{append_assoc, append-nil, take_more, take_all, take-append-drop, map-append, length-map}
+use Rattle.std.proofs.lemmas.List.{append_assoc, append-nil, nil_from_length, take_more, take-append-drop, map-append, length-map}
 use Rattle.std.proofs.lemmas.Grind.{flat_map-append}
 use Rattle.std.specs.List.{flat_map}
 use Rattle.std.specs.Prelude.{All}
@@ -12,16 +12,13 @@ pub on_err_from : {T E P : Type 0} (r : Result T E) → P → OnErr r P
 on_err_from (Ok x) p = tt
 on_err_from (Err e) p = p
 
--- one more mapped item: x is the item at index i
-module _ {A X : Type 0} (image : A → X) (xs : List A) (i : ℕ) (x : A) (lt : i < length xs) (at : x ≡ get_or xs i x) where
-  pub mapped_more : map image (take (i + 1) xs) ≡ map image (take i xs) ++ image x ∷ []
-  mapped_more = ap (map image) (take_more xs i x lt ∙ ap (λ y. take i xs ++ y ∷ []) (sym at)) ∙ map-append image (take i xs) (x ∷ [])
+-- an iterator over `all` has yielded `done` and yields x next, which leaves `rest`
+module _ {A X : Type 0} (image : A → X) (all done rest : List A) (x : A) (split : done ++ (x ∷ rest) ≡ all) where
+  pub split_more : (done ++ x ∷ []) ++ rest ≡ all
+  split_more = append_assoc done (x ∷ []) rest ∙ split
 
-  pub mapped_split : map image (take i xs) ++ (image x ∷ map image (drop (i + 1) xs)) ≡ map image xs
-  mapped_split =
-      sym (append_assoc (map image (take i xs)) (image x ∷ []) (map image (drop (i + 1) xs)))
-      ∙ ap (λ z. z ++ map image (drop (i + 1) xs)) (sym mapped_more)
-      ∙ sym (map-append image (take (i + 1) xs) (drop (i + 1) xs)) ∙ ap (map image) (take-append-drop (i + 1) xs)
+  pub mapped_split : map image done ++ (image x ∷ map image rest) ≡ map image all
+  mapped_split = sym (map-append image done (x ∷ rest)) ∙ ap (map image) split
 
 module _ {D : Type 0} (absorbed : D → List ℕ → Type 0) where
   -- a prefix of the first part is a prefix of the whole
@@ -96,28 +93,39 @@ module _ {D : Type 0} (sf : D → List ℕ → Type 0) where
   pub prefix_left_2 : (s0 s1 s2 new : D) (a b c : List ℕ) → Absorbs sf s0 s1 a → Absorbs sf s1 s2 b → AbsorbsPrefix sf s2 new c → AbsorbsPrefix sf s0 new (a ++ b ++ c)
   prefix_left_2 s0 s1 s2 new a b c t u f = prefix_next sf s0 s2 new (a ++ b) c (absorbs_next sf s0 s1 s2 a b t u) f
 
--- The loop invariant of a list that is written through references: its length and the first i items
+-- The loop invariant of a list that is written through references: its length and the yielded items
 -- were absorbed.
-module _ {D A X : Type 0} (sf : D → List ℕ → Type 0) (image : A → X) (content : X → List ℕ) (old mid new : D) (xs : List A) (i : ℕ) (x : A) (lt : i < length xs) (at : x ≡ get_or xs i x)
-    (taken : Absorbs sf old mid (u64_content (length xs) ++ flat_map content (map image (take i xs)))) where
+module _ {D A X : Type 0} (sf : D → List ℕ → Type 0) (image : A → X) (content : X → List ℕ) (old mid new : D) (all done : List A)
+    (taken : Absorbs sf old mid (u64_content (length all) ++ flat_map content (map image done))) where
   -- one more item
-  pub mapped_absorbed : Absorbs sf mid new (content (image x)) → Absorbs sf old new (u64_content (length xs) ++ flat_map content (map image (take (i + 1) xs)))
-  mapped_absorbed one =
-      subst (λ (ys : List X). Absorbs sf old new (u64_content (length xs) ++ flat_map content ys)) (sym (mapped_more image xs i x lt at))
-      (absorbs_more sf content old mid new (u64_content (length xs)) (map image (take i xs)) (image x) taken one)
+  pub mapped_absorbed : (x : A) → Absorbs sf mid new (content (image x)) → Absorbs sf old new (u64_content (length all) ++ flat_map content (map image (done ++ x ∷ [])))
+  mapped_absorbed x one =
+      subst (λ (ys : List X). Absorbs sf old new (u64_content (length all) ++ flat_map content ys)) (sym (map-append image done (x ∷ [])))
+      (absorbs_more sf content old mid new (u64_content (length all)) (map image done) (image x) taken one)
 
   -- a prefix of the next item
-  pub mapped_prefix : AbsorbsPrefix sf mid new (content (image x)) → AbsorbsPrefix sf old new (list_content content (map image xs))
+  pub mapped_prefix : (rest : List A) (x : A) → done ++ (x ∷ rest) ≡ all → AbsorbsPrefix sf mid new (content (image x)) → AbsorbsPrefix sf old new (list_content content (map image all))
   unfolding list_content
-  mapped_prefix prefix =
-      let head = subst (λ (n : ℕ). Absorbs sf old mid (u64_content n ++ flat_map content (map image (take i xs)))) (sym (length-map xs image)) taken in
-      prefix_more sf content old mid new (u64_content (length (map image xs))) (map image (take i xs)) (image x) (map image (drop (i + 1) xs)) (map image xs) (mapped_split image xs i x lt at) head prefix
+  mapped_prefix rest x split prefix =
+      let head = subst (λ (n : ℕ). Absorbs sf old mid (u64_content n ++ flat_map content (map image done))) (sym (length-map all image)) taken in
+      prefix_more sf content old mid new (u64_content (length (map image all))) (map image done) (image x) (map image rest) (map image all) (mapped_split image all done rest x split) head prefix
 
-module _ {A X : Type 0} (image : A → X) (is_value : X → Type 0) (xs : List A) (i : ℕ) (seen : All is_value (map image (take i xs))) where
-  pub mapped_values : (x : A) → i < length xs → x ≡ get_or xs i x → is_value (image x) → All is_value (map image (take (i + 1) xs))
-  mapped_values x lt at one = subst (All is_value) (sym (mapped_more image xs i x lt at)) (All-push is_value (map image (take i xs)) (image x) seen one)
+  -- no item is left
+  pub mapped_whole : done ≡ all → Absorbs sf old mid (list_content content (map image all))
+  unfolding list_content
+  mapped_whole end =
+      subst (λ (n : ℕ). Absorbs sf old mid (u64_content n ++ flat_map content (map image all))) (sym (length-map all image))
+      (subst (λ (ys : List A). Absorbs sf old mid (u64_content (length all) ++ flat_map content (map image ys))) end taken)
 
-  pub mapped_all : length xs ≤ i → length xs < 2 ^ 64 → AreValues is_value (map image xs)
-  mapped_all over fits = (rw (length-map xs image) fits, subst (λ (ys : List A). All is_value (map image ys)) (take_all i xs over) seen)
+module _ {A X : Type 0} (image : A → X) (is_value : X → Type 0) (done : List A) (seen : All is_value (map image done)) where
+  pub mapped_values : (x : A) → is_value (image x) → All is_value (map image (done ++ x ∷ []))
+  mapped_values x one = subst (All is_value) (sym (map-append image done (x ∷ []))) (All-push is_value (map image done) (image x) seen one)
+
+  pub mapped_all : (all : List A) → done ≡ all → length all < 2 ^ 64 → AreValues is_value (map image all)
+  mapped_all all end fits = (rw (length-map all image) fits, subst (λ (ys : List A). All is_value (map image ys)) end seen)
+
+-- an iterator that has no item left has yielded all
+pub all_yielded : {A : Type 0} (all done rest : List A) → done ++ rest ≡ all → length rest ≡ 0 → done ≡ all
+all_yielded all done rest split none = sym (append-nil done) ∙ ap (λ z. done ++ z) (sym (nil_from_length rest none)) ∙ split
 
 pub ruleset prefixes = (prefix_first, prefix_next, prefix_1, prefix_2)

@@ -9,14 +9,17 @@ ghost use Rattle.jj_content.specs.Blake2b.{blake2b};
 ghost use Rattle.jj_content.specs.Blake2bState.{HasAbsorbed};
 ghost use Rattle.std.specs.Int.{w32, w64};
 ghost use Rattle.std.specs.String.{string_bytes};
+ghost use Rattle.std.specs.Vec.Iter.{into_iter_items, into_iter_len};
 ghost use Rattle.jj_content.specs.Content.{Absorbs, AbsorbsPrefix, IsLawful, AreValues, IsOptionOf, bool_content, u32_content, u64_content, i32_content, i64_content, list_content, string_content, option_content, entry_content, insertion_sort, map_content, set_content};
 ghost use Rattle.jj_content.specs.PrefixFreeProofs.{unit_lawful, bool_lawful, u8_lawful, u32_lawful, u64_lawful, i32_lawful, i64_lawful, string_lawful, list_lawful, option_lawful, on_lawful, both_lawful};
 ghost use Rattle.jj_content.specs.HashTableProofs.{hash_map_lawful, hash_set_lawful};
 
 use crate::blake2b::Blake2b512;
 pub use crate::to_json::{ToJson, ToJsonError};
+use itertools::Itertools;
 use std::alloc::{AllocError, Global};
 use std::collections::{BTreeMap, HashMap, HashSet};
+use std::vec::IntoIter;
 
 /// A state that absorbs bytes, such as a digest.
 pub trait DigestUpdate {
@@ -302,46 +305,38 @@ impl<K: ContentHash + Ord, V: ContentHash> ContentHash for BTreeMap<K, V> {
     }
 }
 
-fn pairs_of<K: Eq + std::hash::Hash, V>(
-    alloc: Global,
-    map: &HashMap<K, V>,
-) -> Result<Vec<(&K, &V)>, AllocError>
-    ensures pairs { IfOk result (λ pairs. map_of deref_pair pairs.items ≡ map.now.entries) }
-    ensures unique { IsUnique K.eq map.now }
-{
-    map.iter().collect(alloc)
-}
-
 fn sorted_pairs<K: Ord + std::hash::Hash, V>(
     alloc: Global,
     map: &HashMap<K, V>,
-) -> Result<Vec<(&K, &V)>, AllocError>
-    ensures pairs { IfOk result (λ pairs. map_of deref_pair pairs.items
+) -> Result<IntoIter<(&K, &V)>, AllocError>
+    ensures pairs { IfOk result (λ pairs. map_of deref_pair (into_iter_items pairs)
         ≡ insertion_sort (on (λ e. e.0) K.cmp) map.now.entries) }
+    ensures len { IfOk result (λ pairs. into_iter_len pairs ≡ length (into_iter_items pairs)) }
     ensures unique { IsUnique K.eq map.now }
 {
-    let mut pairs = pairs_of(alloc, map)?;
-    pairs.sort_unstable_by_key(|pair| pair.0);
-    Ok(pairs)
+    map.iter().sorted_unstable_by_key(alloc, |pair| pair.0)
 }
 
 // Appends the number of entries, then the key and the value of each.
 #[tactic(auto, unfolding(crate::specs::Content::list_content, crate::specs::Content::u64_content))]
 fn hash_pairs<K: ContentHash, V: ContentHash, D: DigestUpdate>(
     alloc: Global,
-    pairs: &[(&K, &V)],
+    pairs: IntoIter<(&K, &V)>,
     state: &mut D,
 ) -> Result<(), AllocError>
+    requires { into_iter_len pairs ≡ length (into_iter_items pairs) }
     ensures ok { OnOk result (Absorbs D.absorbed state.old state.new
-        (list_content (entry_content K.content V.content) (map_of deref_pair pairs.now))) }
+        (list_content (entry_content K.content V.content)
+        (map_of deref_pair (into_iter_items pairs.entry)))) }
     ensures value { OnOk result (AreValues (λ e. K.is_value e.0 × V.is_value e.1)
-        (map_of deref_pair pairs.now)) }
+        (map_of deref_pair (into_iter_items pairs.entry))) }
     ensures err { OnErr result (AbsorbsPrefix D.absorbed state.old state.new
-        (list_content (entry_content K.content V.content) (map_of deref_pair pairs.now))) }
+        (list_content (entry_content K.content V.content)
+        (map_of deref_pair (into_iter_items pairs.entry)))) }
 {
     state.update(&(pairs.len() as u64).to_le_bytes());
-    for pair in pairs {
-        hash_both(alloc, pair.0, pair.1, state)?;
+    for (key, value) in pairs {
+        hash_both(alloc, key, value, state)?;
     }
     Ok(())
 }
@@ -358,49 +353,41 @@ impl<K: ContentHash + Ord + std::hash::Hash, V: ContentHash> ContentHash for Has
 
     fn hash<D: DigestUpdate>(&self, alloc: Global, state: &mut D) -> Result<(), AllocError> {
         let pairs = sorted_pairs(alloc, self)?;
-        hash_pairs(alloc, pairs.as_slice(), state)
+        hash_pairs(alloc, pairs, state)
     }
-}
-
-fn members_of<K: Eq + std::hash::Hash>(
-    alloc: Global,
-    set: &HashSet<K>,
-) -> Result<Vec<&K>, AllocError>
-    ensures members { IfOk result (λ members. map_of deref members.items ≡ set.now.keys) }
-    ensures unique { HasUniqueKeys K.eq set.now }
-{
-    set.iter().collect(alloc)
 }
 
 fn sorted_members<K: Ord + std::hash::Hash>(
     alloc: Global,
     set: &HashSet<K>,
-) -> Result<Vec<&K>, AllocError>
-    ensures members { IfOk result (λ members. map_of deref members.items
+) -> Result<IntoIter<&K>, AllocError>
+    ensures members { IfOk result (λ members. map_of deref (into_iter_items members)
         ≡ insertion_sort K.cmp set.now.keys) }
+    ensures len { IfOk result (λ members. into_iter_len members
+        ≡ length (into_iter_items members)) }
     ensures unique { HasUniqueKeys K.eq set.now }
 {
-    let mut members = members_of(alloc, set)?;
-    members.sort_unstable();
-    Ok(members)
+    set.iter().sorted_unstable(alloc)
 }
 
 // Appends the number of members, then the members.
 #[tactic(auto, unfolding(crate::specs::Content::list_content, crate::specs::Content::u64_content))]
 fn hash_members<K: ContentHash, D: DigestUpdate>(
     alloc: Global,
-    members: &[&K],
+    members: IntoIter<&K>,
     state: &mut D,
 ) -> Result<(), AllocError>
+    requires { into_iter_len members ≡ length (into_iter_items members) }
     ensures ok { OnOk result (Absorbs D.absorbed state.old state.new
-        (list_content K.content (map_of deref members.now))) }
-    ensures value { OnOk result (AreValues K.is_value (map_of deref members.now)) }
+        (list_content K.content (map_of deref (into_iter_items members.entry)))) }
+    ensures value { OnOk result (AreValues K.is_value
+        (map_of deref (into_iter_items members.entry))) }
     ensures err { OnErr result (AbsorbsPrefix D.absorbed state.old state.new
-        (list_content K.content (map_of deref members.now))) }
+        (list_content K.content (map_of deref (into_iter_items members.entry)))) }
 {
     state.update(&(members.len() as u64).to_le_bytes());
     for member in members {
-        ContentHash::hash(*member, alloc, state)?;
+        ContentHash::hash(member, alloc, state)?;
     }
     Ok(())
 }
@@ -416,7 +403,7 @@ impl<K: ContentHash + Ord + std::hash::Hash> ContentHash for HashSet<K> {
 
     fn hash<D: DigestUpdate>(&self, alloc: Global, state: &mut D) -> Result<(), AllocError> {
         let members = sorted_members(alloc, self)?;
-        hash_members(alloc, members.as_slice(), state)
+        hash_members(alloc, members, state)
     }
 }
 
