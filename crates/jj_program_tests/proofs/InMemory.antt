@@ -1,5 +1,6 @@
 -- Runs over readers and writers in memory.
-use Rattle.std.proofs.Common.{◌≡◌, ◌∙◌, ℕ, List, [], ◌++◌, Option, None, Some, Result, Ok, Err, IfErr, true, ap, sym, subst, append-nil}
+use Rattle.std.proofs.Common.{◌≡◌, ◌∙◌, ◌⊎◌, ◌<◌, ℕ, zero, suc, List, [], ◌++◌, Option, None, Some, Result, Ok, Err, IfErr, true, ap, sym, subst, refl, inl, inr, arith, append-nil}
+use Rattle.std.specs.Prelude.{IfSome, IsSome, MatchOption}
 use Rattle.std.specs.Io.KnownBytes.{Consumes, IsAtEnd}
 use Rattle.std.specs.Str.{IsUtf8, is_utf8}
 use Rattle.std.proofs.lemmas.Str.{is_utf8-from_IsUtf8}
@@ -10,7 +11,7 @@ use Rattle.jj_program.specs.declared.program.Command.{Command}
 use Rattle.jj_program.specs.declared.program.Command.TheVariants.{Walk}
 use Rattle.jj_program.specs.LineFaults.{AnswersFirstFault}
 use Rattle.jj_program.specs.Program.{Answers, FailsBy, Gives, GivesText, WritesOutput}
-use Rattle.jj_program_tests.specs.Answered.{CanFailBy, IsFaultOfWalk}
+use Rattle.jj_program_tests.specs.Answered.{CanFailBy, IsFaultOfWalk, IsRunOf}
 
 -- a source that was read to its end was consumed whole
 read_all : (input read : List ℕ) (after : Option (List ℕ)) → Consumes (Some input) after read → IsAtEnd after → read ≡ input
@@ -54,3 +55,25 @@ walk_fault law text utf8 (Line number kind) h = law Walk text (Err (Line number 
 -- `?` propagates the fault
 pub fails_at : {A : Type 0} (command : Command) (input : List ℕ) (r : Result A Fault) (y e : Fault) → r ≡ Err y → y ≡ e → CanFailBy command input e → IfErr r (CanFailBy command input)
 fails_at command input r y e is same h = subst (λ x. IfErr x (CanFailBy command input)) (sym is) (subst (CanFailBy command input) (sym same) h)
+
+below_two : (n : ℕ) → n < 2 → (n ≡ 0) ⊎ (n ≡ 1)
+below_two zero less = inl refl
+below_two (suc zero) less = inr refl
+below_two (suc (suc n)) less = absurd (omega arith)
+
+-- a run of the program ends by its command line
+pub ends : (line : Option Command) (input source : List ℕ) → source ≡ input → (unread : Option (List ℕ)) (sunk bytes output : List ℕ) → sunk ≡ [] → output ≡ bytes → (status : ℕ)
+    → (line ≡ None → (status ≡ 2) × (Some bytes ≡ Some sunk))
+    → (IsSome line → status < 2)
+    → IfSome line (λ command. status ≡ 0 → WritesOutput command (streams (Some source) (Some sunk)) (streams unread (Some bytes)))
+    → IfSome line (λ command. status ≡ 1 → (fault : Fault) × FailsBy command (streams (Some source) (Some sunk)) (streams unread (Some bytes)) fault)
+    → MatchOption line ((status ≡ 2) × (output ≡ [])) (λ command. IsRunOf command input status output)
+ends None input source is unread sunk bytes output empty same status usage below done failure =
+    let u = usage refl in
+    let kept : bytes ≡ sunk = cc in
+    (u.0, same ∙ kept ∙ empty)
+ends (Some command) input source is unread sunk bytes output empty same status usage below done failure =
+    elim (below_two status (below refl)) [
+      | inl none ↦ inl (none, wrote command input source is unread sunk bytes output empty same (done none))
+      | inr one ↦ let f = failure one in inr (one, (f.0, failed command input source is unread (Some sunk) (Some bytes) f.0 f.1))
+    ]

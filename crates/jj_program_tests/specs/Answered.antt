@@ -1,6 +1,6 @@
 -- Results of runs on an input in memory.
--- Cited by contracts of public items: CanFailBy, FindsFiles, IsFaultOfWalk.
-use Rattle.std.specs.Prelude.{◌≡◌, ℕ, ◌++◌, List, codes, Ok, Err}
+-- Cited by contracts of public items: CanFailBy, FindsFiles, IsFaultOfWalk, IsRunOf.
+use Rattle.std.specs.Prelude.{◌≡◌, ◌⊎◌, ℕ, ◌++◌, List, codes, Ok, Err}
 use Rattle.jj_paths.specs.Paths.{Path}
 use Rattle.jj_program.specs.declared.fault.Fault.{Fault}
 use Rattle.jj_program.specs.declared.fault.Fault.TheVariants.{ReadInput, NotUtf8, Memory, WriteOutput, Matchers, Line}
@@ -20,6 +20,11 @@ CanFailBy command input ReadInput = Unit {0}
 CanFailBy command input Memory = Unit {0}
 CanFailBy command input WriteOutput = (output : List ℕ) × Gives command input (Ok output)
 CanFailBy command input fault = Gives command input (Err fault)
+
+-- the exit status is 0 and this is the output, or it is 1 and the command can fail
+abbrev pub IsRunOf : Command → List ℕ → (status : ℕ) → (output : List ℕ) → Type 0
+IsRunOf command input status output = ((status ≡ 0) × Gives command input (Ok output))
+    ⊎ ((status ≡ 1) × ((fault : Fault) × CanFailBy command input fault))
 
 -- the output: a line for exactly each marked path in the set that the input describes, then a line
 -- for each directory entered

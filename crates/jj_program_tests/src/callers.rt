@@ -1,11 +1,11 @@
 //! Proved callers: running a command on an input in memory.
-ghost use Rattle.std.specs.Prelude.{IfErr, IfOk, Ok};
-ghost use Rattle.jj_program.specs.Program.{Gives};
-ghost use Rattle.jj_program_tests.specs.Answered.{CanFailBy, FindsFiles, IsFaultOfWalk};
+ghost use Rattle.std.specs.Prelude.{◌≡◌, [], IfErr, IfOk, MatchOption, Ok, map, string_bytes};
+ghost use Rattle.jj_program.specs.Program.{Gives, command_line};
+ghost use Rattle.jj_program_tests.specs.Answered.{CanFailBy, FindsFiles, IsFaultOfWalk, IsRunOf};
 
 use jj_files::file_util::Watched;
 use jj_program::laws::{faults_are_of_first_kinds, walks_find_their_files};
-use jj_program::program::{Command, Fault, run};
+use jj_program::program::{Command, Fault, run, start};
 use std::alloc::Global;
 
 /// Returns the output of a command for these bytes.
@@ -28,4 +28,19 @@ pub fn found_files(alloc: Global, text: &str) -> Result<Vec<u8>, Fault>
     walks_find_their_files();
     faults_are_of_first_kinds();
     answered(alloc, Command::Walk, text.as_bytes())
+}
+
+/// Runs the program with these arguments on these bytes, and returns the exit status and the
+/// output. The status is 2, without output, if the arguments are no command; 0 if the output is
+/// that of the command; otherwise 1.
+pub fn started(alloc: Global, words: &[String], input: &[u8]) -> (u8, Vec<u8>)
+    ensures { MatchOption (command_line (map string_bytes words.now))
+        ((result.0 ≡ 2) × (result.1.items ≡ []))
+        (λ command. IsRunOf command input.now result.0 result.1.items) }
+{
+    let mut reader = Watched::new(input);
+    let mut writer = Watched::new(Vec::new(alloc));
+    let mut errors = Watched::new(Vec::new(alloc));
+    let status = start(alloc, words, &mut reader, &mut writer, &mut errors);
+    (status, writer.into_inner())
 }

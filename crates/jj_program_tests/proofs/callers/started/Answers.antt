@@ -1,0 +1,18 @@
+use Rattle.std.proofs.Common.{List, ℕ, ap, ◌∙◌, map}
+use Rattle.std.specs.Prelude.{Some, string_bytes}
+use Rattle.std.proofs.lemmas.Option.{IfSome_then}
+use denote.Ref.{Bor}
+use Rattle.jj_files.specs.WatchedFields.{watched_inner}
+use Rattle.jj_program.specs.Program.{command_line}
+use Rattle.jj_program_tests.proofs.InMemory.{ends}
+use Rattle.jj_program_tests.proofs.callers.started.Goals as goal
+
+pub returns : goal.returns
+returns c =
+    let line = command_line (map string_bytes c.args.words.now) in
+    ends line c.args.input.now (watched_inner c.new-reader.result).now (ap (λ (s : Bor (List ℕ)). s.now) c.new-reader.ensures.inner)
+    (Some (watched_inner c.start.new.reader).now) (watched_inner c.new-writer.result).items (watched_inner c.start.new.writer).items c.into_inner.result.items
+    (ap (λ v. v.items) c.new-writer.ensures.inner ∙ c.new.ensures.items) (ap (λ v. v.items) c.into_inner.ensures) c.start.result
+    (λ none. let u = c.start.ensures.usage none in (u.0, u.2)) c.start.ensures.status
+    (IfSome_then line c.start.ensures.success (λ command done at_zero. (done at_zero).0))
+    (IfSome_then line c.start.ensures.failure (λ command failure at_one. let f = failure at_one in (f.0, f.1)))
