@@ -3,7 +3,7 @@ ghost use Rattle.std.specs.Prelude.{◌≡◌, ℕ, [], ◌∷◌, map, MatchOpt
 ghost use Rattle.jj_globs.specs.GlobSyntax.{symbol_of, byte_of};
 
 /// A byte of a pattern by its role in the syntax.
-#[derive(Clone, Copy, Drop, PartialEq, Eq)]
+#[derive(Clone, Copy, Drop)]
 pub enum Symbol {
     Question,
     Asterisk,
@@ -21,7 +21,7 @@ pub enum Symbol {
 }
 
 /// The position of a `**` in its sequence, as the token before it determines.
-#[derive(Clone, Copy, Drop, PartialEq, Eq)]
+#[derive(Clone, Copy, Drop)]
 pub enum Position {
     Start,
     LeadingRun,

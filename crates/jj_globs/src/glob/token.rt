@@ -6,14 +6,14 @@ use std::marker::Model;
 
 /// Options of a match: with `separator`, `?` and `*` do not match `/`; with `icase`, ASCII letters
 /// match in either case.
-#[derive(Clone, Copy, Debug, PartialEq, Eq)]
+#[derive(Clone, Copy)]
 pub struct Options {
     pub separator: bool,
     pub icase: bool,
 }
 
 /// An inclusive range of bytes.
-#[derive(Clone, Copy, Debug, PartialEq, Eq)]
+#[derive(Clone, Copy)]
 pub struct ByteRange {
     pub first: u8,
     pub last: u8,
