@@ -219,19 +219,19 @@ module _ (tree : Tree Bool) (leads : LeadsToMarks tree) where
   pub no_files_are : (dir : Path) → get tree dir ≡ None → nothing ≡ files_spec (marked_paths tree) dir
   no_files_are dir e = ap (λ b. if b then specific (λ name. leads_to_listed (marked_paths tree) (dir ++ name ∷ [])) (λ name. is_listed (marked_paths tree) (dir ++ name ∷ [])) else nothing) (sym (leads-none dir e))
 
-  abbrev below_answer : Path → VisitSpec
-  below_answer dir = if leads_to_listed (marked_paths tree) dir then specific (λ name. leads_to_prefix (marked_paths tree) (dir ++ name ∷ [])) (λ name. is_listed (marked_paths tree) (dir ++ name ∷ [])) else nothing
+  abbrev visit_below : Path → VisitSpec
+  visit_below dir = if leads_to_listed (marked_paths tree) dir then specific (λ name. leads_to_prefix (marked_paths tree) (dir ++ name ∷ [])) (λ name. is_listed (marked_paths tree) (dir ++ name ∷ [])) else nothing
 
   pub prefixes_are : (dir : Path) (node : Tree Bool) → get tree dir ≡ Some node → has_prefix (marked_paths tree) dir ≡ false → children_spec any_node has_mark node.branches ≡ prefix_spec (marked_paths tree) dir
   prefixes_are dir node e refused =
       let some : (any_child any_node node.branches || any_child has_mark node.branches) ≡ leads_to_listed (marked_paths tree) dir = nodes_or_marks node.branches ∙ sym (leads-get dir node e) in
-      let named : children_spec any_node has_mark node.branches ≡ below_answer dir = λ i. if some i then specific (λ name. prefix-child dir node name e i) (λ name. wanted-child dir node name e i) else nothing in
-      named ∙ ap (λ b. if b then all_recursively else below_answer dir) (sym refused)
+      let named : children_spec any_node has_mark node.branches ≡ visit_below dir = λ i. if some i then specific (λ name. prefix-child dir node name e i) (λ name. wanted-child dir node name e i) else nothing in
+      named ∙ ap (λ b. if b then all_recursively else visit_below dir) (sym refused)
 
   pub no_prefixes_are : (dir : Path) → get tree dir ≡ None → has_prefix (marked_paths tree) dir ≡ false → nothing ≡ prefix_spec (marked_paths tree) dir
   no_prefixes_are dir e refused =
-      let none_below : nothing ≡ below_answer dir = ap (λ b. if b then specific (λ name. leads_to_prefix (marked_paths tree) (dir ++ name ∷ [])) (λ name. is_listed (marked_paths tree) (dir ++ name ∷ [])) else nothing) (sym (leads-none dir e)) in
-      none_below ∙ ap (λ b. if b then all_recursively else below_answer dir) (sym refused)
+      let none_below : nothing ≡ visit_below dir = ap (λ b. if b then specific (λ name. leads_to_prefix (marked_paths tree) (dir ++ name ∷ [])) (λ name. is_listed (marked_paths tree) (dir ++ name ∷ [])) else nothing) (sym (leads-none dir e)) in
+      none_below ∙ ap (λ b. if b then all_recursively else visit_below dir) (sym refused)
 
 -- a marked node on the way to a path is a marked ancestor
 on_the_way : (path : Path) (tree : Tree Bool) → list_any (λ (step : Tree Bool × Path). step.0.value) (nodes_on tree path) ≡ true → (front : Path) × ((rest : Path) × ((path ≡ front ++ rest) × (is_marked tree front ≡ true)))

@@ -168,14 +168,14 @@ prefixes_choose prefixes dir = by_cases (has_prefix prefixes dir) (leads_to_list
     by_cases false false = tt
 
 -- the visits for a list of files and for a list of prefixes are sound, and mention only components of these paths
-pub files_answered : (marks wanted : List Path) (dir : Path) (visit : VisitSpec) → marks ≡ wanted → visit ≡ files_spec marks dir
-    → (visit ≡ files_spec wanted dir) × IsSound (is_listed wanted) (leads_to_listed wanted) dir visit × MentionsOnly (names_of wanted) visit
-files_answered marks wanted dir visit same is =
-    let own = is ∙ ap (λ files. files_spec files dir) same in
-    (own, subst (IsSound (is_listed wanted) (leads_to_listed wanted) dir) (sym own) (files_sound wanted dir), subst (MentionsOnly (names_of wanted)) (sym own) (files_choose wanted dir))
+pub files_visit : (marks files : List Path) (dir : Path) (visit : VisitSpec) → marks ≡ files → visit ≡ files_spec marks dir
+    → (visit ≡ files_spec files dir) × IsSound (is_listed files) (leads_to_listed files) dir visit × MentionsOnly (names_of files) visit
+files_visit marks files dir visit same is =
+    let own = is ∙ ap (λ paths. files_spec paths dir) same in
+    (own, subst (IsSound (is_listed files) (leads_to_listed files) dir) (sym own) (files_sound files dir), subst (MentionsOnly (names_of files)) (sym own) (files_choose files dir))
 
-pub prefixes_answered : (marks prefixes : List Path) (dir : Path) (visit : VisitSpec) → marks ≡ prefixes → visit ≡ prefix_spec marks dir
+pub prefixes_visit : (marks prefixes : List Path) (dir : Path) (visit : VisitSpec) → marks ≡ prefixes → visit ≡ prefix_spec marks dir
     → (visit ≡ prefix_spec prefixes dir) × IsSound (has_prefix prefixes) (prefix_opens prefixes) dir visit × MentionsOnly (names_of prefixes) visit
-prefixes_answered marks prefixes dir visit same is =
+prefixes_visit marks prefixes dir visit same is =
     let own = is ∙ ap (λ paths. prefix_spec paths dir) same in
     (own, subst (IsSound (has_prefix prefixes) (prefix_opens prefixes) dir) (sym own) (prefix_sound prefixes dir), subst (MentionsOnly (names_of prefixes)) (sym own) (prefixes_choose prefixes dir))

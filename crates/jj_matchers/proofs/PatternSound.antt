@@ -131,11 +131,11 @@ module _ (set : Patterns) where
   abbrev pub uncovered_spec : Path → VisitSpec
   uncovered_spec dir = if leads_to_listed (pattern_dirs set) dir then specific (λ name. leads_to_prefix (pattern_dirs set) (dir ++ name ∷ [])) (λ name. false) else nothing
 
-  abbrev pub answer_by : Bool → Bool → Path → VisitSpec
-  answer_by covered within dir = if covered then all_recursively else (if within then specific (λ name. true) (λ name. true) else uncovered_spec dir)
+  abbrev pub visit_by : Bool → Bool → Path → VisitSpec
+  visit_by covered within dir = if covered then all_recursively else (if within then specific (λ name. true) (λ name. true) else uncovered_spec dir)
 
-  pub answer_is : (covered within : Bool) (dir : Path) → is_covered set dir ≡ covered → has_prefix (pattern_dirs set) dir ≡ within → answer_by covered within dir ≡ patterns_spec set dir
-  answer_is covered within dir c w = λ i. answer_by (sym c i) (sym w i) dir
+  pub visit_is : (covered within : Bool) (dir : Path) → is_covered set dir ≡ covered → has_prefix (pattern_dirs set) dir ≡ within → visit_by covered within dir ≡ patterns_spec set dir
+  visit_is covered within dir c w = λ i. visit_by (sym c i) (sym w i) dir
 
   -- the visit mentions all children, or only children at or above a pattern's directory
   pub patterns_choose : (dir : Path) → MentionsOnly (names_of (pattern_dirs set)) (patterns_spec set dir)
@@ -147,8 +147,8 @@ module _ (set : Patterns) where
       by_cases false false true = (inr (λ name e. leads_among (pattern_dirs set) dir name e), inr (λ name e. absurd (false≢true e)))
       by_cases false false false = tt
 
-  pub told_sound : (dir : Path) (visit : VisitSpec) → visit ≡ patterns_spec set dir → IsSound (is_accepted set) (opens_to_patterns set) dir visit
-  told_sound dir visit e = subst (IsSound (is_accepted set) (opens_to_patterns set) dir) (sym e) (patterns_sound set dir)
+  pub sound_visit : (dir : Path) (visit : VisitSpec) → visit ≡ patterns_spec set dir → IsSound (is_accepted set) (opens_to_patterns set) dir visit
+  sound_visit dir visit e = subst (IsSound (is_accepted set) (opens_to_patterns set) dir) (sym e) (patterns_sound set dir)
 
 -- 3. Equivalence with `IsAccepted`.
 

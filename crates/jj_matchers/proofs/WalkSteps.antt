@@ -14,17 +14,13 @@ use Rattle.jj_matchers.specs.declared.matchers.tree_walk.Frame.{Frame}
 use Rattle.jj_matchers.specs.VisitSpecs.{VisitSpec, all_recursively, specific, nothing, IsSound}
 use Rattle.jj_matchers.specs.Visits.{visit_spec}
 use Rattle.jj_matchers.specs.Walk.{paths_where, entered_by, is_file, is_entered, continues_into, walk_enters, is_entered_directory, path_if}
-use Rattle.jj_matchers.specs.WalkInvariants.{paths_below, DeterminesWalk, PushesFrame, IsNewFrame, IsValidFrame, WalkInvariant, CompletesTo, pending_in, pending_paths, walk_measure}
+use Rattle.jj_matchers.specs.WalkInvariants.{paths_below, DeterminesWalk, PushesFrame, IsNewFrame, IsValidFrame, WalkInvariant, CompletesTo, pending_in, pending_paths, walk_measure, with_left}
 use Rattle.std.specs.declared.cmp.Ordering.TheVariants.{Less}
 use Rattle.jj_paths.proofs.PathOrders.{sorted_none, sorted-cons, before_below, all-append}
 use Rattle.jj_matchers.proofs.PreorderPaths.{path_if_true, path_if_false, branches_of-children, paths_where_first, found_step, ordered_step, none_below, nothing_below, all_anywhere}
 
 false_and : (a b : Bool) → b ≡ false → (a && b) ≡ false
 false_and a b e = rw e (and-false a)
-
--- a stack frame with these children left
-abbrev pub with_left : Frame → Bor (List (Name × Tree Bool)) → Frame
-with_left directory left = record { dir = directory.dir; visit = directory.visit; left = left }
 
 -- the path of a child, up to equalities
 pub joined_at : (dir at : Path) (name here : Name) (path : Path) → path ≡ at ++ here ∷ [] → at ≡ dir → here ≡ name → path ≡ dir ++ name ∷ []
@@ -123,7 +119,7 @@ module _ (accepts opens : Path → Bool) (visit : Path → VisitSpec) (tree : Tr
   }
 
   module _ (next : Frame) (name : Name) (sub : Tree Bool) (after : List (Name × Tree Bool)) (left : directory.left.now ≡ (name, sub) ∷ after)
-      (path : next.dir ≡ directory.dir) (same_answer : next.visit ≡ directory.visit) (rest : next.left.now ≡ after) where
+      (path : next.dir ≡ directory.dir) (same_visit : next.visit ≡ directory.visit) (rest : next.left.now ≡ after) where
     abbrev child : Path
     child = directory.dir ++ name ∷ []
 
@@ -133,7 +129,7 @@ module _ (accepts opens : Path → Bool) (visit : Path → VisitSpec) (tree : Tr
     -- the rest of the stack frame is valid
     next_under_way : IsValidFrame accepts opens visit directory → IsValidFrame accepts opens visit next
     next_under_way on = record {
-      goes_on = subst (λ d. DeterminesWalk accepts opens visit d (visit_spec next.visit)) (sym path) (subst (λ a. DeterminesWalk accepts opens visit directory.dir (visit_spec a)) (sym same_answer) on.goes_on);
+      goes_on = subst (λ d. DeterminesWalk accepts opens visit d (visit_spec next.visit)) (sym path) (subst (λ a. DeterminesWalk accepts opens visit directory.dir (visit_spec a)) (sym same_visit) on.goes_on);
       by_name = ap (is_sorted name_cmp) rest ∙ (and_parts _ _ (sym (ap (is_sorted name_cmp) left) ∙ on.by_name)).1;
     }
 

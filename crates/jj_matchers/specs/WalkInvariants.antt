@@ -2,6 +2,7 @@
 -- directories still to be found below them.
 -- Machinery of private functions and fields.
 use Rattle.std.specs.Prelude.{◌≡◌, ◌⊎◌, ◌+◌, ◌*◌, ℕ, Bool, true, false, List, [], ◌∷◌, ◌++◌}
+use Rattle.std.specs.Borrow.{Bor}
 use Rattle.std.specs.List.{AllByRecursion}
 use Rattle.std.specs.FinMap.{is_sorted}
 use Rattle.jj_paths.specs.Paths.{Name, Path, name_cmp}
@@ -42,6 +43,10 @@ PushesFrame dir known tree entered new_entered stack new_stack =
     ((is_entered known ≡ false) × (new_entered ≡ entered) × (new_stack ≡ stack))
     ⊎ ((directory : Frame) × IsNewFrame dir known tree directory
     × (new_entered ≡ entered ++ dir ∷ []) × (new_stack ≡ stack ++ directory ∷ []))
+
+-- the stack frame with these children left
+abbrev pub with_left : Frame → Bor (List (Name × Tree Bool)) → Frame
+with_left directory left = record { dir = directory.dir; visit = directory.visit; left = left }
 
 -- a valid stack frame
 pub record IsValidFrame (accepts opens : Path → Bool) (visit : Path → VisitSpec)

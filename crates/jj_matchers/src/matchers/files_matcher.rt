@@ -61,10 +61,7 @@ impl Matcher for FilesMatcher {
 
     fn visit(&self, alloc: Global, dir: RepoPath<'_>) -> Result<Visit, AllocError> {
         match self.tree.get(dir) {
-            Some(node) => {
-                let visit = visit_children(alloc, node, false)?;
-                Ok(visit)
-            }
+            Some(node) => visit_children(alloc, node, false),
             None => Ok(Visit::Nothing),
         }
     }

@@ -88,10 +88,7 @@ impl GlobsMatcher {
             });
         }
         match self.tree.get(dir) {
-            Some(node) => {
-                let visit = visit_directories(alloc, node)?;
-                Ok(visit)
-            }
+            Some(node) => visit_directories(alloc, node),
             None => Ok(Visit::Nothing),
         }
     }
@@ -137,8 +134,7 @@ impl Matcher for GlobsMatcher {
         ensures meaning { IfOk result (λ visit.
             IsSoundForGlobs self.now (path_of dir.entry) (visit_spec visit)) }
     {
-        let visit = self.compute_visit(alloc, dir)?;
-        Ok(visit)
+        self.compute_visit(alloc, dir)
     }
 }
 

@@ -63,10 +63,7 @@ impl Matcher for PrefixMatcher {
             return Ok(Visit::AllRecursively);
         }
         match self.tree.get(dir) {
-            Some(node) => {
-                let visit = visit_children(alloc, node, true)?;
-                Ok(visit)
-            }
+            Some(node) => visit_children(alloc, node, true),
             None => Ok(Visit::Nothing),
         }
     }

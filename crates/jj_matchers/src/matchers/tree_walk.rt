@@ -6,7 +6,7 @@ ghost use Rattle.jj_paths.specs.Nodes.{node_at};
 ghost use Rattle.jj_matchers.specs.VisitSpecs.{IsSound};
 ghost use Rattle.jj_matchers.specs.Visits.{visit_spec};
 ghost use Rattle.jj_matchers.specs.Walk.{AreInOrder, files_of, entered_by, is_entered, is_file, path_if};
-ghost use Rattle.jj_matchers.specs.WalkInvariants.{DeterminesWalk, PushesFrame, IsValidFrame, WalkInvariant, walk_measure};
+ghost use Rattle.jj_matchers.specs.WalkInvariants.{DeterminesWalk, PushesFrame, IsValidFrame, WalkInvariant, walk_measure, with_left};
 
 use crate::matchers::{Matcher, Visit};
 use jj_paths::repo_path::{RepoPath, RepoPathBuf, RepoPathComponentBuf};
@@ -105,19 +105,41 @@ fn visit_next_child<'t, M: Matcher>(
     };
     let path = directory.dir.as_path().join(alloc, child.0.as_component())?;
     push_file(alloc, &directory, child, path.as_path(), matcher, walk)?;
-    let Frame {
-        dir,
-        visit,
-        left: _,
-    } = directory;
     let (name, sub) = child;
     if !sub.has_children() {
-        stack.push(Frame { dir, visit, left })?;
-        return Ok(());
+        return push_frame(stack, directory, left);
     }
-    let below = child_visit(alloc, &dir, &visit, name, path.as_path(), matcher)?;
-    stack.push(Frame { dir, visit, left })?;
+    let (dir, visit) = (&directory.dir, &directory.visit);
+    let below = child_visit(alloc, dir, visit, name, path.as_path(), matcher)?;
+    push_frame(stack, directory, left)?;
     enter(alloc, sub, path, below, walk, stack)?;
+    Ok(())
+}
+
+// Pushes a directory, with these children not yet visited.
+fn push_frame<'t>(
+    stack: &mut Vec<Frame<'t>>,
+    directory: Frame<'t>,
+    left: &'t [(RepoPathComponentBuf, RepoPathTree<bool>)],
+) -> Result<(), AllocError>
+    ensures { OnOk result (stack.new.items
+        ≡ stack.old.items ++ with_left directory.entry left.entry ∷ []) }
+{
+    let mut frame = directory;
+    frame.left = left;
+    stack.push(frame)?;
+    Ok(())
+}
+
+// Appends a copy of a path.
+fn push_path(
+    alloc: Global,
+    paths: &mut Vec<RepoPathBuf>,
+    path: RepoPath<'_>,
+) -> Result<(), AllocError>
+    ensures { OnOk result (paths.new.items ≡ paths.old.items ++ path_of path.entry ∷ []) }
+{
+    paths.push(path.to_owned(alloc)?)?;
     Ok(())
 }
 
@@ -140,7 +162,7 @@ fn push_file<M: Matcher>(
 {
     let (name, sub) = child;
     if *sub.value() && is_accepted(&directory.dir, &directory.visit, name, path, matcher) {
-        walk.files.push(path.to_owned(alloc)?)?;
+        push_path(alloc, &mut walk.files, path)?;
     }
     Ok(())
 }
@@ -162,7 +184,7 @@ fn enter<'t>(
     if visit.is_nothing() {
         return Ok(());
     }
-    walk.entered.push(dir.as_path().to_owned(alloc)?)?;
+    push_path(alloc, &mut walk.entered, dir.as_path())?;
     stack.push(Frame {
         dir,
         visit,

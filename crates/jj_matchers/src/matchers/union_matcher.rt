@@ -45,8 +45,7 @@ impl<M1: Matcher, M2: Matcher> Matcher for UnionMatcher<M1, M2> {
             return Ok(first);
         }
         let second = self.input2.visit(alloc, dir)?;
-        let both = union_visit(first, second)?;
-        Ok(both)
+        union_visit(first, second)
     }
 }
 
@@ -108,11 +107,9 @@ fn union_names(
         → is_among names.keys name ≡ (is_among first.keys name || is_among second.keys name)) }
 {
     if first.len() < second.len() {
-        let names = insert_names(second, first)?;
-        Ok(names)
+        insert_names(second, first)
     } else {
-        let names = insert_names(first, second)?;
-        Ok(names)
+        insert_names(first, second)
     }
 }
 

@@ -1,4 +1,4 @@
-use Rattle.std.proofs.Common.{◌≡◌, ◌∙◌, ◌++◌, ap, map, take, Result, Ok, Err, IfOk, Bool, true, List, [], ◌∷◌, length, ◌<◌, arith, refl}
+use Rattle.std.proofs.Common.{◌≡◌, ◌∙◌, ◌++◌, ap, map, Result, Ok, Err, IfOk, true, List, [], ◌∷◌, length, ◌<◌, arith, refl}
 use Rattle.std.proofs.lemmas.List.{take_all}
 use Rattle.jj_paths.specs.Names.{path_of}
 use Rattle.jj_globs.specs.GlobMeaning.{GlobSpec}

@@ -1,4 +1,4 @@
-use Rattle.std.proofs.Common.{◌≡◌, Bool, Bor, ap, sym, ◌∙◌, map}
+use Rattle.std.proofs.Common.{Bor, ap, sym, ◌∙◌, map}
 use Rattle.std.specs.List.{list_any}
 use Rattle.std.proofs.lemmas.List.Sorted.{list_any-IsPermutation}
 use Rattle.jj_paths.specs.Paths.{Path}

@@ -1,25 +1,24 @@
 use Rattle.std.proofs.Common.{sym, subst}
+use Rattle.std.proofs.lemmas.Result.{IfOk-weaker}
 use Rattle.jj_paths.specs.Names.{path_of}
 use Rattle.jj_matchers.specs.Visits.{visit_spec}
 use Rattle.jj_matchers.specs.MentionedNames.{MentionsOnly, names_of}
 use Rattle.jj_matchers.specs.Patterns.{pattern_dirs}
-use Rattle.jj_matchers.proofs.PatternSound.{patterns_choose, told_sound, sound_for_globs}
+use Rattle.jj_matchers.proofs.PatternSound.{patterns_choose, sound_visit, sound_for_globs}
 use Rattle.jj_matchers.proofs.matchers.globs_matcher.GlobsMatcherMatcher.visit.Goals as goal
 
 pub returns-clause-sound : goal.returns-clause-sound
 returns-clause-sound c =
-    told_sound c.args.self.now (path_of c.args.dir) (visit_spec c.in_ok-visit.visit)
-    c.in_ok-visit.ensures
+    IfOk-weaker c.compute_visit.result _ _ (λ visit is. sound_visit c.args.self.now (path_of c.args.dir) (visit_spec visit) is) c.compute_visit.ensures
 
 pub returns-clause-names : goal.returns-clause-names
 returns-clause-names c =
     let set = c.args.self.now in
-    subst (MentionsOnly (names_of (pattern_dirs set))) (sym c.in_ok-visit.ensures)
-    (patterns_choose set (path_of c.args.dir))
+    let names = patterns_choose set (path_of c.args.dir) in
+    IfOk-weaker c.compute_visit.result _ _ (λ visit is. subst (MentionsOnly (names_of (pattern_dirs set))) {y = visit_spec visit} (sym is) names) c.compute_visit.ensures
 
 pub returns-clause-meaning : goal.returns-clause-meaning
 returns-clause-meaning c =
+    let set = c.args.self.now in
     let dir = path_of c.args.dir in
-    let spec = visit_spec c.in_ok-visit.visit in
-    sound_for_globs c.args.self.now dir spec
-    (told_sound c.args.self.now dir spec c.in_ok-visit.ensures)
+    IfOk-weaker c.compute_visit.result _ _ (λ visit is. sound_for_globs set dir (visit_spec visit) (sound_visit set dir (visit_spec visit) is)) c.compute_visit.ensures

@@ -1,4 +1,5 @@
 use Rattle.std.proofs.Common.{◌++◌, sym, subst}
+use Rattle.std.proofs.lemmas.Result.{IfOk-weaker}
 use Rattle.jj_paths.specs.Names.{path_of}
 use Rattle.jj_matchers.specs.VisitSpecs.{IsSound}
 use Rattle.jj_matchers.specs.MentionedNames.{MentionsOnly}
@@ -14,9 +15,9 @@ returns-clause-sound g c =
     let two = c.args.self.now.input2 in
     let accepts = either (g.M1.Matcher.accepts one) (g.M2.Matcher.accepts two) in
     let opens = either (g.M1.Matcher.opens one) (g.M2.Matcher.opens two) in
-    subst (IsSound accepts opens dir) (sym c.in_ok-both.ensures)
-    (union_sound (g.M1.Matcher.accepts one) (g.M2.Matcher.accepts two) (g.M1.Matcher.opens one) (g.M2.Matcher.opens two) dir (visit_spec c.in_ok-first.first) (visit_spec c.in_ok-second.second)
-    c.in_ok-first.ensures.sound c.in_ok-second.ensures.sound)
+    let sound = union_sound (g.M1.Matcher.accepts one) (g.M2.Matcher.accepts two) (g.M1.Matcher.opens one) (g.M2.Matcher.opens two) dir (visit_spec c.in_ok-first.first) (visit_spec c.in_ok-second.second)
+    c.in_ok-first.ensures.sound c.in_ok-second.ensures.sound in
+    IfOk-weaker c.union_visit.result _ _ (λ visit is. subst (IsSound accepts opens dir) (sym is) sound) c.union_visit.ensures
 
 pub returns-clause-names : goal.returns-clause-names
 returns-clause-names g c =
@@ -25,5 +26,5 @@ returns-clause-names g c =
     let theirs = g.M2.Matcher.mentioned c.args.self.now.input2 dir in
     let first = visit_spec c.in_ok-first.first in
     let second = visit_spec c.in_ok-second.second in
-    subst (MentionsOnly (ours ++ theirs)) (sym c.in_ok-both.ensures)
-    (union_chooses (ours ++ theirs) first second (chosen_left ours theirs first c.in_ok-first.ensures.names) (chosen_right ours theirs second c.in_ok-second.ensures.names))
+    let names = union_chooses (ours ++ theirs) first second (chosen_left ours theirs first c.in_ok-first.ensures.names) (chosen_right ours theirs second c.in_ok-second.ensures.names) in
+    IfOk-weaker c.union_visit.result _ _ (λ visit is. subst (MentionsOnly (ours ++ theirs)) (sym is) names) c.union_visit.ensures
