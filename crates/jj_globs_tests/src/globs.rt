@@ -1,46 +1,68 @@
 //! Globs of so many states that a match needs each size of state sets. All other cases are rows of
 //! the crate `conformance`.
-use jj_content_tests::retry::passes;
+use jj_content_tests::retry::{Passed, passes};
 use jj_globs::glob::{Glob, GlobError};
 use std::alloc::{AllocError, Global};
 use std::process::Abort;
 use std::test::Fail;
 
-// Parses a glob of numbered names in any directory.
-fn numbered_names<R: Abort>(rt: &R, alloc: Global, count: u32) -> Result<Glob, AllocError> {
+// Returns a glob of numbered names in any directory.
+fn numbered_names(alloc: Global, count: u32) -> Result<String, AllocError> {
     let mut text = String::from_str(alloc, "**/{")?;
     for number in 0..count {
-        text.push_str(format!(in alloc; "n{number}.rs,")?.as_str())?;
+        write!(text, "n{number}.rs,")?;
     }
     text.push_str("other}")?;
-    match Glob::parse(alloc, text.as_str(), true, false) {
+    Ok(text)
+}
+
+fn parse<R: Abort>(rt: &R, alloc: Global, text: &str) -> Result<Glob, AllocError> {
+    match Glob::parse(alloc, text, true, false) {
         Ok(glob) => Ok(glob),
         Err(GlobError::Memory) => Err(AllocError),
-        Err(error) => panic!(rt; "{count} names are a glob: {error}"),
+        Err(_) => panic!(rt; "the names are a glob"),
     }
+}
+
+static MATCHED: [&str; 3] = ["n0.rs", "n/other", "n1.rs/n19.rs"];
+
+static NOT_MATCHED: [&str; 3] = ["n.rs", "n0.rs/n", "n19.r"];
+
+fn check_each<R: Abort>(rt: &R, glob: &Glob, texts: &[&str], matches: bool) {
+    for text in texts {
+        assert!(rt; glob.is_match(text.as_bytes()) == matches, "{text}");
+    }
+}
+
+// Checks whether the glob matches the name of a number.
+fn check_number<R: Abort>(
+    rt: &R,
+    alloc: Global,
+    glob: &Glob,
+    number: u32,
+    matches: bool,
+) -> Passed {
+    let name = format!(in alloc; "x/n/n{number}.rs")?;
+    assert!(rt; glob.is_match(name.as_bytes()) == matches, "{number}");
+    Ok(())
+}
+
+fn check_names<R: Abort>(rt: &R, alloc: Global, count: u32) -> Passed {
+    let glob = parse(rt, alloc, numbered_names(alloc, count)?.as_str())?;
+    check_each(rt, &glob, &MATCHED, true);
+    check_each(rt, &glob, &NOT_MATCHED, false);
+    check_number(rt, alloc, &glob, count.saturating_sub(1), true)?;
+    check_number(rt, alloc, &glob, count, false)
+}
+
+fn check_counts<R: Abort>(rt: &R, alloc: Global) -> Passed {
+    for count in [2_000u32, 9_000, 20_000] {
+        check_names(rt, alloc, count)?;
+    }
+    Ok(())
 }
 
 #[test]
 fn groups_of_many_words(rt: HostRuntime) -> Result<(), Fail> {
-    passes(&rt, |rt, alloc| {
-        for count in [2_000u32, 9_000, 20_000] {
-            let glob = numbered_names(rt, alloc, count)?;
-            let last = count.saturating_sub(1);
-            let yes = format!(in alloc; "x/n/n{last}.rs")?;
-            let no = format!(in alloc; "x/n/n{count}.rs")?;
-            for text in ["n0.rs", "n/other", "n1.rs/n19.rs", yes.as_str()] {
-                assert!(rt;
-                    glob.is_match(text.as_bytes()),
-                    "{count} names match {text}"
-                );
-            }
-            for text in ["n.rs", "n0.rs/n", "n19.r", no.as_str()] {
-                assert!(rt;
-                    !glob.is_match(text.as_bytes()),
-                    "{count} names match {text}"
-                );
-            }
-        }
-        Ok(())
-    })
+    passes(&rt, check_counts)
 }
