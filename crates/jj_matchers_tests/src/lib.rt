@@ -6,8 +6,6 @@
 #[cfg(test)]
 pub mod callers;
 #[cfg(test)]
-mod combined;
-#[cfg(test)]
 mod fixtures;
 #[cfg(test)]
 pub mod own_matcher;

@@ -1,5 +1,5 @@
 //! Tests of walks with combined and with boxed matchers.
-use crate::fixtures::{Expected, check_matcher, check_walk, files, globs, prefix};
+use crate::fixtures::{check_walk, file, glob, prefix};
 use jj_content_tests::retry::{Passed, passes};
 use jj_matchers::matchers::{
     DifferenceMatcher, EverythingMatcher, IntersectionMatcher, Matcher, PrefixMatcher,
@@ -10,27 +10,13 @@ use std::alloc::{AllocError, Global};
 use std::process::Abort;
 use std::test::Fail;
 
-fn walks_combined<R: Abort>(rt: &R, alloc: Global) -> Passed {
-    check_walk(rt, alloc, globs(rt, alloc, true, "d:")?, "d/x", "", ". d")?;
-    let any = globs(rt, alloc, true, "d:*")?;
-    check_walk(rt, alloc, any, "d/x", "d/x", ". d")?;
-    let names = globs(rt, alloc, false, "a:*")?;
-    let both = IntersectionMatcher::new(prefix(rt, alloc, "a")?, names);
-    check_walk(rt, alloc, both, "a/x a/y/z", "a/x", ". a a/y")?;
-    check_walk(rt, alloc, all_but_a(rt, alloc)?, "a/x b", "b", ".")
-}
+static FILES_BELOW: [&str; 2] = ["a/x", "a/y/z"];
 
-const AROUND: Expected = (
-    "a/kept b",
-    "a a/left",
-    &[". * *", "a - kept", "a/kept - -", "b ** -"],
-);
+static ENTERED_BELOW: [&str; 3] = ["", "a", "a/y"];
 
-// Checks a matcher of all paths that are not at or below `a`, and of `a/kept`.
-fn walks_around<R: Abort, M: Matcher>(rt: &R, alloc: Global, matcher: M) -> Passed {
-    check_matcher(rt, alloc, &matcher, &AROUND)?;
-    let marks = "c b/x a/left a/kept a/d/e";
-    check_walk(rt, alloc, matcher, marks, "a/kept b/x c", ". a b")
+fn walks_intersection<R: Abort>(rt: &R, alloc: Global) -> Passed {
+    let matcher = IntersectionMatcher::new(prefix(rt, alloc, "a")?, glob(rt, alloc, "a", "*")?);
+    check_walk(rt, alloc, &matcher, &FILES_BELOW, &["a/x"], &ENTERED_BELOW)
 }
 
 fn all_but_a<R: Abort>(
@@ -38,6 +24,37 @@ fn all_but_a<R: Abort>(
     alloc: Global,
 ) -> Result<DifferenceMatcher<EverythingMatcher, PrefixMatcher>, AllocError> {
     Ok(DifferenceMatcher::new(EverythingMatcher, prefix(rt, alloc, "a")?))
+}
+
+static MARKS: [&str; 5] = ["c", "b/x", "a/out", "a/in", "a/d/e"];
+
+static FILES: [&str; 3] = ["a/in", "b/x", "c"];
+
+static ENTERED: [&str; 3] = ["", "a", "b"];
+
+// Checks a matcher of all paths that are not at or below `a`, and of `a/in`.
+fn walks_around<R: Abort, M: Matcher>(rt: &R, alloc: Global, matcher: &M) -> Passed {
+    check_walk(rt, alloc, matcher, &MARKS, &FILES, &ENTERED)
+}
+
+fn walks_union<R: Abort>(rt: &R, alloc: Global) -> Passed {
+    let union = UnionMatcher::new(all_but_a(rt, alloc)?, file(rt, alloc, "a/in")?);
+    walks_around(rt, alloc, &union)
+}
+
+fn walks_box_in_union<R: Abort>(rt: &R, alloc: Global) -> Passed {
+    let inner: Box<dyn Matcher> = Box::new(alloc, all_but_a(rt, alloc)?)?;
+    walks_around(
+        rt,
+        alloc,
+        &UnionMatcher::new(inner, file(rt, alloc, "a/in")?),
+    )
+}
+
+fn walks_boxed_union<R: Abort>(rt: &R, alloc: Global) -> Passed {
+    let union = UnionMatcher::new(all_but_a(rt, alloc)?, file(rt, alloc, "a/in")?);
+    let outer: Box<dyn Matcher> = Box::new(alloc, union)?;
+    walks_around(rt, alloc, &outer)
 }
 
 // A matcher that delegates to a boxed matcher of a known type.
@@ -64,25 +81,20 @@ impl<M: Matcher> Matcher for Boxed<M> {
     }
 }
 
-// Boxed matchers inside a union, a boxed union, and both behave like the matchers themselves.
-fn walks_boxed<R: Abort>(rt: &R, alloc: Global) -> Passed {
-    let inner: Box<dyn Matcher> = Box::new(alloc, all_but_a(rt, alloc)?)?;
-    let kept = files(rt, alloc, "a/kept")?;
-    walks_around(rt, alloc, UnionMatcher::new(inner, kept))?;
-    let kept = files(rt, alloc, "a/kept")?;
-    let union = UnionMatcher::new(all_but_a(rt, alloc)?, kept);
-    let outer: Box<dyn Matcher> = Box::new(alloc, union)?;
-    walks_around(rt, alloc, outer)?;
+fn walks_box_in_boxed_union<R: Abort>(rt: &R, alloc: Global) -> Passed {
     let inner = Boxed {
         matcher: Box::new(alloc, all_but_a(rt, alloc)?)?,
     };
-    let kept = files(rt, alloc, "a/kept")?;
-    let outer: Box<dyn Matcher> = Box::new(alloc, UnionMatcher::new(inner, kept))?;
-    walks_around(rt, alloc, outer)
+    let union = UnionMatcher::new(inner, file(rt, alloc, "a/in")?);
+    let outer: Box<dyn Matcher> = Box::new(alloc, union)?;
+    walks_around(rt, alloc, &outer)
 }
 
 #[test]
 fn combined_and_boxed(rt: HostRuntime) -> Result<(), Fail> {
-    passes(&rt, walks_combined)?;
-    passes(&rt, walks_boxed)
+    passes(&rt, walks_intersection)?;
+    passes(&rt, walks_union)?;
+    passes(&rt, walks_box_in_union)?;
+    passes(&rt, walks_boxed_union)?;
+    passes(&rt, walks_box_in_boxed_union)
 }

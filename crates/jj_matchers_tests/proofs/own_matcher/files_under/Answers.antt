@@ -1,4 +1,4 @@
-use Rattle.std.proofs.Common.{◌≡◌, ◌∷◌, Contains, ap, sym, subst, ◌∙◌}
+use Rattle.std.proofs.Common.{◌≡◌, ◌∷◌, Contains, ap, ◌∙◌}
 use Rattle.jj_paths.specs.Paths.{Name, Path}
 use Rattle.jj_matchers.specs.Walk.{files_of}
 use Rattle.jj_matchers_tests.specs.TopLevel.{starts_among}
