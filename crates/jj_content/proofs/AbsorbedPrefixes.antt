@@ -1,5 +1,5 @@
 -- Proofs about absorbed prefixes: sequences of calls that append to a state.
-use Rattle.std.proofs.Common.{◌≡◌, ℕ, List, [], ◌∷◌, ◌++◌, ◌+◌, ◌^◌, ◌<◌, ◌≤◌, length, take, drop, map, get_or, sym, ap, ◌∙◌, subst, Result, Ok, Err, OnErr}
+use Rattle.std.proofs.Common.{◌≡◌, ℕ, List, [], ◌∷◌, ◌++◌, ◌+◌, ◌^◌, ◌<◌, length, take, drop, map, get_or, sym, ap, ◌∙◌, subst, Result, Ok, Err, OnErr}
 use Rattle.std.proofs.lemmas.List.{append_assoc, append-nil, nil_from_length, take_more, take-append-drop, map-append, length-map}
 use Rattle.std.proofs.lemmas.Grind.{flat_map-append}
 use Rattle.std.specs.List.{flat_map}

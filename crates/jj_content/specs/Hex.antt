@@ -1,7 +1,7 @@
 -- Hexadecimal: two digits per byte, the high one first, in two alphabets.
 -- Cited by contracts of public items: DecodesTo, IsByte, IsDecoding, IsPrefixDecoding, hex,
 -- hex_digits, is_hex, is_whole_hex, padded_hex, reverse_hex, reverse_hex_digits.
-use Rattle.std.specs.Prelude.{◌≡◌, ℕ, ◌/◌, ◌%◌, ◌+◌, ◌<◌, ◌^◌, List, [], ◌∷◌, ◌++◌, ◌==◌, length, slice_index, replicate, codes, if◌then◌else◌, All, Option, MatchOption, position, Bool, true, false, ◌&&◌, is_some}
+use Rattle.std.specs.Prelude.{◌≡◌, ℕ, ◌/◌, ◌%◌, ◌<◌, ◌^◌, List, [], ◌∷◌, ◌++◌, ◌==◌, length, slice_index, replicate, codes, All, Option, MatchOption, position, Bool, true, false, ◌&&◌, is_some}
 use Rattle.std.specs.Str.{str_to_ascii_lowercase}
 use Rattle.std.specs.Char.{to_ascii_lowercase}
 use Rattle.std.specs.List.{flat_map, list_all}

@@ -1,4 +1,4 @@
-use Rattle.std.proofs.Common.{◌++◌, ◌∷◌, sym, ap, ◌∙◌, length, arith}
+use Rattle.std.proofs.Common.{◌++◌, sym, ap, ◌∙◌, length, arith}
 use Rattle.std.specs.Map.Iter.{deref}
 use Rattle.std.specs.Vec.Iter.{into_iter_items}
 use Rattle.jj_content.proofs.AbsorbedPrefixes.{split_more, mapped_absorbed, mapped_prefix, mapped_whole, mapped_values, mapped_all, all_yielded, on_err_from}

@@ -1,4 +1,4 @@
-use Rattle.std.proofs.Common.{◌++◌, ◌∷◌, sym, ap, ◌∙◌, length, arith}
+use Rattle.std.proofs.Common.{◌++◌, sym, ap, ◌∙◌, length, arith}
 use Rattle.std.specs.Map.Iter.{deref_pair}
 use Rattle.std.specs.Vec.Iter.{into_iter_items}
 use Rattle.jj_content.specs.Content.{entry_content}
