@@ -1,10 +1,10 @@
-//! Tests of iterators over matching map entries, for each type of keys, and of predicates of
+//! Tests of iterators over matching map entries, for both kinds of keys, and of predicates of
 //! callers.
 ghost use Rattle.std.specs.Iterator.{IsFinite};
 
 use crate::fixtures::{check_debug, check_match, collect, matcher};
 use jj_content_tests::retry::{Passed, passes};
-use jj_ids::ref_name::{GitRefNameBuf, RefNameBuf, RemoteNameBuf, WorkspaceNameBuf};
+use jj_ids::ref_name::RefNameBuf;
 use jj_strings::str_util::{BytePredicate, ByteTest, StringMatcher, TextKey};
 use std::alloc::{AllocError, Global};
 use std::collections::BTreeMap;
@@ -73,7 +73,7 @@ fn check_finds<R: Abort, K: TextKey>(
 // The kind and the string of a pattern, and the entries that it finds.
 type Row = (&'static str, &'static str, &'static [(&'static str, usize)]);
 
-const FOUND: [Row; 10] = [
+static FOUND: [Row; 10] = [
     ("exact", "o", &[]),
     ("exact", "foo", &[("foo", 0)]),
     ("exact", "Bar", &[("Bar", 2)]),
@@ -100,68 +100,34 @@ fn check_row<R: Abort, K: TextKey>(
     check_finds(rt, alloc, &matcher(rt, alloc, kind, text)?, map, *expected)
 }
 
-fn check_all<R: Abort, K: TextKey>(
+// Checks the entries that patterns find.
+fn check_rows<R: Abort, K: TextKey>(
     rt: &R,
     alloc: Global,
     map: &BTreeMap<K, usize>,
-    all: &[(&str, usize)],
-) -> Passed {
-    check_finds(rt, alloc, &StringMatcher::all(), map, all)
-}
-
-// Checks all entries of the map, and those that patterns find.
-fn check_each<R: Abort, K: TextKey>(
-    rt: &R,
-    alloc: Global,
-    map: &BTreeMap<K, usize>,
-    all: &[(&str, usize)],
     rows: &[Row],
 ) -> Passed {
-    check_all(rt, alloc, map, all)?;
     for row in rows {
         check_row(rt, alloc, map, row)?;
     }
     Ok(())
 }
 
-const ALL: [(&str, usize); 4] = [("Bar", 2), ("bar", 3), ("baz", 1), ("foo", 0)];
+static KEYS: [&str; 4] = ["foo", "baz", "Bar", "bar"];
 
-fn map_of_entries<K: TextKey>(alloc: Global) -> Result<BTreeMap<K, usize>, AllocError> {
-    map_of_indices(alloc, &["foo", "baz", "Bar", "bar"])
-}
+static ALL: [(&str, usize); 4] = [("Bar", 2), ("bar", 3), ("baz", 1), ("foo", 0)];
 
-fn check_map<R: Abort, K: TextKey>(
-    rt: &R,
-    alloc: Global,
-    all: &[(&str, usize)],
-    rows: &[Row],
-) -> Passed {
-    let map: BTreeMap<K, usize> = map_of_entries(alloc)?;
-    check_each(rt, alloc, &map, all, rows)
-}
-
-const NOT_FOUND: [Row; 1] = [("exact", "o", &[])];
-
-fn check_empty_map<R: Abort, K: TextKey>(rt: &R, alloc: Global) -> Passed {
-    let empty: BTreeMap<K, usize> = BTreeMap::new(alloc);
-    check_each(rt, alloc, &empty, &[], &NOT_FOUND)
-}
-
-// Checks the entries found in a map, and in an empty one.
-fn check_maps<R: Abort, K: TextKey>(rt: &R, alloc: Global) -> Passed {
-    check_map::<R, K>(rt, alloc, &ALL, &FOUND)?;
-    check_empty_map::<R, K>(rt, alloc)
+// Checks all entries of a map, and those that patterns find.
+fn check_map<R: Abort, K: TextKey>(rt: &R, alloc: Global) -> Passed {
+    let map: BTreeMap<K, usize> = map_of_indices(alloc, &KEYS)?;
+    check_finds(rt, alloc, &StringMatcher::all(), &map, &ALL)?;
+    check_rows(rt, alloc, &map, &FOUND)
 }
 
 #[test]
 fn maps_by_names(rt: HostRuntime) -> Result<(), Fail> {
-    passes(&rt, |rt, alloc| {
-        check_maps::<_, String>(rt, alloc)?;
-        check_maps::<_, GitRefNameBuf>(rt, alloc)?;
-        check_maps::<_, RefNameBuf>(rt, alloc)?;
-        check_maps::<_, RemoteNameBuf>(rt, alloc)?;
-        check_maps::<_, WorkspaceNameBuf>(rt, alloc)
-    })
+    passes(&rt, check_map::<HostRuntime, String>)?;
+    passes(&rt, check_map::<HostRuntime, RefNameBuf>)
 }
 
 // Checks the strings that the matcher of three bytes matches.

@@ -19,7 +19,7 @@ fn matcher_of_starts<R: Abort>(rt: &R, alloc: Global) -> Result<StringMatcher, A
     difference.to_matcher(alloc)
 }
 
-const STRINGS: [(&str, bool); 7] = [
+static STRINGS: [(&str, bool); 7] = [
     ("ab", false),
     ("a", true),
     ("b", false),
