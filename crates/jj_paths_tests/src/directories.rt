@@ -22,7 +22,7 @@ struct Memory {
     calls_left: Cell<u32>,
 }
 
-const NAMES: [&str; 3] = ["a", "b", "c"];
+static NAMES: [&str; 3] = ["a", "b", "c"];
 
 static PATHS: [&str; 3] = ["dir/a", "dir/b", "dir/c"];
 
@@ -194,8 +194,8 @@ static EMPTY: [(bool, [bool; 3], bool); 3] = [
 
 fn is_empty<R: Abort>(rt: &R, alloc: Global, directory: &Memory, empty: bool) -> Passed {
     match is_empty_dir(alloc, directory, "dir") {
-        Ok(answer) => {
-            equals(rt, &answer, &empty);
+        Ok(found) => {
+            equals(rt, &found, &empty);
             Ok(())
         }
         Err(fault) => is_fault(rt, &fault, "", ErrorKind::Other),

@@ -136,7 +136,7 @@ fn a_writer_that_takes_nothing_has_failed(rt: HostRuntime) {
         left: 1,
     });
     match copy(&mut reader, &mut writer) {
-        Ok(_) => panic!(rt; "nothing was run_write"),
+        Ok(_) => panic!(rt; "nothing was written"),
         Err(e) => equals(&rt, &e.kind(), &ErrorKind::WriteZero),
     }
 }

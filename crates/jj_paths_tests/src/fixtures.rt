@@ -1,11 +1,11 @@
-//! Paths from string literals, and assertions.
+//! Paths from strings, and assertions.
 use jj_paths::repo_path::RepoPath;
 use std::alloc::Global;
 use std::fmt::Debug;
 use std::process::Abort;
 
-/// Creates a path of a literal, or panics. Does not allocate for a valid path.
-pub fn path<R: Abort>(rt: &R, alloc: Global, text: &'static str) -> RepoPath<'static> {
+/// Creates a path, or panics. Does not allocate for a valid path.
+pub fn path<'a, R: Abort>(rt: &R, alloc: Global, text: &'a str) -> RepoPath<'a> {
     match RepoPath::from_internal_string(alloc, text) {
         Ok(path) => path,
         Err(_) => panic!(rt; "{text} is a path"),
@@ -13,11 +13,11 @@ pub fn path<R: Abort>(rt: &R, alloc: Global, text: &'static str) -> RepoPath<'st
 }
 
 /// Asserts that the values are equal.
-pub fn equals<R: Abort, T: PartialEq + Debug>(rt: &R, found: &T, wanted: &T) {
-    assert_eq!(rt; found, wanted);
+pub fn equals<R: Abort, T: PartialEq + Debug>(rt: &R, found: &T, expected: &T) {
+    assert_eq!(rt; found, expected);
 }
 
 /// Asserts that the strings are equal.
-pub fn is_text<R: Abort>(rt: &R, found: &str, wanted: &str) {
-    assert_eq!(rt; found, wanted);
+pub fn is_text<R: Abort>(rt: &R, found: &str, expected: &str) {
+    assert_eq!(rt; found, expected);
 }
