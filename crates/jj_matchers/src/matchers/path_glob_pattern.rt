@@ -46,10 +46,7 @@ impl PathGlobPattern {
     fn parse_inner(alloc: Global, input: &str, icase: bool) -> Result<PathGlobPattern, GlobError>
         ensures { ParsesAsGlob input.now (glob_spec input.now true icase) result }
     {
-        let glob = match Glob::parse(alloc, input, true, icase) {
-            Ok(glob) => glob,
-            Err(error) => return Err(error),
-        };
+        let glob = Glob::parse(alloc, input, true, icase)?;
         Ok(PathGlobPattern {
             glob: Rc::new(alloc, glob)?,
         })
